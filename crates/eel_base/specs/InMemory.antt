@@ -1,0 +1,26 @@
+-- What the objects in memory are seen as.
+use Rattle.std.specs.Prelude.{◌≡◌, ℕ, ◌-◌, ◌<◌, ◌≤◌, ◌⊎◌, IsTrue, List, map, length, String, Vec, string_bytes}
+use Rattle.std.specs.declared.alloc.Global.{Global}
+use Rattle.eel_base.specs.Outside.{Holding, Calls, is_to_fail}
+
+pub record FilesInMemory : Type 0 where
+  pub held : Holding
+  pub calls : Calls
+
+pub record SourceInMemory : Type 0 where
+  pub left : List ℕ
+  pub reads : ℕ
+  pub calls : Calls
+
+pub record SinkInMemory : Type 0 where
+  pub taken : List ℕ
+  pub room : ℕ
+  pub calls : Calls
+
+-- names as texts with their bytes, as names with bytes
+abbrev pub holding_of : List (String Global × Vec ℕ Global) → Holding
+holding_of entries = map (λ entry. (string_bytes entry.0, entry.1.items)) entries
+
+-- a write of these bytes fails: the call is to fail, or there are some and the sink is full
+abbrev pub FailsToTake : SinkInMemory → List ℕ → Type 0
+FailsToTake s bytes = IsTrue (is_to_fail s.calls) ⊎ ((0 < length bytes) × (s.room ≤ length s.taken))

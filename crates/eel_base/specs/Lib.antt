@@ -1,0 +1,5 @@
+pub mod Fields
+pub mod Outside
+pub mod CodeText
+pub mod InMemory
+pub mod Real

@@ -1,0 +1,159 @@
+//! The real outside: files, a reader and a writer of std. They tell nothing of what they hold, and count
+//! their faults. What the system does behind them is trusted.
+ghost use Rattle.std.specs.Prelude.{◌≡◌, None};
+ghost use Rattle.eel_base.specs.Real.{Counts};
+
+use crate::outside::{Failed, FetchFault, Files, PutFault, Sink, Source};
+use crate::whole::read_onto;
+use std::alloc::Global;
+use std::fs::OpenFile;
+use std::io::{Read, Write};
+use std::marker::Model;
+use std::{fs, rt};
+
+/// The files of the system. A missing name is a fault.
+#[derive(Drop)]
+pub struct RealFiles<R> {
+    rt: R,
+    faults: u64,
+}
+
+impl<R> Model for RealFiles<R> {
+    ghost use Rattle.std.specs.Prelude.{ℕ};
+
+    ghost Value = { ℕ };
+
+    ghost view = { λ f. f.faults };
+}
+
+impl<R> RealFiles<R> {
+    pub fn new(rt: R) -> RealFiles<R>
+        ensures { result ≡ 0 }
+    {
+        RealFiles { rt, faults: 0 }
+    }
+}
+
+impl<R: rt::Files> Files for RealFiles<R> {
+    ghost held = { λ _. None };
+
+    ghost faults = { λ count. count };
+
+    fn fetch(&mut self, alloc: Global, name: &str, limit: u64) -> Result<Vec<u8>, FetchFault> {
+        let Ok(file) = fs::open(&self.rt, name) else {
+            self.faults = self.faults.saturating_add(1);
+            return Err(FetchFault::Failed);
+        };
+        // Room for the whole file at once, so that it isn't moved as it grows.
+        let size = match file.metadata() {
+            Ok(metadata) => metadata.len(),
+            Err(_) => 0,
+        };
+        let Ok(room) = Vec::with_capacity(alloc, size.min(limit).saturating_add(1) as usize) else {
+            return Err(FetchFault::NoMemory);
+        };
+        let read = read_onto(room, &mut StdSource::new(file), limit);
+        if let Err(FetchFault::Failed) = read {
+            self.faults = self.faults.saturating_add(1);
+        }
+        read
+    }
+
+    fn put(&mut self, name: &str, bytes: &[u8]) -> Result<(), PutFault> {
+        match fs::write(&self.rt, name, bytes) {
+            Ok(()) => Ok(()),
+            Err(_) => {
+                self.faults = self.faults.saturating_add(1);
+                Err(PutFault::Failed)
+            }
+        }
+    }
+}
+
+/// A reader of std as a source.
+#[derive(Drop)]
+pub struct StdSource<R> {
+    reader: R,
+    faults: u64,
+    reads: u64,
+}
+
+impl<R> Model for StdSource<R> {
+    ghost use Rattle.eel_base.specs.Real.{Counts};
+
+    ghost Value = { Counts };
+
+    ghost view = { λ s. record { faults = s.faults; reads = s.reads } };
+}
+
+impl<R> StdSource<R> {
+    pub fn new(reader: R) -> StdSource<R>
+        ensures { result ≡ record { faults = 0; reads = 0 } }
+    {
+        StdSource {
+            reader,
+            faults: 0,
+            reads: 0,
+        }
+    }
+}
+
+impl<R: Read> Source for StdSource<R> {
+    ghost left = { λ _. None };
+
+    ghost faults = { λ s. s.faults };
+
+    ghost reads = { λ s. s.reads };
+
+    fn read(&mut self, buf: &mut [u8]) -> Result<usize, Failed> {
+        match self.reader.read(buf) {
+            Ok(count) => {
+                self.reads = self.reads.saturating_add(1);
+                Ok(count)
+            }
+            Err(_) => {
+                self.faults = self.faults.saturating_add(1);
+                Err(Failed)
+            }
+        }
+    }
+}
+
+/// A writer of std as a sink. Taking nothing of a piece that isn't empty is a fault.
+#[derive(Drop)]
+pub struct StdSink<W> {
+    writer: W,
+    faults: u64,
+}
+
+impl<W> Model for StdSink<W> {
+    ghost use Rattle.std.specs.Prelude.{ℕ};
+
+    ghost Value = { ℕ };
+
+    ghost view = { λ s. s.faults };
+}
+
+impl<W> StdSink<W> {
+    pub fn new(writer: W) -> StdSink<W>
+        ensures { result ≡ 0 }
+    {
+        StdSink { writer, faults: 0 }
+    }
+}
+
+impl<W: Write> Sink for StdSink<W> {
+    ghost taken = { λ _. None };
+
+    ghost faults = { λ count. count };
+
+    fn write(&mut self, bytes: &[u8]) -> Result<usize, Failed> {
+        match self.writer.write(bytes) {
+            Ok(count) if count > 0 || bytes.is_empty() => Ok(count),
+            _ => {
+                self.faults = self.faults.saturating_add(1);
+                Err(Failed)
+            }
+        }
+    }
+}
