@@ -44,8 +44,8 @@ fn files_in_memory_hold_and_fail(rt: HostRuntime) -> Result<(), Fail> {
     let mut files = MemFiles::new(alloc, fail);
     assert_eq!(rt; files.add("b", b"four"), Ok(()));
     assert_eq!(rt; files.add("a", b"one"), Ok(()));
-    assert_eq!(rt; files.get("b"), Some(b"four".as_slice()));
-    assert_eq!(rt; files.get("c"), None);
+    assert_eq!(rt; files.get("b").ok_or("held")?, b"four".as_slice());
+    assert!(rt; files.get("c").is_none());
 
     let fetched = files.fetch(alloc, "b", 4).map_err(|_| Fail::from("fetch"))?;
     assert_eq!(rt; fetched.as_slice(), b"four".as_slice());
@@ -57,10 +57,10 @@ fn files_in_memory_hold_and_fail(rt: HostRuntime) -> Result<(), Fail> {
         "call 3"
     );
     assert!(rt; files.put("a", b"two").is_err(), "call 4");
-    assert_eq!(rt; files.get("a"), Some(b"one".as_slice()));
+    assert_eq!(rt; files.get("a").ok_or("held")?, b"one".as_slice());
     assert!(rt; files.put("a", b"two").is_ok());
-    assert_eq!(rt; files.get("a"), Some(b"two".as_slice()));
-    assert_eq!(rt; files.get("b"), Some(b"four".as_slice()));
+    assert_eq!(rt; files.get("a").ok_or("held")?, b"two".as_slice());
+    assert_eq!(rt; files.get("b").ok_or("held")?, b"four".as_slice());
     Ok(())
 }
 

@@ -1,0 +1,64 @@
+-- What came of a command, and how it shows: a line on the error stream and a status.
+use Rattle.std.specs.Prelude.{◌≡◌, ℕ, ◌⊎◌, List, [], ◌∷◌, ◌++◌, Option, codes, decimal}
+use Rattle.std.specs.Borrow.{Bor}
+use Rattle.std.specs.List.{flat_map}
+use Rattle.eel_base.specs.Outside.{Rose, appended, TookPart}
+use Rattle.eel.specs.declared.outcome.Outcome as declared
+use Rattle.eel.specs.declared.outcome.Outcome.TheVariants as variants
+
+pub data Outcome : Type 0 where
+  Done : Outcome
+  -- the words are outside the grammar
+  BadWords : Outcome
+  -- the file is of a form that isn't built yet
+  FormNotBuilt : (name : List ℕ) → Outcome
+  -- the file has more bytes than `limit`
+  TooLong : (name : List ℕ) (limit : ℕ) → Outcome
+  OutOfMemory : Outcome
+  DeviceFault : Outcome
+
+abbrev pub status_of : Outcome → ℕ
+status_of Done = 0
+status_of BadWords = 64
+status_of (FormNotBuilt name) = 65
+status_of (TooLong name limit) = 66
+status_of OutOfMemory = 70
+status_of DeviceFault = 74
+
+abbrev pub line : List ℕ → List ℕ
+line text = codes "eel: " ++ text ++ 10 ∷ []
+
+abbrev pub line_about : List ℕ → List ℕ → List ℕ
+line_about name text = line (name ++ codes ": " ++ text)
+
+-- the line that says it; a command that is done says nothing
+abbrev pub line_of : Outcome → List ℕ
+line_of Done = []
+line_of BadWords = line (codes "bad words")
+line_of (FormNotBuilt name) = line_about name (codes "form not built")
+line_of (TooLong name limit) = line_about name (codes "longer than " ++ decimal limit ++ codes " bytes")
+line_of OutOfMemory = line (codes "out of memory")
+line_of DeviceFault = line (codes "device fault")
+
+-- A stream of errors: what it has taken, where it tells it, and its faults.
+pub record Stream : Type 0 where
+  pub taken : Option (List ℕ)
+  pub faults : ℕ
+
+-- the line was written, or a first part of it and then the stream failed
+pub data Shows (outcome : Outcome) (status : ℕ) (old new : Stream) : Type 0 where
+  shown : status ≡ status_of outcome → new.taken ≡ appended old.taken (line_of outcome) → Shows outcome status old new
+  failed : status ≡ 74 → TookPart old.taken new.taken (line_of outcome) → Rose old.faults new.faults → Shows outcome status old new
+
+-- pieces of text, one after the other
+abbrev pub joined : List (Bor (List ℕ)) → List ℕ
+joined pieces = flat_map (λ piece. piece.now) pieces
+
+-- the outcome that the program keeps
+abbrev pub outcome_seen : declared.Outcome → Outcome
+outcome_seen variants.Done = Done
+outcome_seen variants.BadWords = BadWords
+outcome_seen (variants.FormNotBuilt name) = FormNotBuilt name.now
+outcome_seen (variants.TooLong name limit) = TooLong name.now limit
+outcome_seen variants.OutOfMemory = OutOfMemory
+outcome_seen variants.DeviceFault = DeviceFault

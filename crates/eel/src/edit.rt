@@ -1,0 +1,46 @@
+//! The command `edit`.
+ghost use Rattle.std.specs.Prelude.{Some, ◌≤◌};
+ghost use Rattle.eel.specs.Command.{EditPlain};
+ghost use Rattle.eel.specs.Outcome.{outcome_seen};
+ghost use Rattle.eel.specs.Answers.{Follows};
+
+use crate::outcome::Outcome;
+use crate::straight::{StraightFault, edited};
+use eel_base::{FetchFault, Files, PutFault};
+use std::alloc::Global;
+
+/// How many bytes a file may have that is edited.
+const EDIT_LIMIT: u64 = 64 << 20;
+
+/// Reads `input`, edits it without snippets, and writes `output`.
+pub fn edit_plain<'a, F: Files>(
+    alloc: Global,
+    files: &mut F,
+    input: &'a str,
+    output: &str,
+) -> Outcome<'a>
+    ensures follows { Follows (Some (EditPlain input.now output.now)) (record { held = F.held files.old; faults = F.faults files.old }) (record { held = F.held files.new; faults = F.faults files.new }) (outcome_seen result) }
+    ensures later { F.faults files.old ≤ F.faults files.new }
+{
+    let bytes = match files.fetch(alloc, input, EDIT_LIMIT) {
+        Ok(bytes) => bytes,
+        Err(FetchFault::TooLong) => {
+            return Outcome::TooLong {
+                name: input,
+                limit: EDIT_LIMIT,
+            };
+        }
+        Err(FetchFault::NoMemory) => return Outcome::OutOfMemory,
+        Err(FetchFault::Failed) => return Outcome::DeviceFault,
+    };
+    let written = match edited(alloc, &bytes) {
+        Ok(written) => written,
+        Err(StraightFault::Form) => return Outcome::FormNotBuilt { name: input },
+        Err(StraightFault::NoMemory) => return Outcome::OutOfMemory,
+    };
+    match files.put(output, &written) {
+        Ok(()) => Outcome::Done,
+        Err(PutFault::NoMemory) => Outcome::OutOfMemory,
+        Err(PutFault::Failed) => Outcome::DeviceFault,
+    }
+}

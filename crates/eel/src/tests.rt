@@ -1,0 +1,170 @@
+//! The program over objects in memory: that it answers, and what it writes.
+use crate::top::eel;
+use eel_base::{MemFiles, MemSink, MemSource, be16_at, be32_at};
+use std::alloc::Global;
+use std::test::Fail;
+
+/// `mov 1,%g1`, `mov 3,%o0`, `ta 16`, after the headers of a program.
+const THREE_WORDS: [u8; 96] =
+    *b"\x7fELF\x01\x02\x01\0\0\0\0\0\0\0\0\0\0\x02\0\x02\0\0\0\x01\0\x01\0\x54\0\0\0\x34\0\0\0\0\0\0\0\0\0\x34\0\x20\0\x01\0\0\0\0\0\0\0\0\0\x01\0\0\0\x54\0\x01\0\x54\0\x01\0\x54\0\0\0\x0c\0\0\0\x0c\0\0\0\x05\0\x01\0\0\x82\x10\x20\x01\x90\x10\x20\x03\x91\xd0\x20\x10";
+
+/// The outside of a call.
+#[derive(Drop)]
+struct Outside {
+    files: MemFiles,
+    input: MemSource,
+    out: MemSink,
+    err: MemSink,
+}
+
+impl Outside {
+    /// Holds three_words. The calls of the files in `fail` are to fail, and `err` has `room`.
+    fn new(alloc: Global, fail: &[u64], room: usize) -> Result<Outside, Fail> {
+        let mut files = MemFiles::new(alloc, Vec::from_slice(alloc, fail)?);
+        files
+            .add("in", &THREE_WORDS)
+            .map_err(|_| Fail::from("add"))?;
+        Ok(Outside {
+            files,
+            input: MemSource::new(Vec::new(alloc), Vec::new(alloc)),
+            out: MemSink::new(alloc, 100, Vec::new(alloc)).map_err(|_| Fail::from("out"))?,
+            err: MemSink::new(alloc, room, Vec::new(alloc)).map_err(|_| Fail::from("err"))?,
+        })
+    }
+
+    fn eel(&mut self, alloc: Global, words: &[&str]) -> u8 {
+        eel(
+            alloc,
+            words,
+            &mut self.files,
+            &mut self.input,
+            &mut self.out,
+            &mut self.err,
+        )
+    }
+}
+
+#[test]
+fn three_words_is_edited(rt: HostRuntime) -> Result<(), Fail> {
+    let mut outside = Outside::new(rt.alloc(), &[], 100)?;
+    assert_eq!(rt; outside.eel(rt.alloc(), &["edit", "in", "out", "plain"]), 0);
+    assert!(rt; outside.err.bytes().is_empty() && outside.out.bytes().is_empty());
+
+    let written = outside.files.get("out").ok_or("written")?;
+    assert_eq!(rt; written.len(), 77_940);
+    for (at, half) in [
+        (16, 2),
+        (18, 2),
+        (40, 52),
+        (42, 32),
+        (44, 3),
+        (46, 40),
+        (48, 0),
+        (50, 0),
+    ] {
+        assert_eq!(rt; be16_at(written, at), Some(half), "the half at {at}");
+    }
+    let words = [
+        // The header of the file.
+        (0, 0x7f45_4c46),
+        (20, 1),
+        (24, 0x20000),
+        (28, 52),
+        (32, 0),
+        // The original's segment: where it stands, and that it is only readable.
+        (56, 0x10054),
+        (60, 0x10054),
+        (68, 12),
+        (72, 12),
+        (76, 4),
+        (80, 0x10000),
+        // The code and the editor's page.
+        (88, 69_632),
+        (92, 0x20000),
+        (100, 12),
+        (104, 12),
+        (108, 5),
+        (112, 4096),
+        (120, 73_728),
+        (124, 0xffff_f000),
+        (132, 4096),
+        (136, 4096),
+        (140, 6),
+        (144, 4096),
+        // The locator of the notes.
+        (4032, 0x4545_4c4e),
+        (4036, 1),
+        (4040, 77_824),
+        (4044, 116),
+        (4048, 0),
+        // The original, the code, and the first and last words of the notes.
+        (65_536, 0x7f45_4c46),
+        (69_632, 0x8210_2001),
+        (69_640, 0x91d0_2010),
+        (69_644, 0),
+        (77_820, 0),
+        (77_824, 0x10000),
+        (77_828, 96),
+        (77_836, 0x10054),
+        (77_932, 0x1005c),
+        (77_936, 0),
+    ];
+    for (at, word) in words {
+        assert_eq!(rt; be32_at(written, at), Some(word), "the word at {at}");
+    }
+    Ok(())
+}
+
+#[test]
+fn every_other_answer_has_its_line(rt: HostRuntime) -> Result<(), Fail> {
+    let alloc = rt.alloc();
+    let no_words: [&str; 0] = [];
+    let mut outside = Outside::new(alloc, &[1, 5], 200)?;
+    assert_eq!(rt; outside.eel(alloc, &no_words), 64);
+    assert_eq!(rt; outside.eel(alloc, &["edit", "in", "out", "profile"]), 64);
+    assert_eq!(rt;
+        outside.eel(alloc, &["edit", "none", "out", "plain"]),
+        74,
+        "a missing name"
+    );
+    assert_eq!(rt;
+        outside.eel(alloc, &["edit", "in", "out", "plain"]),
+        74,
+        "a fetch that fails"
+    );
+    assert_eq!(rt; outside.eel(alloc, &["edit", "in", "out", "plain"]), 0);
+    assert_eq!(rt;
+        outside.eel(alloc, &["edit", "in", "other", "plain"]),
+        74,
+        "a put that fails"
+    );
+    assert_eq!(rt; outside.eel(alloc, &["edit", "out", "other", "plain"]), 65);
+    assert!(rt; outside.files.get("other").is_none());
+    let lines =
+        b"eel: bad words\neel: bad words\neel: device fault\neel: device fault\neel: device fault\neel: out: form not built\n";
+    assert_eq!(rt; outside.err.bytes(), lines.as_slice());
+    Ok(())
+}
+
+#[test]
+fn a_long_file_and_a_full_stream(rt: HostRuntime) -> Result<(), Fail> {
+    let alloc = rt.alloc();
+    let mut outside = Outside::new(alloc, &[], 41)?;
+    let long = vec![in alloc; 0; 67_108_865]?;
+    outside
+        .files
+        .add("long", &long)
+        .map_err(|_| Fail::from("add"))?;
+    assert_eq!(rt; outside.eel(alloc, &["edit", "long", "out", "plain"]), 66);
+    assert_eq!(rt;
+        outside.eel(alloc, &["help"]),
+        74,
+        "a line that can't be written"
+    );
+    assert_eq!(rt;
+        outside.err.bytes(),
+        b"eel: long: longer than 67108864 bytes\neel".as_slice()
+    );
+    assert!(rt; outside.files.get("out").is_none());
+    Ok(())
+}
