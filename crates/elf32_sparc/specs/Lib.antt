@@ -1,0 +1,3 @@
+pub mod Header
+pub mod FileFault
+pub mod Survey
