@@ -2,7 +2,6 @@
 use Rattle.std.proofs.Common.{◌≡◌, ℕ, Bool, true, false, cond, List, [], ◌∷◌, ◌++◌, Option, Some, None, refl, sym, ap, ◌∙◌, length}
 use Rattle.std.specs.Option.{option_or}
 use Rattle.elf32_sparc.specs.declared.fault.FileFault.{FileFault}
-use Rattle.elf32_sparc.specs.declared.survey.Survey.{Survey}
 use Rattle.elf32_sparc.specs.Header.{e_entry, program_headers}
 use Rattle.elf32_sparc.specs.FileFault.{first_that_holds, header_rows, entry_rows, fault, has_dynamic, has_bytes_outside, has_memory_outside, has_disorder, has_misaligned, has_misshapen_text, has_large_text, has_other_entry, memory_size}
 use Rattle.elf32_sparc.specs.Survey.{survey_rows, survey_of, no_survey}

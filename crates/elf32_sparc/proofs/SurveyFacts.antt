@@ -1,7 +1,7 @@
 -- What a survey of headers shows is what is true of all of them.
-use Rattle.std.proofs.Common.{◌≡◌, ℕ, ◌+◌, Bool, true, false, ◌&&◌, ◌||◌, cond, not, ltb, List, [], ◌∷◌, Option, Some, None, refl, sym, ap, ◌∙◌, add_assoc, arith}
+use Rattle.std.proofs.Common.{◌≡◌, ℕ, ◌+◌, Bool, true, false, ◌&&◌, ◌||◌, cond, not, ltb, List, [], ◌∷◌, Option, Some, None, refl, sym, ap, ◌∙◌, arith}
 use Rattle.std.proofs.Math.Bool.{or_assoc}
-use Rattle.std.specs.List.{fold, filter, find, list_any, sum_by, count_by}
+use Rattle.std.specs.List.{fold, find, list_any}
 use Rattle.std.specs.Option.{option_or}
 use Rattle.elf32_sparc.specs.declared.header.ProgramHeader.{ProgramHeader}
 use Rattle.elf32_sparc.specs.declared.survey.Survey.{Survey}

@@ -1,5 +1,5 @@
 -- What one pass over the program headers keeps of them.
-use Rattle.std.specs.Prelude.{ℕ, ◌+◌, ◌*◌, ◌^◌, Bool, false, not, ◌&&◌, ◌||◌, ◌==◌, nat_lt, if◌then◌else◌, List, [], ◌∷◌, length, Option, Some, None, is_some}
+use Rattle.std.specs.Prelude.{ℕ, ◌+◌, ◌*◌, ◌^◌, Bool, false, not, ◌&&◌, ◌||◌, ◌==◌, nat_lt, if◌then◌else◌, List, [], ◌∷◌, length, Some, None}
 use Rattle.std.specs.List.{fold}
 use Rattle.std.specs.Option.{option_map_or, option_or}
 use Rattle.elf32_sparc.specs.declared.header.ProgramHeader.{ProgramHeader}

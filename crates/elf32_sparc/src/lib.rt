@@ -5,9 +5,11 @@
 mod fault;
 mod flags;
 mod header;
+mod program;
 mod survey;
 mod verdicts;
 
 pub use fault::{FileFault, ReadFault};
 pub use flags::SegFlags;
+pub use program::{Image, Segment, read_image};
 pub use verdicts::verdict;
