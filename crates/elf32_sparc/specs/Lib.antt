@@ -1,0 +1,4 @@
+pub mod Header
+pub mod FileFault
+pub mod Survey
+pub mod Image

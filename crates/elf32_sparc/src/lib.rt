@@ -1,0 +1,15 @@
+//! The reader of ELF32 files for SPARC: what keeps a file from being edited, and the image of one that
+//! can be.
+#![tactic(auto)]
+
+mod fault;
+mod flags;
+mod header;
+mod program;
+mod survey;
+mod verdicts;
+
+pub use fault::{FileFault, ReadFault};
+pub use flags::SegFlags;
+pub use program::{Image, Segment, read_image};
+pub use verdicts::verdict;
