@@ -3,12 +3,16 @@
 //! Architecture Manual, Version 8.
 #![tactic(auto)]
 
-ghost use Rattle.std.specs.Prelude.{◌≡◌, ◌<◌, ◌≤◌, MatchOption};
+ghost use Rattle.std.specs.Prelude.{◌≡◌, ◌<◌, ◌≤◌, ◌%◌, suc, MatchOption};
 
 use std::marker::Model;
 
+mod effects;
+mod sets;
 mod tables;
 
+pub use effects::{reads, writes};
+pub use sets::RegSet;
 pub use tables::decode;
 
 /// An integer register of the current window, 0 to 31: %g0 to %g7, %o0 to %o7, %l0 to %l7,
@@ -49,6 +53,17 @@ impl Reg {
         ensures range { self.now < 32 }
     {
         self.number
+    }
+
+    // The other register of the pair that this one begins.
+    #[inline]
+    fn next(self) -> Reg
+        requires even { self % 2 ≡ 0 }
+        ensures { result ≡ suc self }
+    {
+        Reg {
+            number: self.number + 1,
+        }
     }
 }
 
@@ -230,4 +245,13 @@ pub enum Instr {
     Privileged,
     FpOff,
     CpOff,
+}
+
+/// What an instruction can read or write besides memory: a register of the current window, the
+/// integer condition codes as one, or Y.
+#[derive(Clone, Copy, PartialEq, Eq, Debug, Drop)]
+pub enum Part {
+    Reg(Reg),
+    Icc,
+    Y,
 }
