@@ -1,5 +1,5 @@
 -- The word of an instruction, by the formats of section 5.2 and the opcodes of appendix F of The SPARC Architecture Manual, Version 8.
-use Rattle.std.specs.Prelude.{◌≡◌, ℕ, zero, suc, ◌+◌, ◌-◌, ◌*◌, ◌/◌, ◌%◌, ◌^◌, Bool, true, false, not, ◌&&◌, List, [], ◌∷◌, Option, Some, None, ℤ, pos, negsuc, nat_lt, ◌==◌, if◌then◌else◌}
+use Rattle.std.specs.Prelude.{◌≡◌, ℕ, zero, suc, ◌+◌, ◌-◌, ◌*◌, ◌/◌, ◌%◌, ◌^◌, ◌<◌, IsTrue, Bool, true, false, not, ◌&&◌, List, [], ◌∷◌, Option, Some, None, ℤ, pos, negsuc, nat_lt, ◌==◌, if◌then◌else◌}
 use Rattle.v8_decode.specs.declared.Instr.{Instr}
 use Rattle.v8_decode.specs.declared.Instr.TheVariants as i
 use Rattle.v8_decode.specs.declared.Op2.{Op2}
@@ -10,7 +10,7 @@ use Rattle.v8_decode.specs.declared.LoadKind.{LoadKind}
 use Rattle.v8_decode.specs.declared.LoadKind.TheVariants as loads
 use Rattle.v8_decode.specs.declared.StoreKind.{StoreKind}
 use Rattle.v8_decode.specs.declared.StoreKind.TheVariants as stores
-use Rattle.v8_decode.specs.Words.{field}
+use Rattle.v8_decode.specs.Words.{field, decode_of}
 use Rattle.v8_decode.specs.Effects.{has_even_pair}
 
 -- whether a number fits a field of `width` bits in two's complement
@@ -220,3 +220,7 @@ ignored_of _ = []
 abbrev pub cleared : List (ℕ × ℕ) → ℕ → ℕ
 cleared [] w = w
 cleared (f ∷ fields) w = cleared fields (w - field w f.0 f.1 * 2 ^ f.0)
+
+-- what an instruction's encoding is for each word that decodes to it
+abbrev pub EncodesAgain : Instr → Option ℕ → Type 0
+EncodesAgain instr encoded = (w : ℕ) → w < 2 ^ 32 → decode_of w ≡ instr → IsTrue (is_instruction instr) → encoded ≡ Some (cleared (ignored_of instr) w)

@@ -2,9 +2,10 @@
 //! those of The SPARC Architecture Manual, Version 8.
 #![tactic(auto)]
 
-ghost use Rattle.std.specs.Prelude.{◌≡◌, ◌+◌, ◌*◌, ◌^◌, ◌<◌, ◌≤◌, Some, None, if◌then◌else◌, pos, ◌≤ℤ◌, ◌&&◌, true, IfSome};
+ghost use Rattle.std.specs.Prelude.{◌≡◌, ◌+◌, ◌*◌, ◌^◌, ◌<◌, ◌≤◌, Some, None, if◌then◌else◌, pos, ◌≤ℤ◌, ◌&&◌, ◌↔◌, true, IsTrue, IsSome, IfSome};
 ghost use Rattle.v8_decode.specs.Effects.{has_even_pair};
-ghost use Rattle.v8_encode.specs.Encoding.{alu_op3, annul_bit, encode_of, fits_signed, format2, format3, has_cc_form, is_in_range, load_op3, op2_field, op2_fits, op2_in_range, operands_in_range, signed_field, store_op3, with_cc};
+ghost use Rattle.v8_decode.specs.Words.{decode_of};
+ghost use Rattle.v8_encode.specs.Encoding.{alu_op3, annul_bit, cleared, EncodesAgain, encode_of, fits_signed, format2, format3, has_cc_form, has_word, ignored_of, is_in_range, load_op3, op2_field, op2_fits, op2_in_range, operands_in_range, signed_field, store_op3, with_cc};
 
 use v8_decode::{AluOp, Cond, Instr, LoadKind, Op2, Reg, StoreKind};
 
@@ -229,4 +230,21 @@ fn word_for(i: Instr) -> Option<u32>
         Instr::FpOff => None,
         Instr::CpOff => None,
     }
+}
+
+/// The word of an instruction: none where an immediate does not fit its field, where the operation has
+/// no form that sets codes, or none that leaves them, as `cc` asks, where a doubleword's rd is odd, and
+/// for the four variants that are no instruction.
+pub fn encode(i: Instr) -> Option<u32>
+    ensures word { result ≡ encode_of i }
+    ensures found { IsSome result ↔ IsTrue (has_word i) }
+
+    // The word decodes to the instruction, and the bits that its form ignores are 0.
+    ensures decodes { IfSome result (λ w. decode_of w ≡ i) }
+    ensures ignored { IfSome result (λ w. cleared (ignored_of i) w ≡ w) }
+
+    // Each word that is an instruction is encoded again, but for the bits that its form ignores.
+    ensures again { EncodesAgain i result }
+{
+    word_for(i)
 }
