@@ -99,9 +99,3 @@ read_set instr = if reads_all instr then every_part else set_of (reads_of instr)
 
 abbrev pub write_set : Instr → List Part
 write_set instr = set_of (writes_of instr)
-
--- a doubleword has an even rd (B.1, B.4)
-abbrev pub has_even_pair : Instr → Bool
-has_even_pair (i.Load loads.LDD rd rs1 op2) = rd % 2 == 0
-has_even_pair (i.Store stores.STD rd rs1 op2) = rd % 2 == 0
-has_even_pair _ = true

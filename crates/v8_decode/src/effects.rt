@@ -1,8 +1,9 @@
 // What an instruction reads and writes besides memory.
 
 ghost use Rattle.std.specs.Prelude.{◌≡◌, suc, ◌%◌, [], ◌∷◌, ◌++◌, IsTrue};
-ghost use Rattle.v8_decode.specs.Effects.{alu_inputs, has_even_pair, is_conditional, loaded_parts, op2_parts, pair, read_set, reg, stored_parts, when, write_set, writes_y};
+ghost use Rattle.v8_decode.specs.Effects.{alu_inputs, is_conditional, loaded_parts, op2_parts, pair, read_set, reg, stored_parts, when, write_set, writes_y};
 ghost use Rattle.v8_decode.specs.Parts.{set_of};
+ghost use Rattle.v8_decode.specs.Ranges.{has_even_pair};
 
 use crate::{AluOp, Cond, Instr, LoadKind, Op2, Part, Reg, RegSet, StoreKind};
 

@@ -1,6 +1,7 @@
 // Words taken apart: the fields of the three formats, and a match for each table of opcodes.
 
-ghost use Rattle.std.specs.Prelude.{◌≡◌, ◌<◌, ◌^◌, ◌%◌, ◌==◌};
+ghost use Rattle.std.specs.Prelude.{◌≡◌, ◌<◌, ◌^◌, ◌%◌, ◌==◌, IsTrue};
+ghost use Rattle.v8_decode.specs.Ranges.{has_even_pair, is_in_range};
 ghost use Rattle.v8_decode.specs.Words.{alu, arithmetic, branch_or_sethi, call, cond_of, decode_of, field, load, memory, op2_of, rd_of, read_state, rs1_of, signed, store, write_state};
 
 use crate::{AluOp, Cond, Instr, LoadKind, Op2, Reg, StoreKind};
@@ -308,10 +309,9 @@ fn memory_word(word: u32) -> Instr
     }
 }
 
-/// What a word says. Bits that its form does not use are not looked at.
 #[inline]
 #[tactic(auto, unfolding(crate::specs::Words::decode_of))]
-pub fn decode(word: u32) -> Instr
+fn format_word(word: u32) -> Instr
     ensures { result ≡ decode_of word }
 {
     match bits(word, 30, 2) {
@@ -322,4 +322,16 @@ pub fn decode(word: u32) -> Instr
         2 => arithmetic_word(word),
         _ => memory_word(word),
     }
+}
+
+/// What a word says. Bits that its form does not use are not looked at.
+#[inline]
+pub fn decode(word: u32) -> Instr
+    ensures value { result ≡ decode_of word }
+
+    // Registers and conditions are in range, and a doubleword's rd is even.
+    ensures range { IsTrue (is_in_range result) }
+    ensures pair { IsTrue (has_even_pair result) }
+{
+    format_word(word)
 }

@@ -1,7 +1,7 @@
 -- The word of an instruction decodes to it.
-use Rattle.std.proofs.Common.{◌≡◌, ℕ, zero, suc, ◌+◌, ◌-◌, ◌*◌, ◌/◌, ◌%◌, ◌^◌, ◌<◌, ◌≤◌, Bool, true, false, cond, ◌&&◌, List, [], ◌∷◌, nat_lt, ◌==◌, ℤ, refl, sym, ap, ◌∙◌, arith}
+use Rattle.std.proofs.Common.{◌≡◌, ℕ, ◌+◌, ◌*◌, ◌%◌, ◌^◌, ◌<◌, Bool, true, false, cond, ◌&&◌, nat_lt, ◌==◌, ℤ, refl, sym, ap, ◌∙◌, arith}
 use Rattle.std.specs.Prelude.{if◌then◌else◌}
-use Rattle.std.proofs.lemmas.Bool.{and_parts, true≢false, eqb-true, eq-eqb, ltb-true}
+use Rattle.std.proofs.lemmas.Bool.{and_parts, true≢false, ltb-true}
 use Rattle.v8_decode.specs.declared.Instr.{Instr}
 use Rattle.v8_decode.specs.declared.Instr.TheVariants as i
 use Rattle.v8_decode.specs.declared.Op2.{Op2}
@@ -12,30 +12,11 @@ use Rattle.v8_decode.specs.declared.LoadKind.{LoadKind}
 use Rattle.v8_decode.specs.declared.LoadKind.TheVariants as loads
 use Rattle.v8_decode.specs.declared.StoreKind.{StoreKind}
 use Rattle.v8_decode.specs.declared.StoreKind.TheVariants as stores
-use Rattle.v8_decode.specs.Words.{field, signed, rd_of, op3_of, rs1_of, cond_of, op2_of, Row, row_of, alu, load, store, op2_rows, arithmetic_rows, memory_rows, branch_or_sethi, arithmetic, memory, call, decode_of}
-use Rattle.v8_decode.specs.Effects.{has_even_pair}
-use Rattle.v8_encode.specs.Encoding.{fits_signed, signed_field, op2_fits, op2_field, op2_in_range, operands_in_range, is_in_range, has_cc_form, alu_op3, load_op3, store_op3, format2, format3, has_word, word_of, annul_bit}
-use Rattle.v8_encode.proofs.Fields.{IsFormat3, format3_fields, op2_field-lt, op2_of-field, signed_field-lt, signed-signed_field}
-
--- the tables at a word whose op, and op3 or op2, are known
-abbrev formats : List (ℕ × Row)
-formats = (0, branch_or_sethi) ∷ (1, call) ∷ (2, arithmetic) ∷ (3, memory) ∷ []
-
-pub decode_of-call : (w : ℕ) → field w 30 2 ≡ 1 → decode_of w ≡ call w
-unfolding decode_of
-decode_of-call w op = ap (λ n. row_of formats n w) op
-
-pub decode_of-format2 : (w n : ℕ) → field w 30 2 ≡ 0 → field w 22 3 ≡ n → decode_of w ≡ row_of op2_rows n w
-unfolding decode_of branch_or_sethi
-decode_of-format2 w n op op2 = ap (λ n. row_of formats n w) op ∙ ap (λ n. row_of op2_rows n w) op2
-
-pub decode_of-arithmetic : (w n : ℕ) → field w 30 2 ≡ 2 → op3_of w ≡ n → decode_of w ≡ row_of arithmetic_rows n w
-unfolding decode_of arithmetic
-decode_of-arithmetic w n op op3 = ap (λ n. row_of formats n w) op ∙ ap (λ n. row_of arithmetic_rows n w) op3
-
-pub decode_of-memory : (w n : ℕ) → field w 30 2 ≡ 3 → op3_of w ≡ n → decode_of w ≡ row_of memory_rows n w
-unfolding decode_of memory
-decode_of-memory w n op op3 = ap (λ n. row_of formats n w) op ∙ ap (λ n. row_of memory_rows n w) op3
+use Rattle.v8_decode.specs.Words.{field, signed, rd_of, op3_of, rs1_of, cond_of, op2_of, row_of, alu, load, store, arithmetic_rows, memory_rows, arithmetic, decode_of}
+use Rattle.v8_decode.specs.Ranges.{has_even_pair, op2_in_range, operands_in_range, is_in_range}
+use Rattle.v8_decode.proofs.Rows.{decode_of-call, decode_of-format2, decode_of-arithmetic, decode_of-memory}
+use Rattle.v8_encode.specs.Encoding.{fits_signed, signed_field, op2_fits, op2_field, has_cc_form, alu_op3, load_op3, store_op3, format2, format3, has_word, word_of, annul_bit}
+use Rattle.v8_encode.proofs.Fields.{format3_fields, op2_field-lt, op2_of-field, signed_field-lt, signed-signed_field}
 
 -- the row of an operation's form
 arithmetic-row : (op : AluOp) (sets : Bool) → has_cc_form op sets ≡ true → (w : ℕ) → row_of arithmetic_rows (alu_op3 op sets) w ≡ alu op sets w
@@ -83,7 +64,6 @@ arithmetic-row ops.SRL false h w = refl
 arithmetic-row ops.SRL true h w = absurd (true≢false (sym h))
 arithmetic-row ops.SRA false h w = refl
 arithmetic-row ops.SRA true h w = absurd (true≢false (sym h))
-
 
 load-row : (kind : LoadKind) (w : ℕ) → has_even_pair (i.Load kind (rd_of w) (rs1_of w) (op2_of w)) ≡ true → row_of memory_rows (load_op3 kind) w ≡ load kind w
 load-row loads.LD w h = refl
@@ -184,7 +164,7 @@ says op rd op3 rs1 op2 h0 h1 h2 range fits =
       the_rd = fields.the_rd;
       the_op3 = fields.the_op3;
       the_rs1 = fields.the_rs1;
-      the_op2 = op2_of-field op2 (format3 op rd op3 rs1 op2) fits parts.1 fields.the_low
+      the_op2 = op2_of-field op2 (format3 op rd op3 rs1 op2) fits parts.1 fields.the_low;
     }
 
 operands : {op rd op3 rs1 : ℕ} {op2 : Op2} {w : ℕ} → (row : ℕ → Op2 → Instr) → Says op rd op3 rs1 op2 w → row (rs1_of w) (op2_of w) ≡ row rs1 op2

@@ -1,12 +1,13 @@
 -- The fields of a word that was put together, and a word put together of its fields.
-use Rattle.std.proofs.Common.{◌≡◌, ℕ, zero, suc, ◌+◌, ◌-◌, ◌*◌, ◌/◌, ◌%◌, ◌^◌, ◌<◌, ◌≤◌, Bool, true, false, cond, List, [], ◌∷◌, nat_lt, ◌==◌, ℤ, pos, negsuc, ◌-ℤ◌, refl, sym, ap, ◌∙◌, subst, inl, inr, arith}
+use Rattle.std.proofs.Common.{◌≡◌, ℕ, suc, ◌+◌, ◌-◌, ◌*◌, ◌^◌, ◌<◌, ◌≤◌, Bool, true, false, nat_lt, ◌==◌, ℤ, pos, negsuc, ◌-ℤ◌, refl, ap, ◌∙◌, arith}
 use Rattle.std.specs.Prelude.{if◌then◌else◌}
 use Rattle.std.proofs.lemmas.Bool.{eqb-true, eqb-false, ltb-true, ltb-false, le-ltb, lt-ltb}
 use Rattle.std.proofs.lemmas.Int.{ints}
 use Rattle.v8_decode.specs.declared.Op2.{Op2}
 use Rattle.v8_decode.specs.declared.Op2.TheVariants as o
-use Rattle.v8_decode.specs.Words.{field, signed, rd_of, op3_of, rs1_of, cond_of, op2_of}
-use Rattle.v8_encode.specs.Encoding.{fits_signed, signed_field, op2_fits, op2_field, op2_in_range, format2, format3, cleared, ignored_beside}
+use Rattle.v8_decode.specs.Words.{field, signed, rd_of, op3_of, rs1_of, op2_of}
+use Rattle.v8_decode.specs.Ranges.{op2_in_range}
+use Rattle.v8_encode.specs.Encoding.{fits_signed, signed_field, op2_fits, op2_field, format3, cleared, ignored_beside}
 
 -- the fields of a word of format 3
 pub record IsFormat3 (op rd op3 rs1 low w : ℕ) : Type 0 where
@@ -23,7 +24,7 @@ format3_fields op rd op3 rs1 low h0 h1 h2 h3 h4 = record {
   the_rd = omega arith;
   the_op3 = omega arith;
   the_rs1 = omega arith;
-  the_low = omega arith
+  the_low = omega arith;
 }
 
 -- ---- numbers in two's complement
@@ -87,6 +88,7 @@ op2_fits-op2_of w = go (field w 13 1 == 0)
   where
     below : field w 0 13 < 2 ^ 13
     below = omega arith
+
     go : (b : Bool) → op2_fits (if b then o.Reg (field w 0 5) else o.Imm (signed 13 (field w 0 13))) ≡ true
     go true = refl
     go false = (signed_field-signed 13 (field w 0 13) refl below).0
@@ -107,7 +109,7 @@ format3-fields w below = go (field w 13 1 == 0) refl
   where
     go : (b : Bool) → (field w 13 1 == 0) ≡ b
         → format3 (field w 30 2) (rd_of w) (op3_of w) (rs1_of w) (if b then o.Reg (field w 0 5) else o.Imm (signed 13 (field w 0 13)))
-          ≡ cleared (ignored_beside (if b then o.Reg (field w 0 5) else o.Imm (signed 13 (field w 0 13)))) w
+        ≡ cleared (ignored_beside (if b then o.Reg (field w 0 5) else o.Imm (signed 13 (field w 0 13)))) w
     go true e = let i = eqb-true (field w 13 1) 0 e in omega arith
     go false e =
         let i = eqb-false (field w 13 1) 0 e in

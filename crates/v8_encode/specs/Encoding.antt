@@ -1,5 +1,5 @@
 -- The word of an instruction, by the formats of section 5.2 and the opcodes of appendix F of The SPARC Architecture Manual, Version 8.
-use Rattle.std.specs.Prelude.{◌≡◌, ℕ, zero, suc, ◌+◌, ◌-◌, ◌*◌, ◌/◌, ◌%◌, ◌^◌, ◌<◌, IsTrue, Bool, true, false, not, ◌&&◌, List, [], ◌∷◌, Option, Some, None, ℤ, pos, negsuc, nat_lt, ◌==◌, if◌then◌else◌}
+use Rattle.std.specs.Prelude.{◌≡◌, ℕ, suc, ◌+◌, ◌-◌, ◌*◌, ◌^◌, ◌<◌, IsTrue, Bool, true, false, not, ◌&&◌, List, [], ◌∷◌, Option, Some, None, ℤ, pos, negsuc, nat_lt, if◌then◌else◌}
 use Rattle.v8_decode.specs.declared.Instr.{Instr}
 use Rattle.v8_decode.specs.declared.Instr.TheVariants as i
 use Rattle.v8_decode.specs.declared.Op2.{Op2}
@@ -11,7 +11,7 @@ use Rattle.v8_decode.specs.declared.LoadKind.TheVariants as loads
 use Rattle.v8_decode.specs.declared.StoreKind.{StoreKind}
 use Rattle.v8_decode.specs.declared.StoreKind.TheVariants as stores
 use Rattle.v8_decode.specs.Words.{field, decode_of}
-use Rattle.v8_decode.specs.Effects.{has_even_pair}
+use Rattle.v8_decode.specs.Ranges.{has_even_pair}
 
 -- whether a number fits a field of `width` bits in two's complement
 abbrev pub fits_signed : ℕ → ℤ → Bool
@@ -132,22 +132,22 @@ annul_bit false = 0
 
 -- its word, with 0 in each bit that its form does not use
 abbrev pub word_of : Instr → ℕ
-word_of (i.Sethi rd imm22) = format2 rd 4 imm22                                          -- B.9
-word_of (i.Branch cond annul disp22) = format2 (annul_bit annul * 2 ^ 4 + cond) 2 (signed_field 22 disp22)    -- B.21
-word_of (i.Call disp30) = 2 ^ 30 + signed_field 30 disp30                                -- B.24
-word_of (i.Alu op cc rd rs1 op2) = format3 2 rd (alu_op3 op cc) rs1 op2                  -- B.11 to B.19
-word_of (i.ReadY rd) = format3 2 rd 0x28 0 (o.Reg 0)                                     -- B.28
-word_of (i.WriteY rs1 op2) = format3 2 0 0x30 rs1 op2                                    -- B.29
-word_of (i.Jmpl rd rs1 op2) = format3 2 rd 0x38 rs1 op2                                  -- B.25
-word_of (i.Ticc cond rs1 op2) = format3 2 cond 0x3a rs1 op2                              -- B.27
-word_of (i.Flush rs1 op2) = format3 2 0 0x3b rs1 op2                                     -- B.32
-word_of i.Stbar = format3 2 0 0x28 15 (o.Reg 0)                                          -- B.30
-word_of (i.Save rd rs1 op2) = format3 2 rd 0x3c rs1 op2                                  -- B.20
-word_of (i.Restore rd rs1 op2) = format3 2 rd 0x3d rs1 op2                               -- B.20
-word_of (i.Load kind rd rs1 op2) = format3 3 rd (load_op3 kind) rs1 op2                  -- B.1
-word_of (i.Store kind rd rs1 op2) = format3 3 rd (store_op3 kind) rs1 op2                -- B.4
-word_of (i.Ldstub rd rs1 op2) = format3 3 rd 0x0d rs1 op2                                -- B.7
-word_of (i.Swap rd rs1 op2) = format3 3 rd 0x0f rs1 op2                                  -- B.8
+word_of (i.Sethi rd imm22) = format2 rd 4 imm22  -- B.9
+word_of (i.Branch cond annul disp22) = format2 (annul_bit annul * 2 ^ 4 + cond) 2 (signed_field 22 disp22)  -- B.21
+word_of (i.Call disp30) = 2 ^ 30 + signed_field 30 disp30  -- B.24
+word_of (i.Alu op cc rd rs1 op2) = format3 2 rd (alu_op3 op cc) rs1 op2  -- B.11 to B.19
+word_of (i.ReadY rd) = format3 2 rd 0x28 0 (o.Reg 0)  -- B.28
+word_of (i.WriteY rs1 op2) = format3 2 0 0x30 rs1 op2  -- B.29
+word_of (i.Jmpl rd rs1 op2) = format3 2 rd 0x38 rs1 op2  -- B.25
+word_of (i.Ticc cond rs1 op2) = format3 2 cond 0x3a rs1 op2  -- B.27
+word_of (i.Flush rs1 op2) = format3 2 0 0x3b rs1 op2  -- B.32
+word_of i.Stbar = format3 2 0 0x28 15 (o.Reg 0)  -- B.30
+word_of (i.Save rd rs1 op2) = format3 2 rd 0x3c rs1 op2  -- B.20
+word_of (i.Restore rd rs1 op2) = format3 2 rd 0x3d rs1 op2  -- B.20
+word_of (i.Load kind rd rs1 op2) = format3 3 rd (load_op3 kind) rs1 op2  -- B.1
+word_of (i.Store kind rd rs1 op2) = format3 3 rd (store_op3 kind) rs1 op2  -- B.4
+word_of (i.Ldstub rd rs1 op2) = format3 3 rd 0x0d rs1 op2  -- B.7
+word_of (i.Swap rd rs1 op2) = format3 3 rd 0x0f rs1 op2  -- B.8
 word_of i.Illegal = 0
 word_of i.Privileged = 0
 word_of i.FpOff = 0
@@ -155,36 +155,6 @@ word_of i.CpOff = 0
 
 unfoldable pub encode_of : Instr → Option ℕ
 encode_of instr = if has_word instr then Some (word_of instr) else None
-
--- Registers have numbers below 32 and conditions below 16.
-abbrev pub op2_in_range : Op2 → Bool
-op2_in_range (o.Reg rs2) = nat_lt rs2 32
-op2_in_range (o.Imm simm13) = true
-
-abbrev pub operands_in_range : ℕ → Op2 → Bool
-operands_in_range rs1 op2 = nat_lt rs1 32 && op2_in_range op2
-
-abbrev pub is_in_range : Instr → Bool
-is_in_range (i.Sethi rd imm22) = nat_lt rd 32
-is_in_range (i.Branch cond annul disp22) = nat_lt cond 16
-is_in_range (i.Call disp30) = true
-is_in_range (i.Alu op cc rd rs1 op2) = nat_lt rd 32 && operands_in_range rs1 op2
-is_in_range (i.ReadY rd) = nat_lt rd 32
-is_in_range (i.WriteY rs1 op2) = operands_in_range rs1 op2
-is_in_range (i.Jmpl rd rs1 op2) = nat_lt rd 32 && operands_in_range rs1 op2
-is_in_range (i.Ticc cond rs1 op2) = nat_lt cond 16 && operands_in_range rs1 op2
-is_in_range (i.Flush rs1 op2) = operands_in_range rs1 op2
-is_in_range i.Stbar = true
-is_in_range (i.Save rd rs1 op2) = nat_lt rd 32 && operands_in_range rs1 op2
-is_in_range (i.Restore rd rs1 op2) = nat_lt rd 32 && operands_in_range rs1 op2
-is_in_range (i.Load kind rd rs1 op2) = nat_lt rd 32 && operands_in_range rs1 op2
-is_in_range (i.Store kind rd rs1 op2) = nat_lt rd 32 && operands_in_range rs1 op2
-is_in_range (i.Ldstub rd rs1 op2) = nat_lt rd 32 && operands_in_range rs1 op2
-is_in_range (i.Swap rd rs1 op2) = nat_lt rd 32 && operands_in_range rs1 op2
-is_in_range i.Illegal = true
-is_in_range i.Privileged = true
-is_in_range i.FpOff = true
-is_in_range i.CpOff = true
 
 -- whether it is an instruction that runs here
 abbrev pub is_instruction : Instr → Bool

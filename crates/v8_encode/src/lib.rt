@@ -3,9 +3,12 @@
 #![tactic(auto)]
 
 ghost use Rattle.std.specs.Prelude.{◌≡◌, ◌+◌, ◌*◌, ◌^◌, ◌<◌, ◌≤◌, Some, None, if◌then◌else◌, pos, ◌≤ℤ◌, ◌&&◌, ◌↔◌, true, IsTrue, IsSome, IfSome};
-ghost use Rattle.v8_decode.specs.Effects.{has_even_pair};
+ghost use Rattle.v8_decode.specs.Ranges.{has_even_pair, is_in_range, op2_in_range, operands_in_range};
 ghost use Rattle.v8_decode.specs.Words.{decode_of};
-ghost use Rattle.v8_encode.specs.Encoding.{alu_op3, annul_bit, cleared, EncodesAgain, encode_of, fits_signed, format2, format3, has_cc_form, has_word, ignored_of, is_in_range, load_op3, op2_field, op2_fits, op2_in_range, operands_in_range, signed_field, store_op3, with_cc};
+ghost use Rattle.v8_encode.specs.Encoding.{alu_op3, annul_bit, cleared, EncodesAgain, encode_of, fits_signed, format2, format3, has_cc_form, has_word, ignored_of, load_op3, op2_field, op2_fits, signed_field, store_op3, with_cc};
+
+#[cfg(test)]
+mod tests;
 
 use v8_decode::{AluOp, Cond, Instr, LoadKind, Op2, Reg, StoreKind};
 
@@ -30,7 +33,11 @@ fn field_of(width: u32, value: i32) -> Option<u32>
     let limit = 1 << (width - 1);
     if value < 0 {
         let size = value.unsigned_abs();
-        if size <= limit { Some((1 << width) - size) } else { None }
+        if size <= limit {
+            Some((1 << width) - size)
+        } else {
+            None
+        }
     } else {
         let size = value as u32;
         if size < limit { Some(size) } else { None }
@@ -54,10 +61,7 @@ fn op2_bits(op2: Op2) -> Option<u32>
 {
     match op2 {
         Op2::Reg(rs2) => Some(register(rs2)),
-        Op2::Imm(simm13) => match field_of(13, simm13) {
-            Some(field) => Some(followed(1, 13, field)),
-            None => None,
-        },
+        Op2::Imm(simm13) => Some(followed(1, 13, field_of(13, simm13)?)),
     }
 }
 
@@ -70,7 +74,11 @@ fn format3_bits(op: u32, rd: u32, op3: u32, rs1: u32, low: u32) -> u32
     requires low { low < 2 ^ 14 }
     ensures { result ≡ op * 2 ^ 30 + rd * 2 ^ 25 + op3 * 2 ^ 19 + rs1 * 2 ^ 14 + low }
 {
-    followed(followed(followed(followed(op, 5, rd), 6, op3), 5, rs1), 14, low)
+    followed(
+        followed(followed(followed(op, 5, rd), 6, op3), 5, rs1),
+        14,
+        low,
+    )
 }
 
 // A word of format 3, where `rd` is bits 29 to 25.
@@ -82,10 +90,7 @@ fn format3_word(op: u32, rd: u32, op3: u32, rs1: Reg, op2: Op2) -> Option<u32>
     ensures operands { operands_in_range rs1 op2 ≡ true }
 {
     let rs1 = register(rs1);
-    match op2_bits(op2) {
-        Some(low) => Some(format3_bits(op, rd, op3, rs1, low)),
-        None => None,
-    }
+    Some(format3_bits(op, rd, op3, rs1, op2_bits(op2)?))
 }
 
 // A word of format 2, where `high` is bits 29 to 25.
@@ -144,19 +149,13 @@ fn branch_word(cond: Cond, annul: bool, disp22: i32) -> Option<u32>
 {
     let cond = cond.number() as u32;
     let high = if annul { followed(1, 4, cond) } else { cond };
-    match field_of(22, disp22) {
-        Some(field) => Some(format2_word(high, 2, field)),
-        None => None,
-    }
+    Some(format2_word(high, 2, field_of(22, disp22)?))
 }
 
 fn call_word(disp30: i32) -> Option<u32>
     ensures { result ≡ (if fits_signed 30 disp30 then Some (2 ^ 30 + signed_field 30 disp30) else None) }
 {
-    match field_of(30, disp30) {
-        Some(field) => Some(followed(1, 30, field)),
-        None => None,
-    }
+    Some(followed(1, 30, field_of(30, disp30)?))
 }
 
 fn alu_word(op: AluOp, cc: bool, rd: u32, rs1: Reg, op2: Op2) -> Option<u32>
@@ -164,10 +163,7 @@ fn alu_word(op: AluOp, cc: bool, rd: u32, rs1: Reg, op2: Op2) -> Option<u32>
     ensures value { result ≡ (if has_cc_form op cc && op2_fits op2 then Some (format3 2 rd (alu_op3 op cc) rs1 op2) else None) }
     ensures operands { IfSome result (λ _. operands_in_range rs1 op2 ≡ true) }
 {
-    match alu_number(op, cc) {
-        Some(op3) => format3_word(2, rd, op3, rs1, op2),
-        None => None,
-    }
+    format3_word(2, rd, alu_number(op, cc)?, rs1, op2)
 }
 
 fn load_word(kind: LoadKind, rd: u32, rs1: Reg, op2: Op2) -> Option<u32>
@@ -176,7 +172,11 @@ fn load_word(kind: LoadKind, rd: u32, rs1: Reg, op2: Op2) -> Option<u32>
     ensures operands { IfSome result (λ _. operands_in_range rs1 op2 ≡ true) }
 {
     match kind {
-        LoadKind::LDD => if rd % 2 == 0 { format3_word(3, rd, 0x03, rs1, op2) } else { None },
+        LoadKind::LDD => if rd % 2 == 0 {
+            format3_word(3, rd, 0x03, rs1, op2)
+        } else {
+            None
+        },
         LoadKind::LD => format3_word(3, rd, 0x00, rs1, op2),
         LoadKind::LDUB => format3_word(3, rd, 0x01, rs1, op2),
         LoadKind::LDUH => format3_word(3, rd, 0x02, rs1, op2),
@@ -191,7 +191,11 @@ fn store_word(kind: StoreKind, rd: u32, rs1: Reg, op2: Op2) -> Option<u32>
     ensures operands { IfSome result (λ _. operands_in_range rs1 op2 ≡ true) }
 {
     match kind {
-        StoreKind::STD => if rd % 2 == 0 { format3_word(3, rd, 0x07, rs1, op2) } else { None },
+        StoreKind::STD => if rd % 2 == 0 {
+            format3_word(3, rd, 0x07, rs1, op2)
+        } else {
+            None
+        },
         StoreKind::ST => format3_word(3, rd, 0x04, rs1, op2),
         StoreKind::STB => format3_word(3, rd, 0x05, rs1, op2),
         StoreKind::STH => format3_word(3, rd, 0x06, rs1, op2),
@@ -210,9 +214,19 @@ fn word_for(i: Instr) -> Option<u32>
         } else {
             None
         },
-        Instr::Branch { cond, annul, disp22 } => branch_word(cond, annul, disp22),
+        Instr::Branch {
+            cond,
+            annul,
+            disp22,
+        } => branch_word(cond, annul, disp22),
         Instr::Call { disp30 } => call_word(disp30),
-        Instr::Alu { op, cc, rd, rs1, op2 } => alu_word(op, cc, register(rd), rs1, op2),
+        Instr::Alu {
+            op,
+            cc,
+            rd,
+            rs1,
+            op2,
+        } => alu_word(op, cc, register(rd), rs1, op2),
         Instr::ReadY { rd } => Some(format3_bits(2, register(rd), 0x28, 0, 0)),
         Instr::WriteY { rs1, op2 } => format3_word(2, 0, 0x30, rs1, op2),
         Instr::Jmpl { rd, rs1, op2 } => format3_word(2, register(rd), 0x38, rs1, op2),

@@ -1,7 +1,8 @@
 use Rattle.std.proofs.Common.{◌≡◌, ℕ, Bool, true, false, Some, None, refl, sym, ap, ◌∙◌, subst}
 use Rattle.std.specs.Prelude.{if◌then◌else◌, ◌↔◌, IsSome, IfSome, IsTrue, Option}
 use Rattle.v8_decode.specs.Words.{decode_of}
-use Rattle.v8_encode.specs.Encoding.{cleared, encode_of, has_word, ignored_of, is_in_range, is_instruction, word_of}
+use Rattle.v8_decode.specs.Ranges.{is_in_range}
+use Rattle.v8_encode.specs.Encoding.{cleared, encode_of, has_word, ignored_of, is_instruction, word_of}
 use Rattle.v8_encode.proofs.Decoded.{decode_of-word_of}
 use Rattle.v8_encode.proofs.Encoded.{encode_of-decode_of}
 use Rattle.v8_encode.proofs.Ignored.{cleared-word_of}
@@ -28,7 +29,7 @@ returns-clause-decodes c =
     let P : Option ℕ → Type 0 = λ r. IfSome r (λ w. decode_of w ≡ c.args.i) in
     let R : Option ℕ → Type 0 = λ r. IfSome r (λ _. is_in_range c.args.i ≡ true) in
     subst P (sym c.word_for.ensures.value)
-      (of_found (λ w. decode_of w ≡ c.args.i) (has_word c.args.i) (word_of c.args.i) (is_in_range c.args.i ≡ true) (decode_of-word_of c.args.i) (subst R c.word_for.ensures.value c.word_for.ensures.range))
+    (of_found (λ w. decode_of w ≡ c.args.i) (has_word c.args.i) (word_of c.args.i) (is_in_range c.args.i ≡ true) (decode_of-word_of c.args.i) (subst R c.word_for.ensures.value c.word_for.ensures.range))
 
 pub returns-clause-ignored : goal.returns-clause-ignored
 unfolding encode_of
@@ -36,12 +37,12 @@ returns-clause-ignored c =
     let P : Option ℕ → Type 0 = λ r. IfSome r (λ w. cleared (ignored_of c.args.i) w ≡ w) in
     let R : Option ℕ → Type 0 = λ r. IfSome r (λ _. is_in_range c.args.i ≡ true) in
     subst P (sym c.word_for.ensures.value)
-      (of_found (λ w. cleared (ignored_of c.args.i) w ≡ w) (has_word c.args.i) (word_of c.args.i) (is_in_range c.args.i ≡ true) (cleared-word_of c.args.i) (subst R c.word_for.ensures.value c.word_for.ensures.range))
+    (of_found (λ w. cleared (ignored_of c.args.i) w ≡ w) (has_word c.args.i) (word_of c.args.i) (is_in_range c.args.i ≡ true) (cleared-word_of c.args.i) (subst R c.word_for.ensures.value c.word_for.ensures.range))
 
 pub returns-clause-again : goal.returns-clause-again
 returns-clause-again c =
     λ w below decodes instruction.
-      c.word_for.ensures.value
-      ∙ ap encode_of (sym decodes)
-      ∙ encode_of-decode_of w below (ap is_instruction decodes ∙ instruction)
-      ∙ ap (λ x. Some (cleared (ignored_of x) w)) decodes
+    c.word_for.ensures.value
+    ∙ ap encode_of (sym decodes)
+    ∙ encode_of-decode_of w below (ap is_instruction decodes ∙ instruction)
+    ∙ ap (λ x. Some (cleared (ignored_of x) w)) decodes

@@ -1,4 +1,4 @@
-use Rattle.std.proofs.Common.{◌≡◌, ◌+◌, ◌*◌, ◌^◌, ◌%◌, ◌<◌, bit_or, ap, ◌∙◌, arith}
+use Rattle.std.proofs.Common.{◌≡◌, ◌*◌, ◌^◌, ◌%◌, ◌<◌, bit_or, ap, ◌∙◌, arith}
 use Rattle.std.proofs.lemmas.Nat.{or_shifted, pow_pos}
 use native.Mathlib.Nat.{add-mul}
 use Rattle.v8_encode.proofs.followed.Goals as goal
