@@ -5,3 +5,4 @@ pub mod Readings
 pub mod Padding
 pub mod Accepted
 pub mod Images
+pub mod Tables

@@ -43,7 +43,7 @@ pub(crate) fn word_at(bytes: &[u8], at: usize) -> u32
 
 /// An entry of the table of program headers.
 #[derive(Clone, Copy)]
-pub(crate) struct ProgramHeader {
+pub struct ProgramHeader {
     pub p_type: u32,
     pub p_offset: u32,
     pub p_vaddr: u32,
@@ -74,13 +74,13 @@ impl ProgramHeader {
         }
     }
 
-    pub(crate) fn is_load(&self) -> bool
+    pub fn is_load(&self) -> bool
         ensures { result ≡ is_load self.now }
     {
         self.p_type == 1
     }
 
-    pub(crate) fn is_loadable(&self) -> bool
+    pub fn is_loadable(&self) -> bool
         ensures { result ≡ is_loadable self.now }
     {
         self.is_load() && self.p_memsz > 0
@@ -126,7 +126,7 @@ impl ProgramHeader {
                 && self.p_vaddr % align == self.p_offset % align)
     }
 
-    pub(crate) fn is_text(&self) -> bool
+    pub fn is_text(&self) -> bool
         ensures { result ≡ is_text self.now }
     {
         let flags = SegFlags(self.p_flags);

@@ -7,9 +7,12 @@ mod flags;
 mod header;
 mod program;
 mod survey;
+mod table;
 mod verdicts;
 
 pub use fault::{FileFault, ReadFault};
 pub use flags::SegFlags;
+pub use header::ProgramHeader;
 pub use program::{Image, Segment, read_image};
+pub use table::read_headers;
 pub use verdicts::verdict;
