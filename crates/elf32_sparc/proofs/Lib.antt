@@ -5,3 +5,5 @@ pub mod Readings
 pub mod Padding
 pub mod Accepted
 pub mod Images
+pub mod ThreeWords
+pub mod EditedThreeWords

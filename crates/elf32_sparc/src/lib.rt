@@ -7,6 +7,8 @@ mod flags;
 mod header;
 mod program;
 mod survey;
+#[cfg(test)]
+mod tests;
 mod verdicts;
 
 pub use fault::{FileFault, ReadFault};
