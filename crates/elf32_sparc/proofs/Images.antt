@@ -1,14 +1,15 @@
 -- What was read of a file without a fault is its image.
-use Rattle.std.proofs.Common.{◌≡◌, ℕ, ◌-◌, ◌/◌, ◌≤◌, List, length, map, Some, sym, ap, ◌∙◌, arith}
+use Rattle.std.proofs.Common.{◌≡◌, ℕ, ◌-◌, ◌/◌, ◌≤◌, List, length, map, Option, Some, None, refl, sym, ap, ◌∙◌, subst, arith}
 use Rattle.std.specs.Option.{option_map_or}
 use Rattle.eel_base.specs.CodeText.{Words}
 use Rattle.elf32_sparc.specs.declared.header.ProgramHeader.{ProgramHeader}
 use Rattle.elf32_sparc.specs.declared.program.Segment.{Segment}
 use Rattle.elf32_sparc.specs.Header.{e_entry, program_headers, loadable, text_header}
+use Rattle.elf32_sparc.specs.FileFault.{fault}
 use Rattle.elf32_sparc.specs.Survey.{no_survey, survey_of}
 use Rattle.elf32_sparc.specs.Image.{segment_of, highest_end, rounded_up, room_from, text_from, text_of, no_text, word_number, Program, IsProgram, image_of}
 use Rattle.elf32_sparc.proofs.SurveyFacts.{fold-text}
-use Rattle.elf32_sparc.proofs.Accepted.{IsFit}
+use Rattle.elf32_sparc.proofs.Accepted.{Accepted, IsFit, accepted, has_text, text_is_fit, segments_end_below}
 
 pub text-survey_of : (file : List ℕ) → (survey_of file).text ≡ text_header (program_headers file)
 unfolding survey_of
@@ -50,3 +51,15 @@ image_is_program file h segments text entry base fit ends read =
       base = rw read.base_is (omega arith);
       below = rw read.base_is (omega arith);
     }
+
+-- the image of a file without a fault is one
+with_text : (file : List ℕ) → Accepted file → (found : Option ProgramHeader) → text_header (program_headers file) ≡ found → IsProgram (image_of file)
+with_text file ok None none = absurd (has_text file ok none)
+with_text file ok (Some h) found =
+    let segments = map segment_of (loadable (program_headers file)) in
+    let read : IsRead file h segments (text_from file h) ((e_entry file - h.p_vaddr) / 4) (rounded_up (highest_end segments)) = record { found = found; segments_are = refl; text_is = refl; entry_is = refl; base_is = refl } in
+    subst IsProgram (image_is file h segments (text_from file h) ((e_entry file - h.p_vaddr) / 4) (rounded_up (highest_end segments)) read)
+    (image_is_program file h segments (text_from file h) ((e_entry file - h.p_vaddr) / 4) (rounded_up (highest_end segments)) (text_is_fit file h ok found) (segments_end_below file ok) read)
+
+pub accepted-program : (file : List ℕ) → fault file ≡ None → IsProgram (image_of file)
+accepted-program file none = with_text file (accepted file none) (text_header (program_headers file)) refl

@@ -6,3 +6,5 @@ pub mod Padding
 pub mod Accepted
 pub mod Images
 pub mod Tables
+pub mod ThreeWords
+pub mod EditedThreeWords

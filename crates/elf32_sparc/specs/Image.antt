@@ -1,5 +1,5 @@
 -- The image of a file that can be edited: its segments, its text, and the room above it.
-use Rattle.std.specs.Prelude.{◌≡◌, ℕ, zero, suc, ◌+◌, ◌-◌, ◌*◌, ◌/◌, ◌%◌, ◌^◌, ◌<◌, ◌≤◌, min, max, List, [], ◌∷◌, ◌++◌, length, map, take, drop, replicate, Option, Some, None, Result, Ok, Err}
+use Rattle.std.specs.Prelude.{◌≡◌, ℕ, zero, suc, ◌+◌, ◌-◌, ◌*◌, ◌/◌, ◌%◌, ◌^◌, ◌<◌, ◌≤◌, min, max, List, [], ◌∷◌, length, map, drop, Option, Some, None, Result, Ok, Err}
 use Rattle.std.specs.List.{fold}
 use Rattle.std.specs.Option.{option_map_or}
 use Rattle.byteorder.specs.Endian.{big_number}
@@ -9,17 +9,8 @@ use Rattle.elf32_sparc.specs.declared.program.Segment.{Segment}
 use Rattle.elf32_sparc.specs.declared.fault.FileFault.{FileFault}
 use Rattle.elf32_sparc.specs.declared.fault.ReadFault.{ReadFault}
 use Rattle.elf32_sparc.specs.declared.fault.ReadFault.TheVariants.{File, NoMemory}
+use Rattle.elf32_sparc.specs.Mapping.{memory_bytes}
 use Rattle.elf32_sparc.specs.Header.{program_headers, loadable, text_header, e_entry}
-
--- What the loader maps.
-
--- the bytes of the file that an entry's memory begins with
-abbrev pub file_bytes : List ℕ → ProgramHeader → List ℕ
-file_bytes file header = take header.p_filesz (drop header.p_offset file)
-
--- all of its memory: the bytes of the file, and zeros after them
-abbrev pub memory_bytes : List ℕ → ProgramHeader → List ℕ
-memory_bytes file header = file_bytes file header ++ replicate (header.p_memsz - header.p_filesz) 0
 
 abbrev pub segment_of : ProgramHeader → Segment
 segment_of header = record {

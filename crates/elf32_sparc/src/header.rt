@@ -132,6 +132,7 @@ impl ProgramHeader {
         let flags = SegFlags(self.p_flags);
         self.is_loadable() && flags.contains(SegFlags::PF_X) && !flags.contains(SegFlags::PF_W)
     }
+
     /// As a text it doesn't begin at a word, or has none.
     pub(crate) fn is_misshapen(&self) -> bool
         ensures { result ≡ is_misshapen self.now }

@@ -10,6 +10,9 @@ mod survey;
 mod table;
 mod verdicts;
 
+#[cfg(test)]
+mod tests;
+
 pub use fault::{FileFault, ReadFault};
 pub use flags::SegFlags;
 pub use header::ProgramHeader;

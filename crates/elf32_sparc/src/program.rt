@@ -4,7 +4,8 @@ ghost use Rattle.byteorder.specs.Endian.{big_number};
 ghost use Rattle.eel_base.specs.CodeText.{IsText};
 ghost use Rattle.elf32_sparc.specs.Header.{program_headers, loadable};
 ghost use Rattle.elf32_sparc.specs.FileFault.{fault};
-ghost use Rattle.elf32_sparc.specs.Image.{segment_of, segment_end, highest_end, rounded_up, file_bytes, words_of, text_from, image_of, refusal};
+ghost use Rattle.elf32_sparc.specs.Mapping.{file_bytes};
+ghost use Rattle.elf32_sparc.specs.Image.{segment_of, segment_end, highest_end, rounded_up, words_of, text_from, image_of, refusal};
 
 use crate::fault::ReadFault;
 use crate::flags::SegFlags;

@@ -71,7 +71,6 @@ impl Survey {
     }
 
     /// Takes in what memory it takes.
-    #[tactic(auto, unfolding(crate::specs::Survey::noted))]
     fn note_memory(&mut self, header: &ProgramHeader)
         requires { self.old.memory + header.now.p_memsz < 2 ^ 64 }
         ensures { self.new ≡ with_memory self.old header.now }
