@@ -4,8 +4,9 @@ use Rattle.std.specs.Prelude.{filter}
 use Rattle.std.proofs.lemmas.Nat.{shl-shr}
 use native.Mathlib.Nat.{pow-suc, mul_assoc, mul_comm, add-mul}
 use Rattle.v8_decode.specs.declared.Part.{Part}
-use Rattle.v8_decode.specs.Parts.{has, every_part, members, set_of, mask_of}
-use Rattle.v8_decode.specs.Masks.{IsPlacedFrom, every_part_placed}
+use Rattle.v8_decode.specs.Parts.{has, every_part, members, set_of}
+use Rattle.v8_decode.specs.Masks.{mask_of}
+use Rattle.v8_decode.specs.MaskLaws.{IsPlacedFrom, every_part_placed}
 
 -- the number whose binary digits are a test's answers, the first the lowest
 abbrev digits : (Part → Bool) → List Part → ℕ

@@ -11,9 +11,10 @@ use Rattle.std.proofs.lemmas.Bool.{eqb-true, eqb-false, eq-eqb, ne_eqb, cases_eq
 use Rattle.std.proofs.lemmas.Bool.Decides.{nat_tests}
 use Rattle.v8_decode.specs.declared.Part.{Part}
 use Rattle.v8_decode.specs.declared.Part.TheVariants.{Reg, Icc, Y}
-use Rattle.v8_decode.specs.Parts.{is_same, is_part, is_member, has, every_part, members, set_of, without, place_of, is_marked, parts_of}
+use Rattle.v8_decode.specs.Parts.{is_same, is_part, is_member, has, every_part, members, set_of, without}
+use Rattle.v8_decode.specs.Masks.{place_of, is_marked, parts_of}
 use Rattle.v8_decode.specs.Effects.{reg}
-use Rattle.v8_decode.specs.Masks.{IsPlacedFrom, every_part_placed, every_part_length}
+use Rattle.v8_decode.specs.MaskLaws.{IsPlacedFrom, every_part_placed, every_part_length}
 use Rattle.v8_decode.proofs.Members.{and-false, has-append, has-filter, has-members, members-same}
 
 and-true : (a : Bool) → (a && true) ≡ a

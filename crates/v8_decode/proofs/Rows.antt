@@ -1,6 +1,6 @@
 -- The tables of opcodes, looked up, and what holds of whatever a word decodes to.
-use Rattle.std.proofs.Common.{◌≡◌, ℕ, ◌+◌, ◌/◌, ◌%◌, ◌^◌, ◌<◌, Bool, true, false, ◌&&◌, List, [], ◌∷◌, nat_lt, ◌==◌, refl, sym, ap, ◌∙◌, arith}
-use Rattle.std.specs.Prelude.{if◌then◌else◌, IsTrue}
+use Rattle.std.proofs.Common.{◌≡◌, ℕ, ◌+◌, ◌*◌, ◌%◌, ◌<◌, Bool, true, false, ◌&&◌, List, [], ◌∷◌, nat_lt, ◌==◌, refl, ap, ◌∙◌, arith}
+use Rattle.std.specs.Prelude.{if◌then◌else◌}
 use Rattle.std.proofs.lemmas.Bool.{and_from, eqb-true, lt-ltb}
 use Rattle.v8_decode.specs.declared.Instr.{Instr}
 use Rattle.v8_decode.specs.declared.Instr.TheVariants as i
@@ -13,6 +13,26 @@ use Rattle.v8_decode.specs.Ranges.{has_even_pair, op2_in_range, operands_in_rang
 -- the tables at a word whose op, and op3 or op2, are known
 abbrev formats : List (ℕ × Row)
 formats = (0, branch_or_sethi) ∷ (1, call) ∷ (2, arithmetic) ∷ (3, memory) ∷ []
+
+-- op is bits 31 and 30
+op_of_bits : (w high low : ℕ) → field w 31 1 ≡ high → field w 30 1 ≡ low → field w 30 2 ≡ 2 * high + low
+op_of_bits w high low h l = omega arith
+
+pub decode_of-0 : (w : ℕ) → field w 31 1 ≡ 0 → field w 30 1 ≡ 0 → decode_of w ≡ branch_or_sethi w
+unfolding decode_of
+decode_of-0 w h l = ap (λ n. row_of formats n w) (op_of_bits w 0 0 h l)
+
+pub decode_of-1 : (w : ℕ) → field w 31 1 ≡ 0 → field w 30 1 ≡ 1 → decode_of w ≡ call w
+unfolding decode_of
+decode_of-1 w h l = ap (λ n. row_of formats n w) (op_of_bits w 0 1 h l)
+
+pub decode_of-2 : (w : ℕ) → field w 31 1 ≡ 1 → field w 30 1 ≡ 0 → decode_of w ≡ arithmetic w
+unfolding decode_of
+decode_of-2 w h l = ap (λ n. row_of formats n w) (op_of_bits w 1 0 h l)
+
+pub decode_of-3 : (w : ℕ) → field w 31 1 ≡ 1 → field w 30 1 ≡ 1 → decode_of w ≡ memory w
+unfolding decode_of
+decode_of-3 w h l = ap (λ n. row_of formats n w) (op_of_bits w 1 1 h l)
 
 pub decode_of-call : (w : ℕ) → field w 30 2 ≡ 1 → decode_of w ≡ call w
 unfolding decode_of
@@ -54,6 +74,7 @@ op2_below w = go (field w 13 1 == 0)
   where
     below : field w 0 5 < 32
     below = omega arith
+
     go : (b : Bool) → op2_in_range (if b then o.Reg (field w 0 5) else o.Imm (signed 13 (field w 0 13))) ≡ true
     go true = lt-ltb _ _ below
     go false = refl
@@ -103,117 +124,299 @@ even_store w = go (rd_of w % 2 == 0) refl
 
 arithmetic_ranges : (w : ℕ) → InRanges (arithmetic w)
 unfolding arithmetic Each
-arithmetic_ranges w = row_by_row InRanges (op3_of w) w arithmetic_rows (refl, refl)
-    ( (λ _. (fields w, refl)),
-    ( (λ _. (fields w, refl)),
-    ( (λ _. (fields w, refl)),
-    ( (λ _. (fields w, refl)),
-    ( (λ _. (fields w, refl)),
-    ( (λ _. (fields w, refl)),
-    ( (λ _. (fields w, refl)),
-    ( (λ _. (fields w, refl)),
-    ( (λ _. (fields w, refl)),
-    ( (λ _. (fields w, refl)),
-    ( (λ _. (fields w, refl)),
-    ( (λ _. (fields w, refl)),
-    ( (λ _. (fields w, refl)),
-    ( (λ _. (fields w, refl)),
-    ( (λ _. (fields w, refl)),
-    ( (λ _. (fields w, refl)),
-    ( (λ _. (fields w, refl)),
-    ( (λ _. (fields w, refl)),
-    ( (λ _. (fields w, refl)),
-    ( (λ _. (fields w, refl)),
-    ( (λ _. (fields w, refl)),
-    ( (λ _. (fields w, refl)),
-    ( (λ _. (fields w, refl)),
-    ( (λ _. (fields w, refl)),
-    ( (λ _. (fields w, refl)),
-    ( (λ _. (fields w, refl)),
-    ( (λ _. (fields w, refl)),
-    ( (λ _. (fields w, refl)),
-    ( (λ _. (fields w, refl)),
-    ( (λ _. (fields w, refl)),
-    ( (λ _. (fields w, refl)),
-    ( (λ _. (fields w, refl)),
-    ( (λ _. (fields w, refl)),
-    ( (λ _. (fields w, refl)),
-    ( (λ _. (fields w, refl)),
-    ( (λ _. (fields w, refl)),
-    ( (λ _. read_state_ranges w),
-    ( (λ _. (refl, refl)),
-    ( (λ _. (refl, refl)),
-    ( (λ _. (refl, refl)),
-    ( (λ _. write_state_ranges w),
-    ( (λ _. (refl, refl)),
-    ( (λ _. (refl, refl)),
-    ( (λ _. (refl, refl)),
-    ( (λ _. (refl, refl)),
-    ( (λ _. (refl, refl)),
-    ( (λ _. (refl, refl)),
-    ( (λ _. (refl, refl)),
-    ( (λ _. (fields w, refl)),
-    ( (λ _. (refl, refl)),
-    ( (λ _. (cond_and_operands w, refl)),
-    ( (λ _. (operands w, refl)),
-    ( (λ _. (fields w, refl)),
-    ( (λ _. (fields w, refl)),
-    tt))))))))))))))))))))))))))))))))))))))))))))))))))))))
+arithmetic_ranges w = row_by_row InRanges (op3_of w) w arithmetic_rows (refl, refl) (
+  (λ _. (fields w, refl)),
+  (
+    (λ _. (fields w, refl)),
+    (
+      (λ _. (fields w, refl)),
+      (
+        (λ _. (fields w, refl)),
+        (
+          (λ _. (fields w, refl)),
+          (
+            (λ _. (fields w, refl)),
+            (
+              (λ _. (fields w, refl)),
+              (
+                (λ _. (fields w, refl)),
+                (
+                  (λ _. (fields w, refl)),
+                  (
+                    (λ _. (fields w, refl)),
+                    (
+                      (λ _. (fields w, refl)),
+                      (
+                        (λ _. (fields w, refl)),
+                        (
+                          (λ _. (fields w, refl)),
+                          (
+                            (λ _. (fields w, refl)),
+                            (
+                              (λ _. (fields w, refl)),
+                              (
+                                (λ _. (fields w, refl)),
+                                (
+                                  (λ _. (fields w, refl)),
+                                  (
+                                    (λ _. (fields w, refl)),
+                                    (
+                                      (λ _. (fields w, refl)),
+                                      (
+                                        (λ _. (fields w, refl)),
+                                        (
+                                          (λ _. (fields w, refl)),
+                                          (
+                                            (λ _. (fields w, refl)),
+                                            (
+                                              (λ _. (fields w, refl)),
+                                              (
+                                                (λ _. (fields w, refl)),
+                                                (
+                                                  (λ _. (fields w, refl)),
+                                                  (
+                                                    (λ _. (fields w, refl)),
+                                                    (
+                                                      (λ _. (fields w, refl)),
+                                                      (
+                                                        (λ _. (fields w, refl)),
+                                                        (
+                                                          (λ _. (fields w, refl)),
+                                                          (
+                                                            (λ _. (fields w, refl)),
+                                                            (
+                                                              (λ _. (fields w, refl)),
+                                                              (
+                                                                (λ _. (fields w, refl)),
+                                                                (
+                                                                  (λ _. (fields w, refl)),
+                                                                  (
+                                                                    (λ _. (fields w, refl)),
+                                                                    (
+                                                                      (λ _. (fields w, refl)),
+                                                                      (
+                                                                        (λ _. (fields w, refl)),
+                                                                        (
+                                                                          (λ _. read_state_ranges w),
+                                                                          (
+                                                                            (λ _. (refl, refl)),
+                                                                            (
+                                                                              (λ _. (refl, refl)),
+                                                                              (
+                                                                                (λ _. (refl, refl)),
+                                                                                (
+                                                                                  (λ _. write_state_ranges w),
+                                                                                  (
+                                                                                    (λ _. (refl, refl)),
+                                                                                    (
+                                                                                      (λ _. (refl, refl)),
+                                                                                      (
+                                                                                        (λ _. (refl, refl)),
+                                                                                        (
+                                                                                          (λ _. (refl, refl)),
+                                                                                          (
+                                                                                            (λ _. (refl, refl)),
+                                                                                            (
+                                                                                              (λ _. (refl, refl)),
+                                                                                              (
+                                                                                                (λ _. (refl, refl)),
+                                                                                                (
+                                                                                                  (λ _. (fields w, refl)),
+                                                                                                  (
+                                                                                                    (λ _. (refl, refl)),
+                                                                                                    (
+                                                                                                      (λ _. (cond_and_operands w, refl)),
+                                                                                                      (
+                                                                                                        (λ _. (operands w, refl)),
+                                                                                                        (
+                                                                                                          (λ _. (fields w, refl)),
+                                                                                                          (
+                                                                                                            (λ _. (fields w, refl)),
+                                                                                                            tt,
+                                                                                                          ),
+                                                                                                        ),
+                                                                                                      ),
+                                                                                                    ),
+                                                                                                  ),
+                                                                                                ),
+                                                                                              ),
+                                                                                            ),
+                                                                                          ),
+                                                                                        ),
+                                                                                      ),
+                                                                                    ),
+                                                                                  ),
+                                                                                ),
+                                                                              ),
+                                                                            ),
+                                                                          ),
+                                                                        ),
+                                                                      ),
+                                                                    ),
+                                                                  ),
+                                                                ),
+                                                              ),
+                                                            ),
+                                                          ),
+                                                        ),
+                                                      ),
+                                                    ),
+                                                  ),
+                                                ),
+                                              ),
+                                            ),
+                                          ),
+                                        ),
+                                      ),
+                                    ),
+                                  ),
+                                ),
+                              ),
+                            ),
+                          ),
+                        ),
+                      ),
+                    ),
+                  ),
+                ),
+              ),
+            ),
+          ),
+        ),
+      ),
+    ),
+  ),
+)
 
 memory_ranges : (w : ℕ) → InRanges (memory w)
 unfolding memory Each
-memory_ranges w = row_by_row InRanges (op3_of w) w memory_rows (refl, refl)
-    ( (λ _. (fields w, refl)),
-    ( (λ _. (fields w, refl)),
-    ( (λ _. (fields w, refl)),
-    ( (λ _. even_load w),
-    ( (λ _. (fields w, refl)),
-    ( (λ _. (fields w, refl)),
-    ( (λ _. (fields w, refl)),
-    ( (λ _. even_store w),
-    ( (λ _. (fields w, refl)),
-    ( (λ _. (fields w, refl)),
-    ( (λ _. (fields w, refl)),
-    ( (λ _. (fields w, refl)),
-    ( (λ _. (refl, refl)),
-    ( (λ _. (refl, refl)),
-    ( (λ _. (refl, refl)),
-    ( (λ _. (refl, refl)),
-    ( (λ _. (refl, refl)),
-    ( (λ _. (refl, refl)),
-    ( (λ _. (refl, refl)),
-    ( (λ _. (refl, refl)),
-    ( (λ _. (refl, refl)),
-    ( (λ _. (refl, refl)),
-    ( (λ _. (refl, refl)),
-    ( (λ _. (refl, refl)),
-    ( (λ _. (refl, refl)),
-    ( (λ _. (refl, refl)),
-    ( (λ _. (refl, refl)),
-    ( (λ _. (refl, refl)),
-    ( (λ _. (refl, refl)),
-    ( (λ _. (refl, refl)),
-    ( (λ _. (refl, refl)),
-    ( (λ _. (refl, refl)),
-    ( (λ _. (refl, refl)),
-    ( (λ _. (refl, refl)),
-    ( (λ _. (refl, refl)),
-    ( (λ _. (refl, refl)),
-    ( (λ _. (refl, refl)),
-    ( (λ _. (refl, refl)),
-    tt))))))))))))))))))))))))))))))))))))))
+memory_ranges w = row_by_row InRanges (op3_of w) w memory_rows (refl, refl) (
+  (λ _. (fields w, refl)),
+  (
+    (λ _. (fields w, refl)),
+    (
+      (λ _. (fields w, refl)),
+      (
+        (λ _. even_load w),
+        (
+          (λ _. (fields w, refl)),
+          (
+            (λ _. (fields w, refl)),
+            (
+              (λ _. (fields w, refl)),
+              (
+                (λ _. even_store w),
+                (
+                  (λ _. (fields w, refl)),
+                  (
+                    (λ _. (fields w, refl)),
+                    (
+                      (λ _. (fields w, refl)),
+                      (
+                        (λ _. (fields w, refl)),
+                        (
+                          (λ _. (refl, refl)),
+                          (
+                            (λ _. (refl, refl)),
+                            (
+                              (λ _. (refl, refl)),
+                              (
+                                (λ _. (refl, refl)),
+                                (
+                                  (λ _. (refl, refl)),
+                                  (
+                                    (λ _. (refl, refl)),
+                                    (
+                                      (λ _. (refl, refl)),
+                                      (
+                                        (λ _. (refl, refl)),
+                                        (
+                                          (λ _. (refl, refl)),
+                                          (
+                                            (λ _. (refl, refl)),
+                                            (
+                                              (λ _. (refl, refl)),
+                                              (
+                                                (λ _. (refl, refl)),
+                                                (
+                                                  (λ _. (refl, refl)),
+                                                  (
+                                                    (λ _. (refl, refl)),
+                                                    (
+                                                      (λ _. (refl, refl)),
+                                                      (
+                                                        (λ _. (refl, refl)),
+                                                        (
+                                                          (λ _. (refl, refl)),
+                                                          (
+                                                            (λ _. (refl, refl)),
+                                                            (
+                                                              (λ _. (refl, refl)),
+                                                              (
+                                                                (λ _. (refl, refl)),
+                                                                (
+                                                                  (λ _. (refl, refl)),
+                                                                  (
+                                                                    (λ _. (refl, refl)),
+                                                                    (
+                                                                      (λ _. (refl, refl)),
+                                                                      (
+                                                                        (λ _. (refl, refl)),
+                                                                        (
+                                                                          (λ _. (refl, refl)),
+                                                                          (
+                                                                            (λ _. (refl, refl)),
+                                                                            tt,
+                                                                          ),
+                                                                        ),
+                                                                      ),
+                                                                    ),
+                                                                  ),
+                                                                ),
+                                                              ),
+                                                            ),
+                                                          ),
+                                                        ),
+                                                      ),
+                                                    ),
+                                                  ),
+                                                ),
+                                              ),
+                                            ),
+                                          ),
+                                        ),
+                                      ),
+                                    ),
+                                  ),
+                                ),
+                              ),
+                            ),
+                          ),
+                        ),
+                      ),
+                    ),
+                  ),
+                ),
+              ),
+            ),
+          ),
+        ),
+      ),
+    ),
+  ),
+)
 
 format2_ranges : (w : ℕ) → InRanges (branch_or_sethi w)
 unfolding branch_or_sethi Each
 format2_ranges w =
     row_by_row InRanges (field w 22 3) w op2_rows (refl, refl)
-      ((λ _. (lt-ltb _ _ (omega arith), refl)), ((λ _. (rd_below w, refl)), ((λ _. (refl, refl)), ((λ _. (refl, refl)), tt))))
+    ((λ _. (lt-ltb _ _ (omega arith), refl)), ((λ _. (rd_below w, refl)), ((λ _. (refl, refl)), ((λ _. (refl, refl)), tt))))
 
 pub decode_of-ranges : (w : ℕ) → InRanges (decode_of w)
 unfolding decode_of Each
 decode_of-ranges w =
     row_by_row InRanges (field w 30 2) w formats (refl, refl)
-      ((λ _. format2_ranges w), ((λ _. (refl, refl)), ((λ _. arithmetic_ranges w), ((λ _. memory_ranges w), tt))))
+    ((λ _. format2_ranges w), ((λ _. (refl, refl)), ((λ _. arithmetic_ranges w), ((λ _. memory_ranges w), tt))))
 
 -- the same of a result that is known to be decoded
 pub decoded_range : (r : Instr) (w : ℕ) → r ≡ decode_of w → is_in_range r ≡ true

@@ -1,6 +1,5 @@
 -- Sets of parts: registers of the current window, the integer condition codes and Y (section 4.2).
-use Rattle.std.specs.Prelude.{ℕ, zero, suc, ◌+◌, ◌^◌, Bool, true, false, not, ◌&&◌, ◌||◌, List, [], ◌∷◌, ◌++◌, filter, nat_lt, ◌==◌}
-use Rattle.std.specs.Int.{bit_at}
+use Rattle.std.specs.Prelude.{ℕ, zero, suc, Bool, true, false, not, ◌&&◌, ◌||◌, List, [], ◌∷◌, ◌++◌, filter, nat_lt, ◌==◌}
 use Rattle.v8_decode.specs.declared.Part.{Part}
 use Rattle.v8_decode.specs.declared.Part.TheVariants.{Reg, Icc, Y}
 
@@ -47,20 +46,3 @@ set_of ps = members (has ps)
 -- a set without a part
 abbrev pub without : List Part → Part → List Part
 without ps p = filter (λ q. not (is_same q p)) ps
-
--- the bit of a part in a mask
-abbrev pub place_of : Part → ℕ
-place_of (Reg r) = r
-place_of Icc = 32
-place_of Y = 33
-
-abbrev pub is_marked : ℕ → Part → Bool
-is_marked mask p = bit_at mask (place_of p) == 1
-
--- the set that a mask stands for, and the mask of a set
-abbrev pub parts_of : ℕ → List Part
-parts_of mask = members (is_marked mask)
-
-abbrev pub mask_of : List Part → ℕ
-mask_of [] = 0
-mask_of (p ∷ ps) = 2 ^ place_of p + mask_of ps

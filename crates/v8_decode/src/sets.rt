@@ -2,7 +2,8 @@
 
 ghost use Rattle.std.specs.Prelude.{◌≡◌, ◌<◌, ◌≤◌, true, not, ◌&&◌, ◌||◌, [], ◌∷◌, ◌++◌, length};
 ghost use Rattle.v8_decode.specs.declared.Part.{Part};
-ghost use Rattle.v8_decode.specs.Parts.{every_part, has, is_member, is_part, is_same, place_of, set_of, without};
+ghost use Rattle.v8_decode.specs.Parts.{every_part, has, is_member, is_part, is_same, set_of, without};
+ghost use Rattle.v8_decode.specs.Masks.{place_of};
 
 use crate::Part;
 use std::marker::Model;
@@ -18,7 +19,7 @@ pub struct RegSet {
 impl Model for RegSet {
     ghost use Rattle.std.specs.Prelude.{◌≡◌, List, ◌<◌, ◌^◌, ◌%◌};
     ghost use Rattle.v8_decode.specs.declared.Part.{Part};
-    ghost use Rattle.v8_decode.specs.Parts.{mask_of, parts_of};
+    ghost use Rattle.v8_decode.specs.Masks.{mask_of, parts_of};
 
     ghost Value = { List Part };
 
@@ -28,7 +29,7 @@ impl Model for RegSet {
 
     ghost inverse = { λ ps. record { mask = mask_of ps } };
 
-    ghost use Rattle.v8_decode.specs.Masks.{mask_of-inside};
+    ghost use Rattle.v8_decode.specs.MaskLaws.{mask_of-inside};
 
     ghost inverse_ok = { λ a h. mask_of-inside a h.0 h.1 };
 }

@@ -310,17 +310,32 @@ fn memory_word(word: u32) -> Instr
 }
 
 #[inline]
-#[tactic(auto, unfolding(crate::specs::Words::decode_of))]
+fn call_word(word: u32) -> Instr
+    ensures { result ≡ call word }
+{
+    Instr::Call {
+        disp30: extended(30, bits(word, 0, 30)),
+    }
+}
+
+// The two bits of op are tested one by one, so that the jump by op3 or op2 is the only one through a
+// table.
+#[inline]
 fn format_word(word: u32) -> Instr
     ensures { result ≡ decode_of word }
 {
-    match bits(word, 30, 2) {
-        0 => branch_or_sethi_word(word),
-        1 => Instr::Call {
-            disp30: extended(30, bits(word, 0, 30)),
-        },
-        2 => arithmetic_word(word),
-        _ => memory_word(word),
+    let high = bits(word, 31, 1);
+    let low = bits(word, 30, 1);
+    if high == 1 {
+        if low == 0 {
+            arithmetic_word(word)
+        } else {
+            memory_word(word)
+        }
+    } else if low == 0 {
+        branch_or_sethi_word(word)
+    } else {
+        call_word(word)
     }
 }
 

@@ -1,5 +1,5 @@
 -- The word of an instruction, by the formats of section 5.2 and the opcodes of appendix F of The SPARC Architecture Manual, Version 8.
-use Rattle.std.specs.Prelude.{◌≡◌, ℕ, suc, ◌+◌, ◌-◌, ◌*◌, ◌^◌, ◌<◌, IsTrue, Bool, true, false, not, ◌&&◌, List, [], ◌∷◌, Option, Some, None, ℤ, pos, negsuc, nat_lt, if◌then◌else◌}
+use Rattle.std.specs.Prelude.{◌≡◌, ℕ, suc, ◌+◌, ◌-◌, ◌*◌, ◌^◌, ◌<◌, IsTrue, Bool, true, false, not, ◌&&◌, List, [], ◌∷◌, Option, Some, None, ℤ, pos, negsuc, nat_lt, if◌then◌else◌, refl}
 use Rattle.v8_decode.specs.declared.Instr.{Instr}
 use Rattle.v8_decode.specs.declared.Instr.TheVariants as i
 use Rattle.v8_decode.specs.declared.Op2.{Op2}
@@ -194,3 +194,12 @@ cleared (f ∷ fields) w = cleared fields (w - field w f.0 f.1 * 2 ^ f.0)
 -- what an instruction's encoding is for each word that decodes to it
 abbrev pub EncodesAgain : Instr → Option ℕ → Type 0
 EncodesAgain instr encoded = (w : ℕ) → w < 2 ^ 32 → decode_of w ≡ instr → IsTrue (is_instruction instr) → encoded ≡ Some (cleared (ignored_of instr) w)
+
+-- The words compute.
+subtract_one : encode_of (i.Alu ops.SUBX false 8 0 (o.Imm (negsuc 0))) ≡ Some 0x90603fff
+unfolding encode_of
+subtract_one = refl
+
+too_wide : encode_of (i.Sethi 1 4194304) ≡ None
+unfolding encode_of
+too_wide = refl

@@ -144,7 +144,8 @@ fn alu_number(op: AluOp, cc: bool) -> Option<u32>
 }
 
 fn branch_word(cond: Cond, annul: bool, disp22: i32) -> Option<u32>
-    ensures value { result ≡ (if fits_signed 22 disp22 then Some (format2 (annul_bit annul * 2 ^ 4 + cond) 2 (signed_field 22 disp22)) else None) }
+    ensures value { let high = annul_bit annul * 2 ^ 4 + cond in
+        result ≡ (if fits_signed 22 disp22 then Some (format2 high 2 (signed_field 22 disp22)) else None) }
     ensures cond { cond < 16 }
 {
     let cond = cond.number() as u32;
@@ -160,7 +161,8 @@ fn call_word(disp30: i32) -> Option<u32>
 
 fn alu_word(op: AluOp, cc: bool, rd: u32, rs1: Reg, op2: Op2) -> Option<u32>
     requires rd { rd < 32 }
-    ensures value { result ≡ (if has_cc_form op cc && op2_fits op2 then Some (format3 2 rd (alu_op3 op cc) rs1 op2) else None) }
+    ensures value { let word = format3 2 rd (alu_op3 op cc) rs1 op2 in
+        result ≡ (if has_cc_form op cc && op2_fits op2 then Some word else None) }
     ensures operands { IfSome result (λ _. operands_in_range rs1 op2 ≡ true) }
 {
     format3_word(2, rd, alu_number(op, cc)?, rs1, op2)
@@ -168,7 +170,8 @@ fn alu_word(op: AluOp, cc: bool, rd: u32, rs1: Reg, op2: Op2) -> Option<u32>
 
 fn load_word(kind: LoadKind, rd: u32, rs1: Reg, op2: Op2) -> Option<u32>
     requires rd { rd < 32 }
-    ensures value { result ≡ (if has_even_pair (Instr.Load kind rd rs1 op2) && op2_fits op2 then Some (format3 3 rd (load_op3 kind) rs1 op2) else None) }
+    ensures value { let even = has_even_pair (Instr.Load kind rd rs1 op2) in
+        result ≡ (if even && op2_fits op2 then Some (format3 3 rd (load_op3 kind) rs1 op2) else None) }
     ensures operands { IfSome result (λ _. operands_in_range rs1 op2 ≡ true) }
 {
     match kind {
@@ -187,7 +190,8 @@ fn load_word(kind: LoadKind, rd: u32, rs1: Reg, op2: Op2) -> Option<u32>
 
 fn store_word(kind: StoreKind, rd: u32, rs1: Reg, op2: Op2) -> Option<u32>
     requires rd { rd < 32 }
-    ensures value { result ≡ (if has_even_pair (Instr.Store kind rd rs1 op2) && op2_fits op2 then Some (format3 3 rd (store_op3 kind) rs1 op2) else None) }
+    ensures value { let even = has_even_pair (Instr.Store kind rd rs1 op2) in
+        result ≡ (if even && op2_fits op2 then Some (format3 3 rd (store_op3 kind) rs1 op2) else None) }
     ensures operands { IfSome result (λ _. operands_in_range rs1 op2 ≡ true) }
 {
     match kind {
