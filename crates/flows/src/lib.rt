@@ -1,0 +1,47 @@
+//! Flows on a graph, and the least set of edges whose counts determine all counts.
+//!
+//! The definitions stand in specs/. Each function below has an empty body, and a law about every graph as its contract.
+//! Source: Thomas Ball and James R. Larus, "Optimally Profiling and Tracing Programs", ACM TOPLAS 16 (4), 1994.
+#![tactic(auto)]
+
+ghost use Rattle.std.specs.Prelude.{◌↔◌, IsTrue};
+ghost use Rattle.flows.specs.Laws.{WalksAreFlows, AgreeOffSpanningTree, LeastOffHeaviestTree, GrownTreesSpan};
+ghost use Rattle.flows.specs.Links.{IsLinked};
+
+/// An edge of a graph, by the numbers of the nodes that it leads from and to.
+#[derive(Clone, Copy, Drop, PartialEq, Eq, Debug)]
+pub struct Link {
+    pub from: usize,
+    pub to: usize,
+}
+
+/// Whether both ends of each link are below `nodes`.
+pub fn is_linked(nodes: usize, links: &[Link]) -> bool
+    ensures { IsTrue result ↔ IsLinked nodes links.now }
+{
+    links.iter().all(|link| link.from < nodes && link.to < nodes)
+}
+
+/// The counts of a walk obey the law of flow at each node.
+pub fn walks_are_flows()
+    ensures { WalksAreFlows }
+{
+}
+
+/// Counters off any spanning tree are enough.
+pub fn agree_off_spanning_tree()
+    ensures { AgreeOffSpanningTree }
+{
+}
+
+/// Counters off a heaviest tree weigh least, among all sets of edges.
+pub fn least_off_heaviest_tree()
+    ensures { LeastOffHeaviestTree }
+{
+}
+
+/// Growth from one node makes a spanning tree.
+pub fn grown_trees_span()
+    ensures { GrownTreesSpan }
+{
+}
