@@ -98,6 +98,14 @@ net_and_also g s v x h =
     same : all_but s ≡ (λ (w : ℕ). not (s w || (w == v)) || (w == v))
     same = λ i w. here (s w) (w == v) (λ e. ap s (eqb-true w v e) ∙ h) i
 
+-- what is balanced at every node but r is balanced at r
+pub root_balanced : (g : Graph) (r : ℕ) (z : ℕ → ℤ) → IsGraph g → Balanced g (only r) z → net g (only r) z ≡ pos 0
+root_balanced g r z ok bz =
+    let a = net_and_also g (λ w. false) r z refl in
+    let b = net_none g true z in
+    let c = balanced_out g (only r) z ok bz in
+    omega (arith, ints, a, b, c)
+
 -- nothing comes out of s where no edge that crosses carries anything
 pub none_crosses : (g : Graph) (s : NodeSet) (x : ℕ → ℤ) → ((e : ℕ) → e < g.edges → crosses g s e ≡ true → x e ≡ pos 0) → net g (all_but s) x ≡ pos 0
 none_crosses g s x n = total_zero g.edges _ (λ e l. go (s (g.from e)) (s (g.to e)) (x e) (n e l))

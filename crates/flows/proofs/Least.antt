@@ -8,7 +8,7 @@ use Rattle.flows.specs.Trees.{only, and_also, differ, crosses, far_end, Grows, H
 use Rattle.flows.proofs.Bools.{true_or_false, not_twice, or_true, or_right, or_parts_false}
 use Rattle.flows.proofs.Sums.{zero_or_not, total_same, total_zero, total_one}
 use Rattle.flows.proofs.Nets.{part, net, all_but, net_is, net_sub, part_zero}
-use Rattle.flows.proofs.Cuts.{Balanced, balanced_out, net_and_also, net_join, net_none}
+use Rattle.flows.proofs.Cuts.{Balanced, root_balanced, balanced_out, net_and_also, net_join, net_none}
 use Rattle.flows.proofs.Weights.{weight_same, weight_none, weight_more, weight_rest}
 use Rattle.flows.proofs.Grown.{Within, Independent, far_out, listed_weight, heaviest_tree}
 
@@ -144,14 +144,8 @@ determines_if g r d ok ind a b x y la lb fx fy agree e l = from_zero (x e) (y e)
 pub only_if : (g : Graph) (r : ℕ) (d : ℕ → Bool) → IsGraph g → r < g.nodes → Determines g d → Independent g (only r) (λ e. not (d e))
 only_if g r d ok lr det z wz bz = det r r z (λ e. pos 0) lr lr flow none agree
   where
-    at_root : net g (only r) z ≡ pos 0
-    at_root =
-        let a = net_and_also g (λ w. false) r z refl in
-        let b = net_none g true z in
-        let c = balanced_out g (only r) z ok bz in
-        omega (arith, ints, a, b, c)
     everywhere : (v : ℕ) → v < g.nodes → (v ≡ r) ⊎ (v ≡ r → ⊥) → net g (only v) z ≡ pos 0
-    everywhere v l (inl c) = ap (λ v. net g (only v) z) c ∙ at_root
+    everywhere v l (inl c) = ap (λ v. net g (only v) z) c ∙ root_balanced g r z ok bz
     everywhere v l (inr c) = bz v l (ne_eqb v r c)
     flow : IsFlow g r r z
     flow v l = let a = net_is g v z in let b = everywhere v l (cases_eq v r) in omega (arith, ints, a, b)

@@ -7,3 +7,4 @@ pub mod Grown
 pub mod Least
 pub mod Spanning
 pub mod Walks
+pub mod Cycles

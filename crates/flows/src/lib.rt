@@ -5,7 +5,7 @@
 #![tactic(auto)]
 
 ghost use Rattle.std.specs.Prelude.{◌↔◌, IsTrue};
-ghost use Rattle.flows.specs.Laws.{WalksAreFlows, AgreeOffSpanningTree, LeastOffHeaviestTree, GrownTreesSpan};
+ghost use Rattle.flows.specs.Laws.{WalksAreFlows, DeterminesWhereNoCycle, AgreeOffSpanningTree, LeastOffHeaviestTree, GrownTreesSpan};
 ghost use Rattle.flows.specs.Links.{IsLinked};
 
 /// An edge of a graph, by the numbers of the nodes that it leads from and to.
@@ -25,6 +25,12 @@ pub fn is_linked(nodes: usize, links: &[Link]) -> bool
 /// The counts of a walk obey the law of flow at each node.
 pub fn walks_are_flows()
     ensures { WalksAreFlows }
+{
+}
+
+/// Which edges need no counter: those that have no cycle among them.
+pub fn determines_where_no_cycle()
+    ensures { DeterminesWhereNoCycle }
 {
 }
 
