@@ -3,14 +3,14 @@ use Rattle.std.proofs.Common.{◌≡◌, ◌≢◌, ℕ, zero, suc, ◌+◌, ◌
 use Rattle.std.specs.Prelude.{ℤ, pos, negsuc, ◌+ℤ◌, ◌-ℤ◌, ◌*ℤ◌, neg_ℤ, nat_abs, ◌==◌, if◌then◌else◌, IsTrue}
 use Rattle.std.proofs.lemmas.Int.{ints}
 use Rattle.std.proofs.lemmas.Bool.{cases_Bool, cases_eq, cases_lt, eqb-true, eqb-false, eq-eqb, ne_eqb}
-use Rattle.flows.specs.Flows.{Graph, NodeSet, EdgeSet, IsGraph, total, sum_in, sum_out, one_at, IsFlow, Determines, AgreeOn, Agree, IsLeast, weight_below, weight_of}
+use Rattle.flows.specs.Flows.{Graph, NodeSet, EdgeSet, rest, IsGraph, IsFlow, Determines, AgreeOn, IsLeast, weight_of}
 use Rattle.flows.specs.Trees.{only, and_also, differ, crosses, far_end, Grows, HasEveryEnd, on}
 use Rattle.flows.proofs.Bools.{true_or_false, not_twice, or_true, or_right, or_parts_false}
-use Rattle.flows.proofs.Sums.{zero_or_not, total_same, total_zero, total_one}
-use Rattle.flows.proofs.Nets.{part, net, all_but, net_is, net_sub, part_zero}
-use Rattle.flows.proofs.Cuts.{Balanced, root_balanced, balanced_out, net_and_also, net_join, net_none}
-use Rattle.flows.proofs.Weights.{weight_same, weight_none, weight_more, weight_rest}
+use Rattle.flows.proofs.Cuts.{Balanced, root_balanced}
 use Rattle.flows.proofs.Grown.{Within, Independent, far_out, listed_weight, heaviest_tree}
+use Rattle.flows.proofs.Nets.{part, net, net_is, net_sub, part_zero}
+use Rattle.flows.proofs.Sums.{total_same, total_zero, total_one}
+use Rattle.flows.proofs.Weights.{weight_same, weight_none, weight_more, weight_rest}
 
 -- ---- the ends of an edge that was taken
 pub record Ends (g : Graph) (s : NodeSet) (e : ℕ) : Type 0 where
@@ -123,7 +123,7 @@ no_cycle g w (a ∷ es) s t ok h x wx bx = all (cleared (no_cycle g w es (and_al
         go (inr c) = f e l c
 
 -- ---- a set determines the counts exactly where the other edges have no cycle
-pub determines_if : (g : Graph) (r : ℕ) (d : ℕ → Bool) → IsGraph g → Independent g (only r) (λ e. not (d e)) → Determines g d
+pub determines_if : (g : Graph) (r : ℕ) (d : ℕ → Bool) → IsGraph g → Independent g (only r) (rest d) → Determines g d
 determines_if g r d ok ind a b x y la lb fx fy agree e l = from_zero (x e) (y e) (ind (λ e. x e -ℤ y e) within balanced e l)
   where
     from_zero : (p q : ℤ) → p -ℤ q ≡ pos 0 → p ≡ q
@@ -141,7 +141,7 @@ determines_if g r d ok ind a b x y la lb fx fy agree e l = from_zero (x e) (y e)
         let k = fy v l in
         net_sub g (only v) x y ∙ omega (arith, ints, p, q, f, k)
 
-pub only_if : (g : Graph) (r : ℕ) (d : ℕ → Bool) → IsGraph g → r < g.nodes → Determines g d → Independent g (only r) (λ e. not (d e))
+pub only_if : (g : Graph) (r : ℕ) (d : ℕ → Bool) → IsGraph g → r < g.nodes → Determines g d → Independent g (only r) (rest d)
 only_if g r d ok lr det z wz bz = det r r z (λ e. pos 0) lr lr flow none agree
   where
     everywhere : (v : ℕ) → v < g.nodes → (v ≡ r) ⊎ (v ≡ r → ⊥) → net g (only v) z ≡ pos 0
@@ -160,33 +160,30 @@ only_if g r d ok lr det z wz bz = det r r z (λ e. pos 0) lr lr flow none agree
     agree : AgreeOn g d z (λ e. pos 0)
     agree e l h = wz e l (ap not h)
 
--- ---- the edges off a tree that was grown from r to all nodes are least
-pub off_tree_least : (g : Graph) (w : ℕ → ℕ) (r : ℕ) (es : List ℕ) (t : NodeSet) → IsGraph g → r < g.nodes → Grows g w (only r) es t → HasEveryEnd g t → IsLeast g w (λ e. not (on es e))
-off_tree_least g w r es t ok lr h all = record { determines = det; least = least }
+-- ---- the edges off a grown tree determine the counts, and off a heaviest one they are least
+pub off_grown_determines : (g : Graph) (w : ℕ → ℕ) (r : ℕ) (es : List ℕ) (t : NodeSet) → IsGraph g → Grows g w (only r) es t → Determines g (rest (on es))
+off_grown_determines g w r es t ok h =
+    determines_if g r (rest (on es)) ok (λ x wx bx. no_cycle g w es (only r) t ok h x (λ e l f. wx e l (not_twice (on es e) ∙ f)) bx)
+
+pub off_tree_least : (g : Graph) (w : ℕ → ℕ) (r : ℕ) (es : List ℕ) (t : NodeSet) → IsGraph g → r < g.nodes → Grows g w (only r) es t → HasEveryEnd g t → IsLeast g w (rest (on es))
+off_tree_least g w r es t ok lr h ends = record { determines = off_grown_determines g w r es t ok h; least = least }
   where
-    det : Determines g (λ e. not (on es e))
-    det = determines_if g r (λ e. not (on es e)) ok (λ x wx bx. no_cycle g w es (only r) t ok h x (λ e l f. wx e l (not_twice (on es e) ∙ f)) bx)
-    least : (other : ℕ → Bool) → Determines g other → weight_of g w (λ e. not (on es e)) ≤ weight_of g w other
+    least : (other : EdgeSet) → Determines g other → weight_of g w (rest (on es)) ≤ weight_of g w other
     least other d =
-        let a = heaviest_tree g w es (only r) t ok h all (λ e. not (other e)) (only_if g r other ok lr d) in
+        let a = heaviest_tree g w es (only r) t ok h ends (rest other) (only_if g r other ok lr d) in
         let b = listed_is g w w es (only r) t h in
         let c = weight_rest g.edges w (on es) in
         let k = weight_rest g.edges w other in
         omega (arith, a, b, c, k)
 
 -- ---- sets that have the same edges
+pub determines_alike : (g : Graph) (s r : EdgeSet) → ((e : ℕ) → e < g.edges → r e ≡ s e) → Determines g s → Determines g r
+determines_alike g s r same h a b x y la lb fx fy agree = h a b x y la lb fx fy (λ e l t. agree e l (same e l ∙ t))
+
 pub least_alike : (g : Graph) (w : ℕ → ℕ) (s r : ℕ → Bool) → ((e : ℕ) → e < g.edges → r e ≡ s e) → IsLeast g w s → IsLeast g w r
 least_alike g w s r same h = record {
-  determines = λ a b x y la lb fx fy agree. h.determines a b x y la lb fx fy (λ e l t. agree e l (same e l ∙ t));
+  determines = determines_alike g s r same h.determines;
   least = λ other d. let k = h.least other d in let e = weight_same g.edges w r s same in omega (arith, k, e) }
-
-pub grows_inside : (g : Graph) (w : ℕ → ℕ) (es : List ℕ) (s t : NodeSet) → Grows g w s es t → (e : ℕ) → on es e ≡ true → e < g.edges
-grows_inside g w [] s t h e o = absurd (cc)
-grows_inside g w (x ∷ xs) s t h e o = go (cases_eq e x) (grows_inside g w xs (and_also s (far_end g s x)) t h.1 e)
-  where
-    go : (e ≡ x) ⊎ (e ≡ x → ⊥) → (on xs e ≡ true → e < g.edges) → e < g.edges
-    go (inl c) f = let a = h.0.inside in omega arith
-    go (inr c) f = f (ap (λ b. b || on xs e) (sym (ne_eqb e x c)) ∙ o)
 
 pub grows_keeps : (g : Graph) (w : ℕ → ℕ) (es : List ℕ) (s t : NodeSet) → Grows g w s es t → (u : ℕ) → s u ≡ true → t u ≡ true
 grows_keeps g w [] s t h u k = ap (λ (r : NodeSet). r u) h ∙ k

@@ -1,5 +1,5 @@
 -- A graph as a list of links.
-use Rattle.std.specs.Prelude.{ℕ, ◌<◌, Bool, false, List, length, slice_index, slice_index_or}
+use Rattle.std.specs.Prelude.{ℕ, ◌<◌, Bool, false, List, length, slice_index, slice_index_or, IsTrue}
 use Rattle.std.specs.List.{All}
 use Rattle.flows.specs.Flows.{Graph, NodeSet}
 use Rattle.flows.specs.declared.Link.{Link}
@@ -26,3 +26,7 @@ weight_in ws e = slice_index ws e
 -- the numbers that are marked in a list
 abbrev pub marked : List Bool → ℕ → Bool
 marked marks v = slice_index_or marks v false
+
+-- both ends of each link are nodes, by the list of which numbers are
+abbrev pub JoinsNodes : List Bool → List Link → Type 0
+JoinsNodes is_node links = All (λ (l : Link). IsTrue (marked is_node l.from) × IsTrue (marked is_node l.to)) links

@@ -4,9 +4,9 @@
 //! Source: Thomas Ball and James R. Larus, "Optimally Profiling and Tracing Programs", ACM TOPLAS 16 (4), 1994.
 #![tactic(auto)]
 
-ghost use Rattle.std.specs.Prelude.{◌↔◌, IsTrue};
+ghost use Rattle.std.specs.Prelude.{◌≡◌, ◌↔◌, IsTrue};
 ghost use Rattle.flows.specs.Laws.{WalksAreFlows, DeterminesWhereNoCycle, AgreeOffSpanningTree, LeastOffHeaviestTree, GrownTreesSpan};
-ghost use Rattle.flows.specs.Links.{IsLinked};
+ghost use Rattle.flows.specs.Links.{IsLinked, JoinsNodes, marked};
 
 /// An edge of a graph, by the numbers of the nodes that it leads from and to.
 #[derive(Clone, Copy, Drop, PartialEq, Eq, Debug)]
@@ -20,6 +20,20 @@ pub fn is_linked(nodes: usize, links: &[Link]) -> bool
     ensures { IsTrue result ↔ IsLinked nodes links.now }
 {
     links.iter().all(|link| link.from < nodes && link.to < nodes)
+}
+
+/// Whether the list marks a number. It marks none past its end.
+pub fn is_marked(marks: &[bool], number: usize) -> bool
+    ensures { result ≡ marked marks.now number }
+{
+    marks.get(number).copied().unwrap_or(false)
+}
+
+/// Whether both ends of each link are nodes.
+pub fn joins_nodes(is_node: &[bool], links: &[Link]) -> bool
+    ensures { IsTrue result ↔ JoinsNodes is_node.now links.now }
+{
+    links.iter().all(|link| is_marked(is_node, link.from) && is_marked(is_node, link.to))
 }
 
 /// The counts of a walk obey the law of flow at each node.

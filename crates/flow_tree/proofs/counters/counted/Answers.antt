@@ -1,0 +1,22 @@
+use Rattle.std.proofs.Common.{rules, ◌≡◌, ℕ, ◌+◌, ◌<◌, List, length, sym, subst, arith}
+use Rattle.std.proofs.lemmas.Result.{IfOk-weaker}
+use Rattle.flows.specs.Links.{weight_in, graph_of}
+use Rattle.flows.specs.Trees.{IsJoinedWith, only}
+use Rattle.flow_tree.specs.Tree.{reached_by, edges_of}
+use Rattle.flow_tree.proofs.Steps.{counted_determines, joins_inside, counted_least}
+use Rattle.flow_tree.proofs.counters.counted.Goals as goal
+
+pub off_tree-requires : goal.off_tree-requires
+off_tree-requires c = joins_inside (graph_of c.args.nodes c.args.links.now) (weight_in c.args.weights.now) c.in_ok-tree.tree.joins.items (only c.in_ok-tree.tree.root) (reached_by c.in_ok-tree.tree) c.in_ok-tree.ensures.heaviest
+
+pub returns-clause-determines : goal.returns-clause-determines
+returns-clause-determines c = IfOk-weaker c.off_tree.result _ _
+    (λ off same. counted_determines c.args.nodes c.args.links.now (weight_in c.args.weights.now) c.in_ok-tree.tree.root (edges_of c.in_ok-tree.tree) (reached_by c.in_ok-tree.tree) off.items c.requires.linked c.in_ok-tree.ensures.heaviest same)
+    c.off_tree.ensures.value
+
+pub returns-clause-least : goal.returns-clause-least
+returns-clause-least c = λ joined. IfOk-weaker c.off_tree.result _ _
+    (λ off same. counted_least c.args.nodes c.args.links.now (weight_in c.args.weights.now) c.in_ok-tree.tree.root (edges_of c.in_ok-tree.tree) (reached_by c.in_ok-tree.tree) off.items
+      (let k = c.in_ok-tree.ensures.root in omega (arith, k)) c.requires.linked c.in_ok-tree.ensures.heaviest c.in_ok-tree.ensures.whole same
+      (subst (λ (r : ℕ). IsJoinedWith (graph_of c.args.nodes c.args.links.now) r) (sym c.in_ok-tree.ensures.root) joined))
+    c.off_tree.ensures.value
