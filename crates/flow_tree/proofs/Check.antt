@@ -1,5 +1,5 @@
 -- Growth at the weights 1 and 0 tells a spanning tree.
-use Rattle.std.proofs.Common.{◌≡◌, ℕ, zero, suc, ◌+◌, ◌-◌, ◌<◌, ◌≤◌, ◌⊎◌, inl, inr, Bool, true, false, not, cond, List, [], ◌∷◌, length, get_or, take, refl, ap, sym, ◌∙◌, subst, arith, map}
+use Rattle.std.proofs.Common.{◌≡◌, ℕ, zero, suc, ◌+◌, ◌-◌, ◌<◌, ◌≤◌, ◌⊎◌, inl, inr, Bool, true, false, not, cond, List, [], ◌∷◌, length, refl, ap, sym, ◌∙◌, subst, arith, map}
 use Rattle.std.specs.Prelude.{◌==◌, if◌then◌else◌}
 use Rattle.std.specs.List.{All}
 use Rattle.std.proofs.lemmas.Bool.{cases_lt, eqb-true}
@@ -29,16 +29,18 @@ all_from d (x ∷ xs) h = All-cons (λ (j : Join). d j.edge ≡ true) x xs h.0 (
 -- the same growth at weights that are equal on all edges
 grows_at : (g : Graph) (w k : ℕ → ℕ) (es : List ℕ) (s t : NodeSet) → ((e : ℕ) → e < g.edges → w e ≡ k e) → Grows g w s es t → Grows g k s es t
 grows_at g w k [] s t same h = h
-grows_at g w k (x ∷ xs) s t same h =
-    (record {
-       inside = h.0.inside;
-       across = h.0.across;
-       heaviest = λ e l c.
-         let a = h.0.heaviest e l c in
-         let b = same e l in
-         let d = same x h.0.inside in
-         omega (arith, a, b, d) },
-     grows_at g w k xs (and_also s (far_end g s x)) t same h.1)
+grows_at g w k (x ∷ xs) s t same h = (
+  record {
+    inside = h.0.inside;
+    across = h.0.across;
+    heaviest = λ e l c.
+        let a = h.0.heaviest e l c in
+        let b = same e l in
+        let d = same x h.0.inside in
+        omega (arith, a, b, d);
+  },
+  grows_at g w k xs (and_also s (far_end g s x)) t same h.1,
+)
 
 weights_are : (counted : List Bool) (ws : List ℕ) (e : ℕ) → ws ≡ map (λ (c : Bool). if c then zero else suc zero) counted → e < length counted → weight_in ws e ≡ one_if (rest (marked counted)) e
 weights_are counted ws e h l = ap (λ (ws : List ℕ). weight_in ws e) h ∙ get_or-map (λ (c : Bool). if c then zero else suc zero) counted e false 0 l ∙ turn (marked counted e) 0 1
@@ -67,6 +69,7 @@ reached_nodes g is_node w (e ∷ es) s t ends h a v m = reached_nodes g is_node 
     pick : (b : Bool) (p q : ℕ) → is_node p ≡ true → is_node q ≡ true → is_node (cond b p q) ≡ true
     pick true p q h k = h
     pick false p q h k = k
+
     more : (v : ℕ) → and_also s (far_end g s e) v ≡ true → is_node v ≡ true
     more v m = go (or_cases (s v) (v == far_end g s e) m)
       where
@@ -85,7 +88,6 @@ from_root g w t r e h = subst (λ (r : ℕ). Grows g w (only r) (edges_of t) (re
 module _ (is_node : List Bool) (links : List Link) (r : ℕ) (counted : List Bool) (ws : List ℕ) (js : List Join) (t : NodeSet)
     (nodes : JoinsNodes is_node links) (root : marked is_node r ≡ true) (few : length counted ≡ length links) (are : ws ≡ map (λ (c : Bool). if c then zero else suc zero) counted)
     (h : Grows (graph_of (length is_node) links) (weight_in ws) (only r) (edges_in js) t) where
-
   grown : Grows (graph_of (length is_node) links) (one_if (rest (marked counted))) (only r) (edges_in js) t
   grown = grows_at (graph_of (length is_node) links) (weight_in ws) (one_if (rest (marked counted))) (edges_in js) (only r) t (λ e l. weights_are counted ws e are (omega arith)) h
 
@@ -109,16 +111,16 @@ module _ (is_node : List Bool) (links : List Link) (r : ℕ) (counted : List Boo
 
   pub reached : length js + 1 ≡ count_below (length is_node) (marked is_node) → (v : ℕ) → v < length is_node → t v ≡ marked is_node v
   reached a = same_set (length is_node) t (marked is_node) (λ v l m. reached_nodes (graph_of (length is_node) links) (marked is_node) (one_if (rest (marked counted))) (edges_in js) (only r) t ends grown in_root v m)
-                (let b = size in omega (arith, a, b))
+      (let b = size in omega (arith, a, b))
 
   pub is_tree : length js + 1 ≡ count_below (length is_node) (marked is_node) → count_below (length links) (rest (marked counted)) + 1 ≡ count_below (length is_node) (marked is_node) → All (λ j. rest (marked counted) j.edge ≡ true) js →
-    ((e : ℕ) → e < length links → on (edges_in js) e ≡ rest (marked counted) e) × IsSpanningTree (graph_of (length is_node) links) (marked is_node) (rest (marked counted))
+      ((e : ℕ) → e < length links → on (edges_in js) e ≡ rest (marked counted) e) × IsSpanningTree (graph_of (length is_node) links) (marked is_node) (rest (marked counted))
   is_tree a b c =
       tree_if (graph_of (length is_node) links) (marked is_node) (rest (marked counted)) r (edges_in js) t ok (marked_below is_node r root) grown
-        (λ v l n. reached a v l ∙ n) (all_in (rest (marked counted)) js c) b
+      (λ v l n. reached a v l ∙ n) (all_in (rest (marked counted)) js c) b
 
   parts : IsWhole (graph_of (length is_node) links) t → IsSpanningTree (graph_of (length is_node) links) (marked is_node) (rest (marked counted)) →
-    ((v : ℕ) → v < length is_node → marked is_node v ≡ true → t v ≡ true) × AllIn (rest (marked counted)) (edges_in js)
+      ((v : ℕ) → v < length is_node → marked is_node v ≡ true → t v ≡ true) × AllIn (rest (marked counted)) (edges_in js)
   parts w s = tree_only_if (graph_of (length is_node) links) (marked is_node) (rest (marked counted)) r (edges_in js) t ok ends (marked_below is_node r root) root grown w s
 
   pub tree_taken : IsWhole (graph_of (length is_node) links) t → IsSpanningTree (graph_of (length is_node) links) (marked is_node) (rest (marked counted)) → All (λ j. rest (marked counted) j.edge ≡ true) js

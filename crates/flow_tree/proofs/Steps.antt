@@ -1,10 +1,10 @@
 -- One step of the search.
-use Rattle.std.proofs.Common.{◌≡◌, ℕ, zero, suc, ◌+◌, ◌<◌, ◌≤◌, ◌⊎◌, inl, inr, Bool, true, false, not, ◌||◌, cond, List, [], ◌∷◌, ◌++◌, length, refl, ap, sym, ◌∙◌, subst, arith, get_or, set, take}
-use Rattle.std.specs.Prelude.{◌==◌, if◌then◌else◌}
-use Rattle.std.specs.List.{All, Contains, HoldsAt}
-use Rattle.std.proofs.lemmas.Bool.{cases_eq, cases_lt, cases_Bool, eqb-true, eq-eqb, ne_eqb}
+use Rattle.std.proofs.Common.{◌≡◌, ℕ, ◌+◌, ◌<◌, ◌≤◌, ◌⊎◌, inl, inr, Bool, true, false, not, ◌||◌, List, [], ◌∷◌, ◌++◌, length, refl, ap, sym, ◌∙◌, subst, arith, get_or, set, take}
+use Rattle.std.specs.Prelude.{◌==◌}
+use Rattle.std.specs.List.{All, Contains}
+use Rattle.std.proofs.lemmas.Bool.{cases_eq, cases_lt, eq-eqb, ne_eqb}
 use Rattle.std.specs.Prelude.{replicate}
-use Rattle.std.proofs.lemmas.List.{length-map, get_or-set_same, get_or-set_other, get_or_default, get_or-replicate, get_or_past, length-replicate, take_more}
+use Rattle.std.proofs.lemmas.List.{length-map, get_or-set_same, get_or-set_other, get_or-replicate, get_or_past, length-replicate, take_more}
 use Rattle.std.proofs.lemmas.List.Elements.{Contains-get_or, All-contains, All-nil, All-cons}
 use Rattle.flows.specs.Flows.{Graph, IsGraph, IsLeast, NodeSet, rest, Determines}
 use Rattle.flows.specs.Links.{link_at, graph_of, marked, weight_in, IsLinked}
@@ -48,7 +48,8 @@ heaviest_here n links ws s items x el real there across held greatest =
     record {
       inside = omega (arith, r.0);
       across = across;
-      heaviest = λ h l k. let a = greatest (candidate ws h) (held h l k) k in omega (arith, a, r.1) }
+      heaviest = λ h l k. let a = greatest (candidate ws h) (held h l k) k in omega (arith, a, r.1);
+    }
 
 -- what crosses with v in crossed before, or it is an edge at v
 newly : (g : Graph) (s : NodeSet) (v e : ℕ) → crosses g (and_also s v) e ≡ true → (crosses g s e ≡ true) ⊎ ((g.from e ≡ v) ⊎ (g.to e ≡ v))
@@ -75,15 +76,19 @@ held_again n links ws rows s old mid new x v vf across held others kept ends add
   where
     g : Graph
     g = graph_of n links
+
     gone : crosses (graph_of n links) (and_also s v) x ≡ false
     gone =
         let d = ends_of (graph_of n links) s x across in
         ap (λ v. crosses (graph_of n links) (and_also s v) x) vf ∙ differ_same _ _ d.from_in d.to_in
+
     not_x : e ≡ x → ⊥
     not_x c = let t : true ≡ false = sym h ∙ ap (crosses (graph_of n links) (and_also s v)) c ∙ gone in absurd (cc)
+
     mids : Contains mid (candidate ws e) ⊎ (e ≡ x) → Contains new (candidate ws e)
     mids (inl m) = kept (candidate ws e) m
     mids (inr c) = absurd (not_x c)
+
     go : (crosses (graph_of n links) s e ≡ true) ⊎ (((link_at links e).from ≡ v) ⊎ ((link_at links e).to ≡ v)) → Contains new (candidate ws e)
     go (inl k) = mids (others (candidate ws e) (held e l k) k)
     go (inr (inl c)) = added e (subst (λ u. IsAttached rows u e) c (ends e l).0) h
@@ -96,6 +101,7 @@ begun_marks n root marks e l = marked_set marks root l ∙ (λ i. and_also (none
     at : (v : ℕ) → (v < n) ⊎ (n ≤ v) → get_or (replicate n false) v false ≡ false
     at v (inl l) = get_or-replicate n v false false l
     at v (inr l) = get_or_past (replicate n false) v false (let k = length-replicate n false in omega (arith, k))
+
     none : marked marks ≡ (λ (v : ℕ). false)
     none = ap marked e ∙ (λ i v. at v (cases_lt v n) i)
 
@@ -159,7 +165,7 @@ pub counted_least : (n : ℕ) (links : List Link) (w : ℕ → ℕ) (r : ℕ) (e
     IsJoinedWith (graph_of n links) r → IsLeast (graph_of n links) w (marked off)
 counted_least n links w r es t off lr ok h whole same joined =
     least_alike (graph_of n links) w (rest (on es)) (marked off) same
-      (off_tree_least (graph_of n links) w r es t (graph_ok n links ok) lr h (ends_of_whole (graph_of n links) w es r t joined h whole))
+    (off_tree_least (graph_of n links) w r es t (graph_ok n links ok) lr h (ends_of_whole (graph_of n links) w es r t joined h whole))
 
 -- ---- joins
 pub edges-push : (xs : List Join) (j : Join) → edges_in (xs ++ j ∷ []) ≡ edges_in xs ++ j.edge ∷ []
@@ -186,14 +192,19 @@ search_grown n m links ws s e h = subst (λ (n : ℕ). IsGrown (graph_of n links
 pub search_whole : (n : ℕ) (links : List Link) (ws : List ℕ) (s : Search) → IsLinked n links → s.tree.root < n → length s.tree.joins.items + 1 ≡ n → IsSearch n links ws s → IsWhole (graph_of n links) (reached_by s.tree)
 search_whole n links ws s ok l e h =
     whole_at_end (graph_of n links) (weight_in ws) (edges_of s.tree) s.tree.root (reached_by s.tree) (graph_ok n links ok) l h.grows
-      (let k = length-map s.tree.joins.items (λ (j : Join). j.edge) in omega (arith, k, e))
+    (let k = length-map s.tree.joins.items (λ (j : Join). j.edge) in omega (arith, k, e))
+
+-- the edges of one join more
+pub on_more : (js : List Join) (i : ℕ) (d : Join) (e : ℕ) → i < length js → on (edges_in (take (i + 1) js)) e ≡ (on (edges_in (take i js)) e || (e == (get_or js i d).edge))
+on_more js i d e l =
+    ap (λ (js : List Join). on (edges_in js) e) (take_more js i d l)
+    ∙ ap (λ (es : List ℕ). on es e) (edges-push (take i js) (get_or js i d))
+    ∙ on_push (edges_in (take i js)) (get_or js i d).edge e
 
 pub off_more : (off : List Bool) (js : List Join) (i e : ℕ) (d : Join) → i < length js → (get_or js i d).edge < length off → marked off e ≡ not (on (edges_in (take i js)) e) →
     marked (set off (get_or js i d).edge false) e ≡ not (on (edges_in (take (i + 1) js)) e)
-off_more off js i e d l m h = go (cases_eq e (get_or js i d).edge) ∙ ap not (sym more)
+off_more off js i e d l m h = go (cases_eq e (get_or js i d).edge) ∙ ap not (sym (on_more js i d e l))
   where
-    more : on (edges_in (take (i + 1) js)) e ≡ (on (edges_in (take i js)) e || (e == (get_or js i d).edge))
-    more = ap (λ (js : List Join). on (edges_in js) e) (take_more js i d l) ∙ ap (λ (es : List ℕ). on es e) (edges-push (take i js) (get_or js i d)) ∙ on_push (edges_in (take i js)) (get_or js i d).edge e
     go : (e ≡ (get_or js i d).edge) ⊎ (e ≡ (get_or js i d).edge → ⊥) → marked (set off (get_or js i d).edge false) e ≡ not (on (edges_in (take i js)) e || (e == (get_or js i d).edge))
     go (inl k) =
         ap (λ e. get_or (set off (get_or js i d).edge false) e false) k ∙ get_or-set_same off (get_or js i d).edge false false m
@@ -201,4 +212,3 @@ off_more off js i e d l m h = go (cases_eq e (get_or js i d).edge) ∙ ap not (s
     go (inr k) =
         get_or-set_other off (get_or js i d).edge e false false k ∙ h
         ∙ ap not (sym (ap (λ b. on (edges_in (take i js)) e || b) (ne_eqb e (get_or js i d).edge k) ∙ or_no (on (edges_in (take i js)) e)))
-

@@ -31,5 +31,5 @@ pub record IsSearch (n : ℕ) (links : List Link) (ws : List ℕ) (s : Search) :
   pub ordered : IsHeap candidate_cmp (heap_items s.heap)
   pub real : All (IsReal ws) (heap_items s.heap)
   pub held :
-    (e : ℕ) → e < length links → crosses (graph_of n links) (reached_by s.tree) e ≡ true →
-    Contains (heap_items s.heap) (candidate ws e)
+      (e : ℕ) → e < length links → crosses (graph_of n links) (reached_by s.tree) e ≡ true →
+      Contains (heap_items s.heap) (candidate ws e)

@@ -7,8 +7,8 @@ ghost use Rattle.flows.specs.Trees.{IsJoinedWith, on};
 ghost use Rattle.flows.specs.Links.{graph_of, marked, weight_in, IsLinked};
 ghost use Rattle.flow_tree.specs.Tree.{edges_of};
 
-use crate::growth::grow;
 use crate::Tree;
+use crate::growth::grow;
 use flows::Link;
 use std::alloc::{AllocError, Global};
 
@@ -27,7 +27,13 @@ pub fn off_tree(alloc: Global, tree: &Tree, edges: usize) -> Result<Vec<bool>, A
 
 /// Which edges to count: those off a heaviest tree from `root`. Their counts determine all counts. Where each edge is
 /// joined with the root, no set of edges that does so weighs less.
-pub fn counted(alloc: Global, nodes: usize, links: &[Link], weights: &[u64], root: usize) -> Result<Vec<bool>, AllocError>
+pub fn counted(
+    alloc: Global,
+    nodes: usize,
+    links: &[Link],
+    weights: &[u64],
+    root: usize,
+) -> Result<Vec<bool>, AllocError>
     requires root { root < nodes }
     requires linked { IsLinked nodes links.now }
     requires weights { length weights.now ≡ length links.now }

@@ -31,7 +31,11 @@ pub struct Search {
 }
 
 // The heaviest candidate that crosses. Those before it, which no longer cross, are dropped.
-fn next_crossing(heap: &mut BinaryHeap<Candidate>, marks: &[bool], links: &[Link]) -> Option<Candidate>
+fn next_crossing(
+    heap: &mut BinaryHeap<Candidate>,
+    marks: &[bool],
+    links: &[Link],
+) -> Option<Candidate>
     requires ordered { IsHeap candidate_cmp (heap_items heap.old) }
     requires real { All (λ c. c.edge < length links.now) (heap_items heap.old) }
     requires linked { IsLinked (length marks.now) links.now }
@@ -62,7 +66,13 @@ fn is_crossing(marks: &[bool], link: Link) -> bool
 }
 
 // Puts an edge on the heap, if it crosses.
-fn offer(heap: &mut BinaryHeap<Candidate>, edge: usize, marks: &[bool], links: &[Link], weights: &[u64]) -> Result<(), AllocError>
+fn offer(
+    heap: &mut BinaryHeap<Candidate>,
+    edge: usize,
+    marks: &[bool],
+    links: &[Link],
+    weights: &[u64],
+) -> Result<(), AllocError>
     requires ordered { IsHeap candidate_cmp (heap_items heap.old) }
     requires real { All (IsReal weights.now) (heap_items heap.old) }
     requires edge { edge < length links.now }
@@ -76,12 +86,21 @@ fn offer(heap: &mut BinaryHeap<Candidate>, edge: usize, marks: &[bool], links: &
     if !is_crossing(marks, links[edge]) {
         return Ok(());
     }
-    heap.push(Candidate { weight: weights[edge], edge })?;
+    heap.push(Candidate {
+        weight: weights[edge],
+        edge,
+    })?;
     Ok(())
 }
 
 // Puts those edges of a row on the heap that cross.
-fn offer_all(heap: &mut BinaryHeap<Candidate>, row: &[usize], marks: &[bool], links: &[Link], weights: &[u64]) -> Result<(), AllocError>
+fn offer_all(
+    heap: &mut BinaryHeap<Candidate>,
+    row: &[usize],
+    marks: &[bool],
+    links: &[Link],
+    weights: &[u64],
+) -> Result<(), AllocError>
     requires ordered { IsHeap candidate_cmp (heap_items heap.old) }
     requires real { All (IsReal weights.now) (heap_items heap.old) }
     requires below { All (λ e. e < length links.now) row.now }
@@ -98,7 +117,13 @@ fn offer_all(heap: &mut BinaryHeap<Candidate>, row: &[usize], marks: &[bool], li
     Ok(())
 }
 
-fn begin(alloc: Global, root: usize, rows: &[Vec<usize>], links: &[Link], weights: &[u64]) -> Result<Search, AllocError>
+fn begin(
+    alloc: Global,
+    root: usize,
+    rows: &[Vec<usize>],
+    links: &[Link],
+    weights: &[u64],
+) -> Result<Search, AllocError>
     requires root { root < length rows.now }
     requires linked { IsLinked (length rows.now) links.now }
     requires ends { HasEnds links.now (length links.now) rows.now }
@@ -112,7 +137,14 @@ fn begin(alloc: Global, root: usize, rows: &[Vec<usize>], links: &[Link], weight
     reached[root] = true;
     let mut heap = BinaryHeap::new(alloc);
     offer_all(&mut heap, &rows[root], &reached, links, weights)?;
-    Ok(Search { tree: Tree { root, reached, joins: Vec::new(alloc) }, heap })
+    Ok(Search {
+        tree: Tree {
+            root,
+            reached,
+            joins: Vec::new(alloc),
+        },
+        heap,
+    })
 }
 
 // Of a link that crosses, the end that is not marked.
@@ -124,7 +156,12 @@ fn far_end(marks: &[bool], link: Link) -> usize
 }
 
 // Brings one node more in, and answers whether there was an edge that crosses.
-fn join(search: &mut Search, rows: &[Vec<usize>], links: &[Link], weights: &[u64]) -> Result<bool, AllocError>
+fn join(
+    search: &mut Search,
+    rows: &[Vec<usize>],
+    links: &[Link],
+    weights: &[u64],
+) -> Result<bool, AllocError>
     requires search { IsSearch (length rows.now) links.now weights.now search.old }
     requires linked { IsLinked (length rows.now) links.now }
     requires ends { HasEnds links.now (length links.now) rows.now }
@@ -142,14 +179,26 @@ fn join(search: &mut Search, rows: &[Vec<usize>], links: &[Link], weights: &[u64
     let node = far_end(&search.tree.reached, links[edge]);
     search.tree.reached[node] = true;
     search.tree.joins.push(Join { edge, node })?;
-    offer_all(&mut search.heap, &rows[node], &search.tree.reached, links, weights)?;
+    offer_all(
+        &mut search.heap,
+        &rows[node],
+        &search.tree.reached,
+        links,
+        weights,
+    )?;
     Ok(true)
 }
 
 /// Grows a heaviest tree from `root`: of the edges that cross to a node outside it takes a heaviest, until none crosses.
 ///
 /// `weights` has one weight for each link. It takes time n log n in the number of links.
-pub fn grow(alloc: Global, nodes: usize, links: &[Link], weights: &[u64], root: usize) -> Result<Tree, AllocError>
+pub fn grow(
+    alloc: Global,
+    nodes: usize,
+    links: &[Link],
+    weights: &[u64],
+    root: usize,
+) -> Result<Tree, AllocError>
     requires root { root < nodes }
     requires linked { IsLinked nodes links.now }
     requires weights { length weights.now ≡ length links.now }

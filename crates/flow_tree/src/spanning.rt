@@ -48,7 +48,13 @@ fn none_counted(joins: &[Join], counted: &[bool]) -> bool
 /// The tree of the edges that are not counted, grown from `root`, or `None` where they are no spanning tree of the nodes.
 ///
 /// `is_node` says for each number whether it is a node, and `counted` for each link whether it is counted.
-pub fn span(alloc: Global, is_node: &[bool], links: &[Link], counted: &[bool], root: usize) -> Result<Option<Tree>, AllocError>
+pub fn span(
+    alloc: Global,
+    is_node: &[bool],
+    links: &[Link],
+    counted: &[bool],
+    root: usize,
+) -> Result<Option<Tree>, AllocError>
     requires root { IsTrue (marked is_node.now root) }
     requires nodes { JoinsNodes is_node.now links.now }
     requires counted { length counted.now ≡ length links.now }

@@ -1,4 +1,4 @@
-use Rattle.std.proofs.Common.{rules, ◌≡◌, ℕ, ◌+◌, ◌<◌, List, length, sym, subst, arith}
+use Rattle.std.proofs.Common.{ℕ, sym, subst, arith}
 use Rattle.std.proofs.lemmas.Result.{IfOk-weaker}
 use Rattle.flows.specs.Links.{weight_in, graph_of}
 use Rattle.flows.specs.Trees.{IsJoinedWith, only}
@@ -17,6 +17,6 @@ returns-clause-determines c = IfOk-weaker c.off_tree.result _ _
 pub returns-clause-least : goal.returns-clause-least
 returns-clause-least c = λ joined. IfOk-weaker c.off_tree.result _ _
     (λ off same. counted_least c.args.nodes c.args.links.now (weight_in c.args.weights.now) c.in_ok-tree.tree.root (edges_of c.in_ok-tree.tree) (reached_by c.in_ok-tree.tree) off.items
-      (let k = c.in_ok-tree.ensures.root in omega (arith, k)) c.requires.linked c.in_ok-tree.ensures.heaviest c.in_ok-tree.ensures.whole same
-      (subst (λ (r : ℕ). IsJoinedWith (graph_of c.args.nodes c.args.links.now) r) (sym c.in_ok-tree.ensures.root) joined))
+    (let k = c.in_ok-tree.ensures.root in omega (arith, k)) c.requires.linked c.in_ok-tree.ensures.heaviest c.in_ok-tree.ensures.whole same
+    (subst (λ (r : ℕ). IsJoinedWith (graph_of c.args.nodes c.args.links.now) r) (sym c.in_ok-tree.ensures.root) joined))
     c.off_tree.ensures.value

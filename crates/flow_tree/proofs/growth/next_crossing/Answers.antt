@@ -1,6 +1,6 @@
-use Rattle.std.proofs.Common.{rules, ◌≡◌, ℕ, ◌+◌, ◌<◌, ◌≤◌, ◌⊎◌, inl, inr, length, true, false, ap, sym, ◌∙◌}
-use Rattle.std.specs.List.{All, Contains}
-use Rattle.std.specs.BinaryHeap.{heap_items, heap_len, IsHeap}
+use Rattle.std.proofs.Common.{rules, ◌≡◌, ◌<◌, ◌⊎◌, inl, inr, length, true, false, ap, sym, ◌∙◌}
+use Rattle.std.specs.List.{Contains}
+use Rattle.std.specs.BinaryHeap.{heap_items}
 use Rattle.flows.specs.Links.{graph_of, marked}
 use Rattle.flows.specs.Trees.{crosses}
 use Rattle.flow_tree.specs.declared.growth.Candidate.{Candidate}
@@ -27,6 +27,7 @@ loop-top-preserved c = record {
   where
     not_top : crosses (graph_of (length c.args.marks.now) c.args.links.now) (marked c.args.marks.now) c.in-Some.top.edge ≡ false
     not_top = search rules
+
     go : (x : Candidate) → crosses (graph_of (length c.args.marks.now) c.args.links.now) (marked c.args.marks.now) x.edge ≡ true → (x ≡ c.in-Some.top) ⊎ Contains (heap_items c.pop.new.self) x → Contains (heap_items c.pop.new.self) x
     go x k (inl e) =
         let t : true ≡ false = sym k ∙ ap (λ (x : Candidate). crosses (graph_of (length c.args.marks.now) c.args.links.now) (marked c.args.marks.now) x.edge) e ∙ not_top in

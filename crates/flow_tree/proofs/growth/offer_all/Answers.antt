@@ -1,5 +1,5 @@
-use Rattle.std.proofs.Common.{rules, ◌≡◌, ◌⊎◌, inl, inr, ℕ, ◌<◌, ◌+◌, length, arith, ap, sym, subst, take, slice_index, List, true}
-use Rattle.std.specs.List.{All, Contains}
+use Rattle.std.proofs.Common.{rules, ◌≡◌, ◌⊎◌, inl, inr, ℕ, length, sym, subst, take, slice_index, List, true}
+use Rattle.std.specs.List.{Contains}
 use Rattle.std.specs.BinaryHeap.{heap_items}
 use Rattle.std.proofs.lemmas.List.{take_all}
 use Rattle.flows.specs.Links.{marked, graph_of}
@@ -17,10 +17,10 @@ loop-e-preserved c = record {
 }
   where
     go : (e : ℕ) → crosses (graph_of (length c.args.marks.now) c.args.links.now) (marked c.args.marks.now) e ≡ true →
-      (e ≡ slice_index c.args.row.now c.loop-e.e-index) ⊎ Contains (take c.loop-e.e-index c.args.row.now) e → Contains (heap_items c.offer.new.heap) (candidate c.args.weights.now e)
+        (e ≡ slice_index c.args.row.now c.loop-e.e-index) ⊎ Contains (take c.loop-e.e-index c.args.row.now) e → Contains (heap_items c.offer.new.heap) (candidate c.args.weights.now e)
     go e k (inl h) =
         subst (λ (x : ℕ). Contains (heap_items c.offer.new.heap) (candidate c.args.weights.now x)) (sym h)
-          (c.in_ok-offer.ensures.added (subst (λ (x : ℕ). crosses (graph_of (length c.args.marks.now) c.args.links.now) (marked c.args.marks.now) x ≡ true) h k))
+        (c.in_ok-offer.ensures.added (subst (λ (x : ℕ). crosses (graph_of (length c.args.marks.now) c.args.links.now) (marked c.args.marks.now) x ≡ true) h k))
     go e k (inr h) = c.in_ok-offer.ensures.kept _ (c.loop-e.invariant.added e h k)
 
 pub returns-clause-added : goal.returns-clause-added

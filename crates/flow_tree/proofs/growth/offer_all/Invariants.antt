@@ -1,4 +1,4 @@
-use Rattle.std.proofs.Common.{◌≡◌, ◌<◌, ℕ, length, take, true}
+use Rattle.std.proofs.Common.{◌≡◌, ℕ, length, take, true}
 use Rattle.std.specs.List.{All, Contains}
 use Rattle.std.specs.BinaryHeap.{heap_items, IsHeap}
 use Rattle.flows.specs.Links.{graph_of, marked}

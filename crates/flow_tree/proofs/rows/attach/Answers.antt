@@ -1,4 +1,3 @@
-use Rattle.std.proofs.Common.{rules, ◌≡◌, ℕ, ◌<◌, length}
 use Rattle.std.proofs.lemmas.List.Elements.{Contains-append_left}
 use Rattle.flow_tree.proofs.RowLemmas.{row_kept, same_items}
 use Rattle.flow_tree.proofs.rows.attach.Goals as goal

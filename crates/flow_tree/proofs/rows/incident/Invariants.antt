@@ -1,4 +1,4 @@
-use Rattle.std.proofs.Common.{◌≡◌, ◌<◌, length}
+use Rattle.std.proofs.Common.{◌≡◌, length}
 use Rattle.flow_tree.specs.Rows.{HasEnds, AllBelow}
 use Rattle.flow_tree.proofs.rows.incident.Given as goal
 

@@ -1,4 +1,4 @@
-use Rattle.std.proofs.Common.{◌≡◌, ◌≤◌, length}
+use Rattle.std.proofs.Common.{◌≡◌, ◌≤◌}
 use Rattle.flows.specs.Flows.{count_below}
 use Rattle.flows.specs.Links.{marked}
 use Rattle.flow_tree.proofs.spanning.count_marked.Given as goal

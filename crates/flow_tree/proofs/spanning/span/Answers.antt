@@ -1,5 +1,4 @@
-use Rattle.std.proofs.Common.{rules, ◌≡◌, ℕ, ◌+◌, ◌-◌, ◌<◌, length, true, false, refl, arith, ap, sym, ◌∙◌, subst, List}
-use Rattle.std.specs.Prelude.{◌↔◌, IsTrue}
+use Rattle.std.proofs.Common.{rules, ◌≡◌, ◌+◌, length, true, refl, arith, sym, ◌∙◌, subst, List}
 use Rattle.std.specs.List.{All}
 use Rattle.flows.specs.Flows.{rest, count_below}
 use Rattle.flows.specs.Links.{marked, graph_of}
@@ -22,8 +21,9 @@ returns-then-len-nodes-clause-exactly c = (λ t. absurd (cc), λ s. absurd (wron
         let n = c.count_marked-nodes.ensures.count in
         let l = c.len.ensures in
         elim c.then-len-nodes.branch [
-          then-len-nodes-via-then-len-nodes w ↦ omega (arith, a, n)
-        | then-len-nodes-via-else-len-nodes+then-uncounted-nodes w ↦ omega (arith, b, d, n, l) ]
+          | then-len-nodes-via-then-len-nodes w ↦ omega (arith, a, n)
+          | then-len-nodes-via-else-len-nodes+then-uncounted-nodes w ↦ omega (arith, b, d, n, l)
+        ]
 
 pub returns-then-not-none_counted-clause-exactly : goal.returns-then-not-none_counted-clause-exactly
 returns-then-not-none_counted-clause-exactly c = (λ t. absurd (cc), λ s. absurd (wrong s))
@@ -39,17 +39,18 @@ returns-clause-exactly c = (λ t. tree, λ s. refl)
   where
     nodes : length c.in_ok-tree.tree.joins.items + 1 ≡ count_below (length c.args.is_node.now) (marked c.args.is_node.now)
     nodes = search rules
+
     tree : IsSpanningTree (graph_of (length c.args.is_node.now) c.args.links.now) (marked c.args.is_node.now) (rest (marked c.args.counted.now))
     tree =
         (is_tree c.args.is_node.now c.args.links.now c.args.root c.args.counted.now c.deref.result.now c.in_ok-tree.tree.joins.items (reached_by c.in_ok-tree.tree) c.requires.nodes c.requires.root c.requires.counted (c.deref.ensures.value ∙ c.in_ok-weights.ensures) (from_root _ _ c.in_ok-tree.tree c.args.root c.in_ok-tree.ensures.root c.in_ok-tree.ensures.heaviest) nodes
-          (let b = uncounted_many c.args.is_node.now c.args.links.now c.args.root c.args.counted.now c.deref.result.now c.in_ok-tree.tree.joins.items (reached_by c.in_ok-tree.tree) c.requires.nodes c.requires.root c.requires.counted (c.deref.ensures.value ∙ c.in_ok-weights.ensures) (from_root _ _ c.in_ok-tree.tree c.args.root c.in_ok-tree.ensures.root c.in_ok-tree.ensures.heaviest) c.count_marked.result c.count_marked.ensures.count in let l = c.len.ensures in let n = c.count_marked-nodes.ensures.count in omega (arith, b, l, n))
-          (subst (λ (js : List Join). All (λ j. rest (marked c.args.counted.now) j.edge ≡ true) js) c.deref-2.ensures.value (c.none_counted.ensures.0 c.if-not-none_counted.false))).1
+        (let b = uncounted_many c.args.is_node.now c.args.links.now c.args.root c.args.counted.now c.deref.result.now c.in_ok-tree.tree.joins.items (reached_by c.in_ok-tree.tree) c.requires.nodes c.requires.root c.requires.counted (c.deref.ensures.value ∙ c.in_ok-weights.ensures) (from_root _ _ c.in_ok-tree.tree c.args.root c.in_ok-tree.ensures.root c.in_ok-tree.ensures.heaviest) c.count_marked.result c.count_marked.ensures.count in let l = c.len.ensures in let n = c.count_marked-nodes.ensures.count in omega (arith, b, l, n))
+        (subst (λ (js : List Join). All (λ j. rest (marked c.args.counted.now) j.edge ≡ true) js) c.deref-2.ensures.value (c.none_counted.ensures.0 c.if-not-none_counted.false))).1
 
 pub returns-clause-edges : goal.returns-clause-edges
 returns-clause-edges c =
-        (is_tree c.args.is_node.now c.args.links.now c.args.root c.args.counted.now c.deref.result.now c.in_ok-tree.tree.joins.items (reached_by c.in_ok-tree.tree) c.requires.nodes c.requires.root c.requires.counted (c.deref.ensures.value ∙ c.in_ok-weights.ensures) (from_root _ _ c.in_ok-tree.tree c.args.root c.in_ok-tree.ensures.root c.in_ok-tree.ensures.heaviest) nodes
-          (let b = uncounted_many c.args.is_node.now c.args.links.now c.args.root c.args.counted.now c.deref.result.now c.in_ok-tree.tree.joins.items (reached_by c.in_ok-tree.tree) c.requires.nodes c.requires.root c.requires.counted (c.deref.ensures.value ∙ c.in_ok-weights.ensures) (from_root _ _ c.in_ok-tree.tree c.args.root c.in_ok-tree.ensures.root c.in_ok-tree.ensures.heaviest) c.count_marked.result c.count_marked.ensures.count in let l = c.len.ensures in let n = c.count_marked-nodes.ensures.count in omega (arith, b, l, n))
-          (subst (λ (js : List Join). All (λ j. rest (marked c.args.counted.now) j.edge ≡ true) js) c.deref-2.ensures.value (c.none_counted.ensures.0 c.if-not-none_counted.false))).0
+    (is_tree c.args.is_node.now c.args.links.now c.args.root c.args.counted.now c.deref.result.now c.in_ok-tree.tree.joins.items (reached_by c.in_ok-tree.tree) c.requires.nodes c.requires.root c.requires.counted (c.deref.ensures.value ∙ c.in_ok-weights.ensures) (from_root _ _ c.in_ok-tree.tree c.args.root c.in_ok-tree.ensures.root c.in_ok-tree.ensures.heaviest) nodes
+    (let b = uncounted_many c.args.is_node.now c.args.links.now c.args.root c.args.counted.now c.deref.result.now c.in_ok-tree.tree.joins.items (reached_by c.in_ok-tree.tree) c.requires.nodes c.requires.root c.requires.counted (c.deref.ensures.value ∙ c.in_ok-weights.ensures) (from_root _ _ c.in_ok-tree.tree c.args.root c.in_ok-tree.ensures.root c.in_ok-tree.ensures.heaviest) c.count_marked.result c.count_marked.ensures.count in let l = c.len.ensures in let n = c.count_marked-nodes.ensures.count in omega (arith, b, l, n))
+    (subst (λ (js : List Join). All (λ j. rest (marked c.args.counted.now) j.edge ≡ true) js) c.deref-2.ensures.value (c.none_counted.ensures.0 c.if-not-none_counted.false))).0
   where
     nodes : length c.in_ok-tree.tree.joins.items + 1 ≡ count_below (length c.args.is_node.now) (marked c.args.is_node.now)
     nodes = search rules
