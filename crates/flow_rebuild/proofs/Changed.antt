@@ -1,17 +1,15 @@
 -- One edge changed: how the excess of each node changes. Flows are built on a tree from the last node that was joined back to the first.
-use Rattle.std.proofs.Common.{◌≡◌, ◌≢◌, ℕ, zero, suc, ◌+◌, ◌<◌, ◌≤◌, ◌⊎◌, inl, inr, Bool, true, false, not, ◌||◌, ◌&&◌, cond, List, [], ◌∷◌, refl, ap, sym, ◌∙◌, subst, arith}
-use Rattle.std.specs.Prelude.{ℤ, pos, negsuc, ◌+ℤ◌, ◌-ℤ◌, ◌*ℤ◌, neg_ℤ, nat_abs, ◌==◌, if◌then◌else◌, IsTrue}
+use Rattle.std.proofs.Common.{◌≡◌, ℕ, suc, ◌<◌, ◌⊎◌, inl, inr, Bool, true, false, cond, refl, ap, sym, ◌∙◌, arith}
+use Rattle.std.specs.Prelude.{ℤ, pos, ◌+ℤ◌, ◌-ℤ◌, neg_ℤ, ◌==◌, if◌then◌else◌}
 use Rattle.std.proofs.lemmas.Int.{ints}
-use Rattle.std.proofs.lemmas.Bool.{cases_Bool, cases_eq, cases_lt, eqb-true, eqb-false, eq-eqb, ne_eqb}
+use Rattle.std.proofs.lemmas.Bool.{cases_eq, eq-eqb, ne_eqb}
 use Rattle.flows.specs.Flows.{Graph, IsGraph, sum_in, sum_out, one_at, IsFlow}
-use Rattle.flows.specs.Trees.{only, on}
-use Rattle.flows.specs.Walks.{takes}
+use Rattle.flows.specs.Trees.{only}
 use Rattle.flows.proofs.Bools.{eqb_swap}
 use Rattle.flows.proofs.Cuts.{Balanced, root_balanced}
 use Rattle.flows.proofs.Nets.{part, net, net_is, part_zero}
 use Rattle.flows.proofs.Sums.{total_same, total_change}
 use Rattle.flow_rebuild.specs.Excess.{excess}
-use Rattle.flow_rebuild.specs.Values.{carries}
 
 -- x with z at the edge e
 abbrev pub with_at : (ℕ → ℤ) → ℕ → ℤ → ℕ → ℤ
@@ -28,7 +26,7 @@ pub excess_set : (g : Graph) (a b : ℕ) (x : ℕ → ℤ) (e : ℕ) (z : ℤ) (
     excess g a b (with_at x e z) v ≡ excess g a b x v +ℤ part (g.to e == v) (g.from e == v) z
 excess_set g a b x e z v l o =
     let p = total_change g.edges (λ i. part (g.to i == v) (g.from i == v) (with_at x e z i)) (λ i. part (g.to i == v) (g.from i == v) (x i)) e l
-              (λ i m n. ap (part (g.to i == v) (g.from i == v)) (at_other x e i z n)) in
+    (λ i m n. ap (part (g.to i == v) (g.from i == v)) (at_other x e i z n)) in
     let q : part (g.to e == v) (g.from e == v) (with_at x e z e) ≡ part (g.to e == v) (g.from e == v) z = ap (part (g.to e == v) (g.from e == v)) (at_itself x e z) in
     let r : part (g.to e == v) (g.from e == v) (x e) ≡ pos 0 = ap (part (g.to e == v) (g.from e == v)) o ∙ part_zero (g.to e == v) (g.from e == v) in
     let s = net_is g v (with_at x e z) in
@@ -47,18 +45,19 @@ part_at g e u z k l h i = ap (λ b. part b (g.from e == u) z) h ∙ ap (λ b. pa
 -- e leads to v
 pub moved_back : (g : Graph) (a b : ℕ) (x : ℕ → ℤ) (e v p : ℕ) → e < g.edges → x e ≡ pos 0 → g.to e ≡ v → g.from e ≡ p → (p ≡ v → ⊥) → Moved g a b x (with_at x e (neg_ℤ (excess g a b x v))) v p
 moved_back g a b x e v p l o t f n = record {
-    none_left =
-        let c = excess_set g a b x e z v l o in
-        let d = part_at g e v z true false (eq-eqb (g.to e) v t) (ne_eqb (g.from e) v (λ q. n (sym f ∙ q))) in
-        omega (arith, ints, c, d);
-    taken =
-        let c = excess_set g a b x e z p l o in
-        let d = part_at g e p z false true (ne_eqb (g.to e) p (λ q. n (sym q ∙ t))) (eq-eqb (g.from e) p f) in
-        omega (arith, ints, c, d);
-    others = λ u i j.
-        let c = excess_set g a b x e z u l o in
-        let d = part_at g e u z false false (ne_eqb (g.to e) u (λ q. i (sym q ∙ t))) (ne_eqb (g.from e) u (λ q. j (sym q ∙ f))) in
-        omega (arith, ints, c, d) }
+  none_left =
+      let c = excess_set g a b x e z v l o in
+      let d = part_at g e v z true false (eq-eqb (g.to e) v t) (ne_eqb (g.from e) v (λ q. n (sym f ∙ q))) in
+      omega (arith, ints, c, d);
+  taken =
+      let c = excess_set g a b x e z p l o in
+      let d = part_at g e p z false true (ne_eqb (g.to e) p (λ q. n (sym q ∙ t))) (eq-eqb (g.from e) p f) in
+      omega (arith, ints, c, d);
+  others = λ u i j.
+      let c = excess_set g a b x e z u l o in
+      let d = part_at g e u z false false (ne_eqb (g.to e) u (λ q. i (sym q ∙ t))) (ne_eqb (g.from e) u (λ q. j (sym q ∙ f))) in
+      omega (arith, ints, c, d);
+}
   where
     z : ℤ
     z = neg_ℤ (excess g a b x v)
@@ -66,18 +65,19 @@ moved_back g a b x e v p l o t f n = record {
 -- e leads from v
 pub moved_on : (g : Graph) (a b : ℕ) (x : ℕ → ℤ) (e v p : ℕ) → e < g.edges → x e ≡ pos 0 → g.from e ≡ v → g.to e ≡ p → (p ≡ v → ⊥) → Moved g a b x (with_at x e (excess g a b x v)) v p
 moved_on g a b x e v p l o f t n = record {
-    none_left =
-        let c = excess_set g a b x e z v l o in
-        let d = part_at g e v z false true (ne_eqb (g.to e) v (λ q. n (sym t ∙ q))) (eq-eqb (g.from e) v f) in
-        omega (arith, ints, c, d);
-    taken =
-        let c = excess_set g a b x e z p l o in
-        let d = part_at g e p z true false (eq-eqb (g.to e) p t) (ne_eqb (g.from e) p (λ q. n (sym q ∙ f))) in
-        omega (arith, ints, c, d);
-    others = λ u i j.
-        let c = excess_set g a b x e z u l o in
-        let d = part_at g e u z false false (ne_eqb (g.to e) u (λ q. j (sym q ∙ t))) (ne_eqb (g.from e) u (λ q. i (sym q ∙ f))) in
-        omega (arith, ints, c, d) }
+  none_left =
+      let c = excess_set g a b x e z v l o in
+      let d = part_at g e v z false true (ne_eqb (g.to e) v (λ q. n (sym t ∙ q))) (eq-eqb (g.from e) v f) in
+      omega (arith, ints, c, d);
+  taken =
+      let c = excess_set g a b x e z p l o in
+      let d = part_at g e p z true false (eq-eqb (g.to e) p t) (ne_eqb (g.from e) p (λ q. n (sym q ∙ f))) in
+      omega (arith, ints, c, d);
+  others = λ u i j.
+      let c = excess_set g a b x e z u l o in
+      let d = part_at g e u z false false (ne_eqb (g.to e) u (λ q. j (sym q ∙ t))) (ne_eqb (g.from e) u (λ q. i (sym q ∙ f))) in
+      omega (arith, ints, c, d);
+}
   where
     z : ℤ
     z = excess g a b x v
@@ -89,7 +89,8 @@ closed g a b = record {
   nodes = g.nodes;
   edges = suc g.edges;
   from = λ e. if e == g.edges then b else g.from e;
-  to = λ e. if e == g.edges then a else g.to e }
+  to = λ e. if e == g.edges then a else g.to e;
+}
 
 pick : {A : Type 0} (e n : ℕ) (p q : A) → e < n → cond (e == n) p q ≡ q
 pick e n p q l = ap (λ c. cond c p q) (ne_eqb e n (λ d. omega arith))
@@ -118,9 +119,9 @@ part_one false false = refl
 closed_net : (g : Graph) (a b : ℕ) (x : ℕ → ℤ) (v : ℕ) → net (closed g a b) (only v) (with_at x g.edges (pos 1)) ≡ excess g a b x v
 closed_net g a b x v =
     let p = total_same g.edges
-              (λ e. part (cond (e == g.edges) a (g.to e) == v) (cond (e == g.edges) b (g.from e) == v) (with_at x g.edges (pos 1) e))
-              (λ e. part (g.to e == v) (g.from e == v) (x e))
-              (λ e l. same e l) in
+    (λ e. part (cond (e == g.edges) a (g.to e) == v) (cond (e == g.edges) b (g.from e) == v) (with_at x g.edges (pos 1) e))
+    (λ e. part (g.to e == v) (g.from e == v) (x e))
+    (λ e l. same e l) in
     let n = net_is g v x in
     let q = last in
     omega (arith, ints, p, n, q)
@@ -130,8 +131,10 @@ closed_net g a b x v =
         ap (λ t. part (t == v) (cond (e == g.edges) b (g.from e) == v) (with_at x g.edges (pos 1) e)) (pick e g.edges a (g.to e) l)
         ∙ ap (λ t. part (g.to e == v) (t == v) (with_at x g.edges (pos 1) e)) (pick e g.edges b (g.from e) l)
         ∙ ap (part (g.to e == v) (g.from e == v)) (pick e g.edges (pos 1) (x e) l)
+
     this : (p q : ℕ) → cond (g.edges == g.edges) p q ≡ p
     this p q = ap (λ c. cond c p q) (eq-eqb g.edges g.edges refl)
+
     last : part (cond (g.edges == g.edges) a (g.to g.edges) == v) (cond (g.edges == g.edges) b (g.from g.edges) == v) (with_at x g.edges (pos 1) g.edges) ≡ one_at a v -ℤ one_at b v
     last =
         ap (λ t. part (t == v) (cond (g.edges == g.edges) b (g.from g.edges) == v) (with_at x g.edges (pos 1) g.edges)) (this a (g.to g.edges))
@@ -146,10 +149,13 @@ balanced_flow g a b r x ok la lb h v l = go (cases_eq v r)
   where
     others : Balanced (closed g a b) (only r) (with_at x g.edges (pos 1))
     others u m c = closed_net g a b x u ∙ h u m (λ d. let f : (u == r) ≡ true = eq-eqb u r d in let k : true ≡ false = sym f ∙ c in absurd (cc))
+
     root : excess g a b x r ≡ pos 0
     root = sym (closed_net g a b x r) ∙ root_balanced (closed g a b) r (with_at x g.edges (pos 1)) (closed_ok g a b ok la lb) others
+
     done : excess g a b x v ≡ pos 0 → sum_in g x v +ℤ one_at a v ≡ sum_out g x v +ℤ one_at b v
     done e = omega (arith, ints, e)
+
     go : (v ≡ r) ⊎ (v ≡ r → ⊥) → sum_in g x v +ℤ one_at a v ≡ sum_out g x v +ℤ one_at b v
     go (inl c) = done (ap (excess g a b x) c ∙ root)
     go (inr c) = done (h v l c)

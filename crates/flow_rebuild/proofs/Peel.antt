@@ -1,13 +1,12 @@
 -- One step of the peeling, on lists.
-use Rattle.std.proofs.Common.{◌≡◌, ℕ, zero, suc, ◌+◌, ◌<◌, ◌≤◌, ◌⊎◌, inl, inr, Bool, true, false, cond, List, [], ◌∷◌, ◌++◌, not, length, take, get_or, set, refl, ap, sym, ◌∙◌, subst, arith}
-use Rattle.std.specs.Prelude.{ℤ, pos, ◌+ℤ◌, ◌-ℤ◌, neg_ℤ, nat_abs, ◌==◌, if◌then◌else◌}
+use Rattle.std.proofs.Common.{◌≡◌, ℕ, ◌<◌, ◌≤◌, ◌⊎◌, inl, inr, Bool, true, false, cond, List, [], ◌∷◌, ◌++◌, not, length, get_or, set, refl, ap, sym, ◌∙◌, subst, arith}
+use Rattle.std.specs.Prelude.{ℤ, pos, ◌+ℤ◌, ◌==◌, if◌then◌else◌}
 use Rattle.std.proofs.lemmas.Int.{ints}
 use Rattle.std.proofs.lemmas.Bool.{cases_eq, eq-eqb, ne_eqb}
-use Rattle.std.proofs.lemmas.List.{take_more, take_all, get_or-set_same, get_or-set_other, length-set, length-append}
+use Rattle.std.proofs.lemmas.List.{get_or-set_same, get_or-set_other, length-set, length-append}
 use Rattle.flows.specs.Flows.{Graph, IsFlow, NodeSet, one_at, IsTheFlow, rest}
 use Rattle.flows.specs.Links.{graph_of, link_at, IsLinked}
 use Rattle.flows.specs.Trees.{only, far_end, Grows, on, joined_by, HasEveryEnd}
-use Rattle.flows.specs.Walks.{takes}
 use Rattle.flows.specs.declared.Link.{Link}
 use Rattle.flows.proofs.Bools.{true_or_false, eqb_swap, not_twice}
 use Rattle.flows.proofs.Least.{off_grown_determines, far_inside}
@@ -20,7 +19,6 @@ use Rattle.flow_tree.specs.declared.Tree.{Tree}
 use Rattle.flow_rebuild.proofs.Changed.{with_at, Moved}
 use Rattle.flow_rebuild.proofs.Settling.{Settled, settle_last, moved, last_of, Last, other_end, carried, on_pushed, settled_flow, on_in_push}
 use Rattle.flow_rebuild.proofs.Sums.{abs_moved}
-use Rattle.flow_tree.proofs.Check.{reached}
 use Rattle.flow_tree.proofs.Check.{marked_below}
 use Rattle.flow_tree.proofs.Steps.{graph_ok, edges-push, nodes-push}
 
@@ -52,7 +50,6 @@ pub record IsPeeled (n : ℕ) (links : List Link) (root a b : ℕ) (left : List 
 -- the last join
 module _ (n : ℕ) (links : List Link) (root a b : ℕ) (left : List Join) (j : Join) (values ex : List ℤ)
     (ok : IsLinked n links) (h : IsPeeled n links root a b (left ++ j ∷ []) values ex) where
-
   grows : Grows (graph_of n links) (λ e. 0) (only root) (edges_in left ++ j.edge ∷ []) h.settled.reached
   grows = subst (λ (es : List ℕ). Grows (graph_of n links) (λ e. 0) (only root) es h.settled.reached) (edges-push left j) h.settled.grows
 
@@ -101,7 +98,7 @@ module _ (n : ℕ) (links : List Link) (root a b : ℕ) (left : List Join) (j : 
   excess_at u l (inl c) d =
       ap (int_at (set (set ex (other_node (link_at links j.edge) j.node) (int_at ex (other_node (link_at links j.edge) j.node) +ℤ int_at ex j.node)) j.node (pos 0))) c
       ∙ get_or-set_same (set ex (other_node (link_at links j.edge) j.node) (int_at ex (other_node (link_at links j.edge) j.node) +ℤ int_at ex j.node)) j.node (pos 0) (pos 0)
-          (let k = length-set ex (other_node (link_at links j.edge) j.node) (int_at ex (other_node (link_at links j.edge) j.node) +ℤ int_at ex j.node) in let i = node_there in omega (arith, k, i))
+      (let k = length-set ex (other_node (link_at links j.edge) j.node) (int_at ex (other_node (link_at links j.edge) j.node) +ℤ int_at ex j.node) in let i = node_there in omega (arith, k, i))
       ∙ sym (ap (excess (graph_of n links) a b (with_at (int_at values) j.edge (carried (graph_of n links) j.edge j.node (excess (graph_of n links) a b (int_at values) j.node)))) c ∙ moves.0.none_left)
   excess_at u l (inr c) (inl d) =
       get_or-set_other (set ex (other_node (link_at links j.edge) j.node) (int_at ex (other_node (link_at links j.edge) j.node) +ℤ int_at ex j.node)) j.node u (pos 0) (pos 0) c
@@ -125,10 +122,11 @@ module _ (n : ℕ) (links : List Link) (root a b : ℕ) (left : List Join) (j : 
     values_len = length-set values j.edge _ ∙ h.values_len;
     excess_len = length-set (set ex (other_node (link_at links j.edge) j.node) _) j.node _ ∙ length-set ex (other_node (link_at links j.edge) j.node) _ ∙ h.excess_len;
     settled = subst (λ (x : ℕ → ℤ). Settled (graph_of n links) (λ e. 0) root a b (edges_in left) x) (sym values_are)
-                (settle_last (graph_of n links) (λ e. 0) root a b (edges_in left) j.edge j.node (int_at values) h.settled.reached grows apart.1
-                   (λ i l o. h.settled.unset i l (subst (λ (es : List ℕ). on es i ≡ true) (sym (edges-push left j)) o)) h.settled.done);
+        (settle_last (graph_of n links) (λ e. 0) root a b (edges_in left) j.edge j.node (int_at values) h.settled.reached grows apart.1
+        (λ i l o. h.settled.unset i l (subst (λ (es : List ℕ). on es i ≡ true) (sym (edges-push left j)) o)) h.settled.done);
     joined = apart.0;
-    excesses = λ u l. excess_at u l (cases_eq u j.node) (cases_eq u (other_node (link_at links j.edge) j.node)) ∙ ap (λ (x : ℕ → ℤ). excess (graph_of n links) a b x u) (sym values_are) }
+    excesses = λ u l. excess_at u l (cases_eq u j.node) (cases_eq u (other_node (link_at links j.edge) j.node)) ∙ ap (λ (x : ℕ → ℤ). excess (graph_of n links) a b x u) (sym values_are);
+  }
 
 -- a node outside the tree has no edge, and is not the start or the end
 excess_outside : (g : Graph) (a b : ℕ) (x : ℕ → ℤ) (t : NodeSet) (u : ℕ) → HasEveryEnd g t → t a ≡ true → t b ≡ true → t u ≡ false → excess g a b x u ≡ pos 0
@@ -145,21 +143,23 @@ excess_outside g a b x t u ends ta tb h =
 pub start_settled : (n : ℕ) (links : List Link) (tree : Tree) (a b : ℕ) (values : List ℤ) → IsGrown (graph_of n links) tree → HasEveryEnd (graph_of n links) (reached_by tree) → reached_by tree a ≡ true → reached_by tree b ≡ true →
     ((e : ℕ) → on (edges_of tree) e ≡ true → int_at values e ≡ pos 0) → Settled (graph_of n links) (λ e. 0) tree.root a b (edges_of tree) (int_at values)
 start_settled n links tree a b values h ends ta tb unset = record {
-    reached = reached_by tree;
-    grows = h.grows;
-    unset = λ e l o. unset e o;
-    done = λ u l c. excess_outside (graph_of n links) a b (int_at values) (reached_by tree) u ends ta tb c }
+  reached = reached_by tree;
+  grows = h.grows;
+  unset = λ e l o. unset e o;
+  done = λ u l c. excess_outside (graph_of n links) a b (int_at values) (reached_by tree) u ends ta tb c;
+}
 
 pub start_peeled : (n : ℕ) (links : List Link) (tree : Tree) (a b : ℕ) (left : List Join) (values ex : List ℤ) → left ≡ tree.joins.items →
     IsGrown (graph_of n links) tree → HasEveryEnd (graph_of n links) (reached_by tree) → reached_by tree a ≡ true → reached_by tree b ≡ true → length values ≡ length links → length ex ≡ n →
     ((e : ℕ) → on (edges_of tree) e ≡ true → int_at values e ≡ pos 0) → ((u : ℕ) → u < n → int_at ex u ≡ excess (graph_of n links) a b (int_at values) u) →
     IsPeeled n links tree.root a b left values ex
 start_peeled n links tree a b left values ex e h ends ta tb lv le unset is = subst (λ (js : List Join). IsPeeled n links tree.root a b js values ex) (sym e) (record {
-    values_len = lv;
-    excess_len = le;
-    settled = start_settled n links tree a b values h ends ta tb unset;
-    joined = h.nodes;
-    excesses = is })
+  values_len = lv;
+  excess_len = le;
+  settled = start_settled n links tree a b values h ends ta tb unset;
+  joined = h.nodes;
+  excesses = is;
+})
 
 -- a tree has numbers of nodes alone
 pub reached_below : (n : ℕ) (links : List Link) (tree : Tree) (v : ℕ) → IsGrown (graph_of n links) tree → reached_by tree v ≡ true → v < n
@@ -188,11 +188,13 @@ pub the_flow : (n : ℕ) (links : List Link) (tree : Tree) (a b : ℕ) (given x 
     Settled (graph_of n links) (λ e. 0) tree.root a b [] (int_at x) → ((e : ℕ) → on (edges_of tree) e ≡ false → int_at x e ≡ int_at given e) →
     IsTheFlow (graph_of n links) (rest (on (edges_of tree))) a b (int_at given) (int_at x)
 the_flow n links tree a b given x ok h la lb settled same = record {
-    flow = flow;
-    agrees = λ e l t. sym (same e (off e t));
-    only = λ y fy ay. off_grown_determines (graph_of n links) (λ e. 0) tree.root (edges_of tree) (reached_by tree) (graph_ok n links ok) h.grows a b (int_at x) y la lb flow fy (λ e l t. same e (off e t) ∙ ay e l t) }
+  flow = flow;
+  agrees = λ e l t. sym (same e (off e t));
+  only = λ y fy ay. off_grown_determines (graph_of n links) (λ e. 0) tree.root (edges_of tree) (reached_by tree) (graph_ok n links ok) h.grows a b (int_at x) y la lb flow fy (λ e l t. same e (off e t) ∙ ay e l t);
+}
   where
     flow : IsFlow (graph_of n links) a b (int_at x)
     flow = settled_flow (graph_of n links) (λ e. 0) tree.root a b (int_at x) (graph_ok n links ok) la lb settled
+
     off : (e : ℕ) → rest (on (edges_of tree)) e ≡ true → on (edges_of tree) e ≡ false
     off e t = sym (not_twice (on (edges_of tree) e)) ∙ ap not t

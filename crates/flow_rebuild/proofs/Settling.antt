@@ -1,9 +1,7 @@
 -- The last edge of a tree settles the node that it joined.
-use Rattle.std.proofs.Common.{◌≡◌, ◌≢◌, ℕ, zero, suc, ◌+◌, ◌<◌, ◌≤◌, ◌⊎◌, inl, inr, Bool, true, false, not, ◌||◌, ◌&&◌, cond, List, [], ◌∷◌, ◌++◌, length, take, get_or, refl, ap, sym, ◌∙◌, subst, arith}
-use Rattle.std.specs.Prelude.{ℤ, pos, negsuc, ◌+ℤ◌, ◌-ℤ◌, neg_ℤ, ◌==◌, if◌then◌else◌}
-use Rattle.std.proofs.lemmas.Int.{ints}
-use Rattle.std.proofs.lemmas.Bool.{cases_Bool, cases_eq, eqb-true, eq-eqb, ne_eqb}
-use Rattle.std.proofs.lemmas.List.{take_more}
+use Rattle.std.proofs.Common.{◌≡◌, ℕ, zero, suc, ◌<◌, ◌⊎◌, inl, inr, Bool, true, false, ◌||◌, cond, List, [], ◌∷◌, ◌++◌, length, take, get_or, refl, ap, sym, ◌∙◌, subst, arith}
+use Rattle.std.specs.Prelude.{ℤ, pos, neg_ℤ, ◌==◌, if◌then◌else◌}
+use Rattle.std.proofs.lemmas.Bool.{cases_Bool, cases_eq, eq-eqb, ne_eqb}
 use Rattle.flows.specs.Flows.{Graph, IsGraph, IsFlow, NodeSet}
 use Rattle.flows.specs.Trees.{only, and_also, crosses, far_end, IsHeaviest, Grows, on, joined_by}
 use Rattle.flows.proofs.Bools.{true_or_false, or_true, or_right, differ_same}
@@ -32,8 +30,10 @@ taken_inside g w (x ∷ xs) s t e h o = go (cases_eq e x) (taken_inside g w xs (
   where
     d : Ends g s x
     d = ends_of g s x h.0.across
+
     here : crosses g t x ≡ false
     here = differ_same _ _ (grows_keeps g w xs (and_also s (far_end g s x)) t h.1 (g.from x) d.from_in) (grows_keeps g w xs (and_also s (far_end g s x)) t h.1 (g.to x) d.to_in)
+
     go : (e ≡ x) ⊎ (e ≡ x → ⊥) → (on xs e ≡ true → crosses g t e ≡ false) → crosses g t e ≡ false
     go (inl c) r = ap (crosses g t) c ∙ here
     go (inr c) r = r (ap (λ b. b || on xs e) (sym (ne_eqb e x c)) ∙ o)
@@ -53,26 +53,31 @@ moved g s a b x e v l c f o = go (ends_of g s e c).one_new
   where
     out : s v ≡ false
     out = ap s f ∙ far_out g s e c
+
     go : ((far_end g s e ≡ g.to e) × (s (g.from e) ≡ true)) ⊎ ((far_end g s e ≡ g.from e) × (s (g.to e) ≡ true)) →
-      Moved g a b x (with_at x e (carried g e v (excess g a b x v))) v (other_end g e v) × (s (other_end g e v) ≡ true) × (other_end g e v ≡ v → ⊥)
+        Moved g a b x (with_at x e (carried g e v (excess g a b x v))) v (other_end g e v) × (s (other_end g e v) ≡ true) × (other_end g e v ≡ v → ⊥)
     go (inl (p, q)) =
         let t : g.to e ≡ v = sym p ∙ sym f in
         let n : g.from e ≡ v → ⊥ = λ (d : g.from e ≡ v). true_or_false (s v) {P = ⊥} (ap s (sym d) ∙ q) out in
         let k : (g.to e == v) ≡ true = eq-eqb (g.to e) v t in
         let oth : other_end g e v ≡ g.from e = ap (λ (j : Bool). cond j (g.from e) (g.to e)) k in
-        let car : carried g e v (excess g a b x v) ≡ neg_ℤ (excess g a b x v) = ap (λ (j : Bool). cond j (neg_ℤ (excess g a b x v)) (excess g a b x v)) k in
-        (subst (λ (p : ℕ). Moved g a b x (with_at x e (carried g e v (excess g a b x v))) v p) (sym oth)
-           (subst (λ (z : ℤ). Moved g a b x (with_at x e z) v (g.from e)) (sym car) (moved_back g a b x e v (g.from e) l o t refl n)),
-         ap s oth ∙ q, λ (d : other_end g e v ≡ v). n (sym oth ∙ d))
+        let car : carried g e v (excess g a b x v) ≡ neg_ℤ (excess g a b x v) = ap (λ (j : Bool). cond j (neg_ℤ (excess g a b x v)) (excess g a b x v)) k in (
+          subst (λ (p : ℕ). Moved g a b x (with_at x e (carried g e v (excess g a b x v))) v p) (sym oth)
+              (subst (λ (z : ℤ). Moved g a b x (with_at x e z) v (g.from e)) (sym car) (moved_back g a b x e v (g.from e) l o t refl n)),
+          ap s oth ∙ q,
+          λ (d : other_end g e v ≡ v). n (sym oth ∙ d),
+        )
     go (inr (p, q)) =
         let t : g.from e ≡ v = sym p ∙ sym f in
         let n : g.to e ≡ v → ⊥ = λ (d : g.to e ≡ v). true_or_false (s v) {P = ⊥} (ap s (sym d) ∙ q) out in
         let k : (g.to e == v) ≡ false = ne_eqb (g.to e) v n in
         let oth : other_end g e v ≡ g.to e = ap (λ (j : Bool). cond j (g.from e) (g.to e)) k in
-        let car : carried g e v (excess g a b x v) ≡ excess g a b x v = ap (λ (j : Bool). cond j (neg_ℤ (excess g a b x v)) (excess g a b x v)) k in
-        (subst (λ (p : ℕ). Moved g a b x (with_at x e (carried g e v (excess g a b x v))) v p) (sym oth)
-           (subst (λ (z : ℤ). Moved g a b x (with_at x e z) v (g.to e)) (sym car) (moved_on g a b x e v (g.to e) l o t refl n)),
-         ap s oth ∙ q, λ (d : other_end g e v ≡ v). n (sym oth ∙ d))
+        let car : carried g e v (excess g a b x v) ≡ excess g a b x v = ap (λ (j : Bool). cond j (neg_ℤ (excess g a b x v)) (excess g a b x v)) k in (
+          subst (λ (p : ℕ). Moved g a b x (with_at x e (carried g e v (excess g a b x v))) v p) (sym oth)
+              (subst (λ (z : ℤ). Moved g a b x (with_at x e z) v (g.to e)) (sym car) (moved_on g a b x e v (g.to e) l o t refl n)),
+          ap s oth ∙ q,
+          λ (d : other_end g e v ≡ v). n (sym oth ∙ d),
+        )
 
 -- ---- x is settled outside t: the edges xs grow to t and carry nothing yet, and no node outside t has an excess
 pub record Settled (g : Graph) (w : ℕ → ℕ) (r a b : ℕ) (xs : List ℕ) (x : ℕ → ℤ) : Type 0 where
@@ -100,10 +105,13 @@ settle_last g w r a b xs e v x t h vf unset done = record { reached = k.before; 
   where
     k : Last g w (only r) xs e t
     k = last_of g w (only r) xs e t h
+
     m : Moved g a b x (with_at x e (carried g e v (excess g a b x v))) v (other_end g e v) × (k.before (other_end g e v) ≡ true) × (other_end g e v ≡ v → ⊥)
     m = moved g k.before a b x e v k.heaviest.inside k.heaviest.across vf (unset e k.heaviest.inside (on_pushed xs e))
+
     unset' : (i : ℕ) → i < g.edges → on xs i ≡ true → with_at x e (carried g e v (excess g a b x v)) i ≡ pos 0
     unset' i l o = at_other x e i _ (λ c. true_or_false (crosses g k.before i) (ap (crosses g k.before) c ∙ k.heaviest.across) (taken_inside g w xs (only r) k.before i k.grows o)) ∙ unset i l (on_in_push xs e i o)
+
     done' : (u : ℕ) → u < g.nodes → k.before u ≡ false → excess g a b (with_at x e (carried g e v (excess g a b x v))) u ≡ pos 0
     done' u l c = go (cases_eq u v)
       where

@@ -1,6 +1,6 @@
 -- Sums of absolute values.
 use Rattle.std.proofs.Common.{◌≡◌, ◌*◌, Bool, true, false, cond, ◌||◌, ℕ, zero, suc, ◌+◌, ◌<◌, ◌≤◌, ◌^◌, ◌⊎◌, ◌-◌, inl, inr, List, [], ◌∷◌, length, get_or, set, take, add-one, refl, ap, sym, ◌∙◌, subst, arith}
-use Rattle.std.specs.Prelude.{ℤ, pos, negsuc, ◌+ℤ◌, ◌-ℤ◌, neg_ℤ, nat_abs, FitsSigned}
+use Rattle.std.specs.Prelude.{ℤ, pos, negsuc, ◌+ℤ◌, neg_ℤ, nat_abs, FitsSigned}
 use Rattle.std.specs.Int.{w128}
 use mir.Val.{to_z, of_z, SFits}
 use Rattle.std.proofs.lemmas.Int.{ints, to_z-of_z, fits_signed_from_abs}
@@ -79,7 +79,7 @@ back_small z h = to_z-of_z w128 z (small_fits z (omega arith))
 pub sum_fits : (a b : ℤ) → nat_abs a < 2 ^ 126 → nat_abs b < 2 ^ 126 → FitsSigned w128 (to_z w128 (of_z w128 a) +ℤ to_z w128 (of_z w128 b))
 sum_fits a b h k =
     subst (λ (z : ℤ). FitsSigned w128 (z +ℤ to_z w128 (of_z w128 b))) (sym (back_small a h))
-      (subst (λ (z : ℤ). FitsSigned w128 (a +ℤ z)) (sym (back_small b k)) (small_fits (a +ℤ b) (let s = abs_add a b in omega (arith, s))))
+    (subst (λ (z : ℤ). FitsSigned w128 (a +ℤ z)) (sym (back_small b k)) (small_fits (a +ℤ b) (let s = abs_add a b in omega (arith, s))))
 
 pub int_none : (n u : ℕ) → int_at (replicate n (pos 0)) u ≡ pos 0
 int_none n u = go (cases_lt u n)
@@ -116,7 +116,7 @@ int_added : (xs : List ℤ) (v u : ℕ) (z : ℤ) → v < length xs → int_at (
 int_added xs v u z l = go (cases_eq v u)
   where
     go : (v ≡ u) ⊎ (v ≡ u → ⊥) → int_at (added xs v z) u ≡ int_at xs u +ℤ cond (v == u) z (pos 0)
-    go (inl c) = 
+    go (inl c) =
         let a : int_at (added xs v z) u ≡ int_at (added xs v z) v = ap (int_at (added xs v z)) (sym c) in
         let b : int_at (added xs v z) v ≡ int_at xs v +ℤ z = get_or-set_same xs v (int_at xs v +ℤ z) (pos 0) l in
         let d : int_at xs v ≡ int_at xs u = ap (int_at xs) c in

@@ -83,7 +83,14 @@ fn supply(alloc: Global, nodes: usize, start: usize, end: usize) -> Result<Vec<i
 }
 
 // What each node has too much of, for a flow from start to end.
-fn excesses(alloc: Global, nodes: usize, links: &[Link], values: &[i128], start: usize, end: usize) -> Result<Vec<i128>, AllocError>
+fn excesses(
+    alloc: Global,
+    nodes: usize,
+    links: &[Link],
+    values: &[i128],
+    start: usize,
+    end: usize,
+) -> Result<Vec<i128>, AllocError>
     requires linked { IsLinked nodes links.now }
     requires start { start < nodes }
     requires end { end < nodes }
@@ -120,7 +127,15 @@ fn cleared(alloc: Global, values: &[i128], joins: &[Join]) -> Result<Vec<i128>, 
 ///
 /// `values` has one value for each link, as a counter of 64 bits holds it or its negative; those on the tree are not read.
 /// The tree has `start`, `end` and both ends of each edge. Linear in the number of nodes and links.
-pub fn rebuild(alloc: Global, nodes: usize, links: &[Link], tree: &Tree, values: &[i128], start: usize, end: usize) -> Result<Vec<i128>, AllocError>
+pub fn rebuild(
+    alloc: Global,
+    nodes: usize,
+    links: &[Link],
+    tree: &Tree,
+    values: &[i128],
+    start: usize,
+    end: usize,
+) -> Result<Vec<i128>, AllocError>
     requires linked { IsLinked nodes links.now }
     requires tree { IsGrown (graph_of nodes links.now) tree.now }
     requires ends { HasEveryEnd (graph_of nodes links.now) (reached_by tree.now) }
@@ -134,7 +149,13 @@ pub fn rebuild(alloc: Global, nodes: usize, links: &[Link], tree: &Tree, values:
     let mut flow = cleared(alloc, values, &tree.joins)?;
     let mut excess = excesses(alloc, nodes, links, &flow, start, end)?;
     for join in tree.joins.iter().rev() {
-        settle(&mut flow, &mut excess, links[join.edge], join.edge, join.node);
+        settle(
+            &mut flow,
+            &mut excess,
+            links[join.edge],
+            join.edge,
+            join.node,
+        );
     }
     Ok(flow)
 }

@@ -1,4 +1,4 @@
-use Rattle.std.proofs.Common.{rules, ◌≡◌, ℕ, ◌+◌, ◌<◌, ◌^◌, List, length, arith, ap, ◌∙◌, subst, sym, true, false, set, get_or}
+use Rattle.std.proofs.Common.{rules, ◌<◌, ◌^◌, length, arith, get_or}
 use Rattle.std.specs.Prelude.{ℤ, pos, nat_abs}
 use Rattle.std.proofs.lemmas.List.Elements.{All-set}
 use Rattle.flow_tree.specs.declared.Join.{Join}
@@ -15,5 +15,6 @@ loop-join-preserved c = record {
   where
     none : Join
     none = record { edge = 0; node = 0 }
+
     there : (get_or c.args.joins.now c.loop-join.join-index none).edge < length c.loop-join.cleared.items
     there = let k = c.requires.joins c.loop-join.join-index none c.loop-join-test.true in let l = c.loop-join.invariant.len in omega (arith, k, l)

@@ -1,9 +1,8 @@
-use Rattle.std.proofs.Common.{rules, ◌≡◌, ℕ, ◌+◌, ◌*◌, ◌<◌, ◌≤◌, ◌∙◌, List, length, take, sym, subst, arith, ap}
-use Rattle.std.specs.Prelude.{ℤ, pos, nat_abs}
+use Rattle.std.proofs.Common.{rules, ◌≡◌, ◌+◌, ◌<◌, ◌∙◌, length, arith, ap}
+use Rattle.std.specs.Prelude.{ℤ, nat_abs}
 use Rattle.std.specs.Int.{w128}
 use mir.Val.{to_z, of_z}
 use Rattle.flows.specs.Links.{link_at}
-use Rattle.flow_rebuild.specs.Excess.{excess}
 use Rattle.flow_rebuild.specs.Values.{int_at, passed}
 use Rattle.flow_rebuild.proofs.Sums.{passed_excess, abs_passed, abs_take_more, abs_take, small_at, back_small}
 use Rattle.flow_rebuild.proofs.excesses.Goals as goal
@@ -25,18 +24,22 @@ loop-e-preserved c = record {
   len = search rules;
   excess = λ u l. passed_excess c.args.nodes c.args.links.now c.args.values.now c.args.start c.args.end c.loop-e.e u c.loop-e.excess.items c.pass.new.excess.items there to from (c.loop-e.invariant.excess u l);
   small =
-    let s = c.loop-e.invariant.small in
-    let p = abs_passed c.loop-e.excess.items c.pass.new.excess.items (link_at c.args.links.now c.loop-e.e) (int_at c.args.values.now c.loop-e.e) there to from in
-    let m = abs_take_more c.args.values.now c.loop-e.e inside in omega (arith, s, p, m);
+      let s = c.loop-e.invariant.small in
+      let p = abs_passed c.loop-e.excess.items c.pass.new.excess.items (link_at c.args.links.now c.loop-e.e) (int_at c.args.values.now c.loop-e.e) there to from in
+      let m = abs_take_more c.args.values.now c.loop-e.e inside in omega (arith, s, p, m);
 }
   where
     inside : c.loop-e.e < length c.args.values.now
     inside = omega arith
+
     to : (link_at c.args.links.now c.loop-e.e).to < length c.loop-e.excess.items
     to = search rules
+
     from : (link_at c.args.links.now c.loop-e.e).from < length c.loop-e.excess.items
     from = search rules
+
     back : to_z w128 (of_z w128 (int_at c.args.values.now c.loop-e.e)) ≡ int_at c.args.values.now c.loop-e.e
     back = let v = small_at c.args.values.now c.loop-e.e in let q = c.requires.small in back_small (int_at c.args.values.now c.loop-e.e) (omega (arith, v, q))
+
     there : c.pass.new.excess.items ≡ passed c.loop-e.excess.items (link_at c.args.links.now c.loop-e.e) (int_at c.args.values.now c.loop-e.e)
     there = c.pass.ensures ∙ ap (λ (z : ℤ). passed c.loop-e.excess.items (link_at c.args.links.now c.loop-e.e) z) back

@@ -1,4 +1,4 @@
-use Rattle.std.proofs.Common.{rules, ◌≡◌, ℕ, ◌+◌, ◌-◌, ◌*◌, ◌<◌, ◌≤◌, List, length, take, sym, subst, refl, arith, ap, ◌∙◌, true, false}
+use Rattle.std.proofs.Common.{rules, ◌≡◌, ℕ, ◌<◌, List, length, sym, subst, arith, ap, ◌∙◌, true, false}
 use Rattle.std.specs.Prelude.{ℤ, pos}
 use Rattle.std.proofs.lemmas.List.{get_or-set_other}
 use Rattle.std.specs.List.{All}
@@ -38,24 +38,24 @@ pub loop-join-preserved : goal.loop-join-preserved
 loop-join-preserved c = record {
   peeled = peeled_as _ _ _ _ _ _ _ _ _ _ c.settle.ensures.values c.settle.ensures.excess (peel_step c.args.nodes c.args.links.now c.args.tree.now.root c.args.start c.args.end (iter_rest c.next.new.self.iter) c.in-Some.join.now c.loop-join.flow.items c.loop-join.excess.items c.requires.linked (last_peeled _ _ _ _ _ _ (iter_rest c.next.new.self.iter) c.in-Some.join.now _ _ c.in-Some.ensures.steps c.loop-join.invariant.peeled));
   small =
-    let k = peel_small c.args.nodes c.args.links.now c.args.tree.now.root c.args.start c.args.end (iter_rest c.next.new.self.iter) c.in-Some.join.now c.loop-join.flow.items c.loop-join.excess.items c.requires.linked (last_peeled _ _ _ _ _ _ (iter_rest c.next.new.self.iter) c.in-Some.join.now _ _ c.in-Some.ensures.steps c.loop-join.invariant.peeled) in
-    let l = ap abs_sum c.settle.ensures.excess in
-    let m = c.loop-join.invariant.small in
-    omega (arith, k, l, m);
+      let k = peel_small c.args.nodes c.args.links.now c.args.tree.now.root c.args.start c.args.end (iter_rest c.next.new.self.iter) c.in-Some.join.now c.loop-join.flow.items c.loop-join.excess.items c.requires.linked (last_peeled _ _ _ _ _ _ (iter_rest c.next.new.self.iter) c.in-Some.join.now _ _ c.in-Some.ensures.steps c.loop-join.invariant.peeled) in
+      let l = ap abs_sum c.settle.ensures.excess in
+      let m = c.loop-join.invariant.small in
+      omega (arith, k, l, m);
   inside = λ e o. c.loop-join.invariant.inside e (on_longer (iter_rest c.next.new.self.iter) c.in-Some.join.now (iter_rest c.loop-join.join-iterator.iter) e c.in-Some.ensures.steps o);
   agrees = λ e o. ap (λ xs. int_at xs e) c.settle.ensures.values
       ∙ get_or-set_other c.loop-join.flow.items c.in-Some.join.now.edge e _ (pos 0)
-          (λ k. true_or_false (on (edges_of c.args.tree.now) e)
-            (ap (on (edges_of c.args.tree.now)) k ∙ c.loop-join.invariant.inside c.in-Some.join.now.edge (on_last (iter_rest c.next.new.self.iter) c.in-Some.join.now (iter_rest c.loop-join.join-iterator.iter) c.in-Some.ensures.steps)) o)
+      (λ k. true_or_false (on (edges_of c.args.tree.now) e)
+      (ap (on (edges_of c.args.tree.now)) k ∙ c.loop-join.invariant.inside c.in-Some.join.now.edge (on_last (iter_rest c.next.new.self.iter) c.in-Some.join.now (iter_rest c.loop-join.join-iterator.iter) c.in-Some.ensures.steps)) o)
       ∙ c.loop-join.invariant.agrees e o;
 }
 
 pub loop-join-init : goal.loop-join-init
 loop-join-init c = record {
   peeled = start_peeled c.args.nodes c.args.links.now c.args.tree.now c.args.start c.args.end _ c.in_ok-flow.flow.items c.in_ok-excess.excess.items left c.requires.tree c.requires.ends c.requires.start c.requires.end
-             (c.in_ok-flow.ensures.len ∙ c.requires.values) c.in_ok-excess.ensures.len
-             (λ e o. c.in_ok-flow.ensures.unset e (subst (λ (js : List Join). on (edges_in js) e ≡ true) (sym c.deref.ensures.value) o))
-             (λ u l. c.in_ok-excess.ensures.excess u l ∙ ap (λ (xs : List ℤ). excess (graph_of c.args.nodes c.args.links.now) c.args.start c.args.end (int_at xs) u) c.deref-2.ensures.value);
+      (c.in_ok-flow.ensures.len ∙ c.requires.values) c.in_ok-excess.ensures.len
+      (λ e o. c.in_ok-flow.ensures.unset e (subst (λ (js : List Join). on (edges_in js) e ≡ true) (sym c.deref.ensures.value) o))
+      (λ u l. c.in_ok-excess.ensures.excess u l ∙ ap (λ (xs : List ℤ). excess (graph_of c.args.nodes c.args.links.now) c.args.start c.args.end (int_at xs) u) c.deref-2.ensures.value);
   small = c.in_ok-excess.ensures.small;
   inside = λ e o. subst (λ (js : List Join). on (edges_in js) e ≡ true) left o;
   agrees = λ e o. c.in_ok-flow.ensures.kept e (subst (λ (js : List Join). on (edges_in js) e ≡ false) (sym c.deref.ensures.value) o);

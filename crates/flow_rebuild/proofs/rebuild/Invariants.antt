@@ -1,7 +1,6 @@
-use Rattle.std.proofs.Common.{◌≡◌, ◌≤◌, ◌<◌, ◌^◌, ℕ, length, take, true, false}
+use Rattle.std.proofs.Common.{◌≡◌, ◌<◌, ◌^◌, ℕ, true, false}
 use Rattle.std.specs.Slice.Iter.{iter_rest}
 use Rattle.flows.specs.Trees.{on}
-use Rattle.flow_rebuild.specs.Excess.{excess}
 use Rattle.flow_rebuild.specs.Values.{abs_sum, int_at}
 use Rattle.flow_tree.specs.Tree.{edges_in, edges_of}
 use Rattle.flow_rebuild.proofs.Peel.{IsPeeled}

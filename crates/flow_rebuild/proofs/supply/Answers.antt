@@ -1,6 +1,5 @@
-use Rattle.std.proofs.Common.{rules, ◌≡◌, ℕ, ◌+◌, ◌<◌, ◌≤◌, List, length, sym, subst, arith}
-use Rattle.std.specs.Prelude.{ℤ, pos, replicate}
-use Rattle.flow_rebuild.specs.Excess.{excess}
+use Rattle.std.proofs.Common.{rules, ◌≡◌, arith}
+use Rattle.std.specs.Prelude.{pos, replicate}
 use Rattle.flow_rebuild.proofs.Sums.{abs_none, abs_added}
 use Rattle.flow_rebuild.proofs.supply.Goals as goal
 
