@@ -9,9 +9,9 @@ use Rattle.flows.specs.Flows.{Graph, count_below, NodeSet, IsGraph, EdgeSet, res
 use Rattle.flows.specs.Links.{JoinsNodes, IsLinked, graph_of, weight_in, marked}
 use Rattle.flows.specs.Trees.{HasEveryEnd, IsWhole, far_end, on, and_also, IsSpanningTree, Grows, only}
 use Rattle.flows.specs.declared.Link.{Link}
-use Rattle.flows.proofs.Bools.{or_cases, true_or_false}
+use Rattle.flows.proofs.Bools.{true_or_false}
 use Rattle.flows.proofs.Least.{listed_is}
-use Rattle.flows.proofs.Spanning.{tree_if, AllIn, part_count, one_if, tree_only_if, grown_size, same_set, all_count}
+use Rattle.flows.proofs.Spanning.{tree_if, AllIn, part_count, one_if, tree_only_if, grown_size, same_set, all_count, reached_nodes}
 use Rattle.flows.proofs.Weights.{weight_rest}
 use Rattle.flow_tree.specs.Tree.{edges_in, edges_of, reached_by, IsHeaviestFirst}
 use Rattle.flow_tree.specs.declared.Join.{Join}
@@ -59,23 +59,6 @@ marked_below marks v h = go (cases_lt v (length marks))
 
 pub linked_nodes : (is_node : List Bool) (links : List Link) → JoinsNodes is_node links → IsLinked (length is_node) links
 linked_nodes is_node links h e d l = let k = h e d l in (marked_below is_node _ k.0, marked_below is_node _ k.1)
-
--- growth along edges between nodes reaches nodes alone
-pub reached_nodes : (g : Graph) (is_node : NodeSet) (w : ℕ → ℕ) (es : List ℕ) (s t : NodeSet) → HasEveryEnd g is_node → Grows g w s es t →
-    ((v : ℕ) → s v ≡ true → is_node v ≡ true) → (v : ℕ) → t v ≡ true → is_node v ≡ true
-reached_nodes g is_node w [] s t ends h a v m = a v (ap (λ (u : NodeSet). u v) (sym h) ∙ m)
-reached_nodes g is_node w (e ∷ es) s t ends h a v m = reached_nodes g is_node w es (and_also s (far_end g s e)) t ends h.1 more v m
-  where
-    pick : (b : Bool) (p q : ℕ) → is_node p ≡ true → is_node q ≡ true → is_node (cond b p q) ≡ true
-    pick true p q h k = h
-    pick false p q h k = k
-
-    more : (v : ℕ) → and_also s (far_end g s e) v ≡ true → is_node v ≡ true
-    more v m = go (or_cases (s v) (v == far_end g s e) m)
-      where
-        go : (s v ≡ true) ⊎ ((v == far_end g s e) ≡ true) → is_node v ≡ true
-        go (inl k) = a v k
-        go (inr k) = ap is_node (eqb-true v (far_end g s e) k) ∙ pick (s (g.from e)) (g.to e) (g.from e) (ends e h.0.inside).1 (ends e h.0.inside).0
 
 -- a set and the rest are all numbers
 rest_count : (n : ℕ) (s : ℕ → Bool) → count_below n s + count_below n (rest s) ≡ n

@@ -8,12 +8,12 @@ use Rattle.std.proofs.lemmas.List.{length-map, get_or-set_same, get_or-set_other
 use Rattle.std.proofs.lemmas.List.Elements.{Contains-get_or, All-contains, All-nil, All-cons}
 use Rattle.flows.specs.Flows.{Graph, IsGraph, IsLeast, NodeSet, rest, Determines}
 use Rattle.flows.specs.Links.{link_at, graph_of, marked, weight_in, IsLinked}
-use Rattle.flows.specs.Trees.{on, only, and_also, differ, crosses, far_end, IsHeaviest, Grows, IsWhole, HasEveryEnd, joined_by, IsJoinedWith}
+use Rattle.flows.specs.Trees.{on, only, and_also, differ, crosses, far_end, IsHeaviest, Grows, IsWhole, joined_by, IsSpanningTree, IsConnected}
 use Rattle.flows.specs.declared.Link.{Link}
-use Rattle.flows.proofs.Bools.{differ_same, or_yes, or_no, differ_equal}
+use Rattle.flows.proofs.Bools.{differ_same, or_yes, or_no, not_twice}
 use Rattle.flows.proofs.Grown.{listed_weight}
-use Rattle.flows.proofs.Least.{ends_of, least_alike, off_tree_least, grows_keeps, off_grown_determines, determines_alike}
-use Rattle.flows.proofs.Spanning.{grown_count, same_set, all_count}
+use Rattle.flows.proofs.Least.{ends_of, least_alike, off_tree_least, off_grown_determines, determines_alike}
+use Rattle.flows.proofs.Spanning.{grown_count, same_set, all_count, connected_spans, spanning_alike, connected_ends}
 use Rattle.flows.proofs.Weights.{weight_one}
 use Rattle.flow_tree.specs.Rows.{Row, HasEnds, IsAttached}
 use Rattle.flow_tree.specs.Search.{candidate, IsReal, IsSearch}
@@ -151,21 +151,24 @@ pub joins_inside : (g : Graph) (w : ℕ → ℕ) (js : List Join) (s t : NodeSet
 joins_inside g w [] s t h = All-nil (λ (j : Join). j.edge < g.edges)
 joins_inside g w (x ∷ xs) s t h = All-cons (λ (j : Join). j.edge < g.edges) x xs h.0.inside (joins_inside g w xs (and_also s (far_end g s x.edge)) t h.1)
 
--- ---- a whole set with the root has both ends of each edge, where each edge is joined with the root
-pub ends_of_whole : (g : Graph) (w : ℕ → ℕ) (es : List ℕ) (r : ℕ) (t : NodeSet) → IsJoinedWith g r → Grows g w (only r) es t → IsWhole g t → HasEveryEnd g t
-ends_of_whole g w es r t joined h whole =
-    joined t (λ e l o. differ_equal (t (g.from e)) (t (g.to e)) (whole e l)) (grows_keeps g w es (only r) t h r (eq-eqb r r refl))
-
+-- ---- which edges are counted
 pub counted_determines : (n : ℕ) (links : List Link) (w : ℕ → ℕ) (r : ℕ) (es : List ℕ) (t : NodeSet) (off : List Bool) → IsLinked n links →
     Grows (graph_of n links) w (only r) es t → ((e : ℕ) → e < length links → marked off e ≡ rest (on es) e) → Determines (graph_of n links) (marked off)
 counted_determines n links w r es t off ok h same = determines_alike (graph_of n links) (rest (on es)) (marked off) same (off_grown_determines (graph_of n links) w r es t (graph_ok n links ok) h)
 
-pub counted_least : (n : ℕ) (links : List Link) (w : ℕ → ℕ) (r : ℕ) (es : List ℕ) (t : NodeSet) (off : List Bool) → r < n → IsLinked n links →
+pub counted_spans : (n : ℕ) (links : List Link) (w : ℕ → ℕ) (r : ℕ) (es : List ℕ) (t : NodeSet) (off : List Bool) (is_node : NodeSet) → r < n → IsLinked n links →
     Grows (graph_of n links) w (only r) es t → IsWhole (graph_of n links) t → ((e : ℕ) → e < length links → marked off e ≡ rest (on es) e) →
-    IsJoinedWith (graph_of n links) r → IsLeast (graph_of n links) w (marked off)
-counted_least n links w r es t off lr ok h whole same joined =
+    IsConnected (graph_of n links) is_node r → IsSpanningTree (graph_of n links) is_node (rest (marked off))
+counted_spans n links w r es t off is_node lr ok h whole same c =
+    spanning_alike (graph_of n links) is_node (on es) (rest (marked off)) (λ e l. sym (ap not (same e l) ∙ not_twice (on es e)))
+      (connected_spans (graph_of n links) is_node w r es t (graph_ok n links ok) lr c h whole)
+
+pub counted_least : (n : ℕ) (links : List Link) (w : ℕ → ℕ) (r : ℕ) (es : List ℕ) (t : NodeSet) (off : List Bool) (is_node : NodeSet) → r < n → IsLinked n links →
+    Grows (graph_of n links) w (only r) es t → IsWhole (graph_of n links) t → ((e : ℕ) → e < length links → marked off e ≡ rest (on es) e) →
+    IsConnected (graph_of n links) is_node r → IsLeast (graph_of n links) w (marked off)
+counted_least n links w r es t off is_node lr ok h whole same c =
     least_alike (graph_of n links) w (rest (on es)) (marked off) same
-    (off_tree_least (graph_of n links) w r es t (graph_ok n links ok) lr h (ends_of_whole (graph_of n links) w es r t joined h whole))
+      (off_tree_least (graph_of n links) w r es t (graph_ok n links ok) lr h (connected_ends (graph_of n links) is_node w r es t (graph_ok n links ok) lr c h whole))
 
 -- ---- joins
 pub edges-push : (xs : List Join) (j : Join) → edges_in (xs ++ j ∷ []) ≡ edges_in xs ++ j.edge ∷ []

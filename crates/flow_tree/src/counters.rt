@@ -1,9 +1,9 @@
 //! Which edges want a counter.
 
-ghost use Rattle.std.specs.Prelude.{◌≡◌, ℕ, ◌<◌, length, IfOk};
+ghost use Rattle.std.specs.Prelude.{◌≡◌, ℕ, ◌<◌, Bool, length, IfOk};
 ghost use Rattle.std.specs.List.{All};
 ghost use Rattle.flows.specs.Flows.{Determines, IsLeast, rest};
-ghost use Rattle.flows.specs.Trees.{IsJoinedWith, on};
+ghost use Rattle.flows.specs.Trees.{IsConnected, IsSpanningTree, on};
 ghost use Rattle.flows.specs.Links.{graph_of, marked, weight_in, IsLinked};
 ghost use Rattle.flow_tree.specs.Tree.{edges_of};
 
@@ -25,8 +25,8 @@ pub fn off_tree(alloc: Global, tree: &Tree, edges: usize) -> Result<Vec<bool>, A
     Ok(off)
 }
 
-/// Which edges to count: those off a heaviest tree from `root`. Their counts determine all counts. Where each edge is
-/// joined with the root, no set of edges that does so weighs less.
+/// Which edges to count: those off a heaviest tree from `root`. Their counts determine all counts. In a connected graph
+/// the others are a spanning tree, and no set of edges whose counts determine all counts weighs less.
 pub fn counted(
     alloc: Global,
     nodes: usize,
@@ -39,7 +39,8 @@ pub fn counted(
     requires weights { length weights.now ≡ length links.now }
     ensures len { IfOk result (λ counted. length counted.items ≡ length links.now) }
     ensures determines { IfOk result (λ counted. Determines (graph_of nodes links.now) (marked counted.items)) }
-    ensures least { IsJoinedWith (graph_of nodes links.now) root → IfOk result (λ counted. IsLeast (graph_of nodes links.now) (weight_in weights.now) (marked counted.items)) }
+    ensures spans { (is_node : ℕ → Bool) → IsConnected (graph_of nodes links.now) is_node root → IfOk result (λ counted. IsSpanningTree (graph_of nodes links.now) is_node (rest (marked counted.items))) }
+    ensures least { (is_node : ℕ → Bool) → IsConnected (graph_of nodes links.now) is_node root → IfOk result (λ counted. IsLeast (graph_of nodes links.now) (weight_in weights.now) (marked counted.items)) }
 {
     let tree = grow(alloc, nodes, links, weights, root)?;
     off_tree(alloc, &tree, links.len())

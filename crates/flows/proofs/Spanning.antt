@@ -2,13 +2,13 @@
 use Rattle.std.proofs.Common.{◌≡◌, ℕ, zero, suc, ◌+◌, ◌<◌, ◌≤◌, ◌⊎◌, inl, inr, Bool, true, false, not, ◌||◌, cond, List, [], ◌∷◌, refl, ap, sym, ◌∙◌, subst, arith}
 use Rattle.std.specs.Prelude.{◌==◌, if◌then◌else◌, IsTrue}
 use Rattle.std.proofs.lemmas.Bool.{cases_Bool, cases_eq, cases_lt, eqb-true, eq-eqb, ne_eqb}
-use Rattle.flows.specs.Flows.{Graph, NodeSet, EdgeSet, rest, IsGraph, Determines, weight_below, weight_of, count_below}
-use Rattle.flows.specs.Trees.{NoneCrosses, JoinsAll, IsSpanningTree, HasEveryEnd, only, and_also, differ, crosses, far_end, IsWhole, IsHeaviest, Grows, on}
-use Rattle.flows.proofs.Bools.{true_or_false, or_true, or_right, or_no, or_swap, not_twice, differ_equal}
-use Rattle.flows.proofs.Weights.{weight_same, weight_none, weight_more, weight_one}
-use Rattle.flows.proofs.Grown.{Within, Independent, far_out, listed_weight}
-use Rattle.flows.proofs.Cuts.{Balanced}
+use Rattle.flows.specs.Flows.{Graph, NodeSet, EdgeSet, rest, IsGraph, Determines, count_below}
+use Rattle.flows.specs.Trees.{NoneCrosses, JoinsAll, IsSpanningTree, HasEveryEnd, only, and_also, crosses, far_end, IsWhole, IsHeaviest, Grows, on, IsConnected}
+use Rattle.flows.specs.Walks.{takes}
+use Rattle.flows.proofs.Bools.{true_or_false, or_true, or_right, or_no, or_swap, not_twice, differ_equal, or_cases}
+use Rattle.flows.proofs.Grown.{far_out, listed_weight}
 use Rattle.flows.proofs.Least.{Ends, ends_of, far_inside, listed_is, no_cycle, determines_if, grows_keeps}
+use Rattle.flows.proofs.Weights.{weight_same, weight_more, weight_one}
 
 -- ---- counting
 abbrev one : ℕ
@@ -248,3 +248,49 @@ off_tree_determines g is_node t ok tree = go (some_number g.nodes is_node (let s
         all v l n = tree.joins k.reached k.none v r l lr n nr ∙ grows_keeps g (one_if t) k.edges (only r) k.reached k.grows r (eq-eqb r r refl)
         same : (e : ℕ) → e < g.edges → on k.edges e ≡ t e
         same = (tree_if g is_node t r k.edges k.reached ok lr k.grows all k.inside tree.size).0
+
+-- ---- a tree that grew from a node of a connected graph until no edge crossed
+-- growth along edges between nodes reaches nodes alone
+pub reached_nodes : (g : Graph) (is_node : NodeSet) (w : ℕ → ℕ) (es : List ℕ) (s t : NodeSet) → HasEveryEnd g is_node → Grows g w s es t →
+    ((v : ℕ) → s v ≡ true → is_node v ≡ true) → (v : ℕ) → t v ≡ true → is_node v ≡ true
+reached_nodes g is_node w [] s t ends h a v m = a v (ap (λ (u : NodeSet). u v) (sym h) ∙ m)
+reached_nodes g is_node w (e ∷ es) s t ends h a v m = reached_nodes g is_node w es (and_also s (far_end g s e)) t ends h.1 more v m
+  where
+    pick : (b : Bool) (p q : ℕ) → is_node p ≡ true → is_node q ≡ true → is_node (cond b p q) ≡ true
+    pick true p q h k = h
+    pick false p q h k = k
+    more : (v : ℕ) → and_also s (far_end g s e) v ≡ true → is_node v ≡ true
+    more v m = go (or_cases (s v) (v == far_end g s e) m)
+      where
+        go : (s v ≡ true) ⊎ ((v == far_end g s e) ≡ true) → is_node v ≡ true
+        go (inl k) = a v k
+        go (inr k) = ap is_node (eqb-true v (far_end g s e) k) ∙ pick (s (g.from e)) (g.to e) (g.from e) (ends e h.0.inside).1 (ends e h.0.inside).0
+
+both_ways : (p q : Bool) → (p ≡ true → q ≡ true) → (q ≡ true → p ≡ true) → p ≡ q
+both_ways true true f h = refl
+both_ways true false f h = let k : false ≡ true = f refl in absurd (cc)
+both_ways false true f h = let k : false ≡ true = h refl in absurd (cc)
+both_ways false false f h = refl
+
+-- such a tree has every node
+connected_all : (g : Graph) (is_node : NodeSet) (w : ℕ → ℕ) (r : ℕ) (es : List ℕ) (t : NodeSet) → r < g.nodes → IsConnected g is_node r → Grows g w (only r) es t → IsWhole g t →
+    (v : ℕ) → v < g.nodes → is_node v ≡ true → t v ≡ true
+connected_all g is_node w r es t lr c h whole v l n =
+    c.joins t (λ e m o. differ_equal (t (g.from e)) (t (g.to e)) (whole e m)) v r l lr n c.root ∙ grows_keeps g w es (only r) t h r (eq-eqb r r refl)
+
+pub connected_ends : (g : Graph) (is_node : NodeSet) (w : ℕ → ℕ) (r : ℕ) (es : List ℕ) (t : NodeSet) → IsGraph g → r < g.nodes → IsConnected g is_node r → Grows g w (only r) es t → IsWhole g t → HasEveryEnd g t
+connected_ends g is_node w r es t ok lr c h whole e l =
+    (connected_all g is_node w r es t lr c h whole (g.from e) (ok e l).0 (c.ends e l).0, connected_all g is_node w r es t lr c h whole (g.to e) (ok e l).1 (c.ends e l).1)
+
+pub connected_spans : (g : Graph) (is_node : NodeSet) (w : ℕ → ℕ) (r : ℕ) (es : List ℕ) (t : NodeSet) → IsGraph g → r < g.nodes → IsConnected g is_node r → Grows g w (only r) es t → IsWhole g t → IsSpanningTree g is_node (on es)
+connected_spans g is_node w r es t ok lr c h whole =
+    grown_spans g is_node w r es t ok lr h (λ v l. both_ways (t v) (is_node v) (inside v) (connected_all g is_node w r es t lr c h whole v l))
+  where
+    inside : (v : ℕ) → t v ≡ true → is_node v ≡ true
+    inside = reached_nodes g is_node w es (only r) t c.ends h (λ v m. ap is_node (eqb-true v r m) ∙ c.root)
+
+-- sets that have the same edges
+pub spanning_alike : (g : Graph) (is_node : NodeSet) (s t : EdgeSet) → ((e : ℕ) → e < g.edges → s e ≡ t e) → IsSpanningTree g is_node s → IsSpanningTree g is_node t
+spanning_alike g is_node s t same h = record {
+  joins = λ q n. h.joins q (λ e l o. n e l (sym (same e l) ∙ o));
+  size = ap (λ n. n + 1) (weight_same g.edges (λ e. 1) t s (λ e l. sym (same e l))) ∙ h.size }

@@ -22,9 +22,11 @@ pub record IsSpanningTree (g : Graph) (is_node : NodeSet) (t : EdgeSet) : Type 0
 abbrev pub HasEveryEnd : Graph → NodeSet → Type 0
 HasEveryEnd g s = (e : ℕ) → e < g.edges → IsTrue (s (g.from e)) × IsTrue (s (g.to e))
 
--- each edge is joined with r: a set that has r, and that no edge leaves, has both ends of each edge
-abbrev pub IsJoinedWith : Graph → ℕ → Type 0
-IsJoinedWith g r = (s : NodeSet) → NoneCrosses g (λ e. true) s → IsTrue (s r) → HasEveryEnd g s
+-- all edges join all nodes, r among them, and no other numbers
+pub record IsConnected (g : Graph) (is_node : NodeSet) (r : ℕ) : Type 0 where
+  pub root : IsTrue (is_node r)
+  pub ends : HasEveryEnd g is_node
+  pub joins : JoinsAll g is_node (λ e. true)
 
 -- ---- growth
 
