@@ -1,9 +1,9 @@
 -- Sets of nodes: their nets, and which edges cross.
-use Rattle.std.proofs.Common.{◌≡◌, ◌≢◌, ℕ, zero, suc, ◌+◌, ◌<◌, ◌≤◌, ◌⊎◌, inl, inr, Bool, true, false, not, ◌||◌, ◌&&◌, cond, refl, ap, sym, ◌∙◌, subst, arith}
-use Rattle.std.specs.Prelude.{ℤ, pos, negsuc, ◌+ℤ◌, ◌-ℤ◌, ◌*ℤ◌, neg_ℤ, nat_abs, ◌==◌}
+use Rattle.std.proofs.Common.{◌≡◌, ℕ, zero, suc, ◌<◌, ◌≤◌, ◌⊎◌, inl, inr, Bool, true, false, not, ◌||◌, ◌&&◌, refl, ap, sym, ◌∙◌, arith}
+use Rattle.std.specs.Prelude.{ℤ, pos, ◌+ℤ◌, neg_ℤ, nat_abs, ◌==◌}
 use Rattle.std.proofs.lemmas.Int.{ints}
-use Rattle.std.proofs.lemmas.Bool.{cases_Bool, cases_eq, eqb-true, eqb-false, eq-eqb, ne_eqb}
-use Rattle.flows.specs.Flows.{Graph, NodeSet, EdgeSet, IsGraph, total}
+use Rattle.std.proofs.lemmas.Bool.{cases_Bool, cases_eq, eqb-true, eq-eqb, ne_eqb}
+use Rattle.flows.specs.Flows.{Graph, NodeSet, IsGraph}
 use Rattle.flows.specs.Trees.{only, and_also, differ, crosses}
 use Rattle.flows.proofs.Bools.{or_cases, false_since, and_first, or_no, and_no, and_yes}
 use Rattle.flows.proofs.Sums.{zero_or_not, total_same, total_zero, total_add}
@@ -88,13 +88,16 @@ net_and_also g s v x h =
     both true q a b = absurd (cc)
     both false true a b = absurd (cc)
     both false false a b = absurd (cc)
+
     apart : (w : ℕ) → all_but (and_also s v) w ≡ true → only v w ≡ true → ⊥
     apart w a b = both (s w) (w == v) a b
+
     here : (p q : Bool) → (q ≡ true → p ≡ false) → not p ≡ (not (p || q) || q)
     here true true f = let c : true ≡ false = f refl in absurd (cc)
     here true false f = refl
     here false true f = refl
     here false false f = refl
+
     same : all_but s ≡ (λ (w : ℕ). not (s w || (w == v)) || (w == v))
     same = λ i w. here (s w) (w == v) (λ e. ap s (eqb-true w v e) ∙ h) i
 
@@ -127,9 +130,11 @@ some_or_none (suc n) p x = go (some_or_none n p x) (cases_Bool (p n)) (zero_or_n
         here : (x n ≡ pos 0) ⊎ (p n ≡ false) → e ≡ n → x e ≡ pos 0
         here (inl z) c = ap x c ∙ z
         here (inr f) c = let d : true ≡ false = sym q ∙ ap p c ∙ f in absurd (cc)
+
         at : (e ≡ n) ⊎ (e ≡ n → ⊥) → x e ≡ pos 0
         at (inl c) = here h c
         at (inr c) = a e (omega arith) q
+
     go : ((e : ℕ) → e < n → p e ≡ true → x e ≡ pos 0) ⊎ ((e : ℕ) × (e < n) × (p e ≡ true) × (0 < nat_abs (x e))) → (p n ≡ true) ⊎ (p n ≡ false) → (x n ≡ pos 0) ⊎ (0 < nat_abs (x n))
         → ((e : ℕ) → e < suc n → p e ≡ true → x e ≡ pos 0) ⊎ ((e : ℕ) × (e < suc n) × (p e ≡ true) × (0 < nat_abs (x e)))
     go (inr (e, l, q, k)) b c = inr (e, omega arith, q, k)

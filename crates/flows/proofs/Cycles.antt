@@ -1,16 +1,16 @@
 -- A set determines the counts exactly where the other edges have no cycle.
-use Rattle.std.proofs.Common.{◌≡◌, ℕ, zero, suc, ◌+◌, ◌<◌, ◌≤◌, ◌⊎◌, inl, inr, Bool, true, false, not, ◌||◌, ◌&&◌, cond, List, [], ◌∷◌, refl, ap, sym, ◌∙◌, subst, arith}
-use Rattle.std.specs.Prelude.{ℤ, pos, negsuc, ◌+ℤ◌, ◌-ℤ◌, neg_ℤ, nat_abs, ◌==◌, if◌then◌else◌, IsTrue, ◌↔◌}
+use Rattle.std.proofs.Common.{◌≡◌, ℕ, zero, suc, ◌<◌, ◌≤◌, ◌⊎◌, inl, inr, Bool, true, false, not, ◌||◌, ◌&&◌, cond, List, [], ◌∷◌, refl, ap, sym, ◌∙◌, subst, arith}
+use Rattle.std.specs.Prelude.{ℤ, pos, negsuc, ◌+ℤ◌, nat_abs, ◌==◌, if◌then◌else◌, ◌↔◌}
 use Rattle.std.proofs.lemmas.Int.{ints}
-use Rattle.std.proofs.lemmas.Bool.{cases_Bool, cases_eq, cases_lt, eqb-true, eq-eqb, ne_eqb, eqb-false}
-use Rattle.flows.specs.Flows.{Graph, NodeSet, EdgeSet, rest, IsGraph, total, sum_in, sum_out, one_at, IsFlow, Determines, AgreeOn}
+use Rattle.std.proofs.lemmas.Bool.{cases_Bool, cases_eq, eqb-true, eq-eqb, ne_eqb}
+use Rattle.flows.specs.Flows.{Graph, NodeSet, EdgeSet, rest, IsGraph, total, one_at, IsFlow, Determines, AgreeOn}
 use Rattle.flows.specs.Walks.{Step, tail, head, takes, IsTrail, HasCycle}
-use Rattle.flows.specs.Trees.{NoneCrosses, only, and_also, differ, crosses, far_end, IsHeaviest, Grows, on}
-use Rattle.flows.proofs.Bools.{true_or_false, not_twice, or_true, or_right, or_cases, or_false, or_parts_false, and_first, and_false, and_no, and_yes, eqb_swap, false_since}
-use Rattle.flows.proofs.Sums.{total_same, total_zero, total_change, total_one}
-use Rattle.flows.proofs.Nets.{part, net, all_but, net_is, part_zero, part_same}
+use Rattle.flows.specs.Trees.{NoneCrosses, only, and_also, differ, crosses, far_end, Grows}
+use Rattle.flows.proofs.Bools.{true_or_false, or_true, or_right, or_cases, or_false, or_parts_false, and_first, and_false, and_no, and_yes, eqb_swap, false_since}
+use Rattle.flows.proofs.Sums.{total_zero, total_change, total_one}
+use Rattle.flows.proofs.Nets.{part, net, part_zero, part_same}
 use Rattle.flows.proofs.Cuts.{Balanced, balanced_out, root_balanced}
-use Rattle.flows.proofs.Grown.{Within, Independent, far_out}
+use Rattle.flows.proofs.Grown.{Within, Independent}
 use Rattle.flows.proofs.Least.{Ends, ends_of, determines_if, grows_keeps}
 use Rattle.flows.proofs.Spanning.{one_if, AllIn, GrownIn, grow_from}
 
@@ -34,9 +34,11 @@ carried_total n end v s ss l =
     other i c =
         ap (λ b. cond (end i == v) (cond b (unit s.forward) (pos 0) +ℤ carried ss i) (pos 0)) (ne_eqb i s.edge c)
         ∙ ap (λ z. cond (end i == v) z (pos 0)) (let z = carried ss i in omega (arith, ints))
+
     by : (b : Bool) (k z : ℤ) → cond b (k +ℤ z) (pos 0) ≡ cond b z (pos 0) +ℤ cond b k (pos 0)
     by true k z = omega (arith, ints)
     by false k z = refl
+
     here : cond (end s.edge == v) (cond (s.edge == s.edge) (unit s.forward) (pos 0) +ℤ carried ss s.edge) (pos 0) ≡ cond (end s.edge == v) (carried ss s.edge) (pos 0) +ℤ cond (v == end s.edge) (unit s.forward) (pos 0)
     here =
         ap (λ b. cond (end s.edge == v) (cond b (unit s.forward) (pos 0) +ℤ carried ss s.edge) (pos 0)) (eq-eqb s.edge s.edge refl)
@@ -64,6 +66,7 @@ trail_is_flow g f a b (s ∷ ss) h v l =
     neg : (b : Bool) → cond b (negsuc 0) (pos 0) +ℤ cond b (pos 1) (pos 0) ≡ pos 0
     neg true = refl
     neg false = refl
+
     turn : (d : Bool) → (cond (v == g.to s.edge) (unit d) (pos 0) +ℤ one_at (cond d (g.from s.edge) (g.to s.edge)) v) ≡ (cond (v == g.from s.edge) (unit d) (pos 0) +ℤ one_at (cond d (g.to s.edge) (g.from s.edge)) v)
     turn true = let z = one_at (g.to s.edge) v in omega (arith, ints)
     turn false = let x = neg (v == g.to s.edge) in let y = neg (v == g.from s.edge) in omega (arith, ints, x, y)
@@ -90,18 +93,23 @@ no_cycle_if g d ok det (a, s, ss, h) = absurd (omega (arith, ints, zero_there, f
         end : (b : Bool) → cond b (g.from s.edge) (g.to s.edge) < g.nodes
         end true = (ok s.edge h.0).0
         end false = (ok s.edge h.0).1
+
     zero_if : (b : Bool) → cond b (pos 0) (pos 0) ≡ pos 0
     zero_if true = refl
     zero_if false = refl
+
     none : IsFlow g a a (λ e. pos 0)
     none v l =
         let p = total_zero g.edges (λ e. if g.to e == v then pos 0 else pos 0) (λ e b. zero_if (g.to e == v)) in
         let q = total_zero g.edges (λ e. if g.from e == v then pos 0 else pos 0) (λ e b. zero_if (g.from e == v)) in
         omega (arith, ints, p, q)
+
     agree : AgreeOn g d (carried (s ∷ ss)) (λ e. pos 0)
     agree e l t = not_taken (s ∷ ss) e (within_trail g (rest d) a a (s ∷ ss) e h (ap not t))
+
     zero_there : carried (s ∷ ss) s.edge ≡ pos 0
     zero_there = det a a (carried (s ∷ ss)) (λ e. pos 0) la la (trail_is_flow g (rest d) a a (s ∷ ss) h) none agree s.edge h.0
+
     first : nat_abs (carried (s ∷ ss) s.edge) ≡ 1
     first = ap (λ b. nat_abs (cond b (unit s.forward) (pos 0) +ℤ carried ss s.edge)) (eq-eqb s.edge s.edge refl)
         ∙ ap (λ z. nat_abs (unit s.forward +ℤ z)) (not_taken ss s.edge h.3) ∙ size s.forward
@@ -126,8 +134,10 @@ way_more g d s r e l t c ways v h = go (cases_Bool (s v))
   where
     ends : Ends g s e
     ends = ends_of g s e c
+
     wider : (ss : List Step) → Inside g s ss → Inside g (and_also s (far_end g s e)) ss
     wider ss i e t = let k = i e t in (or_true (s (g.from e)) _ k.0, or_true (s (g.to e)) _ k.1)
+
     new : (ss : List Step) → Inside g s ss → takes ss e ≡ false
     new ss i = false_since (takes ss e) (λ t. let k = i e t in true_or_false (crosses g s e) c (differ_in (s (g.from e)) (s (g.to e)) k.0 k.1))
       where
@@ -135,6 +145,7 @@ way_more g d s r e l t c ways v h = go (cases_Bool (s v))
         differ_in true true a b = refl
         differ_in true false a b = absurd (cc)
         differ_in false q a b = absurd (cc)
+
     inside_new : (b : Bool) (ss : List Step) → Inside g s ss → Inside g (and_also s (far_end g s e)) (record { edge = e; forward = b } ∷ ss)
     inside_new b ss i x t = pick (or_cases (x == e) (takes ss x) t)
       where
@@ -143,6 +154,7 @@ way_more g d s r e l t c ways v h = go (cases_Bool (s v))
             let m = eqb-true x e k in
             (ap (λ x. and_also s (far_end g s e) (g.from x)) m ∙ ends.from_in, ap (λ x. and_also s (far_end g s e) (g.to x)) m ∙ ends.to_in)
         pick (inr k) = wider ss i x k
+
     added : ((far_end g s e ≡ g.to e) × (s (g.from e) ≡ true)) ⊎ ((far_end g s e ≡ g.from e) × (s (g.to e) ≡ true)) → v ≡ far_end g s e → Way g d (and_also s (far_end g s e)) r v
     added (inl (f, i)) k =
         let w = ways (g.from e) i in
@@ -150,6 +162,7 @@ way_more g d s r e l t c ways v h = go (cases_Bool (s v))
     added (inr (f, i)) k =
         let w = ways (g.to e) i in
         record { steps = record { edge = e; forward = true } ∷ w.steps; trail = (l, t, sym f ∙ sym k, new w.steps w.inside, w.trail); inside = inside_new true w.steps w.inside }
+
     go : (s v ≡ true) ⊎ (s v ≡ false) → Way g d (and_also s (far_end g s e)) r v
     go (inl i) = let w = ways v i in record { steps = w.steps; trail = w.trail; inside = wider w.steps w.inside }
     go (inr n) = added ends.one_new (eqb-true v (far_end g s e) (sym (ap (λ b. b || (v == far_end g s e)) n) ∙ h))
@@ -170,8 +183,10 @@ led_or_parted g d r v ok = go (cases_Bool (k.reached v))
   where
     k : GrownIn g d (only r)
     k = grow_from g d r ok
+
     start : (v : ℕ) → only r v ≡ true → Way g d (only r) r v
     start v h = record { steps = []; trail = eqb-true v r h; inside = λ e t. absurd (cc) }
+
     go : (k.reached v ≡ true) ⊎ (k.reached v ≡ false) → Led g d r v ⊎ Parted g d r v
     go (inl h) = let w = ways_grown g d r k.edges (only r) k.reached k.grows k.inside start v h in inl (w.steps, w.trail)
     go (inr h) = inr (k.reached, k.none, grows_keeps g (one_if d) k.edges (only r) k.reached k.grows r (eq-eqb r r refl), h)
@@ -234,8 +249,12 @@ one_more g f n ok l ind = go (cases_Bool (f n))
   where
     closed : f n ≡ true → Led g (first f n) (g.from n) (g.to n) ⊎ Parted g (first f n) (g.from n) (g.to n) → HasCycle g f ⊎ Independent g nowhere (first f (suc n))
     closed t (inl (ss, h)) =
-        inl (g.from n, record { edge = n; forward = true }, ss,
-             (l, t, refl, within_trail g (first f n) (g.to n) (g.from n) ss n h (ap (λ b. f n && b) (not_below n n (omega arith)) ∙ and_no (f n)), wider_trail g f n (g.to n) (g.from n) ss h))
+        inl (
+          g.from n,
+          record { edge = n; forward = true },
+          ss,
+          (l, t, refl, within_trail g (first f n) (g.to n) (g.from n) ss n h (ap (λ b. f n && b) (not_below n n (omega arith)) ∙ and_no (f n)), wider_trail g f n (g.to n) (g.from n) ss h),
+        )
     closed t (inr (s, none, sf, st)) = inr (λ x wx bx. ind x (within x wx (cut_edge g f n s x ok l none sf st wx bx)) bx)
       where
         within : (x : ℕ → ℤ) → Within g (first f (suc n)) x → x n ≡ pos 0 → Within g (first f n) x
@@ -244,6 +263,7 @@ one_more g f n ok l ind = go (cases_Bool (f n))
             at : (e ≡ n) ⊎ (e ≡ n → ⊥) → x e ≡ pos 0
             at (inl c) = ap x c ∙ z
             at (inr c) = wx e m (first_less f n e h c)
+
     go : (f n ≡ true) ⊎ (f n ≡ false) → HasCycle g f ⊎ Independent g nowhere (first f (suc n))
     go (inl t) = closed t (led_or_parted g (first f n) (g.from n) (g.to n) ok)
     go (inr h) = inr (λ x wx bx. ind x (λ e m k. wx e m (first_without f n e h k)) bx)

@@ -1,16 +1,16 @@
 -- A tree that is grown from a set of nodes, each time by an edge that no other crossing edge outweighs.
-use Rattle.std.proofs.Common.{◌≡◌, ◌≢◌, ℕ, zero, suc, ◌+◌, ◌<◌, ◌≤◌, ◌⊎◌, inl, inr, Bool, true, false, not, ◌||◌, ◌&&◌, cond, List, [], ◌∷◌, refl, ap, sym, ◌∙◌, subst, arith}
-use Rattle.std.specs.Prelude.{ℤ, pos, negsuc, ◌+ℤ◌, ◌-ℤ◌, ◌*ℤ◌, neg_ℤ, nat_abs, ◌==◌, if◌then◌else◌}
+use Rattle.std.proofs.Common.{◌≡◌, ℕ, ◌+◌, ◌<◌, ◌≤◌, ◌⊎◌, inl, inr, Bool, true, false, not, ◌&&◌, cond, List, [], ◌∷◌, refl, ap, sym, ◌∙◌, subst, arith}
+use Rattle.std.specs.Prelude.{ℤ, pos, ◌-ℤ◌, ◌*ℤ◌, nat_abs, ◌==◌}
 use Rattle.std.proofs.lemmas.Int.{ints}
-use Rattle.std.proofs.lemmas.Bool.{cases_Bool, cases_eq, cases_lt, eqb-true, eqb-false, eq-eqb, ne_eqb}
+use Rattle.std.proofs.lemmas.Bool.{cases_Bool, cases_eq, cases_lt, eq-eqb, ne_eqb}
 use lib.IntN.{*ℤ_comm, *ℤ-zero}
-use Rattle.flows.specs.Flows.{Graph, NodeSet, EdgeSet, IsGraph, total, weight_below, weight_of}
+use Rattle.flows.specs.Flows.{Graph, NodeSet, EdgeSet, IsGraph, weight_of}
 use Rattle.flows.specs.Trees.{only, and_also, differ, crosses, far_end, Grows, HasEveryEnd}
 use Rattle.flows.proofs.Bools.{true_or_false, and_false, and_no, or_false}
-use Rattle.flows.proofs.Sums.{zero_or_not, factor_zero, total_same, total_zero}
-use Rattle.flows.proofs.Nets.{part, net, all_but, net_mix, part_zero}
+use Rattle.flows.proofs.Sums.{zero_or_not, factor_zero, total_zero}
+use Rattle.flows.proofs.Nets.{part, net, net_mix, part_zero}
 use Rattle.flows.proofs.Cuts.{Balanced, balanced_out, net_and_also, none_crosses, some_or_none}
-use Rattle.flows.proofs.Weights.{weight_none, weight_more, weight_less, without}
+use Rattle.flows.proofs.Weights.{weight_none, weight_less, without}
 
 -- x is 0 outside the set f of edges
 abbrev pub Within : Graph → (ℕ → Bool) → (ℕ → ℤ) → Type 0
@@ -22,7 +22,7 @@ Independent g s f = (x : ℕ → ℤ) → Within g f x → Balanced g s x → (e
 
 -- ---- a larger set of nodes
 mix_zero : (k l y z : ℤ) → y ≡ pos 0 → z ≡ pos 0 → k *ℤ y -ℤ l *ℤ z ≡ pos 0
-mix_zero k l y z a b = 
+mix_zero k l y z a b =
     let c : k *ℤ y ≡ pos 0 = ap (λ t. k *ℤ t) a ∙ *ℤ-zero k in
     let d : l *ℤ z ≡ pos 0 = ap (λ t. l *ℤ t) b ∙ *ℤ-zero l in
     omega (arith, ints, c, d)
@@ -31,7 +31,6 @@ mix_zero k l y z a b =
 module _ (g : Graph) (s : NodeSet) (v : ℕ) (f : ℕ → Bool) (x : ℕ → ℤ) (h : ℕ)
     (ind : Independent g s f) (wx : Within g f x) (bx : Balanced g (and_also s v) x) (lh : h < g.edges) (nh : 0 < nat_abs (x h))
     (y : ℕ → ℤ) (wy : Within g (without f h) y) (by : Balanced g (and_also s v) y) where
-
   abbrev k : ℤ
   k = net g (only v) x
 
@@ -79,7 +78,6 @@ module _ (g : Graph) (w : ℕ → ℕ) (s : NodeSet) (v : ℕ) (f : ℕ → Bool
     (ind : Independent g s f) (sv : s v ≡ false)
     (heaviest : (h : ℕ) → h < g.edges → crosses g s h ≡ true → w h ≤ c)
     (rest : (f : ℕ → Bool) → Independent g (and_also s v) f → weight_of g w f ≤ r) where
-
   used : (x : ℕ → ℤ) (h : ℕ) → Within g f x → 0 < nat_abs (x h) → h < g.edges → f h ≡ true
   used x h wx n l = go (cases_Bool (f h))
     where
@@ -129,6 +127,7 @@ far_out g s e c = go (s (g.from e)) refl
     back : (b : Bool) → not b ≡ true → b ≡ false
     back true h = absurd (cc)
     back false h = refl
+
     go : (p : Bool) → s (g.from e) ≡ p → s (cond (s (g.from e)) (g.to e) (g.from e)) ≡ false
     go true h = ap (λ p. s (cond p (g.to e) (g.from e))) h ∙ back (s (g.to e)) (ap (λ p. differ p (s (g.to e))) (sym h) ∙ c)
     go false h = ap (λ p. s (cond p (g.to e) (g.from e))) h ∙ h
@@ -140,16 +139,20 @@ none_at_end g s f ends ind e l = go (cases_Bool (f e))
     within : f e ≡ true → (i : ℕ) → f i ≡ false → (i ≡ e) ⊎ (i ≡ e → ⊥) → cond (i == e) (pos 1) (pos 0) ≡ pos 0
     within t i h (inl c) = let d : true ≡ false = sym t ∙ ap f (sym c) ∙ h in absurd (cc)
     within t i h (inr c) = ap (λ b. cond b (pos 1) (pos 0)) (ne_eqb i e c)
+
     apart : (v u : ℕ) → s v ≡ false → s u ≡ true → (u == v) ≡ false
     apart v u c d = ne_eqb u v (λ k. true_or_false (s u) d (ap s k ∙ c))
+
     nothing : (v i : ℕ) → s v ≡ false → (i ≡ e) ⊎ (i ≡ e → ⊥) → part (g.to i == v) (g.from i == v) (cond (i == e) (pos 1) (pos 0)) ≡ pos 0
     nothing v i c (inl k) =
         ap (λ j. part (g.to j == v) (g.from j == v) (cond (i == e) (pos 1) (pos 0))) k
         ∙ ap (λ b. part b (g.from e == v) (cond (i == e) (pos 1) (pos 0))) (apart v (g.to e) c (ends e l).1)
         ∙ ap (λ b. part false b (cond (i == e) (pos 1) (pos 0))) (apart v (g.from e) c (ends e l).0)
     nothing v i c (inr k) = ap (λ b. part (g.to i == v) (g.from i == v) (cond b (pos 1) (pos 0))) (ne_eqb i e k) ∙ part_zero (g.to i == v) (g.from i == v)
+
     balanced : Balanced g s (λ i. cond (i == e) (pos 1) (pos 0))
     balanced v b c = total_zero g.edges _ (λ i m. nothing v i c (cases_eq i e))
+
     go : (f e ≡ true) ⊎ (f e ≡ false) → f e ≡ false
     go (inr h) = h
     go (inl t) =
@@ -164,4 +167,4 @@ heaviest_tree g w [] s t ok h ends f ind =
     let z = weight_none g.edges w f (none_at_end g s f (subst (HasEveryEnd g) h ends) ind) in omega (arith, z)
 heaviest_tree g w (e ∷ es) s t ok h ends f ind =
     bound g w s (far_end g s e) f (w e) (listed_weight w es) ok ind (far_out g s e h.0.across) h.0.heaviest
-      (λ f i. heaviest_tree g w es (and_also s (far_end g s e)) t ok h.1 ends f i)
+    (λ f i. heaviest_tree g w es (and_also s (far_end g s e)) t ok h.1 ends f i)

@@ -1,8 +1,8 @@
 -- The edges off a grown tree are a least set that determines the counts.
-use Rattle.std.proofs.Common.{◌≡◌, ◌≢◌, ℕ, zero, suc, ◌+◌, ◌<◌, ◌≤◌, ◌⊎◌, inl, inr, Bool, true, false, not, ◌||◌, ◌&&◌, cond, List, [], ◌∷◌, refl, ap, sym, ◌∙◌, subst, arith}
-use Rattle.std.specs.Prelude.{ℤ, pos, negsuc, ◌+ℤ◌, ◌-ℤ◌, ◌*ℤ◌, neg_ℤ, nat_abs, ◌==◌, if◌then◌else◌, IsTrue}
+use Rattle.std.proofs.Common.{◌≡◌, ℕ, ◌+◌, ◌<◌, ◌≤◌, ◌⊎◌, inl, inr, Bool, true, false, not, ◌||◌, cond, List, [], ◌∷◌, refl, ap, sym, ◌∙◌, arith}
+use Rattle.std.specs.Prelude.{ℤ, pos, ◌-ℤ◌, neg_ℤ, ◌==◌, if◌then◌else◌}
 use Rattle.std.proofs.lemmas.Int.{ints}
-use Rattle.std.proofs.lemmas.Bool.{cases_Bool, cases_eq, cases_lt, eqb-true, eqb-false, eq-eqb, ne_eqb}
+use Rattle.std.proofs.lemmas.Bool.{cases_eq, eq-eqb, ne_eqb}
 use Rattle.flows.specs.Flows.{Graph, NodeSet, EdgeSet, rest, IsGraph, IsFlow, Determines, AgreeOn, IsLeast, weight_of}
 use Rattle.flows.specs.Trees.{only, and_also, differ, crosses, far_end, Grows, HasEveryEnd, on}
 use Rattle.flows.proofs.Bools.{true_or_false, not_twice, or_true, or_right, or_parts_false}
@@ -22,19 +22,21 @@ pub ends_of : (g : Graph) (s : NodeSet) (e : ℕ) → crosses g s e ≡ true →
 ends_of g s e c = go (s (g.from e)) refl
   where
     go : (p : Bool) → s (g.from e) ≡ p → Ends g s e
-    go true h = 
+    go true h =
         let f : far_end g s e ≡ g.to e = ap (λ p. cond p (g.to e) (g.from e)) h in
         record {
           from_in = or_true (s (g.from e)) _ h;
           to_in = or_right (s (g.to e)) _ (eq-eqb (g.to e) (far_end g s e) (sym f));
-          one_new = inl (f, h) }
+          one_new = inl (f, h);
+        }
     go false h =
         let f : far_end g s e ≡ g.from e = ap (λ p. cond p (g.to e) (g.from e)) h in
         let t : s (g.to e) ≡ true = ap (λ p. differ p (s (g.to e))) (sym h) ∙ c in
         record {
           from_in = or_right (s (g.from e)) _ (eq-eqb (g.from e) (far_end g s e) (sym f));
           to_in = or_true (s (g.to e)) _ t;
-          one_new = inr (f, t) }
+          one_new = inr (f, t);
+        }
 
 pick_below : (b : Bool) (p q n : ℕ) → p < n → q < n → cond b p q < n
 pick_below true p q n h k = h
@@ -86,35 +88,45 @@ no_cycle g w (a ∷ es) s t ok h x wx bx = all (cleared (no_cycle g w es (and_al
   where
     v : ℕ
     v = far_end g s a
+
     d : Ends g s a
     d = ends_of g s a h.0.across
+
     within : Within g (on es) (clear x a)
     within e l f = go (cases_eq e a)
       where
         go : (e ≡ a) ⊎ (e ≡ a → ⊥) → clear x a e ≡ pos 0
         go (inl c) = ap (λ b. cond b (pos 0) (x e)) (eq-eqb e a c)
         go (inr c) = ap (λ b. cond b (pos 0) (x e)) (ne_eqb e a c) ∙ wx e l (ap (λ b. b || on es e) (ne_eqb e a c) ∙ f)
+
     apart : (u p : ℕ) → and_also s (far_end g s a) u ≡ false → and_also s (far_end g s a) p ≡ true → p ≡ u → ⊥
     apart u p m n c = true_or_false (and_also s (far_end g s a) p) n (ap (and_also s (far_end g s a)) c ∙ m)
+
     balanced : Balanced g (and_also s (far_end g s a)) (clear x a)
     balanced u l m = clear_net g x a u (apart u (g.from a) m d.from_in) (apart u (g.to a) m d.to_in) ∙ bx u l (or_parts_false (s u) _ m).0
+
     cleared : (Within g (on es) (clear x a) → Balanced g (and_also s (far_end g s a)) (clear x a) → (e : ℕ) → e < g.edges → clear x a e ≡ pos 0) → (e : ℕ) → e < g.edges → (e ≡ a → ⊥) → x e ≡ pos 0
     cleared f e l c = sym (ap (λ b. cond b (pos 0) (x e)) (ne_eqb e a c)) ∙ f within balanced e l
+
     other : (p : ℕ) → s p ≡ true → (p == far_end g s a) ≡ false
     other p m = ne_eqb p (far_end g s a) (λ c. true_or_false (s p) m (ap s c ∙ far_out g s a h.0.across))
+
     alone : ((e : ℕ) → e < g.edges → (e ≡ a → ⊥) → x e ≡ pos 0) → part (g.to a == far_end g s a) (g.from a == far_end g s a) (x a) ≡ pos 0
     alone f =
         sym (total_one g.edges (λ e. part (g.to e == far_end g s a) (g.from e == far_end g s a) (x e)) a h.0.inside
-          (λ e l c. ap (λ z. part (g.to e == far_end g s a) (g.from e == far_end g s a) z) (f e l c) ∙ part_zero (g.to e == far_end g s a) (g.from e == far_end g s a)))
+        (λ e l c. ap (λ z. part (g.to e == far_end g s a) (g.from e == far_end g s a) z) (f e l c) ∙ part_zero (g.to e == far_end g s a) (g.from e == far_end g s a)))
         ∙ bx (far_end g s a) (far_inside g s a ok h.0.inside) (far_out g s a h.0.across)
+
     neg_zero : (z : ℤ) → neg_ℤ z ≡ pos 0 → z ≡ pos 0
     neg_zero z c = omega (arith, ints, c)
+
     here : ((e : ℕ) → e < g.edges → (e ≡ a → ⊥) → x e ≡ pos 0) → x a ≡ pos 0
     here f = go d.one_new
       where
         go : ((far_end g s a ≡ g.to a) × (s (g.from a) ≡ true)) ⊎ ((far_end g s a ≡ g.from a) × (s (g.to a) ≡ true)) → x a ≡ pos 0
         go (inl p) = sym (part_by _ _ true false (x a) (eq-eqb (g.to a) (far_end g s a) (sym p.0)) (other (g.from a) p.1)) ∙ alone f
         go (inr p) = neg_zero (x a) (sym (part_by _ _ false true (x a) (other (g.to a) p.1) (eq-eqb (g.from a) (far_end g s a) (sym p.0))) ∙ alone f)
+
     all : ((e : ℕ) → e < g.edges → (e ≡ a → ⊥) → x e ≡ pos 0) → (e : ℕ) → e < g.edges → x e ≡ pos 0
     all f e l = go (cases_eq e a)
       where
@@ -128,11 +140,14 @@ determines_if g r d ok ind a b x y la lb fx fy agree e l = from_zero (x e) (y e)
   where
     from_zero : (p q : ℤ) → p -ℤ q ≡ pos 0 → p ≡ q
     from_zero p q z = omega (arith, ints, z)
+
     flip : (b : Bool) → not b ≡ false → b ≡ true
     flip true h = refl
     flip false h = absurd (cc)
+
     within : Within g (λ e. not (d e)) (λ e. x e -ℤ y e)
     within e l h = let q = agree e l (flip (d e) h) in omega (arith, ints, q)
+
     balanced : Balanced g (only r) (λ e. x e -ℤ y e)
     balanced v l h =
         let p = net_is g v x in
@@ -147,16 +162,20 @@ only_if g r d ok lr det z wz bz = det r r z (λ e. pos 0) lr lr flow none agree
     everywhere : (v : ℕ) → v < g.nodes → (v ≡ r) ⊎ (v ≡ r → ⊥) → net g (only v) z ≡ pos 0
     everywhere v l (inl c) = ap (λ v. net g (only v) z) c ∙ root_balanced g r z ok bz
     everywhere v l (inr c) = bz v l (ne_eqb v r c)
+
     flow : IsFlow g r r z
     flow v l = let a = net_is g v z in let b = everywhere v l (cases_eq v r) in omega (arith, ints, a, b)
+
     zero_if : (b : Bool) → cond b (pos 0) (pos 0) ≡ pos 0
     zero_if true = refl
     zero_if false = refl
+
     none : IsFlow g r r (λ e. pos 0)
     none v l =
         let a = total_zero g.edges (λ e. if g.to e == v then pos 0 else pos 0) (λ e b. zero_if (g.to e == v)) in
         let b = total_zero g.edges (λ e. if g.from e == v then pos 0 else pos 0) (λ e b. zero_if (g.from e == v)) in
         omega (arith, ints, a, b)
+
     agree : AgreeOn g d z (λ e. pos 0)
     agree e l h = wz e l (ap not h)
 
@@ -183,7 +202,8 @@ determines_alike g s r same h a b x y la lb fx fy agree = h a b x y la lb fx fy 
 pub least_alike : (g : Graph) (w : ℕ → ℕ) (s r : ℕ → Bool) → ((e : ℕ) → e < g.edges → r e ≡ s e) → IsLeast g w s → IsLeast g w r
 least_alike g w s r same h = record {
   determines = determines_alike g s r same h.determines;
-  least = λ other d. let k = h.least other d in let e = weight_same g.edges w r s same in omega (arith, k, e) }
+  least = λ other d. let k = h.least other d in let e = weight_same g.edges w r s same in omega (arith, k, e);
+}
 
 pub grows_keeps : (g : Graph) (w : ℕ → ℕ) (es : List ℕ) (s t : NodeSet) → Grows g w s es t → (u : ℕ) → s u ≡ true → t u ≡ true
 grows_keeps g w [] s t h u k = ap (λ (r : NodeSet). r u) h ∙ k

@@ -1,13 +1,11 @@
 -- What crosses into a set of nodes, and independent sets of edges.
-use Rattle.std.proofs.Common.{◌≡◌, ◌≢◌, ℕ, zero, suc, ◌+◌, ◌<◌, ◌≤◌, ◌⊎◌, inl, inr, Bool, true, false, not, ◌||◌, ◌&&◌, cond, refl, ap, sym, ◌∙◌, subst, arith, eqb, T}
-use Rattle.std.specs.Prelude.{ℤ, pos, negsuc, ◌+ℤ◌, ◌-ℤ◌, ◌*ℤ◌, neg_ℤ, nat_abs, IsTrue, ◌==◌, if◌then◌else◌}
+use Rattle.std.proofs.Common.{◌≡◌, ℕ, Bool, true, false, not, cond, refl, ap, sym, ◌∙◌, arith}
+use Rattle.std.specs.Prelude.{ℤ, pos, ◌+ℤ◌, ◌-ℤ◌, ◌*ℤ◌, neg_ℤ, ◌==◌, if◌then◌else◌}
 use Rattle.std.proofs.lemmas.Int.{ints}
-use Rattle.std.proofs.lemmas.Bool.{cases_Bool, cases_eq, eqb-true, eqb-false, eq-eqb, ne_eqb, cases_lt, false_from_ne_true}
-use Rattle.std.proofs.lemmas.Bool.Decides.{nat_tests}
-use lib.IntN.{*ℤ_comm, *ℤ-zero}
-use Rattle.flows.specs.Flows.{Graph, NodeSet, EdgeSet, IsGraph, total, sum_in, sum_out, one_at, IsFlow, AgreeOn, Agree, Determines}
-use Rattle.flows.specs.Trees.{only, crosses}
-use Rattle.flows.proofs.Sums.{mul_add, zero_or_not, factor_zero, total_same, total_zero, total_add, total_sub, total_scale}
+use lib.IntN.{*ℤ-zero}
+use Rattle.flows.specs.Flows.{Graph, NodeSet, total, sum_in, sum_out}
+use Rattle.flows.specs.Trees.{only}
+use Rattle.flows.proofs.Sums.{mul_add, total_same, total_sub, total_scale}
 
 -- the part of an edge whose head is in the set where p, and its tail where q
 abbrev pub part : Bool → Bool → ℤ → ℤ
@@ -43,7 +41,7 @@ part_same false z = refl
 part_mix : (p q : Bool) (k l y z : ℤ) → part p q (k *ℤ y -ℤ l *ℤ z) ≡ k *ℤ part p q y -ℤ l *ℤ part p q z
 part_mix true true k l y z = omega (arith, ints, *ℤ-zero k, *ℤ-zero l)
 part_mix true false k l y z = refl
-part_mix false true k l y z = 
+part_mix false true k l y z =
     let a : k *ℤ neg_ℤ y +ℤ k *ℤ y ≡ k *ℤ (neg_ℤ y +ℤ y) = sym (mul_add k (neg_ℤ y) y) in
     let b : l *ℤ neg_ℤ z +ℤ l *ℤ z ≡ l *ℤ (neg_ℤ z +ℤ z) = sym (mul_add l (neg_ℤ z) z) in
     let c : neg_ℤ y +ℤ y ≡ pos 0 = omega (arith, ints) in
@@ -70,8 +68,8 @@ net_mix g u k l y z =
     total_same g.edges _ _ (λ e b. part_mix (u (g.to e)) (u (g.from e)) k l (y e) (z e))
     ∙ total_sub g.edges (λ e. k *ℤ part (u (g.to e)) (u (g.from e)) (y e)) (λ e. l *ℤ part (u (g.to e)) (u (g.from e)) (z e))
     ∙ let a = total_scale g.edges k (λ e. part (u (g.to e)) (u (g.from e)) (y e)) in
-      let b = total_scale g.edges l (λ e. part (u (g.to e)) (u (g.from e)) (z e)) in
-      omega (arith, ints, a, b)
+    let b = total_scale g.edges l (λ e. part (u (g.to e)) (u (g.from e)) (z e)) in
+    omega (arith, ints, a, b)
 
 pub net_sub : (g : Graph) (u : NodeSet) (y z : ℕ → ℤ) → net g u (λ e. y e -ℤ z e) ≡ net g u y -ℤ net g u z
 net_sub g u y z =

@@ -1,10 +1,9 @@
 -- Spanning trees, and how growth tells them.
-use Rattle.std.proofs.Common.{◌≡◌, ℕ, zero, suc, ◌+◌, ◌<◌, ◌≤◌, ◌⊎◌, inl, inr, Bool, true, false, not, ◌||◌, cond, List, [], ◌∷◌, refl, ap, sym, ◌∙◌, subst, arith}
-use Rattle.std.specs.Prelude.{◌==◌, if◌then◌else◌, IsTrue}
-use Rattle.std.proofs.lemmas.Bool.{cases_Bool, cases_eq, cases_lt, eqb-true, eq-eqb, ne_eqb}
+use Rattle.std.proofs.Common.{◌≡◌, ℕ, zero, suc, ◌+◌, ◌<◌, ◌≤◌, ◌⊎◌, inl, inr, Bool, true, false, not, ◌||◌, cond, List, [], ◌∷◌, refl, ap, sym, ◌∙◌, arith}
+use Rattle.std.specs.Prelude.{◌==◌, if◌then◌else◌}
+use Rattle.std.proofs.lemmas.Bool.{cases_Bool, cases_eq, eqb-true, eq-eqb, ne_eqb}
 use Rattle.flows.specs.Flows.{Graph, NodeSet, EdgeSet, rest, IsGraph, Determines, count_below}
 use Rattle.flows.specs.Trees.{NoneCrosses, JoinsAll, IsSpanningTree, HasEveryEnd, only, and_also, crosses, far_end, IsWhole, IsHeaviest, Grows, on, IsConnected}
-use Rattle.flows.specs.Walks.{takes}
 use Rattle.flows.proofs.Bools.{true_or_false, or_true, or_right, or_no, or_swap, not_twice, differ_equal, or_cases}
 use Rattle.flows.proofs.Grown.{far_out, listed_weight}
 use Rattle.flows.proofs.Least.{Ends, ends_of, far_inside, listed_is, no_cycle, determines_if, grows_keeps}
@@ -50,13 +49,16 @@ same_set (suc n) s d h l e m = go (cases_eq e n) (same_set n s d (λ e l. h e (o
   where
     first : count_below n s ≤ count_below n d
     first = part_count n s d (λ e l. h e (omega arith))
+
     step : (p q : Bool) → (p ≡ true → q ≡ true) → count_below n d + cond q 1 0 ≤ count_below n s + cond p 1 0 → count_below n s ≤ count_below n d → (p ≡ q) × (count_below n d ≤ count_below n s)
     step true true f a b = (refl, omega arith)
     step true false f a b = let c : false ≡ true = f refl in absurd (cc)
     step false true f a b = absurd (omega arith)
     step false false f a b = (refl, omega arith)
+
     last : (s n ≡ d n) × (count_below n d ≤ count_below n s)
     last = step (s n) (d n) (h n (omega arith)) l first
+
     go : (e ≡ n) ⊎ (e ≡ n → ⊥) → (count_below n d ≤ count_below n s → (e : ℕ) → e < n → s e ≡ d e) → s e ≡ d e
     go (inl c) f = ap s c ∙ last.0 ∙ ap d (sym c)
     go (inr c) f = f last.1 e (omega arith)
@@ -80,11 +82,14 @@ kept g w (e ∷ es) s t q c h n a u m =
   where
     d : Ends g s e
     d = ends_of g s e h.0.across
+
     same : q (g.from e) ≡ q (g.to e)
     same = n e h.0.inside (or_true (e == e) (on es e) (eq-eqb e e refl))
+
     new : ((far_end g s e ≡ g.to e) × (s (g.from e) ≡ true)) ⊎ ((far_end g s e ≡ g.from e) × (s (g.to e) ≡ true)) → q (far_end g s e) ≡ c
     new (inl p) = ap q p.0 ∙ sym same ∙ a (g.from e) p.1
     new (inr p) = ap q p.0 ∙ same ∙ a (g.to e) p.1
+
     go : (u : ℕ) → (s u ≡ true) ⊎ (s u ≡ false) → (s u || (u == far_end g s e)) ≡ true → q u ≡ c
     go u (inl p) o = a u p
     go u (inr p) o = ap q (eqb-true u (far_end g s e) (sym (ap (λ b. b || (u == far_end g s e)) p) ∙ o)) ∙ new d.one_new
@@ -109,7 +114,8 @@ pub grown_spans : (g : Graph) (is_node : NodeSet) (w : ℕ → ℕ) (r : ℕ) (e
     ((v : ℕ) → v < g.nodes → t v ≡ is_node v) → IsSpanningTree g is_node (on es)
 grown_spans g is_node w r es t ok lr h same = record {
   joins = grown_joins g is_node w r es t h (λ v l n. same v l ∙ n);
-  size = grown_size g w r es t ok lr h ∙ weight_same g.nodes (λ e. 1) t is_node same }
+  size = grown_size g w r es t ok lr h ∙ weight_same g.nodes (λ e. 1) t is_node same;
+}
 
 -- ---- growth at the weight 1 for the edges of d, and 0 for the others
 abbrev pub one_if : (ℕ → Bool) → ℕ → ℕ
@@ -121,7 +127,7 @@ search_edge g d s zero = inr (λ e l. absurd (omega arith))
 search_edge g d s (suc n) = go (search_edge g d s n) (cases_Bool (d n)) (cases_Bool (crosses g s n))
   where
     go : ((e : ℕ) × (e < n) × (d e ≡ true) × (crosses g s e ≡ true)) ⊎ ((e : ℕ) → e < n → d e ≡ true → s (g.from e) ≡ s (g.to e)) → (d n ≡ true) ⊎ (d n ≡ false) → (crosses g s n ≡ true) ⊎ (crosses g s n ≡ false)
-      → ((e : ℕ) × (e < suc n) × (d e ≡ true) × (crosses g s e ≡ true)) ⊎ ((e : ℕ) → e < suc n → d e ≡ true → s (g.from e) ≡ s (g.to e))
+        → ((e : ℕ) × (e < suc n) × (d e ≡ true) × (crosses g s e ≡ true)) ⊎ ((e : ℕ) → e < suc n → d e ≡ true → s (g.from e) ≡ s (g.to e))
     go (inl (e, l, p, q)) a b = inl (e, omega arith, p, q)
     go (inr f) (inl p) (inl q) = inl (n, omega arith, p, q)
     go (inr f) (inr p) b = inr (λ e l m. at e l m (cases_eq e n))
@@ -157,11 +163,14 @@ grown_in g is_node d r (e ∷ es) s t ok ends lr nr sr j h =
     in_d : (b : Bool) → 1 ≤ cond b 1 0 → b ≡ true
     in_d true l = refl
     in_d false l = absurd (omega arith)
+
     pick : (b : Bool) (p q : ℕ) → is_node p ≡ true → is_node q ≡ true → is_node (cond b p q) ≡ true
     pick true p q h k = h
     pick false p q h k = k
+
     far_node : is_node (far_end g s e) ≡ true
     far_node = pick (s (g.from e)) (g.to e) (g.from e) (ends e h.0.inside).1 (ends e h.0.inside).0
+
     here : ((i : ℕ) × (i < g.edges) × (d i ≡ true) × (crosses g s i ≡ true)) ⊎ ((i : ℕ) → i < g.edges → d i ≡ true → s (g.from i) ≡ s (g.to i)) → d e ≡ true
     here (inl (i, l, p, q)) =
         let a = h.0.heaviest i l q in
@@ -177,9 +186,10 @@ tree_if g is_node d r es t ok lr h all inside size = (same, record { joins = joi
   where
     joins : JoinsAll g is_node d
     joins q n = grown_joins g is_node (one_if d) r es t h all q (λ e l o. n e l (on_in d es e inside o))
+
     same : (e : ℕ) → e < g.edges → on es e ≡ d e
     same = same_set g.edges (on es) d (λ e l o. on_in d es e inside o)
-             (let a = grown_size g (one_if d) r es t ok lr h in let b = part_count g.nodes is_node t all in omega (arith, a, b, size))
+        (let a = grown_size g (one_if d) r es t ok lr h in let b = part_count g.nodes is_node t all in omega (arith, a, b, size))
 
 pub tree_only_if : (g : Graph) (is_node : NodeSet) (d : EdgeSet) (r : ℕ) (es : List ℕ) (t : NodeSet) → IsGraph g → HasEveryEnd g is_node → r < g.nodes → is_node r ≡ true → Grows g (one_if d) (only r) es t →
     IsWhole g t → IsSpanningTree g is_node d → ((v : ℕ) → v < g.nodes → is_node v ≡ true → t v ≡ true) × AllIn d es
@@ -208,7 +218,7 @@ fewer_outside : (g : Graph) (s : NodeSet) (e : ℕ) → IsGraph g → e < g.edge
 fewer_outside g s e ok l c =
     weight_same g.nodes (λ e. 1) (λ v. not (s v)) (λ v. (v == far_end g s e) || not (s v || (v == far_end g s e))) (λ v m. same v (cases_eq v (far_end g s e)))
     ∙ weight_more g.nodes (λ e. 1) (λ v. not (s v || (v == far_end g s e))) (far_end g s e) (far_inside g s e ok l)
-        (ap not (or_right (s (far_end g s e)) _ (eq-eqb (far_end g s e) (far_end g s e) refl)))
+    (ap not (or_right (s (far_end g s e)) _ (eq-eqb (far_end g s e) (far_end g s e) refl)))
   where
     same : (v : ℕ) → (v ≡ far_end g s e) ⊎ (v ≡ far_end g s e → ⊥) → not (s v) ≡ ((v == far_end g s e) || not (s v || (v == far_end g s e)))
     same v (inl k) = ap not (ap s k ∙ far_out g s e c) ∙ sym (or_true (v == far_end g s e) _ (eq-eqb v (far_end g s e) k))
@@ -224,7 +234,7 @@ grow_in g d zero s ok small = go (search_edge g d s g.edges)
 grow_in g d (suc most) s ok small = go (search_edge g d s g.edges) (λ e. grow_in g d most (and_also s (far_end g s e)) ok)
   where
     go : ((e : ℕ) × (e < g.edges) × (d e ≡ true) × (crosses g s e ≡ true)) ⊎ ((e : ℕ) → e < g.edges → d e ≡ true → s (g.from e) ≡ s (g.to e)) →
-      ((e : ℕ) → count_below g.nodes (λ v. not (and_also s (far_end g s e) v)) ≤ most → GrownIn g d (and_also s (far_end g s e))) → GrownIn g d s
+        ((e : ℕ) → count_below g.nodes (λ v. not (and_also s (far_end g s e) v)) ≤ most → GrownIn g d (and_also s (far_end g s e))) → GrownIn g d s
     go (inr n) more = record { edges = []; reached = s; grows = refl; inside = tt; none = n }
     go (inl (e, l, t, c)) more =
         let k = fewer_outside g s e ok l c in
@@ -244,8 +254,10 @@ off_tree_determines g is_node t ok tree = go (some_number g.nodes is_node (let s
       where
         k : GrownIn g t (only r)
         k = grow_from g t r ok
+
         all : (v : ℕ) → v < g.nodes → is_node v ≡ true → k.reached v ≡ true
         all v l n = tree.joins k.reached k.none v r l lr n nr ∙ grows_keeps g (one_if t) k.edges (only r) k.reached k.grows r (eq-eqb r r refl)
+
         same : (e : ℕ) → e < g.edges → on k.edges e ≡ t e
         same = (tree_if g is_node t r k.edges k.reached ok lr k.grows all k.inside tree.size).0
 
@@ -259,6 +271,7 @@ reached_nodes g is_node w (e ∷ es) s t ends h a v m = reached_nodes g is_node 
     pick : (b : Bool) (p q : ℕ) → is_node p ≡ true → is_node q ≡ true → is_node (cond b p q) ≡ true
     pick true p q h k = h
     pick false p q h k = k
+
     more : (v : ℕ) → and_also s (far_end g s e) v ≡ true → is_node v ≡ true
     more v m = go (or_cases (s v) (v == far_end g s e) m)
       where
@@ -293,4 +306,5 @@ connected_spans g is_node w r es t ok lr c h whole =
 pub spanning_alike : (g : Graph) (is_node : NodeSet) (s t : EdgeSet) → ((e : ℕ) → e < g.edges → s e ≡ t e) → IsSpanningTree g is_node s → IsSpanningTree g is_node t
 spanning_alike g is_node s t same h = record {
   joins = λ q n. h.joins q (λ e l o. n e l (sym (same e l) ∙ o));
-  size = ap (λ n. n + 1) (weight_same g.edges (λ e. 1) t s (λ e l. sym (same e l))) ∙ h.size }
+  size = ap (λ n. n + 1) (weight_same g.edges (λ e. 1) t s (λ e l. sym (same e l))) ∙ h.size;
+}

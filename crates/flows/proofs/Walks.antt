@@ -1,12 +1,12 @@
 -- How often a walk takes each edge is a flow.
-use Rattle.std.proofs.Common.{◌≡◌, ◌≢◌, ℕ, zero, suc, ◌+◌, ◌<◌, ◌≤◌, ◌⊎◌, inl, inr, Bool, true, false, not, ◌||◌, ◌&&◌, cond, List, [], ◌∷◌, refl, ap, sym, ◌∙◌, subst, arith}
-use Rattle.std.specs.Prelude.{ℤ, pos, negsuc, ◌+ℤ◌, ◌-ℤ◌, neg_ℤ, ◌==◌, if◌then◌else◌}
+use Rattle.std.proofs.Common.{◌≡◌, ℕ, ◌+◌, ◌<◌, Bool, true, false, cond, List, [], ◌∷◌, refl, ap, ◌∙◌, arith}
+use Rattle.std.specs.Prelude.{pos, ◌+ℤ◌, ◌==◌, if◌then◌else◌}
 use Rattle.std.proofs.lemmas.Int.{ints}
-use Rattle.std.proofs.lemmas.Bool.{cases_eq, eq-eqb, ne_eqb}
-use Rattle.flows.specs.Flows.{Graph, total, sum_in, sum_out, one_at, IsFlow}
+use Rattle.std.proofs.lemmas.Bool.{eq-eqb, ne_eqb}
+use Rattle.flows.specs.Flows.{Graph, total, one_at, IsFlow}
 use Rattle.flows.specs.Walks.{IsWalk, times}
 use Rattle.flows.proofs.Bools.{eqb_swap}
-use Rattle.flows.proofs.Sums.{total_same, total_zero, total_add, total_change}
+use Rattle.flows.proofs.Sums.{total_zero, total_change}
 
 -- the edges into or out of v, by their ends
 ends_total : (n : ℕ) (end : ℕ → ℕ) (v x : ℕ) (xs : List ℕ) → x < n →
@@ -15,12 +15,15 @@ ends_total n end v x xs l = go
   where
     new : (i : ℕ) → (i ≡ x → ⊥) → (cond (end i == v) (pos (cond (i == x) 1 0 + times xs i)) (pos 0)) ≡ cond (end i == v) (pos (times xs i)) (pos 0)
     new i c = ap (λ b. cond (end i == v) (pos (cond b 1 0 + times xs i)) (pos 0)) (ne_eqb i x c) ∙ ap (λ k. cond (end i == v) (pos k) (pos 0)) (omega arith)
+
     by : (b : Bool) (k : ℕ) → cond b (pos (1 + k)) (pos 0) ≡ cond b (pos k) (pos 0) +ℤ cond b (pos 1) (pos 0)
     by true k = omega (arith, ints)
     by false k = refl
+
     at : cond (end x == v) (pos (cond (x == x) 1 0 + times xs x)) (pos 0) ≡ cond (end x == v) (pos (times xs x)) (pos 0) +ℤ one_at (end x) v
     at = ap (λ b. cond (end x == v) (pos (cond b 1 0 + times xs x)) (pos 0)) (eq-eqb x x refl)
         ∙ by (end x == v) (times xs x) ∙ ap (λ b. cond (end x == v) (pos (times xs x)) (pos 0) +ℤ cond b (pos 1) (pos 0)) (eqb_swap (end x) v)
+
     go : total n (λ e. if end e == v then pos (times (x ∷ xs) e) else pos 0) ≡ total n (λ e. if end e == v then pos (times xs e) else pos 0) +ℤ one_at (end x) v
     go =
         let p = total_change n (λ e. if end e == v then pos (times (x ∷ xs) e) else pos 0) (λ e. if end e == v then pos (times xs e) else pos 0) x l (λ i m c. new i c) in

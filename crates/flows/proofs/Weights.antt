@@ -1,7 +1,7 @@
 -- Weights of sets of edges.
-use Rattle.std.proofs.Common.{◌≡◌, ◌≢◌, ℕ, zero, suc, ◌+◌, ◌<◌, ◌≤◌, ◌⊎◌, inl, inr, Bool, true, false, not, ◌||◌, ◌&&◌, cond, refl, ap, sym, ◌∙◌, subst, arith}
-use Rattle.std.specs.Prelude.{◌==◌, if◌then◌else◌}
-use Rattle.std.proofs.lemmas.Bool.{cases_eq, eqb-true, eqb-false, eq-eqb, ne_eqb}
+use Rattle.std.proofs.Common.{◌≡◌, ℕ, zero, suc, ◌+◌, ◌<◌, ◌⊎◌, inl, inr, Bool, true, false, not, ◌||◌, ◌&&◌, cond, refl, ap, sym, ◌∙◌, arith}
+use Rattle.std.specs.Prelude.{◌==◌}
+use Rattle.std.proofs.lemmas.Bool.{cases_eq, eqb-true, eq-eqb, ne_eqb}
 use Rattle.flows.proofs.Bools.{and_no, and_yes}
 use Rattle.flows.specs.Flows.{weight_below}
 
@@ -74,6 +74,7 @@ weight_rest n w s =
     never : (b : Bool) → b ≡ true → not b ≡ true → ⊥
     never true p q = absurd (cc)
     never false p q = absurd (cc)
+
     either : (b : Bool) → (b || not b) ≡ true
     either true = refl
     either false = refl

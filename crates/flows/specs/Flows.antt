@@ -1,6 +1,6 @@
 -- Flows on a graph, and the sets of edges whose counts determine all counts, after Ball and Larus,
 -- "Optimally Profiling and Tracing Programs", ACM TOPLAS 16 (4), 1994.
-use Rattle.std.specs.Prelude.{◌≡◌, ℕ, zero, suc, ◌+◌, ◌<◌, ◌≤◌, Bool, not, ℤ, pos, ◌+ℤ◌, IsTrue, if◌then◌else◌, ◌==◌, cond}
+use Rattle.std.specs.Prelude.{◌≡◌, ℕ, zero, suc, ◌+◌, ◌<◌, ◌≤◌, Bool, not, ℤ, pos, ◌+ℤ◌, IsTrue, if◌then◌else◌, ◌==◌}
 
 -- nodes and edges are numbers: each edge e below `edges` leads from node `from e` to node `to e`
 pub record Graph : Type 0 where

@@ -1,7 +1,7 @@
 -- A graph as a list of links.
 use Rattle.std.specs.Prelude.{ℕ, ◌<◌, Bool, false, List, length, slice_index, slice_index_or, IsTrue}
 use Rattle.std.specs.List.{All}
-use Rattle.flows.specs.Flows.{Graph, NodeSet}
+use Rattle.flows.specs.Flows.{Graph}
 use Rattle.flows.specs.declared.Link.{Link}
 
 abbrev pub link_at : List Link → ℕ → Link
@@ -13,7 +13,8 @@ graph_of n links = record {
   nodes = n;
   edges = length links;
   from = λ e. (link_at links e).from;
-  to = λ e. (link_at links e).to }
+  to = λ e. (link_at links e).to;
+}
 
 -- both ends of each link are below n
 abbrev pub IsLinked : ℕ → List Link → Type 0

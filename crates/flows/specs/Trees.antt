@@ -1,5 +1,5 @@
 -- Spanning trees, and how a tree grows from one node, one edge after the other.
-use Rattle.std.specs.Prelude.{◌≡◌, ℕ, zero, suc, ◌+◌, ◌<◌, ◌≤◌, Bool, true, false, not, ◌||◌, List, [], ◌∷◌, IsTrue, if◌then◌else◌, ◌==◌}
+use Rattle.std.specs.Prelude.{◌≡◌, ℕ, ◌+◌, ◌<◌, ◌≤◌, Bool, true, false, not, ◌||◌, List, [], ◌∷◌, IsTrue, if◌then◌else◌, ◌==◌}
 use Rattle.flows.specs.Flows.{Graph, NodeSet, EdgeSet, count_below}
 
 -- no edge of t joins a node of s with a node outside

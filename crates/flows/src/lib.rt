@@ -19,7 +19,9 @@ pub struct Link {
 pub fn is_linked(nodes: usize, links: &[Link]) -> bool
     ensures { IsTrue result ↔ IsLinked nodes links.now }
 {
-    links.iter().all(|link| link.from < nodes && link.to < nodes)
+    links
+        .iter()
+        .all(|link| link.from < nodes && link.to < nodes)
 }
 
 /// Whether the list marks a number. It marks none past its end.
@@ -39,29 +41,24 @@ pub fn joins_nodes(is_node: &[bool], links: &[Link]) -> bool
 /// The counts of a walk obey the law of flow at each node.
 pub fn walks_are_flows()
     ensures { WalksAreFlows }
-{
-}
+{}
 
 /// Which edges need no counter: those that have no cycle among them.
 pub fn determines_where_no_cycle()
     ensures { DeterminesWhereNoCycle }
-{
-}
+{}
 
 /// Counters off any spanning tree are enough.
 pub fn agree_off_spanning_tree()
     ensures { AgreeOffSpanningTree }
-{
-}
+{}
 
 /// Counters off a heaviest tree weigh least, among all sets of edges.
 pub fn least_off_heaviest_tree()
     ensures { LeastOffHeaviestTree }
-{
-}
+{}
 
 /// Growth from one node makes a spanning tree.
 pub fn grown_trees_span()
     ensures { GrownTreesSpan }
-{
-}
+{}
