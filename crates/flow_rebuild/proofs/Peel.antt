@@ -149,17 +149,16 @@ start_settled n links tree a b values h ends ta tb unset = record {
   done = λ u l c. excess_outside (graph_of n links) a b (int_at values) (reached_by tree) u ends ta tb c;
 }
 
-pub start_peeled : (n : ℕ) (links : List Link) (tree : Tree) (a b : ℕ) (left : List Join) (values ex : List ℤ) → left ≡ tree.joins.items →
-    IsGrown (graph_of n links) tree → HasEveryEnd (graph_of n links) (reached_by tree) → reached_by tree a ≡ true → reached_by tree b ≡ true → length values ≡ length links → length ex ≡ n →
-    ((e : ℕ) → on (edges_of tree) e ≡ true → int_at values e ≡ pos 0) → ((u : ℕ) → u < n → int_at ex u ≡ excess (graph_of n links) a b (int_at values) u) →
+pub start_peeled : (n m : ℕ) (links : List Link) (tree : Tree) (a b : ℕ) (left : List Join) (values ex : List ℤ) → m ≡ n → left ≡ tree.joins.items →
+    IsGrown (graph_of n links) tree → HasEveryEnd (graph_of n links) (reached_by tree) → reached_by tree a ≡ true → reached_by tree b ≡ true → length values ≡ length links → length ex ≡ m →
+    ((e : ℕ) → on (edges_of tree) e ≡ true → int_at values e ≡ pos 0) → ((u : ℕ) → u < m → int_at ex u ≡ excess (graph_of m links) a b (int_at values) u) →
     IsPeeled n links tree.root a b left values ex
-start_peeled n links tree a b left values ex e h ends ta tb lv le unset is = subst (λ (js : List Join). IsPeeled n links tree.root a b js values ex) (sym e) (record {
-  values_len = lv;
-  excess_len = le;
-  settled = start_settled n links tree a b values h ends ta tb unset;
-  joined = h.nodes;
-  excesses = is;
-})
+start_peeled n m links tree a b left values ex c e h ends ta tb lv le unset is = subst (λ (js : List Join). IsPeeled n links tree.root a b js values ex) (sym e) (record {
+    values_len = lv;
+    excess_len = le ∙ c;
+    settled = start_settled n links tree a b values h ends ta tb unset;
+    joined = h.nodes;
+    excesses = λ u l. is u (omega (arith, c)) })
 
 -- a tree has numbers of nodes alone
 pub reached_below : (n : ℕ) (links : List Link) (tree : Tree) (v : ℕ) → IsGrown (graph_of n links) tree → reached_by tree v ≡ true → v < n

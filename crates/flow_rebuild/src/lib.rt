@@ -3,11 +3,11 @@
 //! Source: Thomas Ball and James R. Larus, "Optimally Profiling and Tracing Programs", ACM TOPLAS 16 (4), 1994.
 #![tactic(auto)]
 
-ghost use Rattle.std.specs.Prelude.{◌≡◌, ℕ, ◌+◌, ◌*◌, ◌^◌, ◌<◌, ◌≤◌, length, slice_set, pos, ◌+ℤ◌, nat_abs, IfOk, negsuc, replicate, false, true, IsTrue};
+ghost use Rattle.std.specs.Prelude.{◌≡◌, ◌↔◌, ℕ, ◌+◌, ◌*◌, ◌^◌, ◌<◌, ◌≤◌, length, slice_set, pos, ◌+ℤ◌, nat_abs, IfOk, negsuc, replicate, false, true, IsTrue};
 ghost use Rattle.std.specs.List.{All};
 ghost use Rattle.flows.specs.Flows.{IsTheFlow, rest};
-ghost use Rattle.flows.specs.Trees.{HasEveryEnd, on};
-ghost use Rattle.flows.specs.Links.{graph_of, IsLinked};
+ghost use Rattle.flows.specs.Trees.{on};
+ghost use Rattle.flows.specs.Links.{graph_of, IsLinked, JoinsNodes};
 ghost use Rattle.flow_tree.specs.Tree.{edges_of, edges_in, reached_by, IsGrown};
 ghost use Rattle.flow_rebuild.specs.Excess.{excess};
 ghost use Rattle.flow_rebuild.specs.Values.{int_at, abs_sum, other_node, carries, added, passed};
@@ -123,39 +123,31 @@ fn cleared(alloc: Global, values: &[i128], joins: &[Join]) -> Result<Vec<i128>, 
     Ok(cleared)
 }
 
+/// Whether each value is one that a counter of 64 bits holds, or the negative of one.
+pub fn fit_counters(values: &[i128]) -> bool
+    ensures { IsTrue result ↔ All (λ z. nat_abs z < 2 ^ 64) values.now }
+{
+    values.iter().all(|value| value.unsigned_abs() < 1 << 64)
+}
+
 /// The one flow from `start` to `end` that has the given values off the tree.
 ///
-/// `values` has one value for each link, as a counter of 64 bits holds it or its negative; those on the tree are not read.
-/// The tree has `start`, `end` and both ends of each edge. Linear in the number of nodes and links.
-pub fn rebuild(
-    alloc: Global,
-    nodes: usize,
-    links: &[Link],
-    tree: &Tree,
-    values: &[i128],
-    start: usize,
-    end: usize,
-) -> Result<Vec<i128>, AllocError>
-    requires linked { IsLinked nodes links.now }
-    requires tree { IsGrown (graph_of nodes links.now) tree.now }
-    requires ends { HasEveryEnd (graph_of nodes links.now) (reached_by tree.now) }
+/// `values` has one value for each link; those on the tree are not read. The tree has `start`, `end` and both ends of each
+/// link. The time is linear in the number of nodes and links.
+pub fn rebuild(alloc: Global, links: &[Link], tree: &Tree, values: &[i128], start: usize, end: usize) -> Result<Vec<i128>, AllocError>
+    requires tree { IsGrown (graph_of (length tree.now.reached.items) links.now) tree.now }
+    requires ends { JoinsNodes tree.now.reached.items links.now }
     requires start { IsTrue (reached_by tree.now start) }
     requires end { IsTrue (reached_by tree.now end) }
     requires values { length values.now ≡ length links.now }
     requires small { All (λ z. nat_abs z < 2 ^ 64) values.now }
     ensures len { IfOk result (λ x. length x.items ≡ length links.now) }
-    ensures flow { IfOk result (λ x. IsTheFlow (graph_of nodes links.now) (rest (on (edges_of tree.now))) start end (int_at values.now) (int_at x.items)) }
+    ensures flow { IfOk result (λ x. IsTheFlow (graph_of (length tree.now.reached.items) links.now) (rest (on (edges_of tree.now))) start end (int_at values.now) (int_at x.items)) }
 {
     let mut flow = cleared(alloc, values, &tree.joins)?;
-    let mut excess = excesses(alloc, nodes, links, &flow, start, end)?;
+    let mut excess = excesses(alloc, tree.reached.len(), links, &flow, start, end)?;
     for join in tree.joins.iter().rev() {
-        settle(
-            &mut flow,
-            &mut excess,
-            links[join.edge],
-            join.edge,
-            join.node,
-        );
+        settle(&mut flow, &mut excess, links[join.edge], join.edge, join.node);
     }
     Ok(flow)
 }

@@ -5,7 +5,7 @@ ghost use Rattle.std.specs.List.{All};
 ghost use Rattle.flows.specs.Flows.{count_below, rest};
 ghost use Rattle.flows.specs.Trees.{IsSpanningTree, on};
 ghost use Rattle.flows.specs.Links.{graph_of, marked, JoinsNodes};
-ghost use Rattle.flow_tree.specs.Tree.{edges_of, reached_by, IsGrown};
+ghost use Rattle.flow_tree.specs.Tree.{edges_of, IsGrown};
 
 use crate::growth::grow;
 use crate::{Join, Tree};
@@ -61,7 +61,7 @@ pub fn span(
     ensures exactly { IfOk result (λ o. IsSome o ↔ IsSpanningTree (graph_of (length is_node.now) links.now) (marked is_node.now) (rest (marked counted.now))) }
     ensures root { IfOk result (λ o. IfSome o (λ t. t.root ≡ root)) }
     ensures grown { IfOk result (λ o. IfSome o (λ t. IsGrown (graph_of (length is_node.now) links.now) t)) }
-    ensures reached { IfOk result (λ o. IfSome o (λ t. (v : ℕ) → v < length is_node.now → reached_by t v ≡ marked is_node.now v)) }
+    ensures reached { IfOk result (λ o. IfSome o (λ t. t.reached.items ≡ is_node.now)) }
     ensures edges { IfOk result (λ o. IfSome o (λ t. (e : ℕ) → e < length links.now → on (edges_of t) e ≡ rest (marked counted.now) e)) }
 {
     let weights = weights(alloc, counted)?;

@@ -1,5 +1,8 @@
-use Rattle.std.proofs.Common.{rules, ◌≡◌, ◌+◌, length, true, refl, arith, sym, ◌∙◌, subst, List}
+use Rattle.std.proofs.Common.{false, ℕ, ◌<◌, subst, rules, ◌≡◌, ◌+◌, length, true, refl, arith, sym, ◌∙◌, List}
 use Rattle.std.specs.List.{All}
+use Rattle.std.proofs.lemmas.List.{ext_get_or}
+use Rattle.flow_tree.proofs.spanning.span.Goals as goal
+use Rattle.flow_tree.proofs.spanning.span.Goals.{then-len-nodes-via-then-len-nodes, then-len-nodes-via-else-len-nodes+then-uncounted-nodes}
 use Rattle.flows.specs.Flows.{rest, count_below}
 use Rattle.flows.specs.Links.{marked, graph_of}
 use Rattle.flows.specs.Trees.{IsSpanningTree}
@@ -7,8 +10,6 @@ use Rattle.flows.proofs.Bools.{true_or_false}
 use Rattle.flow_tree.specs.Tree.{reached_by}
 use Rattle.flow_tree.specs.declared.Join.{Join}
 use Rattle.flow_tree.proofs.Check.{reached, is_tree, tree_taken, uncounted_many, from_root, tree_length}
-use Rattle.flow_tree.proofs.spanning.span.Goals as goal
-use Rattle.flow_tree.proofs.spanning.span.Goals.{then-len-nodes-via-then-len-nodes, then-len-nodes-via-else-len-nodes+then-uncounted-nodes}
 
 pub returns-then-len-nodes-clause-exactly : goal.returns-then-len-nodes-clause-exactly
 returns-then-len-nodes-clause-exactly c = (λ t. absurd (cc), λ s. absurd (wrong s))
@@ -56,4 +57,5 @@ returns-clause-edges c =
     nodes = search rules
 
 pub returns-clause-reached : goal.returns-clause-reached
-returns-clause-reached c = reached c.args.is_node.now c.args.links.now c.args.root c.args.counted.now c.deref.result.now c.in_ok-tree.tree.joins.items (reached_by c.in_ok-tree.tree) c.requires.nodes c.requires.root c.requires.counted (c.deref.ensures.value ∙ c.in_ok-weights.ensures) (from_root _ _ c.in_ok-tree.tree c.args.root c.in_ok-tree.ensures.root c.in_ok-tree.ensures.heaviest) (search rules)
+returns-clause-reached c =
+    ext_get_or false c.in_ok-tree.tree.reached.items c.args.is_node.now c.in_ok-tree.ensures.grown.len (λ v l. reached c.args.is_node.now c.args.links.now c.args.root c.args.counted.now c.deref.result.now c.in_ok-tree.tree.joins.items (reached_by c.in_ok-tree.tree) c.requires.nodes c.requires.root c.requires.counted (c.deref.ensures.value ∙ c.in_ok-weights.ensures) (from_root _ _ c.in_ok-tree.tree c.args.root c.in_ok-tree.ensures.root c.in_ok-tree.ensures.heaviest) (search rules) v (subst (λ (n : ℕ). v < n) c.in_ok-tree.ensures.grown.len l))
