@@ -154,11 +154,12 @@ pub start_peeled : (n m : ℕ) (links : List Link) (tree : Tree) (a b : ℕ) (le
     ((e : ℕ) → on (edges_of tree) e ≡ true → int_at values e ≡ pos 0) → ((u : ℕ) → u < m → int_at ex u ≡ excess (graph_of m links) a b (int_at values) u) →
     IsPeeled n links tree.root a b left values ex
 start_peeled n m links tree a b left values ex c e h ends ta tb lv le unset is = subst (λ (js : List Join). IsPeeled n links tree.root a b js values ex) (sym e) (record {
-    values_len = lv;
-    excess_len = le ∙ c;
-    settled = start_settled n links tree a b values h ends ta tb unset;
-    joined = h.nodes;
-    excesses = λ u l. is u (omega (arith, c)) })
+  values_len = lv;
+  excess_len = le ∙ c;
+  settled = start_settled n links tree a b values h ends ta tb unset;
+  joined = h.nodes;
+  excesses = λ u l. is u (omega (arith, c));
+})
 
 -- a tree has numbers of nodes alone
 pub reached_below : (n : ℕ) (links : List Link) (tree : Tree) (v : ℕ) → IsGrown (graph_of n links) tree → reached_by tree v ≡ true → v < n

@@ -12,6 +12,9 @@ ghost use Rattle.flow_tree.specs.Tree.{edges_of, edges_in, reached_by, IsGrown};
 ghost use Rattle.flow_rebuild.specs.Excess.{excess};
 ghost use Rattle.flow_rebuild.specs.Values.{int_at, abs_sum, other_node, carries, added, passed};
 
+#[cfg(test)]
+mod tests;
+
 use flow_tree::{Join, Tree};
 use flows::Link;
 use std::alloc::{AllocError, Global};
@@ -134,7 +137,14 @@ pub fn fit_counters(values: &[i128]) -> bool
 ///
 /// `values` has one value for each link; those on the tree are not read. The tree has `start`, `end` and both ends of each
 /// link. The time is linear in the number of nodes and links.
-pub fn rebuild(alloc: Global, links: &[Link], tree: &Tree, values: &[i128], start: usize, end: usize) -> Result<Vec<i128>, AllocError>
+pub fn rebuild(
+    alloc: Global,
+    links: &[Link],
+    tree: &Tree,
+    values: &[i128],
+    start: usize,
+    end: usize,
+) -> Result<Vec<i128>, AllocError>
     requires tree { IsGrown (graph_of (length tree.now.reached.items) links.now) tree.now }
     requires ends { JoinsNodes tree.now.reached.items links.now }
     requires start { IsTrue (reached_by tree.now start) }
@@ -147,7 +157,13 @@ pub fn rebuild(alloc: Global, links: &[Link], tree: &Tree, values: &[i128], star
     let mut flow = cleared(alloc, values, &tree.joins)?;
     let mut excess = excesses(alloc, tree.reached.len(), links, &flow, start, end)?;
     for join in tree.joins.iter().rev() {
-        settle(&mut flow, &mut excess, links[join.edge], join.edge, join.node);
+        settle(
+            &mut flow,
+            &mut excess,
+            links[join.edge],
+            join.edge,
+            join.node,
+        );
     }
     Ok(flow)
 }

@@ -190,7 +190,7 @@ grows_anyhow g w (x ∷ xs) s t h = (record { inside = h.0.inside; across = h.0.
 
 pub search_grown : (n m : ℕ) (links : List Link) (ws : List ℕ) (s : Search) → m ≡ n → IsSearch m links ws s → IsGrown (graph_of n links) s.tree
 search_grown n m links ws s e h = subst (λ (n : ℕ). IsGrown (graph_of n links) s.tree) e
-    (record { len = h.len; grows = grows_anyhow (graph_of m links) (weight_in ws) (edges_of s.tree) (only s.tree.root) (reached_by s.tree) h.grows; nodes = h.nodes })
+    (record { len = h.len; inside = joins_inside (graph_of m links) (weight_in ws) s.tree.joins.items (only s.tree.root) (reached_by s.tree) h.grows; grows = grows_anyhow (graph_of m links) (weight_in ws) (edges_of s.tree) (only s.tree.root) (reached_by s.tree) h.grows; nodes = h.nodes })
 
 pub search_whole : (n : ℕ) (links : List Link) (ws : List ℕ) (s : Search) → IsLinked n links → s.tree.root < n → length s.tree.joins.items + 1 ≡ n → IsSearch n links ws s → IsWhole (graph_of n links) (reached_by s.tree)
 search_whole n links ws s ok l e h =

@@ -1,5 +1,6 @@
 -- What a tree tells of its graph.
-use Rattle.std.specs.Prelude.{◌≡◌, ℕ, List, length, map}
+use Rattle.std.specs.Prelude.{◌≡◌, ℕ, ◌<◌, List, length, map}
+use Rattle.std.specs.List.{All}
 use Rattle.flows.specs.Flows.{Graph, NodeSet}
 use Rattle.flows.specs.Trees.{only, Grows, joined_by}
 use Rattle.flows.specs.Links.{marked}
@@ -29,5 +30,6 @@ IsHeaviestFirst g w t = Grows g w (only t.root) (edges_of t) (reached_by t)
 -- t grew from its root, each time along an edge that crossed
 pub record IsGrown (g : Graph) (t : Tree) : Type 0 where
   pub len : length t.reached.items ≡ g.nodes
+  pub inside : All (λ (j : Join). j.edge < g.edges) t.joins.items
   pub grows : Grows g (λ e. 0) (only t.root) (edges_of t) (reached_by t)
   pub nodes : nodes_in t.joins.items ≡ joined_by g (only t.root) (edges_of t)

@@ -18,7 +18,7 @@ use Rattle.flow_rebuild.proofs.rebuild.Goals as goal
 
 pub cleared-requires-clause-joins : goal.cleared-requires-clause-joins
 cleared-requires-clause-joins c = subst (λ (js : List Join). All (λ j. j.edge < length c.args.values.now) js) (sym c.deref.ensures.value)
-    (subst (λ (n : ℕ). All (λ j. j.edge < n) c.args.tree.now.joins.items) (sym c.requires.values) (joins_inside (graph_of (length c.args.tree.now.reached.items) c.args.links.now) (λ e. 0) c.args.tree.now.joins.items (only c.args.tree.now.root) (reached_by c.args.tree.now) c.requires.tree.grows))
+    (subst (λ (n : ℕ). All (λ j. j.edge < n) c.args.tree.now.joins.items) (sym c.requires.values) c.requires.tree.inside)
 
 pub excesses-requires-clause-small : goal.excesses-requires-clause-small
 excesses-requires-clause-small c = abs_bound c.deref-2.result.now (search rules) (search rules)

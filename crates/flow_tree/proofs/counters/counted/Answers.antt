@@ -6,9 +6,6 @@ use Rattle.flow_tree.specs.Tree.{reached_by, edges_of}
 use Rattle.flow_tree.proofs.Steps.{counted_determines, joins_inside, counted_least, counted_spans}
 use Rattle.flow_tree.proofs.counters.counted.Goals as goal
 
-pub off_tree-requires : goal.off_tree-requires
-off_tree-requires c = joins_inside (graph_of c.args.nodes c.args.links.now) (weight_in c.args.weights.now) c.in_ok-tree.tree.joins.items (only c.in_ok-tree.tree.root) (reached_by c.in_ok-tree.tree) c.in_ok-tree.ensures.heaviest
-
 pub returns-clause-determines : goal.returns-clause-determines
 returns-clause-determines c = IfOk-weaker c.off_tree.result _ _
     (λ off same. counted_determines c.args.nodes c.args.links.now (weight_in c.args.weights.now) c.in_ok-tree.tree.root (edges_of c.in_ok-tree.tree) (reached_by c.in_ok-tree.tree) off.items c.requires.linked c.in_ok-tree.ensures.heaviest same)
