@@ -41,7 +41,8 @@ fn settle(values: &mut Vec<i128>, excess: &mut Vec<i128>, link: Link, edge: usiz
     requires node { node < length excess.old.items }
     requires small { abs_sum excess.old.items < 2 ^ 126 }
     ensures values { values.new.items ≡ slice_set values.old.items edge (carries link node (int_at excess.old.items node)) }
-    ensures excess { excess.new.items ≡ slice_set (slice_set excess.old.items (other_node link node) (int_at excess.old.items (other_node link node) +ℤ int_at excess.old.items node)) node (pos 0) }
+    ensures excess { excess.new.items ≡
+        slice_set (added excess.old.items (other_node link node) (int_at excess.old.items node)) node (pos 0) }
 {
     let moved = excess[node];
     let other = other_end(link, node);
@@ -76,7 +77,8 @@ fn pass(excess: &mut Vec<i128>, link: Link, value: i128)
 fn supply(alloc: Global, nodes: usize, start: usize, end: usize) -> Result<Vec<i128>, AllocError>
     requires start { start < nodes }
     requires end { end < nodes }
-    ensures items { IfOk result (λ x. x.items ≡ added (added (replicate nodes (pos 0)) start (pos 1)) end (negsuc 0)) }
+    ensures items { IfOk result (λ x.
+        x.items ≡ added (added (replicate nodes (pos 0)) start (pos 1)) end (negsuc 0)) }
     ensures small { IfOk result (λ x. abs_sum x.items ≤ 2) }
 {
     let mut excess = vec![in alloc; 0i128; nodes]?;
@@ -100,7 +102,9 @@ fn excesses(
     requires values { length values.now ≡ length links.now }
     requires small { 2 * abs_sum values.now + 2 < 2 ^ 126 }
     ensures len { IfOk result (λ x. length x.items ≡ nodes) }
-    ensures excess { IfOk result (λ x. (u : ℕ) → u < nodes → int_at x.items u ≡ excess (graph_of nodes links.now) start end (int_at values.now) u) }
+    ensures excess { IfOk result (λ x.
+        (u : ℕ) → u < nodes →
+        int_at x.items u ≡ excess (graph_of nodes links.now) start end (int_at values.now) u) }
     ensures small { IfOk result (λ x. abs_sum x.items < 2 ^ 126) }
 {
     let mut excess = supply(alloc, nodes, start, end)?;
@@ -116,8 +120,10 @@ fn cleared(alloc: Global, values: &[i128], joins: &[Join]) -> Result<Vec<i128>, 
     requires small { All (λ z. nat_abs z < 2 ^ 64) values.now }
     ensures len { IfOk result (λ x. length x.items ≡ length values.now) }
     ensures small { IfOk result (λ x. All (λ z. nat_abs z < 2 ^ 64) x.items) }
-    ensures kept { IfOk result (λ x. (e : ℕ) → on (edges_in joins.now) e ≡ false → int_at x.items e ≡ int_at values.now e) }
-    ensures unset { IfOk result (λ x. (e : ℕ) → on (edges_in joins.now) e ≡ true → int_at x.items e ≡ pos 0) }
+    ensures kept { IfOk result (λ x.
+        (e : ℕ) → on (edges_in joins.now) e ≡ false → int_at x.items e ≡ int_at values.now e) }
+    ensures unset { IfOk result (λ x.
+        (e : ℕ) → on (edges_in joins.now) e ≡ true → int_at x.items e ≡ pos 0) }
 {
     let mut cleared = values.to_vec(alloc)?;
     for join in joins {
@@ -152,7 +158,10 @@ pub fn rebuild(
     requires values { length values.now ≡ length links.now }
     requires small { All (λ z. nat_abs z < 2 ^ 64) values.now }
     ensures len { IfOk result (λ x. length x.items ≡ length links.now) }
-    ensures flow { IfOk result (λ x. IsTheFlow (graph_of (length tree.now.reached.items) links.now) (rest (on (edges_of tree.now))) start end (int_at values.now) (int_at x.items)) }
+    ensures flow { IfOk result (λ x.
+        let g = graph_of (length tree.now.reached.items) links.now in
+        let counted = rest (on (edges_of tree.now)) in
+        IsTheFlow g counted start end (int_at values.now) (int_at x.items)) }
 {
     let mut flow = cleared(alloc, values, &tree.joins)?;
     let mut excess = excesses(alloc, tree.reached.len(), links, &flow, start, end)?;

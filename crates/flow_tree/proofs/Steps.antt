@@ -161,14 +161,14 @@ pub counted_spans : (n : ℕ) (links : List Link) (w : ℕ → ℕ) (r : ℕ) (e
     IsConnected (graph_of n links) is_node r → IsSpanningTree (graph_of n links) is_node (rest (marked off))
 counted_spans n links w r es t off is_node lr ok h whole same c =
     spanning_alike (graph_of n links) is_node (on es) (rest (marked off)) (λ e l. sym (ap not (same e l) ∙ not_twice (on es e)))
-      (connected_spans (graph_of n links) is_node w r es t (graph_ok n links ok) lr c h whole)
+    (connected_spans (graph_of n links) is_node w r es t (graph_ok n links ok) lr c h whole)
 
 pub counted_least : (n : ℕ) (links : List Link) (w : ℕ → ℕ) (r : ℕ) (es : List ℕ) (t : NodeSet) (off : List Bool) (is_node : NodeSet) → r < n → IsLinked n links →
     Grows (graph_of n links) w (only r) es t → IsWhole (graph_of n links) t → ((e : ℕ) → e < length links → marked off e ≡ rest (on es) e) →
     IsConnected (graph_of n links) is_node r → IsLeast (graph_of n links) w (marked off)
 counted_least n links w r es t off is_node lr ok h whole same c =
     least_alike (graph_of n links) w (rest (on es)) (marked off) same
-      (off_tree_least (graph_of n links) w r es t (graph_ok n links ok) lr h (connected_ends (graph_of n links) is_node w r es t (graph_ok n links ok) lr c h whole))
+    (off_tree_least (graph_of n links) w r es t (graph_ok n links ok) lr h (connected_ends (graph_of n links) is_node w r es t (graph_ok n links ok) lr c h whole))
 
 -- ---- joins
 pub edges-push : (xs : List Join) (j : Join) → edges_in (xs ++ j ∷ []) ≡ edges_in xs ++ j.edge ∷ []

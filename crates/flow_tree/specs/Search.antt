@@ -1,11 +1,11 @@
 -- What the search for a heaviest tree keeps.
-use Rattle.std.specs.Prelude.{◌≡◌, ℕ, ◌<◌, true, List, length, slice_index}
+use Rattle.std.specs.Prelude.{◌≡◌, ℕ, ◌<◌, Bool, true, List, length, slice_index}
 use Rattle.std.specs.List.{All, Contains}
 use Rattle.std.specs.Ordering.{nat_cmp, ordering_then}
 use Rattle.std.specs.declared.cmp.Ordering.{Ordering}
 use Rattle.std.specs.BinaryHeap.{heap_items, IsHeap}
 use Rattle.flows.specs.Trees.{crosses, only, joined_by}
-use Rattle.flows.specs.Links.{graph_of, weight_in}
+use Rattle.flows.specs.Links.{graph_of, marked, weight_in}
 use Rattle.flows.specs.declared.Link.{Link}
 use Rattle.flow_tree.specs.Tree.{edges_of, nodes_in, reached_by, IsHeaviestFirst}
 use Rattle.flow_tree.specs.declared.growth.Candidate.{Candidate}
@@ -14,6 +14,10 @@ use Rattle.flow_tree.specs.declared.growth.Search.{Search}
 -- by weight, and then by number
 abbrev pub candidate_cmp : Candidate → Candidate → Ordering
 candidate_cmp x y = ordering_then (nat_cmp x.weight y.weight) (nat_cmp x.edge y.edge)
+
+-- the edge e joins a marked node with one that is not marked
+abbrev pub crosses_at : List Link → List Bool → ℕ → Bool
+crosses_at links marks e = crosses (graph_of (length marks) links) (marked marks) e
 
 -- the edge e with its weight
 abbrev pub candidate : List ℕ → ℕ → Candidate

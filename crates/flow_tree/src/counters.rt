@@ -16,7 +16,8 @@ use std::alloc::{AllocError, Global};
 pub fn off_tree(alloc: Global, tree: &Tree, edges: usize) -> Result<Vec<bool>, AllocError>
     requires { All (λ j. j.edge < edges) tree.now.joins.items }
     ensures len { IfOk result (λ off. length off.items ≡ edges) }
-    ensures value { IfOk result (λ off. (e : ℕ) → e < edges → marked off.items e ≡ rest (on (edges_of tree.now)) e) }
+    ensures value { IfOk result (λ off.
+        (e : ℕ) → e < edges → marked off.items e ≡ rest (on (edges_of tree.now)) e) }
 {
     let mut off = vec![in alloc; true; edges]?;
     for join in &tree.joins {
@@ -38,9 +39,14 @@ pub fn counted(
     requires linked { IsLinked nodes links.now }
     requires weights { length weights.now ≡ length links.now }
     ensures len { IfOk result (λ counted. length counted.items ≡ length links.now) }
-    ensures determines { IfOk result (λ counted. Determines (graph_of nodes links.now) (marked counted.items)) }
-    ensures spans { (is_node : ℕ → Bool) → IsConnected (graph_of nodes links.now) is_node root → IfOk result (λ counted. IsSpanningTree (graph_of nodes links.now) is_node (rest (marked counted.items))) }
-    ensures least { (is_node : ℕ → Bool) → IsConnected (graph_of nodes links.now) is_node root → IfOk result (λ counted. IsLeast (graph_of nodes links.now) (weight_in weights.now) (marked counted.items)) }
+    ensures determines { IfOk result (λ counted.
+        Determines (graph_of nodes links.now) (marked counted.items)) }
+    ensures spans { (is_node : ℕ → Bool) → IsConnected (graph_of nodes links.now) is_node root →
+        IfOk result (λ counted.
+        IsSpanningTree (graph_of nodes links.now) is_node (rest (marked counted.items))) }
+    ensures least { (is_node : ℕ → Bool) → IsConnected (graph_of nodes links.now) is_node root →
+        IfOk result (λ counted.
+        IsLeast (graph_of nodes links.now) (weight_in weights.now) (marked counted.items)) }
 {
     let tree = grow(alloc, nodes, links, weights, root)?;
     off_tree(alloc, &tree, links.len())

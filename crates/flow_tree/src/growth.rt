@@ -7,7 +7,7 @@ ghost use Rattle.flows.specs.Trees.{crosses, differ, IsWhole};
 ghost use Rattle.flows.specs.Links.{graph_of, marked, weight_in, IsLinked};
 ghost use Rattle.flow_tree.specs.Rows.{HasEnds, AllBelow};
 ghost use Rattle.flow_tree.specs.Tree.{reached_by, IsGrown, IsHeaviestFirst};
-ghost use Rattle.flow_tree.specs.Search.{candidate_cmp, candidate, IsReal, IsSearch};
+ghost use Rattle.flow_tree.specs.Search.{candidate_cmp, candidate, crosses_at, IsReal, IsSearch};
 ghost use Rattle.flow_tree.specs.declared.growth.Candidate.{Candidate};
 
 use crate::rows::incident;
@@ -43,10 +43,17 @@ fn next_crossing(
     ensures real { All (λ c. c.edge < length links.now) (heap_items heap.new) }
     ensures fewer { (c : Candidate) → Contains (heap_items heap.new) c → Contains (heap_items heap.old) c }
     ensures there { IfSome result (λ x. Contains (heap_items heap.old) x) }
-    ensures crosses { IfSome result (λ x. crosses (graph_of (length marks.now) links.now) (marked marks.now) x.edge ≡ true) }
-    ensures greatest { IfSome result (λ x. (c : Candidate) → Contains (heap_items heap.old) c → crosses (graph_of (length marks.now) links.now) (marked marks.now) c.edge ≡ true → c.weight ≤ x.weight) }
-    ensures others { IfSome result (λ x. (c : Candidate) → Contains (heap_items heap.old) c → crosses (graph_of (length marks.now) links.now) (marked marks.now) c.edge ≡ true → Contains (heap_items heap.new) c ⊎ (c.edge ≡ x.edge)) }
-    ensures none { IfNone result ((c : Candidate) → Contains (heap_items heap.old) c → crosses (graph_of (length marks.now) links.now) (marked marks.now) c.edge ≡ false) }
+    ensures crosses { IfSome result (λ x. crosses_at links.now marks.now x.edge ≡ true) }
+    ensures greatest { IfSome result (λ x.
+        (c : Candidate) → Contains (heap_items heap.old) c →
+        crosses_at links.now marks.now c.edge ≡ true → c.weight ≤ x.weight) }
+    ensures others { IfSome result (λ x.
+        (c : Candidate) → Contains (heap_items heap.old) c →
+        crosses_at links.now marks.now c.edge ≡ true →
+        Contains (heap_items heap.new) c ⊎ (c.edge ≡ x.edge)) }
+    ensures none { IfNone result (
+        (c : Candidate) → Contains (heap_items heap.old) c →
+        crosses_at links.now marks.now c.edge ≡ false) }
 {
     while let Some(top) = heap.pop() {
         if is_crossing(marks, links[top.edge]) {
@@ -80,8 +87,11 @@ fn offer(
     requires weights { length weights.now ≡ length links.now }
     ensures ordered { OnOk result (IsHeap candidate_cmp (heap_items heap.new)) }
     ensures real { OnOk result (All (IsReal weights.now) (heap_items heap.new)) }
-    ensures kept { OnOk result ((c : Candidate) → Contains (heap_items heap.old) c → Contains (heap_items heap.new) c) }
-    ensures added { OnOk result (crosses (graph_of (length marks.now) links.now) (marked marks.now) edge ≡ true → Contains (heap_items heap.new) (candidate weights.now edge)) }
+    ensures kept { OnOk result (
+        (c : Candidate) → Contains (heap_items heap.old) c → Contains (heap_items heap.new) c) }
+    ensures added { OnOk result (
+        crosses_at links.now marks.now edge ≡ true →
+        Contains (heap_items heap.new) (candidate weights.now edge)) }
 {
     if !is_crossing(marks, links[edge]) {
         return Ok(());
@@ -108,8 +118,11 @@ fn offer_all(
     requires weights { length weights.now ≡ length links.now }
     ensures ordered { OnOk result (IsHeap candidate_cmp (heap_items heap.new)) }
     ensures real { OnOk result (All (IsReal weights.now) (heap_items heap.new)) }
-    ensures added { OnOk result ((e : ℕ) → Contains row.now e → crosses (graph_of (length marks.now) links.now) (marked marks.now) e ≡ true → Contains (heap_items heap.new) (candidate weights.now e)) }
-    ensures kept { OnOk result ((c : Candidate) → Contains (heap_items heap.old) c → Contains (heap_items heap.new) c) }
+    ensures added { OnOk result (
+        (e : ℕ) → Contains row.now e → crosses_at links.now marks.now e ≡ true →
+        Contains (heap_items heap.new) (candidate weights.now e)) }
+    ensures kept { OnOk result (
+        (c : Candidate) → Contains (heap_items heap.old) c → Contains (heap_items heap.new) c) }
 {
     for e in row {
         offer(heap, *e, marks, links, weights)?;
@@ -169,8 +182,11 @@ fn join(
     requires weights { length weights.now ≡ length links.now }
     ensures search { OnOk result (IsSearch (length rows.now) links.now weights.now search.new) }
     ensures root { OnOk result (search.new.tree.root ≡ search.old.tree.root) }
-    ensures more { IfOk result (λ more. IsTrue more → length search.new.tree.joins.items ≡ length search.old.tree.joins.items + 1) }
-    ensures whole { IfOk result (λ more. IsFalse more → IsWhole (graph_of (length rows.now) links.now) (reached_by search.new.tree)) }
+    ensures more { IfOk result (λ more.
+        IsTrue more →
+        length search.new.tree.joins.items ≡ length search.old.tree.joins.items + 1) }
+    ensures whole { IfOk result (λ more.
+        IsFalse more → IsWhole (graph_of (length rows.now) links.now) (reached_by search.new.tree)) }
 {
     let Some(next) = next_crossing(&mut search.heap, &search.tree.reached, links) else {
         return Ok(false);
@@ -204,7 +220,8 @@ pub fn grow(
     requires weights { length weights.now ≡ length links.now }
     ensures root { IfOk result (λ t. t.root ≡ root) }
     ensures grown { IfOk result (λ t. IsGrown (graph_of nodes links.now) t) }
-    ensures heaviest { IfOk result (λ t. IsHeaviestFirst (graph_of nodes links.now) (weight_in weights.now) t) }
+    ensures heaviest { IfOk result (λ t.
+        IsHeaviestFirst (graph_of nodes links.now) (weight_in weights.now) t) }
     ensures whole { IfOk result (λ t. IsWhole (graph_of nodes links.now) (reached_by t)) }
 {
     let rows = incident(alloc, nodes, links)?;

@@ -12,7 +12,8 @@ fn attach(rows: &mut Vec<Vec<usize>>, node: usize, edge: usize) -> Result<(), Al
     requires row { node < length rows.old.items }
     ensures len { length rows.new.items ≡ length rows.old.items }
     ensures added { OnOk result (IsAttached rows.new.items node edge) }
-    ensures kept { (u x : ℕ) → u < length rows.old.items → IsAttached rows.old.items u x → IsAttached rows.new.items u x }
+    ensures kept { (u x : ℕ) → u < length rows.old.items →
+        IsAttached rows.old.items u x → IsAttached rows.new.items u x }
     ensures below { (n : ℕ) → edge < n → AllBelow n rows.old.items → AllBelow n rows.new.items }
 {
     rows[node].push(edge)?;

@@ -58,11 +58,15 @@ pub fn span(
     requires root { IsTrue (marked is_node.now root) }
     requires nodes { JoinsNodes is_node.now links.now }
     requires counted { length counted.now ≡ length links.now }
-    ensures exactly { IfOk result (λ o. IsSome o ↔ IsSpanningTree (graph_of (length is_node.now) links.now) (marked is_node.now) (rest (marked counted.now))) }
+    ensures exactly { IfOk result (λ o.
+        let g = graph_of (length is_node.now) links.now in
+        IsSome o ↔ IsSpanningTree g (marked is_node.now) (rest (marked counted.now))) }
     ensures root { IfOk result (λ o. IfSome o (λ t. t.root ≡ root)) }
-    ensures grown { IfOk result (λ o. IfSome o (λ t. IsGrown (graph_of (length is_node.now) links.now) t)) }
+    ensures grown { IfOk result (λ o.
+        IfSome o (IsGrown (graph_of (length is_node.now) links.now))) }
     ensures reached { IfOk result (λ o. IfSome o (λ t. t.reached.items ≡ is_node.now)) }
-    ensures edges { IfOk result (λ o. IfSome o (λ t. (e : ℕ) → e < length links.now → on (edges_of t) e ≡ rest (marked counted.now) e)) }
+    ensures edges { IfOk result (λ o. IfSome o (λ t.
+        (e : ℕ) → e < length links.now → on (edges_of t) e ≡ rest (marked counted.now) e)) }
 {
     let weights = weights(alloc, counted)?;
     let tree = grow(alloc, is_node.len(), links, &weights, root)?;

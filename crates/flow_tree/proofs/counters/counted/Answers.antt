@@ -20,6 +20,6 @@ returns-clause-least c = λ is_node connected. IfOk-weaker c.off_tree.result _ _
 pub returns-clause-spans : goal.returns-clause-spans
 returns-clause-spans c = λ is_node connected. IfOk-weaker c.off_tree.result _ _
     (λ off same. counted_spans c.args.nodes c.args.links.now (weight_in c.args.weights.now) c.in_ok-tree.tree.root (edges_of c.in_ok-tree.tree) (reached_by c.in_ok-tree.tree) off.items is_node
-      (let k = c.in_ok-tree.ensures.root in omega (arith, k)) c.requires.linked c.in_ok-tree.ensures.heaviest c.in_ok-tree.ensures.whole same
-      (subst (λ (r : ℕ). IsConnected (graph_of c.args.nodes c.args.links.now) is_node r) (sym c.in_ok-tree.ensures.root) connected))
+    (let k = c.in_ok-tree.ensures.root in omega (arith, k)) c.requires.linked c.in_ok-tree.ensures.heaviest c.in_ok-tree.ensures.whole same
+    (subst (λ (r : ℕ). IsConnected (graph_of c.args.nodes c.args.links.now) is_node r) (sym c.in_ok-tree.ensures.root) connected))
     c.off_tree.ensures.value
