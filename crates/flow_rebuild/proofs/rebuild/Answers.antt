@@ -4,16 +4,15 @@ use Rattle.std.proofs.lemmas.List.{get_or-set_other}
 use Rattle.std.specs.List.{All}
 use Rattle.std.specs.Slice.Iter.{iter_rest}
 use Rattle.flows.specs.Links.{graph_of}
-use Rattle.flows.specs.Trees.{only, on}
+use Rattle.flows.specs.Trees.{on}
 use Rattle.flows.proofs.Bools.{true_or_false}
 use Rattle.flow_rebuild.specs.Excess.{excess}
 use Rattle.flow_rebuild.specs.Values.{abs_sum, int_at}
-use Rattle.flow_tree.specs.Tree.{reached_by, edges_in, edges_of}
+use Rattle.flow_tree.specs.Tree.{edges_in, edges_of}
 use Rattle.flow_tree.specs.declared.Join.{Join}
 use Rattle.flow_rebuild.proofs.Peel.{last_peeled, peel_step, on_longer, the_flow, none_left, on_last, node_inside, reached_below, edge_inside, start_peeled, peel_small, peeled_as}
 use Rattle.flow_rebuild.proofs.Sums.{abs_bound}
 use Rattle.flow_tree.proofs.Check.{linked_nodes}
-use Rattle.flow_tree.proofs.Steps.{joins_inside}
 use Rattle.flow_rebuild.proofs.rebuild.Goals as goal
 
 pub cleared-requires-clause-joins : goal.cleared-requires-clause-joins

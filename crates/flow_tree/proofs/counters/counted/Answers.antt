@@ -1,9 +1,9 @@
 use Rattle.std.proofs.Common.{ℕ, sym, subst, arith}
 use Rattle.std.proofs.lemmas.Result.{IfOk-weaker}
 use Rattle.flows.specs.Links.{weight_in, graph_of}
-use Rattle.flows.specs.Trees.{only, IsConnected}
+use Rattle.flows.specs.Trees.{IsConnected}
 use Rattle.flow_tree.specs.Tree.{reached_by, edges_of}
-use Rattle.flow_tree.proofs.Steps.{counted_determines, joins_inside, counted_least, counted_spans}
+use Rattle.flow_tree.proofs.Steps.{counted_determines, counted_least, counted_spans}
 use Rattle.flow_tree.proofs.counters.counted.Goals as goal
 
 pub returns-clause-determines : goal.returns-clause-determines
