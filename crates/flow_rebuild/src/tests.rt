@@ -5,11 +5,10 @@
 use crate::{fit_counters, rebuild};
 use flow_tree::{Tree, counted, grow, off_tree, span};
 use flows::{Link, is_linked, is_marked, joins_nodes};
-use std::alloc::Global;
-use std::process::Abort;
+use std::alloc::{AllocError, Global};
 use std::test::Fail;
 
-fn links_of(alloc: Global, ends: &[(usize, usize)]) -> Result<Vec<Link>, Fail> {
+fn links_of(alloc: Global, ends: &[(usize, usize)]) -> Result<Vec<Link>, AllocError> {
     let mut links: Vec<Link> = Vec::new(alloc);
     for (from, to) in ends {
         links.push(Link {
@@ -20,39 +19,37 @@ fn links_of(alloc: Global, ends: &[(usize, usize)]) -> Result<Vec<Link>, Fail> {
     Ok(links)
 }
 
-// The edges that want a counter.
+// The edges that want a counter, or `None` at an input that is no graph, as in the helpers below.
 fn counters(
-    rt: &impl Abort,
     alloc: Global,
     nodes: usize,
     links: &[Link],
     weights: &[u64],
     root: usize,
-) -> Result<Vec<bool>, Fail> {
-    assert!(rt; is_linked(nodes, links));
-    assert!(rt; root < nodes);
-    assert_eq!(rt; weights.len(), links.len());
-    Ok(counted(alloc, nodes, links, weights, root)?)
+) -> Result<Option<Vec<bool>>, AllocError> {
+    if !is_linked(nodes, links) || nodes <= root || weights.len() != links.len() {
+        return Ok(None);
+    }
+    let counted = counted(alloc, nodes, links, weights, root)?;
+    Ok(Some(counted))
 }
 
-// Whether the edges that are not counted are a spanning tree.
-fn spans(
-    rt: &impl Abort,
+// The tree of the edges that are not counted.
+fn tree_of(
     alloc: Global,
     is_node: &[bool],
     links: &[Link],
     counted: &[bool],
     root: usize,
-) -> Result<Option<Tree>, Fail> {
-    assert!(rt; joins_nodes(is_node, links));
-    assert!(rt; is_marked(is_node, root));
-    assert_eq!(rt; counted.len(), links.len());
-    Ok(span(alloc, is_node, links, counted, root)?)
+) -> Result<Option<Tree>, AllocError> {
+    if !joins_nodes(is_node, links) || !is_marked(is_node, root) || counted.len() != links.len() {
+        return Ok(None);
+    }
+    span(alloc, is_node, links, counted, root)
 }
 
 // All counts of a walk from start to end, by those that are counted.
 fn all_counts(
-    rt: &impl Abort,
     alloc: Global,
     is_node: &[bool],
     links: &[Link],
@@ -60,15 +57,18 @@ fn all_counts(
     given: &[i128],
     start: usize,
     end: usize,
-) -> Result<Vec<i128>, Fail> {
-    assert!(rt; joins_nodes(is_node, links));
-    assert!(rt; is_marked(is_node, start));
-    assert!(rt; is_marked(is_node, end));
-    assert_eq!(rt; counted.len(), links.len());
-    assert_eq!(rt; given.len(), links.len());
-    assert!(rt; fit_counters(given));
-    let tree = span(alloc, is_node, links, counted, start)?.ok_or("no spanning tree")?;
-    Ok(rebuild(alloc, links, &tree, given, start, end)?)
+) -> Result<Option<Vec<i128>>, AllocError> {
+    if !is_marked(is_node, end) || given.len() != links.len() || !fit_counters(given) {
+        return Ok(None);
+    }
+    if !joins_nodes(is_node, links) || !is_marked(is_node, start) || counted.len() != links.len() {
+        return Ok(None);
+    }
+    let Some(tree) = span(alloc, is_node, links, counted, start)? else {
+        return Ok(None);
+    };
+    let counts = rebuild(alloc, links, &tree, given, start, end)?;
+    Ok(Some(counts))
 }
 
 // The blocks of the program carry_loop are the nodes 0 to 3, and 4 is the outside. The block 1 branches to itself.
@@ -89,7 +89,7 @@ const CARRY_WEIGHTS: [u64; 9] = [1, 9, 9, 1, 1, 1, 1, 1, 1];
 #[test]
 fn carry_loop_has_five_counters(rt: HostRuntime) -> Result<(), Fail> {
     let links = links_of(rt.alloc(), &CARRY_LOOP)?;
-    let counted = counters(&rt, rt.alloc(), 5, &links, &CARRY_WEIGHTS, 4)?;
+    let counted = counters(rt.alloc(), 5, &links, &CARRY_WEIGHTS, 4)?.ok_or("no graph")?;
     let mut weight: u64 = 0;
     let mut many: u64 = 0;
     for (is_counted, w) in counted.iter().zip(&CARRY_WEIGHTS) {
@@ -102,8 +102,8 @@ fn carry_loop_has_five_counters(rt: HostRuntime) -> Result<(), Fail> {
     assert_eq!(rt; many, 5);
     // it goes into the loop once, four times round it, and ends in block 3
     let walk: [i128; 9] = [1, 4, 1, 0, 0, 0, 0, 0, 0];
-    let found = all_counts(&rt, rt.alloc(), &[true; 5], &links, &counted, &walk, 0, 3)?;
-    assert_eq!(rt; found.as_slice(), walk.as_slice());
+    let found = all_counts(rt.alloc(), &[true; 5], &links, &counted, &walk, 0, 3)?;
+    assert_eq!(rt; found.ok_or("no tree")?.as_slice(), walk.as_slice());
     Ok(())
 }
 
@@ -112,153 +112,107 @@ fn rebuilds_by_hand(rt: HostRuntime) -> Result<(), Fail> {
     // two ways from 0 to 1, one back, and a loop at 1: the tree is the way back
     let links = links_of(rt.alloc(), &[(0, 1), (0, 1), (1, 0), (1, 1)])?;
     let counted = [true, true, false, true];
+    let most = 18446744073709551615;
     for (start, end, given, back) in [
         (0, 1, [3, 4, 0, 7], 6),
         (0, 0, [3, 4, 0, 7], 7),
         (1, 0, [3, 4, 0, 7], 8),
         (0, 1, [0, 0, 99, -5], -1),
         (1, 1, [-3, 1, 0, 0], -2),
-        (
-            0,
-            1,
-            [18446744073709551615, 18446744073709551615, 0, 0],
-            36893488147419103229,
-        ),
+        (0, 1, [most, most, 0, 0], 36893488147419103229),
     ] {
-        let found = all_counts(
-            &rt,
-            rt.alloc(),
-            &[true; 2],
-            &links,
-            &counted,
-            &given,
-            start,
-            end,
-        )?;
+        let found = all_counts(rt.alloc(), &[true; 2], &links, &counted, &given, start, end)?;
+        let want = [given[0], given[1], back, given[3]];
         assert_eq!(rt;
-            found.as_slice(),
-            [given[0], given[1], back, given[3]].as_slice(),
+            found.ok_or("no tree")?.as_slice(),
+            want.as_slice(),
             "from {start} to {end}"
         );
     }
-    // a chain whose end is found last: 0 to 2 over 1, with 3 outside
+    // a chain from 0 to 2 over 1, with 3 outside
     let links = links_of(
         rt.alloc(),
         &[(0, 1), (1, 2), (2, 3), (3, 0), (3, 1), (3, 2)],
     )?;
     let counted = [false, false, false, true, true, true];
-    let found = all_counts(
-        &rt,
-        rt.alloc(),
-        &[true; 4],
-        &links,
-        &counted,
-        &[0, 0, 0, 0, 0, 0],
-        0,
-        2,
-    )?;
-    assert_eq!(rt; found.as_slice(), [1, 1, 0, 0, 0, 0].as_slice());
-    let found = all_counts(
-        &rt,
-        rt.alloc(),
-        &[true; 4],
-        &links,
-        &counted,
-        &[0, 0, 0, 0, 0, 2],
-        3,
-        3,
-    )?;
-    assert_eq!(rt; found.as_slice(), [0, 0, 2, 0, 0, 2].as_slice());
+    for (start, end, given, want) in [
+        (0, 2, [0, 0, 0, 0, 0, 0], [1, 1, 0, 0, 0, 0]),
+        (3, 3, [0, 0, 0, 0, 0, 2], [0, 0, 2, 0, 0, 2]),
+    ] {
+        let found = all_counts(rt.alloc(), &[true; 4], &links, &counted, &given, start, end)?;
+        assert_eq!(rt;
+            found.ok_or("no tree")?.as_slice(),
+            want.as_slice(),
+            "from {start} to {end}"
+        );
+    }
     Ok(())
 }
 
 #[test]
 fn counts_small_graphs_by_hand(rt: HostRuntime) -> Result<(), Fail> {
-    // a loop alone is counted
-    let links = links_of(rt.alloc(), &[(0, 0)])?;
-    assert_eq!(rt;
-        counters(&rt, rt.alloc(), 1, &links, &[5], 0)?.as_slice(),
-        [true].as_slice()
-    );
-    // of two edges side by side the lighter one is
-    let links = links_of(rt.alloc(), &[(0, 1), (0, 1)])?;
-    assert_eq!(rt;
-        counters(&rt, rt.alloc(), 2, &links, &[3, 5], 1)?.as_slice(),
-        [true, false].as_slice()
-    );
-    assert_eq!(rt;
-        counters(&rt, rt.alloc(), 2, &links, &[5, 3], 1)?.as_slice(),
-        [false, true].as_slice()
-    );
-    // the node 1 is reached from the outside, 2, alone
-    let links = links_of(rt.alloc(), &[(0, 2), (1, 2), (2, 0), (2, 1)])?;
-    assert_eq!(rt;
-        counters(&rt, rt.alloc(), 3, &links, &[9, 1, 1, 2], 2)?.as_slice(),
-        [false, true, true, false].as_slice()
-    );
-    // what the root doesn't reach is counted
-    let links = links_of(rt.alloc(), &[(0, 1), (2, 3)])?;
-    assert_eq!(rt;
-        counters(&rt, rt.alloc(), 4, &links, &[1, 1], 0)?.as_slice(),
-        [false, true].as_slice()
-    );
+    for (nodes, ends, weights, root, want) in [
+        // a loop is counted, and of two edges side by side the lighter one
+        (
+            2,
+            [(0, 0), (0, 1), (0, 1), (1, 1)],
+            [9, 3, 5, 9],
+            1,
+            [true, true, false, true],
+        ),
+        (
+            2,
+            [(0, 0), (0, 1), (1, 0), (1, 1)],
+            [9, 5, 3, 9],
+            0,
+            [true, false, true, true],
+        ),
+        // the node 1 is reached from the outside, 2, alone
+        (
+            3,
+            [(0, 2), (1, 2), (2, 0), (2, 1)],
+            [9, 1, 1, 2],
+            2,
+            [false, true, true, false],
+        ),
+        // what the root doesn't reach is counted
+        (
+            4,
+            [(0, 1), (0, 1), (2, 3), (3, 2)],
+            [2, 1, 7, 9],
+            0,
+            [false, true, true, true],
+        ),
+    ] {
+        let links = links_of(rt.alloc(), &ends)?;
+        let found = counters(rt.alloc(), nodes, &links, &weights, root)?;
+        assert_eq!(rt;
+            found.ok_or("no graph")?.as_slice(),
+            want.as_slice(),
+            "{ends:?}"
+        );
+    }
     Ok(())
 }
 
 #[test]
 fn tells_spanning_trees(rt: HostRuntime) -> Result<(), Fail> {
     let links = links_of(rt.alloc(), &[(0, 1), (1, 3), (3, 0), (0, 0)])?;
+    let three = [true, true, false, true];
     for (is_node, counted, root, want) in [
-        (
-            [true, true, false, true],
-            [true, false, false, true],
-            0,
-            true,
-        ),
-        (
-            [true, true, false, true],
-            [false, true, false, true],
-            3,
-            true,
-        ),
-        // a cycle, a loop, too few edges, two parts
-        (
-            [true, true, false, true],
-            [false, false, false, true],
-            0,
-            false,
-        ),
-        (
-            [true, true, false, true],
-            [true, true, false, false],
-            0,
-            false,
-        ),
-        (
-            [true, true, false, true],
-            [true, true, false, true],
-            0,
-            false,
-        ),
+        (three, [true, false, false, true], 0, true),
+        (three, [false, true, false, true], 3, true),
+        // a cycle, a loop, too few edges
+        (three, [false, false, false, true], 0, false),
+        (three, [true, true, false, false], 0, false),
+        (three, [true, true, false, true], 0, false),
         // the node 2 has no edge
-        (
-            [true, true, true, true],
-            [true, false, false, true],
-            0,
-            false,
-        ),
-        (
-            [true, true, true, true],
-            [false, false, false, true],
-            0,
-            false,
-        ),
+        ([true; 4], [true, false, false, true], 0, false),
+        ([true; 4], [false, false, false, true], 0, false),
     ] {
-        let tree = spans(&rt, rt.alloc(), &is_node, &links, &counted, root)?;
+        let tree = tree_of(rt.alloc(), &is_node, &links, &counted, root)?;
         assert_eq!(rt; tree.is_some(), want, "{is_node:?} {counted:?}");
     }
-    let one = spans(&rt, rt.alloc(), &[true], &[], &[], 0)?.ok_or("one node is a tree")?;
-    assert_eq!(rt; one.joins.len(), 0);
     Ok(())
 }
 
@@ -318,57 +272,56 @@ fn least_weight(links: &[Link], weights: &[u64]) -> u64 {
     least
 }
 
-// Compares one graph with a search over all sets of its edges.
-fn compare(
-    rt: &impl Abort,
+// Whether what is counted in a graph weighs as little as a search over all sets of its edges finds.
+fn is_least(
     alloc: Global,
     nodes: usize,
     links: &[Link],
     weights: &[u64],
-) -> Result<(), Fail> {
-    assert!(rt; is_linked(nodes, links));
-    assert!(rt; 0 < nodes);
-    assert_eq!(rt; weights.len(), links.len());
+) -> Result<bool, AllocError> {
+    if !is_linked(nodes, links) || nodes == 0 || weights.len() != links.len() {
+        return Ok(false);
+    }
     let tree = grow(alloc, nodes, links, weights, 0)?;
     let off = off_tree(alloc, &tree, links.len())?;
     let set = set_of(&off);
-    assert!(rt; leaves_no_cycle(links, set), "{links:?}");
-    if joins_nodes(&tree.reached, links) {
-        assert_eq!(rt;
-            weight_in(weights, set),
-            least_weight(links, weights),
-            "{links:?} {weights:?}"
-        );
+    let is_joined = joins_nodes(&tree.reached, links);
+    Ok(
+        leaves_no_cycle(links, set)
+            && (!is_joined || weight_in(weights, set) == least_weight(links, weights)),
+    )
+}
+
+// The links of a graph of three nodes, by its number: each link is a digit to the base 9.
+fn numbered(alloc: Global, edges: usize, number: usize) -> Result<Vec<Link>, AllocError> {
+    let mut links: Vec<Link> = Vec::new(alloc);
+    let mut left = number;
+    for _ in 0..edges {
+        let pair = left % 9;
+        left /= 9;
+        links.push(Link {
+            from: pair / 3,
+            to: pair % 3,
+        })?;
     }
-    Ok(())
+    Ok(links)
 }
 
 #[test]
 fn least_of_all_sets(rt: HostRuntime) -> Result<(), Fail> {
-    for (nodes, edges, graphs) in [
-        (1usize, 4usize, 1usize),
-        (2, 4, 256),
-        (3, 0, 1),
-        (3, 1, 9),
-        (3, 2, 81),
-        (3, 3, 729),
-        (3, 4, 6561),
-    ] {
-        let many = nodes * nodes;
-        for graph in 0..graphs {
-            let mut left = graph;
-            let mut links: Vec<Link> = Vec::new(rt.alloc());
-            for _ in 0..edges {
-                let pair = left % many;
-                left /= many;
-                links.push(Link {
-                    from: pair / nodes,
-                    to: pair % nodes,
-                })?;
-            }
+    for (edges, graphs) in [(0, 1), (1, 9), (2, 81), (3, 729), (4, 6561)] {
+        for number in 0..graphs {
+            let links = numbered(rt.alloc(), edges, number)?;
             for weights in [[1, 2, 3, 4], [2, 1, 2, 1]] {
                 let few = weights.get(..links.len()).ok_or("more than four edges")?;
-                compare(&rt, rt.alloc(), nodes, &links, few)?;
+                for nodes in 1..=3 {
+                    if is_linked(nodes, &links) {
+                        assert!(rt;
+                            is_least(rt.alloc(), nodes, &links, few)?,
+                            "{links:?} {few:?}"
+                        );
+                    }
+                }
             }
         }
     }
