@@ -3,8 +3,7 @@ use Rattle.std.proofs.Common.{◌≡◌, ℕ, List, [], ◌∷◌, ◌++◌, ◌
 use Rattle.std.specs.List.{flat_map}
 use Rattle.std.proofs.lemmas.Grind.{flat_map-append}
 use Rattle.byteorder.specs.Endian.{big_bytes}
-use Rattle.eel.specs.StraightFile.{words_bytes}
-use Rattle.eel.specs.Written.{Plan, place, places}
+use Rattle.eel.specs.Written.{words_bytes, Plan, place, places}
 
 pub words_bytes-nil : words_bytes [] ≡ []
 unfolding words_bytes

@@ -1,5 +1,5 @@
 pub mod Answers
 pub mod Command
 pub mod Outcome
-pub mod StraightFile
+pub mod Straight
 pub mod Written

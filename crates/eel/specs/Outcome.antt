@@ -2,6 +2,7 @@
 use Rattle.std.specs.Prelude.{◌≡◌, ℕ, ◌⊎◌, List, [], ◌∷◌, ◌++◌, Option, codes, decimal}
 use Rattle.std.specs.Borrow.{Bor}
 use Rattle.std.specs.List.{flat_map}
+use Rattle.eel_base.specs.Fields.{hex_of}
 use Rattle.eel_base.specs.Outside.{Rose, appended, TookPart}
 use Rattle.eel.specs.declared.outcome.Outcome as declared
 use Rattle.eel.specs.declared.outcome.Outcome.TheVariants as variants
@@ -10,8 +11,12 @@ pub data Outcome : Type 0 where
   Done : Outcome
   -- the words are outside the grammar
   BadWords : Outcome
-  -- the file is of a form that isn't built yet
-  FormNotBuilt : (name : List ℕ) → Outcome
+  -- the file has this fault
+  BadFile : (name : List ℕ) (code : ℕ) → Outcome
+  -- the file's text has a word at this address of a form that isn't built yet
+  NotBuilt : (name : List ℕ) (address : ℕ) → Outcome
+  -- the file leaves less room than an edit asks for
+  NoRoom : (name : List ℕ) (needed had : ℕ) → Outcome
   -- the file has more bytes than `limit`
   TooLong : (name : List ℕ) (limit : ℕ) → Outcome
   OutOfMemory : Outcome
@@ -20,8 +25,10 @@ pub data Outcome : Type 0 where
 abbrev pub status_of : Outcome → ℕ
 status_of Done = 0
 status_of BadWords = 64
-status_of (FormNotBuilt name) = 65
+status_of (BadFile name code) = 65
+status_of (NotBuilt name address) = 65
 status_of (TooLong name limit) = 66
+status_of (NoRoom name needed had) = 69
 status_of OutOfMemory = 70
 status_of DeviceFault = 74
 
@@ -35,8 +42,10 @@ line_about name text = line (name ++ codes ": " ++ text)
 abbrev pub line_of : Outcome → List ℕ
 line_of Done = []
 line_of BadWords = line (codes "bad words")
-line_of (FormNotBuilt name) = line_about name (codes "form not built")
+line_of (BadFile name code) = line_about name (codes "file fault " ++ decimal code)
+line_of (NotBuilt name address) = line_about name (codes "not built at " ++ hex_of address)
 line_of (TooLong name limit) = line_about name (codes "longer than " ++ decimal limit ++ codes " bytes")
+line_of (NoRoom name needed had) = line_about name (codes "room " ++ decimal needed ++ codes " needed, " ++ decimal had ++ codes " had")
 line_of OutOfMemory = line (codes "out of memory")
 line_of DeviceFault = line (codes "device fault")
 
@@ -58,7 +67,9 @@ joined pieces = flat_map (λ piece. piece.now) pieces
 abbrev pub outcome_seen : declared.Outcome → Outcome
 outcome_seen variants.Done = Done
 outcome_seen variants.BadWords = BadWords
-outcome_seen (variants.FormNotBuilt name) = FormNotBuilt name.now
+outcome_seen (variants.BadFile name code) = BadFile name.now code
+outcome_seen (variants.NotBuilt name address) = NotBuilt name.now address.0
+outcome_seen (variants.NoRoom name needed had) = NoRoom name.now needed had
 outcome_seen (variants.TooLong name limit) = TooLong name.now limit
 outcome_seen variants.OutOfMemory = OutOfMemory
 outcome_seen variants.DeviceFault = DeviceFault

@@ -4,9 +4,9 @@ use Rattle.std.specs.Prelude.{ℕ, zero, suc, ◌+◌, ◌-◌, ◌*◌, ◌/◌
 use Rattle.std.specs.List.{flat_map}
 use Rattle.byteorder.specs.Endian.{big_bytes}
 use Rattle.eel_base.specs.CodeText.{Words}
-use Rattle.eel.specs.declared.written.ProgramHeader.{ProgramHeader}
+use Rattle.elf32_sparc.specs.declared.header.ProgramHeader.{ProgramHeader}
+use Rattle.elf32_sparc.specs.Header.{word_at}
 use Rattle.eel.specs.declared.written.Plan as declared
-use Rattle.eel.specs.StraightFile.{words_bytes, word_at, straight_words, header_size, text_start, count_of}
 
 abbrev pub page_size : ℕ
 page_size = 4096
@@ -35,6 +35,10 @@ pub record IsSmall (plan : Plan) : Type 0 where
 -- the plan that the program keeps
 abbrev pub plan_seen : declared.Plan → Plan
 plan_seen plan = record { original = plan.original.now; delta = plan.delta; carried = plan.carried.now; text = plan.text.now; entry = plan.entry.0; base = plan.base.0 }
+
+-- words and halfwords as bytes
+unfoldable pub words_bytes : List ℕ → List ℕ
+words_bytes words = flat_map (big_bytes 4) words
 
 unfoldable pub halves_bytes : List ℕ → List ℕ
 halves_bytes halves = flat_map (big_bytes 2) halves
@@ -68,13 +72,13 @@ notes_at plan = page_at plan + page_size
 
 -- a header of a segment (figure 5-1 of the ABI)
 unfoldable pub program_header : ProgramHeader → List ℕ
-program_header h = words_bytes (h.kind ∷ h.offset ∷ h.vaddr ∷ h.paddr ∷ h.filesz ∷ h.memsz ∷ h.flags ∷ h.align ∷ [])
+program_header h = words_bytes (h.p_type ∷ h.p_offset ∷ h.p_vaddr ∷ h.p_paddr ∷ h.p_filesz ∷ h.p_memsz ∷ h.p_flags ∷ h.p_align ∷ [])
 
 -- the headers of the segments that are added: the code is readable and executable, the page writable
 abbrev pub added_headers : Plan → List ProgramHeader
 added_headers plan =
-    record { kind = 1; offset = code_at plan; vaddr = plan.base; paddr = plan.base; filesz = 4 * count plan; memsz = 4 * count plan; flags = 5; align = page_size }
-    ∷ record { kind = 1; offset = page_at plan; vaddr = editor_page; paddr = editor_page; filesz = page_size; memsz = page_size; flags = 6; align = page_size } ∷ []
+    record { p_type = 1; p_offset = code_at plan; p_vaddr = plan.base; p_paddr = plan.base; p_filesz = 4 * count plan; p_memsz = 4 * count plan; p_flags = 5; p_align = page_size }
+    ∷ record { p_type = 1; p_offset = page_at plan; p_vaddr = editor_page; p_paddr = editor_page; p_filesz = page_size; p_memsz = page_size; p_flags = 6; p_align = page_size } ∷ []
 
 abbrev pub segment_headers : Plan → List ProgramHeader
 segment_headers plan = plan.carried ++ added_headers plan
@@ -122,23 +126,3 @@ written plan =
     let coded = padded_to (code_at plan) whole ++ words_bytes plan.text.words in
     let paged = padded_to (notes_at plan) (padded_to (page_at plan) coded) in
     paged ++ notes plan
-
--- The plan of an edit of a straight file: its one segment is carried on, no longer executable, and the
--- code stands at the next multiple of 0x10000 above it.
-
-abbrev pub straight_delta : ℕ
-straight_delta = 0x10000
-
-abbrev pub plan_of : List ℕ → Plan
-plan_of bytes = record {
-  original = bytes;
-  delta = straight_delta;
-  carried = record { kind = 1; offset = header_size + straight_delta; vaddr = text_start; paddr = text_start; filesz = 4 * count_of bytes; memsz = 4 * count_of bytes; flags = 4; align = 0x10000 } ∷ [];
-  text = record { start = text_start; words = straight_words bytes };
-  entry = 0;
-  base = (text_start + 4 * count_of bytes + 0xffff) / 0x10000 * 0x10000;
-}
-
--- the file that an edit writes
-abbrev pub edited : List ℕ → List ℕ
-edited bytes = written (plan_of bytes)

@@ -1,11 +1,11 @@
 //! The command `edit`.
-ghost use Rattle.std.specs.Prelude.{◌≤◌};
+ghost use Rattle.std.specs.Prelude.{◌≡◌, ◌≤◌};
 ghost use Rattle.eel.specs.Command.{EditPlain};
 ghost use Rattle.eel.specs.Outcome.{outcome_seen};
-ghost use Rattle.eel.specs.Answers.{Follows};
+ghost use Rattle.eel.specs.Answers.{Follows, refusal_of};
 
 use crate::outcome::Outcome;
-use crate::straight::{StraightFault, edited};
+use crate::straight::{EditFault, edited};
 use eel_base::{FetchFault, Files, PutFault};
 use std::alloc::Global;
 
@@ -35,12 +35,26 @@ pub fn edit_plain<'a, F: Files>(
     };
     let written = match edited(alloc, &bytes) {
         Ok(written) => written,
-        Err(StraightFault::Form) => return Outcome::FormNotBuilt { name: input },
-        Err(StraightFault::NoMemory) => return Outcome::OutOfMemory,
+        Err(fault) => return refusal(input, fault),
     };
     match files.put(output, &written) {
         Ok(()) => Outcome::Done,
         Err(PutFault::NoMemory) => Outcome::OutOfMemory,
         Err(PutFault::Failed) => Outcome::DeviceFault,
+    }
+}
+
+/// What a refused edit of the file `name` comes to.
+fn refusal<'a>(name: &'a str, fault: EditFault) -> Outcome<'a>
+    ensures { outcome_seen result ≡ refusal_of name.now fault }
+{
+    match fault {
+        EditFault::File(fault) => Outcome::BadFile {
+            name,
+            code: fault.code(),
+        },
+        EditFault::NotBuilt(address) => Outcome::NotBuilt { name, address },
+        EditFault::Room { needed, had } => Outcome::NoRoom { name, needed, had },
+        EditFault::NoMemory => Outcome::OutOfMemory,
     }
 }

@@ -3,7 +3,7 @@ ghost use Rattle.std.specs.Prelude.{◌≡◌, ◌≤◌, OnOk, OnErr};
 ghost use Rattle.eel_base.specs.Outside.{Rose, appended, TookPart};
 ghost use Rattle.eel.specs.Outcome.{outcome_seen, status_of, line_of, Shows, joined};
 
-use eel_base::{Failed, Sink, put_all};
+use eel_base::{Addr, Failed, Sink, hex8, put_all};
 use itoa::Buffer;
 
 /// What came of a command.
@@ -12,10 +12,27 @@ pub enum Outcome<'a> {
     Done,
     /// The words are outside the grammar.
     BadWords,
-    /// The file `name` is of a form that isn't built yet.
-    FormNotBuilt { name: &'a str },
+    /// The file `name` has this fault.
+    BadFile {
+        name: &'a str,
+        code: u8,
+    },
+    /// The text of the file `name` has a word of a form that isn't built yet, the first at `address`.
+    NotBuilt {
+        name: &'a str,
+        address: Addr,
+    },
     /// The file `name` has more than `limit` bytes.
-    TooLong { name: &'a str, limit: u64 },
+    TooLong {
+        name: &'a str,
+        limit: u64,
+    },
+    /// The edit of the file `name` asks for `needed` bytes of room, and there are `had`.
+    NoRoom {
+        name: &'a str,
+        needed: u64,
+        had: u64,
+    },
     OutOfMemory,
     DeviceFault,
 }
@@ -31,8 +48,9 @@ impl Outcome<'_> {
         match self {
             Outcome::Done => 0,
             Outcome::BadWords => 64,
-            Outcome::FormNotBuilt { .. } => 65,
+            Outcome::BadFile { .. } | Outcome::NotBuilt { .. } => 65,
             Outcome::TooLong { .. } => 66,
+            Outcome::NoRoom { .. } => 69,
             Outcome::OutOfMemory => 70,
             Outcome::DeviceFault => DEVICE_FAULT,
         }
@@ -59,27 +77,74 @@ fn put_line<E: Sink>(outcome: &Outcome, err: &mut E) -> Result<(), Failed>
 {
     match outcome {
         Outcome::Done => Ok(()),
-        Outcome::BadWords => put_pieces(err, &["eel: bad words\n"]),
-        Outcome::FormNotBuilt { name } => put_pieces(err, &["eel: ", *name, ": form not built\n"]),
+        Outcome::BadWords => put_pieces(err, &[b"eel: bad words\n"]),
+        Outcome::BadFile { name, code } => {
+            let mut digits = Buffer::new();
+            let code = digits.format(*code).as_bytes();
+            put_pieces(
+                err,
+                &[b"eel: ", name.as_bytes(), b": file fault ", code, b"\n"],
+            )
+        }
+        Outcome::NotBuilt { name, address } => {
+            let digits = hex8(address.0);
+            put_pieces(
+                err,
+                &[
+                    b"eel: ",
+                    name.as_bytes(),
+                    b": not built at ",
+                    &digits,
+                    b"\n",
+                ],
+            )
+        }
         Outcome::TooLong { name, limit } => {
             let mut digits = Buffer::new();
-            let limit = digits.format(*limit);
-            put_pieces(err, &["eel: ", *name, ": longer than ", limit, " bytes\n"])
+            let limit = digits.format(*limit).as_bytes();
+            put_pieces(
+                err,
+                &[
+                    b"eel: ",
+                    name.as_bytes(),
+                    b": longer than ",
+                    limit,
+                    b" bytes\n",
+                ],
+            )
         }
-        Outcome::OutOfMemory => put_pieces(err, &["eel: out of memory\n"]),
-        Outcome::DeviceFault => put_pieces(err, &["eel: device fault\n"]),
+        Outcome::NoRoom { name, needed, had } => {
+            let mut needed_digits = Buffer::new();
+            let mut had_digits = Buffer::new();
+            let needed = needed_digits.format(*needed).as_bytes();
+            let had = had_digits.format(*had).as_bytes();
+            put_pieces(
+                err,
+                &[
+                    b"eel: ",
+                    name.as_bytes(),
+                    b": room ",
+                    needed,
+                    b" needed, ",
+                    had,
+                    b" had\n",
+                ],
+            )
+        }
+        Outcome::OutOfMemory => put_pieces(err, &[b"eel: out of memory\n"]),
+        Outcome::DeviceFault => put_pieces(err, &[b"eel: device fault\n"]),
     }
 }
 
 /// Writes the pieces, one after the other.
-fn put_pieces<E: Sink>(err: &mut E, pieces: &[&str]) -> Result<(), Failed>
+fn put_pieces<E: Sink>(err: &mut E, pieces: &[&[u8]]) -> Result<(), Failed>
     ensures all { OnOk result (E.taken err.new ≡ appended (E.taken err.old) (joined pieces.now)) }
     ensures part { OnErr result (TookPart (E.taken err.old) (E.taken err.new) (joined pieces.now)) }
     ensures failed { OnErr result (Rose (E.faults err.old) (E.faults err.new)) }
     ensures later { E.faults err.old ≤ E.faults err.new }
 {
     for piece in pieces {
-        put_all(err, piece.as_bytes())?;
+        put_all(err, piece)?;
     }
     Ok(())
 }

@@ -1,166 +1,161 @@
-//! The one form of file that is edited now: straight code after its headers.
-ghost use Rattle.std.specs.Prelude.{◌≡◌, ◌≤◌, ◌<◌, ◌*◌, ◌↔◌, ℕ, length, vec_len, IfOk, OnOk, IsErrOf, IsTrue, All, ◌+◌, ◌^◌};
-ghost use Rattle.eel_base.specs.CodeText.{Words};
-ghost use Rattle.eel.specs.StraightFile.{IsStraight, text_start, count_of, straight_headers, straight_words, is_built as is_built_of, words_at, header_size};
-ghost use Rattle.eel.specs.Written.{edited as edited_of};
+//! The edit of straight code: which files it takes, and the plan of the written file.
+ghost use Rattle.std.specs.Prelude.{◌≡◌, ◌≤◌, ◌<◌, ◌^◌, length, map, filter, IfOk, OnOk, IfErr, vec_len, MatchOption};
+ghost use Rattle.eel.specs.Answers.{CanEdit, EditRefuses};
+ghost use Rattle.eel.specs.Straight.{IsStraight, IsFirstTransfer, is_transfer as is_transfer_of, bound_of, delta_of, is_carried as is_carried_of, carried_on as carried_on_of, plan_of, edited as edited_of};
 
-use crate::written::{Plan, ProgramHeader, put_words, write_file};
-use byteorder::{BigEndian, ByteOrder};
+use crate::written::{Plan, write_file};
 use eel_base::{Addr, NoMemory, Text, WordNo};
+use elf32_sparc::{FileFault, ProgramHeader, ReadFault, read_headers, read_image};
 use std::alloc::Global;
+use v8_decode::{Instr, decode};
 
 /// Why a file was not edited.
 #[derive(Clone, Copy, PartialEq, Eq, Debug)]
-pub enum StraightFault {
-    /// It isn't of the form.
-    Form,
+pub enum EditFault {
+    File(FileFault),
+    /// A word of a form that isn't built yet stands at this address, the first one.
+    NotBuilt(Addr),
+    /// The edit asks for more bytes than there is room.
+    Room { needed: u64, had: u64 },
     NoMemory,
 }
 
-impl From<NoMemory> for StraightFault {
+impl From<NoMemory> for EditFault {
     ghost use Rattle.std.specs.Prelude.{◌≡◌};
-    ghost use Rattle.eel.specs.declared.straight.StraightFault.TheVariants as faults;
+    ghost use Rattle.eel.specs.declared.straight.EditFault.TheVariants as faults;
 
     ghost from_gives = { λ _ fault. fault ≡ faults.NoMemory };
 
-    fn from(_: NoMemory) -> StraightFault {
-        StraightFault::NoMemory
+    fn from(_: NoMemory) -> EditFault {
+        EditFault::NoMemory
     }
 }
 
-const HEADER_SIZE: usize = 84;
+impl From<ReadFault> for EditFault {
+    ghost use Rattle.eel.specs.Straight.{BecomesEditFault};
 
-const TEXT_START: u32 = 0x10054;
+    ghost from_gives = { BecomesEditFault };
 
-const MAX_WORDS: usize = 1 << 20;
+    fn from(fault: ReadFault) -> EditFault {
+        match fault {
+            ReadFault::File(fault) => EditFault::File(fault),
+            ReadFault::NoMemory => EditFault::NoMemory,
+        }
+    }
+}
 
-const SYSTEM_CALL: u32 = 0x91d0_2010;
+/// The type of the entry for the table of program headers itself.
+const PT_PHDR: u32 = 6;
 
-/// Where the original stands in the written file.
-const DELTA: u32 = 0x10000;
+const PF_X: u32 = 1;
 
-/// The bytes of the edited file, if `bytes` are of the form.
-pub fn edited(alloc: Global, bytes: &[u8]) -> Result<Vec<u8>, StraightFault>
+const PAGE_SIZE: u32 = 4096;
+
+/// The bytes of the edited file.
+pub fn edited(alloc: Global, bytes: &[u8]) -> Result<Vec<u8>, EditFault>
+    requires { length bytes.now ≤ 2 ^ 26 }
     ensures written { IfOk result (λ written. written.items ≡ edited_of bytes.now) }
-    ensures straight { OnOk result (IsStraight bytes.now) }
-    ensures form { IsErrOf result StraightFault.Form → ¬ IsStraight bytes.now }
+    ensures taken { OnOk result (CanEdit bytes.now) }
+    ensures refused { IfErr result (EditRefuses bytes.now) }
 {
-    let text = text_of(read_straight(alloc, bytes)?);
-    let size = 4 * text.len();
-    let carried = [ProgramHeader {
-        kind: 1,
-        offset: HEADER_SIZE as u32 + DELTA,
-        vaddr: TEXT_START,
-        paddr: TEXT_START,
-        filesz: size,
-        memsz: size,
-        flags: 4,
-        align: 0x10000,
-    }];
+    let image = read_image(alloc, bytes)?;
+    let text = image.text();
+    if let Some(address) = first_transfer(text) {
+        return Err(EditFault::NotBuilt(address));
+    }
+    let needed = bound(text);
+    let had = u64::from(image.room());
+    if had < needed {
+        return Err(EditFault::Room { needed, had });
+    }
+    let headers = read_headers(alloc, bytes)?;
+    let delta = delta_above(&headers);
+    let carried = carry(alloc, &headers, delta)?;
     let plan = Plan {
         original: bytes,
-        delta: DELTA,
+        delta,
         carried: &carried,
-        text: &text,
-        entry: WordNo(0),
-        base: Addr((TEXT_START + size).next_multiple_of(0x10000)),
+        text,
+        entry: image.entry(),
+        base: image.base(),
     };
     Ok(write_file(alloc, &plan)?)
 }
 
-/// The words as a text, where a file of the form has it.
-fn text_of(words: Vec<u32>) -> Text
-    requires some { 1 ≤ vec_len words }
-    requires few { vec_len words ≤ 2 ^ 20 }
-    ensures { result ≡ record { start = text_start; words = words.items } }
+/// The address of the first word that is a transfer of control.
+fn first_transfer(text: &Text) -> Option<Addr>
+    ensures { MatchOption result (IsStraight text.now) (λ address. IsFirstTransfer text.now address.0) }
 {
-    Text::new(Addr(TEXT_START), words).unwrap()
-}
-
-/// The words of a file of the form.
-fn read_straight(alloc: Global, bytes: &[u8]) -> Result<Vec<u32>, StraightFault>
-    ensures words { IfOk result (λ words. words.items ≡ straight_words bytes.now) }
-    ensures count { IfOk result (λ words. vec_len words ≡ count_of bytes.now) }
-    ensures straight { OnOk result (IsStraight bytes.now) }
-    ensures form { IsErrOf result StraightFault.Form → ¬ IsStraight bytes.now }
-{
-    let count = bytes.len().saturating_sub(HEADER_SIZE) / 4;
-    if bytes.len() != HEADER_SIZE + 4 * count || count == 0 || count > MAX_WORDS {
-        return Err(StraightFault::Form);
+    for word in 0..text.len() {
+        if is_transfer(decode(text.word(WordNo(word)))) {
+            return Some(text.address(WordNo(word)));
+        }
     }
-    let (headers, _) = bytes.split_at(HEADER_SIZE);
-    if headers != headers_of(alloc, count as u32)?.as_slice() {
-        return Err(StraightFault::Form);
+    None
+}
+
+fn is_transfer(instruction: Instr) -> bool
+    ensures { result ≡ is_transfer_of instruction }
+{
+    matches!(
+        instruction,
+        Instr::Branch { .. } | Instr::Call { .. } | Instr::Jmpl { .. }
+    )
+}
+
+/// How many bytes of room an edit asks for.
+fn bound(text: &Text) -> u64
+    ensures { result ≡ bound_of text.now }
+{
+    (1 << 20) + 512 * u64::from(text.len())
+}
+
+/// Where the original stands in the written file.
+fn delta_above(headers: &[ProgramHeader]) -> u32
+    ensures { result ≡ delta_of headers.now }
+{
+    headers
+        .iter()
+        .filter(|header| header.is_loadable())
+        .fold(PAGE_SIZE, |most, header| most.max(header.p_align))
+}
+
+/// The headers that are carried on.
+fn carry(
+    alloc: Global,
+    headers: &[ProgramHeader],
+    delta: u32,
+) -> Result<Vec<ProgramHeader>, NoMemory>
+    ensures headers { IfOk result (λ carried. carried.items ≡ map (carried_on_of delta) (filter is_carried_of headers.now)) }
+    ensures few { IfOk result (λ carried. vec_len carried ≤ length headers.now) }
+{
+    let mut carried = Vec::with_capacity(alloc, headers.len())?;
+    for header in headers {
+        if is_carried(header) {
+            carried.push(carried_on(header, delta))?;
+        }
     }
-    let words = read_words(alloc, bytes, count)?;
-    if !are_built(&words) {
-        return Err(StraightFault::Form);
-    }
-    Ok(words)
+    Ok(carried)
 }
 
-/// The headers of a file of the form with `count` words.
-fn headers_of(alloc: Global, count: u32) -> Result<Vec<u8>, NoMemory>
-    requires { count ≤ 2 ^ 20 }
-    ensures { IfOk result (λ headers. headers.items ≡ straight_headers count) }
+fn is_carried(header: &ProgramHeader) -> bool
+    ensures { result ≡ is_carried_of header.now }
 {
-    let size = 4 * count;
-    let mut headers = Vec::new(alloc);
-    put_words(
-        &mut headers,
-        &[
-            0x7f45_4c46,
-            0x0102_0100,
-            0,
-            0,
-            0x0002_0002,
-            1,
-            TEXT_START,
-            52,
-            0,
-            0,
-            0x0034_0020,
-            0x0001_0000,
-            0,
-            1,
-            HEADER_SIZE as u32,
-            TEXT_START,
-            TEXT_START,
-            size,
-            size,
-            5,
-            0x10000,
-        ],
-    )?;
-    Ok(headers)
+    header.p_type != PT_PHDR && !(header.is_load() && header.p_memsz == 0)
 }
 
-/// The words after the headers.
-fn read_words(alloc: Global, bytes: &[u8], count: usize) -> Result<Vec<u32>, NoMemory>
-    requires { header_size + 4 * count ≤ length bytes.now }
-    ensures words { IfOk result (λ words. words.items ≡ words_at bytes.now header_size count) }
-    ensures count { IfOk result (λ words. vec_len words ≡ count) }
+/// The header with its bytes `delta` further on, and the text no longer executable.
+fn carried_on(header: &ProgramHeader, delta: u32) -> ProgramHeader
+    ensures { result ≡ carried_on_of delta header.now }
 {
-    let mut words = Vec::with_capacity(alloc, count)?;
-    for word in 0..count {
-        words.push(BigEndian::read_u32(&bytes[HEADER_SIZE + 4 * word..]))?;
-    }
-    Ok(words)
-}
-
-fn are_built(words: &[u32]) -> bool
-    ensures { IsTrue result ↔ All (λ word. IsTrue (is_built_of word)) words.now }
-{
-    words.iter().all(|word| is_built(*word))
-}
-
-/// SETHI, ADD and OR that leave the codes, and the system call.
-fn is_built(word: u32) -> bool
-    ensures { result ≡ is_built_of word }
-{
-    match word >> 30 {
-        0 => word >> 22 & 7 == 4,
-        2 => matches!(word >> 19 & 0x3f, 0 | 2) || word == SYSTEM_CALL,
-        _ => false,
+    let flags = header.p_flags;
+    ProgramHeader {
+        p_offset: header.p_offset.wrapping_add(delta),
+        p_flags: if header.is_text() {
+            flags & !PF_X
+        } else {
+            flags
+        },
+        ..*header
     }
 }

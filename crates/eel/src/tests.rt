@@ -8,6 +8,19 @@ use std::test::Fail;
 const THREE_WORDS: [u8; 96] =
     *b"\x7fELF\x01\x02\x01\0\0\0\0\0\0\0\0\0\0\x02\0\x02\0\0\0\x01\0\x01\0\x54\0\0\0\x34\0\0\0\0\0\0\0\0\0\x34\0\x20\0\x01\0\0\0\0\0\0\0\0\0\x01\0\0\0\x54\0\x01\0\x54\0\x01\0\x54\0\0\0\x0c\0\0\0\x0c\0\0\0\x05\0\x01\0\0\x82\x10\x20\x01\x90\x10\x20\x03\x91\xd0\x20\x10";
 
+/// three_words with other words.
+fn with_words(alloc: Global, words: [u32; 3]) -> Result<Vec<u8>, Fail> {
+    let mut bytes = Vec::from_slice(alloc, &THREE_WORDS[..84])?;
+    for word in words {
+        bytes.extend_from_slice(&word.to_be_bytes())?;
+    }
+    Ok(bytes)
+}
+
+/// three_words with a second segment, of 16 bytes without file bytes at the end of a program's addresses.
+const CRAMPED: [u8; 128] =
+    *b"\x7fELF\x01\x02\x01\0\0\0\0\0\0\0\0\0\0\x02\0\x02\0\0\0\x01\0\x01\0\x74\0\0\0\x34\0\0\0\0\0\0\0\0\0\x34\0\x20\0\x02\0\0\0\0\0\0\0\0\0\x01\0\0\0\x74\0\x01\0\x74\0\x01\0\x74\0\0\0\x0c\0\0\0\x0c\0\0\0\x05\0\x01\0\0\0\0\0\x01\0\0\0\0\x7f\xff\0\0\x7f\xff\0\0\0\0\0\0\0\0\0\x10\0\0\0\x06\0\0\0\0\x82\x10\x20\x01\x90\x10\x20\x03\x91\xd0\x20\x10";
+
 /// The outside of a call.
 #[derive(Drop)]
 struct Outside {
@@ -30,6 +43,10 @@ impl Outside {
             out: MemSink::new(alloc, 100, Vec::new(alloc)).map_err(|_| Fail::from("out"))?,
             err: MemSink::new(alloc, room, Vec::new(alloc)).map_err(|_| Fail::from("err"))?,
         })
+    }
+
+    fn hold(&mut self, name: &str, bytes: &[u8]) -> Result<(), Fail> {
+        self.files.add(name, bytes).map_err(|_| Fail::from("add"))
     }
 
     fn eel(&mut self, alloc: Global, words: &[&str]) -> u8 {
@@ -141,7 +158,38 @@ fn every_other_answer_has_its_line(rt: HostRuntime) -> Result<(), Fail> {
     assert_eq!(rt; outside.eel(alloc, &["edit", "out", "other", "plain"]), 65);
     assert!(rt; outside.files.get("other").is_none());
     let lines =
-        b"eel: bad words\neel: bad words\neel: device fault\neel: device fault\neel: device fault\neel: out: form not built\n";
+        b"eel: bad words\neel: bad words\neel: device fault\neel: device fault\neel: device fault\neel: out: file fault 12\n";
+    assert_eq!(rt; outside.err.bytes(), lines.as_slice());
+    Ok(())
+}
+
+#[test]
+fn files_that_are_not_edited(rt: HostRuntime) -> Result<(), Fail> {
+    let alloc = rt.alloc();
+    let mut outside = Outside::new(alloc, &[], 300)?;
+    outside.hold(
+        "branch",
+        &with_words(alloc, [0x10bf_ffff, 0x0100_0000, 0x91d0_2010])?,
+    )?;
+    outside.hold(
+        "call",
+        &with_words(alloc, [0x8210_2001, 0x4000_0002, 0x0100_0000])?,
+    )?;
+    outside.hold(
+        "jump",
+        &with_words(alloc, [0x8210_2001, 0x9010_2003, 0x81c3_e008])?,
+    )?;
+    outside.hold("cramped", &CRAMPED)?;
+    for (name, status) in [("branch", 65), ("call", 65), ("jump", 65), ("cramped", 69)] {
+        assert_eq!(rt;
+            outside.eel(alloc, &["edit", name, "out", "plain"]),
+            status,
+            "{name}"
+        );
+    }
+    assert!(rt; outside.files.get("out").is_none());
+    let lines =
+        b"eel: branch: not built at 00010054\neel: call: not built at 00010058\neel: jump: not built at 0001005c\neel: cramped: room 1050112 needed, 0 had\n";
     assert_eq!(rt; outside.err.bytes(), lines.as_slice());
     Ok(())
 }
@@ -150,11 +198,7 @@ fn every_other_answer_has_its_line(rt: HostRuntime) -> Result<(), Fail> {
 fn a_long_file_and_a_full_stream(rt: HostRuntime) -> Result<(), Fail> {
     let alloc = rt.alloc();
     let mut outside = Outside::new(alloc, &[], 41)?;
-    let long = vec![in alloc; 0; 67_108_865]?;
-    outside
-        .files
-        .add("long", &long)
-        .map_err(|_| Fail::from("add"))?;
+    outside.hold("long", &vec![in alloc; 0; 67_108_865]?)?;
     assert_eq!(rt; outside.eel(alloc, &["edit", "long", "out", "plain"]), 66);
     assert_eq!(rt;
         outside.eel(alloc, &["help"]),

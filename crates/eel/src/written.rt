@@ -1,12 +1,15 @@
 //! The written file.
 ghost use Rattle.std.specs.Prelude.{◌≡◌, ◌≤◌, ◌<◌, ◌+◌, ◌*◌, ◌++◌, ◌^◌, IfOk, OnOk};
 ghost use Rattle.std.specs.List.{flat_map};
-ghost use Rattle.eel.specs.StraightFile.{words_bytes};
-ghost use Rattle.eel.specs.Written.{plan_seen, written, halves_bytes, padded_to, program_header, file_header, added_headers as added_headers_of, notes, places, count, code_at, page_at, notes_at, IsSmall};
+ghost use Rattle.eel.specs.Written.{words_bytes, plan_seen, written, halves_bytes, padded_to, program_header, file_header, added_headers as added_headers_of, notes, places, count, code_at, page_at, notes_at, IsSmall};
 
 use byteorder::{BigEndian, ByteOrder};
-use eel_base::{Addr, NoMemory, Text, WordNo};
+use eel_base::{Addr, NoMemory, Text, WordNo, be32_at};
+use elf32_sparc::ProgramHeader;
 use std::alloc::Global;
+
+/// The place of e_flags in the header of a file.
+const E_FLAGS: usize = 36;
 
 const PT_LOAD: u32 = 1;
 
@@ -29,19 +32,6 @@ const NOTES_VERSION: u32 = 1;
 
 /// The tool without snippets, in the notes.
 const PLAIN: u32 = 0;
-
-/// A program header, with the fields of the ABI.
-#[derive(Clone, Copy)]
-pub struct ProgramHeader {
-    pub kind: u32,
-    pub offset: u32,
-    pub vaddr: u32,
-    pub paddr: u32,
-    pub filesz: u32,
-    pub memsz: u32,
-    pub flags: u32,
-    pub align: u32,
-}
 
 /// What of the written file depends on the original.
 #[derive(Drop)]
@@ -126,35 +116,35 @@ fn added_headers(plan: &Plan<'_>, offsets: Offsets) -> [ProgramHeader; 2]
     let size = 4 * plan.text.len();
     [
         ProgramHeader {
-            kind: PT_LOAD,
-            offset: offsets.code,
-            vaddr: plan.base.0,
-            paddr: plan.base.0,
-            filesz: size,
-            memsz: size,
-            flags: PF_R | PF_X,
-            align: PAGE_SIZE,
+            p_type: PT_LOAD,
+            p_offset: offsets.code,
+            p_vaddr: plan.base.0,
+            p_paddr: plan.base.0,
+            p_filesz: size,
+            p_memsz: size,
+            p_flags: PF_R | PF_X,
+            p_align: PAGE_SIZE,
         },
         ProgramHeader {
-            kind: PT_LOAD,
-            offset: offsets.page,
-            vaddr: EDITOR_PAGE,
-            paddr: EDITOR_PAGE,
-            filesz: PAGE_SIZE,
-            memsz: PAGE_SIZE,
-            flags: PF_R | PF_W,
-            align: PAGE_SIZE,
+            p_type: PT_LOAD,
+            p_offset: offsets.page,
+            p_vaddr: EDITOR_PAGE,
+            p_paddr: EDITOR_PAGE,
+            p_filesz: PAGE_SIZE,
+            p_memsz: PAGE_SIZE,
+            p_flags: PF_R | PF_W,
+            p_align: PAGE_SIZE,
         },
     ]
 }
 
-#[tactic(auto, using(std::proofs::lemmas::List::append_assoc))]
+#[tactic(auto, using(std::proofs::lemmas::List::append_assoc), unfolding(elf32_sparc::specs::Header::word_at))]
 fn put_file_header(out: &mut Vec<u8>, plan: &Plan<'_>) -> Result<(), NoMemory>
     requires { IsSmall (plan_seen plan.now) }
     ensures { OnOk result (out.new.items ≡ out.old.items ++ file_header (plan_seen plan.now)) }
 {
     let entry = plan.base.0 + 4 * plan.entry.0;
-    let flags = BigEndian::read_u32(&plan.original[36..]);
+    let flags = be32_at(plan.original, E_FLAGS).unwrap_or(0);
     let segments = plan.carried.len() as u16 + 2;
     out.extend_from_slice(&plan.original[..16])?;
     put_halves(out, &[2, 2])?;
@@ -171,14 +161,15 @@ fn put_program_headers(out: &mut Vec<u8>, headers: &[ProgramHeader]) -> Result<(
         put_words(
             out,
             &[
-                h.kind, h.offset, h.vaddr, h.paddr, h.filesz, h.memsz, h.flags, h.align,
+                h.p_type, h.p_offset, h.p_vaddr, h.p_paddr, h.p_filesz, h.p_memsz, h.p_flags,
+                h.p_align,
             ],
         )?;
     }
     Ok(())
 }
 
-#[tactic(auto, unfolding(crate::specs::StraightFile::words_bytes))]
+#[tactic(auto, unfolding(crate::specs::Written::words_bytes))]
 fn put_text(out: &mut Vec<u8>, text: &Text) -> Result<(), NoMemory>
     ensures { OnOk result (out.new.items ≡ out.old.items ++ words_bytes text.now.words) }
 {
@@ -246,8 +237,8 @@ fn pad_to(out: &mut Vec<u8>, offset: u32) -> Result<(), NoMemory>
 }
 
 /// Adds big-endian words.
-#[tactic(auto, unfolding(crate::specs::StraightFile::words_bytes))]
-pub fn put_words(out: &mut Vec<u8>, words: &[u32]) -> Result<(), NoMemory>
+#[tactic(auto, unfolding(crate::specs::Written::words_bytes))]
+fn put_words(out: &mut Vec<u8>, words: &[u32]) -> Result<(), NoMemory>
     ensures { OnOk result (out.new.items ≡ out.old.items ++ words_bytes words.now) }
 {
     for word in words {

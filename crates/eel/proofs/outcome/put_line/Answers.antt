@@ -19,8 +19,26 @@ returns-in-DeviceFault-clause-all g c = rw c.in-DeviceFault.is c.put_pieces-in-D
 pub returns-in-DeviceFault-clause-part : goal.returns-in-DeviceFault-clause-part
 returns-in-DeviceFault-clause-part g c = rw c.in-DeviceFault.is c.put_pieces-in-DeviceFault.ensures.part
 
+pub returns-in-BadFile-clause-all : goal.returns-in-BadFile-clause-all
+returns-in-BadFile-clause-all g c = rw c.in-BadFile.is (simp append_assoc (rw (c.as_bytes.ensures.value, c.as_bytes-code.ensures.value, c.format.ensures.text) at c.put_pieces-in-BadFile.ensures.all))
+
+pub returns-in-BadFile-clause-part : goal.returns-in-BadFile-clause-part
+returns-in-BadFile-clause-part g c = rw c.in-BadFile.is (simp append_assoc (rw (c.as_bytes.ensures.value, c.as_bytes-code.ensures.value, c.format.ensures.text) at c.put_pieces-in-BadFile.ensures.part))
+
+pub returns-in-NotBuilt-clause-all : goal.returns-in-NotBuilt-clause-all
+returns-in-NotBuilt-clause-all g c = rw c.in-NotBuilt.is (simp append_assoc (rw (c.as_bytes-in-NotBuilt.ensures.value, c.hex8-digits.ensures) at c.put_pieces-in-NotBuilt.ensures.all))
+
+pub returns-in-NotBuilt-clause-part : goal.returns-in-NotBuilt-clause-part
+returns-in-NotBuilt-clause-part g c = rw c.in-NotBuilt.is (simp append_assoc (rw (c.as_bytes-in-NotBuilt.ensures.value, c.hex8-digits.ensures) at c.put_pieces-in-NotBuilt.ensures.part))
+
 pub returns-in-TooLong-clause-all : goal.returns-in-TooLong-clause-all
-returns-in-TooLong-clause-all g c = rw c.in-TooLong.is (simp append_assoc (rw c.format-limit.ensures.text at c.put_pieces-in-TooLong.ensures.all))
+returns-in-TooLong-clause-all g c = rw c.in-TooLong.is (simp append_assoc (rw (c.as_bytes-in-TooLong.ensures.value, c.as_bytes-limit.ensures.value, c.format-in-TooLong.ensures.text) at c.put_pieces-in-TooLong.ensures.all))
 
 pub returns-in-TooLong-clause-part : goal.returns-in-TooLong-clause-part
-returns-in-TooLong-clause-part g c = rw c.in-TooLong.is (simp append_assoc (rw c.format-limit.ensures.text at c.put_pieces-in-TooLong.ensures.part))
+returns-in-TooLong-clause-part g c = rw c.in-TooLong.is (simp append_assoc (rw (c.as_bytes-in-TooLong.ensures.value, c.as_bytes-limit.ensures.value, c.format-in-TooLong.ensures.text) at c.put_pieces-in-TooLong.ensures.part))
+
+pub returns-in-NoRoom-clause-all : goal.returns-in-NoRoom-clause-all
+returns-in-NoRoom-clause-all g c = rw c.in-NoRoom.is (simp append_assoc (rw (c.as_bytes-in-NoRoom.ensures.value, c.as_bytes-needed.ensures.value, c.as_bytes-had.ensures.value, c.format-in-NoRoom.ensures.text, c.format-in-NoRoom-2.ensures.text) at c.put_pieces-in-NoRoom.ensures.all))
+
+pub returns-in-NoRoom-clause-part : goal.returns-in-NoRoom-clause-part
+returns-in-NoRoom-clause-part g c = rw c.in-NoRoom.is (simp append_assoc (rw (c.as_bytes-in-NoRoom.ensures.value, c.as_bytes-needed.ensures.value, c.as_bytes-had.ensures.value, c.format-in-NoRoom.ensures.text, c.format-in-NoRoom-2.ensures.text) at c.put_pieces-in-NoRoom.ensures.part))

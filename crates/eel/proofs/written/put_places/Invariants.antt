@@ -1,6 +1,5 @@
 use Rattle.std.proofs.Common.{◌≡◌, ◌++◌}
-use Rattle.eel.specs.StraightFile.{words_bytes}
-use Rattle.eel.specs.Written.{plan_seen, places}
+use Rattle.eel.specs.Written.{words_bytes, plan_seen, places}
 use Rattle.eel.proofs.written.put_places.Given as goal
 
 abbrev pub invariant-loop-word : goal.invariant-loop-word

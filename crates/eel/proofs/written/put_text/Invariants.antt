@@ -1,5 +1,5 @@
 use Rattle.std.proofs.Common.{◌≡◌, ◌++◌, take}
-use Rattle.eel.specs.StraightFile.{words_bytes}
+use Rattle.eel.specs.Written.{words_bytes}
 use Rattle.eel.proofs.written.put_text.Given as goal
 
 abbrev pub invariant-loop-word : goal.invariant-loop-word

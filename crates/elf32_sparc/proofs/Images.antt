@@ -1,0 +1,65 @@
+-- What was read of a file without a fault is its image.
+use Rattle.std.proofs.Common.{◌≡◌, ℕ, ◌-◌, ◌/◌, ◌≤◌, List, length, map, Option, Some, None, refl, sym, ap, ◌∙◌, subst, arith}
+use Rattle.std.specs.Option.{option_map_or}
+use Rattle.eel_base.specs.CodeText.{Words}
+use Rattle.elf32_sparc.specs.declared.header.ProgramHeader.{ProgramHeader}
+use Rattle.elf32_sparc.specs.declared.program.Segment.{Segment}
+use Rattle.elf32_sparc.specs.Header.{e_entry, program_headers, loadable, text_header}
+use Rattle.elf32_sparc.specs.FileFault.{fault}
+use Rattle.elf32_sparc.specs.Survey.{no_survey, survey_of}
+use Rattle.elf32_sparc.specs.Image.{segment_of, highest_end, rounded_up, room_from, text_from, text_of, no_text, word_number, Program, IsProgram, image_of}
+use Rattle.elf32_sparc.proofs.SurveyFacts.{fold-text}
+use Rattle.elf32_sparc.proofs.Accepted.{Accepted, IsFit, accepted, has_text, text_is_fit, segments_end_below}
+
+pub text-survey_of : (file : List ℕ) → (survey_of file).text ≡ text_header (program_headers file)
+unfolding survey_of
+text-survey_of file = fold-text (length file) no_survey (program_headers file)
+
+text_of-found : (file : List ℕ) (h : ProgramHeader) → text_header (program_headers file) ≡ Some h → text_from file h ≡ text_of file
+unfolding text_of
+text_of-found file h found = ap (λ o. option_map_or (text_from file) o no_text) (sym found)
+
+-- the parts that were read
+pub record IsRead (file : List ℕ) (h : ProgramHeader) (segments : List Segment) (text : Words) (entry base : ℕ) : Type 0 where
+  pub found : text_header (program_headers file) ≡ Some h
+  pub segments_are : segments ≡ map segment_of (loadable (program_headers file))
+  pub text_is : text ≡ text_from file h
+  pub entry_is : entry ≡ (e_entry file - h.p_vaddr) / 4
+  pub base_is : base ≡ rounded_up (highest_end segments)
+
+abbrev program : List Segment → Words → ℕ → ℕ → Program
+program segments text entry base = record { segments = segments; text = text; entry = entry; base = base; room = room_from base }
+
+pub image_is : (file : List ℕ) (h : ProgramHeader) (segments : List Segment) (text : Words) (entry base : ℕ) → IsRead file h segments text entry base → program segments text entry base ≡ image_of file
+unfolding image_of text_from
+image_is file h segments text entry base read =
+    let text_found : text ≡ text_of file = read.text_is ∙ text_of-found file h read.found in
+    let start : h.p_vaddr ≡ (text_of file).start = ap (λ t. t.start) (text_of-found file h read.found) in
+    let entry_found : entry ≡ word_number (text_of file) (e_entry file) = read.entry_is ∙ ap (λ s. (e_entry file - s) / 4) start in
+    let all = map segment_of (loadable (program_headers file)) in
+    let base_found : base ≡ rounded_up (highest_end all) = read.base_is ∙ ap (λ s. rounded_up (highest_end s)) read.segments_are in
+    ap (λ s. program s text entry base) read.segments_are
+    ∙ (ap (λ t. program all t entry base) text_found
+    ∙ (ap (λ e. program all (text_of file) e base) entry_found
+    ∙ ap (λ b. program all (text_of file) (word_number (text_of file) (e_entry file)) b) base_found))
+
+pub image_is_program : (file : List ℕ) (h : ProgramHeader) (segments : List Segment) (text : Words) (entry base : ℕ) → IsFit file h → highest_end segments ≤ 0x80000000 → IsRead file h segments text entry base → IsProgram (program segments text entry base)
+unfolding text_from
+image_is_program file h segments text entry base fit ends read =
+    record {
+      entry = rw (read.text_is, read.entry_is) fit.entry;
+      base = rw read.base_is (omega arith);
+      below = rw read.base_is (omega arith);
+    }
+
+-- the image of a file without a fault is one
+with_text : (file : List ℕ) → Accepted file → (found : Option ProgramHeader) → text_header (program_headers file) ≡ found → IsProgram (image_of file)
+with_text file ok None none = absurd (has_text file ok none)
+with_text file ok (Some h) found =
+    let segments = map segment_of (loadable (program_headers file)) in
+    let read : IsRead file h segments (text_from file h) ((e_entry file - h.p_vaddr) / 4) (rounded_up (highest_end segments)) = record { found = found; segments_are = refl; text_is = refl; entry_is = refl; base_is = refl } in
+    subst IsProgram (image_is file h segments (text_from file h) ((e_entry file - h.p_vaddr) / 4) (rounded_up (highest_end segments)) read)
+    (image_is_program file h segments (text_from file h) ((e_entry file - h.p_vaddr) / 4) (rounded_up (highest_end segments)) (text_is_fit file h ok found) (segments_end_below file ok) read)
+
+pub accepted-program : (file : List ℕ) → fault file ≡ None → IsProgram (image_of file)
+accepted-program file none = with_text file (accepted file none) (text_header (program_headers file)) refl

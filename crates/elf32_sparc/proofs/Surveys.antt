@@ -1,0 +1,37 @@
+-- A survey of headers, one after the other, and what it says of all of them.
+use Rattle.std.proofs.Common.{◌≡◌, ℕ, suc, ◌+◌, ◌-◌, ◌*◌, ◌<◌, ◌≤◌, List, ◌∷◌, length, sym, ap, ◌∙◌, arith}
+use Rattle.std.specs.List.{fold}
+use Rattle.std.proofs.lemmas.Bool.{cond_both}
+use Rattle.elf32_sparc.specs.declared.header.ProgramHeader.{ProgramHeader}
+use Rattle.elf32_sparc.specs.declared.survey.Survey.{Survey}
+use Rattle.elf32_sparc.specs.Header.{program_header, headers_from, program_headers, e_phoff, e_phnum, is_text, is_loadable}
+use Rattle.elf32_sparc.specs.Survey.{no_survey, noted, survey_of}
+
+pub texts-noted : (size : ℕ) (s : Survey) (h : ProgramHeader) → (noted size s h).texts ≤ s.texts + 1
+unfolding noted
+texts-noted size s h = cond_both (is_text h) (s.texts + 1) s.texts (λ n. n ≤ s.texts + 1) (λ _. omega arith) (λ _. omega arith)
+
+pub memory-noted : (size : ℕ) (s : Survey) (h : ProgramHeader) → (noted size s h).memory ≤ s.memory + h.p_memsz
+unfolding noted
+memory-noted size s h = cond_both (is_loadable h) (s.memory + h.p_memsz) s.memory (λ n. n ≤ s.memory + h.p_memsz) (λ _. omega arith) (λ _. omega arith)
+
+pub headers_from-more : (file : List ℕ) (at count i : ℕ) → i < count → headers_from file (at + 32 * i) (count - i) ≡ program_header file (at + 32 * i) ∷ headers_from file (at + 32 * (i + 1)) (count - (i + 1))
+headers_from-more file at count i below =
+    let left : count - i ≡ suc (count - (i + 1)) = omega arith in
+    let next : at + 32 * i + 32 ≡ at + 32 * (i + 1) = omega arith in
+    ap (headers_from file (at + 32 * i)) left ∙ ap (λ a. program_header file (at + 32 * i) ∷ headers_from file a (count - (i + 1))) next
+
+pub starts : (file : List ℕ) → fold (noted (length file)) no_survey (headers_from file (e_phoff file + 32 * 0) (e_phnum file - 0)) ≡ survey_of file
+unfolding survey_of program_headers
+starts file =
+    let place : e_phoff file + 32 * 0 ≡ e_phoff file = omega arith in
+    let count : e_phnum file - 0 ≡ e_phnum file = omega arith in
+    ap (λ a. fold (noted (length file)) no_survey (headers_from file a (e_phnum file - 0))) place ∙ ap (λ n. fold (noted (length file)) no_survey (headers_from file (e_phoff file) n)) count
+
+pub goes_on : (file : List ℕ) (size : ℕ) (s whole : Survey) (at count i : ℕ) → i < count → fold (noted size) s (headers_from file (at + 32 * i) (count - i)) ≡ whole → fold (noted size) (noted size s (program_header file (at + 32 * i))) (headers_from file (at + 32 * (i + 1)) (count - (i + 1))) ≡ whole
+goes_on file size s whole at count i below so_far = sym (ap (fold (noted size) s) (headers_from-more file at count i below)) ∙ so_far
+
+pub ends : (file : List ℕ) (size : ℕ) (s whole : Survey) (at count i : ℕ) → count ≤ i → fold (noted size) s (headers_from file at (count - i)) ≡ whole → s ≡ whole
+ends file size s whole at count i past so_far =
+    let none : count - i ≡ 0 = omega arith in
+    sym (ap (λ n. fold (noted size) s (headers_from file at n)) none) ∙ so_far

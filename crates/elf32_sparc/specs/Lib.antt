@@ -1,0 +1,6 @@
+pub mod Header
+pub mod FileFault
+pub mod Survey
+pub mod Mapping
+pub mod Image
+pub mod Notes

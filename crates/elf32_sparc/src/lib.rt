@@ -1,0 +1,21 @@
+//! The reader of ELF32 files for SPARC: what keeps a file from being edited, and the image of one that
+//! can be.
+#![tactic(auto)]
+
+mod fault;
+mod flags;
+mod header;
+mod program;
+mod survey;
+mod table;
+mod verdicts;
+
+#[cfg(test)]
+mod tests;
+
+pub use fault::{FileFault, ReadFault};
+pub use flags::SegFlags;
+pub use header::ProgramHeader;
+pub use program::{Image, Segment, read_image};
+pub use table::read_headers;
+pub use verdicts::verdict;

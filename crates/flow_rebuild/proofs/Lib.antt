@@ -1,0 +1,4 @@
+pub mod Changed
+pub mod Settling
+pub mod Sums
+pub mod Peel

@@ -1,0 +1,200 @@
+-- One step of the peeling, on lists.
+use Rattle.std.proofs.Common.{◌≡◌, ℕ, ◌<◌, ◌≤◌, ◌⊎◌, inl, inr, Bool, true, false, cond, List, [], ◌∷◌, ◌++◌, not, length, get_or, set, refl, ap, sym, ◌∙◌, subst, arith}
+use Rattle.std.specs.Prelude.{ℤ, pos, ◌+ℤ◌, ◌==◌, if◌then◌else◌}
+use Rattle.std.proofs.lemmas.Int.{ints}
+use Rattle.std.proofs.lemmas.Bool.{cases_eq, eq-eqb, ne_eqb}
+use Rattle.std.proofs.lemmas.List.{get_or-set_same, get_or-set_other, length-set, length-append}
+use Rattle.flows.specs.Flows.{Graph, IsFlow, NodeSet, one_at, IsTheFlow, rest}
+use Rattle.flows.specs.Links.{graph_of, link_at, IsLinked}
+use Rattle.flows.specs.Trees.{only, far_end, Grows, on, joined_by, HasEveryEnd}
+use Rattle.flows.specs.declared.Link.{Link}
+use Rattle.flows.proofs.Bools.{true_or_false, eqb_swap, not_twice}
+use Rattle.flows.proofs.Least.{off_grown_determines, far_inside}
+use Rattle.flows.proofs.Sums.{total_zero}
+use Rattle.flow_rebuild.specs.Excess.{excess}
+use Rattle.flow_rebuild.specs.Values.{int_at, abs_sum, other_node, carries}
+use Rattle.flow_tree.specs.Tree.{reached_by, edges_of, IsGrown, nodes_in, edges_in}
+use Rattle.flow_tree.specs.declared.Join.{Join}
+use Rattle.flow_tree.specs.declared.Tree.{Tree}
+use Rattle.flow_rebuild.proofs.Changed.{with_at, Moved}
+use Rattle.flow_rebuild.proofs.Settling.{Settled, settle_last, moved, last_of, Last, other_end, carried, on_pushed, settled_flow, on_in_push}
+use Rattle.flow_rebuild.proofs.Sums.{abs_moved}
+use Rattle.flow_tree.proofs.Check.{marked_below}
+use Rattle.flow_tree.proofs.Steps.{graph_ok, edges-push, nodes-push}
+
+pub int_set : (xs : List ℤ) (e : ℕ) (z : ℤ) → e < length xs → int_at (set xs e z) ≡ with_at (int_at xs) e z
+int_set xs e z l = λ i u. at u (cases_eq u e) i
+  where
+    at : (u : ℕ) → (u ≡ e) ⊎ (u ≡ e → ⊥) → int_at (set xs e z) u ≡ with_at (int_at xs) e z u
+    at u (inl c) = ap (λ u. get_or (set xs e z) u (pos 0)) c ∙ get_or-set_same xs e z (pos 0) l ∙ ap (λ (b : Bool). cond b z (int_at xs u)) (sym (eq-eqb u e c))
+    at u (inr c) = get_or-set_other xs e u z (pos 0) c ∙ ap (λ (b : Bool). cond b z (int_at xs u)) (sym (ne_eqb u e c))
+
+-- edges with a node each are apart from their last one
+snoc_equal : (xs ys : List ℕ) (x y : ℕ) → xs ++ x ∷ [] ≡ ys ++ y ∷ [] → (xs ≡ ys) × (x ≡ y)
+snoc_equal [] [] x y e = (refl, cc)
+snoc_equal [] (b ∷ ys) x y e = let k : [] ≡ ys ++ y ∷ [] = cc in let l = ap length k in let m = length-append ys (y ∷ []) in absurd (omega (arith, l, m))
+snoc_equal (a ∷ xs) [] x y e = let k : xs ++ x ∷ [] ≡ [] = cc in let l = ap length k in let m = length-append xs (x ∷ []) in absurd (omega (arith, l, m))
+snoc_equal (a ∷ xs) (b ∷ ys) x y e =
+    let r = snoc_equal xs ys x y cc in
+    let h : a ≡ b = cc in
+    (ap (λ (zs : List ℕ). a ∷ zs) r.0 ∙ ap (λ (z : ℕ). z ∷ ys) h, r.1)
+
+-- the joins `left` carry nothing yet, and the nodes that came in after them have no excess
+pub record IsPeeled (n : ℕ) (links : List Link) (root a b : ℕ) (left : List Join) (values ex : List ℤ) : Type 0 where
+  pub values_len : length values ≡ length links
+  pub excess_len : length ex ≡ n
+  pub settled : Settled (graph_of n links) (λ e. 0) root a b (edges_in left) (int_at values)
+  pub joined : nodes_in left ≡ joined_by (graph_of n links) (only root) (edges_in left)
+  pub excesses : (u : ℕ) → u < n → int_at ex u ≡ excess (graph_of n links) a b (int_at values) u
+
+-- the last join
+module _ (n : ℕ) (links : List Link) (root a b : ℕ) (left : List Join) (j : Join) (values ex : List ℤ)
+    (ok : IsLinked n links) (h : IsPeeled n links root a b (left ++ j ∷ []) values ex) where
+  grows : Grows (graph_of n links) (λ e. 0) (only root) (edges_in left ++ j.edge ∷ []) h.settled.reached
+  grows = subst (λ (es : List ℕ). Grows (graph_of n links) (λ e. 0) (only root) es h.settled.reached) (edges-push left j) h.settled.grows
+
+  abbrev la : Last (graph_of n links) (λ e. 0) (only root) (edges_in left) j.edge h.settled.reached
+  la = last_of (graph_of n links) (λ e. 0) (only root) (edges_in left) j.edge h.settled.reached grows
+
+  apart : (nodes_in left ≡ joined_by (graph_of n links) (only root) (edges_in left)) × (j.node ≡ far_end (graph_of n links) la.before j.edge)
+  apart = snoc_equal _ _ _ _ (sym (nodes-push left j) ∙ h.joined ∙ ap (joined_by (graph_of n links) (only root)) (edges-push left j) ∙ la.joined)
+
+  pub edge_inside : j.edge < length links
+  edge_inside = la.heaviest.inside
+
+  pub node_inside : j.node < n
+  node_inside = subst (λ (z : ℕ). z < n) (sym apart.1) (far_inside (graph_of n links) la.before j.edge (graph_ok n links ok) la.heaviest.inside)
+
+  unset : int_at values j.edge ≡ pos 0
+  unset = h.settled.unset j.edge la.heaviest.inside (subst (λ (es : List ℕ). on es j.edge ≡ true) (sym (edges-push left j)) (on_pushed (edges_in left) j.edge))
+
+  -- its edge takes the excess of its node to the other end
+  moves : Moved (graph_of n links) a b (int_at values) (with_at (int_at values) j.edge (carried (graph_of n links) j.edge j.node (excess (graph_of n links) a b (int_at values) j.node))) j.node (other_end (graph_of n links) j.edge j.node)
+      × (la.before (other_end (graph_of n links) j.edge j.node) ≡ true) × (other_end (graph_of n links) j.edge j.node ≡ j.node → ⊥)
+  moves = moved (graph_of n links) la.before a b (int_at values) j.edge j.node la.heaviest.inside la.heaviest.across apart.1 unset
+
+  other_inside : other_node (link_at links j.edge) j.node < n
+  other_inside = pick ((link_at links j.edge).to == j.node) (link_at links j.edge).from (link_at links j.edge).to (ok j.edge _ la.heaviest.inside).0 (ok j.edge _ la.heaviest.inside).1
+    where
+      pick : (c : Bool) (x y : ℕ) → x < n → y < n → cond c x y < n
+      pick true x y a b = a
+      pick false x y a b = b
+
+  node_there : j.node < length ex
+  node_there = let k = node_inside in let l = h.excess_len in omega (arith, k, l)
+
+  other_there : other_node (link_at links j.edge) j.node < length ex
+  other_there = let k = other_inside in let l = h.excess_len in omega (arith, k, l)
+
+  edge_there : j.edge < length values
+  edge_there = let k = edge_inside in let l = h.values_len in omega (arith, k, l)
+
+  values_are : int_at (set values j.edge (carries (link_at links j.edge) j.node (int_at ex j.node))) ≡ with_at (int_at values) j.edge (carried (graph_of n links) j.edge j.node (excess (graph_of n links) a b (int_at values) j.node))
+  values_are = int_set values j.edge (carries (link_at links j.edge) j.node (int_at ex j.node)) edge_there ∙ ap (λ (z : ℤ). with_at (int_at values) j.edge (carries (link_at links j.edge) j.node z)) (h.excesses j.node node_inside)
+
+  excess_at : (u : ℕ) → u < n → (u ≡ j.node) ⊎ (u ≡ j.node → ⊥) → (u ≡ other_node (link_at links j.edge) j.node) ⊎ (u ≡ other_node (link_at links j.edge) j.node → ⊥) →
+      int_at (set (set ex (other_node (link_at links j.edge) j.node) (int_at ex (other_node (link_at links j.edge) j.node) +ℤ int_at ex j.node)) j.node (pos 0)) u
+      ≡ excess (graph_of n links) a b (with_at (int_at values) j.edge (carried (graph_of n links) j.edge j.node (excess (graph_of n links) a b (int_at values) j.node))) u
+  excess_at u l (inl c) d =
+      ap (int_at (set (set ex (other_node (link_at links j.edge) j.node) (int_at ex (other_node (link_at links j.edge) j.node) +ℤ int_at ex j.node)) j.node (pos 0))) c
+      ∙ get_or-set_same (set ex (other_node (link_at links j.edge) j.node) (int_at ex (other_node (link_at links j.edge) j.node) +ℤ int_at ex j.node)) j.node (pos 0) (pos 0)
+      (let k = length-set ex (other_node (link_at links j.edge) j.node) (int_at ex (other_node (link_at links j.edge) j.node) +ℤ int_at ex j.node) in let i = node_there in omega (arith, k, i))
+      ∙ sym (ap (excess (graph_of n links) a b (with_at (int_at values) j.edge (carried (graph_of n links) j.edge j.node (excess (graph_of n links) a b (int_at values) j.node)))) c ∙ moves.0.none_left)
+  excess_at u l (inr c) (inl d) =
+      get_or-set_other (set ex (other_node (link_at links j.edge) j.node) (int_at ex (other_node (link_at links j.edge) j.node) +ℤ int_at ex j.node)) j.node u (pos 0) (pos 0) c
+      ∙ ap (int_at (set ex (other_node (link_at links j.edge) j.node) (int_at ex (other_node (link_at links j.edge) j.node) +ℤ int_at ex j.node))) d
+      ∙ get_or-set_same ex (other_node (link_at links j.edge) j.node) (int_at ex (other_node (link_at links j.edge) j.node) +ℤ int_at ex j.node) (pos 0) other_there
+      ∙ ap (λ (z : ℤ). z +ℤ int_at ex j.node) (h.excesses (other_node (link_at links j.edge) j.node) other_inside)
+      ∙ ap (λ (z : ℤ). excess (graph_of n links) a b (int_at values) (other_node (link_at links j.edge) j.node) +ℤ z) (h.excesses j.node node_inside)
+      ∙ sym (ap (excess (graph_of n links) a b (with_at (int_at values) j.edge (carried (graph_of n links) j.edge j.node (excess (graph_of n links) a b (int_at values) j.node)))) d ∙ moves.0.taken)
+  excess_at u l (inr c) (inr d) =
+      get_or-set_other (set ex (other_node (link_at links j.edge) j.node) (int_at ex (other_node (link_at links j.edge) j.node) +ℤ int_at ex j.node)) j.node u (pos 0) (pos 0) c
+      ∙ get_or-set_other ex (other_node (link_at links j.edge) j.node) u (int_at ex (other_node (link_at links j.edge) j.node) +ℤ int_at ex j.node) (pos 0) d
+      ∙ h.excesses u l
+      ∙ sym (moves.0.others u c d)
+
+  pub peel_small : abs_sum (set (set ex (other_node (link_at links j.edge) j.node) (int_at ex (other_node (link_at links j.edge) j.node) +ℤ int_at ex j.node)) j.node (pos 0)) ≤ abs_sum ex
+  peel_small = abs_moved ex (other_node (link_at links j.edge) j.node) j.node other_there node_there moves.2
+
+  pub peel_step : IsPeeled n links root a b left (set values j.edge (carries (link_at links j.edge) j.node (int_at ex j.node)))
+      (set (set ex (other_node (link_at links j.edge) j.node) (int_at ex (other_node (link_at links j.edge) j.node) +ℤ int_at ex j.node)) j.node (pos 0))
+  peel_step = record {
+    values_len = length-set values j.edge _ ∙ h.values_len;
+    excess_len = length-set (set ex (other_node (link_at links j.edge) j.node) _) j.node _ ∙ length-set ex (other_node (link_at links j.edge) j.node) _ ∙ h.excess_len;
+    settled = subst (λ (x : ℕ → ℤ). Settled (graph_of n links) (λ e. 0) root a b (edges_in left) x) (sym values_are)
+        (settle_last (graph_of n links) (λ e. 0) root a b (edges_in left) j.edge j.node (int_at values) h.settled.reached grows apart.1
+        (λ i l o. h.settled.unset i l (subst (λ (es : List ℕ). on es i ≡ true) (sym (edges-push left j)) o)) h.settled.done);
+    joined = apart.0;
+    excesses = λ u l. excess_at u l (cases_eq u j.node) (cases_eq u (other_node (link_at links j.edge) j.node)) ∙ ap (λ (x : ℕ → ℤ). excess (graph_of n links) a b x u) (sym values_are);
+  }
+
+-- a node outside the tree has no edge, and is not the start or the end
+excess_outside : (g : Graph) (a b : ℕ) (x : ℕ → ℤ) (t : NodeSet) (u : ℕ) → HasEveryEnd g t → t a ≡ true → t b ≡ true → t u ≡ false → excess g a b x u ≡ pos 0
+excess_outside g a b x t u ends ta tb h =
+    let p = total_zero g.edges (λ e. if g.to e == u then x e else pos 0) (λ e l. ap (λ c. cond c (x e) (pos 0)) (apart (g.to e) (ends e l).1)) in
+    let q = total_zero g.edges (λ e. if g.from e == u then x e else pos 0) (λ e l. ap (λ c. cond c (x e) (pos 0)) (apart (g.from e) (ends e l).0)) in
+    let r : one_at a u ≡ pos 0 = ap (λ c. cond c (pos 1) (pos 0)) (eqb_swap u a ∙ apart a ta) in
+    let k : one_at b u ≡ pos 0 = ap (λ c. cond c (pos 1) (pos 0)) (eqb_swap u b ∙ apart b tb) in
+    omega (arith, ints, p, q, r, k)
+  where
+    apart : (v : ℕ) → t v ≡ true → (v == u) ≡ false
+    apart v k = ne_eqb v u (λ c. true_or_false (t v) k (ap t c ∙ h))
+
+pub start_settled : (n : ℕ) (links : List Link) (tree : Tree) (a b : ℕ) (values : List ℤ) → IsGrown (graph_of n links) tree → HasEveryEnd (graph_of n links) (reached_by tree) → reached_by tree a ≡ true → reached_by tree b ≡ true →
+    ((e : ℕ) → on (edges_of tree) e ≡ true → int_at values e ≡ pos 0) → Settled (graph_of n links) (λ e. 0) tree.root a b (edges_of tree) (int_at values)
+start_settled n links tree a b values h ends ta tb unset = record {
+  reached = reached_by tree;
+  grows = h.grows;
+  unset = λ e l o. unset e o;
+  done = λ u l c. excess_outside (graph_of n links) a b (int_at values) (reached_by tree) u ends ta tb c;
+}
+
+pub start_peeled : (n m : ℕ) (links : List Link) (tree : Tree) (a b : ℕ) (left : List Join) (values ex : List ℤ) → m ≡ n → left ≡ tree.joins.items →
+    IsGrown (graph_of n links) tree → HasEveryEnd (graph_of n links) (reached_by tree) → reached_by tree a ≡ true → reached_by tree b ≡ true → length values ≡ length links → length ex ≡ m →
+    ((e : ℕ) → on (edges_of tree) e ≡ true → int_at values e ≡ pos 0) → ((u : ℕ) → u < m → int_at ex u ≡ excess (graph_of m links) a b (int_at values) u) →
+    IsPeeled n links tree.root a b left values ex
+start_peeled n m links tree a b left values ex c e h ends ta tb lv le unset is = subst (λ (js : List Join). IsPeeled n links tree.root a b js values ex) (sym e) (record {
+  values_len = lv;
+  excess_len = le ∙ c;
+  settled = start_settled n links tree a b values h ends ta tb unset;
+  joined = h.nodes;
+  excesses = λ u l. is u (omega (arith, c));
+})
+
+-- a tree has numbers of nodes alone
+pub reached_below : (n : ℕ) (links : List Link) (tree : Tree) (v : ℕ) → IsGrown (graph_of n links) tree → reached_by tree v ≡ true → v < n
+reached_below n links tree v h t = let k = marked_below tree.reached.items v t in let l = h.len in omega (arith, k, l)
+
+-- as the loop meets these facts
+pub last_peeled : (n : ℕ) (links : List Link) (root a b : ℕ) (all left : List Join) (j : Join) (values ex : List ℤ) → all ≡ left ++ j ∷ [] → IsPeeled n links root a b all values ex → IsPeeled n links root a b (left ++ j ∷ []) values ex
+last_peeled n links root a b all left j values ex e h = subst (λ (js : List Join). IsPeeled n links root a b js values ex) e h
+
+pub peeled_as : (n : ℕ) (links : List Link) (root a b : ℕ) (left : List Join) (values ex values' ex' : List ℤ) → values' ≡ values → ex' ≡ ex → IsPeeled n links root a b left values ex → IsPeeled n links root a b left values' ex'
+peeled_as n links root a b left values ex values' ex' c d h =
+    subst (λ (v : List ℤ). IsPeeled n links root a b left v ex') (sym c) (subst (λ (x : List ℤ). IsPeeled n links root a b left values x) (sym d) h)
+
+pub on_longer : (left : List Join) (j : Join) (all : List Join) (e : ℕ) → all ≡ left ++ j ∷ [] → on (edges_in left) e ≡ true → on (edges_in all) e ≡ true
+on_longer left j all e h o = ap (λ (js : List Join). on (edges_in js) e) h ∙ ap (λ (es : List ℕ). on es e) (edges-push left j) ∙ on_in_push (edges_in left) j.edge e o
+
+pub on_last : (left : List Join) (j : Join) (all : List Join) → all ≡ left ++ j ∷ [] → on (edges_in all) j.edge ≡ true
+on_last left j all h = ap (λ (js : List Join). on (edges_in js) j.edge) h ∙ ap (λ (es : List ℕ). on es j.edge) (edges-push left j) ∙ on_pushed (edges_in left) j.edge
+
+pub none_left : (n : ℕ) (links : List Link) (root a b : ℕ) (left : List Join) (values ex : List ℤ) → length left ≡ 0 → IsPeeled n links root a b left values ex → Settled (graph_of n links) (λ e. 0) root a b [] (int_at values)
+none_left n links root a b [] values ex e h = h.settled
+none_left n links root a b (j ∷ left) values ex e h = absurd (omega arith)
+
+-- ---- the one flow
+pub the_flow : (n : ℕ) (links : List Link) (tree : Tree) (a b : ℕ) (given x : List ℤ) → IsLinked n links → IsGrown (graph_of n links) tree → a < n → b < n →
+    Settled (graph_of n links) (λ e. 0) tree.root a b [] (int_at x) → ((e : ℕ) → on (edges_of tree) e ≡ false → int_at x e ≡ int_at given e) →
+    IsTheFlow (graph_of n links) (rest (on (edges_of tree))) a b (int_at given) (int_at x)
+the_flow n links tree a b given x ok h la lb settled same = record {
+  flow = flow;
+  agrees = λ e l t. sym (same e (off e t));
+  only = λ y fy ay. off_grown_determines (graph_of n links) (λ e. 0) tree.root (edges_of tree) (reached_by tree) (graph_ok n links ok) h.grows a b (int_at x) y la lb flow fy (λ e l t. same e (off e t) ∙ ay e l t);
+}
+  where
+    flow : IsFlow (graph_of n links) a b (int_at x)
+    flow = settled_flow (graph_of n links) (λ e. 0) tree.root a b (int_at x) (graph_ok n links ok) la lb settled
+
+    off : (e : ℕ) → rest (on (edges_of tree)) e ≡ true → on (edges_of tree) e ≡ false
+    off e t = sym (not_twice (on (edges_of tree) e)) ∙ ap not t

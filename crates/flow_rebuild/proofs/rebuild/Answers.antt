@@ -1,0 +1,76 @@
+use Rattle.std.proofs.Common.{rules, ◌≡◌, ℕ, ◌<◌, List, length, sym, subst, arith, ap, ◌∙◌, true, false}
+use Rattle.std.specs.Prelude.{ℤ, pos}
+use Rattle.std.proofs.lemmas.List.{get_or-set_other}
+use Rattle.std.specs.List.{All}
+use Rattle.std.specs.Slice.Iter.{iter_rest}
+use Rattle.flows.specs.Links.{graph_of}
+use Rattle.flows.specs.Trees.{on}
+use Rattle.flows.proofs.Bools.{true_or_false}
+use Rattle.flow_rebuild.specs.Excess.{excess}
+use Rattle.flow_rebuild.specs.Values.{abs_sum, int_at}
+use Rattle.flow_tree.specs.Tree.{edges_in, edges_of}
+use Rattle.flow_tree.specs.declared.Join.{Join}
+use Rattle.flow_rebuild.proofs.Peel.{last_peeled, peel_step, on_longer, the_flow, none_left, on_last, node_inside, reached_below, edge_inside, start_peeled, peel_small, peeled_as}
+use Rattle.flow_rebuild.proofs.Sums.{abs_bound}
+use Rattle.flow_tree.proofs.Check.{linked_nodes}
+use Rattle.flow_rebuild.proofs.rebuild.Goals as goal
+
+pub cleared-requires-clause-joins : goal.cleared-requires-clause-joins
+cleared-requires-clause-joins c = subst (λ (js : List Join). All (λ j. j.edge < length c.args.values.now) js) (sym c.deref.ensures.value)
+    (subst (λ (n : ℕ). All (λ j. j.edge < n) c.args.tree.now.joins.items) (sym c.requires.values) c.requires.tree.inside)
+
+pub excesses-requires-clause-small : goal.excesses-requires-clause-small
+excesses-requires-clause-small c = abs_bound c.deref-2.result.now (search rules) (search rules)
+
+pub bounds-links-join : goal.bounds-links-join
+bounds-links-join c = edge_inside (length c.args.tree.now.reached.items) c.args.links.now c.args.tree.now.root c.args.start c.args.end (iter_rest c.next.new.self.iter) c.in-Some.join.now c.loop-join.flow.items c.loop-join.excess.items (linked_nodes c.args.tree.now.reached.items c.args.links.now c.requires.ends) (last_peeled _ _ _ _ _ _ (iter_rest c.next.new.self.iter) c.in-Some.join.now _ _ c.in-Some.ensures.steps c.loop-join.invariant.peeled)
+
+pub offset_bounds-links-join : goal.offset_bounds-links-join
+offset_bounds-links-join c = let k = edge_inside (length c.args.tree.now.reached.items) c.args.links.now c.args.tree.now.root c.args.start c.args.end (iter_rest c.next.new.self.iter) c.in-Some.join.now c.loop-join.flow.items c.loop-join.excess.items (linked_nodes c.args.tree.now.reached.items c.args.links.now c.requires.ends) (last_peeled _ _ _ _ _ _ (iter_rest c.next.new.self.iter) c.in-Some.join.now _ _ c.in-Some.ensures.steps c.loop-join.invariant.peeled) in omega (arith, k)
+
+pub settle-requires-clause-edge : goal.settle-requires-clause-edge
+settle-requires-clause-edge c = let k = edge_inside (length c.args.tree.now.reached.items) c.args.links.now c.args.tree.now.root c.args.start c.args.end (iter_rest c.next.new.self.iter) c.in-Some.join.now c.loop-join.flow.items c.loop-join.excess.items (linked_nodes c.args.tree.now.reached.items c.args.links.now c.requires.ends) (last_peeled _ _ _ _ _ _ (iter_rest c.next.new.self.iter) c.in-Some.join.now _ _ c.in-Some.ensures.steps c.loop-join.invariant.peeled) in let l = c.loop-join.invariant.peeled.values_len in omega (arith, k, l)
+
+pub settle-requires-clause-node : goal.settle-requires-clause-node
+settle-requires-clause-node c = let k = node_inside (length c.args.tree.now.reached.items) c.args.links.now c.args.tree.now.root c.args.start c.args.end (iter_rest c.next.new.self.iter) c.in-Some.join.now c.loop-join.flow.items c.loop-join.excess.items (linked_nodes c.args.tree.now.reached.items c.args.links.now c.requires.ends) (last_peeled _ _ _ _ _ _ (iter_rest c.next.new.self.iter) c.in-Some.join.now _ _ c.in-Some.ensures.steps c.loop-join.invariant.peeled) in let l = c.loop-join.invariant.peeled.excess_len in omega (arith, k, l)
+
+pub settle-requires-clause-from : goal.settle-requires-clause-from
+settle-requires-clause-from c = let k = linked_nodes c.args.tree.now.reached.items c.args.links.now c.requires.ends c.in-Some.join.now.edge (record { from = 0; to = 0 }) (edge_inside (length c.args.tree.now.reached.items) c.args.links.now c.args.tree.now.root c.args.start c.args.end (iter_rest c.next.new.self.iter) c.in-Some.join.now c.loop-join.flow.items c.loop-join.excess.items (linked_nodes c.args.tree.now.reached.items c.args.links.now c.requires.ends) (last_peeled _ _ _ _ _ _ (iter_rest c.next.new.self.iter) c.in-Some.join.now _ _ c.in-Some.ensures.steps c.loop-join.invariant.peeled)) in let l = c.loop-join.invariant.peeled.excess_len in omega (arith, k.0, l)
+
+pub settle-requires-clause-to : goal.settle-requires-clause-to
+settle-requires-clause-to c = let k = linked_nodes c.args.tree.now.reached.items c.args.links.now c.requires.ends c.in-Some.join.now.edge (record { from = 0; to = 0 }) (edge_inside (length c.args.tree.now.reached.items) c.args.links.now c.args.tree.now.root c.args.start c.args.end (iter_rest c.next.new.self.iter) c.in-Some.join.now c.loop-join.flow.items c.loop-join.excess.items (linked_nodes c.args.tree.now.reached.items c.args.links.now c.requires.ends) (last_peeled _ _ _ _ _ _ (iter_rest c.next.new.self.iter) c.in-Some.join.now _ _ c.in-Some.ensures.steps c.loop-join.invariant.peeled)) in let l = c.loop-join.invariant.peeled.excess_len in omega (arith, k.1, l)
+
+pub loop-join-preserved : goal.loop-join-preserved
+loop-join-preserved c = record {
+  peeled = peeled_as _ _ _ _ _ _ _ _ _ _ c.settle.ensures.values c.settle.ensures.excess (peel_step (length c.args.tree.now.reached.items) c.args.links.now c.args.tree.now.root c.args.start c.args.end (iter_rest c.next.new.self.iter) c.in-Some.join.now c.loop-join.flow.items c.loop-join.excess.items (linked_nodes c.args.tree.now.reached.items c.args.links.now c.requires.ends) (last_peeled _ _ _ _ _ _ (iter_rest c.next.new.self.iter) c.in-Some.join.now _ _ c.in-Some.ensures.steps c.loop-join.invariant.peeled));
+  small =
+      let k = peel_small (length c.args.tree.now.reached.items) c.args.links.now c.args.tree.now.root c.args.start c.args.end (iter_rest c.next.new.self.iter) c.in-Some.join.now c.loop-join.flow.items c.loop-join.excess.items (linked_nodes c.args.tree.now.reached.items c.args.links.now c.requires.ends) (last_peeled _ _ _ _ _ _ (iter_rest c.next.new.self.iter) c.in-Some.join.now _ _ c.in-Some.ensures.steps c.loop-join.invariant.peeled) in
+      let l = ap abs_sum c.settle.ensures.excess in
+      let m = c.loop-join.invariant.small in
+      omega (arith, k, l, m);
+  inside = λ e o. c.loop-join.invariant.inside e (on_longer (iter_rest c.next.new.self.iter) c.in-Some.join.now (iter_rest c.loop-join.join-iterator.iter) e c.in-Some.ensures.steps o);
+  agrees = λ e o. ap (λ xs. int_at xs e) c.settle.ensures.values
+      ∙ get_or-set_other c.loop-join.flow.items c.in-Some.join.now.edge e _ (pos 0)
+      (λ k. true_or_false (on (edges_of c.args.tree.now) e)
+      (ap (on (edges_of c.args.tree.now)) k ∙ c.loop-join.invariant.inside c.in-Some.join.now.edge (on_last (iter_rest c.next.new.self.iter) c.in-Some.join.now (iter_rest c.loop-join.join-iterator.iter) c.in-Some.ensures.steps)) o)
+      ∙ c.loop-join.invariant.agrees e o;
+}
+
+pub loop-join-init : goal.loop-join-init
+loop-join-init c = record {
+  peeled = start_peeled (length c.args.tree.now.reached.items) c.len.result c.args.links.now c.args.tree.now c.args.start c.args.end _ c.in_ok-flow.flow.items c.in_ok-excess.excess.items (search rules) left c.requires.tree (λ e l. c.requires.ends e _ l) c.requires.start c.requires.end
+      (c.in_ok-flow.ensures.len ∙ c.requires.values) c.in_ok-excess.ensures.len
+      (λ e o. c.in_ok-flow.ensures.unset e (subst (λ (js : List Join). on (edges_in js) e ≡ true) (sym c.deref.ensures.value) o))
+      (λ u l. c.in_ok-excess.ensures.excess u l ∙ ap (λ (xs : List ℤ). excess (graph_of c.len.result c.args.links.now) c.args.start c.args.end (int_at xs) u) c.deref-2.ensures.value);
+  small = c.in_ok-excess.ensures.small;
+  inside = λ e o. subst (λ (js : List Join). on (edges_in js) e ≡ true) left o;
+  agrees = λ e o. c.in_ok-flow.ensures.kept e (subst (λ (js : List Join). on (edges_in js) e ≡ false) (sym c.deref.ensures.value) o);
+}
+  where
+    left : iter_rest c.into_iter-join-iterator.result.iter ≡ c.args.tree.now.joins.items
+    left = search rules
+
+pub returns-clause-flow : goal.returns-clause-flow
+returns-clause-flow c = the_flow (length c.args.tree.now.reached.items) c.args.links.now c.args.tree.now c.args.start c.args.end c.args.values.now c.loop-join.flow.items (linked_nodes c.args.tree.now.reached.items c.args.links.now c.requires.ends) c.requires.tree
+    (reached_below (length c.args.tree.now.reached.items) c.args.links.now c.args.tree.now c.args.start c.requires.tree c.requires.start) (reached_below (length c.args.tree.now.reached.items) c.args.links.now c.args.tree.now c.args.end c.requires.tree c.requires.end)
+    (none_left _ _ _ _ _ (iter_rest c.loop-join.join-iterator.iter) _ _ (search rules) c.loop-join.invariant.peeled) c.loop-join.invariant.agrees

@@ -1,0 +1,4 @@
+pub mod Heaps
+pub mod RowLemmas
+pub mod Steps
+pub mod Check

@@ -1,0 +1,217 @@
+-- One step of the search.
+use Rattle.std.proofs.Common.{◌≡◌, ℕ, ◌+◌, ◌<◌, ◌≤◌, ◌⊎◌, inl, inr, Bool, true, false, not, ◌||◌, List, [], ◌∷◌, ◌++◌, length, refl, ap, sym, ◌∙◌, subst, arith, get_or, set, take}
+use Rattle.std.specs.Prelude.{◌==◌}
+use Rattle.std.specs.List.{All, Contains}
+use Rattle.std.proofs.lemmas.Bool.{cases_eq, cases_lt, eq-eqb, ne_eqb}
+use Rattle.std.specs.Prelude.{replicate}
+use Rattle.std.proofs.lemmas.List.{length-map, get_or-set_same, get_or-set_other, get_or-replicate, get_or_past, length-replicate, take_more}
+use Rattle.std.proofs.lemmas.List.Elements.{Contains-get_or, All-contains, All-nil, All-cons}
+use Rattle.flows.specs.Flows.{Graph, IsGraph, IsLeast, NodeSet, rest, Determines}
+use Rattle.flows.specs.Links.{link_at, graph_of, marked, weight_in, IsLinked}
+use Rattle.flows.specs.Trees.{on, only, and_also, differ, crosses, far_end, IsHeaviest, Grows, IsWhole, joined_by, IsSpanningTree, IsConnected}
+use Rattle.flows.specs.declared.Link.{Link}
+use Rattle.flows.proofs.Bools.{differ_same, or_yes, or_no, not_twice}
+use Rattle.flows.proofs.Grown.{listed_weight}
+use Rattle.flows.proofs.Least.{ends_of, least_alike, off_tree_least, off_grown_determines, determines_alike}
+use Rattle.flows.proofs.Spanning.{grown_count, same_set, all_count, connected_spans, spanning_alike, connected_ends}
+use Rattle.flows.proofs.Weights.{weight_one}
+use Rattle.flow_tree.specs.Rows.{Row, HasEnds, IsAttached}
+use Rattle.flow_tree.specs.Search.{candidate, IsReal, IsSearch}
+use Rattle.flow_tree.specs.Tree.{edges_in, nodes_in, IsGrown, edges_of, reached_by}
+use Rattle.flow_tree.specs.declared.Join.{Join}
+use Rattle.flow_tree.specs.declared.growth.Candidate.{Candidate}
+use Rattle.flow_tree.specs.declared.growth.Search.{Search}
+
+pub all_fewer : {X : Type 0} (P : X → Type 0) (old new : List X) → ((c : X) → Contains new c → Contains old c) → All P old → All P new
+all_fewer P old new f a k d l = All-contains P old (get_or new k d) a (f (get_or new k d) (Contains-get_or new k d l))
+
+-- ---- a mark more
+pub marked_set : (marks : List Bool) (v : ℕ) → v < length marks → marked (set marks v true) ≡ and_also (marked marks) v
+marked_set marks v l = λ i u. at u (cases_eq u v) i
+  where
+    at : (u : ℕ) → (u ≡ v) ⊎ (u ≡ v → ⊥) → get_or (set marks v true) u false ≡ (get_or marks u false || (u == v))
+    at u (inl c) = ap (λ u. get_or (set marks v true) u false) c ∙ get_or-set_same marks v true false l ∙ sym (or_yes (get_or marks u false)) ∙ ap (λ b. get_or marks u false || b) (sym (eq-eqb u v c))
+    at u (inr c) = get_or-set_other marks v u true false c ∙ sym (or_no (get_or marks u false)) ∙ ap (λ b. get_or marks u false || b) (sym (ne_eqb u v c))
+
+-- ---- an edge more at the end
+pub grows_more : (g : Graph) (w : ℕ → ℕ) (es : List ℕ) (s t : NodeSet) (e : ℕ) → Grows g w s es t → IsHeaviest g w t e → Grows g w s (es ++ e ∷ []) (and_also t (far_end g t e))
+grows_more g w [] s t e h k = (subst (λ (u : NodeSet). IsHeaviest g w u e) h k, ap (λ (u : NodeSet). and_also u (far_end g u e)) h)
+grows_more g w (x ∷ xs) s t e h k = (h.0, grows_more g w xs (and_also s (far_end g s x)) t e h.1 k)
+
+pub heaviest_here : (n : ℕ) (links : List Link) (ws : List ℕ) (s : NodeSet) (items : List Candidate) (x : Candidate) → length ws ≡ length links → All (IsReal ws) items → Contains items x →
+    crosses (graph_of n links) s x.edge ≡ true →
+    ((e : ℕ) → e < length links → crosses (graph_of n links) s e ≡ true → Contains items (candidate ws e)) →
+    ((c : Candidate) → Contains items c → crosses (graph_of n links) s c.edge ≡ true → c.weight ≤ x.weight) →
+    IsHeaviest (graph_of n links) (weight_in ws) s x.edge
+heaviest_here n links ws s items x el real there across held greatest =
+    let r = All-contains (IsReal ws) items x real there in
+    record {
+      inside = omega (arith, r.0);
+      across = across;
+      heaviest = λ h l k. let a = greatest (candidate ws h) (held h l k) k in omega (arith, a, r.1);
+    }
+
+-- what crosses with v in crossed before, or it is an edge at v
+newly : (g : Graph) (s : NodeSet) (v e : ℕ) → crosses g (and_also s v) e ≡ true → (crosses g s e ≡ true) ⊎ ((g.from e ≡ v) ⊎ (g.to e ≡ v))
+newly g s v e h = go (cases_eq (g.from e) v) (cases_eq (g.to e) v)
+  where
+    go : (g.from e ≡ v) ⊎ (g.from e ≡ v → ⊥) → (g.to e ≡ v) ⊎ (g.to e ≡ v → ⊥) → (crosses g s e ≡ true) ⊎ ((g.from e ≡ v) ⊎ (g.to e ≡ v))
+    go (inl a) b = inr (inl a)
+    go (inr a) (inl b) = inr (inr b)
+    go (inr a) (inr b) =
+        let p : and_also s v (g.from e) ≡ s (g.from e) = ap (λ c. s (g.from e) || c) (ne_eqb (g.from e) v a) ∙ or_no (s (g.from e)) in
+        let q : and_also s v (g.to e) ≡ s (g.to e) = ap (λ c. s (g.to e) || c) (ne_eqb (g.to e) v b) ∙ or_no (s (g.to e)) in
+        inl (ap (λ c. differ c (s (g.to e))) (sym p) ∙ ap (differ (and_also s v (g.from e))) (sym q) ∙ h)
+
+-- every edge that crosses is on the heap again
+pub held_again : (n : ℕ) (links : List Link) (ws : List ℕ) (rows : List Row) (s : NodeSet) (old mid new : List Candidate) (x : ℕ) (v : ℕ) →
+    v ≡ far_end (graph_of n links) s x → crosses (graph_of n links) s x ≡ true →
+    ((e : ℕ) → e < length links → crosses (graph_of n links) s e ≡ true → Contains old (candidate ws e)) →
+    ((c : Candidate) → Contains old c → crosses (graph_of n links) s c.edge ≡ true → Contains mid c ⊎ (c.edge ≡ x)) →
+    ((c : Candidate) → Contains mid c → Contains new c) →
+    HasEnds links (length links) rows →
+    ((e : ℕ) → IsAttached rows v e → crosses (graph_of n links) (and_also s v) e ≡ true → Contains new (candidate ws e)) →
+    (e : ℕ) → e < length links → crosses (graph_of n links) (and_also s v) e ≡ true → Contains new (candidate ws e)
+held_again n links ws rows s old mid new x v vf across held others kept ends added e l h = go (newly (graph_of n links) s v e h)
+  where
+    g : Graph
+    g = graph_of n links
+
+    gone : crosses (graph_of n links) (and_also s v) x ≡ false
+    gone =
+        let d = ends_of (graph_of n links) s x across in
+        ap (λ v. crosses (graph_of n links) (and_also s v) x) vf ∙ differ_same _ _ d.from_in d.to_in
+
+    not_x : e ≡ x → ⊥
+    not_x c = let t : true ≡ false = sym h ∙ ap (crosses (graph_of n links) (and_also s v)) c ∙ gone in absurd (cc)
+
+    mids : Contains mid (candidate ws e) ⊎ (e ≡ x) → Contains new (candidate ws e)
+    mids (inl m) = kept (candidate ws e) m
+    mids (inr c) = absurd (not_x c)
+
+    go : (crosses (graph_of n links) s e ≡ true) ⊎ (((link_at links e).from ≡ v) ⊎ ((link_at links e).to ≡ v)) → Contains new (candidate ws e)
+    go (inl k) = mids (others (candidate ws e) (held e l k) k)
+    go (inr (inl c)) = added e (subst (λ u. IsAttached rows u e) c (ends e l).0) h
+    go (inr (inr c)) = added e (subst (λ u. IsAttached rows u e) c (ends e l).1) h
+
+-- ---- the start
+pub begun_marks : (n root : ℕ) (marks : List Bool) → marks ≡ replicate n false → root < length marks → marked (set marks root true) ≡ only root
+begun_marks n root marks e l = marked_set marks root l ∙ (λ i. and_also (none i) root)
+  where
+    at : (v : ℕ) → (v < n) ⊎ (n ≤ v) → get_or (replicate n false) v false ≡ false
+    at v (inl l) = get_or-replicate n v false false l
+    at v (inr l) = get_or_past (replicate n false) v false (let k = length-replicate n false in omega (arith, k))
+
+    none : marked marks ≡ (λ (v : ℕ). false)
+    none = ap marked e ∙ (λ i v. at v (cases_lt v n) i)
+
+pub held_first : (n root : ℕ) (links : List Link) (ws : List ℕ) (rows : List Row) (new : List Candidate) → HasEnds links (length links) rows → ((e : ℕ) → IsAttached rows root e → crosses (graph_of n links) (only root) e ≡ true → Contains new (candidate ws e)) →
+    (e : ℕ) → e < length links → crosses (graph_of n links) (only root) e ≡ true → Contains new (candidate ws e)
+held_first n root links ws rows new ends added e l h = go (newly (graph_of n links) (λ w. false) root e h)
+  where
+    go : (false ≡ true) ⊎ (((link_at links e).from ≡ root) ⊎ ((link_at links e).to ≡ root)) → Contains new (candidate ws e)
+    go (inl k) = absurd (cc)
+    go (inr (inl c)) = added e (subst (λ u. IsAttached rows u e) c (ends e l).0) h
+    go (inr (inr c)) = added e (subst (λ u. IsAttached rows u e) c (ends e l).1) h
+
+-- ---- the end
+pub graph_ok : (n : ℕ) (links : List Link) → IsLinked n links → IsGraph (graph_of n links)
+graph_ok n links h e l = h e _ l
+
+pub listed_length : (es : List ℕ) → listed_weight (λ e. 1) es ≡ length es
+listed_length [] = refl
+listed_length (x ∷ xs) = let a = listed_length xs in omega (arith, a)
+
+-- one edge fewer than numbers: no number is left
+pub everything_at_end : (g : Graph) (w : ℕ → ℕ) (es : List ℕ) (r : ℕ) (t : NodeSet) → IsGraph g → r < g.nodes → Grows g w (only r) es t → length es + 1 ≡ g.nodes →
+    (v : ℕ) → v < g.nodes → t v ≡ true
+everything_at_end g w es r t ok lr h e v l =
+    let a = grown_count g w es (only r) t ok h in
+    let b = listed_length es in
+    let c = weight_one g.nodes (λ e. 1) r lr in
+    let d = all_count g.nodes (λ v. true) (λ v l. refl) in
+    same_set g.nodes t (λ v. true) (λ v l k. refl) (omega (arith, a, b, c, d)) v l
+
+pub whole_at_end : (g : Graph) (w : ℕ → ℕ) (es : List ℕ) (r : ℕ) (t : NodeSet) → IsGraph g → r < g.nodes → Grows g w (only r) es t → length es + 1 ≡ g.nodes → IsWhole g t
+whole_at_end g w es r t ok lr h e i l =
+    let all = everything_at_end g w es r t ok lr h e in
+    ap (λ b. differ b (t (g.to i))) (all (g.from i) (ok i l).0) ∙ ap not (all (g.to i) (ok i l).1)
+
+-- ---- sets of edges
+pub on_push : (xs : List ℕ) (y e : ℕ) → on (xs ++ y ∷ []) e ≡ (on xs e || (e == y))
+on_push [] y e = or_no (e == y)
+on_push (x ∷ xs) y e = ap (λ b. (e == x) || b) (on_push xs y e) ∙ assoc (e == x) (on xs e) (e == y)
+  where
+    assoc : (a b c : Bool) → (a || (b || c)) ≡ ((a || b) || c)
+    assoc true b c = refl
+    assoc false b c = refl
+
+-- only edges of the graph are taken
+pub joins_inside : (g : Graph) (w : ℕ → ℕ) (js : List Join) (s t : NodeSet) → Grows g w s (edges_in js) t → All (λ (j : Join). j.edge < g.edges) js
+joins_inside g w [] s t h = All-nil (λ (j : Join). j.edge < g.edges)
+joins_inside g w (x ∷ xs) s t h = All-cons (λ (j : Join). j.edge < g.edges) x xs h.0.inside (joins_inside g w xs (and_also s (far_end g s x.edge)) t h.1)
+
+-- ---- which edges are counted
+pub counted_determines : (n : ℕ) (links : List Link) (w : ℕ → ℕ) (r : ℕ) (es : List ℕ) (t : NodeSet) (off : List Bool) → IsLinked n links →
+    Grows (graph_of n links) w (only r) es t → ((e : ℕ) → e < length links → marked off e ≡ rest (on es) e) → Determines (graph_of n links) (marked off)
+counted_determines n links w r es t off ok h same = determines_alike (graph_of n links) (rest (on es)) (marked off) same (off_grown_determines (graph_of n links) w r es t (graph_ok n links ok) h)
+
+pub counted_spans : (n : ℕ) (links : List Link) (w : ℕ → ℕ) (r : ℕ) (es : List ℕ) (t : NodeSet) (off : List Bool) (is_node : NodeSet) → r < n → IsLinked n links →
+    Grows (graph_of n links) w (only r) es t → IsWhole (graph_of n links) t → ((e : ℕ) → e < length links → marked off e ≡ rest (on es) e) →
+    IsConnected (graph_of n links) is_node r → IsSpanningTree (graph_of n links) is_node (rest (marked off))
+counted_spans n links w r es t off is_node lr ok h whole same c =
+    spanning_alike (graph_of n links) is_node (on es) (rest (marked off)) (λ e l. sym (ap not (same e l) ∙ not_twice (on es e)))
+    (connected_spans (graph_of n links) is_node w r es t (graph_ok n links ok) lr c h whole)
+
+pub counted_least : (n : ℕ) (links : List Link) (w : ℕ → ℕ) (r : ℕ) (es : List ℕ) (t : NodeSet) (off : List Bool) (is_node : NodeSet) → r < n → IsLinked n links →
+    Grows (graph_of n links) w (only r) es t → IsWhole (graph_of n links) t → ((e : ℕ) → e < length links → marked off e ≡ rest (on es) e) →
+    IsConnected (graph_of n links) is_node r → IsLeast (graph_of n links) w (marked off)
+counted_least n links w r es t off is_node lr ok h whole same c =
+    least_alike (graph_of n links) w (rest (on es)) (marked off) same
+    (off_tree_least (graph_of n links) w r es t (graph_ok n links ok) lr h (connected_ends (graph_of n links) is_node w r es t (graph_ok n links ok) lr c h whole))
+
+-- ---- joins
+pub edges-push : (xs : List Join) (j : Join) → edges_in (xs ++ j ∷ []) ≡ edges_in xs ++ j.edge ∷ []
+edges-push [] j = refl
+edges-push (x ∷ xs) j = ap (λ (es : List ℕ). x.edge ∷ es) (edges-push xs j)
+
+pub nodes-push : (xs : List Join) (j : Join) → nodes_in (xs ++ j ∷ []) ≡ nodes_in xs ++ j.node ∷ []
+nodes-push [] j = refl
+nodes-push (x ∷ xs) j = ap (λ (es : List ℕ). x.node ∷ es) (nodes-push xs j)
+
+pub joined_by-push : (g : Graph) (w : ℕ → ℕ) (es : List ℕ) (s t : NodeSet) (e : ℕ) → Grows g w s es t → joined_by g s (es ++ e ∷ []) ≡ joined_by g s es ++ far_end g t e ∷ []
+joined_by-push g w [] s t e h = ap (λ (u : NodeSet). far_end g u e ∷ []) (sym h)
+joined_by-push g w (x ∷ xs) s t e h = ap (λ (ys : List ℕ). far_end g s x ∷ ys) (joined_by-push g w xs (and_also s (far_end g s x)) t e h.1)
+
+-- a growth heaviest first is a growth
+pub grows_anyhow : (g : Graph) (w : ℕ → ℕ) (es : List ℕ) (s t : NodeSet) → Grows g w s es t → Grows g (λ e. 0) s es t
+grows_anyhow g w [] s t h = h
+grows_anyhow g w (x ∷ xs) s t h = (record { inside = h.0.inside; across = h.0.across; heaviest = λ e l c. omega arith }, grows_anyhow g w xs (and_also s (far_end g s x)) t h.1)
+
+pub search_grown : (n m : ℕ) (links : List Link) (ws : List ℕ) (s : Search) → m ≡ n → IsSearch m links ws s → IsGrown (graph_of n links) s.tree
+search_grown n m links ws s e h = subst (λ (n : ℕ). IsGrown (graph_of n links) s.tree) e
+    (record { len = h.len; inside = joins_inside (graph_of m links) (weight_in ws) s.tree.joins.items (only s.tree.root) (reached_by s.tree) h.grows; grows = grows_anyhow (graph_of m links) (weight_in ws) (edges_of s.tree) (only s.tree.root) (reached_by s.tree) h.grows; nodes = h.nodes })
+
+pub search_whole : (n : ℕ) (links : List Link) (ws : List ℕ) (s : Search) → IsLinked n links → s.tree.root < n → length s.tree.joins.items + 1 ≡ n → IsSearch n links ws s → IsWhole (graph_of n links) (reached_by s.tree)
+search_whole n links ws s ok l e h =
+    whole_at_end (graph_of n links) (weight_in ws) (edges_of s.tree) s.tree.root (reached_by s.tree) (graph_ok n links ok) l h.grows
+    (let k = length-map s.tree.joins.items (λ (j : Join). j.edge) in omega (arith, k, e))
+
+-- the edges of one join more
+pub on_more : (js : List Join) (i : ℕ) (d : Join) (e : ℕ) → i < length js → on (edges_in (take (i + 1) js)) e ≡ (on (edges_in (take i js)) e || (e == (get_or js i d).edge))
+on_more js i d e l =
+    ap (λ (js : List Join). on (edges_in js) e) (take_more js i d l)
+    ∙ ap (λ (es : List ℕ). on es e) (edges-push (take i js) (get_or js i d))
+    ∙ on_push (edges_in (take i js)) (get_or js i d).edge e
+
+pub off_more : (off : List Bool) (js : List Join) (i e : ℕ) (d : Join) → i < length js → (get_or js i d).edge < length off → marked off e ≡ not (on (edges_in (take i js)) e) →
+    marked (set off (get_or js i d).edge false) e ≡ not (on (edges_in (take (i + 1) js)) e)
+off_more off js i e d l m h = go (cases_eq e (get_or js i d).edge) ∙ ap not (sym (on_more js i d e l))
+  where
+    go : (e ≡ (get_or js i d).edge) ⊎ (e ≡ (get_or js i d).edge → ⊥) → marked (set off (get_or js i d).edge false) e ≡ not (on (edges_in (take i js)) e || (e == (get_or js i d).edge))
+    go (inl k) =
+        ap (λ e. get_or (set off (get_or js i d).edge false) e false) k ∙ get_or-set_same off (get_or js i d).edge false false m
+        ∙ ap not (sym (ap (λ b. on (edges_in (take i js)) e || b) (eq-eqb e (get_or js i d).edge k) ∙ or_yes (on (edges_in (take i js)) e)))
+    go (inr k) =
+        get_or-set_other off (get_or js i d).edge e false false k ∙ h
+        ∙ ap not (sym (ap (λ b. on (edges_in (take i js)) e || b) (ne_eqb e (get_or js i d).edge k) ∙ or_no (on (edges_in (take i js)) e)))

@@ -1,0 +1,22 @@
+use Rattle.std.proofs.Common.{rules, ◌≡◌, List, length, arith, sym, subst, refl}
+use Rattle.flow_tree.specs.Rows.{HasEnds, Row}
+use Rattle.flow_tree.proofs.Steps.{search_grown, search_whole}
+use Rattle.flow_tree.proofs.growth.grow.Goals as goal
+
+pub begin-requires-clause-ends : goal.begin-requires-clause-ends
+begin-requires-clause-ends c = subst (λ (rows : List Row). HasEnds c.args.links.now (length c.args.links.now) rows) (sym c.deref.ensures.value) c.in_ok-rows.ensures.ends
+
+pub join-requires-clause-ends : goal.join-requires-clause-ends
+join-requires-clause-ends c = subst (λ (rows : List Row). HasEnds c.args.links.now (length c.args.links.now) rows) (sym c.deref-in-loop.ensures.value) c.in_ok-rows.ensures.ends
+
+pub returns-then-not-branch-clause-grown : goal.returns-then-not-branch-clause-grown
+returns-then-not-branch-clause-grown c = search_grown c.args.nodes _ c.args.links.now c.args.weights.now c.join.new.search rows c.in_ok-join.ensures.search
+  where
+    rows : length c.deref-in-loop.result.now ≡ c.args.nodes
+    rows = search rules
+
+pub returns-clause-grown : goal.returns-clause-grown
+returns-clause-grown c = search_grown c.args.nodes c.args.nodes c.args.links.now c.args.weights.now c.loop.search refl c.loop.invariant.search
+
+pub returns-clause-whole : goal.returns-clause-whole
+returns-clause-whole c = search_whole c.args.nodes c.args.links.now c.args.weights.now c.loop.search c.requires.linked (omega (arith, c.loop.invariant.root)) (omega arith) c.loop.invariant.search

@@ -1,0 +1,10 @@
+use Rattle.std.proofs.Common.{◌≡◌, ◌+◌, length}
+use Rattle.flow_tree.specs.Search.{IsSearch}
+use Rattle.flow_tree.proofs.growth.grow.Given as goal
+
+abbrev pub invariant-loop : goal.invariant-loop
+invariant-loop l = record {
+  search : IsSearch l.nodes l.links l.weights l.search;
+  root : l.search.tree.root ≡ l.root;
+  count : length l.search.tree.joins.items + 1 ≡ l.counter;
+}

@@ -1,0 +1,9 @@
+use Rattle.std.proofs.Common.{◌≡◌, ℕ, length}
+use Rattle.flow_tree.specs.Rows.{AllBelow}
+use Rattle.flow_tree.proofs.rows.empty_rows.Given as goal
+
+abbrev pub invariant-loop : goal.invariant-loop
+invariant-loop l = record {
+  len : length l.rows.items ≡ l.counter;
+  below : (n : ℕ) → AllBelow n l.rows.items;
+}

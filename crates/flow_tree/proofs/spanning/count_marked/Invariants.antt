@@ -1,0 +1,10 @@
+use Rattle.std.proofs.Common.{◌≡◌, ◌≤◌}
+use Rattle.flows.specs.Flows.{count_below}
+use Rattle.flows.specs.Links.{marked}
+use Rattle.flow_tree.proofs.spanning.count_marked.Given as goal
+
+abbrev pub invariant-loop-mark : goal.invariant-loop-mark
+invariant-loop-mark l = record {
+  count : l.n ≡ count_below l.mark-index (marked l.marks);
+  at_most : l.n ≤ l.mark-index;
+}

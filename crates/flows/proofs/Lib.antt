@@ -1,0 +1,10 @@
+pub mod Bools
+pub mod Sums
+pub mod Nets
+pub mod Cuts
+pub mod Weights
+pub mod Grown
+pub mod Least
+pub mod Spanning
+pub mod Walks
+pub mod Cycles

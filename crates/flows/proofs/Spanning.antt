@@ -1,0 +1,310 @@
+-- Spanning trees, and how growth tells them.
+use Rattle.std.proofs.Common.{◌≡◌, ℕ, zero, suc, ◌+◌, ◌<◌, ◌≤◌, ◌⊎◌, inl, inr, Bool, true, false, not, ◌||◌, cond, List, [], ◌∷◌, refl, ap, sym, ◌∙◌, arith}
+use Rattle.std.specs.Prelude.{◌==◌, if◌then◌else◌}
+use Rattle.std.proofs.lemmas.Bool.{cases_Bool, cases_eq, eqb-true, eq-eqb, ne_eqb}
+use Rattle.flows.specs.Flows.{Graph, NodeSet, EdgeSet, rest, IsGraph, Determines, count_below}
+use Rattle.flows.specs.Trees.{NoneCrosses, JoinsAll, IsSpanningTree, HasEveryEnd, only, and_also, crosses, far_end, IsWhole, IsHeaviest, Grows, on, IsConnected}
+use Rattle.flows.proofs.Bools.{true_or_false, or_true, or_right, or_no, or_swap, not_twice, differ_equal, or_cases}
+use Rattle.flows.proofs.Grown.{far_out, listed_weight}
+use Rattle.flows.proofs.Least.{Ends, ends_of, far_inside, listed_is, no_cycle, determines_if, grows_keeps}
+use Rattle.flows.proofs.Weights.{weight_same, weight_more, weight_one}
+
+-- ---- counting
+abbrev one : ℕ
+one = 1
+
+pub all_count : (n : ℕ) (s : ℕ → Bool) → ((e : ℕ) → e < n → s e ≡ true) → count_below n s ≡ n
+all_count zero s h = refl
+all_count (suc n) s h =
+    let a = all_count n s (λ e l. h e (omega arith)) in
+    let b : cond (s n) one 0 ≡ one = ap (λ b. cond b one 0) (h n (omega arith)) in
+    omega (arith, a, b)
+
+-- a set with more than no numbers has a number
+pub some_number : (n : ℕ) (s : ℕ → Bool) → 0 < count_below n s → (v : ℕ) × (v < n) × (s v ≡ true)
+some_number zero s h = absurd (omega arith)
+some_number (suc n) s h = go (cases_Bool (s n)) (some_number n s)
+  where
+    go : (s n ≡ true) ⊎ (s n ≡ false) → (0 < count_below n s → (v : ℕ) × (v < n) × (s v ≡ true)) → (v : ℕ) × (v < suc n) × (s v ≡ true)
+    go (inl c) r = (n, omega arith, c)
+    go (inr c) r =
+        let z : cond (s n) one 0 ≡ 0 = ap (λ b. cond b one 0) c in
+        let (v, l, t) = r (omega (arith, z)) in (v, omega arith, t)
+
+-- a set in another has no more numbers, and with as many it is the other
+pub part_count : (n : ℕ) (s d : ℕ → Bool) → ((e : ℕ) → e < n → s e ≡ true → d e ≡ true) → count_below n s ≤ count_below n d
+part_count zero s d h = omega arith
+part_count (suc n) s d h =
+    let a = part_count n s d (λ e l. h e (omega arith)) in
+    let b = step (s n) (d n) (h n (omega arith)) in omega (arith, a, b)
+  where
+    step : (p q : Bool) → (p ≡ true → q ≡ true) → cond p 1 0 ≤ cond q 1 0
+    step true true f = omega arith
+    step true false f = let c : false ≡ true = f refl in absurd (cc)
+    step false q f = omega arith
+
+pub same_set : (n : ℕ) (s d : ℕ → Bool) → ((e : ℕ) → e < n → s e ≡ true → d e ≡ true) → count_below n d ≤ count_below n s → (e : ℕ) → e < n → s e ≡ d e
+same_set zero s d h l e m = absurd (omega arith)
+same_set (suc n) s d h l e m = go (cases_eq e n) (same_set n s d (λ e l. h e (omega arith)))
+  where
+    first : count_below n s ≤ count_below n d
+    first = part_count n s d (λ e l. h e (omega arith))
+
+    step : (p q : Bool) → (p ≡ true → q ≡ true) → count_below n d + cond q 1 0 ≤ count_below n s + cond p 1 0 → count_below n s ≤ count_below n d → (p ≡ q) × (count_below n d ≤ count_below n s)
+    step true true f a b = (refl, omega arith)
+    step true false f a b = let c : false ≡ true = f refl in absurd (cc)
+    step false true f a b = absurd (omega arith)
+    step false false f a b = (refl, omega arith)
+
+    last : (s n ≡ d n) × (count_below n d ≤ count_below n s)
+    last = step (s n) (d n) (h n (omega arith)) l first
+
+    go : (e ≡ n) ⊎ (e ≡ n → ⊥) → (count_below n d ≤ count_below n s → (e : ℕ) → e < n → s e ≡ d e) → s e ≡ d e
+    go (inl c) f = ap s c ∙ last.0 ∙ ap d (sym c)
+    go (inr c) f = f last.1 e (omega arith)
+
+-- ---- growth counts nodes
+-- each edge that is grown joins one node more
+pub grown_count : (g : Graph) (w : ℕ → ℕ) (es : List ℕ) (s t : NodeSet) → IsGraph g → Grows g w s es t → listed_weight (λ e. 1) es + count_below g.nodes s ≡ count_below g.nodes t
+grown_count g w [] s t ok h = let a = ap (count_below g.nodes) (sym h) in omega (arith, a)
+grown_count g w (e ∷ es) s t ok h =
+    let a = weight_more g.nodes (λ e. 1) s (far_end g s e) (far_inside g s e ok h.0.inside) (far_out g s e h.0.across) in
+    let b = weight_same g.nodes (λ e. 1) (and_also s (far_end g s e)) (λ u. (u == far_end g s e) || s u) (λ u m. or_swap (s u) (u == far_end g s e)) in
+    let c = grown_count g w es (and_also s (far_end g s e)) t ok h.1 in
+    omega (arith, a, b, c)
+
+-- ---- a tree that was grown from r to all nodes spans
+-- a set of nodes that no grown edge leaves has the nodes of t as it has those of s
+kept : (g : Graph) (w : ℕ → ℕ) (es : List ℕ) (s t q : NodeSet) (c : Bool) → Grows g w s es t → NoneCrosses g (on es) q → ((u : ℕ) → s u ≡ true → q u ≡ c) → (u : ℕ) → t u ≡ true → q u ≡ c
+kept g w [] s t q c h n a u m = a u (ap (λ (r : NodeSet). r u) (sym h) ∙ m)
+kept g w (e ∷ es) s t q c h n a u m =
+    kept g w es (and_also s (far_end g s e)) t q c h.1 (λ i l o. n i l (or_right (i == e) (on es i) o)) (λ u p. go u (cases_Bool (s u)) p) u m
+  where
+    d : Ends g s e
+    d = ends_of g s e h.0.across
+
+    same : q (g.from e) ≡ q (g.to e)
+    same = n e h.0.inside (or_true (e == e) (on es e) (eq-eqb e e refl))
+
+    new : ((far_end g s e ≡ g.to e) × (s (g.from e) ≡ true)) ⊎ ((far_end g s e ≡ g.from e) × (s (g.to e) ≡ true)) → q (far_end g s e) ≡ c
+    new (inl p) = ap q p.0 ∙ sym same ∙ a (g.from e) p.1
+    new (inr p) = ap q p.0 ∙ same ∙ a (g.to e) p.1
+
+    go : (u : ℕ) → (s u ≡ true) ⊎ (s u ≡ false) → (s u || (u == far_end g s e)) ≡ true → q u ≡ c
+    go u (inl p) o = a u p
+    go u (inr p) o = ap q (eqb-true u (far_end g s e) (sym (ap (λ b. b || (u == far_end g s e)) p) ∙ o)) ∙ new d.one_new
+
+pub grown_joins : (g : Graph) (is_node : NodeSet) (w : ℕ → ℕ) (r : ℕ) (es : List ℕ) (t : NodeSet) → Grows g w (only r) es t →
+    ((v : ℕ) → v < g.nodes → is_node v ≡ true → t v ≡ true) → JoinsAll g is_node (on es)
+grown_joins g is_node w r es t h all q n u v lu lv nu nv =
+    k u (all u lu nu) ∙ sym (k v (all v lv nv))
+  where
+    k : (u : ℕ) → t u ≡ true → q u ≡ q r
+    k = kept g w es (only r) t q (q r) h n (λ u m. ap q (eqb-true u r m))
+
+-- one edge fewer than nodes
+pub grown_size : (g : Graph) (w : ℕ → ℕ) (r : ℕ) (es : List ℕ) (t : NodeSet) → IsGraph g → r < g.nodes → Grows g w (only r) es t → count_below g.edges (on es) + 1 ≡ count_below g.nodes t
+grown_size g w r es t ok lr h =
+    let a = listed_is g w (λ e. 1) es (only r) t h in
+    let b = grown_count g w es (only r) t ok h in
+    let c = weight_one g.nodes (λ e. 1) r lr in
+    omega (arith, a, b, c)
+
+pub grown_spans : (g : Graph) (is_node : NodeSet) (w : ℕ → ℕ) (r : ℕ) (es : List ℕ) (t : NodeSet) → IsGraph g → r < g.nodes → Grows g w (only r) es t →
+    ((v : ℕ) → v < g.nodes → t v ≡ is_node v) → IsSpanningTree g is_node (on es)
+grown_spans g is_node w r es t ok lr h same = record {
+  joins = grown_joins g is_node w r es t h (λ v l n. same v l ∙ n);
+  size = grown_size g w r es t ok lr h ∙ weight_same g.nodes (λ e. 1) t is_node same;
+}
+
+-- ---- growth at the weight 1 for the edges of d, and 0 for the others
+abbrev pub one_if : (ℕ → Bool) → ℕ → ℕ
+one_if d e = if d e then 1 else 0
+
+-- an edge of d crosses s, or none does
+pub search_edge : (g : Graph) (d : ℕ → Bool) (s : NodeSet) (n : ℕ) → ((e : ℕ) × (e < n) × (d e ≡ true) × (crosses g s e ≡ true)) ⊎ ((e : ℕ) → e < n → d e ≡ true → s (g.from e) ≡ s (g.to e))
+search_edge g d s zero = inr (λ e l. absurd (omega arith))
+search_edge g d s (suc n) = go (search_edge g d s n) (cases_Bool (d n)) (cases_Bool (crosses g s n))
+  where
+    go : ((e : ℕ) × (e < n) × (d e ≡ true) × (crosses g s e ≡ true)) ⊎ ((e : ℕ) → e < n → d e ≡ true → s (g.from e) ≡ s (g.to e)) → (d n ≡ true) ⊎ (d n ≡ false) → (crosses g s n ≡ true) ⊎ (crosses g s n ≡ false)
+        → ((e : ℕ) × (e < suc n) × (d e ≡ true) × (crosses g s e ≡ true)) ⊎ ((e : ℕ) → e < suc n → d e ≡ true → s (g.from e) ≡ s (g.to e))
+    go (inl (e, l, p, q)) a b = inl (e, omega arith, p, q)
+    go (inr f) (inl p) (inl q) = inl (n, omega arith, p, q)
+    go (inr f) (inr p) b = inr (λ e l m. at e l m (cases_eq e n))
+      where
+        at : (e : ℕ) → e < suc n → d e ≡ true → (e ≡ n) ⊎ (e ≡ n → ⊥) → s (g.from e) ≡ s (g.to e)
+        at e l m (inl c) = true_or_false (d e) m (ap d c ∙ p)
+        at e l m (inr c) = f e (omega arith) m
+    go (inr f) (inl p) (inr q) = inr (λ e l m. at e l m (cases_eq e n))
+      where
+        at : (e : ℕ) → e < suc n → d e ≡ true → (e ≡ n) ⊎ (e ≡ n → ⊥) → s (g.from e) ≡ s (g.to e)
+        at e l m (inl c) = ap (λ e. s (g.from e)) c ∙ differ_equal (s (g.from n)) (s (g.to n)) q ∙ ap (λ e. s (g.to e)) (sym c)
+        at e l m (inr c) = f e (omega arith) m
+
+abbrev pub AllIn : (ℕ → Bool) → List ℕ → Type 0
+AllIn d [] = Unit {0}
+AllIn d (e ∷ es) = (d e ≡ true) × AllIn d es
+
+-- what is on a list in d is in d
+pub on_in : (d : ℕ → Bool) (es : List ℕ) (e : ℕ) → AllIn d es → on es e ≡ true → d e ≡ true
+on_in d [] e h o = absurd (cc)
+on_in d (x ∷ xs) e h o = go (cases_Bool (e == x)) (on_in d xs e h.1)
+  where
+    go : ((e == x) ≡ true) ⊎ ((e == x) ≡ false) → (on xs e ≡ true → d e ≡ true) → d e ≡ true
+    go (inl c) f = ap d (eqb-true e x c) ∙ h.0
+    go (inr c) f = f (sym (ap (λ b. b || on xs e) c) ∙ o)
+
+-- a set d that joins all nodes, where the ends of all edges are nodes: only edges of d are grown
+pub grown_in : (g : Graph) (is_node : NodeSet) (d : EdgeSet) (r : ℕ) (es : List ℕ) (s t : NodeSet) → IsGraph g → HasEveryEnd g is_node → r < g.nodes → is_node r ≡ true → s r ≡ true → JoinsAll g is_node d → Grows g (one_if d) s es t → AllIn d es
+grown_in g is_node d r [] s t ok ends lr nr sr j h = tt
+grown_in g is_node d r (e ∷ es) s t ok ends lr nr sr j h =
+    (here (search_edge g d s g.edges), grown_in g is_node d r es (and_also s (far_end g s e)) t ok ends lr nr (or_true (s r) _ sr) j h.1)
+  where
+    in_d : (b : Bool) → 1 ≤ cond b 1 0 → b ≡ true
+    in_d true l = refl
+    in_d false l = absurd (omega arith)
+
+    pick : (b : Bool) (p q : ℕ) → is_node p ≡ true → is_node q ≡ true → is_node (cond b p q) ≡ true
+    pick true p q h k = h
+    pick false p q h k = k
+
+    far_node : is_node (far_end g s e) ≡ true
+    far_node = pick (s (g.from e)) (g.to e) (g.from e) (ends e h.0.inside).1 (ends e h.0.inside).0
+
+    here : ((i : ℕ) × (i < g.edges) × (d i ≡ true) × (crosses g s i ≡ true)) ⊎ ((i : ℕ) → i < g.edges → d i ≡ true → s (g.from i) ≡ s (g.to i)) → d e ≡ true
+    here (inl (i, l, p, q)) =
+        let a = h.0.heaviest i l q in
+        let b : cond (d i) one 0 ≡ one = ap (λ b. cond b one 0) p in
+        in_d (d e) (omega (arith, a, b))
+    here (inr n) = true_or_false (s r) sr (j s n r (far_end g s e) lr (far_inside g s e ok h.0.inside) nr far_node ∙ far_out g s e h.0.across)
+
+-- ---- the check of a spanning tree, by growth from r that ends at t
+pub tree_if : (g : Graph) (is_node : NodeSet) (d : EdgeSet) (r : ℕ) (es : List ℕ) (t : NodeSet) → IsGraph g → r < g.nodes → Grows g (one_if d) (only r) es t →
+    ((v : ℕ) → v < g.nodes → is_node v ≡ true → t v ≡ true) → AllIn d es → count_below g.edges d + 1 ≡ count_below g.nodes is_node →
+    ((e : ℕ) → e < g.edges → on es e ≡ d e) × IsSpanningTree g is_node d
+tree_if g is_node d r es t ok lr h all inside size = (same, record { joins = joins; size = size })
+  where
+    joins : JoinsAll g is_node d
+    joins q n = grown_joins g is_node (one_if d) r es t h all q (λ e l o. n e l (on_in d es e inside o))
+
+    same : (e : ℕ) → e < g.edges → on es e ≡ d e
+    same = same_set g.edges (on es) d (λ e l o. on_in d es e inside o)
+        (let a = grown_size g (one_if d) r es t ok lr h in let b = part_count g.nodes is_node t all in omega (arith, a, b, size))
+
+pub tree_only_if : (g : Graph) (is_node : NodeSet) (d : EdgeSet) (r : ℕ) (es : List ℕ) (t : NodeSet) → IsGraph g → HasEveryEnd g is_node → r < g.nodes → is_node r ≡ true → Grows g (one_if d) (only r) es t →
+    IsWhole g t → IsSpanningTree g is_node d → ((v : ℕ) → v < g.nodes → is_node v ≡ true → t v ≡ true) × AllIn d es
+tree_only_if g is_node d r es t ok ends lr nr h whole span = (all, grown_in g is_node d r es (only r) t ok ends lr nr (eq-eqb r r refl) span.joins h)
+  where
+    all : (v : ℕ) → v < g.nodes → is_node v ≡ true → t v ≡ true
+    all v l n = span.joins t (λ e m o. differ_equal (t (g.from e)) (t (g.to e)) (whole e m)) v r l lr n nr ∙ grows_keeps g (one_if d) es (only r) t h r (eq-eqb r r refl)
+
+-- ---- growth that takes edges of d alone, for as long as one crosses
+pub record GrownIn (g : Graph) (d : EdgeSet) (s : NodeSet) : Type 0 where
+  pub edges : List ℕ
+  pub reached : NodeSet
+  pub grows : Grows g (one_if d) s edges reached
+  pub inside : AllIn d edges
+  pub none : NoneCrosses g d reached
+
+step_heaviest : (g : Graph) (d : EdgeSet) (s : NodeSet) (e : ℕ) → e < g.edges → d e ≡ true → crosses g s e ≡ true → IsHeaviest g (one_if d) s e
+step_heaviest g d s e l t c = record { inside = l; across = c; heaviest = λ h m k. let a : cond (d e) one 0 ≡ one = ap (λ b. cond b one 0) t in let b = at_most (d h) in omega (arith, a, b) }
+  where
+    at_most : (b : Bool) → cond b one 0 ≤ one
+    at_most true = omega arith
+    at_most false = omega arith
+
+fewer_outside : (g : Graph) (s : NodeSet) (e : ℕ) → IsGraph g → e < g.edges → crosses g s e ≡ true →
+    count_below g.nodes (λ v. not (s v)) ≡ 1 + count_below g.nodes (λ v. not (and_also s (far_end g s e) v))
+fewer_outside g s e ok l c =
+    weight_same g.nodes (λ e. 1) (λ v. not (s v)) (λ v. (v == far_end g s e) || not (s v || (v == far_end g s e))) (λ v m. same v (cases_eq v (far_end g s e)))
+    ∙ weight_more g.nodes (λ e. 1) (λ v. not (s v || (v == far_end g s e))) (far_end g s e) (far_inside g s e ok l)
+    (ap not (or_right (s (far_end g s e)) _ (eq-eqb (far_end g s e) (far_end g s e) refl)))
+  where
+    same : (v : ℕ) → (v ≡ far_end g s e) ⊎ (v ≡ far_end g s e → ⊥) → not (s v) ≡ ((v == far_end g s e) || not (s v || (v == far_end g s e)))
+    same v (inl k) = ap not (ap s k ∙ far_out g s e c) ∙ sym (or_true (v == far_end g s e) _ (eq-eqb v (far_end g s e) k))
+    same v (inr k) = ap not (sym (or_no (s v))) ∙ ap (λ b. b || not (s v || b)) (sym (ne_eqb v (far_end g s e) k))
+
+-- `most` bounds the number of nodes outside s
+pub grow_in : (g : Graph) (d : EdgeSet) (most : ℕ) (s : NodeSet) → IsGraph g → count_below g.nodes (λ v. not (s v)) ≤ most → GrownIn g d s
+grow_in g d zero s ok small = go (search_edge g d s g.edges)
+  where
+    go : ((e : ℕ) × (e < g.edges) × (d e ≡ true) × (crosses g s e ≡ true)) ⊎ ((e : ℕ) → e < g.edges → d e ≡ true → s (g.from e) ≡ s (g.to e)) → GrownIn g d s
+    go (inr n) = record { edges = []; reached = s; grows = refl; inside = tt; none = n }
+    go (inl (e, l, t, c)) = let k = fewer_outside g s e ok l c in absurd (omega (arith, k))
+grow_in g d (suc most) s ok small = go (search_edge g d s g.edges) (λ e. grow_in g d most (and_also s (far_end g s e)) ok)
+  where
+    go : ((e : ℕ) × (e < g.edges) × (d e ≡ true) × (crosses g s e ≡ true)) ⊎ ((e : ℕ) → e < g.edges → d e ≡ true → s (g.from e) ≡ s (g.to e)) →
+        ((e : ℕ) → count_below g.nodes (λ v. not (and_also s (far_end g s e) v)) ≤ most → GrownIn g d (and_also s (far_end g s e))) → GrownIn g d s
+    go (inr n) more = record { edges = []; reached = s; grows = refl; inside = tt; none = n }
+    go (inl (e, l, t, c)) more =
+        let k = fewer_outside g s e ok l c in
+        let r = more e (omega (arith, k)) in
+        record { edges = e ∷ r.edges; reached = r.reached; grows = (step_heaviest g d s e l t c, r.grows); inside = (t, r.inside); none = r.none }
+
+-- from one node
+pub grow_from : (g : Graph) (d : EdgeSet) (r : ℕ) → IsGraph g → GrownIn g d (only r)
+grow_from g d r ok = grow_in g d (count_below g.nodes (λ v. not (only r v))) (only r) ok (omega arith)
+
+-- ---- off a spanning tree, the counts are determined
+pub off_tree_determines : (g : Graph) (is_node : NodeSet) (t : EdgeSet) → IsGraph g → IsSpanningTree g is_node t → Determines g (rest t)
+off_tree_determines g is_node t ok tree = go (some_number g.nodes is_node (let s = tree.size in omega (arith, s)))
+  where
+    go : (r : ℕ) × (r < g.nodes) × (is_node r ≡ true) → Determines g (rest t)
+    go (r, lr, nr) = determines_if g r (rest t) ok (λ x wx bx. no_cycle g (one_if t) k.edges (only r) k.reached ok k.grows x (λ e l o. wx e l (not_twice (t e) ∙ sym (same e l) ∙ o)) bx)
+      where
+        k : GrownIn g t (only r)
+        k = grow_from g t r ok
+
+        all : (v : ℕ) → v < g.nodes → is_node v ≡ true → k.reached v ≡ true
+        all v l n = tree.joins k.reached k.none v r l lr n nr ∙ grows_keeps g (one_if t) k.edges (only r) k.reached k.grows r (eq-eqb r r refl)
+
+        same : (e : ℕ) → e < g.edges → on k.edges e ≡ t e
+        same = (tree_if g is_node t r k.edges k.reached ok lr k.grows all k.inside tree.size).0
+
+-- ---- a tree that grew from a node of a connected graph until no edge crossed
+-- growth along edges between nodes reaches nodes alone
+pub reached_nodes : (g : Graph) (is_node : NodeSet) (w : ℕ → ℕ) (es : List ℕ) (s t : NodeSet) → HasEveryEnd g is_node → Grows g w s es t →
+    ((v : ℕ) → s v ≡ true → is_node v ≡ true) → (v : ℕ) → t v ≡ true → is_node v ≡ true
+reached_nodes g is_node w [] s t ends h a v m = a v (ap (λ (u : NodeSet). u v) (sym h) ∙ m)
+reached_nodes g is_node w (e ∷ es) s t ends h a v m = reached_nodes g is_node w es (and_also s (far_end g s e)) t ends h.1 more v m
+  where
+    pick : (b : Bool) (p q : ℕ) → is_node p ≡ true → is_node q ≡ true → is_node (cond b p q) ≡ true
+    pick true p q h k = h
+    pick false p q h k = k
+
+    more : (v : ℕ) → and_also s (far_end g s e) v ≡ true → is_node v ≡ true
+    more v m = go (or_cases (s v) (v == far_end g s e) m)
+      where
+        go : (s v ≡ true) ⊎ ((v == far_end g s e) ≡ true) → is_node v ≡ true
+        go (inl k) = a v k
+        go (inr k) = ap is_node (eqb-true v (far_end g s e) k) ∙ pick (s (g.from e)) (g.to e) (g.from e) (ends e h.0.inside).1 (ends e h.0.inside).0
+
+both_ways : (p q : Bool) → (p ≡ true → q ≡ true) → (q ≡ true → p ≡ true) → p ≡ q
+both_ways true true f h = refl
+both_ways true false f h = let k : false ≡ true = f refl in absurd (cc)
+both_ways false true f h = let k : false ≡ true = h refl in absurd (cc)
+both_ways false false f h = refl
+
+-- such a tree has every node
+connected_all : (g : Graph) (is_node : NodeSet) (w : ℕ → ℕ) (r : ℕ) (es : List ℕ) (t : NodeSet) → r < g.nodes → IsConnected g is_node r → Grows g w (only r) es t → IsWhole g t →
+    (v : ℕ) → v < g.nodes → is_node v ≡ true → t v ≡ true
+connected_all g is_node w r es t lr c h whole v l n =
+    c.joins t (λ e m o. differ_equal (t (g.from e)) (t (g.to e)) (whole e m)) v r l lr n c.root ∙ grows_keeps g w es (only r) t h r (eq-eqb r r refl)
+
+pub connected_ends : (g : Graph) (is_node : NodeSet) (w : ℕ → ℕ) (r : ℕ) (es : List ℕ) (t : NodeSet) → IsGraph g → r < g.nodes → IsConnected g is_node r → Grows g w (only r) es t → IsWhole g t → HasEveryEnd g t
+connected_ends g is_node w r es t ok lr c h whole e l =
+    (connected_all g is_node w r es t lr c h whole (g.from e) (ok e l).0 (c.ends e l).0, connected_all g is_node w r es t lr c h whole (g.to e) (ok e l).1 (c.ends e l).1)
+
+pub connected_spans : (g : Graph) (is_node : NodeSet) (w : ℕ → ℕ) (r : ℕ) (es : List ℕ) (t : NodeSet) → IsGraph g → r < g.nodes → IsConnected g is_node r → Grows g w (only r) es t → IsWhole g t → IsSpanningTree g is_node (on es)
+connected_spans g is_node w r es t ok lr c h whole =
+    grown_spans g is_node w r es t ok lr h (λ v l. both_ways (t v) (is_node v) (inside v) (connected_all g is_node w r es t lr c h whole v l))
+  where
+    inside : (v : ℕ) → t v ≡ true → is_node v ≡ true
+    inside = reached_nodes g is_node w es (only r) t c.ends h (λ v m. ap is_node (eqb-true v r m) ∙ c.root)
+
+-- sets that have the same edges
+pub spanning_alike : (g : Graph) (is_node : NodeSet) (s t : EdgeSet) → ((e : ℕ) → e < g.edges → s e ≡ t e) → IsSpanningTree g is_node s → IsSpanningTree g is_node t
+spanning_alike g is_node s t same h = record {
+  joins = λ q n. h.joins q (λ e l o. n e l (sym (same e l) ∙ o));
+  size = ap (λ n. n + 1) (weight_same g.edges (λ e. 1) t s (λ e l. sym (same e l))) ∙ h.size;
+}

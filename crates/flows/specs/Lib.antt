@@ -1,0 +1,5 @@
+pub mod Flows
+pub mod Walks
+pub mod Trees
+pub mod Links
+pub mod Laws

@@ -1,0 +1,4 @@
+pub mod Equal
+pub mod Marks
+pub mod Members
+pub mod Rows

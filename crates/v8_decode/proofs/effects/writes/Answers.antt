@@ -1,0 +1,13 @@
+use Rattle.std.proofs.Common.{[], ◌∷◌, ap, sym, ◌∙◌}
+use Rattle.v8_decode.specs.declared.Part.TheVariants.{Y}
+use Rattle.v8_decode.specs.Effects.{when, write_set}
+use Rattle.v8_decode.specs.Parts.{set_of}
+use Rattle.v8_decode.proofs.Marks.{joined}
+use Rattle.v8_decode.proofs.effects.writes.Goals as goal
+
+pub returns-in-Alu : goal.returns-in-Alu
+returns-in-Alu c =
+    joined _ _ _ _ _ c.union-in-Alu.ensures.value
+    (joined _ _ _ _ _ c.union.ensures.value c.register-in-Alu.ensures c.part_if.ensures)
+    (c.part_if-in-Alu.ensures ∙ ap (λ test. set_of (when test (Y ∷ []))) c.takes_y.ensures)
+    ∙ sym (ap write_set c.in-Alu.is)

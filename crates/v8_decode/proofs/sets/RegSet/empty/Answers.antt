@@ -1,0 +1,7 @@
+use Rattle.std.proofs.Common.{refl}
+use Rattle.v8_decode.specs.Parts.{every_part, members}
+use Rattle.v8_decode.proofs.sets.RegSet.empty.Goals as goal
+
+pub returns : goal.returns
+unfolding every_part members
+returns c = refl

@@ -1,0 +1,302 @@
+-- The word of an instruction decodes to it.
+use Rattle.std.proofs.Common.{◌≡◌, ℕ, ◌+◌, ◌*◌, ◌%◌, ◌^◌, ◌<◌, Bool, true, false, cond, ◌&&◌, nat_lt, ◌==◌, ℤ, refl, sym, ap, ◌∙◌, arith}
+use Rattle.std.specs.Prelude.{if◌then◌else◌}
+use Rattle.std.proofs.lemmas.Bool.{and_parts, true≢false, ltb-true}
+use Rattle.v8_decode.specs.declared.Instr.{Instr}
+use Rattle.v8_decode.specs.declared.Instr.TheVariants as i
+use Rattle.v8_decode.specs.declared.Op2.{Op2}
+use Rattle.v8_decode.specs.declared.Op2.TheVariants as o
+use Rattle.v8_decode.specs.declared.AluOp.{AluOp}
+use Rattle.v8_decode.specs.declared.AluOp.TheVariants as ops
+use Rattle.v8_decode.specs.declared.LoadKind.{LoadKind}
+use Rattle.v8_decode.specs.declared.LoadKind.TheVariants as loads
+use Rattle.v8_decode.specs.declared.StoreKind.{StoreKind}
+use Rattle.v8_decode.specs.declared.StoreKind.TheVariants as stores
+use Rattle.v8_decode.specs.Words.{field, signed, rd_of, op3_of, rs1_of, cond_of, op2_of, row_of, alu, load, store, arithmetic_rows, memory_rows, arithmetic, decode_of}
+use Rattle.v8_decode.specs.Ranges.{has_even_pair, op2_in_range, operands_in_range, is_in_range}
+use Rattle.v8_decode.proofs.Rows.{decode_of-call, decode_of-format2, decode_of-arithmetic, decode_of-memory}
+use Rattle.v8_encode.specs.Encoding.{fits_signed, signed_field, op2_fits, op2_field, has_cc_form, alu_op3, load_op3, store_op3, format2, format3, has_word, word_of, annul_bit}
+use Rattle.v8_encode.proofs.Fields.{format3_fields, op2_field-lt, op2_of-field, signed_field-lt, signed-signed_field}
+
+-- the row of an operation's form
+arithmetic-row : (op : AluOp) (sets : Bool) → has_cc_form op sets ≡ true → (w : ℕ) → row_of arithmetic_rows (alu_op3 op sets) w ≡ alu op sets w
+arithmetic-row ops.ADD false h w = refl
+arithmetic-row ops.ADD true h w = refl
+arithmetic-row ops.AND false h w = refl
+arithmetic-row ops.AND true h w = refl
+arithmetic-row ops.OR false h w = refl
+arithmetic-row ops.OR true h w = refl
+arithmetic-row ops.XOR false h w = refl
+arithmetic-row ops.XOR true h w = refl
+arithmetic-row ops.SUB false h w = refl
+arithmetic-row ops.SUB true h w = refl
+arithmetic-row ops.ANDN false h w = refl
+arithmetic-row ops.ANDN true h w = refl
+arithmetic-row ops.ORN false h w = refl
+arithmetic-row ops.ORN true h w = refl
+arithmetic-row ops.XNOR false h w = refl
+arithmetic-row ops.XNOR true h w = refl
+arithmetic-row ops.ADDX false h w = refl
+arithmetic-row ops.ADDX true h w = refl
+arithmetic-row ops.UMUL false h w = refl
+arithmetic-row ops.UMUL true h w = refl
+arithmetic-row ops.SMUL false h w = refl
+arithmetic-row ops.SMUL true h w = refl
+arithmetic-row ops.SUBX false h w = refl
+arithmetic-row ops.SUBX true h w = refl
+arithmetic-row ops.UDIV false h w = refl
+arithmetic-row ops.UDIV true h w = refl
+arithmetic-row ops.SDIV false h w = refl
+arithmetic-row ops.SDIV true h w = refl
+arithmetic-row ops.TADDcc false h w = absurd (true≢false (sym h))
+arithmetic-row ops.TADDcc true h w = refl
+arithmetic-row ops.TSUBcc false h w = absurd (true≢false (sym h))
+arithmetic-row ops.TSUBcc true h w = refl
+arithmetic-row ops.TADDccTV false h w = absurd (true≢false (sym h))
+arithmetic-row ops.TADDccTV true h w = refl
+arithmetic-row ops.TSUBccTV false h w = absurd (true≢false (sym h))
+arithmetic-row ops.TSUBccTV true h w = refl
+arithmetic-row ops.MULScc false h w = absurd (true≢false (sym h))
+arithmetic-row ops.MULScc true h w = refl
+arithmetic-row ops.SLL false h w = refl
+arithmetic-row ops.SLL true h w = absurd (true≢false (sym h))
+arithmetic-row ops.SRL false h w = refl
+arithmetic-row ops.SRL true h w = absurd (true≢false (sym h))
+arithmetic-row ops.SRA false h w = refl
+arithmetic-row ops.SRA true h w = absurd (true≢false (sym h))
+
+load-row : (kind : LoadKind) (w : ℕ) → has_even_pair (i.Load kind (rd_of w) (rs1_of w) (op2_of w)) ≡ true → row_of memory_rows (load_op3 kind) w ≡ load kind w
+load-row loads.LD w h = refl
+load-row loads.LDUB w h = refl
+load-row loads.LDUH w h = refl
+load-row loads.LDD w h = ap (λ b. if b then load loads.LDD w else i.Illegal) h
+load-row loads.LDSB w h = refl
+load-row loads.LDSH w h = refl
+
+store-row : (kind : StoreKind) (w : ℕ) → has_even_pair (i.Store kind (rd_of w) (rs1_of w) (op2_of w)) ≡ true → row_of memory_rows (store_op3 kind) w ≡ store kind w
+store-row stores.ST w h = refl
+store-row stores.STB w h = refl
+store-row stores.STH w h = refl
+store-row stores.STD w h = ap (λ b. if b then store stores.STD w else i.Illegal) h
+
+alu_op3-lt : (op : AluOp) (sets : Bool) → alu_op3 op sets < 64
+alu_op3-lt ops.ADD true = omega arith
+alu_op3-lt ops.ADD false = omega arith
+alu_op3-lt ops.AND true = omega arith
+alu_op3-lt ops.AND false = omega arith
+alu_op3-lt ops.OR true = omega arith
+alu_op3-lt ops.OR false = omega arith
+alu_op3-lt ops.XOR true = omega arith
+alu_op3-lt ops.XOR false = omega arith
+alu_op3-lt ops.SUB true = omega arith
+alu_op3-lt ops.SUB false = omega arith
+alu_op3-lt ops.ANDN true = omega arith
+alu_op3-lt ops.ANDN false = omega arith
+alu_op3-lt ops.ORN true = omega arith
+alu_op3-lt ops.ORN false = omega arith
+alu_op3-lt ops.XNOR true = omega arith
+alu_op3-lt ops.XNOR false = omega arith
+alu_op3-lt ops.ADDX true = omega arith
+alu_op3-lt ops.ADDX false = omega arith
+alu_op3-lt ops.UMUL true = omega arith
+alu_op3-lt ops.UMUL false = omega arith
+alu_op3-lt ops.SMUL true = omega arith
+alu_op3-lt ops.SMUL false = omega arith
+alu_op3-lt ops.SUBX true = omega arith
+alu_op3-lt ops.SUBX false = omega arith
+alu_op3-lt ops.UDIV true = omega arith
+alu_op3-lt ops.UDIV false = omega arith
+alu_op3-lt ops.SDIV true = omega arith
+alu_op3-lt ops.SDIV false = omega arith
+alu_op3-lt ops.TADDcc sets = omega arith
+alu_op3-lt ops.TSUBcc sets = omega arith
+alu_op3-lt ops.TADDccTV sets = omega arith
+alu_op3-lt ops.TSUBccTV sets = omega arith
+alu_op3-lt ops.MULScc sets = omega arith
+alu_op3-lt ops.SLL sets = omega arith
+alu_op3-lt ops.SRL sets = omega arith
+alu_op3-lt ops.SRA sets = omega arith
+
+load_op3-lt : (kind : LoadKind) → load_op3 kind < 64
+load_op3-lt loads.LD = omega arith
+load_op3-lt loads.LDUB = omega arith
+load_op3-lt loads.LDUH = omega arith
+load_op3-lt loads.LDD = omega arith
+load_op3-lt loads.LDSB = omega arith
+load_op3-lt loads.LDSH = omega arith
+
+store_op3-lt : (kind : StoreKind) → store_op3 kind < 64
+store_op3-lt stores.ST = omega arith
+store_op3-lt stores.STB = omega arith
+store_op3-lt stores.STH = omega arith
+store_op3-lt stores.STD = omega arith
+
+-- whether a doubleword's rd is even rests on rd alone
+load_pair : (kind : LoadKind) (r rd rs1 : ℕ) (op2 : Op2) (w : ℕ) → r ≡ rd → has_even_pair (i.Load kind rd rs1 op2) ≡ true → has_even_pair (i.Load kind r (rs1_of w) (op2_of w)) ≡ true
+load_pair loads.LD r rd rs1 op2 w e h = refl
+load_pair loads.LDUB r rd rs1 op2 w e h = refl
+load_pair loads.LDUH r rd rs1 op2 w e h = refl
+load_pair loads.LDD r rd rs1 op2 w e h = ap (λ x. x % 2 == 0) e ∙ h
+load_pair loads.LDSB r rd rs1 op2 w e h = refl
+load_pair loads.LDSH r rd rs1 op2 w e h = refl
+
+store_pair : (kind : StoreKind) (r rd rs1 : ℕ) (op2 : Op2) (w : ℕ) → r ≡ rd → has_even_pair (i.Store kind rd rs1 op2) ≡ true → has_even_pair (i.Store kind r (rs1_of w) (op2_of w)) ≡ true
+store_pair stores.ST r rd rs1 op2 w e h = refl
+store_pair stores.STB r rd rs1 op2 w e h = refl
+store_pair stores.STH r rd rs1 op2 w e h = refl
+store_pair stores.STD r rd rs1 op2 w e h = ap (λ x. x % 2 == 0) e ∙ h
+
+-- what a word of format 3 says of its fields
+record Says (op rd op3 rs1 : ℕ) (op2 : Op2) (w : ℕ) : Type 0 where
+  the_op : field w 30 2 ≡ op
+  the_rd : rd_of w ≡ rd
+  the_op3 : op3_of w ≡ op3
+  the_rs1 : rs1_of w ≡ rs1
+  the_op2 : op2_of w ≡ op2
+
+says : (op rd op3 rs1 : ℕ) (op2 : Op2) → op < 4 → rd < 32 → op3 < 64 → operands_in_range rs1 op2 ≡ true → op2_fits op2 ≡ true
+    → Says op rd op3 rs1 op2 (format3 op rd op3 rs1 op2)
+says op rd op3 rs1 op2 h0 h1 h2 range fits =
+    let parts = and_parts (nat_lt rs1 32) (op2_in_range op2) range in
+    let fields = format3_fields op rd op3 rs1 (op2_field op2) h0 h1 h2 (ltb-true rs1 32 parts.0) (op2_field-lt op2 fits parts.1) in
+    record {
+      the_op = fields.the_op;
+      the_rd = fields.the_rd;
+      the_op3 = fields.the_op3;
+      the_rs1 = fields.the_rs1;
+      the_op2 = op2_of-field op2 (format3 op rd op3 rs1 op2) fits parts.1 fields.the_low;
+    }
+
+operands : {op rd op3 rs1 : ℕ} {op2 : Op2} {w : ℕ} → (row : ℕ → Op2 → Instr) → Says op rd op3 rs1 op2 w → row (rs1_of w) (op2_of w) ≡ row rs1 op2
+operands {rs1 = rs1} {w = w} row s = ap (λ x. row x (op2_of w)) s.the_rs1 ∙ ap (λ x. row rs1 x) s.the_op2
+
+all_fields : {op rd op3 rs1 : ℕ} {op2 : Op2} {w : ℕ} → (row : ℕ → ℕ → Op2 → Instr) → Says op rd op3 rs1 op2 w → row (rd_of w) (rs1_of w) (op2_of w) ≡ row rd rs1 op2
+all_fields {rd = rd} {w = w} row s = ap (λ x. row x (rs1_of w) (op2_of w)) s.the_rd ∙ operands (row rd) s
+
+-- an arithmetic word with rd, rs1 and op2
+decoded3 : (row : ℕ → ℕ → Op2 → Instr) (rd op3 rs1 : ℕ) (op2 : Op2) → op3 < 64
+    → ((w : ℕ) → row_of arithmetic_rows op3 w ≡ row (rd_of w) (rs1_of w) (op2_of w))
+    → (nat_lt rd 32 && operands_in_range rs1 op2) ≡ true → op2_fits op2 ≡ true → decode_of (format3 2 rd op3 rs1 op2) ≡ row rd rs1 op2
+decoded3 row rd op3 rs1 op2 below is range fits =
+    let parts = and_parts (nat_lt rd 32) (operands_in_range rs1 op2) range in
+    let s = says 2 rd op3 rs1 op2 (omega arith) (ltb-true rd 32 parts.0) below parts.1 fits in
+    decode_of-arithmetic (format3 2 rd op3 rs1 op2) op3 s.the_op s.the_op3 ∙ is (format3 2 rd op3 rs1 op2) ∙ all_fields row s
+
+-- a word of table F-4 with rd, rs1 and op2
+decoded_memory : (row : ℕ → ℕ → Op2 → Instr) (rd op3 rs1 : ℕ) (op2 : Op2) → op3 < 64
+    → ((w : ℕ) → rd_of w ≡ rd → row_of memory_rows op3 w ≡ row (rd_of w) (rs1_of w) (op2_of w))
+    → (nat_lt rd 32 && operands_in_range rs1 op2) ≡ true → op2_fits op2 ≡ true → decode_of (format3 3 rd op3 rs1 op2) ≡ row rd rs1 op2
+decoded_memory row rd op3 rs1 op2 below is range fits =
+    let parts = and_parts (nat_lt rd 32) (operands_in_range rs1 op2) range in
+    let s = says 3 rd op3 rs1 op2 (omega arith) (ltb-true rd 32 parts.0) below parts.1 fits in
+    decode_of-memory (format3 3 rd op3 rs1 op2) op3 s.the_op s.the_op3 ∙ is (format3 3 rd op3 rs1 op2) s.the_rd ∙ all_fields row s
+
+annul_bit-is : (annul : Bool) → (annul_bit annul == 1) ≡ annul
+annul_bit-is true = refl
+annul_bit-is false = refl
+
+annul_bit-lt : (annul : Bool) → annul_bit annul < 2
+annul_bit-lt true = omega arith
+annul_bit-lt false = omega arith
+
+decoded_sethi : (rd imm22 : ℕ) → nat_lt rd 32 ≡ true → nat_lt imm22 (2 ^ 22) ≡ true → decode_of (format2 rd 4 imm22) ≡ i.Sethi rd imm22
+decoded_sethi rd imm22 range fits =
+    let number = ltb-true rd 32 range in
+    let value = ltb-true imm22 (2 ^ 22) fits in
+    let w = format2 rd 4 imm22 in
+    let op : field w 30 2 ≡ 0 = omega arith in
+    let op2 : field w 22 3 ≡ 4 = omega arith in
+    let the_rd : rd_of w ≡ rd = omega arith in
+    let the_imm22 : field w 0 22 ≡ imm22 = omega arith in
+    decode_of-format2 w 4 op op2 ∙ ap (λ x. i.Sethi x (field w 0 22)) the_rd ∙ ap (λ x. i.Sethi rd x) the_imm22
+
+decoded_branch : (cond : ℕ) (annul : Bool) (disp22 : ℤ) → nat_lt cond 16 ≡ true → fits_signed 22 disp22 ≡ true
+    → decode_of (format2 (annul_bit annul * 2 ^ 4 + cond) 2 (signed_field 22 disp22)) ≡ i.Branch cond annul disp22
+decoded_branch cond annul disp22 range fits =
+    let number = ltb-true cond 16 range in
+    let bit = annul_bit-lt annul in
+    let value = signed_field-lt 22 disp22 refl fits in
+    let w = format2 (annul_bit annul * 2 ^ 4 + cond) 2 (signed_field 22 disp22) in
+    let op : field w 30 2 ≡ 0 = omega arith in
+    let op2 : field w 22 3 ≡ 2 = omega arith in
+    let the_cond : cond_of w ≡ cond = omega arith in
+    let the_annul : field w 29 1 ≡ annul_bit annul = omega arith in
+    let the_disp22 : field w 0 22 ≡ signed_field 22 disp22 = omega arith in
+    decode_of-format2 w 2 op op2
+    ∙ ap (λ x. i.Branch x (field w 29 1 == 1) (signed 22 (field w 0 22))) the_cond
+    ∙ ap (λ x. i.Branch cond (x == 1) (signed 22 (field w 0 22))) the_annul
+    ∙ ap (λ b. i.Branch cond b (signed 22 (field w 0 22))) (annul_bit-is annul)
+    ∙ ap (λ x. i.Branch cond annul (signed 22 x)) the_disp22
+    ∙ ap (λ z. i.Branch cond annul z) (signed-signed_field 22 disp22 refl fits)
+
+decoded_call : (disp30 : ℤ) → fits_signed 30 disp30 ≡ true → decode_of (2 ^ 30 + signed_field 30 disp30) ≡ i.Call disp30
+decoded_call disp30 fits =
+    let value = signed_field-lt 30 disp30 refl fits in
+    let w = 2 ^ 30 + signed_field 30 disp30 in
+    let op : field w 30 2 ≡ 1 = omega arith in
+    let the_disp30 : field w 0 30 ≡ signed_field 30 disp30 = omega arith in
+    decode_of-call w op ∙ ap (λ x. i.Call (signed 30 x)) the_disp30 ∙ ap i.Call (signed-signed_field 30 disp30 refl fits)
+
+decoded_read_y : (rd : ℕ) → nat_lt rd 32 ≡ true → decode_of (format3 2 rd 0x28 0 (o.Reg 0)) ≡ i.ReadY rd
+decoded_read_y rd range =
+    let s = says 2 rd 0x28 0 (o.Reg 0) (omega arith) (ltb-true rd 32 range) (omega arith) refl refl in
+    let w = format3 2 rd 0x28 0 (o.Reg 0) in
+    decode_of-arithmetic w 0x28 s.the_op s.the_op3
+    ∙ ap (λ x. if x == 0 then i.ReadY (rd_of w) else (if x == 15 then (if rd_of w == 0 then i.Stbar else i.Illegal) else i.Illegal)) s.the_rs1
+    ∙ ap i.ReadY s.the_rd
+
+decoded_stbar : decode_of (word_of i.Stbar) ≡ i.Stbar
+unfolding decode_of arithmetic
+decoded_stbar = refl
+
+decoded_write_y : (rs1 : ℕ) (op2 : Op2) → operands_in_range rs1 op2 ≡ true → op2_fits op2 ≡ true → decode_of (format3 2 0 0x30 rs1 op2) ≡ i.WriteY rs1 op2
+decoded_write_y rs1 op2 range fits =
+    let s = says 2 0 0x30 rs1 op2 (omega arith) (omega arith) (omega arith) range fits in
+    let w = format3 2 0 0x30 rs1 op2 in
+    decode_of-arithmetic w 0x30 s.the_op s.the_op3
+    ∙ ap (λ x. if x == 0 then i.WriteY (rs1_of w) (op2_of w) else i.Illegal) s.the_rd
+    ∙ operands i.WriteY s
+
+decoded_flush : (rs1 : ℕ) (op2 : Op2) → operands_in_range rs1 op2 ≡ true → op2_fits op2 ≡ true → decode_of (format3 2 0 0x3b rs1 op2) ≡ i.Flush rs1 op2
+decoded_flush rs1 op2 range fits =
+    let s = says 2 0 0x3b rs1 op2 (omega arith) (omega arith) (omega arith) range fits in
+    decode_of-arithmetic (format3 2 0 0x3b rs1 op2) 0x3b s.the_op s.the_op3 ∙ operands i.Flush s
+
+decoded_ticc : (cond rs1 : ℕ) (op2 : Op2) → (nat_lt cond 16 && operands_in_range rs1 op2) ≡ true → op2_fits op2 ≡ true
+    → decode_of (format3 2 cond 0x3a rs1 op2) ≡ i.Ticc cond rs1 op2
+decoded_ticc cond rs1 op2 range fits =
+    let parts = and_parts (nat_lt cond 16) (operands_in_range rs1 op2) range in
+    let number = ltb-true cond 16 parts.0 in
+    let s = says 2 cond 0x3a rs1 op2 (omega arith) (omega arith) (omega arith) parts.1 fits in
+    let w = format3 2 cond 0x3a rs1 op2 in
+    let the_rd = s.the_rd in
+    let the_cond : cond_of w ≡ cond = omega arith in
+    decode_of-arithmetic w 0x3a s.the_op s.the_op3 ∙ ap (λ x. i.Ticc x (rs1_of w) (op2_of w)) the_cond ∙ operands (i.Ticc cond) s
+
+pub decode_of-word_of : (instr : Instr) → is_in_range instr ≡ true → has_word instr ≡ true → decode_of (word_of instr) ≡ instr
+decode_of-word_of (i.Sethi rd imm22) range has = decoded_sethi rd imm22 range has
+decode_of-word_of (i.Branch cond annul disp22) range has = decoded_branch cond annul disp22 range has
+decode_of-word_of (i.Call disp30) range has = decoded_call disp30 has
+decode_of-word_of (i.Alu op sets rd rs1 op2) range has =
+    let parts = and_parts (has_cc_form op sets) (op2_fits op2) has in
+    decoded3 (i.Alu op sets) rd (alu_op3 op sets) rs1 op2 (alu_op3-lt op sets) (arithmetic-row op sets parts.0) range parts.1
+decode_of-word_of (i.ReadY rd) range has = decoded_read_y rd range
+decode_of-word_of (i.WriteY rs1 op2) range has = decoded_write_y rs1 op2 range has
+decode_of-word_of (i.Jmpl rd rs1 op2) range has = decoded3 i.Jmpl rd 0x38 rs1 op2 (omega arith) (λ w. refl) range has
+decode_of-word_of (i.Ticc cond rs1 op2) range has = decoded_ticc cond rs1 op2 range has
+decode_of-word_of (i.Flush rs1 op2) range has = decoded_flush rs1 op2 range has
+decode_of-word_of i.Stbar range has = decoded_stbar
+decode_of-word_of (i.Save rd rs1 op2) range has = decoded3 i.Save rd 0x3c rs1 op2 (omega arith) (λ w. refl) range has
+decode_of-word_of (i.Restore rd rs1 op2) range has = decoded3 i.Restore rd 0x3d rs1 op2 (omega arith) (λ w. refl) range has
+decode_of-word_of (i.Load kind rd rs1 op2) range has =
+    let parts = and_parts (has_even_pair (i.Load kind rd rs1 op2)) (op2_fits op2) has in
+    decoded_memory (i.Load kind) rd (load_op3 kind) rs1 op2 (load_op3-lt kind) (λ w the_rd. load-row kind w (load_pair kind (rd_of w) rd rs1 op2 w the_rd parts.0)) range parts.1
+decode_of-word_of (i.Store kind rd rs1 op2) range has =
+    let parts = and_parts (has_even_pair (i.Store kind rd rs1 op2)) (op2_fits op2) has in
+    decoded_memory (i.Store kind) rd (store_op3 kind) rs1 op2 (store_op3-lt kind) (λ w the_rd. store-row kind w (store_pair kind (rd_of w) rd rs1 op2 w the_rd parts.0)) range parts.1
+decode_of-word_of (i.Ldstub rd rs1 op2) range has = decoded_memory i.Ldstub rd 0x0d rs1 op2 (omega arith) (λ w _. refl) range has
+decode_of-word_of (i.Swap rd rs1 op2) range has = decoded_memory i.Swap rd 0x0f rs1 op2 (omega arith) (λ w _. refl) range has
+decode_of-word_of i.Illegal range has = absurd (true≢false (sym has))
+decode_of-word_of i.Privileged range has = absurd (true≢false (sym has))
+decode_of-word_of i.FpOff range has = absurd (true≢false (sym has))
+decode_of-word_of i.CpOff range has = absurd (true≢false (sym has))

@@ -1,0 +1,4 @@
+pub mod Decoded
+pub mod Encoded
+pub mod Fields
+pub mod Ignored

@@ -1,0 +1,205 @@
+-- The word of an instruction, by the formats of section 5.2 and the opcodes of appendix F of The SPARC Architecture Manual, Version 8.
+use Rattle.std.specs.Prelude.{◌≡◌, ℕ, suc, ◌+◌, ◌-◌, ◌*◌, ◌^◌, ◌<◌, IsTrue, Bool, true, false, not, ◌&&◌, List, [], ◌∷◌, Option, Some, None, ℤ, pos, negsuc, nat_lt, if◌then◌else◌, refl}
+use Rattle.v8_decode.specs.declared.Instr.{Instr}
+use Rattle.v8_decode.specs.declared.Instr.TheVariants as i
+use Rattle.v8_decode.specs.declared.Op2.{Op2}
+use Rattle.v8_decode.specs.declared.Op2.TheVariants as o
+use Rattle.v8_decode.specs.declared.AluOp.{AluOp}
+use Rattle.v8_decode.specs.declared.AluOp.TheVariants as ops
+use Rattle.v8_decode.specs.declared.LoadKind.{LoadKind}
+use Rattle.v8_decode.specs.declared.LoadKind.TheVariants as loads
+use Rattle.v8_decode.specs.declared.StoreKind.{StoreKind}
+use Rattle.v8_decode.specs.declared.StoreKind.TheVariants as stores
+use Rattle.v8_decode.specs.Words.{field, decode_of}
+use Rattle.v8_decode.specs.Ranges.{has_even_pair}
+
+-- whether a number fits a field of `width` bits in two's complement
+abbrev pub fits_signed : ℕ → ℤ → Bool
+fits_signed width (pos n) = nat_lt n (2 ^ (width - 1))
+fits_signed width (negsuc n) = nat_lt n (2 ^ (width - 1))
+
+-- the field of `width` bits that holds it
+abbrev pub signed_field : ℕ → ℤ → ℕ
+signed_field width (pos n) = n
+signed_field width (negsuc n) = 2 ^ width - suc n
+
+abbrev pub op2_fits : Op2 → Bool
+op2_fits (o.Reg rs2) = true
+op2_fits (o.Imm simm13) = fits_signed 13 simm13
+
+-- bits 13 to 0 of format 3: i and rs2, or i and simm13
+abbrev pub op2_field : Op2 → ℕ
+op2_field (o.Reg rs2) = rs2
+op2_field (o.Imm simm13) = 2 ^ 13 + signed_field 13 simm13
+
+abbrev pub format3 : ℕ → ℕ → ℕ → ℕ → Op2 → ℕ
+format3 op rd op3 rs1 op2 = op * 2 ^ 30 + rd * 2 ^ 25 + op3 * 2 ^ 19 + rs1 * 2 ^ 14 + op2_field op2
+
+-- format 2, where `high` is bits 29 to 25: rd, or annul and cond
+abbrev pub format2 : ℕ → ℕ → ℕ → ℕ
+format2 high op2 low = high * 2 ^ 25 + op2 * 2 ^ 22 + low
+
+-- operations that always set codes, and those that never do; the others have both forms
+abbrev pub always_sets_codes : AluOp → Bool
+always_sets_codes ops.TADDcc = true
+always_sets_codes ops.TSUBcc = true
+always_sets_codes ops.TADDccTV = true
+always_sets_codes ops.TSUBccTV = true
+always_sets_codes ops.MULScc = true
+always_sets_codes _ = false
+
+abbrev pub never_sets_codes : AluOp → Bool
+never_sets_codes ops.SLL = true
+never_sets_codes ops.SRL = true
+never_sets_codes ops.SRA = true
+never_sets_codes _ = false
+
+abbrev pub has_cc_form : AluOp → Bool → Bool
+has_cc_form op true = not (never_sets_codes op)
+has_cc_form op false = not (always_sets_codes op)
+
+-- the op3 of the form that leaves the codes, and 0x10 more for the form that sets them (table F-3)
+abbrev pub with_cc : ℕ → Bool → ℕ
+with_cc op3 true = op3 + 0x10
+with_cc op3 false = op3
+
+abbrev pub alu_op3 : AluOp → Bool → ℕ
+alu_op3 ops.ADD cc = with_cc 0x00 cc
+alu_op3 ops.AND cc = with_cc 0x01 cc
+alu_op3 ops.OR cc = with_cc 0x02 cc
+alu_op3 ops.XOR cc = with_cc 0x03 cc
+alu_op3 ops.SUB cc = with_cc 0x04 cc
+alu_op3 ops.ANDN cc = with_cc 0x05 cc
+alu_op3 ops.ORN cc = with_cc 0x06 cc
+alu_op3 ops.XNOR cc = with_cc 0x07 cc
+alu_op3 ops.ADDX cc = with_cc 0x08 cc
+alu_op3 ops.UMUL cc = with_cc 0x0a cc
+alu_op3 ops.SMUL cc = with_cc 0x0b cc
+alu_op3 ops.SUBX cc = with_cc 0x0c cc
+alu_op3 ops.UDIV cc = with_cc 0x0e cc
+alu_op3 ops.SDIV cc = with_cc 0x0f cc
+alu_op3 ops.TADDcc cc = 0x20
+alu_op3 ops.TSUBcc cc = 0x21
+alu_op3 ops.TADDccTV cc = 0x22
+alu_op3 ops.TSUBccTV cc = 0x23
+alu_op3 ops.MULScc cc = 0x24
+alu_op3 ops.SLL cc = 0x25
+alu_op3 ops.SRL cc = 0x26
+alu_op3 ops.SRA cc = 0x27
+
+-- table F-4
+abbrev pub load_op3 : LoadKind → ℕ
+load_op3 loads.LD = 0x00
+load_op3 loads.LDUB = 0x01
+load_op3 loads.LDUH = 0x02
+load_op3 loads.LDD = 0x03
+load_op3 loads.LDSB = 0x09
+load_op3 loads.LDSH = 0x0a
+
+abbrev pub store_op3 : StoreKind → ℕ
+store_op3 stores.ST = 0x04
+store_op3 stores.STB = 0x05
+store_op3 stores.STH = 0x06
+store_op3 stores.STD = 0x07
+
+-- Whether some word is this instruction: each immediate is within its field, the operation has the form
+-- that sets codes or the one that leaves them, and a doubleword's rd is even.
+abbrev pub has_word : Instr → Bool
+has_word (i.Sethi rd imm22) = nat_lt imm22 (2 ^ 22)
+has_word (i.Branch cond annul disp22) = fits_signed 22 disp22
+has_word (i.Call disp30) = fits_signed 30 disp30
+has_word (i.Alu op cc rd rs1 op2) = has_cc_form op cc && op2_fits op2
+has_word (i.ReadY rd) = true
+has_word (i.WriteY rs1 op2) = op2_fits op2
+has_word (i.Jmpl rd rs1 op2) = op2_fits op2
+has_word (i.Ticc cond rs1 op2) = op2_fits op2
+has_word (i.Flush rs1 op2) = op2_fits op2
+has_word i.Stbar = true
+has_word (i.Save rd rs1 op2) = op2_fits op2
+has_word (i.Restore rd rs1 op2) = op2_fits op2
+has_word (i.Load kind rd rs1 op2) = has_even_pair (i.Load kind rd rs1 op2) && op2_fits op2
+has_word (i.Store kind rd rs1 op2) = has_even_pair (i.Store kind rd rs1 op2) && op2_fits op2
+has_word (i.Ldstub rd rs1 op2) = op2_fits op2
+has_word (i.Swap rd rs1 op2) = op2_fits op2
+has_word i.Illegal = false
+has_word i.Privileged = false
+has_word i.FpOff = false
+has_word i.CpOff = false
+
+abbrev pub annul_bit : Bool → ℕ
+annul_bit true = 1
+annul_bit false = 0
+
+-- its word, with 0 in each bit that its form does not use
+abbrev pub word_of : Instr → ℕ
+word_of (i.Sethi rd imm22) = format2 rd 4 imm22  -- B.9
+word_of (i.Branch cond annul disp22) = format2 (annul_bit annul * 2 ^ 4 + cond) 2 (signed_field 22 disp22)  -- B.21
+word_of (i.Call disp30) = 2 ^ 30 + signed_field 30 disp30  -- B.24
+word_of (i.Alu op cc rd rs1 op2) = format3 2 rd (alu_op3 op cc) rs1 op2  -- B.11 to B.19
+word_of (i.ReadY rd) = format3 2 rd 0x28 0 (o.Reg 0)  -- B.28
+word_of (i.WriteY rs1 op2) = format3 2 0 0x30 rs1 op2  -- B.29
+word_of (i.Jmpl rd rs1 op2) = format3 2 rd 0x38 rs1 op2  -- B.25
+word_of (i.Ticc cond rs1 op2) = format3 2 cond 0x3a rs1 op2  -- B.27
+word_of (i.Flush rs1 op2) = format3 2 0 0x3b rs1 op2  -- B.32
+word_of i.Stbar = format3 2 0 0x28 15 (o.Reg 0)  -- B.30
+word_of (i.Save rd rs1 op2) = format3 2 rd 0x3c rs1 op2  -- B.20
+word_of (i.Restore rd rs1 op2) = format3 2 rd 0x3d rs1 op2  -- B.20
+word_of (i.Load kind rd rs1 op2) = format3 3 rd (load_op3 kind) rs1 op2  -- B.1
+word_of (i.Store kind rd rs1 op2) = format3 3 rd (store_op3 kind) rs1 op2  -- B.4
+word_of (i.Ldstub rd rs1 op2) = format3 3 rd 0x0d rs1 op2  -- B.7
+word_of (i.Swap rd rs1 op2) = format3 3 rd 0x0f rs1 op2  -- B.8
+word_of i.Illegal = 0
+word_of i.Privileged = 0
+word_of i.FpOff = 0
+word_of i.CpOff = 0
+
+unfoldable pub encode_of : Instr → Option ℕ
+encode_of instr = if has_word instr then Some (word_of instr) else None
+
+-- whether it is an instruction that runs here
+abbrev pub is_instruction : Instr → Bool
+is_instruction i.Illegal = false
+is_instruction i.Privileged = false
+is_instruction i.FpOff = false
+is_instruction i.CpOff = false
+is_instruction _ = true
+
+-- The fields that a form ignores, each as its lowest bit and its width: bits 12 to 5 beside rs2, the
+-- reserved bit 29 of Ticc, all below rs1 in RDY and STBAR, rd of FLUSH.
+abbrev pub ignored_beside : Op2 → List (ℕ × ℕ)
+ignored_beside (o.Reg rs2) = (5, 8) ∷ []
+ignored_beside (o.Imm simm13) = []
+
+abbrev pub ignored_of : Instr → List (ℕ × ℕ)
+ignored_of (i.Alu op cc rd rs1 op2) = ignored_beside op2
+ignored_of (i.ReadY rd) = (0, 14) ∷ []
+ignored_of (i.WriteY rs1 op2) = ignored_beside op2
+ignored_of (i.Jmpl rd rs1 op2) = ignored_beside op2
+ignored_of (i.Ticc cond rs1 op2) = (29, 1) ∷ ignored_beside op2
+ignored_of (i.Flush rs1 op2) = (25, 5) ∷ ignored_beside op2
+ignored_of i.Stbar = (0, 14) ∷ []
+ignored_of (i.Save rd rs1 op2) = ignored_beside op2
+ignored_of (i.Restore rd rs1 op2) = ignored_beside op2
+ignored_of (i.Load kind rd rs1 op2) = ignored_beside op2
+ignored_of (i.Store kind rd rs1 op2) = ignored_beside op2
+ignored_of (i.Ldstub rd rs1 op2) = ignored_beside op2
+ignored_of (i.Swap rd rs1 op2) = ignored_beside op2
+ignored_of _ = []
+
+-- a word with 0 in each of these fields
+abbrev pub cleared : List (ℕ × ℕ) → ℕ → ℕ
+cleared [] w = w
+cleared (f ∷ fields) w = cleared fields (w - field w f.0 f.1 * 2 ^ f.0)
+
+-- what an instruction's encoding is for each word that decodes to it
+abbrev pub EncodesAgain : Instr → Option ℕ → Type 0
+EncodesAgain instr encoded = (w : ℕ) → w < 2 ^ 32 → decode_of w ≡ instr → IsTrue (is_instruction instr) → encoded ≡ Some (cleared (ignored_of instr) w)
+
+-- The words compute.
+subtract_one : encode_of (i.Alu ops.SUBX false 8 0 (o.Imm (negsuc 0))) ≡ Some 0x90603fff
+unfolding encode_of
+subtract_one = refl
+
+too_wide : encode_of (i.Sethi 1 4194304) ≡ None
+unfolding encode_of
+too_wide = refl
