@@ -12,9 +12,6 @@ ghost use Rattle.flow_tree.specs.Tree.{edges_of, edges_in, reached_by, IsGrown};
 ghost use Rattle.flow_rebuild.specs.Excess.{excess};
 ghost use Rattle.flow_rebuild.specs.Values.{int_at, abs_sum, other_node, carries, added, passed};
 
-#[cfg(test)]
-mod tests;
-
 use flow_tree::{Join, Tree};
 use flows::Link;
 use std::alloc::{AllocError, Global};
@@ -40,7 +37,8 @@ fn settle(values: &mut Vec<i128>, excess: &mut Vec<i128>, link: Link, edge: usiz
     requires to { link.to < length excess.old.items }
     requires node { node < length excess.old.items }
     requires small { abs_sum excess.old.items < 2 ^ 126 }
-    ensures values { values.new.items ≡ slice_set values.old.items edge (carries link node (int_at excess.old.items node)) }
+    ensures values { values.new.items ≡
+        slice_set values.old.items edge (carries link node (int_at excess.old.items node)) }
     ensures excess { excess.new.items ≡
         slice_set (added excess.old.items (other_node link node) (int_at excess.old.items node)) node (pos 0) }
 {
@@ -176,3 +174,6 @@ pub fn rebuild(
     }
     Ok(flow)
 }
+
+#[cfg(test)]
+mod tests;
