@@ -1,3 +1,5 @@
 pub mod Lines
 pub mod Plans
+pub mod FaithfulEdits
 pub mod WordsBytes
+pub mod WrittenFacts
