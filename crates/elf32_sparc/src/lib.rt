@@ -8,10 +8,9 @@ mod header;
 mod program;
 mod survey;
 mod table;
-mod verdicts;
-
 #[cfg(test)]
 mod tests;
+mod verdicts;
 
 pub use fault::{FileFault, ReadFault};
 pub use flags::SegFlags;
