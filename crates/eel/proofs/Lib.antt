@@ -1,4 +1,6 @@
 pub mod Lines
+pub mod Mapped
+pub mod PlacedWords
 pub mod Plans
 pub mod FaithfulEdits
 pub mod WordsBytes
