@@ -5,3 +5,4 @@ pub mod WordsBytes
 pub mod WrittenFacts
 pub mod Part
 pub mod WrittenParts
+pub mod WrittenHeader
