@@ -38,7 +38,7 @@ pub length-halves_bytes : (hs : List ℕ) → length (halves_bytes hs) ≡ 2 * l
 unfolding halves_bytes
 length-halves_bytes hs = length-flat_map (big_bytes 2) 2 (length-bytes_high_first 2) hs
 
-length-program_header : (h : ProgramHeader) → length (program_header h) ≡ 32
+pub length-program_header : (h : ProgramHeader) → length (program_header h) ≡ 32
 unfolding program_header
 length-program_header h = length-words_bytes (h.p_type ∷ h.p_offset ∷ h.p_vaddr ∷ h.p_paddr ∷ h.p_filesz ∷ h.p_memsz ∷ h.p_flags ∷ h.p_align ∷ [])
 
