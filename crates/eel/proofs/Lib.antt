@@ -5,3 +5,6 @@ pub mod Plans
 pub mod FaithfulEdits
 pub mod WordsBytes
 pub mod WrittenFacts
+pub mod Part
+pub mod WrittenParts
+pub mod WrittenHeader
