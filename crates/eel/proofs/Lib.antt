@@ -3,3 +3,5 @@ pub mod Plans
 pub mod FaithfulEdits
 pub mod WordsBytes
 pub mod WrittenFacts
+pub mod Carried
+pub mod PlanFacts
