@@ -1,10 +1,12 @@
+pub mod Carried
+pub mod FaithfulEdits
 pub mod Lines
 pub mod Mapped
+pub mod Part
 pub mod PlacedWords
+pub mod PlanFacts
 pub mod Plans
-pub mod FaithfulEdits
 pub mod WordsBytes
 pub mod WrittenFacts
-pub mod Part
-pub mod WrittenParts
 pub mod WrittenHeader
+pub mod WrittenParts
