@@ -3,3 +3,4 @@ pub mod Plans
 pub mod FaithfulEdits
 pub mod WordsBytes
 pub mod WrittenFacts
+pub mod NoteWords
