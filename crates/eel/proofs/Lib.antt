@@ -4,3 +4,4 @@ pub mod FaithfulEdits
 pub mod WordsBytes
 pub mod WrittenFacts
 pub mod NoteWords
+pub mod NoteRanges
