@@ -5,3 +5,4 @@ pub mod WordsBytes
 pub mod WrittenFacts
 pub mod NoteWords
 pub mod NoteRanges
+pub mod ReadNotes
