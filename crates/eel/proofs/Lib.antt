@@ -2,10 +2,13 @@ pub mod Carried
 pub mod FaithfulEdits
 pub mod Lines
 pub mod Mapped
+pub mod NoteRanges
+pub mod NoteWords
 pub mod Part
 pub mod PlacedWords
 pub mod PlanFacts
 pub mod Plans
+pub mod ReadNotes
 pub mod WordsBytes
 pub mod WrittenFacts
 pub mod WrittenHeader
