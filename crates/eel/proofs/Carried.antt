@@ -19,8 +19,8 @@ is_carried-loadable h loads =
     let kind : h.p_type ≡ 1 = eqb-true h.p_type 1 parts.0 in
     let some : 0 < h.p_memsz = ltb-true 0 h.p_memsz parts.1 in
     and_from (not (nat_eq h.p_type 6)) (not (is_load h && nat_eq h.p_memsz 0))
-      (not_from_false (nat_eq h.p_type 6) (ne_eqb h.p_type 6 (λ e. omega arith)))
-      (not_from_false (is_load h && nat_eq h.p_memsz 0) (and_right (is_load h) (nat_eq h.p_memsz 0) (ne_eqb h.p_memsz 0 (λ e. omega arith))))
+    (not_from_false (nat_eq h.p_type 6) (ne_eqb h.p_type 6 (λ e. omega arith)))
+    (not_from_false (is_load h && nat_eq h.p_memsz 0) (and_right (is_load h) (nat_eq h.p_memsz 0) (ne_eqb h.p_memsz 0 (λ e. omega arith))))
 
 -- one header more
 carried_more : (f : ProgramHeader → ProgramHeader) (h : ProgramHeader) (kept all : List ProgramHeader) (carried loads : Bool) → (loads ≡ true → carried ≡ true) → is_loadable (f h) ≡ loads → filter is_loadable (map f kept) ≡ map f all → filter is_loadable (map f (cond carried (h ∷ kept) kept)) ≡ map f (cond loads (h ∷ all) all)

@@ -19,6 +19,11 @@ use Rattle.eel.specs.Written.{Plan, IsSmall, count, added_headers, segment_heade
 use Rattle.eel.specs.Faithful.{IsFaithful, IsWhole, HasPages, IsPage, IsPlace, kept, note_of, word_mapped}
 use Rattle.eel.proofs.WrittenFacts.{IsPlan, HeaderFacts, PartFacts, LocatorFacts, notes_of_plan, range_of, ranges_from}
 use Rattle.eel.proofs.Mapped.{carried-mappings}
+use Rattle.elf32_sparc.proofs.Images.{accepted-program}
+use Rattle.eel.proofs.PlanFacts.{plan_is}
+use Rattle.eel.proofs.Carried.{loadable-segment_headers}
+use Rattle.eel.proofs.WrittenHeader.{header_facts, locator_facts}
+use Rattle.eel.proofs.WrittenParts.{part_facts}
 use Rattle.eel.proofs.PlacedWords.{covers, none-covers, covers-first, word-among}
 
 -- What the plan of a file takes from it.
@@ -83,10 +88,10 @@ placed file new plan parts all word inside =
     let below : fold (λ end segment. max end (segment_end segment)) 0 (map segment_of (loadable (program_headers file))) ≤ address = omega arith in
     let here : address - p.base ≡ 4 * word = omega arith in
     let found : find (covers address) (mappings new) ≡ Some code =
-        ap (find (covers address)) all
-        ∙ find-append (covers address) (map kept (map (mapping_of file) (loadable (program_headers file)))) pages
-        ∙ ap (λ o. option_or o (find (covers address) pages)) (none-covers file (loadable (program_headers file)) 0 address below)
-        ∙ covers-first code (mapping_of new (page_header p) ∷ []) address (omega arith) (omega arith) in
+    ap (find (covers address)) all
+    ∙ find-append (covers address) (map kept (map (mapping_of file) (loadable (program_headers file)))) pages
+    ∙ ap (λ o. option_or o (find (covers address) pages)) (none-covers file (loadable (program_headers file)) 0 address below)
+    ∙ covers-first code (mapping_of new (page_header p) ∷ []) address (omega arith) (omega arith) in
     ap (option_map (λ m. big_number 4 (drop (address - m.start) m.first))) found
     ∙ ap (λ at. Some (big_number 4 (drop at code.first))) here
     ∙ ap (λ bytes. Some (big_number 4 (drop (4 * word) bytes))) parts.code
@@ -143,10 +148,19 @@ faithful_from file limit can plan header parts loaded loads reads =
         apart = all-two (IsPage file) _ _ (inl (code_page file)) (inr (refl, refl));
       };
       places = ranges-all (IsPlace file new) p 0 (count p) (λ k from to. λ word inside straight same.
-        let text = plan-text file in
-        let starts = ap (λ t. t.start) text in
-        let number : k ≡ word = omega arith in
-        placed file new plan parts all k (omega arith)
-        ∙ ap (λ t. Some (slice_index t.words k)) text
-        ∙ ap (λ n. Some (slice_index (image_of file).text.words n)) number);
+          let text = plan-text file in
+          let starts = ap (λ t. t.start) text in
+          let number : k ≡ word = omega arith in
+          placed file new plan parts all k (omega arith)
+          ∙ ap (λ t. Some (slice_index t.words k)) text
+          ∙ ap (λ n. Some (slice_index (image_of file).text.words n)) number);
     }
+
+pub faithful : (file : List ℕ) → length file ≤ 2 ^ 26 → All (λ byte. byte < 256) file → CanEdit file → IsFaithful file (edited file)
+faithful file limit bytes can =
+    let p = plan_of file in
+    let plan = plan_is file limit bytes can in
+    let header = header_facts p plan in
+    let parts = part_facts p plan in
+    let aligned : p.base % 4 ≡ 0 = let multiple = (accepted-program file can.0.0).base in let same = plan-base file in omega arith in
+    faithful_from file limit can plan header parts (loadable-segment_headers file can) ? ?

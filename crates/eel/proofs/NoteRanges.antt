@@ -17,7 +17,7 @@ places_from plan word (suc more) = place plan word ++ places_from plan (word + 1
 
 places-more : (plan : Plan) (word more : ℕ) → places plan word ++ places_from plan word more ≡ places plan (word + more)
 unfolding places_from
-places-more plan word zero = 
+places-more plan word zero =
     let same : word + 0 ≡ word = omega arith in
     rw same (append-nil (places plan word))
 places-more plan word (suc more) =

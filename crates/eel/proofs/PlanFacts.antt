@@ -135,14 +135,14 @@ carried-fields delta hs fields = All-map HasFields (carried_on delta) (filter is
 memory_below : (file : List ℕ) (h : ProgramHeader) → All (λ byte. byte < 256) file → All (λ byte. byte < 256) (memory_bytes file h)
 memory_below file h bytes =
     All-append (λ byte. byte < 256) (file_bytes file h) (replicate (h.p_memsz - h.p_filesz) 0)
-      (All-take (λ byte. byte < 256) h.p_filesz (drop h.p_offset file) (All-drop (λ byte. byte < 256) h.p_offset file bytes))
-      (All-replicate (λ byte. byte < 256) (h.p_memsz - h.p_filesz) 0 (omega arith))
+    (All-take (λ byte. byte < 256) h.p_filesz (drop h.p_offset file) (All-drop (λ byte. byte < 256) h.p_offset file bytes))
+    (All-replicate (λ byte. byte < 256) (h.p_memsz - h.p_filesz) 0 (omega arith))
 
 words_below : (n : ℕ) (bytes : List ℕ) → All (λ byte. byte < 256) bytes → All (λ word. word < 2 ^ 32) (words_of n bytes)
 words_below zero bytes all = All-nil (λ word. word < 2 ^ 32)
 words_below (suc n) bytes all =
     All-cons (λ word. word < 2 ^ 32) (big_number 4 bytes) (words_of n (drop 4 bytes)) (number_below bytes all)
-      (words_below n (drop 4 bytes) (All-drop (λ byte. byte < 256) 4 bytes all))
+    (words_below n (drop 4 bytes) (All-drop (λ byte. byte < 256) 4 bytes all))
 
 text_words : (file : List ℕ) → All (λ byte. byte < 256) file → (found : Option ProgramHeader) → All (λ word. word < 2 ^ 32) (option_map_or (text_from file) found no_text).words
 unfolding text_from

@@ -60,7 +60,7 @@ range_of plan word = record {
   lo = plan.base + 4 * word;
   hi = plan.base + 4 * word + 4;
   address = plan.text.start + 4 * word;
-  node = 0
+  node = 0;
 }
 
 -- the places of the words from one on
@@ -81,5 +81,5 @@ notes_of_plan plan = record {
   segments = record { start = plan.base; length = 4 * count plan } ∷ record { start = editor_page; length = page_size } ∷ [];
   blocks = 0 ∷ [];
   edges = [];
-  ranges = ranges_from plan 0 (count plan)
+  ranges = ranges_from plan 0 (count plan);
 }

@@ -169,22 +169,21 @@ five_parts file t a b c s lt la lb lc p =
       table = part_back file 0 52 (t ++ a ++ b ++ c) s (omega (arith, lt, la, lb, lc, size2, size3, size4)) p;
     }
 
-
 header_parts : (plan : Plan) → IsPlan plan → (file : List ℕ) → Part file 0 (headers plan)
     → FiveParts file (take 16 plan.original) (halves_bytes (2 ∷ 2 ∷ []))
-        (words_bytes (1 ∷ (plan.base + 4 * plan.entry) ∷ 52 ∷ 0 ∷ word_at plan.original 36 ∷ []))
-        (halves_bytes (52 ∷ 32 ∷ length (segment_headers plan) ∷ 40 ∷ 0 ∷ 0 ∷ []))
-        (flat_map program_header (segment_headers plan))
+    (words_bytes (1 ∷ (plan.base + 4 * plan.entry) ∷ 52 ∷ 0 ∷ word_at plan.original 36 ∷ []))
+    (halves_bytes (52 ∷ 32 ∷ length (segment_headers plan) ∷ 40 ∷ 0 ∷ 0 ∷ []))
+    (flat_map program_header (segment_headers plan))
 header_parts plan is file p =
     five_parts file (take 16 plan.original) (halves_bytes (2 ∷ 2 ∷ []))
-        (words_bytes (1 ∷ (plan.base + 4 * plan.entry) ∷ 52 ∷ 0 ∷ word_at plan.original 36 ∷ []))
-        (halves_bytes (52 ∷ 32 ∷ length (segment_headers plan) ∷ 40 ∷ 0 ∷ 0 ∷ []))
-        (flat_map program_header (segment_headers plan))
-        (length-take-le 16 plan.original (let whole = is.small.original.0 in omega (arith, whole)))
-        (length-halves_bytes (2 ∷ 2 ∷ []))
-        (length-words_bytes (1 ∷ (plan.base + 4 * plan.entry) ∷ 52 ∷ 0 ∷ word_at plan.original 36 ∷ []))
-        (length-halves_bytes (52 ∷ 32 ∷ length (segment_headers plan) ∷ 40 ∷ 0 ∷ 0 ∷ []))
-        p
+    (words_bytes (1 ∷ (plan.base + 4 * plan.entry) ∷ 52 ∷ 0 ∷ word_at plan.original 36 ∷ []))
+    (halves_bytes (52 ∷ 32 ∷ length (segment_headers plan) ∷ 40 ∷ 0 ∷ 0 ∷ []))
+    (flat_map program_header (segment_headers plan))
+    (length-take-le 16 plan.original (let whole = is.small.original.0 in omega (arith, whole)))
+    (length-halves_bytes (2 ∷ 2 ∷ []))
+    (length-words_bytes (1 ∷ (plan.base + 4 * plan.entry) ∷ 52 ∷ 0 ∷ word_at plan.original 36 ∷ []))
+    (length-halves_bytes (52 ∷ 32 ∷ length (segment_headers plan) ∷ 40 ∷ 0 ∷ 0 ∷ []))
+    p
 
 record Kinds (file : List ℕ) : Type 0 where
   kind : half_at file 16 ≡ 2

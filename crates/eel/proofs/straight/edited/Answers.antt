@@ -51,3 +51,6 @@ write_file-requires c =
       entry = rw (c.entry.ensures.word, c.text-text.ensures) c.entry.ensures.inside;
       base = let needed = c.bound-needed.ensures in let had = c.from-had.ensures in omega arith;
     }
+
+pub returns-clause-faithful : goal.returns-clause-faithful
+returns-clause-faithful c = ?
