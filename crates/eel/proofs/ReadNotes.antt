@@ -1,11 +1,11 @@
 -- The notes of a plan, as they are read.
-use Rattle.std.proofs.Common.{◌≡◌, ℕ, zero, suc, ◌+◌, ◌*◌, ◌%◌, ◌<◌, ◌≤◌, ◌^◌, Bool, true, ◌&&◌, ◌==◌, List, [], ◌∷◌, ◌++◌, length, slice_index, None, Ok, refl, ap, sym, subst, ◌∙◌, arith}
+use Rattle.std.proofs.Common.{◌≡◌, ℕ, zero, suc, ◌+◌, ◌*◌, ◌/◌, ◌%◌, ◌<◌, ◌≤◌, ◌^◌, Bool, true, false, ◌&&◌, ◌==◌, List, [], ◌∷◌, ◌++◌, length, take, drop, slice_index, None, Ok, refl, ap, sym, subst, ◌∙◌, arith}
 use Rattle.std.specs.Prelude.{nat_le, nat_lt}
-use Rattle.std.proofs.lemmas.Bool.{le-leb, lt-ltb, eq-eqb}
-use Rattle.std.proofs.lemmas.List.{length-append}
-use Rattle.elf32_sparc.specs.Notes.{NoteSegment, NoteRange, Notes, byte_count, note_at, segments_at, blocks_at, edges_at, ranges_at, read_notes}
-use Rattle.eel.specs.Written.{Plan, IsSmall, count, place, places, notes, notes_words, words_bytes, page_size, editor_page}
-use Rattle.eel.proofs.WrittenFacts.{IsPlan, range_of, ranges_from, notes_of_plan}
+use Rattle.std.proofs.lemmas.Bool.{le-leb, lt-ltb, eq-eqb, le-ltb}
+use Rattle.std.proofs.lemmas.List.{take_all}
+use Rattle.elf32_sparc.specs.Notes.{NoteSegment, NoteRange, Notes, byte_count, note_at, segments_at, blocks_at, edges_at, ranges_at, read_notes, notes_of, has_locator, notes_offset, notes_length}
+use Rattle.eel.specs.Written.{Plan, IsSmall, count, place, places, notes, notes_words, words_bytes, page_size, editor_page, next_page, code_at, page_at, notes_at}
+use Rattle.eel.proofs.WrittenFacts.{IsPlan, LocatorFacts, PartFacts, range_of, ranges_from, notes_of_plan}
 use Rattle.eel.proofs.WordsBytes.{words_bytes-append}
 use Rattle.eel.proofs.NoteWords.{words_bytes-length, note_at-word}
 use Rattle.eel.proofs.NoteRanges.{HasPlaces, page_of, places_from, places-whole, ranges-read}
@@ -142,3 +142,40 @@ notes-read plan is base4 size inside =
     ∙ read-step (words_bytes (all_words plan)) size plan.delta (length plan.original) plan.text.start (count plan) plan.base (is_read plan is base4 size inside)
     (page_of plan ∷ record { start = editor_page; length = page_size } ∷ []) (ranges_from plan 0 (count plan)) (pages-read plan is) (block-read plan is)
     (ranges-read plan (has_places plan is base4) (record { start = editor_page; length = page_size } ∷ []) (notes_words plan) 68 0 0 (count plan) (omega arith) (omega arith) (omega arith))
+
+next_page-above : (offset : ℕ) → offset ≤ next_page offset
+next_page-above offset = omega arith
+
+-- the notes begin after the original
+notes-after : (plan : Plan) → plan.delta + length plan.original ≤ notes_at plan
+notes-after plan =
+    let code = next_page-above (plan.delta + length plan.original) in
+    let page = next_page-above (code_at plan + 4 * count plan) in
+    after (plan.delta + length plan.original) (code_at plan) (4 * count plan) (page_at plan) code page
+  where
+    after : (a b c d : ℕ) → a ≤ b → b + c ≤ d → a ≤ d + 4096
+    after a b c d first second = omega arith
+
+notes-length : (plan : Plan) → length (notes plan) ≡ 4 * (17 + 4 * count plan)
+notes-length plan =
+    let bytes = words_bytes-length (all_words plan) in
+    let more = places-length plan 0 (count plan) in
+    let all : length (all_words plan) ≡ 17 + 4 * count plan = omega arith in
+    ap length (notes-whole plan) ∙ bytes ∙ ap (λ (n : ℕ). 4 * n) all
+
+-- what is found by the locator
+located : (file bytes : List ℕ) (offset size : ℕ) → has_locator file ≡ true → notes_offset file ≡ offset → notes_length file ≡ size → length file ≡ offset + size → drop offset file ≡ bytes → length bytes ≡ size
+    → notes_of file ≡ read_notes (length file) bytes
+unfolding notes_of
+located file bytes offset size there is_offset is_size is_length is_drop is_bytes =
+    rw (there, is_offset, is_size, le-ltb (length file) (offset + size) (omega arith), is_drop, take_all size bytes (omega arith)) refl
+
+-- from the whole file
+pub notes-of : (plan : Plan) → IsPlan plan → plan.base % 4 ≡ 0 → (file : List ℕ) → LocatorFacts plan file → PartFacts plan file → length file ≡ notes_at plan + 4 * (17 + 4 * count plan) → notes_of file ≡ Ok (notes_of_plan plan)
+notes-of plan is base4 file locator parts size =
+    let after = notes-after plan in
+    located file (notes plan) (notes_at plan) (4 * (17 + 4 * count plan)) locator.there locator.offset locator.size size parts.notes (notes-length plan)
+    ∙ notes-read plan is base4 (length file) (within (plan.delta + length plan.original) (notes_at plan) (4 * (17 + 4 * count plan)) (length file) after size)
+  where
+    within : (a b c d : ℕ) → a ≤ b → d ≡ b + c → a ≤ d
+    within a b c d first second = omega arith
