@@ -1,13 +1,11 @@
 -- A part of a file, by its place, and the fields that are read in it.
-use Rattle.std.proofs.Common.{◌≡◌, ℕ, zero, suc, ◌+◌, ◌-◌, ◌*◌, ◌^◌, ◌<◌, ◌≤◌, Bool, true, List, [], ◌∷◌, ◌++◌, length, take, drop, replicate, Option, Some, None, refl, sym, ap, ◌∙◌, append_assoc, append-nil, length-append, arith, slice_index, All, nat_le}
-use Rattle.std.specs.List.{flat_map}
+use Rattle.std.proofs.Common.{◌≡◌, ℕ, ◌+◌, ◌^◌, ◌<◌, ◌≤◌, List, [], ◌++◌, length, take, drop, Some, refl, sym, ap, ◌∙◌, append_assoc, append-nil, length-append, arith}
 use Rattle.std.proofs.lemmas.Bool.{le-leb}
-use Rattle.std.proofs.lemmas.List.{take_at, drop_at, length-replicate, get_or-take}
+use Rattle.std.proofs.lemmas.List.{take_at, drop_at}
 use Rattle.byteorder.specs.Endian.{big_bytes, big_number}
-use Rattle.byteorder.specs.Numbers.{big_number-reads_back, length-bytes_high_first, big_from-take}
+use Rattle.byteorder.specs.Numbers.{big_number-reads_back, length-bytes_high_first}
 use Rattle.eel_base.specs.Fields.{be_field}
 use Rattle.elf32_sparc.specs.Header.{word_at, half_at}
-use Rattle.eel.specs.Written.{words_bytes, halves_bytes, padded_to}
 
 -- `part` stands at `at`
 pub record Part (file : List ℕ) (at : ℕ) (part : List ℕ) : Type 0 where

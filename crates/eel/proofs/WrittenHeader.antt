@@ -1,20 +1,19 @@
 -- What a written file's header, program headers and locator say.
-use Rattle.std.proofs.Common.{◌≡◌, ℕ, zero, suc, ◌+◌, ◌-◌, ◌*◌, ◌^◌, ◌<◌, ◌≤◌, Bool, true, ◌&&◌, ◌==◌, nat_le, List, [], ◌∷◌, ◌++◌, length, take, drop, slice_index, Option, Some, None, refl, sym, ap, ◌∙◌, length-append, arith, All}
+use Rattle.std.proofs.Common.{◌≡◌, ℕ, zero, suc, ◌+◌, ◌*◌, ◌^◌, ◌<◌, ◌≤◌, true, List, [], ◌∷◌, ◌++◌, length, take, slice_index, refl, sym, ap, ◌∙◌, length-append, arith, All}
 use Rattle.std.specs.List.{flat_map}
 use Rattle.std.proofs.lemmas.Bool.{le-leb}
-use Rattle.std.proofs.lemmas.List.{get_or-take, take_all, take-take, length-take-le, take_at, append-nil}
+use Rattle.std.proofs.lemmas.List.{get_or-take, length-take-le}
 use Rattle.std.proofs.lemmas.List.Elements.{All-append}
 use Rattle.byteorder.specs.Endian.{big_bytes, big_number}
 use Rattle.byteorder.specs.Numbers.{big_from-take, length-bytes_high_first}
-use Rattle.eel_base.specs.Fields.{be_field}
 use Rattle.elf32_sparc.specs.declared.header.ProgramHeader.{ProgramHeader}
 use Rattle.elf32_sparc.specs.Header as elf
-use Rattle.elf32_sparc.specs.Header.{word_at, half_at, ei_magic, ei_class, ei_data, ei_version, headers_from, program_headers, e_phoff, e_phnum}
-use Rattle.elf32_sparc.specs.Notes.{has_locator, notes_offset, notes_length}
-use Rattle.eel.specs.Written.{Plan, IsSmall, words_bytes, halves_bytes, program_header, page_size, locator_at, count, code_at, page_at, notes_at, segment_headers, added_headers, headers, locator, notes, written, editor_page}
+use Rattle.elf32_sparc.specs.Header.{word_at, half_at, ei_magic, headers_from, program_headers, e_phoff, e_phnum}
+use Rattle.elf32_sparc.specs.Notes.{has_locator}
+use Rattle.eel.specs.Written.{Plan, words_bytes, halves_bytes, program_header, page_size, locator_at, count, code_at, notes_at, segment_headers, added_headers, headers, locator, written}
 use Rattle.eel.proofs.WrittenFacts.{IsPlan, HasFields, HeaderFacts, LocatorFacts}
-use Rattle.eel.proofs.Part.{Part, part_front, part_back, take_part, length_part, word_part, half_part}
-use Rattle.eel.proofs.WrittenParts.{Stands, written_stands, words_bytes-cons, halves_bytes-cons, length-words_bytes, length-halves_bytes, length-notes, length-program_header, page_from, page_to}
+use Rattle.eel.proofs.Part.{Part, part_front, part_back, take_part, word_part, half_part}
+use Rattle.eel.proofs.WrittenParts.{written_stands, words_bytes-cons, halves_bytes-cons, length-words_bytes, length-halves_bytes, length-notes, length-program_header, page_from, page_to}
 
 -- A part of words or halfwords, one after the other.
 

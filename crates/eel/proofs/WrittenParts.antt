@@ -1,14 +1,14 @@
 -- Where the parts of a written file stand.
-use Rattle.std.proofs.Common.{◌≡◌, ℕ, zero, suc, ◌+◌, ◌-◌, ◌*◌, ◌/◌, ◌^◌, ◌<◌, ◌≤◌, List, [], ◌∷◌, ◌++◌, length, take, drop, replicate, refl, sym, ap, ◌∙◌, append_assoc, length-append, arith, All}
+use Rattle.std.proofs.Common.{◌≡◌, ℕ, zero, suc, ◌+◌, ◌-◌, ◌*◌, ◌≤◌, List, [], ◌∷◌, ◌++◌, length, take, drop, replicate, refl, ap, ◌∙◌, length-append, arith}
 use Rattle.std.specs.List.{flat_map}
 use Rattle.std.proofs.lemmas.List.{length-replicate, drop_at, length-take-le}
 use Rattle.byteorder.specs.Endian.{big_bytes}
 use Rattle.byteorder.specs.Numbers.{length-bytes_high_first}
 use Rattle.elf32_sparc.specs.declared.header.ProgramHeader.{ProgramHeader}
 use Rattle.elf32_sparc.specs.Header.{word_at}
-use Rattle.eel.specs.Written.{Plan, IsSmall, words_bytes, halves_bytes, padded_to, program_header, next_page, page_size, locator_at, count, code_at, page_at, notes_at, segment_headers, file_header, headers, locator, place, places, notes_words, notes, written}
+use Rattle.eel.specs.Written.{Plan, words_bytes, halves_bytes, padded_to, program_header, next_page, page_size, locator_at, count, code_at, page_at, notes_at, segment_headers, headers, locator, place, places, notes_words, notes, written}
 use Rattle.eel.proofs.WrittenFacts.{IsPlan, PartFacts}
-use Rattle.eel.proofs.Part.{Part, part_front, part_back, part_more, part_first, part_last, take_part, drop_part, length_part}
+use Rattle.eel.proofs.Part.{Part, part_more, part_last, take_part}
 
 -- words and halfwords as bytes
 
