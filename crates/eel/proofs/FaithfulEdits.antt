@@ -24,6 +24,7 @@ use Rattle.eel.proofs.PlanFacts.{plan_is}
 use Rattle.eel.proofs.Carried.{loadable-segment_headers}
 use Rattle.eel.proofs.WrittenHeader.{header_facts, locator_facts}
 use Rattle.eel.proofs.WrittenParts.{part_facts}
+use Rattle.eel.proofs.ReadNotes.{notes-of}
 use Rattle.eel.proofs.PlacedWords.{covers, none-covers, covers-first, word-among}
 
 -- What the plan of a file takes from it.
@@ -163,4 +164,5 @@ faithful file limit bytes can =
     let header = header_facts p plan in
     let parts = part_facts p plan in
     let aligned : p.base % 4 ≡ 0 = let multiple = (accepted-program file can.0.0).base in let same = plan-base file in omega arith in
-    faithful_from file limit can plan header parts (loadable-segment_headers file can) ? ?
+    faithful_from file limit can plan header parts (loadable-segment_headers file can) ?
+      (notes-of p plan aligned (edited file) (locator_facts p plan) parts header.size)
