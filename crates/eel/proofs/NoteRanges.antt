@@ -1,9 +1,8 @@
 -- The places of notes, as they are read.
-use Rattle.std.proofs.Common.{◌≡◌, ℕ, zero, suc, ◌+◌, ◌*◌, ◌%◌, ◌<◌, ◌≤◌, ◌^◌, Bool, true, ◌&&◌, ◌==◌, List, [], ◌∷◌, ◌++◌, length, slice_index, Ok, refl, ap, sym, subst, ◌∙◌, append_assoc, add-one, arith}
+use Rattle.std.proofs.Common.{◌≡◌, ℕ, zero, suc, ◌+◌, ◌*◌, ◌%◌, ◌<◌, ◌≤◌, ◌^◌, true, ◌&&◌, ◌==◌, List, [], ◌∷◌, ◌++◌, length, Ok, refl, ap, sym, subst, ◌∙◌, append_assoc, add-one, arith}
 use Rattle.std.specs.Prelude.{nat_le, nat_lt}
 use Rattle.std.specs.List.{list_any}
 use Rattle.std.proofs.lemmas.Bool.{le-leb, lt-ltb}
-use Rattle.std.proofs.lemmas.Bool.Decides.{nat_tests}
 use Rattle.std.proofs.lemmas.List.{append-nil, length-append}
 use Rattle.elf32_sparc.specs.Notes.{NoteSegment, NoteRange, note_at, holds, ranges_at}
 use Rattle.eel.specs.Written.{Plan, count, place, places, words_bytes}
@@ -17,7 +16,7 @@ places_from plan word (suc more) = place plan word ++ places_from plan (word + 1
 
 places-more : (plan : Plan) (word more : ℕ) → places plan word ++ places_from plan word more ≡ places plan (word + more)
 unfolding places_from
-places-more plan word zero = 
+places-more plan word zero =
     let same : word + 0 ≡ word = omega arith in
     rw same (append-nil (places plan word))
 places-more plan word (suc more) =
