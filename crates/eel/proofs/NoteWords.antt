@@ -1,12 +1,11 @@
 -- The words of notes, as they are read.
-use Rattle.std.proofs.Common.{◌≡◌, ℕ, zero, suc, ◌+◌, ◌*◌, ◌<◌, ◌≤◌, ◌^◌, Bool, true, List, [], ◌∷◌, ◌++◌, length, drop, slice_index, Option, Some, Ok, refl, ap, sym, ◌∙◌, append_assoc, arith}
-use Rattle.std.proofs.Math.Seq.{drop-append-add}
+use Rattle.std.proofs.Common.{◌≡◌, ℕ, zero, suc, ◌+◌, ◌*◌, ◌<◌, ◌≤◌, ◌^◌, Bool, true, List, [], ◌∷◌, ◌++◌, length, drop, slice_index, Some, Ok, refl, ap, ◌∙◌, arith}
 use Rattle.std.proofs.lemmas.Bool.{le-leb}
 use Rattle.std.proofs.lemmas.List.{get_or-append-add, length-append}
 use Rattle.byteorder.specs.Endian.{big_bytes, big_number}
-use Rattle.byteorder.specs.Numbers.{big_number-reads_back, length-bytes_high_first}
+use Rattle.byteorder.specs.Numbers.{big_number-reads_back}
 use Rattle.eel_base.specs.Fields.{be_field}
-use Rattle.elf32_sparc.specs.Notes.{found, note_at, note_that, kept}
+use Rattle.elf32_sparc.specs.Notes.{found, note_at, note_that}
 use Rattle.eel.specs.Written.{words_bytes}
 
 pub words_bytes-cons : (w : ℕ) (ws : List ℕ) → words_bytes (w ∷ ws) ≡ big_bytes 4 w ++ words_bytes ws

@@ -1,11 +1,11 @@
 -- The notes of a plan, as they are read.
-use Rattle.std.proofs.Common.{◌≡◌, ℕ, zero, suc, ◌+◌, ◌*◌, ◌/◌, ◌%◌, ◌<◌, ◌≤◌, ◌^◌, Bool, true, false, ◌&&◌, ◌==◌, List, [], ◌∷◌, ◌++◌, length, take, drop, slice_index, None, Ok, refl, ap, sym, subst, ◌∙◌, arith}
+use Rattle.std.proofs.Common.{◌≡◌, ℕ, zero, suc, ◌+◌, ◌*◌, ◌%◌, ◌<◌, ◌≤◌, ◌^◌, true, ◌&&◌, ◌==◌, List, [], ◌∷◌, ◌++◌, length, drop, slice_index, None, Ok, refl, ap, sym, ◌∙◌, arith}
 use Rattle.std.specs.Prelude.{nat_le, nat_lt}
 use Rattle.std.proofs.lemmas.Bool.{le-leb, lt-ltb, eq-eqb, le-ltb}
 use Rattle.std.proofs.lemmas.List.{take_all}
-use Rattle.elf32_sparc.specs.Notes.{NoteSegment, NoteRange, Notes, byte_count, note_at, segments_at, blocks_at, edges_at, ranges_at, read_notes, notes_of, has_locator, notes_offset, notes_length}
-use Rattle.eel.specs.Written.{Plan, IsSmall, count, place, places, notes, notes_words, words_bytes, page_size, editor_page, next_page, code_at, page_at, notes_at}
-use Rattle.eel.proofs.WrittenFacts.{IsPlan, LocatorFacts, PartFacts, range_of, ranges_from, notes_of_plan}
+use Rattle.elf32_sparc.specs.Notes.{NoteSegment, NoteRange, byte_count, note_at, segments_at, blocks_at, edges_at, ranges_at, read_notes, notes_of, has_locator, notes_offset, notes_length}
+use Rattle.eel.specs.Written.{Plan, count, place, places, notes, notes_words, words_bytes, page_size, editor_page, next_page, code_at, page_at, notes_at}
+use Rattle.eel.proofs.WrittenFacts.{IsPlan, LocatorFacts, PartFacts, ranges_from, notes_of_plan}
 use Rattle.eel.proofs.WordsBytes.{words_bytes-append}
 use Rattle.eel.proofs.NoteWords.{words_bytes-length, note_at-word}
 use Rattle.eel.proofs.NoteRanges.{HasPlaces, page_of, places_from, places-whole, ranges-read}
