@@ -7,15 +7,7 @@ use Rattle.byteorder.specs.Numbers.{big_number-reads_back}
 use Rattle.eel_base.specs.Fields.{be_field}
 use Rattle.elf32_sparc.specs.Notes.{found, note_at, note_that}
 use Rattle.eel.specs.Written.{words_bytes}
-
-pub words_bytes-cons : (w : ℕ) (ws : List ℕ) → words_bytes (w ∷ ws) ≡ big_bytes 4 w ++ words_bytes ws
-unfolding words_bytes
-words_bytes-cons w ws = refl
-
-pub words_bytes-length : (ws : List ℕ) → length (words_bytes ws) ≡ 4 * length ws
-unfolding words_bytes
-words_bytes-length [] = refl
-words_bytes-length (w ∷ ws) = let rest = words_bytes-length ws in omega arith
+use Rattle.eel.proofs.WordsBytes.{words_bytes-cons, length-words_bytes}
 
 -- a field that starts after four bytes
 be_field-next : (b0 b1 b2 b3 : ℕ) (bytes : List ℕ) (at : ℕ) → be_field 4 (b0 ∷ b1 ∷ b2 ∷ b3 ∷ bytes) (4 + at) ≡ be_field 4 bytes at

@@ -7,7 +7,9 @@ use Rattle.elf32_sparc.specs.Notes.{NoteSegment, NoteRange, byte_count, note_at,
 use Rattle.eel.specs.Written.{Plan, count, place, places, notes, notes_words, words_bytes, page_size, editor_page, next_page, code_at, page_at, notes_at}
 use Rattle.eel.proofs.WrittenFacts.{IsPlan, LocatorFacts, PartFacts, ranges_from, notes_of_plan}
 use Rattle.eel.proofs.WordsBytes.{words_bytes-append}
-use Rattle.eel.proofs.NoteWords.{words_bytes-length, note_at-word}
+use Rattle.eel.proofs.WordsBytes.{length-words_bytes}
+use Rattle.eel.proofs.WrittenParts.{page_from}
+use Rattle.eel.proofs.NoteWords.{note_at-word}
 use Rattle.eel.proofs.NoteRanges.{HasPlaces, page_of, places_from, places-whole, ranges-read}
 
 -- two pages
@@ -92,7 +94,7 @@ is_read : (plan : Plan) → IsPlan plan → plan.base % 4 ≡ 0 → (size : ℕ)
 is_read plan is base4 size inside =
     let small = is.small in
     let text = is.text in
-    let bytes = words_bytes-length (all_words plan) in
+    let bytes = length-words_bytes (all_words plan) in
     let more = places-length plan 0 (count plan) in
     record {
       delta_read = first-word plan 0 0 plan.delta (omega arith) (omega arith) refl (omega arith);
@@ -143,14 +145,11 @@ notes-read plan is base4 size inside =
     (page_of plan ∷ record { start = editor_page; length = page_size } ∷ []) (ranges_from plan 0 (count plan)) (pages-read plan is) (block-read plan is)
     (ranges-read plan (has_places plan is base4) (record { start = editor_page; length = page_size } ∷ []) (notes_words plan) 68 0 0 (count plan) (omega arith) (omega arith) (omega arith))
 
-next_page-above : (offset : ℕ) → offset ≤ next_page offset
-next_page-above offset = omega arith
-
 -- the notes begin after the original
 notes-after : (plan : Plan) → plan.delta + length plan.original ≤ notes_at plan
 notes-after plan =
-    let code = next_page-above (plan.delta + length plan.original) in
-    let page = next_page-above (code_at plan + 4 * count plan) in
+    let code = page_from (plan.delta + length plan.original) in
+    let page = page_from (code_at plan + 4 * count plan) in
     after (plan.delta + length plan.original) (code_at plan) (4 * count plan) (page_at plan) code page
   where
     after : (a b c d : ℕ) → a ≤ b → b + c ≤ d → a ≤ d + 4096
@@ -158,7 +157,7 @@ notes-after plan =
 
 notes-length : (plan : Plan) → length (notes plan) ≡ 4 * (17 + 4 * count plan)
 notes-length plan =
-    let bytes = words_bytes-length (all_words plan) in
+    let bytes = length-words_bytes (all_words plan) in
     let more = places-length plan 0 (count plan) in
     let all : length (all_words plan) ≡ 17 + 4 * count plan = omega arith in
     ap length (notes-whole plan) ∙ bytes ∙ ap (λ (n : ℕ). 4 * n) all

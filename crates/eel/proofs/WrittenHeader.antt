@@ -13,7 +13,8 @@ use Rattle.elf32_sparc.specs.Notes.{has_locator}
 use Rattle.eel.specs.Written.{Plan, words_bytes, halves_bytes, program_header, page_size, locator_at, count, code_at, notes_at, segment_headers, added_headers, headers, locator, written}
 use Rattle.eel.proofs.WrittenFacts.{IsPlan, HasFields, HeaderFacts, LocatorFacts}
 use Rattle.eel.proofs.Part.{Part, part_front, part_back, take_part, word_part, half_part}
-use Rattle.eel.proofs.WrittenParts.{written_stands, words_bytes-cons, halves_bytes-cons, length-words_bytes, length-halves_bytes, length-notes, length-program_header, page_from, page_to}
+use Rattle.eel.proofs.WordsBytes.{words_bytes-cons, halves_bytes-cons, length-words_bytes, length-halves_bytes}
+use Rattle.eel.proofs.WrittenParts.{written_stands, length-notes, length-program_header, page_from, page_to}
 
 -- A part of words or halfwords, one after the other.
 

@@ -7,36 +7,9 @@ use Rattle.byteorder.specs.Numbers.{length-bytes_high_first}
 use Rattle.elf32_sparc.specs.declared.header.ProgramHeader.{ProgramHeader}
 use Rattle.elf32_sparc.specs.Header.{word_at}
 use Rattle.eel.specs.Written.{Plan, words_bytes, halves_bytes, padded_to, program_header, next_page, page_size, locator_at, count, code_at, page_at, notes_at, segment_headers, headers, locator, place, places, notes_words, notes, written}
+use Rattle.eel.proofs.WordsBytes.{words_bytes-cons, halves_bytes-cons, length-words_bytes, length-halves_bytes, length-flat_map}
 use Rattle.eel.proofs.WrittenFacts.{IsPlan, PartFacts}
 use Rattle.eel.proofs.Part.{Part, part_more, part_last, take_part}
-
--- words and halfwords as bytes
-
-pub words_bytes-cons : (w : ℕ) (ws : List ℕ) → words_bytes (w ∷ ws) ≡ big_bytes 4 w ++ words_bytes ws
-unfolding words_bytes
-words_bytes-cons w ws = refl
-
-pub halves_bytes-cons : (h : ℕ) (hs : List ℕ) → halves_bytes (h ∷ hs) ≡ big_bytes 2 h ++ halves_bytes hs
-unfolding halves_bytes
-halves_bytes-cons h hs = refl
-
--- each item is n bytes
-length-flat_map : {X : Type 0} (f : X → List ℕ) (n : ℕ) → ((x : X) → length (f x) ≡ n) → (xs : List X) → length (flat_map f xs) ≡ n * length xs
-length-flat_map f n each [] = omega arith
-length-flat_map f n each (x ∷ xs) =
-    let here = each x in
-    let rest = length-flat_map f n each xs in
-    let both = length-append (f x) (flat_map f xs) in
-    let more : n * (length xs + 1) ≡ n * length xs + n = omega arith in
-    omega (arith, here, rest, both, more)
-
-pub length-words_bytes : (ws : List ℕ) → length (words_bytes ws) ≡ 4 * length ws
-unfolding words_bytes
-length-words_bytes ws = length-flat_map (big_bytes 4) 4 (length-bytes_high_first 4) ws
-
-pub length-halves_bytes : (hs : List ℕ) → length (halves_bytes hs) ≡ 2 * length hs
-unfolding halves_bytes
-length-halves_bytes hs = length-flat_map (big_bytes 2) 2 (length-bytes_high_first 2) hs
 
 pub length-program_header : (h : ProgramHeader) → length (program_header h) ≡ 32
 unfolding program_header
