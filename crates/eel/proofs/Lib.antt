@@ -5,3 +5,5 @@ pub mod WordsBytes
 pub mod WrittenFacts
 pub mod Carried
 pub mod PlanFacts
+pub mod Powers
+pub mod LoadParts
