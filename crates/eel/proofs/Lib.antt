@@ -7,3 +7,4 @@ pub mod Carried
 pub mod PlanFacts
 pub mod Powers
 pub mod LoadParts
+pub mod Loads

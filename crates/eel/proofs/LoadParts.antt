@@ -1,14 +1,14 @@
 -- Parts of a proof that a written file can be run: what holds of the entries of the original still holds
 -- of them as they are carried on.
-use Rattle.std.proofs.Common.{◌≡◌, ℕ, zero, suc, ◌+◌, ◌-◌, ◌*◌, ◌/◌, ◌%◌, ◌^◌, ◌<◌, ◌≤◌, ◌⊎◌, inl, inr, max, Bool, true, false, not, ◌&&◌, ◌||◌, cond, nat_lt, nat_le, nat_eq, List, [], ◌∷◌, ◌++◌, length, map, Option, Some, None, refl, sym, ap, ◌∙◌, subst, arith, All}
-use Rattle.std.specs.List.{filter, fold, list_any, sum_by}
+use Rattle.std.proofs.Common.{◌≡◌, ℕ, zero, suc, ◌+◌, ◌%◌, ◌^◌, ◌≤◌, ◌⊎◌, inl, inr, max, Bool, true, false, not, ◌&&◌, ◌||◌, cond, nat_lt, nat_le, nat_eq, List, [], ◌∷◌, ◌++◌, map, Some, None, refl, sym, ap, ◌∙◌, arith, All}
+use Rattle.std.specs.List.{filter, fold, list_any}
 use Rattle.std.specs.Int.{is_power_of_two}
-use Rattle.std.proofs.lemmas.Bool.{or_parts, or_from, or_left, or_right, or_cases, and_parts, and_from, and_left, and_right, and_cases, ltb-false, eqb-true, le-ltb, le-leb, leb-true, eq-eqb, ne_eqb, not-false, not_from_true}
+use Rattle.std.proofs.lemmas.Bool.{or_parts, or_from, or_left, or_right, or_cases, and_parts, and_from, and_left, and_right, and_cases, ltb-false, eqb-true, le-ltb, eq-eqb, not-false, not_from_true}
 use Rattle.std.proofs.lemmas.List.Folds.{list_any-append}
 use Rattle.elf32_sparc.specs.declared.header.ProgramHeader.{ProgramHeader}
 use Rattle.elf32_sparc.specs.declared.fault.FileFault.{FileFault}
-use Rattle.elf32_sparc.specs.Header.{program_headers, is_load, loadable, end_of}
-use Rattle.elf32_sparc.specs.FileFault.{first_that_holds, leaves_file, leaves_room, descends_from, is_aligned, is_last_page}
+use Rattle.elf32_sparc.specs.Header.{is_load, end_of}
+use Rattle.elf32_sparc.specs.FileFault.{first_that_holds, leaves_file, descends_from, is_aligned}
 use Rattle.elf32_sparc.specs.Image.{segment_of, segment_end}
 use Rattle.eel.specs.Straight.{carried_on}
 use Rattle.eel.proofs.Powers.{IsPower, power_of_two, power_divides, shifted}
