@@ -1,6 +1,8 @@
 pub mod Carried
 pub mod FaithfulEdits
 pub mod Lines
+pub mod LoadParts
+pub mod Loads
 pub mod Mapped
 pub mod NoteRanges
 pub mod NoteWords
@@ -8,6 +10,7 @@ pub mod Part
 pub mod PlacedWords
 pub mod PlanFacts
 pub mod Plans
+pub mod Powers
 pub mod ReadNotes
 pub mod WordsBytes
 pub mod WrittenFacts

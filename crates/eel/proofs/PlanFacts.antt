@@ -1,12 +1,11 @@
 -- The plan of a file that is edited can be written, and its fields fit.
-use Rattle.std.proofs.Common.{◌≡◌, ℕ, zero, suc, ◌+◌, ◌-◌, ◌*◌, ◌/◌, ◌^◌, ◌<◌, ◌≤◌, ◌⊎◌, inl, inr, min, Bool, true, false, cond, nat_le, bit_and, List, [], ◌∷◌, ◌++◌, length, map, drop, replicate, slice_index, Option, unwrap_or, get_or, Some, None, refl, sym, ap, ◌∙◌, subst, arith, lit<, All}
-use Rattle.std.specs.List.{filter, count_by}
+use Rattle.std.proofs.Common.{◌≡◌, ℕ, zero, suc, ◌+◌, ◌-◌, ◌*◌, ◌/◌, ◌^◌, ◌<◌, ◌≤◌, min, Bool, true, false, cond, nat_le, List, [], ◌∷◌, length, map, drop, replicate, slice_index, Option, unwrap_or, get_or, Some, None, refl, ap, arith, lit<, All}
+use Rattle.std.specs.List.{filter}
 use Rattle.std.specs.Option.{option_map_or}
 use Rattle.std.specs.Int.Bits.{and_lt}
-use Rattle.std.proofs.lemmas.Bool.{cases_lt}
 use Rattle.std.proofs.lemmas.List.{length-map}
 use Rattle.std.proofs.lemmas.List.Sums.{length-filter, count_by-le-length}
-use Rattle.std.proofs.lemmas.List.Elements.{All-map, All-filter, All-append, All-take, All-drop, All-replicate, All-cons, All-nil, All-get_or}
+use Rattle.std.proofs.lemmas.List.Elements.{All-map, All-filter, All-append, All-take, All-drop, All-replicate, All-cons, All-nil}
 use Rattle.byteorder.specs.Endian.{big_number}
 use Rattle.byteorder.specs.Numbers.{big_from-lt}
 use Rattle.eel_base.specs.CodeText.{IsText}
@@ -18,8 +17,8 @@ use Rattle.elf32_sparc.proofs.Accepted.{Accepted, IsFit, accepted, has_text, tex
 use Rattle.elf32_sparc.proofs.Images.{accepted-program}
 use Rattle.elf32_sparc.proofs.Tables.{few_headers, whole_header, aligned}
 use Rattle.eel.specs.Answers.{CanEdit}
-use Rattle.eel.specs.Written.{Plan, IsSmall, count}
-use Rattle.eel.specs.Straight.{delta_of, is_carried, not_executable, carried_on, bound_of, plan_of}
+use Rattle.eel.specs.Written.{IsSmall}
+use Rattle.eel.specs.Straight.{delta_of, is_carried, not_executable, carried_on, plan_of}
 use Rattle.eel.proofs.Plans.{delta-from, delta-to, room-base}
 use Rattle.eel.proofs.WrittenFacts.{HasFields, IsPlan}
 
