@@ -1,29 +1,28 @@
 -- An edit is faithful: the written file is whole, has the pages and the places that it says.
-use Rattle.std.proofs.Common.{◌≡◌, ℕ, zero, suc, ◌+◌, ◌-◌, ◌*◌, ◌^◌, ◌<◌, ◌≤◌, List, [], ◌∷◌, ◌++◌, length, take, drop, map, slice_index, Option, Some, None, Ok, refl, sym, ap, ◌∙◌, subst, arith, All, inl, inr, max, ◌/◌, ◌%◌}
+use Rattle.std.proofs.Common.{◌≡◌, ℕ, zero, suc, ◌+◌, ◌-◌, ◌*◌, ◌^◌, ◌<◌, ◌≤◌, List, [], ◌∷◌, ◌++◌, length, take, drop, map, slice_index, Some, None, Ok, refl, ap, ◌∙◌, subst, arith, All, inl, inr, max, ◌/◌, ◌%◌}
 use Rattle.std.specs.List.{fold, find}
 use Rattle.std.specs.Option.{option_map, option_or}
 use Rattle.std.proofs.lemmas.List.{map-append}
 use Rattle.std.proofs.lemmas.List.Folds.{find-append}
 use Rattle.byteorder.specs.Endian.{big_number}
-use Rattle.eel_base.specs.CodeText.{address_of}
-use Rattle.elf32_sparc.specs.declared.header.ProgramHeader.{ProgramHeader}
 use Rattle.elf32_sparc.specs.Header.{program_headers, loadable}
 use Rattle.elf32_sparc.specs.FileFault.{fault, load_fault, has_bytes_outside}
 use Rattle.elf32_sparc.specs.Mapping.{Mapping, mapping_of, mappings}
 use Rattle.elf32_sparc.specs.Image.{image_of, highest_end, segment_of, segment_end}
-use Rattle.elf32_sparc.specs.Notes.{Notes, NoteRange, notes_of}
-use Rattle.elf32_sparc.proofs.Accepted.{Accepted, accepted}
+use Rattle.elf32_sparc.specs.Notes.{NoteRange, notes_of}
+use Rattle.elf32_sparc.proofs.Accepted.{accepted}
 use Rattle.eel.specs.Answers.{CanEdit}
-use Rattle.eel.specs.Straight.{plan_of, edited, delta_of, carried_on, bound_of, is_transfer_at}
-use Rattle.eel.specs.Written.{Plan, IsSmall, count, added_headers, segment_headers, written, words_bytes, notes_at, page_size, editor_page, code_at, page_at}
-use Rattle.eel.specs.Faithful.{IsFaithful, IsWhole, HasPages, IsPage, IsPlace, kept, note_of, word_mapped}
-use Rattle.eel.proofs.WrittenFacts.{IsPlan, HeaderFacts, PartFacts, LocatorFacts, notes_of_plan, range_of, ranges_from}
+use Rattle.eel.specs.Straight.{plan_of, edited, delta_of, carried_on, bound_of}
+use Rattle.eel.specs.Written.{Plan, count, added_headers, segment_headers, notes_at}
+use Rattle.eel.specs.Faithful.{IsFaithful, IsPage, IsPlace, kept, word_mapped}
+use Rattle.eel.proofs.WrittenFacts.{IsPlan, HeaderFacts, PartFacts, notes_of_plan, range_of, ranges_from}
 use Rattle.eel.proofs.Mapped.{carried-mappings}
 use Rattle.elf32_sparc.proofs.Images.{accepted-program}
 use Rattle.eel.proofs.PlanFacts.{plan_is}
-use Rattle.eel.proofs.Carried.{loadable-segment_headers}
+use Rattle.eel.proofs.Carried.{code_header, page_header, loadable-segment_headers}
 use Rattle.eel.proofs.WrittenHeader.{header_facts, locator_facts}
 use Rattle.eel.proofs.WrittenParts.{part_facts}
+use Rattle.eel.proofs.Loads.{loads}
 use Rattle.eel.proofs.ReadNotes.{notes-of}
 use Rattle.eel.proofs.PlacedWords.{covers, none-covers, covers-first, word-among}
 
@@ -68,12 +67,6 @@ mapped file new header parts small sound loaded =
     ∙ ap (λ z. z ++ map (mapping_of new) (added_headers (plan_of file))) (carried-mappings file new delta hs whole small (accepted file sound).segment_file)
 
 -- The word of the code at each place.
-
-abbrev code_header : Plan → ProgramHeader
-code_header plan = record { p_type = 1; p_offset = code_at plan; p_vaddr = plan.base; p_paddr = plan.base; p_filesz = 4 * count plan; p_memsz = 4 * count plan; p_flags = 5; p_align = page_size }
-
-abbrev page_header : Plan → ProgramHeader
-page_header plan = record { p_type = 1; p_offset = page_at plan; p_vaddr = editor_page; p_paddr = editor_page; p_filesz = page_size; p_memsz = page_size; p_flags = 6; p_align = page_size }
 
 pub placed : (file new : List ℕ) → IsPlan (plan_of file) → PartFacts (plan_of file) new
     → mappings new ≡ map kept (mappings file) ++ map (mapping_of new) (added_headers (plan_of file))
@@ -164,5 +157,6 @@ faithful file limit bytes can =
     let header = header_facts p plan in
     let parts = part_facts p plan in
     let aligned : p.base % 4 ≡ 0 = let multiple = (accepted-program file can.0.0).base in let same = plan-base file in omega arith in
-    faithful_from file limit can plan header parts (loadable-segment_headers file can) ?
-      (notes-of p plan aligned (edited file) (locator_facts p plan) parts header.size)
+    faithful_from file limit can plan header parts (loadable-segment_headers file can)
+    (loads file limit can (edited file) header)
+    (notes-of p plan aligned (edited file) (locator_facts p plan) parts header.size)

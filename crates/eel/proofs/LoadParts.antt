@@ -48,11 +48,11 @@ any-append p xs ys first second = list_any-append p xs ys ∙ or_from (list_any 
 
 inside : (delta size new offset filesz : ℕ) → delta + size ≤ new → (nat_lt 0 filesz && nat_lt size (offset + filesz)) ≡ false → (nat_lt 0 filesz && nat_lt new ((offset + delta) % 2 ^ 32 + filesz)) ≡ false
 inside delta size new offset filesz fits none = elim (and_cases (nat_lt 0 filesz) (nat_lt size (offset + filesz)) none) [
-    inl empty ↦ and_left (nat_lt 0 filesz) (nat_lt new ((offset + delta) % 2 ^ 32 + filesz)) empty
+  | inl empty ↦ and_left (nat_lt 0 filesz) (nat_lt new ((offset + delta) % 2 ^ 32 + filesz)) empty
   | inr within ↦
       let e : offset + filesz ≤ size = ltb-false size (offset + filesz) within in
       and_right (nat_lt 0 filesz) (nat_lt new ((offset + delta) % 2 ^ 32 + filesz)) (le-ltb new ((offset + delta) % 2 ^ 32 + filesz) (omega arith))
-  ]
+]
 
 pub carried-inside : (delta size new : ℕ) → delta + size ≤ new → (h : ProgramHeader) → leaves_file size h ≡ false → leaves_file new (carried_on delta h) ≡ false
 carried-inside delta size new fits h none =
@@ -60,10 +60,10 @@ carried-inside delta size new fits h none =
     let was = nat_lt 0 h.p_filesz && nat_lt size (h.p_offset + h.p_filesz) in
     let is = nat_lt 0 h.p_filesz && nat_lt new ((h.p_offset + delta) % 2 ^ 32 + h.p_filesz) in
     elim (and_cases (is_load h) (more || was) none) [
-      inl other ↦ and_left (is_load h) (more || is) other
-    | inr within ↦
-        let parts = or_parts more was within in
-        and_right (is_load h) (more || is) (or_from more is parts.0 (inside delta size new h.p_offset h.p_filesz fits parts.1))
+      | inl other ↦ and_left (is_load h) (more || is) other
+      | inr within ↦
+          let parts = or_parts more was within in
+          and_right (is_load h) (more || is) (or_from more is parts.0 (inside delta size new h.p_offset h.p_filesz fits parts.1))
     ]
 
 -- Order.
@@ -81,7 +81,7 @@ in_order delta (h ∷ hs) added end top below ends order then =
     let under = or_parts (nat_lt top (end_of h)) (list_any (λ g. nat_lt top (end_of g)) hs) ends in
     let parts = or_parts (nat_lt h.p_vaddr end) (descends_from (end_of h) hs) order in
     or_from (nat_lt h.p_vaddr end) (descends_from (end_of h) (map (carried_on delta) hs ++ added)) parts.0
-      (in_order delta hs added (end_of h) top (ltb-false top (end_of h) under.0) under.1 parts.1 then)
+    (in_order delta hs added (end_of h) top (ltb-false top (end_of h) under.0) under.1 parts.1 then)
 
 -- Alignment.
 
@@ -90,8 +90,8 @@ align_of h holds =
     let power = is_power_of_two h.p_align && nat_le h.p_align (2 ^ 20) in
     let same = nat_eq (h.p_vaddr % h.p_align) (h.p_offset % h.p_align) in
     elim (or_cases (nat_eq h.p_align 0) (power && same) holds) [
-      inl none ↦ inl (eqb-true h.p_align 0 none)
-    | inr both ↦ inr (power_of_two h.p_align (and_parts (is_power_of_two h.p_align) (nat_le h.p_align (2 ^ 20)) (and_parts power same both).0).0)
+      | inl none ↦ inl (eqb-true h.p_align 0 none)
+      | inr both ↦ inr (power_of_two h.p_align (and_parts (is_power_of_two h.p_align) (nat_le h.p_align (2 ^ 20)) (and_parts power same both).0).0)
     ]
 
 pub aligns_of : (hs : List ProgramHeader) → list_any (λ h. not (is_aligned h)) hs ≡ false → All (λ h. (h.p_align ≡ 0) ⊎ IsPower h.p_align) hs
@@ -108,14 +108,14 @@ carried-aligned delta power small h below holds =
     let was = nat_eq (h.p_vaddr % h.p_align) (h.p_offset % h.p_align) in
     let is = nat_eq (h.p_vaddr % h.p_align) ((h.p_offset + delta) % 2 ^ 32 % h.p_align) in
     elim (or_cases (nat_eq h.p_align 0) (some && was) holds) [
-      inl none ↦ or_left (nat_eq h.p_align 0) (some && is) none
-    | inr both ↦
-        let parts = and_parts some was both in
-        let align : IsPower h.p_align = power_of_two h.p_align (and_parts (is_power_of_two h.p_align) (nat_le h.p_align (2 ^ 20)) parts.0).0 in
-        let same : h.p_vaddr % h.p_align ≡ h.p_offset % h.p_align = eqb-true (h.p_vaddr % h.p_align) (h.p_offset % h.p_align) parts.1 in
-        let further : (h.p_offset + delta) % 2 ^ 32 % h.p_align ≡ h.p_offset % h.p_align =
+      | inl none ↦ or_left (nat_eq h.p_align 0) (some && is) none
+      | inr both ↦
+          let parts = and_parts some was both in
+          let align : IsPower h.p_align = power_of_two h.p_align (and_parts (is_power_of_two h.p_align) (nat_le h.p_align (2 ^ 20)) parts.0).0 in
+          let same : h.p_vaddr % h.p_align ≡ h.p_offset % h.p_align = eqb-true (h.p_vaddr % h.p_align) (h.p_offset % h.p_align) parts.1 in
+          let further : (h.p_offset + delta) % 2 ^ 32 % h.p_align ≡ h.p_offset % h.p_align =
           shifted h.p_align delta h.p_offset (power_divides h.p_align delta align power below) (power_divides h.p_align (2 ^ 32) align word_power (omega arith)) in
-        or_right (nat_eq h.p_align 0) (some && is) (and_from some is parts.0 (eq-eqb (h.p_vaddr % h.p_align) ((h.p_offset + delta) % 2 ^ 32 % h.p_align) (same ∙ sym further)))
+          or_right (nat_eq h.p_align 0) (some && is) (and_from some is parts.0 (eq-eqb (h.p_vaddr % h.p_align) ((h.p_offset + delta) % 2 ^ 32 % h.p_align) (same ∙ sym further)))
     ]
 
 pub all-aligned : (delta : ℕ) → IsPower delta → delta ≤ 2 ^ 20 → (hs : List ProgramHeader) → All (λ h. h.p_align ≤ delta) hs → list_any (λ h. not (is_aligned h)) hs ≡ false → list_any (λ h. not (is_aligned h)) (map (carried_on delta) hs) ≡ false
@@ -123,8 +123,8 @@ all-aligned delta power small [] all none = refl
 all-aligned delta power small (h ∷ hs) all none =
     let parts = or_parts (not (is_aligned h)) (list_any (λ g. not (is_aligned g)) hs) none in
     or_from (not (is_aligned (carried_on delta h))) (list_any (λ g. not (is_aligned g)) (map (carried_on delta) hs))
-      (not_from_true (is_aligned (carried_on delta h)) (carried-aligned delta power small h (all zero h (omega arith)) (not-false (is_aligned h) parts.0)))
-      (all-aligned delta power small hs (λ k d below. all (suc k) d (omega arith)) parts.1)
+    (not_from_true (is_aligned (carried_on delta h)) (carried-aligned delta power small h (all zero h (omega arith)) (not-false (is_aligned h) parts.0)))
+    (all-aligned delta power small hs (λ k d below. all (suc k) d (omega arith)) parts.1)
 
 -- Memory.
 

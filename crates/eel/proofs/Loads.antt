@@ -65,28 +65,28 @@ sizes plan new size =
 added-inside : (plan : Plan) (new : ℕ) → Sizes plan new → list_any (leaves_file new) (added_headers plan) ≡ false
 added-inside plan new at =
     or_from (leaves_file new (code_header plan)) (list_any (leaves_file new) (page_header plan ∷ []))
-      (or_from (nat_lt (4 * count plan) (4 * count plan)) (nat_lt 0 (4 * count plan) && nat_lt new (code_at plan + 4 * count plan))
-        (le-ltb (4 * count plan) (4 * count plan) (omega arith))
-        (and_right (nat_lt 0 (4 * count plan)) (nat_lt new (code_at plan + 4 * count plan)) (le-ltb new (code_at plan + 4 * count plan) at.code)))
-      (or_from (nat_lt new (page_at plan + 4096)) false (le-ltb new (page_at plan + 4096) at.page) refl)
+    (or_from (nat_lt (4 * count plan) (4 * count plan)) (nat_lt 0 (4 * count plan) && nat_lt new (code_at plan + 4 * count plan))
+    (le-ltb (4 * count plan) (4 * count plan) (omega arith))
+    (and_right (nat_lt 0 (4 * count plan)) (nat_lt new (code_at plan + 4 * count plan)) (le-ltb new (code_at plan + 4 * count plan) at.code)))
+    (or_from (nat_lt new (page_at plan + 4096)) false (le-ltb new (page_at plan + 4096) at.page) refl)
 
 added-room : (plan : Plan) → 0x1000 ≤ plan.base → plan.base + 4 * count plan ≤ 2 ^ 31 → list_any (λ h. leaves_room h && not (is_last_page h)) (added_headers plan) ≡ false
 added-room plan above below =
     or_from (leaves_room (code_header plan) && not (is_last_page (code_header plan))) (list_any (λ h. leaves_room h && not (is_last_page h)) (page_header plan ∷ []))
-      (and_left (leaves_room (code_header plan)) (not (is_last_page (code_header plan)))
-        (or_from (nat_lt plan.base 0x1000) (nat_lt 0x80000000 (plan.base + 4 * count plan)) (le-ltb plan.base 0x1000 above) (le-ltb 0x80000000 (plan.base + 4 * count plan) (omega arith))))
-      refl
+    (and_left (leaves_room (code_header plan)) (not (is_last_page (code_header plan)))
+    (or_from (nat_lt plan.base 0x1000) (nat_lt 0x80000000 (plan.base + 4 * count plan)) (le-ltb plan.base 0x1000 above) (le-ltb 0x80000000 (plan.base + 4 * count plan) (omega arith))))
+    refl
 
 added-order : (plan : Plan) → plan.base + 4 * count plan ≤ 2 ^ 31 → (e : ℕ) → e ≤ plan.base → descends_from e (added_headers plan) ≡ false
 added-order plan below e le =
     or_from (nat_lt plan.base e) (descends_from (plan.base + 4 * count plan) (page_header plan ∷ [])) (le-ltb plan.base e le)
-      (or_from (nat_lt editor_page (plan.base + 4 * count plan)) false (le-ltb editor_page (plan.base + 4 * count plan) (omega arith)) refl)
+    (or_from (nat_lt editor_page (plan.base + 4 * count plan)) false (le-ltb editor_page (plan.base + 4 * count plan) (omega arith)) refl)
 
 page_aligned : (vaddr offset : ℕ) → vaddr % 4096 ≡ 0 → offset % 4096 ≡ 0 → (is_power_of_two 4096 && nat_le 4096 (2 ^ 20) && nat_eq (vaddr % 4096) (offset % 4096)) ≡ true
 page_aligned vaddr offset first second =
     and_from (is_power_of_two 4096 && nat_le 4096 (2 ^ 20)) (nat_eq (vaddr % 4096) (offset % 4096))
-      (and_from (is_power_of_two 4096) (nat_le 4096 (2 ^ 20)) power-4096 refl)
-      (eq-eqb (vaddr % 4096) (offset % 4096) (first ∙ sym second))
+    (and_from (is_power_of_two 4096) (nat_le 4096 (2 ^ 20)) power-4096 refl)
+    (eq-eqb (vaddr % 4096) (offset % 4096) (first ∙ sym second))
 
 pages_fit : (base : ℕ) → base % 0x10000 ≡ 0 → base % 4096 ≡ 0
 pages_fit base whole = omega arith
@@ -94,9 +94,9 @@ pages_fit base whole = omega arith
 added-aligned : (plan : Plan) → plan.base % 0x10000 ≡ 0 → list_any (λ h. not (is_aligned h)) (added_headers plan) ≡ false
 added-aligned plan whole =
     or_from (not (is_aligned (code_header plan))) (list_any (λ h. not (is_aligned h)) (page_header plan ∷ []))
-      (not_from_true (is_aligned (code_header plan)) (page_aligned plan.base (code_at plan) (pages_fit plan.base whole) (whole_page (plan.delta + length plan.original))))
-      (or_from (not (is_aligned (page_header plan))) false
-        (not_from_true (is_aligned (page_header plan)) (page_aligned editor_page (page_at plan) refl (whole_page (code_at plan + 4 * count plan)))) refl)
+    (not_from_true (is_aligned (code_header plan)) (page_aligned plan.base (code_at plan) (pages_fit plan.base whole) (whole_page (plan.delta + length plan.original))))
+    (or_from (not (is_aligned (page_header plan))) false
+    (not_from_true (is_aligned (page_header plan)) (page_aligned editor_page (page_at plan) refl (whole_page (code_at plan + 4 * count plan)))) refl)
 
 -- The file header.
 
@@ -110,8 +110,8 @@ entry_count file can =
 good_table : (phnum phoff size : ℕ) → 1 ≤ phnum → phnum ≤ 66 → phoff ≡ 52 → 4096 ≤ size → ((nat_eq phnum 0 || nat_lt 80 phnum) || nat_lt size (phoff + 32 * phnum)) ≡ false
 good_table phnum phoff size some few place long =
     or_from (nat_eq phnum 0 || nat_lt 80 phnum) (nat_lt size (phoff + 32 * phnum))
-      (or_from (nat_eq phnum 0) (nat_lt 80 phnum) (ne_eqb phnum 0 (λ e. omega arith)) (le-ltb 80 phnum (omega arith)))
-      (le-ltb size (phoff + 32 * phnum) (omega arith))
+    (or_from (nat_eq phnum 0) (nat_lt 80 phnum) (ne_eqb phnum 0 (λ e. omega arith)) (le-ltb 80 phnum (omega arith)))
+    (le-ltb size (phoff + 32 * phnum) (omega arith))
 
 record HeaderPasses (new : List ℕ) : Type 0 where
   short : is_short new ≡ false
@@ -137,8 +137,8 @@ header_passes file can new facts at whole =
       «class» = ap (λ n. not (nat_eq n 1)) (facts.file_class ∙ ap ei_class whole) ∙ ok.«class»;
       order = ap (λ n. not (nat_eq n 2)) (facts.order ∙ ap ei_data whole) ∙ ok.order;
       version = or_from (not (nat_eq (ei_version new) 1)) (not (nat_eq (e_version new) 1))
-        (ap (λ n. not (nat_eq n 1)) (facts.ident_version ∙ ap ei_version whole) ∙ (or_parts (not (nat_eq (ei_version file) 1)) (not (nat_eq (e_version file) 1)) ok.version).0)
-        (ap (λ n. not (nat_eq n 1)) facts.version);
+          (ap (λ n. not (nat_eq n 1)) (facts.ident_version ∙ ap ei_version whole) ∙ (or_parts (not (nat_eq (ei_version file) 1)) (not (nat_eq (e_version file) 1)) ok.version).0)
+          (ap (λ n. not (nat_eq n 1)) facts.version);
       kind = ap (λ n. not (nat_eq n 2)) facts.kind;
       machine = ap (λ n. not (nat_eq n 2)) facts.machine;
       header_size = or_from (not (nat_eq (e_ehsize new) 52)) (not (nat_eq (e_phentsize new) 32)) (ap (λ n. not (nat_eq n 52)) facts.header_size) (ap (λ n. not (nat_eq n 32)) facts.entry_size);
@@ -178,9 +178,9 @@ entry-inside : (plan : Plan) (hs : List ProgramHeader) (size new : ℕ) → IsCa
 unfolding has_bytes_outside
 entry-inside plan hs size new is =
     any-append (leaves_file new) plan.carried (added_headers plan)
-      (ap (λ z. list_any (leaves_file new) z) is.carried
-        ∙ any-map (leaves_file size) (leaves_file new) (carried_on plan.delta) (carried-inside plan.delta size new is.fits) (filter is_carried hs) (any-filter (leaves_file size) is_carried hs is.segment_file))
-      (added-inside plan new is.at)
+    (ap (λ z. list_any (leaves_file new) z) is.carried
+    ∙ any-map (leaves_file size) (leaves_file new) (carried_on plan.delta) (carried-inside plan.delta size new is.fits) (filter is_carried hs) (any-filter (leaves_file size) is_carried hs is.segment_file))
+    (added-inside plan new is.at)
 
 entry-room : (plan : Plan) (hs : List ProgramHeader) (size new : ℕ) → IsCarrying plan hs size new → has_memory_outside_a_run (segment_headers plan) ≡ false
 unfolding has_memory_outside has_memory_outside_a_run
@@ -188,8 +188,8 @@ entry-room plan hs size new is =
     let leaves : ProgramHeader → Bool = λ h. leaves_room h && not (is_last_page h) in
     ap (λ z. list_any leaves z) is.loads
     ∙ any-append leaves (map (carried_on plan.delta) (loadable hs)) (added_headers plan)
-      (any-map leaves_room leaves (carried_on plan.delta) (λ h none. and_left (leaves_room h) (not (is_last_page h)) none) (loadable hs) is.segment_room)
-      (added-room plan is.above is.below)
+    (any-map leaves_room leaves (carried_on plan.delta) (λ h none. and_left (leaves_room h) (not (is_last_page h)) none) (loadable hs) is.segment_room)
+    (added-room plan is.above is.below)
 
 entry-order : (plan : Plan) (hs : List ProgramHeader) (size new : ℕ) → IsCarrying plan hs size new → has_disorder (segment_headers plan) ≡ false
 unfolding has_disorder
@@ -202,8 +202,8 @@ unfolding has_misaligned
 entry-aligned plan hs size new is =
     ap (λ z. list_any (λ h. not (is_aligned h)) z) is.loads
     ∙ any-append (λ h. not (is_aligned h)) (map (carried_on plan.delta) (loadable hs)) (added_headers plan)
-      (all-aligned plan.delta is.power is.small (loadable hs) is.aligns is.align)
-      (added-aligned plan is.whole)
+    (all-aligned plan.delta is.power is.small (loadable hs) is.aligns is.align)
+    (added-aligned plan is.whole)
 
 sum_fits : (sum words : ℕ) → nat_lt (128 * 2 ^ 20) sum ≡ false → words ≤ 2 ^ 20 → nat_lt (1280 * 2 ^ 20) (sum + 4 * words + 4096) ≡ false
 sum_fits sum words fits few = let e : sum ≤ 128 * 2 ^ 20 = ltb-false (128 * 2 ^ 20) sum fits in le-ltb (1280 * 2 ^ 20) (sum + 4 * words + 4096) (omega arith)
@@ -263,13 +263,38 @@ original-plan_of file = refl
 by_rows : (new : List ℕ) → HeaderPasses new → EntryPasses (length new) (program_headers new) → load_fault new ≡ None
 unfolding load_fault
 by_rows new header entry =
-    passes (header_rows 80 new ++ load_rows (length new) (program_headers new))
-      (header.short, (header.magic, (header.«class», (header.order, (header.version, (header.kind, (header.machine, (header.header_size, (header.headers,
-      (entry.segment_file, (entry.segment_room, (entry.segment_order, (entry.align, (entry.memory_large, tt))))))))))))))
+    passes (header_rows 80 new ++ load_rows (length new) (program_headers new)) (
+      header.short,
+      (
+        header.magic,
+        (
+          header.«class»,
+          (
+            header.order,
+            (
+              header.version,
+              (
+                header.kind,
+                (
+                  header.machine,
+                  (
+                    header.header_size,
+                    (
+                      header.headers,
+                      (entry.segment_file, (entry.segment_room, (entry.segment_order, (entry.align, (entry.memory_large, tt))))),
+                    ),
+                  ),
+                ),
+              ),
+            ),
+          ),
+        ),
+      ),
+    )
 
 -- the written file can be run
 pub loads : (file : List ℕ) → length file ≤ 2 ^ 26 → CanEdit file → (new : List ℕ) → HeaderFacts (plan_of file) new → load_fault new ≡ None
 loads file limit can new facts =
     by_rows new
-      (header_passes file can new facts (sizes (plan_of file) (length new) facts.size) (original-plan_of file))
-      (subst (EntryPasses (length new)) (sym facts.headers) (entry_passes (plan_of file) (program_headers file) (length file) (length new) (is_carrying file can new facts)))
+    (header_passes file can new facts (sizes (plan_of file) (length new) facts.size) (original-plan_of file))
+    (subst (EntryPasses (length new)) (sym facts.headers) (entry_passes (plan_of file) (program_headers file) (length file) (length new) (is_carrying file can new facts)))

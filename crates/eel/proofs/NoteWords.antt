@@ -7,7 +7,7 @@ use Rattle.byteorder.specs.Numbers.{big_number-reads_back}
 use Rattle.eel_base.specs.Fields.{be_field}
 use Rattle.elf32_sparc.specs.Notes.{found, note_at, note_that}
 use Rattle.eel.specs.Written.{words_bytes}
-use Rattle.eel.proofs.WordsBytes.{words_bytes-cons, length-words_bytes}
+use Rattle.eel.proofs.WordsBytes.{words_bytes-cons}
 
 -- a field that starts after four bytes
 be_field-next : (b0 b1 b2 b3 : ℕ) (bytes : List ℕ) (at : ℕ) → be_field 4 (b0 ∷ b1 ∷ b2 ∷ b3 ∷ bytes) (4 + at) ≡ be_field 4 bytes at

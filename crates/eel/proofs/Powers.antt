@@ -21,20 +21,20 @@ ones_parts n =
 power_from : (d n : ℕ) → n ≤ d → count_ones n ≡ 1 → IsPower n
 power_from zero n few one = let le = ones_le_self n in absurd (omega arith)
 power_from (suc d) n few one =
-  elim (cases_eq (n % 2) 0) [
-  inl even ↦
-    let parts = ones_parts n in
-    let low = ones_le_self (n % 2) in
-    let le = ones_le_self n in
-    let half : IsPower (n / 2) = power_from d (n / 2) (omega arith) (omega arith) in
-    (suc half.0, (let h : n / 2 ≡ 2 ^ half.0 = half.1 in rw (pow-suc 2 half.0) (omega arith)))
-  | inr odd ↦
-    let parts = ones_parts n in
-    let none = zero_from_ones (n % 2) in
-    let some : count_ones (n % 2) ≡ 0 → ⊥ = λ e. odd (none e) in
-    let half : n / 2 ≡ 0 = zero_from_ones (n / 2) (omega arith) in
-    (0, omega arith)
-  ]
+    elim (cases_eq (n % 2) 0) [
+      | inl even ↦
+          let parts = ones_parts n in
+          let low = ones_le_self (n % 2) in
+          let le = ones_le_self n in
+          let half : IsPower (n / 2) = power_from d (n / 2) (omega arith) (omega arith) in
+          (suc half.0, (let h : n / 2 ≡ 2 ^ half.0 = half.1 in rw (pow-suc 2 half.0) (omega arith)))
+      | inr odd ↦
+          let parts = ones_parts n in
+          let none = zero_from_ones (n % 2) in
+          let some : count_ones (n % 2) ≡ 0 → ⊥ = λ e. odd (none e) in
+          let half : n / 2 ≡ 0 = zero_from_ones (n / 2) (omega arith) in
+          (0, omega arith)
+    ]
 
 pub power_of_two : (n : ℕ) → is_power_of_two n ≡ true → IsPower n
 power_of_two n holds = power_from n n (omega arith) (eqb-true (count_ones n) 1 holds)
@@ -46,13 +46,13 @@ power-4096 = ap (λ n. nat_eq n 1) (ones_cat 12 1 0 (lit< tt))
 -- the lesser of two powers divides the greater
 lesser : (k f : ℕ) → 2 ^ k ≤ 2 ^ f → k ≤ f
 lesser k f le = elim (cases_lt f k) [
-    inl more ↦
+  | inl more ↦
       let up : 2 ^ suc f ≤ 2 ^ k = pow-le-pow_right {n = 2} (omega arith) {i = suc f} {j = k} (omega arith) in
       let twice = pow-suc 2 f in
       let some = pow_pos f in
       absurd (omega arith)
   | inr few ↦ few
-  ]
+]
 
 divides : (k f : ℕ) → k ≤ f → 2 ^ f % 2 ^ k ≡ 0
 divides k f le =
@@ -74,12 +74,12 @@ shifted a d offset whole wraps =
 
 max_power : (m a : ℕ) → IsPower m → (a ≡ 0) ⊎ IsPower a → IsPower (max m a)
 max_power m a power align = elim (cases_lt m a) [
-    inl more ↦ elim align [
-        inl none ↦ absurd (omega arith)
-      | inr other ↦ (other.0, (let e : max m a ≡ a = omega arith in e ∙ other.1))
-      ]
-  | inr few ↦ (power.0, (let e : max m a ≡ m = omega arith in e ∙ power.1))
+  | inl more ↦ elim align [
+    | inl none ↦ absurd (omega arith)
+    | inr other ↦ (other.0, (let e : max m a ≡ a = omega arith in e ∙ other.1))
   ]
+  | inr few ↦ (power.0, (let e : max m a ≡ m = omega arith in e ∙ power.1))
+]
 
 pub greatest_power : (hs : List ProgramHeader) (least : ℕ) → IsPower least → All (λ h. (h.p_align ≡ 0) ⊎ IsPower h.p_align) hs → IsPower (fold (λ most h. max most h.p_align) least hs)
 greatest_power [] least power all = power

@@ -4,7 +4,7 @@ use Rattle.std.specs.Prelude.{nat_le, nat_lt}
 use Rattle.std.proofs.lemmas.Bool.{le-leb, lt-ltb, eq-eqb, le-ltb}
 use Rattle.std.proofs.lemmas.List.{take_all}
 use Rattle.elf32_sparc.specs.Notes.{NoteSegment, NoteRange, byte_count, note_at, segments_at, blocks_at, edges_at, ranges_at, read_notes, notes_of, has_locator, notes_offset, notes_length}
-use Rattle.eel.specs.Written.{Plan, count, place, places, notes, notes_words, words_bytes, page_size, editor_page, next_page, code_at, page_at, notes_at}
+use Rattle.eel.specs.Written.{Plan, count, place, places, notes, notes_words, words_bytes, page_size, editor_page, code_at, page_at, notes_at}
 use Rattle.eel.proofs.WrittenFacts.{IsPlan, LocatorFacts, PartFacts, ranges_from, notes_of_plan}
 use Rattle.eel.proofs.WordsBytes.{words_bytes-append}
 use Rattle.eel.proofs.WordsBytes.{length-words_bytes}

@@ -1,5 +1,5 @@
 -- What later proofs use of a written file: its header, its program headers, its parts, and its notes.
-use Rattle.std.proofs.Common.{◌≡◌, ℕ, zero, suc, ◌+◌, ◌*◌, ◌<◌, ◌≤◌, ◌^◌, Bool, true, List, [], ◌∷◌, ◌++◌, length, take, drop, replicate, All}
+use Rattle.std.proofs.Common.{◌≡◌, ℕ, zero, suc, ◌+◌, ◌*◌, ◌<◌, ◌^◌, true, List, [], ◌∷◌, length, take, drop, replicate, All}
 use Rattle.eel_base.specs.CodeText.{IsText}
 use Rattle.elf32_sparc.specs.declared.header.ProgramHeader.{ProgramHeader}
 use Rattle.elf32_sparc.specs.Header.{ei_magic, ei_class, ei_data, ei_version, e_type, e_machine, e_version, e_phoff, e_ehsize, e_phentsize, e_phnum, program_headers}

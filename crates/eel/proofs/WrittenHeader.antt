@@ -10,7 +10,7 @@ use Rattle.elf32_sparc.specs.declared.header.ProgramHeader.{ProgramHeader}
 use Rattle.elf32_sparc.specs.Header as elf
 use Rattle.elf32_sparc.specs.Header.{word_at, half_at, ei_magic, headers_from, program_headers, e_phoff, e_phnum}
 use Rattle.elf32_sparc.specs.Notes.{has_locator}
-use Rattle.eel.specs.Written.{Plan, words_bytes, halves_bytes, program_header, page_size, locator_at, count, code_at, notes_at, segment_headers, added_headers, headers, locator, written}
+use Rattle.eel.specs.Written.{Plan, words_bytes, halves_bytes, program_header, page_size, locator_at, count, code_at, notes_at, segment_headers, added_headers, headers, written}
 use Rattle.eel.proofs.WrittenFacts.{IsPlan, HasFields, HeaderFacts, LocatorFacts}
 use Rattle.eel.proofs.Part.{Part, part_front, part_back, take_part, word_part, half_part}
 use Rattle.eel.proofs.WordsBytes.{words_bytes-cons, halves_bytes-cons, length-words_bytes, length-halves_bytes}

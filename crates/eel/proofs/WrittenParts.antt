@@ -2,12 +2,10 @@
 use Rattle.std.proofs.Common.{◌≡◌, ℕ, zero, suc, ◌+◌, ◌-◌, ◌*◌, ◌≤◌, List, [], ◌∷◌, ◌++◌, length, take, drop, replicate, refl, ap, ◌∙◌, length-append, arith}
 use Rattle.std.specs.List.{flat_map}
 use Rattle.std.proofs.lemmas.List.{length-replicate, drop_at, length-take-le}
-use Rattle.byteorder.specs.Endian.{big_bytes}
-use Rattle.byteorder.specs.Numbers.{length-bytes_high_first}
 use Rattle.elf32_sparc.specs.declared.header.ProgramHeader.{ProgramHeader}
 use Rattle.elf32_sparc.specs.Header.{word_at}
-use Rattle.eel.specs.Written.{Plan, words_bytes, halves_bytes, padded_to, program_header, next_page, page_size, locator_at, count, code_at, page_at, notes_at, segment_headers, headers, locator, place, places, notes_words, notes, written}
-use Rattle.eel.proofs.WordsBytes.{words_bytes-cons, halves_bytes-cons, length-words_bytes, length-halves_bytes, length-flat_map}
+use Rattle.eel.specs.Written.{Plan, words_bytes, padded_to, program_header, next_page, page_size, locator_at, count, code_at, page_at, notes_at, segment_headers, headers, locator, place, places, notes_words, notes, written}
+use Rattle.eel.proofs.WordsBytes.{length-words_bytes, length-halves_bytes, length-flat_map}
 use Rattle.eel.proofs.WrittenFacts.{IsPlan, PartFacts}
 use Rattle.eel.proofs.Part.{Part, part_more, part_last, take_part}
 

@@ -1,9 +1,9 @@
 -- What ties a written file to its original: the parts of a faithful edit that speak of bytes alone.
-use Rattle.std.specs.Prelude.{◌≡◌, ℕ, ◌+◌, ◌-◌, ◌*◌, ◌^◌, ◌<◌, ◌≤◌, ◌⊎◌, Bool, false, not, ◌&&◌, nat_le, if◌then◌else◌, List, ◌++◌, length, take, drop, map, slice_index, slice_get, Option, Some, None, Result, Ok, All}
+use Rattle.std.specs.Prelude.{◌≡◌, ℕ, ◌+◌, ◌-◌, ◌*◌, ◌^◌, ◌<◌, ◌≤◌, ◌⊎◌, Bool, false, not, ◌&&◌, nat_le, if◌then◌else◌, List, ◌++◌, length, take, drop, map, slice_index, Option, Some, None, Ok, All}
 use Rattle.std.specs.List.{find}
 use Rattle.std.specs.Option.{option_map}
 use Rattle.byteorder.specs.Endian.{big_number}
-use Rattle.eel_base.specs.CodeText.{Words, address_of}
+use Rattle.eel_base.specs.CodeText.{address_of}
 use Rattle.elf32_sparc.specs.Header.{has_flag}
 use Rattle.elf32_sparc.specs.FileFault.{load_fault}
 use Rattle.elf32_sparc.specs.Mapping.{Mapping, mappings}
