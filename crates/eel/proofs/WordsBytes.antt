@@ -1,9 +1,10 @@
 -- Words as bytes.
-use Rattle.std.proofs.Common.{◌≡◌, ℕ, List, [], ◌∷◌, ◌++◌, ◌+◌, add-one, refl, ap, sym, ◌∙◌}
+use Rattle.std.proofs.Common.{◌≡◌, ℕ, List, [], ◌∷◌, ◌++◌, ◌+◌, add-one, refl, ◌*◌, length, length-append, arith}
 use Rattle.std.specs.List.{flat_map}
 use Rattle.std.proofs.lemmas.Grind.{flat_map-append}
 use Rattle.byteorder.specs.Endian.{big_bytes}
-use Rattle.eel.specs.Written.{words_bytes, Plan, place, places}
+use Rattle.byteorder.specs.Numbers.{length-bytes_high_first}
+use Rattle.eel.specs.Written.{words_bytes, halves_bytes, Plan, place, places}
 
 pub words_bytes-nil : words_bytes [] ≡ []
 unfolding words_bytes
@@ -15,3 +16,31 @@ words_bytes-append xs ys = flat_map-append (big_bytes 4) xs ys
 
 pub words_bytes-places : (plan : Plan) (word : ℕ) → words_bytes (places plan (word + 1)) ≡ words_bytes (places plan word) ++ words_bytes (place plan word)
 words_bytes-places plan word = rw add-one (words_bytes-append (places plan word) (place plan word))
+
+-- words and halfwords as bytes
+
+pub words_bytes-cons : (w : ℕ) (ws : List ℕ) → words_bytes (w ∷ ws) ≡ big_bytes 4 w ++ words_bytes ws
+unfolding words_bytes
+words_bytes-cons w ws = refl
+
+pub halves_bytes-cons : (h : ℕ) (hs : List ℕ) → halves_bytes (h ∷ hs) ≡ big_bytes 2 h ++ halves_bytes hs
+unfolding halves_bytes
+halves_bytes-cons h hs = refl
+
+-- each item is n bytes
+pub length-flat_map : {X : Type 0} (f : X → List ℕ) (n : ℕ) → ((x : X) → length (f x) ≡ n) → (xs : List X) → length (flat_map f xs) ≡ n * length xs
+length-flat_map f n each [] = omega arith
+length-flat_map f n each (x ∷ xs) =
+    let here = each x in
+    let rest = length-flat_map f n each xs in
+    let both = length-append (f x) (flat_map f xs) in
+    let more : n * (length xs + 1) ≡ n * length xs + n = omega arith in
+    omega (arith, here, rest, both, more)
+
+pub length-words_bytes : (ws : List ℕ) → length (words_bytes ws) ≡ 4 * length ws
+unfolding words_bytes
+length-words_bytes ws = length-flat_map (big_bytes 4) 4 (length-bytes_high_first 4) ws
+
+pub length-halves_bytes : (hs : List ℕ) → length (halves_bytes hs) ≡ 2 * length hs
+unfolding halves_bytes
+length-halves_bytes hs = length-flat_map (big_bytes 2) 2 (length-bytes_high_first 2) hs

@@ -8,6 +8,7 @@ use Rattle.eel.specs.declared.straight.EditFault.{EditFault}
 use Rattle.eel.specs.declared.straight.EditFault.TheVariants as faults
 use Rattle.eel.specs.Command.{Command, EditPlain, Unknown}
 use Rattle.eel.specs.Outcome.{Outcome, Done, BadWords, BadFile, NotBuilt, TooLong, NoRoom, OutOfMemory, DeviceFault, Stream, Shows}
+use Rattle.eel.specs.Faithful.{IsFaithful}
 use Rattle.eel.specs.Straight.{IsStraight, IsFirstTransfer, bound_of, edited}
 
 -- The files: what they hold, where they tell it, and their faults.
@@ -72,7 +73,7 @@ Read files name Kind = (bytes : List ℕ) × WasRead files name bytes × Kind by
 
 -- what follows from a command: each outcome with its cause, and what the files hold afterwards
 abbrev pub Follows : Command → Store → Store → Outcome → Type 0
-Follows command old new Done = Edits command (λ input output. Read old input (λ bytes. CanEdit bytes × (new.held ≡ stored old.held output (edited bytes))))
+Follows command old new Done = Edits command (λ input output. Read old input (λ bytes. CanEdit bytes × (new.held ≡ stored old.held output (edited bytes)) × IsFaithful bytes (edited bytes)))
 Follows command old new BadWords = (command ≡ Unknown) × (new.held ≡ old.held)
 Follows command old new (BadFile name code) = Edits command (λ input output. (name ≡ input) × Read old input (IsFaulty code) × (new.held ≡ old.held))
 Follows command old new (NotBuilt name address) = Edits command (λ input output. (name ≡ input) × Read old input (IsUnbuilt address) × (new.held ≡ old.held))

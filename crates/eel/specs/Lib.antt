@@ -1,5 +1,6 @@
 pub mod Answers
 pub mod Command
+pub mod Faithful
 pub mod Outcome
 pub mod Straight
 pub mod Written

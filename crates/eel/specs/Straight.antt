@@ -1,12 +1,12 @@
 -- What an edit of straight code makes of a file: which files it takes, and the plan of the written file.
-use Rattle.std.specs.Prelude.{◌≡◌, ℕ, ◌+◌, ◌*◌, ◌%◌, ◌^◌, ◌<◌, ◌≤◌, Bool, true, false, not, ◌&&◌, ◌==◌, IsTrue, if◌then◌else◌, bit_and, max, List, length, slice_index, map, filter}
+use Rattle.std.specs.Prelude.{◌≡◌, ℕ, ◌+◌, ◌*◌, ◌%◌, ◌^◌, ◌<◌, Bool, true, false, not, ◌&&◌, ◌==◌, if◌then◌else◌, bit_and, max, List, length, slice_index, map, filter}
 use Rattle.std.specs.List.{fold}
 use Rattle.eel_base.specs.CodeText.{Words, address_of}
 use Rattle.v8_decode.specs.declared.Instr.{Instr}
 use Rattle.v8_decode.specs.declared.Instr.TheVariants.{Branch, Call, Jmpl}
 use Rattle.v8_decode.specs.Words.{decode_of}
 use Rattle.elf32_sparc.specs.declared.header.ProgramHeader.{ProgramHeader}
-use Rattle.elf32_sparc.specs.Header.{program_headers, is_load, is_loadable, loadable, is_text}
+use Rattle.elf32_sparc.specs.Header.{program_headers, is_load, loadable, is_text}
 use Rattle.elf32_sparc.specs.Image.{image_of}
 use Rattle.elf32_sparc.specs.declared.fault.ReadFault.{ReadFault}
 use Rattle.elf32_sparc.specs.declared.fault.ReadFault.TheVariants as reads

@@ -1,6 +1,7 @@
 //! The edit of straight code: which files it takes, and the plan of the written file.
 ghost use Rattle.std.specs.Prelude.{◌≡◌, ◌≤◌, ◌<◌, ◌^◌, length, map, filter, IfOk, OnOk, IfErr, vec_len, MatchOption};
 ghost use Rattle.eel.specs.Answers.{CanEdit, EditRefuses};
+ghost use Rattle.eel.specs.Faithful.{IsFaithful};
 ghost use Rattle.eel.specs.Straight.{IsStraight, IsFirstTransfer, is_transfer as is_transfer_of, bound_of, delta_of, is_carried as is_carried_of, carried_on as carried_on_of, plan_of, edited as edited_of};
 
 use crate::written::{Plan, write_file};
@@ -56,6 +57,7 @@ pub fn edited(alloc: Global, bytes: &[u8]) -> Result<Vec<u8>, EditFault>
     requires { length bytes.now ≤ 2 ^ 26 }
     ensures written { IfOk result (λ written. written.items ≡ edited_of bytes.now) }
     ensures taken { OnOk result (CanEdit bytes.now) }
+    ensures faithful { OnOk result (IsFaithful bytes.now (edited_of bytes.now)) }
     ensures refused { IfErr result (EditRefuses bytes.now) }
 {
     let image = read_image(alloc, bytes)?;

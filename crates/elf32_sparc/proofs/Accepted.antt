@@ -90,7 +90,7 @@ at_header p x h rest later false true kept after found none = after found (or_pa
 at_header p x h rest later false false kept after found none = after found none
 
 -- what is true of no segment is not true of the text
-text_passes : (p : ProgramHeader → Bool) (hs : List ProgramHeader) (h : ProgramHeader) → text_header hs ≡ Some h → list_any p (loadable hs) ≡ false → p h ≡ false
+pub text_passes : (p : ProgramHeader → Bool) (hs : List ProgramHeader) (h : ProgramHeader) → text_header hs ≡ Some h → list_any p (loadable hs) ≡ false → p h ≡ false
 text_passes p [] h found none = cc
 text_passes p (x ∷ hs) h found none =
     at_header p x h (loadable hs) (text_header hs) (is_text x) (is_loadable x) (λ is. (and_parts _ _ (and_parts _ _ is).0).0) (text_passes p hs h) found none

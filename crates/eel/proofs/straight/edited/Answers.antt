@@ -1,7 +1,8 @@
-use Rattle.std.proofs.Common.{◌≡◌, ◌≤◌, ◌-◌, ◌^◌, min, length, sym, ap, ◌∙◌, arith}
+use Rattle.std.proofs.lemmas.Grind.{get_or_default_zero}
+use Rattle.eel.proofs.FaithfulEdits.{faithful}
+use Rattle.std.proofs.Common.{◌≡◌, ◌-◌, ◌^◌, min, sym, ◌∙◌, arith}
 use Rattle.elf32_sparc.specs.Header.{program_headers}
-use Rattle.elf32_sparc.specs.Image.{image_of}
-use Rattle.eel.specs.Straight.{plan_of, delta_of}
+use Rattle.eel.specs.Straight.{plan_of}
 use Rattle.eel.proofs.Plans.{delta-from, delta-to, room-base}
 use Rattle.eel.proofs.straight.edited.Goals as goal
 
@@ -51,3 +52,11 @@ write_file-requires c =
       entry = rw (c.entry.ensures.word, c.text-text.ensures) c.entry.ensures.inside;
       base = let needed = c.bound-needed.ensures in let had = c.from-had.ensures in omega arith;
     }
+
+pub returns-clause-faithful : goal.returns-clause-faithful
+returns-clause-faithful c =
+    faithful c.args.bytes.now c.requires
+    (λ k d below. let same = get_or_default_zero c.args.bytes.now k d below in let fits = c.type_inv.bytes k in omega arith) (
+      (sym c.in_ok-image.ensures.fault, rw (← c.in_ok-image.ensures.image, ← c.text-text.ensures) c.in_default.ensures),
+      rw (← c.in_ok-image.ensures.image, ← c.text-text.ensures, ← c.bound-needed.ensures, ← c.room.ensures, ← c.from-had.ensures) c.if-had-needed.false,
+    )
