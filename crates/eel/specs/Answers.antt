@@ -16,6 +16,9 @@ pub record Store : Type 0 where
   pub held : Option Holding
   pub faults : ℕ
 
+abbrev pub store : Option Holding → ℕ → Store
+store held faults = record { held = held; faults = faults }
+
 -- how long a file may be that is edited
 abbrev pub edit_limit : ℕ
 edit_limit = 67108864
@@ -41,17 +44,18 @@ IsFaulty code bytes = (first : FileFault) × (fault bytes ≡ Some first) × (co
 
 -- a sound file with a word that isn't built yet, first at this address
 abbrev pub IsUnbuilt : ℕ → List ℕ → Type 0
-IsUnbuilt address bytes = IsSound bytes × IsFirstTransfer ((image_of bytes).text) address
+IsUnbuilt address bytes = IsSound bytes × IsFirstTransfer (image_of bytes).text address
 
 -- a sound file of straight code
 abbrev pub IsBuilt : List ℕ → Type 0
-IsBuilt bytes = IsSound bytes × IsStraight ((image_of bytes).text)
+IsBuilt bytes = IsSound bytes × IsStraight (image_of bytes).text
 
 abbrev pub IsCramped : ℕ → ℕ → List ℕ → Type 0
-IsCramped needed had bytes = IsBuilt bytes × (needed ≡ bound_of ((image_of bytes).text)) × (had ≡ (image_of bytes).room) × (had < needed)
+IsCramped needed had bytes =
+    IsBuilt bytes × (needed ≡ bound_of (image_of bytes).text) × (had ≡ (image_of bytes).room) × (had < needed)
 
 abbrev pub CanEdit : List ℕ → Type 0
-CanEdit bytes = IsBuilt bytes × (bound_of ((image_of bytes).text) ≤ (image_of bytes).room)
+CanEdit bytes = IsBuilt bytes × (bound_of (image_of bytes).text ≤ (image_of bytes).room)
 
 -- why an edit of some bytes is refused
 abbrev pub EditRefuses : List ℕ → EditFault → Type 0
@@ -73,14 +77,22 @@ Read files name Kind = (bytes : List ℕ) × WasRead files name bytes × Kind by
 
 -- what follows from a command: each outcome with its cause, and what the files hold afterwards
 abbrev pub Follows : Command → Store → Store → Outcome → Type 0
-Follows command old new Done = Edits command (λ input output. Read old input (λ bytes. CanEdit bytes × (new.held ≡ stored old.held output (edited bytes)) × IsFaithful bytes (edited bytes)))
+Follows command old new Done = Edits command (λ input output.
+    Read old input (λ bytes.
+    CanEdit bytes × (new.held ≡ stored old.held output (edited bytes)) × IsFaithful bytes (edited bytes)))
 Follows command old new BadWords = (command ≡ Unknown) × (new.held ≡ old.held)
-Follows command old new (BadFile name code) = Edits command (λ input output. (name ≡ input) × Read old input (IsFaulty code) × (new.held ≡ old.held))
-Follows command old new (NotBuilt name address) = Edits command (λ input output. (name ≡ input) × Read old input (IsUnbuilt address) × (new.held ≡ old.held))
-Follows command old new (TooLong name limit) = Edits command (λ input output. (name ≡ input) × (limit ≡ edit_limit) × IsLonger old.held input limit × (new.held ≡ old.held))
-Follows command old new (NoRoom name needed had) = Edits command (λ input output. (name ≡ input) × Read old input (IsCramped needed had) × (new.held ≡ old.held))
+Follows command old new (BadFile name code) = Edits command (λ input output.
+    (name ≡ input) × Read old input (IsFaulty code) × (new.held ≡ old.held))
+Follows command old new (NotBuilt name address) = Edits command (λ input output.
+    (name ≡ input) × Read old input (IsUnbuilt address) × (new.held ≡ old.held))
+Follows command old new (TooLong name limit) = Edits command (λ input output.
+    (name ≡ input) × (limit ≡ edit_limit) × IsLonger old.held input limit × (new.held ≡ old.held))
+Follows command old new (NoRoom name needed had) = Edits command (λ input output.
+    (name ≡ input) × Read old input (IsCramped needed had) × (new.held ≡ old.held))
 Follows command old new OutOfMemory = Edits command (λ input output. new.held ≡ old.held)
-Follows command old new DeviceFault = Edits command (λ input output. (IsMissing old.held input ⊎ Rose old.faults new.faults) × SameBut output old.held new.held × (Rose old.faults new.faults ⊎ (new.held ≡ old.held)))
+Follows command old new DeviceFault = Edits command (λ input output.
+    (IsMissing old.held input ⊎ Rose old.faults new.faults)
+    × SameBut output old.held new.held × (Rose old.faults new.faults ⊎ (new.held ≡ old.held)))
 
 -- A call of the program: some outcome follows from the command, and shows.
 pub record Ran (command : Command) (files new_files : Store) (err new_err : Stream) (status : ℕ) : Type 0 where

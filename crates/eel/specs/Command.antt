@@ -13,7 +13,8 @@ pub data Command : Type 0 where
 
 -- what the words ask for
 abbrev pub command_of : List (List ℕ) → Command
-command_of (verb ∷ input ∷ output ∷ tool ∷ []) = if bytes_eq verb (codes "edit") && bytes_eq tool (codes "plain") then EditPlain input output else Unknown
+command_of (verb ∷ input ∷ output ∷ tool ∷ []) =
+    if bytes_eq verb (codes "edit") && bytes_eq tool (codes "plain") then EditPlain input output else Unknown
 command_of _ = Unknown
 
 -- the texts that a list of words points to

@@ -34,7 +34,8 @@ note_of m = record { start = m.start; length = m.length }
 abbrev pub IsPage : List ℕ → Mapping → Type 0
 IsPage original m =
     let base = (image_of original).base in
-    ((base ≤ m.start) × (m.start + m.length ≤ base + bound_of (image_of original).text)) ⊎ ((m.start ≡ editor_page) × (m.length ≡ page_size))
+    let bound = bound_of (image_of original).text in
+    ((base ≤ m.start) × (m.start + m.length ≤ base + bound)) ⊎ ((m.start ≡ editor_page) × (m.length ≡ page_size))
 
 pub record HasPages (original file : List ℕ) (notes : Notes) : Type 0 where
   pub pages : List Mapping
@@ -46,12 +47,15 @@ pub record HasPages (original file : List ℕ) (notes : Notes) : Type 0 where
 
 -- the word of memory at an address, before any step
 abbrev pub word_mapped : List ℕ → ℕ → Option ℕ
-word_mapped file address = option_map (λ m. big_number 4 (drop (address - m.start) m.first)) (find (λ m. nat_le m.start address && nat_le (address + 4) (m.start + m.length)) (mappings file))
+word_mapped file address =
+    option_map (λ m. big_number 4 (drop (address - m.start) m.first))
+    (find (λ m. nat_le m.start address && nat_le (address + 4) (m.start + m.length)) (mappings file))
 
 abbrev pub IsPlace : List ℕ → List ℕ → NoteRange → Type 0
 IsPlace original file range =
     let text = (image_of original).text in
-    (word : ℕ) → word < length text.words → is_transfer_at text word ≡ false → range.address ≡ address_of text word → word_mapped file range.lo ≡ Some (slice_index text.words word)
+    (word : ℕ) → word < length text.words → is_transfer_at text word ≡ false → range.address ≡ address_of text word
+    → word_mapped file range.lo ≡ Some (slice_index text.words word)
 
 pub record IsFaithful (original file : List ℕ) : Type 0 where
   pub notes : Notes

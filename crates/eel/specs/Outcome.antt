@@ -45,7 +45,8 @@ line_of BadWords = line (codes "bad words")
 line_of (BadFile name code) = line_about name (codes "file fault " ++ decimal code)
 line_of (NotBuilt name address) = line_about name (codes "not built at " ++ hex_of address)
 line_of (TooLong name limit) = line_about name (codes "longer than " ++ decimal limit ++ codes " bytes")
-line_of (NoRoom name needed had) = line_about name (codes "room " ++ decimal needed ++ codes " needed, " ++ decimal had ++ codes " had")
+line_of (NoRoom name needed had) =
+    line_about name (codes "room " ++ decimal needed ++ codes " needed, " ++ decimal had ++ codes " had")
 line_of OutOfMemory = line (codes "out of memory")
 line_of DeviceFault = line (codes "device fault")
 
@@ -54,10 +55,15 @@ pub record Stream : Type 0 where
   pub taken : Option (List ℕ)
   pub faults : ℕ
 
+abbrev pub stream : Option (List ℕ) → ℕ → Stream
+stream taken faults = record { taken = taken; faults = faults }
+
 -- the line was written, or a first part of it and then the stream failed
 pub data Shows (outcome : Outcome) (status : ℕ) (old new : Stream) : Type 0 where
-  shown : status ≡ status_of outcome → new.taken ≡ appended old.taken (line_of outcome) → Shows outcome status old new
-  failed : status ≡ 74 → TookPart old.taken new.taken (line_of outcome) → Rose old.faults new.faults → Shows outcome status old new
+  shown : status ≡ status_of outcome → new.taken ≡ appended old.taken (line_of outcome)
+      → Shows outcome status old new
+  failed : status ≡ 74 → TookPart old.taken new.taken (line_of outcome) → Rose old.faults new.faults
+      → Shows outcome status old new
 
 -- pieces of text, one after the other
 abbrev pub joined : List (Bor (List ℕ)) → List ℕ

@@ -34,7 +34,14 @@ pub record IsSmall (plan : Plan) : Type 0 where
 
 -- the plan that the program keeps
 abbrev pub plan_seen : declared.Plan → Plan
-plan_seen plan = record { original = plan.original.now; delta = plan.delta; carried = plan.carried.now; text = plan.text.now; entry = plan.entry.0; base = plan.base.0 }
+plan_seen plan = record {
+  original = plan.original.now;
+  delta = plan.delta;
+  carried = plan.carried.now;
+  text = plan.text.now;
+  entry = plan.entry.0;
+  base = plan.base.0;
+}
 
 -- words and halfwords as bytes
 unfoldable pub words_bytes : List ℕ → List ℕ
@@ -72,13 +79,32 @@ notes_at plan = page_at plan + page_size
 
 -- a header of a segment (figure 5-1 of the ABI)
 unfoldable pub program_header : ProgramHeader → List ℕ
-program_header h = words_bytes (h.p_type ∷ h.p_offset ∷ h.p_vaddr ∷ h.p_paddr ∷ h.p_filesz ∷ h.p_memsz ∷ h.p_flags ∷ h.p_align ∷ [])
+program_header h =
+    words_bytes (h.p_type ∷ h.p_offset ∷ h.p_vaddr ∷ h.p_paddr ∷ h.p_filesz ∷ h.p_memsz ∷ h.p_flags ∷ h.p_align ∷ [])
 
 -- the headers of the segments that are added: the code is readable and executable, the page writable
 abbrev pub added_headers : Plan → List ProgramHeader
 added_headers plan =
-    record { p_type = 1; p_offset = code_at plan; p_vaddr = plan.base; p_paddr = plan.base; p_filesz = 4 * count plan; p_memsz = 4 * count plan; p_flags = 5; p_align = page_size }
-    ∷ record { p_type = 1; p_offset = page_at plan; p_vaddr = editor_page; p_paddr = editor_page; p_filesz = page_size; p_memsz = page_size; p_flags = 6; p_align = page_size } ∷ []
+    record {
+      p_type = 1;
+      p_offset = code_at plan;
+      p_vaddr = plan.base;
+      p_paddr = plan.base;
+      p_filesz = 4 * count plan;
+      p_memsz = 4 * count plan;
+      p_flags = 5;
+      p_align = page_size;
+    }
+    ∷ record {
+      p_type = 1;
+      p_offset = page_at plan;
+      p_vaddr = editor_page;
+      p_paddr = editor_page;
+      p_filesz = page_size;
+      p_memsz = page_size;
+      p_flags = 6;
+      p_align = page_size;
+    } ∷ []
 
 abbrev pub segment_headers : Plan → List ProgramHeader
 segment_headers plan = plan.carried ++ added_headers plan
@@ -94,7 +120,8 @@ file_header plan =
 
 -- the place of a word: from, to, its address in the original, and its block
 abbrev pub place : Plan → ℕ → List ℕ
-place plan word = (plan.base + 4 * word) ∷ (plan.base + 4 * word + 4) ∷ (plan.text.start + 4 * word) ∷ 0 ∷ []
+place plan word =
+    (plan.base + 4 * word) ∷ (plan.base + 4 * word + 4) ∷ (plan.text.start + 4 * word) ∷ 0 ∷ []
 
 -- the places of the first words
 abbrev pub places : Plan → ℕ → List ℕ

@@ -2,7 +2,7 @@
 ghost use Rattle.std.specs.Prelude.{◌≡◌, ◌≤◌};
 ghost use Rattle.eel.specs.Command.{EditPlain};
 ghost use Rattle.eel.specs.Outcome.{outcome_seen};
-ghost use Rattle.eel.specs.Answers.{Follows, refusal_of};
+ghost use Rattle.eel.specs.Answers.{Follows, refusal_of, store};
 
 use crate::outcome::Outcome;
 use crate::straight::{EditFault, edited};
@@ -19,7 +19,9 @@ pub fn edit_plain<'a, F: Files>(
     input: &'a str,
     output: &str,
 ) -> Outcome<'a>
-    ensures follows { Follows (EditPlain input.now output.now) (record { held = F.held files.old; faults = F.faults files.old }) (record { held = F.held files.new; faults = F.faults files.new }) (outcome_seen result) }
+    ensures follows { Follows (EditPlain input.now output.now)
+        (store (F.held files.old) (F.faults files.old)) (store (F.held files.new) (F.faults files.new))
+        (outcome_seen result) }
     ensures later { F.faults files.old ≤ F.faults files.new }
 {
     let bytes = match files.fetch(alloc, input, EDIT_LIMIT) {

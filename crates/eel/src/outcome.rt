@@ -1,7 +1,7 @@
 //! What came of a command, and how the program shows it.
 ghost use Rattle.std.specs.Prelude.{◌≡◌, ◌≤◌, OnOk, OnErr};
 ghost use Rattle.eel_base.specs.Outside.{Rose, appended, TookPart};
-ghost use Rattle.eel.specs.Outcome.{outcome_seen, status_of, line_of, Shows, joined};
+ghost use Rattle.eel.specs.Outcome.{outcome_seen, status_of, line_of, stream, Shows, joined};
 
 use eel_base::{Addr, Failed, Sink, hex8, put_all};
 use itoa::Buffer;
@@ -59,7 +59,8 @@ impl Outcome<'_> {
 
 /// Writes the outcome's line, and answers its status.
 pub fn show<E: Sink>(outcome: &Outcome, err: &mut E) -> u8
-    ensures shows { Shows (outcome_seen outcome.now) result (record { taken = E.taken err.old; faults = E.faults err.old }) (record { taken = E.taken err.new; faults = E.faults err.new }) }
+    ensures shows { Shows (outcome_seen outcome.now) result
+        (stream (E.taken err.old) (E.faults err.old)) (stream (E.taken err.new) (E.faults err.new)) }
     ensures later { E.faults err.old ≤ E.faults err.new }
 {
     match put_line(outcome, err) {

@@ -128,7 +128,8 @@ fn carry(
     headers: &[ProgramHeader],
     delta: u32,
 ) -> Result<Vec<ProgramHeader>, NoMemory>
-    ensures headers { IfOk result (λ carried. carried.items ≡ map (carried_on_of delta) (filter is_carried_of headers.now)) }
+    ensures headers { IfOk result (λ carried.
+        carried.items ≡ map (carried_on_of delta) (filter is_carried_of headers.now)) }
     ensures few { IfOk result (λ carried. vec_len carried ≤ length headers.now) }
 {
     let mut carried = Vec::with_capacity(alloc, headers.len())?;

@@ -215,7 +215,8 @@ fn put_notes(out: &mut Vec<u8>, plan: &Plan<'_>) -> Result<(), NoMemory>
 /// For each word its place in the code, its address in the original, and its block.
 fn put_places(out: &mut Vec<u8>, plan: &Plan<'_>) -> Result<(), NoMemory>
     requires { IsSmall (plan_seen plan.now) }
-    ensures { OnOk result (out.new.items ≡ out.old.items ++ words_bytes (places (plan_seen plan.now) (count (plan_seen plan.now)))) }
+    ensures { let seen = plan_seen plan.now in
+        OnOk result (out.new.items ≡ out.old.items ++ words_bytes (places seen (count seen))) }
 {
     for word in 0..plan.text.len() {
         let low = plan.base.0 + 4 * word;
