@@ -4,6 +4,8 @@
 use Rattle.std.specs.Prelude.{◌≡◌, ℕ, ◌+◌, ◌-◌, ◌*◌, ◌/◌, ◌%◌, ◌^◌, Bool, true, false, not, ◌&&◌, ◌||◌, Result, Ok, Err, nat_lt, nat_le, ◌==◌, if◌then◌else◌, bit_and, bit_or, bit_xor, refl}
 use Rattle.v8_decode.specs.declared.AluOp.{AluOp}
 use Rattle.v8_decode.specs.declared.AluOp.TheVariants as ops
+use Rattle.v8_decode.specs.declared.Instr.{Instr}
+use Rattle.v8_decode.specs.declared.Instr.TheVariants as i
 use Rattle.v8_alu.specs.declared.Codes.{Codes}
 use Rattle.v8_alu.specs.declared.AluOut.{AluOut}
 use Rattle.v8_alu.specs.declared.AluTrap.{AluTrap}
@@ -22,6 +24,11 @@ has_form ops.TADDccTV cc = cc
 has_form ops.TSUBccTV cc = cc
 has_form ops.MULScc cc = cc
 has_form _ cc = true
+
+-- the same of an instruction
+abbrev pub alu_has_form : Instr → Bool
+alu_has_form (i.Alu op cc rd rs1 op2) = has_form op cc
+alu_has_form _ = true
 
 -- V and C, with N and Z of a value (section 4.2)
 abbrev pub codes_of : ℕ → Bool → Bool → Codes
@@ -106,10 +113,12 @@ abbrev pub quotient_out : ℕ → Bool → ℕ → Result AluOut AluTrap
 quotient_out value v y = out value (codes_of value v false) y
 
 -- a quotient that does not fit gives the greatest number, with V, here
+abbrev pub unsigned_end : ℕ → ℕ → Result AluOut AluTrap
+unsigned_end size y =
+    if nat_lt size (2 ^ 32) then quotient_out size false y else quotient_out (2 ^ 32 - 1) true y
+
 abbrev pub unsigned_quotient : ℕ → ℕ → ℕ → Result AluOut AluTrap
-unsigned_quotient a b y =
-    let quotient = dividend_of a y / b in
-    if nat_lt quotient (2 ^ 32) then quotient_out quotient false y else quotient_out (2 ^ 32 - 1) true y
+unsigned_quotient a b y = unsigned_end (dividend_of a y / b) y
 
 -- the absolute value of the signed dividend
 abbrev pub dividend_magnitude : ℕ → ℕ → ℕ

@@ -1,6 +1,6 @@
 -- The conditions of Bicc and Ticc on the integer condition codes: the tables of sections B.21 and B.27 of
 -- The SPARC Architecture Manual, Version 8.
-use Rattle.std.specs.Prelude.{◌≡◌, ℕ, Bool, true, false, not, ◌||◌, List, [], ◌∷◌, ◌==◌, if◌then◌else◌, refl}
+use Rattle.std.specs.Prelude.{ℕ, Bool, true, false, not, ◌||◌, List, [], ◌∷◌, ◌==◌, if◌then◌else◌}
 use Rattle.v8_alu.specs.declared.Codes.{Codes}
 use Rattle.v8_alu.specs.Numbers.{differ}
 

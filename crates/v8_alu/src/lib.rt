@@ -3,8 +3,9 @@
 //! SPARC Architecture Manual, Version 8.
 #![tactic(auto)]
 
-ghost use Rattle.std.specs.Prelude.{◌≡◌, ◌≤◌, ◌<◌, ◌^◌, ◌+◌, ◌*◌, ◌-◌, IsTrue, true, false, nat_lt, if◌then◌else◌};
-ghost use Rattle.v8_alu.specs.Alu.{alu_of, codes_of, count_of, difference_out, dividend_magnitude, dividend_of, divided, has_form, is_tagged, logic_out, multiply_step, product_out, quotient_out, result_of, shifted_right, signed_end, signed_product, signed_quotient, sum_out, trap_on_v, unsigned_quotient, with_tags};
+ghost use Rattle.std.specs.Prelude.{◌≡◌, ℕ, ◌≤◌, ◌<◌, ◌^◌, ◌+◌, ◌*◌, IsTrue};
+ghost use Rattle.v8_decode.specs.Words.{decode_of};
+ghost use Rattle.v8_alu.specs.Alu.{alu_has_form, alu_of, codes_of, count_of, difference_out, dividend_magnitude, dividend_of, divided, has_form, is_tagged, logic_out, multiply_step, product_out, quotient_out, result_of, shifted_right, signed_end, signed_product, signed_quotient, sum_out, trap_on_v, unsigned_end, unsigned_quotient, with_tags};
 ghost use Rattle.v8_alu.specs.Conditions.{holds_of};
 ghost use Rattle.v8_alu.specs.Numbers.{is_negative, magnitude, wrapped};
 
@@ -240,7 +241,7 @@ fn quotient(value: u32, v: bool, y: u32) -> Result<AluOut, AluTrap>
 
 #[inline]
 fn fitted_unsigned(size: u64, y: u32) -> Result<AluOut, AluTrap>
-    ensures { result ≡ (if nat_lt size (2 ^ 32) then quotient_out size false y else quotient_out (2 ^ 32 - 1) true y) }
+    ensures { result ≡ unsigned_end size y }
 {
     if size < 0x1_0000_0000 {
         quotient(size as u32, false, y)
@@ -322,6 +323,12 @@ fn outcome(op: AluOp, a: u32, b: u32, codes: Codes, y: u32) -> Result<AluOut, Al
         AluOp::SRA => logic(shift_right_signed(a, count(b)), y),
     }
 }
+
+/// Each word that is an operation has a form that [`alu`] takes.
+#[inline]
+pub fn decoded_forms()
+    ensures { (word : ℕ) → IsTrue (alu_has_form (decode_of word)) }
+{}
 
 /// What an operation makes of its operands: `a` is the first, `b` the second, `codes` and `y` what the
 /// codes and Y held before.
