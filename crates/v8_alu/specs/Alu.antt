@@ -1,7 +1,7 @@
 -- Integer arithmetic: what an operation makes of its operands, and the codes that it sets, by appendix B
 -- of The SPARC Architecture Manual, Version 8. Numbers of 32 bits are from 0 to 2 ^ 32 - 1. "Here" marks
 -- what this machine chooses where the manual leaves it to an implementation.
-use Rattle.std.specs.Prelude.{◌≡◌, ℕ, ◌+◌, ◌-◌, ◌*◌, ◌/◌, ◌%◌, ◌^◌, Bool, true, false, not, ◌&&◌, ◌||◌, Result, Ok, Err, nat_lt, nat_le, ◌==◌, if◌then◌else◌, bit_and, bit_or, bit_xor, refl}
+use Rattle.std.specs.Prelude.{◌≡◌, ℕ, ◌+◌, ◌-◌, ◌*◌, ◌/◌, ◌%◌, ◌^◌, ◌<◌, Bool, true, false, not, ◌&&◌, ◌||◌, Result, Ok, Err, IfOk, nat_lt, nat_le, ◌==◌, if◌then◌else◌, bit_and, bit_or, bit_xor, refl}
 use Rattle.v8_decode.specs.declared.AluOp.{AluOp}
 use Rattle.v8_decode.specs.declared.AluOp.TheVariants as ops
 use Rattle.v8_decode.specs.declared.Instr.{Instr}
@@ -63,7 +63,7 @@ difference_out a b borrow y =
 abbrev pub logic_out : ℕ → ℕ → Result AluOut AluTrap
 logic_out value y = out value (codes_of value false false) y
 
--- a shift has no form that sets codes (B.12); the count is the low five bits of the second operand
+-- how far a shift goes: the low five bits of the second operand (B.12)
 abbrev pub count_of : ℕ → ℕ
 count_of b = b % 32
 
@@ -93,7 +93,7 @@ multiply_step a b codes y =
     let shifted = one_if (differ codes.n codes.v) * 2 ^ 31 + a / 2 in
     sum_out shifted (if y % 2 == 0 then 0 else b) 0 (a % 2 * 2 ^ 31 + y / 2)
 
--- the low word of a product of 64 bits, with its codes, and the high word in Y; V and C become 0, here (B.18)
+-- the low word of a product of 64 bits, with its codes, and the high word in Y; V and C become 0 (B.18)
 abbrev pub product_out : ℕ → Result AluOut AluTrap
 product_out product = logic_out (wrapped product) (product / 2 ^ 32)
 
@@ -174,6 +174,10 @@ keeping false codes (Err trap) = Err trap
 -- what an operation makes of its operands
 unfoldable pub alu_of : AluOp → Bool → ℕ → ℕ → Codes → ℕ → Result AluOut AluTrap
 alu_of op cc a b codes y = keeping cc codes (result_of op a b codes y)
+
+-- the value and Y have 32 bits
+abbrev pub IsOutInRange : Result AluOut AluTrap → Type 0
+IsOutInRange r = IfOk r (λ o. (o.value < 2 ^ 32) × (o.y < 2 ^ 32))
 
 -- The operations compute.
 clear : Codes

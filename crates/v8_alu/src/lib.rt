@@ -3,9 +3,9 @@
 //! SPARC Architecture Manual, Version 8.
 #![tactic(auto)]
 
-ghost use Rattle.std.specs.Prelude.{◌≡◌, ℕ, ◌≤◌, ◌<◌, ◌^◌, ◌+◌, ◌*◌, IsTrue};
+ghost use Rattle.std.specs.Prelude.{◌≡◌, ℕ, Bool, ◌≤◌, ◌<◌, ◌^◌, ◌+◌, ◌*◌, IsTrue};
 ghost use Rattle.v8_decode.specs.Words.{decode_of};
-ghost use Rattle.v8_alu.specs.Alu.{alu_has_form, alu_of, codes_of, count_of, difference_out, dividend_magnitude, dividend_of, divided, has_form, is_tagged, logic_out, multiply_step, product_out, quotient_out, result_of, shifted_right, signed_end, signed_product, signed_quotient, sum_out, trap_on_v, unsigned_end, unsigned_quotient, with_tags};
+ghost use Rattle.v8_alu.specs.Alu.{IsOutInRange, alu_has_form, alu_of, codes_of, count_of, difference_out, dividend_magnitude, dividend_of, divided, has_form, is_tagged, logic_out, multiply_step, product_out, quotient_out, result_of, shifted_right, signed_end, signed_product, signed_quotient, sum_out, trap_on_v, unsigned_end, unsigned_quotient, with_tags};
 ghost use Rattle.v8_alu.specs.Conditions.{holds_of};
 ghost use Rattle.v8_alu.specs.Numbers.{is_negative, magnitude, wrapped};
 
@@ -351,6 +351,12 @@ pub fn alu(op: AluOp, cc: bool, a: u32, b: u32, codes: Codes, y: u32) -> Result<
         Err(trap) => Err(trap),
     }
 }
+
+/// What [`alu`] gives has 32 bits, by its definition, if the operands and Y had.
+#[inline]
+pub fn outcomes_in_range()
+    ensures { (op : AluOp) → (sets : Bool) → (a b : ℕ) → (codes : Codes) → (y : ℕ) → a < 2 ^ 32 → b < 2 ^ 32 → y < 2 ^ 32 → IsOutInRange (alu_of op sets a b codes y) }
+{}
 
 /// Whether the condition holds of the codes.
 #[inline]
