@@ -1,0 +1,3 @@
+pub mod Alu
+pub mod Conditions
+pub mod Numbers
