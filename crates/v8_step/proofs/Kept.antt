@@ -1,6 +1,7 @@
 -- What every write and every move of the heap's end keeps between a memory and the one after it, each step keeps.
 use Rattle.std.proofs.Common.{ℕ, zero, suc, ◌-◌, ◌%◌, Bool, true, false, Option, Some, None, Result, Ok, Err, List, [], ◌∷◌, length, take}
 use Rattle.std.specs.Prelude.{if◌then◌else◌, ◌==◌}
+use Rattle.std.specs.Int.{Width, byte_len, w8, w32}
 use Rattle.v8_decode.specs.declared.Instr.{Instr}
 use Rattle.v8_decode.specs.declared.Instr.TheVariants as i
 use Rattle.v8_decode.specs.Words.{decode_of}
@@ -133,11 +134,11 @@ module _ (Rel : Memory → Memory → Type 0) (same : (m : Memory) → Rel m m)
   kept_branch m false always true s target h = h
   kept_branch m false always false s target h = h
 
-  kept_exchange : (m : Memory) (s : State) (size rd address : ℕ) (bytes : List ℕ) → Keeps m s
-      → Keeps m (exchange_step s size rd address bytes)
-  kept_exchange m s size rd address bytes h =
-      kept_if m (address % size == 0) _ _
-      (kept_bytes m s (bytes_at s.memory address size) _ h (λ old.
+  kept_exchange : (m : Memory) (s : State) (width : Width) (rd address : ℕ) (bytes : List ℕ) → Keeps m s
+      → Keeps m (exchange_step s width rd address bytes)
+  kept_exchange m s width rd address bytes h =
+      kept_if m (address % byte_len width == 0) _ _
+      (kept_bytes m s (bytes_at s.memory address (byte_len width)) _ h (λ old.
       kept_on m s (Trap data_access_exception) (with_bytes s.memory address bytes) _ h
       (kept_write s.memory address bytes) (λ n e. e)))
       h
@@ -179,8 +180,8 @@ module _ (Rel : Memory → Memory → Type 0) (same : (m : Memory) → Rel m m)
       (kept_on m s (Trap data_access_exception) _ next h
       (kept_write s.memory (sum_of s rs1 op2) (stored s kind rd)) (λ n e. e))
       h
-  kept_act m s (i.Ldstub rd rs1 op2) h = kept_exchange m s 1 rd (sum_of s rs1 op2) _ h
-  kept_act m s (i.Swap rd rs1 op2) h = kept_exchange m s 4 rd (sum_of s rs1 op2) _ h
+  kept_act m s (i.Ldstub rd rs1 op2) h = kept_exchange m s w8 rd (sum_of s rs1 op2) _ h
+  kept_act m s (i.Swap rd rs1 op2) h = kept_exchange m s w32 rd (sum_of s rs1 op2) _ h
   kept_act m s i.Illegal h = h
   kept_act m s i.Privileged h = h
   kept_act m s i.FpOff h = h

@@ -1,7 +1,7 @@
 -- Loads, stores, and the two instructions that do both (sections B.1, B.4, B.7 and B.8 of The SPARC Architecture
 -- Manual, Version 8). An address that is not aligned is judged before the access.
 use Rattle.std.specs.Prelude.{ℕ, suc, ◌+◌, ◌-◌, ◌%◌, ◌^◌, List, [], ◌∷◌, ◌++◌, take, drop, Option, Some, None, nat_lt, ◌==◌, if◌then◌else◌}
-use Rattle.std.specs.Int.{w16, w32, to_be_bytes, from_be_bytes}
+use Rattle.std.specs.Int.{Width, byte_len, w8, w16, w32, to_be_bytes, from_be_bytes}
 use Rattle.v8_decode.specs.declared.LoadKind.{LoadKind}
 use Rattle.v8_decode.specs.declared.LoadKind.TheVariants as loads
 use Rattle.v8_decode.specs.declared.StoreKind.{StoreKind}
@@ -32,9 +32,9 @@ store_size stores.STD = 8
 
 -- ---- values
 
--- at most four bytes as a number, the highest first
-abbrev pub number_of : List ℕ → ℕ
-number_of bytes = from_be_bytes w32 bytes
+-- a word as a number, the highest byte first
+abbrev pub word_of : List ℕ → ℕ
+word_of bytes = from_be_bytes w32 bytes
 
 -- a number of `width` bits, with its sign extended to 32
 abbrev pub extended : ℕ → ℕ → ℕ
@@ -42,13 +42,15 @@ extended width n = if nat_lt n (2 ^ (width - 1)) then n else 2 ^ 32 - 2 ^ width 
 
 -- the registers after a load of these bytes into rd of a window
 abbrev pub loaded : List ℕ → ℕ → LoadKind → ℕ → List ℕ → List ℕ
-loaded registers window loads.LD rd bytes = register_set registers window rd (number_of bytes)
-loaded registers window loads.LDUB rd bytes = register_set registers window rd (number_of bytes)
-loaded registers window loads.LDUH rd bytes = register_set registers window rd (number_of bytes)
+loaded registers window loads.LD rd bytes = register_set registers window rd (word_of bytes)
+loaded registers window loads.LDUB rd bytes = register_set registers window rd (from_be_bytes w8 bytes)
+loaded registers window loads.LDUH rd bytes = register_set registers window rd (from_be_bytes w16 bytes)
 loaded registers window loads.LDD rd bytes =
-    pair_set registers window rd (number_of (take 4 bytes)) (number_of (drop 4 bytes))
-loaded registers window loads.LDSB rd bytes = register_set registers window rd (extended 8 (number_of bytes))
-loaded registers window loads.LDSH rd bytes = register_set registers window rd (extended 16 (number_of bytes))
+    pair_set registers window rd (word_of (take 4 bytes)) (word_of (drop 4 bytes))
+loaded registers window loads.LDSB rd bytes =
+    register_set registers window rd (extended 8 (from_be_bytes w8 bytes))
+loaded registers window loads.LDSH rd bytes =
+    register_set registers window rd (extended 16 (from_be_bytes w16 bytes))
 
 -- the bytes that a store of rd writes
 abbrev pub stored : State → StoreKind → ℕ → List ℕ
@@ -84,19 +86,19 @@ store_step s kind rd address =
     then on_memory s (Trap data_access_exception) (with_bytes s.memory address (stored s kind rd)) next
     else trapped s mem_address_not_aligned
 
--- reads `size` bytes into rd and writes others in their place, where both are allowed
-abbrev pub exchange_step : State → ℕ → ℕ → ℕ → List ℕ → State
-exchange_step s size rd address new =
-    if address % size == 0
-    then on_bytes s (bytes_at s.memory address size) (λ old.
+-- reads the bytes of a width into rd and writes others in their place, where both are allowed
+abbrev pub exchange_step : State → Width → ℕ → ℕ → List ℕ → State
+exchange_step s width rd address new =
+    if address % byte_len width == 0
+    then on_bytes s (bytes_at s.memory address (byte_len width)) (λ old.
     on_memory s (Trap data_access_exception) (with_bytes s.memory address new)
-    (λ t. next (with_register t rd (number_of old))))
+    (λ t. next (with_register t rd (from_be_bytes width old))))
     else trapped s mem_address_not_aligned
 
 -- B.7 LDSTUB
 unfoldable pub ldstub_step : State → ℕ → ℕ → State
-ldstub_step s rd address = exchange_step s 1 rd address (0xff ∷ [])
+ldstub_step s rd address = exchange_step s w8 rd address (0xff ∷ [])
 
 -- B.8 SWAP
 unfoldable pub swap_step : State → ℕ → ℕ → State
-swap_step s rd address = exchange_step s 4 rd address (to_be_bytes w32 (register_of s rd))
+swap_step s rd address = exchange_step s w32 rd address (to_be_bytes w32 (register_of s rd))
