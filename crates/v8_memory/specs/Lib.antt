@@ -1,0 +1,4 @@
+pub mod Laws
+pub mod Regions
+pub mod Segments
+pub mod Spans

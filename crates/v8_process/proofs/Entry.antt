@@ -1,0 +1,17 @@
+-- How a program starts.
+use Rattle.std.proofs.Common.{◌≡◌, ℕ, ◌%◌, List, refl, arith}
+use Rattle.v8_process.specs.Start.{start_of, rounded_down}
+use Rattle.v8_process.specs.Laws.{StartsAtEntry}
+
+rounded : (n : ℕ) → rounded_down n % 8 ≡ 0
+rounded n = omega arith
+
+pub starts_at_entry : (file : List ℕ) (args : List (List ℕ)) (input : List ℕ) → StartsAtEntry file args input
+unfolding start_of
+starts_at_entry file args input = record {
+  pc = refl;
+  ending = refl;
+  left = refl;
+  sp = refl;
+  aligned = rounded _;
+}

@@ -1,0 +1,263 @@
+-- Small programs, as whole files or as words, and their runs from the first state: they compute.
+use Rattle.std.specs.Prelude.{◌≡◌, ℕ, ◌*◌, List, [], ◌∷◌, length, map, Some, true, false, refl}
+use Rattle.std.specs.Int.{w32, to_be_bytes}
+use Rattle.std.specs.List.{flat_map}
+use Rattle.elf32_sparc.specs.Header.{half_at, word_at, program_header, program_headers}
+use Rattle.elf32_sparc.specs.Mapping.{mappings}
+use Rattle.v8_decode.specs.Words.{decode_of, branch_or_sethi, arithmetic, memory}
+use Rattle.v8_memory.specs.Segments.{empty_heap, data_region}
+use Rattle.v8_memory.specs.Regions.{Region, bytes_at, with_bytes, fetch_of}
+use Rattle.v8_step.specs.declared.Ending.TheVariants.{Exit, Trap, Window, Couple}
+use Rattle.v8_step.specs.Alu.{alu_of}
+use Rattle.v8_step.specs.Conditions.{holds_of}
+use Rattle.v8_step.specs.Transfers.{branch_step, call_step, jump_step}
+use Rattle.v8_step.specs.Accesses.{load_step, store_step, ldstub_step, swap_step}
+use Rattle.v8_step.specs.WindowMoves.{save_step, restore_step}
+use Rattle.v8_step.specs.Calls.{system_call, trap_step}
+use Rattle.v8_step.specs.Step.{alu_step, act, step_of, puts_by, puts_of}
+use Rattle.v8_step.specs.State.{State, register_of}
+use Rattle.v8_step.specs.Run.{run, run_puts, zeros, first_state}
+use Rattle.v8_process.specs.Start.{start_of, first_sp, program_name}
+
+abbrev pub bytes_of : List ℕ → List ℕ
+bytes_of words = flat_map (to_be_bytes w32) words
+
+-- A file with these words as its text, at 0x10054: a file header, one program header and the words.
+abbrev pub file_of : List ℕ → List ℕ
+file_of words = bytes_of (
+    0x7f454c46 ∷ 0x01020100 ∷ 0 ∷ 0
+    ∷ 0x00020002 ∷ 1 ∷ 0x00010054 ∷ 0x34 ∷ 0 ∷ 0 ∷ 0x00340020 ∷ 0x00010000 ∷ 0
+    ∷ 1 ∷ 0x54 ∷ 0x10054 ∷ 0x10054 ∷ 4 * length words ∷ 4 * length words ∷ 5 ∷ 0x10000
+    ∷ words)
+
+-- exits with 3
+abbrev pub three_words : List ℕ
+three_words = 0x82102001 ∷ 0x90102003 ∷ 0x91d02010 ∷ []
+
+without_arguments : first_sp (program_name ∷ []) ≡ 0xefffffa0
+without_arguments = refl
+
+three_words_ends : (run (start_of (file_of three_words) [] []) 3).ending ≡ Some (Exit 3)
+unfolding start_of half_at word_at program_header program_headers mappings decode_of arithmetic step_of act alu_step system_call trap_step alu_of holds_of fetch_of bytes_at with_bytes
+three_words_ends = refl
+
+-- counts carries that stay live from one turn of the loop to the next, and exits with 4
+abbrev pub carry_loop : List ℕ
+carry_loop = 0x84102005 ∷ 0x90422000 ∷ 0x8480bfff ∷ 0x12bffffe ∷ 0x01000000 ∷ 0x82102001 ∷ 0x91d02010 ∷ []
+
+carry_loop_ends : (run (start_of (file_of carry_loop) [] []) 23).ending ≡ Some (Exit 4)
+unfolding start_of half_at word_at program_header program_headers mappings decode_of branch_or_sethi arithmetic step_of act alu_step branch_step system_call trap_step alu_of holds_of fetch_of bytes_at with_bytes
+carry_loop_ends = refl
+
+-- a branch that is taken, with its slot
+abbrev pub taken_branch : List ℕ
+taken_branch =
+    0x80a02000 ∷ 0x02800004 ∷ 0x80a02001 ∷ 0x10800003 ∷ 0x90102001 ∷ 0x90102002 ∷ 0x82102001 ∷ 0x91d02010 ∷ []
+
+taken_branch_ends : (run (start_of (file_of taken_branch) [] []) 6).ending ≡ Some (Exit 2)
+unfolding start_of half_at word_at program_header program_headers mappings decode_of branch_or_sethi arithmetic memory step_of act alu_step branch_step call_step jump_step load_step store_step ldstub_step swap_step save_step restore_step system_call trap_step alu_of holds_of fetch_of bytes_at with_bytes
+taken_branch_ends = refl
+
+-- be,a untaken, bn,a, ba,a and be,a taken
+abbrev pub annulled_branches : List ℕ
+annulled_branches =
+    0x80a02001 ∷ 0x22800003 ∷ 0x90022001 ∷ 0x20800002 ∷ 0x90022002 ∷ 0x30800002 ∷ 0x90022004 ∷ 0x80a02000
+    ∷ 0x22800002 ∷ 0x90022008 ∷ 0x82102001 ∷ 0x91d02010 ∷ []
+
+annulled_branches_ends : (run (start_of (file_of annulled_branches) [] []) 9).ending ≡ Some (Exit 8)
+unfolding start_of half_at word_at program_header program_headers mappings decode_of branch_or_sethi arithmetic memory step_of act alu_step branch_step call_step jump_step load_step store_step ldstub_step swap_step save_step restore_step system_call trap_step alu_of holds_of fetch_of bytes_at with_bytes
+annulled_branches_ends = refl
+
+-- a branch to the word after its slot
+abbrev pub branch_over_nop : List ℕ
+branch_over_nop =
+    0x80a02000 ∷ 0x02800002 ∷ 0x01000000 ∷ 0x82102001 ∷ 0x90102000 ∷ 0x91d02010 ∷ []
+
+branch_over_nop_ends : (run (start_of (file_of branch_over_nop) [] []) 6).ending ≡ Some (Exit 0)
+unfolding start_of half_at word_at program_header program_headers mappings decode_of branch_or_sethi arithmetic memory step_of act alu_step branch_step call_step jump_step load_step store_step ldstub_step swap_step save_step restore_step system_call trap_step alu_of holds_of fetch_of bytes_at with_bytes
+branch_over_nop_ends = refl
+
+-- a call whose link is the answer
+abbrev pub call_and_return : List ℕ
+call_and_return =
+    0x40000004 ∷ 0x01000000 ∷ 0x82102001 ∷ 0x91d02010 ∷ 0x81c3e008 ∷ 0x900be0ff ∷ []
+
+call_and_return_ends : (run (start_of (file_of call_and_return) [] []) 6).ending ≡ Some (Exit 84)
+unfolding start_of half_at word_at program_header program_headers mappings decode_of branch_or_sethi arithmetic memory step_of act alu_step branch_step call_step jump_step load_step store_step ldstub_step swap_step save_step restore_step system_call trap_step alu_of holds_of fetch_of bytes_at with_bytes
+call_and_return_ends = refl
+
+-- a jump to an address that is not aligned
+abbrev pub misaligned_jump : List ℕ
+misaligned_jump =
+    0x82102002 ∷ 0x81c06000 ∷ 0xc223a040 ∷ []
+
+misaligned_jump_ends : (run (start_of (file_of misaligned_jump) [] []) 2).ending ≡ Some (Trap 7)
+unfolding start_of half_at word_at program_header program_headers mappings decode_of branch_or_sethi arithmetic memory step_of act alu_step branch_step call_step jump_step load_step store_step ldstub_step swap_step save_step restore_step system_call trap_step alu_of holds_of fetch_of bytes_at with_bytes
+misaligned_jump_ends = refl
+
+-- returns into the middle of straight code
+abbrev pub inner_landings : List ℕ
+inner_landings =
+    0x40000002 ∷ 0x01000000 ∷ 0x81c3e018 ∷ 0x01000000 ∷ 0x90022001 ∷ 0x90022002 ∷ 0x90022004 ∷ 0x81c3e028
+    ∷ 0x01000000 ∷ 0x10800002 ∷ 0x90022008 ∷ 0x82102001 ∷ 0x91d02010 ∷ []
+
+inner_landings_ends : (run (start_of (file_of inner_landings) [] []) 10).ending ≡ Some (Exit 12)
+unfolding start_of half_at word_at program_header program_headers mappings decode_of branch_or_sethi arithmetic memory step_of act alu_step branch_step call_step jump_step load_step store_step ldstub_step swap_step save_step restore_step system_call trap_step alu_of holds_of fetch_of bytes_at with_bytes
+inner_landings_ends = refl
+
+-- calls without a return
+abbrev pub exit_three_calls_deep : List ℕ
+exit_three_calls_deep =
+    0x40000002 ∷ 0x01000000 ∷ 0x40000002 ∷ 0x01000000 ∷ 0x40000002 ∷ 0x01000000 ∷ 0x82102001 ∷ 0x90102000
+    ∷ 0x91d02010 ∷ []
+
+exit_three_calls_deep_ends : (run (start_of (file_of exit_three_calls_deep) [] []) 9).ending ≡ Some (Exit 0)
+unfolding start_of half_at word_at program_header program_headers mappings decode_of branch_or_sethi arithmetic memory step_of act alu_step branch_step call_step jump_step load_step store_step ldstub_step swap_step save_step restore_step system_call trap_step alu_of holds_of fetch_of bytes_at with_bytes
+exit_three_calls_deep_ends = refl
+
+-- a jump by a table in the text
+abbrev pub switch_of_four : List ℕ
+switch_of_four =
+    0x90102003 ∷ 0x80a22003 ∷ 0x1880000c ∷ 0x912a2002 ∷ 0x03000040 ∷ 0x82106078 ∷ 0xc2004008 ∷ 0x81c04000
+    ∷ 0x01000000 ∷ 0x0001008c ∷ 0x0001008c ∷ 0x0001008c ∷ 0x00010088 ∷ 0x90102005 ∷ 0x82102001 ∷ 0x91d02010 ∷ []
+
+switch_of_four_ends : (run (start_of (file_of switch_of_four) [] []) 12).ending ≡ Some (Exit 5)
+unfolding start_of half_at word_at program_header program_headers mappings decode_of branch_or_sethi arithmetic memory step_of act alu_step branch_step call_step jump_step load_step store_step ldstub_step swap_step save_step restore_step system_call trap_step alu_of holds_of fetch_of bytes_at with_bytes
+switch_of_four_ends = refl
+
+-- a run that leaves the text
+abbrev pub one_nop : List ℕ
+one_nop =
+    0x01000000 ∷ []
+
+one_nop_ends : (run (start_of (file_of one_nop) [] []) 2).ending ≡ Some (Trap 1)
+unfolding start_of half_at word_at program_header program_headers mappings decode_of branch_or_sethi arithmetic memory step_of act alu_step branch_step call_step jump_step load_step store_step ldstub_step swap_step save_step restore_step system_call trap_step alu_of holds_of fetch_of bytes_at with_bytes
+one_nop_ends = refl
+
+-- a jump to where nothing is mapped
+abbrev pub jump_to_zero : List ℕ
+jump_to_zero =
+    0x81c02000 ∷ 0x01000000 ∷ []
+
+jump_to_zero_ends : (run (start_of (file_of jump_to_zero) [] []) 3).ending ≡ Some (Trap 1)
+unfolding start_of half_at word_at program_header program_headers mappings decode_of branch_or_sethi arithmetic memory step_of act alu_step branch_step call_step jump_step load_step store_step ldstub_step swap_step save_step restore_step system_call trap_step alu_of holds_of fetch_of bytes_at with_bytes
+jump_to_zero_ends = refl
+
+-- a load from where nothing is mapped
+abbrev pub load_from_zero : List ℕ
+load_from_zero =
+    0xc2002000 ∷ []
+
+load_from_zero_ends : (run (start_of (file_of load_from_zero) [] []) 1).ending ≡ Some (Trap 9)
+unfolding start_of half_at word_at program_header program_headers mappings decode_of branch_or_sethi arithmetic memory step_of act alu_step branch_step call_step jump_step load_step store_step ldstub_step swap_step save_step restore_step system_call trap_step alu_of holds_of fetch_of bytes_at with_bytes
+load_from_zero_ends = refl
+
+-- a branch in the slot of another
+abbrev pub transfer_in_slot : List ℕ
+transfer_in_slot =
+    0x10800002 ∷ 0x10800002 ∷ 0x01000000 ∷ []
+
+transfer_in_slot_ends : (run (start_of (file_of transfer_in_slot) [] []) 2).ending ≡ Some Couple
+unfolding start_of half_at word_at program_header program_headers mappings decode_of branch_or_sethi arithmetic memory step_of act alu_step branch_step call_step jump_step load_step store_step ldstub_step swap_step save_step restore_step system_call trap_step alu_of holds_of fetch_of bytes_at with_bytes
+transfer_in_slot_ends = refl
+
+-- ---- programs that read their stack: it is a short list here, since zeros without number don't compute
+
+abbrev pub text_region : List ℕ → Region
+text_region words = record {
+  start = 0x10054;
+  size = 4 * length words;
+  readable = true;
+  writable = false;
+  executable = true;
+  bytes = bytes_of words;
+}
+
+abbrev pub first_of : List ℕ → State
+first_of words =
+    first_state (record { heap = empty_heap; regions = text_region words ∷ data_region 0xeffffc00 (zeros 1024) ∷ [] })
+    0x10054 0xefffffa0 []
+
+-- seven SAVEs, the last of which saves the first window; its %l0 is written out from its frame
+abbrev pub window_overflow : List ℕ
+window_overflow =
+    0x8610000e ∷ 0xa0102007 ∷ 0x9de3bfa0 ∷ 0x9de3bfa0 ∷ 0x9de3bfa0 ∷ 0x9de3bfa0 ∷ 0x9de3bfa0 ∷ 0x9de3bfa0
+    ∷ 0x9de3bfa0 ∷ 0x82102004 ∷ 0x90102001 ∷ 0x92100003 ∷ 0x94102004 ∷ 0x91d02010 ∷ 0x82102001 ∷ 0x90102000
+    ∷ 0x91d02010 ∷ []
+
+window_overflow_ends : (run (first_of window_overflow) 17).ending ≡ Some (Exit 0)
+unfolding decode_of arithmetic step_of act alu_step save_step system_call trap_step alu_of holds_of fetch_of bytes_at with_bytes
+window_overflow_ends = refl
+
+window_overflow_puts : run_puts (first_of window_overflow) 17 1 ≡ 0 ∷ 0 ∷ 0 ∷ 7 ∷ []
+unfolding decode_of arithmetic step_of act alu_step save_step system_call trap_step alu_of holds_of fetch_of bytes_at with_bytes puts_of puts_by
+window_overflow_puts = refl
+
+-- a saved window whose frame is changed before it is loaded again
+abbrev pub flushed_windows : List ℕ
+flushed_windows =
+    0x9de3bfa0 ∷ 0x91d02003 ∷ 0x84102009 ∷ 0xc427a000 ∷ 0x81e80000 ∷ 0x90100010 ∷ 0x82102001 ∷ 0x91d02010 ∷ []
+
+flushed_windows_ends : (run (first_of flushed_windows) 8).ending ≡ Some (Exit 9)
+unfolding decode_of branch_or_sethi arithmetic memory step_of act alu_step branch_step call_step jump_step load_step store_step ldstub_step swap_step save_step restore_step system_call trap_step alu_of holds_of fetch_of bytes_at with_bytes
+flushed_windows_ends = refl
+
+-- a window that cannot be loaded, since %fp is 0
+abbrev pub restore_from_nowhere : List ℕ
+restore_from_nowhere =
+    0x81e80000 ∷ []
+
+restore_from_nowhere_ends : (run (first_of restore_from_nowhere) 1).ending ≡ Some Window
+unfolding decode_of branch_or_sethi arithmetic memory step_of act alu_step branch_step call_step jump_step load_step store_step ldstub_step swap_step save_step restore_step system_call trap_step alu_of holds_of fetch_of bytes_at with_bytes
+restore_from_nowhere_ends = refl
+
+-- a window that cannot be saved, since its %sp is 0
+abbrev pub save_to_nowhere : List ℕ
+save_to_nowhere =
+    0x81e00000 ∷ 0x81e00000 ∷ 0x81e00000 ∷ 0x81e00000 ∷ 0x81e00000 ∷ 0x81e00000 ∷ 0x81e00000 ∷ 0x81e00000 ∷ []
+
+save_to_nowhere_ends : (run (first_of save_to_nowhere) 8).ending ≡ Some Window
+unfolding decode_of branch_or_sethi arithmetic memory step_of act alu_step branch_step call_step jump_step load_step store_step ldstub_step swap_step save_step restore_step system_call trap_step alu_of holds_of fetch_of bytes_at with_bytes
+save_to_nowhere_ends = refl
+
+-- STD, LDSB, LDUB, LDSH, LDUH, SWAP, LDSTUB and LDD at the top of the stack
+abbrev pub accesses : List ℕ
+accesses =
+    0x84103ffe ∷ 0x86102005 ∷ 0xc43ba000 ∷ 0xd04ba003 ∷ 0xd20ba003 ∷ 0xd453a002 ∷ 0xd613a002 ∷ 0xc47ba004
+    ∷ 0xc86ba004 ∷ 0xcc1ba000 ∷ []
+
+accesses_give : map (register_of (run (first_of accesses) 10)) (2 ∷ 3 ∷ 4 ∷ 6 ∷ 7 ∷ 8 ∷ 9 ∷ 10 ∷ 11 ∷ [])
+    ≡ 5 ∷ 5 ∷ 0xff ∷ 0xfffffffe ∷ 0xfffffffe ∷ 0xfffffffe ∷ 0xfe ∷ 0xfffffffe ∷ 0xfffe ∷ []
+unfolding decode_of branch_or_sethi arithmetic memory step_of act alu_step branch_step call_step jump_step load_step store_step ldstub_step swap_step save_step restore_step system_call trap_step alu_of holds_of fetch_of bytes_at with_bytes
+accesses_give = refl
+
+-- WRY, RDY, UMUL, WRY with an exclusive or, RDY
+abbrev pub y_register : List ℕ
+y_register =
+    0x81802003 ∷ 0x91400000 ∷ 0x92520008 ∷ 0x81822001 ∷ 0x95400000 ∷ []
+
+y_register_gives : map (register_of (run (first_of y_register) 5)) (8 ∷ 9 ∷ 10 ∷ []) ≡ 3 ∷ 9 ∷ 2 ∷ []
+unfolding decode_of branch_or_sethi arithmetic memory step_of act alu_step branch_step call_step jump_step load_step store_step ldstub_step swap_step save_step restore_step system_call trap_step alu_of holds_of fetch_of bytes_at with_bytes
+y_register_gives = refl
+
+-- reads three bytes of input; is refused for a descriptor that does not read, and for a call that is not there
+abbrev pub system_calls : List ℕ
+system_calls =
+    0x82102003 ∷ 0x90102000 ∷ 0x9210000e ∷ 0x94102008 ∷ 0x91d02010 ∷ 0xc40ba001 ∷ 0x90102001 ∷ 0x91d02010
+    ∷ 0x82102063 ∷ 0x96122000 ∷ 0x91d02010 ∷ []
+
+abbrev pub with_input : List ℕ → State → State
+with_input bytes s = record s { input = bytes }
+
+system_calls_give :
+    map (register_of (run (with_input (10 ∷ 20 ∷ 30 ∷ []) (first_of system_calls)) 11)) (2 ∷ 8 ∷ 11 ∷ []) ≡ 20 ∷ 90 ∷ 9 ∷ []
+unfolding decode_of branch_or_sethi arithmetic memory step_of act alu_step branch_step call_step jump_step load_step store_step ldstub_step swap_step save_step restore_step system_call trap_step alu_of holds_of fetch_of bytes_at with_bytes
+system_calls_give = refl
+
+system_calls_refuse : (run (with_input (10 ∷ 20 ∷ 30 ∷ []) (first_of system_calls)) 11).codes.c ≡ true
+unfolding decode_of branch_or_sethi arithmetic memory step_of act alu_step branch_step call_step jump_step load_step store_step ldstub_step swap_step save_step restore_step system_call trap_step alu_of holds_of fetch_of bytes_at with_bytes
+system_calls_refuse = refl
+
+system_calls_read : register_of (run (with_input (10 ∷ 20 ∷ 30 ∷ []) (first_of system_calls)) 5) 8 ≡ 3
+unfolding decode_of branch_or_sethi arithmetic memory step_of act alu_step branch_step call_step jump_step load_step store_step ldstub_step swap_step save_step restore_step system_call trap_step alu_of holds_of fetch_of bytes_at with_bytes
+system_calls_read = refl

@@ -1,0 +1,12 @@
+//! The start of a program: its file in memory, its arguments on the stack, and the first state of its run.
+//!
+//! The definitions stand in specs/, with small programs whose runs are computed there.
+#![tactic(auto)]
+
+ghost use Rattle.std.specs.Prelude.{ℕ, List};
+ghost use Rattle.v8_process.specs.Laws.{StartsAtEntry};
+
+/// A program starts at its entry, alive, with a stack pointer that is a multiple of 8.
+pub fn starts_at_entry()
+    ensures { (file : List ℕ) (args : List (List ℕ)) (input : List ℕ) → StartsAtEntry file args input }
+{}

@@ -1,0 +1,12 @@
+pub mod Accesses
+pub mod Alu
+pub mod Calls
+pub mod Conditions
+pub mod Laws
+pub mod Numbers
+pub mod Run
+pub mod State
+pub mod Step
+pub mod Transfers
+pub mod Traps
+pub mod WindowMoves
