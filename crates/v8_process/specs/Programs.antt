@@ -8,8 +8,8 @@ use Rattle.v8_decode.specs.Words.{decode_of, branch_or_sethi, arithmetic, memory
 use Rattle.v8_memory.specs.Segments.{empty_heap, data_region}
 use Rattle.v8_memory.specs.Regions.{Region, bytes_at, with_bytes, fetch_of}
 use Rattle.v8_step.specs.declared.Ending.TheVariants.{Exit, Trap, Window, Couple}
-use Rattle.v8_step.specs.Alu.{alu_of}
-use Rattle.v8_step.specs.Conditions.{holds_of}
+use Rattle.v8_alu.specs.Alu.{alu_of}
+use Rattle.v8_alu.specs.Conditions.{holds_of}
 use Rattle.v8_step.specs.Transfers.{branch_step, call_step, jump_step}
 use Rattle.v8_step.specs.Accesses.{load_step, store_step, ldstub_step, swap_step}
 use Rattle.v8_step.specs.WindowMoves.{save_step, restore_step}

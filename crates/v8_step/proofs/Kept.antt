@@ -7,12 +7,12 @@ use Rattle.v8_decode.specs.declared.Instr.TheVariants as i
 use Rattle.v8_decode.specs.Words.{decode_of}
 use Rattle.v8_memory.specs.Regions.{Memory, Region, all_written, write_region, with_bytes, bytes_at, if_allowed, region_at, fetch_of, with_heap_end}
 use Rattle.v8_windows.specs.Frames.{frame_bytes}
-use Rattle.v8_step.specs.declared.AluOut.{AluOut}
-use Rattle.v8_step.specs.declared.AluTrap.{AluTrap}
-use Rattle.v8_step.specs.declared.AluTrap.TheVariants.{DivZero, TagOverflow}
+use Rattle.v8_alu.specs.declared.AluOut.{AluOut}
+use Rattle.v8_alu.specs.declared.AluTrap.{AluTrap}
+use Rattle.v8_alu.specs.declared.AluTrap.TheVariants.{DivZero, TagOverflow}
 use Rattle.v8_step.specs.declared.Ending.{Ending}
 use Rattle.v8_step.specs.declared.Ending.TheVariants.{Trap, Window}
-use Rattle.v8_step.specs.Conditions.{holds_of}
+use Rattle.v8_alu.specs.Conditions.{holds_of}
 use Rattle.v8_step.specs.State.{State, Slot, NoSlot, Taken, Untaken, sum_of}
 use Rattle.v8_step.specs.Traps.{flush_windows, call_system, data_access_exception}
 use Rattle.v8_step.specs.Transfers.{next, target_of, branched, unless_couple, branch_step, call_step, jump_step}

@@ -1,9 +1,6 @@
 pub mod Accesses
-pub mod Alu
 pub mod Calls
-pub mod Conditions
 pub mod Laws
-pub mod Numbers
 pub mod Run
 pub mod State
 pub mod Step

@@ -1,7 +1,7 @@
 -- A run: the states after so many steps, and what they put out.
 use Rattle.std.specs.Prelude.{ℕ, zero, suc, ◌+◌, List, [], ◌∷◌, ◌++◌, false, None}
 use Rattle.v8_memory.specs.Regions.{Memory}
-use Rattle.v8_step.specs.Numbers.{wrapped}
+use Rattle.v8_alu.specs.Numbers.{wrapped}
 use Rattle.v8_step.specs.State.{State, NoSlot}
 use Rattle.v8_step.specs.Step.{step_of, puts_of}
 

@@ -6,9 +6,9 @@ use Rattle.v8_decode.specs.declared.Op2.{Op2}
 use Rattle.v8_decode.specs.declared.Op2.TheVariants.{Reg, Imm}
 use Rattle.v8_memory.specs.Regions.{Memory}
 use Rattle.v8_windows.specs.Registers.{register_in, register_set}
-use Rattle.v8_step.specs.declared.Codes.{Codes}
+use Rattle.v8_alu.specs.declared.Codes.{Codes}
 use Rattle.v8_step.specs.declared.Ending.{Ending}
-use Rattle.v8_step.specs.Numbers.{wrapped}
+use Rattle.v8_alu.specs.Numbers.{wrapped}
 
 -- Whether the instruction at pc is in the delay slot of a transfer, and whether that one was taken.
 pub data Slot : Type 0 where

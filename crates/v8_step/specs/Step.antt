@@ -6,13 +6,13 @@ use Rattle.v8_decode.specs.declared.Instr.{Instr}
 use Rattle.v8_decode.specs.declared.Instr.TheVariants as i
 use Rattle.v8_decode.specs.Words.{decode_of}
 use Rattle.v8_memory.specs.Regions.{fetch_of}
-use Rattle.v8_step.specs.declared.AluOut.{AluOut}
-use Rattle.v8_step.specs.declared.AluTrap.{AluTrap}
-use Rattle.v8_step.specs.declared.AluTrap.TheVariants.{DivZero, TagOverflow}
+use Rattle.v8_alu.specs.declared.AluOut.{AluOut}
+use Rattle.v8_alu.specs.declared.AluTrap.{AluTrap}
+use Rattle.v8_alu.specs.declared.AluTrap.TheVariants.{DivZero, TagOverflow}
 use Rattle.v8_step.specs.declared.Ending.{Ending}
-use Rattle.v8_step.specs.Numbers.{wrapped}
-use Rattle.v8_step.specs.Alu.{alu_of}
-use Rattle.v8_step.specs.Conditions.{holds_of}
+use Rattle.v8_alu.specs.Numbers.{wrapped}
+use Rattle.v8_alu.specs.Alu.{alu_of}
+use Rattle.v8_alu.specs.Conditions.{holds_of}
 use Rattle.v8_step.specs.State.{State, register_of, with_register, operand_of, sum_of}
 use Rattle.v8_step.specs.Traps.{instruction_access_exception, illegal_instruction, privileged_instruction, fp_disabled, cp_disabled, division_by_zero, tag_overflow, call_system}
 use Rattle.v8_step.specs.Transfers.{next, trapped, unless_couple, branch_step, call_step, jump_step}

@@ -5,8 +5,8 @@ use Rattle.std.specs.Prelude.{ℕ, ◌+◌, ◌*◌, ◌%◌, Bool, true, false,
 use Rattle.std.specs.Int.{w32, cast_unsigned}
 use Rattle.v8_step.specs.declared.Ending.{Ending}
 use Rattle.v8_step.specs.declared.Ending.TheVariants.{Trap, Couple}
-use Rattle.v8_step.specs.Numbers.{wrapped}
-use Rattle.v8_step.specs.Conditions.{holds_of}
+use Rattle.v8_alu.specs.Numbers.{wrapped}
+use Rattle.v8_alu.specs.Conditions.{holds_of}
 use Rattle.v8_step.specs.State.{State, Slot, NoSlot, Taken, Untaken, with_register}
 use Rattle.v8_step.specs.Traps.{mem_address_not_aligned}
 

@@ -7,34 +7,6 @@
 
 ghost use Rattle.v8_step.specs.Laws.{CodeStays};
 
-// TEMPORARY: a copy of v8_alu's types. Delete them when v8_alu is there.
-
-/// The integer condition codes: negative, zero, overflow, carry (section 4.2).
-#[derive(Clone, Copy, PartialEq, Eq, Debug, Drop)]
-pub struct Codes {
-    pub n: bool,
-    pub z: bool,
-    pub v: bool,
-    pub c: bool,
-}
-
-/// What an operation leaves: the value for rd, the codes and Y.
-#[derive(Clone, Copy, PartialEq, Eq, Debug, Drop)]
-pub struct AluOut {
-    pub value: u32,
-    pub codes: Codes,
-    pub y: u32,
-}
-
-/// Why an operation traps: a division by zero, or a tag overflow (section 7.2).
-#[derive(Clone, Copy, PartialEq, Eq, Debug, Drop)]
-pub enum AluTrap {
-    DivZero,
-    TagOverflow,
-}
-
-// End of the copy.
-
 /// How a run ends.
 #[derive(Clone, Copy, PartialEq, Eq, Debug, Drop)]
 pub enum Ending {
