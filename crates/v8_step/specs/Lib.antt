@@ -1,9 +1,15 @@
 pub mod Accesses
 pub mod Calls
+pub mod Follows
+pub mod Items
+pub mod Judged
 pub mod Laws
+pub mod Needed
 pub mod Run
 pub mod State
 pub mod Step
 pub mod Transfers
 pub mod Traps
+pub mod TwoRuns
+pub mod Visits
 pub mod WindowMoves

@@ -5,6 +5,7 @@
 //! contract. The sections named are those of The SPARC Architecture Manual, Version 8.
 #![tactic(auto)]
 
+ghost use Rattle.v8_step.specs.Follows.{RunsFollow};
 ghost use Rattle.v8_step.specs.Laws.{CodeStays};
 
 /// How a run ends.
@@ -23,4 +24,10 @@ pub enum Ending {
 /// No step changes a word that can be executed.
 pub fn code_stays()
     ensures { CodeStays }
+{}
+
+/// Where each step of one run is answered by a few steps of another that end at its next visit, with no visit
+/// between, the second run answers the first as a whole, and its steps are bounded.
+pub fn runs_follow()
+    ensures { RunsFollow }
 {}

@@ -1,0 +1,170 @@
+-- From one step to whole runs.
+use Rattle.std.proofs.Common.{◌≡◌, ℕ, zero, suc, ◌+◌, ◌-◌, ◌<◌, ◌≤◌, Option, Some, None, List, [], ◌∷◌, ◌++◌, length, refl, ap, sym, ◌∙◌, subst, arith, length-append, append-nil, add-suc}
+use Rattle.elf32_sparc.specs.Notes.{Notes}
+use Rattle.v8_memory.specs.Regions.{fetch_of, byte_at, heap_end_of}
+use Rattle.v8_step.specs.declared.Ending.{Ending}
+use Rattle.v8_step.specs.State.{State}
+use Rattle.v8_step.specs.Step.{step_of, puts_of, on_word, unless_ended, puts_unless_ended, puts_on_word}
+use Rattle.v8_step.specs.Run.{run, run_puts}
+use Rattle.v8_step.specs.Visits.{visit_of, trail_of, own_trail, as_list, own_visit, if_live}
+use Rattle.v8_step.specs.TwoRuns.{IsSameWorld, GoesOn, Ends, Matches, MatchesBy, Answers, IsLeast, IsBounded}
+use Rattle.v8_step.specs.Follows.{IsQuiet, IsWay, IsFollowed, RunsFollow}
+
+-- ---- a run that has ended stays as it is, and puts nothing out
+
+pub stays_ended : (s : State) (d : Ending) → s.ending ≡ Some d → step_of s ≡ s
+unfolding step_of
+stays_ended s d e = ap (λ x. unless_ended s x (on_word s (fetch_of s.memory s.pc))) e
+
+pub puts_nothing : (s : State) (d : Ending) (descriptor : ℕ) → s.ending ≡ Some d → puts_of s descriptor ≡ []
+unfolding puts_of
+puts_nothing s d descriptor e =
+    ap (λ x. puts_unless_ended x (puts_on_word s (fetch_of s.memory s.pc) descriptor)) e
+
+-- ---- trails
+
+quiet_trail : (notes : Notes) (t0 : State) (m k : ℕ) → IsQuiet notes t0 m (m + k)
+    → trail_of notes t0 (m + k) ≡ trail_of notes t0 m
+quiet_trail notes t0 m zero q = let e : m + 0 ≡ m = omega arith in ap (trail_of notes t0) e
+quiet_trail notes t0 m (suc k) q =
+    ap (trail_of notes t0) (add-suc m k)
+    ∙ ap (λ x. trail_of notes t0 (m + k) ++ as_list x) (q (m + k) (omega arith) (omega arith))
+    ∙ append-nil (trail_of notes t0 (m + k))
+    ∙ quiet_trail notes t0 m k (λ j a b. q j a (omega arith))
+
+quiet_between : (notes : Notes) (t0 : State) (m k : ℕ) → m ≤ k → IsQuiet notes t0 m k
+    → trail_of notes t0 k ≡ trail_of notes t0 m
+quiet_between notes t0 m k l q =
+    let e : k ≡ m + (k - m) = omega arith in
+    ap (trail_of notes t0) e
+    ∙ quiet_trail notes t0 m (k - m) (subst (λ (x : ℕ). IsQuiet notes t0 m x) e q)
+
+longer : (notes : Notes) (t0 : State) (m k : ℕ)
+    → length (trail_of notes t0 m) ≤ length (trail_of notes t0 (m + k))
+longer notes t0 m zero = let e : m + 0 ≡ m = omega arith in rw e (omega arith)
+longer notes t0 m (suc k) =
+    let h = longer notes t0 m k in
+    rw add-suc
+    (let g = length-append (trail_of notes t0 (m + k)) (as_list (visit_of notes (run t0 (m + k)))) in omega arith)
+
+-- a visit's trail isn't that of a later moment
+no_earlier : (notes : Notes) (t0 : State) (a b pc : ℕ) → visit_of notes (run t0 a) ≡ Some pc
+    → trail_of notes t0 a ≡ trail_of notes t0 b → a < b → ⊥
+no_earlier notes t0 a b pc v e l =
+    let k : b ≡ suc a + (b - suc a) = omega arith in
+    let g : length (trail_of notes t0 (suc a)) ≤ length (trail_of notes t0 b) =
+    rw k (longer notes t0 (suc a) (b - suc a)) in
+    let f : length (trail_of notes t0 (suc a)) ≡ length (trail_of notes t0 a) + 1 =
+    ap (λ x. length (trail_of notes t0 a ++ as_list x)) v ∙ length-append (trail_of notes t0 a) (pc ∷ []) in
+    let d : length (trail_of notes t0 a) ≡ length (trail_of notes t0 b) = ap length e in
+    omega arith
+
+one_visit : (notes : Notes) (t0 : State) (a b pc : ℕ) → visit_of notes (run t0 a) ≡ Some pc
+    → visit_of notes (run t0 b) ≡ Some pc → trail_of notes t0 a ≡ trail_of notes t0 b → a ≡ b
+one_visit notes t0 a b pc v w e =
+    let c : ¬ (a < b) = no_earlier notes t0 a b pc v e in
+    let d : ¬ (b < a) = no_earlier notes t0 b a pc w (sym e) in
+    omega arith
+
+-- ---- moments that match
+
+own_more : (s0 : State) (n : ℕ) → (run s0 n).ending ≡ None
+    → own_trail s0 (suc n) ≡ own_trail s0 n ++ (run s0 n).pc ∷ []
+own_more s0 n e = ap (λ x. own_trail s0 n ++ as_list (if_live x (Some (run s0 n).pc))) e
+
+own_stays : (s0 : State) (n : ℕ) (d : Ending) → (run s0 n).ending ≡ Some d
+    → own_trail s0 (suc n) ≡ own_trail s0 n
+own_stays s0 n d e =
+    ap (λ x. own_trail s0 n ++ as_list (if_live x (Some (run s0 n).pc))) e ∙ append-nil (own_trail s0 n)
+
+going : (notes : Notes) (s0 t0 : State) (n m : ℕ) (x : Option Ending) → x ≡ None
+    → MatchesBy x notes s0 t0 n m → GoesOn notes s0 t0 n m
+going notes s0 t0 n m None e h = h
+going notes s0 t0 n m (Some d) e h = absurd (cc)
+
+ending : (notes : Notes) (s0 t0 : State) (n m : ℕ) (x : Option Ending) (d : Ending) → x ≡ Some d
+    → MatchesBy x notes s0 t0 n m → Ends notes s0 t0 n m
+ending notes s0 t0 n m None d e h = absurd (cc)
+ending notes s0 t0 n m (Some c) d e h = h
+
+matched : (notes : Notes) (s0 t0 : State) (n m : ℕ) (x : Option Ending) (d : Ending) → x ≡ Some d
+    → Ends notes s0 t0 n m → MatchesBy x notes s0 t0 n m
+matched notes s0 t0 n m None d e h = absurd (cc)
+matched notes s0 t0 n m (Some c) d e h = h
+
+-- what is over answers for the next step too
+ends_still : (notes : Notes) (s0 t0 : State) (n m : ℕ) (d : Ending) → (run s0 n).ending ≡ Some d
+    → Ends notes s0 t0 n m → Ends notes s0 t0 (suc n) m
+ends_still notes s0 t0 n m d e h =
+    let same : step_of (run s0 n) ≡ run s0 n = stays_ended (run s0 n) d e in
+    record {
+      ending = h.ending ∙ ap (λ (s : State). s.ending) (sym same);
+      world = record {
+        input = ap (λ (s : State). s.input) same ∙ h.world.input;
+        output = λ descriptor.
+            ap (λ x. run_puts s0 n descriptor ++ x) (puts_nothing (run s0 n) d descriptor e)
+            ∙ append-nil (run_puts s0 n descriptor) ∙ h.world.output descriptor;
+        heap_end = subst (λ (s : State). heap_end_of s.memory ≡ heap_end_of (run t0 m).memory) (sym same) h.world.heap_end;
+        memory = λ address l.
+            subst (λ (s : State). byte_at s.memory address ≡ byte_at (run t0 m).memory address) (sym same)
+            (h.world.memory address l);
+      };
+    }
+
+answers_still : (notes : Notes) (s0 t0 : State) (n m : ℕ) (d : Ending) → (run s0 n).ending ≡ Some d
+    → Answers notes s0 t0 n m → Answers notes s0 t0 (suc n) m
+answers_still notes s0 t0 n m d e h =
+    let after : (run s0 (suc n)).ending ≡ Some d = ap (λ (s : State). s.ending) (stays_ended (run s0 n) d e) ∙ e in
+    record {
+      trail = h.trail ∙ sym (own_stays s0 n d e);
+      matches = matched notes s0 t0 (suc n) m (run s0 (suc n)).ending d after
+          (ends_still notes s0 t0 n m d e (ending notes s0 t0 n m (run s0 n).ending d e h.matches));
+    }
+
+module _ (notes : Notes) (s0 t0 : State) (early : ℕ) (limits moments : ℕ → ℕ) (last : ℕ) (f : IsFollowed notes s0 t0 early limits moments last) where
+  trail_by : (n : ℕ) (x : Option Ending) → (run s0 n).ending ≡ x → n < last
+      → trail_of notes t0 (moments n) ≡ own_trail s0 n
+      → trail_of notes t0 (moments (suc n)) ≡ own_trail s0 (suc n)
+  trail_by n None e l h =
+      let way = f.goes n l e in
+      let g = going notes s0 t0 n (moments n) (run s0 n).ending e (f.matches n (omega arith)) in
+      quiet_between notes t0 (suc (moments n)) (moments (suc n)) way.forward way.quiet
+      ∙ ap (λ x. trail_of notes t0 (moments n) ++ as_list x) g.visit
+      ∙ ap (λ x. x ++ (run s0 n).pc ∷ []) h
+      ∙ sym (own_more s0 n e)
+  trail_by n (Some d) e l h = ap (trail_of notes t0) (f.stays n l d e) ∙ h ∙ sym (own_stays s0 n d e)
+
+  trails : (n : ℕ) → n ≤ last → trail_of notes t0 (moments n) ≡ own_trail s0 n
+  trails zero l = quiet_between notes t0 zero (moments zero) (omega arith) f.quiet
+  trails (suc n) l = trail_by n (run s0 n).ending refl l (trails n (omega arith))
+
+  answered : (n : ℕ) → n ≤ last → Answers notes s0 t0 n (moments n)
+  answered n l = record { trail = trails n l; matches = f.matches n l }
+
+  first : (m : ℕ) → IsLeast (Answers notes s0 t0 zero) m → m ≤ early
+  first m h =
+      let l : m ≤ moments zero = h.least (moments zero) (answered zero (omega arith)) in
+      let b = f.soon in omega arith
+
+  bounded_by : (n : ℕ) (x : Option Ending) → (run s0 n).ending ≡ x → n < last → IsBounded notes s0 t0 n (limits n)
+  bounded_by n None e l m k h g =
+      let a = going notes s0 t0 n m (run s0 n).ending e h.holds.matches in
+      let b = going notes s0 t0 n (moments n) (run s0 n).ending e (f.matches n (omega arith)) in
+      let same : m ≡ moments n =
+      one_visit notes t0 m (moments n) (run s0 n).pc a.visit b.visit
+      (h.holds.trail ∙ sym (trails n (omega arith))) in
+      let least : k ≤ moments (suc n) = g.least (moments (suc n)) (answered (suc n) l) in
+      let short : moments (suc n) ≤ moments n + limits n = (f.goes n l e).short in
+      omega arith
+  bounded_by n (Some d) e l m k h g =
+      let least : k ≤ m = g.least m (answers_still notes s0 t0 n m d e h.holds) in omega arith
+
+  bounded : (n : ℕ) → n < last → IsBounded notes s0 t0 n (limits n)
+  bounded n l = bounded_by n (run s0 n).ending refl l
+
+pub runs_follow : RunsFollow
+runs_follow notes s0 t0 early limits moments last f = (
+  answered notes s0 t0 early limits moments last f,
+  first notes s0 t0 early limits moments last f,
+  bounded notes s0 t0 early limits moments last f,
+)
