@@ -1,7 +1,10 @@
 pub mod Accesses
+pub mod Alike
 pub mod Alu
 pub mod Calls
 pub mod Conditions
+pub mod Items
+pub mod Judged
 pub mod Laws
 pub mod Numbers
 pub mod Run

@@ -5,7 +5,7 @@
 //! contract. The sections named are those of The SPARC Architecture Manual, Version 8.
 #![tactic(auto)]
 
-ghost use Rattle.v8_step.specs.Laws.{CodeStays};
+ghost use Rattle.v8_step.specs.Laws.{CodeStays, StepsAlike};
 
 // TEMPORARY: a copy of v8_alu's types. Delete them when v8_alu is there.
 
@@ -51,4 +51,10 @@ pub enum Ending {
 /// No step changes a word that can be executed.
 pub fn code_stays()
     ensures { CodeStays }
+{}
+
+/// Two states that fetch one word, which is no transfer of control, and share what it reads step alike: they end
+/// alike or go on, put out the same bytes, and agree on all that is written, and on all else that they agreed on.
+pub fn steps_alike()
+    ensures { StepsAlike }
 {}

@@ -1,0 +1,49 @@
+-- What an instruction reads and writes, as items of the state: registers by where they stand, so that the same
+-- item has two names in two windows, the codes as one, and Y.
+use Rattle.std.specs.Prelude.{◌≡◌, ℕ, ◌⊎◌, Bool, true, false, List, [], ◌∷◌, slice_index}
+use Rattle.v8_decode.specs.declared.Instr.{Instr}
+use Rattle.v8_decode.specs.declared.Instr.TheVariants as i
+use Rattle.v8_decode.specs.declared.Part.{Part}
+use Rattle.v8_decode.specs.declared.Part.TheVariants.{Reg, Icc, Y}
+use Rattle.v8_decode.specs.Effects.{reads_of, reads_all}
+use Rattle.v8_windows.specs.Registers.{place_of}
+use Rattle.v8_step.specs.State.{State}
+
+-- %g0 is none: no list of parts has it
+pub data Item : Type 0 where
+  Place : ℕ → Item
+  Codes : Item
+  YRegister : Item
+
+-- the item that a part names in a window
+abbrev pub item_of : ℕ → Part → Item
+item_of window (Reg r) = Place (place_of window r)
+item_of window Icc = Codes
+item_of window Y = YRegister
+
+-- one of the parts names the item
+abbrev pub IsAmong : Item → ℕ → List Part → Type 0
+IsAmong item window [] = ⊥
+IsAmong item window (p ∷ ps) = (item_of window p ≡ item) ⊎ IsAmong item window ps
+
+-- two states have the same there
+abbrev pub IsSameAt : Item → State → State → Type 0
+IsSameAt (Place n) s t = slice_index s.registers n ≡ slice_index t.registers n
+IsSameAt Codes s t = s.codes ≡ t.codes
+IsSameAt YRegister s t = s.y ≡ t.y
+
+abbrev pub AreSameAt : List Part → State → State → Type 0
+AreSameAt [] s t = Unit {0}
+AreSameAt (p ∷ ps) s t = IsSameAt (item_of s.window p) s t × AreSameAt ps s t
+
+-- they have the same wherever an instruction reads; SAVE, RESTORE and Ticc read every item
+abbrev pub IsSameForReading : Instr → State → State → Type 0
+IsSameForReading instr s t =
+    (reads_all instr ≡ true → (item : Item) → IsSameAt item s t) × AreSameAt (reads_of instr) s t
+
+-- the instructions that transfer control to an address of their own
+abbrev pub is_transfer : Instr → Bool
+is_transfer (i.Branch cond annul disp22) = true
+is_transfer (i.Call disp30) = true
+is_transfer (i.Jmpl rd rs1 op2) = true
+is_transfer _ = false
