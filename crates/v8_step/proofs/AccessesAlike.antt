@@ -22,29 +22,29 @@ use Rattle.v8_step.specs.Traps.{mem_address_not_aligned, data_access_exception}
 use Rattle.v8_step.specs.Transfers.{next, trapped}
 use Rattle.v8_step.specs.Accesses.{load_size, store_size, loaded, stored, on_bytes, on_memory, load_step, store_step, exchange_step, ldstub_step, swap_step}
 use Rattle.v8_step.specs.Step.{act, puts_by}
-use Rattle.v8_step.specs.Items.{Item, Place, Codes, YRegister, IsAmong, IsSameAt, AreSameAt}
+use Rattle.v8_step.specs.Items.{Item, Register, Codes, YRegister, IsAmong, IsSameAt, AreSameAt}
 use Rattle.v8_step.specs.Alike.{IsSameWorld, AreSameAfter, ActsAlike}
 use Rattle.v8_step.proofs.Reading.{same_assoc, same_first, same_rest, same_register, same_sum, place_one, among_split, no_codes, no_y, ended_alike, same_lengths}
 
 -- ---- loads
 
 place_pair : (rs qs : List ℕ) (w rd u v n : ℕ) → length rs ≡ length qs
-    → IsAmong (Place n) w (pair rd) ⊎ (slice_index rs n ≡ slice_index qs n)
+    → IsAmong (Register n) w (pair rd) ⊎ (slice_index rs n ≡ slice_index qs n)
     → slice_index (pair_set rs w rd u v) n ≡ slice_index (pair_set qs w rd u v) n
 place_pair rs qs w rd u v n e h =
     place_one (register_set rs w rd u) (register_set qs w rd u) w (suc rd) v n
     (length-register_set rs w rd u ∙ e ∙ sym (length-register_set qs w rd u)) (go h)
   where
-    go : IsAmong (Place n) w (pair rd) ⊎ (slice_index rs n ≡ slice_index qs n)
-        → IsAmong (Place n) w (reg (suc rd)) ⊎ (slice_index (register_set rs w rd u) n ≡ slice_index (register_set qs w rd u) n)
+    go : IsAmong (Register n) w (pair rd) ⊎ (slice_index rs n ≡ slice_index qs n)
+        → IsAmong (Register n) w (reg (suc rd)) ⊎ (slice_index (register_set rs w rd u) n ≡ slice_index (register_set qs w rd u) n)
     go (inr y) = inr (place_one rs qs w rd u n e (inr y))
-    go (inl y) = elim (among_split (Place n) w (reg rd) (reg (suc rd)) y) [
+    go (inl y) = elim (among_split (Register n) w (reg rd) (reg (suc rd)) y) [
       | inl z ↦ inr (place_one rs qs w rd u n e (inl z))
       | inr z ↦ inl z
     ]
 
 place_loaded : (kind : LoadKind) (rs qs : List ℕ) (w rd n : ℕ) (bytes : List ℕ) → length rs ≡ length qs
-    → IsAmong (Place n) w (loaded_parts kind rd) ⊎ (slice_index rs n ≡ slice_index qs n)
+    → IsAmong (Register n) w (loaded_parts kind rd) ⊎ (slice_index rs n ≡ slice_index qs n)
     → slice_index (loaded rs w kind rd bytes) n ≡ slice_index (loaded qs w kind rd bytes) n
 place_loaded loads.LD rs qs w rd n bytes e h = place_one rs qs w rd _ n e h
 place_loaded loads.LDUB rs qs w rd n bytes e h = place_one rs qs w rd _ n e h
@@ -105,7 +105,7 @@ after_load s kind rd bytes = next (record s { registers = loaded s.registers s.w
 loaded_items : (kind : LoadKind) (rd : ℕ) (bytes : List ℕ) (s t : State) (item : Item) → s.window ≡ t.window
     → length s.registers ≡ length t.registers → IsAmong item s.window (loaded_parts kind rd) ⊎ IsSameAt item s t
     → IsSameAt item (after_load s kind rd bytes) (after_load t kind rd bytes)
-loaded_items kind rd bytes s t (Place n) w e h =
+loaded_items kind rd bytes s t (Register n) w e h =
     place_loaded kind s.registers t.registers s.window rd n bytes e h
     ∙ ap (λ z. slice_index (loaded t.registers z kind rd bytes) n) w
 loaded_items kind rd bytes s t Codes w e (inr h) = h
@@ -185,7 +185,7 @@ store_some stores.STD = omega arith
 stored_items : (s t : State) (m n : Memory) (item : Item) → ⊥ ⊎ IsSameAt item s t
     → IsSameAt item (next (record s { memory = m })) (next (record t { memory = n }))
 stored_items s t m n item (inl h) = absurd h
-stored_items s t m n (Place k) (inr h) = h
+stored_items s t m n (Register k) (inr h) = h
 stored_items s t m n Codes (inr h) = h
 stored_items s t m n YRegister (inr h) = h
 
@@ -246,7 +246,7 @@ store_acts kind rd rs1 op2 pages s t ready =
 exchanged_items : (rd v : ℕ) (m n : Memory) (s t : State) (item : Item) → s.window ≡ t.window
     → length s.registers ≡ length t.registers → IsAmong item s.window (reg rd) ⊎ IsSameAt item s t
     → IsSameAt item (next (with_register (record s { memory = m }) rd v)) (next (with_register (record t { memory = n }) rd v))
-exchanged_items rd v m n s t (Place k) w e h =
+exchanged_items rd v m n s t (Register k) w e h =
     place_one s.registers t.registers s.window rd v k e h
     ∙ ap (λ z. slice_index (register_set t.registers z rd v) k) w
 exchanged_items rd v m n s t Codes w e (inr h) = h

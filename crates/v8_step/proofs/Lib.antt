@@ -2,6 +2,7 @@ pub mod AccessesAlike
 pub mod Alike
 pub mod AluAlike
 pub mod Executable
+pub mod Following
 pub mod Kept
 pub mod Puts
 pub mod Reading

@@ -78,7 +78,7 @@ puts_trap pages s t descriptor n true h apart = go (n == flush_windows) (n == ca
 pub ticc_acts : (cond rs1 : ℕ) (op2 : Op2) → ActsAlike (i.Ticc cond rs1 op2)
 unfolding act puts_by
 ticc_acts cond rs1 op2 pages s t ready =
-    let h = twins_of pages s t ready.first_live ready.second_live ready.world (ready.items.0 refl) in
+    let h = twins_of pages (i.Ticc cond rs1 op2) s t refl ready in
     let p : trap_number s rs1 op2 ≡ trap_number t rs1 op2 = ap (λ z. z % 128) (twin_sum pages s t rs1 op2 h) in (
       alike_of pages (i.Ticc cond rs1 op2) s t _ _
           (subst (λ (z : ℕ). AreTwins pages

@@ -13,7 +13,7 @@ use Rattle.v8_windows.specs.Registers.{place_of, register_set}
 use Rattle.v8_step.specs.declared.Ending.{Ending}
 use Rattle.v8_step.specs.State.{State, register_of, operand_of, sum_of}
 use Rattle.v8_step.specs.Transfers.{ended}
-use Rattle.v8_step.specs.Items.{Item, Place, Codes, YRegister, IsAmong, AreSameAt}
+use Rattle.v8_step.specs.Items.{Item, Register, Codes, YRegister, IsAmong, AreSameAt}
 use Rattle.v8_step.specs.Alike.{IsSameWorld, AreSameAfter}
 use Rattle.v8_step.proofs.AluAlike.{AreSameInputs}
 
@@ -59,7 +59,7 @@ set_alike : (xs ys : List ℕ) (k n v : ℕ) → length xs ≡ length ys → (k 
 set_alike xs ys k n v e h = grind (arith, common_steps)
 
 pub place_one : (rs qs : List ℕ) (w r v n : ℕ) → length rs ≡ length qs
-    → IsAmong (Place n) w (reg r) ⊎ (slice_index rs n ≡ slice_index qs n)
+    → IsAmong (Register n) w (reg r) ⊎ (slice_index rs n ≡ slice_index qs n)
     → slice_index (register_set rs w r v) n ≡ slice_index (register_set qs w r v) n
 place_one rs qs w zero v n e (inl h) = absurd h
 place_one rs qs w zero v n e (inr h) = h

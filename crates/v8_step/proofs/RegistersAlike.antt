@@ -20,12 +20,12 @@ use Rattle.v8_step.specs.State.{State, register_of, with_register, operand_of}
 use Rattle.v8_step.specs.Traps.{division_by_zero, tag_overflow, illegal_instruction, privileged_instruction, fp_disabled, cp_disabled}
 use Rattle.v8_step.specs.Transfers.{next}
 use Rattle.v8_step.specs.Step.{act, alu_step, puts_by}
-use Rattle.v8_step.specs.Items.{Item, Place, Codes, YRegister, IsAmong, IsSameAt}
+use Rattle.v8_step.specs.Items.{Item, Register, Codes, YRegister, IsAmong, IsSameAt}
 use Rattle.v8_step.specs.Alike.{IsSameWorld, AreSameAfter, ActsAlike}
 use Rattle.v8_step.proofs.AluAlike.{AreSameOuts, alu_alike}
 use Rattle.v8_step.proofs.Reading.{same_assoc, same_first, same_rest, same_register, same_operand, same_inputs, place_one, among_split, among_assoc, no_codes, no_y, ended_alike, same_lengths}
 
-no_place : (n w : ℕ) (sets writes : Bool) → IsAmong (Place n) w (when sets (Icc ∷ []) ++ when writes (Y ∷ [])) → ⊥
+no_place : (n w : ℕ) (sets writes : Bool) → IsAmong (Register n) w (when sets (Icc ∷ []) ++ when writes (Y ∷ [])) → ⊥
 no_place n w true true (inl e) = cc
 no_place n w true true (inr (inl e)) = cc
 no_place n w true true (inr (inr e)) = e
@@ -54,16 +54,16 @@ items_after : (sets writes : Bool) (rd : ℕ) (s t : State) (v v' : ℕ) (k k' :
     → IsAmong item s.window (reg rd ++ when sets (Icc ∷ []) ++ when writes (Y ∷ [])) ⊎ IsSameAt item s t
     → IsSameAt item (next (record (with_register s rd v) { codes = k; y = y }))
     (next (record (with_register t rd v') { codes = k'; y = y' }))
-items_after sets writes rd s t v v' k k' y y' w l ev ek ey (Place n) h =
+items_after sets writes rd s t v v' k k' y y' w l ev ek ey (Register n) h =
     place_one s.registers t.registers s.window rd v n l (go h)
     ∙ ap (λ z. slice_index (register_set t.registers z rd v) n) w
     ∙ ap (λ z. slice_index (register_set t.registers t.window rd z) n) ev
   where
-    go : IsAmong (Place n) s.window (reg rd ++ when sets (Icc ∷ []) ++ when writes (Y ∷ [])) ⊎ IsSameAt (Place n) s t
-        → IsAmong (Place n) s.window (reg rd) ⊎ IsSameAt (Place n) s t
+    go : IsAmong (Register n) s.window (reg rd ++ when sets (Icc ∷ []) ++ when writes (Y ∷ [])) ⊎ IsSameAt (Register n) s t
+        → IsAmong (Register n) s.window (reg rd) ⊎ IsSameAt (Register n) s t
     go (inr x) = inr x
-    go (inl x) = elim (among_split (Place n) s.window (reg rd) (when sets (Icc ∷ []) ++ when writes (Y ∷ []))
-        (among_assoc (Place n) s.window (reg rd) (when sets (Icc ∷ [])) (when writes (Y ∷ [])) x)) [
+    go (inl x) = elim (among_split (Register n) s.window (reg rd) (when sets (Icc ∷ []) ++ when writes (Y ∷ []))
+        (among_assoc (Register n) s.window (reg rd) (when sets (Icc ∷ [])) (when writes (Y ∷ [])) x)) [
           | inl z ↦ inl z
           | inr z ↦ absurd (no_place n s.window sets writes z)
         ]
@@ -99,7 +99,7 @@ world_after pages rd s t v v' k k' y y' h = record {
 register_items : (rd : ℕ) (s t : State) (v v' : ℕ) → s.window ≡ t.window → length s.registers ≡ length t.registers
     → v ≡ v' → (item : Item) → IsAmong item s.window (reg rd) ⊎ IsSameAt item s t
     → IsSameAt item (next (with_register s rd v)) (next (with_register t rd v'))
-register_items rd s t v v' w l ev (Place n) h =
+register_items rd s t v v' w l ev (Register n) h =
     place_one s.registers t.registers s.window rd v n l h
     ∙ ap (λ z. slice_index (register_set t.registers z rd v) n) w
     ∙ ap (λ z. slice_index (register_set t.registers t.window rd z) n) ev
@@ -183,9 +183,9 @@ read_y_acts rd pages s t ready = (
 -- nothing that the items or the world have is changed but Y
 y_items : (s t : State) (y y' : ℕ) → y ≡ y' → (item : Item) → IsAmong item s.window (Y ∷ []) ⊎ IsSameAt item s t
     → IsSameAt item (next (record s { y = y })) (next (record t { y = y' }))
-y_items s t y y' e (Place n) (inr h) = h
-y_items s t y y' e (Place n) (inl (inl h)) = absurd (cc)
-y_items s t y y' e (Place n) (inl (inr h)) = absurd h
+y_items s t y y' e (Register n) (inr h) = h
+y_items s t y y' e (Register n) (inl (inl h)) = absurd (cc)
+y_items s t y y' e (Register n) (inl (inr h)) = absurd h
 y_items s t y y' e Codes (inr h) = h
 y_items s t y y' e Codes (inl (inl h)) = absurd (cc)
 y_items s t y y' e Codes (inl (inr h)) = absurd h
@@ -208,7 +208,7 @@ write_y_acts rs1 op2 pages s t ready =
 
 idle_items : (s t : State) (item : Item) → ⊥ ⊎ IsSameAt item s t → IsSameAt item (next s) (next t)
 idle_items s t item (inl h) = absurd h
-idle_items s t (Place n) (inr h) = h
+idle_items s t (Register n) (inr h) = h
 idle_items s t Codes (inr h) = h
 idle_items s t YRegister (inr h) = h
 

@@ -1,12 +1,13 @@
 -- Twins: states that are the same but for pc, npc, slot, and memory in the pages. SAVE, RESTORE and Ticc, which
 -- read every item, lead twins to twins.
-use Rattle.std.proofs.Common.{◌≡◌, ℕ, zero, suc, ◌+◌, ◌-◌, ◌^◌, ◌%◌, Bool, true, false, Option, Some, None, List, [], ◌∷◌, ◌++◌, length, take, drop, refl, ap, sym, ◌∙◌, subst, arith}
+use Rattle.std.proofs.Common.{◌≡◌, ◌<◌, ℕ, zero, suc, ◌+◌, ◌-◌, ◌^◌, ◌%◌, Bool, true, false, Option, Some, None, List, [], ◌∷◌, ◌++◌, length, take, drop, refl, ap, sym, ◌∙◌, subst, arith}
 use Rattle.std.specs.Prelude.{slice_index, if◌then◌else◌, ◌==◌}
 use Rattle.std.proofs.Math.Seq.{ext_get_or}
 use Rattle.v8_decode.specs.declared.Op2.{Op2}
 use Rattle.v8_decode.specs.declared.Op2.TheVariants as o
 use Rattle.v8_decode.specs.declared.Instr.{Instr}
 use Rattle.v8_decode.specs.declared.Instr.TheVariants as i
+use Rattle.v8_decode.specs.Effects.{reads_all}
 use Rattle.v8_memory.specs.Regions.{Memory, Region, bytes_at, with_bytes, with_heap_end}
 use Rattle.v8_memory.specs.Spans.{Span, AllApart, IsApartFromAll, IsSameOutside}
 use Rattle.v8_memory.specs.Laws.{AreSameWrites}
@@ -24,9 +25,9 @@ use Rattle.v8_step.specs.Accesses.{on_memory}
 use Rattle.v8_step.specs.WindowMoves.{frame_written, frame_read, oldest_window, save_address, saved_memory, spill, spill_many, fill, fill_from, enter, leave, save_step, restore_step}
 use Rattle.v8_step.specs.Calls.{answered, succeeds, refuses, buffer_written, buffer_read, read_into, read_call, is_output, write_from, write_call, is_heap_end, heap_call, system_call, system_step, trap_step}
 use Rattle.v8_step.specs.Step.{act, puts_by}
-use Rattle.v8_step.specs.Items.{Item, Place, Codes, YRegister, IsSameAt}
+use Rattle.v8_step.specs.Items.{Item, Register, Codes, YRegister, IsSameAt}
 use Rattle.v8_step.specs.Judged.{buffer_span, judged_by_call, saved_span, frame_span, judged_after, judged_by_spills, judged_by_trap}
-use Rattle.v8_step.specs.Alike.{IsSameWorld, AreSameAfter, ActsAlike}
+use Rattle.v8_step.specs.Alike.{AreSameAfter, IsReady, ActsAlike}
 
 pub record AreTwins (pages : List Span) (s t : State) : Type 0 where
   pub registers : s.registers ≡ t.registers
@@ -38,21 +39,27 @@ pub record AreTwins (pages : List Span) (s t : State) : Type 0 where
   pub ending : s.ending ≡ t.ending
   pub memory : IsSameOutside pages s.memory t.memory
 
-pub twins_of : (pages : List Span) (s t : State) → s.ending ≡ None → t.ending ≡ None → IsSameWorld pages s t
-    → ((item : Item) → IsSameAt item s t) → AreTwins pages s t
-twins_of pages s t e f h same = record {
-  registers = ext_get_or 0 s.registers t.registers h.registers (λ k _. same (Place k));
-  codes = same Codes;
-  y = same YRegister;
-  window = h.window;
-  valid = h.valid;
-  input = h.input;
-  ending = e ∙ sym f;
-  memory = h.memory;
+pub twins_of : (pages : List Span) (instr : Instr) (s t : State) → reads_all instr ≡ true → IsReady pages instr s t
+    → AreTwins pages s t
+twins_of pages instr s t all ready = record {
+  registers = ext_get_or 0 s.registers t.registers ready.world.registers register;
+  codes = ready.items.0 all Codes tt;
+  y = ready.items.0 all YRegister tt;
+  window = ready.world.window;
+  valid = ready.world.valid;
+  input = ready.world.input;
+  ending = ready.first_live ∙ sym ready.second_live;
+  memory = ready.world.memory;
 }
+  where
+    register : (k : ℕ) → k < length s.registers → slice_index s.registers k ≡ slice_index t.registers k
+    register zero below = ready.first_registers.zero ∙ sym ready.second_registers.zero
+    register (suc k) below =
+        let count : length s.registers ≡ 136 = ready.first_registers.count in
+        ready.items.0 all (Register (suc k)) (omega arith, omega arith)
 
 twins_same : (pages : List Span) (s t : State) → AreTwins pages s t → (item : Item) → IsSameAt item s t
-twins_same pages s t h (Place k) = ap (λ z. slice_index z k) h.registers
+twins_same pages s t h (Register k) = ap (λ z. slice_index z k) h.registers
 twins_same pages s t h Codes = h.codes
 twins_same pages s t h YRegister = h.y
 
@@ -201,7 +208,7 @@ save_by pages s t rd v true h apart =
 pub save_acts : (rd rs1 : ℕ) (op2 : Op2) → ActsAlike (i.Save rd rs1 op2)
 unfolding act puts_by save_step
 save_acts rd rs1 op2 pages s t ready =
-    let h = twins_of pages s t ready.first_live ready.second_live ready.world (ready.items.0 refl) in (
+    let h = twins_of pages (i.Save rd rs1 op2) s t refl ready in (
       alike_of pages (i.Save rd rs1 op2) s t _ _
           (subst (λ (z : ℕ). AreTwins pages (save_step s rd (sum_of s rs1 op2)) (save_step t rd z))
           (twin_sum pages s t rs1 op2 h)
@@ -271,7 +278,7 @@ restore_by pages s t rd v true h apart =
 pub restore_acts : (rd rs1 : ℕ) (op2 : Op2) → ActsAlike (i.Restore rd rs1 op2)
 unfolding act puts_by restore_step
 restore_acts rd rs1 op2 pages s t ready =
-    let h = twins_of pages s t ready.first_live ready.second_live ready.world (ready.items.0 refl) in (
+    let h = twins_of pages (i.Restore rd rs1 op2) s t refl ready in (
       alike_of pages (i.Restore rd rs1 op2) s t _ _
           (subst (λ (z : ℕ). AreTwins pages (restore_step s rd (sum_of s rs1 op2)) (restore_step t rd z))
           (twin_sum pages s t rs1 op2 h)

@@ -3,6 +3,7 @@ use Rattle.std.specs.Prelude.{◌≡◌, ℕ, ◌⊎◌, List, length, None}
 use Rattle.v8_decode.specs.declared.Instr.{Instr}
 use Rattle.v8_decode.specs.Effects.{writes_of}
 use Rattle.v8_memory.specs.Spans.{Span, AllApart, IsSameOutside}
+use Rattle.v8_windows.specs.Registers.{AreRegisters}
 use Rattle.v8_step.specs.State.{State}
 use Rattle.v8_step.specs.Step.{act, puts_by}
 use Rattle.v8_step.specs.Items.{Item, IsAmong, IsSameAt, IsSameForReading}
@@ -28,6 +29,8 @@ pub record AreSameAfter (pages : List Span) (instr : Instr) (s t s_after t_after
 pub record IsReady (pages : List Span) (instr : Instr) (s t : State) : Type 0 where
   pub first_live : s.ending ≡ None
   pub second_live : t.ending ≡ None
+  pub first_registers : AreRegisters s.registers
+  pub second_registers : AreRegisters t.registers
   pub world : IsSameWorld pages s t
   pub items : IsSameForReading instr s t
   pub first_apart : AllApart pages (judged_by s instr)

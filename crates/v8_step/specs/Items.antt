@@ -1,6 +1,6 @@
 -- What an instruction reads and writes, as items of the state: registers by where they stand, so that the same
 -- item has two names in two windows, the codes as one, and Y.
-use Rattle.std.specs.Prelude.{◌≡◌, ℕ, ◌⊎◌, Bool, true, false, List, [], ◌∷◌, slice_index}
+use Rattle.std.specs.Prelude.{◌≡◌, ◌<◌, ℕ, ◌⊎◌, Bool, true, false, List, [], ◌∷◌, slice_index}
 use Rattle.v8_decode.specs.declared.Instr.{Instr}
 use Rattle.v8_decode.specs.declared.Instr.TheVariants as i
 use Rattle.v8_decode.specs.declared.Part.{Part}
@@ -9,15 +9,20 @@ use Rattle.v8_decode.specs.Effects.{reads_of, reads_all}
 use Rattle.v8_windows.specs.Registers.{place_of}
 use Rattle.v8_step.specs.State.{State}
 
--- %g0 is none: no list of parts has it
+-- the items of a machine are the registers but %g0, the codes and Y
 pub data Item : Type 0 where
-  Place : ℕ → Item
+  Register : ℕ → Item
   Codes : Item
   YRegister : Item
 
+abbrev pub IsItem : Item → Type 0
+IsItem (Register n) = (0 < n) × (n < 136)
+IsItem Codes = Unit {0}
+IsItem YRegister = Unit {0}
+
 -- the item that a part names in a window
 abbrev pub item_of : ℕ → Part → Item
-item_of window (Reg r) = Place (place_of window r)
+item_of window (Reg r) = Register (place_of window r)
 item_of window Icc = Codes
 item_of window Y = YRegister
 
@@ -28,7 +33,7 @@ IsAmong item window (p ∷ ps) = (item_of window p ≡ item) ⊎ IsAmong item wi
 
 -- two states have the same there
 abbrev pub IsSameAt : Item → State → State → Type 0
-IsSameAt (Place n) s t = slice_index s.registers n ≡ slice_index t.registers n
+IsSameAt (Register n) s t = slice_index s.registers n ≡ slice_index t.registers n
 IsSameAt Codes s t = s.codes ≡ t.codes
 IsSameAt YRegister s t = s.y ≡ t.y
 
@@ -39,7 +44,7 @@ AreSameAt (p ∷ ps) s t = IsSameAt (item_of s.window p) s t × AreSameAt ps s t
 -- they have the same wherever an instruction reads; SAVE, RESTORE and Ticc read every item
 abbrev pub IsSameForReading : Instr → State → State → Type 0
 IsSameForReading instr s t =
-    (reads_all instr ≡ true → (item : Item) → IsSameAt item s t) × AreSameAt (reads_of instr) s t
+    (reads_all instr ≡ true → (item : Item) → IsItem item → IsSameAt item s t) × AreSameAt (reads_of instr) s t
 
 -- the instructions that transfer control to an address of their own
 abbrev pub is_transfer : Instr → Bool

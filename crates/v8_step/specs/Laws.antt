@@ -7,6 +7,7 @@ use Rattle.v8_step.specs.State.{State}
 use Rattle.v8_step.specs.Step.{step_of, puts_of}
 use Rattle.v8_step.specs.Run.{run}
 use Rattle.v8_step.specs.Items.{is_transfer}
+use Rattle.v8_step.specs.Follows.{Layout, FollowsSteps, IsFollowed}
 use Rattle.v8_step.specs.Alike.{IsReady, AreSameAfter}
 
 -- No step changes a word that can be executed, and so no run does.
@@ -23,3 +24,10 @@ StepsAlike =
     → fetch_of s.memory s.pc ≡ Some word → fetch_of t.memory t.pc ≡ Some word
     → AreSameAfter pages (decode_of word) s t (step_of s) (step_of t)
     × ((descriptor : ℕ) → puts_of s descriptor ≡ puts_of t descriptor)
+
+-- Where each step of a run is answered by steps of another, the whole run is followed, for all n up to any last.
+abbrev pub RunsFollow : Type 0
+RunsFollow =
+    (layout : Layout) (s_start t_start : State) (moment limit : ℕ → ℕ) (first last : ℕ)
+    → FollowsSteps layout s_start t_start moment limit first last
+    → IsFollowed layout s_start t_start limit first last

@@ -3,9 +3,11 @@ pub mod Alike
 pub mod Alu
 pub mod Calls
 pub mod Conditions
+pub mod Follows
 pub mod Items
 pub mod Judged
 pub mod Laws
+pub mod Needed
 pub mod Numbers
 pub mod Run
 pub mod State

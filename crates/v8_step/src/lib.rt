@@ -5,7 +5,7 @@
 //! contract. The sections named are those of The SPARC Architecture Manual, Version 8.
 #![tactic(auto)]
 
-ghost use Rattle.v8_step.specs.Laws.{CodeStays, StepsAlike};
+ghost use Rattle.v8_step.specs.Laws.{CodeStays, StepsAlike, RunsFollow};
 
 // TEMPORARY: a copy of v8_alu's types. Delete them when v8_alu is there.
 
@@ -57,4 +57,10 @@ pub fn code_stays()
 /// alike or go on, put out the same bytes, and agree on all that is written, and on all else that they agreed on.
 pub fn steps_alike()
     ensures { StepsAlike }
+{}
+
+/// Where each step of a run is answered by steps of another that end at its next visit, with none between, each
+/// of its states is answered, and the least answers lie within the limits of the steps.
+pub fn runs_follow()
+    ensures { RunsFollow }
 {}
