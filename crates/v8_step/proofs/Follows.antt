@@ -7,7 +7,7 @@ use Rattle.v8_step.specs.State.{State}
 use Rattle.v8_step.specs.Step.{step_of, puts_of, on_word, unless_ended, puts_unless_ended, puts_on_word}
 use Rattle.v8_step.specs.Run.{run, run_puts}
 use Rattle.v8_step.specs.Visits.{visit_of, trail_of, own_trail, as_list, own_visit, if_live}
-use Rattle.v8_step.specs.TwoRuns.{IsSameWorld, GoesOn, Ends, Matches, MatchesBy, Answers, IsLeast, IsBounded}
+use Rattle.v8_step.specs.TwoRuns.{HasSameOutside, GoesOn, Ends, Matches, MatchesBy, Answers, IsLeast, IsBounded}
 use Rattle.v8_step.specs.Follows.{IsQuiet, IsWay, IsFollowed, RunsFollow}
 
 -- ---- a run that has ended stays as it is, and puts nothing out

@@ -1,3 +1,10 @@
+pub mod AccessesAlike
+pub mod Alike
+pub mod AluAlike
 pub mod Executable
 pub mod Follows
 pub mod Kept
+pub mod Puts
+pub mod Reading
+pub mod RegistersAlike
+pub mod Twins

@@ -11,18 +11,18 @@ use Rattle.v8_step.specs.State.{State}
 
 -- the items of a machine are the registers but %g0, the codes and Y
 pub data Item : Type 0 where
-  Place : ℕ → Item
+  Register : ℕ → Item
   Codes : Item
   YRegister : Item
 
 abbrev pub IsItem : Item → Type 0
-IsItem (Place n) = (0 < n) × (n < 136)
+IsItem (Register n) = (0 < n) × (n < 136)
 IsItem Codes = Unit {0}
 IsItem YRegister = Unit {0}
 
 -- the item that a part names in a window
 abbrev pub item_of : ℕ → Part → Item
-item_of window (Reg r) = Place (place_of window r)
+item_of window (Reg r) = Register (place_of window r)
 item_of window Icc = Codes
 item_of window Y = YRegister
 
@@ -33,7 +33,7 @@ IsAmong item window (p ∷ ps) = (item_of window p ≡ item) ⊎ IsAmong item wi
 
 -- two states have the same there
 abbrev pub IsSameAt : Item → State → State → Type 0
-IsSameAt (Place n) s t = slice_index s.registers n ≡ slice_index t.registers n
+IsSameAt (Register n) s t = slice_index s.registers n ≡ slice_index t.registers n
 IsSameAt Codes s t = s.codes ≡ t.codes
 IsSameAt YRegister s t = s.y ≡ t.y
 

@@ -8,7 +8,7 @@ use Rattle.v8_memory.specs.Spans.{Span, IsApartFromAll, AllApart}
 use Rattle.v8_step.specs.declared.Ending.{Ending}
 use Rattle.v8_step.specs.State.{State}
 use Rattle.v8_step.specs.Run.{run}
-use Rattle.v8_step.specs.Items.{Item, Place, Codes, YRegister, IsAmong}
+use Rattle.v8_step.specs.Items.{Item, IsItem, IsAmong}
 use Rattle.v8_step.specs.Judged.{judged_by}
 
 -- ---- the instruction that the next step carries out, where there is one
@@ -22,12 +22,6 @@ abbrev pub instr_at : State → Option Instr
 instr_at s = decoded s.ending (fetch_of s.memory s.pc)
 
 -- ---- needed items
-
--- the items of a machine: %g1 to %g7 and the registers of the windows, the codes, and Y
-abbrev pub IsItem : Item → Type 0
-IsItem (Place n) = (0 < n) × (n < 136)
-IsItem Codes = Unit {0}
-IsItem YRegister = Unit {0}
 
 abbrev pub ReadsIn : Option Instr → ℕ → Item → Type 0
 ReadsIn None window item = ⊥

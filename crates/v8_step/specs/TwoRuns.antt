@@ -10,7 +10,7 @@ use Rattle.v8_step.specs.Needed.{IsNeeded}
 use Rattle.v8_step.specs.Visits.{visit_of, in_pages, trail_of, own_trail}
 
 -- the same input is left, the same output went out, and the heap's end and memory outside the pages are the same
-pub record IsSameWorld (notes : Notes) (s0 t0 : State) (n m : ℕ) : Type 0 where
+pub record HasSameOutside (notes : Notes) (s0 t0 : State) (n m : ℕ) : Type 0 where
   pub input : (run s0 n).input ≡ (run t0 m).input
   pub output : (descriptor : ℕ) → run_puts s0 n descriptor ≡ run_puts t0 m descriptor
   pub heap_end : heap_end_of (run s0 n).memory ≡ heap_end_of (run t0 m).memory
@@ -24,12 +24,12 @@ pub record GoesOn (notes : Notes) (s0 t0 : State) (n m : ℕ) : Type 0 where
   pub window : (run s0 n).window ≡ (run t0 m).window
   pub valid : (run s0 n).valid ≡ (run t0 m).valid
   pub needed : (item : Item) → IsNeeded s0 n item → IsSameAt item (run s0 n) (run t0 m)
-  pub world : IsSameWorld notes s0 t0 n m
+  pub world : HasSameOutside notes s0 t0 n m
 
 -- Ending: both have ended alike.
 pub record Ends (notes : Notes) (s0 t0 : State) (n m : ℕ) : Type 0 where
   pub ending : (run t0 m).ending ≡ (run s0 n).ending
-  pub world : IsSameWorld notes s0 t0 n m
+  pub world : HasSameOutside notes s0 t0 n m
 
 abbrev pub MatchesBy : Option Ending → Notes → State → State → ℕ → ℕ → Type 0
 MatchesBy None notes s0 t0 n m = GoesOn notes s0 t0 n m

@@ -6,7 +6,7 @@
 #![tactic(auto)]
 
 ghost use Rattle.v8_step.specs.Follows.{RunsFollow};
-ghost use Rattle.v8_step.specs.Laws.{CodeStays};
+ghost use Rattle.v8_step.specs.Laws.{CodeStays, StepsAlike};
 
 /// How a run ends.
 #[derive(Clone, Copy, PartialEq, Eq, Debug, Drop)]
@@ -24,6 +24,12 @@ pub enum Ending {
 /// No step changes a word that can be executed.
 pub fn code_stays()
     ensures { CodeStays }
+{}
+
+/// Two states that fetch one word, which is no transfer of control, and share what it reads step alike: they end
+/// alike or go on, put out the same bytes, and agree on all that is written, and on all else that they agreed on.
+pub fn steps_alike()
+    ensures { StepsAlike }
 {}
 
 /// Where each step of one run is answered by a few steps of another that end at its next visit, with no visit

@@ -33,7 +33,8 @@ abbrev pub pair_set : List ℕ → ℕ → ℕ → ℕ → ℕ → List ℕ
 pair_set registers window r value next =
     register_set (register_set registers window r value) window (suc r) next
 
--- what a machine's registers always are: 136 words
+-- what a machine's registers always are: 136 words, the first of which is %g0
 pub record AreRegisters (registers : List ℕ) : Type 0 where
   pub count : length registers ≡ 136
+  pub zero : slice_index registers 0 ≡ 0
   pub words : All (λ n. n < 2 ^ 32) registers

@@ -1,0 +1,63 @@
+-- Every instruction that is no transfer does the same from two states that agree on what it reads.
+use Rattle.std.proofs.Common.{◌≡◌, ℕ, false, Option, Some, None, ap, sym, ◌∙◌, subst}
+use Rattle.v8_decode.specs.declared.Instr.{Instr}
+use Rattle.v8_decode.specs.declared.Instr.TheVariants as i
+use Rattle.v8_decode.specs.Words.{decode_of}
+use Rattle.v8_memory.specs.Regions.{fetch_of}
+use Rattle.v8_step.specs.declared.Ending.{Ending}
+use Rattle.v8_step.specs.State.{State}
+use Rattle.v8_step.specs.Step.{act, step_of, on_word, unless_ended, puts_by, puts_of, puts_on_word, puts_unless_ended}
+use Rattle.v8_step.specs.Items.{is_transfer}
+use Rattle.v8_step.specs.Alike.{AreSameAfter, ActsAlike}
+use Rattle.v8_step.specs.Laws.{StepsAlike}
+use Rattle.v8_step.proofs.RegistersAlike.{alu_acts, sethi_acts, read_y_acts, write_y_acts, stbar_acts, flush_acts, illegal_acts, privileged_acts, fp_off_acts, cp_off_acts}
+use Rattle.v8_step.proofs.AccessesAlike.{load_acts, store_acts, ldstub_acts, swap_acts}
+use Rattle.v8_step.proofs.Twins.{save_acts, restore_acts}
+use Rattle.v8_step.proofs.Puts.{ticc_acts}
+
+pub acts_alike : (instr : Instr) → is_transfer instr ≡ false → ActsAlike instr
+acts_alike (i.Sethi rd imm22) e = sethi_acts rd imm22
+acts_alike (i.Branch cond annul disp22) e = absurd (cc)
+acts_alike (i.Call disp30) e = absurd (cc)
+acts_alike (i.Alu op cc rd rs1 op2) e = alu_acts op cc rd rs1 op2
+acts_alike (i.ReadY rd) e = read_y_acts rd
+acts_alike (i.WriteY rs1 op2) e = write_y_acts rs1 op2
+acts_alike (i.Jmpl rd rs1 op2) e = absurd (cc)
+acts_alike (i.Ticc cond rs1 op2) e = ticc_acts cond rs1 op2
+acts_alike (i.Flush rs1 op2) e = flush_acts rs1 op2
+acts_alike i.Stbar e = stbar_acts
+acts_alike (i.Save rd rs1 op2) e = save_acts rd rs1 op2
+acts_alike (i.Restore rd rs1 op2) e = restore_acts rd rs1 op2
+acts_alike (i.Load kind rd rs1 op2) e = load_acts kind rd rs1 op2
+acts_alike (i.Store kind rd rs1 op2) e = store_acts kind rd rs1 op2
+acts_alike (i.Ldstub rd rs1 op2) e = ldstub_acts rd rs1 op2
+acts_alike (i.Swap rd rs1 op2) e = swap_acts rd rs1 op2
+acts_alike i.Illegal e = illegal_acts
+acts_alike i.Privileged e = privileged_acts
+acts_alike i.FpOff e = fp_off_acts
+acts_alike i.CpOff e = cp_off_acts
+
+-- a live state's step is what the word at pc does
+pub live_step : (s : State) (word : ℕ) → s.ending ≡ None → fetch_of s.memory s.pc ≡ Some word
+    → step_of s ≡ act s (decode_of word)
+unfolding step_of
+live_step s word live fetched =
+    ap (λ (e : Option Ending). unless_ended s e (on_word s (fetch_of s.memory s.pc))) live ∙ ap (on_word s) fetched
+
+pub live_puts : (s : State) (word descriptor : ℕ) → s.ending ≡ None → fetch_of s.memory s.pc ≡ Some word
+    → puts_of s descriptor ≡ puts_by s (decode_of word) descriptor
+unfolding puts_of
+live_puts s word descriptor live fetched =
+    ap (λ (e : Option Ending). puts_unless_ended e (puts_on_word s (fetch_of s.memory s.pc) descriptor)) live
+    ∙ ap (λ o. puts_on_word s o descriptor) fetched
+
+pub steps_alike : StepsAlike
+steps_alike word e pages s t ready fetched fetched' =
+    let h = acts_alike (decode_of word) e pages s t ready in
+    let p = live_step s word ready.first_live fetched in
+    let q = live_step t word ready.second_live fetched' in (
+      subst (λ (z : State). AreSameAfter pages (decode_of word) s t z (step_of t)) (sym p)
+          (subst (λ (z : State). AreSameAfter pages (decode_of word) s t (act s (decode_of word)) z) (sym q) h.0),
+      λ descriptor. live_puts s word descriptor ready.first_live fetched ∙ h.1 descriptor
+          ∙ sym (live_puts t word descriptor ready.second_live fetched'),
+    )

@@ -1,0 +1,106 @@
+-- States that agree on the parts that are read agree on the values read, and the same write leaves them so.
+use Rattle.std.proofs.Common.{◌≡◌, ℕ, zero, suc, ◌+◌, ◌^◌, ◌%◌, ◌⊎◌, inl, inr, List, [], ◌∷◌, ◌++◌, length, get_or, set, refl, ap, sym, ◌∙◌, arith}
+use Rattle.std.specs.Prelude.{slice_index}
+use Rattle.std.proofs.lemmas.Grind.{common_steps}
+use Rattle.v8_decode.specs.declared.Op2.{Op2}
+use Rattle.v8_decode.specs.declared.Op2.TheVariants as o
+use Rattle.v8_decode.specs.declared.Instr.{Instr}
+use Rattle.v8_decode.specs.declared.Part.{Part}
+use Rattle.v8_decode.specs.declared.Part.TheVariants.{Reg, Icc, Y}
+use Rattle.v8_decode.specs.Effects.{reg, op2_parts}
+use Rattle.v8_memory.specs.Spans.{Span}
+use Rattle.v8_windows.specs.Registers.{place_of, register_set}
+use Rattle.v8_step.specs.declared.Ending.{Ending}
+use Rattle.v8_step.specs.State.{State, register_of, operand_of, sum_of}
+use Rattle.v8_step.specs.Transfers.{ended}
+use Rattle.v8_step.specs.Items.{Item, Register, Codes, YRegister, IsAmong, AreSameAt}
+use Rattle.v8_step.specs.Alike.{IsSameWorld, AreSameAfter}
+use Rattle.v8_step.proofs.AluAlike.{AreSameInputs}
+
+pub same_first : (ps qs : List Part) (s t : State) → AreSameAt (ps ++ qs) s t → AreSameAt ps s t
+same_first [] qs s t h = tt
+same_first (p ∷ ps) qs s t h = (h.0, same_first ps qs s t h.1)
+
+pub same_rest : (ps qs : List Part) (s t : State) → AreSameAt (ps ++ qs) s t → AreSameAt qs s t
+same_rest [] qs s t h = h
+same_rest (p ∷ ps) qs s t h = same_rest ps qs s t h.1
+
+pub same_assoc : (ps qs rs : List Part) (s t : State) → AreSameAt (ps ++ qs ++ rs) s t → AreSameAt (ps ++ (qs ++ rs)) s t
+same_assoc [] qs rs s t h = h
+same_assoc (p ∷ ps) qs rs s t h = (h.0, same_assoc ps qs rs s t h.1)
+
+pub same_register : (r : ℕ) (s t : State) → s.window ≡ t.window → AreSameAt (reg r) s t
+    → register_of s r ≡ register_of t r
+same_register zero s t w h = refl
+same_register (suc r) s t w h = h.0 ∙ ap (λ k. slice_index t.registers (place_of k (suc r))) w
+
+pub same_operand : (op2 : Op2) (s t : State) → s.window ≡ t.window → AreSameAt (op2_parts op2) s t
+    → operand_of s op2 ≡ operand_of t op2
+same_operand (o.Reg r) s t w h = same_register r s t w h
+same_operand (o.Imm z) s t w h = refl
+
+pub same_inputs : (ps : List Part) (s t : State) → AreSameAt ps s t → AreSameInputs ps s.codes t.codes s.y t.y
+same_inputs [] s t h = tt
+same_inputs (Reg r ∷ ps) s t h = same_inputs ps s t h.1
+same_inputs (Icc ∷ ps) s t h = (h.0, same_inputs ps s t h.1)
+same_inputs (Y ∷ ps) s t h = (h.0, same_inputs ps s t h.1)
+
+pub same_sum : (rs1 : ℕ) (op2 : Op2) (s t : State) → s.window ≡ t.window → AreSameAt (reg rs1) s t
+    → AreSameAt (op2_parts op2) s t → sum_of s rs1 op2 ≡ sum_of t rs1 op2
+same_sum rs1 op2 s t w h g =
+    ap (λ z. (z + operand_of s op2) % 2 ^ 32) (same_register rs1 s t w h)
+    ∙ ap (λ z. (register_of t rs1 + z) % 2 ^ 32) (same_operand op2 s t w g)
+
+-- ---- writing
+
+-- the same write on both sides leaves the same at a place that it writes, or that was the same
+set_alike : (xs ys : List ℕ) (k n v : ℕ) → length xs ≡ length ys → (k ≡ n) ⊎ (get_or xs n 0 ≡ get_or ys n 0)
+    → get_or (set xs k v) n 0 ≡ get_or (set ys k v) n 0
+set_alike xs ys k n v e h = grind (arith, common_steps)
+
+pub place_one : (rs qs : List ℕ) (w r v n : ℕ) → length rs ≡ length qs
+    → IsAmong (Register n) w (reg r) ⊎ (slice_index rs n ≡ slice_index qs n)
+    → slice_index (register_set rs w r v) n ≡ slice_index (register_set qs w r v) n
+place_one rs qs w zero v n e (inl h) = absurd h
+place_one rs qs w zero v n e (inr h) = h
+place_one rs qs w (suc r) v n e (inl (inl h)) = set_alike rs qs _ n v e (inl (cc))
+place_one rs qs w (suc r) v n e (inl (inr h)) = absurd h
+place_one rs qs w (suc r) v n e (inr h) = set_alike rs qs _ n v e (inr h)
+
+pub among_split : (item : Item) (w : ℕ) (ps qs : List Part) → IsAmong item w (ps ++ qs)
+    → IsAmong item w ps ⊎ IsAmong item w qs
+among_split item w [] qs h = inr h
+among_split item w (p ∷ ps) qs (inl e) = inl (inl e)
+among_split item w (p ∷ ps) qs (inr h) =
+    elim (among_split item w ps qs h) [ inl y ↦ inl (inr y) | inr y ↦ inr y ]
+
+pub among_assoc : (item : Item) (w : ℕ) (ps qs rs : List Part) → IsAmong item w (ps ++ qs ++ rs)
+    → IsAmong item w (ps ++ (qs ++ rs))
+among_assoc item w [] qs rs h = h
+among_assoc item w (p ∷ ps) qs rs (inl e) = inl e
+among_assoc item w (p ∷ ps) qs rs (inr h) = inr (among_assoc item w ps qs rs h)
+
+-- a register names neither the codes nor Y
+pub no_codes : (w r : ℕ) → IsAmong Codes w (reg r) → ⊥
+no_codes w zero h = h
+no_codes w (suc r) (inl e) = cc
+no_codes w (suc r) (inr e) = e
+
+pub no_y : (w r : ℕ) → IsAmong YRegister w (reg r) → ⊥
+no_y w zero h = h
+no_y w (suc r) (inl e) = cc
+no_y w (suc r) (inr e) = e
+
+-- ---- states that end alike
+
+pub ended_alike : (pages : List Span) (instr : Instr) (s t : State) (d : Ending) → IsSameWorld pages s t
+    → AreSameAfter pages instr s t (ended s d) (ended t d)
+ended_alike pages instr s t d h = record {
+  ending = refl;
+  world = record { window = h.window; valid = h.valid; input = h.input; memory = h.memory; registers = h.registers };
+  items = λ n. absurd (cc);
+}
+
+pub same_lengths : (rs qs rs' qs' : List ℕ) → length rs ≡ length qs → length rs' ≡ length rs
+    → length qs' ≡ length qs → length rs' ≡ length qs'
+same_lengths rs qs rs' qs' e f g = f ∙ e ∙ sym g
