@@ -1,3 +1,4 @@
+pub mod Alike
 pub mod Alu
 pub mod Conditions
 pub mod Numbers

@@ -6,6 +6,7 @@
 ghost use Rattle.std.specs.Prelude.{◌≡◌, ℕ, Bool, ◌≤◌, ◌<◌, ◌^◌, ◌+◌, ◌*◌, IsTrue};
 ghost use Rattle.v8_decode.specs.Words.{decode_of};
 ghost use Rattle.v8_alu.specs.Alu.{IsOutInRange, alu_has_form, alu_of, codes_of, count_of, difference_out, dividend_magnitude, dividend_of, divided, has_form, is_tagged, logic_out, multiply_step, product_out, quotient_out, result_of, shifted_right, signed_end, signed_product, signed_quotient, sum_out, trap_on_v, unsigned_end, unsigned_quotient, with_tags};
+ghost use Rattle.v8_alu.specs.Alike.{DependsOnInputs};
 ghost use Rattle.v8_alu.specs.Conditions.{holds_of};
 ghost use Rattle.v8_alu.specs.Numbers.{is_negative, magnitude, wrapped};
 
@@ -351,6 +352,13 @@ pub fn alu(op: AluOp, cc: bool, a: u32, b: u32, codes: Codes, y: u32) -> Result<
         Err(trap) => Err(trap),
     }
 }
+
+/// What [`alu`] gives, by its definition, is the same at codes and Y that agree in what the operation
+/// reads; codes and Y that it does not write agree afterwards if they did before.
+#[inline]
+pub fn outcomes_alike()
+    ensures { (op : AluOp) → (sets : Bool) → DependsOnInputs op sets }
+{}
 
 /// What [`alu`] gives has 32 bits, by its definition, if the operands and Y had.
 #[inline]
