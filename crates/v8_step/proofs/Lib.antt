@@ -1,2 +1,5 @@
 pub mod Executable
 pub mod Kept
+pub mod ValidNumbers
+pub mod ValidMemory
+pub mod ValidOperands

@@ -6,4 +6,5 @@ pub mod State
 pub mod Step
 pub mod Transfers
 pub mod Traps
+pub mod Valid
 pub mod WindowMoves
