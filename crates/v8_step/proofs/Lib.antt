@@ -3,3 +3,5 @@ pub mod Kept
 pub mod ValidNumbers
 pub mod ValidMemory
 pub mod ValidOperands
+pub mod ValidStates
+pub mod ValidWindows
