@@ -5,3 +5,6 @@ pub mod ValidMemory
 pub mod ValidOperands
 pub mod ValidStates
 pub mod ValidWindows
+pub mod ValidAccesses
+pub mod ValidCalls
+pub mod ValidSteps

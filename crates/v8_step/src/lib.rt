@@ -5,7 +5,7 @@
 //! contract. The sections named are those of The SPARC Architecture Manual, Version 8.
 #![tactic(auto)]
 
-ghost use Rattle.v8_step.specs.Laws.{CodeStays};
+ghost use Rattle.v8_step.specs.Laws.{CodeStays, StepsKeepValidity};
 
 /// How a run ends.
 #[derive(Clone, Copy, PartialEq, Eq, Debug, Drop)]
@@ -23,4 +23,9 @@ pub enum Ending {
 /// No step changes a word that can be executed.
 pub fn code_stays()
     ensures { CodeStays }
+{}
+
+/// A step keeps a valid state valid.
+pub fn valid_stays()
+    ensures { StepsKeepValidity }
 {}
