@@ -8,3 +8,11 @@ pub mod Puts
 pub mod Reading
 pub mod RegistersAlike
 pub mod Twins
+pub mod ValidAccesses
+pub mod ValidCalls
+pub mod ValidMemory
+pub mod ValidNumbers
+pub mod ValidOperands
+pub mod ValidStates
+pub mod ValidSteps
+pub mod ValidWindows

@@ -8,6 +8,7 @@ use Rattle.v8_step.specs.Step.{step_of, puts_of}
 use Rattle.v8_step.specs.Run.{run}
 use Rattle.v8_step.specs.Items.{is_transfer}
 use Rattle.v8_step.specs.Alike.{IsReady, AreSameAfter}
+use Rattle.v8_step.specs.Valid.{IsValid}
 
 -- No step changes a word that can be executed, and so no run does.
 abbrev pub CodeStays : Type 0
@@ -23,3 +24,7 @@ StepsAlike =
     → fetch_of s.memory s.pc ≡ Some word → fetch_of t.memory t.pc ≡ Some word
     → AreSameAfter pages (decode_of word) s t (step_of s) (step_of t)
     × ((descriptor : ℕ) → puts_of s descriptor ≡ puts_of t descriptor)
+
+-- A step keeps a valid state valid.
+abbrev pub StepsKeepValidity : Type 0
+StepsKeepValidity = (s : State) → IsValid s → IsValid (step_of s)

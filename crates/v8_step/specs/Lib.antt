@@ -12,5 +12,6 @@ pub mod Step
 pub mod Transfers
 pub mod Traps
 pub mod TwoRuns
+pub mod Valid
 pub mod Visits
 pub mod WindowMoves

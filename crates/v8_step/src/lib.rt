@@ -6,7 +6,7 @@
 #![tactic(auto)]
 
 ghost use Rattle.v8_step.specs.Follows.{RunsFollow};
-ghost use Rattle.v8_step.specs.Laws.{CodeStays, StepsAlike};
+ghost use Rattle.v8_step.specs.Laws.{CodeStays, StepsAlike, StepsKeepValidity};
 
 /// How a run ends.
 #[derive(Clone, Copy, PartialEq, Eq, Debug, Drop)]
@@ -24,6 +24,11 @@ pub enum Ending {
 /// No step changes a word that can be executed.
 pub fn code_stays()
     ensures { CodeStays }
+{}
+
+/// A step keeps a valid state valid.
+pub fn valid_stays()
+    ensures { StepsKeepValidity }
 {}
 
 /// Two states that fetch one word, which is no transfer of control, and share what it reads step alike: they end

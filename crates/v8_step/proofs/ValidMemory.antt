@@ -1,0 +1,135 @@
+-- Writes and moves of the heap's end keep memory valid, and reads give bytes.
+use Rattle.std.proofs.Common.{◌≡◌, ℕ, ◌+◌, ◌-◌, ◌<◌, ◌≤◌, Bool, true, false, ◌&&◌, List, [], ◌∷◌, ◌++◌, length, take, drop, nat_le, All, Option, Some, None, IfSome, refl, ◌∙◌, arith, length-append, length-take, length-drop}
+use Rattle.std.specs.Prelude.{if◌then◌else◌}
+use Rattle.std.specs.List.{find}
+use Rattle.std.proofs.lemmas.Bool.{leb-true}
+use Rattle.std.proofs.lemmas.List.Elements.{All-cons, All-head, All-tail, All-append, All-take, All-drop, All-map, All-weaker}
+use Rattle.v8_memory.specs.Regions.{Region, Memory, covers, region_at, part_of, if_allowed, read_region, bytes_at, changed, written, all_written, write_region, with_bytes, with_heap_end}
+use Rattle.v8_step.specs.Valid.{AreBytes, IsValidRegion, IsValidHeap, IsValidMemory}
+
+-- ---- reading
+
+find-holds : (P : Region → Type 0) (p : Region → Bool) (rs : List Region) → All P rs → IfSome (find p rs) P
+find-holds P p [] h = tt
+find-holds P p (r ∷ rs) h = go (p r) (find p rs) (find-holds P p rs (All-tail P r rs h))
+  where
+    go : (b : Bool) (x : Option Region) → IfSome x P → IfSome (if b then Some r else x) P
+    go true x k = All-head P r rs h
+    go false x k = k
+
+part_of-bytes : (r : Region) (address count : ℕ) → AreBytes r.bytes → AreBytes (part_of r address count)
+part_of-bytes r address count h =
+    All-take (λ b. b < 256) count _ (All-drop (λ b. b < 256) (address - r.start) r.bytes h)
+
+pub bytes_at-bytes : (m : Memory) (address count : ℕ) → IsValidMemory m → IfSome (bytes_at m address count) AreBytes
+unfolding bytes_at
+bytes_at-bytes m address count h =
+    go (region_at m address count)
+    (find-holds (λ r. AreBytes r.bytes) (covers address count) (m.heap ∷ m.regions)
+    (All-cons (λ r. AreBytes r.bytes) m.heap m.regions h.heap.bytes
+    (All-weaker IsValidRegion (λ r. AreBytes r.bytes) (λ r k. k.bytes) m.regions h.regions)))
+  where
+    allowed : (b : Bool) (bytes : List ℕ) → AreBytes bytes → IfSome (if_allowed b bytes) AreBytes
+    allowed true bytes k = k
+    allowed false bytes k = tt
+
+    go : (x : Option Region) → IfSome x (λ r. AreBytes r.bytes) → IfSome (read_region address count x) AreBytes
+    go None k = tt
+    go (Some r) k = allowed r.readable _ (part_of-bytes r address count k)
+
+-- ---- writing
+
+both : (x y z : Bool) → ((x && y) && z) ≡ true → (x ≡ true) × (y ≡ true)
+both true true z e = (refl, refl)
+both true false z e = absurd (cc)
+both false y z e = absurd (cc)
+
+changed-bytes : (address : ℕ) (bytes : List ℕ) (r : Region) → AreBytes bytes → AreBytes r.bytes
+    → AreBytes (changed address bytes r).bytes
+changed-bytes address bytes r h k =
+    All-append (λ b. b < 256) (take (address - r.start) r.bytes ++ bytes) _
+    (All-append (λ b. b < 256) (take (address - r.start) r.bytes) bytes (All-take (λ b. b < 256) _ r.bytes k) h)
+    (All-drop (λ b. b < 256) (address - r.start + length bytes) r.bytes k)
+
+length-pasted : (at : ℕ) (bytes old : List ℕ) → at + length bytes ≤ length old
+    → length (take at old ++ bytes ++ drop (at + length bytes) old) ≡ length old
+length-pasted at bytes old fits =
+    omega (
+      arith,
+      length-append (take at old ++ bytes) (drop (at + length bytes) old),
+      length-append (take at old) bytes,
+      length-take at old,
+      length-drop (at + length bytes) old,
+    )
+
+length-changed : (address : ℕ) (bytes : List ℕ) (r : Region) → r.start ≤ address
+    → address + length bytes ≤ r.start + r.size → r.size ≤ length r.bytes
+    → length (changed address bytes r).bytes ≡ length r.bytes
+length-changed address bytes r low high room = length-pasted (address - r.start) bytes r.bytes (omega arith)
+
+-- what holds of a changed region that is mapped there, and of the region itself
+either : (P : Region → Type 0) (address : ℕ) (bytes : List ℕ) (r : Region) → P r
+    → (r.start ≤ address → address + length bytes ≤ r.start + r.size → P (changed address bytes r))
+    → P (written address bytes r)
+either P address bytes r h k = go (covers address (length bytes) r && r.writable) refl
+  where
+    go : (b : Bool) → (covers address (length bytes) r && r.writable) ≡ b → P (if b then changed address bytes r else r)
+    go true e =
+        let parts = both (nat_le r.start address) (nat_le (address + length bytes) (r.start + r.size)) r.writable e in
+        k (leb-true _ _ parts.0) (leb-true _ _ parts.1)
+    go false e = h
+
+region_written : (address : ℕ) (bytes : List ℕ) (r : Region) → AreBytes bytes → IsValidRegion r
+    → IsValidRegion (written address bytes r)
+region_written address bytes r k h =
+    either IsValidRegion address bytes r h (λ low high. record {
+      count = length-changed address bytes r low high (omega (arith, h.count)) ∙ h.count;
+      bytes = changed-bytes address bytes r k h.bytes;
+    })
+
+heap_written : (address : ℕ) (bytes : List ℕ) (r : Region) → AreBytes bytes → IsValidHeap r
+    → IsValidHeap (written address bytes r)
+heap_written address bytes r k h =
+    either IsValidHeap address bytes r h (λ low high. record {
+      start = h.start;
+      size = h.size;
+      count = length-changed address bytes r low high (omega (arith, h.count, h.size)) ∙ h.count;
+      bytes = changed-bytes address bytes r k h.bytes;
+    })
+
+all_written-valid : (address : ℕ) (bytes : List ℕ) (m : Memory) → AreBytes bytes → IsValidMemory m
+    → IsValidMemory (all_written address bytes m)
+all_written-valid address bytes m k h = record {
+  heap = heap_written address bytes m.heap k h.heap;
+  regions =
+      All-map IsValidRegion (written address bytes) m.regions
+      (All-weaker IsValidRegion (λ r. IsValidRegion (written address bytes r))
+      (λ r. region_written address bytes r k) m.regions h.regions);
+}
+
+pub with_bytes-valid : (m : Memory) (address : ℕ) (bytes : List ℕ) → AreBytes bytes → IsValidMemory m
+    → IfSome (with_bytes m address bytes) IsValidMemory
+unfolding with_bytes
+with_bytes-valid m address bytes k h = go (region_at m address (length bytes))
+  where
+    allowed : (b : Bool) → IfSome (if_allowed b (all_written address bytes m)) IsValidMemory
+    allowed true = all_written-valid address bytes m k h
+    allowed false = tt
+
+    go : (x : Option Region) → IfSome (write_region address bytes m x) IsValidMemory
+    go None = tt
+    go (Some r) = allowed r.writable
+
+-- ---- the heap
+
+pub with_heap_end-valid : (m : Memory) (end : ℕ) → end ≤ 0x81000000 → IsValidMemory m
+    → IsValidMemory (with_heap_end m end)
+with_heap_end-valid m end high h = record {
+  heap = record {
+    start = h.heap.start;
+    size = omega (arith, h.heap.start);
+    count = h.heap.count;
+    bytes = h.heap.bytes;
+  };
+  regions = h.regions;
+}

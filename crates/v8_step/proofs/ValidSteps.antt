@@ -1,0 +1,95 @@
+-- A step keeps a valid state valid.
+use Rattle.std.proofs.Common.{ℕ, ◌%◌, ◌^◌, ◌<◌, Option, Some, None, Result, Ok, Err, ◌==◌, ℤ}
+use Rattle.std.proofs.lemmas.Nat.{xor_lt}
+use Rattle.v8_decode.specs.declared.Op2.{Op2}
+use Rattle.v8_decode.specs.declared.Op2.TheVariants.{Reg, Imm}
+use Rattle.v8_decode.specs.declared.Instr.{Instr}
+use Rattle.v8_decode.specs.declared.Instr.TheVariants as i
+use Rattle.v8_decode.specs.Words.{decode_of}
+use Rattle.v8_memory.specs.Regions.{fetch_of}
+use Rattle.v8_alu.specs.declared.AluOut.{AluOut}
+use Rattle.v8_alu.specs.declared.AluTrap.{AluTrap}
+use Rattle.v8_alu.specs.declared.AluTrap.TheVariants.{DivZero, TagOverflow}
+use Rattle.v8_alu.specs.Alu.{IsOutInRange}
+use Rattle.v8_alu.specs.Conditions.{holds_of}
+use Rattle.v8_alu.proofs.Ranges.{alu_of-range}
+use Rattle.v8_step.specs.declared.Ending.{Ending}
+use Rattle.v8_step.specs.State.{State, register_of, with_register, operand_of, sum_of}
+use Rattle.v8_step.specs.Transfers.{target_of, branch_step, call_step, jump_step}
+use Rattle.v8_step.specs.Step.{alu_step, trap_number, act, on_word, unless_ended, step_of}
+use Rattle.v8_step.specs.Valid.{IsValid}
+use Rattle.v8_step.specs.Laws.{StepsKeepValidity}
+use Rattle.v8_step.proofs.ValidOperands.{IsWordOperand, HasWordOperand, decode_of-word}
+use Rattle.v8_step.proofs.ValidStates.{wrapped-range, register_of-range, register-valid, codes-valid, ended-valid, next-valid, delayed-valid, if-valid, slot-valid, branched-valid}
+use Rattle.v8_step.proofs.ValidAccesses.{load_step-valid, store_step-valid, ldstub_step-valid, swap_step-valid}
+use Rattle.v8_step.proofs.ValidWindows.{save_step-valid, restore_step-valid}
+use Rattle.v8_step.proofs.ValidCalls.{trap_step-valid}
+
+operand_of-range : (s : State) (op2 : Op2) → IsValid s → IsWordOperand op2 → operand_of s op2 < 2 ^ 32
+operand_of-range s (Reg r) h k = register_of-range s r h
+operand_of-range s (Imm n) h k = k
+
+sum_of-range : (s : State) (rs1 : ℕ) (op2 : Op2) → sum_of s rs1 op2 < 2 ^ 32
+sum_of-range s rs1 op2 = wrapped-range _
+
+target_of-range : (s : State) (disp : ℤ) → target_of s disp < 2 ^ 32
+target_of-range s disp = wrapped-range _
+
+alu_step-valid : (s : State) (rd : ℕ) (r : Result AluOut AluTrap) → IsValid s → IsOutInRange r
+    → IsValid (alu_step s rd r)
+unfolding alu_step
+alu_step-valid s rd (Ok o) h k =
+    next-valid _ (codes-valid (with_register s rd o.value) o.codes o.y (register-valid s rd o.value h k.0) k.1)
+alu_step-valid s rd (Err DivZero) h k = ended-valid s _ h
+alu_step-valid s rd (Err TagOverflow) h k = ended-valid s _ h
+
+act-valid : (s : State) (instr : Instr) → IsValid s → HasWordOperand instr → IsValid (act s instr)
+unfolding act branch_step call_step jump_step
+act-valid s (i.Sethi rd imm22) h k = next-valid _ (register-valid s rd _ h (wrapped-range _))
+act-valid s (i.Branch cond annul disp22) h k =
+    slot-valid s.slot s _ h
+    (branched-valid (holds_of cond s.codes) (cond == 8) annul s (target_of s disp22) h (target_of-range s disp22))
+act-valid s (i.Call disp30) h k =
+    slot-valid s.slot s _ h
+    (delayed-valid (with_register s 15 s.pc) (target_of s disp30) (register-valid s 15 s.pc h h.pc)
+    (target_of-range s disp30))
+act-valid s (i.Alu op cc rd rs1 op2) h k =
+    alu_step-valid s rd _ h
+    (alu_of-range op cc (register_of s rs1) (operand_of s op2) s.codes s.y (register_of-range s rs1 h)
+    (operand_of-range s op2 h k) h.y)
+act-valid s (i.ReadY rd) h k = next-valid _ (register-valid s rd s.y h h.y)
+act-valid s (i.WriteY rs1 op2) h k =
+    next-valid _ (codes-valid s s.codes _ h
+    (xor_lt 32 (register_of s rs1) (operand_of s op2) (register_of-range s rs1 h) (operand_of-range s op2 h k)))
+act-valid s (i.Jmpl rd rs1 op2) h k =
+    slot-valid s.slot s _ h
+    (if-valid (sum_of s rs1 op2 % 4 == 0) _ _
+    (delayed-valid (with_register s rd s.pc) (sum_of s rs1 op2) (register-valid s rd s.pc h h.pc)
+    (sum_of-range s rs1 op2))
+    (ended-valid s _ h))
+act-valid s (i.Ticc cond rs1 op2) h k =
+    if-valid (holds_of cond s.codes) _ _ (trap_step-valid s (trap_number s rs1 op2) h) (next-valid s h)
+act-valid s (i.Flush rs1 op2) h k = next-valid s h
+act-valid s i.Stbar h k = next-valid s h
+act-valid s (i.Save rd rs1 op2) h k = save_step-valid s rd (sum_of s rs1 op2) h (sum_of-range s rs1 op2)
+act-valid s (i.Restore rd rs1 op2) h k = restore_step-valid s rd (sum_of s rs1 op2) h (sum_of-range s rs1 op2)
+act-valid s (i.Load kind rd rs1 op2) h k = load_step-valid s kind rd (sum_of s rs1 op2) h
+act-valid s (i.Store kind rd rs1 op2) h k = store_step-valid s kind rd (sum_of s rs1 op2) h
+act-valid s (i.Ldstub rd rs1 op2) h k = ldstub_step-valid s rd (sum_of s rs1 op2) h
+act-valid s (i.Swap rd rs1 op2) h k = swap_step-valid s rd (sum_of s rs1 op2) h
+act-valid s i.Illegal h k = ended-valid s _ h
+act-valid s i.Privileged h k = ended-valid s _ h
+act-valid s i.FpOff h k = ended-valid s _ h
+act-valid s i.CpOff h k = ended-valid s _ h
+
+on_word-valid : (s : State) (o : Option ℕ) → IsValid s → IsValid (on_word s o)
+on_word-valid s None h = ended-valid s _ h
+on_word-valid s (Some word) h = act-valid s (decode_of word) h (decode_of-word word)
+
+pub valid_stays : StepsKeepValidity
+unfolding step_of
+valid_stays s h = go s.ending
+  where
+    go : (e : Option Ending) → IsValid (unless_ended s e (on_word s (fetch_of s.memory s.pc)))
+    go None = on_word-valid s (fetch_of s.memory s.pc) h
+    go (Some e) = h
