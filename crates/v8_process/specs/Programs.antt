@@ -1,5 +1,5 @@
 -- Small programs, as whole files or as words, and their runs from the first state: they compute.
-use Rattle.std.specs.Prelude.{◌≡◌, ℕ, ◌*◌, List, [], ◌∷◌, length, map, Some, true, false, refl}
+use Rattle.std.specs.Prelude.{◌≡◌, ℕ, ◌*◌, List, [], ◌∷◌, ◌++◌, length, map, Option, Some, None, true, false, refl}
 use Rattle.std.specs.Int.{w32, to_be_bytes}
 use Rattle.std.specs.List.{flat_map}
 use Rattle.elf32_sparc.specs.Header.{half_at, word_at, program_header, program_headers}
@@ -7,6 +7,7 @@ use Rattle.elf32_sparc.specs.Mapping.{mappings}
 use Rattle.v8_decode.specs.Words.{decode_of, branch_or_sethi, arithmetic, memory}
 use Rattle.v8_memory.specs.Segments.{empty_heap, data_region}
 use Rattle.v8_memory.specs.Regions.{Region, bytes_at, with_bytes, fetch_of}
+use Rattle.v8_step.specs.declared.Ending.{Ending}
 use Rattle.v8_step.specs.declared.Ending.TheVariants.{Exit, Trap, Window, Couple}
 use Rattle.v8_alu.specs.Alu.{alu_of}
 use Rattle.v8_alu.specs.Conditions.{holds_of}
@@ -17,7 +18,7 @@ use Rattle.v8_step.specs.Calls.{system_call, trap_step}
 use Rattle.v8_step.specs.Step.{alu_step, act, step_of, puts_by, puts_of}
 use Rattle.v8_step.specs.State.{State, register_of}
 use Rattle.v8_step.specs.Run.{run, run_puts, zeros, first_state}
-use Rattle.v8_process.specs.Start.{start_of, first_sp, program_name}
+use Rattle.v8_process.specs.Start.{start_of, first_sp, stack_top, program_name}
 
 abbrev pub bytes_of : List ℕ → List ℕ
 bytes_of words = flat_map (to_be_bytes w32) words
@@ -261,3 +262,158 @@ system_calls_refuse = refl
 system_calls_read : register_of (run (with_input (10 ∷ 20 ∷ 30 ∷ []) (first_of system_calls)) 5) 8 ≡ 3
 unfolding decode_of branch_or_sethi arithmetic memory step_of act alu_step branch_step call_step jump_step load_step store_step ldstub_step swap_step save_step restore_step system_call trap_step alu_of holds_of fetch_of bytes_at with_bytes
 system_calls_read = refl
+
+-- ---- more of what one instruction or one call does
+
+-- a jump whose own address, that of its word, is the answer
+abbrev pub jump_link : List ℕ
+jump_link =
+    0x40000002 ∷ 0x01000000 ∷ 0x91c3e010 ∷ 0x01000000 ∷ 0x82102001 ∷ 0x91d02010 ∷ []
+
+jump_link_ends : (run (first_of jump_link) 6).ending ≡ Some (Exit 0x5c)
+unfolding decode_of branch_or_sethi arithmetic memory step_of act alu_step branch_step call_step jump_step load_step store_step ldstub_step swap_step save_step restore_step system_call trap_step alu_of holds_of fetch_of bytes_at with_bytes
+jump_link_ends = refl
+
+-- a branch in the slot of one that is not taken
+abbrev pub transfer_in_untaken_slot : List ℕ
+transfer_in_untaken_slot =
+    0x00800002 ∷ 0x10800002 ∷ 0x01000000 ∷ []
+
+transfer_in_untaken_slot_ends : (run (first_of transfer_in_untaken_slot) 2).ending ≡ Some Couple
+unfolding decode_of branch_or_sethi arithmetic memory step_of act alu_step branch_step call_step jump_step load_step store_step ldstub_step swap_step save_step restore_step system_call trap_step alu_of holds_of fetch_of bytes_at with_bytes
+transfer_in_untaken_slot_ends = refl
+
+-- six SAVEs save no window, and neither does the one that saves the first; save_to_nowhere ends at the eighth
+seven_saves_go_on : (run (first_of save_to_nowhere) 7).ending ≡ None
+unfolding decode_of branch_or_sethi arithmetic memory step_of act alu_step branch_step call_step jump_step load_step store_step ldstub_step swap_step save_step restore_step system_call trap_step alu_of holds_of fetch_of bytes_at with_bytes
+seven_saves_go_on = refl
+
+-- RESTORE adds registers of the old window, and gives a register of the new one
+abbrev pub restore_adds : List ℕ
+restore_adds =
+    0x9de3bfa0 ∷ 0xa0102005 ∷ 0x91ec2001 ∷ 0x82102001 ∷ 0x91d02010 ∷ []
+
+restore_adds_ends : (run (first_of restore_adds) 5).ending ≡ Some (Exit 6)
+unfolding decode_of branch_or_sethi arithmetic memory step_of act alu_step branch_step call_step jump_step load_step store_step ldstub_step swap_step save_step restore_step system_call trap_step alu_of holds_of fetch_of bytes_at with_bytes
+restore_adds_ends = refl
+
+-- STH, STB and ST at the top of the stack, and LDD of the two words
+abbrev pub parts_of_words : List ℕ
+parts_of_words =
+    0x84102102 ∷ 0x86102007 ∷ 0xc4338000 ∷ 0xc42ba002 ∷ 0xc623a004 ∷ 0xc81b8000 ∷ []
+
+parts_of_words_give : map (register_of (run (first_of parts_of_words) 6)) (4 ∷ 5 ∷ []) ≡ 0x01020200 ∷ 7 ∷ []
+unfolding decode_of branch_or_sethi arithmetic memory step_of act alu_step branch_step call_step jump_step load_step store_step ldstub_step swap_step save_step restore_step system_call trap_step alu_of holds_of fetch_of bytes_at with_bytes
+parts_of_words_give = refl
+
+-- how a program of one word ends
+abbrev pub ending_of_word : ℕ → Option Ending
+ending_of_word word = (run (first_of (word ∷ [])) 1).ending
+
+-- LDUH, LDSH, LD, LDD, STH, ST, STD and SWAP at half of what they are aligned to
+abbrev pub misaligned_accesses : List ℕ
+misaligned_accesses =
+    0xc413a001 ∷ 0xc453a001 ∷ 0xc403a002 ∷ 0xc41ba004 ∷ 0xc433a001 ∷ 0xc423a002 ∷ 0xc43ba004 ∷ 0xc47ba002
+    ∷ []
+
+misaligned_accesses_end : map ending_of_word misaligned_accesses
+    ≡ Some (Trap 7) ∷ Some (Trap 7) ∷ Some (Trap 7) ∷ Some (Trap 7)
+    ∷ Some (Trap 7) ∷ Some (Trap 7) ∷ Some (Trap 7) ∷ Some (Trap 7) ∷ []
+unfolding decode_of branch_or_sethi arithmetic memory step_of act alu_step branch_step call_step jump_step load_step store_step ldstub_step swap_step save_step restore_step system_call trap_step alu_of holds_of fetch_of bytes_at with_bytes
+misaligned_accesses_end = refl
+
+-- exits with -1
+abbrev pub exit_of_a_byte : List ℕ
+exit_of_a_byte =
+    0x82102001 ∷ 0x90103fff ∷ 0x91d02010 ∷ []
+
+exit_of_a_byte_ends : (run (first_of exit_of_a_byte) 3).ending ≡ Some (Exit 255)
+unfolding decode_of branch_or_sethi arithmetic memory step_of act alu_step branch_step call_step jump_step load_step store_step ldstub_step swap_step save_step restore_step system_call trap_step alu_of holds_of fetch_of bytes_at with_bytes
+exit_of_a_byte_ends = refl
+
+-- calls the system by the number 144
+abbrev pub high_trap_number : List ℕ
+high_trap_number =
+    0x82102001 ∷ 0x84102090 ∷ 0x90102003 ∷ 0x91d08000 ∷ []
+
+high_trap_number_ends : (run (first_of high_trap_number) 4).ending ≡ Some (Exit 3)
+unfolding decode_of branch_or_sethi arithmetic memory step_of act alu_step branch_step call_step jump_step load_step store_step ldstub_step swap_step save_step restore_step system_call trap_step alu_of holds_of fetch_of bytes_at with_bytes
+high_trap_number_ends = refl
+
+-- writes three bytes to descriptor 2, with C set before
+abbrev pub write_to_two : List ℕ
+write_to_two =
+    0x80a02001 ∷ 0x82102004 ∷ 0x90102002 ∷ 0x9210000e ∷ 0x94102003 ∷ 0x91d02010 ∷ []
+
+write_to_two_gives : map (register_of (run (first_of write_to_two) 6)) (8 ∷ []) ≡ 3 ∷ []
+unfolding decode_of branch_or_sethi arithmetic memory step_of act alu_step branch_step call_step jump_step load_step store_step ldstub_step swap_step save_step restore_step system_call trap_step alu_of holds_of fetch_of bytes_at with_bytes
+write_to_two_gives = refl
+
+write_to_two_clears : (run (first_of write_to_two) 6).codes.c ≡ false
+unfolding decode_of branch_or_sethi arithmetic memory step_of act alu_step branch_step call_step jump_step load_step store_step ldstub_step swap_step save_step restore_step system_call trap_step alu_of holds_of fetch_of bytes_at with_bytes
+write_to_two_clears = refl
+
+write_to_two_puts : map (run_puts (first_of write_to_two) 6) (0 ∷ 1 ∷ 2 ∷ []) ≡ [] ∷ [] ∷ (0 ∷ 0 ∷ 0 ∷ []) ∷ []
+unfolding decode_of branch_or_sethi arithmetic memory step_of act alu_step branch_step call_step jump_step load_step store_step ldstub_step swap_step save_step restore_step system_call trap_step alu_of holds_of fetch_of bytes_at with_bytes puts_of puts_by
+write_to_two_puts = refl
+
+-- writes to descriptor 0, which takes no output
+abbrev pub write_to_zero : List ℕ
+write_to_zero =
+    0x82102004 ∷ 0x9210000e ∷ 0x94102004 ∷ 0x90102000 ∷ 0x91d02010 ∷ []
+
+write_to_zero_gives : register_of (run (first_of write_to_zero) 5) 8 ≡ 9
+unfolding decode_of branch_or_sethi arithmetic memory step_of act alu_step branch_step call_step jump_step load_step store_step ldstub_step swap_step save_step restore_step system_call trap_step alu_of holds_of fetch_of bytes_at with_bytes
+write_to_zero_gives = refl
+
+write_to_zero_puts : run_puts (first_of write_to_zero) 5 0 ≡ []
+unfolding decode_of branch_or_sethi arithmetic memory step_of act alu_step branch_step call_step jump_step load_step store_step ldstub_step swap_step save_step restore_step system_call trap_step alu_of holds_of fetch_of bytes_at with_bytes puts_of puts_by
+write_to_zero_puts = refl
+
+-- ---- the heap, with sixteen bytes of room here
+
+abbrev pub with_short_heap : List ℕ → State
+with_short_heap words = first_state (record {
+  heap = record (data_region 0x80000000 (zeros 16)) { size = 0 };
+  regions = text_region words ∷ [];
+}) 0x10054 0xefffffa0 []
+
+-- what 17 answers to these ends of the heap
+abbrev pub heap_answer : ℕ → ℕ
+heap_answer end = register_of (system_call (with_short_heap []) 17 end 0 0) 8
+
+heap_ends : map heap_answer (0x7fffffff ∷ 0x80000000 ∷ 0x81000000 ∷ 0x81000001 ∷ []) ≡ 12 ∷ 0 ∷ 0 ∷ 12 ∷ []
+unfolding system_call
+heap_ends = refl
+
+-- a word above an end of the heap that falls and rises again
+abbrev pub heap_falls_and_rises : List ℕ
+heap_falls_and_rises =
+    0x82102011 ∷ 0x05200000 ∷ 0x9000a008 ∷ 0x91d02010 ∷ 0x86102005 ∷ 0xc620a004 ∷ 0x90100002 ∷ 0x91d02010
+    ∷ 0x9000a008 ∷ 0x91d02010 ∷ 0xd000a004 ∷ 0x82102001 ∷ 0x91d02010 ∷ []
+
+heap_falls_and_rises_ends : (run (with_short_heap heap_falls_and_rises) 13).ending ≡ Some (Exit 5)
+unfolding decode_of branch_or_sethi arithmetic memory step_of act alu_step branch_step call_step jump_step load_step store_step ldstub_step swap_step save_step restore_step system_call trap_step alu_of holds_of fetch_of bytes_at with_bytes
+heap_falls_and_rises_ends = refl
+
+-- stores a word below the heap's end, and one above it
+abbrev pub store_above_heap : List ℕ
+store_above_heap =
+    0x82102011 ∷ 0x05200000 ∷ 0x9000a008 ∷ 0x91d02010 ∷ 0xc020a004 ∷ 0xc020a008 ∷ []
+
+store_above_heap_goes_on : (run (with_short_heap store_above_heap) 5).ending ≡ None
+unfolding decode_of branch_or_sethi arithmetic memory step_of act alu_step branch_step call_step jump_step load_step store_step ldstub_step swap_step save_step restore_step system_call trap_step alu_of holds_of fetch_of bytes_at with_bytes
+store_above_heap_goes_on = refl
+
+store_above_heap_ends : (run (with_short_heap store_above_heap) 6).ending ≡ Some (Trap 9)
+unfolding decode_of branch_or_sethi arithmetic memory step_of act alu_step branch_step call_step jump_step load_step store_step ldstub_step swap_step save_step restore_step system_call trap_step alu_of holds_of fetch_of bytes_at with_bytes
+store_above_heap_ends = refl
+
+-- ---- the stack of a program with the argument "a", from its argument words to its end
+
+one_argument_sp : first_sp (program_name ∷ (97 ∷ []) ∷ []) ≡ 0xefffff90
+one_argument_sp = refl
+
+one_argument_stack : stack_top (program_name ∷ (97 ∷ []) ∷ [])
+    ≡ bytes_of (2 ∷ 0xeffffff0 ∷ 0xeffffff8 ∷ zeros 5) ++ program_name ++ 0 ∷ 97 ∷ 0 ∷ zeros 6
+one_argument_stack = refl
