@@ -10,6 +10,7 @@ pub mod RegistersAlike
 pub mod Twins
 pub mod ValidAccesses
 pub mod ValidCalls
+pub mod ValidFirst
 pub mod ValidMemory
 pub mod ValidNumbers
 pub mod ValidOperands

@@ -1,5 +1,5 @@
 -- A step keeps a valid state valid.
-use Rattle.std.proofs.Common.{ℕ, ◌%◌, ◌^◌, ◌<◌, Option, Some, None, Result, Ok, Err, ◌==◌, ℤ}
+use Rattle.std.proofs.Common.{ℕ, zero, suc, ◌%◌, ◌^◌, ◌<◌, Option, Some, None, Result, Ok, Err, ◌==◌, ℤ}
 use Rattle.std.proofs.lemmas.Nat.{xor_lt}
 use Rattle.v8_decode.specs.declared.Op2.{Op2}
 use Rattle.v8_decode.specs.declared.Op2.TheVariants.{Reg, Imm}
@@ -18,7 +18,9 @@ use Rattle.v8_step.specs.State.{State, register_of, with_register, operand_of, s
 use Rattle.v8_step.specs.Transfers.{target_of, branch_step, call_step, jump_step}
 use Rattle.v8_step.specs.Step.{alu_step, trap_number, act, on_word, unless_ended, step_of}
 use Rattle.v8_step.specs.Valid.{IsValid}
-use Rattle.v8_step.specs.Laws.{StepsKeepValidity}
+use Rattle.v8_step.specs.Laws.{ValidStays}
+use Rattle.v8_step.specs.Run.{run}
+use Rattle.v8_step.proofs.ValidFirst.{first_state-valid}
 use Rattle.v8_step.proofs.ValidOperands.{IsWordOperand, HasWordOperand, decode_of-word}
 use Rattle.v8_step.proofs.ValidStates.{wrapped-range, register_of-range, register-valid, codes-valid, ended-valid, next-valid, delayed-valid, if-valid, slot-valid, branched-valid}
 use Rattle.v8_step.proofs.ValidAccesses.{load_step-valid, store_step-valid, ldstub_step-valid, swap_step-valid}
@@ -86,10 +88,17 @@ on_word-valid : (s : State) (o : Option ℕ) → IsValid s → IsValid (on_word 
 on_word-valid s None h = ended-valid s _ h
 on_word-valid s (Some word) h = act-valid s (decode_of word) h (decode_of-word word)
 
-pub valid_stays : StepsKeepValidity
+pub step-valid : (s : State) → IsValid s → IsValid (step_of s)
 unfolding step_of
-valid_stays s h = go s.ending
+step-valid s h = go s.ending
   where
     go : (e : Option Ending) → IsValid (unless_ended s e (on_word s (fetch_of s.memory s.pc)))
     go None = on_word-valid s (fetch_of s.memory s.pc) h
     go (Some e) = h
+
+pub run-valid : (s : State) (n : ℕ) → IsValid s → IsValid (run s n)
+run-valid s zero h = h
+run-valid s (suc n) h = step-valid (run s n) (run-valid s n h)
+
+pub valid_stays : ValidStays
+valid_stays = (first_state-valid, step-valid, run-valid)

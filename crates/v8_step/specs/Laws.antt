@@ -1,14 +1,14 @@
 -- The laws of steps and runs.
-use Rattle.std.specs.Prelude.{◌≡◌, ℕ, false, Some, List}
+use Rattle.std.specs.Prelude.{◌≡◌, ℕ, ◌^◌, ◌<◌, false, Some, List}
 use Rattle.v8_decode.specs.Words.{decode_of}
-use Rattle.v8_memory.specs.Regions.{code_of, fetch_of}
+use Rattle.v8_memory.specs.Regions.{Memory, code_of, fetch_of}
 use Rattle.v8_memory.specs.Spans.{Span}
 use Rattle.v8_step.specs.State.{State}
 use Rattle.v8_step.specs.Step.{step_of, puts_of}
-use Rattle.v8_step.specs.Run.{run}
+use Rattle.v8_step.specs.Run.{run, first_state}
 use Rattle.v8_step.specs.Items.{is_transfer}
 use Rattle.v8_step.specs.Alike.{IsReady, AreSameAfter}
-use Rattle.v8_step.specs.Valid.{IsValid}
+use Rattle.v8_step.specs.Valid.{AreBytes, IsValidMemory, IsValid}
 
 -- No step changes a word that can be executed, and so no run does.
 abbrev pub CodeStays : Type 0
@@ -25,6 +25,10 @@ StepsAlike =
     → AreSameAfter pages (decode_of word) s t (step_of s) (step_of t)
     × ((descriptor : ℕ) → puts_of s descriptor ≡ puts_of t descriptor)
 
--- A step keeps a valid state valid.
-abbrev pub StepsKeepValidity : Type 0
-StepsKeepValidity = (s : State) → IsValid s → IsValid (step_of s)
+-- A first state over valid memory is valid, a step keeps a valid state valid, and so does a run.
+abbrev pub ValidStays : Type 0
+ValidStays =
+    ((m : Memory) (entry sp : ℕ) (input : List ℕ) → IsValidMemory m → entry < 2 ^ 32 → sp < 2 ^ 32
+    → AreBytes input → IsValid (first_state m entry sp input))
+    × ((s : State) → IsValid s → IsValid (step_of s))
+    × ((s : State) (n : ℕ) → IsValid s → IsValid (run s n))

@@ -6,7 +6,7 @@
 #![tactic(auto)]
 
 ghost use Rattle.v8_step.specs.Follows.{RunsFollow};
-ghost use Rattle.v8_step.specs.Laws.{CodeStays, StepsAlike, StepsKeepValidity};
+ghost use Rattle.v8_step.specs.Laws.{CodeStays, StepsAlike, ValidStays};
 
 /// How a run ends.
 #[derive(Clone, Copy, PartialEq, Eq, Debug, Drop)]
@@ -26,9 +26,9 @@ pub fn code_stays()
     ensures { CodeStays }
 {}
 
-/// A step keeps a valid state valid.
+/// A first state over valid memory is valid, and steps and runs keep a valid state valid.
 pub fn valid_stays()
-    ensures { StepsKeepValidity }
+    ensures { ValidStays }
 {}
 
 /// Two states that fetch one word, which is no transfer of control, and share what it reads step alike: they end
