@@ -1,6 +1,7 @@
 pub mod Accesses
 pub mod Alike
 pub mod Calls
+pub mod Copied
 pub mod Follows
 pub mod Items
 pub mod Judged
