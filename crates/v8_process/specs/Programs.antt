@@ -353,7 +353,8 @@ write_to_two_clears : (run (first_of write_to_two) 6).codes.c ≡ false
 unfolding decode_of branch_or_sethi arithmetic memory step_of act alu_step branch_step call_step jump_step load_step store_step ldstub_step swap_step save_step restore_step system_call trap_step alu_of holds_of fetch_of bytes_at with_bytes
 write_to_two_clears = refl
 
-write_to_two_puts : map (run_puts (first_of write_to_two) 6) (0 ∷ 1 ∷ 2 ∷ []) ≡ [] ∷ [] ∷ (0 ∷ 0 ∷ 0 ∷ []) ∷ []
+write_to_two_puts : map (run_puts (first_of write_to_two) 6) (0 ∷ 1 ∷ 2 ∷ [])
+    ≡ [] ∷ [] ∷ (0 ∷ 0 ∷ 0 ∷ []) ∷ []
 unfolding decode_of branch_or_sethi arithmetic memory step_of act alu_step branch_step call_step jump_step load_step store_step ldstub_step swap_step save_step restore_step system_call trap_step alu_of holds_of fetch_of bytes_at with_bytes puts_of puts_by
 write_to_two_puts = refl
 
@@ -369,6 +370,36 @@ write_to_zero_gives = refl
 write_to_zero_puts : run_puts (first_of write_to_zero) 5 0 ≡ []
 unfolding decode_of branch_or_sethi arithmetic memory step_of act alu_step branch_step call_step jump_step load_step store_step ldstub_step swap_step save_step restore_step system_call trap_step alu_of holds_of fetch_of bytes_at with_bytes puts_of puts_by
 write_to_zero_puts = refl
+
+-- UNIMP, RDPSR, LDF, a coprocessor's operation, UDIV by 0, TADDccTV of a tag, TA 5 and TN 5
+abbrev pub words_that_trap : List ℕ
+words_that_trap =
+    0x00000000 ∷ 0x85480000 ∷ 0xc1038000 ∷ 0x81b00000 ∷ 0x84738000 ∷ 0x85102001 ∷ 0x91d02005 ∷ 0x81d02005
+    ∷ []
+
+words_that_trap_end : map ending_of_word words_that_trap
+    ≡ Some (Trap 0x02) ∷ Some (Trap 0x03) ∷ Some (Trap 0x04) ∷ Some (Trap 0x24)
+    ∷ Some (Trap 0x2a) ∷ Some (Trap 0x0a) ∷ Some (Trap 0x85) ∷ None ∷ []
+unfolding decode_of branch_or_sethi arithmetic memory step_of act alu_step branch_step call_step jump_step load_step store_step ldstub_step swap_step save_step restore_step system_call trap_step alu_of holds_of fetch_of bytes_at with_bytes
+words_that_trap_end = refl
+
+-- a store into the text
+abbrev pub store_into_text : List ℕ
+store_into_text =
+    0x40000002 ∷ 0xc023c000 ∷ []
+
+store_into_text_ends : (run (first_of store_into_text) 2).ending ≡ Some (Trap 9)
+unfolding decode_of branch_or_sethi arithmetic memory step_of act alu_step branch_step call_step jump_step load_step store_step ldstub_step swap_step save_step restore_step system_call trap_step alu_of holds_of fetch_of bytes_at with_bytes
+store_into_text_ends = refl
+
+-- a jump into the stack
+abbrev pub jump_into_stack : List ℕ
+jump_into_stack =
+    0x81c38000 ∷ 0x01000000 ∷ []
+
+jump_into_stack_ends : (run (first_of jump_into_stack) 3).ending ≡ Some (Trap 1)
+unfolding decode_of branch_or_sethi arithmetic memory step_of act alu_step branch_step call_step jump_step load_step store_step ldstub_step swap_step save_step restore_step system_call trap_step alu_of holds_of fetch_of bytes_at with_bytes
+jump_into_stack_ends = refl
 
 -- ---- the heap, with sixteen bytes of room here
 
