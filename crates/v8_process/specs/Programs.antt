@@ -263,6 +263,25 @@ system_calls_read : register_of (run (with_input (10 ∷ 20 ∷ 30 ∷ []) (firs
 unfolding decode_of branch_or_sethi arithmetic memory step_of act alu_step branch_step call_step jump_step load_step store_step ldstub_step swap_step save_step restore_step system_call trap_step alu_of holds_of fetch_of bytes_at with_bytes
 system_calls_read = refl
 
+-- a call takes no more of the input than it has room for
+system_calls_take : (run (with_input (1 ∷ 2 ∷ 3 ∷ 4 ∷ 5 ∷ 6 ∷ 7 ∷ 8 ∷ 9 ∷ 10 ∷ []) (first_of system_calls)) 5).input
+    ≡ 9 ∷ 10 ∷ []
+unfolding decode_of branch_or_sethi arithmetic memory step_of act alu_step branch_step call_step jump_step load_step store_step ldstub_step swap_step save_step restore_step system_call trap_step alu_of holds_of fetch_of bytes_at with_bytes
+system_calls_take = refl
+
+-- what a read or a write of so many bytes answers where nothing is mapped
+abbrev pub answer_at_zero : ℕ → ℕ → ℕ → ℕ
+answer_at_zero number descriptor count =
+    register_of (system_call (with_input (1 ∷ []) (first_of [])) number descriptor 0 count) 8
+
+reads_at_zero : map (answer_at_zero 3 0) (0 ∷ 1 ∷ []) ≡ 0 ∷ 14 ∷ []
+unfolding system_call bytes_at with_bytes
+reads_at_zero = refl
+
+writes_at_zero : map (answer_at_zero 4 1) (0 ∷ 1 ∷ []) ≡ 0 ∷ 14 ∷ []
+unfolding system_call bytes_at with_bytes
+writes_at_zero = refl
+
 -- ---- more of what one instruction or one call does
 
 -- a jump whose own address, that of its word, is the answer
