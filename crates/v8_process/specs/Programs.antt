@@ -316,6 +316,24 @@ restore_adds_ends : (run (first_of restore_adds) 5).ending ≡ Some (Exit 6)
 unfolding decode_of branch_or_sethi arithmetic memory step_of act alu_step branch_step call_step jump_step load_step store_step ldstub_step swap_step save_step restore_step system_call trap_step alu_of holds_of fetch_of bytes_at with_bytes
 restore_adds_ends = refl
 
+-- a window that cannot be saved, since its %sp is no multiple of 8
+abbrev pub flush_misaligned : List ℕ
+flush_misaligned =
+    0x9c03a004 ∷ 0x9de3bfa0 ∷ 0x91d02003 ∷ []
+
+flush_misaligned_ends : (run (first_of flush_misaligned) 3).ending ≡ Some Window
+unfolding decode_of branch_or_sethi arithmetic memory step_of act alu_step branch_step call_step jump_step load_step store_step ldstub_step swap_step save_step restore_step system_call trap_step alu_of holds_of fetch_of bytes_at with_bytes
+flush_misaligned_ends = refl
+
+-- a window that cannot be loaded, since %fp is no multiple of 8
+abbrev pub restore_misaligned : List ℕ
+restore_misaligned =
+    0xbc03bffc ∷ 0x81e80000 ∷ []
+
+restore_misaligned_ends : (run (first_of restore_misaligned) 2).ending ≡ Some Window
+unfolding decode_of branch_or_sethi arithmetic memory step_of act alu_step branch_step call_step jump_step load_step store_step ldstub_step swap_step save_step restore_step system_call trap_step alu_of holds_of fetch_of bytes_at with_bytes
+restore_misaligned_ends = refl
+
 -- STH, STB and ST at the top of the stack, and LDD of the two words
 abbrev pub parts_of_words : List ℕ
 parts_of_words =
