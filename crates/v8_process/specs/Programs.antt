@@ -264,8 +264,10 @@ unfolding decode_of branch_or_sethi arithmetic memory step_of act alu_step branc
 system_calls_read = refl
 
 -- a call takes no more of the input than it has room for
-system_calls_take : (run (with_input (1 ∷ 2 ∷ 3 ∷ 4 ∷ 5 ∷ 6 ∷ 7 ∷ 8 ∷ 9 ∷ 10 ∷ []) (first_of system_calls)) 5).input
-    ≡ 9 ∷ 10 ∷ []
+abbrev pub ten_bytes : List ℕ
+ten_bytes = 1 ∷ 2 ∷ 3 ∷ 4 ∷ 5 ∷ 6 ∷ 7 ∷ 8 ∷ 9 ∷ 10 ∷ []
+
+system_calls_take : (run (with_input ten_bytes (first_of system_calls)) 5).input ≡ 9 ∷ 10 ∷ []
 unfolding decode_of branch_or_sethi arithmetic memory step_of act alu_step branch_step call_step jump_step load_step store_step ldstub_step swap_step save_step restore_step system_call trap_step alu_of holds_of fetch_of bytes_at with_bytes
 system_calls_take = refl
 
