@@ -263,6 +263,27 @@ system_calls_read : register_of (run (with_input (10 ∷ 20 ∷ 30 ∷ []) (firs
 unfolding decode_of branch_or_sethi arithmetic memory step_of act alu_step branch_step call_step jump_step load_step store_step ldstub_step swap_step save_step restore_step system_call trap_step alu_of holds_of fetch_of bytes_at with_bytes
 system_calls_read = refl
 
+-- a call takes no more of the input than it has room for
+abbrev pub ten_bytes : List ℕ
+ten_bytes = 1 ∷ 2 ∷ 3 ∷ 4 ∷ 5 ∷ 6 ∷ 7 ∷ 8 ∷ 9 ∷ 10 ∷ []
+
+system_calls_take : (run (with_input ten_bytes (first_of system_calls)) 5).input ≡ 9 ∷ 10 ∷ []
+unfolding decode_of branch_or_sethi arithmetic memory step_of act alu_step branch_step call_step jump_step load_step store_step ldstub_step swap_step save_step restore_step system_call trap_step alu_of holds_of fetch_of bytes_at with_bytes
+system_calls_take = refl
+
+-- what a read or a write of so many bytes answers where nothing is mapped
+abbrev pub answer_at_zero : ℕ → ℕ → ℕ → ℕ
+answer_at_zero number descriptor count =
+    register_of (system_call (with_input (1 ∷ []) (first_of [])) number descriptor 0 count) 8
+
+reads_at_zero : map (answer_at_zero 3 0) (0 ∷ 1 ∷ []) ≡ 0 ∷ 14 ∷ []
+unfolding system_call bytes_at with_bytes
+reads_at_zero = refl
+
+writes_at_zero : map (answer_at_zero 4 1) (0 ∷ 1 ∷ []) ≡ 0 ∷ 14 ∷ []
+unfolding system_call bytes_at with_bytes
+writes_at_zero = refl
+
 -- ---- more of what one instruction or one call does
 
 -- a jump whose own address, that of its word, is the answer
@@ -296,6 +317,24 @@ restore_adds =
 restore_adds_ends : (run (first_of restore_adds) 5).ending ≡ Some (Exit 6)
 unfolding decode_of branch_or_sethi arithmetic memory step_of act alu_step branch_step call_step jump_step load_step store_step ldstub_step swap_step save_step restore_step system_call trap_step alu_of holds_of fetch_of bytes_at with_bytes
 restore_adds_ends = refl
+
+-- a window that cannot be saved, since its %sp is no multiple of 8
+abbrev pub flush_misaligned : List ℕ
+flush_misaligned =
+    0x9c03a004 ∷ 0x9de3bfa0 ∷ 0x91d02003 ∷ []
+
+flush_misaligned_ends : (run (first_of flush_misaligned) 3).ending ≡ Some Window
+unfolding decode_of branch_or_sethi arithmetic memory step_of act alu_step branch_step call_step jump_step load_step store_step ldstub_step swap_step save_step restore_step system_call trap_step alu_of holds_of fetch_of bytes_at with_bytes
+flush_misaligned_ends = refl
+
+-- a window that cannot be loaded, since %fp is no multiple of 8
+abbrev pub restore_misaligned : List ℕ
+restore_misaligned =
+    0xbc03bffc ∷ 0x81e80000 ∷ []
+
+restore_misaligned_ends : (run (first_of restore_misaligned) 2).ending ≡ Some Window
+unfolding decode_of branch_or_sethi arithmetic memory step_of act alu_step branch_step call_step jump_step load_step store_step ldstub_step swap_step save_step restore_step system_call trap_step alu_of holds_of fetch_of bytes_at with_bytes
+restore_misaligned_ends = refl
 
 -- STH, STB and ST at the top of the stack, and LDD of the two words
 abbrev pub parts_of_words : List ℕ
@@ -353,7 +392,8 @@ write_to_two_clears : (run (first_of write_to_two) 6).codes.c ≡ false
 unfolding decode_of branch_or_sethi arithmetic memory step_of act alu_step branch_step call_step jump_step load_step store_step ldstub_step swap_step save_step restore_step system_call trap_step alu_of holds_of fetch_of bytes_at with_bytes
 write_to_two_clears = refl
 
-write_to_two_puts : map (run_puts (first_of write_to_two) 6) (0 ∷ 1 ∷ 2 ∷ []) ≡ [] ∷ [] ∷ (0 ∷ 0 ∷ 0 ∷ []) ∷ []
+write_to_two_puts : map (run_puts (first_of write_to_two) 6) (0 ∷ 1 ∷ 2 ∷ [])
+    ≡ [] ∷ [] ∷ (0 ∷ 0 ∷ 0 ∷ []) ∷ []
 unfolding decode_of branch_or_sethi arithmetic memory step_of act alu_step branch_step call_step jump_step load_step store_step ldstub_step swap_step save_step restore_step system_call trap_step alu_of holds_of fetch_of bytes_at with_bytes puts_of puts_by
 write_to_two_puts = refl
 
@@ -369,6 +409,36 @@ write_to_zero_gives = refl
 write_to_zero_puts : run_puts (first_of write_to_zero) 5 0 ≡ []
 unfolding decode_of branch_or_sethi arithmetic memory step_of act alu_step branch_step call_step jump_step load_step store_step ldstub_step swap_step save_step restore_step system_call trap_step alu_of holds_of fetch_of bytes_at with_bytes puts_of puts_by
 write_to_zero_puts = refl
+
+-- UNIMP, RDPSR, LDF, a coprocessor's operation, UDIV by 0, TADDccTV of a tag, TA 5 and TN 5
+abbrev pub words_that_trap : List ℕ
+words_that_trap =
+    0x00000000 ∷ 0x85480000 ∷ 0xc1038000 ∷ 0x81b00000 ∷ 0x84738000 ∷ 0x85102001 ∷ 0x91d02005 ∷ 0x81d02005
+    ∷ []
+
+words_that_trap_end : map ending_of_word words_that_trap
+    ≡ Some (Trap 0x02) ∷ Some (Trap 0x03) ∷ Some (Trap 0x04) ∷ Some (Trap 0x24)
+    ∷ Some (Trap 0x2a) ∷ Some (Trap 0x0a) ∷ Some (Trap 0x85) ∷ None ∷ []
+unfolding decode_of branch_or_sethi arithmetic memory step_of act alu_step branch_step call_step jump_step load_step store_step ldstub_step swap_step save_step restore_step system_call trap_step alu_of holds_of fetch_of bytes_at with_bytes
+words_that_trap_end = refl
+
+-- a store into the text
+abbrev pub store_into_text : List ℕ
+store_into_text =
+    0x40000002 ∷ 0xc023c000 ∷ []
+
+store_into_text_ends : (run (first_of store_into_text) 2).ending ≡ Some (Trap 9)
+unfolding decode_of branch_or_sethi arithmetic memory step_of act alu_step branch_step call_step jump_step load_step store_step ldstub_step swap_step save_step restore_step system_call trap_step alu_of holds_of fetch_of bytes_at with_bytes
+store_into_text_ends = refl
+
+-- a jump into the stack
+abbrev pub jump_into_stack : List ℕ
+jump_into_stack =
+    0x81c38000 ∷ 0x01000000 ∷ []
+
+jump_into_stack_ends : (run (first_of jump_into_stack) 3).ending ≡ Some (Trap 1)
+unfolding decode_of branch_or_sethi arithmetic memory step_of act alu_step branch_step call_step jump_step load_step store_step ldstub_step swap_step save_step restore_step system_call trap_step alu_of holds_of fetch_of bytes_at with_bytes
+jump_into_stack_ends = refl
 
 -- ---- the heap, with sixteen bytes of room here
 
