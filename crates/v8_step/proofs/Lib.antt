@@ -3,6 +3,7 @@ pub mod Alike
 pub mod AluAlike
 pub mod Executable
 pub mod Follows
+pub mod JudgedAlike
 pub mod Kept
 pub mod Puts
 pub mod Reading
