@@ -26,7 +26,8 @@ use Rattle.v8_step.proofs.Twins.{AreTwins as AreEndingTwins, saved_alike, apart_
 
 -- ---- what is read of the states
 
-same_register : (notes : Notes) (s t : State) (r : ℕ) → AreTwins notes s t → register_of s r ≡ register_of t r
+same_register : (notes : Notes) (s t : State) (r : ℕ) → AreTwins notes s t
+    → register_of s r ≡ register_of t r
 same_register notes s t r h =
     ap (λ z. register_in z s.window r) h.registers ∙ ap (λ z. register_in t.registers z r) h.window
 
@@ -69,7 +70,8 @@ same_writes notes s t h apart =
 
 twins_saved : (notes : Notes) (s t : State) (a b : Memory) → AreTwins notes s t
     → IsSameOutside (pages_of notes) a b
-    → AreTwins notes (record s { memory = a; valid = s.valid - 1 }) (record t { memory = b; valid = t.valid - 1 })
+    → AreTwins notes (record s { memory = a; valid = s.valid - 1 })
+    (record t { memory = b; valid = t.valid - 1 })
 twins_saved notes s t a b h e = record {
   registers = h.registers;
   codes = h.codes;
@@ -108,19 +110,24 @@ same_spills notes (suc n) s t h apart =
 
 -- ---- traps
 
-same_call : (s t : State) (n a b c : ℕ) → s.input ≡ t.input → judged_by_call s n a b c ≡ judged_by_call t n a b c
+same_call : (s t : State) (n a b c : ℕ) → s.input ≡ t.input
+    → judged_by_call s n a b c ≡ judged_by_call t n a b c
 same_call s t n a b c e =
     ap (λ (z : List ℕ). if n == 3 then (if a == 0 then buffer_span b (length (take c z)) else []) else
     if n == 4 then (if is_output a then buffer_span b c else []) else []) e
 
 trap_by : (notes : Notes) (s t : State) (spills call : Bool) → AreTwins notes s t
     → AllApart (pages_of notes) (if spills then judged_by_spills (s.valid - 1) s else
-    (if call then judged_by_call s (register_of s 1) (register_of s 8) (register_of s 9) (register_of s 10) else []))
+    (if call
+    then judged_by_call s (register_of s 1) (register_of s 8) (register_of s 9) (register_of s 10)
+    else []))
     → AllApart (pages_of notes) (if spills then judged_by_spills (t.valid - 1) t else
-    (if call then judged_by_call t (register_of t 1) (register_of t 8) (register_of t 9) (register_of t 10) else []))
+    (if call
+    then judged_by_call t (register_of t 1) (register_of t 8) (register_of t 9) (register_of t 10)
+    else []))
 trap_by notes s t true call h apart =
     subst (λ (z : ℕ). AllApart (pages_of notes) (judged_by_spills (z - 1) t)) h.valid
-    (subst (λ (z : List Span). AllApart (pages_of notes) z) (same_spills notes (s.valid - 1) s t h apart) apart)
+    (subst (AllApart (pages_of notes)) (same_spills notes (s.valid - 1) s t h apart) apart)
 trap_by notes s t false true h apart =
     let numbers :
     judged_by_call t (register_of s 1) (register_of s 8) (register_of s 9) (register_of s 10)
@@ -131,8 +138,9 @@ trap_by notes s t false true h apart =
       same_register notes s t 9 h,
       same_register notes s t 10 h,
     ) refl in
-    subst (λ (z : List Span). AllApart (pages_of notes) z)
-    (same_call s t (register_of s 1) (register_of s 8) (register_of s 9) (register_of s 10) h.input ∙ numbers) apart
+    subst (AllApart (pages_of notes))
+    (same_call s t (register_of s 1) (register_of s 8) (register_of s 9) (register_of s 10) h.input
+    ∙ numbers) apart
 trap_by notes s t false false h apart = apart
 
 ticc_by : (notes : Notes) (s t : State) (n : ℕ) (taken : Bool) → AreTwins notes s t
@@ -160,7 +168,8 @@ judged_alike notes (i.Save rd rs1 op2) s t h apart =
     (subst (λ (z : ℕ). AllApart (pages_of notes) (if s.valid == 7 then frame_span z else []))
     (same_address notes s t h) apart)
 judged_alike notes (i.Restore rd rs1 op2) s t h apart =
-    subst (λ (z : ℕ). AllApart (pages_of notes) (if z == 1 then frame_span (register_of t frame_pointer) else []))
+    subst (λ (z : ℕ). AllApart (pages_of notes)
+    (if z == 1 then frame_span (register_of t frame_pointer) else []))
     h.valid
     (subst (λ (z : ℕ). AllApart (pages_of notes) (if s.valid == 1 then frame_span z else []))
     (same_register notes s t frame_pointer h) apart)

@@ -5,6 +5,7 @@ pub mod Executable
 pub mod Follows
 pub mod JudgedAlike
 pub mod Kept
+pub mod Outside
 pub mod Puts
 pub mod Reading
 pub mod RegistersAlike
