@@ -1,5 +1,5 @@
--- Addresses outside the pages: their bytes, and the end of the heap, are the same in memories that are the same
--- outside.
+-- Addresses outside the pages: their bytes, and the end of the heap, are the same in memories that are the
+-- same outside.
 use Rattle.std.proofs.Common.{◌≡◌, ℕ, ◌+◌, inl, inr, Bool, true, false, ◌&&◌, ◌||◌, nat_le, Option, Some, None, List, [], ◌∷◌, map, refl, ap, arith}
 use Rattle.std.specs.List.{list_any}
 use Rattle.std.specs.Option.{option_map}
@@ -17,7 +17,8 @@ apart_one address segment false high e f h = inr (omega (leb-false _ _ e, arith)
 apart_one address segment true false e f h = inl (omega (leb-false _ _ f, arith))
 apart_one address segment true true e f h = absurd (cc)
 
-apart_all : (address : ℕ) (segments : List NoteSegment) → list_any (holds address (address + 1)) segments ≡ false
+apart_all : (address : ℕ) (segments : List NoteSegment)
+    → list_any (holds address (address + 1)) segments ≡ false
     → IsApartFromAll (map page_of segments) (record { from = address; count = 1 })
 apart_all address [] h = tt
 apart_all address (segment ∷ segments) h = (
@@ -50,5 +51,6 @@ byte_outside notes m n address h outside =
     byte_same address (region_at m address 1) (region_at n address 1)
     (same_region (pages_of notes) m n address 1 h (omega arith) (apart_outside notes address outside))
 
-pub heap_end_same : (pages : List Span) (m n : Memory) → IsSameOutside pages m n → heap_end_of m ≡ heap_end_of n
+pub heap_end_same : (pages : List Span) (m n : Memory) → IsSameOutside pages m n
+    → heap_end_of m ≡ heap_end_of n
 heap_end_same pages m n h = ap (λ (z : Region). z.start + z.size) h.heap
