@@ -3,7 +3,9 @@ pub mod Alike
 pub mod AluAlike
 pub mod Executable
 pub mod Follows
+pub mod JudgedAlike
 pub mod Kept
+pub mod Outside
 pub mod Puts
 pub mod Reading
 pub mod RegistersAlike
