@@ -1,5 +1,5 @@
 -- Visits, trails and needed items of small runs: they compute.
-use Rattle.std.specs.Prelude.{◌≡◌, ℕ, [], ◌∷◌, List, Some, None, refl}
+use Rattle.std.specs.Prelude.{◌≡◌, ℕ, [], ◌∷◌, Some, None, refl}
 use Rattle.elf32_sparc.specs.Header.{half_at, word_at, program_header, program_headers}
 use Rattle.elf32_sparc.specs.Mapping.{mappings}
 use Rattle.elf32_sparc.specs.Notes.{Notes}
