@@ -15,7 +15,6 @@ pub mod ValidCalls
 pub mod ValidFirst
 pub mod ValidMemory
 pub mod ValidNumbers
-pub mod ValidOperands
 pub mod ValidStates
 pub mod ValidSteps
 pub mod ValidWindows

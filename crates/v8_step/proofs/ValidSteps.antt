@@ -21,15 +21,14 @@ use Rattle.v8_step.specs.Valid.{IsValid}
 use Rattle.v8_step.specs.Laws.{ValidStays}
 use Rattle.v8_step.specs.Run.{run}
 use Rattle.v8_step.proofs.ValidFirst.{first_state-valid}
-use Rattle.v8_step.proofs.ValidOperands.{IsWordOperand, HasWordOperand, decode_of-word}
 use Rattle.v8_step.proofs.ValidStates.{wrapped-range, register_of-range, register-valid, codes-valid, ended-valid, next-valid, delayed-valid, if-valid, slot-valid, branched-valid}
 use Rattle.v8_step.proofs.ValidAccesses.{load_step-valid, store_step-valid, ldstub_step-valid, swap_step-valid}
 use Rattle.v8_step.proofs.ValidWindows.{save_step-valid, restore_step-valid}
 use Rattle.v8_step.proofs.ValidCalls.{trap_step-valid}
 
-operand_of-range : (s : State) (op2 : Op2) → IsValid s → IsWordOperand op2 → operand_of s op2 < 2 ^ 32
-operand_of-range s (Reg r) h k = register_of-range s r h
-operand_of-range s (Imm n) h k = k
+operand_of-range : (s : State) (op2 : Op2) → IsValid s → operand_of s op2 < 2 ^ 32
+operand_of-range s (Reg r) h = register_of-range s r h
+operand_of-range s (Imm n) h = wrapped-range _
 
 sum_of-range : (s : State) (rs1 : ℕ) (op2 : Op2) → sum_of s rs1 op2 < 2 ^ 32
 sum_of-range s rs1 op2 = wrapped-range _
@@ -45,48 +44,48 @@ alu_step-valid s rd (Ok o) h k =
 alu_step-valid s rd (Err DivZero) h k = ended-valid s _ h
 alu_step-valid s rd (Err TagOverflow) h k = ended-valid s _ h
 
-act-valid : (s : State) (instr : Instr) → IsValid s → HasWordOperand instr → IsValid (act s instr)
+act-valid : (s : State) (instr : Instr) → IsValid s → IsValid (act s instr)
 unfolding act branch_step call_step jump_step
-act-valid s (i.Sethi rd imm22) h k = next-valid _ (register-valid s rd _ h (wrapped-range _))
-act-valid s (i.Branch cond annul disp22) h k =
+act-valid s (i.Sethi rd imm22) h = next-valid _ (register-valid s rd _ h (wrapped-range _))
+act-valid s (i.Branch cond annul disp22) h =
     slot-valid s.slot s _ h
     (branched-valid (holds_of cond s.codes) (cond == 8) annul s (target_of s disp22) h (target_of-range s disp22))
-act-valid s (i.Call disp30) h k =
+act-valid s (i.Call disp30) h =
     slot-valid s.slot s _ h
     (delayed-valid (with_register s 15 s.pc) (target_of s disp30) (register-valid s 15 s.pc h h.pc)
     (target_of-range s disp30))
-act-valid s (i.Alu op cc rd rs1 op2) h k =
+act-valid s (i.Alu op cc rd rs1 op2) h =
     alu_step-valid s rd _ h
     (alu_of-range op cc (register_of s rs1) (operand_of s op2) s.codes s.y (register_of-range s rs1 h)
-    (operand_of-range s op2 h k) h.y)
-act-valid s (i.ReadY rd) h k = next-valid _ (register-valid s rd s.y h h.y)
-act-valid s (i.WriteY rs1 op2) h k =
+    (operand_of-range s op2 h) h.y)
+act-valid s (i.ReadY rd) h = next-valid _ (register-valid s rd s.y h h.y)
+act-valid s (i.WriteY rs1 op2) h =
     next-valid _ (codes-valid s s.codes _ h
-    (xor_lt 32 (register_of s rs1) (operand_of s op2) (register_of-range s rs1 h) (operand_of-range s op2 h k)))
-act-valid s (i.Jmpl rd rs1 op2) h k =
+    (xor_lt 32 (register_of s rs1) (operand_of s op2) (register_of-range s rs1 h) (operand_of-range s op2 h)))
+act-valid s (i.Jmpl rd rs1 op2) h =
     slot-valid s.slot s _ h
     (if-valid (sum_of s rs1 op2 % 4 == 0) _ _
     (delayed-valid (with_register s rd s.pc) (sum_of s rs1 op2) (register-valid s rd s.pc h h.pc)
     (sum_of-range s rs1 op2))
     (ended-valid s _ h))
-act-valid s (i.Ticc cond rs1 op2) h k =
+act-valid s (i.Ticc cond rs1 op2) h =
     if-valid (holds_of cond s.codes) _ _ (trap_step-valid s (trap_number s rs1 op2) h) (next-valid s h)
-act-valid s (i.Flush rs1 op2) h k = next-valid s h
-act-valid s i.Stbar h k = next-valid s h
-act-valid s (i.Save rd rs1 op2) h k = save_step-valid s rd (sum_of s rs1 op2) h (sum_of-range s rs1 op2)
-act-valid s (i.Restore rd rs1 op2) h k = restore_step-valid s rd (sum_of s rs1 op2) h (sum_of-range s rs1 op2)
-act-valid s (i.Load kind rd rs1 op2) h k = load_step-valid s kind rd (sum_of s rs1 op2) h
-act-valid s (i.Store kind rd rs1 op2) h k = store_step-valid s kind rd (sum_of s rs1 op2) h
-act-valid s (i.Ldstub rd rs1 op2) h k = ldstub_step-valid s rd (sum_of s rs1 op2) h
-act-valid s (i.Swap rd rs1 op2) h k = swap_step-valid s rd (sum_of s rs1 op2) h
-act-valid s i.Illegal h k = ended-valid s _ h
-act-valid s i.Privileged h k = ended-valid s _ h
-act-valid s i.FpOff h k = ended-valid s _ h
-act-valid s i.CpOff h k = ended-valid s _ h
+act-valid s (i.Flush rs1 op2) h = next-valid s h
+act-valid s i.Stbar h = next-valid s h
+act-valid s (i.Save rd rs1 op2) h = save_step-valid s rd (sum_of s rs1 op2) h (sum_of-range s rs1 op2)
+act-valid s (i.Restore rd rs1 op2) h = restore_step-valid s rd (sum_of s rs1 op2) h (sum_of-range s rs1 op2)
+act-valid s (i.Load kind rd rs1 op2) h = load_step-valid s kind rd (sum_of s rs1 op2) h
+act-valid s (i.Store kind rd rs1 op2) h = store_step-valid s kind rd (sum_of s rs1 op2) h
+act-valid s (i.Ldstub rd rs1 op2) h = ldstub_step-valid s rd (sum_of s rs1 op2) h
+act-valid s (i.Swap rd rs1 op2) h = swap_step-valid s rd (sum_of s rs1 op2) h
+act-valid s i.Illegal h = ended-valid s _ h
+act-valid s i.Privileged h = ended-valid s _ h
+act-valid s i.FpOff h = ended-valid s _ h
+act-valid s i.CpOff h = ended-valid s _ h
 
 on_word-valid : (s : State) (o : Option ℕ) → IsValid s → IsValid (on_word s o)
 on_word-valid s None h = ended-valid s _ h
-on_word-valid s (Some word) h = act-valid s (decode_of word) h (decode_of-word word)
+on_word-valid s (Some word) h = act-valid s (decode_of word) h
 
 pub step-valid : (s : State) → IsValid s → IsValid (step_of s)
 unfolding step_of

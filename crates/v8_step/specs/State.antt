@@ -36,10 +36,10 @@ register_of s r = register_in s.registers s.window r
 abbrev pub with_register : State → ℕ → ℕ → State
 with_register s r value = record s { registers = register_set s.registers s.window r value }
 
--- the second operand: a register, or an immediate whose sign is extended (section 5.2)
+-- the second operand: a register, or an immediate whose sign is extended to 32 bits (section 5.2)
 abbrev pub operand_of : State → Op2 → ℕ
 operand_of s (Reg r) = register_of s r
-operand_of s (Imm n) = cast_unsigned w32 n
+operand_of s (Imm n) = wrapped (cast_unsigned w32 n)
 
 -- rs1 plus the second operand: an address, a target, or the value of SAVE and RESTORE
 abbrev pub sum_of : State → ℕ → Op2 → ℕ
