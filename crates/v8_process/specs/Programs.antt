@@ -1,5 +1,5 @@
 -- Small programs, as whole files or as words, and their runs from the first state: they compute.
-use Rattle.std.specs.Prelude.{◌≡◌, ℕ, ◌*◌, List, [], ◌∷◌, ◌++◌, length, map, Option, Some, None, true, false, refl}
+use Rattle.std.specs.Prelude.{take, ◌≡◌, ℕ, ◌*◌, List, [], ◌∷◌, ◌++◌, length, map, Option, Some, None, true, false, refl}
 use Rattle.std.specs.Int.{w32, to_be_bytes}
 use Rattle.std.specs.List.{flat_map}
 use Rattle.elf32_sparc.specs.Header.{half_at, word_at, program_header, program_headers}
@@ -283,6 +283,22 @@ reads_at_zero = refl
 writes_at_zero : map (answer_at_zero 4 1) (0 ∷ 1 ∷ []) ≡ 0 ∷ 14 ∷ []
 unfolding system_call bytes_at with_bytes
 writes_at_zero = refl
+
+-- A file whose segment begins with its header, and which prints the first 52 bytes of that segment.
+abbrev pub prints_its_header : List ℕ
+prints_its_header = bytes_of (
+    0x7f454c46 ∷ 0x01020100 ∷ 0 ∷ 0
+    ∷ 0x00020002 ∷ 1 ∷ 0x00010054 ∷ 0x34 ∷ 0 ∷ 0 ∷ 0x00340020 ∷ 0x00010000 ∷ 0
+    ∷ 1 ∷ 0 ∷ 0x10000 ∷ 0x10000 ∷ 0x74 ∷ 0x74 ∷ 5 ∷ 0x10000
+    ∷ 0x13000040 ∷ 0x94102034 ∷ 0x90102001 ∷ 0x82102004 ∷ 0x91d02010 ∷ 0x90102000 ∷ 0x82102001 ∷ 0x91d02010 ∷ [])
+
+prints_its_header_ends : (run (start_of prints_its_header [] []) 8).ending ≡ Some (Exit 0)
+unfolding start_of half_at word_at program_header program_headers mappings decode_of branch_or_sethi arithmetic step_of act alu_step system_call trap_step alu_of holds_of fetch_of bytes_at with_bytes
+prints_its_header_ends = refl
+
+prints_its_header_puts : run_puts (start_of prints_its_header [] []) 8 1 ≡ take 52 prints_its_header
+unfolding start_of half_at word_at program_header program_headers mappings decode_of branch_or_sethi arithmetic step_of act alu_step system_call trap_step alu_of holds_of fetch_of bytes_at with_bytes puts_of puts_by
+prints_its_header_puts = refl
 
 -- ---- more of what one instruction or one call does
 
