@@ -1,6 +1,8 @@
 pub mod AccessesAlike
 pub mod Alike
 pub mod AluAlike
+pub mod CopiedMoves
+pub mod CopiedWorld
 pub mod Executable
 pub mod Follows
 pub mod Kept
