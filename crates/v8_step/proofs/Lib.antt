@@ -5,6 +5,7 @@ pub mod CopiedMoves
 pub mod CopiedWorld
 pub mod Executable
 pub mod Follows
+pub mod JudgedAlike
 pub mod Kept
 pub mod Puts
 pub mod Reading

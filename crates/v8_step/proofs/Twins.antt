@@ -151,7 +151,7 @@ frame_writes pages m n a bytes true h l apart =
     with_bytes-same pages m n a bytes h (omega arith)
     (subst (λ (z : ℕ). IsApartFromAll pages (record { from = a; count = z })) (sym l) apart.0)
 
-saved_alike : (pages : List Span) (s t : State) → AreTwins pages s t → AllApart pages (saved_span s)
+pub saved_alike : (pages : List Span) (s t : State) → AreTwins pages s t → AllApart pages (saved_span s)
     → AreSameWrites pages (saved_memory s) (saved_memory t)
 saved_alike pages s t h apart =
     let oldest : oldest_window s ≡ oldest_window t =
