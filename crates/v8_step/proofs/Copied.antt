@@ -37,7 +37,8 @@ same_place : (start count j address : ℕ) → address ≡ start + 4 * j
     → (k : ℕ) × (k < count) × (address ≡ start + 4 * k) → j < count
 same_place start count j address e (k, below, f) = omega arith
 
-module _ (notes : Notes) (start base count : ℕ) (s0 t0 : State) (c : IsCopied notes start base count s0 t0) where
+module _ (notes : Notes) (start base count : ℕ) (s0 t0 : State)
+    (c : IsCopied notes start base count s0 t0) where
   linked_first : AreLinked notes start base s0 t0 zero zero
   linked_first = record {
     ending = c.first_at.live ∙ sym c.second_at.live;
@@ -73,7 +74,8 @@ module _ (notes : Notes) (start base count : ℕ) (s0 t0 : State) (c : IsCopied 
     input = a.input;
     memory = a.memory;
     puts = λ descriptor.
-        ap (λ x. x ++ puts_of (run s0 n) descriptor) (h.puts descriptor) ∙ ap (λ x. run_puts t0 m descriptor ++ x) (a.puts descriptor);
+        ap (λ x. x ++ puts_of (run s0 n) descriptor) (h.puts descriptor)
+        ∙ ap (λ x. run_puts t0 m descriptor ++ x) (a.puts descriptor);
     together = λ live. record {
       twins = a.twins live;
       place = suc j;
@@ -90,7 +92,8 @@ module _ (notes : Notes) (start base count : ℕ) (s0 t0 : State) (c : IsCopied 
         ending = ap (λ (s : State). s.ending) same ∙ h.ending;
         input = ap (λ (s : State). s.input) same ∙ h.input;
         memory =
-            subst (λ (s : State). IsSameOutside (pages_of notes) s.memory (run t0 m).memory) (sym same) h.memory;
+            subst (λ (s : State). IsSameOutside (pages_of notes) s.memory (run t0 m).memory) (sym same)
+            h.memory;
         puts = λ descriptor.
             ap (λ x. run_puts s0 n descriptor ++ x) (puts_nothing (run s0 n) d descriptor e)
             ∙ append-nil (run_puts s0 n descriptor) ∙ h.puts descriptor;
@@ -99,13 +102,13 @@ module _ (notes : Notes) (start base count : ℕ) (s0 t0 : State) (c : IsCopied 
             absurd (cc);
       }
 
-  module _ (last : ℕ) (u : IsUntouched (pages_of notes) s0 last) (inside : IsInside start count s0 last) where
+  module _ (last : ℕ) (u : IsUntouched (pages_of notes) s0 last) (v : IsInside start count s0 last) where
     linked_live : (n m : ℕ) → n < last → (run s0 n).ending ≡ None → AreLinked notes start base s0 t0 n m
         → AreLinked notes start base s0 t0 (suc n) (suc m)
     linked_live n m l e h =
         let g = h.together e in
         let below : g.place < count =
-        same_place start count g.place (run s0 n).pc g.first_at.pc (inside n (omega arith)) in
+        same_place start count g.place (run s0 n).pc g.first_at.pc (v n (omega arith)) in
         let a : AreAfter notes (run s0 n) (run t0 m) (step_of (run s0 n)) (step_of (run t0 m)) =
         step_after notes (start + 4 * g.place) (base + 4 * g.place) (run s0 n) (run t0 m)
         (copy_at n m g.place below) g.first_at g.second_at (run-valid s0 n c.first_valid).registers
@@ -114,7 +117,7 @@ module _ (notes : Notes) (start base count : ℕ) (s0 t0 : State) (c : IsCopied 
         let went : (run s0 (suc n)).pc ≡ (run s0 n).npc = (a.first_goes live).0 in
         let npc : (run s0 n).npc ≡ start + 4 * g.place + 4 = g.first_at.npc in
         let pc : (run s0 (suc n)).pc ≡ start + 4 * suc g.place = omega arith in
-        same_place start count (suc g.place) (run s0 (suc n)).pc pc (inside (suc n) l))
+        same_place start count (suc g.place) (run s0 (suc n)).pc pc (v (suc n) l))
 
     linked_step : (n : ℕ) (x : Option Ending) → (run s0 n).ending ≡ x → n < last
         → AreLinked notes start base s0 t0 n (live_steps s0 n)
@@ -138,9 +141,9 @@ module _ (notes : Notes) (start base count : ℕ) (s0 t0 : State) (c : IsCopied 
         → visit_of notes (run t0 m) ≡ Some (run s0 n).pc
     visits n m l g =
         let below : g.place < count =
-        same_place start count g.place (run s0 n).pc g.first_at.pc (inside n l) in
-        ap (λ x. if_live x (visited (range_at notes (run t0 m).pc) (in_pages notes (run t0 m).pc) (run t0 m).pc))
-        g.second_at.live
+        same_place start count g.place (run s0 n).pc g.first_at.pc (v n l) in
+        let pc : ℕ = (run t0 m).pc in
+        ap (λ x. if_live x (visited (range_at notes pc) (in_pages notes pc) pc)) g.second_at.live
         ∙ ap (λ a. visited (range_at notes a) (in_pages notes a) a) g.second_at.pc
         ∙ c.places g.place below ∙ ap (λ a. Some a) (sym g.first_at.pc)
 
@@ -168,7 +171,8 @@ copies_follow notes start base count s0 t0 c last u inside = record {
       matches_by notes start base count s0 t0 c last u inside n (live_steps s0 n) (run s0 n).ending refl l
       (linked notes start base count s0 t0 c last u inside n l);
   goes = λ n l live.
-      subst (λ (x : Option Ending). IsWay notes t0 (live_steps s0 n) (counted x (live_steps s0 n)) 1) (sym live)
+      subst (λ (x : Option Ending). IsWay notes t0 (live_steps s0 n) (counted x (live_steps s0 n)) 1)
+      (sym live)
       (way notes start base count s0 t0 c last u inside n (live_steps s0 n));
   stays = λ n l ending e. ap (λ x. counted x (live_steps s0 n)) e;
 }

@@ -40,8 +40,8 @@ goes_on : (s : State) (d : Ending) (o : Option Memory) (f : State → State)
 goes_on s d None f k = goes_ended s.npc s d
 goes_on s d (Some n) f k = k n
 
-goes_bytes : (s : State) (o : Option (List ℕ)) (f : List ℕ → State) → ((bytes : List ℕ) → GoesTo s.npc (f bytes))
-    → GoesTo s.npc (on_bytes s o f)
+goes_bytes : (s : State) (o : Option (List ℕ)) (f : List ℕ → State)
+    → ((bytes : List ℕ) → GoesTo s.npc (f bytes)) → GoesTo s.npc (on_bytes s o f)
 goes_bytes s None f k = goes_ended s.npc s (Trap data_access_exception)
 goes_bytes s (Some bytes) f k = k bytes
 
@@ -71,7 +71,8 @@ unfolding system_call
 goes_call s number a b c =
     goes_if s.npc (number == 1) _ _ (goes_ended s.npc s _)
     (goes_if s.npc (number == 3) _ _
-    (goes_if s.npc (a == 0) _ _ (goes_read s _ (buffer_written s.memory b (take c s.input))) (λ e. (refl, refl, refl)))
+    (goes_if s.npc (a == 0) _ _ (goes_read s _ (buffer_written s.memory b (take c s.input)))
+    (λ e. (refl, refl, refl)))
     (goes_if s.npc (number == 4) _ _
     (goes_if s.npc (is_output a) _ _ (goes_wrote s c (buffer_read s.memory b c)) (λ e. (refl, refl, refl)))
     (goes_if s.npc (number == 17) _ _
@@ -97,7 +98,8 @@ goes_exchange : (s : State) (width : Width) (rd address : ℕ) (bytes : List ℕ
 goes_exchange s width rd address bytes =
     goes_if s.npc (address % byte_len width == 0) _ _
     (goes_bytes s (bytes_at s.memory address (byte_len width)) _ (λ old.
-    goes_on s (Trap data_access_exception) (with_bytes s.memory address bytes) _ (λ n e. (refl, refl, refl))))
+    goes_on s (Trap data_access_exception) (with_bytes s.memory address bytes) _
+    (λ n e. (refl, refl, refl))))
     (goes_ended s.npc s _)
 
 pub goes_act : (s : State) (instr : Instr) → is_transfer instr ≡ false → GoesTo s.npc (act s instr)

@@ -83,8 +83,8 @@ step_goes s word straight live fetched =
     (goes_act s (decode_of word) straight)
 
 -- the next word of a text that ends within the address space
-pub at_next : (start count j : ℕ) (s s' : State) → IsAt (start + 4 * j) s → GoesTo s.npc s' → s'.ending ≡ None
-    → suc j < count → start + 4 * count < 2 ^ 32 → IsAt (start + 4 * suc j) s'
+pub at_next : (start count j : ℕ) (s s' : State) → IsAt (start + 4 * j) s → GoesTo s.npc s'
+    → s'.ending ≡ None → suc j < count → start + 4 * count < 2 ^ 32 → IsAt (start + 4 * suc j) s'
 at_next start count j s s' h goes live below low =
     let npc : s.npc ≡ start + 4 * j + 4 = h.npc in
     let went = goes live in
@@ -104,14 +104,15 @@ pub record AreAfter (notes : Notes) (s t s' t' : State) : Type 0 where
   pub first_goes : GoesTo s.npc s'
   pub second_goes : GoesTo t.npc t'
 
-pub step_after : (notes : Notes) (from to : ℕ) (s t : State) → IsCopy s.memory t.memory from to → IsAt from s → IsAt to t
-    → AreRegisters s.registers → AreRegisters t.registers → AreTwins notes s t
+pub step_after : (notes : Notes) (from to : ℕ) (s t : State) → IsCopy s.memory t.memory from to
+    → IsAt from s → IsAt to t → AreRegisters s.registers → AreRegisters t.registers → AreTwins notes s t
     → AllApart (pages_of notes) (judged_in s (instr_at s)) → AreAfter notes s t (step_of s) (step_of t)
 step_after notes from to s t copy at at' registers registers' h apart =
     let fetched : fetch_of s.memory s.pc ≡ Some copy.word = ap (fetch_of s.memory) at.pc ∙ copy.first in
     let fetched' : fetch_of t.memory t.pc ≡ Some copy.word = ap (fetch_of t.memory) at'.pc ∙ copy.second in
     let judged : AllApart (pages_of notes) (judged_by s (decode_of copy.word)) =
-    subst (λ (z : Option Instr). AllApart (pages_of notes) (judged_in s z)) (instr_is s copy.word at.live fetched) apart in
+    subst (λ (z : Option Instr). AllApart (pages_of notes) (judged_in s z))
+    (instr_is s copy.word at.live fetched) apart in
     let ready = twins_ready notes (decode_of copy.word) s t at.live at'.live registers registers' h judged in
     let both = steps_alike copy.word copy.straight (pages_of notes) s t ready fetched fetched' in
     record {

@@ -14,15 +14,17 @@ apart_one : (segment : NoteSegment) (address : ℕ) → holds address (address +
     → IsApart (page_of segment) (record { from = address; count = 1 })
 apart_one segment address h = grind (arith, nat_tests)
 
-apart_by : (segment : NoteSegment) (address : ℕ) (b c : Bool) → (b || c) ≡ false → (b ≡ false) × (c ≡ false)
-apart_by segment address true c h = absurd (cc)
-apart_by segment address false c h = (refl, h)
+neither : (b c : Bool) → (b || c) ≡ false → (b ≡ false) × (c ≡ false)
+neither true c h = absurd (cc)
+neither false c h = (refl, h)
 
-apart_all : (segments : List NoteSegment) (address : ℕ) → list_any (holds address (address + 1)) segments ≡ false
+apart_all : (segments : List NoteSegment) (address : ℕ)
+    → list_any (holds address (address + 1)) segments ≡ false
     → IsApartFromAll (map page_of segments) (record { from = address; count = 1 })
 apart_all [] address h = tt
 apart_all (segment ∷ segments) address h =
-    let e = apart_by segment address (holds address (address + 1) segment) (list_any (holds address (address + 1)) segments) h in
+    let holding = holds address (address + 1) in
+    let e = neither (holding segment) (list_any holding segments) h in
     (apart_one segment address e.0, apart_all segments address e.1)
 
 first_same : (address : ℕ) (x y : Option Region) → IsSameRegion x y

@@ -64,7 +64,8 @@ abbrev pub live_steps : State → ℕ → ℕ
 live_steps s0 zero = zero
 live_steps s0 (suc n) = counted (run s0 n).ending (live_steps s0 n)
 
--- A copy follows its original step by step until that ends, as long as it stays in its text and touches no page.
+-- A copy follows its original step by step until that ends, as long as the original stays in its text and
+-- touches no page.
 abbrev pub CopiesFollow : Type 0
 CopiesFollow =
     (notes : Notes) (start base count : ℕ) (s0 t0 : State) → IsCopied notes start base count s0 t0

@@ -44,8 +44,8 @@ pub fn runs_follow()
     ensures { RunsFollow }
 {}
 
-/// Straight code that was copied, with a place for each of its words, follows the original step by step until that
-/// ends, as long as the original stays in its text and touches no page. Each step is answered by exactly one.
+/// Straight code that was copied, with a place for each of its words, follows the original step by step
+/// until that ends, as long as the original stays in its text and touches no page. One step answers each.
 pub fn copies_follow()
     ensures { CopiesFollow }
 {}
