@@ -1,6 +1,10 @@
 pub mod AccessesAlike
 pub mod Alike
 pub mod AluAlike
+pub mod Copied
+pub mod CopiedMoves
+pub mod CopiedSteps
+pub mod CopiedWorld
 pub mod Executable
 pub mod Follows
 pub mod JudgedAlike

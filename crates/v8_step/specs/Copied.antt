@@ -1,9 +1,10 @@
 -- Straight code that was copied: what two runs have to begin with, so that one follows the other step by step.
-use Rattle.std.specs.Prelude.{◌≡◌, ℕ, ◌+◌, ◌*◌, ◌<◌, ◌≤◌, ◌^◌, false, Some, None}
+use Rattle.std.specs.Prelude.{◌≡◌, ℕ, zero, suc, ◌+◌, ◌*◌, ◌<◌, ◌≤◌, ◌^◌, false, Option, Some, None}
 use Rattle.elf32_sparc.specs.Notes.{Notes, range_at}
 use Rattle.v8_decode.specs.Words.{decode_of}
 use Rattle.v8_memory.specs.Regions.{Memory, fetch_of}
 use Rattle.v8_memory.specs.Spans.{IsSameOutside}
+use Rattle.v8_step.specs.declared.Ending.{Ending}
 use Rattle.v8_step.specs.State.{State, NoSlot}
 use Rattle.v8_step.specs.Run.{run}
 use Rattle.v8_step.specs.Items.{is_transfer}
@@ -54,9 +55,19 @@ pub record IsCopied (notes : Notes) (start base count : ℕ) (s0 t0 : State) : T
 abbrev pub IsInside : ℕ → ℕ → State → ℕ → Type 0
 IsInside start count s0 n = (k : ℕ) → k ≤ n → (j : ℕ) × (j < count) × ((run s0 k).pc ≡ start + 4 * j)
 
--- A copy follows its original step by step, as long as that stays in its text and touches no page.
+-- how many of a run's first n steps it makes before it ends
+abbrev pub counted : Option Ending → ℕ → ℕ
+counted None n = suc n
+counted (Some ending) n = n
+
+abbrev pub live_steps : State → ℕ → ℕ
+live_steps s0 zero = zero
+live_steps s0 (suc n) = counted (run s0 n).ending (live_steps s0 n)
+
+-- A copy follows its original step by step until that ends, as long as the original stays in its text and
+-- touches no page.
 abbrev pub CopiesFollow : Type 0
 CopiesFollow =
     (notes : Notes) (start base count : ℕ) (s0 t0 : State) → IsCopied notes start base count s0 t0
     → (last : ℕ) → IsUntouched (pages_of notes) s0 last → IsInside start count s0 last
-    → IsFollowed notes s0 t0 0 (λ n. 1) (λ n. n) last
+    → IsFollowed notes s0 t0 0 (λ n. 1) (live_steps s0) last
