@@ -12,7 +12,7 @@ use Rattle.v8_step.specs.TwoRuns.{HasSameOutside, MatchesBy}
 use Rattle.v8_step.specs.Follows.{IsWay}
 use Rattle.v8_step.specs.Copied.{IsCopy, IsAt, AreTwins, IsCopied, IsInside, counted, live_steps, CopiesFollow}
 use Rattle.v8_step.proofs.CopiedSteps.{AreAfter, twins_item, step_after, at_next}
-use Rattle.v8_step.proofs.CopiedWorld.{byte_same, heap_same}
+use Rattle.v8_step.proofs.Outside.{byte_outside, heap_end_same}
 use Rattle.v8_step.proofs.Executable.{code_stays}
 use Rattle.v8_step.proofs.Follows.{stays_ended, puts_nothing}
 use Rattle.v8_step.proofs.ValidSteps.{run-valid}
@@ -133,8 +133,8 @@ module _ (notes : Notes) (start base count : ℕ) (s0 t0 : State)
     same_outside n m h = record {
       input = h.input;
       output = h.puts;
-      heap_end = heap_same (pages_of notes) _ _ h.memory;
-      memory = λ address out. byte_same notes _ _ address h.memory out;
+      heap_end = heap_end_same (pages_of notes) _ _ h.memory;
+      memory = λ address out. byte_outside notes _ _ address h.memory out;
     }
 
     visits : (n m : ℕ) → n ≤ last → AreTogether notes start base (run s0 n) (run t0 m)

@@ -1,14 +1,14 @@
 -- From one step to whole runs.
-use Rattle.std.proofs.Common.{◌≡◌, ℕ, zero, suc, ◌+◌, ◌-◌, ◌<◌, ◌≤◌, Option, Some, None, List, [], ◌∷◌, ◌++◌, length, refl, ap, sym, ◌∙◌, subst, arith, length-append, append-nil, add-suc}
+use Rattle.std.proofs.Common.{◌≡◌, ℕ, zero, suc, ◌+◌, ◌-◌, ◌<◌, ◌≤◌, Option, Some, None, [], ◌∷◌, ◌++◌, length, refl, ap, sym, ◌∙◌, subst, arith, length-append, append-nil, add-suc}
 use Rattle.elf32_sparc.specs.Notes.{Notes}
 use Rattle.v8_memory.specs.Regions.{fetch_of, byte_at, heap_end_of}
 use Rattle.v8_step.specs.declared.Ending.{Ending}
 use Rattle.v8_step.specs.State.{State}
 use Rattle.v8_step.specs.Step.{step_of, puts_of, on_word, unless_ended, puts_unless_ended, puts_on_word}
 use Rattle.v8_step.specs.Run.{run, run_puts}
-use Rattle.v8_step.specs.Visits.{visit_of, trail_of, own_trail, as_list, own_visit, if_live}
-use Rattle.v8_step.specs.TwoRuns.{HasSameOutside, GoesOn, Ends, Matches, MatchesBy, Answers, IsLeast, IsBounded}
-use Rattle.v8_step.specs.Follows.{IsQuiet, IsWay, IsFollowed, RunsFollow}
+use Rattle.v8_step.specs.Visits.{visit_of, trail_of, own_trail, as_list, if_live}
+use Rattle.v8_step.specs.TwoRuns.{GoesOn, Ends, MatchesBy, Answers, IsLeast, IsBounded}
+use Rattle.v8_step.specs.Follows.{IsQuiet, IsFollowed, RunsFollow}
 
 -- ---- a run that has ended stays as it is, and puts nothing out
 

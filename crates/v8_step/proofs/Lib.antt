@@ -4,7 +4,6 @@ pub mod AluAlike
 pub mod Copied
 pub mod CopiedMoves
 pub mod CopiedSteps
-pub mod CopiedWorld
 pub mod Executable
 pub mod Follows
 pub mod JudgedAlike

@@ -1,8 +1,8 @@
 -- A first state over an empty heap is valid.
-use Rattle.std.proofs.Common.{◌≡◌, ℕ, zero, suc, ◌+◌, ◌^◌, ◌<◌, ◌≤◌, List, [], ◌∷◌, ◌++◌, length, All, refl, arith, replicate}
+use Rattle.std.proofs.Common.{◌≡◌, ℕ, zero, suc, ◌^◌, ◌<◌, List, ◌∷◌, length, All, refl, arith, replicate}
 use Rattle.std.proofs.lemmas.List.Elements.{All-nil, All-cons, All-append, All-replicate}
 use Rattle.std.proofs.lemmas.List.{length-replicate}
-use Rattle.v8_memory.specs.Regions.{Region, Memory}
+use Rattle.v8_memory.specs.Regions.{Memory}
 use Rattle.v8_memory.specs.Segments.{empty_heap, heap_room}
 use Rattle.v8_step.specs.Run.{zeros, first_state}
 use Rattle.v8_step.specs.Valid.{AreBytes, IsValidHeap, IsValidMemory, IsValid}
