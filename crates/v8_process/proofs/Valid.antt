@@ -9,13 +9,13 @@ use Rattle.std.proofs.lemmas.List.Elements.{All-nil, All-cons, All-head, All-tai
 use Rattle.elf32_sparc.specs.declared.header.ProgramHeader.{ProgramHeader}
 use Rattle.elf32_sparc.specs.Header.{e_entry, program_headers, loadable}
 use Rattle.elf32_sparc.specs.Mapping.{Mapping, mapping_of, mappings}
-use Rattle.elf32_sparc.proofs.Ranges.{word_at-range}
+use Rattle.elf32_sparc.proofs.Ranges.{word_at-range, mappings-room}
 use Rattle.v8_memory.specs.Segments.{region_of}
 use Rattle.v8_step.specs.Valid.{AreBytes, IsValidRegion, IsValidMemory}
 use Rattle.v8_step.proofs.ValidFirst.{empty_heap-valid, first_state-valid}
 use Rattle.v8_step.proofs.ValidNumbers.{high_first-bytes, flat_map-bytes}
 use Rattle.v8_process.specs.Start.{program_name, strings, pointers, stack_start, stack_end, rounded_up, rounded_down, strings_address, argument_words, argument_size, first_sp, words_address, stack_top, stack_region, start_memory, start_of}
-use Rattle.v8_process.specs.Valid.{HasRoom, FitsStack, StartsValid}
+use Rattle.v8_process.specs.Valid.{HasRoom, MappingsHaveRoom, FitsStack, StartsValid}
 
 -- ---- the regions of the file
 
@@ -45,6 +45,9 @@ regions-valid : (ms : List Mapping) → All (λ m. AreBytes m.first) ms → All 
 regions-valid ms h room =
     All-map IsValidRegion region_of ms
     (λ n d below. region_of-valid (get_or ms n d) (h n d below) (room n d below))
+
+pub mappings_have_room : MappingsHaveRoom
+mappings_have_room file inside = mappings-room (length file) file inside
 
 -- ---- the bytes of the stack
 

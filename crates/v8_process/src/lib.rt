@@ -6,7 +6,7 @@
 ghost use Rattle.std.specs.Prelude.{ℕ, List};
 ghost use Rattle.v8_process.specs.Alike.{StartsAlike};
 ghost use Rattle.v8_process.specs.Laws.{StartsAtEntry};
-ghost use Rattle.v8_process.specs.Valid.{StartsValid};
+ghost use Rattle.v8_process.specs.Valid.{MappingsHaveRoom, StartsValid};
 
 /// A program starts at its entry, alive, with a stack pointer that is a multiple of 8.
 pub fn starts_at_entry()
@@ -23,4 +23,10 @@ pub fn starts_alike()
 /// room for the arguments.
 pub fn starts_valid()
     ensures { StartsValid }
+{}
+
+/// Each mapping of a file has room for its bytes, where no entry has more bytes in the file than in memory,
+/// or bytes outside the file.
+pub fn mappings_have_room()
+    ensures { MappingsHaveRoom }
 {}
