@@ -1,6 +1,7 @@
 pub mod Surveys
 pub mod SurveyFacts
 pub mod FirstFaults
+pub mod Ranges
 pub mod Readings
 pub mod Padding
 pub mod Accepted

@@ -6,14 +6,27 @@
 ghost use Rattle.std.specs.Prelude.{ℕ, List};
 ghost use Rattle.v8_process.specs.Alike.{StartsAlike};
 ghost use Rattle.v8_process.specs.Laws.{StartsAtEntry};
+ghost use Rattle.v8_process.specs.Valid.{MappingsHaveRoom, StartsValid};
 
 /// A program starts at its entry, alive, with a stack pointer that is a multiple of 8.
 pub fn starts_at_entry()
     ensures { (file : List ℕ) (args : List (List ℕ)) (input : List ℕ) → StartsAtEntry file args input }
 {}
 
-/// A file that maps what another does, up to leaves to be executed, and then some pages, starts with the same
-/// memory outside those pages.
+/// A file that maps what another does, up to leaves to be executed, and then some pages, starts with the
+/// same memory outside those pages.
 pub fn starts_alike()
     ensures { StartsAlike }
+{}
+
+/// A file of bytes starts in a valid state, where its mappings have room for its bytes, and the stack has
+/// room for the arguments.
+pub fn starts_valid()
+    ensures { StartsValid }
+{}
+
+/// Each mapping of a file has room for its bytes, where no entry has more bytes in the file than in memory,
+/// or bytes outside the file.
+pub fn mappings_have_room()
+    ensures { MappingsHaveRoom }
 {}
