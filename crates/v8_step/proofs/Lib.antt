@@ -1,6 +1,5 @@
 pub mod AccessesAlike
 pub mod Alike
-pub mod AluAlike
 pub mod Copied
 pub mod CopiedMoves
 pub mod CopiedSteps

@@ -15,7 +15,7 @@ use Rattle.v8_step.specs.State.{State, register_of, operand_of, sum_of}
 use Rattle.v8_step.specs.Transfers.{ended}
 use Rattle.v8_step.specs.Items.{Item, Register, Codes, YRegister, IsAmong, AreSameAt}
 use Rattle.v8_step.specs.Alike.{IsSameWorld, AreSameAfter}
-use Rattle.v8_step.proofs.AluAlike.{AreSameInputs}
+use Rattle.v8_alu.specs.Alike.{AgreeOn}
 
 pub same_first : (ps qs : List Part) (s t : State) → AreSameAt (ps ++ qs) s t → AreSameAt ps s t
 same_first [] qs s t h = tt
@@ -39,7 +39,7 @@ pub same_operand : (op2 : Op2) (s t : State) → s.window ≡ t.window → AreSa
 same_operand (o.Reg r) s t w h = same_register r s t w h
 same_operand (o.Imm z) s t w h = refl
 
-pub same_inputs : (ps : List Part) (s t : State) → AreSameAt ps s t → AreSameInputs ps s.codes t.codes s.y t.y
+pub same_inputs : (ps : List Part) (s t : State) → AreSameAt ps s t → AgreeOn ps s.codes t.codes s.y t.y
 same_inputs [] s t h = tt
 same_inputs (Reg r ∷ ps) s t h = same_inputs ps s t h.1
 same_inputs (Icc ∷ ps) s t h = (h.0, same_inputs ps s t h.1)

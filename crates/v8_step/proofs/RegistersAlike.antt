@@ -22,7 +22,8 @@ use Rattle.v8_step.specs.Transfers.{next}
 use Rattle.v8_step.specs.Step.{act, alu_step, puts_by}
 use Rattle.v8_step.specs.Items.{Item, Register, Codes, YRegister, IsAmong, IsSameAt}
 use Rattle.v8_step.specs.Alike.{IsSameWorld, AreSameAfter, ActsAlike}
-use Rattle.v8_step.proofs.AluAlike.{AreSameOuts, alu_alike}
+use Rattle.v8_alu.specs.Alike.{AreAlike}
+use Rattle.v8_alu.proofs.Alike.{alu_of-alike}
 use Rattle.v8_step.proofs.Reading.{same_assoc, same_first, same_rest, same_register, same_operand, same_inputs, place_one, among_split, among_assoc, no_codes, no_y, ended_alike, same_lengths}
 
 no_place : (n w : ℕ) (sets writes : Bool) → IsAmong (Register n) w (when sets (Icc ∷ []) ++ when writes (Y ∷ [])) → ⊥
@@ -110,7 +111,7 @@ register_items rd s t v v' w l ev YRegister (inl h) = absurd (no_y s.window rd h
 
 outs_alike : (pages : List Span) (op : AluOp) (sets : Bool) (rd rs1 : ℕ) (op2 : Op2) (s t : State)
     (r q : Result AluOut AluTrap) → s.ending ≡ None → t.ending ≡ None → IsSameWorld pages s t
-    → AreSameOuts sets (writes_y op) s.codes t.codes s.y t.y r q
+    → AreAlike sets (writes_y op) s.codes t.codes s.y t.y r q
     → AreSameAfter pages (i.Alu op sets rd rs1 op2) s t (alu_step s rd r) (alu_step t rd q)
 unfolding alu_step
 outs_alike pages op sets rd rs1 op2 s t (Ok o) (Ok p) e f h z = record {
@@ -138,13 +139,13 @@ alu_acts op sets rd rs1 op2 pages s t ready =
     let q = same_operand op2 s t h.window (same_first (op2_parts op2) (alu_inputs op) s t rest) in
     let u = same_inputs (alu_inputs op) s t (same_rest (op2_parts op2) (alu_inputs op) s t rest) in (
       outs_alike pages op sets rd rs1 op2 s t _ _ ready.first_live ready.second_live h
-          (subst (λ (n : ℕ). AreSameOuts sets (writes_y op) s.codes t.codes s.y t.y
+          (subst (λ (n : ℕ). AreAlike sets (writes_y op) s.codes t.codes s.y t.y
           (alu_of op sets (register_of s rs1) (operand_of s op2) s.codes s.y)
           (alu_of op sets n (operand_of t op2) t.codes t.y)) p
-          (subst (λ (n : ℕ). AreSameOuts sets (writes_y op) s.codes t.codes s.y t.y
+          (subst (λ (n : ℕ). AreAlike sets (writes_y op) s.codes t.codes s.y t.y
           (alu_of op sets (register_of s rs1) (operand_of s op2) s.codes s.y)
           (alu_of op sets (register_of s rs1) n t.codes t.y)) q
-          (alu_alike op sets (register_of s rs1) (operand_of s op2) s.codes t.codes s.y t.y u))),
+          (alu_of-alike op sets (register_of s rs1) (operand_of s op2) s.codes t.codes s.y t.y u))),
       λ _. refl,
     )
 
