@@ -1,4 +1,4 @@
--- What ties a written file to its original: the parts of a faithful edit that speak of bytes alone.
+-- What ties a written file to its original: the parts of a faithful edit.
 use Rattle.std.specs.Prelude.{◌≡◌, ℕ, ◌+◌, ◌-◌, ◌*◌, ◌^◌, ◌<◌, ◌≤◌, ◌⊎◌, Bool, false, not, ◌&&◌, nat_le, if◌then◌else◌, List, ◌++◌, length, take, drop, map, slice_index, Option, Some, None, Ok, All}
 use Rattle.std.specs.List.{find}
 use Rattle.std.specs.Option.{option_map}
@@ -9,6 +9,7 @@ use Rattle.elf32_sparc.specs.FileFault.{load_fault}
 use Rattle.elf32_sparc.specs.Mapping.{Mapping, mappings}
 use Rattle.elf32_sparc.specs.Image.{image_of}
 use Rattle.elf32_sparc.specs.Notes.{Notes, NoteSegment, NoteRange, notes_of}
+use Rattle.eel.specs.Runs.{HaveRunsAlike}
 use Rattle.eel.specs.Written.{editor_page, page_size}
 use Rattle.eel.specs.Straight.{not_executable, bound_of, is_transfer_at}
 
@@ -62,3 +63,4 @@ pub record IsFaithful (original file : List ℕ) : Type 0 where
   pub whole : IsWhole original file notes
   pub pages : HasPages original file notes
   pub places : All (IsPlace original file) notes.ranges
+  pub runs : HaveRunsAlike original file notes

@@ -1,4 +1,6 @@
 pub mod Alike
+pub mod Arguments
+pub mod Fetched
 pub mod Laws
 pub mod Programs
 pub mod Start

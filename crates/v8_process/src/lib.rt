@@ -5,6 +5,8 @@
 
 ghost use Rattle.std.specs.Prelude.{ℕ, List};
 ghost use Rattle.v8_process.specs.Alike.{StartsAlike};
+ghost use Rattle.v8_process.specs.Arguments.{ArgumentsFit};
+ghost use Rattle.v8_process.specs.Fetched.{CodeIsFetched, TextIsFetched};
 ghost use Rattle.v8_process.specs.Laws.{StartsAtEntry};
 ghost use Rattle.v8_process.specs.Valid.{MappingsHaveRoom, StartsValid};
 
@@ -29,4 +31,19 @@ pub fn starts_valid()
 /// or bytes outside the file.
 pub fn mappings_have_room()
     ensures { MappingsHaveRoom }
+{}
+
+/// The stack has room for all arguments that a program can be given.
+pub fn arguments_fit()
+    ensures { ArgumentsFit }
+{}
+
+/// Each whole word of the first mapping that may be executed is fetched at its address.
+pub fn code_is_fetched()
+    ensures { CodeIsFetched }
+{}
+
+/// Each word of the text of a file without a fault is fetched at its address.
+pub fn text_is_fetched()
+    ensures { TextIsFetched }
 {}

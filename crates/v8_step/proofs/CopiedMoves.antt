@@ -4,7 +4,7 @@ use Rattle.std.specs.Prelude.{if◌then◌else◌, ◌==◌}
 use Rattle.std.specs.Int.{Width, byte_len, w8, w32}
 use Rattle.v8_decode.specs.declared.Instr.{Instr}
 use Rattle.v8_decode.specs.declared.Instr.TheVariants as i
-use Rattle.v8_memory.specs.Regions.{Memory, bytes_at, with_bytes}
+use Rattle.v8_memory.specs.Regions.{Memory, bytes_at, with_bytes, is_heap_end, buffer_written, buffer_read}
 use Rattle.v8_alu.specs.declared.AluOut.{AluOut}
 use Rattle.v8_alu.specs.declared.AluTrap.{AluTrap}
 use Rattle.v8_alu.specs.declared.AluTrap.TheVariants.{DivZero, TagOverflow}
@@ -17,7 +17,7 @@ use Rattle.v8_step.specs.Traps.{flush_windows, call_system, data_access_exceptio
 use Rattle.v8_step.specs.Transfers.{next, ended}
 use Rattle.v8_step.specs.Accesses.{load_size, store_size, stored, on_bytes, on_memory, load_step, store_step, exchange_step, ldstub_step, swap_step}
 use Rattle.v8_step.specs.WindowMoves.{saved_memory, spill_many, fill_from, leave, save_step, restore_step}
-use Rattle.v8_step.specs.Calls.{is_output, is_heap_end, buffer_written, buffer_read, read_into, write_from, system_call, trap_step}
+use Rattle.v8_step.specs.Calls.{is_output, read_into, write_from, system_call, trap_step}
 use Rattle.v8_step.specs.Step.{alu_step, trap_number, act}
 use Rattle.v8_step.specs.Items.{is_transfer}
 

@@ -5,7 +5,7 @@ use Rattle.std.specs.Int.{Width, byte_len, w8, w32}
 use Rattle.v8_decode.specs.declared.Instr.{Instr}
 use Rattle.v8_decode.specs.declared.Instr.TheVariants as i
 use Rattle.v8_decode.specs.Words.{decode_of}
-use Rattle.v8_memory.specs.Regions.{Memory, Region, all_written, write_region, with_bytes, bytes_at, if_allowed, region_at, fetch_of, with_heap_end}
+use Rattle.v8_memory.specs.Regions.{Memory, Region, all_written, write_region, with_bytes, bytes_at, if_allowed, region_at, fetch_of, with_heap_end, is_heap_end, buffer_written, buffer_read}
 use Rattle.v8_windows.specs.Frames.{frame_bytes}
 use Rattle.v8_alu.specs.declared.AluOut.{AluOut}
 use Rattle.v8_alu.specs.declared.AluTrap.{AluTrap}
@@ -18,7 +18,7 @@ use Rattle.v8_step.specs.Traps.{flush_windows, call_system, data_access_exceptio
 use Rattle.v8_step.specs.Transfers.{next, target_of, branched, unless_couple, branch_step, call_step, jump_step}
 use Rattle.v8_step.specs.Accesses.{load_size, store_size, loaded, stored, on_bytes, on_memory, load_step, store_step, exchange_step, ldstub_step, swap_step}
 use Rattle.v8_step.specs.WindowMoves.{oldest_window, save_address, saved_memory, spill, spill_many, fill_from, enter, leave, save_step, restore_step}
-use Rattle.v8_step.specs.Calls.{is_output, is_heap_end, buffer_written, buffer_read, read_into, write_from, system_call, trap_step}
+use Rattle.v8_step.specs.Calls.{is_output, read_into, write_from, system_call, trap_step}
 use Rattle.v8_step.specs.Step.{alu_step, trap_number, act, on_word, unless_ended, step_of}
 
 module _ (Rel : Memory → Memory → Type 0) (same : (m : Memory) → Rel m m)

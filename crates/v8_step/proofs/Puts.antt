@@ -1,4 +1,5 @@
 -- Ticc does the same from states that agree everywhere, and puts out the same bytes.
+use Rattle.v8_memory.specs.Regions.{buffer_read}
 use Rattle.std.proofs.Common.{◌≡◌, ℕ, ◌%◌, Bool, true, false, ◌&&◌, ◌-◌, List, [], length, take, refl, ap, ◌∙◌, subst, arith}
 use Rattle.std.specs.Prelude.{if◌then◌else◌, ◌==◌}
 use Rattle.std.specs.Option.{unwrap_or}
@@ -12,7 +13,7 @@ use Rattle.v8_alu.specs.Conditions.{holds_of}
 use Rattle.v8_step.specs.State.{State, register_of}
 use Rattle.v8_step.specs.Traps.{flush_windows, call_system}
 use Rattle.v8_step.specs.Transfers.{next}
-use Rattle.v8_step.specs.Calls.{buffer_read, is_output, trap_step}
+use Rattle.v8_step.specs.Calls.{is_output, trap_step}
 use Rattle.v8_step.specs.Step.{act, trap_number, written_out, puts_by}
 use Rattle.v8_step.specs.Judged.{buffer_span, judged_by_call, judged_by_spills, judged_by_trap}
 use Rattle.v8_step.specs.Alike.{ActsAlike}

@@ -8,7 +8,7 @@ use Rattle.v8_decode.specs.declared.Op2.TheVariants as o
 use Rattle.v8_decode.specs.declared.Instr.{Instr}
 use Rattle.v8_decode.specs.declared.Instr.TheVariants as i
 use Rattle.v8_decode.specs.Effects.{reads_all}
-use Rattle.v8_memory.specs.Regions.{Memory, Region, bytes_at, with_bytes, with_heap_end}
+use Rattle.v8_memory.specs.Regions.{Memory, Region, bytes_at, with_bytes, with_heap_end, buffer_written, buffer_read, is_heap_end}
 use Rattle.v8_memory.specs.Spans.{Span, AllApart, IsApartFromAll, IsSameOutside}
 use Rattle.v8_memory.specs.Laws.{AreSameWrites}
 use Rattle.v8_memory.proofs.Same.{bytes_same, with_bytes-same}
@@ -23,7 +23,7 @@ use Rattle.v8_step.specs.Traps.{trap_instruction, flush_windows, call_system, EB
 use Rattle.v8_step.specs.Transfers.{next, ended}
 use Rattle.v8_step.specs.Accesses.{on_memory}
 use Rattle.v8_step.specs.WindowMoves.{frame_written, frame_read, oldest_window, save_address, saved_memory, spill, spill_many, fill, fill_from, enter, leave, save_step, restore_step}
-use Rattle.v8_step.specs.Calls.{answered, succeeds, refuses, buffer_written, buffer_read, read_into, read_call, is_output, write_from, write_call, is_heap_end, heap_call, system_call, system_step, trap_step}
+use Rattle.v8_step.specs.Calls.{answered, succeeds, refuses, read_into, read_call, is_output, write_from, write_call, heap_call, system_call, system_step, trap_step}
 use Rattle.v8_step.specs.Step.{act, puts_by}
 use Rattle.v8_step.specs.Items.{Item, Register, Codes, YRegister, IsSameAt}
 use Rattle.v8_step.specs.Judged.{buffer_span, judged_by_call, saved_span, frame_span, judged_after, judged_by_spills, judged_by_trap}

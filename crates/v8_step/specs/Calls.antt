@@ -2,7 +2,7 @@
 -- system calls of this machine. %g1 has the number of the call, %o0 to %o2 its arguments. A call that succeeds
 -- clears C and one that is refused sets it; %o0 has the answer or the error number.
 use Rattle.std.specs.Prelude.{ℕ, zero, suc, ◌-◌, ◌%◌, true, false, ◌&&◌, ◌||◌, List, [], ◌∷◌, length, take, drop, Option, Some, None, Bool, nat_le, ◌==◌, if◌then◌else◌}
-use Rattle.v8_memory.specs.Regions.{Memory, bytes_at, with_bytes, with_heap_end}
+use Rattle.v8_memory.specs.Regions.{Memory, buffer_read, buffer_written, with_heap_end, is_heap_end}
 use Rattle.v8_step.specs.declared.Ending.TheVariants.{Exit}
 use Rattle.v8_step.specs.State.{State, register_of, with_register}
 use Rattle.v8_step.specs.Traps.{trap_instruction, flush_windows, call_system, EBADF, ENOMEM, EFAULT, ENOSYS}
@@ -19,16 +19,6 @@ succeeds value s = answered false value s
 
 abbrev pub refuses : ℕ → State → State
 refuses error s = answered true error s
-
--- ---- buffers; an empty one is always allowed
-
-abbrev pub buffer_written : Memory → ℕ → List ℕ → Option Memory
-buffer_written m address [] = Some m
-buffer_written m address (b ∷ bytes) = with_bytes m address (b ∷ bytes)
-
-abbrev pub buffer_read : Memory → ℕ → ℕ → Option (List ℕ)
-buffer_read m address zero = Some []
-buffer_read m address (suc n) = bytes_at m address (suc n)
 
 -- ---- the calls
 
@@ -57,9 +47,6 @@ write_call s descriptor address count =
     if is_output descriptor then write_from count s (buffer_read s.memory address count) else refuses EBADF s
 
 -- 17, brk: sets the end of the heap
-abbrev pub is_heap_end : ℕ → Bool
-is_heap_end address = nat_le 0x80000000 address && nat_le address 0x81000000
-
 abbrev pub heap_call : State → ℕ → State
 heap_call s address =
     if is_heap_end address

@@ -5,7 +5,7 @@ use Rattle.v8_decode.specs.declared.Op2.{Op2}
 use Rattle.v8_decode.specs.declared.Instr.{Instr}
 use Rattle.v8_decode.specs.declared.Instr.TheVariants as i
 use Rattle.v8_decode.specs.Words.{decode_of}
-use Rattle.v8_memory.specs.Regions.{fetch_of}
+use Rattle.v8_memory.specs.Regions.{fetch_of, buffer_read}
 use Rattle.v8_alu.specs.declared.AluOut.{AluOut}
 use Rattle.v8_alu.specs.declared.AluTrap.{AluTrap}
 use Rattle.v8_alu.specs.declared.AluTrap.TheVariants.{DivZero, TagOverflow}
@@ -18,7 +18,7 @@ use Rattle.v8_step.specs.Traps.{instruction_access_exception, illegal_instructio
 use Rattle.v8_step.specs.Transfers.{next, trapped, unless_couple, branch_step, call_step, jump_step}
 use Rattle.v8_step.specs.Accesses.{load_step, store_step, ldstub_step, swap_step}
 use Rattle.v8_step.specs.WindowMoves.{save_step, restore_step}
-use Rattle.v8_step.specs.Calls.{trap_step, buffer_read, is_output}
+use Rattle.v8_step.specs.Calls.{trap_step, is_output}
 
 -- an operation's value goes to rd, with the codes and Y that it leaves
 unfoldable pub alu_step : State → ℕ → Result AluOut AluTrap → State

@@ -1,0 +1,15 @@
+-- The arguments that a program can be given, and that the stack has room for them.
+use Rattle.std.specs.Prelude.{ℕ, ◌^◌, ◌≤◌, List, ◌∷◌, length}
+use Rattle.std.specs.List.{All}
+use Rattle.v8_step.specs.Valid.{AreBytes}
+use Rattle.v8_process.specs.Start.{program_name, strings}
+use Rattle.v8_process.specs.Valid.{FitsStack}
+
+-- at most 1,000 texts, of at most 65,536 bytes with the zero byte after each
+pub record AreArguments (args : List (List ℕ)) : Type 0 where
+  pub few : length args ≤ 1000
+  pub short : length (strings args) ≤ 2 ^ 16
+  pub bytes : All AreBytes args
+
+abbrev pub ArgumentsFit : Type 0
+ArgumentsFit = (args : List (List ℕ)) → AreArguments args → FitsStack (program_name ∷ args)
