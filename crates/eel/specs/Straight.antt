@@ -2,9 +2,8 @@
 use Rattle.std.specs.Prelude.{◌≡◌, ℕ, ◌+◌, ◌*◌, ◌%◌, ◌^◌, ◌<◌, Bool, true, false, not, ◌&&◌, ◌==◌, if◌then◌else◌, bit_and, max, List, length, slice_index, map, filter}
 use Rattle.std.specs.List.{fold}
 use Rattle.eel_base.specs.CodeText.{Words, address_of}
-use Rattle.v8_decode.specs.declared.Instr.{Instr}
-use Rattle.v8_decode.specs.declared.Instr.TheVariants.{Branch, Call, Jmpl}
 use Rattle.v8_decode.specs.Words.{decode_of}
+use Rattle.v8_step.specs.Items.{is_transfer}
 use Rattle.elf32_sparc.specs.declared.header.ProgramHeader.{ProgramHeader}
 use Rattle.elf32_sparc.specs.Header.{program_headers, is_load, loadable, is_text}
 use Rattle.elf32_sparc.specs.Image.{image_of}
@@ -13,13 +12,6 @@ use Rattle.elf32_sparc.specs.declared.fault.ReadFault.TheVariants as reads
 use Rattle.eel.specs.declared.straight.EditFault.{EditFault}
 use Rattle.eel.specs.declared.straight.EditFault.TheVariants.{File, NoMemory}
 use Rattle.eel.specs.Written.{Plan, page_size, written}
-
--- a transfer of control with a delay slot (SPARC V8 manual, B.21, B.24 and B.25)
-abbrev pub is_transfer : Instr → Bool
-is_transfer (Branch cond annul disp22) = true
-is_transfer (Call disp30) = true
-is_transfer (Jmpl rd rs1 op2) = true
-is_transfer _ = false
 
 abbrev pub is_transfer_at : Words → ℕ → Bool
 is_transfer_at text word = is_transfer (decode_of (slice_index text.words word))
