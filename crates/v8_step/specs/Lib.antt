@@ -6,6 +6,7 @@ pub mod Follows
 pub mod Items
 pub mod Judged
 pub mod Laws
+pub mod Machine
 pub mod Needed
 pub mod Run
 pub mod State

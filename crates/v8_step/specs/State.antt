@@ -8,13 +8,9 @@ use Rattle.v8_memory.specs.Regions.{Memory}
 use Rattle.v8_windows.specs.Registers.{register_in, register_set}
 use Rattle.v8_alu.specs.declared.Codes.{Codes}
 use Rattle.v8_step.specs.declared.Ending.{Ending}
+pub use Rattle.v8_step.specs.declared.Slot.{Slot}
+pub use Rattle.v8_step.specs.declared.Slot.TheVariants.{NoSlot, Taken, Untaken}
 use Rattle.v8_alu.specs.Numbers.{wrapped}
-
--- Whether the instruction at pc is in the delay slot of a transfer, and whether that one was taken.
-pub data Slot : Type 0 where
-  NoSlot : Slot
-  Taken : Slot
-  Untaken : Slot
 
 pub record State : Type 0 where
   pub pc : ℕ  -- PC and nPC (section 4.2)

@@ -1,13 +1,35 @@
 //! The machine that programs run on, one step at a time: its state, what each instruction of SPARC V8 does in
 //! user mode, traps, window saving and loading, software traps, and runs of many steps.
 //!
-//! The definitions stand in specs/. Each function below has an empty body, and a law about every state as its
-//! contract. The sections named are those of The SPARC Architecture Manual, Version 8.
+//! The definitions stand in specs/. [`step`] carries them out on a [`Machine`]. Each function below has an empty
+//! body, and a law about every state as its contract. The sections named are those of The SPARC Architecture
+//! Manual, Version 8.
 #![tactic(auto)]
 
 ghost use Rattle.v8_step.specs.Copied.{CopiesFollow};
 ghost use Rattle.v8_step.specs.Follows.{RunsFollow};
 ghost use Rattle.v8_step.specs.Laws.{CodeStays, StepsAlike, ValidStays};
+
+mod accesses;
+mod calls;
+mod machine;
+mod step;
+#[cfg(test)]
+mod tests;
+mod transfers;
+mod traps;
+mod window_moves;
+
+pub use machine::Machine;
+pub use step::{StepOut, step};
+
+/// Whether the instruction at pc is in the delay slot of a transfer, and whether that one was taken.
+#[derive(Clone, Copy, PartialEq, Eq, Debug, Drop)]
+pub enum Slot {
+    NoSlot,
+    Taken,
+    Untaken,
+}
 
 /// How a run ends.
 #[derive(Clone, Copy, PartialEq, Eq, Debug, Drop)]

@@ -1,0 +1,54 @@
+//! Runs of the machine: many steps, up to a limit.
+#![tactic(auto)]
+
+ghost use Rattle.std.specs.Prelude.{◌≡◌, ◌⊎◌, ◌≤◌};
+ghost use Rattle.eel_base.specs.Outside.{Rose};
+ghost use Rattle.v8_step.specs.Run.{run as run_of, run_puts};
+ghost use Rattle.v8_step.specs.Step.{puts_of};
+ghost use Rattle.v8_runner.specs.Runs.{IsStop, AreMade, RunTakes};
+
+use eel_base::{Addr, Sink};
+use v8_step::{Ending, Machine, StepOut, step};
+
+#[cfg(test)]
+mod tests;
+
+/// Why a run stopped.
+#[derive(Clone, Copy, PartialEq, Eq, Debug, Drop)]
+pub enum Stop {
+    /// The limit of steps is reached, and the machine hasn't ended.
+    Limit,
+    Ended(Ending),
+    /// A sink failed in the next step, which isn't made.
+    SinkFault,
+}
+
+/// What came of a run: why it stopped, how many steps were made, and where the machine is.
+#[derive(Clone, Copy, PartialEq, Eq, Debug, Drop)]
+pub struct RunEnd {
+    pub stop: Stop,
+    /// The step that ends the program is one of them; a step in which a sink failed is not.
+    pub steps: u64,
+    pub pc: Addr,
+}
+
+/// Makes steps until the machine has ended, `limit` steps were made, or a sink failed. A machine that had ended
+/// makes none.
+pub fn run<O: Sink, E: Sink>(m: &mut Machine, limit: u64, out: &mut O, err: &mut E) -> RunEnd
+    ensures state { m.new ≡ run_of m.old result.steps }
+    ensures stop { IsStop m.new.ending limit result.steps result.stop }
+    ensures made { AreMade m.old result.steps }
+    ensures pc { result.pc.0 ≡ m.new.pc }
+    ensures out { RunTakes (O.taken out.old) (O.taken out.new) (run_puts m.old result.steps 1) (puts_of m.new 1) result.stop }
+    ensures err { RunTakes (E.taken err.old) (E.taken err.new) (run_puts m.old result.steps 2) (puts_of m.new 2) result.stop }
+    ensures cause { result.stop ≡ Stop.SinkFault → Rose (O.faults out.old) (O.faults out.new) ⊎ Rose (E.faults err.old) (E.faults err.new) }
+    ensures out_faults { O.faults out.old ≤ O.faults out.new }
+    ensures err_faults { E.faults err.old ≤ E.faults err.new }
+{
+    let (stop, steps) = make_steps(m, limit, out, err);
+    RunEnd {
+        stop,
+        steps,
+        pc: m.pc(),
+    }
+}

@@ -1,0 +1,51 @@
+-- What the parts of a machine's step answer, and what they leave.
+use Rattle.std.specs.Prelude.{◌≡◌, ℕ, ◌-◌, Bool, true, false, List, [], drop, take, Option, Some, None, Result, Ok, Err, unwrap_or, ◌&&◌, ◌==◌, if◌then◌else◌}
+use Rattle.std.specs.Int.{w8, w16, from_be_bytes}
+use Rattle.eel_base.specs.Outside.{appended, TookPart}
+use Rattle.v8_decode.specs.declared.LoadKind.{LoadKind}
+use Rattle.v8_decode.specs.declared.LoadKind.TheVariants as loads
+use Rattle.v8_memory.specs.Regions.{Memory, buffer_read}
+use Rattle.v8_step.specs.declared.Ending.{Ending}
+use Rattle.v8_step.specs.declared.step.StepOut.{StepOut}
+use Rattle.v8_step.specs.declared.step.StepOut.TheVariants.{Went, Ended, SinkFault}
+use Rattle.v8_step.specs.Accesses.{word_of, extended}
+use Rattle.v8_step.specs.Calls.{is_output}
+use Rattle.v8_step.specs.State.{State, Slot, NoSlot, Taken, Untaken}
+use Rattle.v8_step.specs.Step.{step_of}
+
+-- in the slot of a transfer
+abbrev pub in_slot : Slot → Bool
+in_slot NoSlot = false
+in_slot Taken = true
+in_slot Untaken = true
+
+-- the value that a load of one register gives it
+abbrev pub value_of : LoadKind → List ℕ → ℕ
+value_of loads.LD bytes = word_of bytes
+value_of loads.LDUB bytes = from_be_bytes w8 bytes
+value_of loads.LDUH bytes = from_be_bytes w16 bytes
+value_of loads.LDD bytes = word_of (take 4 bytes)
+value_of loads.LDSB bytes = extended 8 (from_be_bytes w8 bytes)
+value_of loads.LDSH bytes = extended 16 (from_be_bytes w16 bytes)
+
+-- a window was saved, or could not be
+abbrev pub Spills : Option Memory → State → State → Bool → Type 0
+Spills None old new result = (result ≡ false) × (new ≡ old)
+Spills (Some m) old new result = (result ≡ true) × (new ≡ record old { memory = m; valid = old.valid - 1 })
+
+-- the bytes that a write call puts out to a descriptor
+abbrev pub call_puts : Memory → ℕ → ℕ → ℕ → ℕ → List ℕ
+call_puts m to address count descriptor =
+    if (to == descriptor) && is_output descriptor then unwrap_or (buffer_read m address count) [] else []
+
+-- a step was made and the run goes on, or has ended, or a sink failed and no step was made
+abbrev pub Steps : State → State → StepOut → Type 0
+Steps old new Went = (new ≡ step_of old) × (new.ending ≡ None)
+Steps old new (Ended ending) = (new ≡ step_of old) × (new.ending ≡ Some ending)
+Steps old new SinkFault = new ≡ old
+
+-- a sink took all bytes of the step, or a first part of them where a sink failed
+abbrev pub Takes : Option (List ℕ) → Option (List ℕ) → List ℕ → StepOut → Type 0
+Takes old new bytes Went = new ≡ appended old bytes
+Takes old new bytes (Ended ending) = new ≡ appended old bytes
+Takes old new bytes SinkFault = TookPart old new bytes

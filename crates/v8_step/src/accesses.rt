@@ -1,0 +1,119 @@
+//! Loads, stores, LDSTUB and SWAP.
+ghost use Rattle.std.specs.Prelude.{◌≡◌, ◌%◌, suc};
+ghost use Rattle.v8_memory.specs.Calls.{Loads, load_of};
+ghost use Rattle.v8_step.specs.Accesses.{load_size, extended, load_step, store_step, ldstub_step, swap_step};
+ghost use Rattle.v8_step.specs.Machine.{value_of};
+
+use crate::machine::{Machine, register};
+use crate::traps::{DATA_ACCESS_EXCEPTION, MEM_ADDRESS_NOT_ALIGNED};
+use eel_base::Addr;
+use v8_decode::{LoadKind, Reg, StoreKind};
+use v8_memory::MemFault;
+
+impl Machine {
+    #[inline]
+    #[tactic(auto, unfolding(crate::specs::Accesses::load_step))]
+    pub(crate) fn load(&mut self, kind: LoadKind, rd: Reg, address: u32)
+        requires pair { kind ≡ LoadKind.LDD → rd % 2 ≡ 0 }
+        ensures { self.new ≡ load_step self.old kind rd address }
+    {
+        if kind == LoadKind::LDD {
+            self.load_pair(rd, address);
+        } else {
+            match self.loaded(kind, Addr(address)) {
+                Ok(value) => {
+                    self.set(rd, value);
+                    self.go_on();
+                }
+                Err(fault) => self.refuse_access(fault),
+            }
+        }
+    }
+
+    /// What a load into one register gives it.
+    #[inline]
+    fn loaded(&self, kind: LoadKind, address: Addr) -> Result<u32, MemFault>
+        requires single { kind ≡ LoadKind.LDD → ⊥ }
+        ensures { Loads (value_of kind) (load_of self.now.memory (load_size kind) address.0) result }
+    {
+        let memory = &self.memory;
+        match kind {
+            LoadKind::LD | LoadKind::LDD => memory.load32(address),
+            LoadKind::LDUB => Ok(u32::from(memory.load8(address)?)),
+            LoadKind::LDUH => Ok(u32::from(memory.load16(address)?)),
+            LoadKind::LDSB => Ok(extended_byte(memory.load8(address)?)),
+            LoadKind::LDSH => Ok(extended_halfword(memory.load16(address)?)),
+        }
+    }
+
+    /// LDD: the word of rd comes first.
+    #[inline]
+    #[tactic(auto, unfolding(crate::specs::Accesses::load_step))]
+    fn load_pair(&mut self, rd: Reg, address: u32)
+        requires pair { rd % 2 ≡ 0 }
+        ensures { self.new ≡ load_step self.old LoadKind.LDD rd address }
+    {
+        match self.memory.load64(Addr(address)) {
+            Ok((first, second)) => {
+                self.set(rd, first);
+                self.set(next_register(rd), second);
+                self.go_on();
+            }
+            Err(fault) => self.refuse_access(fault),
+        }
+    }
+
+    #[inline]
+    #[tactic(auto, unfolding(crate::specs::Accesses::store_step))]
+    pub(crate) fn store(&mut self, kind: StoreKind, rd: Reg, address: u32)
+        requires pair { kind ≡ StoreKind.STD → rd % 2 ≡ 0 }
+        ensures { self.new ≡ store_step self.old kind rd address }
+    {
+        let value = self.reg(rd);
+        let at = Addr(address);
+        let stored = match kind {
+            StoreKind::ST => self.memory.store32(at, value),
+            StoreKind::STB => self.memory.store8(at, value as u8),
+            StoreKind::STH => self.memory.store16(at, value as u16),
+            StoreKind::STD => {
+                let second = self.reg(next_register(rd));
+                self.memory.store64(at, (value, second))
+            }
+        };
+        match stored {
+            Ok(()) => self.go_on(),
+            Err(fault) => self.refuse_access(fault),
+        }
+    }
+
+    /// LDSTUB: loads a byte, and sets all its bits.
+    #[inline]
+    #[tactic(auto, unfolding(crate::specs::Accesses::ldstub_step))]
+    pub(crate) fn load_store_byte(&mut self, rd: Reg, address: u32)
+        ensures { self.new ≡ ldstub_step self.old rd address }
+    {
+        match self.exchange_byte(Addr(address)) {
+            Ok(old) => {
+                self.set(rd, u32::from(old));
+                self.go_on();
+            }
+            Err(fault) => self.refuse_access(fault),
+        }
+    }
+
+    /// SWAP: a register and a word change places.
+    #[inline]
+    #[tactic(auto, unfolding(crate::specs::Accesses::swap_step))]
+    pub(crate) fn swap(&mut self, rd: Reg, address: u32)
+        ensures { self.new ≡ swap_step self.old rd address }
+    {
+        let value = self.reg(rd);
+        match self.exchange_word(Addr(address), value) {
+            Ok(old) => {
+                self.set(rd, old);
+                self.go_on();
+            }
+            Err(fault) => self.refuse_access(fault),
+        }
+    }
+}

@@ -1,0 +1,127 @@
+//! Software traps and system calls.
+ghost use Rattle.std.specs.Prelude.{◌≡◌, ◌⊎◌, ◌≤◌, OnOk, OnErr};
+ghost use Rattle.eel_base.specs.Outside.{appended, TookPart, Rose};
+ghost use Rattle.v8_step.specs.Calls.{succeeds, refuses, read_call, write_call, heap_call, system_step, trap_step};
+ghost use Rattle.v8_step.specs.Machine.{call_puts};
+
+use crate::Ending;
+use crate::machine::{Machine, register};
+use crate::traps::{BRK, CALL_SYSTEM, EBADF, EFAULT, ENOMEM, ENOSYS, EXIT, FLUSH_WINDOWS, READ, TRAP_INSTRUCTION, WRITE};
+use eel_base::{Addr, Failed, Sink, put_all};
+
+/// The numbers of %g1, which has the number of a call, and of %o0 to %o2, its arguments; %o0 gets the answer.
+const CALL_NUMBER: u8 = 1;
+const FIRST_ARGUMENT: u8 = 8;
+const SECOND_ARGUMENT: u8 = 9;
+const THIRD_ARGUMENT: u8 = 10;
+
+impl Machine {
+    /// The software trap of this number. After a failure the machine is as before.
+    pub(crate) fn software_trap<O: Sink, E: Sink>(
+        &mut self,
+        number: u8,
+        out: &mut O,
+        err: &mut E,
+    ) -> Result<(), Failed>
+        requires { number < 128 }
+        ensures state { OnOk result (self.new ≡ trap_step self.old number) }
+    {
+        match number {
+            FLUSH_WINDOWS => self.flush(),
+            CALL_SYSTEM => self.call_system(out, err)?,
+            _ => self.trap(TRAP_INSTRUCTION + number),
+        }
+        Ok(())
+    }
+
+    fn call_system<O: Sink, E: Sink>(&mut self, out: &mut O, err: &mut E) -> Result<(), Failed> {
+        let first = self.reg(register(FIRST_ARGUMENT));
+        let second = self.reg(register(SECOND_ARGUMENT));
+        let third = self.reg(register(THIRD_ARGUMENT));
+        match self.reg(register(CALL_NUMBER)) {
+            EXIT => self.end(Ending::Exit(first as u8)),
+            READ => self.read_input(first, second, third),
+            WRITE => self.write_output(first, second, third, out, err)?,
+            BRK => self.move_heap_end(first),
+            _ => self.refuse(ENOSYS),
+        }
+        Ok(())
+    }
+
+    /// Reads from descriptor 0 into memory, as much as the input has.
+    fn read_input(&mut self, descriptor: u32, address: u32, count: u32)
+        ensures { self.new ≡ read_call self.old descriptor address count }
+    {
+        if descriptor != 0 {
+            self.refuse(EBADF);
+            return;
+        }
+        let left = &self.input[self.read..];
+        let count = left.len().min(count as usize);
+        if self.memory.fill(Addr(address), &left[..count]) {
+            self.read += count;
+            self.succeed(count as u32);
+        } else {
+            self.refuse(EFAULT);
+        }
+    }
+
+    /// Writes to descriptor 1 or 2. After a failure the machine is as before, and the sink took a first part.
+    fn write_output<O: Sink, E: Sink>(
+        &mut self,
+        descriptor: u32,
+        address: u32,
+        count: u32,
+        out: &mut O,
+        err: &mut E,
+    ) -> Result<(), Failed>
+    {
+        if descriptor != 1 && descriptor != 2 {
+            self.refuse(EBADF);
+            return Ok(());
+        }
+        let Some(bytes) = self.memory.part(Addr(address), count) else {
+            self.refuse(EFAULT);
+            return Ok(());
+        };
+        if descriptor == 1 {
+            put_all(out, bytes)?;
+        } else {
+            put_all(err, bytes)?;
+        }
+        self.succeed(count);
+        Ok(())
+    }
+
+    /// Sets the end of the heap.
+    fn move_heap_end(&mut self, end: u32)
+        ensures { self.new ≡ heap_call self.old end }
+    {
+        if self.memory.set_heap_end(Addr(end)) {
+            self.succeed(0);
+        } else {
+            self.refuse(ENOMEM);
+        }
+    }
+
+    /// The call has succeeded with this answer.
+    fn succeed(&mut self, value: u32)
+        ensures { self.new ≡ succeeds value self.old }
+    {
+        self.answer_call(value, false);
+    }
+
+    fn refuse(&mut self, error: u32)
+        ensures { self.new ≡ refuses error self.old }
+    {
+        self.answer_call(error, true);
+    }
+
+    fn answer_call(&mut self, value: u32, carry: bool)
+        ensures { self.new ≡ answered carry value self.old }
+    {
+        self.set(register(FIRST_ARGUMENT), value);
+        self.codes.c = carry;
+        self.go_on();
+    }
+}

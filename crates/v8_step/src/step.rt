@@ -1,0 +1,128 @@
+//! One step of the machine.
+ghost use Rattle.std.specs.Prelude.{◌≡◌, ◌⊎◌, ◌≤◌, IsTrue};
+ghost use Rattle.eel_base.specs.Outside.{Rose};
+ghost use Rattle.v8_decode.specs.Ranges.{has_even_pair};
+ghost use Rattle.v8_alu.specs.Alu.{alu_has_form};
+ghost use Rattle.v8_step.specs.Machine.{Steps, Takes};
+ghost use Rattle.v8_step.specs.Step.{act, puts_of};
+
+use crate::machine::Machine;
+use crate::traps::{CP_DISABLED, DIVISION_BY_ZERO, FP_DISABLED, ILLEGAL_INSTRUCTION, INSTRUCTION_ACCESS_EXCEPTION, PRIVILEGED_INSTRUCTION, TAG_OVERFLOW};
+use crate::Ending;
+use eel_base::{Addr, Failed, Sink};
+use v8_alu::{AluOut, AluTrap, alu, holds};
+use v8_decode::{Instr, Reg, decode};
+
+/// What came of a step.
+#[derive(Clone, Copy, PartialEq, Eq, Debug, Drop)]
+pub enum StepOut {
+    /// The run goes on.
+    Went,
+    /// The run has ended, by this step or before it.
+    Ended(Ending),
+    /// A sink failed, and no step was made.
+    SinkFault,
+}
+
+/// Makes one step. What the program writes to descriptors 1 and 2 goes to `out` and `err`. A run that has ended
+/// stays as it is. Where a sink fails the machine is as before, and the sink took a first part of the bytes.
+#[inline]
+pub fn step<O: Sink, E: Sink>(m: &mut Machine, out: &mut O, err: &mut E) -> StepOut
+    ensures state { Steps m.old m.new result }
+    ensures out { Takes (O.taken out.old) (O.taken out.new) (puts_of m.old 1) result }
+    ensures err { Takes (E.taken err.old) (E.taken err.new) (puts_of m.old 2) result }
+    ensures cause { result ≡ StepOut.SinkFault → Rose (O.faults out.old) (O.faults out.new) ⊎ Rose (E.faults err.old) (E.faults err.new) }
+    ensures out_faults { O.faults out.old ≤ O.faults out.new }
+    ensures err_faults { E.faults err.old ≤ E.faults err.new }
+{
+    if m.ending.is_none() && m.carry_out(out, err).is_err() {
+        return StepOut::SinkFault;
+    }
+    match m.ending {
+        None => StepOut::Went,
+        Some(ending) => StepOut::Ended(ending),
+    }
+}
+
+impl Machine {
+    /// Carries out the instruction at pc.
+    #[inline]
+    fn carry_out<O: Sink, E: Sink>(&mut self, out: &mut O, err: &mut E) -> Result<(), Failed> {
+        let Some(word) = self.memory.fetch(Addr(self.pc)) else {
+            self.trap(INSTRUCTION_ACCESS_EXCEPTION);
+            return Ok(());
+        };
+        match decode(word) {
+            Instr::Ticc { cond, rs1, op2 } => {
+                if holds(cond, self.codes) {
+                    let number = (self.sum(rs1, op2) % 128) as u8;
+                    self.software_trap(number, out, err)?;
+                } else {
+                    self.go_on();
+                }
+            }
+            instr => self.act(instr),
+        }
+        Ok(())
+    }
+
+    /// Carries out an instruction that is no Ticc.
+    #[inline]
+    #[tactic(auto, unfolding(crate::specs::Step::act))]
+    fn act(&mut self, instr: Instr)
+        requires form { IsTrue (alu_has_form instr) }
+        requires pair { IsTrue (has_even_pair instr) }
+        ensures { self.new ≡ act self.old instr }
+    {
+        match instr {
+            Instr::Sethi { rd, imm22 } => {
+                self.set(rd, imm22.wrapping_mul(1024));
+                self.go_on();
+            }
+            Instr::Branch { cond, annul, disp22 } => self.branch(cond, annul, disp22),
+            Instr::Call { disp30 } => self.call(disp30),
+            Instr::Alu { op, cc, rd, rs1, op2 } => {
+                let outcome = alu(op, cc, self.reg(rs1), self.operand(op2), self.codes, self.y);
+                self.finish_alu(rd, outcome);
+            }
+            Instr::ReadY { rd } => {
+                self.set(rd, self.y);
+                self.go_on();
+            }
+            Instr::WriteY { rs1, op2 } => {
+                self.y = self.reg(rs1) ^ self.operand(op2);
+                self.go_on();
+            }
+            Instr::Jmpl { rd, rs1, op2 } => self.jump(rd, self.sum(rs1, op2)),
+            Instr::Save { rd, rs1, op2 } => self.save(rd, self.sum(rs1, op2)),
+            Instr::Restore { rd, rs1, op2 } => self.restore(rd, self.sum(rs1, op2)),
+            Instr::Load { kind, rd, rs1, op2 } => self.load(kind, rd, self.sum(rs1, op2)),
+            Instr::Store { kind, rd, rs1, op2 } => self.store(kind, rd, self.sum(rs1, op2)),
+            Instr::Ldstub { rd, rs1, op2 } => self.load_store_byte(rd, self.sum(rs1, op2)),
+            Instr::Swap { rd, rs1, op2 } => self.swap(rd, self.sum(rs1, op2)),
+            Instr::Ticc { .. } | Instr::Flush { .. } | Instr::Stbar => self.go_on(),
+            Instr::Illegal => self.trap(ILLEGAL_INSTRUCTION),
+            Instr::Privileged => self.trap(PRIVILEGED_INSTRUCTION),
+            Instr::FpOff => self.trap(FP_DISABLED),
+            Instr::CpOff => self.trap(CP_DISABLED),
+        }
+    }
+
+    /// The outcome of an operation goes to rd, the codes and Y, or traps.
+    #[inline]
+    #[tactic(auto, unfolding(crate::specs::Step::alu_step))]
+    fn finish_alu(&mut self, rd: Reg, outcome: Result<AluOut, AluTrap>)
+        ensures { self.new ≡ alu_step self.old rd outcome }
+    {
+        match outcome {
+            Ok(outcome) => {
+                self.set(rd, outcome.value);
+                self.codes = outcome.codes;
+                self.y = outcome.y;
+                self.go_on();
+            }
+            Err(AluTrap::DivZero) => self.trap(DIVISION_BY_ZERO),
+            Err(AluTrap::TagOverflow) => self.trap(TAG_OVERFLOW),
+        }
+    }
+}
