@@ -1,3 +1,4 @@
 pub mod Alike
+pub mod Arguments
 pub mod Entry
 pub mod Valid
