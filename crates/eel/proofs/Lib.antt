@@ -12,7 +12,9 @@ pub mod PlanFacts
 pub mod Plans
 pub mod Powers
 pub mod ReadNotes
+pub mod ValidStarts
 pub mod WordsBytes
+pub mod WrittenBytes
 pub mod WrittenFacts
 pub mod WrittenHeader
 pub mod WrittenParts
