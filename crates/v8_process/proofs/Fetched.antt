@@ -22,7 +22,7 @@ use Rattle.v8_process.specs.Fetched.{IsFirstCode, CodeIsFetched, TextIsFetched}
 
 -- ---- the code of the memory in which a file starts
 
--- the first four bytes make one word, in the words of either definition
+-- the first four bytes make the same word by either definition
 word_of-bytes : (bytes : List ℕ) → from_be_bytes w32 (take 4 bytes) ≡ big_number 4 bytes
 word_of-bytes bytes =
     let first = get_or-take 4 bytes 0 0 (omega arith) in
@@ -68,11 +68,12 @@ pub code_is_fetched : CodeIsFetched
 unfolding fetch_of
 code_is_fetched file texts code first aligned bytes k inside =
     let stack : List Region = stack_region texts ∷ [] in
-    let starts : code_of (start_memory file texts) ≡ region_of code ∷ filter is_code (map region_of first.after ++ stack) =
+    let others : List Region = filter is_code (map region_of first.after ++ stack) in
+    let starts : code_of (start_memory file texts) ≡ region_of code ∷ others =
     ap (λ (ms : List Mapping). filter is_code (map region_of ms ++ stack)) first.mapped
     ∙ code-from first.before first.after stack code first.none_before first.executable in
     ap (λ (rs : List Region). fetch_from rs (code.start + 4 * k)) starts
-    ∙ fetched-first (region_of code) (filter is_code (map region_of first.after ++ stack)) k aligned inside
+    ∙ fetched-first (region_of code) others k aligned inside
 
 -- ---- the text is the first code of a file
 
@@ -115,9 +116,10 @@ text-first : (file : List ℕ) (hs : List ProgramHeader) (h : ProgramHeader) →
     → IsFirstOf (map (mapping_of file) (loadable hs)) (mapping_of file h)
 text-first file [] h found = absurd (cc)
 text-first file (x ∷ hs) h found =
+    let code : Bool = is_code (region_of (mapping_of file x)) in
     let parts = and_assoc (is_loadable x) (has_flag 1 x.p_flags) (not (has_flag 2 x.p_flags)) in
-    first-with file x h (loadable hs) (text_header hs) (is_loadable x) (is_code (region_of (mapping_of file x))) refl
-    (text-first file hs h) (ap (λ (b : Bool). cond b (Some x) (text_header hs)) (sym parts) ∙ found)
+    first-with file x h (loadable hs) (text_header hs) (is_loadable x) code refl (text-first file hs h)
+    (ap (λ (b : Bool). cond b (Some x) (text_header hs)) (sym parts) ∙ found)
 
 text-code : (file : List ℕ) (h : ProgramHeader) → text_header (program_headers file) ≡ Some h
     → IsFirstCode file (mapping_of file h)
@@ -159,23 +161,28 @@ padded (b ∷ bytes) count (suc i) = padded bytes count i
 
 number-padded : (bytes : List ℕ) (count at : ℕ)
     → big_number 4 (drop at (bytes ++ replicate count 0)) ≡ big_number 4 (drop at bytes)
-number-padded bytes count at =
-    let byte : (i : ℕ) → get_or (drop at (bytes ++ replicate count 0)) i 0 ≡ get_or (drop at bytes) i 0 = λ i.
-    get_or-drop at (bytes ++ replicate count 0) i 0 ∙ padded bytes count (at + i) ∙ sym (get_or-drop at bytes i 0) in
-    rw (byte 0, byte 1, byte 2, byte 3) refl
+number-padded bytes count at = rw (byte 0, byte 1, byte 2, byte 3) refl
+  where
+    more : List ℕ
+    more = bytes ++ replicate count 0
 
--- the words of the text, as the file's header gives them
+    byte : (i : ℕ) → get_or (drop at more) i 0 ≡ get_or (drop at bytes) i 0
+    byte i = get_or-drop at more i 0 ∙ padded bytes count (at + i) ∙ sym (get_or-drop at bytes i 0)
+
+-- the words of the text that a header gives
 header-fetched : (file : List ℕ) (texts : List (List ℕ)) (h : ProgramHeader) → Accepted file
-    → text_header (program_headers file) ≡ Some h → AreBytes file → (k : ℕ) → k < length (text_from file h).words
-    → fetch_of (start_memory file texts) (address_of (text_from file h) k) ≡ Some (slice_index (text_from file h).words k)
+    → text_header (program_headers file) ≡ Some h → AreBytes file
+    → let text = text_from file h in
+    (k : ℕ) → k < length text.words
+    → fetch_of (start_memory file texts) (address_of text k) ≡ Some (slice_index text.words k)
 unfolding text_from
 header-fetched file texts h ok found bytes k inside =
     let fit : IsFit file h = text_is_fit file h ok found in
     let count = length-words (h.p_memsz / 4) (memory_bytes file h) in
     let first : List ℕ = file_bytes file h in
+    let rest = All-drop (λ b. b < 256) h.p_offset file bytes in
     code_is_fetched file texts (mapping_of file h) (text-code file h found) fit.text.aligned
-    (All-take (λ b. b < 256) h.p_filesz (drop h.p_offset file) (All-drop (λ b. b < 256) h.p_offset file bytes))
-    k (omega arith)
+    (All-take (λ b. b < 256) h.p_filesz (drop h.p_offset file) rest) k (omega arith)
     ∙ ap (λ (w : ℕ). Some w) (number-padded first (h.p_memsz - length first) (4 * k)
     ∙ sym (number-padded first (h.p_memsz - h.p_filesz) (4 * k))
     ∙ sym (word_of-words (h.p_memsz / 4) (memory_bytes file h) k (omega arith)))
