@@ -1,22 +1,20 @@
 -- An edit is faithful: the written file is whole, has the pages and the places that it says.
-use Rattle.std.proofs.Common.{◌≡◌, ℕ, zero, suc, ◌+◌, ◌-◌, ◌*◌, ◌^◌, ◌<◌, ◌≤◌, List, [], ◌∷◌, ◌++◌, length, take, drop, map, slice_index, Some, None, Ok, refl, ap, ◌∙◌, subst, arith, All, inl, inr, max, ◌/◌, ◌%◌}
+use Rattle.std.proofs.Common.{◌≡◌, ℕ, zero, suc, ◌+◌, ◌-◌, ◌*◌, ◌^◌, ◌<◌, ◌≤◌, List, [], ◌∷◌, ◌++◌, length, drop, map, slice_index, Some, None, Ok, refl, ap, ◌∙◌, arith, All, inl, inr, max, ◌/◌, ◌%◌}
 use Rattle.std.specs.List.{fold, find}
 use Rattle.std.specs.Option.{option_map, option_or}
-use Rattle.std.proofs.lemmas.List.{map-append}
 use Rattle.std.proofs.lemmas.List.Folds.{find-append}
 use Rattle.byteorder.specs.Endian.{big_number}
 use Rattle.elf32_sparc.specs.Header.{program_headers, loadable}
-use Rattle.elf32_sparc.specs.FileFault.{fault, load_fault, has_bytes_outside}
+use Rattle.elf32_sparc.specs.FileFault.{load_fault}
 use Rattle.elf32_sparc.specs.Mapping.{Mapping, mapping_of, mappings}
 use Rattle.elf32_sparc.specs.Image.{image_of, highest_end, segment_of, segment_end}
 use Rattle.elf32_sparc.specs.Notes.{NoteRange, notes_of}
-use Rattle.elf32_sparc.proofs.Accepted.{accepted}
 use Rattle.eel.specs.Answers.{CanEdit}
 use Rattle.eel.specs.Straight.{plan_of, edited, delta_of, carried_on, bound_of}
 use Rattle.eel.specs.Written.{Plan, count, added_headers, segment_headers, notes_at}
 use Rattle.eel.specs.Faithful.{IsFaithful, IsPage, IsPlace, kept, word_mapped}
 use Rattle.eel.proofs.WrittenFacts.{IsPlan, HeaderFacts, PartFacts, notes_of_plan, range_of, ranges_from}
-use Rattle.eel.proofs.Mapped.{carried-mappings}
+use Rattle.eel.proofs.MappedFiles.{plan-original, plan-delta, plan-text, plan-base, mapped}
 use Rattle.elf32_sparc.proofs.Images.{accepted-program}
 use Rattle.eel.proofs.PlanFacts.{plan_is}
 use Rattle.eel.proofs.Carried.{code_header, page_header, loadable-segment_headers}
@@ -26,24 +24,6 @@ use Rattle.eel.proofs.Loads.{loads}
 use Rattle.eel.proofs.ReadNotes.{notes-of}
 use Rattle.eel.proofs.PlacedWords.{covers, none-covers, covers-first, word-among}
 
--- What the plan of a file takes from it.
-
-pub plan-original : (file : List ℕ) → (plan_of file).original ≡ file
-unfolding plan_of
-plan-original file = refl
-
-pub plan-delta : (file : List ℕ) → (plan_of file).delta ≡ delta_of (program_headers file)
-unfolding plan_of
-plan-delta file = refl
-
-pub plan-text : (file : List ℕ) → (plan_of file).text ≡ (image_of file).text
-unfolding plan_of
-plan-text file = refl
-
-pub plan-base : (file : List ℕ) → (plan_of file).base ≡ (image_of file).base
-unfolding plan_of
-plan-base file = refl
-
 -- the base is not below the end of any segment
 pub base-above : (file : List ℕ) → fold (λ end segment. max end (segment_end segment)) 0 (map segment_of (loadable (program_headers file))) ≤ (image_of file).base
 unfolding image_of
@@ -51,20 +31,6 @@ base-above file = let end = highest_end (map segment_of (loadable (program_heade
   where
     rounded : (end : ℕ) → end ≤ (end + 0xffff) / 0x10000 * 0x10000
     rounded end = omega arith
-
--- What the written file maps: the original's segments, and the two pages.
-pub mapped : (file new : List ℕ) → HeaderFacts (plan_of file) new → PartFacts (plan_of file) new → length file + delta_of (program_headers file) < 2 ^ 32 → fault file ≡ None
-    → loadable (segment_headers (plan_of file)) ≡ map (carried_on (delta_of (program_headers file))) (loadable (program_headers file)) ++ added_headers (plan_of file)
-    → mappings new ≡ map kept (mappings file) ++ map (mapping_of new) (added_headers (plan_of file))
-unfolding mappings has_bytes_outside
-mapped file new header parts small sound loaded =
-    let hs = program_headers file in
-    let delta = delta_of hs in
-    let whole : take (length file) (drop delta new) ≡ file = rw (← plan-delta file) (subst (λ o. take (length o) (drop (plan_of file).delta new) ≡ o) (plan-original file) parts.original) in
-    ap (λ h. map (mapping_of new) (loadable h)) header.headers
-    ∙ ap (map (mapping_of new)) loaded
-    ∙ map-append (mapping_of new) (map (carried_on delta) (loadable hs)) (added_headers (plan_of file))
-    ∙ ap (λ z. z ++ map (mapping_of new) (added_headers (plan_of file))) (carried-mappings file new delta hs whole small (accepted file sound).segment_file)
 
 -- The word of the code at each place.
 

@@ -1,9 +1,11 @@
 pub mod Carried
+pub mod CodeWords
 pub mod FaithfulEdits
 pub mod Lines
 pub mod LoadParts
 pub mod Loads
 pub mod Mapped
+pub mod MappedFiles
 pub mod NoteRanges
 pub mod NoteWords
 pub mod Part
