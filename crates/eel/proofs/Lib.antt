@@ -12,6 +12,8 @@ pub mod PlanFacts
 pub mod Plans
 pub mod Powers
 pub mod ReadNotes
+pub mod RunsAlike
+pub mod TwinStarts
 pub mod WordsBytes
 pub mod WrittenFacts
 pub mod WrittenHeader
