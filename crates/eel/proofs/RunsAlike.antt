@@ -70,16 +70,19 @@ module _ (file : List ℕ) (limit : length file ≤ 2 ^ 26) (bytes : AreBytes fi
         places = λ k inside. place-visited (plan_of file) k inside (in_pages notes (base + 4 * k));
       }
 
-  followed : (last : ℕ) → IsWithin text notes s0 last → IsFollowed notes s0 t0 0 (λ n. 1) (live_steps s0) last
+  followed : (last : ℕ) → IsWithin text notes s0 last
+      → IsFollowed notes s0 t0 0 (λ n. 1) (live_steps s0) last
   followed last within =
       copies_follow notes text.start base (length text.words) s0 t0 copied last within.untouched within.inside
 
   answered : (n : ℕ) → IsWithin text notes s0 n → Answers notes s0 t0 n (live_steps s0 n)
-  answered n within = (runs_follow notes s0 t0 0 (λ n. 1) (live_steps s0) n (followed n within)).0 n (omega arith)
+  answered n within =
+      (runs_follow notes s0 t0 0 (λ n. 1) (live_steps s0) n (followed n within)).0 n (omega arith)
 
   soon : IsWithin text notes s0 0 → (m : ℕ) → IsLeast (Answers notes s0 t0 0) m → m ≤ step_limit
   soon within m least =
-      let most : m ≤ 0 = (runs_follow notes s0 t0 0 (λ n. 1) (live_steps s0) 0 (followed 0 within)).1 m least in
+      let follow = runs_follow notes s0 t0 0 (λ n. 1) (live_steps s0) 0 (followed 0 within) in
+      let most : m ≤ 0 = follow.1 m least in
       omega (arith, most)
 
   bounded : (n : ℕ) → IsWithin text notes s0 (suc n) → IsBounded notes s0 t0 n step_limit

@@ -72,7 +72,7 @@ twin-starts original file notes has args input =
       valid = refl;
       input = refl;
       memory =
-          subst (λ (pages : List Span). IsSameOutside pages (start_memory original texts) (start_memory file texts))
+          subst (λ (z : List Span). IsSameOutside z (start_memory original texts) (start_memory file texts))
           (spans original file notes has)
           (starts_alike original file (map kept (mappings original)) has.pages has.mapped alike texts);
     }
@@ -117,8 +117,8 @@ original-at file sound args input =
     let (word, number) = image-entry file sound in
     let here = word.here in
     let low = word.low in
-    start-at file args input ((image_of file).text.start + 4 * (image_of file).entry) (omega (arith, here, number))
-    (omega (arith, here, low, number))
+    start-at file args input ((image_of file).text.start + 4 * (image_of file).entry)
+    (omega (arith, here, number)) (omega (arith, here, low, number))
 
 -- The written file starts at the same word of its code.
 pub written-at : (file : List ℕ) → length file ≤ 2 ^ 26 → AreBytes file → CanEdit file
@@ -148,15 +148,16 @@ passed true below range later is = ap (λ b. cond b (Some range) later) is
 passed false below range later is = refl
 
 -- the place of a word holds its address
-range-holds : (plan : Plan) (word address : ℕ) → address ≡ plan.base + 4 * word → holds address (range_of plan word) ≡ true
+range-holds : (plan : Plan) (word address : ℕ) → address ≡ plan.base + 4 * word
+    → holds address (range_of plan word) ≡ true
 range-holds plan word address is =
     rw (
       le-leb (plan.base + 4 * word) address (omega (arith, is)),
       lt-ltb address (plan.base + 4 * word + 4) (omega (arith, is)),
     ) refl
 
-place-found : (plan : Plan) (address word more after : ℕ) → address ≡ plan.base + 4 * (word + after) → after < more
-    → find (holds address) (ranges_from plan word more) ≡ Some (range_of plan (word + after))
+place-found : (plan : Plan) (address word more after : ℕ) → address ≡ plan.base + 4 * (word + after)
+    → after < more → find (holds address) (ranges_from plan word more) ≡ Some (range_of plan (word + after))
 place-found plan address word zero after is below = absurd (omega arith)
 place-found plan address word (suc more) zero is below =
     let same : word ≡ word + 0 = omega arith in
@@ -165,8 +166,8 @@ place-found plan address word (suc more) zero is below =
     ∙ ap (λ n. Some (range_of plan n)) same
 place-found plan address word (suc more) (suc after) is below =
     let same : word + 1 + after ≡ word + suc after = omega arith in
-    passed (nat_le (plan.base + 4 * word) address) (nat_lt address (plan.base + 4 * word + 4)) (range_of plan word)
-    (find (holds address) (ranges_from plan (word + 1) more))
+    passed (nat_le (plan.base + 4 * word) address) (nat_lt address (plan.base + 4 * word + 4))
+    (range_of plan word) (find (holds address) (ranges_from plan (word + 1) more))
     (le-ltb address (plan.base + 4 * word + 4) (omega (arith, is)))
     ∙ place-found plan address (word + 1) more after (omega (arith, is)) (omega arith)
     ∙ ap (λ n. Some (range_of plan n)) same
@@ -181,7 +182,9 @@ range-found plan k below =
 
 -- The address of a word of the code is visited as that of the original's word.
 pub place-visited : (plan : Plan) (k : ℕ) → k < count plan → (b : Bool)
-    → visited (range_at (notes_of_plan plan) (plan.base + 4 * k)) b (plan.base + 4 * k) ≡ Some (plan.text.start + 4 * k)
+    → visited (range_at (notes_of_plan plan) (plan.base + 4 * k)) b (plan.base + 4 * k)
+    ≡ Some (plan.text.start + 4 * k)
 place-visited plan k below b =
+    let first = eq-eqb (plan.base + 4 * k) (plan.base + 4 * k) refl in
     ap (λ range. visited range b (plan.base + 4 * k)) (range-found plan k below)
-    ∙ ap (λ first. cond first (Some (plan.text.start + 4 * k)) None) (eq-eqb (plan.base + 4 * k) (plan.base + 4 * k) refl)
+    ∙ ap (λ at_first. cond at_first (Some (plan.text.start + 4 * k)) None) first
