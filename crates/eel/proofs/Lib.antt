@@ -1,9 +1,11 @@
 pub mod Carried
+pub mod CodeWords
 pub mod FaithfulEdits
 pub mod Lines
 pub mod LoadParts
 pub mod Loads
 pub mod Mapped
+pub mod MappedFiles
 pub mod NoteRanges
 pub mod NoteWords
 pub mod Part
@@ -12,7 +14,11 @@ pub mod PlanFacts
 pub mod Plans
 pub mod Powers
 pub mod ReadNotes
+pub mod RunsAlike
+pub mod TwinStarts
+pub mod ValidStarts
 pub mod WordsBytes
+pub mod WrittenBytes
 pub mod WrittenFacts
 pub mod WrittenHeader
 pub mod WrittenParts

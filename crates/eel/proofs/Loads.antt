@@ -155,7 +155,7 @@ record EntryPasses (size : ℕ) (headers : List ProgramHeader) : Type 0 where
   memory_large : nat_lt (1280 * 2 ^ 20) (memory_size headers) ≡ false
 
 -- what is known of the headers of the original, of the plan, and of where they stand
-record IsCarrying (plan : Plan) (hs : List ProgramHeader) (size new : ℕ) : Type 0 where
+pub record IsCarrying (plan : Plan) (hs : List ProgramHeader) (size new : ℕ) : Type 0 where
   carried : plan.carried ≡ map (carried_on plan.delta) (filter is_carried hs)
   loads : loadable (segment_headers plan) ≡ map (carried_on plan.delta) (loadable hs) ++ added_headers plan
   at : Sizes plan new
@@ -174,7 +174,7 @@ record IsCarrying (plan : Plan) (hs : List ProgramHeader) (size new : ℕ) : Typ
   align : has_misaligned hs ≡ false
   memory_large : nat_lt (128 * 2 ^ 20) (memory_size hs) ≡ false
 
-entry-inside : (plan : Plan) (hs : List ProgramHeader) (size new : ℕ) → IsCarrying plan hs size new → has_bytes_outside new (segment_headers plan) ≡ false
+pub entry-inside : (plan : Plan) (hs : List ProgramHeader) (size new : ℕ) → IsCarrying plan hs size new → has_bytes_outside new (segment_headers plan) ≡ false
 unfolding has_bytes_outside
 entry-inside plan hs size new is =
     any-append (leaves_file new) plan.carried (added_headers plan)
@@ -228,7 +228,7 @@ aligns_divide : (file : List ℕ) → Accepted file → IsPower (delta_of (progr
 unfolding has_misaligned
 aligns_divide file ok = greatest_power (loadable (program_headers file)) 4096 (12, refl) (aligns_of (loadable (program_headers file)) ok.align)
 
-is_carrying : (file : List ℕ) → CanEdit file → (new : List ℕ) → HeaderFacts (plan_of file) new → IsCarrying (plan_of file) (program_headers file) (length file) (length new)
+pub is_carrying : (file : List ℕ) → CanEdit file → (new : List ℕ) → HeaderFacts (plan_of file) new → IsCarrying (plan_of file) (program_headers file) (length file) (length new)
 unfolding plan_of
 is_carrying file can new facts =
     let ok : Accepted file = accepted file can.0.0 in

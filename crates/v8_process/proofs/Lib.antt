@@ -1,3 +1,5 @@
 pub mod Alike
+pub mod Arguments
 pub mod Entry
+pub mod Fetched
 pub mod Valid
