@@ -1,3 +1,4 @@
 pub mod Alike
 pub mod Entry
 pub mod Valid
+pub mod StackBytes
