@@ -1,10 +1,17 @@
 //! Stacks, word for word, as worked out by hand.
+ghost use Rattle.std.specs.Prelude.{◌∷◌};
+ghost use Rattle.v8_process.specs.Arguments.{texts};
+ghost use Rattle.v8_process.specs.Start.{program_name};
+ghost use Rattle.v8_process.specs.Valid.{FitsStack};
+
 use crate::stack::stack_bytes;
 use std::alloc::Global;
 use std::test::Fail;
 
 /// The last 12 words of the stack, and whether all before them is zeros.
-fn last_words(alloc: Global, args: &[&str]) -> Result<([u32; 12], bool), Fail> {
+fn last_words(alloc: Global, args: &[&str]) -> Result<([u32; 12], bool), Fail>
+    requires { FitsStack (program_name ∷ texts args.now) }
+{
     let bytes = stack_bytes(alloc, args).map_err(|_| Fail::from("memory"))?;
     let (below, above) = bytes.split_at(0x100000 - 48);
     let mut words = [0; 12];
