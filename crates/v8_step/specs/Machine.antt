@@ -4,20 +4,30 @@ use Rattle.std.specs.Int.{w8, w16, from_be_bytes}
 use Rattle.eel_base.specs.Outside.{appended, TookPart}
 use Rattle.v8_decode.specs.declared.LoadKind.{LoadKind}
 use Rattle.v8_decode.specs.declared.LoadKind.TheVariants as loads
+use Rattle.v8_memory.specs.declared.fault.MemFault.{MemFault}
+use Rattle.v8_memory.specs.declared.fault.MemFault.TheVariants.{Misaligned, NoAccess}
 use Rattle.v8_memory.specs.Regions.{Memory, buffer_read}
+use Rattle.v8_step.specs.Traps.{mem_address_not_aligned, data_access_exception, call_system}
+use Rattle.v8_windows.specs.Registers.{window_after}
+use Rattle.v8_windows.specs.Frames.{with_frame}
 use Rattle.v8_step.specs.declared.Ending.{Ending}
-use Rattle.v8_step.specs.declared.step.StepOut.{StepOut}
-use Rattle.v8_step.specs.declared.step.StepOut.TheVariants.{Went, Ended, SinkFault}
+use Rattle.v8_step.specs.declared.steps.StepOut.{StepOut}
+use Rattle.v8_step.specs.declared.steps.StepOut.TheVariants.{Went, Ended, SinkFault}
 use Rattle.v8_step.specs.Accesses.{word_of, extended}
 use Rattle.v8_step.specs.Calls.{is_output}
 use Rattle.v8_step.specs.State.{State, Slot, NoSlot, Taken, Untaken}
-use Rattle.v8_step.specs.Step.{step_of}
+use Rattle.v8_step.specs.Step.{step_of, written_out}
 
 -- in the slot of a transfer
 abbrev pub in_slot : Slot → Bool
 in_slot NoSlot = false
 in_slot Taken = true
 in_slot Untaken = true
+
+-- the trap of an access that is refused
+abbrev pub trap_of : MemFault → ℕ
+trap_of Misaligned = mem_address_not_aligned
+trap_of NoAccess = data_access_exception
 
 -- the value that a load of one register gives it
 abbrev pub value_of : LoadKind → List ℕ → ℕ
@@ -28,6 +38,13 @@ value_of loads.LDD bytes = word_of (take 4 bytes)
 value_of loads.LDSB bytes = extended 8 (from_be_bytes w8 bytes)
 value_of loads.LDSH bytes = extended 16 (from_be_bytes w16 bytes)
 
+-- the window after the current one was loaded from these bytes, or could not be
+abbrev pub Fills : Option (List ℕ) → State → State → Bool → Type 0
+Fills None old new result = (result ≡ false) × (new ≡ old)
+Fills (Some bytes) old new result =
+    (result ≡ true)
+    × (new ≡ record old { registers = with_frame old.registers (window_after old.window) bytes; valid = 2 })
+
 -- a window was saved, or could not be
 abbrev pub Spills : Option Memory → State → State → Bool → Type 0
 Spills None old new result = (result ≡ false) × (new ≡ old)
@@ -37,6 +54,15 @@ Spills (Some m) old new result = (result ≡ true) × (new ≡ record old { memo
 abbrev pub call_puts : Memory → ℕ → ℕ → ℕ → ℕ → List ℕ
 call_puts m to address count descriptor =
     if (to == descriptor) && is_output descriptor then unwrap_or (buffer_read m address count) [] else []
+
+-- those of a software trap
+abbrev pub trap_puts : State → ℕ → ℕ → List ℕ
+trap_puts s number descriptor = if number == call_system then written_out s descriptor else []
+
+-- a sink took all of these bytes, or a first part of them where a sink failed
+abbrev pub Puts : {A E : Type 0} → Option (List ℕ) → Option (List ℕ) → List ℕ → Result A E → Type 0
+Puts old new bytes (Ok x) = new ≡ appended old bytes
+Puts old new bytes (Err e) = TookPart old new bytes
 
 -- a step was made and the run goes on, or has ended, or a sink failed and no step was made
 abbrev pub Steps : State → State → StepOut → Type 0

@@ -2,7 +2,8 @@
 ghost use Rattle.std.specs.Prelude.{◌≡◌, ◌%◌, suc};
 ghost use Rattle.v8_memory.specs.Calls.{Loads, load_of};
 ghost use Rattle.v8_step.specs.Accesses.{load_size, extended, load_step, store_step, ldstub_step, swap_step};
-ghost use Rattle.v8_step.specs.Machine.{value_of};
+ghost use Rattle.v8_step.specs.Machine.{trap_of, value_of};
+ghost use Rattle.v8_step.specs.Transfers.{trapped};
 
 use crate::machine::{Machine, register};
 use crate::traps::{DATA_ACCESS_EXCEPTION, MEM_ADDRESS_NOT_ALIGNED};
@@ -116,4 +117,63 @@ impl Machine {
             Err(fault) => self.refuse_access(fault),
         }
     }
+
+    /// Ends with the trap of a refused access.
+    fn refuse_access(&mut self, fault: MemFault)
+        ensures { self.new ≡ trapped self.old (trap_of fault) }
+    {
+        match fault {
+            MemFault::Misaligned => self.trap(MEM_ADDRESS_NOT_ALIGNED),
+            MemFault::NoAccess => self.trap(DATA_ACCESS_EXCEPTION),
+        }
+    }
+
+    /// The byte at an address, where ff is now; or nothing changes.
+    #[inline]
+    fn exchange_byte(&mut self, address: Addr) -> Result<u8, MemFault> {
+        let old = self.memory.load8(address)?;
+        self.memory.store8(address, 0xff)?;
+        Ok(old)
+    }
+
+    /// The word at an address, where `value` is now; or nothing changes.
+    #[inline]
+    fn exchange_word(&mut self, address: Addr, value: u32) -> Result<u32, MemFault> {
+        let old = self.memory.load32(address)?;
+        self.memory.store32(address, value)?;
+        Ok(old)
+    }
+}
+
+/// A byte with its sign extended to 32 bits.
+#[inline]
+fn extended_byte(byte: u8) -> u32
+    ensures { result ≡ extended 8 byte }
+{
+    if byte < 0x80 {
+        u32::from(byte)
+    } else {
+        0xffff_ff00 + u32::from(byte)
+    }
+}
+
+/// A halfword with its sign extended to 32 bits.
+#[inline]
+fn extended_halfword(halfword: u16) -> u32
+    ensures { result ≡ extended 16 halfword }
+{
+    if halfword < 0x8000 {
+        u32::from(halfword)
+    } else {
+        0xffff_0000 + u32::from(halfword)
+    }
+}
+
+/// The second register of a pair.
+#[inline]
+fn next_register(rd: Reg) -> Reg
+    requires even { rd % 2 ≡ 0 }
+    ensures { result ≡ suc rd }
+{
+    register(rd.number() + 1)
 }

@@ -1,8 +1,9 @@
 //! Software traps and system calls.
-ghost use Rattle.std.specs.Prelude.{◌≡◌, ◌⊎◌, ◌≤◌, OnOk, OnErr};
-ghost use Rattle.eel_base.specs.Outside.{appended, TookPart, Rose};
-ghost use Rattle.v8_step.specs.Calls.{succeeds, refuses, read_call, write_call, heap_call, system_step, trap_step};
-ghost use Rattle.v8_step.specs.Machine.{call_puts};
+ghost use Rattle.std.specs.Prelude.{◌≡◌, ◌⊎◌, ◌≤◌, ◌<◌, OnOk, OnErr};
+ghost use Rattle.eel_base.specs.Outside.{Rose};
+ghost use Rattle.v8_step.specs.Calls.{answered, succeeds, refuses, read_call, write_call, heap_call, system_step, trap_step};
+ghost use Rattle.v8_step.specs.Machine.{Puts, call_puts, trap_puts};
+ghost use Rattle.v8_step.specs.Step.{written_out};
 
 use crate::Ending;
 use crate::machine::{Machine, register};
@@ -25,6 +26,12 @@ impl Machine {
     ) -> Result<(), Failed>
         requires { number < 128 }
         ensures state { OnOk result (self.new ≡ trap_step self.old number) }
+        ensures same { OnErr result (self.new ≡ self.old) }
+        ensures out { Puts (O.taken out.old) (O.taken out.new) (trap_puts self.old number 1) result }
+        ensures err { Puts (E.taken err.old) (E.taken err.new) (trap_puts self.old number 2) result }
+        ensures cause { OnErr result (Rose (O.faults out.old) (O.faults out.new) ⊎ Rose (E.faults err.old) (E.faults err.new)) }
+        ensures out_faults { O.faults out.old ≤ O.faults out.new }
+        ensures err_faults { E.faults err.old ≤ E.faults err.new }
     {
         match number {
             FLUSH_WINDOWS => self.flush(),
@@ -34,7 +41,15 @@ impl Machine {
         Ok(())
     }
 
-    fn call_system<O: Sink, E: Sink>(&mut self, out: &mut O, err: &mut E) -> Result<(), Failed> {
+    fn call_system<O: Sink, E: Sink>(&mut self, out: &mut O, err: &mut E) -> Result<(), Failed>
+        ensures state { OnOk result (self.new ≡ system_step self.old) }
+        ensures same { OnErr result (self.new ≡ self.old) }
+        ensures out { Puts (O.taken out.old) (O.taken out.new) (written_out self.old 1) result }
+        ensures err { Puts (E.taken err.old) (E.taken err.new) (written_out self.old 2) result }
+        ensures cause { OnErr result (Rose (O.faults out.old) (O.faults out.new) ⊎ Rose (E.faults err.old) (E.faults err.new)) }
+        ensures out_faults { O.faults out.old ≤ O.faults out.new }
+        ensures err_faults { E.faults err.old ≤ E.faults err.new }
+    {
         let first = self.reg(register(FIRST_ARGUMENT));
         let second = self.reg(register(SECOND_ARGUMENT));
         let third = self.reg(register(THIRD_ARGUMENT));
@@ -75,6 +90,13 @@ impl Machine {
         out: &mut O,
         err: &mut E,
     ) -> Result<(), Failed>
+        ensures state { OnOk result (self.new ≡ write_call self.old descriptor address count) }
+        ensures same { OnErr result (self.new ≡ self.old) }
+        ensures out { Puts (O.taken out.old) (O.taken out.new) (call_puts self.old.memory descriptor address count 1) result }
+        ensures err { Puts (E.taken err.old) (E.taken err.new) (call_puts self.old.memory descriptor address count 2) result }
+        ensures cause { OnErr result (Rose (O.faults out.old) (O.faults out.new) ⊎ Rose (E.faults err.old) (E.faults err.new)) }
+        ensures out_faults { O.faults out.old ≤ O.faults out.new }
+        ensures err_faults { E.faults err.old ≤ E.faults err.new }
     {
         if descriptor != 1 && descriptor != 2 {
             self.refuse(EBADF);

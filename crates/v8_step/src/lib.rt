@@ -13,7 +13,7 @@ ghost use Rattle.v8_step.specs.Laws.{CodeStays, StepsAlike, ValidStays};
 mod accesses;
 mod calls;
 mod machine;
-mod step;
+mod steps;
 #[cfg(test)]
 mod tests;
 mod transfers;
@@ -21,7 +21,7 @@ mod traps;
 mod window_moves;
 
 pub use machine::Machine;
-pub use step::{StepOut, step};
+pub use steps::{StepOut, step};
 
 /// Whether the instruction at pc is in the delay slot of a transfer, and whether that one was taken.
 #[derive(Clone, Copy, PartialEq, Eq, Debug, Drop)]

@@ -1,5 +1,6 @@
 //! Branches, CALL and JMPL, with their delay slots.
 ghost use Rattle.std.specs.Prelude.{◌≡◌};
+ghost use Rattle.v8_step.specs.Machine.{in_slot};
 ghost use Rattle.v8_step.specs.Transfers.{target_of, delayed, branched, unless_couple, branch_step, call_step, jump_step};
 
 use crate::machine::{Machine, register};
@@ -63,7 +64,7 @@ impl Machine {
 
     #[inline]
     fn is_in_slot(&self) -> bool
-        ensures { result ≡ is_slot self.now.slot }
+        ensures { result ≡ in_slot self.now.slot }
     {
         match self.slot {
             Slot::NoSlot => false,

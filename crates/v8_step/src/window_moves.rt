@@ -1,7 +1,12 @@
 //! SAVE and RESTORE, and the windows that they save and load.
-ghost use Rattle.std.specs.Prelude.{◌≡◌, ◌-◌};
-ghost use Rattle.v8_step.specs.WindowMoves.{saved_memory, spill_many, save_step, restore_step};
-ghost use Rattle.v8_step.specs.Machine.{Spills};
+ghost use Rattle.std.specs.Prelude.{◌≡◌, ◌-◌, ◌<◌, length};
+ghost use Rattle.std.specs.Int.{w32, to_be_bytes};
+ghost use Rattle.std.specs.List.{flat_map};
+ghost use Rattle.v8_windows.specs.Calls.{frame_words as words_of_frame};
+ghost use Rattle.v8_windows.specs.Frames.{frame_pointer};
+ghost use Rattle.v8_step.specs.State.{register_of};
+ghost use Rattle.v8_step.specs.WindowMoves.{frame_read, saved_memory, spill_many, save_step, restore_step};
+ghost use Rattle.v8_step.specs.Machine.{Fills, Spills};
 
 use crate::Ending;
 use crate::machine::{Machine, register};
@@ -77,6 +82,7 @@ impl Machine {
     /// Loads the window after the current one from %fp, and tells whether that could be done.
     fn fill(&mut self) -> bool
         requires { self.old.valid ≡ 1 }
+        ensures { Fills (frame_read self.old.memory (register_of self.old frame_pointer)) self.old self.new result }
     {
         let address = self.reg(register(FRAME_POINTER));
         if address % FRAME_ALIGN != 0 {
@@ -89,4 +95,28 @@ impl Machine {
         self.windows.filled(words);
         true
     }
+}
+
+/// The bytes of a frame's words, the highest byte of each first.
+fn frame_bytes(words: &[u32; 16]) -> [u8; 64]
+    ensures { result ≡ flat_map (to_be_bytes w32) words.now }
+{
+    let mut bytes = [0; 64];
+    for word in 0..16 {
+        bytes[4 * word..4 * word + 4].copy_from_slice(&words[word].to_be_bytes());
+    }
+    bytes
+}
+
+/// The words of a frame's bytes.
+fn frame_words(bytes: &[u8]) -> [u32; 16]
+    requires { length bytes.now ≡ 64 }
+    ensures { result ≡ words_of_frame 16 bytes.now }
+{
+    let mut words = [0; 16];
+    for word in 0..16 {
+        let at = 4 * word;
+        words[word] = u32::from_be_bytes([bytes[at], bytes[at + 1], bytes[at + 2], bytes[at + 3]]);
+    }
+    words
 }

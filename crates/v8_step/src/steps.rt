@@ -1,10 +1,10 @@
 //! One step of the machine.
-ghost use Rattle.std.specs.Prelude.{◌≡◌, ◌⊎◌, ◌≤◌, IsTrue};
+ghost use Rattle.std.specs.Prelude.{◌≡◌, ◌⊎◌, ◌≤◌, IsTrue, None, OnOk, OnErr};
 ghost use Rattle.eel_base.specs.Outside.{Rose};
 ghost use Rattle.v8_decode.specs.Ranges.{has_even_pair};
 ghost use Rattle.v8_alu.specs.Alu.{alu_has_form};
-ghost use Rattle.v8_step.specs.Machine.{Steps, Takes};
-ghost use Rattle.v8_step.specs.Step.{act, puts_of};
+ghost use Rattle.v8_step.specs.Machine.{Puts, Steps, Takes};
+ghost use Rattle.v8_step.specs.Step.{act, alu_step, puts_of, step_of};
 
 use crate::machine::Machine;
 use crate::traps::{CP_DISABLED, DIVISION_BY_ZERO, FP_DISABLED, ILLEGAL_INSTRUCTION, INSTRUCTION_ACCESS_EXCEPTION, PRIVILEGED_INSTRUCTION, TAG_OVERFLOW};
@@ -47,7 +47,16 @@ pub fn step<O: Sink, E: Sink>(m: &mut Machine, out: &mut O, err: &mut E) -> Step
 impl Machine {
     /// Carries out the instruction at pc.
     #[inline]
-    fn carry_out<O: Sink, E: Sink>(&mut self, out: &mut O, err: &mut E) -> Result<(), Failed> {
+    fn carry_out<O: Sink, E: Sink>(&mut self, out: &mut O, err: &mut E) -> Result<(), Failed>
+        requires { self.old.ending ≡ None }
+        ensures state { OnOk result (self.new ≡ step_of self.old) }
+        ensures same { OnErr result (self.new ≡ self.old) }
+        ensures out { Puts (O.taken out.old) (O.taken out.new) (puts_of self.old 1) result }
+        ensures err { Puts (E.taken err.old) (E.taken err.new) (puts_of self.old 2) result }
+        ensures cause { OnErr result (Rose (O.faults out.old) (O.faults out.new) ⊎ Rose (E.faults err.old) (E.faults err.new)) }
+        ensures out_faults { O.faults out.old ≤ O.faults out.new }
+        ensures err_faults { E.faults err.old ≤ E.faults err.new }
+    {
         let Some(word) = self.memory.fetch(Addr(self.pc)) else {
             self.trap(INSTRUCTION_ACCESS_EXCEPTION);
             return Ok(());
@@ -66,7 +75,7 @@ impl Machine {
         Ok(())
     }
 
-    /// Carries out an instruction that is no Ticc.
+    /// Carries out an instruction that is no Ticc; a Ticc only goes on.
     #[inline]
     #[tactic(auto, unfolding(crate::specs::Step::act))]
     fn act(&mut self, instr: Instr)
