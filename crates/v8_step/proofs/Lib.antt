@@ -9,6 +9,7 @@ pub mod JudgedAlike
 pub mod Kept
 pub mod Outside
 pub mod Puts
+pub mod Quiet
 pub mod Reading
 pub mod RegistersAlike
 pub mod Twins

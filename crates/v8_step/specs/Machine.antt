@@ -4,6 +4,8 @@ use Rattle.std.specs.Int.{w8, w16, from_be_bytes}
 use Rattle.eel_base.specs.Outside.{appended, TookPart}
 use Rattle.v8_decode.specs.declared.LoadKind.{LoadKind}
 use Rattle.v8_decode.specs.declared.LoadKind.TheVariants as loads
+use Rattle.v8_decode.specs.declared.Instr.{Instr}
+use Rattle.v8_decode.specs.declared.Instr.TheVariants as i
 use Rattle.v8_memory.specs.declared.fault.MemFault.{MemFault}
 use Rattle.v8_memory.specs.declared.fault.MemFault.TheVariants.{Misaligned, NoAccess}
 use Rattle.v8_memory.specs.Regions.{Memory, buffer_read}
@@ -16,7 +18,8 @@ use Rattle.v8_step.specs.declared.steps.StepOut.TheVariants.{Went, Ended, SinkFa
 use Rattle.v8_step.specs.Accesses.{word_of, extended}
 use Rattle.v8_step.specs.Calls.{is_output}
 use Rattle.v8_step.specs.State.{State, Slot, NoSlot, Taken, Untaken}
-use Rattle.v8_step.specs.Step.{step_of, written_out}
+use Rattle.v8_step.specs.Step.{act, step_of, written_out}
+use Rattle.v8_step.specs.Transfers.{next}
 
 -- in the slot of a transfer
 abbrev pub in_slot : Slot → Bool
@@ -49,6 +52,11 @@ Fills (Some bytes) old new result =
 abbrev pub Spills : Option Memory → State → State → Bool → Type 0
 Spills None old new result = (result ≡ false) × (new ≡ old)
 Spills (Some m) old new result = (result ≡ true) × (new ≡ record old { memory = m; valid = old.valid - 1 })
+
+-- what an instruction does that puts nothing out; a Ticc only goes on here
+abbrev pub quiet_act : State → Instr → State
+quiet_act s (i.Ticc cond rs1 op2) = next s
+quiet_act s instr = act s instr
 
 -- the bytes that a write call puts out to a descriptor
 abbrev pub call_puts : Memory → ℕ → ℕ → ℕ → ℕ → List ℕ

@@ -7,17 +7,25 @@ ghost use Rattle.v8_step.specs.Step.{written_out};
 
 use crate::Ending;
 use crate::machine::{Machine, register};
-use crate::traps::{BRK, CALL_SYSTEM, EBADF, EFAULT, ENOMEM, ENOSYS, EXIT, FLUSH_WINDOWS, READ, TRAP_INSTRUCTION, WRITE};
+use crate::traps::{
+    BRK, CALL_SYSTEM, EBADF, EFAULT, ENOMEM, ENOSYS, EXIT, FLUSH_WINDOWS, READ, TRAP_INSTRUCTION,
+    WRITE,
+};
 use eel_base::{Addr, Failed, Sink, put_all};
 
-/// The numbers of %g1, which has the number of a call, and of %o0 to %o2, its arguments; %o0 gets the answer.
+/// The number of %g1, which has the number of a call.
 const CALL_NUMBER: u8 = 1;
+
+/// The numbers of %o0 to %o2, which have its arguments; %o0 gets the answer.
 const FIRST_ARGUMENT: u8 = 8;
+
 const SECOND_ARGUMENT: u8 = 9;
+
 const THIRD_ARGUMENT: u8 = 10;
 
 impl Machine {
     /// The software trap of this number. After a failure the machine is as before.
+    #[tactic(auto, unfolding(crate::specs::Calls::trap_step))]
     pub(crate) fn software_trap<O: Sink, E: Sink>(
         &mut self,
         number: u8,
@@ -41,6 +49,7 @@ impl Machine {
         Ok(())
     }
 
+    #[tactic(auto, unfolding(crate::specs::Calls::system_call))]
     fn call_system<O: Sink, E: Sink>(&mut self, out: &mut O, err: &mut E) -> Result<(), Failed>
         ensures state { OnOk result (self.new ≡ system_step self.old) }
         ensures same { OnErr result (self.new ≡ self.old) }
@@ -54,7 +63,7 @@ impl Machine {
         let second = self.reg(register(SECOND_ARGUMENT));
         let third = self.reg(register(THIRD_ARGUMENT));
         match self.reg(register(CALL_NUMBER)) {
-            EXIT => self.end(Ending::Exit(first as u8)),
+            EXIT => self.end(Ending::Exit((first % 256) as u8)),
             READ => self.read_input(first, second, third),
             WRITE => self.write_output(first, second, third, out, err)?,
             BRK => self.move_heap_end(first),

@@ -35,17 +35,17 @@ impl Model for Machine {
     ghost Value = { State };
 
     ghost view = { λ m. record {
-        pc = m.pc;
-        npc = m.npc;
-        slot = m.slot;
-        registers = m.windows.registers;
-        window = m.windows.window;
-        valid = m.windows.valid;
-        codes = m.codes;
-        y = m.y;
-        memory = m.memory;
-        input = drop m.read m.input.items;
-        ending = m.ending;
+      pc = m.pc;
+      npc = m.npc;
+      slot = m.slot;
+      registers = m.windows.registers;
+      window = m.windows.window;
+      valid = m.windows.valid;
+      codes = m.codes;
+      y = m.y;
+      memory = m.memory;
+      input = drop m.read m.input.items;
+      ending = m.ending;
     } };
 
     ghost invariant = { λ m. m.read ≤ length m.input.items };

@@ -3,15 +3,18 @@ ghost use Rattle.std.specs.Prelude.{◌≡◌, ◌⊎◌, ◌≤◌, IsTrue, Non
 ghost use Rattle.eel_base.specs.Outside.{Rose};
 ghost use Rattle.v8_decode.specs.Ranges.{has_even_pair};
 ghost use Rattle.v8_alu.specs.Alu.{alu_has_form};
-ghost use Rattle.v8_step.specs.Machine.{Puts, Steps, Takes};
-ghost use Rattle.v8_step.specs.Step.{act, alu_step, puts_of, step_of};
+ghost use Rattle.v8_step.specs.Machine.{Puts, Steps, Takes, quiet_act};
+ghost use Rattle.v8_step.specs.Step.{act, alu_step, puts_by, puts_of, step_of};
 
-use crate::machine::Machine;
-use crate::traps::{CP_DISABLED, DIVISION_BY_ZERO, FP_DISABLED, ILLEGAL_INSTRUCTION, INSTRUCTION_ACCESS_EXCEPTION, PRIVILEGED_INSTRUCTION, TAG_OVERFLOW};
 use crate::Ending;
+use crate::machine::Machine;
+use crate::traps::{
+    CP_DISABLED, DIVISION_BY_ZERO, FP_DISABLED, ILLEGAL_INSTRUCTION, INSTRUCTION_ACCESS_EXCEPTION,
+    PRIVILEGED_INSTRUCTION, TAG_OVERFLOW,
+};
 use eel_base::{Addr, Failed, Sink};
-use v8_alu::{AluOut, AluTrap, alu, holds};
-use v8_decode::{Instr, Reg, decode};
+use v8_alu::{AluOut, AluTrap, alu, decoded_forms, holds};
+use v8_decode::{Cond, Instr, Op2, Reg, decode};
 
 /// What came of a step.
 #[derive(Clone, Copy, PartialEq, Eq, Debug, Drop)]
@@ -27,6 +30,7 @@ pub enum StepOut {
 /// Makes one step. What the program writes to descriptors 1 and 2 goes to `out` and `err`. A run that has ended
 /// stays as it is. Where a sink fails the machine is as before, and the sink took a first part of the bytes.
 #[inline]
+#[tactic(auto, using(crate::proofs::Quiet::appended_nothing), unfolding(crate::specs::Step::step_of, crate::specs::Step::puts_of))]
 pub fn step<O: Sink, E: Sink>(m: &mut Machine, out: &mut O, err: &mut E) -> StepOut
     ensures state { Steps m.old m.new result }
     ensures out { Takes (O.taken out.old) (O.taken out.new) (puts_of m.old 1) result }
@@ -35,7 +39,10 @@ pub fn step<O: Sink, E: Sink>(m: &mut Machine, out: &mut O, err: &mut E) -> Step
     ensures out_faults { O.faults out.old ≤ O.faults out.new }
     ensures err_faults { E.faults err.old ≤ E.faults err.new }
 {
-    if m.ending.is_none() && m.carry_out(out, err).is_err() {
+    if let Some(ending) = m.ending {
+        return StepOut::Ended(ending);
+    }
+    if m.carry_out(out, err).is_err() {
         return StepOut::SinkFault;
     }
     match m.ending {
@@ -45,8 +52,9 @@ pub fn step<O: Sink, E: Sink>(m: &mut Machine, out: &mut O, err: &mut E) -> Step
 }
 
 impl Machine {
-    /// Carries out the instruction at pc.
+    /// Carries out the instruction at pc. After a failure the machine is as before.
     #[inline]
+    #[tactic(auto, using(crate::proofs::Quiet::appended_nothing), unfolding(crate::specs::Step::step_of, crate::specs::Step::puts_of))]
     fn carry_out<O: Sink, E: Sink>(&mut self, out: &mut O, err: &mut E) -> Result<(), Failed>
         requires { self.old.ending ≡ None }
         ensures state { OnOk result (self.new ≡ step_of self.old) }
@@ -61,36 +69,91 @@ impl Machine {
             self.trap(INSTRUCTION_ACCESS_EXCEPTION);
             return Ok(());
         };
-        match decode(word) {
-            Instr::Ticc { cond, rs1, op2 } => {
-                if holds(cond, self.codes) {
-                    let number = (self.sum(rs1, op2) % 128) as u8;
-                    self.software_trap(number, out, err)?;
-                } else {
-                    self.go_on();
-                }
-            }
-            instr => self.act(instr),
-        }
-        Ok(())
+        decoded_forms();
+        self.act(decode(word), out, err)
     }
 
-    /// Carries out an instruction that is no Ticc; a Ticc only goes on.
+    /// Carries out an instruction. After a failure the machine is as before.
     #[inline]
-    #[tactic(auto, unfolding(crate::specs::Step::act))]
-    fn act(&mut self, instr: Instr)
+    fn act<O: Sink, E: Sink>(
+        &mut self,
+        instr: Instr,
+        out: &mut O,
+        err: &mut E,
+    ) -> Result<(), Failed>
         requires form { IsTrue (alu_has_form instr) }
         requires pair { IsTrue (has_even_pair instr) }
-        ensures { self.new ≡ act self.old instr }
+        ensures state { OnOk result (self.new ≡ act self.old instr) }
+        ensures same { OnErr result (self.new ≡ self.old) }
+        ensures out { Puts (O.taken out.old) (O.taken out.new) (puts_by self.old instr 1) result }
+        ensures err { Puts (E.taken err.old) (E.taken err.new) (puts_by self.old instr 2) result }
+        ensures cause { OnErr result (Rose (O.faults out.old) (O.faults out.new) ⊎ Rose (E.faults err.old) (E.faults err.new)) }
+        ensures out_faults { O.faults out.old ≤ O.faults out.new }
+        ensures err_faults { E.faults err.old ≤ E.faults err.new }
+    {
+        match instr {
+            Instr::Ticc { cond, rs1, op2 } => self.trap_if(cond, rs1, op2, out, err),
+            instr => {
+                self.act_quietly(instr);
+                Ok(())
+            }
+        }
+    }
+
+    /// Ticc: the software trap, where the condition holds. After a failure the machine is as before.
+    #[inline]
+    #[tactic(auto, using(crate::proofs::Quiet::appended_nothing), unfolding(crate::specs::Step::act, crate::specs::Step::puts_by))]
+    fn trap_if<O: Sink, E: Sink>(
+        &mut self,
+        cond: Cond,
+        rs1: Reg,
+        op2: Op2,
+        out: &mut O,
+        err: &mut E,
+    ) -> Result<(), Failed>
+        ensures state { OnOk result (self.new ≡ act self.old (Instr.Ticc cond rs1 op2)) }
+        ensures same { OnErr result (self.new ≡ self.old) }
+        ensures out { Puts (O.taken out.old) (O.taken out.new) (puts_by self.old (Instr.Ticc cond rs1 op2) 1) result }
+        ensures err { Puts (E.taken err.old) (E.taken err.new) (puts_by self.old (Instr.Ticc cond rs1 op2) 2) result }
+        ensures cause { OnErr result (Rose (O.faults out.old) (O.faults out.new) ⊎ Rose (E.faults err.old) (E.faults err.new)) }
+        ensures out_faults { O.faults out.old ≤ O.faults out.new }
+        ensures err_faults { E.faults err.old ≤ E.faults err.new }
+    {
+        if holds(cond, self.codes) {
+            let number = (self.sum(rs1, op2) % 128) as u8;
+            self.software_trap(number, out, err)
+        } else {
+            self.go_on();
+            Ok(())
+        }
+    }
+
+    /// Carries out an instruction that puts nothing out: a Ticc only goes on.
+    #[inline]
+    #[tactic(auto, unfolding(crate::specs::Step::act))]
+    fn act_quietly(&mut self, instr: Instr)
+        requires form { IsTrue (alu_has_form instr) }
+        requires pair { IsTrue (has_even_pair instr) }
+        ensures { self.new ≡ quiet_act self.old instr }
     {
         match instr {
             Instr::Sethi { rd, imm22 } => {
                 self.set(rd, imm22.wrapping_mul(1024));
                 self.go_on();
             }
-            Instr::Branch { cond, annul, disp22 } => self.branch(cond, annul, disp22),
+            Instr::Branch {
+                cond,
+                annul,
+                disp22,
+            } => self.branch(cond, annul, disp22),
             Instr::Call { disp30 } => self.call(disp30),
-            Instr::Alu { op, cc, rd, rs1, op2 } => {
+            Instr::Alu {
+                op,
+                cc,
+                rd,
+                rs1,
+                op2,
+            } => {
                 let outcome = alu(op, cc, self.reg(rs1), self.operand(op2), self.codes, self.y);
                 self.finish_alu(rd, outcome);
             }
