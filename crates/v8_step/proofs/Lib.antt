@@ -5,6 +5,7 @@ pub mod CopiedMoves
 pub mod CopiedSteps
 pub mod Executable
 pub mod Follows
+pub mod FrameWords
 pub mod JudgedAlike
 pub mod Kept
 pub mod Outside

@@ -1,8 +1,9 @@
 //! Loads, stores, LDSTUB and SWAP.
-ghost use Rattle.std.specs.Prelude.{◌≡◌, ◌%◌, suc};
+ghost use Rattle.std.specs.Prelude.{◌≡◌, ◌%◌, suc, [], ◌∷◌};
+ghost use Rattle.std.specs.Int.{w8, w32, to_be_bytes};
 ghost use Rattle.v8_memory.specs.Calls.{Loads, load_of};
 ghost use Rattle.v8_step.specs.Accesses.{load_size, extended, load_step, store_step, ldstub_step, swap_step};
-ghost use Rattle.v8_step.specs.Machine.{trap_of, value_of};
+ghost use Rattle.v8_step.specs.Machine.{Exchanges, trap_of, value_of};
 ghost use Rattle.v8_step.specs.Transfers.{trapped};
 
 use crate::machine::{Machine, register};
@@ -74,8 +75,8 @@ impl Machine {
         let at = Addr(address);
         let stored = match kind {
             StoreKind::ST => self.memory.store32(at, value),
-            StoreKind::STB => self.memory.store8(at, value as u8),
-            StoreKind::STH => self.memory.store16(at, value as u16),
+            StoreKind::STB => self.memory.store8(at, (value % 0x100) as u8),
+            StoreKind::STH => self.memory.store16(at, (value % 0x1_0000) as u16),
             StoreKind::STD => {
                 let second = self.reg(next_register(rd));
                 self.memory.store64(at, (value, second))
@@ -130,7 +131,9 @@ impl Machine {
 
     /// The byte at an address, where ff is now; or nothing changes.
     #[inline]
-    fn exchange_byte(&mut self, address: Addr) -> Result<u8, MemFault> {
+    fn exchange_byte(&mut self, address: Addr) -> Result<u8, MemFault>
+        ensures { Exchanges w8 address.0 (0xff ∷ []) self.old self.new result }
+    {
         let old = self.memory.load8(address)?;
         self.memory.store8(address, 0xff)?;
         Ok(old)
@@ -138,7 +141,9 @@ impl Machine {
 
     /// The word at an address, where `value` is now; or nothing changes.
     #[inline]
-    fn exchange_word(&mut self, address: Addr, value: u32) -> Result<u32, MemFault> {
+    fn exchange_word(&mut self, address: Addr, value: u32) -> Result<u32, MemFault>
+        ensures { Exchanges w32 address.0 (to_be_bytes w32 value) self.old self.new result }
+    {
         let old = self.memory.load32(address)?;
         self.memory.store32(address, value)?;
         Ok(old)

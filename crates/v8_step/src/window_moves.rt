@@ -1,6 +1,6 @@
 //! SAVE and RESTORE, and the windows that they save and load.
-ghost use Rattle.std.specs.Prelude.{◌≡◌, ◌-◌, ◌<◌, length};
-ghost use Rattle.std.specs.Int.{w32, to_be_bytes};
+ghost use Rattle.std.specs.Prelude.{◌≡◌, ◌+◌, ◌-◌, ◌<◌, ◌≤◌, length, take, drop};
+ghost use Rattle.std.specs.Int.{w32, to_be_bytes, from_be_bytes};
 ghost use Rattle.std.specs.List.{flat_map};
 ghost use Rattle.v8_windows.specs.Calls.{frame_words as words_of_frame};
 ghost use Rattle.v8_windows.specs.Frames.{frame_pointer};
@@ -102,8 +102,8 @@ fn frame_bytes(words: &[u32; 16]) -> [u8; 64]
     ensures { result ≡ flat_map (to_be_bytes w32) words.now }
 {
     let mut bytes = [0; 64];
-    for word in 0..16 {
-        bytes[4 * word..4 * word + 4].copy_from_slice(&words[word].to_be_bytes());
+    for (i, word) in words.iter().enumerate() {
+        bytes[4 * i..4 * i + 4].copy_from_slice(&word.to_be_bytes());
     }
     bytes
 }
@@ -114,9 +114,17 @@ fn frame_words(bytes: &[u8]) -> [u32; 16]
     ensures { result ≡ words_of_frame 16 bytes.now }
 {
     let mut words = [0; 16];
-    for word in 0..16 {
-        let at = 4 * word;
-        words[word] = u32::from_be_bytes([bytes[at], bytes[at + 1], bytes[at + 2], bytes[at + 3]]);
+    for (i, word) in words.iter_mut().enumerate() {
+        *word = word_at(bytes, 4 * i);
     }
     words
+}
+
+/// The word whose first byte is at an index.
+#[inline]
+fn word_at(bytes: &[u8], at: usize) -> u32
+    requires { at + 4 ≤ length bytes.now }
+    ensures { result ≡ from_be_bytes w32 (take 4 (drop at bytes.now)) }
+{
+    u32::from_be_bytes([bytes[at], bytes[at + 1], bytes[at + 2], bytes[at + 3]])
 }
