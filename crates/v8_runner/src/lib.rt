@@ -52,3 +52,27 @@ pub fn run<O: Sink, E: Sink>(m: &mut Machine, limit: u64, out: &mut O, err: &mut
         pc: m.pc(),
     }
 }
+
+/// Makes the steps of [`run`], and tells why they stopped and how many they are.
+fn make_steps<O: Sink, E: Sink>(m: &mut Machine, limit: u64, out: &mut O, err: &mut E) -> (Stop, u64)
+    ensures state { m.new ≡ run_of m.old result.1 }
+    ensures stop { IsStop m.new.ending limit result.1 result.0 }
+    ensures made { AreMade m.old result.1 }
+    ensures out { RunTakes (O.taken out.old) (O.taken out.new) (run_puts m.old result.1 1) (puts_of m.new 1) result.0 }
+    ensures err { RunTakes (E.taken err.old) (E.taken err.new) (run_puts m.old result.1 2) (puts_of m.new 2) result.0 }
+    ensures cause { result.0 ≡ Stop.SinkFault → Rose (O.faults out.old) (O.faults out.new) ⊎ Rose (E.faults err.old) (E.faults err.new) }
+    ensures out_faults { O.faults out.old ≤ O.faults out.new }
+    ensures err_faults { E.faults err.old ≤ E.faults err.new }
+{
+    if let Some(ending) = m.ending() {
+        return (Stop::Ended(ending), 0);
+    }
+    for steps in 0..limit {
+        match step(m, out, err) {
+            StepOut::Went => {}
+            StepOut::Ended(ending) => return (Stop::Ended(ending), steps + 1),
+            StepOut::SinkFault => return (Stop::SinkFault, steps),
+        }
+    }
+    (Stop::Limit, limit)
+}
