@@ -2,16 +2,19 @@
 ghost use Rattle.std.specs.Prelude.{◌≡◌, ◌+◌, ◌-◌, ◌<◌, ◌≤◌, length, take, drop};
 ghost use Rattle.std.specs.Int.{w32, to_be_bytes, from_be_bytes};
 ghost use Rattle.std.specs.List.{flat_map};
+ghost use Rattle.std.specs.Option.{option_map};
+ghost use Rattle.v8_memory.specs.Calls.{Fills as Written};
 ghost use Rattle.v8_windows.specs.Calls.{frame_words as words_of_frame};
 ghost use Rattle.v8_windows.specs.Frames.{frame_pointer};
 ghost use Rattle.v8_step.specs.State.{register_of};
-ghost use Rattle.v8_step.specs.WindowMoves.{frame_read, saved_memory, spill_many, save_step, restore_step};
+ghost use Rattle.v8_step.specs.WindowMoves.{frame_read, frame_written, saved_memory, spill_many, save_step, restore_step};
 ghost use Rattle.v8_step.specs.Machine.{Fills, Spills};
 
 use crate::Ending;
 use crate::machine::{Machine, register};
 use eel_base::Addr;
 use v8_decode::Reg;
+use v8_memory::Memory;
 
 /// How many windows can be valid.
 const MOST_VALID: u8 = 7;
@@ -72,11 +75,11 @@ impl Machine {
         ensures { Spills (saved_memory self.old) self.old self.new result }
     {
         let (address, words) = self.windows.oldest();
-        if address.0 % FRAME_ALIGN != 0 || !self.memory.fill(address, &frame_bytes(&words)) {
-            return false;
+        let saved = write_frame(&mut self.memory, address, &words);
+        if saved {
+            self.windows.spilled();
         }
-        self.windows.spilled();
-        true
+        saved
     }
 
     /// Loads the window after the current one from %fp, and tells whether that could be done.
@@ -85,15 +88,33 @@ impl Machine {
         ensures { Fills (frame_read self.old.memory (register_of self.old frame_pointer)) self.old self.new result }
     {
         let address = self.reg(register(FRAME_POINTER));
-        if address % FRAME_ALIGN != 0 {
-            return false;
+        match read_frame(&self.memory, Addr(address)) {
+            Some(words) => {
+                self.windows.filled(words);
+                true
+            }
+            None => false,
         }
-        let Some(bytes) = self.memory.part(Addr(address), FRAME_SIZE) else {
-            return false;
-        };
-        let words = frame_words(bytes);
-        self.windows.filled(words);
-        true
+    }
+}
+
+/// Writes a frame, and tells whether that could be done.
+fn write_frame(memory: &mut Memory, address: Addr, words: &[u32; 16]) -> bool
+    ensures { Written (frame_written memory.old address.0 (flat_map (to_be_bytes w32) words.now)) memory.old memory.new result }
+{
+    address.0 % FRAME_ALIGN == 0 && memory.fill(address, &frame_bytes(words))
+}
+
+/// The words of the frame at an address, where it can be read.
+fn read_frame(memory: &Memory, address: Addr) -> Option<[u32; 16]>
+    ensures { result ≡ option_map (words_of_frame 16) (frame_read memory.now address.0) }
+{
+    if address.0 % FRAME_ALIGN != 0 {
+        return None;
+    }
+    match memory.part(address, FRAME_SIZE) {
+        Some(bytes) => Some(frame_words(bytes)),
+        None => None,
     }
 }
 
