@@ -7,7 +7,7 @@ ghost use Rattle.v8_memory.specs.Calls.{Fills as Written};
 ghost use Rattle.v8_windows.specs.Calls.{frame_words as words_of_frame};
 ghost use Rattle.v8_windows.specs.Frames.{frame_pointer};
 ghost use Rattle.v8_step.specs.State.{register_of};
-ghost use Rattle.v8_step.specs.WindowMoves.{frame_read, frame_written, saved_memory, spill_many, save_step, restore_step};
+ghost use Rattle.v8_step.specs.WindowMoves.{frame_read, frame_written, saved_memory, enter, leave, spill_many, save_step, restore_step};
 ghost use Rattle.v8_step.specs.Machine.{Fills, Spills};
 
 use crate::Ending;
@@ -33,13 +33,13 @@ impl Machine {
     pub(crate) fn save(&mut self, rd: Reg, value: u32)
         ensures { self.new ≡ save_step self.old rd value }
     {
-        if self.windows.valid() == MOST_VALID && !self.spill() {
+        if self.windows.valid() < MOST_VALID {
+            self.enter(rd, value);
+        } else if self.spill() {
+            self.enter(rd, value);
+        } else {
             self.end(Ending::Window);
-            return;
         }
-        let _ = self.windows.enter();
-        self.set(rd, value);
-        self.go_on();
     }
 
     /// RESTORE: `value` goes to rd of the window after.
@@ -47,10 +47,30 @@ impl Machine {
     pub(crate) fn restore(&mut self, rd: Reg, value: u32)
         ensures { self.new ≡ restore_step self.old rd value }
     {
-        if self.windows.valid() == 1 && !self.fill() {
+        if self.windows.valid() > 1 {
+            self.leave(rd, value);
+        } else if self.fill() {
+            self.leave(rd, value);
+        } else {
             self.end(Ending::Window);
-            return;
         }
+    }
+
+    /// Goes to the window before, and writes rd there.
+    fn enter(&mut self, rd: Reg, value: u32)
+        requires { self.old.valid < 7 }
+        ensures { self.new ≡ enter rd value self.old }
+    {
+        let _ = self.windows.enter();
+        self.set(rd, value);
+        self.go_on();
+    }
+
+    /// Goes to the window after, and writes rd there.
+    fn leave(&mut self, rd: Reg, value: u32)
+        requires { 1 < self.old.valid }
+        ensures { self.new ≡ leave rd value self.old }
+    {
         let _ = self.windows.leave();
         self.set(rd, value);
         self.go_on();
