@@ -54,7 +54,12 @@ pub fn run<O: Sink, E: Sink>(m: &mut Machine, limit: u64, out: &mut O, err: &mut
 }
 
 /// Makes the steps of [`run`], and tells why they stopped and how many they are.
-fn make_steps<O: Sink, E: Sink>(m: &mut Machine, limit: u64, out: &mut O, err: &mut E) -> (Stop, u64)
+fn make_steps<O: Sink, E: Sink>(
+    m: &mut Machine,
+    limit: u64,
+    out: &mut O,
+    err: &mut E,
+) -> (Stop, u64)
     ensures state { m.new ≡ run_of m.old result.1 }
     ensures stop { IsStop m.new.ending limit result.1 result.0 }
     ensures made { AreMade m.old result.1 }

@@ -51,10 +51,16 @@ fn a_run_ends_with_its_program(rt: HostRuntime) -> Result<(), Fail> {
     let mut out = sink(rt.alloc(), 16)?;
     let mut err = sink(rt.alloc(), 16)?;
     let exit = Stop::Ended(Ending::Exit(3));
-    assert_eq!(rt; run(&mut m, 100, &mut out, &mut err), stopped(exit, 8, 0x1001c));
+    assert_eq!(rt;
+        run(&mut m, 100, &mut out, &mut err),
+        stopped(exit, 8, 0x1001c)
+    );
     assert_eq!(rt; out.bytes(), b"hello".as_slice());
     assert_eq!(rt; err.bytes(), b"".as_slice());
-    assert_eq!(rt; run(&mut m, 100, &mut out, &mut err), stopped(exit, 0, 0x1001c));
+    assert_eq!(rt;
+        run(&mut m, 100, &mut out, &mut err),
+        stopped(exit, 0, 0x1001c)
+    );
     assert_eq!(rt; out.bytes(), b"hello".as_slice());
     Ok(())
 }
@@ -64,12 +70,24 @@ fn a_run_stops_at_its_limit(rt: HostRuntime) -> Result<(), Fail> {
     let mut m = machine(rt.alloc())?;
     let mut out = sink(rt.alloc(), 16)?;
     let mut err = sink(rt.alloc(), 16)?;
-    assert_eq!(rt; run(&mut m, 0, &mut out, &mut err), stopped(Stop::Limit, 0, 0x10000));
-    assert_eq!(rt; run(&mut m, 5, &mut out, &mut err), stopped(Stop::Limit, 5, 0x10014));
+    assert_eq!(rt;
+        run(&mut m, 0, &mut out, &mut err),
+        stopped(Stop::Limit, 0, 0x10000)
+    );
+    assert_eq!(rt;
+        run(&mut m, 5, &mut out, &mut err),
+        stopped(Stop::Limit, 5, 0x10014)
+    );
     assert_eq!(rt; out.bytes(), b"hello".as_slice());
-    assert_eq!(rt; run(&mut m, 2, &mut out, &mut err), stopped(Stop::Limit, 2, 0x1001c));
+    assert_eq!(rt;
+        run(&mut m, 2, &mut out, &mut err),
+        stopped(Stop::Limit, 2, 0x1001c)
+    );
     let exit = Stop::Ended(Ending::Exit(3));
-    assert_eq!(rt; run(&mut m, 1, &mut out, &mut err), stopped(exit, 1, 0x1001c));
+    assert_eq!(rt;
+        run(&mut m, 1, &mut out, &mut err),
+        stopped(exit, 1, 0x1001c)
+    );
     Ok(())
 }
 
@@ -79,11 +97,17 @@ fn a_run_stops_before_the_step_of_a_failed_sink(rt: HostRuntime) -> Result<(), F
     let mut small = sink(rt.alloc(), 3)?;
     let mut err = sink(rt.alloc(), 16)?;
     let fault = Stop::SinkFault;
-    assert_eq!(rt; run(&mut m, 100, &mut small, &mut err), stopped(fault, 4, 0x10010));
+    assert_eq!(rt;
+        run(&mut m, 100, &mut small, &mut err),
+        stopped(fault, 4, 0x10010)
+    );
     assert_eq!(rt; small.bytes(), b"hel".as_slice());
     let mut out = sink(rt.alloc(), 16)?;
     let exit = Stop::Ended(Ending::Exit(3));
-    assert_eq!(rt; run(&mut m, 100, &mut out, &mut err), stopped(exit, 4, 0x1001c));
+    assert_eq!(rt;
+        run(&mut m, 100, &mut out, &mut err),
+        stopped(exit, 4, 0x1001c)
+    );
     assert_eq!(rt; out.bytes(), b"hello".as_slice());
     Ok(())
 }

@@ -84,7 +84,15 @@ fn a_machine_starts_at_its_entry(rt: HostRuntime) -> Result<(), Fail> {
     assert_eq!(rt; m.npc(), Addr(0x10004));
     assert_eq!(rt; register(&rt, &m, 14), STACK);
     assert_eq!(rt; register(&rt, &m, 8), 0);
-    assert_eq!(rt; m.codes(), Codes { n: false, z: false, v: false, c: false });
+    assert_eq!(rt;
+        m.codes(),
+        Codes {
+            n: false,
+            z: false,
+            v: false,
+            c: false
+        }
+    );
     assert_eq!(rt; m.y(), 0);
     assert_eq!(rt; m.memory().load8(Addr(0x20000)), Ok(0x68));
     assert_eq!(rt; m.ending(), None);
@@ -93,7 +101,16 @@ fn a_machine_starts_at_its_entry(rt: HostRuntime) -> Result<(), Fail> {
 
 #[test]
 fn writes_go_to_their_descriptors(rt: HostRuntime) -> Result<(), Fail> {
-    let words = [G1 + 4, POINT, O2 + 5, O0 + 2, SYSTEM, O2 + 4, O0 + 1, SYSTEM];
+    let words = [
+        G1 + 4,
+        POINT,
+        O2 + 5,
+        O0 + 2,
+        SYSTEM,
+        O2 + 4,
+        O0 + 1,
+        SYSTEM,
+    ];
     let mut m = machine(rt.alloc(), words, b"")?;
     let mut out = sink(rt.alloc(), 16)?;
     let mut err = sink(rt.alloc(), 16)?;
@@ -180,8 +197,14 @@ fn runs_end_by_traps_and_couples(rt: HostRuntime) -> Result<(), Fail> {
     assert_eq!(rt; ending(alloc, illegal, 1)?, StepOut::Ended(Ending::Trap(2)));
     let running_out = [O0; 8];
     assert_eq!(rt; ending(alloc, running_out, 8)?, StepOut::Went);
-    assert_eq!(rt; ending(alloc, running_out, 9)?, StepOut::Ended(Ending::Trap(1)));
+    assert_eq!(rt;
+        ending(alloc, running_out, 9)?,
+        StepOut::Ended(Ending::Trap(1))
+    );
     let other_trap = [0x91d0_2005, 0, 0, 0, 0, 0, 0, 0];
-    assert_eq!(rt; ending(alloc, other_trap, 1)?, StepOut::Ended(Ending::Trap(0x85)));
+    assert_eq!(rt;
+        ending(alloc, other_trap, 1)?,
+        StepOut::Ended(Ending::Trap(0x85))
+    );
     Ok(())
 }

@@ -13,5 +13,5 @@ invariant-loop-steps g l = record {
   out : g.O.Sink.taken l.out ≡ appended (g.O.Sink.taken l.initial.out) (run_puts l.initial.m l.steps 1);
   err : g.E.Sink.taken l.err ≡ appended (g.E.Sink.taken l.initial.err) (run_puts l.initial.m l.steps 2);
   out_faults : g.O.Sink.faults l.initial.out ≤ g.O.Sink.faults l.out;
-  err_faults : g.E.Sink.faults l.initial.err ≤ g.E.Sink.faults l.err
+  err_faults : g.E.Sink.faults l.initial.err ≤ g.E.Sink.faults l.err;
 }
