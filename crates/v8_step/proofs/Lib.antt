@@ -12,6 +12,7 @@ pub mod Outside
 pub mod Puts
 pub mod Reading
 pub mod RegistersAlike
+pub mod Spills
 pub mod Twins
 pub mod ValidAccesses
 pub mod ValidCalls
