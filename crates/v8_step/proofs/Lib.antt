@@ -13,6 +13,7 @@ pub mod Puts
 pub mod Quiet
 pub mod Reading
 pub mod RegistersAlike
+pub mod Spills
 pub mod Twins
 pub mod ValidAccesses
 pub mod ValidCalls

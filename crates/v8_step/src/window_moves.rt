@@ -33,9 +33,7 @@ impl Machine {
     pub(crate) fn save(&mut self, rd: Reg, value: u32)
         ensures { self.new ≡ save_step self.old rd value }
     {
-        if self.windows.valid() < MOST_VALID {
-            self.enter(rd, value);
-        } else if self.spill() {
+        if self.windows.valid() < MOST_VALID || self.spill() {
             self.enter(rd, value);
         } else {
             self.end(Ending::Window);
@@ -47,9 +45,7 @@ impl Machine {
     pub(crate) fn restore(&mut self, rd: Reg, value: u32)
         ensures { self.new ≡ restore_step self.old rd value }
     {
-        if self.windows.valid() > 1 {
-            self.leave(rd, value);
-        } else if self.fill() {
+        if self.windows.valid() > 1 || self.fill() {
             self.leave(rd, value);
         } else {
             self.end(Ending::Window);
