@@ -1,7 +1,7 @@
 -- Software traps (section B.27 of The SPARC Architecture Manual, Version 8): the one that saves windows, and the
 -- system calls of this machine. %g1 has the number of the call, %o0 to %o2 its arguments. A call that succeeds
 -- clears C and one that is refused sets it; %o0 has the answer or the error number.
-use Rattle.std.specs.Prelude.{ℕ, zero, suc, ◌-◌, ◌%◌, true, false, ◌&&◌, ◌||◌, List, [], ◌∷◌, length, take, drop, Option, Some, None, Bool, nat_le, ◌==◌, if◌then◌else◌}
+use Rattle.std.specs.Prelude.{ℕ, ◌-◌, ◌%◌, true, false, ◌||◌, List, length, take, drop, Option, Some, None, Bool, ◌==◌, if◌then◌else◌}
 use Rattle.v8_memory.specs.Regions.{Memory, buffer_read, buffer_written, with_heap_end, is_heap_end}
 use Rattle.v8_step.specs.declared.Ending.TheVariants.{Exit}
 use Rattle.v8_step.specs.State.{State, register_of, with_register}

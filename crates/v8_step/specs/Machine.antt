@@ -1,5 +1,5 @@
 -- What the parts of a machine's step answer, and what they leave.
-use Rattle.std.specs.Prelude.{◌≡◌, ℕ, ◌-◌, Bool, true, false, List, [], drop, take, Option, Some, None, Result, Ok, Err, unwrap_or, ◌&&◌, ◌==◌, if◌then◌else◌}
+use Rattle.std.specs.Prelude.{◌≡◌, ℕ, ◌-◌, Bool, true, false, List, [], take, Option, Some, None, Result, Ok, Err, unwrap_or, ◌&&◌, ◌==◌, if◌then◌else◌}
 use Rattle.std.specs.Int.{Width, byte_len, w8, w16, from_be_bytes}
 use Rattle.eel_base.specs.Outside.{appended, TookPart}
 use Rattle.v8_decode.specs.declared.LoadKind.{LoadKind}
@@ -13,7 +13,6 @@ use Rattle.v8_memory.specs.Calls.{load_of, store_of}
 use Rattle.v8_step.specs.Traps.{mem_address_not_aligned, data_access_exception, call_system}
 use Rattle.v8_windows.specs.Registers.{window_after}
 use Rattle.v8_windows.specs.Frames.{with_frame}
-use Rattle.v8_step.specs.declared.Ending.{Ending}
 use Rattle.v8_step.specs.declared.steps.StepOut.{StepOut}
 use Rattle.v8_step.specs.declared.steps.StepOut.TheVariants.{Went, Ended, SinkFault}
 use Rattle.v8_step.specs.Accesses.{word_of, extended}
