@@ -53,6 +53,7 @@ impl Machine {
     }
 
     /// Goes to the window before, and writes rd there.
+    #[inline]
     fn enter(&mut self, rd: Reg, value: u32)
         requires { self.old.valid < 7 }
         ensures { self.new ≡ enter rd value self.old }
@@ -63,6 +64,7 @@ impl Machine {
     }
 
     /// Goes to the window after, and writes rd there.
+    #[inline]
     fn leave(&mut self, rd: Reg, value: u32)
         requires { 1 < self.old.valid }
         ensures { self.new ≡ leave rd value self.old }
