@@ -130,10 +130,8 @@ fn read_frame(memory: &Memory, address: Addr) -> Option<[u32; 16]>
     if address.0 % FRAME_ALIGN != 0 {
         return None;
     }
-    match memory.part(address, FRAME_SIZE) {
-        Some(bytes) => Some(frame_words(bytes)),
-        None => None,
-    }
+    let bytes = memory.part(address, FRAME_SIZE)?;
+    Some(frame_words(bytes))
 }
 
 /// The bytes of a frame's words, the highest byte of each first.
