@@ -1,10 +1,10 @@
 -- Windows that are saved one by one.
-use Rattle.std.proofs.Common.{◌≡◌, ℕ, zero, suc, ◌-◌, ◌<◌, ◌≤◌, Bool, true, false, Option, Some, None, refl, ap, sym, ◌∙◌, arith}
+use Rattle.std.proofs.Common.{◌≡◌, ℕ, suc, ◌-◌, ◌<◌, Bool, true, false, Option, Some, None, ap, sym, ◌∙◌, arith}
 use Rattle.v8_memory.specs.Regions.{Memory}
 use Rattle.v8_step.specs.declared.Ending.TheVariants.{Window}
 use Rattle.v8_step.specs.Accesses.{on_memory}
 use Rattle.v8_step.specs.State.{State}
-use Rattle.v8_step.specs.Transfers.{next, ended}
+use Rattle.v8_step.specs.Transfers.{ended}
 use Rattle.v8_step.specs.WindowMoves.{saved_memory, spill_many}
 use Rattle.v8_step.specs.Machine.{Spills}
 

@@ -1,7 +1,7 @@
 //! Loads, stores, LDSTUB and SWAP.
 ghost use Rattle.std.specs.Prelude.{◌≡◌, ◌%◌, suc, [], ◌∷◌};
 ghost use Rattle.std.specs.Int.{w8, w32, to_be_bytes};
-ghost use Rattle.v8_memory.specs.Calls.{Loads, load_of};
+ghost use Rattle.v8_memory.specs.Calls.{Loads, load_of, store_of};
 ghost use Rattle.v8_step.specs.Accesses.{load_size, extended, load_step, store_step, ldstub_step, swap_step};
 ghost use Rattle.v8_step.specs.Machine.{Exchanges, trap_of, value_of};
 ghost use Rattle.v8_step.specs.Transfers.{trapped};
@@ -132,7 +132,7 @@ impl Machine {
     /// The byte at an address, where ff is now; or nothing changes.
     #[inline]
     fn exchange_byte(&mut self, address: Addr) -> Result<u8, MemFault>
-        ensures { Exchanges w8 address.0 (0xff ∷ []) self.old self.new result }
+        ensures { Exchanges w8 (load_of self.old.memory 1 address.0) (store_of self.old.memory address.0 (0xff ∷ [])) self.old self.new result }
     {
         let old = self.memory.load8(address)?;
         self.memory.store8(address, 0xff)?;
@@ -142,7 +142,7 @@ impl Machine {
     /// The word at an address, where `value` is now; or nothing changes.
     #[inline]
     fn exchange_word(&mut self, address: Addr, value: u32) -> Result<u32, MemFault>
-        ensures { Exchanges w32 address.0 (to_be_bytes w32 value) self.old self.new result }
+        ensures { Exchanges w32 (load_of self.old.memory 4 address.0) (store_of self.old.memory address.0 (to_be_bytes w32 value)) self.old self.new result }
     {
         let old = self.memory.load32(address)?;
         self.memory.store32(address, value)?;

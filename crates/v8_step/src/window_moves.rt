@@ -53,6 +53,7 @@ impl Machine {
     }
 
     /// Goes to the window before, and writes rd there.
+    #[inline]
     fn enter(&mut self, rd: Reg, value: u32)
         requires { self.old.valid < 7 }
         ensures { self.new ≡ enter rd value self.old }
@@ -63,6 +64,7 @@ impl Machine {
     }
 
     /// Goes to the window after, and writes rd there.
+    #[inline]
     fn leave(&mut self, rd: Reg, value: u32)
         requires { 1 < self.old.valid }
         ensures { self.new ≡ leave rd value self.old }
@@ -128,10 +130,8 @@ fn read_frame(memory: &Memory, address: Addr) -> Option<[u32; 16]>
     if address.0 % FRAME_ALIGN != 0 {
         return None;
     }
-    match memory.part(address, FRAME_SIZE) {
-        Some(bytes) => Some(frame_words(bytes)),
-        None => None,
-    }
+    let bytes = memory.part(address, FRAME_SIZE)?;
+    Some(frame_words(bytes))
 }
 
 /// The bytes of a frame's words, the highest byte of each first.

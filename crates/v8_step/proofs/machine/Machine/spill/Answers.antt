@@ -3,7 +3,7 @@ use Rattle.std.specs.Int.{w32, to_be_bytes}
 use Rattle.std.specs.List.{flat_map}
 use Rattle.v8_memory.specs.Regions.{Memory}
 use Rattle.v8_memory.specs.Calls.{Fills as Written}
-use Rattle.v8_windows.specs.Frames.{frame_of, oldest_of, frame_address}
+use Rattle.v8_windows.specs.Frames.{frame_of}
 use Rattle.v8_step.specs.State.{State}
 use Rattle.v8_step.specs.WindowMoves.{frame_written, saved_memory, save_address, oldest_window}
 use Rattle.v8_step.specs.Machine.{Spills}
@@ -43,10 +43,11 @@ stays passed s new saved after result is_view is_saved written refused made =
 pub returns-then-saved : goal.returns-then-saved
 returns-then-saved c =
     let s : State = the_view c.self.inside in
-    spills c.args.self.now s _ _ c.write_frame-saved.new.memory c.write_frame-saved.result (sym c.self.view_is)
+    let after : Memory = c.write_frame-saved.new.memory in
+    spills c.args.self.now s _ _ after c.write_frame-saved.result (sym c.self.view_is)
     (saves s c.oldest.result.0.0 c.oldest.result.1 c.oldest.ensures.address c.oldest.ensures.words)
     c.write_frame-saved.ensures c.if-saved.true
-    (ap (λ w. record s { registers = w.registers; window = w.window; valid = w.valid; memory = c.write_frame-saved.new.memory })
+    (ap (λ w. record s { registers = w.registers; window = w.window; valid = w.valid; memory = after })
     c.spilled.ensures)
 
 pub returns-else-saved : goal.returns-else-saved
