@@ -102,12 +102,12 @@ unfolding notes_of_plan
 places_from file plan parts all =
     let p = plan_of file in
     ranges-all (IsPlace file (edited file)) p 0 (count p) (λ k from to. λ word inside straight same.
-        let text = plan-text file in
-        let starts = ap (λ t. t.start) text in
-        let number : k ≡ word = omega arith in
-        placed file (edited file) plan parts all k (omega arith)
-        ∙ ap (λ t. Some (slice_index t.words k)) text
-        ∙ ap (λ n. Some (slice_index (image_of file).text.words n)) number)
+    let text = plan-text file in
+    let starts = ap (λ t. t.start) text in
+    let number : k ≡ word = omega arith in
+    placed file (edited file) plan parts all k (omega arith)
+    ∙ ap (λ t. Some (slice_index t.words k)) text
+    ∙ ap (λ n. Some (slice_index (image_of file).text.words n)) number)
 
 whole_from : (file : List ℕ) → IsPlan (plan_of file) → HeaderFacts (plan_of file) (edited file)
     → PartFacts (plan_of file) (edited file)
