@@ -12,7 +12,7 @@ use Rattle.elf32_sparc.specs.Mapping.{memory_bytes}
 use Rattle.elf32_sparc.specs.Image.{segment_of, segment_end, highest_end, words_of, text_from, word_number}
 
 -- no row holds
-abbrev NoneHolds : List (FileFault × Bool) → Type 0
+abbrev pub NoneHolds : List (FileFault × Bool) → Type 0
 NoneHolds [] = Unit {0}
 NoneHolds (row ∷ rows) = (row.1 ≡ false) × NoneHolds rows
 
@@ -20,7 +20,7 @@ passed_by : (rows : List (FileFault × Bool)) (f : FileFault) (b : Bool) → (fi
 passed_by rows f true later found = cc
 passed_by rows f false later none = (refl, later none)
 
-none_holds : (rows : List (FileFault × Bool)) → first_that_holds rows ≡ None → NoneHolds rows
+pub none_holds : (rows : List (FileFault × Bool)) → first_that_holds rows ≡ None → NoneHolds rows
 none_holds [] none = tt
 none_holds (row ∷ rows) none = passed_by rows row.0 row.1 (none_holds rows) none
 
