@@ -1,21 +1,85 @@
 -- The grammar of the program's words.
-use Rattle.std.specs.Prelude.{ℕ, ◌&&◌, if◌then◌else◌, List, [], ◌∷◌, map, codes}
+use Rattle.std.specs.Prelude.{ℕ, ◌+◌, ◌-◌, ◌*◌, ◌^◌, ◌&&◌, nat_le, nat_lt, Bool, if◌then◌else◌, List, [], ◌∷◌, length, map, codes, Option, Some, None}
 use Rattle.std.specs.Borrow.{Bor}
+use Rattle.std.specs.List.{fold, list_all}
 use Rattle.std.specs.Str.{bytes_eq}
+use Rattle.v8_process.specs.Arguments.{AreArguments}
+use Rattle.v8_process.specs.Start.{strings}
 use Rattle.eel.specs.declared.command.Command as declared
 use Rattle.eel.specs.declared.command.Command.TheVariants as variants
 
 pub data Command : Type 0 where
   -- edit INPUT OUTPUT plain
   EditPlain : (input output : List ℕ) → Command
+  -- run FILE [-n LIMIT] [-- ARG..]
+  Run : (file : List ℕ) (limit : ℕ) (args : List (List ℕ)) → Command
   -- words outside the grammar
   Unknown : Command
 
--- what the words ask for
+-- ---- edit
+
+abbrev pub edit_of : List (List ℕ) → Command
+edit_of (input ∷ output ∷ tool ∷ []) = if bytes_eq tool (codes "plain") then EditPlain input output else Unknown
+edit_of _ = Unknown
+
+-- ---- run
+
+-- how many steps a run makes at most, where the words don't say it
+abbrev pub default_limit : ℕ
+default_limit = 100000000
+
+abbrev pub is_digit : ℕ → Bool
+is_digit byte = nat_le 48 byte && nat_le byte 57
+
+-- the number that decimal digits say
+abbrev pub value_of : List ℕ → ℕ
+value_of digits = fold (λ number digit. 10 * number + (digit - 48)) 0 digits
+
+-- a limit: one to twenty digits, with a value below 2^64
+abbrev pub limit_of : List ℕ → Option ℕ
+limit_of text =
+    if nat_le 1 (length text) && nat_le (length text) 20 && list_all is_digit text && nat_lt (value_of text) (2 ^ 64)
+    then Some (value_of text) else None
+
+-- at most 1,000 arguments, of at most 65,536 bytes with a zero byte after each
+abbrev pub are_few : List (List ℕ) → Bool
+are_few args = nat_le (length args) 1000 && nat_le (length (strings args)) (2 ^ 16)
+
+abbrev pub run_with : List ℕ → ℕ → List (List ℕ) → Command
+run_with file limit args = if are_few args then Run file limit args else Unknown
+
+-- what may follow the limit
+abbrev pub arguments_of : List ℕ → ℕ → List (List ℕ) → Command
+arguments_of file limit [] = Run file limit []
+arguments_of file limit (mark ∷ args) = if bytes_eq mark (codes "--") then run_with file limit args else Unknown
+
+abbrev pub limited : List ℕ → Option ℕ → List (List ℕ) → Command
+limited file None words = Unknown
+limited file (Some limit) words = arguments_of file limit words
+
+-- what may follow the file
+abbrev pub options_of : List ℕ → List (List ℕ) → Command
+options_of file (option ∷ limit ∷ words) =
+    if bytes_eq option (codes "-n") then limited file (limit_of limit) words
+    else arguments_of file default_limit (option ∷ limit ∷ words)
+options_of file words = arguments_of file default_limit words
+
+abbrev pub run_of : List (List ℕ) → Command
+run_of [] = Unknown
+run_of (file ∷ words) = options_of file words
+
+-- ---- what the words ask for
+
 abbrev pub command_of : List (List ℕ) → Command
-command_of (verb ∷ input ∷ output ∷ tool ∷ []) =
-    if bytes_eq verb (codes "edit") && bytes_eq tool (codes "plain") then EditPlain input output else Unknown
-command_of _ = Unknown
+command_of [] = Unknown
+command_of (verb ∷ words) =
+    if bytes_eq verb (codes "edit") then edit_of words else
+    if bytes_eq verb (codes "run") then run_of words else Unknown
+
+-- the arguments of a run, where the command is one, are ones that a program can be given
+abbrev pub HasArguments : Command → Type 0
+HasArguments (Run file limit args) = AreArguments args
+HasArguments _ = Unit {0}
 
 -- the texts that a list of words points to
 abbrev pub texts : List (Bor (List ℕ)) → List (List ℕ)
@@ -24,4 +88,5 @@ texts words = map (λ word. word.now) words
 -- the command that the program keeps
 abbrev pub command_seen : declared.Command → Command
 command_seen (variants.EditPlain input output) = EditPlain input.now output.now
+command_seen (variants.Run file limit args) = Run file.now limit (texts args.now)
 command_seen variants.Unknown = Unknown
