@@ -1,14 +1,19 @@
 -- What came of a command, and how it shows: a line on the error stream and a status.
-use Rattle.std.specs.Prelude.{◌≡◌, ℕ, List, [], ◌∷◌, ◌++◌, Option, codes, decimal}
+use Rattle.std.specs.Prelude.{◌≡◌, ℕ, List, [], ◌∷◌, ◌++◌, Option, Some, None, codes, decimal}
 use Rattle.std.specs.Borrow.{Bor}
 use Rattle.std.specs.List.{flat_map}
 use Rattle.eel_base.specs.Fields.{hex_of}
 use Rattle.eel_base.specs.Outside.{Rose, appended, TookPart}
+use Rattle.v8_step.specs.declared.Ending.{Ending}
+use Rattle.v8_step.specs.declared.Ending.TheVariants as endings
 use Rattle.eel.specs.declared.outcome.Outcome as declared
 use Rattle.eel.specs.declared.outcome.Outcome.TheVariants as variants
 
 pub data Outcome : Type 0 where
+  -- an edit is done
   Done : Outcome
+  -- a program ran for so many steps, and has ended or was stopped
+  Stopped : (ending : Option Ending) (steps : ℕ) → Outcome
   -- the words are outside the grammar
   BadWords : Outcome
   -- the file has this fault
@@ -24,6 +29,7 @@ pub data Outcome : Type 0 where
 
 abbrev pub status_of : Outcome → ℕ
 status_of Done = 0
+status_of (Stopped ending steps) = 0
 status_of BadWords = 64
 status_of (BadFile name code) = 65
 status_of (NotBuilt name address) = 65
@@ -38,9 +44,18 @@ line text = codes "eel: " ++ text ++ 10 ∷ []
 abbrev pub line_about : List ℕ → List ℕ → List ℕ
 line_about name text = line (name ++ codes ": " ++ text)
 
--- the line that says it; a command that is done says nothing
+-- how a run ended, or that it was stopped
+abbrev pub ending_text : Option Ending → ℕ → List ℕ
+ending_text None steps = codes "stopped " ++ decimal steps
+ending_text (Some (endings.Exit status)) steps = codes "exit " ++ decimal status
+ending_text (Some (endings.Trap number)) steps = codes "trap " ++ decimal number
+ending_text (Some endings.Window) steps = codes "window"
+ending_text (Some endings.Couple) steps = codes "couple"
+
+-- the line that says it; an edit that is done says nothing
 abbrev pub line_of : Outcome → List ℕ
 line_of Done = []
+line_of (Stopped ending steps) = ending_text ending steps ++ 10 ∷ []
 line_of BadWords = line (codes "bad words")
 line_of (BadFile name code) = line_about name (codes "file fault " ++ decimal code)
 line_of (NotBuilt name address) = line_about name (codes "not built at " ++ hex_of address)
@@ -50,7 +65,7 @@ line_of (NoRoom name needed had) =
 line_of OutOfMemory = line (codes "out of memory")
 line_of DeviceFault = line (codes "device fault")
 
--- A stream of errors: what it has taken, where it tells it, and its faults.
+-- A stream of output: what it has taken, where it tells it, and its faults.
 pub record Stream : Type 0 where
   pub taken : Option (List ℕ)
   pub faults : ℕ
@@ -72,6 +87,7 @@ joined pieces = flat_map (λ piece. piece.now) pieces
 -- the outcome that the program keeps
 abbrev pub outcome_seen : declared.Outcome → Outcome
 outcome_seen variants.Done = Done
+outcome_seen (variants.Stopped ending steps) = Stopped ending steps
 outcome_seen variants.BadWords = BadWords
 outcome_seen (variants.BadFile name code) = BadFile name.now code
 outcome_seen (variants.NotBuilt name address) = NotBuilt name.now address.0

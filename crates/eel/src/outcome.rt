@@ -1,15 +1,22 @@
 //! What came of a command, and how the program shows it.
-ghost use Rattle.std.specs.Prelude.{◌≡◌, ◌≤◌, OnOk, OnErr};
+ghost use Rattle.std.specs.Prelude.{◌≡◌, ◌≤◌, ◌++◌, ◌∷◌, [], OnOk, OnErr};
 ghost use Rattle.eel_base.specs.Outside.{Rose, appended, TookPart};
-ghost use Rattle.eel.specs.Outcome.{outcome_seen, status_of, line_of, stream, Shows, joined};
+ghost use Rattle.eel.specs.Outcome.{outcome_seen, status_of, ending_text, line_of, stream, Shows, joined};
 
 use eel_base::{Addr, Failed, Sink, hex8, put_all};
 use itoa::Buffer;
+use v8_step::Ending;
 
 /// What came of a command.
 #[derive(Clone, Copy)]
 pub enum Outcome<'a> {
+    /// An edit is done.
     Done,
+    /// A program ran for so many steps, and has ended or was stopped.
+    Stopped {
+        ending: Option<Ending>,
+        steps: u64,
+    },
     /// The words are outside the grammar.
     BadWords,
     /// The file `name` has this fault.
@@ -46,7 +53,7 @@ impl Outcome<'_> {
         ensures { result ≡ status_of (outcome_seen self.now) }
     {
         match self {
-            Outcome::Done => 0,
+            Outcome::Done | Outcome::Stopped { .. } => 0,
             Outcome::BadWords => 64,
             Outcome::BadFile { .. } | Outcome::NotBuilt { .. } => 65,
             Outcome::TooLong { .. } => 66,
@@ -78,6 +85,7 @@ fn put_line<E: Sink>(outcome: &Outcome, err: &mut E) -> Result<(), Failed>
 {
     match outcome {
         Outcome::Done => Ok(()),
+        Outcome::Stopped { ending, steps } => put_ending(*ending, *steps, err),
         Outcome::BadWords => put_pieces(err, &[b"eel: bad words\n"]),
         Outcome::BadFile { name, code } => {
             let mut digits = Buffer::new();
@@ -134,6 +142,29 @@ fn put_line<E: Sink>(outcome: &Outcome, err: &mut E) -> Result<(), Failed>
         }
         Outcome::OutOfMemory => put_pieces(err, &[b"eel: out of memory\n"]),
         Outcome::DeviceFault => put_pieces(err, &[b"eel: device fault\n"]),
+    }
+}
+
+/// Writes how a run ended, or that it was stopped after so many steps.
+fn put_ending<E: Sink>(ending: Option<Ending>, steps: u64, err: &mut E) -> Result<(), Failed>
+    ensures all { OnOk result (E.taken err.new ≡ appended (E.taken err.old) (ending_text ending steps ++ 10 ∷ [])) }
+    ensures part { OnErr result (TookPart (E.taken err.old) (E.taken err.new) (ending_text ending steps ++ 10 ∷ [])) }
+    ensures failed { OnErr result (Rose (E.faults err.old) (E.faults err.new)) }
+    ensures later { E.faults err.old ≤ E.faults err.new }
+{
+    let mut digits = Buffer::new();
+    match ending {
+        None => put_pieces(err, &[b"stopped ", digits.format(steps).as_bytes(), b"\n"]),
+        Some(Ending::Exit(status)) => put_pieces(
+            err,
+            &[b"exit ", digits.format(status).as_bytes(), b"\n"],
+        ),
+        Some(Ending::Trap(number)) => put_pieces(
+            err,
+            &[b"trap ", digits.format(number).as_bytes(), b"\n"],
+        ),
+        Some(Ending::Window) => put_pieces(err, &[b"window\n"]),
+        Some(Ending::Couple) => put_pieces(err, &[b"couple\n"]),
     }
 }
 
