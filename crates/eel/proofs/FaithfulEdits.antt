@@ -12,7 +12,7 @@ use Rattle.elf32_sparc.specs.Notes.{NoteRange, notes_of}
 use Rattle.eel.specs.Answers.{CanEdit}
 use Rattle.eel.specs.Straight.{plan_of, edited, delta_of, carried_on, bound_of}
 use Rattle.eel.specs.Written.{Plan, count, added_headers, segment_headers, notes_at}
-use Rattle.eel.specs.Faithful.{IsFaithful, IsPage, IsPlace, kept, word_mapped}
+use Rattle.eel.specs.Faithful.{IsFaithful, IsWhole, HasPages, IsPage, IsPlace, kept, word_mapped}
 use Rattle.eel.proofs.WrittenFacts.{IsPlan, HeaderFacts, PartFacts, notes_of_plan, range_of, ranges_from}
 use Rattle.eel.proofs.MappedFiles.{plan-original, plan-delta, plan-text, plan-base, mapped}
 use Rattle.elf32_sparc.proofs.Images.{accepted-program}
@@ -22,6 +22,7 @@ use Rattle.eel.proofs.WrittenHeader.{header_facts, locator_facts}
 use Rattle.eel.proofs.WrittenParts.{part_facts}
 use Rattle.eel.proofs.Loads.{loads}
 use Rattle.eel.proofs.ReadNotes.{notes-of}
+use Rattle.eel.proofs.RunsAlike.{have-runs-alike}
 use Rattle.eel.proofs.PlacedWords.{covers, none-covers, covers-first, word-among}
 
 -- the base is not below the end of any segment
@@ -82,39 +83,43 @@ small_size plan new is size =
     let few = is.text.few in
     omega arith
 
-pub faithful_from : (file : List ℕ) → length file ≤ 2 ^ 26 → CanEdit file → IsPlan (plan_of file) → HeaderFacts (plan_of file) (edited file) → PartFacts (plan_of file) (edited file)
-    → loadable (segment_headers (plan_of file)) ≡ map (carried_on (delta_of (program_headers file))) (loadable (program_headers file)) ++ added_headers (plan_of file)
-    → load_fault (edited file) ≡ None → notes_of (edited file) ≡ Ok (notes_of_plan (plan_of file)) → IsFaithful file (edited file)
+pages_from : (file : List ℕ) → CanEdit file → IsPlan (plan_of file) → HeaderFacts (plan_of file) (edited file)
+    → PartFacts (plan_of file) (edited file)
+    → mappings (edited file) ≡ map kept (mappings file) ++ map (mapping_of (edited file)) (added_headers (plan_of file))
+    → HasPages file (edited file) (notes_of_plan (plan_of file))
 unfolding notes_of_plan
-faithful_from file limit can plan header parts loaded loads reads =
+pages_from file can plan header parts all = record {
+  pages = map (mapping_of (edited file)) (added_headers (plan_of file));
+  mapped = all;
+  noted = refl;
+  apart = all-two (IsPage file) _ _ (inl (code_page file)) (inr (refl, refl));
+}
+
+places_from : (file : List ℕ) → IsPlan (plan_of file) → PartFacts (plan_of file) (edited file)
+    → mappings (edited file) ≡ map kept (mappings file) ++ map (mapping_of (edited file)) (added_headers (plan_of file))
+    → All (IsPlace file (edited file)) (notes_of_plan (plan_of file)).ranges
+unfolding notes_of_plan
+places_from file plan parts all =
     let p = plan_of file in
-    let new = edited file in
-    let original = plan-original file in
-    let delta = plan-delta file in
-    let small : length file + delta_of (program_headers file) < 2 ^ 32 = let d = plan.small.delta.1 in omega arith in
-    let all = mapped file new header parts small can.0.0 loaded in
-    record {
-      notes = notes_of_plan p;
-      whole = record {
-        loads = loads;
-        reads = reads;
-        holds = parts.original ∙ original;
-        small = small_size p new plan header.size;
-      };
-      pages = record {
-        pages = map (mapping_of new) (added_headers p);
-        mapped = all;
-        noted = refl;
-        apart = all-two (IsPage file) _ _ (inl (code_page file)) (inr (refl, refl));
-      };
-      places = ranges-all (IsPlace file new) p 0 (count p) (λ k from to. λ word inside straight same.
-          let text = plan-text file in
-          let starts = ap (λ t. t.start) text in
-          let number : k ≡ word = omega arith in
-          placed file new plan parts all k (omega arith)
-          ∙ ap (λ t. Some (slice_index t.words k)) text
-          ∙ ap (λ n. Some (slice_index (image_of file).text.words n)) number);
-    }
+    ranges-all (IsPlace file (edited file)) p 0 (count p) (λ k from to. λ word inside straight same.
+        let text = plan-text file in
+        let starts = ap (λ t. t.start) text in
+        let number : k ≡ word = omega arith in
+        placed file (edited file) plan parts all k (omega arith)
+        ∙ ap (λ t. Some (slice_index t.words k)) text
+        ∙ ap (λ n. Some (slice_index (image_of file).text.words n)) number)
+
+whole_from : (file : List ℕ) → IsPlan (plan_of file) → HeaderFacts (plan_of file) (edited file)
+    → PartFacts (plan_of file) (edited file)
+    → load_fault (edited file) ≡ None → notes_of (edited file) ≡ Ok (notes_of_plan (plan_of file))
+    → IsWhole file (edited file) (notes_of_plan (plan_of file))
+unfolding notes_of_plan
+whole_from file plan header parts loads reads = record {
+  loads = loads;
+  reads = reads;
+  holds = parts.original ∙ plan-original file;
+  small = small_size (plan_of file) (edited file) plan header.size;
+}
 
 pub faithful : (file : List ℕ) → length file ≤ 2 ^ 26 → All (λ byte. byte < 256) file → CanEdit file → IsFaithful file (edited file)
 faithful file limit bytes can =
@@ -123,6 +128,16 @@ faithful file limit bytes can =
     let header = header_facts p plan in
     let parts = part_facts p plan in
     let aligned : p.base % 4 ≡ 0 = let multiple = (accepted-program file can.0.0).base in let same = plan-base file in omega arith in
-    faithful_from file limit can plan header parts (loadable-segment_headers file can)
-    (loads file limit can (edited file) header)
-    (notes-of p plan aligned (edited file) (locator_facts p plan) parts header.size)
+    let original = plan-original file in
+    let delta = plan-delta file in
+    let small : length file + delta_of (program_headers file) < 2 ^ 32 = let d = plan.small.delta.1 in omega arith in
+    let all = mapped file (edited file) header parts small can.0.0 (loadable-segment_headers file can) in
+    let pages = pages_from file can plan header parts all in
+    record {
+      notes = notes_of_plan p;
+      whole = whole_from file plan header parts (loads file limit can (edited file) header)
+          (notes-of p plan aligned (edited file) (locator_facts p plan) parts header.size);
+      pages = pages;
+      places = places_from file plan parts all;
+      runs = have-runs-alike file limit bytes can pages;
+    }

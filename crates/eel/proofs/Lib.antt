@@ -14,6 +14,8 @@ pub mod PlanFacts
 pub mod Plans
 pub mod Powers
 pub mod ReadNotes
+pub mod RunsAlike
+pub mod TwinStarts
 pub mod ValidStarts
 pub mod WordsBytes
 pub mod WrittenBytes

@@ -2,7 +2,7 @@
 use Rattle.std.proofs.Common.{◌≡◌, ℕ, zero, suc, ◌+◌, ◌*◌, ◌<◌, ◌^◌, true, List, [], ◌∷◌, length, take, drop, replicate, All}
 use Rattle.eel_base.specs.CodeText.{IsText}
 use Rattle.elf32_sparc.specs.declared.header.ProgramHeader.{ProgramHeader}
-use Rattle.elf32_sparc.specs.Header.{ei_magic, ei_class, ei_data, ei_version, e_type, e_machine, e_version, e_phoff, e_ehsize, e_phentsize, e_phnum, program_headers}
+use Rattle.elf32_sparc.specs.Header.{ei_magic, ei_class, ei_data, ei_version, e_type, e_machine, e_version, e_entry, e_phoff, e_ehsize, e_phentsize, e_phnum, program_headers}
 use Rattle.elf32_sparc.specs.Notes.{Notes, NoteRange, has_locator, notes_offset, notes_length}
 use Rattle.eel.specs.Written.{Plan, IsSmall, count, code_at, page_at, notes_at, page_size, editor_page, segment_headers, words_bytes, notes}
 
@@ -34,6 +34,7 @@ pub record HeaderFacts (plan : Plan) (file : List ℕ) : Type 0 where
   pub kind : e_type file ≡ 2
   pub machine : e_machine file ≡ 2
   pub version : e_version file ≡ 1
+  pub entry : e_entry file ≡ plan.base + 4 * plan.entry
   pub table : e_phoff file ≡ 52
   pub header_size : e_ehsize file ≡ 52
   pub entry_size : e_phentsize file ≡ 32

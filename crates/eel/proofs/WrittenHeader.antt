@@ -250,6 +250,7 @@ header_facts plan is =
       kind = kinds.kind;
       machine = kinds.machine;
       version = versions.version;
+      entry = versions.entry;
       table = versions.table;
       header_size = sizes.header_size;
       entry_size = sizes.entry_size;

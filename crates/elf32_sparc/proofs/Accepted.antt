@@ -12,7 +12,7 @@ use Rattle.elf32_sparc.specs.Mapping.{memory_bytes}
 use Rattle.elf32_sparc.specs.Image.{segment_of, segment_end, highest_end, words_of, text_from, word_number}
 
 -- no row holds
-abbrev NoneHolds : List (FileFault × Bool) → Type 0
+abbrev pub NoneHolds : List (FileFault × Bool) → Type 0
 NoneHolds [] = Unit {0}
 NoneHolds (row ∷ rows) = (row.1 ≡ false) × NoneHolds rows
 
@@ -20,7 +20,7 @@ passed_by : (rows : List (FileFault × Bool)) (f : FileFault) (b : Bool) → (fi
 passed_by rows f true later found = cc
 passed_by rows f false later none = (refl, later none)
 
-none_holds : (rows : List (FileFault × Bool)) → first_that_holds rows ≡ None → NoneHolds rows
+pub none_holds : (rows : List (FileFault × Bool)) → first_that_holds rows ≡ None → NoneHolds rows
 none_holds [] none = tt
 none_holds (row ∷ rows) none = passed_by rows row.0 row.1 (none_holds rows) none
 
@@ -102,6 +102,7 @@ length-words_of (suc count) bytes = ap suc (length-words_of count (drop 4 bytes)
 pub record IsFit (file : List ℕ) (h : ProgramHeader) : Type 0 where
   pub text : IsText (text_from file h)
   pub starts : h.p_vaddr ≤ e_entry file
+  pub aligned : (e_entry file - h.p_vaddr) % 4 ≡ 0
   pub entry : word_number (text_from file h) (e_entry file) < length (text_from file h).words
 
 pub text_is_fit : (file : List ℕ) (h : ProgramHeader) → Accepted file → text_header (program_headers file) ≡ Some h → IsFit file h
@@ -117,11 +118,13 @@ text_is_fit file h ok found =
     let above : 0x1000 ≤ h.p_vaddr = ltb-false _ _ (or_parts _ _ room).0 in
     let below : h.p_vaddr + h.p_memsz ≤ 0x80000000 = ltb-false 0x80000000 (end_of h) (or_parts (nat_lt h.p_vaddr 0x1000) (nat_lt 0x80000000 (end_of h)) room).1 in
     let starts : h.p_vaddr ≤ e_entry file = leb-true _ _ (and_parts _ _ (and_parts _ _ address).0).0 in
+    let whole : (e_entry file - h.p_vaddr) % 4 ≡ 0 = eqb-true _ _ (and_parts _ _ (and_parts _ _ address).0).1 in
     let inside : (e_entry file - h.p_vaddr) / 4 < h.p_memsz / 4 = ltb-true ((e_entry file - h.p_vaddr) / 4) (word_count h) (and_parts (nat_le h.p_vaddr (e_entry file) && nat_eq ((e_entry file - h.p_vaddr) % 4) 0) (nat_lt ((e_entry file - h.p_vaddr) / 4) (word_count h)) address).1 in
     let count : length (words_of (h.p_memsz / 4) (memory_bytes file h)) ≡ h.p_memsz / 4 = length-words_of _ _ in
     record {
       text = record { aligned = aligned; above = above; some = omega arith; few = rw count few; below = omega arith };
       starts = starts;
+      aligned = whole;
       entry = rw count inside;
     }
 

@@ -5,6 +5,7 @@ pub mod Ranges
 pub mod Readings
 pub mod Padding
 pub mod Accepted
+pub mod Loadable
 pub mod Images
 pub mod Tables
 pub mod ThreeWords

@@ -7,7 +7,7 @@ use Rattle.elf32_sparc.specs.declared.header.ProgramHeader.{ProgramHeader}
 use Rattle.elf32_sparc.specs.declared.survey.Survey.{Survey}
 use Rattle.elf32_sparc.specs.Header.{is_loadable, end_of, is_text, loadable}
 use Rattle.elf32_sparc.specs.FileFault.{is_dynamic, leaves_file, leaves_room, is_aligned, descends_from}
-use Rattle.elf32_sparc.specs.Survey.{noted}
+use Rattle.elf32_sparc.specs.Survey.{leaves_run, noted}
 
 or-false : (a : Bool) → a ≡ (a || false)
 or-false true = refl
@@ -32,6 +32,11 @@ pub fold-leaves_room : (size : ℕ) (s : Survey) (hs : List ProgramHeader) → (
 unfolding noted
 fold-leaves_room size s [] = or-false s.leaves_room
 fold-leaves_room size s (h ∷ hs) = fold-leaves_room size (noted size s h) hs ∙ any_more leaves_room h (loadable hs) s.leaves_room (is_loadable h)
+
+pub fold-leaves_run : (size : ℕ) (s : Survey) (hs : List ProgramHeader) → (fold (noted size) s hs).leaves_run ≡ (s.leaves_run || list_any leaves_run (loadable hs))
+unfolding noted
+fold-leaves_run size s [] = or-false s.leaves_run
+fold-leaves_run size s (h ∷ hs) = fold-leaves_run size (noted size s h) hs ∙ any_more leaves_run h (loadable hs) s.leaves_run (is_loadable h)
 
 pub fold-is_misaligned : (size : ℕ) (s : Survey) (hs : List ProgramHeader) → (fold (noted size) s hs).is_misaligned ≡ (s.is_misaligned || list_any (λ h. not (is_aligned h)) (loadable hs))
 unfolding noted

@@ -1,7 +1,7 @@
 //! The fields of a file's headers.
 ghost use Rattle.std.specs.Prelude.{◌≡◌, ◌+◌, ◌<◌, ◌^◌, Some};
 ghost use Rattle.elf32_sparc.specs.Header.{half_at, word_at, program_header, is_load, is_loadable, end_of, is_text};
-ghost use Rattle.elf32_sparc.specs.FileFault.{is_dynamic, leaves_file, leaves_room, is_aligned, is_misshapen, word_count, is_word_address};
+ghost use Rattle.elf32_sparc.specs.FileFault.{is_dynamic, leaves_file, leaves_room, is_last_page, is_aligned, is_misshapen, word_count, is_word_address};
 
 use crate::flags::SegFlags;
 use bitflags::Flags;
@@ -24,6 +24,11 @@ const MEMORY_START: u32 = 0x1000;
 const MEMORY_END: u64 = 0x8000_0000;
 
 const MOST_ALIGN: u32 = 1 << 20;
+
+/// The page at the top of all addresses.
+const LAST_PAGE: u32 = 0xffff_f000;
+
+const PAGE_SIZE: u32 = 4096;
 
 /// The halfword at `at`, or 0 where the bytes end before it does.
 #[tactic(auto, unfolding(crate::specs::Header::half_at))]
@@ -114,6 +119,13 @@ impl ProgramHeader {
         ensures { result ≡ leaves_room self.now }
     {
         self.p_vaddr < MEMORY_START || self.end() > MEMORY_END
+    }
+
+    /// Its memory is the page at the top of all addresses.
+    pub(crate) fn is_last_page(&self) -> bool
+        ensures { result ≡ is_last_page self.now }
+    {
+        self.p_vaddr == LAST_PAGE && self.p_memsz == PAGE_SIZE
     }
 
     pub(crate) fn is_aligned(&self) -> bool

@@ -1,5 +1,5 @@
-//! The reader of ELF32 files for SPARC: what keeps a file from being edited, and the image of one that
-//! can be.
+//! The reader of ELF32 files for SPARC: what keeps a file from being edited or run, and the image of one
+//! that can be edited.
 #![tactic(auto)]
 
 mod fault;
@@ -17,4 +17,4 @@ pub use flags::SegFlags;
 pub use header::ProgramHeader;
 pub use program::{Image, Segment, read_image};
 pub use table::read_headers;
-pub use verdicts::verdict;
+pub use verdicts::{load_verdict, verdict};

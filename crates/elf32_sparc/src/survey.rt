@@ -1,6 +1,6 @@
 //! One pass over the program headers.
 ghost use Rattle.std.specs.Prelude.{◌≡◌, ◌+◌, ◌<◌, ◌^◌};
-ghost use Rattle.elf32_sparc.specs.Survey.{no_survey, with_memory, with_text, noted, survey_of, survey_rows};
+ghost use Rattle.elf32_sparc.specs.Survey.{no_survey, with_memory, with_text, noted, survey_of, survey_rows, run_survey_rows};
 ghost use Rattle.elf32_sparc.specs.FileFault.{first_that_holds};
 
 use crate::fault::FileFault;
@@ -12,6 +12,8 @@ pub(crate) struct Survey {
     pub has_dynamic: bool,
     pub leaves_file: bool,
     pub leaves_room: bool,
+    /// The same for a run, which may have the last page.
+    pub leaves_run: bool,
     pub descends: bool,
     pub is_misaligned: bool,
     /// Where the last loadable entry ends.
@@ -22,10 +24,13 @@ pub(crate) struct Survey {
     pub memory: u64,
 }
 
-/// How many words a text has at most, and how much memory a program.
+/// How many words a text has at most.
 const MOST_WORDS: u32 = 1 << 20;
 
+/// How much memory a program takes at most: one that is edited, and one that is run.
 const MOST_MEMORY: u64 = 128 << 20;
+
+const MOST_RUN_MEMORY: u64 = 1280 << 20;
 
 impl Survey {
     fn empty() -> Survey
@@ -35,6 +40,7 @@ impl Survey {
             has_dynamic: false,
             leaves_file: false,
             leaves_room: false,
+            leaves_run: false,
             descends: false,
             is_misaligned: false,
             end: 0,
@@ -76,7 +82,9 @@ impl Survey {
         ensures { self.new ≡ with_memory self.old header.now }
     {
         if header.is_loadable() {
-            self.leaves_room |= header.leaves_room();
+            let leaves_room = header.leaves_room();
+            self.leaves_room |= leaves_room;
+            self.leaves_run |= leaves_room && !header.is_last_page();
             self.descends |= u64::from(header.p_vaddr) < self.end;
             self.is_misaligned |= !header.is_aligned();
             self.end = header.end();
@@ -95,7 +103,7 @@ impl Survey {
         }
     }
 
-    /// The first fault that the survey shows of a file with this entry.
+    /// The first fault that the survey shows of a file that is to be edited, with this entry.
     pub(crate) fn fault(&self, entry: u32) -> Option<FileFault>
         ensures { result ≡ first_that_holds (survey_rows entry self.now) }
     {
@@ -123,6 +131,25 @@ impl Survey {
         } else if !has_entry {
             Some(FileFault::Entry)
         } else if self.memory > MOST_MEMORY {
+            Some(FileFault::MemoryLarge)
+        } else {
+            None
+        }
+    }
+
+    /// The first fault that the survey shows of a file that is to be run.
+    pub(crate) fn run_fault(&self) -> Option<FileFault>
+        ensures { result ≡ first_that_holds (run_survey_rows self.now) }
+    {
+        if self.leaves_file {
+            Some(FileFault::SegmentFile)
+        } else if self.leaves_run {
+            Some(FileFault::SegmentRoom)
+        } else if self.descends {
+            Some(FileFault::SegmentOrder)
+        } else if self.is_misaligned {
+            Some(FileFault::Align)
+        } else if self.memory > MOST_RUN_MEMORY {
             Some(FileFault::MemoryLarge)
         } else {
             None

@@ -1,5 +1,5 @@
 //! What no clause says: verdicts from outside, the displayed text, and that an image can be read.
-use crate::{FileFault, ReadFault, SegFlags, read_image, verdict};
+use crate::{FileFault, ReadFault, SegFlags, load_verdict, read_image, verdict};
 use eel_base::{Addr, WordNo};
 use std::alloc::{AllocError, Global};
 use std::test::Fail;
@@ -26,12 +26,20 @@ fn file(alloc: Global, edits: [(usize, u32); 2], more: &[u32]) -> Result<Vec<u8>
     Ok(bytes)
 }
 
-/// The number of the verdict, or 0.
-fn code(bytes: &[u8]) -> u8 {
-    match verdict(bytes) {
+/// The number of a verdict, or 0.
+fn number(verdict: Option<FileFault>) -> u8 {
+    match verdict {
         Some(fault) => fault.code(),
         None => 0,
     }
+}
+
+fn code(bytes: &[u8]) -> u8 {
+    number(verdict(bytes))
+}
+
+fn load_code(bytes: &[u8]) -> u8 {
+    number(load_verdict(bytes))
 }
 
 /// No edit.
@@ -112,20 +120,79 @@ const TWO_SEGMENTS: [([u32; 7], u8); 14] = [
     ([1, 0, 0x1005c, 0, 16, 5, 3], 13),
 ];
 
+/// The program with such a second entry.
+fn with_segment(alloc: Global, entry: [u32; 7]) -> Result<Vec<u8>, AllocError> {
+    let [p_type, offset, vaddr, filesz, memsz, flags, align] = entry;
+    let table = [
+        1, 0x54, 0x10054, 0, 12, 12, 5, 0x10000, p_type, offset, vaddr, 0, filesz, memsz, flags,
+        align,
+    ];
+    file(alloc, [(7, 96), (11, 0x20000)], &table)
+}
+
 #[test]
 fn a_second_segment_has_its_verdict(rt: HostRuntime) -> Result<(), Fail> {
-    for ([p_type, offset, vaddr, filesz, memsz, flags, align], want) in TWO_SEGMENTS {
-        let table = [
-            1, 0x54, 0x10054, 0, 12, 12, 5, 0x10000, p_type, offset, vaddr, 0, filesz, memsz,
-            flags, align,
-        ];
-        let bytes = file(rt.alloc(), [(7, 96), (11, 0x20000)], &table)?;
-        assert_eq!(rt;
-            code(&bytes),
-            want,
-            "with a segment of {memsz} at {vaddr:x}"
-        );
+    for (entry, want) in TWO_SEGMENTS {
+        let bytes = with_segment(rt.alloc(), entry)?;
+        assert_eq!(rt; code(&bytes), want, "with {entry:?}");
     }
+    Ok(())
+}
+
+/// As above, of a file that is to be run.
+const LOADED: [([u32; 7], u8); 13] = [
+    ([1, 0, 0xfffff000, 0, 4096, 6, 4096], 0),
+    ([1, 0, 0xfffff000, 0, 4095, 6, 0], 12),
+    ([1, 0, 0xfffff000, 0, 4097, 6, 0], 12),
+    ([1, 0, 0xffffe000, 0, 4096, 6, 0], 12),
+    ([1, 4, 0xfffff000, 4, 4096, 6, 4096], 14),
+    ([1, 0, 0x7ffff000, 0, 8192, 6, 0], 12),
+    ([1, 0, 0x1005c, 0, 16, 6, 0], 13),
+    ([1, 0x61, 0x20000, 64, 64, 6, 0], 11),
+    ([1, 0, 0x20000, 0, 0x50000000 - 12, 6, 0], 0),
+    ([1, 0, 0x20000, 0, 0x50000000 - 11, 6, 0], 20),
+    // A second text, and an entry that is dynamic.
+    ([1, 0, 0x20000, 0, 16, 5, 0], 0),
+    ([2, 0, 0x20000, 0, 16, 5, 3], 0),
+    // The earlier of two faults.
+    ([1, 0, 0x1005c, 0, 0x7fffffff, 6, 0], 12),
+];
+
+#[test]
+fn a_loaded_segment_has_its_verdict(rt: HostRuntime) -> Result<(), Fail> {
+    for (entry, want) in LOADED {
+        let bytes = with_segment(rt.alloc(), entry)?;
+        assert_eq!(rt; load_code(&bytes), want, "with {entry:?}");
+    }
+    Ok(())
+}
+
+/// Two edits, and the number of the verdict on a run.
+const LOADED_WITHOUT_TEXT: [([(usize, u32); 2], u8); 6] = [
+    ([SAME, SAME], 0),
+    ([(19, 6), SAME], 0),
+    ([(6, 0), SAME], 0),
+    ([(13, 0), SAME], 0),
+    ([(9, 0), (4, 0x00030002)], 6),
+    ([(11, 0), SAME], 9),
+];
+
+#[test]
+fn a_file_without_a_text_loads(rt: HostRuntime) -> Result<(), Fail> {
+    for (edits, want) in LOADED_WITHOUT_TEXT {
+        let bytes = file(rt.alloc(), edits, &[])?;
+        assert_eq!(rt; load_code(&bytes), want, "after {edits:?}");
+    }
+    Ok(())
+}
+
+#[test]
+fn a_loaded_file_has_at_most_80_headers(rt: HostRuntime) -> Result<(), Fail> {
+    let table = [0; 8 * 81];
+    let most = file(rt.alloc(), [(7, 96), (11, 0x500000)], &table)?;
+    assert_eq!(rt; load_code(&most), 0);
+    let more = file(rt.alloc(), [(7, 96), (11, 0x510000)], &table)?;
+    assert_eq!(rt; load_code(&more), 9);
     Ok(())
 }
 

@@ -1,6 +1,6 @@
-//! The verdict on a file.
+//! The verdicts on a file that is to be edited, and on one that is to be run.
 ghost use Rattle.std.specs.Prelude.{◌≡◌};
-ghost use Rattle.elf32_sparc.specs.FileFault.{first_that_holds, header_rows, has_bad_table, fault};
+ghost use Rattle.elf32_sparc.specs.FileFault.{first_that_holds, header_rows, has_bad_table, fault, load_fault};
 
 use crate::fault::FileFault;
 use crate::header::{
@@ -8,8 +8,10 @@ use crate::header::{
 };
 use crate::survey::Survey;
 
-/// How many program headers a file that is edited has at most.
+/// How many program headers a file has at most: one that is edited, and one that is run.
 const MOST_HEADERS: u16 = 64;
+
+const MOST_RUN_HEADERS: u16 = 80;
 
 /// What keeps a file from being edited: the first fault that it has.
 pub fn verdict(bytes: &[u8]) -> Option<FileFault>
@@ -19,6 +21,16 @@ pub fn verdict(bytes: &[u8]) -> Option<FileFault>
         return Some(fault);
     }
     Survey::of(bytes).fault(word_at(bytes, E_ENTRY))
+}
+
+/// What keeps a file from being run: the first fault that it has. Its text isn't judged.
+pub fn load_verdict(bytes: &[u8]) -> Option<FileFault>
+    ensures { result ≡ load_fault bytes.now }
+{
+    if let Some(fault) = header_fault(bytes, MOST_RUN_HEADERS) {
+        return Some(fault);
+    }
+    Survey::of(bytes).run_fault()
 }
 
 /// The first fault of the file header and of the place of the table of program headers, of which there

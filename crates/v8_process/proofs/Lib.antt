@@ -3,3 +3,4 @@ pub mod Arguments
 pub mod Entry
 pub mod Fetched
 pub mod Valid
+pub mod StackBytes

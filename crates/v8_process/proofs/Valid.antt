@@ -129,7 +129,7 @@ rounded_down-most n = omega arith
 rounded_down-near : (n : ℕ) → n ≤ rounded_down n + 7
 rounded_down-near n = omega arith
 
-stack-count : (texts : List (List ℕ)) → FitsStack texts
+pub stack-count : (texts : List (List ℕ)) → FitsStack texts
     → length (stack_region texts).bytes ≡ stack_end - stack_start
 stack-count texts fits =
     five_parts (replicate below 0) (flat_map (to_be_bytes w32) (argument_words texts)) (replicate between 0)

@@ -10,6 +10,10 @@ ghost use Rattle.v8_process.specs.Fetched.{CodeIsFetched, TextIsFetched};
 ghost use Rattle.v8_process.specs.Laws.{StartsAtEntry};
 ghost use Rattle.v8_process.specs.Valid.{MappingsHaveRoom, StartsValid};
 
+mod stack;
+#[cfg(test)]
+mod tests;
+
 /// A program starts at its entry, alive, with a stack pointer that is a multiple of 8.
 pub fn starts_at_entry()
     ensures { (file : List ℕ) (args : List (List ℕ)) (input : List ℕ) → StartsAtEntry file args input }

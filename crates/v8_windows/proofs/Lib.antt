@@ -1,1 +1,2 @@
+pub mod FrameLoops
 pub mod Places

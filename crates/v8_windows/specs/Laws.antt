@@ -1,7 +1,8 @@
 -- The laws of registers and windows.
 use Rattle.std.specs.Prelude.{◌≡◌, ◌≢◌, ℕ, ◌+◌, ◌<◌, ◌≤◌, List, length}
 use Rattle.v8_windows.specs.Registers.{place_of, register_in, register_set, window_after, windows}
-use Rattle.v8_windows.specs.Frames.{frame_bytes, with_frame}
+use Rattle.v8_windows.specs.Frames.{frame_bytes, frame_registers, with_frame}
+use Rattle.v8_windows.specs.Calls.{frame_words, registers_of_words}
 
 -- The ins of a window are the outs of the next one.
 abbrev pub WindowsOverlap : Type 0
@@ -25,3 +26,10 @@ FramesFit =
     ((registers : List ℕ) (window : ℕ) → length (frame_bytes registers window) ≡ 64)
     × ((registers : List ℕ) (window : ℕ) (bytes : List ℕ)
     → length (with_frame registers window bytes) ≡ length registers)
+
+-- Loading a frame from its bytes is loading it from the words of these bytes.
+abbrev pub FramesLoad : Type 0
+FramesLoad =
+    (registers : List ℕ) (window : ℕ) (bytes : List ℕ)
+    → with_frame registers window bytes
+    ≡ registers_of_words registers window frame_registers (frame_words 16 bytes)

@@ -5,7 +5,13 @@
 //! its contract. The sections named are those of The SPARC Architecture Manual, Version 8.
 #![tactic(auto)]
 
-ghost use Rattle.v8_windows.specs.Laws.{WindowsOverlap, RegistersHold, FramesFit};
+ghost use Rattle.v8_windows.specs.Laws.{WindowsOverlap, RegistersHold, FramesFit, FramesLoad};
+
+#[cfg(test)]
+mod tests;
+mod windows;
+
+pub use windows::{MustFill, MustSpill, Windows};
 
 /// The ins of a window are the outs of the next one (section 4.1).
 pub fn windows_overlap()
@@ -20,4 +26,9 @@ pub fn registers_hold()
 /// A window's frame has 64 bytes, and loading one keeps the number of registers.
 pub fn frames_fit()
     ensures { FramesFit }
+{}
+
+/// Loading a frame from its bytes is loading it from the words of these bytes.
+pub fn frames_load()
+    ensures { FramesLoad }
 {}

@@ -1,0 +1,331 @@
+//! The memory of a running program.
+ghost use Rattle.std.specs.Prelude.{◌≡◌, ◌<◌, ◌^◌, take, drop, length, map, ◌++◌, MatchOption, MatchResult, IfOk, IsTrue};
+ghost use Rattle.std.specs.Int.{w8, w16, w32, from_be_bytes, to_be_bytes};
+ghost use Rattle.std.specs.List.{All, filter, find};
+ghost use Rattle.v8_memory.specs.Regions.{covers, region_at, bytes_at, with_bytes, written, all_written, fetch_of, heap_end_of, buffer_read, buffer_written, is_code, if_allowed};
+ghost use Rattle.v8_memory.specs.Segments.{region_of};
+ghost use Rattle.v8_memory.specs.Calls.{IsPlan, mapping_of_plan, memory_of, load_of, store_of, Loads, Stores, Fills, moved_heap_end};
+
+use crate::fault::MemFault;
+use crate::region::{HEAP_ROOM, HEAP_START, Region};
+use eel_base::{Addr, NoMemory};
+use elf32_sparc::SegFlags;
+use std::alloc::Global;
+use std::marker::Model;
+
+/// A region that is to be made: `len` bytes from `start` on, of which the first are given and the others
+/// are zeros.
+#[derive(Clone, Copy)]
+pub struct RegionPlan<'a> {
+    pub start: Addr,
+    pub len: u32,
+    pub flags: SegFlags,
+    pub first: &'a [u8],
+}
+
+/// Regions, and the heap with its end that moves.
+#[derive(Drop)]
+pub struct Memory {
+    heap: Region,
+    regions: Vec<Region>,
+}
+
+impl Model for Memory {
+    ghost use Rattle.std.specs.Prelude.{◌≡◌, ◌≤◌, length};
+    ghost use Rattle.v8_memory.specs.Regions.{Memory as MemoryValue};
+    ghost use Rattle.v8_memory.specs.Segments.{heap_start, heap_room};
+
+    ghost Value = { MemoryValue };
+
+    ghost view = { λ m. record { heap = m.heap; regions = m.regions.items } };
+
+    ghost invariant = { λ m. (m.heap.start ≡ heap_start) × (length m.heap.bytes ≡ heap_room) × (m.heap.size ≤ heap_room) };
+}
+
+impl Memory {
+    /// Memory with these regions, and a heap of which nothing is mapped yet. All bytes that the heap may
+    /// take are taken here.
+    pub fn new(alloc: Global, plans: &[RegionPlan]) -> Result<Memory, NoMemory>
+        requires { All (λ plan. IsPlan (mapping_of_plan plan)) plans.now }
+        ensures { IfOk result (λ memory. memory ≡ memory_of (map mapping_of_plan plans.now)) }
+    {
+        let heap = Region::heap(alloc)?;
+        let regions = planned(alloc, plans)?;
+        Ok(Memory { heap, regions })
+    }
+
+    #[inline]
+    pub fn load8(&self, address: Addr) -> Result<u8, MemFault>
+        ensures { Loads (from_be_bytes w8) (load_of self.now 1 address.0) result }
+    {
+        let bytes = self.load(address, 1)?;
+        Ok(bytes[0])
+    }
+
+    #[inline]
+    pub fn load16(&self, address: Addr) -> Result<u16, MemFault>
+        ensures { Loads (from_be_bytes w16) (load_of self.now 2 address.0) result }
+    {
+        let bytes = self.load(address, 2)?;
+        Ok(u16::from_be_bytes([bytes[0], bytes[1]]))
+    }
+
+    #[inline]
+    pub fn load32(&self, address: Addr) -> Result<u32, MemFault>
+        ensures { Loads (from_be_bytes w32) (load_of self.now 4 address.0) result }
+    {
+        let bytes = self.load(address, 4)?;
+        Ok(word_of(bytes))
+    }
+
+    /// The word at the address, and the word after it.
+    #[inline]
+    pub fn load64(&self, address: Addr) -> Result<(u32, u32), MemFault>
+        ensures { Loads (λ bytes. (from_be_bytes w32 (take 4 bytes), from_be_bytes w32 (drop 4 bytes))) (load_of self.now 8 address.0) result }
+    {
+        let bytes = self.load(address, 8)?;
+        Ok((word_of(&bytes[..4]), word_of(&bytes[4..])))
+    }
+
+    #[inline]
+    pub fn store8(&mut self, address: Addr, value: u8) -> Result<(), MemFault>
+        ensures { Stores (store_of self.old address.0 (to_be_bytes w8 value)) self.old self.new result }
+    {
+        self.store(address, &value.to_be_bytes())
+    }
+
+    #[inline]
+    pub fn store16(&mut self, address: Addr, value: u16) -> Result<(), MemFault>
+        ensures { Stores (store_of self.old address.0 (to_be_bytes w16 value)) self.old self.new result }
+    {
+        self.store(address, &value.to_be_bytes())
+    }
+
+    #[inline]
+    pub fn store32(&mut self, address: Addr, value: u32) -> Result<(), MemFault>
+        ensures { Stores (store_of self.old address.0 (to_be_bytes w32 value)) self.old self.new result }
+    {
+        self.store(address, &value.to_be_bytes())
+    }
+
+    /// Stores two words, the first at the address.
+    #[inline]
+    pub fn store64(&mut self, address: Addr, value: (u32, u32)) -> Result<(), MemFault>
+        ensures { Stores (store_of self.old address.0 (to_be_bytes w32 value.0 ++ to_be_bytes w32 value.1)) self.old self.new result }
+    {
+        let first = value.0.to_be_bytes();
+        let second = value.1.to_be_bytes();
+        let bytes = [
+            first[0], first[1], first[2], first[3], second[0], second[1], second[2], second[3],
+        ];
+        self.store(address, &bytes)
+    }
+
+    /// The word at an address, where it may be executed.
+    #[inline]
+    #[tactic(auto, unfolding(crate::specs::Regions::fetch_of))]
+    pub fn fetch(&self, address: Addr) -> Option<u32>
+        ensures { result ≡ fetch_of self.now address.0 }
+    {
+        if address.0 % 4 != 0 {
+            return None;
+        }
+        match find_code(&self.regions, address.0) {
+            Some(region) => Some(word_of(region.part(address.0, 4))),
+            None => None,
+        }
+    }
+
+    /// The bytes from an address on, where they may be read.
+    pub fn part(&self, address: Addr, len: u32) -> Option<&[u8]>
+        ensures bytes { MatchOption result (buffer_read self.now address.0 len ≡ None) (λ bytes. buffer_read self.now address.0 len ≡ Some bytes.now) }
+        ensures len { MatchOption result (0 < len) (λ bytes. length bytes.now ≡ len) }
+    {
+        if len == 0 {
+            return Some(&[]);
+        }
+        self.read(address.0, len)
+    }
+
+    /// Writes the bytes from an address on, where that may be written; else nothing changes.
+    pub fn fill(&mut self, address: Addr, bytes: &[u8]) -> bool
+        requires { length bytes.now < 2 ^ 32 }
+        ensures { Fills (buffer_written self.old address.0 bytes.now) self.old self.new result }
+    {
+        bytes.is_empty() || self.write(address.0, bytes)
+    }
+
+    /// The first address after the heap.
+    pub fn heap_end(&self) -> Addr
+        ensures { result.0 ≡ heap_end_of self.now }
+    {
+        Addr(self.heap.end() as u32)
+    }
+
+    /// Moves the heap's end, where it may have this one. Every byte keeps its value, those above the end
+    /// too.
+    pub fn set_heap_end(&mut self, address: Addr) -> bool
+        ensures { Fills (moved_heap_end self.old address.0) self.old self.new result }
+    {
+        let allowed = HEAP_START <= address.0 && address.0 <= HEAP_START + HEAP_ROOM;
+        if allowed {
+            self.heap.set_size(address.0 - HEAP_START);
+        }
+        allowed
+    }
+
+    /// The bytes of an access of this size.
+    #[inline]
+    fn load(&self, address: Addr, size: u32) -> Result<&[u8], MemFault>
+        requires { 0 < size }
+        ensures bytes { MatchResult result (λ bytes. load_of self.now size address.0 ≡ Ok bytes.now) (λ fault. load_of self.now size address.0 ≡ Err fault) }
+        ensures len { IfOk result (λ bytes. length bytes.now ≡ size) }
+    {
+        if address.0 % size != 0 {
+            return Err(MemFault::Misaligned);
+        }
+        match self.read(address.0, size) {
+            Some(bytes) => Ok(bytes),
+            None => Err(MemFault::NoAccess),
+        }
+    }
+
+    /// Stores all of the bytes as one access.
+    #[inline]
+    fn store(&mut self, address: Addr, bytes: &[u8]) -> Result<(), MemFault>
+        requires some { 0 < length bytes.now }
+        requires short { length bytes.now < 2 ^ 32 }
+        ensures { Stores (store_of self.old address.0 bytes.now) self.old self.new result }
+    {
+        if address.0 as usize % bytes.len() != 0 {
+            return Err(MemFault::Misaligned);
+        }
+        if self.write(address.0, bytes) {
+            Ok(())
+        } else {
+            Err(MemFault::NoAccess)
+        }
+    }
+
+    /// The region that has all these bytes.
+    #[inline]
+    fn region(&self, address: u32, count: u32) -> Option<&Region>
+        ensures { MatchOption result (region_at self.now address count ≡ None) (λ region. (region_at self.now address count ≡ Some region.now) × IsTrue (covers address count region.now)) }
+    {
+        if self.heap.covers(address, count) {
+            Some(&self.heap)
+        } else {
+            find(&self.regions, address, count)
+        }
+    }
+
+    /// The bytes from an address on, where one region has them all and may be read.
+    #[inline]
+    #[tactic(auto, unfolding(crate::specs::Regions::bytes_at))]
+    fn read(&self, address: u32, count: u32) -> Option<&[u8]>
+        ensures { MatchOption result (bytes_at self.now address count ≡ None) (λ bytes. (bytes_at self.now address count ≡ Some bytes.now) × (length bytes.now ≡ count)) }
+    {
+        match self.region(address, count) {
+            Some(region) => {
+                if region.is_readable() {
+                    Some(region.part(address, count))
+                } else {
+                    None
+                }
+            }
+            None => None,
+        }
+    }
+
+    /// Whether one region has all these bytes and may be written.
+    #[inline]
+    #[tactic(auto, unfolding(crate::specs::Regions::with_bytes))]
+    fn may_write(&self, address: u32, bytes: &[u8]) -> bool
+        requires { length bytes.now < 2 ^ 32 }
+        ensures { with_bytes self.now address bytes.now ≡ if_allowed result (all_written address bytes.now self.now) }
+    {
+        match self.region(address, bytes.len() as u32) {
+            Some(region) => region.is_writable(),
+            None => false,
+        }
+    }
+
+    /// Writes the bytes, where one region has them all and may be written.
+    #[inline]
+    fn write(&mut self, address: u32, bytes: &[u8]) -> bool
+        requires { length bytes.now < 2 ^ 32 }
+        ensures { Fills (with_bytes self.old address bytes.now) self.old self.new result }
+    {
+        let allowed = self.may_write(address, bytes);
+        if allowed {
+            self.write_all(address, bytes);
+        }
+        allowed
+    }
+
+    /// Writes the bytes into every region that has them all and may be written.
+    #[inline]
+    fn write_all(&mut self, address: u32, bytes: &[u8])
+        requires { length bytes.now < 2 ^ 32 }
+        ensures { self.new ≡ all_written address bytes.now self.old }
+    {
+        self.heap.write(address, bytes);
+        write_each(&mut self.regions, address, bytes);
+    }
+}
+
+/// The regions of some plans.
+fn planned(alloc: Global, plans: &[RegionPlan]) -> Result<Vec<Region>, NoMemory>
+    requires { All (λ plan. IsPlan (mapping_of_plan plan)) plans.now }
+    ensures { IfOk result (λ regions. regions.items ≡ map region_of (map mapping_of_plan plans.now)) }
+{
+    let mut regions = Vec::with_capacity(alloc, plans.len())?;
+    for plan in plans {
+        regions.push(Region::planned(alloc, plan)?)?;
+    }
+    Ok(regions)
+}
+
+/// The first region that has all these bytes.
+#[inline]
+fn find<'a>(regions: &'a [Region], address: u32, count: u32) -> Option<&'a Region>
+    ensures { MatchOption result (find (covers address count) regions.now ≡ None) (λ region. (find (covers address count) regions.now ≡ Some region.now) × IsTrue (covers address count region.now)) }
+{
+    for region in regions {
+        if region.covers(address, count) {
+            return Some(region);
+        }
+    }
+    None
+}
+
+/// The first region that has the word at an address, of those whose words may be executed.
+#[inline]
+fn find_code<'a>(regions: &'a [Region], address: u32) -> Option<&'a Region>
+    ensures { MatchOption result (find (covers address 4) (filter is_code regions.now) ≡ None) (λ region. (find (covers address 4) (filter is_code regions.now) ≡ Some region.now) × IsTrue (covers address 4 region.now)) }
+{
+    for region in regions {
+        if region.is_code() && region.covers(address, 4) {
+            return Some(region);
+        }
+    }
+    None
+}
+
+fn write_each(regions: &mut [Region], address: u32, bytes: &[u8])
+    requires { length bytes.now < 2 ^ 32 }
+    ensures { regions.new ≡ map (written address bytes.now) regions.old }
+{
+    for region in regions.iter_mut() {
+        region.write(address, bytes);
+    }
+}
+
+/// The word in four bytes, the highest first.
+#[inline]
+fn word_of(bytes: &[u8]) -> u32
+    requires { length bytes.now ≡ 4 }
+    ensures { result ≡ from_be_bytes w32 bytes.now }
+{
+    u32::from_be_bytes([bytes[0], bytes[1], bytes[2], bytes[3]])
+}

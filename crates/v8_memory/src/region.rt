@@ -1,0 +1,148 @@
+//! Bytes that are mapped together, and what a program may do with them.
+ghost use Rattle.std.specs.Prelude.{◌≡◌, ◌+◌, ◌<◌, ◌≤◌, ◌^◌, IsTrue, IfOk, length};
+ghost use Rattle.v8_memory.specs.Regions.{covers, part_of, written, is_code};
+ghost use Rattle.v8_memory.specs.Segments.{region_of, empty_heap};
+ghost use Rattle.v8_memory.specs.Calls.{IsPlan, mapping_of_plan};
+
+use crate::memory::RegionPlan;
+use bitflags::Flags;
+use eel_base::NoMemory;
+use elf32_sparc::SegFlags;
+use std::alloc::Global;
+use std::marker::Model;
+
+/// Where the heap starts, and how many bytes it may take.
+pub const HEAP_START: u32 = 0x8000_0000;
+
+pub const HEAP_ROOM: u32 = 1 << 24;
+
+/// The first `size` of `bytes` are mapped, from `start` on.
+#[derive(Drop)]
+pub struct Region {
+    start: u32,
+    size: u32,
+    readable: bool,
+    writable: bool,
+    executable: bool,
+    bytes: Vec<u8>,
+}
+
+impl Model for Region {
+    ghost use Rattle.std.specs.Prelude.{◌+◌, ◌≤◌, ◌^◌, vec_len};
+    ghost use Rattle.v8_memory.specs.Regions.{Region as RegionValue};
+
+    ghost Value = { RegionValue };
+
+    ghost view = { λ r. record { start = r.start; size = r.size; readable = r.readable; writable = r.writable; executable = r.executable; bytes = r.bytes.items } };
+
+    ghost invariant = { λ r. (r.size ≤ vec_len r.bytes) × (r.start + r.size ≤ 2 ^ 32) };
+}
+
+impl Region {
+    /// The heap, of which nothing is mapped yet. All bytes that it may take are taken here.
+    pub fn heap(alloc: Global) -> Result<Region, NoMemory>
+        ensures { IfOk result (λ region. region ≡ empty_heap) }
+    {
+        let bytes = vec![in alloc; 0; HEAP_ROOM as usize]?;
+        Ok(Region {
+            start: HEAP_START,
+            size: 0,
+            readable: true,
+            writable: true,
+            executable: false,
+            bytes,
+        })
+    }
+
+    /// The region of a plan: its first bytes, and zeros after them.
+    pub fn planned(alloc: Global, plan: &RegionPlan) -> Result<Region, NoMemory>
+        requires { IsPlan (mapping_of_plan plan.now) }
+        ensures { IfOk result (λ region. region ≡ region_of (mapping_of_plan plan.now)) }
+    {
+        let mut bytes = Vec::with_capacity(alloc, plan.len as usize)?;
+        bytes.extend_from_slice(plan.first)?;
+        bytes.resize(plan.len as usize, 0)?;
+        Ok(Region {
+            start: plan.start.0,
+            size: plan.len,
+            readable: plan.flags.contains(SegFlags::PF_R),
+            writable: plan.flags.contains(SegFlags::PF_W),
+            executable: plan.flags.contains(SegFlags::PF_X),
+            bytes,
+        })
+    }
+
+    /// Whether all `count` bytes from `address` on are mapped here.
+    #[inline]
+    pub fn covers(&self, address: u32, count: u32) -> bool
+        ensures { result ≡ covers address count self.now }
+    {
+        self.start <= address
+            && u64::from(address) + u64::from(count) <= u64::from(self.start) + u64::from(self.size)
+    }
+
+    #[inline]
+    pub fn is_readable(&self) -> bool
+        ensures { result ≡ self.now.readable }
+    {
+        self.readable
+    }
+
+    #[inline]
+    pub fn is_writable(&self) -> bool
+        ensures { result ≡ self.now.writable }
+    {
+        self.writable
+    }
+
+    /// Whether its words may be executed.
+    #[inline]
+    pub fn is_code(&self) -> bool
+        ensures { result ≡ is_code self.now }
+    {
+        self.executable && !self.writable
+    }
+
+    /// `count` of its bytes, from `address` on.
+    #[inline]
+    pub fn part(&self, address: u32, count: u32) -> &[u8]
+        requires { IsTrue (covers address count self.now) }
+        ensures bytes { result.now ≡ part_of self.now address count }
+        ensures len { length result.now ≡ count }
+    {
+        let from = (address - self.start) as usize;
+        &self.bytes[from..from + count as usize]
+    }
+
+    /// Puts the bytes where they belong, if it has them all and may be written.
+    #[inline]
+    pub fn write(&mut self, address: u32, bytes: &[u8])
+        requires { length bytes.now < 2 ^ 32 }
+        ensures after { self.new ≡ written address bytes.now self.old }
+        ensures start { self.new.start ≡ self.old.start }
+        ensures size { self.new.size ≡ self.old.size }
+        ensures len { length self.new.bytes ≡ length self.old.bytes }
+    {
+        if self.covers(address, bytes.len() as u32) && self.writable {
+            let from = (address - self.start) as usize;
+            self.bytes[from..from + bytes.len()].copy_from_slice(bytes);
+        }
+    }
+
+    /// Where its mapped bytes end.
+    #[inline]
+    pub fn end(&self) -> u64
+        ensures { result ≡ self.now.start + self.now.size }
+    {
+        u64::from(self.start) + u64::from(self.size)
+    }
+
+    /// Maps the first `size` of its bytes.
+    pub fn set_size(&mut self, size: u32)
+        requires bytes { size ≤ length self.old.bytes }
+        requires end { self.old.start + size ≤ 2 ^ 32 }
+        ensures { self.new ≡ record self.old { size = size } }
+    {
+        self.size = size;
+    }
+}
