@@ -1,13 +1,17 @@
--- What comes of a command, why, and what the files hold afterwards.
-use Rattle.std.specs.Prelude.{◌≡◌, ℕ, ◌≤◌, ◌<◌, ◌⊎◌, List, length, Option, Some, None}
-use Rattle.eel_base.specs.Outside.{Holding, stored, IsMissing, AreUnder, IsLonger, SameBut, Rose}
+-- What comes of a command, why, and what the files hold and the streams have taken afterwards.
+use Rattle.std.specs.Prelude.{◌≡◌, ◌≢◌, ℕ, suc, ◌*◌, ◌^◌, ◌≤◌, ◌<◌, ◌⊎◌, List, [], length, codes, Option, Some, None}
+use Rattle.eel_base.specs.Outside.{Holding, stored, IsMissing, AreUnder, IsLonger, SameBut, Rose, preceded, IsAtEnd, GaveSome, appended, TookPart}
 use Rattle.elf32_sparc.specs.declared.fault.FileFault.{FileFault}
-use Rattle.elf32_sparc.specs.FileFault.{fault, code_of}
+use Rattle.elf32_sparc.specs.FileFault.{fault, load_fault, code_of}
 use Rattle.elf32_sparc.specs.Image.{image_of}
+use Rattle.v8_step.specs.declared.Ending.{Ending}
+use Rattle.v8_step.specs.State.{State}
+use Rattle.v8_step.specs.Run.{run, run_puts}
+use Rattle.v8_process.specs.Start.{start_of}
 use Rattle.eel.specs.declared.straight.EditFault.{EditFault}
 use Rattle.eel.specs.declared.straight.EditFault.TheVariants as faults
-use Rattle.eel.specs.Command.{Command, EditPlain, Unknown}
-use Rattle.eel.specs.Outcome.{Outcome, Done, BadWords, BadFile, NotBuilt, TooLong, NoRoom, OutOfMemory, DeviceFault, Stream, Shows}
+use Rattle.eel.specs.Command.{Command, EditPlain, Run, Unknown}
+use Rattle.eel.specs.Outcome.{Outcome, Done, Stopped, BadWords, BadFile, NotBuilt, TooLong, NoRoom, OutOfMemory, DeviceFault, Stream, Shows, line_of}
 use Rattle.eel.specs.Faithful.{IsFaithful}
 use Rattle.eel.specs.Straight.{IsStraight, IsFirstTransfer, bound_of, edited}
 
@@ -19,19 +23,49 @@ pub record Store : Type 0 where
 abbrev pub store : Option Holding → ℕ → Store
 store held faults = record { held = held; faults = faults }
 
--- how long a file may be that is edited
+-- The input: what it has left, where it tells it, and its faults.
+pub record Feed : Type 0 where
+  pub left : Option (List ℕ)
+  pub faults : ℕ
+
+abbrev pub feed : Option (List ℕ) → ℕ → Feed
+feed left faults = record { left = left; faults = faults }
+
+-- all that a call has to do with
+pub record Outside : Type 0 where
+  pub files : Store
+  pub input : Feed
+  pub out : Stream
+  pub err : Stream
+
+abbrev pub outside : Store → Feed → Stream → Stream → Outside
+outside files input out err = record { files = files; input = input; out = out; err = err }
+
+-- how long a file may be that is edited, one that is run, and the input of a run
 abbrev pub edit_limit : ℕ
-edit_limit = 67108864
+edit_limit = 64 * 2 ^ 20
+
+abbrev pub run_limit : ℕ
+run_limit = 1536 * 2 ^ 20
+
+abbrev pub input_limit : ℕ
+input_limit = 64 * 2 ^ 20
 
 -- the name was read, and gave these bytes
-pub record WasRead (files : Store) (name : List ℕ) (bytes : List ℕ) : Type 0 where
+pub record WasRead (files : Store) (name : List ℕ) (limit : ℕ) (bytes : List ℕ) : Type 0 where
   pub under : AreUnder files.held name bytes
-  pub within : length bytes ≤ edit_limit
+  pub within : length bytes ≤ limit
 
--- the command edits; `P` says more of its two names
+-- the command edits, or runs; `P` says more of its words
 abbrev pub Edits : Command → (List ℕ → List ℕ → Type 0) → Type 0
-Edits Unknown P = ⊥
 Edits (EditPlain input output) P = P input output
+Edits (Run file limit args) P = ⊥
+Edits Unknown P = ⊥
+
+abbrev pub Runs : Command → (List ℕ → ℕ → List (List ℕ) → Type 0) → Type 0
+Runs (EditPlain input output) P = ⊥
+Runs (Run file limit args) P = P file limit args
+Runs Unknown P = ⊥
 
 -- Bytes that were read, by what they are.
 
@@ -41,6 +75,10 @@ IsSound bytes = fault bytes ≡ None
 
 abbrev pub IsFaulty : ℕ → List ℕ → Type 0
 IsFaulty code bytes = (first : FileFault) × (fault bytes ≡ Some first) × (code ≡ code_of first)
+
+-- a file that can't be run
+abbrev pub IsNotLoaded : ℕ → List ℕ → Type 0
+IsNotLoaded code bytes = (first : FileFault) × (load_fault bytes ≡ Some first) × (code ≡ code_of first)
 
 -- a sound file with a word that isn't built yet, first at this address
 abbrev pub IsUnbuilt : ℕ → List ℕ → Type 0
@@ -72,40 +110,168 @@ refusal_of name (faults.Room needed had) = NoRoom name needed had
 refusal_of name faults.NoMemory = OutOfMemory
 
 -- the name was read, and its bytes are of some kind
-abbrev pub Read : Store → List ℕ → (List ℕ → Type 0) → Type 0
-Read files name Kind = (bytes : List ℕ) × WasRead files name bytes × Kind bytes
+abbrev pub Read : Store → List ℕ → ℕ → (List ℕ → Type 0) → Type 0
+Read files name limit Kind = (bytes : List ℕ) × WasRead files name limit bytes × Kind bytes
 
--- what follows from a command: each outcome with its cause, and what the files hold afterwards
-abbrev pub Follows : Command → Store → Store → Outcome → Type 0
+-- ---- what an edit does
+
+pub record IsEdited (files new_files : Store) (output bytes : List ℕ) : Type 0 where
+  pub built : CanEdit bytes
+  pub held : new_files.held ≡ stored files.held output (edited bytes)
+  pub faithful : IsFaithful bytes (edited bytes)
+
+-- the streams are as they were
+pub record IsQuiet (old new : Outside) : Type 0 where
+  pub input : new.input.left ≡ old.input.left
+  pub out : new.out.taken ≡ old.out.taken
+  pub err : new.err.taken ≡ old.err.taken
+
+-- ---- what a run does
+
+-- all of the input was read
+pub record WasFed (old new : Feed) (input : List ℕ) : Type 0 where
+  pub all : old.left ≡ preceded input new.left
+  pub end : IsAtEnd new.left
+  pub within : length input ≤ input_limit
+
+-- each of the first `steps` steps is made by a state that hasn't ended
+abbrev pub AreMade : State → ℕ → Type 0
+AreMade s0 steps = (k : ℕ) → k < steps → (run s0 k).ending ≡ None
+
+-- the run stops at its limit, or with the first state that has ended
+abbrev pub StopsAt : State → ℕ → ℕ → Type 0
+StopsAt s0 limit steps = (steps ≡ limit) ⊎ ((steps ≤ limit) × ((ending : Ending) × ((run s0 steps).ending ≡ Some ending)))
+
+-- the streams took the bytes of so many steps, and `text` after those to the error stream
+pub record HasOutput (s0 : State) (steps : ℕ) (text : List ℕ) (old new : Outside) : Type 0 where
+  pub out : new.out.taken ≡ appended old.out.taken (run_puts s0 steps 1)
+  pub err : new.err.taken ≡ appended (appended old.err.taken (run_puts s0 steps 2)) text
+
+-- the streams took a first part of them
+pub record HasPart (s0 : State) (steps : ℕ) (old new : Outside) : Type 0 where
+  pub out : TookPart old.out.taken new.out.taken (run_puts s0 steps 1)
+  pub err : TookPart old.err.taken new.err.taken (run_puts s0 steps 2)
+
+-- A program with these arguments and all of the input ran from its start for so many steps. The ending line
+-- follows what it put out to the error stream.
+pub record WasRun (old new : Outside) (file : List ℕ) (limit : ℕ) (args : List (List ℕ)) (ending : Option Ending) (steps : ℕ) (text : List ℕ) : Type 0 where
+  pub bytes : List ℕ
+  pub read : WasRead old.files file run_limit bytes
+  pub loads : load_fault bytes ≡ None
+  pub input : List ℕ
+  pub fed : WasFed old.input new.input input
+  pub made : AreMade (start_of bytes args input) steps
+  pub stops : StopsAt (start_of bytes args input) limit steps
+  pub ends : (run (start_of bytes args input) steps).ending ≡ ending
+  pub output : HasOutput (start_of bytes args input) steps text old new
+
+-- A program's run was broken off in the step after these, in which a stream failed.
+pub record WasBroken (old new : Outside) (file : List ℕ) (limit : ℕ) (args : List (List ℕ)) : Type 0 where
+  pub bytes : List ℕ
+  pub read : WasRead old.files file run_limit bytes
+  pub loads : load_fault bytes ≡ None
+  pub input : List ℕ
+  pub fed : WasFed old.input new.input input
+  pub steps : ℕ
+  pub within : steps < limit
+  pub made : AreMade (start_of bytes args input) (suc steps)
+  pub output : HasPart (start_of bytes args input) (suc steps) old new
+
+-- ---- what follows from a command: each outcome with its cause, and what is afterwards, before its line
+
+abbrev pub standard_input : List ℕ
+standard_input = codes "standard input"
+
+-- what a run's input has taken of it once it is too long
+abbrev pub IsFedTooLong : Feed → Feed → Type 0
+IsFedTooLong old new = GaveSome (λ count. count ≡ suc input_limit) old.left new.left
+
+-- the command that reads the file has a reason to refuse it
+abbrev pub Refuses : Command → Store → List ℕ → ℕ → Type 0
+Refuses (EditPlain input output) files name code = (name ≡ input) × Read files input edit_limit (IsFaulty code)
+Refuses (Run file limit args) files name code = (name ≡ file) × Read files file run_limit (IsNotLoaded code)
+Refuses Unknown files name code = ⊥
+
+-- a text that the command reads is too long
+abbrev pub IsTooLong : Command → Outside → Outside → List ℕ → ℕ → Type 0
+IsTooLong (EditPlain input output) old new name limit =
+    (name ≡ input) × (limit ≡ edit_limit) × IsLonger old.files.held input limit
+IsTooLong (Run file most args) old new name limit =
+    ((name ≡ file) × (limit ≡ run_limit) × IsLonger old.files.held file limit)
+    ⊎ ((name ≡ standard_input) × (limit ≡ input_limit) × IsFedTooLong old.input new.input)
+IsTooLong Unknown old new name limit = ⊥
+
+-- a device failed, or a name is known not to be held
+abbrev pub Fails : Command → Outside → Outside → Type 0
+Fails (EditPlain input output) old new =
+    (IsMissing old.files.held input ⊎ Rose old.files.faults new.files.faults)
+    × SameBut output old.files.held new.files.held
+    × (Rose old.files.faults new.files.faults ⊎ (new.files.held ≡ old.files.held))
+    × IsQuiet old new
+Fails (Run file limit args) old new =
+    (IsMissing old.files.held file ⊎ Rose old.files.faults new.files.faults ⊎ Rose old.input.faults new.input.faults
+    ⊎ Rose old.out.faults new.out.faults ⊎ Rose old.err.faults new.err.faults)
+    × (new.files.held ≡ old.files.held)
+    × (((new.out.taken ≡ old.out.taken) × (new.err.taken ≡ old.err.taken)) ⊎ WasBroken old new file limit args)
+Fails Unknown old new = ⊥
+
+-- the outcome is a refusal before any output
+abbrev pub IsUntouched : Outside → Outside → Type 0
+IsUntouched old new =
+    (new.files.held ≡ old.files.held) × (new.out.taken ≡ old.out.taken) × (new.err.taken ≡ old.err.taken)
+
+abbrev pub Follows : Command → Outside → Outside → Outcome → Type 0
 Follows command old new Done = Edits command (λ input output.
-    Read old input (λ bytes.
-    CanEdit bytes × (new.held ≡ stored old.held output (edited bytes)) × IsFaithful bytes (edited bytes)))
-Follows command old new BadWords = (command ≡ Unknown) × (new.held ≡ old.held)
-Follows command old new (BadFile name code) = Edits command (λ input output.
-    (name ≡ input) × Read old input (IsFaulty code) × (new.held ≡ old.held))
+    Read old.files input edit_limit (IsEdited old.files new.files output) × IsQuiet old new)
+Follows command old new (Stopped ending steps) = Runs command (λ file limit args.
+    WasRun old new file limit args ending steps [] × (new.files.held ≡ old.files.held))
+Follows command old new BadWords = (command ≡ Unknown) × IsUntouched old new
+Follows command old new (BadFile name code) = Refuses command old.files name code × IsUntouched old new
 Follows command old new (NotBuilt name address) = Edits command (λ input output.
-    (name ≡ input) × Read old input (IsUnbuilt address) × (new.held ≡ old.held))
-Follows command old new (TooLong name limit) = Edits command (λ input output.
-    (name ≡ input) × (limit ≡ edit_limit) × IsLonger old.held input limit × (new.held ≡ old.held))
+    (name ≡ input) × Read old.files input edit_limit (IsUnbuilt address)) × IsUntouched old new
+Follows command old new (TooLong name limit) = IsTooLong command old new name limit × IsUntouched old new
 Follows command old new (NoRoom name needed had) = Edits command (λ input output.
-    (name ≡ input) × Read old input (IsCramped needed had) × (new.held ≡ old.held))
-Follows command old new OutOfMemory = Edits command (λ input output. new.held ≡ old.held)
-Follows command old new DeviceFault = Edits command (λ input output.
-    (IsMissing old.held input ⊎ Rose old.faults new.faults)
-    × SameBut output old.held new.held × (Rose old.faults new.faults ⊎ (new.held ≡ old.held)))
+    (name ≡ input) × Read old.files input edit_limit (IsCramped needed had)) × IsUntouched old new
+Follows command old new OutOfMemory = (command ≢ Unknown) × IsUntouched old new
+Follows command old new DeviceFault = Fails command old new
+
+-- what changes once the line is written
+abbrev pub with_err : Outside → Stream → Outside
+with_err old err = record old { err = err }
 
 -- A call of the program: some outcome follows from the command, and shows.
-pub record Ran (command : Command) (files new_files : Store) (err new_err : Stream) (status : ℕ) : Type 0 where
+pub record Ran (command : Command) (old new : Outside) (status : ℕ) : Type 0 where
   pub outcome : Outcome
-  pub follows : Follows command files new_files outcome
-  pub shown : Shows outcome status err new_err
+  pub err : Stream
+  pub follows : Follows command old (with_err new err) outcome
+  pub shown : Shows outcome status err new.err
 
--- The same, by the status.
+-- ---- the same, by the status
+
+-- Status 0: what was asked for is done, and nothing else.
+abbrev pub IsDone : Command → Outside → Outside → Type 0
+IsDone (EditPlain input output) old new =
+    Read old.files input edit_limit (IsEdited old.files new.files output) × IsQuiet old new
+IsDone (Run file limit args) old new =
+    (ending : Option Ending) × (steps : ℕ)
+    × WasRun old new file limit args ending steps (line_of (Stopped ending steps)) × (new.files.held ≡ old.files.held)
+IsDone Unknown old new = ⊥
 
 -- the statuses of a refusal
 abbrev pub IsRefusal : ℕ → Type 0
 IsRefusal status = (status ≡ 64) ⊎ (status ≡ 65) ⊎ (status ≡ 66) ⊎ (status ≡ 69) ⊎ (status ≡ 70)
 
--- the name that the command reads is known not to be held
-abbrev pub Lacks : Command → Store → Type 0
-Lacks command files = Edits command (λ input output. IsMissing files.held input)
+-- Status 74: a count of faults rose, or the name that is read isn't held.
+abbrev pub MayFail : Command → Outside → Outside → Type 0
+MayFail (EditPlain input output) old new =
+    Rose old.files.faults new.files.faults ⊎ Rose old.err.faults new.err.faults ⊎ IsMissing old.files.held input
+MayFail (Run file limit args) old new =
+    Rose old.files.faults new.files.faults ⊎ Rose old.input.faults new.input.faults
+    ⊎ Rose old.out.faults new.out.faults ⊎ Rose old.err.faults new.err.faults ⊎ IsMissing old.files.held file
+MayFail Unknown old new = Rose old.err.faults new.err.faults
+
+-- the command doesn't run
+abbrev pub UnlessRun : Command → Type 0 → Type 0
+UnlessRun (EditPlain input output) P = P
+UnlessRun (Run file limit args) P = Unit {0}
+UnlessRun Unknown P = P

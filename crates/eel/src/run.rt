@@ -1,0 +1,42 @@
+//! The command `run`.
+ghost use Rattle.std.specs.Prelude.{◌≤◌};
+ghost use Rattle.v8_process.specs.Arguments.{AreArguments};
+ghost use Rattle.eel.specs.Command.{Run, texts};
+ghost use Rattle.eel.specs.Outcome.{outcome_seen, stream};
+ghost use Rattle.eel.specs.Answers.{Follows, outside, store, feed};
+
+use crate::outcome::Outcome;
+use eel_base::{Files, Sink, Source};
+use std::alloc::Global;
+
+/// A program that is to run.
+#[derive(Clone, Copy)]
+pub struct Job<'a> {
+    pub file: &'a str,
+    pub limit: u64,
+    pub args: &'a [&'a str],
+}
+
+/// Reads the program and all of its input, and runs it. What it puts out goes to `out` and `err`.
+pub fn run_program<'a, F: Files, I: Source, O: Sink, E: Sink>(
+    alloc: Global,
+    job: Job<'a>,
+    files: &mut F,
+    input: &mut I,
+    out: &mut O,
+    err: &mut E,
+) -> Outcome<'a>
+    requires few { AreArguments (texts job.args.now) }
+    ensures follows { Follows (Run job.entry.file.now job.entry.limit (texts job.entry.args.now))
+        (outside (store (F.held files.old) (F.faults files.old)) (feed (I.left input.old) (I.faults input.old))
+        (stream (O.taken out.old) (O.faults out.old)) (stream (E.taken err.old) (E.faults err.old)))
+        (outside (store (F.held files.new) (F.faults files.new)) (feed (I.left input.new) (I.faults input.new))
+        (stream (O.taken out.new) (O.faults out.new)) (stream (E.taken err.new) (E.faults err.new)))
+        (outcome_seen result) }
+    ensures files_faults { F.faults files.old ≤ F.faults files.new }
+    ensures input_faults { I.faults input.old ≤ I.faults input.new }
+    ensures out_faults { O.faults out.old ≤ O.faults out.new }
+    ensures err_faults { E.faults err.old ≤ E.faults err.new }
+{
+    Outcome::OutOfMemory
+}
