@@ -10,8 +10,8 @@ use Rattle.elf32_sparc.specs.Mapping.{Mapping, mapping_of, mappings}
 use Rattle.elf32_sparc.specs.Image.{image_of, highest_end, segment_of, segment_end}
 use Rattle.elf32_sparc.specs.Notes.{NoteRange, notes_of}
 use Rattle.eel.specs.Answers.{CanEdit}
-use Rattle.eel.specs.Straight.{plan_of, edited, delta_of, carried_on, bound_of}
-use Rattle.eel.specs.Written.{Plan, count, added_headers, segment_headers, notes_at}
+use Rattle.eel.specs.Straight.{plan_of, edited, delta_of, bound_of}
+use Rattle.eel.specs.Written.{Plan, count, added_headers, notes_at}
 use Rattle.eel.specs.Faithful.{IsFaithful, IsWhole, HasPages, IsPage, IsPlace, kept, word_mapped}
 use Rattle.eel.proofs.WrittenFacts.{IsPlan, HeaderFacts, PartFacts, notes_of_plan, range_of, ranges_from}
 use Rattle.eel.proofs.MappedFiles.{plan-original, plan-delta, plan-text, plan-base, mapped}
@@ -102,12 +102,12 @@ unfolding notes_of_plan
 places_from file plan parts all =
     let p = plan_of file in
     ranges-all (IsPlace file (edited file)) p 0 (count p) (λ k from to. λ word inside straight same.
-        let text = plan-text file in
-        let starts = ap (λ t. t.start) text in
-        let number : k ≡ word = omega arith in
-        placed file (edited file) plan parts all k (omega arith)
-        ∙ ap (λ t. Some (slice_index t.words k)) text
-        ∙ ap (λ n. Some (slice_index (image_of file).text.words n)) number)
+    let text = plan-text file in
+    let starts = ap (λ t. t.start) text in
+    let number : k ≡ word = omega arith in
+    placed file (edited file) plan parts all k (omega arith)
+    ∙ ap (λ t. Some (slice_index t.words k)) text
+    ∙ ap (λ n. Some (slice_index (image_of file).text.words n)) number)
 
 whole_from : (file : List ℕ) → IsPlan (plan_of file) → HeaderFacts (plan_of file) (edited file)
     → PartFacts (plan_of file) (edited file)

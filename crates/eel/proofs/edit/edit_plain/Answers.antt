@@ -1,5 +1,5 @@
-use Rattle.eel.proofs.edit.edit_plain.Goals as goal
 use Rattle.std.proofs.Common.{rules}
+use Rattle.eel.proofs.edit.edit_plain.Goals as goal
 
 pub returns-in-Err-TooLong-clause-follows : goal.returns-in-Err-TooLong-clause-follows
 returns-in-Err-TooLong-clause-follows g c = λ feed out err. search rules
