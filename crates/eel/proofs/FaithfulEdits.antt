@@ -10,8 +10,8 @@ use Rattle.elf32_sparc.specs.Mapping.{Mapping, mapping_of, mappings}
 use Rattle.elf32_sparc.specs.Image.{image_of, highest_end, segment_of, segment_end}
 use Rattle.elf32_sparc.specs.Notes.{NoteRange, notes_of}
 use Rattle.eel.specs.Answers.{CanEdit}
-use Rattle.eel.specs.Straight.{plan_of, edited, delta_of, carried_on, bound_of}
-use Rattle.eel.specs.Written.{Plan, count, added_headers, segment_headers, notes_at}
+use Rattle.eel.specs.Straight.{plan_of, edited, delta_of, bound_of}
+use Rattle.eel.specs.Written.{Plan, count, added_headers, notes_at}
 use Rattle.eel.specs.Faithful.{IsFaithful, IsWhole, HasPages, IsPage, IsPlace, kept, word_mapped}
 use Rattle.eel.proofs.WrittenFacts.{IsPlan, HeaderFacts, PartFacts, notes_of_plan, range_of, ranges_from}
 use Rattle.eel.proofs.MappedFiles.{plan-original, plan-delta, plan-text, plan-base, mapped}

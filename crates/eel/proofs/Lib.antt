@@ -1,3 +1,4 @@
+pub mod Broken
 pub mod Carried
 pub mod CodeWords
 pub mod FaithfulEdits
@@ -15,6 +16,7 @@ pub mod Plans
 pub mod Powers
 pub mod ReadNotes
 pub mod RunsAlike
+pub mod Shown
 pub mod TwinStarts
 pub mod ValidStarts
 pub mod WordsBytes

@@ -1,5 +1,5 @@
 -- What comes of a command, why, and what the files hold and the streams have taken afterwards.
-use Rattle.std.specs.Prelude.{◌≡◌, ℕ, suc, ◌*◌, ◌^◌, ◌≤◌, ◌<◌, ◌⊎◌, List, length, codes, Option, Some, None}
+use Rattle.std.specs.Prelude.{◌≡◌, ◌≢◌, ℕ, suc, ◌*◌, ◌^◌, ◌≤◌, ◌<◌, ◌⊎◌, List, [], length, codes, Option, Some, None}
 use Rattle.eel_base.specs.Outside.{Holding, stored, IsMissing, AreUnder, IsLonger, SameBut, Rose, preceded, IsAtEnd, GaveSome, appended, TookPart}
 use Rattle.elf32_sparc.specs.declared.fault.FileFault.{FileFault}
 use Rattle.elf32_sparc.specs.FileFault.{fault, load_fault, code_of}
@@ -261,8 +261,17 @@ IsDone Unknown old new = ⊥
 abbrev pub IsRefusal : ℕ → Type 0
 IsRefusal status = (status ≡ 64) ⊎ (status ≡ 65) ⊎ (status ≡ 66) ⊎ (status ≡ 69) ⊎ (status ≡ 70)
 
--- the name that the command reads is known not to be held
-abbrev pub Lacks : Command → Store → Type 0
-Lacks (EditPlain input output) files = IsMissing files.held input
-Lacks (Run file limit args) files = IsMissing files.held file
-Lacks Unknown files = ⊥
+-- Status 74: a count of faults rose, or the name that is read isn't held.
+abbrev pub MayFail : Command → Outside → Outside → Type 0
+MayFail (EditPlain input output) old new =
+    Rose old.files.faults new.files.faults ⊎ Rose old.err.faults new.err.faults ⊎ IsMissing old.files.held input
+MayFail (Run file limit args) old new =
+    Rose old.files.faults new.files.faults ⊎ Rose old.input.faults new.input.faults
+    ⊎ Rose old.out.faults new.out.faults ⊎ Rose old.err.faults new.err.faults ⊎ IsMissing old.files.held file
+MayFail Unknown old new = Rose old.err.faults new.err.faults
+
+-- the command doesn't run
+abbrev pub UnlessRun : Command → Type 0 → Type 0
+UnlessRun (EditPlain input output) P = P
+UnlessRun (Run file limit args) P = Unit {0}
+UnlessRun Unknown P = P

@@ -3,6 +3,7 @@ use Rattle.std.specs.Prelude.{ℕ, ◌+◌, ◌-◌, ◌*◌, ◌^◌, ◌&&◌,
 use Rattle.std.specs.Borrow.{Bor}
 use Rattle.std.specs.List.{fold, list_all}
 use Rattle.std.specs.Str.{bytes_eq}
+use Rattle.v8_process.specs.Arguments.{AreArguments}
 use Rattle.v8_process.specs.Start.{strings}
 use Rattle.eel.specs.declared.command.Command as declared
 use Rattle.eel.specs.declared.command.Command.TheVariants as variants
@@ -74,6 +75,11 @@ command_of [] = Unknown
 command_of (verb ∷ words) =
     if bytes_eq verb (codes "edit") then edit_of words else
     if bytes_eq verb (codes "run") then run_of words else Unknown
+
+-- the arguments of a run, where the command is one, are ones that a program can be given
+abbrev pub HasArguments : Command → Type 0
+HasArguments (Run file limit args) = AreArguments args
+HasArguments _ = Unit {0}
 
 -- the texts that a list of words points to
 abbrev pub texts : List (Bor (List ℕ)) → List (List ℕ)

@@ -1,12 +1,20 @@
 //! The words of the program.
-ghost use Rattle.std.specs.Prelude.{◌≡◌};
-ghost use Rattle.eel.specs.Command.{command_of, command_seen, edit_of, run_of, options_of, arguments_of, run_with, are_few, limit_of, texts};
+ghost use Rattle.std.specs.Prelude.{◌≡◌, ◌+◌, length, nat_le};
+ghost use Rattle.std.specs.Bool.{OnTrue};
+ghost use Rattle.std.specs.List.{All, list_all};
+ghost use Rattle.v8_step.specs.Valid.{AreBytes};
+ghost use Rattle.v8_process.specs.Arguments.{AreArguments};
+ghost use Rattle.v8_process.specs.Start.{strings};
+ghost use Rattle.eel.specs.Command.{HasArguments, command_of, command_seen, edit_of, run_of, options_of, arguments_of, are_few, is_digit, limit_of, texts};
 
 /// What the words ask for.
 #[derive(Clone, Copy)]
 pub enum Command<'a> {
     /// `edit INPUT OUTPUT plain`: write the file `input` again as `output`, without snippets.
-    EditPlain { input: &'a str, output: &'a str },
+    EditPlain {
+        input: &'a str,
+        output: &'a str,
+    },
     /// `run FILE [-n LIMIT] [-- ARG..]`: run the program `file` with these arguments, for `limit` steps at most.
     Run {
         file: &'a str,
@@ -20,17 +28,19 @@ pub enum Command<'a> {
 /// How many steps a run makes at most, where the words don't say it.
 const DEFAULT_LIMIT: u64 = 100_000_000;
 
-/// How many arguments a program can be given, and how many bytes they have at most, with the zero byte after each.
+/// How many arguments a program can be given.
 const MOST_ARGUMENTS: usize = 1000;
 
-const MOST_ARGUMENT_BYTES: u64 = 65_536;
+/// How many bytes they have at most, with a zero byte after each.
+const MOST_ARGUMENT_BYTES: usize = 65_536;
 
 /// How many digits a limit has at most.
 const MOST_DIGITS: usize = 20;
 
 /// The command that the words are.
 pub fn parse<'a>(words: &'a [&'a str]) -> Command<'a>
-    ensures { command_seen result ≡ command_of (texts words.now) }
+    ensures command { command_seen result ≡ command_of (texts words.now) }
+    ensures few { HasArguments (command_seen result) }
 {
     match words {
         [verb, words @ ..] if *verb == "edit" => parse_edit(words),
@@ -51,21 +61,33 @@ fn parse_edit<'a>(words: &'a [&'a str]) -> Command<'a>
 
 /// What follows the word `run`: the file, a limit that `-n` names, and arguments after `--`.
 fn parse_run<'a>(words: &'a [&'a str]) -> Command<'a>
-    ensures { command_seen result ≡ run_of (texts words.now) }
+    ensures command { command_seen result ≡ run_of (texts words.now) }
+    ensures few { HasArguments (command_seen result) }
 {
     match words {
-        [file, option, limit, words @ ..] if *option == "-n" => match parse_limit(limit) {
+        [file, words @ ..] => parse_options(file, words),
+        [] => Command::Unknown,
+    }
+}
+
+/// What follows the file.
+fn parse_options<'a>(file: &'a str, words: &'a [&'a str]) -> Command<'a>
+    ensures command { command_seen result ≡ options_of file.now (texts words.now) }
+    ensures few { HasArguments (command_seen result) }
+{
+    match words {
+        [option, limit, words @ ..] if *option == "-n" => match parse_limit(limit) {
             Some(limit) => parse_arguments(file, limit, words),
             None => Command::Unknown,
         },
-        [file, words @ ..] => parse_arguments(file, DEFAULT_LIMIT, words),
-        [] => Command::Unknown,
+        _ => parse_arguments(file, DEFAULT_LIMIT, words),
     }
 }
 
 /// What follows the options.
 fn parse_arguments<'a>(file: &'a str, limit: u64, words: &'a [&'a str]) -> Command<'a>
-    ensures { command_seen result ≡ arguments_of file.now limit (texts words.now) }
+    ensures command { command_seen result ≡ arguments_of file.now limit (texts words.now) }
+    ensures few { HasArguments (command_seen result) }
 {
     match words {
         [] => Command::Run {
@@ -82,17 +104,46 @@ fn parse_arguments<'a>(file: &'a str, limit: u64, words: &'a [&'a str]) -> Comma
 fn parse_limit(text: &str) -> Option<u64>
     ensures { result ≡ limit_of text.now }
 {
-    let digits = text.as_bytes();
-    if digits.is_empty() || digits.len() > MOST_DIGITS || !digits.iter().all(|digit| digit.is_ascii_digit()) {
+    if text.is_empty() || text.len() > MOST_DIGITS || !are_digits(text) {
         return None;
     }
     text.parse().ok()
 }
 
+/// The text is of decimal digits alone.
+fn are_digits(text: &str) -> bool
+    ensures { result ≡ list_all is_digit text.now }
+{
+    text.as_bytes().iter().all(|byte| byte.is_ascii_digit())
+}
+
 /// The arguments are no more than a program can be given.
 fn are_few(args: &[&str]) -> bool
-    ensures { result ≡ are_few (texts args.now) }
+    ensures few { result ≡ are_few (texts args.now) }
+    ensures arguments { OnTrue result (AreArguments (texts args.now)) }
 {
-    args.len() <= MOST_ARGUMENTS
-        && args.iter().map(|arg| arg.len() as u64 + 1).sum::<u64>() <= MOST_ARGUMENT_BYTES
+    args.len() <= MOST_ARGUMENTS && have_room(args, MOST_ARGUMENT_BYTES)
+}
+
+/// The arguments have `room` bytes at most.
+fn have_room(args: &[&str], mut room: usize) -> bool
+    ensures room { result ≡ nat_le (length (strings (texts args.now))) room }
+    ensures bytes { OnTrue result (All AreBytes (texts args.now)) }
+{
+    for arg in args {
+        let size = argument_size(arg);
+        if room < size {
+            return false;
+        }
+        room -= size;
+    }
+    true
+}
+
+/// How many bytes an argument has, with the zero byte after it.
+fn argument_size(arg: &str) -> usize
+    ensures size { result ≡ length arg.now + 1 }
+    ensures bytes { AreBytes arg.now }
+{
+    arg.len() + 1
 }

@@ -1,8 +1,8 @@
 //! The command `edit`.
 ghost use Rattle.std.specs.Prelude.{◌≡◌, ◌≤◌};
 ghost use Rattle.eel.specs.Command.{EditPlain};
-ghost use Rattle.eel.specs.Outcome.{outcome_seen};
-ghost use Rattle.eel.specs.Answers.{Follows, refusal_of, store};
+ghost use Rattle.eel.specs.Outcome.{Stream, outcome_seen};
+ghost use Rattle.eel.specs.Answers.{Feed, Follows, outside, refusal_of, store};
 
 use crate::outcome::Outcome;
 use crate::straight::{EditFault, edited};
@@ -19,9 +19,10 @@ pub fn edit_plain<'a, F: Files>(
     input: &'a str,
     output: &str,
 ) -> Outcome<'a>
-    ensures follows { Follows (EditPlain input.now output.now)
-        (store (F.held files.old) (F.faults files.old)) (store (F.held files.new) (F.faults files.new))
-        (outcome_seen result) }
+    // Whatever the streams are, they stay so.
+    ensures follows { (feed : Feed) (out err : Stream) → Follows (EditPlain input.now output.now)
+        (outside (store (F.held files.old) (F.faults files.old)) feed out err)
+        (outside (store (F.held files.new) (F.faults files.new)) feed out err) (outcome_seen result) }
     ensures later { F.faults files.old ≤ F.faults files.new }
 {
     let bytes = match files.fetch(alloc, input, EDIT_LIMIT) {

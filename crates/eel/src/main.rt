@@ -4,6 +4,7 @@
 mod command;
 mod edit;
 mod outcome;
+mod run;
 mod straight;
 #[cfg(test)]
 mod tests;
@@ -22,7 +23,7 @@ fn words_given(rt: &HostRuntime) -> io::Result<Vec<String>> {
 }
 
 /// Runs the command that the words are, with the files and streams of the system.
-fn run(rt: &HostRuntime) -> io::Result<u8> {
+fn run_command(rt: &HostRuntime) -> io::Result<u8> {
     let words = words_given(rt)?;
     let words: Vec<&str> = words.iter().map(|word| word.as_str()).collect(rt.alloc())?;
     let mut files = RealFiles::new(rt);
@@ -48,7 +49,7 @@ fn refusal(fault: io::Error) -> Outcome<'static> {
 }
 
 fn main(rt: HostRuntime) -> ExitCode {
-    let status = match run(&rt) {
+    let status = match run_command(&rt) {
         Ok(status) => status,
         Err(fault) => outcome::show(&refusal(fault), &mut StdSink::new(rt.stderr())),
     };

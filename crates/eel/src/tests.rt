@@ -1,4 +1,5 @@
 //! The program over objects in memory: that it answers, and what it writes.
+use crate::command::{Command, parse};
 use crate::top::eel;
 use eel_base::{MemFiles, MemSink, MemSource, be16_at, be32_at};
 use std::alloc::Global;
@@ -210,5 +211,46 @@ fn a_long_file_and_a_full_stream(rt: HostRuntime) -> Result<(), Fail> {
         b"eel: long: longer than 67108864 bytes\neel".as_slice()
     );
     assert!(rt; outside.files.get("out").is_none());
+    Ok(())
+}
+
+/// The limit and the number of arguments of a run that the words ask for.
+fn run_of(words: &[&str]) -> Option<(u64, usize)> {
+    match parse(words) {
+        Command::Run { limit, args, .. } => Some((limit, args.len())),
+        _ => None,
+    }
+}
+
+#[test]
+fn words_of_a_run(rt: HostRuntime) -> Result<(), Fail> {
+    let bad: [&[&str]; 6] = [
+        &["run"],
+        &["run", "f", "-n"],
+        &["run", "f", "-n", "0x1"],
+        &["run", "f", "-n", "18446744073709551616"],
+        &["run", "f", "-n", "1", "-n", "2"],
+        &["run", "f", "x"],
+    ];
+    for words in bad {
+        assert_eq!(rt; run_of(words), None);
+    }
+    assert_eq!(rt; run_of(&["run", "-n"]), Some((100_000_000, 0)));
+    assert_eq!(rt;
+        run_of(&["run", "--", "-n", "00000000000000000007", "--", "--", ""]),
+        Some((7, 2))
+    );
+    Ok(())
+}
+
+#[test]
+fn a_thousand_arguments(rt: HostRuntime) -> Result<(), Fail> {
+    let mut words = vec![in rt.alloc(); "run", "f", "--"]?;
+    for _ in 0..1000 {
+        words.push("x")?;
+    }
+    assert_eq!(rt; run_of(&words), Some((100_000_000, 1000)));
+    words.push("x")?;
+    assert_eq!(rt; run_of(&words), None);
     Ok(())
 }

@@ -1,13 +1,13 @@
 //! The one call that the program makes.
-ghost use Rattle.std.specs.Prelude.{◌≡◌, ◌≤◌, ◌⊎◌};
-ghost use Rattle.eel_base.specs.Outside.{Rose};
+ghost use Rattle.std.specs.Prelude.{◌≡◌, ◌≤◌};
 ghost use Rattle.eel.specs.Command.{Unknown, command_of, texts};
-ghost use Rattle.eel.specs.Outcome.{Done, outcome_seen, stream};
-ghost use Rattle.eel.specs.Answers.{Ran, Follows, IsRefusal, Lacks, store};
+ghost use Rattle.eel.specs.Outcome.{outcome_seen, stream};
+ghost use Rattle.eel.specs.Answers.{Ran, Follows, IsDone, IsRefusal, MayFail, UnlessRun, outside, store, feed};
 
 use crate::command::{Command, parse};
 use crate::edit::edit_plain;
 use crate::outcome::{Outcome, show};
+use crate::run::{Job, run_program};
 use eel_base::{Files, Sink, Source};
 use std::alloc::Global;
 
@@ -20,40 +20,65 @@ pub fn eel<F: Files, I: Source, O: Sink, E: Sink>(
     out: &mut O,
     err: &mut E,
 ) -> u8
-    // What comes of the words and the files, and how it shows.
+    // What comes of the words, the files and the input, and how it shows.
     ensures ran { Ran (command_of (texts words.now))
-        (store (F.held files.old) (F.faults files.old)) (store (F.held files.new) (F.faults files.new))
-        (stream (E.taken err.old) (E.faults err.old)) (stream (E.taken err.new) (E.faults err.new)) result }
+        (outside (store (F.held files.old) (F.faults files.old)) (feed (I.left input.old) (I.faults input.old))
+        (stream (O.taken out.old) (O.faults out.old)) (stream (E.taken err.old) (E.faults err.old)))
+        (outside (store (F.held files.new) (F.faults files.new)) (feed (I.left input.new) (I.faults input.new))
+        (stream (O.taken out.new) (O.faults out.new)) (stream (E.taken err.new) (E.faults err.new))) result }
 
-    // Done: what was asked for is held under its name, and nothing was said.
-    ensures done { result ≡ 0 → Follows (command_of (texts words.now))
-        (store (F.held files.old) (F.faults files.old)) (store (F.held files.new) (F.faults files.new)) Done }
-    ensures silent { result ≡ 0 → E.taken err.new ≡ E.taken err.old }
+    // Done: an edit holds what was asked for under its name and says nothing; a run put out what its program did.
+    ensures done { result ≡ 0 → IsDone (command_of (texts words.now))
+        (outside (store (F.held files.old) (F.faults files.old)) (feed (I.left input.old) (I.faults input.old))
+        (stream (O.taken out.old) (O.faults out.old)) (stream (E.taken err.old) (E.faults err.old)))
+        (outside (store (F.held files.new) (F.faults files.new)) (feed (I.left input.new) (I.faults input.new))
+        (stream (O.taken out.new) (O.faults out.new)) (stream (E.taken err.new) (E.faults err.new))) }
 
-    // A refusal changes no file.
+    // A refusal changes no file and puts nothing out.
     ensures refused { IsRefusal result → F.held files.new ≡ F.held files.old }
+    ensures quiet { IsRefusal result → O.taken out.new ≡ O.taken out.old }
     ensures bad_words { result ≡ 64 → command_of (texts words.now) ≡ Unknown }
-    ensures fault { result ≡ 74 →
-        Rose (F.faults files.old) (F.faults files.new) ⊎ Rose (E.faults err.old) (E.faults err.new)
-        ⊎ Lacks (command_of (texts words.now)) (store (F.held files.old) (F.faults files.old)) }
+    ensures fault { result ≡ 74 → MayFail (command_of (texts words.now))
+        (outside (store (F.held files.old) (F.faults files.old)) (feed (I.left input.old) (I.faults input.old))
+        (stream (O.taken out.old) (O.faults out.old)) (stream (E.taken err.old) (E.faults err.old)))
+        (outside (store (F.held files.new) (F.faults files.new)) (feed (I.left input.new) (I.faults input.new))
+        (stream (O.taken out.new) (O.faults out.new)) (stream (E.taken err.new) (E.faults err.new))) }
 
-    // The other streams are not used.
-    ensures input { I.left input.new ≡ I.left input.old }
-    ensures out { O.taken out.new ≡ O.taken out.old }
+    // Only a run uses the input and the output.
+    ensures input { UnlessRun (command_of (texts words.now)) (I.left input.new ≡ I.left input.old) }
+    ensures out { UnlessRun (command_of (texts words.now)) (O.taken out.new ≡ O.taken out.old) }
 {
-    let outcome = perform(alloc, words, files);
+    let outcome = perform(alloc, words, files, input, out, err);
     show(&outcome, err)
 }
 
 /// Does what the words ask for, and says what came of it.
-fn perform<'a, F: Files>(alloc: Global, words: &[&'a str], files: &mut F) -> Outcome<'a>
+fn perform<'a, F: Files, I: Source, O: Sink, E: Sink>(
+    alloc: Global,
+    words: &'a [&'a str],
+    files: &mut F,
+    input: &mut I,
+    out: &mut O,
+    err: &mut E,
+) -> Outcome<'a>
     ensures follows { Follows (command_of (texts words.now))
-        (store (F.held files.old) (F.faults files.old)) (store (F.held files.new) (F.faults files.new))
+        (outside (store (F.held files.old) (F.faults files.old)) (feed (I.left input.old) (I.faults input.old))
+        (stream (O.taken out.old) (O.faults out.old)) (stream (E.taken err.old) (E.faults err.old)))
+        (outside (store (F.held files.new) (F.faults files.new)) (feed (I.left input.new) (I.faults input.new))
+        (stream (O.taken out.new) (O.faults out.new)) (stream (E.taken err.new) (E.faults err.new)))
         (outcome_seen result) }
-    ensures later { F.faults files.old ≤ F.faults files.new }
+    ensures input { UnlessRun (command_of (texts words.now)) (I.left input.new ≡ I.left input.old) }
+    ensures out { UnlessRun (command_of (texts words.now)) (O.taken out.new ≡ O.taken out.old) }
+    ensures files_faults { F.faults files.old ≤ F.faults files.new }
+    ensures input_faults { I.faults input.old ≤ I.faults input.new }
+    ensures out_faults { O.faults out.old ≤ O.faults out.new }
+    ensures err_faults { E.faults err.old ≤ E.faults err.new }
 {
     match parse(words) {
         Command::EditPlain { input, output } => edit_plain(alloc, files, input, output),
+        Command::Run { file, limit, args } => {
+            run_program(alloc, Job { file, limit, args }, files, input, out, err)
+        }
         Command::Unknown => Outcome::BadWords,
     }
 }

@@ -1,0 +1,4 @@
+use Rattle.eel.proofs.top.perform.Goals as goal
+
+pub returns-in-EditPlain-clause-follows : goal.returns-in-EditPlain-clause-follows
+returns-in-EditPlain-clause-follows g c = rw (← c.in-EditPlain.ensures.command) (c.edit_plain.ensures.follows _ _ _)
