@@ -15,6 +15,6 @@ mod verdicts;
 pub use fault::{FileFault, ReadFault};
 pub use flags::SegFlags;
 pub use header::ProgramHeader;
-pub use program::{Image, Segment, read_image};
+pub use program::{Image, Segment, read_entry, read_image, read_segments};
 pub use table::read_headers;
 pub use verdicts::{load_verdict, verdict};

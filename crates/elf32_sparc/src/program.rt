@@ -1,8 +1,8 @@
 //! The image of a file that can be edited.
-ghost use Rattle.std.specs.Prelude.{◌≡◌, ◌+◌, ◌%◌, ◌^◌, ◌<◌, ◌≤◌, length, map, drop, slice_index, IfOk};
+ghost use Rattle.std.specs.Prelude.{◌≡◌, ◌+◌, ◌%◌, ◌^◌, ◌<◌, ◌≤◌, length, map, take, drop, slice_index, IfOk};
 ghost use Rattle.byteorder.specs.Endian.{big_number};
 ghost use Rattle.eel_base.specs.CodeText.{IsText};
-ghost use Rattle.elf32_sparc.specs.Header.{program_headers, loadable};
+ghost use Rattle.elf32_sparc.specs.Header.{e_entry, program_headers, loadable};
 ghost use Rattle.elf32_sparc.specs.FileFault.{fault};
 ghost use Rattle.elf32_sparc.specs.Mapping.{file_bytes};
 ghost use Rattle.elf32_sparc.specs.Image.{segment_of, segment_end, highest_end, rounded_up, words_of, text_from, image_of, refusal};
@@ -42,6 +42,13 @@ impl Segment {
             flags: SegFlags(header.p_flags),
             align: header.p_align,
         }
+    }
+
+    /// The bytes of its file that its memory begins with.
+    pub fn file_bytes<'a>(&self, bytes: &'a [u8]) -> &'a [u8]
+        ensures { result.now ≡ take self.now.filesz (drop self.now.offset bytes.now) }
+    {
+        part(bytes, self.offset, self.filesz)
     }
 
     /// Where its memory ends.
@@ -145,8 +152,8 @@ pub fn read_image(alloc: Global, bytes: &[u8]) -> Result<Image, ReadFault>
     })
 }
 
-/// The segments of all loadable entries.
-fn read_segments(alloc: Global, bytes: &[u8]) -> Result<Vec<Segment>, NoMemory>
+/// The segments of all loadable entries, in the file's order.
+pub fn read_segments(alloc: Global, bytes: &[u8]) -> Result<Vec<Segment>, NoMemory>
     ensures { IfOk result (λ segments. segments.items ≡ map segment_of (loadable (program_headers bytes.now))) }
 {
     let table = word_at(bytes, E_PHOFF) as usize;
@@ -158,6 +165,13 @@ fn read_segments(alloc: Global, bytes: &[u8]) -> Result<Vec<Segment>, NoMemory>
         }
     }
     Ok(segments)
+}
+
+/// Where the program starts, as its file has it.
+pub fn read_entry(bytes: &[u8]) -> Addr
+    ensures { result.0 ≡ e_entry bytes.now }
+{
+    Addr(word_at(bytes, E_ENTRY))
 }
 
 /// The first address above the segments that is a multiple of 64 KiB.
@@ -187,8 +201,15 @@ fn read_text(alloc: Global, bytes: &[u8], header: &ProgramHeader) -> Result<Text
 fn file_bytes<'a>(bytes: &'a [u8], header: &ProgramHeader) -> &'a [u8]
     ensures { result.now ≡ file_bytes bytes.now header.now }
 {
-    match bytes.get(header.p_offset as usize..) {
-        Some(rest) => &rest[..rest.len().min(header.p_filesz as usize)],
+    part(bytes, header.p_offset, header.p_filesz)
+}
+
+/// The bytes from `offset` on, and at most `count` of them.
+fn part(bytes: &[u8], offset: u32, count: u32) -> &[u8]
+    ensures { result.now ≡ take count (drop offset bytes.now) }
+{
+    match bytes.get(offset as usize..) {
+        Some(rest) => &rest[..rest.len().min(count as usize)],
         None => &[],
     }
 }

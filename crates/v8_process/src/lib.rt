@@ -10,9 +10,13 @@ ghost use Rattle.v8_process.specs.Fetched.{CodeIsFetched, TextIsFetched};
 ghost use Rattle.v8_process.specs.Laws.{StartsAtEntry};
 ghost use Rattle.v8_process.specs.Valid.{MappingsHaveRoom, StartsValid};
 
+mod loader;
 mod stack;
 #[cfg(test)]
 mod tests;
+
+pub use elf32_sparc::load_verdict;
+pub use loader::{LoadFault, load};
 
 /// A program starts at its entry, alive, with a stack pointer that is a multiple of 8.
 pub fn starts_at_entry()

@@ -3,16 +3,16 @@ ghost use Rattle.std.specs.Prelude.{◌≡◌, ◌+◌, ◌≤◌, ◌<◌, ◌^
 ghost use Rattle.std.specs.Int.{w32, to_be_bytes};
 ghost use Rattle.std.specs.List.{flat_map};
 ghost use Rattle.v8_process.specs.Arguments.{texts};
-ghost use Rattle.v8_process.specs.Start.{program_name, strings, pointers, stack_start, stack_end, strings_address, argument_words, argument_size, words_address, stack_region};
+ghost use Rattle.v8_process.specs.Start.{program_name, strings, pointers, stack_start, stack_end, strings_address, argument_words, argument_size, first_sp, words_address, stack_region};
 ghost use Rattle.v8_process.specs.Valid.{FitsStack};
 
 use eel_base::NoMemory;
 use std::alloc::Global;
 
 /// The addresses of the stack.
-const STACK_START: u32 = 0xeff0_0000;
+pub(crate) const STACK_START: u32 = 0xeff0_0000;
 
-const STACK_END: u32 = 0xf000_0000;
+pub(crate) const STACK_END: u32 = 0xf000_0000;
 
 /// The first string: the name of the program, and its zero byte.
 const PROGRAM_NAME: [u8; 8] = *b"program\0";
@@ -46,6 +46,14 @@ pub(crate) fn stack_bytes(alloc: Global, args: &[&str]) -> Result<Vec<u8>, NoMem
     put_strings(&mut out, args)?;
     put_zeros(&mut out, STACK_END - layout.strings_end)?;
     Ok(out)
+}
+
+/// %sp at the start.
+pub(crate) fn stack_pointer(args: &[&str]) -> u32
+    requires { FitsStack (program_name ∷ texts args.now) }
+    ensures { result ≡ first_sp (program_name ∷ texts args.now) }
+{
+    layout_of(args).words - WINDOW_SIZE
 }
 
 fn layout_of(args: &[&str]) -> Layout

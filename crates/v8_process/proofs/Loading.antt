@@ -1,0 +1,143 @@
+-- What is mapped for a program that starts.
+use Rattle.std.proofs.Common.{◌≡◌, ℕ, ◌+◌, ◌-◌, ◌^◌, ◌≤◌, Bool, true, false, not, ◌&&◌, nat_lt, ◌==◌, List, [], ◌∷◌, ◌++◌, length, map, replicate, All, None, refl, sym, subst, ap, ◌∙◌, arith}
+use Rattle.std.specs.List.{list_any}
+use Rattle.std.proofs.lemmas.Bool.{or_parts, and_parts, ltb-false, eqb-true, false≢true}
+use Rattle.std.proofs.lemmas.List.{append-nil, map-append}
+use Rattle.std.proofs.lemmas.Simd.{map-map}
+use Rattle.std.proofs.lemmas.List.Elements.{All-nil, All-cons, All-head, All-tail, All-push}
+use Rattle.elf32_sparc.specs.declared.header.ProgramHeader.{ProgramHeader}
+use Rattle.elf32_sparc.specs.declared.program.Segment.{Segment}
+use Rattle.elf32_sparc.specs.Header.{program_headers, loadable, end_of}
+use Rattle.elf32_sparc.specs.FileFault.{load_fault, has_memory_outside_a_run, leaves_room, is_last_page}
+use Rattle.elf32_sparc.specs.Mapping.{Mapping, mapping_of, mappings}
+use Rattle.elf32_sparc.specs.Image.{segment_of}
+use Rattle.elf32_sparc.proofs.Loadable.{loadable_file}
+use Rattle.elf32_sparc.proofs.Ranges.{mappings-room}
+use Rattle.v8_memory.specs.declared.memory.RegionPlan as declared
+use Rattle.v8_memory.specs.Regions.{Region, Memory}
+use Rattle.v8_memory.specs.Segments.{region_of, empty_heap}
+use Rattle.v8_memory.specs.Calls.{IsPlan, mapping_of_plan, memory_of}
+use Rattle.v8_process.specs.Loading.{segment_mapping, stack_mapping}
+use Rattle.v8_process.specs.Start.{stack_start, stack_end, stack_region, start_memory}
+use Rattle.v8_process.specs.Valid.{FitsStack}
+use Rattle.v8_process.proofs.Valid.{stack-count}
+
+-- ---- the mappings of a file that can be run can be made
+
+abbrev Ends : Mapping → Type 0
+Ends m = m.start + m.length ≤ 2 ^ 32
+
+-- below the addresses of a program's end, or with the last page
+ends : (file : List ℕ) (h : ProgramHeader) → (leaves_room h && not (is_last_page h)) ≡ false → Ends (mapping_of file h)
+ends file h none = go (leaves_room h) (is_last_page h) refl refl none
+  where
+    go : (outside last : Bool) → leaves_room h ≡ outside → is_last_page h ≡ last → (outside && not last) ≡ false
+        → Ends (mapping_of file h)
+    go false last inside page no_fault =
+        let below : h.p_vaddr + h.p_memsz ≤ 0x80000000 =
+        ltb-false 0x80000000 (end_of h)
+        (or_parts (nat_lt h.p_vaddr 0x1000) (nat_lt 0x80000000 (end_of h)) inside).1 in
+        omega arith
+    go true true inside page no_fault =
+        let parts = and_parts (h.p_vaddr == 0xfffff000) (h.p_memsz == 4096) page in
+        let start : h.p_vaddr ≡ 0xfffff000 = eqb-true _ _ parts.0 in
+        let count : h.p_memsz ≡ 4096 = eqb-true _ _ parts.1 in
+        omega arith
+    go true false inside page no_fault = absurd (false≢true (sym no_fault))
+
+each_ends : (file : List ℕ) (hs : List ProgramHeader) → list_any (λ h. leaves_room h && not (is_last_page h)) hs ≡ false
+    → All Ends (map (mapping_of file) hs)
+each_ends file [] none = All-nil Ends
+each_ends file (h ∷ hs) none =
+    let parts = or_parts (leaves_room h && not (is_last_page h)) (list_any (λ h. leaves_room h && not (is_last_page h)) hs) none in
+    All-cons Ends (mapping_of file h) (map (mapping_of file) hs) (ends file h parts.0) (each_ends file hs parts.1)
+
+mappings-end : (file : List ℕ) → has_memory_outside_a_run (program_headers file) ≡ false → All Ends (mappings file)
+unfolding mappings has_memory_outside_a_run
+mappings-end file none = each_ends file (loadable (program_headers file)) none
+
+mappings-planned : (file : List ℕ) → load_fault file ≡ None → All IsPlan (mappings file)
+mappings-planned file none n d below =
+    let ok = loadable_file file none in
+    record {
+      end = mappings-end file ok.segment_room n d below;
+      room = mappings-room (length file) file ok.segment_file n d below;
+    }
+
+-- ---- and so can the stack
+
+stack-planned : (stack : List ℕ) → length stack ≡ stack_end - stack_start → IsPlan (stack_mapping stack)
+stack-planned stack count = record { end = omega arith; room = omega (arith, count) }
+
+-- what is true of each value is true where it comes from
+All-unmap : {X Y : Type 0} (P : X → Type 0) (f : Y → X) (ys : List Y) → All P (map f ys) → All (λ y. P (f y)) ys
+All-unmap P f [] h = All-nil (λ y. P (f y))
+All-unmap P f (y ∷ ys) h =
+    All-cons (λ y. P (f y)) y ys (All-head P (f y) (map f ys) h)
+    (All-unmap P f ys (All-tail P (f y) (map f ys) h))
+
+-- ---- all that is mapped
+
+segments-mapped : (file : List ℕ)
+    → map (segment_mapping file) (map segment_of (loadable (program_headers file))) ≡ mappings file
+unfolding mappings
+segments-mapped file = map-map (segment_mapping file) segment_of (loadable (program_headers file))
+
+-- the plans of the segments and of the stack
+pub record ArePlans (file : List ℕ) (all : List (List ℕ)) (plans : List declared.RegionPlan) : Type 0 where
+  pub mapped : map mapping_of_plan plans ≡ mappings file ++ stack_mapping (stack_region all).bytes ∷ []
+
+-- those of what was read and made
+pub plans-mapped : (file : List ℕ) (all : List (List ℕ)) (segments : List Segment) (stack : List ℕ)
+    (plans : List declared.RegionPlan) → segments ≡ map segment_of (loadable (program_headers file))
+    → stack ≡ (stack_region all).bytes
+    → map mapping_of_plan plans ≡ map (segment_mapping file) segments ++ stack_mapping stack ∷ []
+    → ArePlans file all plans
+plans-mapped file all segments stack plans read made planned = record {
+  mapped =
+      planned
+      ∙ ap (λ (all : List Segment). map (segment_mapping file) all ++ stack_mapping stack ∷ []) read
+      ∙ ap (λ (ms : List Mapping). ms ++ stack_mapping stack ∷ []) (segments-mapped file)
+      ∙ ap (λ (bytes : List ℕ). mappings file ++ stack_mapping bytes ∷ []) made;
+}
+
+pub plans-fit : (file : List ℕ) (all : List (List ℕ)) (plans : List declared.RegionPlan) → ArePlans file all plans
+    → load_fault file ≡ None → FitsStack all → All (λ plan. IsPlan (mapping_of_plan plan)) plans
+plans-fit file all plans are none fits =
+    All-unmap IsPlan mapping_of_plan plans
+    (subst (All IsPlan) (sym are.mapped)
+    (All-push IsPlan (mappings file) (stack_mapping (stack_region all).bytes) (mappings-planned file none)
+    (stack-planned (stack_region all).bytes (stack-count all fits))))
+
+-- ---- the memory
+
+no_zeros : (n : ℕ) (bytes : List ℕ) → length bytes ≡ n → bytes ++ replicate (n - length bytes) 0 ≡ bytes
+no_zeros n bytes count =
+    ap (λ (z : ℕ). bytes ++ replicate z 0) (none_left (length bytes) n count) ∙ append-nil bytes
+  where
+    none_left : (long n : ℕ) → long ≡ n → n - long ≡ 0
+    none_left long n same = omega arith
+
+abbrev stack_with : List ℕ → Region
+stack_with bytes = record {
+  start = stack_start;
+  size = stack_end - stack_start;
+  readable = true;
+  writable = true;
+  executable = false;
+  bytes = bytes;
+}
+
+stack-mapped : (all : List (List ℕ)) → FitsStack all
+    → region_of (stack_mapping (stack_region all).bytes) ≡ stack_region all
+stack-mapped all fits = ap stack_with (no_zeros (stack_end - stack_start) (stack_region all).bytes (stack-count all fits))
+
+abbrev memory_with : List Region → Memory
+memory_with regions = record { heap = empty_heap; regions = regions }
+
+pub plans-made : (file : List ℕ) (all : List (List ℕ)) (plans : List declared.RegionPlan) → ArePlans file all plans
+    → FitsStack all → memory_of (map mapping_of_plan plans) ≡ start_memory file all
+plans-made file all plans are fits =
+    ap memory_of are.mapped
+    ∙ ap memory_with (map-append region_of (mappings file) (stack_mapping (stack_region all).bytes ∷ [])
+    ∙ ap (λ (r : Region). map region_of (mappings file) ++ r ∷ []) (stack-mapped all fits))
