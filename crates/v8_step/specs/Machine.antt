@@ -1,6 +1,6 @@
 -- What the parts of a machine's step answer, and what they leave.
 use Rattle.std.specs.Prelude.{◌≡◌, ℕ, ◌-◌, Bool, true, false, List, [], take, Option, Some, None, Result, Ok, Err, unwrap_or, ◌&&◌, ◌==◌, if◌then◌else◌}
-use Rattle.std.specs.Int.{Width, byte_len, w8, w16, from_be_bytes}
+use Rattle.std.specs.Int.{Width, w8, w16, from_be_bytes}
 use Rattle.eel_base.specs.Outside.{appended, TookPart}
 use Rattle.v8_decode.specs.declared.LoadKind.{LoadKind}
 use Rattle.v8_decode.specs.declared.LoadKind.TheVariants as loads
@@ -9,7 +9,6 @@ use Rattle.v8_decode.specs.declared.Instr.TheVariants as i
 use Rattle.v8_memory.specs.declared.fault.MemFault.{MemFault}
 use Rattle.v8_memory.specs.declared.fault.MemFault.TheVariants.{Misaligned, NoAccess}
 use Rattle.v8_memory.specs.Regions.{Memory, buffer_read}
-use Rattle.v8_memory.specs.Calls.{load_of, store_of}
 use Rattle.v8_step.specs.Traps.{mem_address_not_aligned, data_access_exception, call_system}
 use Rattle.v8_windows.specs.Registers.{window_after}
 use Rattle.v8_windows.specs.Frames.{with_frame}
@@ -41,21 +40,13 @@ value_of loads.LDD bytes = word_of (take 4 bytes)
 value_of loads.LDSB bytes = extended 8 (from_be_bytes w8 bytes)
 value_of loads.LDSH bytes = extended 16 (from_be_bytes w16 bytes)
 
--- bytes that a load gave, as a number of a width, where others could be stored in their place; where either
--- access is refused nothing changes
-abbrev pub Exchanges_stored : ℕ → Result Memory MemFault → State → State → Result ℕ MemFault → Type 0
-Exchanges_stored value (Ok m) old new result = (result ≡ Ok value) × (new ≡ record old { memory = m })
-Exchanges_stored value (Err fault) old new result = (result ≡ Err fault) × (new ≡ old)
-
-abbrev pub Exchanges_loaded : Width → Result (List ℕ) MemFault → Result Memory MemFault → State → State → Result ℕ MemFault → Type 0
-Exchanges_loaded width (Ok bytes) stored old new result =
-    Exchanges_stored (from_be_bytes width bytes) stored old new result
-Exchanges_loaded width (Err fault) stored old new result = (result ≡ Err fault) × (new ≡ old)
-
--- the number at an address was read and bytes were written in its place, where both are allowed
-abbrev pub Exchanges : Width → ℕ → List ℕ → State → State → Result ℕ MemFault → Type 0
-Exchanges width address bytes old new result =
-    Exchanges_loaded width (load_of old.memory (byte_len width) address) (store_of old.memory address bytes) old new result
+-- a number was read and bytes were written in its place; where either access is refused nothing changes
+abbrev pub Exchanges : Width → Result (List ℕ) MemFault → Result Memory MemFault → State → State
+    → Result ℕ MemFault → Type 0
+Exchanges width (Ok bytes) (Ok m) old new result =
+    (result ≡ Ok (from_be_bytes width bytes)) × (new ≡ record old { memory = m })
+Exchanges width (Ok bytes) (Err fault) old new result = (result ≡ Err fault) × (new ≡ old)
+Exchanges width (Err fault) stored old new result = (result ≡ Err fault) × (new ≡ old)
 
 -- the window after the current one was loaded from these bytes, or could not be
 abbrev pub Fills : Option (List ℕ) → State → State → Bool → Type 0
