@@ -14,10 +14,12 @@ pub mod PlacedWords
 pub mod PlanFacts
 pub mod Plans
 pub mod Powers
+pub mod Ran
 pub mod ReadNotes
 pub mod RunsAlike
 pub mod Shown
 pub mod TwinStarts
+pub mod Unread
 pub mod ValidStarts
 pub mod WordsBytes
 pub mod WrittenBytes

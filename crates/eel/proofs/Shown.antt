@@ -13,7 +13,10 @@ appended-nil None = refl
 appended-nil (Some bytes) = ap (λ z. Some z) (append-nil bytes)
 
 -- the ending line comes after what the program put out
-with_line : (old new : Outside) (err : Stream) (file : List ℕ) (limit : ℕ) (args : List (List ℕ)) (ending : Option Ending) (steps : ℕ) (line : List ℕ) → WasRun old (with_err new err) file limit args ending steps [] → new.err.taken ≡ appended err.taken line → WasRun old new file limit args ending steps line
+with_line : (old new : Outside) (err : Stream) (file : List ℕ) (limit : ℕ) (args : List (List ℕ))
+    (ending : Option Ending) (steps : ℕ) (line : List ℕ)
+    → WasRun old (with_err new err) file limit args ending steps []
+    → new.err.taken ≡ appended err.taken line → WasRun old new file limit args ending steps line
 with_line old new err file limit args ending steps line was took = record {
   bytes = was.bytes;
   read = was.read;
@@ -31,19 +34,25 @@ with_line old new err file limit args ending steps line was took = record {
 
 -- Status 0.
 
-edit_done : (command : Command) (old new : Outside) (err : Stream) → Follows command old (with_err new err) Done → new.err.taken ≡ appended err.taken [] → IsDone command old new
+edit_done : (command : Command) (old new : Outside) (err : Stream)
+    → Follows command old (with_err new err) Done → new.err.taken ≡ appended err.taken []
+    → IsDone command old new
 edit_done (EditPlain input output) old new err (read, quiet) took =
     (read, record { input = quiet.input; out = quiet.out; err = took ∙ appended-nil err.taken ∙ quiet.err })
 edit_done (Run file limit args) old new err follows took = absurd follows
 edit_done Unknown old new err follows took = absurd follows
 
-run_done : (command : Command) (old new : Outside) (err : Stream) (ending : Option Ending) (steps : ℕ) → Follows command old (with_err new err) (Stopped ending steps) → new.err.taken ≡ appended err.taken (line_of (Stopped ending steps)) → IsDone command old new
+run_done : (command : Command) (old new : Outside) (err : Stream) (ending : Option Ending) (steps : ℕ)
+    → Follows command old (with_err new err) (Stopped ending steps)
+    → new.err.taken ≡ appended err.taken (line_of (Stopped ending steps)) → IsDone command old new
 run_done (EditPlain input output) old new err ending steps follows took = absurd follows
 run_done (Run file limit args) old new err ending steps (was, held) took =
     (ending, steps, with_line old new err file limit args ending steps (line_of (Stopped ending steps)) was took, held)
 run_done Unknown old new err ending steps follows took = absurd follows
 
-pub done_shown : (command : Command) (old new : Outside) (err : Stream) (outcome : Outcome) (status : ℕ) → Follows command old (with_err new err) outcome → Shows outcome status err new.err → status ≡ 0 → IsDone command old new
+pub done_shown : (command : Command) (old new : Outside) (err : Stream) (outcome : Outcome) (status : ℕ)
+    → Follows command old (with_err new err) outcome → Shows outcome status err new.err → status ≡ 0
+    → IsDone command old new
 done_shown command old new err outcome status follows (failed is took rose) at = absurd (omega arith)
 done_shown command old new err Done status follows (shown is took) at = edit_done command old new err follows took
 done_shown command old new err (Stopped ending steps) status follows (shown is took) at = run_done command old new err ending steps follows took
@@ -58,7 +67,8 @@ done_shown command old new err DeviceFault status follows (shown is took) at = a
 -- Status 74.
 
 -- the failure of a stream to take the line
-fails_by_err : (command : Command) (old new : Outside) → Rose old.err.faults new.err.faults → MayFail command old new
+fails_by_err : (command : Command) (old new : Outside) → Rose old.err.faults new.err.faults
+    → MayFail command old new
 fails_by_err (EditPlain input output) old new rose = inr (inl rose)
 fails_by_err (Run file limit args) old new rose = inr (inr (inr (inl rose)))
 fails_by_err Unknown old new rose = rose
@@ -70,7 +80,8 @@ rose-on : (old err new : ℕ) → err ≤ new → Rose old err → Rose old new
 rose-on old err new then rose = omega arith
 
 -- a device failed, or the name isn't held: also once the line is written
-fails_on : (command : Command) (old new : Outside) (err : Stream) → err.faults ≤ new.err.faults → Follows command old (with_err new err) DeviceFault → MayFail command old new
+fails_on : (command : Command) (old new : Outside) (err : Stream) → err.faults ≤ new.err.faults
+    → Follows command old (with_err new err) DeviceFault → MayFail command old new
 fails_on (EditPlain input output) old new err then (inl missing, but, held, quiet) = inr (inr missing)
 fails_on (EditPlain input output) old new err then (inr files, but, held, quiet) = inl files
 fails_on (Run file limit args) old new err then (inl missing, held, output) = inr (inr (inr (inr missing)))
@@ -81,7 +92,10 @@ fails_on (Run file limit args) old new err then (inr (inr (inr (inr rose))), hel
     inr (inr (inr (inl (rose-on old.err.faults err.faults new.err.faults then rose))))
 fails_on Unknown old new err then follows = absurd follows
 
-pub fault_shown : (command : Command) (old new : Outside) (err : Stream) (outcome : Outcome) (status : ℕ) → old.err.faults ≤ err.faults → err.faults ≤ new.err.faults → Follows command old (with_err new err) outcome → Shows outcome status err new.err → status ≡ 74 → MayFail command old new
+pub fault_shown : (command : Command) (old new : Outside) (err : Stream) (outcome : Outcome) (status : ℕ)
+    → old.err.faults ≤ err.faults → err.faults ≤ new.err.faults
+    → Follows command old (with_err new err) outcome → Shows outcome status err new.err → status ≡ 74
+    → MayFail command old new
 fault_shown command old new err outcome status first then follows (failed is took rose) at =
     fails_by_err command old new (rose-from old.err.faults err.faults new.err.faults first rose)
 fault_shown command old new err DeviceFault status first then follows (shown is took) at = fails_on command old new err then follows

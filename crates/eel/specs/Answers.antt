@@ -1,6 +1,8 @@
 -- What comes of a command, why, and what the files hold and the streams have taken afterwards.
 use Rattle.std.specs.Prelude.{◌≡◌, ◌≢◌, ℕ, suc, ◌*◌, ◌^◌, ◌≤◌, ◌<◌, ◌⊎◌, List, [], length, codes, Option, Some, None}
 use Rattle.eel_base.specs.Outside.{Holding, stored, IsMissing, AreUnder, IsLonger, SameBut, Rose, preceded, IsAtEnd, GaveSome, appended, TookPart}
+use Rattle.eel_base.specs.declared.outside.FetchFault.{FetchFault}
+use Rattle.eel_base.specs.declared.outside.FetchFault.TheVariants as unread
 use Rattle.elf32_sparc.specs.declared.fault.FileFault.{FileFault}
 use Rattle.elf32_sparc.specs.FileFault.{fault, load_fault, code_of}
 use Rattle.elf32_sparc.specs.Image.{image_of}
@@ -108,6 +110,12 @@ refusal_of name (faults.File first) = BadFile name (code_of first)
 refusal_of name (faults.NotBuilt address) = NotBuilt name address.0
 refusal_of name (faults.Room needed had) = NoRoom name needed had
 refusal_of name faults.NoMemory = OutOfMemory
+
+-- what a text that wasn't read comes to
+abbrev pub unread_of : List ℕ → ℕ → FetchFault → Outcome
+unread_of name limit unread.Failed = DeviceFault
+unread_of name limit unread.TooLong = TooLong name limit
+unread_of name limit unread.NoMemory = OutOfMemory
 
 -- the name was read, and its bytes are of some kind
 abbrev pub Read : Store → List ℕ → ℕ → (List ℕ → Type 0) → Type 0

@@ -4,9 +4,9 @@ ghost use Rattle.eel.specs.Command.{EditPlain};
 ghost use Rattle.eel.specs.Outcome.{Stream, outcome_seen};
 ghost use Rattle.eel.specs.Answers.{Feed, Follows, outside, refusal_of, store};
 
-use crate::outcome::Outcome;
+use crate::outcome::{Outcome, unread};
 use crate::straight::{EditFault, edited};
-use eel_base::{FetchFault, Files, PutFault};
+use eel_base::{Files, PutFault};
 use std::alloc::Global;
 
 /// How many bytes a file may have that is edited.
@@ -27,14 +27,7 @@ pub fn edit_plain<'a, F: Files>(
 {
     let bytes = match files.fetch(alloc, input, EDIT_LIMIT) {
         Ok(bytes) => bytes,
-        Err(FetchFault::TooLong) => {
-            return Outcome::TooLong {
-                name: input,
-                limit: EDIT_LIMIT,
-            };
-        }
-        Err(FetchFault::NoMemory) => return Outcome::OutOfMemory,
-        Err(FetchFault::Failed) => return Outcome::DeviceFault,
+        Err(fault) => return unread(input, EDIT_LIMIT, fault),
     };
     let written = match edited(alloc, &bytes) {
         Ok(written) => written,

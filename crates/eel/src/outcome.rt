@@ -1,9 +1,10 @@
 //! What came of a command, and how the program shows it.
 ghost use Rattle.std.specs.Prelude.{◌≡◌, ◌≤◌, ◌++◌, ◌∷◌, [], OnOk, OnErr};
 ghost use Rattle.eel_base.specs.Outside.{Rose, appended, TookPart};
+ghost use Rattle.eel.specs.Answers.{unread_of};
 ghost use Rattle.eel.specs.Outcome.{outcome_seen, status_of, ending_text, line_of, stream, Shows, joined};
 
-use eel_base::{Addr, Failed, Sink, hex8, put_all};
+use eel_base::{Addr, Failed, FetchFault, Sink, hex8, put_all};
 use itoa::Buffer;
 use v8_step::Ending;
 
@@ -61,6 +62,17 @@ impl Outcome<'_> {
             Outcome::OutOfMemory => 70,
             Outcome::DeviceFault => DEVICE_FAULT,
         }
+    }
+}
+
+/// What comes of the text `name` where it wasn't read.
+pub fn unread<'a>(name: &'a str, limit: u64, fault: FetchFault) -> Outcome<'a>
+    ensures { outcome_seen result ≡ unread_of name.now limit fault }
+{
+    match fault {
+        FetchFault::Failed => Outcome::DeviceFault,
+        FetchFault::TooLong => Outcome::TooLong { name, limit },
+        FetchFault::NoMemory => Outcome::OutOfMemory,
     }
 }
 
