@@ -14,7 +14,6 @@ pub mod PlacedWords
 pub mod PlanFacts
 pub mod Plans
 pub mod Powers
-pub mod Ran
 pub mod ReadNotes
 pub mod RunsAlike
 pub mod Shown
