@@ -5,6 +5,8 @@ mod command;
 mod edit;
 mod outcome;
 mod run;
+#[cfg(test)]
+mod run_tests;
 mod straight;
 #[cfg(test)]
 mod tests;

@@ -24,16 +24,16 @@ const CRAMPED: [u8; 128] =
 
 /// The outside of a call.
 #[derive(Drop)]
-struct Outside {
+pub(crate) struct Outside {
     files: MemFiles,
     input: MemSource,
-    out: MemSink,
-    err: MemSink,
+    pub(crate) out: MemSink,
+    pub(crate) err: MemSink,
 }
 
 impl Outside {
     /// Holds three_words. The calls of the files in `fail` are to fail, and `err` has `room`.
-    fn new(alloc: Global, fail: &[u64], room: usize) -> Result<Outside, Fail> {
+    pub(crate) fn new(alloc: Global, fail: &[u64], room: usize) -> Result<Outside, Fail> {
         let mut files = MemFiles::new(alloc, Vec::from_slice(alloc, fail)?);
         files
             .add("in", &THREE_WORDS)
@@ -46,11 +46,24 @@ impl Outside {
         })
     }
 
-    fn hold(&mut self, name: &str, bytes: &[u8]) -> Result<(), Fail> {
+    /// New streams, which have taken nothing.
+    pub(crate) fn listen(&mut self, alloc: Global) -> Result<(), Fail> {
+        self.out = MemSink::new(alloc, 100, Vec::new(alloc)).map_err(|_| Fail::from("out"))?;
+        self.err = MemSink::new(alloc, 100, Vec::new(alloc)).map_err(|_| Fail::from("err"))?;
+        Ok(())
+    }
+
+    /// A new input.
+    pub(crate) fn feed(&mut self, alloc: Global, bytes: &[u8]) -> Result<(), Fail> {
+        self.input = MemSource::new(Vec::from_slice(alloc, bytes)?, Vec::new(alloc));
+        Ok(())
+    }
+
+    pub(crate) fn hold(&mut self, name: &str, bytes: &[u8]) -> Result<(), Fail> {
         self.files.add(name, bytes).map_err(|_| Fail::from("add"))
     }
 
-    fn eel(&mut self, alloc: Global, words: &[&str]) -> u8 {
+    pub(crate) fn eel(&mut self, alloc: Global, words: &[&str]) -> u8 {
         eel(
             alloc,
             words,
