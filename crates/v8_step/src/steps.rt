@@ -69,7 +69,6 @@ impl Machine {
             self.trap(INSTRUCTION_ACCESS_EXCEPTION);
             return Ok(());
         };
-        // Each operation that a word can be has a form that `alu` takes.
         decoded_forms();
         self.act(decode(word), out, err)
     }

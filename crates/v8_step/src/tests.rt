@@ -13,16 +13,14 @@ const ENTRY: Addr = Addr(0x10000);
 
 const STACK: u32 = 0x20080;
 
-/// `ta 0x10`
+/// The words `ta 0x10`, `sethi %hi(0x20000), %o1` and `ba` to the word after the next.
 const SYSTEM: u32 = 0x91d0_2010;
 
-/// `sethi %hi(0x20000), %o1`
 const POINT: u32 = 0x1300_0080;
 
-/// `ba` to the word after the next
 const SKIP: u32 = 0x1080_0002;
 
-/// `or %g0, 0, rd` for %g1 and %o0 to %o2. A number that is added is the operand.
+/// The words `or %g0, n, rd` for %g1 and %o0 to %o2, less n.
 const G1: u32 = 0x8210_2000;
 
 const O0: u32 = 0x9010_2000;
