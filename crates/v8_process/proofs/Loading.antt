@@ -133,15 +133,19 @@ stack-mapped : (all : List (List ℕ)) → FitsStack all
     → region_of (stack_mapping (stack_region all).bytes) ≡ stack_region all
 stack-mapped all fits = ap stack_with (no_zeros (stack_end - stack_start) (stack_region all).bytes (stack-count all fits))
 
+regions-made : (file : List ℕ) (all : List (List ℕ)) (plans : List declared.RegionPlan) → ArePlans file all plans
+    → FitsStack all → map region_of (map mapping_of_plan plans) ≡ (start_memory file all).regions
+regions-made file all plans are fits =
+    ap (map region_of) are.mapped
+    ∙ map-append region_of (mappings file) (stack_mapping (stack_region all).bytes ∷ [])
+    ∙ ap (λ (r : Region). map region_of (mappings file) ++ r ∷ []) (stack-mapped all fits)
+
 abbrev memory_with : List Region → Memory
 memory_with regions = record { heap = empty_heap; regions = regions }
 
 pub plans-made : (file : List ℕ) (all : List (List ℕ)) (plans : List declared.RegionPlan) → ArePlans file all plans
     → FitsStack all → memory_of (map mapping_of_plan plans) ≡ start_memory file all
-plans-made file all plans are fits =
-    ap memory_of are.mapped
-    ∙ ap memory_with (map-append region_of (mappings file) (stack_mapping (stack_region all).bytes ∷ [])
-    ∙ ap (λ (r : Region). map region_of (mappings file) ++ r ∷ []) (stack-mapped all fits))
+plans-made file all plans are fits = ap memory_with (regions-made file all plans are fits)
 
 -- ---- the state
 
