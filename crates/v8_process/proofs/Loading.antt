@@ -7,7 +7,7 @@ use Rattle.std.proofs.lemmas.Simd.{map-map}
 use Rattle.std.proofs.lemmas.List.Elements.{All-nil, All-cons, All-head, All-tail, All-push}
 use Rattle.elf32_sparc.specs.declared.header.ProgramHeader.{ProgramHeader}
 use Rattle.elf32_sparc.specs.declared.program.Segment.{Segment}
-use Rattle.elf32_sparc.specs.Header.{program_headers, loadable, end_of}
+use Rattle.elf32_sparc.specs.Header.{e_entry, program_headers, loadable, end_of}
 use Rattle.elf32_sparc.specs.FileFault.{load_fault, has_memory_outside_a_run, leaves_room, is_last_page}
 use Rattle.elf32_sparc.specs.Mapping.{Mapping, mapping_of, mappings}
 use Rattle.elf32_sparc.specs.Image.{segment_of}
@@ -17,8 +17,9 @@ use Rattle.v8_memory.specs.declared.memory.RegionPlan as declared
 use Rattle.v8_memory.specs.Regions.{Region, Memory}
 use Rattle.v8_memory.specs.Segments.{region_of, empty_heap}
 use Rattle.v8_memory.specs.Calls.{IsPlan, mapping_of_plan, memory_of}
+use Rattle.v8_step.specs.Run.{first_state}
 use Rattle.v8_process.specs.Loading.{segment_mapping, stack_mapping}
-use Rattle.v8_process.specs.Start.{stack_start, stack_end, stack_region, start_memory}
+use Rattle.v8_process.specs.Start.{program_name, stack_start, stack_end, first_sp, stack_region, start_memory, start_of}
 use Rattle.v8_process.specs.Valid.{FitsStack}
 use Rattle.v8_process.proofs.Valid.{stack-count}
 
@@ -132,12 +133,27 @@ stack-mapped : (all : List (List ℕ)) → FitsStack all
     → region_of (stack_mapping (stack_region all).bytes) ≡ stack_region all
 stack-mapped all fits = ap stack_with (no_zeros (stack_end - stack_start) (stack_region all).bytes (stack-count all fits))
 
+regions-made : (file : List ℕ) (all : List (List ℕ)) (plans : List declared.RegionPlan) → ArePlans file all plans
+    → FitsStack all → map region_of (map mapping_of_plan plans) ≡ (start_memory file all).regions
+regions-made file all plans are fits =
+    ap (map region_of) are.mapped
+    ∙ map-append region_of (mappings file) (stack_mapping (stack_region all).bytes ∷ [])
+    ∙ ap (λ (r : Region). map region_of (mappings file) ++ r ∷ []) (stack-mapped all fits)
+
 abbrev memory_with : List Region → Memory
 memory_with regions = record { heap = empty_heap; regions = regions }
 
 pub plans-made : (file : List ℕ) (all : List (List ℕ)) (plans : List declared.RegionPlan) → ArePlans file all plans
     → FitsStack all → memory_of (map mapping_of_plan plans) ≡ start_memory file all
-plans-made file all plans are fits =
-    ap memory_of are.mapped
-    ∙ ap memory_with (map-append region_of (mappings file) (stack_mapping (stack_region all).bytes ∷ [])
-    ∙ ap (λ (r : Region). map region_of (mappings file) ++ r ∷ []) (stack-mapped all fits))
+plans-made file all plans are fits = ap memory_with (regions-made file all plans are fits)
+
+-- ---- the state
+
+pub started : (file : List ℕ) (args : List (List ℕ)) (input : List ℕ) (memory : Memory) (entry sp : ℕ)
+    → memory ≡ start_memory file (program_name ∷ args) → entry ≡ e_entry file
+    → sp ≡ first_sp (program_name ∷ args) → first_state memory entry sp input ≡ start_of file args input
+unfolding start_of
+started file args input memory entry sp loaded at top =
+    ap (λ (m : Memory). first_state m entry sp input) loaded
+    ∙ ap (λ (n : ℕ). first_state (start_memory file (program_name ∷ args)) n sp input) at
+    ∙ ap (λ (n : ℕ). first_state (start_memory file (program_name ∷ args)) (e_entry file) n input) top

@@ -33,7 +33,7 @@ impl From<NoMemory> for LoadFault {
 }
 
 /// The machine in which the file starts, or its first fault. The program's name is put before the arguments.
-#[tactic(auto, using(crate::proofs::Arguments::arguments_fit), unfolding(crate::specs::Start::start_of))]
+#[tactic(auto, using(crate::proofs::Arguments::arguments_fit))]
 pub fn load(
     alloc: Global,
     bytes: &[u8],
