@@ -35,9 +35,12 @@ abbrev pub always : ℕ
 always = 8
 
 -- a branch on never has no target
+abbrev pub branch_target : Words → ℕ → ℕ → ℤ → Option WordNo
+branch_target text word cond disp22 = if cond == never then None else numbered (target_of text word disp22)
+
 abbrev pub end_by : Words → ℕ → Instr → BlockEnd
 end_by text word (i.Branch cond annul disp22) =
-    ends.Branch cond annul (if cond == never then None else numbered (target_of text word disp22))
+    ends.Branch cond annul (branch_target text word cond disp22)
 end_by text word (i.Call disp30) = ends.Call (numbered (target_of text word disp30))
 end_by text word (i.Jmpl rd rs1 op2) = ends.Jump
 end_by text word _ = ends.Fall

@@ -1,13 +1,14 @@
 -- How control comes into a block.
-use Rattle.std.specs.Prelude.{ℕ, zero, suc, ◌+◌, ◌-◌, Bool, true, false, not, ◌||◌, ◌&&◌, ◌==◌, nat_le, if◌then◌else◌, List, [], ◌∷◌, ◌++◌, length, map, filter, slice_index, Option, Some, None}
+use Rattle.std.specs.Prelude.{◌≡◌, ℕ, zero, suc, ◌+◌, ◌-◌, ◌^◌, ◌≤◌, Bool, true, false, not, ◌||◌, ◌&&◌, ◌==◌, nat_le, if◌then◌else◌, List, [], ◌∷◌, ◌++◌, length, map, filter, slice_index, slice_index_or, Option, Some, None}
 use Rattle.std.specs.List.{list_any, flat_map}
 use Rattle.eel_base.specs.CodeText.{Words}
+use Rattle.cfg_blocks.specs.declared.BlockEnd.TheVariants as ends
 use Rattle.cfg_blocks.specs.declared.EdgeKind.{EdgeKind}
 use Rattle.cfg_blocks.specs.declared.EdgeKind.TheVariants as kinds
 use Rattle.cfg_blocks.specs.declared.Into.{Into}
 use Rattle.cfg_blocks.specs.declared.Into.TheVariants.{Nothing, One, More}
 use Rattle.cfg_blocks.specs.Ends.{Way, end_at, is_transfer, ways_of}
-use Rattle.cfg_blocks.specs.Blocks.{Blocks, below, last_word, size_of, follows_transfer}
+use Rattle.cfg_blocks.specs.Blocks.{Blocks, below, blocks_of, last_word, size_of, follows_transfer, AreFirsts}
 
 -- an edge into a block: the block that it leaves, and its kind
 pub record Entry : Type 0 where
@@ -22,7 +23,7 @@ leads_to word (Some to) = to == word
 abbrev pub entries_from : Blocks → ℕ → ℕ → List Entry
 entries_from b word block =
     map (λ way. record { from = block; kind = way.kind })
-    (filter (λ way. leads_to word way.to) (ways_of b.words (last_word b.firsts b.words block) (slice_index b.ends block)))
+    (filter (λ way. leads_to word way.to) (ways_of b.words (last_word b.firsts b.words block) (slice_index_or b.ends block ends.Fall)))
 
 abbrev pub is_fall : EdgeKind → Bool
 is_fall kinds.Fall = true
@@ -55,3 +56,21 @@ into_by (entry ∷ other ∷ entries) = More
 
 unfoldable pub into_of : Words → List ℕ → Blocks → ℕ → Into
 into_of text given b block = into_by (filter (is_counted text given b) (all_entries b block))
+
+-- ---- the list of blocks: the blocks, and what leads to each
+
+pub record Entered : Type 0 where
+  pub blocks : Blocks
+  pub intos : List Into
+
+unfoldable pub entered_of : Words → List ℕ → Entered
+entered_of text given =
+    let b = blocks_of text given in
+    record { blocks = b; intos = map (into_of text given b) (below (length b.firsts)) }
+
+-- What is true of each list of blocks.
+pub record IsBlockList (list : Entered) : Type 0 where
+  pub firsts : AreFirsts list.blocks.words list.blocks.firsts
+  pub ends : length list.blocks.ends ≡ length list.blocks.firsts
+  pub intos : length list.intos ≡ length list.blocks.firsts
+  pub few : list.blocks.words ≤ 2 ^ 20
