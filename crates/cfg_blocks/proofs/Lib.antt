@@ -1,3 +1,4 @@
 pub mod Targets
 pub mod Marks
 pub mod Below
+pub mod Counts

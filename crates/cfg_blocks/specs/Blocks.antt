@@ -1,9 +1,10 @@
 -- The basic blocks of a text.
-use Rattle.std.specs.Prelude.{◌≡◌, ℕ, zero, suc, ◌+◌, ◌-◌, ◌<◌, ◌≤◌, Bool, false, ◌||◌, ◌&&◌, ◌==◌, nat_le, nat_lt, if◌then◌else◌, List, [], ◌∷◌, ◌++◌, length, map, filter, slice_index, Option, Some, None}
+use Rattle.std.specs.Prelude.{◌≡◌, ℕ, zero, suc, ◌+◌, ◌-◌, ◌<◌, ◌≤◌, Bool, false, ◌||◌, ◌&&◌, ◌==◌, nat_le, nat_lt, if◌then◌else◌, List, [], ◌∷◌, ◌++◌, length, map, filter, slice_index, slice_index_or, Option, Some, None}
 use Rattle.std.specs.List.{list_any, count_by}
 use Rattle.eel_base.specs.CodeText.{Words}
 use Rattle.eel_base.specs.declared.numbers.WordNo.{WordNo}
 use Rattle.cfg_blocks.specs.declared.BlockEnd.{BlockEnd}
+use Rattle.cfg_blocks.specs.declared.BlockEnd.TheVariants.{Fall}
 use Rattle.cfg_blocks.specs.Ends.{end_at, is_transfer, target_in}
 
 -- the numbers below n, in order
@@ -61,6 +62,10 @@ blocks_of text given =
       ends = map (λ block. end_at text (last_word firsts words block)) (below (length firsts));
     }
 
+-- how control leaves the last word of a block
+abbrev pub end_of : Blocks → ℕ → BlockEnd
+end_of b block = slice_index_or b.ends block Fall
+
 -- how many words a block has
 abbrev pub size_of : Blocks → ℕ → ℕ
 size_of b block = block_end b.firsts b.words block - slice_index b.firsts block
@@ -69,10 +74,13 @@ size_of b block = block_end b.firsts b.words block - slice_index b.firsts block
 abbrev pub holding_of : Blocks → ℕ → ℕ
 holding_of b word = count_by (λ first. nat_le first word) b.firsts - 1
 
+abbrev pub IsAscending : List ℕ → Type 0
+IsAscending xs = (i j : ℕ) → i < j → j < length xs → slice_index xs i < slice_index xs j
+
 -- What the first words of blocks are: at least one, no more than words, from word 0 on, in ascending order, words of the text.
 pub record AreFirsts (words : ℕ) (firsts : List ℕ) : Type 0 where
   pub some : 1 ≤ length firsts
   pub few : length firsts ≤ words
   pub begin : slice_index firsts 0 ≡ 0
-  pub ascend : (i j : ℕ) → i < j → j < length firsts → slice_index firsts i < slice_index firsts j
+  pub ascend : IsAscending firsts
   pub within : (i : ℕ) → i < length firsts → slice_index firsts i < words

@@ -1,14 +1,13 @@
 -- How control comes into a block.
-use Rattle.std.specs.Prelude.{◌≡◌, ℕ, zero, suc, ◌+◌, ◌-◌, ◌^◌, ◌≤◌, Bool, true, false, not, ◌||◌, ◌&&◌, ◌==◌, nat_le, if◌then◌else◌, List, [], ◌∷◌, ◌++◌, length, map, filter, slice_index, slice_index_or, Option, Some, None}
+use Rattle.std.specs.Prelude.{◌≡◌, ℕ, zero, suc, ◌+◌, ◌-◌, ◌^◌, ◌≤◌, Bool, true, false, not, ◌||◌, ◌&&◌, ◌==◌, nat_le, if◌then◌else◌, List, [], ◌∷◌, ◌++◌, length, map, filter, slice_index, Option, Some, None}
 use Rattle.std.specs.List.{list_any, flat_map}
 use Rattle.eel_base.specs.CodeText.{Words}
-use Rattle.cfg_blocks.specs.declared.BlockEnd.TheVariants as ends
 use Rattle.cfg_blocks.specs.declared.EdgeKind.{EdgeKind}
 use Rattle.cfg_blocks.specs.declared.EdgeKind.TheVariants as kinds
 use Rattle.cfg_blocks.specs.declared.Into.{Into}
 use Rattle.cfg_blocks.specs.declared.Into.TheVariants.{Nothing, One, More}
 use Rattle.cfg_blocks.specs.Ends.{Way, end_at, is_transfer, ways_of}
-use Rattle.cfg_blocks.specs.Blocks.{Blocks, below, blocks_of, last_word, size_of, follows_transfer, AreFirsts}
+use Rattle.cfg_blocks.specs.Blocks.{Blocks, below, blocks_of, end_of, last_word, size_of, follows_transfer, AreFirsts}
 
 -- an edge into a block: the block that it leaves, and its kind
 pub record Entry : Type 0 where
@@ -23,7 +22,7 @@ leads_to word (Some to) = to == word
 abbrev pub entries_from : Blocks → ℕ → ℕ → List Entry
 entries_from b word block =
     map (λ way. record { from = block; kind = way.kind })
-    (filter (λ way. leads_to word way.to) (ways_of b.words (last_word b.firsts b.words block) (slice_index_or b.ends block ends.Fall)))
+    (filter (λ way. leads_to word way.to) (ways_of b.words (last_word b.firsts b.words block) (end_of b block)))
 
 abbrev pub is_fall : EdgeKind → Bool
 is_fall kinds.Fall = true

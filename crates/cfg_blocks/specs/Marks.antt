@@ -1,6 +1,6 @@
 -- What the lists say from which blocks are made: how control leaves each word, and which words are marked.
-use Rattle.std.specs.Prelude.{ℕ, ◌-◌, Bool, false, ◌||◌, ◌&&◌, ◌==◌, nat_le, List, length, map, slice_index_or}
-use Rattle.std.specs.List.{list_any}
+use Rattle.std.specs.Prelude.{ℕ, ◌-◌, ◌<◌, Bool, false, ◌||◌, ◌&&◌, ◌==◌, nat_le, List, length, map, slice_index_or}
+use Rattle.std.specs.List.{All, list_any}
 use Rattle.eel_base.specs.CodeText.{Words}
 use Rattle.eel_base.specs.declared.numbers.WordNo.{WordNo}
 use Rattle.cfg_blocks.specs.declared.BlockEnd.{BlockEnd}
@@ -26,6 +26,10 @@ marked marks word = slice_index_or marks word false
 -- the numbers of words
 abbrev pub numbers : List WordNo → List ℕ
 numbers = map (λ word. word.0)
+
+-- these are words of a text
+abbrev pub AreWords : Words → List WordNo → Type 0
+AreWords text = All (λ word. word.0 < length text.words)
 
 -- the word is one of these
 abbrev pub is_in : List WordNo → ℕ → Bool

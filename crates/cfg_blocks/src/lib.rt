@@ -9,8 +9,11 @@ use eel_base::{BlockNo, WordNo};
 use v8_decode::Cond;
 
 mod ends;
+mod entries;
 mod leaders;
 mod list;
+
+pub use list::{BlockList, blocks};
 
 
 

@@ -1,5 +1,4 @@
-use Rattle.std.proofs.Common.{◌≡◌, ◌∙◌, sym, ap, length, refl, arith}
-use Rattle.cfg_blocks.specs.Marks.{marked, leads_in}
+use Rattle.std.proofs.Common.{◌∙◌, refl}
 use Rattle.cfg_blocks.proofs.Below.{filter_below_same, filter_below_firsts}
 use Rattle.cfg_blocks.proofs.leaders.firsts.Goals as goal
 

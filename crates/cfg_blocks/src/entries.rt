@@ -1,0 +1,1 @@
+//! What leads to each block.
