@@ -1,12 +1,9 @@
 -- The numbers below n, and those of them that pass a test.
-use Rattle.std.proofs.Common.{◌≡◌, ℕ, zero, suc, ◌+◌, ◌<◌, ◌≤◌, Bool, true, false, ◌||◌, cond, List, [], ◌∷◌, ◌++◌, length, map, get_or, slice_index, refl, ap, sym, ◌∙◌, arith, length-append, below_more, subst}
+use Rattle.std.proofs.Common.{◌≡◌, ℕ, zero, suc, ◌+◌, ◌<◌, ◌≤◌, Bool, true, false, ◌||◌, cond, List, [], ◌∷◌, ◌++◌, length, map, get_or, slice_index, refl, ap, ◌∙◌, arith, length-append, below_more, subst}
 use Rattle.std.specs.List.{filter, list_any}
 use Rattle.std.proofs.lemmas.List.{append-nil, get_or_append_left, map-append}
 use Rattle.std.proofs.Math.Seq.{get_or-append_seam}
 use Rattle.std.proofs.lemmas.List.Elements.{filter-append}
-use Rattle.std.proofs.lemmas.List.Folds.{list_any-append}
-use Rattle.std.proofs.lemmas.Bool.{cases_Bool, cases_cond}
-use Rattle.std.proofs.lemmas.Grind.{common_steps}
 use Rattle.cfg_blocks.specs.Blocks.{below, AreFirsts}
 
 pub length-below : (n : ℕ) → length (below n) ≡ n

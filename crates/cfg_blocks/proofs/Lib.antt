@@ -2,3 +2,5 @@ pub mod Targets
 pub mod Marks
 pub mod Below
 pub mod Counts
+pub mod Entering
+pub mod Agreement

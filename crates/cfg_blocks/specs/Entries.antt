@@ -1,12 +1,13 @@
 -- How control comes into a block.
-use Rattle.std.specs.Prelude.{◌≡◌, ℕ, zero, suc, ◌+◌, ◌-◌, ◌^◌, ◌≤◌, Bool, true, false, not, ◌||◌, ◌&&◌, ◌==◌, nat_le, if◌then◌else◌, List, [], ◌∷◌, ◌++◌, length, map, filter, slice_index, Option, Some, None}
+use Rattle.std.specs.Prelude.{◌≡◌, ℕ, ◌^◌, ◌≤◌, Bool, true, false, not, ◌&&◌, ◌==◌, List, [], ◌∷◌, length, map, filter, slice_index, Option, Some, None}
 use Rattle.std.specs.List.{list_any, flat_map}
 use Rattle.eel_base.specs.CodeText.{Words}
 use Rattle.cfg_blocks.specs.declared.EdgeKind.{EdgeKind}
 use Rattle.cfg_blocks.specs.declared.EdgeKind.TheVariants as kinds
 use Rattle.cfg_blocks.specs.declared.Into.{Into}
+use Rattle.cfg_blocks.specs.declared.entries.Way.{Way}
 use Rattle.cfg_blocks.specs.declared.Into.TheVariants.{Nothing, One, More}
-use Rattle.cfg_blocks.specs.Ends.{Way, end_at, is_transfer, ways_of}
+use Rattle.cfg_blocks.specs.Ends.{ways_of}
 use Rattle.cfg_blocks.specs.Blocks.{Blocks, below, blocks_of, end_of, last_word, size_of, follows_transfer, AreFirsts}
 
 -- an edge into a block: the block that it leaves, and its kind
@@ -19,10 +20,14 @@ abbrev pub leads_to : ℕ → Option ℕ → Bool
 leads_to word None = false
 leads_to word (Some to) = to == word
 
+-- the ways out of a block
+abbrev pub ways_from : Blocks → ℕ → List Way
+ways_from b block = ways_of b.words (last_word b.firsts b.words block) (end_of b block)
+
 abbrev pub entries_from : Blocks → ℕ → ℕ → List Entry
 entries_from b word block =
     map (λ way. record { from = block; kind = way.kind })
-    (filter (λ way. leads_to word way.to) (ways_of b.words (last_word b.firsts b.words block) (end_of b block)))
+    (filter (λ way. leads_to word way.to) (ways_from b block))
 
 abbrev pub is_fall : EdgeKind → Bool
 is_fall kinds.Fall = true

@@ -1,3 +1,4 @@
+pub mod Arrivals
 pub mod Blocks
 pub mod Ends
 pub mod Marks

@@ -10,6 +10,7 @@ use v8_decode::{Cond, Instr, decode};
 
 /// The conditions of `bn` and `ba`.
 pub(crate) const NEVER: u8 = 0;
+
 pub(crate) const ALWAYS: u8 = 8;
 
 // The word at an address.
@@ -67,7 +68,8 @@ fn word_end(text: &Text, w: WordNo) -> BlockEnd
 /// How control leaves each word, in order.
 #[tactic(auto, unfolding(crate::specs::Marks::word_ends))]
 pub(crate) fn word_ends(alloc: Global, text: &Text) -> Result<Vec<BlockEnd>, NoMemory>
-    ensures { IfOk result (λ v. v.items ≡ word_ends text.now) }
+    ensures ends { IfOk result (λ v. v.items ≡ word_ends text.now) }
+    ensures len { IfOk result (λ v. length v.items ≡ length text.now.words) }
 {
     let mut ends = Vec::with_capacity(alloc, text.len() as usize)?;
     for word in 0..text.len() {

@@ -61,8 +61,8 @@ fn is_follower(ends: &[BlockEnd], word: usize) -> bool
     follows(ends, word, 1) || follows(ends, word, 2)
 }
 
-// Whether a transfer stands `back` words before.
-fn follows(ends: &[BlockEnd], word: usize, back: usize) -> bool
+/// Whether a transfer stands `back` words before.
+pub(crate) fn follows(ends: &[BlockEnd], word: usize, back: usize) -> bool
     requires within { word ≤ length ends.now }
     requires back { 0 < back }
     ensures { result ≡ follows ends.now back word }
@@ -71,7 +71,11 @@ fn follows(ends: &[BlockEnd], word: usize, back: usize) -> bool
 }
 
 /// Which words lead, where `given` marks those that the caller gives.
-pub(crate) fn leaders(alloc: Global, ends: &[BlockEnd], given: &[bool]) -> Result<Vec<bool>, NoMemory>
+pub(crate) fn leaders(
+    alloc: Global,
+    ends: &[BlockEnd],
+    given: &[bool],
+) -> Result<Vec<bool>, NoMemory>
     requires some { 0 < length ends.now }
     requires words { length given.now ≡ length ends.now }
     ensures words { IfOk result (λ v. length v.items ≡ length ends.now) }

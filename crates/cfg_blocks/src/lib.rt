@@ -15,8 +15,6 @@ mod list;
 
 pub use list::{BlockList, blocks};
 
-
-
 /// What an edge of the flow graph stands for: a word that control leaves without a transfer, a branch that is taken
 /// or not, a CALL, a jump out of the text's known words, or a landing from outside.
 #[derive(Clone, Copy, PartialEq, Eq, Debug, Drop)]

@@ -1,11 +1,12 @@
 //! The list of blocks.
 ghost use Rattle.std.specs.Prelude.{◌≡◌, ℕ, ◌+◌, ◌-◌, ◌^◌, ◌<◌, ◌≤◌, ◌++◌, nat_le, length, map, slice_index, slice_index_or, count_by, IfOk};
+ghost use Rattle.cfg_blocks.specs.Arrivals.{entered_in};
 ghost use Rattle.cfg_blocks.specs.Blocks.{below, block_end, end_of, holding_of, last_word, size_of, AreFirsts, IsAscending};
 ghost use Rattle.cfg_blocks.specs.Entries.{entered_of, IsBlockList};
 ghost use Rattle.cfg_blocks.specs.Marks.{block_end_in, numbers, AreWords};
 
 use crate::ends::word_ends;
-
+use crate::entries::intos;
 use crate::leaders::{firsts, given_words};
 use crate::{BlockEnd, Into};
 use eel_base::{BlockNo, NoMemory, Text, WordNo};
@@ -27,12 +28,14 @@ impl Model for BlockList {
     ghost Value = { Entered };
 
     ghost view = { λ l. record {
-        blocks = record { firsts = l.firsts.items; words = l.words; ends = l.ends.items };
-        intos = l.intos.items } };
+      blocks = record { firsts = l.firsts.items; words = l.words; ends = l.ends.items };
+      intos = l.intos.items;
+    } };
 
     ghost invariant = { λ l. IsBlockList (record {
-        blocks = record { firsts = l.firsts.items; words = l.words; ends = l.ends.items };
-        intos = l.intos.items }) };
+      blocks = record { firsts = l.firsts.items; words = l.words; ends = l.ends.items };
+      intos = l.intos.items;
+    }) };
 }
 
 impl BlockList {
@@ -64,7 +67,7 @@ impl BlockList {
         ensures some { 1 ≤ result }
         ensures within { slice_index self.now.blocks.firsts b.0 + result ≤ self.now.blocks.words }
     {
-        last_of_block(&self.firsts, self.words, b.0) + 1 - self.firsts[b.0 as usize]
+        block_size(&self.firsts, self.words, b.0)
     }
 
     /// How control leaves the last word of the block `b`.
@@ -111,12 +114,23 @@ pub fn blocks(
 {
     let word_ends = word_ends(alloc, text)?;
     let given = given_words(alloc, text.len(), starts, marks)?;
-    let firsts = firsts(alloc, &word_ends, &given)?;
-    let ends = block_ends(alloc, &firsts, &word_ends)?;
-    let intos = Vec::new(alloc);
+    let list = cut(alloc, &word_ends, &given)?;
+    Ok(list)
+}
+
+// Cuts a text into blocks, where `given` marks the words that the caller gives.
+fn cut(alloc: Global, word_ends: &[BlockEnd], given: &[bool]) -> Result<BlockList, NoMemory>
+    requires some { 0 < length word_ends.now }
+    requires few { length word_ends.now ≤ 2 ^ 20 }
+    requires given { length given.now ≡ length word_ends.now }
+    ensures { IfOk result (λ list. list ≡ entered_in word_ends.now given.now) }
+{
+    let firsts = firsts(alloc, word_ends, given)?;
+    let ends = block_ends(alloc, &firsts, word_ends)?;
+    let intos = intos(alloc, &firsts, &ends, word_ends, given)?;
     Ok(BlockList {
         firsts,
-        words: text.len(),
+        words: word_ends.len() as u32,
         ends,
         intos,
     })
@@ -135,7 +149,7 @@ fn holding_in(firsts: &[u32], words: u32, word: u32) -> u32
 }
 
 // The last word of a block: it stands before the first of the next block, or at the end of the text.
-fn last_of_block(firsts: &[u32], words: u32, block: u32) -> u32
+pub(crate) fn last_of_block(firsts: &[u32], words: u32, block: u32) -> u32
     requires block { block < length firsts.now }
     requires firsts { AreFirsts words firsts.now }
     ensures value { result ≡ last_word firsts.now words block }
@@ -145,6 +159,17 @@ fn last_of_block(firsts: &[u32], words: u32, block: u32) -> u32
         Some(next) => *next - 1,
         None => words - 1,
     }
+}
+
+// How many words a block has.
+pub(crate) fn block_size(firsts: &[u32], words: u32, block: u32) -> u32
+    requires block { block < length firsts.now }
+    requires firsts { AreFirsts words firsts.now }
+    ensures size { result ≡ block_end firsts.now words block - slice_index firsts.now block }
+    ensures some { 1 ≤ result }
+    ensures within { slice_index firsts.now block + result ≤ words }
+{
+    last_of_block(firsts, words, block) + 1 - firsts[block as usize]
 }
 
 // How control leaves the last word of a block.
@@ -160,10 +185,15 @@ fn block_end(firsts: &[u32], word_ends: &[BlockEnd], block: u32) -> BlockEnd
 }
 
 // How control leaves each block.
-fn block_ends(alloc: Global, firsts: &[u32], word_ends: &[BlockEnd]) -> Result<Vec<BlockEnd>, NoMemory>
+fn block_ends(
+    alloc: Global,
+    firsts: &[u32],
+    word_ends: &[BlockEnd],
+) -> Result<Vec<BlockEnd>, NoMemory>
     requires words { length word_ends.now < 2 ^ 32 }
     requires firsts { AreFirsts (length word_ends.now) firsts.now }
-    ensures { IfOk result (λ v. v.items ≡ map (block_end_in word_ends.now firsts.now) (below (length firsts.now))) }
+    ensures ends { IfOk result (λ v. v.items ≡ map (block_end_in word_ends.now firsts.now) (below (length firsts.now))) }
+    ensures len { IfOk result (λ v. length v.items ≡ length firsts.now) }
 {
     let mut ends = Vec::with_capacity(alloc, firsts.len())?;
     for block in 0..firsts.len() as u32 {
