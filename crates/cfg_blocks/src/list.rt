@@ -10,7 +10,7 @@ use crate::entries::intos;
 use crate::leaders::{firsts, given_words};
 use crate::{BlockEnd, Into};
 use eel_base::{BlockNo, NoMemory, Text, WordNo};
-use std::alloc::Global;
+use std::alloc::{AllocError, Global};
 use std::marker::Model;
 
 /// The basic blocks of a text, in address order.
@@ -36,6 +36,23 @@ impl Model for BlockList {
       blocks = record { firsts = l.firsts.items; words = l.words; ends = l.ends.items };
       intos = l.intos.items;
     }) };
+}
+
+impl Clone for BlockList {
+    ghost is_clone = { λ list copy. copy ≡ list };
+
+    fn clone(&self) -> Result<BlockList, AllocError> {
+        let alloc = *self.firsts.allocator();
+        let firsts = Vec::from_slice(alloc, &self.firsts)?;
+        let ends = Vec::from_slice(alloc, &self.ends)?;
+        let intos = Vec::from_slice(alloc, &self.intos)?;
+        Ok(BlockList {
+            firsts,
+            words: self.words,
+            ends,
+            intos,
+        })
+    }
 }
 
 impl BlockList {
