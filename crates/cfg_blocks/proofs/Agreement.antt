@@ -12,8 +12,7 @@ use Rattle.cfg_blocks.specs.declared.BlockEnd.{BlockEnd}
 use Rattle.cfg_blocks.specs.declared.BlockEnd.TheVariants.{Fall}
 use Rattle.cfg_blocks.specs.declared.Into.{Into}
 use Rattle.cfg_blocks.specs.declared.Into.TheVariants.{Nothing}
-use Rattle.cfg_blocks.specs.declared.entries.Way.{Way}
-use Rattle.cfg_blocks.specs.Ends.{end_at, is_transfer, target_in}
+use Rattle.cfg_blocks.specs.Ends.{Way, end_at, is_transfer, target_in}
 use Rattle.cfg_blocks.specs.Blocks.{Blocks, below, is_it, is_target, follows_transfer, leads, leaders, blocks_of, block_end, last_word, size_of, AreFirsts}
 use Rattle.cfg_blocks.specs.Entries.{Entered, Entry, all_entries, entered_of, entries_from, into_of, is_bare_slot, is_counted, is_empty, is_fall, leads_to, ways_from}
 use Rattle.cfg_blocks.specs.Marks.{block_end_in, end_in, follows, is_in, is_target_in, leads_in, marked, numbers, word_ends}

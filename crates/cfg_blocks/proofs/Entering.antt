@@ -8,7 +8,7 @@ use Rattle.cfg_blocks.specs.Marks.{marked}
 use Rattle.cfg_blocks.specs.declared.BlockEnd.{BlockEnd}
 use Rattle.cfg_blocks.specs.declared.Into.{Into}
 use Rattle.cfg_blocks.specs.declared.Into.TheVariants.{Nothing, More}
-use Rattle.cfg_blocks.specs.declared.entries.Way.{Way}
+use Rattle.cfg_blocks.specs.Ends.{Way}
 use Rattle.cfg_blocks.specs.Blocks.{Blocks, below}
 use Rattle.cfg_blocks.specs.Entries.{Entry, ways_from, into_by}
 use Rattle.cfg_blocks.specs.Arrivals.{added, added_all, counted, counted_from, into_at, into_first, into_in, is_bare_by, is_bare_in, is_led_by, is_led_from, is_slot_in}

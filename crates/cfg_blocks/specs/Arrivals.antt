@@ -1,14 +1,22 @@
 -- What the lists say from which it is told what leads to each block: for each word, whether an edge leads there, and
 -- what does.
-use Rattle.std.specs.Prelude.{ℕ, ◌-◌, Bool, not, ◌&&◌, ◌==◌, List, [], ◌∷◌, length, map, filter, slice_index, slice_index_or}
+use Rattle.std.specs.Prelude.{ℕ, ◌-◌, Bool, not, ◌&&◌, ◌==◌, List, [], ◌∷◌, length, map, filter, slice_index, slice_index_or, option_to_list, Option}
 use Rattle.std.specs.List.{list_any, flat_map}
 use Rattle.cfg_blocks.specs.declared.BlockEnd.{BlockEnd}
 use Rattle.cfg_blocks.specs.declared.Into.{Into}
 use Rattle.cfg_blocks.specs.declared.Into.TheVariants.{Nothing, One, More}
-use Rattle.cfg_blocks.specs.declared.entries.Way.{Way}
+use Rattle.cfg_blocks.specs.declared.entries.Exit.{Exit}
+use Rattle.cfg_blocks.specs.Ends.{Way}
 use Rattle.cfg_blocks.specs.Blocks.{Blocks, below, block_end}
 use Rattle.cfg_blocks.specs.Entries.{Entered, Entry, is_fall, leads_to, ways_from}
 use Rattle.cfg_blocks.specs.Marks.{block_end_in, follows, leads_in, marked}
+
+-- the ways that are listed as one and perhaps another
+abbrev pub way_of : Exit → Way
+way_of exit = record { kind = exit.kind; to = exit.to }
+
+abbrev pub ways_in : Exit → Option Exit → List Way
+ways_in one other = way_of one ∷ map way_of (option_to_list other)
 
 -- one of the ways leads to the word
 abbrev pub is_led_by : List Way → ℕ → Bool

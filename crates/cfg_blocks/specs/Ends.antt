@@ -9,7 +9,6 @@ use Rattle.v8_decode.specs.declared.Instr.TheVariants as i
 use Rattle.v8_decode.specs.Words.{decode_of}
 use Rattle.cfg_blocks.specs.declared.BlockEnd.{BlockEnd}
 use Rattle.cfg_blocks.specs.declared.BlockEnd.TheVariants as ends
-use Rattle.cfg_blocks.specs.declared.entries.Way.{Way}
 use Rattle.cfg_blocks.specs.declared.EdgeKind.{EdgeKind}
 use Rattle.cfg_blocks.specs.declared.EdgeKind.TheVariants as kinds
 
@@ -64,6 +63,10 @@ target_in (ends.Call target) = target
 target_in ends.Jump = None
 
 -- ---- the ways out of a word: the kind of each edge, and the word to which it leads, where that is in the text
+
+pub record Way : Type 0 where
+  pub kind : EdgeKind
+  pub to : Option ℕ
 
 -- a word of so many, if it is one
 abbrev pub within : ℕ → ℕ → Option ℕ

@@ -5,9 +5,8 @@ use Rattle.eel_base.specs.CodeText.{Words}
 use Rattle.cfg_blocks.specs.declared.EdgeKind.{EdgeKind}
 use Rattle.cfg_blocks.specs.declared.EdgeKind.TheVariants as kinds
 use Rattle.cfg_blocks.specs.declared.Into.{Into}
-use Rattle.cfg_blocks.specs.declared.entries.Way.{Way}
 use Rattle.cfg_blocks.specs.declared.Into.TheVariants.{Nothing, One, More}
-use Rattle.cfg_blocks.specs.Ends.{ways_of}
+use Rattle.cfg_blocks.specs.Ends.{Way, ways_of}
 use Rattle.cfg_blocks.specs.Blocks.{Blocks, below, blocks_of, end_of, last_word, size_of, follows_transfer, AreFirsts}
 
 -- an edge into a block: the block that it leaves, and its kind

@@ -1,6 +1,6 @@
 //! What leads to each block: first for each word, then for the first word of each block.
 ghost use Rattle.std.specs.Prelude.{◌≡◌, ℕ, ◌+◌, ◌-◌, ◌^◌, ◌<◌, ◌≤◌, ◌||◌, [], ◌∷◌, length, map, option_to_list, slice_index, IfOk};
-ghost use Rattle.cfg_blocks.specs.Arrivals.{added, added_all, counted, counted_from, into_at, into_first, into_in, is_bare_in, is_led_by, is_led_from};
+ghost use Rattle.cfg_blocks.specs.Arrivals.{added, added_all, counted, counted_from, into_at, into_first, into_in, is_bare_in, is_led_by, is_led_from, way_of, ways_in};
 ghost use Rattle.cfg_blocks.specs.Blocks.{below, AreFirsts, Blocks};
 ghost use Rattle.cfg_blocks.specs.Ends.{number_of, ways_of, within};
 ghost use Rattle.cfg_blocks.specs.Entries.{leads_to, ways_from, Entry};
@@ -15,13 +15,13 @@ use std::alloc::Global;
 
 /// A way out of a word: the kind of its edge, and the word to which it leads, where that is in the text.
 #[derive(Clone, Copy, Drop)]
-struct Way {
+struct Exit {
     kind: EdgeKind,
     to: Option<u32>,
 }
 
 /// The ways out of a word: one or two.
-type Ways = (Way, Option<Way>);
+type Exits = (Exit, Option<Exit>);
 
 // A word of so many, if it is one.
 fn within(count: u32, word: u32) -> Option<u32>
@@ -40,17 +40,17 @@ fn number(target: Option<WordNo>) -> Option<u32>
 }
 
 // The one way out of a word.
-fn only(kind: EdgeKind, to: Option<u32>) -> Ways
+fn only(kind: EdgeKind, to: Option<u32>) -> Exits
     ensures way { result.0 ≡ record { kind = kind; to = to } }
     ensures only { result.1 ≡ None }
 {
-    (Way { kind, to }, None)
+    (Exit { kind, to }, None)
 }
 
 // The ways out of a word, the last of a block.
-fn ways(count: u32, word: u32, end: &BlockEnd) -> Ways
+fn ways(count: u32, word: u32, end: &BlockEnd) -> Exits
     requires { word + 2 < 2 ^ 32 }
-    ensures { ways_of count word end.now ≡ result.0 ∷ option_to_list result.1 }
+    ensures { ways_of count word end.now ≡ ways_in result.0 result.1 }
 {
     match end {
         BlockEnd::Fall => only(EdgeKind::Fall, within(count, word + 1)),
@@ -61,11 +61,11 @@ fn ways(count: u32, word: u32, end: &BlockEnd) -> Ways
                 ALWAYS => only(EdgeKind::Taken, taken),
                 NEVER => only(EdgeKind::Untaken, untaken),
                 _ => (
-                    Way {
+                    Exit {
                         kind: EdgeKind::Taken,
                         to: taken,
                     },
-                    Some(Way {
+                    Some(Exit {
                         kind: EdgeKind::Untaken,
                         to: untaken,
                     }),
@@ -78,13 +78,13 @@ fn ways(count: u32, word: u32, end: &BlockEnd) -> Ways
 }
 
 // The ways out of a block.
-fn ways_from(firsts: &[u32], words: u32, ends: &[BlockEnd], block: u32) -> Ways
+fn ways_from(firsts: &[u32], words: u32, ends: &[BlockEnd], block: u32) -> Exits
     requires block { block < length firsts.now }
     requires few { words ≤ 2 ^ 20 }
     requires firsts { AreFirsts words firsts.now }
     requires ends { length ends.now ≡ length firsts.now }
     ensures { let b : Blocks = record { firsts = firsts.now; words = words; ends = ends.now } in
-        ways_from b block ≡ result.0 ∷ option_to_list result.1 }
+        ways_from b block ≡ ways_in result.0 result.1 }
 {
     let last = last_of_block(firsts, words, block);
     ways(words, last, &ends[block as usize])
@@ -102,14 +102,14 @@ fn arrive(arrivals: &mut [bool], to: Option<u32>)
     }
 }
 
-fn arrive_by(arrivals: &mut [bool], ways: Ways)
+fn arrive_by(arrivals: &mut [bool], exits: Exits)
     ensures { (k : ℕ) → k < length arrivals.old →
-        marked arrivals.new k ≡ (marked arrivals.old k || is_led_by (ways.0 ∷ option_to_list ways.1) k) }
+        marked arrivals.new k ≡ (marked arrivals.old k || is_led_by (ways_in exits.0 exits.1) k) }
 {
-    let (one, other) = ways;
+    let (one, other) = exits;
     arrive(arrivals, one.to);
-    if let Some(way) = other {
-        arrive(arrivals, way.to);
+    if let Some(exit) = other {
+        arrive(arrivals, exit.to);
     }
 }
 
@@ -180,28 +180,28 @@ fn one_more(into: Into, from: u32, kind: EdgeKind) -> Into
 }
 
 // Counts one way out of a block.
-fn enter(intos: &mut [Into], from: u32, is_bare: bool, way: Way)
+fn enter(intos: &mut [Into], from: u32, is_bare: bool, exit: Exit)
     ensures { (k : ℕ) → k < length intos.old →
-        into_at intos.new k ≡ added_all (into_at intos.old k) (counted from is_bare (way ∷ []) k) }
+        into_at intos.new k ≡ added_all (into_at intos.old k) (counted from is_bare (way_of exit ∷ []) k) }
 {
-    if is_bare && matches!(way.kind, EdgeKind::Fall) {
+    if is_bare && matches!(exit.kind, EdgeKind::Fall) {
         return;
     }
-    if let Some(word) = way.to
+    if let Some(word) = exit.to
         && (word as usize) < intos.len()
     {
-        intos[word as usize] = one_more(intos[word as usize], from, way.kind);
+        intos[word as usize] = one_more(intos[word as usize], from, exit.kind);
     }
 }
 
-fn enter_by(intos: &mut [Into], from: u32, is_bare: bool, ways: Ways)
+fn enter_by(intos: &mut [Into], from: u32, is_bare: bool, exits: Exits)
     ensures { (k : ℕ) → k < length intos.old →
-        into_at intos.new k ≡ added_all (into_at intos.old k) (counted from is_bare (ways.0 ∷ option_to_list ways.1) k) }
+        into_at intos.new k ≡ added_all (into_at intos.old k) (counted from is_bare (ways_in exits.0 exits.1) k) }
 {
-    let (one, other) = ways;
+    let (one, other) = exits;
     enter(intos, from, is_bare, one);
-    if let Some(way) = other {
-        enter(intos, from, is_bare, way);
+    if let Some(exit) = other {
+        enter(intos, from, is_bare, exit);
     }
 }
 
