@@ -12,6 +12,8 @@ mod ends;
 mod entries;
 mod leaders;
 mod list;
+#[cfg(test)]
+mod tests;
 
 pub use list::{BlockList, blocks};
 

@@ -83,6 +83,7 @@ impl BlockList {
         ensures size { result ≡ size_of self.now.blocks b.0 }
         ensures some { 1 ≤ result }
         ensures within { slice_index self.now.blocks.firsts b.0 + result ≤ self.now.blocks.words }
+        ensures few { self.now.blocks.words ≤ 2 ^ 20 }
     {
         block_size(&self.firsts, self.words, b.0)
     }

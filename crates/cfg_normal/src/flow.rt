@@ -13,6 +13,7 @@ use std::marker::Model;
 
 /// The conditions of `bn` and `ba`.
 const NEVER: u8 = 0;
+
 const ALWAYS: u8 = 8;
 
 /// The flow graph of a text.
@@ -115,7 +116,12 @@ fn leave_all(edges: &mut Vec<Edge>, blocks: &BlockList) -> Result<(), NoMemory>
 }
 
 // Adds the edges that leave a block.
-fn leave(edges: &mut Vec<Edge>, blocks: &BlockList, words: u32, block: BlockNo) -> Result<(), NoMemory>
+fn leave(
+    edges: &mut Vec<Edge>,
+    blocks: &BlockList,
+    words: u32,
+    block: BlockNo,
+) -> Result<(), NoMemory>
     requires block { block.0 < length blocks.now.blocks.firsts }
     requires words { words ≡ blocks.now.blocks.words }
     requires few { words ≤ 2 ^ 20 }
@@ -207,12 +213,27 @@ fn edges_out(blocks: &BlockList, words: u32, block: BlockNo) -> (Edge, Option<Ed
     let from = Node::Block(block);
     let last = last_of(blocks, block);
     let slot = slot(words, last);
-    let edge = |kind, to, slot| Edge { from, to, kind, slot };
+    let edge = |kind, to, slot| Edge {
+        from,
+        to,
+        kind,
+        slot,
+    };
     match blocks.end(block) {
-        BlockEnd::Fall => (edge(EdgeKind::Fall, node(blocks, words, last + 1), Slot::Nothing), None),
-        BlockEnd::Call { target } => (edge(EdgeKind::Call, target_node(blocks, words, target), slot), None),
+        BlockEnd::Fall => (
+            edge(EdgeKind::Fall, node(blocks, words, last + 1), Slot::Nothing),
+            None,
+        ),
+        BlockEnd::Call { target } => (
+            edge(EdgeKind::Call, target_node(blocks, words, target), slot),
+            None,
+        ),
         BlockEnd::Jump => (edge(EdgeKind::Out, Node::X, slot), None),
-        BlockEnd::Branch { cond, annul, target } => {
+        BlockEnd::Branch {
+            cond,
+            annul,
+            target,
+        } => {
             let kept = if annul { Slot::Nothing } else { slot };
             let taken = target_node(blocks, words, target);
             let untaken = edge(EdgeKind::Untaken, node(blocks, words, last + 2), kept);
