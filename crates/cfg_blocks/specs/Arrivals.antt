@@ -1,4 +1,5 @@
--- What the lists say from which it is told what leads to each block: for each word, whether an edge leads there, and
+-- What the lists say from which it is told what leads to each block: for each word, whether an edge leads
+-- there, and
 -- what does.
 use Rattle.std.specs.Prelude.{ℕ, ◌-◌, Bool, not, ◌&&◌, ◌==◌, List, [], ◌∷◌, length, map, filter, slice_index, slice_index_or, option_to_list, Option}
 use Rattle.std.specs.List.{list_any, flat_map}
@@ -39,7 +40,8 @@ is_bare_in firsts word_ends given arrivals block =
 
 abbrev pub is_bare_by : Blocks → List BlockEnd → List Bool → ℕ → Bool
 is_bare_by b word_ends given block =
-    is_slot_in b.firsts word_ends given block && not (is_led_from b (length b.firsts) (slice_index b.firsts block))
+    is_slot_in b.firsts word_ends given block && not
+    (is_led_from b (length b.firsts) (slice_index b.firsts block))
 
 abbrev pub into_at : List Into → ℕ → Into
 into_at intos word = slice_index_or intos word Nothing
@@ -61,7 +63,8 @@ counted from is_bare ways word =
 
 -- the same, of so many blocks
 abbrev pub counted_from : Blocks → (ℕ → Bool) → ℕ → ℕ → List Entry
-counted_from b is_bare count word = flat_map (λ block. counted block (is_bare block) (ways_from b block) word) (below count)
+counted_from b is_bare count word =
+    flat_map (λ block. counted block (is_bare block) (ways_from b block) word) (below count)
 
 -- what leads to the first word of a block
 unfoldable pub into_first : List Into → List ℕ → ℕ → Into
@@ -70,7 +73,8 @@ into_first intos firsts block = into_at intos (slice_index firsts block)
 -- what leads to a block
 unfoldable pub into_in : Blocks → List BlockEnd → List Bool → ℕ → Into
 into_in b word_ends given block =
-    added_all Nothing (counted_from b (is_bare_by b word_ends given) (length b.firsts) (slice_index b.firsts block))
+    added_all Nothing (counted_from b (is_bare_by b word_ends given) (length b.firsts)
+    (slice_index b.firsts block))
 
 -- the list of blocks that is made of how control leaves each word, and of marks
 unfoldable pub entered_in : List BlockEnd → List Bool → Entered

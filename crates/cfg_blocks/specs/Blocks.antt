@@ -20,13 +20,15 @@ is_it word (Some target) = target.0 == word
 
 -- a branch or CALL of the text leads to the word
 abbrev pub is_target : Words → ℕ → Bool
-is_target text word = list_any (λ other. is_it word (target_in (end_at text other))) (below (length text.words))
+is_target text word = list_any (λ other. is_it word (target_in (end_at text other)))
+    (below (length text.words))
 
 -- a transfer stands `back` words before
 abbrev pub follows_transfer : Words → ℕ → ℕ → Bool
 follows_transfer text back word = nat_le back word && is_transfer (end_at text (word - back))
 
--- The text's first word leads, the words that are given, each target, and the two words after each transfer: its
+-- The text's first word leads, the words that are given, each target, and the two words after each transfer:
+-- its
 -- delay slot and the word after that.
 abbrev pub leads : Words → List ℕ → ℕ → Bool
 leads text given word =
@@ -47,7 +49,8 @@ pub record Blocks : Type 0 where
 
 -- where the block after one begins, or the text ends
 abbrev pub block_end : List ℕ → ℕ → ℕ → ℕ
-block_end firsts words block = if nat_lt (suc block) (length firsts) then slice_index firsts (suc block) else words
+block_end firsts words block = if nat_lt (suc block) (length firsts) then slice_index firsts
+    (suc block) else words
 
 abbrev pub last_word : List ℕ → ℕ → ℕ → ℕ
 last_word firsts words block = block_end firsts words block - 1
@@ -77,7 +80,8 @@ holding_of b word = count_by (λ first. nat_le first word) b.firsts - 1
 abbrev pub IsAscending : List ℕ → Type 0
 IsAscending xs = (i j : ℕ) → i < j → j < length xs → slice_index xs i < slice_index xs j
 
--- What the first words of blocks are: at least one, no more than words, from word 0 on, in ascending order, words of the text.
+-- What the first words of blocks are: at least one, no more than words, from word 0 on, in ascending order,
+-- words of the text.
 pub record AreFirsts (words : ℕ) (firsts : List ℕ) : Type 0 where
   pub some : 1 ≤ length firsts
   pub few : length firsts ≤ words

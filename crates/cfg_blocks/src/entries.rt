@@ -93,7 +93,8 @@ fn ways_from(firsts: &[u32], words: u32, ends: &[BlockEnd], block: u32) -> Exits
 // Marks a word to which a way leads.
 #[tactic(auto, using(crate::proofs::Marks::marked_set))]
 fn arrive(arrivals: &mut [bool], to: Option<u32>)
-    ensures { (k : ℕ) → k < length arrivals.old → marked arrivals.new k ≡ (marked arrivals.old k || leads_to k to) }
+    ensures { (k : ℕ) → k < length arrivals.old →
+        marked arrivals.new k ≡ (marked arrivals.old k || leads_to k to) }
 {
     if let Some(word) = to
         && (word as usize) < arrivals.len()

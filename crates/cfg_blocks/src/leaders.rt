@@ -33,7 +33,8 @@ fn mark_target(marks: &mut [bool], target: Option<WordNo>)
 
 // Marks the words to which a transfer leads.
 fn mark_targets(marks: &mut [bool], ends: &[BlockEnd])
-    ensures { (k : ℕ) → k < length marks.old → marked marks.new k ≡ (marked marks.old k || is_target_in ends.now k) }
+    ensures { (k : ℕ) → k < length marks.old →
+        marked marks.new k ≡ (marked marks.old k || is_target_in ends.now k) }
 {
     for end in ends {
         mark_target(marks, target_of(end));

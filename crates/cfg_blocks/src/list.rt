@@ -108,8 +108,8 @@ impl BlockList {
         BlockNo(holding_in(&self.firsts, self.words, w.0))
     }
 
-    /// What leads to the block `b`. A landing from outside isn't counted, nor is the way on from a block that is only
-    /// a delay slot and to which nothing leads.
+    /// What leads to the block `b`. A landing from outside isn't counted, nor is the way on from a block
+    /// that is only a delay slot and to which nothing leads.
     #[inline]
     pub fn into(&self, b: BlockNo) -> Into
         requires { b.0 < length self.now.blocks.firsts }
@@ -119,7 +119,8 @@ impl BlockList {
     }
 }
 
-/// The basic blocks of a text. The caller gives words that lead: those at which something starts, and marked ones.
+/// The basic blocks of a text. The caller gives words that lead: those at which something starts, and
+/// marked ones.
 pub fn blocks(
     alloc: Global,
     text: &Text,
@@ -210,7 +211,8 @@ fn block_ends(
 ) -> Result<Vec<BlockEnd>, NoMemory>
     requires words { length word_ends.now < 2 ^ 32 }
     requires firsts { AreFirsts (length word_ends.now) firsts.now }
-    ensures ends { IfOk result (λ v. v.items ≡ map (block_end_in word_ends.now firsts.now) (below (length firsts.now))) }
+    ensures ends { IfOk result (λ v.
+        v.items ≡ map (block_end_in word_ends.now firsts.now) (below (length firsts.now))) }
     ensures len { IfOk result (λ v. length v.items ≡ length firsts.now) }
 {
     let mut ends = Vec::with_capacity(alloc, firsts.len())?;

@@ -25,7 +25,8 @@ abbrev pub is_taken : EdgeKind → Bool
 is_taken kinds.Taken = true
 is_taken _ = false
 
--- A transfer runs its slot on each edge, but an annulled branch only where a condition is met: `ba,a` never does.
+-- A transfer runs its slot on each edge, but an annulled branch only where a condition is met: `ba,a` never
+-- does.
 abbrev pub runs_slot : BlockEnd → EdgeKind → Bool
 runs_slot ends.Fall kind = false
 runs_slot (ends.Branch cond annul target) kind = not annul || (is_taken kind && not (cond == always))
@@ -38,14 +39,21 @@ slot_behind words word = if nat_lt (word + 1) words then Word (record { 0 = word
 
 abbrev pub slot_on : Blocks → ℕ → EdgeKind → Slot
 slot_on b block kind =
-    if runs_slot (end_of b block) kind then slot_behind b.words (last_word b.firsts b.words block) else Nothing
+    if runs_slot (end_of b block) kind then slot_behind b.words
+    (last_word b.firsts b.words block) else Nothing
 
 -- ---- edges
 
 -- the edge of a way out of a block
 abbrev pub edge_of : Blocks → ℕ → Way → Edge
 edge_of b block way =
-    record { from = Block (record { 0 = block }); to = node_of b way.to; kind = way.kind; slot = slot_on b block way.kind }
+    record {
+      from = Block (record { 0 = block });
+      to = node_of b way.to;
+      kind = way.kind;
+      slot =
+          slot_on b block way.kind;
+    }
 
 abbrev pub edges_of : Blocks → ℕ → List Edge
 edges_of b block = map (edge_of b block) (ways_from b block)
@@ -54,7 +62,8 @@ edges_of b block = map (edge_of b block) (ways_from b block)
 abbrev pub landing_at : ℕ → Edge
 landing_at block = record { from = X; to = Block (record { 0 = block }); kind = kinds.Land; slot = Nothing }
 
--- The edges in the order of their numbers: the blocks' own, by blocks in address order, and then a landing at each
+-- The edges in the order of their numbers: the blocks' own, by blocks in address order, and then a landing
+-- at each
 -- block.
 unfoldable pub edges_in : Blocks → List Edge
 edges_in b = flat_map (edges_of b) (below (length b.firsts)) ++ map landing_at (below (length b.firsts))

@@ -7,4 +7,5 @@ abbrev pub invariant-loop-block : goal.invariant-loop-block
 invariant-loop-block l =
     let b : Blocks = record { firsts = l.firsts; words = length l.word_ends; ends = l.ends } in
     (k : ℕ) → k < length l.initial.intos → into_at l.intos k
-    ≡ added_all (into_at l.initial.intos k) (counted_from b (is_bare_in l.firsts l.word_ends l.given l.arrivals) l.block k)
+    ≡ added_all (into_at l.initial.intos k)
+    (counted_from b (is_bare_in l.firsts l.word_ends l.given l.arrivals) l.block k)

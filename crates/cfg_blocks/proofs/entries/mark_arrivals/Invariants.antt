@@ -7,4 +7,5 @@ use Rattle.cfg_blocks.proofs.entries.mark_arrivals.Given as goal
 abbrev pub invariant-loop-block : goal.invariant-loop-block
 invariant-loop-block l =
     let b : Blocks = record { firsts = l.firsts; words = length l.initial.arrivals; ends = l.ends } in
-    (k : ℕ) → k < length l.initial.arrivals → marked l.arrivals k ≡ (marked l.initial.arrivals k || is_led_from b l.block k)
+    (k : ℕ) → k < length l.initial.arrivals
+    → marked l.arrivals k ≡ (marked l.initial.arrivals k || is_led_from b l.block k)

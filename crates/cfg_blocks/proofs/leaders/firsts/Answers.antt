@@ -4,7 +4,8 @@ use Rattle.cfg_blocks.proofs.leaders.firsts.Goals as goal
 
 pub returns-clause-words : goal.returns-clause-words
 returns-clause-words c =
-    c.in_ok-firsts.ensures ∙ rw (c.deref.ensures.value, c.in_ok-leads.ensures.words) (filter_below_same _ _ _ c.in_ok-leads.ensures.leaders)
+    c.in_ok-firsts.ensures ∙ rw (c.deref.ensures.value, c.in_ok-leads.ensures.words)
+    (filter_below_same _ _ _ c.in_ok-leads.ensures.leaders)
 
 pub returns-clause-firsts : goal.returns-clause-firsts
 returns-clause-firsts c =

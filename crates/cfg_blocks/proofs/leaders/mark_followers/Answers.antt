@@ -5,6 +5,9 @@ use Rattle.cfg_blocks.proofs.leaders.mark_followers.Goals as goal
 
 pub loop-word-preserved : goal.loop-word-preserved
 loop-word-preserved c = elim c.if-is_follower.branch [
-  | then-is_follower w ↦ rw w.marks-is (marked_more _ _ _ _ (omega arith) c.loop-word.invariant (sym c.is_follower.ensures ∙ w.if-is_follower.true))
-  | else-is_follower w ↦ rw w.marks-is (left_more _ _ _ _ c.loop-word.invariant (sym c.is_follower.ensures ∙ w.if-is_follower.false))
+  | then-is_follower w ↦ rw w.marks-is
+      (marked_more _ _ _ _ (omega arith) c.loop-word.invariant
+      (sym c.is_follower.ensures ∙ w.if-is_follower.true))
+  | else-is_follower w ↦ rw w.marks-is
+      (left_more _ _ _ _ c.loop-word.invariant (sym c.is_follower.ensures ∙ w.if-is_follower.false))
 ]

@@ -4,4 +4,5 @@ use Rattle.cfg_blocks.proofs.leaders.mark_targets.Given as goal
 
 abbrev pub invariant-loop-end : goal.invariant-loop-end
 invariant-loop-end l =
-    (k : ℕ) → k < length l.marks → marked l.marks k ≡ (marked l.initial.marks k || is_target_in (take l.end-index l.ends) k)
+    (k : ℕ) → k < length l.marks → marked l.marks k
+    ≡ (marked l.initial.marks k || is_target_in (take l.end-index l.ends) k)
