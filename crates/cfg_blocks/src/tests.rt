@@ -17,7 +17,7 @@ fn cut(alloc: Global, words: &[u32], start: u32) -> Result<BlockList, Fail> {
     blocks(alloc, &text, &[WordNo(0)], &[WordNo(start)]).map_err(|_| Fail::from("memory"))
 }
 
-// Each block's first word, count of words, end, and what leads there.
+// Each block's first word, count of words, end, and what leads there; it holds its first and its last word.
 fn expect<R: Abort>(
     rt: &R,
     alloc: Global,
@@ -34,6 +34,8 @@ fn expect<R: Abort>(
         if let Some(want) = wants.get(b.0 as usize) {
             assert_eq!(rt; line.as_str(), *want, "block {b:?}");
         }
+        assert_eq!(rt; list.holding(WordNo(first)), b);
+        assert_eq!(rt; list.holding(WordNo(first + words - 1)), b);
     }
     Ok(())
 }
@@ -56,11 +58,8 @@ fn a_call_and_a_return(rt: HostRuntime) -> Result<(), Fail> {
         "5+1 Fall Nothing",
     ];
     expect(&rt, rt.alloc(), &words, 4, &wants)?;
-    let list = cut(rt.alloc(), &words, 4)?;
-    for (word, block) in [(0, 0), (1, 1), (2, 2), (3, 2), (4, 3), (5, 4)] {
-        assert_eq!(rt; list.holding(WordNo(word)), BlockNo(block));
-    }
-    let copy = list.clone()?;
+    let copy = cut(rt.alloc(), &words, 4)?.clone()?;
+    assert_eq!(rt; copy.count(), 5);
     assert_eq!(rt; copy.first(BlockNo(3)), WordNo(4));
     Ok(())
 }
