@@ -20,16 +20,15 @@ is_it word (Some target) = target.0 == word
 
 -- a branch or CALL of the text leads to the word
 abbrev pub is_target : Words → ℕ → Bool
-is_target text word = list_any (λ other. is_it word (target_in (end_at text other)))
-    (below (length text.words))
+is_target text word =
+    list_any (λ other. is_it word (target_in (end_at text other))) (below (length text.words))
 
 -- a transfer stands `back` words before
 abbrev pub follows_transfer : Words → ℕ → ℕ → Bool
 follows_transfer text back word = nat_le back word && is_transfer (end_at text (word - back))
 
--- The text's first word leads, the words that are given, each target, and the two words after each transfer:
--- its
--- delay slot and the word after that.
+-- The text's first word leads, the words that are given, each target, and the two words after each
+-- transfer: its delay slot and the word after that.
 abbrev pub leads : Words → List ℕ → ℕ → Bool
 leads text given word =
     (word == 0) || list_any (λ other. other == word) given || is_target text word
@@ -49,8 +48,8 @@ pub record Blocks : Type 0 where
 
 -- where the block after one begins, or the text ends
 abbrev pub block_end : List ℕ → ℕ → ℕ → ℕ
-block_end firsts words block = if nat_lt (suc block) (length firsts) then slice_index firsts
-    (suc block) else words
+block_end firsts words block =
+    if nat_lt (suc block) (length firsts) then slice_index firsts (suc block) else words
 
 abbrev pub last_word : List ℕ → ℕ → ℕ → ℕ
 last_word firsts words block = block_end firsts words block - 1

@@ -15,8 +15,8 @@ use Rattle.cfg_blocks.specs.declared.EdgeKind.TheVariants as kinds
 -- the number of the word at an address, where it is that of a word
 abbrev pub word_at : Words → ℕ → Option ℕ
 word_at text address =
-    if nat_le text.start address && ((address - text.start) % 4 == 0) && nat_lt ((address - text.start) / 4)
-    (length text.words)
+    if nat_le text.start address && ((address - text.start) % 4 == 0)
+    && nat_lt ((address - text.start) / 4) (length text.words)
     then Some ((address - text.start) / 4) else None
 
 -- the word to which a displacement leads, which counts words
@@ -63,8 +63,7 @@ target_in (ends.Branch cond annul target) = target
 target_in (ends.Call target) = target
 target_in ends.Jump = None
 
--- ---- the ways out of a word: the kind of each edge, and the word to which it leads, where that is in the
--- text
+-- ---- the ways out of a word: the kind of each edge, and the word to which it leads, where the text has it
 
 pub record Way : Type 0 where
   pub kind : EdgeKind

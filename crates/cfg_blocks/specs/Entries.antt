@@ -41,8 +41,7 @@ is_empty [] = true
 is_empty (entry ∷ entries) = false
 
 -- A block that is only a delay slot: one word after a transfer, which is not given, and to which no edge
--- leads.
--- Its way on is taken only after a landing there.
+-- leads. Its way on is taken only after a landing there.
 abbrev pub is_bare_slot : Words → List ℕ → Blocks → ℕ → Bool
 is_bare_slot text given b block =
     let first = slice_index b.firsts block in
