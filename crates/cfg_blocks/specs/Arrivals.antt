@@ -1,6 +1,5 @@
 -- What the lists say from which it is told what leads to each block: for each word, whether an edge leads
--- there, and
--- what does.
+-- there, and what does.
 use Rattle.std.specs.Prelude.{ℕ, ◌-◌, Bool, not, ◌&&◌, ◌==◌, List, [], ◌∷◌, length, map, filter, slice_index, slice_index_or, option_to_list, Option}
 use Rattle.std.specs.List.{list_any, flat_map}
 use Rattle.cfg_blocks.specs.declared.BlockEnd.{BlockEnd}

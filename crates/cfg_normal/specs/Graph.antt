@@ -39,8 +39,8 @@ slot_behind words word = if nat_lt (word + 1) words then Word (record { 0 = word
 
 abbrev pub slot_on : Blocks → ℕ → EdgeKind → Slot
 slot_on b block kind =
-    if runs_slot (end_of b block) kind then slot_behind b.words
-    (last_word b.firsts b.words block) else Nothing
+    if runs_slot (end_of b block) kind
+    then slot_behind b.words (last_word b.firsts b.words block) else Nothing
 
 -- ---- edges
 
@@ -51,8 +51,7 @@ edge_of b block way =
       from = Block (record { 0 = block });
       to = node_of b way.to;
       kind = way.kind;
-      slot =
-          slot_on b block way.kind;
+      slot = slot_on b block way.kind;
     }
 
 abbrev pub edges_of : Blocks → ℕ → List Edge
