@@ -1,0 +1,232 @@
+-- The lists from which blocks are made say what the definitions say.
+use Rattle.std.proofs.Common.{◌≡◌, ℕ, zero, suc, ◌-◌, ◌<◌, ◌≤◌, Bool, true, false, not, ◌||◌, ◌&&◌, ◌==◌, nat_le, cond, List, [], ◌∷◌, ◌++◌, length, map, filter, slice_index, refl, ap, sym, ◌∙◌, arith, inl, inr, ◌⊎◌}
+use Rattle.std.specs.List.{list_any, flat_map}
+use Rattle.std.proofs.lemmas.List.{append-nil, get_or-map, length-map}
+use Rattle.std.proofs.lemmas.List.Elements.{filter-append}
+use Rattle.std.proofs.lemmas.List.Folds.{list_any-append}
+use Rattle.std.proofs.lemmas.Grind.{flat_map-append}
+use Rattle.std.proofs.lemmas.Bool.{cases_lt, lt-ltb, le-ltb}
+use Rattle.eel_base.specs.CodeText.{Words}
+use Rattle.eel_base.specs.declared.numbers.WordNo.{WordNo}
+use Rattle.cfg_blocks.specs.declared.BlockEnd.{BlockEnd}
+use Rattle.cfg_blocks.specs.declared.BlockEnd.TheVariants.{Fall}
+use Rattle.cfg_blocks.specs.declared.Into.{Into}
+use Rattle.cfg_blocks.specs.declared.Into.TheVariants.{Nothing}
+use Rattle.cfg_blocks.specs.Ends.{Way, end_at, is_transfer, target_in}
+use Rattle.cfg_blocks.specs.Blocks.{Blocks, below, is_it, is_target, follows_transfer, leads, leaders, blocks_of, block_end, last_word, size_of, AreFirsts}
+use Rattle.cfg_blocks.specs.Entries.{Entered, Entry, all_entries, entered_of, entries_from, into_of, is_bare_slot, is_counted, is_empty, is_fall, leads_to, ways_from}
+use Rattle.cfg_blocks.specs.Marks.{block_end_in, end_in, follows, is_in, is_target_in, leads_in, marked, numbers, word_ends}
+use Rattle.cfg_blocks.specs.Arrivals.{added_all, counted, counted_from, entered_in, into_in, is_bare_by, is_led_by, is_led_from}
+use Rattle.cfg_blocks.proofs.Below.{length-below, get_or-below, list_any-map, filter_below_same, filter_below_firsts, map_below_same}
+use Rattle.cfg_blocks.proofs.Entering.{counted_from_more, counted_from_same, into_by-added}
+
+-- ---- how control leaves each word
+
+pub length-word_ends : (text : Words) → length (word_ends text) ≡ length text.words
+unfolding word_ends
+length-word_ends text = length-map (below (length text.words)) (end_at text)
+    ∙ length-below (length text.words)
+
+end_in-word_ends : (text : Words) (k : ℕ) → k < length text.words → end_in (word_ends text) k ≡ end_at text k
+unfolding word_ends
+end_in-word_ends text k h =
+    get_or-map (end_at text) (below (length text.words)) k 0 Fall
+    (omega (arith, length-below (length text.words)))
+    ∙ ap (end_at text) (get_or-below (length text.words) k 0 h)
+
+is_target_in-word_ends : (text : Words) (k : ℕ) → is_target_in (word_ends text) k ≡ is_target text k
+unfolding word_ends
+is_target_in-word_ends text k =
+    list_any-map (λ end. is_it k (target_in end)) (end_at text) (below (length text.words))
+
+follows-word_ends : (text : Words) (back k : ℕ) → k < length text.words
+    → follows (word_ends text) back k ≡ follows_transfer text back k
+follows-word_ends text back k h =
+    ap (λ end. nat_le back k && is_transfer end) (end_in-word_ends text (k - back) (omega arith))
+
+-- ---- leaders
+
+pub given_by : (starts marks : List WordNo) (k : ℕ)
+    → (is_in starts k || is_in marks k) ≡ list_any (λ other. other == k) (numbers starts ++ numbers marks)
+given_by starts marks k =
+    let front : list_any (λ other. other == k) (numbers starts) ≡ is_in starts k =
+    list_any-map (λ other. other == k) (λ word. word.0) starts in
+    let back : list_any (λ other. other == k) (numbers marks) ≡ is_in marks k =
+    list_any-map (λ other. other == k) (λ word. word.0) marks in
+    sym (list_any-append (λ other. other == k) (numbers starts) (numbers marks)
+    ∙ ap (λ x. x || list_any (λ other. other == k) (numbers marks)) front
+    ∙ ap (λ x. is_in starts k || x) back)
+
+abbrev IsGiven : Words → List ℕ → List Bool → Type 0
+IsGiven text given marks = (k : ℕ) → k < length text.words
+    → marked marks k ≡ list_any (λ other. other == k) given
+
+leads_in-word_ends : (text : Words) (given : List ℕ) (marks : List Bool) → IsGiven text given marks
+    → (k : ℕ) → k < length text.words
+    → leads_in (word_ends text) marks k ≡ leads text given k
+leads_in-word_ends text given marks g k h =
+    cc (g k h, is_target_in-word_ends text k, follows-word_ends text 1 k h, follows-word_ends text 2 k h)
+
+firsts_are : (text : Words) (given : List ℕ) (marks : List Bool) → IsGiven text given marks
+    → filter (leads_in (word_ends text) marks) (below (length (word_ends text))) ≡ leaders text given
+unfolding leaders
+firsts_are text given marks g =
+    rw (length-word_ends text) (filter_below_same (length text.words) _ _
+    (leads_in-word_ends text given marks g))
+
+firsts_of : (text : Words) (given : List ℕ) → 1 ≤ length text.words
+    → AreFirsts (length text.words) (leaders text given)
+unfolding leaders
+firsts_of text given some = filter_below_firsts (length text.words) (leads text given) some refl
+
+last_word_within : (words : ℕ) (firsts : List ℕ) (block : ℕ) → AreFirsts words firsts
+    → block < length firsts → last_word firsts words block < words
+last_word_within words firsts block f h = next (cases_lt (suc block) (length firsts))
+  where
+    next : (suc block < length firsts) ⊎ (length firsts ≤ suc block) → last_word firsts words block < words
+    next (inl l) = rw (lt-ltb _ _ l) (omega (arith, f.within (suc block) l))
+    next (inr m) = rw (le-ltb _ _ m) (omega (arith, f.within block h))
+
+block_end_alike : (text : Words) (firsts : List ℕ) (block : ℕ) → AreFirsts (length text.words) firsts
+    → block < length firsts
+    → block_end_in (word_ends text) firsts block ≡ end_at text (last_word firsts (length text.words) block)
+unfolding block_end_in
+block_end_alike text firsts block f h =
+    rw (length-word_ends text) (end_in-word_ends text (last_word firsts (length text.words) block)
+    (last_word_within (length text.words) firsts block f h))
+
+-- ---- what leads to a block
+
+filter_map_same : {A B : Type 0} (p q : B → Bool) (f : A → B) (xs : List A) → ((x : A) → p (f x) ≡ q (f x))
+    → filter p (map f xs) ≡ filter q (map f xs)
+filter_map_same p q f [] same = refl
+filter_map_same p q f (x ∷ xs) same = cc (same x, filter_map_same p q f xs same)
+
+is_empty-append : (xs ys : List Entry) → is_empty (xs ++ ys) ≡ (is_empty xs && is_empty ys)
+is_empty-append [] ys = refl
+is_empty-append (x ∷ xs) ys = refl
+
+is_empty-map : (f : Way → Entry) (p : Way → Bool) (ways : List Way)
+    → is_empty (map f (filter p ways)) ≡ not (list_any p ways)
+is_empty-map f p [] = refl
+is_empty-map f p (way ∷ ways) = first (p way) (is_empty-map f p ways)
+  where
+    first : (b : Bool) → is_empty (map f (filter p ways)) ≡ not (list_any p ways)
+        → is_empty (map f (cond b (way ∷ filter p ways) (filter p ways))) ≡ not (b || list_any p ways)
+    first true h = refl
+    first false h = h
+
+not-or : (x y : Bool) → (not x && not y) ≡ not (x || y)
+not-or true y = refl
+not-or false y = refl
+
+is_empty-flat_map : (f : ℕ → List Entry) (led : ℕ → Bool) (xs : List ℕ)
+    → ((x : ℕ) → is_empty (f x) ≡ not (led x)) → is_empty (flat_map f xs) ≡ not (list_any led xs)
+is_empty-flat_map f led [] each = refl
+is_empty-flat_map f led (x ∷ xs) each =
+    is_empty-append (f x) (flat_map f xs) ∙ ap (λ b. b && is_empty (flat_map f xs)) (each x)
+    ∙ ap (λ b. not (led x) && b) (is_empty-flat_map f led xs each) ∙ not-or (led x) (list_any led xs)
+
+is_empty-all_entries : (b : Blocks) (block : ℕ)
+    → is_empty (all_entries b block) ≡ not (is_led_from b (length b.firsts) (slice_index b.firsts block))
+is_empty-all_entries b block =
+    is_empty-flat_map (entries_from b (slice_index b.firsts block))
+    (λ other. is_led_by (ways_from b other) (slice_index b.firsts block)) (below (length b.firsts))
+    (λ other. is_empty-map (λ way. record { from = other; kind = way.kind })
+    (λ way. leads_to (slice_index b.firsts block) way.to) (ways_from b other))
+
+bare_alike : (text : Words) (given : List ℕ) (marks : List Bool) (b : Blocks) (block : ℕ)
+    → IsGiven text given marks → b.words ≡ length text.words
+    → slice_index b.firsts block < length text.words
+    → is_bare_by b (word_ends text) marks block ≡ is_bare_slot text given b block
+bare_alike text given marks b block g words h =
+    let first = slice_index b.firsts block in
+    let size : (block_end b.firsts (length (word_ends text)) block - first == 1) ≡ (size_of b block == 1) =
+    ap (λ n. block_end b.firsts n block - first == 1) (length-word_ends text ∙ sym words) in
+    let slot = follows-word_ends text 1 first h in
+    let is_given = g first h in
+    let led = is_empty-all_entries b block in
+    ap (λ x. (x && follows (word_ends text) 1 first) && not (marked marks first) && not
+    (is_led_from b (length b.firsts) first)) size
+    ∙ ap (λ x. ((size_of b block == 1) && x) && not (marked marks first) && not
+    (is_led_from b (length b.firsts) first)) slot
+    ∙ ap (λ x. ((size_of b block == 1) && follows_transfer text 1 first) && not x && not
+    (is_led_from b (length b.firsts) first)) is_given
+    ∙ ap (λ x. ((size_of b block == 1) && follows_transfer text 1 first) && not
+    (list_any (λ other. other == first) given) && x) (sym led)
+
+counted_alike : (text : Words) (given : List ℕ) (b : Blocks) (count word : ℕ)
+    → filter (is_counted text given b) (flat_map (entries_from b word) (below count))
+    ≡ counted_from b (is_bare_slot text given b) count word
+counted_alike text given b zero word = refl
+counted_alike text given b (suc count) word =
+    let entries : flat_map (entries_from b word) (below count ++ count ∷ [])
+    ≡ flat_map (entries_from b word) (below count) ++ flat_map (entries_from b word) (count ∷ []) =
+    flat_map-append (entries_from b word) (below count) (count ∷ []) in
+    let last : flat_map (entries_from b word) (count ∷ []) ≡ entries_from b word count =
+    append-nil (entries_from b word count) in
+    let here : filter (is_counted text given b) (entries_from b word count)
+    ≡ counted count (is_bare_slot text given b count) (ways_from b count) word =
+    filter_map_same (is_counted text given b)
+    (λ entry. not (is_fall entry.kind && is_bare_slot text given b count))
+    (λ way. record { from = count; kind = way.kind })
+    (filter (λ way. leads_to word way.to) (ways_from b count)) (λ way. refl) in
+    ap (filter (is_counted text given b)) entries
+    ∙ filter-append (is_counted text given b) (flat_map (entries_from b word) (below count))
+    (flat_map (entries_from b word) (count ∷ []))
+    ∙ ap (λ es. filter (is_counted text given b) (flat_map (entries_from b word) (below count)) ++ filter
+    (is_counted text given b) es) last
+    ∙ ap (λ es. es ++ filter (is_counted text given b) (entries_from b word count))
+    (counted_alike text given b count word)
+    ∙ ap (λ es. counted_from b (is_bare_slot text given b) count word ++ es) here
+    ∙ sym (counted_from_more b (is_bare_slot text given b) count word)
+
+into_alike : (text : Words) (given : List ℕ) (marks : List Bool) (b : Blocks) (block : ℕ)
+    → IsGiven text given marks → b.words ≡ length text.words
+    → ((k : ℕ) → k < length b.firsts → slice_index b.firsts k < length text.words)
+    → into_in b (word_ends text) marks block ≡ into_of text given b block
+unfolding into_in into_of
+into_alike text given marks b block g words within =
+    let first = slice_index b.firsts block in
+    let edges : counted_from b (is_bare_by b (word_ends text) marks) (length b.firsts) first
+    ≡ filter (is_counted text given b) (all_entries b block) =
+    counted_from_same b _ _ (length b.firsts) first
+    (λ k h. bare_alike text given marks b k g words (within k h))
+    ∙ sym (counted_alike text given b (length b.firsts) first) in
+    ap (λ es. added_all Nothing es) edges
+    ∙ sym (into_by-added (filter (is_counted text given b) (all_entries b block)))
+
+-- ---- the whole list
+
+pub cut_is : (ends : List BlockEnd) (given : List Bool) (firsts : List ℕ) (block_ends : List BlockEnd)
+    (intos : List Into)
+    → firsts ≡ filter (leads_in ends given) (below (length ends))
+    → block_ends ≡ map (block_end_in ends firsts) (below (length firsts))
+    → (let b : Blocks = record { firsts = firsts; words = length ends; ends = block_ends } in intos
+    ≡ map (into_in b ends given) (below (length firsts)))
+    → (let e : Entered = record {
+      blocks =
+          record { firsts = firsts; words = length ends; ends = block_ends };
+      intos = intos;
+    } in e
+    ≡ entered_in ends given)
+unfolding entered_in
+cut_is ends given firsts block_ends intos f e i = rw (i, e, f)
+
+pub entered_alike : (text : Words) (given : List ℕ) (marks : List Bool) → 1 ≤ length text.words
+    → IsGiven text given marks
+    → entered_in (word_ends text) marks ≡ entered_of text given
+unfolding entered_in entered_of blocks_of
+entered_alike text given marks some g =
+    let firsts = leaders text given in
+    let f = firsts_of text given some in
+    let ends : map (block_end_in (word_ends text) firsts) (below (length firsts))
+    ≡ (blocks_of text given).ends =
+    map_below_same (length firsts) _ _ (λ block h. block_end_alike text firsts block f h) in
+    let intos : map (into_in (blocks_of text given) (word_ends text) marks) (below (length firsts))
+    ≡ map (into_of text given (blocks_of text given)) (below (length firsts)) =
+    map_below_same (length firsts) _ _
+    (λ block h. into_alike text given marks (blocks_of text given) block g refl f.within) in
+    rw (firsts_are text given marks g, length-word_ends text, ends)
+    (ap (λ (is : List Into). let e : Entered =
+    record { blocks = blocks_of text given; intos = is } in e) intos)

@@ -1,0 +1,6 @@
+pub mod Targets
+pub mod Marks
+pub mod Below
+pub mod Counts
+pub mod Entering
+pub mod Agreement

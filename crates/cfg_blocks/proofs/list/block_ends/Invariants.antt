@@ -1,0 +1,8 @@
+use Rattle.std.proofs.Common.{◌≡◌, length, map}
+use Rattle.cfg_blocks.specs.Blocks.{below}
+use Rattle.cfg_blocks.specs.Marks.{block_end_in}
+use Rattle.cfg_blocks.proofs.list.block_ends.Given as goal
+
+abbrev pub invariant-loop-block : goal.invariant-loop-block
+invariant-loop-block l = (l.ends.items ≡ map (block_end_in l.word_ends l.firsts) (below l.block)) ×
+    (length l.ends.items ≡ l.block)

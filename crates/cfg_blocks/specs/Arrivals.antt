@@ -1,0 +1,87 @@
+-- What the lists say from which it is told what leads to each block: for each word, whether an edge leads
+-- there, and what does.
+use Rattle.std.specs.Prelude.{ℕ, ◌-◌, Bool, not, ◌&&◌, ◌==◌, List, [], ◌∷◌, length, map, filter, slice_index, slice_index_or, option_to_list, Option}
+use Rattle.std.specs.List.{list_any, flat_map}
+use Rattle.cfg_blocks.specs.declared.BlockEnd.{BlockEnd}
+use Rattle.cfg_blocks.specs.declared.Into.{Into}
+use Rattle.cfg_blocks.specs.declared.Into.TheVariants.{Nothing, One, More}
+use Rattle.cfg_blocks.specs.declared.entries.Exit.{Exit}
+use Rattle.cfg_blocks.specs.Ends.{Way}
+use Rattle.cfg_blocks.specs.Blocks.{Blocks, below, block_end}
+use Rattle.cfg_blocks.specs.Entries.{Entered, Entry, is_fall, leads_to, ways_from}
+use Rattle.cfg_blocks.specs.Marks.{block_end_in, follows, leads_in, marked}
+
+-- the ways that are listed as one and perhaps another
+abbrev pub way_of : Exit → Way
+way_of exit = record { kind = exit.kind; to = exit.to }
+
+abbrev pub ways_in : Exit → Option Exit → List Way
+ways_in one other = way_of one ∷ map way_of (option_to_list other)
+
+-- one of the ways leads to the word
+abbrev pub is_led_by : List Way → ℕ → Bool
+is_led_by ways word = list_any (λ way. leads_to word way.to) ways
+
+-- a way out of one of so many blocks leads to the word
+abbrev pub is_led_from : Blocks → ℕ → ℕ → Bool
+is_led_from b count word = list_any (λ block. is_led_by (ways_from b block) word) (below count)
+
+-- the first word of a block that is only a delay slot, where a list marks the words that are given
+abbrev pub is_slot_in : List ℕ → List BlockEnd → List Bool → ℕ → Bool
+is_slot_in firsts word_ends given block =
+    (block_end firsts (length word_ends) block - slice_index firsts block == 1)
+    && follows word_ends 1 (slice_index firsts block) && not (marked given (slice_index firsts block))
+
+-- such a block to which no edge leads, where another list marks the words to which one does
+abbrev pub is_bare_in : List ℕ → List BlockEnd → List Bool → List Bool → ℕ → Bool
+is_bare_in firsts word_ends given arrivals block =
+    is_slot_in firsts word_ends given block && not (marked arrivals (slice_index firsts block))
+
+abbrev pub is_bare_by : Blocks → List BlockEnd → List Bool → ℕ → Bool
+is_bare_by b word_ends given block =
+    is_slot_in b.firsts word_ends given block && not
+    (is_led_from b (length b.firsts) (slice_index b.firsts block))
+
+abbrev pub into_at : List Into → ℕ → Into
+into_at intos word = slice_index_or intos word Nothing
+
+-- what leads to a word, and one edge or some more
+abbrev pub added : Into → Entry → Into
+added Nothing entry = One (record { 0 = entry.from }) entry.kind
+added _ entry = More
+
+abbrev pub added_all : Into → List Entry → Into
+added_all into [] = into
+added_all into (entry ∷ entries) = added_all (added into entry) entries
+
+-- of the ways out of a block, the edges that lead to the word; the way on from a bare slot isn't counted
+abbrev pub counted : ℕ → Bool → List Way → ℕ → List Entry
+counted from is_bare ways word =
+    filter (λ entry. not (is_fall entry.kind && is_bare))
+    (map (λ way. record { from = from; kind = way.kind }) (filter (λ way. leads_to word way.to) ways))
+
+-- the same, of so many blocks
+abbrev pub counted_from : Blocks → (ℕ → Bool) → ℕ → ℕ → List Entry
+counted_from b is_bare count word =
+    flat_map (λ block. counted block (is_bare block) (ways_from b block) word) (below count)
+
+-- what leads to the first word of a block
+unfoldable pub into_first : List Into → List ℕ → ℕ → Into
+into_first intos firsts block = into_at intos (slice_index firsts block)
+
+-- what leads to a block
+unfoldable pub into_in : Blocks → List BlockEnd → List Bool → ℕ → Into
+into_in b word_ends given block =
+    added_all Nothing (counted_from b (is_bare_by b word_ends given) (length b.firsts)
+    (slice_index b.firsts block))
+
+-- the list of blocks that is made of how control leaves each word, and of marks
+unfoldable pub entered_in : List BlockEnd → List Bool → Entered
+entered_in word_ends given =
+    let firsts = filter (leads_in word_ends given) (below (length word_ends)) in
+    let b : Blocks = record {
+      firsts = firsts;
+      words = length word_ends;
+      ends = map (block_end_in word_ends firsts) (below (length firsts));
+    } in
+    record { blocks = b; intos = map (into_in b word_ends given) (below (length firsts)) }

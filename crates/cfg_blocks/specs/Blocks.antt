@@ -1,0 +1,89 @@
+-- The basic blocks of a text.
+use Rattle.std.specs.Prelude.{◌≡◌, ℕ, zero, suc, ◌-◌, ◌<◌, ◌≤◌, Bool, false, ◌||◌, ◌&&◌, ◌==◌, nat_le, nat_lt, if◌then◌else◌, List, [], ◌∷◌, ◌++◌, length, map, filter, slice_index, slice_index_or, Option, Some, None}
+use Rattle.std.specs.List.{list_any, count_by}
+use Rattle.eel_base.specs.CodeText.{Words}
+use Rattle.eel_base.specs.declared.numbers.WordNo.{WordNo}
+use Rattle.cfg_blocks.specs.declared.BlockEnd.{BlockEnd}
+use Rattle.cfg_blocks.specs.declared.BlockEnd.TheVariants.{Fall}
+use Rattle.cfg_blocks.specs.Ends.{end_at, is_transfer, target_in}
+
+-- the numbers below n, in order
+abbrev pub below : ℕ → List ℕ
+below zero = []
+below (suc n) = below n ++ n ∷ []
+
+-- ---- leaders: the words with which a block begins
+
+abbrev pub is_it : ℕ → Option WordNo → Bool
+is_it word None = false
+is_it word (Some target) = target.0 == word
+
+-- a branch or CALL of the text leads to the word
+abbrev pub is_target : Words → ℕ → Bool
+is_target text word =
+    list_any (λ other. is_it word (target_in (end_at text other))) (below (length text.words))
+
+-- a transfer stands `back` words before
+abbrev pub follows_transfer : Words → ℕ → ℕ → Bool
+follows_transfer text back word = nat_le back word && is_transfer (end_at text (word - back))
+
+-- The text's first word leads, the words that are given, each target, and the two words after each
+-- transfer: its delay slot and the word after that.
+abbrev pub leads : Words → List ℕ → ℕ → Bool
+leads text given word =
+    (word == 0) || list_any (λ other. other == word) given || is_target text word
+    || follows_transfer text 1 word || follows_transfer text 2 word
+
+unfoldable pub leaders : Words → List ℕ → List ℕ
+leaders text given = filter (leads text given) (below (length text.words))
+
+-- ---- blocks: each runs from a leader to the next, or to the end of the text
+
+pub record Blocks : Type 0 where
+  -- the first word of each, in order, and how many words the text has
+  pub firsts : List ℕ
+  pub words : ℕ
+  -- how control leaves the last word of each
+  pub ends : List BlockEnd
+
+-- where the block after one begins, or the text ends
+abbrev pub block_end : List ℕ → ℕ → ℕ → ℕ
+block_end firsts words block =
+    if nat_lt (suc block) (length firsts) then slice_index firsts (suc block) else words
+
+abbrev pub last_word : List ℕ → ℕ → ℕ → ℕ
+last_word firsts words block = block_end firsts words block - 1
+
+unfoldable pub blocks_of : Words → List ℕ → Blocks
+blocks_of text given =
+    let firsts = leaders text given in
+    let words = length text.words in
+    record {
+      firsts = firsts;
+      words = words;
+      ends = map (λ block. end_at text (last_word firsts words block)) (below (length firsts));
+    }
+
+-- how control leaves the last word of a block
+abbrev pub end_of : Blocks → ℕ → BlockEnd
+end_of b block = slice_index_or b.ends block Fall
+
+-- how many words a block has
+abbrev pub size_of : Blocks → ℕ → ℕ
+size_of b block = block_end b.firsts b.words block - slice_index b.firsts block
+
+-- the block that holds a word: the last that begins at it or before
+abbrev pub holding_of : Blocks → ℕ → ℕ
+holding_of b word = count_by (λ first. nat_le first word) b.firsts - 1
+
+abbrev pub IsAscending : List ℕ → Type 0
+IsAscending xs = (i j : ℕ) → i < j → j < length xs → slice_index xs i < slice_index xs j
+
+-- What the first words of blocks are: at least one, no more than words, from word 0 on, in ascending order,
+-- words of the text.
+pub record AreFirsts (words : ℕ) (firsts : List ℕ) : Type 0 where
+  pub some : 1 ≤ length firsts
+  pub few : length firsts ≤ words
+  pub begin : slice_index firsts 0 ≡ 0
+  pub ascend : IsAscending firsts
+  pub within : (i : ℕ) → i < length firsts → slice_index firsts i < words

@@ -1,0 +1,5 @@
+pub mod Arrivals
+pub mod Blocks
+pub mod Ends
+pub mod Marks
+pub mod Entries

@@ -1,0 +1,96 @@
+//! How control leaves the words of a text.
+ghost use Rattle.std.specs.Prelude.{◌≡◌, ◌+◌, ◌<◌, ℤ, length, map, IfOk};
+ghost use Rattle.cfg_blocks.specs.Ends.{branch_target, end_at, is_transfer, numbered, target_in, target_of, word_at};
+ghost use Rattle.cfg_blocks.specs.Marks.{word_ends};
+
+use crate::BlockEnd;
+use eel_base::{Addr, NoMemory, Text, WordNo};
+use std::alloc::Global;
+use v8_decode::{Cond, Instr, decode};
+
+/// The conditions of `bn` and `ba`.
+pub(crate) const NEVER: u8 = 0;
+
+pub(crate) const ALWAYS: u8 = 8;
+
+// The word at an address.
+fn find(text: &Text, address: Addr) -> Option<WordNo>
+    ensures { result ≡ numbered (word_at text.now address.0) }
+{
+    text.find(address)
+}
+
+// The word to which a displacement leads, which counts words.
+fn target(text: &Text, w: WordNo, displacement: i32) -> Option<WordNo>
+    requires { w.0 < length text.now.words }
+    ensures { result ≡ numbered (target_of text.now w.0 displacement) }
+{
+    let distance = displacement.cast_unsigned().wrapping_mul(4);
+    find(text, Addr(text.address(w).0.wrapping_add(distance)))
+}
+
+// The word to which a branch leads; one on never leads nowhere.
+fn branch_target(text: &Text, w: WordNo, cond: Cond, displacement: i32) -> Option<WordNo>
+    requires { w.0 < length text.now.words }
+    ensures { result ≡ branch_target text.now w.0 cond displacement }
+{
+    if cond.number() == NEVER {
+        None
+    } else {
+        target(text, w, displacement)
+    }
+}
+
+// How control leaves the word `w`.
+#[tactic(auto, unfolding(crate::specs::Ends::end_at))]
+fn word_end(text: &Text, w: WordNo) -> BlockEnd
+    requires { w.0 < length text.now.words }
+    ensures { result ≡ end_at text.now w.0 }
+{
+    match decode(text.word(w)) {
+        Instr::Branch {
+            cond,
+            annul,
+            disp22,
+        } => BlockEnd::Branch {
+            cond,
+            annul,
+            target: branch_target(text, w, cond, disp22),
+        },
+        Instr::Call { disp30 } => BlockEnd::Call {
+            target: target(text, w, disp30),
+        },
+        Instr::Jmpl { .. } => BlockEnd::Jump,
+        _ => BlockEnd::Fall,
+    }
+}
+
+/// How control leaves each word, in order.
+#[tactic(auto, unfolding(crate::specs::Marks::word_ends))]
+pub(crate) fn word_ends(alloc: Global, text: &Text) -> Result<Vec<BlockEnd>, NoMemory>
+    ensures ends { IfOk result (λ v. v.items ≡ word_ends text.now) }
+    ensures len { IfOk result (λ v. length v.items ≡ length text.now.words) }
+{
+    let mut ends = Vec::with_capacity(alloc, text.len() as usize)?;
+    for word in 0..text.len() {
+        ends.push(word_end(text, WordNo(word)))?;
+    }
+    Ok(ends)
+}
+
+/// Whether that is a transfer.
+pub(crate) fn is_transfer(end: &BlockEnd) -> bool
+    ensures { result ≡ is_transfer end.now }
+{
+    !matches!(end, BlockEnd::Fall)
+}
+
+/// The word to which a transfer leads, where the text has it.
+pub(crate) fn target_of(end: &BlockEnd) -> Option<WordNo>
+    ensures { result ≡ target_in end.now }
+{
+    match end {
+        BlockEnd::Branch { target, .. } | BlockEnd::Call { target } => *target,
+        BlockEnd::Fall | BlockEnd::Jump => None,
+    }
+}

@@ -1,0 +1,137 @@
+//! Leaders: the words with which a block begins.
+ghost use Rattle.std.specs.Prelude.{◌≡◌, ℕ, ◌+◌, ◌<◌, ◌≤◌, ◌||◌, ◌^◌, length, filter, IfOk};
+ghost use Rattle.std.specs.List.{All};
+ghost use Rattle.cfg_blocks.specs.Blocks.{below, is_it, AreFirsts};
+ghost use Rattle.cfg_blocks.specs.Marks.{follows, is_in, is_target_in, leads_in, marked};
+
+use crate::BlockEnd;
+use crate::ends::{is_transfer, target_of};
+use eel_base::{NoMemory, WordNo};
+use std::alloc::Global;
+
+/// Marks these words.
+pub(crate) fn mark_words(marks: &mut [bool], words: &[WordNo])
+    requires { All (λ word. word.0 < length marks.old) words.now }
+    ensures { (k : ℕ) → k < length marks.old → marked marks.new k ≡ (marked marks.old k || is_in words.now k) }
+{
+    for word in words {
+        marks[word.0 as usize] = true;
+    }
+}
+
+// Marks a target.
+#[tactic(auto, using(crate::proofs::Marks::marked_set))]
+fn mark_target(marks: &mut [bool], target: Option<WordNo>)
+    ensures { (k : ℕ) → k < length marks.old → marked marks.new k ≡ (marked marks.old k || is_it k target) }
+{
+    if let Some(word) = target
+        && (word.0 as usize) < marks.len()
+    {
+        marks[word.0 as usize] = true;
+    }
+}
+
+// Marks the words to which a transfer leads.
+fn mark_targets(marks: &mut [bool], ends: &[BlockEnd])
+    ensures { (k : ℕ) → k < length marks.old →
+        marked marks.new k ≡ (marked marks.old k || is_target_in ends.now k) }
+{
+    for end in ends {
+        mark_target(marks, target_of(end));
+    }
+}
+
+// Marks the two words after each transfer.
+fn mark_followers(marks: &mut [bool], ends: &[BlockEnd])
+    requires { length marks.old ≡ length ends.now }
+    ensures { (k : ℕ) → k < length marks.old →
+        marked marks.new k ≡ (marked marks.old k || (follows ends.now 1 k || follows ends.now 2 k)) }
+{
+    for word in 0..ends.len() {
+        if is_follower(ends, word) {
+            marks[word] = true;
+        }
+    }
+}
+
+// Whether the word is one of the two after a transfer.
+fn is_follower(ends: &[BlockEnd], word: usize) -> bool
+    requires { word ≤ length ends.now }
+    ensures { result ≡ (follows ends.now 1 word || follows ends.now 2 word) }
+{
+    follows(ends, word, 1) || follows(ends, word, 2)
+}
+
+/// Whether a transfer stands `back` words before.
+pub(crate) fn follows(ends: &[BlockEnd], word: usize, back: usize) -> bool
+    requires within { word ≤ length ends.now }
+    requires back { 0 < back }
+    ensures { result ≡ follows ends.now back word }
+{
+    back <= word && is_transfer(&ends[word - back])
+}
+
+/// Which words lead, where `given` marks those that the caller gives.
+pub(crate) fn leaders(
+    alloc: Global,
+    ends: &[BlockEnd],
+    given: &[bool],
+) -> Result<Vec<bool>, NoMemory>
+    requires some { 0 < length ends.now }
+    requires words { length given.now ≡ length ends.now }
+    ensures words { IfOk result (λ v. length v.items ≡ length ends.now) }
+    ensures leaders { IfOk result (λ v.
+        (k : ℕ) → k < length ends.now → marked v.items k ≡ leads_in ends.now given.now k) }
+{
+    let mut marks = Vec::from_slice(alloc, given)?;
+    marks[0] = true;
+    mark_targets(&mut marks, ends);
+    mark_followers(&mut marks, ends);
+    Ok(marks)
+}
+
+/// The marked words, in order.
+pub(crate) fn marked_words(alloc: Global, marks: &[bool]) -> Result<Vec<u32>, NoMemory>
+    requires { length marks.now < 2 ^ 32 }
+    ensures { IfOk result (λ v. v.items ≡ filter (marked marks.now) (below (length marks.now))) }
+{
+    let mut words = Vec::new(alloc);
+    for (word, mark) in marks.iter().enumerate() {
+        if *mark {
+            words.push(word as u32)?;
+        }
+    }
+    Ok(words)
+}
+
+/// The words that lead, where `given` marks those that the caller gives.
+pub(crate) fn firsts(alloc: Global, ends: &[BlockEnd], given: &[bool]) -> Result<Vec<u32>, NoMemory>
+    requires some { 0 < length ends.now }
+    requires few { length ends.now < 2 ^ 32 }
+    requires words { length given.now ≡ length ends.now }
+    ensures words { IfOk result (λ v. v.items ≡ filter (leads_in ends.now given.now) (below (length ends.now))) }
+    ensures firsts { IfOk result (λ v. AreFirsts (length ends.now) v.items) }
+{
+    let leads = leaders(alloc, ends, given)?;
+    let firsts = marked_words(alloc, &leads)?;
+    Ok(firsts)
+}
+
+/// The words that a caller gives.
+pub(crate) fn given_words(
+    alloc: Global,
+    count: u32,
+    starts: &[WordNo],
+    marks: &[WordNo],
+) -> Result<Vec<bool>, NoMemory>
+    requires starts { All (λ word. word.0 < count) starts.now }
+    requires marks { All (λ word. word.0 < count) marks.now }
+    ensures words { IfOk result (λ v. length v.items ≡ count) }
+    ensures given { IfOk result (λ v.
+        (k : ℕ) → k < count → marked v.items k ≡ (is_in starts.now k || is_in marks.now k)) }
+{
+    let mut given = vec![in alloc; false; count as usize]?;
+    mark_words(&mut given, starts);
+    mark_words(&mut given, marks);
+    Ok(given)
+}

@@ -1,0 +1,223 @@
+//! The list of blocks.
+ghost use Rattle.std.specs.Prelude.{◌≡◌, ℕ, ◌+◌, ◌-◌, ◌^◌, ◌<◌, ◌≤◌, ◌++◌, nat_le, length, map, slice_index, slice_index_or, count_by, IfOk};
+ghost use Rattle.cfg_blocks.specs.Arrivals.{entered_in};
+ghost use Rattle.cfg_blocks.specs.Blocks.{below, block_end, end_of, holding_of, last_word, size_of, AreFirsts, IsAscending};
+ghost use Rattle.cfg_blocks.specs.Entries.{entered_of, IsBlockList};
+ghost use Rattle.cfg_blocks.specs.Marks.{block_end_in, numbers, AreWords};
+
+use crate::ends::word_ends;
+use crate::entries::intos;
+use crate::leaders::{firsts, given_words};
+use crate::{BlockEnd, Into};
+use eel_base::{BlockNo, NoMemory, Text, WordNo};
+use std::alloc::{AllocError, Global};
+use std::marker::Model;
+
+/// The basic blocks of a text, in address order.
+#[derive(Drop)]
+pub struct BlockList {
+    firsts: Vec<u32>,
+    words: u32,
+    ends: Vec<BlockEnd>,
+    intos: Vec<Into>,
+}
+
+impl Model for BlockList {
+    ghost use Rattle.cfg_blocks.specs.Entries.{Entered, IsBlockList};
+
+    ghost Value = { Entered };
+
+    ghost view = { λ l. record {
+      blocks = record { firsts = l.firsts.items; words = l.words; ends = l.ends.items };
+      intos = l.intos.items;
+    } };
+
+    ghost invariant = { λ l. IsBlockList (record {
+      blocks = record { firsts = l.firsts.items; words = l.words; ends = l.ends.items };
+      intos = l.intos.items;
+    }) };
+}
+
+impl Clone for BlockList {
+    ghost is_clone = { λ list copy. copy ≡ list };
+
+    fn clone(&self) -> Result<BlockList, AllocError> {
+        let alloc = *self.firsts.allocator();
+        let firsts = Vec::from_slice(alloc, &self.firsts)?;
+        let ends = Vec::from_slice(alloc, &self.ends)?;
+        let intos = Vec::from_slice(alloc, &self.intos)?;
+        Ok(BlockList {
+            firsts,
+            words: self.words,
+            ends,
+            intos,
+        })
+    }
+}
+
+impl BlockList {
+    /// How many blocks there are.
+    #[inline]
+    pub fn count(&self) -> u32
+        ensures count { result ≡ length self.now.blocks.firsts }
+        ensures some { 1 ≤ result }
+        ensures list { IsBlockList self.now }
+    {
+        self.firsts.len() as u32
+    }
+
+    /// The first word of the block `b`.
+    #[inline]
+    pub fn first(&self, b: BlockNo) -> WordNo
+        requires { b.0 < length self.now.blocks.firsts }
+        ensures first { result.0 ≡ slice_index self.now.blocks.firsts b.0 }
+        ensures within { result.0 < self.now.blocks.words }
+    {
+        WordNo(self.firsts[b.0 as usize])
+    }
+
+    /// How many words the block `b` has.
+    #[inline]
+    pub fn words(&self, b: BlockNo) -> u32
+        requires { b.0 < length self.now.blocks.firsts }
+        ensures size { result ≡ size_of self.now.blocks b.0 }
+        ensures some { 1 ≤ result }
+        ensures within { slice_index self.now.blocks.firsts b.0 + result ≤ self.now.blocks.words }
+        ensures few { self.now.blocks.words ≤ 2 ^ 20 }
+    {
+        block_size(&self.firsts, self.words, b.0)
+    }
+
+    /// How control leaves the last word of the block `b`.
+    #[inline]
+    pub fn end(&self, b: BlockNo) -> BlockEnd
+        requires { b.0 < length self.now.blocks.firsts }
+        ensures { result ≡ end_of self.now.blocks b.0 }
+    {
+        self.ends[b.0 as usize]
+    }
+
+    /// The block that holds the word `w`.
+    pub fn holding(&self, w: WordNo) -> BlockNo
+        requires { w.0 < self.now.blocks.words }
+        ensures block { result.0 ≡ holding_of self.now.blocks w.0 }
+        ensures within { result.0 < length self.now.blocks.firsts }
+        ensures above { slice_index self.now.blocks.firsts result.0 ≤ w.0 }
+        ensures below { w.0 < block_end self.now.blocks.firsts self.now.blocks.words result.0 }
+    {
+        BlockNo(holding_in(&self.firsts, self.words, w.0))
+    }
+
+    /// What leads to the block `b`. A landing from outside isn't counted, nor is the way on from a block
+    /// that is only a delay slot and to which nothing leads.
+    #[inline]
+    pub fn into(&self, b: BlockNo) -> Into
+        requires { b.0 < length self.now.blocks.firsts }
+        ensures { result ≡ slice_index_or self.now.intos b.0 Into.Nothing }
+    {
+        self.intos[b.0 as usize]
+    }
+}
+
+/// The basic blocks of a text. The caller gives words that lead: those at which something starts, and
+/// marked ones.
+pub fn blocks(
+    alloc: Global,
+    text: &Text,
+    starts: &[WordNo],
+    marks: &[WordNo],
+) -> Result<BlockList, NoMemory>
+    requires starts { AreWords text.now starts.now }
+    requires marks { AreWords text.now marks.now }
+    ensures { IfOk result (λ list. list ≡ entered_of text.now (numbers starts.now ++ numbers marks.now)) }
+{
+    let word_ends = word_ends(alloc, text)?;
+    let given = given_words(alloc, text.len(), starts, marks)?;
+    let list = cut(alloc, &word_ends, &given)?;
+    Ok(list)
+}
+
+// Cuts a text into blocks, where `given` marks the words that the caller gives.
+fn cut(alloc: Global, word_ends: &[BlockEnd], given: &[bool]) -> Result<BlockList, NoMemory>
+    requires some { 0 < length word_ends.now }
+    requires few { length word_ends.now ≤ 2 ^ 20 }
+    requires given { length given.now ≡ length word_ends.now }
+    ensures { IfOk result (λ list. list ≡ entered_in word_ends.now given.now) }
+{
+    let firsts = firsts(alloc, word_ends, given)?;
+    let ends = block_ends(alloc, &firsts, word_ends)?;
+    let intos = intos(alloc, &firsts, &ends, word_ends, given)?;
+    Ok(BlockList {
+        firsts,
+        words: word_ends.len() as u32,
+        ends,
+        intos,
+    })
+}
+
+// The block that holds the word: the last that begins at it or before.
+fn holding_in(firsts: &[u32], words: u32, word: u32) -> u32
+    requires firsts { AreFirsts words firsts.now }
+    requires word { word < words }
+    ensures block { result ≡ count_by (λ first. nat_le first word) firsts.now - 1 }
+    ensures within { result < length firsts.now }
+    ensures above { slice_index firsts.now result ≤ word }
+    ensures below { word < block_end firsts.now words result }
+{
+    (firsts.partition_point(|first| *first <= word) - 1) as u32
+}
+
+// The last word of a block: it stands before the first of the next block, or at the end of the text.
+pub(crate) fn last_of_block(firsts: &[u32], words: u32, block: u32) -> u32
+    requires block { block < length firsts.now }
+    requires firsts { AreFirsts words firsts.now }
+    ensures value { result ≡ last_word firsts.now words block }
+    ensures within { result < words }
+{
+    match firsts.get(block as usize + 1) {
+        Some(next) => *next - 1,
+        None => words - 1,
+    }
+}
+
+// How many words a block has.
+pub(crate) fn block_size(firsts: &[u32], words: u32, block: u32) -> u32
+    requires block { block < length firsts.now }
+    requires firsts { AreFirsts words firsts.now }
+    ensures size { result ≡ block_end firsts.now words block - slice_index firsts.now block }
+    ensures some { 1 ≤ result }
+    ensures within { slice_index firsts.now block + result ≤ words }
+{
+    last_of_block(firsts, words, block) + 1 - firsts[block as usize]
+}
+
+// How control leaves the last word of a block.
+#[tactic(auto, unfolding(crate::specs::Marks::block_end_in))]
+fn block_end(firsts: &[u32], word_ends: &[BlockEnd], block: u32) -> BlockEnd
+    requires block { block < length firsts.now }
+    requires words { length word_ends.now < 2 ^ 32 }
+    requires firsts { AreFirsts (length word_ends.now) firsts.now }
+    ensures { result ≡ block_end_in word_ends.now firsts.now block }
+{
+    let last = last_of_block(firsts, word_ends.len() as u32, block);
+    word_ends[last as usize]
+}
+
+// How control leaves each block.
+fn block_ends(
+    alloc: Global,
+    firsts: &[u32],
+    word_ends: &[BlockEnd],
+) -> Result<Vec<BlockEnd>, NoMemory>
+    requires words { length word_ends.now < 2 ^ 32 }
+    requires firsts { AreFirsts (length word_ends.now) firsts.now }
+    ensures ends { IfOk result (λ v.
+        v.items ≡ map (block_end_in word_ends.now firsts.now) (below (length firsts.now))) }
+    ensures len { IfOk result (λ v. length v.items ≡ length firsts.now) }
+{
+    let mut ends = Vec::with_capacity(alloc, firsts.len())?;
+    for block in 0..firsts.len() as u32 {
+        ends.push(block_end(firsts, word_ends, block))?;
+    }
+    Ok(ends)
+}

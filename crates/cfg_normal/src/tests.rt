@@ -1,0 +1,118 @@
+//! Graphs of small programs, worked out by hand.
+use crate::{Edge, FlowGraph, Node, Slot, graph};
+use cfg_blocks::{EdgeKind, blocks};
+use eel_base::{Addr, BlockNo, Text, WordNo};
+use std::alloc::Global;
+use std::test::Fail;
+
+const NOP: u32 = 0x0100_0000;
+
+// The graph of these words at 0x10054, where the first word is given and one more.
+fn graph_of(alloc: Global, words: &[u32], start: u32) -> Result<FlowGraph, Fail> {
+    let words = Vec::from_slice(alloc, words)?;
+    let text = Text::new(Addr(0x10054), words).ok_or("a text")?;
+    if start >= text.len() {
+        return Err(Fail::from("a start"));
+    }
+    let list = blocks(alloc, &text, &[WordNo(0), WordNo(start)], &[]);
+    let list = list.map_err(|_| Fail::from("memory"))?;
+    graph(alloc, &list).map_err(|_| Fail::from("memory"))
+}
+
+fn block(b: u32) -> Node {
+    Node::Block(BlockNo(b))
+}
+
+fn edge(kind: EdgeKind, from: Node, to: Node, slot: Slot) -> Edge {
+    Edge {
+        from,
+        to,
+        kind,
+        slot,
+    }
+}
+
+fn word(w: u32) -> Slot {
+    Slot::Word(WordNo(w))
+}
+
+fn landing(b: u32) -> Edge {
+    edge(EdgeKind::Land, Node::X, block(b), Slot::Nothing)
+}
+
+#[test]
+fn a_call_and_a_return(rt: HostRuntime) -> Result<(), Fail> {
+    let words = [
+        0x4000_0004,
+        NOP,
+        0x8210_2001,
+        0x91d0_2010,
+        0x81c3_e008,
+        0x900b_e0ff,
+    ];
+    let graph = graph_of(rt.alloc(), &words, 4)?;
+    let wants = [
+        edge(EdgeKind::Call, block(0), block(3), word(1)),
+        edge(EdgeKind::Fall, block(1), block(2), Slot::Nothing),
+        edge(EdgeKind::Fall, block(2), block(3), Slot::Nothing),
+        edge(EdgeKind::Out, block(3), Node::X, word(5)),
+        edge(EdgeKind::Fall, block(4), Node::X, Slot::Nothing),
+        landing(0),
+        landing(1),
+        landing(2),
+        landing(3),
+        landing(4),
+    ];
+    assert_eq!(rt; graph.edges(), wants.as_slice());
+    assert_eq!(rt; graph.count(), 5);
+    assert_eq!(rt; graph.holding(WordNo(3)), BlockNo(2));
+    assert_eq!(rt; graph.first(BlockNo(3)), WordNo(4));
+    assert_eq!(rt; graph.words(BlockNo(2)), 2);
+    Ok(())
+}
+
+#[test]
+fn slots_that_the_text_lacks(rt: HostRuntime) -> Result<(), Fail> {
+    let graph = graph_of(rt.alloc(), &[NOP, 0x0280_0004], 0)?;
+    let wants = [
+        edge(EdgeKind::Taken, block(0), Node::X, Slot::Off),
+        edge(EdgeKind::Untaken, block(0), Node::X, Slot::Off),
+        landing(0),
+    ];
+    assert_eq!(rt; graph.edges(), wants.as_slice());
+    Ok(())
+}
+
+#[test]
+fn branches_with_and_without_slots(rt: HostRuntime) -> Result<(), Fail> {
+    let words = [
+        0x0080_0003,
+        NOP,
+        0x2080_0003,
+        NOP,
+        0x3080_0002,
+        NOP,
+        0x1080_0002,
+        NOP,
+        0x2280_0001,
+        0x81c3_e008,
+    ];
+    let graph = graph_of(rt.alloc(), &words, 0)?;
+    let wants = [
+        edge(EdgeKind::Untaken, block(0), block(2), word(1)),
+        edge(EdgeKind::Fall, block(1), block(2), Slot::Nothing),
+        edge(EdgeKind::Untaken, block(2), block(4), Slot::Nothing),
+        edge(EdgeKind::Fall, block(3), block(4), Slot::Nothing),
+        edge(EdgeKind::Taken, block(4), block(6), Slot::Nothing),
+        edge(EdgeKind::Fall, block(5), block(6), Slot::Nothing),
+        edge(EdgeKind::Taken, block(6), block(8), word(7)),
+        edge(EdgeKind::Fall, block(7), block(8), Slot::Nothing),
+        edge(EdgeKind::Taken, block(8), block(9), word(9)),
+        edge(EdgeKind::Untaken, block(8), Node::X, Slot::Nothing),
+        edge(EdgeKind::Out, block(9), Node::X, Slot::Off),
+    ];
+    let first = graph.edges().get(..11).ok_or("edges")?;
+    assert_eq!(rt; first, wants.as_slice());
+    assert_eq!(rt; graph.edges().len(), 21);
+    Ok(())
+}
