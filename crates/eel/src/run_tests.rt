@@ -163,7 +163,13 @@ const WORKED: [(&str, &[u32], &str, &str, &str); 16] = [
 ];
 
 /// Straight programs, and their ending lines.
-const STRAIGHT: [(&str, &[u32], &str); 17] = [
+const STRAIGHT: [(&str, &[u32], &str); 19] = [
+    (
+        "three_words",
+        &[0x82102001, 0x90102003, 0x91d02010],
+        "exit 3\n",
+    ),
+    ("one_nop", &[0x01000000], "trap 1\n"),
     (
         "stores_and_loads",
         &[
@@ -252,6 +258,11 @@ const STRAIGHT: [(&str, &[u32], &str); 17] = [
 /// Prints the first 52 bytes of its own text segment, which are its file's header.
 const PRINTS_ITS_HEADER: [u32; 8] = [
     0x13000040, 0x94102034, 0x90102001, 0x82102004, 0x91d02010, 0x90102000, 0x82102001, 0x91d02010,
+];
+
+/// Prints five bytes of its first argument, and exits with the number of arguments, its name among them.
+const PRINTS_ITS_ARGUMENT: [u32; 8] = [
+    0xd203a048, 0x82102004, 0x90102001, 0x94102005, 0x91d02010, 0xd003a040, 0x82102001, 0x91d02010,
 ];
 
 /// Writes what it reads, 16 bytes at most, and the first three of them again to descriptor 2.
@@ -361,6 +372,16 @@ fn a_program_prints_its_header(rt: HostRuntime) -> Result<(), Fail> {
     outside.hold("f", &file)?;
     let whole = ["run", "f", "-n", "8"];
     assert!(rt; runs(alloc, &mut outside, &whole, &file[..52], b"exit 0\n")?);
+    Ok(())
+}
+
+#[test]
+fn a_program_reads_its_arguments(rt: HostRuntime) -> Result<(), Fail> {
+    let alloc = rt.alloc();
+    let mut outside = Outside::new(alloc, &[], 100)?;
+    outside.hold("f", &program(alloc, &HEADERS, 0, &PRINTS_ITS_ARGUMENT)?)?;
+    let run = ["run", "f", "--", "hello", "world"];
+    assert!(rt; runs(alloc, &mut outside, &run, b"hello", b"exit 3\n")?);
     Ok(())
 }
 
