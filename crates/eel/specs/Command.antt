@@ -1,8 +1,8 @@
 -- The grammar of the program's words.
-use Rattle.std.specs.Prelude.{ℕ, ◌+◌, ◌-◌, ◌*◌, ◌^◌, ◌&&◌, nat_le, nat_lt, Bool, if◌then◌else◌, List, [], ◌∷◌, length, map, codes, Option, Some, None}
-use Rattle.std.specs.Borrow.{Bor}
+use Rattle.std.specs.Prelude.{ℕ, ◌+◌, ◌-◌, ◌*◌, ◌^◌, ◌&&◌, nat_le, nat_lt, Bool, if◌then◌else◌, List, [], ◌∷◌, length, codes, Option, Some, None}
 use Rattle.std.specs.List.{fold, list_all}
 use Rattle.std.specs.Str.{bytes_eq}
+pub use Rattle.v8_process.specs.Arguments.{texts}
 use Rattle.v8_process.specs.Arguments.{AreArguments}
 use Rattle.v8_process.specs.Start.{strings}
 use Rattle.eel.specs.declared.command.Command as declared
@@ -80,10 +80,6 @@ command_of (verb ∷ words) =
 abbrev pub HasArguments : Command → Type 0
 HasArguments (Run file limit args) = AreArguments args
 HasArguments _ = Unit {0}
-
--- the texts that a list of words points to
-abbrev pub texts : List (Bor (List ℕ)) → List (List ℕ)
-texts words = map (λ word. word.now) words
 
 -- the command that the program keeps
 abbrev pub command_seen : declared.Command → Command
