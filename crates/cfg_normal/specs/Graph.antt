@@ -25,8 +25,8 @@ abbrev pub is_taken : EdgeKind → Bool
 is_taken kinds.Taken = true
 is_taken _ = false
 
--- A transfer runs its slot on each edge, but an annulled branch only where a condition is met: `ba,a` never
--- does.
+-- A transfer runs its slot on each edge, but an annulled branch only where it is taken on a condition: `ba,a`
+-- never does.
 abbrev pub runs_slot : BlockEnd → EdgeKind → Bool
 runs_slot ends.Fall kind = false
 runs_slot (ends.Branch cond annul target) kind = not annul || (is_taken kind && not (cond == always))
@@ -61,9 +61,8 @@ edges_of b block = map (edge_of b block) (ways_from b block)
 abbrev pub landing_at : ℕ → Edge
 landing_at block = record { from = X; to = Block (record { 0 = block }); kind = kinds.Land; slot = Nothing }
 
--- The edges in the order of their numbers: the blocks' own, by blocks in address order, and then a landing
--- at each
--- block.
+-- The edges in the order of their numbers: the blocks' own, by blocks in address order, and then a landing at
+-- each block.
 unfoldable pub edges_in : Blocks → List Edge
 edges_in b = flat_map (edges_of b) (below (length b.firsts)) ++ map landing_at (below (length b.firsts))
 
