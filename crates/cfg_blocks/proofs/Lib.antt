@@ -1,5 +1,5 @@
-pub mod Targets
 pub mod Marks
+pub mod Targets
 pub mod Below
 pub mod Counts
 pub mod Entering

@@ -1,26 +1,70 @@
--- The word at an address, as a search finds it.
-use Rattle.std.proofs.Common.{◌≡◌, ◌≢◌, ℕ, ◌-◌, ◌/◌, ◌<◌, length, Option, Some, None, ap, sym, ◌∙◌, arith}
-use Rattle.std.specs.Prelude.{IfSome, IfNone}
+-- Where a transfer of a text leads to a word, the text has that word.
+use Rattle.std.proofs.Common.{◌≡◌, ℕ, ◌-◌, ◌<◌, ◌≤◌, ◌&&◌, ◌==◌, nat_le, nat_lt, List, length, map, Option, Some, None, IfSome, ◌⊎◌, inl, inr, arith}
+use Rattle.std.specs.Prelude.{◌/◌, ◌%◌, slice_index}
+use Rattle.std.specs.List.{All}
+use Rattle.std.proofs.Math.ListN.{get_or-eq_default}
+use Rattle.std.proofs.lemmas.Bool.{cases_lt, cond_both}
 use Rattle.std.proofs.lemmas.Bool.Decides.{nat_tests}
-use Rattle.eel_base.specs.CodeText.{Words, address_of}
-use Rattle.eel_base.specs.declared.numbers.WordNo.{WordNo}
-use Rattle.cfg_blocks.specs.Ends.{word_at, numbered}
+use Rattle.std.proofs.lemmas.List.Elements.{All-get_or, All-map}
+use Rattle.eel_base.specs.CodeText.{Words, numbered, target_of, word_at}
+use Rattle.v8_decode.specs.declared.Instr.{Instr}
+use Rattle.v8_decode.specs.declared.Instr.TheVariants as i
+use Rattle.v8_decode.specs.Words.{decode_of}
+use Rattle.cfg_blocks.specs.declared.BlockEnd.{BlockEnd}
+use Rattle.cfg_blocks.specs.declared.BlockEnd.TheVariants.{Fall}
+use Rattle.cfg_blocks.specs.Ends.{TargetsWithin, end_at, end_by, never}
+use Rattle.cfg_blocks.specs.Blocks.{below, last_word}
+use Rattle.cfg_blocks.specs.Marks.{block_end_in, end_in, word_ends}
 
-word_at-address : (text : Words) (w : ℕ) → w < length text.words → word_at text (address_of text w) ≡ Some w
-word_at-address text w h =
-    let quarter : (address_of text w - text.start) / 4 ≡ w = omega arith in
-    grind (arith, nat_tests)
+abbrev IsWithin : Words → Option ℕ → Type 0
+IsWithin text to = IfSome (numbered to) (λ word. word.0 < length text.words)
 
-word_at-none : (text : Words) (a : ℕ) → ((w : ℕ) → w < length text.words → address_of text w ≢ a)
-    → word_at text a ≡ None
-word_at-none text a none =
-    let apart = none ((a - text.start) / 4) in
-    grind (arith, nat_tests)
+word_at-within : (text : Words) (address : ℕ) → IsWithin text (word_at text address)
+word_at-within text address =
+    let word = (address - text.start) / 4 in
+    cond_both
+    (nat_le text.start address && ((address - text.start) % 4 == 0) && nat_lt word (length text.words))
+    (Some word) None (IsWithin text) (λ h. grind (arith, nat_tests)) (λ h. tt)
 
-pub found : (text : Words) (a : ℕ) (r : Option WordNo) → IfSome r (λ w. w.0 < length text.words)
-    → IfSome r (λ w. address_of text w.0 ≡ a)
-    → IfNone r ((w : ℕ) → w < length text.words → address_of text w ≢ a)
-    → r ≡ numbered (word_at text a)
-found text a None within is none = ap numbered (sym (word_at-none text a none))
-found text a (Some w) within is none =
-    sym (ap (λ x. numbered (word_at text x)) (sym is) ∙ ap numbered (word_at-address text w.0 within))
+end_by-within : (text : Words) (word : ℕ) (instr : Instr)
+    → TargetsWithin (length text.words) (end_by text word instr)
+end_by-within text word (i.Branch cond annul disp22) =
+    cond_both (cond == never) None (numbered (target_of text word disp22))
+    (λ to. IfSome to (λ other. other.0 < length text.words)) (λ h. tt) (λ h. word_at-within text _)
+end_by-within text word (i.Call disp30) = word_at-within text _
+end_by-within text word (i.Jmpl rd rs1 op2) = tt
+end_by-within text word _ = tt
+
+end_at-within : (text : Words) (word : ℕ) → TargetsWithin (length text.words) (end_at text word)
+unfolding end_at
+end_at-within text word = end_by-within text word (decode_of (slice_index text.words word))
+
+word_ends-within : (text : Words) → All (TargetsWithin (length text.words)) (word_ends text)
+unfolding word_ends
+word_ends-within text =
+    All-map (TargetsWithin (length text.words)) (end_at text) (below (length text.words))
+    (λ k d l. end_at-within text _)
+
+end_in-within : (words : ℕ) (ends : List BlockEnd) (word : ℕ) → All (TargetsWithin words) ends
+    → TargetsWithin words (end_in ends word)
+end_in-within words ends word each = at (cases_lt word (length ends))
+  where
+    at : (word < length ends) ⊎ (length ends ≤ word) → TargetsWithin words (end_in ends word)
+    at (inl l) = All-get_or (TargetsWithin words) ends word Fall l each
+    at (inr m) = rw (get_or-eq_default ends Fall m) tt
+
+block_ends-within : (words : ℕ) (ends : List BlockEnd) (firsts blocks : List ℕ)
+    → All (TargetsWithin words) ends
+    → All (TargetsWithin words) (map (block_end_in ends firsts) blocks)
+unfolding block_end_in
+block_ends-within words ends firsts blocks each =
+    All-map (TargetsWithin words) (block_end_in ends firsts) blocks
+    (λ k d l. end_in-within words ends (last_word firsts (length ends) _) each)
+
+-- how control leaves the blocks of a text
+pub targets_within : (text : Words) (ends block_ends : List BlockEnd) (firsts blocks : List ℕ)
+    → ends ≡ word_ends text → block_ends ≡ map (block_end_in ends firsts) blocks
+    → All (TargetsWithin (length text.words)) block_ends
+targets_within text ends block_ends firsts blocks are cut =
+    rw (cut, are)
+    (block_ends-within (length text.words) (word_ends text) firsts blocks (word_ends-within text))

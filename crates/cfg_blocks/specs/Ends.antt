@@ -1,8 +1,8 @@
 -- How control leaves a word of a text (The SPARC Architecture Manual, Version 8, B.21, B.24 and B.25): by a
 -- transfer, or on to the next word.
-use Rattle.std.specs.Prelude.{ℕ, ◌+◌, ◌-◌, ◌*◌, ◌/◌, ◌%◌, ◌^◌, Bool, true, false, ◌&&◌, ◌==◌, nat_le, nat_lt, if◌then◌else◌, List, [], ◌∷◌, length, slice_index, Option, Some, None, ℤ}
+use Rattle.std.specs.Prelude.{ℕ, ◌+◌, ◌-◌, ◌*◌, ◌/◌, ◌%◌, ◌^◌, ◌<◌, Bool, true, false, ◌&&◌, ◌==◌, nat_le, nat_lt, if◌then◌else◌, List, [], ◌∷◌, length, slice_index, Option, Some, None, IfSome, ℤ}
 use Rattle.std.specs.Int.{w32, cast_unsigned}
-use Rattle.eel_base.specs.CodeText.{Words, address_of}
+use Rattle.eel_base.specs.CodeText.{Words, numbered, target_of}
 use Rattle.eel_base.specs.declared.numbers.WordNo.{WordNo}
 use Rattle.v8_decode.specs.declared.Instr.{Instr}
 use Rattle.v8_decode.specs.declared.Instr.TheVariants as i
@@ -11,22 +11,6 @@ use Rattle.cfg_blocks.specs.declared.BlockEnd.{BlockEnd}
 use Rattle.cfg_blocks.specs.declared.BlockEnd.TheVariants as ends
 use Rattle.cfg_blocks.specs.declared.EdgeKind.{EdgeKind}
 use Rattle.cfg_blocks.specs.declared.EdgeKind.TheVariants as kinds
-
--- the number of the word at an address, where it is that of a word
-abbrev pub word_at : Words → ℕ → Option ℕ
-word_at text address =
-    if nat_le text.start address && ((address - text.start) % 4 == 0)
-    && nat_lt ((address - text.start) / 4) (length text.words)
-    then Some ((address - text.start) / 4) else None
-
--- the word to which a displacement leads, which counts words
-abbrev pub target_of : Words → ℕ → ℤ → Option ℕ
-target_of text word displacement =
-    word_at text ((address_of text word + 4 * cast_unsigned w32 displacement) % 2 ^ 32)
-
-abbrev pub numbered : Option ℕ → Option WordNo
-numbered None = None
-numbered (Some word) = Some (record { 0 = word })
 
 -- the conditions of `bn` and `ba`
 abbrev pub never : ℕ
@@ -62,6 +46,10 @@ target_in ends.Fall = None
 target_in (ends.Branch cond annul target) = target
 target_in (ends.Call target) = target
 target_in ends.Jump = None
+
+-- where a transfer leads to a word, that is one of so many
+abbrev pub TargetsWithin : ℕ → BlockEnd → Type 0
+TargetsWithin words end = IfSome (target_in end) (λ word. word.0 < words)
 
 -- ---- the ways out of a word: the kind of each edge, and the word to which it leads, where the text has it
 

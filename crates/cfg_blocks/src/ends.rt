@@ -1,6 +1,7 @@
 //! How control leaves the words of a text.
 ghost use Rattle.std.specs.Prelude.{◌≡◌, ◌+◌, ◌<◌, ℤ, length, map, IfOk};
-ghost use Rattle.cfg_blocks.specs.Ends.{branch_target, end_at, is_transfer, numbered, target_in, target_of, word_at};
+ghost use Rattle.eel_base.specs.CodeText.{numbered, target_of};
+ghost use Rattle.cfg_blocks.specs.Ends.{branch_target, end_at, is_transfer, target_in};
 ghost use Rattle.cfg_blocks.specs.Marks.{word_ends};
 
 use crate::BlockEnd;
@@ -13,20 +14,13 @@ pub(crate) const NEVER: u8 = 0;
 
 pub(crate) const ALWAYS: u8 = 8;
 
-// The word at an address.
-fn find(text: &Text, address: Addr) -> Option<WordNo>
-    ensures { result ≡ numbered (word_at text.now address.0) }
-{
-    text.find(address)
-}
-
 // The word to which a displacement leads, which counts words.
 fn target(text: &Text, w: WordNo, displacement: i32) -> Option<WordNo>
     requires { w.0 < length text.now.words }
     ensures { result ≡ numbered (target_of text.now w.0 displacement) }
 {
     let distance = displacement.cast_unsigned().wrapping_mul(4);
-    find(text, Addr(text.address(w).0.wrapping_add(distance)))
+    text.find(Addr(text.address(w).0.wrapping_add(distance)))
 }
 
 // The word to which a branch leads; one on never leads nowhere.

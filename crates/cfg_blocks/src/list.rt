@@ -1,9 +1,10 @@
 //! The list of blocks.
-ghost use Rattle.std.specs.Prelude.{◌≡◌, ℕ, ◌+◌, ◌-◌, ◌^◌, ◌<◌, ◌≤◌, ◌++◌, nat_le, length, map, slice_index, slice_index_or, count_by, IfOk};
+ghost use Rattle.std.specs.Prelude.{◌≡◌, ℕ, ◌+◌, ◌-◌, ◌^◌, ◌<◌, ◌≤◌, ◌++◌, nat_le, length, map, slice_index, slice_index_or, count_by, IfOk, IfSome};
 ghost use Rattle.cfg_blocks.specs.Arrivals.{entered_in};
 ghost use Rattle.cfg_blocks.specs.Blocks.{below, block_end, end_of, holding_of, last_word, size_of, AreFirsts, IsAscending};
+ghost use Rattle.cfg_blocks.specs.Ends.{target_in};
 ghost use Rattle.cfg_blocks.specs.Entries.{entered_of, IsBlockList};
-ghost use Rattle.cfg_blocks.specs.Marks.{block_end_in, numbers, AreWords};
+ghost use Rattle.cfg_blocks.specs.Marks.{block_end_in, numbers, word_ends, AreWords};
 
 use crate::ends::word_ends;
 use crate::entries::intos;
@@ -92,7 +93,8 @@ impl BlockList {
     #[inline]
     pub fn end(&self, b: BlockNo) -> BlockEnd
         requires { b.0 < length self.now.blocks.firsts }
-        ensures { result ≡ end_of self.now.blocks b.0 }
+        ensures end { result ≡ end_of self.now.blocks b.0 }
+        ensures target { IfSome (target_in result) (λ word. word.0 < self.now.blocks.words) }
     {
         self.ends[b.0 as usize]
     }
@@ -131,25 +133,24 @@ pub fn blocks(
     requires marks { AreWords text.now marks.now }
     ensures { IfOk result (λ list. list ≡ entered_of text.now (numbers starts.now ++ numbers marks.now)) }
 {
-    let word_ends = word_ends(alloc, text)?;
     let given = given_words(alloc, text.len(), starts, marks)?;
-    let list = cut(alloc, &word_ends, &given)?;
+    let list = cut(alloc, text, &given)?;
     Ok(list)
 }
 
 // Cuts a text into blocks, where `given` marks the words that the caller gives.
-fn cut(alloc: Global, word_ends: &[BlockEnd], given: &[bool]) -> Result<BlockList, NoMemory>
-    requires some { 0 < length word_ends.now }
-    requires few { length word_ends.now ≤ 2 ^ 20 }
-    requires given { length given.now ≡ length word_ends.now }
-    ensures { IfOk result (λ list. list ≡ entered_in word_ends.now given.now) }
+fn cut(alloc: Global, text: &Text, given: &[bool]) -> Result<BlockList, NoMemory>
+    requires { length given.now ≡ length text.now.words }
+    ensures { IfOk result (λ list. list ≡ entered_in (word_ends text.now) given.now) }
 {
-    let firsts = firsts(alloc, word_ends, given)?;
-    let ends = block_ends(alloc, &firsts, word_ends)?;
-    let intos = intos(alloc, &firsts, &ends, word_ends, given)?;
+    let words = text.len();
+    let word_ends = word_ends(alloc, text)?;
+    let firsts = firsts(alloc, &word_ends, given)?;
+    let ends = block_ends(alloc, &firsts, &word_ends)?;
+    let intos = intos(alloc, &firsts, &ends, &word_ends, given)?;
     Ok(BlockList {
         firsts,
-        words: word_ends.len() as u32,
+        words,
         ends,
         intos,
     })

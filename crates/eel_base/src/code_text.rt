@@ -1,7 +1,7 @@
 //! The text of a program.
 ghost use Rattle.std.specs.Prelude.{◌≡◌, ◌≢◌, ℕ, ◌+◌, ◌<◌, ◌≤◌, length, slice_index, IfSome, IfNone};
 ghost use Rattle.std.specs.Option.{SomeIff};
-ghost use Rattle.eel_base.specs.CodeText.{Words, IsText, address_of};
+ghost use Rattle.eel_base.specs.CodeText.{Words, IsText, address_of, numbered, word_at};
 
 use crate::numbers::{Addr, WordNo};
 use std::marker::Model;
@@ -82,6 +82,7 @@ impl Text {
         ensures word { IfSome result (λ w. w.0 < length self.now.words) }
         ensures address { IfSome result (λ w. address_of self.now w.0 ≡ a.0) }
         ensures none { IfNone result ((w : ℕ) → w < length self.now.words → address_of self.now w ≢ a.0) }
+        ensures exact { result ≡ numbered (word_at self.now a.0) }
     {
         let distance = a.0.checked_sub(self.start.0)?;
         if distance % 4 == 0 && (distance as usize) < 4 * self.words.len() {

@@ -5,7 +5,7 @@ use Rattle.cfg_blocks.proofs.list.blocks.Goals as goal
 
 pub returns : goal.returns
 returns c =
-    c.in_ok-list.ensures ∙ rw (c.deref.ensures.value, c.deref-2.ensures.value, c.in_ok-word_ends.ensures.ends)
+    c.in_ok-list.ensures ∙ rw c.deref.ensures.value
     (entered_alike c.args.text.now (numbers c.args.starts.now ++ numbers c.args.marks.now) _ c.len.ensures.text.some
     (λ k h. c.in_ok-given.ensures.given k (omega (arith, c.len.ensures.count))
     ∙ given_by c.args.starts.now c.args.marks.now k))
