@@ -7,6 +7,7 @@ pub mod Padding
 pub mod Accepted
 pub mod Loadable
 pub mod Images
+pub mod Functions
 pub mod Tables
 pub mod ThreeWords
 pub mod EditedThreeWords

@@ -1,6 +1,6 @@
--- The image of a file that can be edited: its segments, its text, and the room above it.
+-- The image of a file that can be edited: its segments, its text and function symbols, and the room above it.
 use Rattle.std.specs.Prelude.{◌≡◌, ℕ, zero, suc, ◌+◌, ◌-◌, ◌*◌, ◌/◌, ◌%◌, ◌^◌, ◌<◌, ◌≤◌, min, max, List, [], ◌∷◌, length, map, drop, Option, Some, None, Result, Ok, Err}
-use Rattle.std.specs.List.{fold}
+use Rattle.std.specs.List.{fold, All}
 use Rattle.std.specs.Option.{option_map_or}
 use Rattle.byteorder.specs.Endian.{big_number}
 use Rattle.eel_base.specs.CodeText.{Words}
@@ -9,7 +9,9 @@ use Rattle.elf32_sparc.specs.declared.program.Segment.{Segment}
 use Rattle.elf32_sparc.specs.declared.fault.FileFault.{FileFault}
 use Rattle.elf32_sparc.specs.declared.fault.ReadFault.{ReadFault}
 use Rattle.elf32_sparc.specs.declared.fault.ReadFault.TheVariants.{File, NoMemory}
+use Rattle.elf32_sparc.specs.declared.sections.Func.{Func}
 use Rattle.elf32_sparc.specs.Mapping.{memory_bytes}
+use Rattle.elf32_sparc.specs.Symbols.{funcs_of}
 use Rattle.elf32_sparc.specs.Header.{program_headers, loadable, text_header, e_entry}
 
 abbrev pub segment_of : ProgramHeader → Segment
@@ -65,6 +67,7 @@ room_from base = min (2 ^ 30) (0x80000000 - base)
 pub record Program : Type 0 where
   pub segments : List Segment
   pub text : Words
+  pub funcs : List Func
   pub entry : ℕ
   pub base : ℕ
   pub room : ℕ
@@ -72,6 +75,7 @@ pub record Program : Type 0 where
 -- what is true of each image
 pub record IsProgram (p : Program) : Type 0 where
   pub entry : p.entry < length p.text.words
+  pub funcs : All (λ func. func.start.0 < length p.text.words) p.funcs
   pub base : p.base % 0x10000 ≡ 0
   pub below : p.base ≤ 0x80000000
 
@@ -82,6 +86,7 @@ image_of file =
     record {
       segments = segments;
       text = text_of file;
+      funcs = funcs_of file (text_of file);
       entry = word_number (text_of file) (e_entry file);
       base = base;
       room = room_from base;

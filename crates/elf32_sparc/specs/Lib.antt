@@ -2,5 +2,6 @@ pub mod Header
 pub mod FileFault
 pub mod Survey
 pub mod Mapping
+pub mod Symbols
 pub mod Image
 pub mod Notes

@@ -5,7 +5,11 @@
 mod fault;
 mod flags;
 mod header;
+mod name;
 mod program;
+#[cfg(test)]
+mod section_tests;
+mod sections;
 mod survey;
 mod table;
 #[cfg(test)]
@@ -15,6 +19,8 @@ mod verdicts;
 pub use fault::{FileFault, ReadFault};
 pub use flags::SegFlags;
 pub use header::ProgramHeader;
+pub use name::Name;
 pub use program::{Image, Segment, read_entry, read_image, read_segments};
+pub use sections::Func;
 pub use table::read_headers;
 pub use verdicts::{load_verdict, verdict};

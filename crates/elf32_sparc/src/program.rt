@@ -1,5 +1,6 @@
 //! The image of a file that can be edited.
 ghost use Rattle.std.specs.Prelude.{◌≡◌, ◌+◌, ◌%◌, ◌^◌, ◌<◌, ◌≤◌, length, map, take, drop, slice_index, IfOk};
+ghost use Rattle.std.specs.List.{All};
 ghost use Rattle.byteorder.specs.Endian.{big_number};
 ghost use Rattle.eel_base.specs.CodeText.{IsText};
 ghost use Rattle.elf32_sparc.specs.Header.{e_entry, program_headers, loadable};
@@ -12,6 +13,7 @@ use crate::flags::SegFlags;
 use crate::header::{
     E_ENTRY, E_PHNUM, E_PHOFF, PROGRAM_HEADER_SIZE, ProgramHeader, half_at, word_at,
 };
+use crate::sections::{Func, read_funcs};
 use crate::survey::Survey;
 use crate::verdicts::verdict;
 use byteorder::{BigEndian, ByteOrder};
@@ -59,12 +61,13 @@ impl Segment {
     }
 }
 
-/// A program as its file has it: its segments in the file's order, its text, and where there is room for
-/// more.
+/// A program as its file has it: its segments in the file's order, its text and function symbols, and where
+/// there is room for more.
 #[derive(Drop)]
 pub struct Image {
     segments: Vec<Segment>,
     text: Text,
+    funcs: Vec<Func>,
     entry: WordNo,
     base: Addr,
 }
@@ -74,9 +77,9 @@ impl Model for Image {
 
     ghost Value = { Program };
 
-    ghost view = { λ i. record { segments = i.segments.items; text = i.text; entry = i.entry.0; base = i.base.0; room = room_from i.base.0 } };
+    ghost view = { λ i. record { segments = i.segments.items; text = i.text; funcs = i.funcs.items; entry = i.entry.0; base = i.base.0; room = room_from i.base.0 } };
 
-    ghost invariant = { λ i. IsProgram (record { segments = i.segments.items; text = i.text; entry = i.entry.0; base = i.base.0; room = room_from i.base.0 }) };
+    ghost invariant = { λ i. IsProgram (record { segments = i.segments.items; text = i.text; funcs = i.funcs.items; entry = i.entry.0; base = i.base.0; room = room_from i.base.0 }) };
 }
 
 /// The end of the addresses of a program, and the most room that is used.
@@ -99,6 +102,15 @@ impl Image {
         ensures { result.now ≡ self.now.text }
     {
         &self.text
+    }
+
+    /// The function symbols at words of the text, in the order of the file's symbol table.
+    #[inline]
+    pub fn funcs(&self) -> &[Func]
+        ensures funcs { result.now ≡ self.now.funcs }
+        ensures inside { All (λ func. func.start.0 < length self.now.text.words) self.now.funcs }
+    {
+        &self.funcs
     }
 
     /// Where the program starts.
@@ -142,11 +154,13 @@ pub fn read_image(alloc: Global, bytes: &[u8]) -> Result<Image, ReadFault>
     };
     let text = read_text(alloc, bytes, &header)?;
     let segments = read_segments(alloc, bytes)?;
+    let funcs = read_funcs(alloc, bytes, &text)?;
     let entry = WordNo((word_at(bytes, E_ENTRY) - header.p_vaddr) / 4);
     let base = base_above(&segments);
     Ok(Image {
         segments,
         text,
+        funcs,
         entry,
         base,
     })
@@ -205,7 +219,7 @@ fn file_bytes<'a>(bytes: &'a [u8], header: &ProgramHeader) -> &'a [u8]
 }
 
 /// The bytes from `offset` on, and at most `count` of them.
-fn part(bytes: &[u8], offset: u32, count: u32) -> &[u8]
+pub(crate) fn part(bytes: &[u8], offset: u32, count: u32) -> &[u8]
     ensures { result.now ≡ take count (drop offset bytes.now) }
 {
     match bytes.get(offset as usize..) {
@@ -239,7 +253,7 @@ fn padded_word_at(bytes: &[u8], at: usize) -> u32
 }
 
 /// The byte at `at`, or 0 after the last.
-fn byte_or_zero(bytes: &[u8], at: usize) -> u8
+pub(crate) fn byte_or_zero(bytes: &[u8], at: usize) -> u8
     ensures { result ≡ slice_index bytes.now at }
 {
     bytes.get(at).copied().unwrap_or(0)

@@ -37,14 +37,15 @@ invariant_of-result c =
     let h = c.in-Some-text.header in
     let segments = c.in_ok-segments.segments.items in
     let ends : highest_end segments ≤ 0x80000000 = rw c.in_ok-segments.ensures (segments_end_below file ok) in
-    let read : IsRead file h segments c.in_ok-text.text ((c.word_at.result - h.p_vaddr) / 4) c.base_above-base.result.0 = record {
+    let read : IsRead file h segments c.in_ok-text.text c.in_ok-funcs.funcs.items ((c.word_at.result - h.p_vaddr) / 4) c.base_above-base.result.0 = record {
       found = found;
       segments_are = c.in_ok-segments.ensures;
       text_is = c.in_ok-text.ensures;
+      funcs_are = c.in_ok-funcs.ensures;
       entry_is = ap (λ e. (e - h.p_vaddr) / 4) c.word_at.ensures;
       base_is = c.base_above-base.ensures ∙ ap (λ s. rounded_up (highest_end s)) c.deref.ensures.value;
     } in
-    image_is_program file h segments c.in_ok-text.text _ _ (text_is_fit file h ok found) ends read
+    image_is_program file h segments c.in_ok-text.text c.in_ok-funcs.funcs.items _ _ (text_is_fit file h ok found) ends read
 
 pub returns-clause-image : goal.returns-clause-image
 returns-clause-image c =
@@ -52,11 +53,12 @@ returns-clause-image c =
     let found = sym (text-survey_of file) ∙ (ap (λ s. s.text) (sym c.of.ensures) ∙ c.in-Some-text.is) in
     let h = c.in-Some-text.header in
     let segments = c.in_ok-segments.segments.items in
-    let read : IsRead file h segments c.in_ok-text.text ((c.word_at.result - h.p_vaddr) / 4) c.base_above-base.result.0 = record {
+    let read : IsRead file h segments c.in_ok-text.text c.in_ok-funcs.funcs.items ((c.word_at.result - h.p_vaddr) / 4) c.base_above-base.result.0 = record {
       found = found;
       segments_are = c.in_ok-segments.ensures;
       text_is = c.in_ok-text.ensures;
+      funcs_are = c.in_ok-funcs.ensures;
       entry_is = ap (λ e. (e - h.p_vaddr) / 4) c.word_at.ensures;
       base_is = c.base_above-base.ensures ∙ ap (λ s. rounded_up (highest_end s)) c.deref.ensures.value;
     } in
-    image_is file h segments c.in_ok-text.text _ _ read
+    image_is file h segments c.in_ok-text.text c.in_ok-funcs.funcs.items _ _ read
