@@ -1,12 +1,11 @@
 //! The machine, one step at a time: values worked out by hand.
+use crate::machine::register;
 use crate::{Ending, Machine, StepOut, step};
 use eel_base::{Addr, MemSink};
 use elf32_sparc::SegFlags;
 use std::alloc::Global;
-use std::process::Abort;
 use std::test::Fail;
 use v8_alu::Codes;
-use v8_decode::Reg;
 use v8_memory::{Memory, RegionPlan};
 
 const ENTRY: Addr = Addr(0x10000);
@@ -63,148 +62,274 @@ fn sink(alloc: Global, room: usize) -> Result<MemSink, Fail> {
     MemSink::new(alloc, room, Vec::new(alloc)).map_err(|_| Fail::from("sink"))
 }
 
-/// What a register of the current window holds.
-fn register<R: Abort>(rt: &R, m: &Machine, number: u8) -> u32 {
-    m.reg(Reg::new(number).expect(rt, "a register"))
+/// What there is to see of a run: its machine, what came of the last step, and what each sink took.
+#[derive(Clone, Copy, PartialEq)]
+struct Seen<'a> {
+    last: StepOut,
+    pc: Addr,
+    npc: Addr,
+    sp: u32,
+    o0: u32,
+    o1: u32,
+    codes: Codes,
+    y: u32,
+    /// The word at 0x20000.
+    word: u32,
+    ending: Option<Ending>,
+    out: &'a [u8],
+    err: &'a [u8],
 }
 
-/// Makes so many steps, and tells what came of the last.
-fn steps(m: &mut Machine, count: u32, out: &mut MemSink, err: &mut MemSink) -> StepOut {
-    let mut last = StepOut::Went;
-    for _ in 0..count {
-        last = step(m, out, err);
-    }
-    last
+const CLEAR: Codes = Codes {
+    n: false,
+    z: false,
+    v: false,
+    c: false,
+};
+
+/// What is seen before the first step.
+const FIRST: Seen = Seen {
+    last: StepOut::Went,
+    pc: ENTRY,
+    npc: Addr(0x10004),
+    sp: STACK,
+    o0: 0,
+    o1: 0,
+    codes: CLEAR,
+    y: 0,
+    word: 0x6865_6c6c,
+    ending: None,
+    out: b"",
+    err: b"",
+};
+
+/// A machine that makes steps, with its sinks.
+#[derive(Drop)]
+struct Run {
+    machine: Machine,
+    out: MemSink,
+    err: MemSink,
+    last: StepOut,
 }
+
+impl Run {
+    /// No steps of these words yet, with so much room in each sink.
+    fn new(alloc: Global, words: [u32; 8], input: &[u8], room: usize) -> Result<Run, Fail> {
+        Ok(Run {
+            machine: machine(alloc, words, input)?,
+            out: sink(alloc, room)?,
+            err: sink(alloc, room)?,
+            last: StepOut::Went,
+        })
+    }
+
+    fn steps(&mut self, count: u32) {
+        for _ in 0..count {
+            self.last = step(&mut self.machine, &mut self.out, &mut self.err);
+        }
+    }
+
+    fn is(&self, wanted: Seen) -> Result<bool, Fail> {
+        let m = &self.machine;
+        let word = m.memory().load32(Addr(0x20000));
+        let seen = Seen {
+            last: self.last,
+            pc: m.pc(),
+            npc: m.npc(),
+            sp: m.reg(register(14)),
+            o0: m.reg(register(8)),
+            o1: m.reg(register(9)),
+            codes: m.codes(),
+            y: m.y(),
+            word: word.map_err(|_| Fail::from("word"))?,
+            ending: m.ending(),
+            out: self.out.bytes(),
+            err: self.err.bytes(),
+        };
+        Ok(seen == wanted)
+    }
+}
+
+/// Whether so many steps of these words come to what is wanted.
+fn come_to(
+    alloc: Global,
+    words: [u32; 8],
+    input: &[u8],
+    room: usize,
+    count: u32,
+    wanted: Seen,
+) -> Result<bool, Fail> {
+    let mut run = Run::new(alloc, words, input, room)?;
+    run.steps(count);
+    run.is(wanted)
+}
+
+/// Writes "hello" to descriptor 2, then "hell" to descriptor 1.
+const WRITES: [u32; 8] = [
+    G1 + 4,
+    POINT,
+    O2 + 5,
+    O0 + 2,
+    SYSTEM,
+    O2 + 4,
+    O0 + 1,
+    SYSTEM,
+];
+
+/// Reads up to two bytes, again, and then from descriptor 1.
+const READS: [u32; 8] = [G1 + 3, O0, POINT, O2 + 2, SYSTEM, O0, SYSTEM, SYSTEM];
+
+/// Writes "hello" to descriptor 1.
+const WRITE: [u32; 8] = [G1 + 4, POINT, O2 + 5, O0 + 1, SYSTEM, 0, 0, 0];
+
+/// Exits with 0x103, before a word that would change %o1.
+const EXIT: [u32; 8] = [G1 + 1, O0 + 0x103, SYSTEM, O1 + 7, 0, 0, 0, 0];
 
 #[test]
 fn a_machine_starts_at_its_entry(rt: HostRuntime) -> Result<(), Fail> {
-    let m = machine(rt.alloc(), [0; 8], b"")?;
-    assert_eq!(rt; m.pc(), ENTRY);
-    assert_eq!(rt; m.npc(), Addr(0x10004));
-    assert_eq!(rt; register(&rt, &m, 14), STACK);
-    assert_eq!(rt; register(&rt, &m, 8), 0);
-    assert_eq!(rt;
-        m.codes(),
-        Codes {
-            n: false,
-            z: false,
-            v: false,
-            c: false
-        }
-    );
-    assert_eq!(rt; m.y(), 0);
-    assert_eq!(rt; m.memory().load8(Addr(0x20000)), Ok(0x68));
-    assert_eq!(rt; m.ending(), None);
+    assert!(rt; come_to(rt.alloc(), [0; 8], b"", 0, 0, FIRST)?);
     Ok(())
 }
+
+/// What is seen of WRITES after the first write.
+const WROTE_TO_2: Seen = Seen {
+    pc: Addr(0x10014),
+    npc: Addr(0x10018),
+    o0: 5,
+    o1: 0x20000,
+    err: b"hello",
+    ..FIRST
+};
+
+/// What is seen of WRITES after both writes.
+const WROTE_TO_BOTH: Seen = Seen {
+    pc: Addr(0x10020),
+    npc: Addr(0x10024),
+    o0: 4,
+    out: b"hell",
+    ..WROTE_TO_2
+};
 
 #[test]
 fn writes_go_to_their_descriptors(rt: HostRuntime) -> Result<(), Fail> {
-    let words = [
-        G1 + 4,
-        POINT,
-        O2 + 5,
-        O0 + 2,
-        SYSTEM,
-        O2 + 4,
-        O0 + 1,
-        SYSTEM,
-    ];
-    let mut m = machine(rt.alloc(), words, b"")?;
-    let mut out = sink(rt.alloc(), 16)?;
-    let mut err = sink(rt.alloc(), 16)?;
-    assert_eq!(rt; steps(&mut m, 5, &mut out, &mut err), StepOut::Went);
-    assert_eq!(rt; out.bytes(), b"".as_slice());
-    assert_eq!(rt; err.bytes(), b"hello".as_slice());
-    assert_eq!(rt; register(&rt, &m, 8), 5);
-    assert_eq!(rt; steps(&mut m, 3, &mut out, &mut err), StepOut::Went);
-    assert_eq!(rt; out.bytes(), b"hell".as_slice());
-    assert_eq!(rt; err.bytes(), b"hello".as_slice());
-    assert_eq!(rt; register(&rt, &m, 8), 4);
-    assert!(rt; !m.codes().c);
-    assert_eq!(rt; m.pc(), Addr(0x10020));
+    assert!(rt; come_to(rt.alloc(), WRITES, b"", 16, 5, WROTE_TO_2)?);
+    assert!(rt; come_to(rt.alloc(), WRITES, b"", 16, 8, WROTE_TO_BOTH)?);
     Ok(())
 }
+
+/// What is seen of READS after the first read.
+const READ_TWO: Seen = Seen {
+    pc: Addr(0x10014),
+    npc: Addr(0x10018),
+    o0: 2,
+    o1: 0x20000,
+    word: 0x6162_6c6c,
+    ..FIRST
+};
+
+/// What is seen of READS after the second read.
+const READ_ONE: Seen = Seen {
+    pc: Addr(0x1001c),
+    npc: Addr(0x10020),
+    o0: 1,
+    word: 0x6362_6c6c,
+    ..READ_TWO
+};
+
+/// What is seen of READS at the end. The read of descriptor 1 fails.
+const READ_NONE: Seen = Seen {
+    pc: Addr(0x10020),
+    npc: Addr(0x10024),
+    o0: 9,
+    codes: Codes { c: true, ..CLEAR },
+    ..READ_ONE
+};
 
 #[test]
 fn reads_take_the_input(rt: HostRuntime) -> Result<(), Fail> {
-    let words = [G1 + 3, O0, POINT, O2 + 2, SYSTEM, O0, SYSTEM, SYSTEM];
-    let mut m = machine(rt.alloc(), words, b"abc")?;
-    let mut out = sink(rt.alloc(), 0)?;
-    let mut err = sink(rt.alloc(), 0)?;
-    assert_eq!(rt; steps(&mut m, 5, &mut out, &mut err), StepOut::Went);
-    assert_eq!(rt; m.memory().load32(Addr(0x20000)), Ok(0x6162_6c6c));
-    assert_eq!(rt; register(&rt, &m, 8), 2);
-    assert_eq!(rt; steps(&mut m, 2, &mut out, &mut err), StepOut::Went);
-    assert_eq!(rt; m.memory().load32(Addr(0x20000)), Ok(0x6362_6c6c));
-    assert_eq!(rt; register(&rt, &m, 8), 1);
-    assert!(rt; !m.codes().c);
-    assert_eq!(rt; steps(&mut m, 1, &mut out, &mut err), StepOut::Went);
-    assert_eq!(rt; register(&rt, &m, 8), 9, "a read of descriptor 1");
-    assert!(rt; m.codes().c);
+    assert!(rt; come_to(rt.alloc(), READS, b"abc", 0, 5, READ_TWO)?);
+    assert!(rt; come_to(rt.alloc(), READS, b"abc", 0, 7, READ_ONE)?);
+    assert!(rt; come_to(rt.alloc(), READS, b"abc", 0, 8, READ_NONE)?);
     Ok(())
 }
+
+/// What is seen of WRITE where the sink has room for three bytes.
+const FAULT: Seen = Seen {
+    last: StepOut::SinkFault,
+    pc: Addr(0x10010),
+    npc: Addr(0x10014),
+    o0: 1,
+    o1: 0x20000,
+    out: b"hel",
+    ..FIRST
+};
+
+/// What is seen of WRITE after its write.
+const WROTE: Seen = Seen {
+    pc: Addr(0x10014),
+    npc: Addr(0x10018),
+    o0: 5,
+    o1: 0x20000,
+    out: b"hello",
+    ..FIRST
+};
 
 #[test]
 fn a_step_whose_sink_fails_is_not_made(rt: HostRuntime) -> Result<(), Fail> {
-    let words = [G1 + 4, POINT, O2 + 5, O0 + 1, SYSTEM, 0, 0, 0];
-    let mut m = machine(rt.alloc(), words, b"")?;
-    let mut small = sink(rt.alloc(), 3)?;
-    let mut err = sink(rt.alloc(), 0)?;
-    assert_eq!(rt; steps(&mut m, 5, &mut small, &mut err), StepOut::SinkFault);
-    assert_eq!(rt; small.bytes(), b"hel".as_slice());
-    assert_eq!(rt; m.pc(), Addr(0x10010));
-    assert_eq!(rt; register(&rt, &m, 8), 1);
-    assert_eq!(rt; m.ending(), None);
-    let mut out = sink(rt.alloc(), 16)?;
-    assert_eq!(rt; step(&mut m, &mut out, &mut err), StepOut::Went);
-    assert_eq!(rt; out.bytes(), b"hello".as_slice());
-    assert_eq!(rt; register(&rt, &m, 8), 5);
+    let mut run = Run::new(rt.alloc(), WRITE, b"", 3)?;
+    run.steps(5);
+    assert!(rt; run.is(FAULT)?);
+    run.out = sink(rt.alloc(), 16)?;
+    run.steps(1);
+    assert!(rt; run.is(WROTE)?);
     Ok(())
 }
+
+/// What is seen of EXIT from its end on.
+const EXITED: Seen = Seen {
+    last: StepOut::Ended(Ending::Exit(3)),
+    pc: Addr(0x10008),
+    npc: Addr(0x1000c),
+    o0: 0x103,
+    ending: Some(Ending::Exit(3)),
+    ..FIRST
+};
 
 #[test]
 fn an_ended_machine_stays(rt: HostRuntime) -> Result<(), Fail> {
-    let words = [G1 + 1, O0 + 0x103, SYSTEM, O1 + 7, 0, 0, 0, 0];
-    let mut m = machine(rt.alloc(), words, b"")?;
-    let mut out = sink(rt.alloc(), 0)?;
-    let mut err = sink(rt.alloc(), 0)?;
-    let exit = Ending::Exit(3);
-    assert_eq!(rt; steps(&mut m, 3, &mut out, &mut err), StepOut::Ended(exit));
-    assert_eq!(rt; steps(&mut m, 2, &mut out, &mut err), StepOut::Ended(exit));
-    assert_eq!(rt; m.ending(), Some(exit));
-    assert_eq!(rt; m.pc(), Addr(0x10008));
-    assert_eq!(rt; register(&rt, &m, 9), 0);
+    assert!(rt; come_to(rt.alloc(), EXIT, b"", 0, 3, EXITED)?);
+    assert!(rt; come_to(rt.alloc(), EXIT, b"", 0, 5, EXITED)?);
     Ok(())
 }
 
-/// How a machine ends that makes so many steps from these words.
-fn ending(alloc: Global, words: [u32; 8], count: u32) -> Result<StepOut, Fail> {
-    let mut m = machine(alloc, words, b"")?;
-    let mut out = sink(alloc, 0)?;
-    let mut err = sink(alloc, 0)?;
-    Ok(steps(&mut m, count, &mut out, &mut err))
+/// Whether this comes of the last of so many steps of these words.
+fn ends(alloc: Global, words: [u32; 8], count: u32, wanted: StepOut) -> Result<bool, Fail> {
+    let mut run = Run::new(alloc, words, b"", 0)?;
+    run.steps(count);
+    Ok(run.last == wanted)
 }
+
+/// A branch in the delay slot of another one.
+const COUPLE: [u32; 8] = [SKIP, SKIP, 0, 0, 0, 0, 0, 0];
+
+/// UNIMP, whose trap is illegal_instruction.
+const ILLEGAL: [u32; 8] = [0; 8];
+
+/// Goes on beyond its last word.
+const RUNNING_OUT: [u32; 8] = [O0; 8];
+
+/// A software trap that is no system call.
+const OTHER_TRAP: [u32; 8] = [0x91d0_2005, 0, 0, 0, 0, 0, 0, 0];
 
 #[test]
 fn runs_end_by_traps_and_couples(rt: HostRuntime) -> Result<(), Fail> {
     let alloc = rt.alloc();
-    let couple = [SKIP, SKIP, 0, 0, 0, 0, 0, 0];
-    assert_eq!(rt; ending(alloc, couple, 1)?, StepOut::Went);
-    assert_eq!(rt; ending(alloc, couple, 2)?, StepOut::Ended(Ending::Couple));
-    let illegal = [0; 8];
-    assert_eq!(rt; ending(alloc, illegal, 1)?, StepOut::Ended(Ending::Trap(2)));
-    let running_out = [O0; 8];
-    assert_eq!(rt; ending(alloc, running_out, 8)?, StepOut::Went);
-    assert_eq!(rt;
-        ending(alloc, running_out, 9)?,
-        StepOut::Ended(Ending::Trap(1))
-    );
-    let other_trap = [0x91d0_2005, 0, 0, 0, 0, 0, 0, 0];
-    assert_eq!(rt;
-        ending(alloc, other_trap, 1)?,
-        StepOut::Ended(Ending::Trap(0x85))
-    );
+    let trap = |number| StepOut::Ended(Ending::Trap(number));
+    assert!(rt; ends(alloc, COUPLE, 1, StepOut::Went)?);
+    assert!(rt; ends(alloc, COUPLE, 2, StepOut::Ended(Ending::Couple))?);
+    assert!(rt; ends(alloc, ILLEGAL, 1, trap(2))?);
+    assert!(rt; ends(alloc, RUNNING_OUT, 8, StepOut::Went)?);
+    assert!(rt; ends(alloc, RUNNING_OUT, 9, trap(1))?);
+    assert!(rt; ends(alloc, OTHER_TRAP, 1, trap(0x85))?);
     Ok(())
 }
