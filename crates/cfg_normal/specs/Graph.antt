@@ -1,12 +1,12 @@
 -- The flow graph of a text: its blocks as nodes, and X for all that lies outside.
-use Rattle.std.specs.Prelude.{ℕ, ◌+◌, Bool, true, false, not, ◌||◌, ◌&&◌, ◌==◌, nat_lt, if◌then◌else◌, List, ◌++◌, length, map, Option, Some, None}
-use Rattle.std.specs.List.{flat_map}
+use Rattle.std.specs.Prelude.{ℕ, ◌+◌, ◌^◌, ◌<◌, ◌≤◌, Bool, true, false, not, ◌||◌, ◌&&◌, ◌==◌, nat_lt, if◌then◌else◌, List, ◌++◌, length, map, Option, Some, None}
+use Rattle.std.specs.List.{flat_map, All}
 use Rattle.cfg_blocks.specs.declared.BlockEnd.{BlockEnd}
 use Rattle.cfg_blocks.specs.declared.BlockEnd.TheVariants as ends
 use Rattle.cfg_blocks.specs.declared.EdgeKind.{EdgeKind}
 use Rattle.cfg_blocks.specs.declared.EdgeKind.TheVariants as kinds
 use Rattle.cfg_blocks.specs.Ends.{Way, always}
-use Rattle.cfg_blocks.specs.Blocks.{Blocks, below, end_of, holding_of, last_word}
+use Rattle.cfg_blocks.specs.Blocks.{AreFirsts, Blocks, below, end_of, holding_of, last_word}
 use Rattle.cfg_blocks.specs.Entries.{ways_from}
 use Rattle.cfg_normal.specs.declared.Edge.{Edge}
 use Rattle.cfg_normal.specs.declared.Node.{Node}
@@ -74,3 +74,27 @@ pub record Graph : Type 0 where
 
 abbrev pub graph_of : Blocks → Graph
 graph_of b = record { blocks = b; edges = edges_in b }
+
+-- ---- what is true of each graph
+
+-- a node of these blocks
+abbrev pub IsNodeIn : Blocks → Node → Type 0
+IsNodeIn b (Block block) = block.0 < length b.firsts
+IsNodeIn b X = Unit {0}
+
+-- a slot in the text, or behind its end
+abbrev pub IsSlotIn : Blocks → Slot → Type 0
+IsSlotIn b Nothing = Unit {0}
+IsSlotIn b (Word word) = word.0 < b.words
+IsSlotIn b Off = Unit {0}
+
+-- an edge between nodes of these blocks
+pub record IsEdgeIn (b : Blocks) (edge : Edge) : Type 0 where
+  pub from : IsNodeIn b edge.from
+  pub to : IsNodeIn b edge.to
+  pub slot : IsSlotIn b edge.slot
+
+pub record IsGraph (g : Graph) : Type 0 where
+  pub firsts : AreFirsts g.blocks.words g.blocks.firsts
+  pub few : g.blocks.words ≤ 2 ^ 20
+  pub edges : All (IsEdgeIn g.blocks) g.edges

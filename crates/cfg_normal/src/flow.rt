@@ -3,7 +3,8 @@ ghost use Rattle.std.specs.Prelude.{◌≡◌, ◌+◌, ◌^◌, ◌<◌, ◌≤
 ghost use Rattle.std.specs.List.{flat_map};
 ghost use Rattle.cfg_blocks.specs.Blocks.{below, block_end, end_of, holding_of, last_word, size_of};
 ghost use Rattle.cfg_blocks.specs.Ends.{number_of, within};
-ghost use Rattle.cfg_normal.specs.Graph.{edge_of, edges_in, edges_of, graph_of, landing_at, node_of, runs_slot, slot_behind};
+ghost use Rattle.cfg_blocks.specs.Entries.{IsBlockList};
+ghost use Rattle.cfg_normal.specs.Graph.{edge_of, edges_in, edges_of, graph_of, landing_at, node_of, runs_slot, slot_behind, IsGraph};
 
 use crate::{Edge, Node, Slot};
 use cfg_blocks::{BlockEnd, BlockList, EdgeKind};
@@ -24,18 +25,21 @@ pub struct FlowGraph {
 }
 
 impl Model for FlowGraph {
-    ghost use Rattle.cfg_normal.specs.Graph.{Graph};
+    ghost use Rattle.cfg_normal.specs.Graph.{Graph, IsGraph};
 
     ghost Value = { Graph };
 
     ghost view = { λ g. record { blocks = g.blocks.blocks; edges = g.edges.items } };
+
+    ghost invariant = { λ g. IsGraph (record { blocks = g.blocks.blocks; edges = g.edges.items }) };
 }
 
 impl FlowGraph {
     /// The edges: those of the blocks, by blocks, and then a landing at each block.
     #[inline]
     pub fn edges(&self) -> &[Edge]
-        ensures { result.now ≡ self.now.edges }
+        ensures edges { result.now ≡ self.now.edges }
+        ensures graph { IsGraph self.now }
     {
         &self.edges
     }
@@ -95,7 +99,8 @@ pub fn graph(alloc: Global, blocks: &BlockList) -> Result<FlowGraph, NoMemory>
 
 #[tactic(auto, unfolding(crate::specs::Graph::edges_in))]
 fn edges(alloc: Global, blocks: &BlockList) -> Result<Vec<Edge>, NoMemory>
-    ensures { IfOk result (λ v. v.items ≡ edges_in blocks.now.blocks) }
+    ensures edges { IfOk result (λ v. v.items ≡ edges_in blocks.now.blocks) }
+    ensures list { IfOk result (λ v. IsBlockList blocks.now) }
 {
     let mut edges = Vec::new(alloc);
     leave_all(&mut edges, blocks)?;

@@ -1,0 +1,82 @@
+-- The edges of a graph lie between its nodes, and their slots in its text.
+use Rattle.std.proofs.Common.{◌≡◌, ℕ, suc, ◌+◌, ◌<◌, ◌≤◌, Bool, true, false, cond, nat_le, nat_lt, List, [], ◌∷◌, length, map, Option, Some, None, arith, refl}
+use Rattle.std.specs.List.{All, flat_map}
+use Rattle.std.proofs.lemmas.List.Elements.{All-append, All-map}
+use Rattle.std.proofs.lemmas.List.Sums.{count_by-le-length}
+use Rattle.std.proofs.lemmas.Bool.Decides.{nat_tests}
+use Rattle.cfg_blocks.specs.Blocks.{Blocks, below, end_of, holding_of, last_word}
+use Rattle.cfg_blocks.specs.Ends.{Way}
+use Rattle.cfg_blocks.specs.Entries.{Entered, IsBlockList, ways_from}
+use Rattle.cfg_blocks.specs.declared.EdgeKind.{EdgeKind}
+use Rattle.cfg_blocks.proofs.Below.{get_or-below, length-below}
+use Rattle.cfg_normal.specs.Graph.{IsEdgeIn, IsGraph, IsNodeIn, IsSlotIn, edge_of, edges_in, edges_of, landing_at, node_of, runs_slot, slot_behind, slot_on}
+use Rattle.cfg_normal.specs.declared.Edge.{Edge}
+use Rattle.cfg_normal.specs.declared.Node.TheVariants.{Block, X}
+use Rattle.cfg_normal.specs.declared.Slot.TheVariants.{Nothing, Word, Off}
+
+-- either branch of an `if`
+branches : {A : Type 0} (P : A → Type 0) (b : Bool) (x y : A) → (b ≡ true → P x) → (b ≡ false → P y)
+    → P (cond b x y)
+branches P true x y first second = first refl
+branches P false x y first second = second refl
+
+node_of-in : (b : Blocks) → 1 ≤ length b.firsts → (to : Option ℕ) → IsNodeIn b (node_of b to)
+node_of-in b some None = tt
+node_of-in b some (Some word) =
+    branches (IsNodeIn b) (nat_lt word b.words) (Block (record { 0 = holding_of b word })) X
+    (λ h. omega (arith, count_by-le-length (λ first. nat_le first word) b.firsts)) (λ h. tt)
+
+slot_behind-in : (b : Blocks) (word : ℕ) → IsSlotIn b (slot_behind b.words word)
+slot_behind-in b word =
+    branches (IsSlotIn b) (nat_lt (word + 1) b.words) (Word (record { 0 = word + 1 })) Off
+    (λ h. grind (arith, nat_tests)) (λ h. tt)
+
+slot_on-in : (b : Blocks) (block : ℕ) (kind : EdgeKind) → IsSlotIn b (slot_on b block kind)
+slot_on-in b block kind =
+    let last = last_word b.firsts b.words block in
+    branches (IsSlotIn b) (runs_slot (end_of b block) kind) (slot_behind b.words last) Nothing
+    (λ h. slot_behind-in b last) (λ h. tt)
+
+edge_of-in : (b : Blocks) → 1 ≤ length b.firsts → (block : ℕ) → block < length b.firsts → (way : Way)
+    → IsEdgeIn b (edge_of b block way)
+edge_of-in b some block h way =
+    record { from = h; to = node_of-in b some way.to; slot = slot_on-in b block way.kind }
+
+edges_of-in : (b : Blocks) → 1 ≤ length b.firsts → (block : ℕ) → block < length b.firsts
+    → All (IsEdgeIn b) (edges_of b block)
+edges_of-in b some block h =
+    All-map (IsEdgeIn b) (edge_of b block) (ways_from b block) (λ k d l. edge_of-in b some block h _)
+
+All-flat_map : {X A : Type 0} (P : A → Type 0) (f : X → List A) (xs : List X) → All (λ x. All P (f x)) xs
+    → All P (flat_map f xs)
+All-flat_map P f [] each = λ k d l. absurd (omega arith)
+All-flat_map P f (x ∷ xs) each =
+    All-append P (f x) (flat_map f xs) (each 0 x (omega arith))
+    (All-flat_map P f xs (λ k d l. each (suc k) d (omega arith)))
+
+All-below : (P : ℕ → Type 0) (n : ℕ) → ((k : ℕ) → k < n → P k) → All P (below n)
+All-below P n each =
+    λ k d l.
+    let h : k < n = omega (arith, length-below n) in
+    rw get_or-below (each k h)
+
+edges_in-in : (b : Blocks) → 1 ≤ length b.firsts → All (IsEdgeIn b) (edges_in b)
+unfolding edges_in
+edges_in-in b some =
+    let count = length b.firsts in
+    All-append (IsEdgeIn b) (flat_map (edges_of b) (below count)) (map landing_at (below count))
+    (All-flat_map (IsEdgeIn b) (edges_of b) (below count)
+    (All-below (λ block. All (IsEdgeIn b) (edges_of b block)) count (edges_of-in b some)))
+    (All-map (IsEdgeIn b) landing_at (below count)
+    (All-below (λ block. IsEdgeIn b (landing_at block)) count
+    (λ block h. record { from = tt; to = h; slot = tt })))
+
+-- a list of blocks and its edges are a graph
+pub is_graph : (list : Entered) (edges : List Edge) → IsBlockList list → edges ≡ edges_in list.blocks
+    → IsGraph (record { blocks = list.blocks; edges = edges })
+is_graph list edges blocks all =
+    record {
+      firsts = blocks.firsts;
+      few = blocks.few;
+      edges = rw all (edges_in-in list.blocks blocks.firsts.some);
+    }
