@@ -1,0 +1,3 @@
+pub mod Adding
+pub mod Ascending
+pub mod Inside
