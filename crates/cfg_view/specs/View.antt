@@ -1,0 +1,41 @@
+-- What an analysis of a program's file sees: its image, routines, blocks and flow graph.
+use Rattle.std.specs.Prelude.{◌≡◌, ℕ, ◌<◌, nat_lt, List, ◌++◌, length, map, filter}
+use Rattle.std.specs.List.{All}
+use Rattle.eel_base.specs.CodeText.{Words}
+use Rattle.elf32_sparc.specs.Image.{Program, image_of}
+use Rattle.routines.specs.declared.Routine.{Routine}
+use Rattle.routines.specs.Routines.{routines_of}
+use Rattle.cfg_blocks.specs.Entries.{entered_of}
+use Rattle.cfg_normal.specs.Graph.{graph_of}
+use Rattle.cfg_view.specs.declared.View.{View}
+
+-- the words at which routines start
+abbrev pub starts_of : List Routine → List ℕ
+starts_of routines = map (λ routine. routine.start.0) routines
+
+-- the marks that are words of the text
+abbrev pub marks_in : Words → List ℕ → List ℕ
+marks_in text marks = filter (λ mark. nat_lt mark (length text.words)) marks
+
+-- the words that lead besides those of the text's own transfers
+abbrev pub given_in : Program → List ℕ → List ℕ
+given_in program marks = starts_of (routines_of program) ++ marks_in program.text marks
+
+abbrev pub view_with : Program → List ℕ → View
+view_with program given = record {
+  image = program;
+  routines = routines_of program;
+  blocks = entered_of program.text given;
+  graph = graph_of (entered_of program.text given).blocks;
+}
+
+-- the view of a file, with some words marked
+unfoldable pub view_of : List ℕ → List ℕ → View
+view_of file marks = view_with (image_of file) (given_in (image_of file) marks)
+
+-- What is true of each view: its parts are of one program.
+pub record IsView (view : View) : Type 0 where
+  pub routines : view.routines ≡ routines_of view.image
+  pub words : view.blocks.blocks.words ≡ length view.image.text.words
+  pub graph : view.graph ≡ graph_of view.blocks.blocks
+  pub starts : All (λ routine. routine.start.0 < length view.image.text.words) view.routines

@@ -1,0 +1,81 @@
+//! What an analysis of a program's file sees: its image, routines, blocks and flow graph.
+#![tactic(auto)]
+
+ghost use Rattle.std.specs.Prelude.{◌≡◌, ◌<◌, length, map, IfOk};
+ghost use Rattle.std.specs.List.{All};
+ghost use Rattle.elf32_sparc.specs.FileFault.{fault};
+ghost use Rattle.elf32_sparc.specs.Image.{refusal};
+ghost use Rattle.cfg_blocks.specs.Marks.{numbers, AreWords};
+ghost use Rattle.cfg_view.specs.View.{given_in, marks_in, view_of, view_with, IsView};
+
+use cfg_blocks::{BlockList, blocks};
+use cfg_normal::{FlowGraph, graph};
+use eel_base::{NoMemory, Text, WordNo};
+use elf32_sparc::{Image, ReadFault, read_image};
+use routines::{Routine, Routines, find};
+use std::alloc::Global;
+
+#[cfg(test)]
+mod tests;
+
+/// A program's image, its routines, and its blocks and flow graph.
+#[derive(Drop)]
+pub struct View {
+    pub image: Image,
+    pub routines: Routines,
+    pub blocks: BlockList,
+    pub graph: FlowGraph,
+}
+
+/// The view of a file, or its first fault. Marked words lead, as those do at which routines start; marks
+/// outside the text are passed over.
+#[tactic(auto, unfolding(crate::specs::View::view_of))]
+pub fn look(alloc: Global, bytes: &[u8], marks: &[WordNo]) -> Result<View, ReadFault>
+    ensures fault { refusal result ≡ fault bytes.now }
+    ensures view { IfOk result (λ view. view ≡ view_of bytes.now (numbers marks.now)) }
+    ensures whole { IfOk result IsView }
+{
+    let image = read_image(alloc, bytes)?;
+    let view = view_image(alloc, image, marks)?;
+    Ok(view)
+}
+
+/// The view of an image.
+fn view_image(alloc: Global, image: Image, marks: &[WordNo]) -> Result<View, NoMemory>
+    ensures view { IfOk result (λ view. view ≡ view_with image (given_in image (numbers marks.now))) }
+    ensures whole { IfOk result IsView }
+{
+    let routines = find(alloc, &image)?;
+    let starts = starts(alloc, routines.list())?;
+    let marks = marks_in(alloc, image.text(), marks)?;
+    let blocks = blocks(alloc, image.text(), &starts, &marks)?;
+    let graph = graph(alloc, &blocks)?;
+    Ok(View {
+        image,
+        routines,
+        blocks,
+        graph,
+    })
+}
+
+/// The words at which routines start.
+fn starts(alloc: Global, routines: &[Routine]) -> Result<Vec<WordNo>, NoMemory>
+    ensures { IfOk result (λ starts. starts.items ≡ map (λ routine. routine.start) routines.now) }
+{
+    let starts = routines.iter().map(|routine| routine.start).collect(alloc)?;
+    Ok(starts)
+}
+
+/// The marks that are words of the text.
+fn marks_in(alloc: Global, text: &Text, marks: &[WordNo]) -> Result<Vec<WordNo>, NoMemory>
+    ensures marks { IfOk result (λ inside. numbers inside.items ≡ marks_in text.now (numbers marks.now)) }
+    ensures inside { IfOk result (λ inside. AreWords text.now inside.items) }
+{
+    let words = text.len();
+    let marks = marks
+        .iter()
+        .copied()
+        .filter(|mark| mark.0 < words)
+        .collect(alloc)?;
+    Ok(marks)
+}

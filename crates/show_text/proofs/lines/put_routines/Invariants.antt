@@ -1,0 +1,8 @@
+use Rattle.std.proofs.Common.{◌≡◌, ◌++◌, take}
+use Rattle.std.specs.List.{flat_map}
+use Rattle.show_text.specs.Lines.{routine_line}
+use Rattle.show_text.proofs.lines.put_routines.Given as goal
+
+abbrev pub invariant-loop-routine : goal.invariant-loop-routine
+invariant-loop-routine l = l.text.items
+    ≡ l.initial.text.items ++ flat_map (routine_line l.view.image.text) (take l.routine-index l.view.routines)

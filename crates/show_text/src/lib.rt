@@ -1,0 +1,9 @@
+//! What is printed of a program: its routines, blocks and edges, a line each.
+#![tactic(auto)]
+
+mod lines;
+#[cfg(test)]
+mod tests;
+mod words;
+
+pub use lines::show;
