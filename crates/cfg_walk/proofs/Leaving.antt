@@ -1,0 +1,109 @@
+-- Leaving a block from its last word.
+use Rattle.std.proofs.Common.{◌≡◌, ℕ, suc, ◌+◌, ◌<◌, true, false, ◌==◌, [], slice_index, Some, refl, ap, sym, ◌∙◌, subst, arith}
+use Rattle.std.specs.Prelude.{if◌then◌else◌}
+use Rattle.std.proofs.lemmas.Bool.{lt-ltb, cond_both, eqb-true, eqb-false}
+use Rattle.eel_base.specs.CodeText.{Words}
+use Rattle.v8_decode.specs.declared.Instr.{Instr}
+use Rattle.v8_decode.specs.declared.Instr.TheVariants as i
+use Rattle.v8_decode.specs.Words.{decode_of}
+use Rattle.v8_step.specs.Items.{is_transfer as transfers}
+use Rattle.cfg_blocks.specs.declared.BlockEnd.TheVariants as ends
+use Rattle.cfg_blocks.specs.declared.EdgeKind.TheVariants as kinds
+use Rattle.cfg_blocks.specs.Ends.{Way, way, within, end_at, end_by, is_transfer, ways_of}
+use Rattle.cfg_blocks.specs.Blocks.{Blocks, block_end, holding_of, last_word}
+use Rattle.cfg_blocks.specs.Entries.{ways_from}
+use Rattle.cfg_normal.specs.declared.Node.{Node}
+use Rattle.cfg_normal.specs.Graph.{Graph, graph_of, node_of, edge_of}
+use Rattle.cfg_walk.specs.Walk.{edge_from, ends_block, left_at, left_by, node_after}
+use Rattle.cfg_walk.proofs.Holding.{IsIn, Leads, in_held, is_held, is_last, ends_within}
+use Rattle.cfg_walk.proofs.Cut.{IsCut}
+use Rattle.cfg_walk.proofs.Ways.{IsOne, fall_is_one}
+use Rattle.cfg_walk.proofs.Edges.{IsEdge, block, edge_found, leads_along}
+
+-- ---- nodes
+
+pub node_is : (b : Blocks) (word : ℕ) → word < b.words → node_of b (Some word) ≡ block (holding_of b word)
+node_is b word l = rw (lt-ltb _ _ l)
+
+pub node_within : (b : Blocks) (word : ℕ) → word < b.words
+    → node_of b (within b.words word) ≡ block (holding_of b word)
+node_within b word l = rw (lt-ltb _ _ l) (node_is b word l)
+
+-- ---- how control leaves a word
+
+pub end_is : (text : Words) (word : ℕ) (instr : Instr) → decode_of (slice_index text.words word) ≡ instr
+    → end_at text word ≡ end_by text word instr
+unfolding end_at
+end_is text word instr e = ap (end_by text word) e
+
+pub straight_end : (text : Words) (word : ℕ) (instr : Instr) → transfers instr ≡ false
+    → end_by text word instr ≡ ends.Fall
+straight_end text word (i.Branch cond annul disp22) e = absurd (cc)
+straight_end text word (i.Call disp30) e = absurd (cc)
+straight_end text word (i.Jmpl rd rs1 op2) e = absurd (cc)
+straight_end text word _ e = refl
+
+straight_left : (graph : Graph) (node : Node) (word : ℕ) (instr : Instr) → transfers instr ≡ false
+    → left_by graph node word instr
+    ≡ (if ends_block graph node word then edge_from graph node kinds.Fall else [])
+straight_left graph node word (i.Branch cond annul disp22) e = absurd (cc)
+straight_left graph node word _ e = refl
+
+module _ (text : Words) (b : Blocks) (c : IsCut text b) (word : ℕ) (l : word < b.words) where
+  -- the block that holds the word
+  abbrev pub here : ℕ
+  here = holding_of b word
+
+  pub is_in : IsIn b.words b.firsts word here
+  is_in = in_held b.words b.firsts c.firsts word l
+
+  pub ways_at : word ≡ last_word b.firsts b.words here
+      → ways_from b here ≡ ways_of b.words word (end_at text word)
+  ways_at last =
+      ap (λ end. ways_of b.words (last_word b.firsts b.words here) end) (c.ends here is_in.within)
+      ∙ ap (λ w. ways_of b.words w (end_at text w)) (sym last)
+
+  -- a transfer is the last word of its block
+  pub transfer_ends : is_transfer (end_at text word) ≡ true → word ≡ last_word b.firsts b.words here
+  transfer_ends t = is_last b.words b.firsts c.firsts word here is_in (λ more.
+      let next : word + 1 ≡ suc word = omega arith in
+      subst (λ w. Leads b.firsts w) next (c.after word t (omega arith)))
+
+  pub way_found : (w : Way) → word ≡ last_word b.firsts b.words here
+      → IsOne w (ways_of b.words word (end_at text word))
+      → IsEdge (graph_of b) (edge_from (graph_of b) (block here) w.kind) (edge_of b here w)
+  way_found w last h =
+      edge_found b here w is_in.within (subst (λ ways. IsOne w ways) (sym (ways_at last)) h)
+
+  -- ---- a word that is no transfer
+
+  falls : end_at text word ≡ ends.Fall → word ≡ last_word b.firsts b.words here
+      → node_after (graph_of b) (block here) (edge_from (graph_of b) (block here) kinds.Fall)
+      ≡ node_of b (within b.words (word + 1))
+  falls e last =
+      leads_along (graph_of b) (block here) _ (edge_of b here (way kinds.Fall (within b.words (word + 1))))
+      (way_found (way kinds.Fall (within b.words (word + 1))) last
+      (subst (λ end. IsOne (way kinds.Fall (within b.words (word + 1))) (ways_of b.words word end)) (sym e)
+      (fall_is_one b.words word)))
+
+  stays : (word ≡ last_word b.firsts b.words here → ⊥) → block here ≡ node_of b (within b.words (word + 1))
+  stays inner =
+      let after : word + 1 < block_end b.firsts b.words here = omega (arith, is_in.below, inner) in
+      let low : word + 1 < b.words = omega (arith, ends_within b.words b.firsts c.firsts here is_in.within) in
+      let same : holding_of b (word + 1) ≡ here =
+      is_held b.words b.firsts c.firsts (word + 1) here
+      (record { within = is_in.within; above = omega (arith, is_in.above); below = after }) in
+      ap block (sym same) ∙ sym (node_within b (word + 1) low)
+
+  pub straight_on : (instr : Instr) → decode_of (slice_index text.words word) ≡ instr
+      → transfers instr ≡ false
+      → node_after (graph_of b) (block here) (left_at text (graph_of b) (block here) (Some word))
+      ≡ node_of b (within b.words (word + 1))
+  straight_on instr is straight =
+      ap (λ d. node_after (graph_of b) (block here) (left_by (graph_of b) (block here) word d)) is
+      ∙ ap (node_after (graph_of b) (block here))
+      (straight_left (graph_of b) (block here) word instr straight)
+      ∙ cond_both (word == last_word b.firsts b.words here) _ _
+      (λ numbers. node_after (graph_of b) (block here) numbers ≡ node_of b (within b.words (word + 1)))
+      (λ e. falls (end_is text word instr is ∙ straight_end text word instr straight) (eqb-true _ _ e))
+      (λ e. stays (eqb-false _ _ e))

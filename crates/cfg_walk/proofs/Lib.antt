@@ -1,0 +1,17 @@
+pub mod Lists
+pub mod Holding
+pub mod Cut
+pub mod Ways
+pub mod Addresses
+pub mod Edges
+pub mod Leaving
+pub mod Slots
+pub mod Points
+pub mod Transfers
+pub mod States
+pub mod Walks
+pub mod Texts
+pub mod Fetching
+pub mod Files
+pub mod Links
+pub mod Paths

@@ -1,0 +1,127 @@
+-- What the walk does at each transfer outside a slot.
+use Rattle.std.proofs.Common.{◌≡◌, ℕ, ◌+◌, ◌*◌, ◌%◌, ◌^◌, Bool, true, false, not, ◌==◌, ◌||◌, Option, None, refl, ap, sym, ◌∙◌, subst}
+use Rattle.std.specs.Prelude.{if◌then◌else◌, ℤ}
+use Rattle.std.specs.Int.{w32, cast_unsigned}
+use Rattle.std.proofs.lemmas.Bool.{false≢true}
+use Rattle.eel_base.specs.CodeText.{Words, numbered, target_of}
+use Rattle.eel_base.specs.declared.numbers.WordNo.{WordNo}
+use Rattle.v8_decode.specs.declared.Op2.{Op2}
+use Rattle.v8_decode.specs.declared.Instr.TheVariants as i
+use Rattle.v8_step.specs.declared.Slot.TheVariants.{NoSlot, Taken, Untaken}
+use Rattle.v8_alu.specs.declared.Codes.{Codes}
+use Rattle.v8_alu.specs.Conditions.{holds_of}
+use Rattle.cfg_blocks.specs.declared.BlockEnd.{BlockEnd}
+use Rattle.cfg_blocks.specs.declared.BlockEnd.TheVariants as ends
+use Rattle.cfg_blocks.specs.declared.EdgeKind.TheVariants as kinds
+use Rattle.cfg_blocks.specs.Ends.{Way, way, within, end_at, is_transfer, ways_of, branch_target, number_of, target_in, always}
+use Rattle.cfg_blocks.specs.Blocks.{Blocks}
+use Rattle.cfg_normal.specs.declared.Node.{Node}
+use Rattle.cfg_normal.specs.Graph.{graph_of, runs_slot}
+use Rattle.cfg_walk.specs.Walk.{Point, edge_from}
+use Rattle.cfg_walk.proofs.Ways.{IsOne, taken_is_one, untaken_is_one, call_is_one, jump_is_one, not_never, not_always}
+use Rattle.cfg_walk.proofs.Leaving.{end_is}
+use Rattle.cfg_walk.proofs.Points.{Stands, StepsTo, annulled, into_slot, jumps_to, passes, skips}
+
+module _ {text : Words} {b : Blocks} {node : Node} {before : Point} {word : ℕ} where
+  -- ---- branches
+
+  module _ (cond : ℕ) (annul : Bool) (disp22 : ℤ) (codes : Codes)
+      (h : Stands text b node before word (i.Branch cond annul disp22)) where
+    target : Option WordNo
+    target = branch_target text word cond disp22
+
+    end : end_at text word ≡ ends.Branch cond annul target
+    unfolding target
+    end = end_is text word (i.Branch cond annul disp22) h.decodes
+
+    transfer : is_transfer (end_at text word) ≡ true
+    transfer = ap is_transfer end
+
+    taken : Way
+    taken = way kinds.Taken (number_of target)
+
+    untaken : Way
+    untaken = way kinds.Untaken (within b.words (word + 2))
+
+    one_taken : holds_of cond codes ≡ true → IsOne taken (ways_of b.words word (end_at text word))
+    unfolding taken
+    one_taken holds =
+        subst (λ (e : BlockEnd). IsOne taken (ways_of b.words word e)) (sym end)
+        (taken_is_one b.words word cond annul target (not_never cond codes holds))
+
+    one_untaken : holds_of cond codes ≡ false → IsOne untaken (ways_of b.words word (end_at text word))
+    unfolding untaken
+    one_untaken holds =
+        subst (λ (e : BlockEnd). IsOne untaken (ways_of b.words word e)) (sym end)
+        (untaken_is_one b.words word cond annul target (not_always cond codes holds))
+
+    is_target : holds_of cond codes ≡ true → target ≡ numbered (target_of text word disp22)
+    unfolding target
+    is_target holds =
+        ap (λ (x : Bool). if x then None else numbered (target_of text word disp22))
+        (not_never cond codes holds)
+
+    module _ (after : Point) where
+      -- `ba,a`
+      pub always_annulled : holds_of cond codes ≡ true → (cond == always) ≡ true
+          → after.pc ≡ (before.pc + 4 * cast_unsigned w32 disp22) % 2 ^ 32
+          → after.npc ≡ (after.pc + 4) % 2 ^ 32
+          → StepsTo text (graph_of b) node before after NoSlot NoSlot
+      unfolding taken
+      always_annulled holds all pc npc =
+          annulled h after transfer taken (one_taken holds)
+          (λ n. ap (λ (x : Bool). edge_from (graph_of b) n (if x then kinds.Taken else kinds.Untaken)) all)
+          (jumps_to h after transfer target disp22 after.pc (ap target_in end) (is_target holds) pc).0 npc
+
+      pub untaken_annulled : holds_of cond codes ≡ false
+          → after.pc ≡ (before.pc + 8) % 2 ^ 32 → after.npc ≡ (after.pc + 4) % 2 ^ 32
+          → StepsTo text (graph_of b) node before after NoSlot NoSlot
+      unfolding untaken
+      untaken_annulled holds pc npc =
+          annulled h after transfer untaken (one_untaken holds)
+          (λ n. ap (λ (x : Bool). edge_from (graph_of b) n (if x then kinds.Taken else kinds.Untaken))
+          (not_always cond codes holds))
+          (skips h after transfer pc) npc
+
+      pub taken_delayed : holds_of cond codes ≡ true → (not annul || not (cond == always)) ≡ true
+          → after.pc ≡ before.npc → after.npc ≡ (before.pc + 4 * cast_unsigned w32 disp22) % 2 ^ 32
+          → StepsTo text (graph_of b) node before after NoSlot Taken
+      unfolding taken
+      taken_delayed holds runs pc npc =
+          into_slot h after transfer Taken taken (one_taken holds) refl
+          (ap (λ (e : BlockEnd). runs_slot e kinds.Taken) end ∙ runs) pc
+          (λ _. jumps_to h after transfer target disp22 after.npc (ap target_in end) (is_target holds) npc)
+
+      pub untaken_delayed : holds_of cond codes ≡ false → annul ≡ false
+          → after.pc ≡ before.npc → after.npc ≡ (before.npc + 4) % 2 ^ 32
+          → StepsTo text (graph_of b) node before after NoSlot Untaken
+      unfolding untaken
+      untaken_delayed holds kept pc npc =
+          into_slot h after transfer Untaken untaken (one_untaken holds) refl
+          (ap (λ (e : BlockEnd). runs_slot e kinds.Untaken) end ∙ ap (λ (x : Bool). not x || false) kept) pc
+          (λ _. passes h after transfer npc)
+
+  -- ---- CALL and JMPL
+
+  pub call_delayed : (disp30 : ℤ) (after : Point) → Stands text b node before word (i.Call disp30)
+      → after.pc ≡ before.npc → after.npc ≡ (before.pc + 4 * cast_unsigned w32 disp30) % 2 ^ 32
+      → StepsTo text (graph_of b) node before after NoSlot Taken
+  call_delayed disp30 after h pc npc =
+      let target : Option WordNo = numbered (target_of text word disp30) in
+      let end : end_at text word ≡ ends.Call target = end_is text word (i.Call disp30) h.decodes in
+      let transfer : is_transfer (end_at text word) ≡ true = ap is_transfer end in
+      into_slot h after transfer Taken (way kinds.Call (number_of target))
+      (subst (λ (e : BlockEnd). IsOne (way kinds.Call (number_of target)) (ways_of b.words word e)) (sym end)
+      (call_is_one b.words word target))
+      refl (ap (λ (e : BlockEnd). runs_slot e kinds.Call) end) pc
+      (λ _. jumps_to h after transfer target disp30 after.npc (ap target_in end) refl npc)
+
+  pub jump_delayed : (rd rs1 : ℕ) (op2 : Op2) (after : Point)
+      → Stands text b node before word (i.Jmpl rd rs1 op2) → after.pc ≡ before.npc
+      → StepsTo text (graph_of b) node before after NoSlot Taken
+  jump_delayed rd rs1 op2 after h pc =
+      let end : end_at text word ≡ ends.Jump = end_is text word (i.Jmpl rd rs1 op2) h.decodes in
+      into_slot h after (ap is_transfer end) Taken (way kinds.Out None)
+      (subst (λ (e : BlockEnd). IsOne (way kinds.Out None) (ways_of b.words word e)) (sym end)
+      (jump_is_one b.words word))
+      refl (ap (λ (e : BlockEnd). runs_slot e kinds.Out) end) pc (λ jump. absurd (false≢true (sym jump)))

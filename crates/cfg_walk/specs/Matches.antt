@@ -1,0 +1,70 @@
+-- What holds of the walk's node while a run goes on.
+use Rattle.std.specs.Prelude.{◌≡◌, ℕ, ◌+◌, ◌-◌, ◌%◌, ◌^◌, ◌<◌, false, List, [], ◌∷◌, length, slice_get, slice_index, Option, Some, None}
+use Rattle.std.specs.Option.{option_map}
+use Rattle.eel_base.specs.CodeText.{Words, IsText, address_of, word_at}
+use Rattle.v8_memory.specs.Regions.{fetch_of}
+use Rattle.v8_step.specs.State.{State}
+use Rattle.v8_step.specs.declared.Slot.{Slot}
+use Rattle.v8_step.specs.declared.Slot.TheVariants.{NoSlot}
+use Rattle.v8_step.specs.Run.{run}
+use Rattle.cfg_blocks.specs.Blocks.{blocks_of}
+use Rattle.cfg_blocks.specs.declared.EdgeKind.{EdgeKind}
+use Rattle.cfg_blocks.specs.declared.EdgeKind.TheVariants as kinds
+use Rattle.cfg_normal.specs.declared.Edge.{Edge}
+use Rattle.cfg_normal.specs.declared.Node.{Node}
+use Rattle.cfg_normal.specs.declared.Node.TheVariants.{Block, X}
+use Rattle.cfg_normal.specs.declared.Slot.{Slot as Carried}
+use Rattle.cfg_normal.specs.declared.Slot.TheVariants as carried
+use Rattle.cfg_normal.specs.Graph.{Graph, graph_of, node_of}
+use Rattle.cfg_walk.specs.Walk.{Point, point_of, edge_from, end_of_walk, instr_at, same_kind, way_of}
+
+-- the word at the address is the one that the edge carries, or that word lies behind the text
+abbrev pub IsCarried : Words → Carried → ℕ → Type 0
+IsCarried text carried.Nothing address = ⊥
+IsCarried text (carried.Word word) address = address ≡ address_of text word.0
+IsCarried text carried.Off address = word_at text address ≡ None
+
+-- the node's block begins with the word; X where the text has no such word
+abbrev pub Begins : Graph → Node → Option ℕ → Type 0
+Begins graph (Block block) (Some word) = slice_index graph.blocks.firsts block.0 ≡ word
+Begins graph X None = Unit {0}
+Begins graph _ _ = ⊥
+
+-- In a slot the walk's node has one edge of the way that the transfer goes. That edge carries the slot, and but for
+-- a jump it leads to where the machine goes on after it.
+pub record IsOnItsWay (text : Words) (graph : Graph) (node : Node) (point : Point) (way : EdgeKind) : Type 0 where
+  pub number : ℕ
+  pub edge : Edge
+  pub only : edge_from graph node way ≡ number ∷ []
+  pub is : slice_get graph.edges number ≡ Some edge
+  pub carries : IsCarried text edge.slot point.pc
+  pub leads : same_kind way kinds.Out ≡ false
+      → Begins graph edge.to (word_at text point.npc) × (edge.to ≡ node_of graph.blocks (word_at text point.npc))
+
+abbrev pub MatchesBy : Words → Graph → Node → Point → Slot → Type 0
+MatchesBy text graph node point NoSlot =
+    (node ≡ node_of graph.blocks (word_at text point.pc)) × (point.npc ≡ (point.pc + 4) % 2 ^ 32)
+MatchesBy text graph node point slot = IsOnItsWay text graph node point (way_of (instr_at text (point.pc - 4)) slot)
+
+-- Outside a slot the walk's node is the block that holds the machine's word, or X where the text has no such word.
+abbrev pub Matches : Words → Graph → Node → Point → Type 0
+Matches text graph node point = MatchesBy text graph node point point.slot
+
+-- only the words of the text can be fetched
+abbrev pub FetchesOnly : Words → State → Type 0
+FetchesOnly text s = (a : ℕ) → fetch_of s.memory a ≡ option_map (λ word. slice_index text.words word) (word_at text a)
+
+-- a run is about to begin at a word of the text
+pub record BeginsAt (text : Words) (entry : ℕ) (s0 : State) : Type 0 where
+  pub within : entry < length text.words
+  pub pc : s0.pc ≡ address_of text entry
+  pub npc : s0.npc ≡ address_of text entry + 4
+  pub slot : s0.slot ≡ NoSlot
+
+-- The walk of a run over the graph of its text matches the run at each step, as long as that goes on, whatever words
+-- lead besides.
+abbrev pub WalksMatch : Type 0
+WalksMatch = (text : Words) (given : List ℕ) (entry : ℕ) (s0 : State) (n : ℕ) → IsText text → FetchesOnly text s0
+    → BeginsAt text entry s0 → (run s0 n).ending ≡ None
+    → Matches text (graph_of (blocks_of text given))
+    (end_of_walk text (graph_of (blocks_of text given)) entry s0 n) (point_of (run s0 n))
