@@ -3,6 +3,7 @@
 
         .section ".text"
         .global _start
+        .type   _start, #function
 _start:
         mov     0, %fp
         ld      [%sp + 64], %o0
@@ -16,6 +17,7 @@ _start:
 ! int system_call(int number, int a, int b, int c): what the system answers, or minus its error number.
 
         .global system_call
+        .type   system_call, #function
 system_call:
         mov     %o0, %g1
         mov     %o1, %o0

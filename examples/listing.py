@@ -1,0 +1,201 @@
+#!/usr/bin/env python3
+"""Prints what `eel show FILE` must print of each program file, made apart from the proved program.
+
+With --compare, runs ./eel show of each file instead, and says for which the two differ. With --random COUNT, does so
+for that many files with random words, symbols and section tables.
+"""
+import os
+import random
+import struct
+import subprocess
+import sys
+import tempfile
+
+EEL = os.path.join(os.path.dirname(os.path.abspath(__file__)), '..', 'eel')
+
+
+class Program:
+    """The text of a file, its entry, and its function symbols, as pairs of word and name."""
+
+    def __init__(self, file):
+        self.file = file
+        self.entry, phoff, shoff = struct.unpack('>3I', file[24:36])
+        phnum, = struct.unpack('>H', file[44:46])
+        for number in range(phnum):
+            kind, offset, vaddr, _, filesz, memsz, flags, _ = struct.unpack(
+                '>8I', file[phoff + 32 * number:phoff + 32 * number + 32])
+            if kind == 1 and memsz and flags & 3 == 1:
+                memory = file[offset:offset + filesz].ljust(memsz, b'\0')
+                self.start = vaddr
+                self.words = struct.unpack(f'>{memsz // 4}I', memory[:memsz // 4 * 4])
+        self.functions = list(self.read_functions(shoff))
+
+    def word_at(self, address):
+        distance = address - self.start
+        if distance % 4 == 0 and 0 <= distance < 4 * len(self.words):
+            return distance // 4
+        return None
+
+    def read_functions(self, shoff):
+        entsize, count = struct.unpack('>2H', self.file[46:50])
+        if not shoff or entsize != 40 or not count or shoff + 40 * count > len(self.file):
+            return
+        sections = [struct.unpack('>10I', self.file[shoff + 40 * k:shoff + 40 * k + 40]) for k in range(count)]
+        tables = [section for section in sections if section[1] == 2][:1]
+        for _, _, _, _, offset, size, link, _, _, symbol_size in tables:
+            if offset + size > len(self.file) or symbol_size != 16 or link >= count:
+                return
+            _, kind, _, _, strings, strings_size, _, _, _, _ = sections[link]
+            if kind != 3 or strings + strings_size > len(self.file):
+                return
+            names = self.file[strings:strings + strings_size]
+            for at in range(offset, offset + size // 16 * 16, 16):
+                name, value, _, info = struct.unpack('>3IB', self.file[at:at + 13])
+                if info & 15 == 2 and self.word_at(value) is not None:
+                    yield self.word_at(value), names[name:].split(b'\0')[0][:255]
+
+    def displaced(self, word, field, bits):
+        """The word to which a displacement leads, if the text has it."""
+        displacement = field - (1 << bits) if field >> (bits - 1) else field
+        return self.word_at((self.start + 4 * word + 4 * displacement) % 2**32)
+
+    def end(self, word):
+        """How control leaves a word: a transfer's name, its target, whether it is annulled, its condition."""
+        value = self.words[word]
+        op, op2, op3, cond = value >> 30, value >> 22 & 7, value >> 19 & 63, value >> 25 & 15
+        if op == 1:
+            return 'call', self.displaced(word, value & 0x3fffffff, 30), False, None
+        if op == 0 and op2 == 2:
+            target = self.displaced(word, value & 0x3fffff, 22) if cond else None
+            return 'branch', target, bool(value >> 29 & 1), cond
+        if op == 2 and op3 == 0x38:
+            return 'jump', None, False, None
+        return 'fall', None, False, None
+
+
+def listing(file):
+    program = Program(file)
+    count = len(program.words)
+    ends = [program.end(word) for word in range(count)]
+    entry = program.word_at(program.entry)
+    routines = {entry: b''}
+    routines.update({target: b'' for kind, target, _, _ in ends if kind == 'call' and target is not None})
+    routines.update(dict(reversed(program.functions)))
+    leaders = {0} | set(routines) | {target for _, target, _, _ in ends if target is not None}
+    for word, (kind, _, _, _) in enumerate(ends):
+        if kind != 'fall':
+            leaders |= {word + 1, word + 2}
+    firsts = sorted(word for word in leaders if word < count)
+    block_of = {first: number for number, first in enumerate(firsts)}
+
+    def address(word):
+        return f'{program.start + 4 * word:08x}'
+
+    def node(word):
+        return address(word) if word is not None and word < count else 'x'
+
+    def slot(word):
+        return address(word + 1) if word + 1 < count else 'off'
+
+    def edges():
+        for number, first in enumerate(firsts):
+            last = (firsts[number + 1] if number + 1 < len(firsts) else count) - 1
+            kind, target, annul, cond = ends[last]
+            if kind == 'fall':
+                yield 'fall', address(first), node(last + 1), '-'
+            elif kind == 'call':
+                yield 'call', address(first), node(target), slot(last)
+            elif kind == 'jump':
+                yield 'out', address(first), 'x', slot(last)
+            else:
+                always, never = cond == 8, cond == 0
+                if not never:
+                    yield 'taken', address(first), node(target), '-' if annul and always else slot(last)
+                if not always:
+                    yield 'untaken', address(first), node(last + 2), '-' if annul else slot(last)
+        for first in firsts:
+            yield 'land', 'x', address(first), '-'
+
+    lines = []
+    for start in sorted(routines):
+        name = bytes(byte if 0x21 <= byte <= 0x7e else 63 for byte in routines[start]).decode() or '-'
+        lines.append(f'routine {address(start)} {name}')
+    for number, first in enumerate(firsts):
+        size = (firsts[number + 1] if number + 1 < len(firsts) else count) - first
+        lines.append(f'block {block_of[first]} {address(first)} {size}')
+    all_edges = list(edges())
+    lines += [f'edge {number} ' + ' '.join(edge) for number, edge in enumerate(all_edges)]
+    lines.append(f'routines {len(routines)} blocks {len(firsts)} edges {len(all_edges)}')
+    return '\n'.join(lines) + '\n'
+
+
+def random_word(count):
+    """A word of a text of so many: mostly transfers that lead near it."""
+    near = random.randrange(-count - 3, count + 3)
+    branch = random.randrange(16) << 25 | random.randrange(2) << 29 | 0x800000 | near & 0x3fffff
+    call = 0x40000000 | near & 0x3fffffff
+    return random.choice([branch, branch, call, 0x81c7e008, random.getrandbits(32), 0x01000000, 0x01000000])
+
+
+def random_file():
+    """A program without a fault whose section table can mostly be read, and mostly names functions."""
+    count = random.randrange(1, 40)
+    start = 0x10000 + 4 * random.randrange(100)
+    text = struct.pack(f'>{count}I', *[random_word(count) for _ in range(count)])
+    strings = b'\0main\0f\0' + bytes(random.choices(b' A~\x7f\xffa', k=random.randrange(400)))
+    symbols = b''.join(
+        struct.pack('>IIIBBH', random.randrange(len(strings) + 9), start + random.randrange(-9, 4 * count + 9), 4,
+                    random.choice([0x12, 0x02, 0x11, 0x10, 0x22]), 0, 1)
+        for _ in range(random.randrange(20))) + bytes(random.randrange(16))
+    places = [84 + len(text), 84 + len(text) + len(strings)]
+    sections = [(0,) * 10,
+                (0, random.choice([2, 2, 2, 3]), 0, 0, places[1], len(symbols) + random.choice([0, 0, 0, 500]),
+                 random.choice([2, 2, 2, 0, 1, 3]), 0, 0, random.choice([16, 16, 16, 12])),
+                (0, random.choice([3, 3, 3, 2]), 0, 0, places[0], len(strings) + random.choice([0, 0, 0, 99999]),
+                 1, 0, 0, 16)]
+    table = b''.join(struct.pack('>10I', *section) for section in sections)
+    table = table[:len(table) - random.choice([0, 0, 0, 0, 1])]
+    shoff = random.choice([places[1] + len(symbols)] * 9 + [0])
+    header = struct.pack('>4sBBB9xHHIIIIIHHHHHH', b'\x7fELF', 1, 2, 1, 2, 2, 1, start + 4 * random.randrange(count), 52,
+                         shoff, 0, 52, 32, 1, random.choice([40] * 9 + [44]), random.choice([3] * 8 + [0, 4]), 0)
+    segment = struct.pack('>8I', 1, 84, start, start, len(text), len(text), 5, 0)
+    return header + segment + text + strings + symbols + table
+
+
+def differs(name, wanted):
+    """Whether ./eel shows the file otherwise."""
+    return subprocess.run([EEL, 'show', name], capture_output=True).stdout.decode() != wanted
+
+
+def compare_random(count):
+    with tempfile.TemporaryDirectory() as folder:
+        for number in range(count):
+            random.seed(number)
+            name = os.path.join(folder, 'program')
+            with open(name, 'wb') as target:
+                target.write(random_file())
+            with open(name, 'rb') as source:
+                if differs(name, listing(source.read())):
+                    print(f'random file {number} differs')
+                    return 1
+    return 0
+
+
+def main():
+    if sys.argv[1:2] == ['--random']:
+        return compare_random(int(sys.argv[2]))
+    fault = 0
+    for name in sys.argv[1:]:
+        if name != '--compare':
+            with open(name, 'rb') as source:
+                wanted = listing(source.read())
+            if '--compare' not in sys.argv:
+                print(wanted, end='')
+            elif differs(name, wanted):
+                print(f'{name} differs')
+                fault = 1
+    return fault
+
+
+if __name__ == '__main__':
+    sys.exit(main())

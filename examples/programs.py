@@ -1,0 +1,161 @@
+"""Small programs and those of examples/c, and what must come of each.
+
+Endings, steps and output were had apart from EEL: by hand from the manual, or from qemu-sparc. Steps of the C
+programs are lines that `qemu-sparc -singlestep -d exec,nochain` prints. It prints the first instruction twice,
+and each that saves or loads a window; such a pair of lines is one step.
+
+Run as a script it writes to crates/program_runs the small programs, all inputs, and what is to be printed.
+"""
+import os
+import struct
+from dataclasses import dataclass
+
+RUNS = os.path.join(os.path.dirname(os.path.abspath(__file__)), '..', 'crates', 'program_runs')
+
+
+@dataclass
+class Program:
+    name: str
+    words: str  # none: one of the C programs
+    steps: int
+    ending: str
+    given: bytes = b''
+    output: bytes = b''
+    errors: bytes = b''  # to descriptor 2
+    before: int = 0  # how many bytes of the file lie in the segment before the words
+    is_straight: bool = False
+
+    def file(self):
+        """The file of the words at 0x10054, or the one that examples/c/build.sh made."""
+        if not self.words:
+            with open(os.path.join(RUNS, 'data', self.name), 'rb') as built:
+                return built.read()
+        text = bytes.fromhex(self.words.replace(' ', ''))
+        size = self.before + len(text)
+        start = 0x10054 - self.before
+        identity = b'\x7fELF' + bytes([1, 2, 1]) + bytes(9)
+        header = struct.pack('>HHIIIIIHHHHHH', 2, 2, 1, 0x10054, 52, 0, 0, 52, 32, 1, 0, 1, 0)
+        segment = struct.pack('>8I', 1, 84 - self.before, start, start, size, size, 5, 0x10000)
+        return identity + header + segment + text
+
+    def report(self):
+        """What program_runs prints of it."""
+        line = f'{self.name}: {self.ending} after {self.steps} steps, stopped after {self.steps - 1} steps\n'
+        output = self.output and self.output + b'\n'
+        errors = self.errors and b'to the error stream: ' + self.errors + b'\n'
+        return line.encode() + output + errors
+
+
+def straight(name, words, steps, ending, **more):
+    """A program without a branch, CALL or JMPL: each step carries out the next word."""
+    return Program(name, words, steps, ending, is_straight=True, **more)
+
+
+STRAIGHT = [
+    straight('three_words', '82102001 90102003 91d02010', 3, 'exit 3'),
+    straight('one_nop', '01000000', 2, 'trap 1'),
+    straight('load_from_zero', 'c2002000', 1, 'trap 9'),
+    straight('window_overflow',
+        '8610000e a0102007 9de3bfa0 9de3bfa0 9de3bfa0 9de3bfa0 9de3bfa0 9de3bfa0 '
+        '9de3bfa0 82102004 90102001 92100003 94102004 91d02010 82102001 90102000 '
+        '91d02010', 17, 'exit 0', output=bytes([0, 0, 0, 7])),
+    straight('flushed_windows',
+        '9de3bfa0 91d02003 84102009 c427a000 81e80000 90100010 82102001 91d02010', 8, 'exit 9'),
+    straight('echoes',
+        '82102003 90102000 9223a040 94102010 91d02010 94100008 82102004 90102001 '
+        '91d02010 82102004 90102002 94102003 91d02010 82102001 91d02010', 15, 'exit 3',
+        given=b'hello, world\n', output=b'hello, world\n', errors=b'hel'),
+    straight('stores_and_loads',
+        '05048d15 8410a278 c423bff0 d213bff2 d44bbff0 d60bbff3 d233bff4 d62bbff6 '
+        'd853bff4 9002800b 82102001 91d02010', 12, 'exit 138'),
+    straight('pairs_and_exchanges',
+        '8410200b 86102016 c43bbff0 d41bbff0 d86bbff7 da03bff4 a0102021 e07bbff0 '
+        '9004000b 9002000c 82102001 91d02010', 12, 'exit 55'),
+    straight('saves_and_restores',
+        '90102005 9de3bfa0 90062002 9de3bfa0 b0062003 91ee2004 91ea2008 82102001 '
+        '91d02010', 9, 'exit 22'),
+    straight('uses_the_heap',
+        '11200004 82102011 91d02010 05200000 8610202c c620aff0 d000aff0 82102001 '
+        '91d02010', 9, 'exit 44'),
+    straight('multiplies_and_divides',
+        '84102064 8650a04d 81800000 01000000 01000000 01000000 9070e009 925a3ffd '
+        '95400000 96824008 9062e000 82102001 91d02010', 13, 'exit 82'),
+    straight('divides_by_zero', '84102001 9070a000', 2, 'trap 42'),
+    straight('traps_with_five', '90102002 91d02005', 2, 'trap 133'),
+    straight('traps_on_carry', '84a02001 9bd02007 8bd02009', 3, 'trap 137'),
+    straight('misaligned_load', '84102002 d003a002', 2, 'trap 7'),
+    straight('restores_from_nowhere', '84102001 81e80000', 2, 'window'),
+    straight('writes_its_text', '05000040 c420a054', 2, 'trap 9'),
+    straight('runs_an_illegal_word', '84102001 00000000', 2, 'trap 2'),
+    straight('runs_a_privileged_word', '84102001 87480000', 2, 'trap 3'),
+    straight('overflows_a_tag', '84102001 8710a004', 2, 'trap 10'),
+]
+
+WITH_TRANSFERS = [
+    Program('taken_branch',
+        '80a02000 02800004 80a02001 10800003 90102001 90102002 82102001 91d02010', 6, 'exit 2'),
+    Program('annulled_branches',
+        '80a02001 22800003 90022001 20800002 90022002 30800002 90022004 80a02000 '
+        '22800002 90022008 82102001 91d02010', 9, 'exit 8'),
+    Program('branch_over_nop', '80a02000 02800002 01000000 82102001 90102000 91d02010', 6, 'exit 0'),
+    Program('call_and_return', '40000004 01000000 82102001 91d02010 81c3e008 900be0ff', 6, 'exit 84'),
+    Program('carry_loop', '84102005 90422000 8480bfff 12bffffe 01000000 82102001 91d02010', 23, 'exit 4'),
+    Program('misaligned_jump', '82102002 81c06000 c223a040', 2, 'trap 7'),
+    Program('inner_landings',
+        '40000002 01000000 81c3e018 01000000 90022001 90022002 90022004 81c3e028 '
+        '01000000 10800002 90022008 82102001 91d02010', 10, 'exit 12'),
+    Program('jump_to_zero', '81c02000 01000000', 3, 'trap 1'),
+    Program('transfer_in_slot', '10800002 10800002 01000000', 2, 'couple'),
+    Program('exit_three_calls_deep',
+        '40000002 01000000 40000002 01000000 40000002 01000000 82102001 90102000 '
+        '91d02010', 9, 'exit 0'),
+    Program('switch_of_four',
+        '90102003 80a22003 1880000c 912a2002 03000040 82106078 c2004008 81c04000 '
+        '01000000 0001008c 0001008c 0001008c 00010088 90102005 82102001 91d02010', 12, 'exit 5'),
+    # Counts the lines of its input.
+    Program('newline_count',
+        '11200004 82102011 91d02010 a0102000 90102000 13200000 15000004 82102003 '
+        '91d02010 80a22000 0280000c 13200000 d40a6000 80a2a00a 12800003 92026001 '
+        'a0042001 90a22001 12bffffa 01000000 10bffff0 01000000 40000005 90100010 '
+        '82102001 90102000 91d02010 9de3bf98 80a6200a 0a800007 81800000 9076200a '
+        '7ffffffb a2100008 a25c600a b0260011 b0062030 f02fbfff 90102001 9207bfff '
+        '94102001 82102004 91d02010 81c7e008 81e80000', 463092, 'exit 0',
+        given=b'123456789012345\n' * 4096, output=b'4096'),
+]
+
+# Prints the 52 bytes of its own file's header, which are in its text segment.
+PRINTS_ITS_HEADER = Program('prints_its_header',
+    '13000040 94102034 90102001 82102004 91d02010 90102000 82102001 91d02010', 8, 'exit 0', before=84)
+PRINTS_ITS_HEADER.output = PRINTS_ITS_HEADER.file()[:52]
+
+SMALL = STRAIGHT + WITH_TRANSFERS + [PRINTS_ITS_HEADER]
+
+C_PROGRAMS = [
+    Program('word_count', '', 1472, 'exit 0', output=b'4 17 91\n',
+        given=b'The windows overlap:\n\nthe ins of one\tare the outs of the next.\n'
+              b'  Eight windows, 136 words.\n'),
+    Program('calculator', '', 2233, 'exit 1', output=b'12\n-3\n9\n14\n\n0\n',
+        given=b'3 4 * p\n2 5 - p d * p\n100 7 / p , .\nc p 8 0 / p\n'),
+    Program('queens', '', 54031, 'exit 0', output=b'92 ways, 200 calls\n'),
+    Program('sieve', '', 163414146, 'exit 0', output=b'664579\n'),
+]
+
+
+def write(name, content):
+    with open(os.path.join(RUNS, name), 'wb') as file:
+        file.write(content)
+
+
+def main():
+    programs = SMALL + C_PROGRAMS
+    for program in programs:
+        if program.words:
+            write(f'data/{program.name}', program.file())
+        if program.given:
+            write(f'data/{program.name}.input', program.given)
+    write('args', ''.join(f'{program.name}\n' for program in programs).encode())
+    write('stdout', b''.join(program.report() for program in programs))
+
+
+if __name__ == '__main__':
+    main()
