@@ -11,7 +11,8 @@ use Rattle.v8_step.specs.Run.{run, run_puts}
 use Rattle.v8_process.specs.Start.{start_of}
 use Rattle.eel.specs.Command.{Run}
 use Rattle.eel.specs.Outcome.{DeviceFault}
-use Rattle.eel.specs.Answers.{Outside, Follows, WasRead, WasFed, AreMade, HasPart, run_limit}
+use Rattle.v8_runner.specs.Runs.{AreMade}
+use Rattle.eel.specs.Answers.{Outside, Follows, WasRead, WasFed, HasPart, run_limit}
 
 -- a part of b after all of a is a part of both
 pub took-rest : (old new : Option (List ℕ)) (a b : List ℕ) → TookPart (appended old a) new b
@@ -46,20 +47,22 @@ pub broken_follows : (old new : Outside) (file : List ℕ) (limit : ℕ) (args :
     → new.files.held ≡ old.files.held
     → Follows (Run file limit args) old new DeviceFault
 broken_follows old new file limit args bytes input steps s0 s read loads fed starts ran within made none out err rose held = (
-  inr (inr (inr rose)),
   held,
-  inr (record {
-    bytes = bytes;
-    read = read;
-    loads = loads;
-    input = input;
-    fed = fed;
-    steps = steps;
-    within = within;
-    made = subst (λ z. AreMade z (suc steps)) starts (made-next s0 steps made (rw ran at none));
-    output = subst (λ z. HasPart z (suc steps) old new) starts (record {
-      out = took-step s0 steps 1 old.out.taken new.out.taken (rw ran at out);
-      err = took-step s0 steps 2 old.err.taken new.err.taken (rw ran at err);
-    });
-  }),
+  inr (
+    record {
+      bytes = bytes;
+      read = read;
+      loads = loads;
+      input = input;
+      fed = fed;
+      steps = steps;
+      within = within;
+      made = subst (λ z. AreMade z (suc steps)) starts (made-next s0 steps made (rw ran at none));
+      output = subst (λ z. HasPart z (suc steps) old new) starts (record {
+        out = took-step s0 steps 1 old.out.taken new.out.taken (rw ran at out);
+        err = took-step s0 steps 2 old.err.taken new.err.taken (rw ran at err);
+      });
+    },
+    rose,
+  ),
 )

@@ -4,7 +4,7 @@ use Rattle.eel_base.specs.Outside.{Rose, appended}
 use Rattle.v8_step.specs.declared.Ending.{Ending}
 use Rattle.v8_step.specs.Run.{run_puts}
 use Rattle.v8_process.specs.Start.{start_of}
-use Rattle.eel.specs.Command.{Command, EditPlain, Run, Unknown}
+use Rattle.eel.specs.Command.{Command, EditPlain, Run, Show, Unknown}
 use Rattle.eel.specs.Outcome.{Outcome, Stream, Done, Stopped, BadWords, BadFile, NotBuilt, TooLong, NoRoom, OutOfMemory, DeviceFault, Shows, shown, failed, line_of}
 use Rattle.eel.specs.Answers.{Outside, Follows, with_err, WasRun, IsDone, MayFail}
 
@@ -40,6 +40,17 @@ edit_done : (command : Command) (old new : Outside) (err : Stream)
 edit_done (EditPlain input output) old new err (read, quiet) took =
     (read, record { input = quiet.input; out = quiet.out; err = took ∙ appended-nil err.taken ∙ quiet.err })
 edit_done (Run file limit args) old new err follows took = absurd follows
+edit_done (Show file) old new err (bytes, read, was) took = (
+  bytes,
+  read,
+  record {
+    sound = was.sound;
+    held = was.held;
+    input = was.input;
+    out = was.out;
+    err = took ∙ appended-nil err.taken ∙ was.err;
+  },
+)
 edit_done Unknown old new err follows took = absurd follows
 
 run_done : (command : Command) (old new : Outside) (err : Stream) (ending : Option Ending) (steps : ℕ)
@@ -48,6 +59,7 @@ run_done : (command : Command) (old new : Outside) (err : Stream) (ending : Opti
 run_done (EditPlain input output) old new err ending steps follows took = absurd follows
 run_done (Run file limit args) old new err ending steps (was, held) took =
     (ending, steps, with_line old new err file limit args ending steps (line_of (Stopped ending steps)) was took, held)
+run_done (Show file) old new err ending steps follows took = absurd follows
 run_done Unknown old new err ending steps follows took = absurd follows
 
 pub done_shown : (command : Command) (old new : Outside) (err : Stream) (outcome : Outcome) (status : ℕ)
@@ -71,6 +83,7 @@ fails_by_err : (command : Command) (old new : Outside) → Rose old.err.faults n
     → MayFail command old new
 fails_by_err (EditPlain input output) old new rose = inr (inl rose)
 fails_by_err (Run file limit args) old new rose = inr (inr (inr (inl rose)))
+fails_by_err (Show file) old new rose = inr (inr (inl rose))
 fails_by_err Unknown old new rose = rose
 
 rose-from : (old err new : ℕ) → old ≤ err → Rose err new → Rose old new
@@ -84,12 +97,15 @@ fails_on : (command : Command) (old new : Outside) (err : Stream) → err.faults
     → Follows command old (with_err new err) DeviceFault → MayFail command old new
 fails_on (EditPlain input output) old new err then (inl missing, but, held, quiet) = inr (inr missing)
 fails_on (EditPlain input output) old new err then (inr files, but, held, quiet) = inl files
-fails_on (Run file limit args) old new err then (inl missing, held, output) = inr (inr (inr (inr missing)))
-fails_on (Run file limit args) old new err then (inr (inl files), held, output) = inl files
-fails_on (Run file limit args) old new err then (inr (inr (inl input)), held, output) = inr (inl input)
-fails_on (Run file limit args) old new err then (inr (inr (inr (inl out))), held, output) = inr (inr (inl out))
-fails_on (Run file limit args) old new err then (inr (inr (inr (inr rose))), held, output) =
+fails_on (Run file limit args) old new err then (held, inl (inl missing, quiet-out, quiet-err)) = inr (inr (inr (inr missing)))
+fails_on (Run file limit args) old new err then (held, inl (inr (inl files), quiet-out, quiet-err)) = inl files
+fails_on (Run file limit args) old new err then (held, inl (inr (inr (read, input)), quiet-out, quiet-err)) = inr (inl input)
+fails_on (Run file limit args) old new err then (held, inr (broken, inl out)) = inr (inr (inl out))
+fails_on (Run file limit args) old new err then (held, inr (broken, inr rose)) =
     inr (inr (inr (inl (rose-on old.err.faults err.faults new.err.faults then rose))))
+fails_on (Show file) old new err then (inl (inl missing, out), held, input, still) = inr (inr (inr missing))
+fails_on (Show file) old new err then (inl (inr files, out), held, input, still) = inl files
+fails_on (Show file) old new err then (inr (bytes, read, part), held, input, still) = inr (inl part.failed)
 fails_on Unknown old new err then follows = absurd follows
 
 pub fault_shown : (command : Command) (old new : Outside) (err : Stream) (outcome : Outcome) (status : ℕ)

@@ -10,9 +10,12 @@ use Rattle.v8_step.specs.declared.Ending.{Ending}
 use Rattle.v8_step.specs.State.{State}
 use Rattle.v8_step.specs.Run.{run, run_puts}
 use Rattle.v8_process.specs.Start.{start_of}
+use Rattle.v8_runner.specs.Runs.{AreMade}
 use Rattle.eel.specs.declared.straight.EditFault.{EditFault}
 use Rattle.eel.specs.declared.straight.EditFault.TheVariants as faults
-use Rattle.eel.specs.Command.{Command, EditPlain, Run, Unknown}
+use Rattle.cfg_view.specs.View.{view_of}
+use Rattle.show_text.specs.Lines.{show_lines}
+use Rattle.eel.specs.Command.{Command, EditPlain, Run, Show, Unknown}
 use Rattle.eel.specs.Outcome.{Outcome, Done, Stopped, BadWords, BadFile, NotBuilt, TooLong, NoRoom, OutOfMemory, DeviceFault, Stream, Shows, line_of}
 use Rattle.eel.specs.Faithful.{IsFaithful}
 use Rattle.eel.specs.Straight.{IsStraight, IsFirstTransfer, bound_of, edited}
@@ -43,7 +46,7 @@ pub record Outside : Type 0 where
 abbrev pub outside : Store → Feed → Stream → Stream → Outside
 outside files input out err = record { files = files; input = input; out = out; err = err }
 
--- how long a file may be that is edited, one that is run, and the input of a run
+-- how long a file may be that is edited or shown, one that is run, and the input of a run
 abbrev pub edit_limit : ℕ
 edit_limit = 64 * 2 ^ 20
 
@@ -62,11 +65,13 @@ pub record WasRead (files : Store) (name : List ℕ) (limit : ℕ) (bytes : List
 abbrev pub Edits : Command → (List ℕ → List ℕ → Type 0) → Type 0
 Edits (EditPlain input output) P = P input output
 Edits (Run file limit args) P = ⊥
+Edits (Show file) P = ⊥
 Edits Unknown P = ⊥
 
 abbrev pub Runs : Command → (List ℕ → ℕ → List (List ℕ) → Type 0) → Type 0
 Runs (EditPlain input output) P = ⊥
 Runs (Run file limit args) P = P file limit args
+Runs (Show file) P = ⊥
 Runs Unknown P = ⊥
 
 -- Bytes that were read, by what they are.
@@ -142,10 +147,6 @@ pub record WasFed (old new : Feed) (input : List ℕ) : Type 0 where
   pub end : IsAtEnd new.left
   pub within : length input ≤ input_limit
 
--- each of the first `steps` steps is made by a state that hasn't ended
-abbrev pub AreMade : State → ℕ → Type 0
-AreMade s0 steps = (k : ℕ) → k < steps → (run s0 k).ending ≡ None
-
 -- the run stops at its limit, or with the first state that has ended
 abbrev pub StopsAt : State → ℕ → ℕ → Type 0
 StopsAt s0 limit steps = (steps ≡ limit) ⊎ ((steps ≤ limit) × ((ending : Ending) × ((run s0 steps).ending ≡ Some ending)))
@@ -185,6 +186,26 @@ pub record WasBroken (old new : Outside) (file : List ℕ) (limit : ℕ) (args :
   pub made : AreMade (start_of bytes args input) (suc steps)
   pub output : HasPart (start_of bytes args input) (suc steps) old new
 
+-- ---- what a listing does
+
+-- the lines that show a file's program
+abbrev pub shown_of : List ℕ → List ℕ
+shown_of bytes = show_lines (view_of bytes [])
+
+-- they were put out, and nothing else changed
+pub record IsShown (old new : Outside) (bytes : List ℕ) : Type 0 where
+  pub sound : IsSound bytes
+  pub held : new.files.held ≡ old.files.held
+  pub input : new.input.left ≡ old.input.left
+  pub out : new.out.taken ≡ appended old.out.taken (shown_of bytes)
+  pub err : new.err.taken ≡ old.err.taken
+
+-- the output failed, and took a first part of them
+pub record IsPartlyShown (old new : Outside) (bytes : List ℕ) : Type 0 where
+  pub sound : IsSound bytes
+  pub out : TookPart old.out.taken new.out.taken (shown_of bytes)
+  pub failed : Rose old.out.faults new.out.faults
+
 -- ---- what follows from a command: each outcome with its cause, and what is afterwards, before its line
 
 abbrev pub standard_input : List ℕ
@@ -194,20 +215,33 @@ standard_input = codes "standard input"
 abbrev pub IsFedTooLong : Feed → Feed → Type 0
 IsFedTooLong old new = GaveSome (λ count. count ≡ suc input_limit) old.left new.left
 
--- the command that reads the file has a reason to refuse it
-abbrev pub Refuses : Command → Store → List ℕ → ℕ → Type 0
-Refuses (EditPlain input output) files name code = (name ≡ input) × Read files input edit_limit (IsFaulty code)
-Refuses (Run file limit args) files name code = (name ≡ file) × Read files file run_limit (IsNotLoaded code)
-Refuses Unknown files name code = ⊥
+-- the command that reads the file has a reason to refuse it; a run has read all of the input before
+abbrev pub Refuses : Command → Outside → Outside → List ℕ → ℕ → Type 0
+Refuses (EditPlain input output) old new name code =
+    (name ≡ input) × Read old.files input edit_limit (IsFaulty code)
+Refuses (Run file limit args) old new name code =
+    (name ≡ file) × Read old.files file run_limit (IsNotLoaded code)
+    × ((input : List ℕ) × WasFed old.input new.input input)
+Refuses (Show file) old new name code = (name ≡ file) × Read old.files file edit_limit (IsFaulty code)
+Refuses Unknown old new name code = ⊥
 
--- a text that the command reads is too long
+-- a text that the command reads is too long; a run has read the file before its input
 abbrev pub IsTooLong : Command → Outside → Outside → List ℕ → ℕ → Type 0
 IsTooLong (EditPlain input output) old new name limit =
     (name ≡ input) × (limit ≡ edit_limit) × IsLonger old.files.held input limit
 IsTooLong (Run file most args) old new name limit =
     ((name ≡ file) × (limit ≡ run_limit) × IsLonger old.files.held file limit)
-    ⊎ ((name ≡ standard_input) × (limit ≡ input_limit) × IsFedTooLong old.input new.input)
+    ⊎ ((name ≡ standard_input) × (limit ≡ input_limit)
+    × ((bytes : List ℕ) × WasRead old.files file run_limit bytes) × IsFedTooLong old.input new.input)
+IsTooLong (Show file) old new name limit =
+    (name ≡ file) × (limit ≡ edit_limit) × IsLonger old.files.held file limit
 IsTooLong Unknown old new name limit = ⊥
+
+-- the program's file wasn't had, or was read, and then its input failed
+abbrev pub FailsToRead : Outside → Outside → List ℕ → Type 0
+FailsToRead old new file =
+    IsMissing old.files.held file ⊎ Rose old.files.faults new.files.faults
+    ⊎ (((bytes : List ℕ) × WasRead old.files file run_limit bytes) × Rose old.input.faults new.input.faults)
 
 -- a device failed, or a name is known not to be held
 abbrev pub Fails : Command → Outside → Outside → Type 0
@@ -217,11 +251,23 @@ Fails (EditPlain input output) old new =
     × (Rose old.files.faults new.files.faults ⊎ (new.files.held ≡ old.files.held))
     × IsQuiet old new
 Fails (Run file limit args) old new =
-    (IsMissing old.files.held file ⊎ Rose old.files.faults new.files.faults ⊎ Rose old.input.faults new.input.faults
-    ⊎ Rose old.out.faults new.out.faults ⊎ Rose old.err.faults new.err.faults)
-    × (new.files.held ≡ old.files.held)
-    × (((new.out.taken ≡ old.out.taken) × (new.err.taken ≡ old.err.taken)) ⊎ WasBroken old new file limit args)
+    (new.files.held ≡ old.files.held)
+    × ((FailsToRead old new file × (new.out.taken ≡ old.out.taken) × (new.err.taken ≡ old.err.taken))
+    ⊎ (WasBroken old new file limit args
+    × (Rose old.out.faults new.out.faults ⊎ Rose old.err.faults new.err.faults)))
+Fails (Show file) old new =
+    (((IsMissing old.files.held file ⊎ Rose old.files.faults new.files.faults) × (new.out.taken ≡ old.out.taken))
+    ⊎ Read old.files file edit_limit (IsPartlyShown old new))
+    × (new.files.held ≡ old.files.held) × (new.input.left ≡ old.input.left) × (new.err.taken ≡ old.err.taken)
 Fails Unknown old new = ⊥
+
+-- what a command does that says nothing once it is done
+abbrev pub Does : Command → Outside → Outside → Type 0
+Does (EditPlain input output) old new =
+    Read old.files input edit_limit (IsEdited old.files new.files output) × IsQuiet old new
+Does (Run file limit args) old new = ⊥
+Does (Show file) old new = Read old.files file edit_limit (IsShown old new)
+Does Unknown old new = ⊥
 
 -- the outcome is a refusal before any output
 abbrev pub IsUntouched : Outside → Outside → Type 0
@@ -229,12 +275,11 @@ IsUntouched old new =
     (new.files.held ≡ old.files.held) × (new.out.taken ≡ old.out.taken) × (new.err.taken ≡ old.err.taken)
 
 abbrev pub Follows : Command → Outside → Outside → Outcome → Type 0
-Follows command old new Done = Edits command (λ input output.
-    Read old.files input edit_limit (IsEdited old.files new.files output) × IsQuiet old new)
+Follows command old new Done = Does command old new
 Follows command old new (Stopped ending steps) = Runs command (λ file limit args.
     WasRun old new file limit args ending steps [] × (new.files.held ≡ old.files.held))
 Follows command old new BadWords = (command ≡ Unknown) × IsUntouched old new
-Follows command old new (BadFile name code) = Refuses command old.files name code × IsUntouched old new
+Follows command old new (BadFile name code) = Refuses command old new name code × IsUntouched old new
 Follows command old new (NotBuilt name address) = Edits command (λ input output.
     (name ≡ input) × Read old.files input edit_limit (IsUnbuilt address)) × IsUntouched old new
 Follows command old new (TooLong name limit) = IsTooLong command old new name limit × IsUntouched old new
@@ -260,6 +305,7 @@ pub record Ran (command : Command) (old new : Outside) (status : ℕ) : Type 0 w
 abbrev pub IsDone : Command → Outside → Outside → Type 0
 IsDone (EditPlain input output) old new =
     Read old.files input edit_limit (IsEdited old.files new.files output) × IsQuiet old new
+IsDone (Show file) old new = Read old.files file edit_limit (IsShown old new)
 IsDone (Run file limit args) old new =
     (ending : Option Ending) × (steps : ℕ)
     × WasRun old new file limit args ending steps (line_of (Stopped ending steps)) × (new.files.held ≡ old.files.held)
@@ -276,10 +322,21 @@ MayFail (EditPlain input output) old new =
 MayFail (Run file limit args) old new =
     Rose old.files.faults new.files.faults ⊎ Rose old.input.faults new.input.faults
     ⊎ Rose old.out.faults new.out.faults ⊎ Rose old.err.faults new.err.faults ⊎ IsMissing old.files.held file
+MayFail (Show file) old new =
+    Rose old.files.faults new.files.faults ⊎ Rose old.out.faults new.out.faults
+    ⊎ Rose old.err.faults new.err.faults ⊎ IsMissing old.files.held file
 MayFail Unknown old new = Rose old.err.faults new.err.faults
 
 -- the command doesn't run
 abbrev pub UnlessRun : Command → Type 0 → Type 0
 UnlessRun (EditPlain input output) P = P
 UnlessRun (Run file limit args) P = Unit {0}
+UnlessRun (Show file) P = P
 UnlessRun Unknown P = P
+
+-- the command puts nothing out
+abbrev pub UnlessPrints : Command → Type 0 → Type 0
+UnlessPrints (EditPlain input output) P = P
+UnlessPrints (Run file limit args) P = Unit {0}
+UnlessPrints (Show file) P = Unit {0}
+UnlessPrints Unknown P = P

@@ -13,6 +13,8 @@ pub data Command : Type 0 where
   EditPlain : (input output : List ℕ) → Command
   -- run FILE [-n LIMIT] [-- ARG..]
   Run : (file : List ℕ) (limit : ℕ) (args : List (List ℕ)) → Command
+  -- show FILE
+  Show : (file : List ℕ) → Command
   -- words outside the grammar
   Unknown : Command
 
@@ -68,13 +70,20 @@ abbrev pub run_of : List (List ℕ) → Command
 run_of [] = Unknown
 run_of (file ∷ words) = options_of file words
 
+-- ---- show
+
+abbrev pub show_of : List (List ℕ) → Command
+show_of (file ∷ []) = Show file
+show_of _ = Unknown
+
 -- ---- what the words ask for
 
 abbrev pub command_of : List (List ℕ) → Command
 command_of [] = Unknown
 command_of (verb ∷ words) =
     if bytes_eq verb (codes "edit") then edit_of words else
-    if bytes_eq verb (codes "run") then run_of words else Unknown
+    if bytes_eq verb (codes "run") then run_of words else
+    if bytes_eq verb (codes "show") then show_of words else Unknown
 
 -- the arguments of a run, where the command is one, are ones that a program can be given
 abbrev pub HasArguments : Command → Type 0
@@ -85,4 +94,5 @@ HasArguments _ = Unit {0}
 abbrev pub command_seen : declared.Command → Command
 command_seen (variants.EditPlain input output) = EditPlain input.now output.now
 command_seen (variants.Run file limit args) = Run file.now limit (texts args.now)
+command_seen (variants.Show file) = Show file.now
 command_seen variants.Unknown = Unknown

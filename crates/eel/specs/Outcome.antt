@@ -10,7 +10,7 @@ use Rattle.eel.specs.declared.outcome.Outcome as declared
 use Rattle.eel.specs.declared.outcome.Outcome.TheVariants as variants
 
 pub data Outcome : Type 0 where
-  -- an edit is done
+  -- an edit is done, or a program was shown
   Done : Outcome
   -- a program ran for so many steps, and has ended or was stopped
   Stopped : (ending : Option Ending) (steps : ℕ) → Outcome
@@ -52,7 +52,7 @@ ending_text (Some (endings.Trap number)) steps = codes "trap " ++ decimal number
 ending_text (Some endings.Window) steps = codes "window"
 ending_text (Some endings.Couple) steps = codes "couple"
 
--- the line that says it; an edit that is done says nothing
+-- the line that says it; an edit and a listing that are done say nothing
 abbrev pub line_of : Outcome → List ℕ
 line_of Done = []
 line_of (Stopped ending steps) = ending_text ending steps ++ 10 ∷ []

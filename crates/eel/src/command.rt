@@ -5,7 +5,7 @@ ghost use Rattle.std.specs.List.{All, list_all};
 ghost use Rattle.v8_step.specs.Valid.{AreBytes};
 ghost use Rattle.v8_process.specs.Arguments.{AreArguments};
 ghost use Rattle.v8_process.specs.Start.{strings};
-ghost use Rattle.eel.specs.Command.{HasArguments, command_of, command_seen, edit_of, run_of, options_of, arguments_of, are_few, is_digit, limit_of, texts};
+ghost use Rattle.eel.specs.Command.{HasArguments, command_of, command_seen, edit_of, run_of, options_of, arguments_of, are_few, is_digit, limit_of, show_of, texts};
 
 /// What the words ask for.
 #[derive(Clone, Copy)]
@@ -20,6 +20,10 @@ pub enum Command<'a> {
         file: &'a str,
         limit: u64,
         args: &'a [&'a str],
+    },
+    /// `show FILE`: print the routines, blocks and edges of the program `file`.
+    Show {
+        file: &'a str,
     },
     /// The words are outside the grammar.
     Unknown,
@@ -45,6 +49,7 @@ pub fn parse<'a>(words: &'a [&'a str]) -> Command<'a>
     match words {
         [verb, words @ ..] if *verb == "edit" => parse_edit(words),
         [verb, words @ ..] if *verb == "run" => parse_run(words),
+        [verb, words @ ..] if *verb == "show" => parse_show(words),
         _ => Command::Unknown,
     }
 }
@@ -55,6 +60,16 @@ fn parse_edit<'a>(words: &'a [&'a str]) -> Command<'a>
 {
     match words {
         [input, output, tool] if *tool == "plain" => Command::EditPlain { input, output },
+        _ => Command::Unknown,
+    }
+}
+
+/// What follows the word `show`.
+fn parse_show<'a>(words: &'a [&'a str]) -> Command<'a>
+    ensures { command_seen result ≡ show_of (texts words.now) }
+{
+    match words {
+        [file] => Command::Show { file },
         _ => Command::Unknown,
     }
 }

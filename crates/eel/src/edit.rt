@@ -9,8 +9,8 @@ use crate::straight::{EditFault, edited};
 use eel_base::{Files, PutFault};
 use std::alloc::Global;
 
-/// How many bytes a file may have that is edited.
-const EDIT_LIMIT: u64 = 64 << 20;
+/// How many bytes a file may have that is edited or shown.
+pub const EDIT_LIMIT: u64 = 64 << 20;
 
 /// Reads `input`, edits it without snippets, and writes `output`.
 pub fn edit_plain<'a, F: Files>(

@@ -1,12 +1,17 @@
 //! EEL, an executable editor for SPARC V8.
 #![tactic(auto)]
 
+#[cfg(test)]
+mod both_ways_tests;
 mod command;
 mod edit;
+mod listing;
 mod outcome;
 mod run;
 #[cfg(test)]
 mod run_tests;
+#[cfg(test)]
+mod show_tests;
 mod straight;
 #[cfg(test)]
 mod tests;

@@ -11,7 +11,7 @@ use v8_step::Ending;
 /// What came of a command.
 #[derive(Clone, Copy)]
 pub enum Outcome<'a> {
-    /// An edit is done.
+    /// An edit is done, or a program was shown.
     Done,
     /// A program ran for so many steps, and has ended or was stopped.
     Stopped {

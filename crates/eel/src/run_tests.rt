@@ -12,7 +12,7 @@ const HEADERS: [u8; 84] =
 const SIZES: usize = 68;
 
 /// The file of these words.
-fn program(alloc: Global, words: &[u32]) -> Result<Vec<u8>, Fail> {
+pub(crate) fn program(alloc: Global, words: &[u32]) -> Result<Vec<u8>, Fail> {
     let size = u32::try_from(words.len()).unwrap_or(0).wrapping_mul(4);
     let mut file = Vec::from_slice(alloc, &HEADERS[..SIZES])?;
     file.extend_from_slice(&size.to_be_bytes())?;
@@ -30,7 +30,7 @@ const PRINTS_ITS_ARGUMENT: [u32; 8] = [
 ];
 
 /// Writes what it reads, 16 bytes at most, and the first three of them again to descriptor 2.
-const ECHOES: [u32; 15] = [
+pub(crate) const ECHOES: [u32; 15] = [
     0x82102003, 0x90102000, 0x9223a040, 0x94102010, 0x91d02010, 0x94100008, 0x82102004, 0x90102001,
     0x91d02010, 0x82102004, 0x90102002, 0x94102003, 0x91d02010, 0x82102001, 0x91d02010,
 ];
@@ -46,7 +46,7 @@ const NEWLINE_COUNT: [u32; 45] = [
 ];
 
 /// Runs the file and compares all that comes of it.
-fn runs(
+pub(crate) fn runs(
     alloc: Global,
     outside: &mut Outside,
     words: &[&str],
@@ -65,41 +65,6 @@ fn a_program_reads_its_arguments(rt: HostRuntime) -> Result<(), Fail> {
     outside.hold("f", &program(alloc, &PRINTS_ITS_ARGUMENT)?)?;
     let run = ["run", "f", "--", "hello", "world"];
     assert!(rt; runs(alloc, &mut outside, &run, b"hello", b"exit 3\n")?);
-    Ok(())
-}
-
-#[test]
-fn three_words_run_both_ways(rt: HostRuntime) -> Result<(), Fail> {
-    let alloc = rt.alloc();
-    let mut outside = Outside::new(alloc, &[], 100)?;
-    assert_eq!(rt; outside.eel(alloc, &["edit", "in", "out", "plain"]), 0);
-    assert!(rt;
-        runs(
-            alloc,
-            &mut outside,
-            &["run", "in", "-n", "3"],
-            b"",
-            b"exit 3\n"
-        )?
-    );
-    assert!(rt; runs(alloc, &mut outside, &["run", "out"], b"", b"exit 3\n")?);
-    Ok(())
-}
-
-#[test]
-fn a_program_reads_its_input(rt: HostRuntime) -> Result<(), Fail> {
-    let alloc = rt.alloc();
-    let mut outside = Outside::new(alloc, &[], 100)?;
-    outside.hold("f", &program(alloc, &ECHOES)?)?;
-    assert_eq!(rt; outside.eel(alloc, &["edit", "f", "g", "plain"]), 0);
-    for name in ["f", "g"] {
-        outside.feed(alloc, b"hello, world\n")?;
-        let run = ["run", name];
-        assert!(rt;
-            runs(alloc, &mut outside, &run, b"hello, world\n", b"helexit 3\n")?,
-            "{name}"
-        );
-    }
     Ok(())
 }
 

@@ -2,10 +2,11 @@
 ghost use Rattle.std.specs.Prelude.{◌≡◌, ◌≤◌};
 ghost use Rattle.eel.specs.Command.{Unknown, command_of, texts};
 ghost use Rattle.eel.specs.Outcome.{outcome_seen, stream};
-ghost use Rattle.eel.specs.Answers.{Ran, Follows, IsDone, IsRefusal, MayFail, UnlessRun, outside, store, feed};
+ghost use Rattle.eel.specs.Answers.{Ran, Follows, IsDone, IsRefusal, MayFail, UnlessPrints, UnlessRun, outside, store, feed};
 
 use crate::command::{Command, parse};
 use crate::edit::edit_plain;
+use crate::listing::show_program;
 use crate::outcome::{Outcome, show};
 use crate::run::{Job, run_program};
 use eel_base::{Files, Sink, Source};
@@ -27,7 +28,8 @@ pub fn eel<F: Files, I: Source, O: Sink, E: Sink>(
         (outside (store (F.held files.new) (F.faults files.new)) (feed (I.left input.new) (I.faults input.new))
         (stream (O.taken out.new) (O.faults out.new)) (stream (E.taken err.new) (E.faults err.new))) result }
 
-    // Done: an edit holds what was asked for under its name and says nothing; a run put out what its program did.
+    // Done: an edit holds what was asked for under its name and says nothing; a run put out what its program did,
+    // and a listing its lines.
     ensures done { result ≡ 0 → IsDone (command_of (texts words.now))
         (outside (store (F.held files.old) (F.faults files.old)) (feed (I.left input.old) (I.faults input.old))
         (stream (O.taken out.old) (O.faults out.old)) (stream (E.taken err.old) (E.faults err.old)))
@@ -44,9 +46,9 @@ pub fn eel<F: Files, I: Source, O: Sink, E: Sink>(
         (outside (store (F.held files.new) (F.faults files.new)) (feed (I.left input.new) (I.faults input.new))
         (stream (O.taken out.new) (O.faults out.new)) (stream (E.taken err.new) (E.faults err.new))) }
 
-    // Only a run uses the input and the output.
+    // Only a run uses the input, and only a run and a listing put something out.
     ensures input { UnlessRun (command_of (texts words.now)) (I.left input.new ≡ I.left input.old) }
-    ensures out { UnlessRun (command_of (texts words.now)) (O.taken out.new ≡ O.taken out.old) }
+    ensures out { UnlessPrints (command_of (texts words.now)) (O.taken out.new ≡ O.taken out.old) }
 {
     let outcome = perform(alloc, words, files, input, out, err);
     show(&outcome, err)
@@ -68,7 +70,7 @@ fn perform<'a, F: Files, I: Source, O: Sink, E: Sink>(
         (stream (O.taken out.new) (O.faults out.new)) (stream (E.taken err.new) (E.faults err.new)))
         (outcome_seen result) }
     ensures input { UnlessRun (command_of (texts words.now)) (I.left input.new ≡ I.left input.old) }
-    ensures out { UnlessRun (command_of (texts words.now)) (O.taken out.new ≡ O.taken out.old) }
+    ensures out { UnlessPrints (command_of (texts words.now)) (O.taken out.new ≡ O.taken out.old) }
     ensures files_faults { F.faults files.old ≤ F.faults files.new }
     ensures input_faults { I.faults input.old ≤ I.faults input.new }
     ensures out_faults { O.faults out.old ≤ O.faults out.new }
@@ -79,6 +81,7 @@ fn perform<'a, F: Files, I: Source, O: Sink, E: Sink>(
         Command::Run { file, limit, args } => {
             run_program(alloc, Job { file, limit, args }, files, input, out, err)
         }
+        Command::Show { file } => show_program(alloc, file, files, out),
         Command::Unknown => Outcome::BadWords,
     }
 }

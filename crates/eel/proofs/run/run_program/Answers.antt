@@ -17,9 +17,9 @@ returns-clause-follows g c =
     (feed (g.I.Source.left c.read_all.new.s) (g.I.Source.faults c.read_all.new.s))
     (stream (g.O.Sink.taken c.run-end.new.out) (g.O.Sink.faults c.run-end.new.out))
     (stream (g.E.Sink.taken c.run-end.new.err) (g.E.Sink.faults c.run-end.new.err)))
-    c.args.job.file.now c.args.job.limit (texts c.args.job.args.now) c.in-Ok.bytes.items c.in-Ok-read_all.given.items
+    c.args.job.file.now c.args.job.limit (texts c.args.job.args.now) _ _
     c.run-end.result.steps c.in-Ok-load.machine c.run-end.new.m
-    (search rules) (search rules) (search rules) (search rules) c.run-end.ensures.state
+    (search rules) (search rules) (search rules) (rw c.in-Ok-load.is at c.load.ensures.machine) c.run-end.ensures.state
     stop.0 c.run-end.ensures.made stop.1
     (rw c.in-SinkFault.is at c.run-end.ensures.out) (rw c.in-SinkFault.is at c.run-end.ensures.err)
     (c.run-end.ensures.cause c.in-SinkFault.is) c.fetch.ensures.kept
