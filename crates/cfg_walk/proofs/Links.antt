@@ -23,7 +23,7 @@ module _ (b : Blocks) where
   outside : IsNode X
   outside = omega arith
 
-  node_of-is : (k : ℕ) → k < length b.firsts → (to : Option ℕ) → IsNode (node_of b to)
+  pub node_of-is : (k : ℕ) → k < length b.firsts → (to : Option ℕ) → IsNode (node_of b to)
   node_of-is k l None = outside
   node_of-is k l (Some word) =
       cond_both (nat_lt word b.words) _ _ IsNode

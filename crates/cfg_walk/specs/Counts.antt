@@ -1,14 +1,14 @@
 -- How often a run completes each edge of the flow graph. Its walk is one of a plain graph, where nodes and
 -- edges are numbers, so that the counts are a flow (Ball and Larus, "Optimally Profiling and Tracing Programs",
 -- ACM TOPLAS 16 (4), 1994).
-use Rattle.std.specs.Prelude.{◌≡◌, ℕ, ◌+◌, List, length, slice_index_or, Some, None, pos}
+use Rattle.std.specs.Prelude.{◌≡◌, ℕ, ◌+◌, List, length, slice_index_or, Some, None, ℤ, pos}
 use Rattle.eel_base.specs.CodeText.{Words, IsText}
 use Rattle.elf32_sparc.specs.FileFault.{fault}
 use Rattle.elf32_sparc.specs.Image.{text_of, image_of}
 use Rattle.v8_step.specs.State.{State}
 use Rattle.v8_step.specs.Valid.{AreBytes}
 use Rattle.v8_process.specs.Start.{start_of}
-use Rattle.flows.specs.Flows.{Graph as PlainGraph, IsGraph, IsFlow}
+use Rattle.flows.specs.Flows.{Agree, AgreeOn, Determines, EdgeSet, Graph as PlainGraph, IsGraph, IsFlow}
 use Rattle.flows.specs.Walks.{IsWalk, times}
 use Rattle.cfg_blocks.specs.declared.EdgeKind.TheVariants.{Land}
 use Rattle.cfg_blocks.specs.Blocks.{Blocks, blocks_of}
@@ -89,3 +89,18 @@ ExecutionsOfFilesAreFlows =
     let first = node_number graph (node_of graph.blocks (Some entry)) in
     let last = node_number graph (end_of_walk text graph entry s0 n) in
     IsFlow (links_of graph) first last (λ e. pos (executions text graph entry s0 n e))
+
+-- Where some edges determine the counts, those of a run on them give all its counts: of the flows from the entry's
+-- block to where the walk ends, only the run's own has them.
+abbrev pub CountsAreEnough : Type 0
+CountsAreEnough =
+    (file : List ℕ) (args : List (List ℕ)) (input given : List ℕ) (n : ℕ) → fault file ≡ None → AreBytes file
+    → let text = text_of file in
+    let graph = graph_in file given in
+    let entry = (image_of file).entry in
+    let s0 = start_of file args input in
+    let first = node_number graph (node_of graph.blocks (Some entry)) in
+    let last = node_number graph (end_of_walk text graph entry s0 n) in
+    let own : ℕ → ℤ = λ e. pos (executions text graph entry s0 n e) in
+    (edges : EdgeSet) (flow : ℕ → ℤ) → Determines (links_of graph) edges → IsFlow (links_of graph) first last flow
+    → AgreeOn (links_of graph) edges flow own → Agree (links_of graph) flow own

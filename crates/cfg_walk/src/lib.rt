@@ -2,7 +2,7 @@
 //! and laws.
 #![tactic(auto)]
 
-ghost use Rattle.cfg_walk.specs.Counts.{ExecutionsAreFlows, ExecutionsOfFilesAreFlows, LinksAreAGraph, NodesAreApart, WalksArePaths};
+ghost use Rattle.cfg_walk.specs.Counts.{CountsAreEnough, ExecutionsAreFlows, ExecutionsOfFilesAreFlows, LinksAreAGraph, NodesAreApart, WalksArePaths};
 ghost use Rattle.cfg_walk.specs.Files.{OnlyTextIsFetched, WalksOfFilesMatch};
 ghost use Rattle.cfg_walk.specs.Matches.{WalksMatch};
 
@@ -51,4 +51,10 @@ pub fn executions_are_flows()
 /// So it is of the run of a file without a fault, over the graph of its text.
 pub fn executions_of_files_are_flows()
     ensures { ExecutionsOfFilesAreFlows }
+{}
+
+/// Where some edges of the graph determine the counts, as those off a spanning tree do, how often a run completes
+/// them, with where its walk ends, tells how often it completes each edge.
+pub fn counts_are_enough()
+    ensures { CountsAreEnough }
 {}
