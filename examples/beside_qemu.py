@@ -50,13 +50,15 @@ def number():
 
 
 def operand():
-    return random.choice([('r', random.choice(FREE + [0])), ('i', random.getrandbits(13)), ('i', random.randrange(-4, 5))])
+    register = ('r', random.choice(FREE + [0]))
+    return random.choice([register, ('i', random.getrandbits(13)), ('i', random.randrange(-4, 5))])
 
 
 # ADD AND OR XOR SUB ANDN ORN XNOR ADDX UMUL SMUL SUBX, their forms that set codes, tagged ones, MULScc and shifts
 PLAIN = [0, 1, 2, 3, 4, 5, 6, 7, 8, 10, 11, 12]
 EXTENDED = [0x18, 0x1c]  # ADDXcc and SUBXcc
-SIMPLE = PLAIN + [op3 | 0x10 for op3 in PLAIN if op3 | 0x10 not in EXTENDED] * 2 + [0x20, 0x21, 0x24, 0x24, 0x25, 0x26, 0x27]
+WITH_CODES = [op3 | 0x10 for op3 in PLAIN if op3 | 0x10 not in EXTENDED]
+SIMPLE = PLAIN + WITH_CODES * 2 + [0x20, 0x21, 0x24, 0x24, 0x25, 0x26, 0x27]
 DIVISIONS = [14, 15, 30, 31]
 
 
@@ -155,7 +157,8 @@ def program():
     text = struct.pack(f'>{len(words)}I', *words)
     data = bytes(random.choices(range(256), k=DATA_SIZE))
     start = 52 + 2 * 32
-    header = struct.pack('>4sBBB9xHHIIIIIHHHHHH', b'\x7fELF', 1, 2, 1, 2, 2, 1, TEXT + start, 52, 0, 0, 52, 32, 2, 0, 0, 0)
+    header = struct.pack('>4sBBB9xHHIIIIIHHHHHH', b'\x7fELF', 1, 2, 1, 2, 2, 1,
+                         TEXT + start, 52, 0, 0, 52, 32, 2, 0, 0, 0)
     size = start + len(text)
     place = -(-size // 0x10000) * 0x10000
     segments = [struct.pack('>8I', 1, 0, TEXT, TEXT, size, size, 5, 0x10000),

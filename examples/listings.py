@@ -1,15 +1,10 @@
-#!/usr/bin/env python3
-"""Writes to crates/program_listings the programs that it shows, and what is to be printed of them.
-
-What is to be printed is that of listing.py, which shares nothing with EEL.
+"""Files that crates/program_runs shows, and what it must print of them: the lines of listing.py, which shares nothing
+with EEL.
 """
-import os
 import struct
 
 from listing import listing
 from programs import SMALL, C_PROGRAMS, Program
-
-LISTINGS = os.path.join(os.path.dirname(os.path.abspath(__file__)), '..', 'crates', 'program_listings')
 
 WORDS = {
     # Branches out of the text at both ends, and a CALL to before it.
@@ -65,23 +60,11 @@ def files():
     yield 'table_of_other_entries', with_symbols(entry_size=44)
 
 
-def write(name, content):
-    with open(os.path.join(LISTINGS, name), 'wb') as file:
-        file.write(content)
+# What is printed of files that can't be shown.
+REFUSED = {'three_words_cut': b'file fault 11\n', 'missing': b"can't be read\n"}
 
 
-def main():
-    # What is printed of a file that can't be shown stands here.
-    printed = {'three_words_cut': b'file fault 11\n', 'missing': b"can't be read\n"}
-    write('data/three_words_cut', SMALL[0].file()[:95])
-    shown = dict(files())
-    for name, file in shown.items():
-        write(f'data/{name}', file)
-        printed[name] = listing(file).encode()
-    names = list(shown) + ['three_words_cut', 'missing']
-    write('args', ''.join(f'{name}\n' for name in names).encode())
-    write('stdout', b''.join(name.encode() + b':\n' + printed[name] for name in names))
-
-
-if __name__ == '__main__':
-    main()
+def printed():
+    """What is printed of each file, by its name."""
+    shown = {name: listing(file).encode() for name, file in files()}
+    return {name: name.encode() + b':\n' + lines for name, lines in (shown | REFUSED).items()}

@@ -3,8 +3,6 @@
 Endings, steps and output were had apart from EEL: by hand from the manual, or from qemu-sparc. Steps of the C
 programs are lines that `qemu-sparc -singlestep -d exec,nochain` prints. It prints the first instruction twice,
 and each that saves or loads a window; such a pair of lines is one step.
-
-Run as a script it writes to crates/program_runs the small programs, all inputs, and what is to be printed.
 """
 import os
 import struct
@@ -139,23 +137,3 @@ C_PROGRAMS = [
     Program('queens', '', 54031, 'exit 0', output=b'92 ways, 200 calls\n'),
     Program('sieve', '', 163414146, 'exit 0', output=b'664579\n'),
 ]
-
-
-def write(name, content):
-    with open(os.path.join(RUNS, name), 'wb') as file:
-        file.write(content)
-
-
-def main():
-    programs = SMALL + C_PROGRAMS
-    for program in programs:
-        if program.words:
-            write(f'data/{program.name}', program.file())
-        if program.given:
-            write(f'data/{program.name}.input', program.given)
-    write('args', ''.join(f'{program.name}\n' for program in programs).encode())
-    write('stdout', b''.join(program.report() for program in programs))
-
-
-if __name__ == '__main__':
-    main()

@@ -1,6 +1,6 @@
 #!/bin/sh
-# Builds the programs beside this script into the data of the crates that run and show them: gcc-sparc64-linux-gnu
-# of Debian compiles them for SPARC V8.
+# Builds the programs beside this script into crates/program_runs/data, and writes what that crate must print:
+# gcc-sparc64-linux-gnu of Debian compiles them for SPARC V8.
 set -e
 cd "$(dirname "$0")"
 data=../../crates/program_runs/data
@@ -10,4 +10,4 @@ for program in word_count queens calculator sieve; do
         start.S "$program.c" -o "$data/$program"
     sparc64-linux-gnu-strip --strip-debug -R .comment -R .note.gnu.build-id "$data/$program"
 done
-python3 ../listings.py
+python3 ../write_programs.py

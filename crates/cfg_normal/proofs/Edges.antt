@@ -1,8 +1,9 @@
 -- The edges of a graph lie between its nodes, and their slots in its text.
-use Rattle.std.proofs.Common.{◌≡◌, ℕ, suc, ◌+◌, ◌<◌, ◌≤◌, Bool, true, false, cond, nat_le, nat_lt, List, [], ◌∷◌, length, map, Option, Some, None, arith, refl}
+use Rattle.std.proofs.Common.{◌≡◌, ℕ, suc, ◌+◌, ◌<◌, ◌≤◌, nat_le, nat_lt, List, [], ◌∷◌, length, map, Option, Some, None, arith}
 use Rattle.std.specs.List.{All, flat_map}
 use Rattle.std.proofs.lemmas.List.Elements.{All-append, All-map}
 use Rattle.std.proofs.lemmas.List.Sums.{count_by-le-length}
+use Rattle.std.proofs.lemmas.Bool.{cond_both}
 use Rattle.std.proofs.lemmas.Bool.Decides.{nat_tests}
 use Rattle.cfg_blocks.specs.Blocks.{Blocks, below, end_of, holding_of, last_word}
 use Rattle.cfg_blocks.specs.Ends.{Way}
@@ -14,27 +15,21 @@ use Rattle.cfg_normal.specs.declared.Edge.{Edge}
 use Rattle.cfg_normal.specs.declared.Node.TheVariants.{Block, X}
 use Rattle.cfg_normal.specs.declared.Slot.TheVariants.{Nothing, Word, Off}
 
--- either branch of an `if`
-branches : {A : Type 0} (P : A → Type 0) (b : Bool) (x y : A) → (b ≡ true → P x) → (b ≡ false → P y)
-    → P (cond b x y)
-branches P true x y first second = first refl
-branches P false x y first second = second refl
-
-node_of-in : (b : Blocks) → 1 ≤ length b.firsts → (to : Option ℕ) → IsNodeIn b (node_of b to)
+pub node_of-in : (b : Blocks) → 1 ≤ length b.firsts → (to : Option ℕ) → IsNodeIn b (node_of b to)
 node_of-in b some None = tt
 node_of-in b some (Some word) =
-    branches (IsNodeIn b) (nat_lt word b.words) (Block (record { 0 = holding_of b word })) X
+    cond_both (nat_lt word b.words) (Block (record { 0 = holding_of b word })) X (IsNodeIn b)
     (λ h. omega (arith, count_by-le-length (λ first. nat_le first word) b.firsts)) (λ h. tt)
 
 slot_behind-in : (b : Blocks) (word : ℕ) → IsSlotIn b (slot_behind b.words word)
 slot_behind-in b word =
-    branches (IsSlotIn b) (nat_lt (word + 1) b.words) (Word (record { 0 = word + 1 })) Off
+    cond_both (nat_lt (word + 1) b.words) (Word (record { 0 = word + 1 })) Off (IsSlotIn b)
     (λ h. grind (arith, nat_tests)) (λ h. tt)
 
 slot_on-in : (b : Blocks) (block : ℕ) (kind : EdgeKind) → IsSlotIn b (slot_on b block kind)
 slot_on-in b block kind =
     let last = last_word b.firsts b.words block in
-    branches (IsSlotIn b) (runs_slot (end_of b block) kind) (slot_behind b.words last) Nothing
+    cond_both (runs_slot (end_of b block) kind) (slot_behind b.words last) Nothing (IsSlotIn b)
     (λ h. slot_behind-in b last) (λ h. tt)
 
 edge_of-in : (b : Blocks) → 1 ≤ length b.firsts → (block : ℕ) → block < length b.firsts → (way : Way)
@@ -60,7 +55,7 @@ All-below P n each =
     let h : k < n = omega (arith, length-below n) in
     rw get_or-below (each k h)
 
-edges_in-in : (b : Blocks) → 1 ≤ length b.firsts → All (IsEdgeIn b) (edges_in b)
+pub edges_in-in : (b : Blocks) → 1 ≤ length b.firsts → All (IsEdgeIn b) (edges_in b)
 unfolding edges_in
 edges_in-in b some =
     let count = length b.firsts in

@@ -17,7 +17,8 @@ use Rattle.cfg_walk.specs.Counts.{CountsAreEnough, ExecutionsOfFilesAreFlows, li
 use Rattle.cfg_walk.proofs.Texts.{HasText, text_found, text_from-start}
 use Rattle.cfg_walk.proofs.Fetching.{only_text_is_fetched}
 use Rattle.cfg_walk.proofs.Walks.{walks_match}
-use Rattle.cfg_walk.proofs.Links.{links_are_a_graph, node_of-is}
+use Rattle.cfg_normal.proofs.Edges.{node_of-in}
+use Rattle.cfg_walk.proofs.Links.{links_are_a_graph, number_inside}
 use Rattle.cfg_walk.proofs.Cut.{cut}
 use Rattle.cfg_walk.proofs.Paths.{executions_are_flows, walks_are_paths}
 
@@ -86,7 +87,7 @@ counts_are_enough file args input given n sound bytes edges flow determines is_f
     let b = blocks_of text given in
     let some : 0 < length b.firsts = (cut text given entry.text_is.some).firsts.some in
     let first_inside : node_number (graph_of b) (node_of b (Some number)) < length b.firsts + 1 =
-    node_of-is b 0 some (Some number) in
+    number_inside b (node_of b (Some number)) (node_of-in b some (Some number)) in
     determines _ _ flow _ first_inside
     (ends_inside (links_of (graph_of b)) _ _ _ (links_are_a_graph b) first_inside
     (walks_are_paths text given number s0 n entry.text_is fetches starts))

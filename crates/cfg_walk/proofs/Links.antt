@@ -1,52 +1,32 @@
 -- The plain graph of a flow graph: both ends of each edge are nodes.
-use Rattle.std.proofs.Common.{ℕ, ◌+◌, ◌<◌, nat_le, nat_lt, length, map, Option, Some, None, arith, refl, ap}
-use Rattle.std.specs.List.{flat_map}
-use Rattle.std.proofs.lemmas.Bool.{cond_both}
-use Rattle.std.proofs.lemmas.List.Sums.{count_by-le-length}
-use Rattle.cfg_blocks.specs.Blocks.{Blocks, below}
-use Rattle.cfg_blocks.specs.Entries.{ways_from}
-use Rattle.cfg_normal.specs.declared.Edge.{Edge}
+use Rattle.std.proofs.Common.{◌≡◌, ℕ, zero, suc, ◌+◌, ◌<◌, [], length, refl, ap, arith}
+use Rattle.cfg_blocks.specs.Blocks.{Blocks}
 use Rattle.cfg_normal.specs.declared.Node.{Node}
 use Rattle.cfg_normal.specs.declared.Node.TheVariants.{Block, X}
-use Rattle.cfg_normal.specs.Graph.{graph_of, node_of, edge_of, edges_of, edges_in, landing_at}
-use Rattle.cfg_walk.specs.Counts.{LinksAreAGraph, NodesAreApart, node_number}
-use Rattle.cfg_walk.proofs.Lists.{Each, each, each-append, each-below, each-flat_map, each-map, each_in}
+use Rattle.cfg_normal.specs.Graph.{IsEdgeIn, IsNodeIn, graph_of, edges_in}
+use Rattle.cfg_normal.proofs.Edges.{edges_in-in}
 use Rattle.cfg_walk.proofs.Edges.{block}
+use Rattle.cfg_walk.specs.Counts.{LinksAreAGraph, NodesAreApart, edge_at, node_number}
 
-module _ (b : Blocks) where
-  abbrev IsNode : Node → Type 0
-  IsNode node = node_number (graph_of b) node < length b.firsts + 1
+pub number_inside : (b : Blocks) (node : Node) → IsNodeIn b node
+    → node_number (graph_of b) node < length b.firsts + 1
+number_inside b (Block block) h = omega (arith, h)
+number_inside b X h = omega arith
 
-  abbrev Joins : Edge → Type 0
-  Joins edge = IsNode edge.from × IsNode edge.to
+-- without blocks there are no edges
+no_edges : (b : Blocks) → length b.firsts ≡ 0 → edges_in b ≡ []
+unfolding edges_in
+no_edges b none = rw none refl
 
-  outside : IsNode X
-  outside = omega arith
-
-  pub node_of-is : (k : ℕ) → k < length b.firsts → (to : Option ℕ) → IsNode (node_of b to)
-  node_of-is k l None = outside
-  node_of-is k l (Some word) =
-      cond_both (nat_lt word b.words) _ _ IsNode
-      (λ _. omega (arith, l, count_by-le-length (λ first. nat_le first word) b.firsts)) (λ _. outside)
-
-  own_joins : (k : ℕ) → k < length b.firsts → Each Joins (edges_of b k)
-  own_joins k l =
-      each-map Joins (edge_of b k) (ways_from b k)
-      (each (λ w. Joins (edge_of b k w)) (ways_from b k) (λ w. (omega (arith, l), node_of-is k l w.to)))
-
-  landing_joins : (k : ℕ) → k < length b.firsts → Joins (landing_at k)
-  landing_joins k l = (outside, omega (arith, l))
-
-  joins : Each Joins (edges_in b)
-  unfolding edges_in
-  joins =
-      let n = length b.firsts in
-      each-append Joins (flat_map (edges_of b) (below n)) (map landing_at (below n))
-      (each-flat_map Joins (edges_of b) (below n) (each-below (λ k. Each Joins (edges_of b k)) n own_joins))
-      (each-map Joins landing_at (below n) (each-below (λ k. Joins (landing_at k)) n landing_joins))
+edge_inside : (b : Blocks) (e count : ℕ) → length b.firsts ≡ count → e < length (edges_in b)
+    → IsEdgeIn b (edge_at (graph_of b) e)
+edge_inside b e zero is l = absurd (let none = no_edges b is in omega (arith, rw none at l))
+edge_inside b e (suc count) is l = edges_in-in b (omega (arith, is)) e _ l
 
 pub links_are_a_graph : LinksAreAGraph
-links_are_a_graph b e l = each_in (Joins b) (edges_in b) e _ (joins b) l
+links_are_a_graph b e l =
+    let h = edge_inside b e (length b.firsts) refl l in
+    (number_inside b _ h.from, number_inside b _ h.to)
 
 pub nodes_are_apart : NodesAreApart
 nodes_are_apart b (Block one) (Block other) h k e = ap block e

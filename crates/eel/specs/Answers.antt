@@ -303,9 +303,8 @@ pub record Ran (command : Command) (old new : Outside) (status : ℕ) : Type 0 w
 
 -- Status 0: what was asked for is done, and nothing else.
 abbrev pub IsDone : Command → Outside → Outside → Type 0
-IsDone (EditPlain input output) old new =
-    Read old.files input edit_limit (IsEdited old.files new.files output) × IsQuiet old new
-IsDone (Show file) old new = Read old.files file edit_limit (IsShown old new)
+IsDone (EditPlain input output) old new = Does (EditPlain input output) old new
+IsDone (Show file) old new = Does (Show file) old new
 IsDone (Run file limit args) old new =
     (ending : Option Ending) × (steps : ℕ)
     × WasRun old new file limit args ending steps (line_of (Stopped ending steps)) × (new.files.held ≡ old.files.held)

@@ -1,5 +1,8 @@
-//! A program with its input, and its runs.
+//! A program with its input, its runs, and its listing.
+use cfg_view::look;
 use eel_base::{Failed, FetchFault, Files, MemSink, NoMemory};
+use elf32_sparc::ReadFault;
+use show_text::show;
 use std::alloc::{AllocError, Global};
 use thiserror::Error;
 use v8_process::{LoadFault, load};
@@ -11,7 +14,7 @@ const FILE_LIMIT: u64 = 16 << 20;
 /// How many bytes a program may put out to each of its streams.
 const OUTPUT_LIMIT: usize = 64 << 10;
 
-/// Why a program wasn't run.
+/// Why a program wasn't run or shown.
 #[derive(Debug, Drop, Error)]
 pub enum Refusal {
     #[error("can't be read")]
@@ -52,6 +55,15 @@ impl From<LoadFault> for Refusal {
     }
 }
 
+impl From<ReadFault> for Refusal {
+    fn from(fault: ReadFault) -> Refusal {
+        match fault {
+            ReadFault::File(fault) => Refusal::FileFault(fault.code()),
+            ReadFault::NoMemory => Refusal::NoMemory,
+        }
+    }
+}
+
 /// What came of a run, with the bytes to its output and to its error stream.
 #[derive(Drop)]
 pub struct Ran {
@@ -88,5 +100,11 @@ impl Job {
         let mut err = MemSink::new(alloc, OUTPUT_LIMIT, Vec::new(alloc))?;
         let end = run(&mut machine, limit, &mut out, &mut err);
         Ok(Ran { end, out, err })
+    }
+
+    /// The lines that show the program.
+    pub fn listing(&self, alloc: Global) -> Result<Vec<u8>, Refusal> {
+        let view = look(alloc, &self.program, &[])?;
+        Ok(show(alloc, &view)?)
     }
 }

@@ -1,5 +1,6 @@
 //! Runs the programs whose files are named by its arguments, each on an input of its own, and prints what
-//! comes of each: how it ends, after how many steps, and what it puts out.
+//! comes of each: how it ends, after how many steps, and what it puts out. Those that are named after the word
+//! `show` it lists instead.
 #![tactic(auto)]
 
 mod job;
@@ -9,6 +10,7 @@ use eel_base::{Files, RealFiles};
 use job::{Job, Refusal};
 use report::Report;
 use std::alloc::Global;
+use std::io::Write;
 use std::{env, io};
 
 /// How many steps a program may make.
@@ -22,14 +24,32 @@ fn report_on(alloc: Global, files: &mut impl Files, name: &str) -> Result<Report
     Ok(Report { whole, shorter })
 }
 
+fn print_run(rt: &HostRuntime, files: &mut impl Files, name: &str) -> io::Result<()> {
+    print!(rt; "{name}: ")?;
+    match report_on(rt.alloc(), files, name) {
+        Ok(report) => report.print(rt),
+        Err(refusal) => println!(rt; "{refusal}"),
+    }
+}
+
+fn print_listing(rt: &HostRuntime, files: &mut impl Files, name: &str) -> io::Result<()> {
+    println!(rt; "{name}:")?;
+    match Job::read(rt.alloc(), files, name).and_then(|job| job.listing(rt.alloc())) {
+        Ok(lines) => io::writer(rt).write_all(&lines),
+        Err(refusal) => println!(rt; "{refusal}"),
+    }
+}
+
 fn main(rt: HostRuntime) -> io::Result<()> {
-    let alloc = rt.alloc();
     let mut files = RealFiles::new(&rt);
+    let mut is_shown = false;
     for name in env::args(&rt)?.skip(1) {
-        print!(rt; "{name}: ")?;
-        match report_on(alloc, &mut files, name.as_str()) {
-            Ok(report) => report.print(&rt)?,
-            Err(refusal) => println!(rt; "{refusal}")?,
+        if name.as_str() == "show" {
+            is_shown = true;
+        } else if is_shown {
+            print_listing(&rt, &mut files, name.as_str())?;
+        } else {
+            print_run(&rt, &mut files, name.as_str())?;
         }
     }
     Ok(())

@@ -1,0 +1,31 @@
+#!/usr/bin/env python3
+"""Writes to crates/program_runs the small programs, all inputs, its arguments, and what it must print."""
+import os
+
+import listings
+from programs import C_PROGRAMS, RUNS, SMALL
+
+
+def write(name, content):
+    with open(os.path.join(RUNS, name), 'wb') as file:
+        file.write(content)
+
+
+def main():
+    programs = SMALL + C_PROGRAMS
+    for program in programs:
+        if program.words:
+            write(f'data/{program.name}', program.file())
+        if program.given:
+            write(f'data/{program.name}.input', program.given)
+    write('data/three_words_cut', SMALL[0].file()[:95])
+    for name, file in listings.files():
+        write(f'data/{name}', file)
+    printed = listings.printed()
+    names = [program.name for program in programs] + ['show'] + list(printed)
+    write('args', ''.join(f'{name}\n' for name in names).encode())
+    write('stdout', b''.join([program.report() for program in programs] + list(printed.values())))
+
+
+if __name__ == '__main__':
+    main()
