@@ -7,6 +7,7 @@ mod fields;
 mod in_memory;
 mod numbers;
 mod outside;
+mod range;
 mod real;
 #[cfg(test)]
 mod tests;
@@ -17,5 +18,6 @@ pub use fields::{be16_at, be32_at, hex8};
 pub use in_memory::{MemFiles, MemSink, MemSource, NullSink};
 pub use numbers::{Addr, BlockNo, EdgeNo, NoMemory, PieceNo, WordNo};
 pub use outside::{Failed, FetchFault, Files, PutFault, Sink, Source};
+pub use range::Range;
 pub use real::{RealFiles, StdSink, StdSource};
 pub use whole::{put_all, read_all};
