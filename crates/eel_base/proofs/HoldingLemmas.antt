@@ -1,5 +1,5 @@
 -- A map from texts to vectors, seen as names with bytes.
-use Rattle.std.proofs.Common.{◌≡◌, ◌≢◌, ℕ, List, [], ◌∷◌, map, Option, Some, None, String, Vec, Global, string_bytes, refl, ap, sym, ◌∙◌, Bool, true, false, cond}
+use Rattle.std.proofs.Common.{◌≡◌, ℕ, List, [], ◌∷◌, Some, String, Vec, Global, string_bytes, refl, ap, Bool, true, false, cond}
 use Rattle.std.specs.Ordering.{nat_cmp, is_eq, match_ordering}
 use Rattle.std.specs.Option.{option_map}
 use Rattle.std.specs.declared.cmp.Ordering.{Ordering}
@@ -8,7 +8,7 @@ use Rattle.std.specs.Cmp.Lexicographic.{slice_cmp}
 use Rattle.std.specs.BTreeMap.{is_at, insert_entry}
 use Rattle.std.specs.Map.{lookup}
 use Rattle.std.specs.String.{string_cmp}
-use Rattle.eel_base.specs.Outside.{Holding, name_order, bytes_under, with_bytes}
+use Rattle.eel_base.specs.Outside.{bytes_under, with_bytes}
 use Rattle.eel_base.specs.InMemory.{holding_of}
 
 abbrev Entry : Type 0

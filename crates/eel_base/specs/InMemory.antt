@@ -1,5 +1,5 @@
 -- What the objects in memory are seen as.
-use Rattle.std.specs.Prelude.{◌≡◌, ℕ, ◌-◌, ◌<◌, ◌≤◌, ◌⊎◌, IsTrue, List, map, length, String, Vec, string_bytes}
+use Rattle.std.specs.Prelude.{ℕ, Bool, ◌&&◌, ◌||◌, nat_lt, nat_le, List, map, length, String, Vec, string_bytes}
 use Rattle.std.specs.declared.alloc.Global.{Global}
 use Rattle.eel_base.specs.Outside.{Holding, Calls, is_to_fail}
 
@@ -22,5 +22,5 @@ abbrev pub holding_of : List (String Global × Vec ℕ Global) → Holding
 holding_of entries = map (λ entry. (string_bytes entry.0, entry.1.items)) entries
 
 -- a write of these bytes fails: the call is to fail, or there are some and the sink is full
-abbrev pub FailsToTake : SinkInMemory → List ℕ → Type 0
-FailsToTake s bytes = IsTrue (is_to_fail s.calls) ⊎ ((0 < length bytes) × (s.room ≤ length s.taken))
+abbrev pub fails_to_take : SinkInMemory → List ℕ → Bool
+fails_to_take s bytes = is_to_fail s.calls || (nat_lt 0 (length bytes) && nat_le s.room (length s.taken))

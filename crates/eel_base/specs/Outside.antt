@@ -1,6 +1,6 @@
 -- What the objects of the outside hold, give and take. An object tells it as `Some ..`; one that
 -- tells nothing has `None` before and after each call.
-use Rattle.std.specs.Prelude.{◌≡◌, ◌≢◌, ℕ, suc, ◌+◌, ◌-◌, ◌≤◌, ◌<◌, ◌^◌, ⊤, min, if◌then◌else◌, Bool, List, [], ◌∷◌, ◌++◌, length, take, ◌==◌, Option, Some, None}
+use Rattle.std.specs.Prelude.{◌≡◌, ◌≢◌, ℕ, suc, ◌-◌, ◌≤◌, ◌<◌, ◌^◌, ⊤, min, if◌then◌else◌, Bool, List, [], ◌++◌, length, take, ◌==◌, Option, Some, None}
 use Rattle.std.specs.List.{list_any}
 use Rattle.std.specs.Ordering.{nat_cmp}
 use Rattle.std.specs.declared.cmp.Ordering.{Ordering}
@@ -103,6 +103,10 @@ no_calls fail = record { fail = fail; made = 0; faults = 0 }
 abbrev pub is_to_fail : Calls → Bool
 is_to_fail calls = list_any (λ number. number == calls.made) calls.fail
 
--- after one more call, which is no fault but where it is to fail
+-- after one more call, which is one more fault where it failed
+abbrev pub counted : Calls → Bool → Calls
+counted calls failed = record calls { made = raised calls.made; faults = if failed then raised calls.faults else calls.faults }
+
+-- after one more call, which fails where it is to fail
 abbrev pub called : Calls → Calls
-called calls = record calls { made = raised calls.made; faults = if is_to_fail calls then raised calls.faults else calls.faults }
+called calls = counted calls (is_to_fail calls)

@@ -2,8 +2,8 @@
 //! and fail at the calls that they are told to fail at.
 ghost use Rattle.std.specs.Prelude.{◌≡◌, Some, None, ◌⊎◌, ◌+◌, ◌-◌, ◌<◌, ◌≤◌, List, [], length, take, drop, min, IfOk, OnOk, OnErr, IsErr, IsErrOf, IsTrue, IsNone, vec_len, ◌↔◌};
 ghost use Rattle.std.specs.Option.{option_copied};
-ghost use Rattle.eel_base.specs.Outside.{Holding, bytes_under, with_bytes, stored, IsMissing, AreUnder, IsLonger, SameBut, Rose, raised, preceded, IsAtEnd, appended, Calls, no_calls, is_to_fail, called};
-ghost use Rattle.eel_base.specs.InMemory.{FilesInMemory, SourceInMemory, SinkInMemory, FailsToTake};
+ghost use Rattle.eel_base.specs.Outside.{Holding, bytes_under, with_bytes, stored, IsMissing, AreUnder, IsLonger, SameBut, Rose, raised, preceded, IsAtEnd, appended, Calls, no_calls, is_to_fail, called, counted};
+ghost use Rattle.eel_base.specs.InMemory.{FilesInMemory, SourceInMemory, SinkInMemory, fails_to_take};
 
 use crate::numbers::NoMemory;
 use crate::outside::{Failed, FetchFault, Files, PutFault, Sink, Source};
@@ -283,7 +283,8 @@ impl Sink for MemSink {
         ensures later { self.old.calls.faults ≤ self.new.calls.faults }
         ensures room { self.new.room ≡ self.old.room }
         ensures count { IfOk result (λ count. count ≡ min (length bytes.now) (self.old.room - length self.old.taken)) }
-        ensures fails { IsErr result ↔ FailsToTake self.old bytes.now }
+        ensures calls { self.new.calls ≡ counted self.old.calls (fails_to_take self.old bytes.now) }
+        ensures fails { IsErr result ↔ IsTrue (fails_to_take self.old bytes.now) }
     {
         if self.calls.begin() {
             return Err(Failed);

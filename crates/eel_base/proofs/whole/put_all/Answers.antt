@@ -1,4 +1,4 @@
-use Rattle.std.proofs.Common.{◌-◌, length, length-drop, length-take, arith}
+use Rattle.std.proofs.Common.{length-drop, arith}
 use Rattle.std.proofs.lemmas.List.{take_rest}
 use Rattle.eel_base.proofs.Parts.{appended-rest}
 use Rattle.eel_base.proofs.whole.put_all.Goals as goal

@@ -1,4 +1,4 @@
-use Rattle.std.proofs.Common.{◌+◌, ◌-◌, ◌≤◌, ◌≡◌, length, vec_len, length-take, arith}
+use Rattle.std.proofs.Common.{◌+◌, length-take, arith}
 use Rattle.std.proofs.lemmas.Result.{err_from_is_err_and}
 use Rattle.eel_base.proofs.Parts.{gave-after, gave-all}
 use Rattle.eel_base.proofs.whole.read_onto.Goals as goal

@@ -1,4 +1,4 @@
-use Rattle.std.proofs.Common.{◌≤◌, ◌-◌, ap, Some, length, List, ℕ, length-take, length-drop, arith}
+use Rattle.std.proofs.Common.{ap, Some, List, ℕ, length-take, length-drop, arith}
 use Rattle.eel_base.proofs.Parts.{left-copied}
 use Rattle.eel_base.proofs.in_memory.MemSourceSource.read.Goals as goal
 
