@@ -44,7 +44,8 @@ impl Model for Memory {
 
 impl Memory {
     /// Memory with these regions, and a heap of which nothing is mapped yet. All bytes that the heap may
-    /// take are taken here.
+    /// take are taken here. Regions may overlap: an access is judged by the first that has all of its bytes,
+    /// the heap before the others and these in their order.
     pub fn new(alloc: Global, plans: &[RegionPlan]) -> Result<Memory, NoMemory>
         requires { All (λ plan. IsPlan (mapping_of_plan plan)) plans.now }
         ensures { IfOk result (λ memory. memory ≡ memory_of (map mapping_of_plan plans.now)) }
@@ -147,9 +148,9 @@ impl Memory {
         self.read(address.0, len)
     }
 
-    /// Writes the bytes from an address on, where that may be written; else nothing changes.
+    /// Writes the bytes from an address on, where that may be written; else nothing changes. No bytes may be
+    /// written anywhere.
     pub fn fill(&mut self, address: Addr, bytes: &[u8]) -> bool
-        requires { length bytes.now < 2 ^ 32 }
         ensures { Fills (buffer_written self.old address.0 bytes.now) self.old self.new result }
     {
         bytes.is_empty() || self.write(address.0, bytes)
@@ -193,8 +194,7 @@ impl Memory {
     /// Stores all of the bytes as one access.
     #[inline]
     fn store(&mut self, address: Addr, bytes: &[u8]) -> Result<(), MemFault>
-        requires some { 0 < length bytes.now }
-        requires short { length bytes.now < 2 ^ 32 }
+        requires { 0 < length bytes.now }
         ensures { Stores (store_of self.old address.0 bytes.now) self.old self.new result }
     {
         if address.0 as usize % bytes.len() != 0 {
@@ -209,7 +209,7 @@ impl Memory {
 
     /// The region that has all these bytes.
     #[inline]
-    fn region(&self, address: u32, count: u32) -> Option<&Region>
+    fn region(&self, address: u32, count: u64) -> Option<&Region>
         ensures { MatchOption result (region_at self.now address count ≡ None) (λ region. (region_at self.now address count ≡ Some region.now) × IsTrue (covers address count region.now)) }
     {
         if self.heap.covers(address, count) {
@@ -225,7 +225,7 @@ impl Memory {
     fn read(&self, address: u32, count: u32) -> Option<&[u8]>
         ensures { MatchOption result (bytes_at self.now address count ≡ None) (λ bytes. (bytes_at self.now address count ≡ Some bytes.now) × (length bytes.now ≡ count)) }
     {
-        match self.region(address, count) {
+        match self.region(address, u64::from(count)) {
             Some(region) => {
                 if region.is_readable() {
                     Some(region.part(address, count))
@@ -241,10 +241,9 @@ impl Memory {
     #[inline]
     #[tactic(auto, unfolding(crate::specs::Regions::with_bytes))]
     fn may_write(&self, address: u32, bytes: &[u8]) -> bool
-        requires { length bytes.now < 2 ^ 32 }
         ensures { with_bytes self.now address bytes.now ≡ if_allowed result (all_written address bytes.now self.now) }
     {
-        match self.region(address, bytes.len() as u32) {
+        match self.region(address, bytes.len() as u64) {
             Some(region) => region.is_writable(),
             None => false,
         }
@@ -253,7 +252,6 @@ impl Memory {
     /// Writes the bytes, where one region has them all and may be written.
     #[inline]
     fn write(&mut self, address: u32, bytes: &[u8]) -> bool
-        requires { length bytes.now < 2 ^ 32 }
         ensures { Fills (with_bytes self.old address bytes.now) self.old self.new result }
     {
         let allowed = self.may_write(address, bytes);
@@ -266,7 +264,6 @@ impl Memory {
     /// Writes the bytes into every region that has them all and may be written.
     #[inline]
     fn write_all(&mut self, address: u32, bytes: &[u8])
-        requires { length bytes.now < 2 ^ 32 }
         ensures { self.new ≡ all_written address bytes.now self.old }
     {
         self.heap.write(address, bytes);
@@ -288,7 +285,7 @@ fn planned(alloc: Global, plans: &[RegionPlan]) -> Result<Vec<Region>, NoMemory>
 
 /// The first region that has all these bytes.
 #[inline]
-fn find<'a>(regions: &'a [Region], address: u32, count: u32) -> Option<&'a Region>
+fn find<'a>(regions: &'a [Region], address: u32, count: u64) -> Option<&'a Region>
     ensures { MatchOption result (find (covers address count) regions.now ≡ None) (λ region. (find (covers address count) regions.now ≡ Some region.now) × IsTrue (covers address count region.now)) }
 {
     for region in regions {
@@ -313,7 +310,6 @@ fn find_code<'a>(regions: &'a [Region], address: u32) -> Option<&'a Region>
 }
 
 fn write_each(regions: &mut [Region], address: u32, bytes: &[u8])
-    requires { length bytes.now < 2 ^ 32 }
     ensures { regions.new ≡ map (written address bytes.now) regions.old }
 {
     for region in regions.iter_mut() {

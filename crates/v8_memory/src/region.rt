@@ -74,11 +74,10 @@ impl Region {
 
     /// Whether all `count` bytes from `address` on are mapped here.
     #[inline]
-    pub fn covers(&self, address: u32, count: u32) -> bool
+    pub fn covers(&self, address: u32, count: u64) -> bool
         ensures { result ≡ covers address count self.now }
     {
-        self.start <= address
-            && u64::from(address) + u64::from(count) <= u64::from(self.start) + u64::from(self.size)
+        self.start <= address && u64::from(address).saturating_add(count) <= self.end()
     }
 
     #[inline]
@@ -117,13 +116,12 @@ impl Region {
     /// Puts the bytes where they belong, if it has them all and may be written.
     #[inline]
     pub fn write(&mut self, address: u32, bytes: &[u8])
-        requires { length bytes.now < 2 ^ 32 }
         ensures after { self.new ≡ written address bytes.now self.old }
         ensures start { self.new.start ≡ self.old.start }
         ensures size { self.new.size ≡ self.old.size }
         ensures len { length self.new.bytes ≡ length self.old.bytes }
     {
-        if self.covers(address, bytes.len() as u32) && self.writable {
+        if self.covers(address, bytes.len() as u64) && self.writable {
             let from = (address - self.start) as usize;
             self.bytes[from..from + bytes.len()].copy_from_slice(bytes);
         }
