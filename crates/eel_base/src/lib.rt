@@ -9,9 +9,8 @@ mod numbers;
 mod outside;
 mod range;
 mod real;
-#[cfg(test)]
-mod tests;
 mod whole;
+mod whole_file;
 
 pub use code_text::Text;
 pub use fields::{be16_at, be32_at, hex8};

@@ -5,13 +5,15 @@ ghost use Rattle.eel_base.specs.Real.{Counts};
 
 use crate::outside::{Failed, FetchFault, Files, PutFault, Sink, Source};
 use crate::whole::read_onto;
-use std::alloc::Global;
+use crate::whole_file::put_file;
+use std::alloc::{Alloc, Global};
 use std::fs::OpenFile;
-use std::io::{Read, Write};
+use std::io::{ErrorKind, Read, Write};
 use std::marker::Model;
 use std::{fs, rt};
 
-/// The files of the system. A missing name is a fault.
+/// The files of the system. A missing name is a fault. A regular file is put whole: what stood there stays until
+/// the new file is written, and after a failure. A put file of the format ELF is executable.
 #[derive(Drop)]
 pub struct RealFiles<R> {
     rt: R,
@@ -34,7 +36,7 @@ impl<R> RealFiles<R> {
     }
 }
 
-impl<R: rt::Files> Files for RealFiles<R> {
+impl<R: rt::Files + Alloc> Files for RealFiles<R> {
     ghost held = { λ _. None };
 
     ghost faults = { λ count. count };
@@ -60,8 +62,9 @@ impl<R: rt::Files> Files for RealFiles<R> {
     }
 
     fn put(&mut self, name: &str, bytes: &[u8]) -> Result<(), PutFault> {
-        match fs::write(&self.rt, name, bytes) {
+        match put_file(&self.rt, name, bytes) {
             Ok(()) => Ok(()),
+            Err(error) if error.kind() == ErrorKind::OutOfMemory => Err(PutFault::NoMemory),
             Err(_) => {
                 self.faults = self.faults.saturating_add(1);
                 Err(PutFault::Failed)
