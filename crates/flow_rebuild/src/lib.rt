@@ -175,5 +175,3 @@ pub fn rebuild(
     Ok(flow)
 }
 
-#[cfg(test)]
-mod tests;

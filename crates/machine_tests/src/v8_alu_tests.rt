@@ -1,11 +1,11 @@
-// Answers that were computed apart from this crate, from the text of the manual: V by the range of signed
-// numbers, C by comparing, quotients by exact division.
+//! Answers that were computed apart from this repository, from the text of the manual: V by the range of signed
+//! numbers, C by comparing, quotients by exact division.
 ghost use Rattle.std.specs.Prelude.{◌≡◌};
 ghost use Rattle.v8_alu.specs.Alu.{has_form};
 
-use crate::AluTrap::{DivZero, TagOverflow};
-use crate::{AluOut, AluTrap, Codes, alu, holds};
 use std::process::Abort;
+use v8_alu::AluTrap::{DivZero, TagOverflow};
+use v8_alu::{AluOut, AluTrap, Codes, alu, holds};
 use v8_decode::AluOp::{
     ADD, ADDX, AND, ANDN, MULScc, OR, ORN, SDIV, SLL, SMUL, SRA, SRL, SUB, SUBX, TADDcc, TADDccTV,
     TSUBcc, TSUBccTV, UDIV, UMUL, XNOR, XOR,

@@ -1,9 +1,7 @@
-// Words with their instructions: those of programs that were assembled by others, and each opcode of
-// the manual's tables F-2 to F-4 once.
-use crate::{
-    AluOp, Cond, Instr, LoadKind, Op2, Part, Reg, RegSet, StoreKind, decode, reads, writes,
-};
+//! Words with their instructions: those of programs that were assembled by others, and each opcode of
+//! the manual's tables F-2 to F-4 once.
 use std::test::Fail;
+use v8_decode::decode;
 
 const WORDS: [(u32, &str); 81] = [
     // a program that counts the newlines of its input
@@ -443,50 +441,4 @@ fn decodes_each_op3(rt: HostRuntime) -> Result<(), Fail> {
         assert!(rt; text.starts_with(start), "{text} at {word:08x}");
     }
     Ok(())
-}
-
-#[test]
-fn reads_and_writes(rt: HostRuntime) {
-    let stored = reads(Instr::Store {
-        kind: StoreKind::STD,
-        rd: Reg { number: 2 },
-        rs1: Reg { number: 16 },
-        op2: Op2::Reg(Reg { number: 31 }),
-    });
-    assert_eq!(rt; stored.count(), 4);
-    assert!(rt; stored.has(Part::Reg(Reg { number: 3 })));
-    let loaded = writes(Instr::Load {
-        kind: LoadKind::LDD,
-        rd: Reg { number: 2 },
-        rs1: Reg { number: 16 },
-        op2: Op2::Imm(0),
-    });
-    assert_eq!(rt; loaded.count(), 2);
-    let stepped = writes(Instr::Alu {
-        op: AluOp::MULScc,
-        cc: true,
-        rd: Reg { number: 2 },
-        rs1: Reg { number: 2 },
-        op2: Op2::Imm(0),
-    });
-    assert_eq!(rt; stepped.union(loaded).count(), 4);
-    let trapped = reads(Instr::Ticc {
-        cond: Cond { number: 0 },
-        rs1: Reg { number: 0 },
-        op2: Op2::Imm(3),
-    });
-    assert_eq!(rt; trapped.count(), 33);
-    assert_eq!(rt; writes(Instr::Stbar), RegSet::empty());
-}
-
-#[test]
-fn sets_and_numbers(rt: HostRuntime) {
-    let icc = RegSet::empty().with(Part::Icc);
-    let set = icc.with(Part::Y).with(Part::Reg(Reg { number: 0 }));
-    assert_eq!(rt; set.count(), 2);
-    assert_eq!(rt; set.without(Part::Y), icc);
-    assert_eq!(rt; Reg::new(31), Some(Reg { number: 31 }));
-    assert_eq!(rt; Reg::new(32), None);
-    assert_eq!(rt; Cond::new(15), Some(Cond { number: 15 }));
-    assert_eq!(rt; Cond::new(16), None);
 }

@@ -1,10 +1,10 @@
 -- An outcome's value and Y have 32 bits where the operands and Y before it had.
-use Rattle.std.proofs.Common.{◌≡◌, ℕ, ◌*◌, ◌/◌, ◌^◌, ◌<◌, ◌≤◌, Bool, true, false, Result, Ok, Err, nat_lt, nat_le, ◌==◌, refl, arith}
-use Rattle.std.specs.Prelude.{if◌then◌else◌, bit_xor}
+use Rattle.std.proofs.Common.{ℕ, ◌*◌, ◌/◌, ◌^◌, ◌<◌, ◌≤◌, Bool, true, false, Result, Ok, Err, nat_lt, nat_le, ◌==◌, arith}
+use Rattle.std.specs.Prelude.{bit_xor}
 use Rattle.std.specs.Int.Bits.{and_lt}
 use Rattle.std.proofs.lemmas.Nat.{or_lt, xor_lt, mul-lt}
 use Rattle.std.proofs.Math.Nat.{div-le_self}
-use Rattle.std.proofs.lemmas.Bool.{ltb-true, leb-true}
+use Rattle.std.proofs.lemmas.Bool.{cond_both, ltb-true, leb-true}
 use Rattle.v8_decode.specs.declared.AluOp.{AluOp}
 use Rattle.v8_decode.specs.declared.AluOp.TheVariants as ops
 use Rattle.v8_alu.specs.declared.Codes.{Codes}
@@ -12,11 +12,6 @@ use Rattle.v8_alu.specs.declared.AluOut.{AluOut}
 use Rattle.v8_alu.specs.declared.AluTrap.{AluTrap}
 use Rattle.v8_alu.specs.Numbers.{wrapped, is_negative, complement, magnitude, differ, one_if}
 use Rattle.v8_alu.specs.Alu.{IsOutInRange, alu_of, result_of, keeping, sum_out, difference_out, with_tags, trap_on_v, product_out, signed_product, unsigned_end, unsigned_quotient, dividend_magnitude, signed_end, signed_quotient, divided, shifted_right, count_of}
-
--- either branch
-branches : {A : Type 0} (P : A → Type 0) (b : Bool) (x y : A) → (b ≡ true → P x) → (b ≡ false → P y) → P (if b then x else y)
-branches P true x y p q = p refl
-branches P false x y p q = q refl
 
 wrapped_range : (n : ℕ) → wrapped n < 2 ^ 32
 wrapped_range n = omega arith
@@ -27,14 +22,14 @@ complement_range n = omega arith
 shifted_range : (a count : ℕ) → a < 2 ^ 32 → shifted_right a count < 2 ^ 32
 shifted_range a count h =
     let low : a / 2 ^ count ≤ a = div-le_self a (2 ^ count) in
-    branches (λ n. n < 2 ^ 32) (is_negative a) _ _ (λ _. complement_range _) (λ _. omega arith)
+    cond_both (is_negative a) _ _ (λ n. n < 2 ^ 32) (λ _. complement_range _) (λ _. omega arith)
 
 magnitude_range : (a : ℕ) → a < 2 ^ 32 → magnitude a < 2 ^ 32
-magnitude_range a h = branches (λ n. n < 2 ^ 32) (is_negative a) _ _ (λ e. let k : 2 ^ 31 ≤ a = leb-true _ _ e in omega arith) (λ _. h)
+magnitude_range a h = cond_both (is_negative a) _ _ (λ n. n < 2 ^ 32) (λ e. let k : 2 ^ 31 ≤ a = leb-true _ _ e in omega arith) (λ _. h)
 
 signed_product_range : (a b : ℕ) → a < 2 ^ 32 → b < 2 ^ 32 → signed_product a b < 2 ^ 64
 signed_product_range a b ha hb =
-    branches (λ n. n < 2 ^ 64) (differ (is_negative a) (is_negative b)) _ _ (λ _. omega arith)
+    cond_both (differ (is_negative a) (is_negative b)) _ _ (λ n. n < 2 ^ 64) (λ _. omega arith)
     (λ _. mul-lt (magnitude a) (magnitude b) (2 ^ 32) (2 ^ 32) (magnitude_range a ha) (magnitude_range b hb))
 
 product_range : (p : ℕ) → p < 2 ^ 64 → IsOutInRange (product_out p)
@@ -45,21 +40,21 @@ tags_range a b (Ok o) h = h
 tags_range a b (Err trap) h = h
 
 trap_range : (r : Result AluOut AluTrap) → IsOutInRange r → IsOutInRange (trap_on_v r)
-trap_range (Ok o) h = branches IsOutInRange o.codes.v _ _ (λ _. tt) (λ _. h)
+trap_range (Ok o) h = cond_both o.codes.v _ _ IsOutInRange (λ _. tt) (λ _. h)
 trap_range (Err trap) h = h
 
 divided_range : (b : ℕ) (r : Result AluOut AluTrap) → IsOutInRange r → IsOutInRange (divided b r)
-divided_range b r h = branches IsOutInRange (b == 0) _ _ (λ _. tt) (λ _. h)
+divided_range b r h = cond_both (b == 0) _ _ IsOutInRange (λ _. tt) (λ _. h)
 
 unsigned_range : (size y : ℕ) → y < 2 ^ 32 → IsOutInRange (unsigned_end size y)
 unsigned_range size y h =
-    branches IsOutInRange (nat_lt size (2 ^ 32)) _ _ (λ e. (ltb-true _ _ e, h)) (λ _. (omega arith, h))
+    cond_both (nat_lt size (2 ^ 32)) _ _ IsOutInRange (λ e. (ltb-true _ _ e, h)) (λ _. (omega arith, h))
 
 signed_range : (negative : Bool) (size y : ℕ) → y < 2 ^ 32 → IsOutInRange (signed_end negative size y)
 signed_range true size y h =
-    branches IsOutInRange (nat_le size (2 ^ 31)) _ _ (λ _. (wrapped_range _, h)) (λ _. (omega arith, h))
+    cond_both (nat_le size (2 ^ 31)) _ _ IsOutInRange (λ _. (wrapped_range _, h)) (λ _. (omega arith, h))
 signed_range false size y h =
-    branches IsOutInRange (nat_lt size (2 ^ 31)) _ _ (λ e. (let k : size < 2 ^ 31 = ltb-true _ _ e in omega arith, h)) (λ _. (omega arith, h))
+    cond_both (nat_lt size (2 ^ 31)) _ _ IsOutInRange (λ e. (let k : size < 2 ^ 31 = ltb-true _ _ e in omega arith, h)) (λ _. (omega arith, h))
 
 sum_range : (a b carry y : ℕ) → y < 2 ^ 32 → IsOutInRange (sum_out a b carry y)
 sum_range a b carry y h = (wrapped_range _, h)

@@ -6,26 +6,14 @@ use Rattle.v8_decode.specs.declared.AluOp.{AluOp}
 use Rattle.v8_decode.specs.declared.AluOp.TheVariants as ops
 use Rattle.v8_decode.specs.declared.Instr.{Instr}
 use Rattle.v8_decode.specs.declared.Instr.TheVariants as i
+use Rattle.v8_decode.specs.Forms.{has_form}
 use Rattle.v8_alu.specs.declared.Codes.{Codes}
 use Rattle.v8_alu.specs.declared.AluOut.{AluOut}
 use Rattle.v8_alu.specs.declared.AluTrap.{AluTrap}
 use Rattle.v8_alu.specs.declared.AluTrap.TheVariants.{DivZero, TagOverflow}
 use Rattle.v8_alu.specs.Numbers.{wrapped, is_negative, complement, magnitude, differ, one_if}
 
--- whether a word can have the operation with this cc: shifts never set the codes (B.12), tagged operations
--- and the multiply step always do (B.14, B.16, B.17)
-abbrev pub has_form : AluOp → Bool → Bool
-has_form ops.SLL cc = not cc
-has_form ops.SRL cc = not cc
-has_form ops.SRA cc = not cc
-has_form ops.TADDcc cc = cc
-has_form ops.TSUBcc cc = cc
-has_form ops.TADDccTV cc = cc
-has_form ops.TSUBccTV cc = cc
-has_form ops.MULScc cc = cc
-has_form _ cc = true
-
--- the same of an instruction
+-- whether a word can have the operation of an instruction with its cc
 abbrev pub alu_has_form : Instr → Bool
 alu_has_form (i.Alu op cc rd rs1 op2) = has_form op cc
 alu_has_form _ = true

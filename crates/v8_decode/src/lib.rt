@@ -10,8 +10,6 @@ use std::marker::Model;
 mod effects;
 mod sets;
 mod tables;
-#[cfg(test)]
-mod tests;
 
 pub use effects::{reads, writes};
 pub use sets::RegSet;

@@ -12,14 +12,15 @@ use Rattle.v8_decode.specs.declared.LoadKind.{LoadKind}
 use Rattle.v8_decode.specs.declared.LoadKind.TheVariants as loads
 use Rattle.v8_decode.specs.declared.StoreKind.{StoreKind}
 use Rattle.v8_decode.specs.declared.StoreKind.TheVariants as stores
+use Rattle.v8_decode.specs.Forms.{has_form}
 use Rattle.v8_decode.specs.Words.{field, signed, rd_of, op3_of, rs1_of, cond_of, op2_of, row_of, alu, load, store, arithmetic_rows, memory_rows, arithmetic, decode_of}
 use Rattle.v8_decode.specs.Ranges.{has_even_pair, op2_in_range, operands_in_range, is_in_range}
 use Rattle.v8_decode.proofs.Rows.{decode_of-call, decode_of-format2, decode_of-arithmetic, decode_of-memory}
-use Rattle.v8_encode.specs.Encoding.{fits_signed, signed_field, op2_fits, op2_field, has_cc_form, alu_op3, load_op3, store_op3, format2, format3, has_word, word_of, annul_bit}
+use Rattle.v8_encode.specs.Encoding.{fits_signed, signed_field, op2_fits, op2_field, alu_op3, load_op3, store_op3, format2, format3, has_word, word_of, annul_bit}
 use Rattle.v8_encode.proofs.Fields.{format3_fields, op2_field-lt, op2_of-field, signed_field-lt, signed-signed_field}
 
 -- the row of an operation's form
-arithmetic-row : (op : AluOp) (sets : Bool) → has_cc_form op sets ≡ true → (w : ℕ) → row_of arithmetic_rows (alu_op3 op sets) w ≡ alu op sets w
+arithmetic-row : (op : AluOp) (sets : Bool) → has_form op sets ≡ true → (w : ℕ) → row_of arithmetic_rows (alu_op3 op sets) w ≡ alu op sets w
 arithmetic-row ops.ADD false h w = refl
 arithmetic-row ops.ADD true h w = refl
 arithmetic-row ops.AND false h w = refl
@@ -278,7 +279,7 @@ decode_of-word_of (i.Sethi rd imm22) range has = decoded_sethi rd imm22 range ha
 decode_of-word_of (i.Branch cond annul disp22) range has = decoded_branch cond annul disp22 range has
 decode_of-word_of (i.Call disp30) range has = decoded_call disp30 has
 decode_of-word_of (i.Alu op sets rd rs1 op2) range has =
-    let parts = and_parts (has_cc_form op sets) (op2_fits op2) has in
+    let parts = and_parts (has_form op sets) (op2_fits op2) has in
     decoded3 (i.Alu op sets) rd (alu_op3 op sets) rs1 op2 (alu_op3-lt op sets) (arithmetic-row op sets parts.0) range parts.1
 decode_of-word_of (i.ReadY rd) range has = decoded_read_y rd range
 decode_of-word_of (i.WriteY rs1 op2) range has = decoded_write_y rs1 op2 range has

@@ -8,9 +8,10 @@ use Rattle.v8_decode.specs.declared.AluOp.{AluOp}
 use Rattle.v8_decode.specs.declared.AluOp.TheVariants as ops
 use Rattle.v8_decode.specs.declared.LoadKind.TheVariants as loads
 use Rattle.v8_decode.specs.declared.StoreKind.TheVariants as stores
+use Rattle.v8_decode.specs.Forms.{has_form}
 use Rattle.v8_decode.specs.Words.{field, signed, rd_of, op3_of, rs1_of, cond_of, op2_of, alu, load, store, op2_rows, arithmetic_rows, memory_rows, branch_or_sethi, arithmetic, memory, call, decode_of}
 use Rattle.v8_decode.proofs.Rows.{Each, row_by_row}
-use Rattle.v8_encode.specs.Encoding.{op2_fits, has_cc_form, alu_op3, format2, format3, has_word, word_of, annul_bit, encode_of, is_instruction, ignored_beside, ignored_of, cleared}
+use Rattle.v8_encode.specs.Encoding.{op2_fits, alu_op3, format2, format3, has_word, word_of, annul_bit, encode_of, is_instruction, ignored_beside, ignored_of, cleared}
 use Rattle.v8_encode.proofs.Fields.{format3-fields, op2_fits-op2_of, op2_of-same, signed_field-signed}
 
 -- what is to be shown of a word and its instruction
@@ -34,9 +35,9 @@ again w op op3 below the_op the_op3 =
     ∙ ap (λ x. format3 op (rd_of w) x (rs1_of w) (op2_of w)) the_op3)
     ∙ format3-fields w below
 
-refitted_alu : (w : ℕ) (op : AluOp) (sets : Bool) → w < 2 ^ 32 → field w 30 2 ≡ 2 → op3_of w ≡ alu_op3 op sets → has_cc_form op sets ≡ true → Refits w (alu op sets w)
+refitted_alu : (w : ℕ) (op : AluOp) (sets : Bool) → w < 2 ^ 32 → field w 30 2 ≡ 2 → op3_of w ≡ alu_op3 op sets → has_form op sets ≡ true → Refits w (alu op sets w)
 refitted_alu w op sets below the_op the_op3 form =
-    refitted w (alu op sets w) (and_from (has_cc_form op sets) (op2_fits (op2_of w)) form (op2_fits-op2_of w)) (again w 2 (alu_op3 op sets) below the_op the_op3)
+    refitted w (alu op sets w) (and_from (has_form op sets) (op2_fits (op2_of w)) form (op2_fits-op2_of w)) (again w 2 (alu_op3 op sets) below the_op the_op3)
 
 refitted_even_load : (w : ℕ) → w < 2 ^ 32 → field w 30 2 ≡ 3 → op3_of w ≡ 0x03 → Refits w (if rd_of w % 2 == 0 then load loads.LDD w else i.Illegal)
 refitted_even_load w below the_op the_op3 = go (rd_of w % 2 == 0) refl

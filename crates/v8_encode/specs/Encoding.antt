@@ -1,5 +1,5 @@
 -- The word of an instruction, by the formats of section 5.2 and the opcodes of appendix F of The SPARC Architecture Manual, Version 8.
-use Rattle.std.specs.Prelude.{◌≡◌, ℕ, suc, ◌+◌, ◌-◌, ◌*◌, ◌^◌, ◌<◌, IsTrue, Bool, true, false, not, ◌&&◌, List, [], ◌∷◌, Option, Some, None, ℤ, pos, negsuc, nat_lt, if◌then◌else◌, refl}
+use Rattle.std.specs.Prelude.{◌≡◌, ℕ, suc, ◌+◌, ◌-◌, ◌*◌, ◌^◌, ◌<◌, IsTrue, Bool, true, false, ◌&&◌, List, [], ◌∷◌, Option, Some, None, ℤ, pos, negsuc, nat_lt, if◌then◌else◌, refl}
 use Rattle.v8_decode.specs.declared.Instr.{Instr}
 use Rattle.v8_decode.specs.declared.Instr.TheVariants as i
 use Rattle.v8_decode.specs.declared.Op2.{Op2}
@@ -10,6 +10,7 @@ use Rattle.v8_decode.specs.declared.LoadKind.{LoadKind}
 use Rattle.v8_decode.specs.declared.LoadKind.TheVariants as loads
 use Rattle.v8_decode.specs.declared.StoreKind.{StoreKind}
 use Rattle.v8_decode.specs.declared.StoreKind.TheVariants as stores
+use Rattle.v8_decode.specs.Forms.{has_form}
 use Rattle.v8_decode.specs.Words.{field, decode_of}
 use Rattle.v8_decode.specs.Ranges.{has_even_pair}
 
@@ -38,25 +39,6 @@ format3 op rd op3 rs1 op2 = op * 2 ^ 30 + rd * 2 ^ 25 + op3 * 2 ^ 19 + rs1 * 2 ^
 -- format 2, where `high` is bits 29 to 25: rd, or annul and cond
 abbrev pub format2 : ℕ → ℕ → ℕ → ℕ
 format2 high op2 low = high * 2 ^ 25 + op2 * 2 ^ 22 + low
-
--- operations that always set codes, and those that never do; the others have both forms
-abbrev pub always_sets_codes : AluOp → Bool
-always_sets_codes ops.TADDcc = true
-always_sets_codes ops.TSUBcc = true
-always_sets_codes ops.TADDccTV = true
-always_sets_codes ops.TSUBccTV = true
-always_sets_codes ops.MULScc = true
-always_sets_codes _ = false
-
-abbrev pub never_sets_codes : AluOp → Bool
-never_sets_codes ops.SLL = true
-never_sets_codes ops.SRL = true
-never_sets_codes ops.SRA = true
-never_sets_codes _ = false
-
-abbrev pub has_cc_form : AluOp → Bool → Bool
-has_cc_form op true = not (never_sets_codes op)
-has_cc_form op false = not (always_sets_codes op)
 
 -- the op3 of the form that leaves the codes, and 0x10 more for the form that sets them (table F-3)
 abbrev pub with_cc : ℕ → Bool → ℕ
@@ -108,7 +90,7 @@ abbrev pub has_word : Instr → Bool
 has_word (i.Sethi rd imm22) = nat_lt imm22 (2 ^ 22)
 has_word (i.Branch cond annul disp22) = fits_signed 22 disp22
 has_word (i.Call disp30) = fits_signed 30 disp30
-has_word (i.Alu op cc rd rs1 op2) = has_cc_form op cc && op2_fits op2
+has_word (i.Alu op cc rd rs1 op2) = has_form op cc && op2_fits op2
 has_word (i.ReadY rd) = true
 has_word (i.WriteY rs1 op2) = op2_fits op2
 has_word (i.Jmpl rd rs1 op2) = op2_fits op2

@@ -3,12 +3,10 @@
 #![tactic(auto)]
 
 ghost use Rattle.std.specs.Prelude.{◌≡◌, ◌+◌, ◌*◌, ◌^◌, ◌<◌, ◌≤◌, Some, None, if◌then◌else◌, pos, ◌≤ℤ◌, ◌&&◌, ◌↔◌, true, IsTrue, IsSome, IfSome};
+ghost use Rattle.v8_decode.specs.Forms.{has_form};
 ghost use Rattle.v8_decode.specs.Ranges.{has_even_pair, is_in_range, op2_in_range, operands_in_range};
 ghost use Rattle.v8_decode.specs.Words.{decode_of};
-ghost use Rattle.v8_encode.specs.Encoding.{alu_op3, annul_bit, cleared, EncodesAgain, encode_of, fits_signed, format2, format3, has_cc_form, has_word, ignored_of, load_op3, op2_field, op2_fits, signed_field, store_op3, with_cc};
-
-#[cfg(test)]
-mod tests;
+ghost use Rattle.v8_encode.specs.Encoding.{alu_op3, annul_bit, cleared, EncodesAgain, encode_of, fits_signed, format2, format3, has_word, ignored_of, load_op3, op2_field, op2_fits, signed_field, store_op3, with_cc};
 
 use v8_decode::{AluOp, Cond, Instr, LoadKind, Op2, Reg, StoreKind};
 
@@ -114,7 +112,7 @@ fn with_cc(op3: u32, cc: bool) -> u32
 
 // The op3 of an operation, where it has such a form.
 fn alu_number(op: AluOp, cc: bool) -> Option<u32>
-    ensures value { result ≡ (if has_cc_form op cc then Some (alu_op3 op cc) else None) }
+    ensures value { result ≡ (if has_form op cc then Some (alu_op3 op cc) else None) }
     ensures range { IfSome result (λ op3. op3 < 64) }
 {
     match op {
@@ -162,7 +160,7 @@ fn call_word(disp30: i32) -> Option<u32>
 fn alu_word(op: AluOp, cc: bool, rd: u32, rs1: Reg, op2: Op2) -> Option<u32>
     requires rd { rd < 32 }
     ensures value { let word = format3 2 rd (alu_op3 op cc) rs1 op2 in
-        result ≡ (if has_cc_form op cc && op2_fits op2 then Some word else None) }
+        result ≡ (if has_form op cc && op2_fits op2 then Some word else None) }
     ensures operands { IfSome result (λ _. operands_in_range rs1 op2 ≡ true) }
 {
     format3_word(2, rd, alu_number(op, cc)?, rs1, op2)

@@ -7,8 +7,6 @@
 
 ghost use Rattle.v8_windows.specs.Laws.{WindowsOverlap, RegistersHold, FramesFit, FramesLoad};
 
-#[cfg(test)]
-mod tests;
 mod windows;
 
 pub use windows::{MustFill, MustSpill, Windows};
