@@ -1,7 +1,7 @@
 //! Answers that were computed apart from this repository, from the text of the manual: V by the range of signed
 //! numbers, C by comparing, quotients by exact division.
 ghost use Rattle.std.specs.Prelude.{◌≡◌};
-ghost use Rattle.v8_alu.specs.Alu.{has_form};
+ghost use Rattle.v8_decode.specs.Forms.{has_form};
 
 use std::process::Abort;
 use v8_alu::AluTrap::{DivZero, TagOverflow};

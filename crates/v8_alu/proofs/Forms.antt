@@ -1,6 +1,7 @@
 -- What a word decodes to has one of the forms of its operation.
 use Rattle.std.proofs.Common.{◌≡◌, ℕ, ◌%◌, Bool, true, false, [], ◌∷◌, ◌==◌, refl}
 use Rattle.std.specs.Prelude.{if◌then◌else◌}
+use Rattle.std.proofs.lemmas.Bool.{cond_both}
 use Rattle.v8_decode.specs.declared.Instr.{Instr}
 use Rattle.v8_decode.specs.declared.Instr.TheVariants as i
 use Rattle.v8_decode.specs.Words.{field, rd_of, op3_of, rs1_of, op2_of, op2_rows, arithmetic_rows, memory_rows, branch_or_sethi, arithmetic, memory, call, load, store, read_state, write_state, even_rd, decode_of}
@@ -28,19 +29,8 @@ write_state_form w = go (rd_of w == 0)
     go true = refl
     go false = refl
 
-even_load_form : (w : ℕ) → HasForm (even_rd (load loads.LDD) w)
-even_load_form w = go (rd_of w % 2 == 0)
-  where
-    go : (b : Bool) → HasForm (if b then load loads.LDD w else i.Illegal)
-    go true = refl
-    go false = refl
-
-even_store_form : (w : ℕ) → HasForm (even_rd (store stores.STD) w)
-even_store_form w = go (rd_of w % 2 == 0)
-  where
-    go : (b : Bool) → HasForm (if b then store stores.STD w else i.Illegal)
-    go true = refl
-    go false = refl
+even_form : (of : ℕ → Instr) (w : ℕ) → HasForm (of w) → HasForm (even_rd of w)
+even_form of w h = cond_both (rd_of w % 2 == 0) (of w) i.Illegal HasForm (λ _. h) (λ _. refl)
 
 arithmetic_form : (w : ℕ) → HasForm (arithmetic w)
 unfolding arithmetic Each
@@ -48,7 +38,7 @@ arithmetic_form w = row_by_row HasForm (op3_of w) w arithmetic_rows refl (search
 
 memory_form : (w : ℕ) → HasForm (memory w)
 unfolding memory Each
-memory_form w = row_by_row HasForm (op3_of w) w memory_rows refl (search (even_load_form, even_store_form))
+memory_form w = row_by_row HasForm (op3_of w) w memory_rows refl (search (even_form (load loads.LDD) w refl, even_form (store stores.STD) w refl))
 
 format2_form : (w : ℕ) → HasForm (branch_or_sethi w)
 unfolding branch_or_sethi Each
