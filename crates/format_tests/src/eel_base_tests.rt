@@ -13,11 +13,8 @@ fn objects_in_memory_are_used(rt: HostRuntime) -> Result<(), Fail> {
     let mut files = MemFiles::new(alloc, Vec::new(alloc));
     assert_eq!(rt; files.add("a", b"one"), Ok(()));
     assert!(rt; files.put("b", b"four").is_ok());
-    let fetched = files
-        .fetch(alloc, "b", 4)
-        .map_err(|_| Fail::from("fetch"))?;
-    let mut sink =
-        MemSink::new(alloc, 6, Vec::new(alloc)).map_err(|_| Fail::from("a sink"))?;
+    let fetched = files.fetch(alloc, "b", 4).map_err(|_| Fail::from("fetch"))?;
+    let mut sink = MemSink::new(alloc, 6, Vec::new(alloc)).map_err(|_| Fail::from("a sink"))?;
     assert!(rt; put_all(&mut sink, files.get("a").ok_or("held")?).is_ok());
     assert!(rt; put_all(&mut sink, &fetched).is_err());
     assert_eq!(rt; sink.bytes(), b"onefou".as_slice());
@@ -42,7 +39,10 @@ fn real_files_are_put_whole(rt: HostRuntime) -> Result<(), Fail> {
     assert_eq!(rt; fetched.as_slice(), b"text".as_slice());
     assert_eq!(rt; fs::metadata(&rt, name)?.permissions().mode() & 0o111, 0);
     assert!(rt; files.put(name, b"\x7fELF").is_ok());
-    assert_eq!(rt; fs::metadata(&rt, name)?.permissions().mode() & 0o700, 0o700);
+    assert_eq!(rt;
+        fs::metadata(&rt, name)?.permissions().mode() & 0o700,
+        0o700
+    );
     fs::remove_file(&rt, link)?;
     fs::remove_file(&rt, name)?;
     let missing = files.fetch(alloc, name, 4).err();
