@@ -1,0 +1,2 @@
+//! Tests of the program over objects in memory.
+#![tactic(auto)]
