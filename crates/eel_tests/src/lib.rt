@@ -1,2 +1,0 @@
-//! Tests of the program over objects in memory.
-#![tactic(auto)]
