@@ -35,16 +35,21 @@ IsNotEdited name bytes (NoRoom named needed had) = (named ≡ name) × IsCramped
 IsNotEdited name bytes OutOfMemory = Unit {0}
 IsNotEdited name bytes _ = ⊥
 
+-- How an edit goes, step by step, and what comes of it.
 pub data Edits (input output : List ℕ) (old new : Store) (outcome : Outcome) : Type 0 where
+  -- IN gave no bytes
   unread : IsUnread old new input edit_limit outcome → new.held ≡ old.held
       → Edits input output old new outcome
+  -- IN was read, and isn't edited
   refused : (bytes : List ℕ) → WasRead old input edit_limit bytes
       → IsNotEdited input bytes outcome → new.held ≡ old.held
       → Edits input output old new outcome
+  -- its edited file was to be put as OUT
   put : (bytes : List ℕ) → WasRead old input edit_limit bytes
       → CanEdit bytes → IsFaithful bytes (edited bytes) → IsPut old new output (edited bytes) outcome
       → Edits input output old new outcome
 
+-- the edit is done
 pub record IsEdited (input output : List ℕ) (old new : Store) : Type 0 where
   pub bytes : List ℕ
   pub read : WasRead old input edit_limit bytes

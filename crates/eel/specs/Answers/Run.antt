@@ -74,22 +74,27 @@ IsRun s0 limit old_out new_out old_err new_err (Stopped ending steps) =
 IsRun s0 limit old_out new_out old_err new_err DeviceFault = WasBroken s0 limit old_out new_out old_err new_err
 IsRun s0 limit old_out new_out old_err new_err _ = ⊥
 
+-- How a run goes, step by step, and what comes of it.
 pub data Runs (file : List ℕ) (limit : ℕ) (args : List (List ℕ)) (old new : Outside) (outcome : Outcome) : Type 0 where
+  -- FILE gave no bytes
   unread : IsUnread old.files new.files file written_limit outcome → IsUnused old new → IsQuiet old new
       → Runs file limit args old new outcome
+  -- FILE was read, and not all of the input
   unfed : (bytes : List ℕ) → WasRead old.files file written_limit bytes
       → IsUnfed old.input new.input outcome → IsQuiet old new
       → Runs file limit args old new outcome
+  -- both were read, and the program isn't run
   refused : (bytes : List ℕ) → WasRead old.files file written_limit bytes
       → (input : List ℕ) → WasFed old.input new.input input
       → IsNotRun file bytes outcome → IsQuiet old new
       → Runs file limit args old new outcome
+  -- it was run
   ran : (bytes : List ℕ) → WasRead old.files file written_limit bytes
       → (input : List ℕ) → WasFed old.input new.input input
       → load_fault bytes ≡ None → IsRun (start_of bytes args input) limit old.out new.out old.err new.err outcome
       → Runs file limit args old new outcome
 
--- The program ran, and its ending line follows what it put out to the error stream.
+-- The run is done: its ending line follows what it put out to the error stream.
 pub record WasRun (file : List ℕ) (limit : ℕ) (args : List (List ℕ)) (old new : Outside) : Type 0 where
   pub bytes : List ℕ
   pub read : WasRead old.files file written_limit bytes

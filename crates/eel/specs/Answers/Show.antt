@@ -17,16 +17,21 @@ IsNotShown name bytes (BadFile named code) = (named ≡ name) × IsFaulty code b
 IsNotShown name bytes OutOfMemory = Unit {0}
 IsNotShown name bytes _ = ⊥
 
+-- How a listing goes, step by step, and what comes of it.
 pub data Lists (file : List ℕ) (old new : Outside) (outcome : Outcome) : Type 0 where
+  -- FILE gave no bytes
   unread : IsUnread old.files new.files file edit_limit outcome → IsQuiet old new
       → Lists file old new outcome
+  -- FILE was read, and isn't shown
   refused : (bytes : List ℕ) → WasRead old.files file edit_limit bytes
       → IsNotShown file bytes outcome → IsQuiet old new
       → Lists file old new outcome
+  -- its lines were to be printed
   printed : (bytes : List ℕ) → WasRead old.files file edit_limit bytes
       → IsSound bytes → IsPrinted old.out new.out (shown_of bytes) outcome → new.err.taken ≡ old.err.taken
       → Lists file old new outcome
 
+-- the listing is done
 pub record IsListed (file : List ℕ) (old new : Outside) : Type 0 where
   pub bytes : List ℕ
   pub read : WasRead old.files file edit_limit bytes
