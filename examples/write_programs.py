@@ -1,8 +1,9 @@
 #!/usr/bin/env python3
-"""Writes to crates/program_runs the small programs, all inputs, its arguments, and what it must print."""
+"""Writes to crates/program_runs the small programs, all inputs, scripts, its arguments, and what it must print."""
 import os
 
 import listings
+import sessions
 from programs import C_PROGRAMS, RUNS, SMALL
 
 
@@ -19,12 +20,13 @@ def main():
         if program.given:
             write(f'data/{program.name}.input', program.given)
     write('data/three_words_cut', SMALL[0].file()[:95])
-    for name, file in listings.files():
+    for name, file in [*listings.files(), *sessions.files()]:
         write(f'data/{name}', file)
-    printed = listings.printed()
-    names = [program.name for program in programs] + ['show'] + list(printed)
+    shown = listings.printed()
+    played = sessions.printed()
+    names = [program.name for program in programs] + ['show', *shown, 'session', *played]
     write('args', ''.join(f'{name}\n' for name in names).encode())
-    write('stdout', b''.join([program.report() for program in programs] + list(printed.values())))
+    write('stdout', b''.join([program.report() for program in programs] + [*shown.values(), *played.values()]))
 
 
 if __name__ == '__main__':

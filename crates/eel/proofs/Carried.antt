@@ -8,7 +8,7 @@ use Rattle.elf32_sparc.specs.declared.header.ProgramHeader.{ProgramHeader}
 use Rattle.elf32_sparc.specs.Header.{program_headers, is_load, is_loadable, loadable}
 use Rattle.elf32_sparc.specs.Image.{IsProgram, image_of}
 use Rattle.elf32_sparc.proofs.Images.{accepted-program}
-use Rattle.eel.specs.Answers.{CanEdit}
+use Rattle.eel.specs.Answers.Edit.{CanEdit}
 use Rattle.eel.specs.Written.{Plan, count, code_at, page_at, page_size, editor_page, added_headers, segment_headers}
 use Rattle.eel.specs.Straight.{delta_of, is_carried, carried_on, plan_of}
 

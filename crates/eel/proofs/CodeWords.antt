@@ -18,7 +18,7 @@ use Rattle.v8_step.proofs.ValidNumbers.{high_first-bytes, flat_map-bytes}
 use Rattle.v8_process.specs.Start.{start_memory}
 use Rattle.v8_process.specs.Fetched.{IsFirstCode}
 use Rattle.v8_process.proofs.Fetched.{code_is_fetched}
-use Rattle.eel.specs.Answers.{CanEdit}
+use Rattle.eel.specs.Answers.Edit.{CanEdit}
 use Rattle.eel.specs.Straight.{plan_of, edited, delta_of, not_executable}
 use Rattle.eel.specs.Written.{Plan, count, added_headers, words_bytes}
 use Rattle.eel.specs.Faithful.{is_code, kept}

@@ -1,5 +1,5 @@
 -- An edit is faithful: the written file is whole, has the pages and the places that it says.
-use Rattle.std.proofs.Common.{◌≡◌, ℕ, zero, suc, ◌+◌, ◌-◌, ◌*◌, ◌^◌, ◌<◌, ◌≤◌, List, [], ◌∷◌, ◌++◌, length, drop, map, slice_index, Some, None, Ok, refl, ap, ◌∙◌, arith, All, inl, inr, max, ◌/◌, ◌%◌}
+use Rattle.std.proofs.Common.{◌≡◌, ℕ, zero, suc, ◌+◌, ◌-◌, ◌*◌, ◌^◌, ◌<◌, ◌≤◌, List, [], ◌∷◌, ◌++◌, length, drop, map, slice_index, Some, None, Ok, refl, ap, ◌∙◌, arith, All, max, ◌/◌, ◌%◌}
 use Rattle.std.specs.List.{fold, find}
 use Rattle.std.specs.Option.{option_map, option_or}
 use Rattle.std.proofs.lemmas.List.Folds.{find-append}
@@ -9,10 +9,10 @@ use Rattle.elf32_sparc.specs.FileFault.{load_fault}
 use Rattle.elf32_sparc.specs.Mapping.{Mapping, mapping_of, mappings}
 use Rattle.elf32_sparc.specs.Image.{image_of, highest_end, segment_of, segment_end}
 use Rattle.elf32_sparc.specs.Notes.{NoteRange, notes_of}
-use Rattle.eel.specs.Answers.{CanEdit}
+use Rattle.eel.specs.Answers.Edit.{CanEdit}
 use Rattle.eel.specs.Straight.{plan_of, edited, delta_of, bound_of}
 use Rattle.eel.specs.Written.{Plan, count, added_headers, notes_at}
-use Rattle.eel.specs.Faithful.{IsFaithful, IsWhole, HasPages, IsPage, IsPlace, kept, word_mapped}
+use Rattle.eel.specs.Faithful.{IsFaithful, IsWhole, HasPages, IsInRoom, IsPlace, kept, word_mapped}
 use Rattle.eel.proofs.WrittenFacts.{IsPlan, HeaderFacts, PartFacts, notes_of_plan, range_of, ranges_from}
 use Rattle.eel.proofs.MappedFiles.{plan-original, plan-delta, plan-text, plan-base, mapped}
 use Rattle.elf32_sparc.proofs.Images.{accepted-program}
@@ -64,10 +64,9 @@ ranges-all P plan word zero each k d below = absurd (omega arith)
 ranges-all P plan word (suc more) each zero d below = each word (omega arith) (omega arith)
 ranges-all P plan word (suc more) each (suc k) d below = ranges-all P plan (word + 1) more (λ j from to. each j (omega arith) (omega arith)) k d (omega arith)
 
-all-two : (P : Mapping → Type 0) (x y : Mapping) → P x → P y → All P (x ∷ y ∷ [])
-all-two P x y px py zero d below = px
-all-two P x y px py (suc zero) d below = py
-all-two P x y px py (suc (suc k)) d below = absurd (omega arith)
+all-one : (P : Mapping → Type 0) (x : Mapping) → P x → All P (x ∷ [])
+all-one P x px zero d below = px
+all-one P x px (suc k) d below = absurd (omega arith)
 
 -- the code lies between the base and the bound above it
 code_page : (file : List ℕ) → ((image_of file).base ≤ (plan_of file).base) × ((plan_of file).base + 4 * count (plan_of file) ≤ (image_of file).base + bound_of (image_of file).text)
@@ -89,10 +88,12 @@ pages_from : (file : List ℕ) → CanEdit file → IsPlan (plan_of file) → He
     → HasPages file (edited file) (notes_of_plan (plan_of file))
 unfolding notes_of_plan
 pages_from file can plan header parts all = record {
-  pages = map (mapping_of (edited file)) (added_headers (plan_of file));
+  room = mapping_of (edited file) (code_header (plan_of file)) ∷ [];
+  editor = mapping_of (edited file) (page_header (plan_of file));
   mapped = all;
   noted = refl;
-  apart = all-two (IsPage file) _ _ (inl (code_page file)) (inr (refl, refl));
+  inside = all-one (IsInRoom file) _ (code_page file);
+  own = (refl, refl);
 }
 
 places_from : (file : List ℕ) → IsPlan (plan_of file) → PartFacts (plan_of file) (edited file)

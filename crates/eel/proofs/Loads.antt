@@ -11,7 +11,7 @@ use Rattle.elf32_sparc.proofs.Accepted.{Accepted, IsFit, accepted, has_text, tex
 use Rattle.elf32_sparc.proofs.Images.{accepted-program}
 use Rattle.elf32_sparc.proofs.Tables.{aligned}
 use Rattle.eel_base.specs.CodeText.{IsText}
-use Rattle.eel.specs.Answers.{CanEdit}
+use Rattle.eel.specs.Answers.Edit.{CanEdit}
 use Rattle.eel.specs.Written.{Plan, next_page, count, code_at, page_at, notes_at, editor_page, added_headers, segment_headers}
 use Rattle.eel.specs.Straight.{delta_of, is_carried, carried_on, plan_of}
 use Rattle.eel.proofs.Plans.{delta-to}

@@ -16,7 +16,7 @@ use Rattle.elf32_sparc.specs.Image.{words_of, text_from, text_of, no_text, IsPro
 use Rattle.elf32_sparc.proofs.Accepted.{Accepted, IsFit, accepted, has_text, text_is_fit}
 use Rattle.elf32_sparc.proofs.Images.{accepted-program}
 use Rattle.elf32_sparc.proofs.Tables.{few_headers, whole_header, aligned}
-use Rattle.eel.specs.Answers.{CanEdit}
+use Rattle.eel.specs.Answers.Edit.{CanEdit}
 use Rattle.eel.specs.Written.{IsSmall}
 use Rattle.eel.specs.Straight.{delta_of, is_carried, not_executable, carried_on, plan_of}
 use Rattle.eel.proofs.Plans.{delta-from, delta-to, room-base}

@@ -14,7 +14,7 @@ use Rattle.v8_step.proofs.Copied.{copies_follow}
 use Rattle.v8_step.proofs.Follows.{runs_follow}
 use Rattle.v8_process.specs.Start.{program_name, start_of}
 use Rattle.v8_process.proofs.Fetched.{text_is_fetched}
-use Rattle.eel.specs.Answers.{CanEdit}
+use Rattle.eel.specs.Answers.Edit.{CanEdit}
 use Rattle.eel.specs.Faithful.{HasPages}
 use Rattle.eel.specs.Runs.{IsWithin, AreRunsAlike, HaveRunsAlike, step_limit}
 use Rattle.eel.specs.Straight.{plan_of, edited}

@@ -1,5 +1,5 @@
 -- An original and its written file start alike, at the same word, and the notes have a place for each word.
-use Rattle.std.proofs.Common.{◌≡◌, ℕ, zero, suc, ◌+◌, ◌*◌, ◌^◌, ◌<◌, ◌≤◌, Bool, true, false, ◌&&◌, cond, nat_le, nat_lt, nat_eq, List, [], ◌∷◌, length, map, Option, Some, None, refl, ap, sym, ◌∙◌, subst, arith}
+use Rattle.std.proofs.Common.{◌≡◌, ℕ, zero, suc, ◌+◌, ◌*◌, ◌^◌, ◌<◌, ◌≤◌, Bool, true, false, ◌&&◌, cond, nat_le, nat_lt, nat_eq, List, [], ◌∷◌, ◌++◌, length, map, Option, Some, None, refl, ap, sym, ◌∙◌, subst, arith}
 use Rattle.std.specs.Prelude.{bit_and}
 use Rattle.std.specs.List.{find}
 use Rattle.std.specs.Option.{option_map_or}
@@ -22,7 +22,7 @@ use Rattle.v8_step.specs.Visits.{visited, page_of, pages_of}
 use Rattle.v8_process.specs.Alike.{IsSameMapping, AreSameMappings, span_of}
 use Rattle.v8_process.specs.Start.{program_name, start_memory, start_of}
 use Rattle.v8_process.proofs.Alike.{starts_alike}
-use Rattle.eel.specs.Answers.{CanEdit}
+use Rattle.eel.specs.Answers.Edit.{CanEdit}
 use Rattle.eel.specs.Faithful.{is_code, kept, note_of, HasPages}
 use Rattle.eel.specs.Straight.{not_executable, plan_of, edited}
 use Rattle.eel.specs.Written.{Plan, count}
@@ -52,9 +52,13 @@ all-kept : (ms : List Mapping) → AreSameMappings ms (map kept ms)
 all-kept [] = tt
 all-kept (m ∷ ms) = (same-kept m, all-kept ms)
 
+-- all pages
+abbrev pages : {original file : List ℕ} {notes : Notes} → HasPages original file notes → List Mapping
+pages has = has.room ++ has.editor ∷ []
+
 spans : (original file : List ℕ) (notes : Notes) (has : HasPages original file notes)
-    → map span_of has.pages ≡ pages_of notes
-spans original file notes has = sym (map-map page_of note_of has.pages) ∙ ap (map page_of) has.noted
+    → map span_of (pages has) ≡ pages_of notes
+spans original file notes has = sym (map-map page_of note_of (pages has)) ∙ ap (map page_of) has.noted
 
 -- The two start with the same in all but pc, npc and the pages.
 pub twin-starts : (original file : List ℕ) (notes : Notes) → HasPages original file notes
@@ -74,7 +78,7 @@ twin-starts original file notes has args input =
       memory =
           subst (λ (z : List Span). IsSameOutside z (start_memory original texts) (start_memory file texts))
           (spans original file notes has)
-          (starts_alike original file (map kept (mappings original)) has.pages has.mapped alike texts);
+          (starts_alike original file (map kept (mappings original)) (pages has) has.mapped alike texts);
     }
 
 -- ---- the entry

@@ -8,7 +8,7 @@ use Rattle.v8_process.specs.Arguments.{AreArguments}
 use Rattle.v8_process.specs.Start.{start_of}
 use Rattle.v8_process.proofs.Arguments.{arguments_fit}
 use Rattle.v8_process.proofs.Valid.{mappings_have_room, starts_valid}
-use Rattle.eel.specs.Answers.{CanEdit}
+use Rattle.eel.specs.Answers.Edit.{CanEdit}
 use Rattle.eel.specs.Straight.{plan_of, edited}
 use Rattle.eel.proofs.PlanFacts.{plan_is}
 use Rattle.eel.proofs.WrittenBytes.{written-bytes}

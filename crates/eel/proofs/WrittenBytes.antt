@@ -8,7 +8,7 @@ use Rattle.elf32_sparc.specs.declared.header.ProgramHeader.{ProgramHeader}
 use Rattle.elf32_sparc.specs.Header.{word_at}
 use Rattle.v8_step.specs.Valid.{AreBytes}
 use Rattle.v8_step.proofs.ValidNumbers.{high_first-bytes}
-use Rattle.eel.specs.Answers.{CanEdit}
+use Rattle.eel.specs.Answers.Edit.{CanEdit}
 use Rattle.eel.specs.Written.{Plan, words_bytes, halves_bytes, padded_to, program_header, locator_at, count, code_at, page_at, notes_at, segment_headers, file_header, headers, locator, places, notes_words, notes, written}
 use Rattle.eel.specs.Straight.{plan_of, edited}
 

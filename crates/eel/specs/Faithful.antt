@@ -1,5 +1,5 @@
 -- What ties a written file to its original: the parts of a faithful edit.
-use Rattle.std.specs.Prelude.{◌≡◌, ℕ, ◌+◌, ◌-◌, ◌*◌, ◌^◌, ◌<◌, ◌≤◌, ◌⊎◌, Bool, false, not, ◌&&◌, nat_le, if◌then◌else◌, List, ◌++◌, length, take, drop, map, slice_index, Option, Some, None, Ok, All}
+use Rattle.std.specs.Prelude.{◌≡◌, ℕ, ◌+◌, ◌-◌, ◌*◌, ◌^◌, ◌<◌, ◌≤◌, Bool, false, not, ◌&&◌, nat_le, if◌then◌else◌, List, [], ◌∷◌, ◌++◌, length, take, drop, map, slice_index, Option, Some, None, Ok, All}
 use Rattle.std.specs.List.{find}
 use Rattle.std.specs.Option.{option_map}
 use Rattle.byteorder.specs.Endian.{big_number}
@@ -20,8 +20,8 @@ pub record IsWhole (original file : List ℕ) (notes : Notes) : Type 0 where
   pub holds : take notes.length (drop notes.delta file) ≡ original
   pub small : length file ≤ 1536 * 2 ^ 20
 
--- Pages: what is mapped is what the original maps, its text no longer executable, and the pages of the
--- notes after that. A page lies from the base to at most the bound above it, or is the editor's.
+-- Pages: what is mapped is what the original maps, its text no longer executable, and then the pages of the
+-- notes. The last of them is the editor's, and all others lie in the room.
 
 abbrev pub is_code : Mapping → Bool
 is_code m = has_flag 1 m.flags && not (has_flag 2 m.flags)
@@ -32,17 +32,22 @@ kept m = record m { flags = if is_code m then not_executable m.flags else m.flag
 abbrev pub note_of : Mapping → NoteSegment
 note_of m = record { start = m.start; length = m.length }
 
-abbrev pub IsPage : List ℕ → Mapping → Type 0
-IsPage original m =
+-- a page lies from the base to at most the bound above it
+abbrev pub IsInRoom : List ℕ → Mapping → Type 0
+IsInRoom original m =
     let base = (image_of original).base in
-    let bound = bound_of (image_of original).text in
-    ((base ≤ m.start) × (m.start + m.length ≤ base + bound)) ⊎ ((m.start ≡ editor_page) × (m.length ≡ page_size))
+    (base ≤ m.start) × (m.start + m.length ≤ base + bound_of (image_of original).text)
+
+abbrev pub IsEditorPage : Mapping → Type 0
+IsEditorPage m = (m.start ≡ editor_page) × (m.length ≡ page_size)
 
 pub record HasPages (original file : List ℕ) (notes : Notes) : Type 0 where
-  pub pages : List Mapping
-  pub mapped : mappings file ≡ map kept (mappings original) ++ pages
-  pub noted : map note_of pages ≡ notes.segments
-  pub apart : All (IsPage original) pages
+  pub room : List Mapping
+  pub editor : Mapping
+  pub mapped : mappings file ≡ map kept (mappings original) ++ (room ++ editor ∷ [])
+  pub noted : map note_of (room ++ editor ∷ []) ≡ notes.segments
+  pub inside : All (IsInRoom original) room
+  pub own : IsEditorPage editor
 
 -- Places: where the notes say that a word of the text stands that is no transfer, it does.
 

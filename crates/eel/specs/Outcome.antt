@@ -24,6 +24,10 @@ pub data Outcome : Type 0 where
   NoRoom : (name : List ℕ) (needed had : ℕ) → Outcome
   -- the file has more bytes than `limit`
   TooLong : (name : List ℕ) (limit : ℕ) → Outcome
+  -- the file has no notes
+  NoNotes : (name : List ℕ) → Outcome
+  -- its notes break a rule, first with their word at this offset
+  BadNotes : (name : List ℕ) (at : ℕ) → Outcome
   OutOfMemory : Outcome
   DeviceFault : Outcome
 
@@ -33,6 +37,8 @@ status_of (Stopped ending steps) = 0
 status_of BadWords = 64
 status_of (BadFile name code) = 65
 status_of (NotBuilt name address) = 65
+status_of (NoNotes name) = 65
+status_of (BadNotes name at) = 65
 status_of (TooLong name limit) = 66
 status_of (NoRoom name needed had) = 69
 status_of OutOfMemory = 70
@@ -62,6 +68,8 @@ line_of (NotBuilt name address) = line_about name (codes "not built at " ++ hex_
 line_of (TooLong name limit) = line_about name (codes "longer than " ++ decimal limit ++ codes " bytes")
 line_of (NoRoom name needed had) =
     line_about name (codes "room " ++ decimal needed ++ codes " needed, " ++ decimal had ++ codes " had")
+line_of (NoNotes name) = line_about name (codes "no notes")
+line_of (BadNotes name at) = line_about name (codes "bad notes at " ++ decimal at)
 line_of OutOfMemory = line (codes "out of memory")
 line_of DeviceFault = line (codes "device fault")
 
@@ -93,5 +101,7 @@ outcome_seen (variants.BadFile name code) = BadFile name.now code
 outcome_seen (variants.NotBuilt name address) = NotBuilt name.now address.0
 outcome_seen (variants.NoRoom name needed had) = NoRoom name.now needed had
 outcome_seen (variants.TooLong name limit) = TooLong name.now limit
+outcome_seen (variants.NoNotes name) = NoNotes name.now
+outcome_seen (variants.BadNotes name at) = BadNotes name.now at
 outcome_seen variants.OutOfMemory = OutOfMemory
 outcome_seen variants.DeviceFault = DeviceFault

@@ -1,12 +1,13 @@
 //! The command `edit`.
 ghost use Rattle.std.specs.Prelude.{◌≡◌, ◌≤◌};
-ghost use Rattle.eel.specs.Command.{EditPlain};
-ghost use Rattle.eel.specs.Outcome.{Stream, outcome_seen};
-ghost use Rattle.eel.specs.Answers.{Feed, Follows, outside, refusal_of, store};
+ghost use Rattle.eel.specs.Outcome.{outcome_seen};
+ghost use Rattle.eel.specs.Answers.Shared.{store};
+ghost use Rattle.eel.specs.Answers.Edit.{Edits, refusal_of};
 
-use crate::outcome::{Outcome, unread};
+use crate::outcome::Outcome;
 use crate::straight::{EditFault, edited};
-use eel_base::{Files, PutFault};
+use crate::texts::{fetch_file, put_file};
+use eel_base::Files;
 use std::alloc::Global;
 
 /// How many bytes a file may have that is edited or shown.
@@ -19,24 +20,17 @@ pub fn edit_plain<'a, F: Files>(
     input: &'a str,
     output: &str,
 ) -> Outcome<'a>
-    // Whatever the streams are, they stay so.
-    ensures follows { (feed : Feed) (out err : Stream) → Follows (EditPlain input.now output.now)
-        (outside (store (F.held files.old) (F.faults files.old)) feed out err)
-        (outside (store (F.held files.new) (F.faults files.new)) feed out err) (outcome_seen result) }
+    ensures edits { Edits input.now output.now (store (F.held files.old) (F.faults files.old))
+        (store (F.held files.new) (F.faults files.new)) (outcome_seen result) }
     ensures later { F.faults files.old ≤ F.faults files.new }
 {
-    let bytes = match files.fetch(alloc, input, EDIT_LIMIT) {
+    let bytes = match fetch_file(alloc, files, input, EDIT_LIMIT) {
         Ok(bytes) => bytes,
-        Err(fault) => return unread(input, EDIT_LIMIT, fault),
+        Err(outcome) => return outcome,
     };
-    let written = match edited(alloc, &bytes) {
-        Ok(written) => written,
-        Err(fault) => return refusal(input, fault),
-    };
-    match files.put(output, &written) {
-        Ok(()) => Outcome::Done,
-        Err(PutFault::NoMemory) => Outcome::OutOfMemory,
-        Err(PutFault::Failed) => Outcome::DeviceFault,
+    match edited(alloc, &bytes) {
+        Ok(written) => put_file(files, output, &written),
+        Err(fault) => refusal(input, fault),
     }
 }
 

@@ -1,13 +1,15 @@
 //! The command `show`.
-ghost use Rattle.std.specs.Prelude.{◌≤◌};
-ghost use Rattle.eel.specs.Command.{Show};
+ghost use Rattle.std.specs.Prelude.{◌≡◌, ◌≤◌, IfOk, IfErr};
 ghost use Rattle.eel.specs.Outcome.{Stream, outcome_seen, stream};
-ghost use Rattle.eel.specs.Answers.{Feed, Follows, outside, store};
+ghost use Rattle.eel.specs.Answers.Files.{IsSound};
+ghost use Rattle.eel.specs.Answers.Shared.{Feed, outside, store};
+ghost use Rattle.eel.specs.Answers.Show.{IsNotShown, Lists, shown_of};
 
 use crate::edit::EDIT_LIMIT;
-use crate::outcome::{Outcome, unread};
+use crate::outcome::Outcome;
+use crate::texts::{fetch_file, print};
 use cfg_view::look;
-use eel_base::{Failed, Files, NoMemory, Sink, put_all};
+use eel_base::{Files, NoMemory, Sink};
 use elf32_sparc::ReadFault;
 use show_text::show;
 use std::alloc::Global;
@@ -20,33 +22,42 @@ pub fn show_program<'a, F: Files, O: Sink>(
     out: &mut O,
 ) -> Outcome<'a>
     // Whatever the input and the error stream are, they stay so.
-    ensures follows { (feed : Feed) (err : Stream) → Follows (Show file.now)
+    ensures lists { (feed : Feed) (err : Stream) → Lists file.now
         (outside (store (F.held files.old) (F.faults files.old)) feed (stream (O.taken out.old) (O.faults out.old)) err)
         (outside (store (F.held files.new) (F.faults files.new)) feed (stream (O.taken out.new) (O.faults out.new)) err)
         (outcome_seen result) }
+    ensures kept { F.held files.new ≡ F.held files.old }
     ensures files_faults { F.faults files.old ≤ F.faults files.new }
     ensures out_faults { O.faults out.old ≤ O.faults out.new }
 {
-    let bytes = match files.fetch(alloc, file, EDIT_LIMIT) {
+    let bytes = match fetch_file(alloc, files, file, EDIT_LIMIT) {
         Ok(bytes) => bytes,
-        Err(fault) => return unread(file, EDIT_LIMIT, fault),
+        Err(outcome) => return outcome,
     };
-    let view = match look(alloc, &bytes, &[]) {
+    match listing(alloc, file, &bytes) {
+        Ok(lines) => print(out, &lines),
+        Err(outcome) => outcome,
+    }
+}
+
+/// The lines that show the program of the file `name`.
+fn listing<'a>(alloc: Global, name: &'a str, bytes: &[u8]) -> Result<Vec<u8>, Outcome<'a>>
+    ensures lines { IfOk result (λ lines. lines.items ≡ shown_of bytes.now) }
+    ensures sound { IfOk result (λ lines. IsSound bytes.now) }
+    ensures refused { IfErr result (λ outcome. IsNotShown name.now bytes.now (outcome_seen outcome)) }
+{
+    let view = match look(alloc, bytes, &[]) {
         Ok(view) => view,
         Err(ReadFault::File(fault)) => {
-            return Outcome::BadFile {
-                name: file,
+            return Err(Outcome::BadFile {
+                name,
                 code: fault.code(),
-            };
+            });
         }
-        Err(ReadFault::NoMemory) => return Outcome::OutOfMemory,
+        Err(ReadFault::NoMemory) => return Err(Outcome::OutOfMemory),
     };
-    let text = match show(alloc, &view) {
-        Ok(text) => text,
-        Err(NoMemory) => return Outcome::OutOfMemory,
-    };
-    match put_all(out, &text) {
-        Ok(()) => Outcome::Done,
-        Err(Failed) => Outcome::DeviceFault,
+    match show(alloc, &view) {
+        Ok(lines) => Ok(lines),
+        Err(NoMemory) => Err(Outcome::OutOfMemory),
     }
 }

@@ -1,10 +1,9 @@
 //! What came of a command, and how the program shows it.
 ghost use Rattle.std.specs.Prelude.{◌≡◌, ◌≤◌, ◌++◌, ◌∷◌, [], OnOk, OnErr};
 ghost use Rattle.eel_base.specs.Outside.{Rose, appended, TookPart};
-ghost use Rattle.eel.specs.Answers.{unread_of};
 ghost use Rattle.eel.specs.Outcome.{outcome_seen, status_of, ending_text, line_of, stream, Shows, joined};
 
-use eel_base::{Addr, Failed, FetchFault, Sink, hex8, put_all};
+use eel_base::{Addr, Failed, Sink, hex8, put_all};
 use itoa::Buffer;
 use v8_step::Ending;
 
@@ -41,6 +40,15 @@ pub enum Outcome<'a> {
         needed: u64,
         had: u64,
     },
+    /// The file `name` has no notes.
+    NoNotes {
+        name: &'a str,
+    },
+    /// The notes of the file `name` break a rule, first with their word at the offset `at`.
+    BadNotes {
+        name: &'a str,
+        at: u32,
+    },
     OutOfMemory,
     DeviceFault,
 }
@@ -56,23 +64,15 @@ impl Outcome<'_> {
         match self {
             Outcome::Done | Outcome::Stopped { .. } => 0,
             Outcome::BadWords => 64,
-            Outcome::BadFile { .. } | Outcome::NotBuilt { .. } => 65,
+            Outcome::BadFile { .. }
+            | Outcome::NotBuilt { .. }
+            | Outcome::NoNotes { .. }
+            | Outcome::BadNotes { .. } => 65,
             Outcome::TooLong { .. } => 66,
             Outcome::NoRoom { .. } => 69,
             Outcome::OutOfMemory => 70,
             Outcome::DeviceFault => DEVICE_FAULT,
         }
-    }
-}
-
-/// What comes of the text `name` where it wasn't read.
-pub fn unread<'a>(name: &'a str, limit: u64, fault: FetchFault) -> Outcome<'a>
-    ensures { outcome_seen result ≡ unread_of name.now limit fault }
-{
-    match fault {
-        FetchFault::Failed => Outcome::DeviceFault,
-        FetchFault::TooLong => Outcome::TooLong { name, limit },
-        FetchFault::NoMemory => Outcome::OutOfMemory,
     }
 }
 
@@ -150,6 +150,17 @@ fn put_line<E: Sink>(outcome: &Outcome, err: &mut E) -> Result<(), Failed>
                     had,
                     b" had\n",
                 ],
+            )
+        }
+        Outcome::NoNotes { name } => {
+            put_pieces(err, &[b"eel: ", name.as_bytes(), b": no notes\n"])
+        }
+        Outcome::BadNotes { name, at } => {
+            let mut digits = Buffer::new();
+            let at = digits.format(*at).as_bytes();
+            put_pieces(
+                err,
+                &[b"eel: ", name.as_bytes(), b": bad notes at ", at, b"\n"],
             )
         }
         Outcome::OutOfMemory => put_pieces(err, &[b"eel: out of memory\n"]),

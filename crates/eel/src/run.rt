@@ -1,23 +1,23 @@
 //! The command `run`.
-ghost use Rattle.std.specs.Prelude.{◌≤◌};
+ghost use Rattle.std.specs.Prelude.{◌≡◌, ◌≤◌, IfOk, IfErr, OnOk, None};
+ghost use Rattle.elf32_sparc.specs.FileFault.{load_fault};
 ghost use Rattle.v8_process.specs.Arguments.{AreArguments};
-ghost use Rattle.eel.specs.Command.{Run, texts};
+ghost use Rattle.v8_process.specs.Start.{start_of};
+ghost use Rattle.eel.specs.Command.{texts};
 ghost use Rattle.eel.specs.Outcome.{outcome_seen, stream};
-ghost use Rattle.eel.specs.Answers.{Follows, outside, store, feed};
+ghost use Rattle.eel.specs.Answers.Shared.{feed, outside, store};
+ghost use Rattle.eel.specs.Answers.Run.{IsNotRun, IsRun, Runs, stopped_of};
 
-use crate::outcome::{Outcome, unread};
-use eel_base::{Files, Sink, Source, read_all};
+use crate::outcome::Outcome;
+use crate::texts::{fetch_file, read_input};
+use eel_base::{Files, Sink, Source};
 use std::alloc::Global;
 use v8_process::{LoadFault, load};
-use v8_runner::{Stop, run};
+use v8_runner::{RunEnd, Stop, run};
+use v8_step::Machine;
 
-/// How many bytes a file may have that is run, and the input of a run.
+/// How many bytes a file may have that is run.
 const RUN_LIMIT: u64 = 1536 << 20;
-
-const INPUT_LIMIT: u64 = 64 << 20;
-
-/// What the input is called where it is refused.
-const STANDARD_INPUT: &str = "standard input";
 
 /// A program that is to run.
 #[derive(Clone, Copy)]
@@ -37,36 +37,77 @@ pub fn run_program<'a, F: Files, I: Source, O: Sink, E: Sink>(
     err: &mut E,
 ) -> Outcome<'a>
     requires few { AreArguments (texts job.args.now) }
-    ensures follows { Follows (Run job.entry.file.now job.entry.limit (texts job.entry.args.now))
+    ensures runs { Runs job.entry.file.now job.entry.limit (texts job.entry.args.now)
         (outside (store (F.held files.old) (F.faults files.old)) (feed (I.left input.old) (I.faults input.old))
         (stream (O.taken out.old) (O.faults out.old)) (stream (E.taken err.old) (E.faults err.old)))
         (outside (store (F.held files.new) (F.faults files.new)) (feed (I.left input.new) (I.faults input.new))
         (stream (O.taken out.new) (O.faults out.new)) (stream (E.taken err.new) (E.faults err.new)))
         (outcome_seen result) }
+    ensures kept { F.held files.new ≡ F.held files.old }
     ensures files_faults { F.faults files.old ≤ F.faults files.new }
     ensures input_faults { I.faults input.old ≤ I.faults input.new }
     ensures out_faults { O.faults out.old ≤ O.faults out.new }
     ensures err_faults { E.faults err.old ≤ E.faults err.new }
 {
-    let bytes = match files.fetch(alloc, job.file, RUN_LIMIT) {
+    let bytes = match fetch_file(alloc, files, job.file, RUN_LIMIT) {
         Ok(bytes) => bytes,
-        Err(fault) => return unread(job.file, RUN_LIMIT, fault),
+        Err(outcome) => return outcome,
     };
-    let given = match read_all(alloc, input, INPUT_LIMIT) {
+    let given = match read_input(alloc, input) {
         Ok(given) => given,
-        Err(fault) => return unread(STANDARD_INPUT, INPUT_LIMIT, fault),
+        Err(outcome) => return outcome,
     };
-    let mut machine = match load(alloc, &bytes, job.args, given) {
-        Ok(machine) => machine,
-        Err(LoadFault::File(fault)) => {
-            return Outcome::BadFile {
-                name: job.file,
-                code: fault.code(),
-            };
-        }
-        Err(LoadFault::NoMemory) => return Outcome::OutOfMemory,
-    };
-    let end = run(&mut machine, job.limit, out, err);
+    match start(alloc, job, &bytes, given) {
+        Ok(machine) => run_machine(machine, job.limit, out, err),
+        Err(outcome) => outcome,
+    }
+}
+
+/// The machine that is about to run the program.
+fn start<'a>(
+    alloc: Global,
+    job: Job<'a>,
+    bytes: &[u8],
+    given: Vec<u8>,
+) -> Result<Machine, Outcome<'a>>
+    requires few { AreArguments (texts job.args.now) }
+    ensures machine { IfOk result (λ machine.
+        machine ≡ start_of bytes.now (texts job.entry.args.now) given.items) }
+    ensures loads { OnOk result (load_fault bytes.now ≡ None) }
+    ensures refused { IfErr result (λ outcome.
+        IsNotRun job.entry.file.now bytes.now (outcome_seen outcome)) }
+{
+    match load(alloc, bytes, job.args, given) {
+        Ok(machine) => Ok(machine),
+        Err(LoadFault::File(fault)) => Err(Outcome::BadFile {
+            name: job.file,
+            code: fault.code(),
+        }),
+        Err(LoadFault::NoMemory) => Err(Outcome::OutOfMemory),
+    }
+}
+
+/// Runs the machine.
+fn run_machine<O: Sink, E: Sink>(
+    mut machine: Machine,
+    limit: u64,
+    out: &mut O,
+    err: &mut E,
+) -> Outcome<'static>
+    ensures ran { IsRun machine limit
+        (stream (O.taken out.old) (O.faults out.old)) (stream (O.taken out.new) (O.faults out.new))
+        (stream (E.taken err.old) (E.faults err.old)) (stream (E.taken err.new) (E.faults err.new))
+        (outcome_seen result) }
+    ensures out_faults { O.faults out.old ≤ O.faults out.new }
+    ensures err_faults { E.faults err.old ≤ E.faults err.new }
+{
+    outcome_of(run(&mut machine, limit, out, err))
+}
+
+/// What the end of a run comes to.
+fn outcome_of(end: RunEnd) -> Outcome<'static>
+    ensures { outcome_seen result ≡ stopped_of end.stop end.steps }
+{
     match end.stop {
         Stop::Limit => Outcome::Stopped {
             ending: None,

@@ -1,6 +1,6 @@
 //! The edit of straight code: which files it takes, and the plan of the written file.
 ghost use Rattle.std.specs.Prelude.{◌≡◌, ◌≤◌, ◌<◌, ◌^◌, length, map, filter, IfOk, OnOk, IfErr, vec_len, MatchOption};
-ghost use Rattle.eel.specs.Answers.{CanEdit, EditRefuses};
+ghost use Rattle.eel.specs.Answers.Edit.{CanEdit, EditRefuses};
 ghost use Rattle.eel.specs.Faithful.{IsFaithful};
 ghost use Rattle.v8_step.specs.Items.{is_transfer as is_transfer_of};
 ghost use Rattle.eel.specs.Straight.{IsStraight, IsFirstTransfer, bound_of, delta_of, is_carried as is_carried_of, carried_on as carried_on_of, plan_of, edited as edited_of};

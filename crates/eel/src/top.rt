@@ -1,8 +1,9 @@
 //! The one call that the program makes.
 ghost use Rattle.std.specs.Prelude.{◌≡◌, ◌≤◌};
-ghost use Rattle.eel.specs.Command.{Unknown, command_of, texts};
+ghost use Rattle.eel.specs.Command.{command_of, texts};
 ghost use Rattle.eel.specs.Outcome.{outcome_seen, stream};
-ghost use Rattle.eel.specs.Answers.{Ran, Follows, IsDone, IsRefusal, MayFail, UnlessPrints, UnlessRun, outside, store, feed};
+ghost use Rattle.eel.specs.Answers.Shared.{outside, store, feed};
+ghost use Rattle.eel.specs.Answers.{HasFailed, IsDone, IsRefusal, IsUnchanged, Ran, meaning_of};
 
 use crate::command::{Command, parse};
 use crate::edit::edit_plain;
@@ -28,8 +29,7 @@ pub fn eel<F: Files, I: Source, O: Sink, E: Sink>(
         (outside (store (F.held files.new) (F.faults files.new)) (feed (I.left input.new) (I.faults input.new))
         (stream (O.taken out.new) (O.faults out.new)) (stream (E.taken err.new) (E.faults err.new))) result }
 
-    // Done: an edit holds what was asked for under its name and says nothing; a run put out what its program did,
-    // and a listing its lines.
+    // Done: the edited file is written, the program ran, or its listing was printed.
     ensures done { result ≡ 0 → IsDone (command_of (texts words.now))
         (outside (store (F.held files.old) (F.faults files.old)) (feed (I.left input.old) (I.faults input.old))
         (stream (O.taken out.old) (O.faults out.old)) (stream (E.taken err.old) (E.faults err.old)))
@@ -37,18 +37,18 @@ pub fn eel<F: Files, I: Source, O: Sink, E: Sink>(
         (stream (O.taken out.new) (O.faults out.new)) (stream (E.taken err.new) (E.faults err.new))) }
 
     // A refusal changes no file and puts nothing out.
-    ensures refused { IsRefusal result → F.held files.new ≡ F.held files.old }
-    ensures quiet { IsRefusal result → O.taken out.new ≡ O.taken out.old }
-    ensures bad_words { result ≡ 64 → command_of (texts words.now) ≡ Unknown }
-    ensures fault { result ≡ 74 → MayFail (command_of (texts words.now))
+    ensures refused { IsRefusal result → IsUnchanged
         (outside (store (F.held files.old) (F.faults files.old)) (feed (I.left input.old) (I.faults input.old))
         (stream (O.taken out.old) (O.faults out.old)) (stream (E.taken err.old) (E.faults err.old)))
         (outside (store (F.held files.new) (F.faults files.new)) (feed (I.left input.new) (I.faults input.new))
         (stream (O.taken out.new) (O.faults out.new)) (stream (E.taken err.new) (E.faults err.new))) }
 
-    // Only a run uses the input, and only a run and a listing put something out.
-    ensures input { UnlessRun (command_of (texts words.now)) (I.left input.new ≡ I.left input.old) }
-    ensures out { UnlessPrints (command_of (texts words.now)) (O.taken out.new ≡ O.taken out.old) }
+    // A device failed, or the name that is read is missing.
+    ensures failed { result ≡ 74 → HasFailed (command_of (texts words.now))
+        (outside (store (F.held files.old) (F.faults files.old)) (feed (I.left input.old) (I.faults input.old))
+        (stream (O.taken out.old) (O.faults out.old)) (stream (E.taken err.old) (E.faults err.old)))
+        (outside (store (F.held files.new) (F.faults files.new)) (feed (I.left input.new) (I.faults input.new))
+        (stream (O.taken out.new) (O.faults out.new)) (stream (E.taken err.new) (E.faults err.new))) }
 {
     let outcome = perform(alloc, words, files, input, out, err);
     show(&outcome, err)
@@ -63,14 +63,12 @@ fn perform<'a, F: Files, I: Source, O: Sink, E: Sink>(
     out: &mut O,
     err: &mut E,
 ) -> Outcome<'a>
-    ensures follows { Follows (command_of (texts words.now))
+    ensures follows { (meaning_of (command_of (texts words.now))).follows
         (outside (store (F.held files.old) (F.faults files.old)) (feed (I.left input.old) (I.faults input.old))
         (stream (O.taken out.old) (O.faults out.old)) (stream (E.taken err.old) (E.faults err.old)))
         (outside (store (F.held files.new) (F.faults files.new)) (feed (I.left input.new) (I.faults input.new))
         (stream (O.taken out.new) (O.faults out.new)) (stream (E.taken err.new) (E.faults err.new)))
         (outcome_seen result) }
-    ensures input { UnlessRun (command_of (texts words.now)) (I.left input.new ≡ I.left input.old) }
-    ensures out { UnlessPrints (command_of (texts words.now)) (O.taken out.new ≡ O.taken out.old) }
     ensures files_faults { F.faults files.old ≤ F.faults files.new }
     ensures input_faults { I.faults input.old ≤ I.faults input.new }
     ensures out_faults { O.faults out.old ≤ O.faults out.new }

@@ -21,6 +21,10 @@ pub enum Refusal {
     Unread,
     #[error("file fault {0}")]
     FileFault(u8),
+    #[error("no line of a script")]
+    Script,
+    #[error("different")]
+    Different,
     #[error("out of memory")]
     NoMemory,
 }

@@ -1,14 +1,16 @@
 //! Runs the programs whose files are named by its arguments, each on an input of its own, and prints what
 //! comes of each: how it ends, after how many steps, and what it puts out. Those that are named after the word
-//! `show` it lists instead.
+//! `show` it lists instead, and those after the word `session` are scripts of calls of the editor.
 #![tactic(auto)]
 
 mod job;
 mod report;
+mod session;
 
 use eel_base::{Files, RealFiles};
 use job::{Job, Refusal};
 use report::Report;
+use session::{play, read_script};
 use std::alloc::Global;
 use std::io::Write;
 use std::{env, io};
@@ -40,16 +42,39 @@ fn print_listing(rt: &HostRuntime, files: &mut impl Files, name: &str) -> io::Re
     }
 }
 
+/// Prints each line of the script that is a call, and what comes of it.
+fn print_session(rt: &HostRuntime, folder: &mut impl Files, name: &str) -> io::Result<()> {
+    println!(rt; "{name}:")?;
+    match read_script(rt.alloc(), folder, name) {
+        Ok(script) => play(rt, folder, &script),
+        Err(refusal) => println!(rt; "{refusal}"),
+    }
+}
+
+/// What is done with the files that are named.
+#[derive(Clone, Copy)]
+enum Mode {
+    Run,
+    Show,
+    Session,
+}
+
+fn print_file(rt: &HostRuntime, files: &mut impl Files, mode: Mode, name: &str) -> io::Result<()> {
+    match mode {
+        Mode::Run => print_run(rt, files, name),
+        Mode::Show => print_listing(rt, files, name),
+        Mode::Session => print_session(rt, files, name),
+    }
+}
+
 fn main(rt: HostRuntime) -> io::Result<()> {
     let mut files = RealFiles::new(&rt);
-    let mut is_shown = false;
-    for name in env::args(&rt)?.skip(1) {
-        if name.as_str() == "show" {
-            is_shown = true;
-        } else if is_shown {
-            print_listing(&rt, &mut files, name.as_str())?;
-        } else {
-            print_run(&rt, &mut files, name.as_str())?;
+    let mut mode = Mode::Run;
+    for word in env::args(&rt)?.skip(1) {
+        match word.as_str() {
+            "show" => mode = Mode::Show,
+            "session" => mode = Mode::Session,
+            name => print_file(&rt, &mut files, mode, name)?,
         }
     }
     Ok(())

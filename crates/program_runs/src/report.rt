@@ -40,7 +40,7 @@ impl fmt::Display for Ran {
 }
 
 /// Prints the bytes as they are, and a newline after them, where there are any.
-fn print_bytes(rt: &impl Print, mark: &str, bytes: &[u8]) -> io::Result<()> {
+pub fn print_bytes(rt: &impl Print, mark: &str, bytes: &[u8]) -> io::Result<()> {
     if bytes.is_empty() {
         return Ok(());
     }

@@ -42,3 +42,15 @@ returns-in-NoRoom-clause-all g c = rw c.in-NoRoom.is (simp append_assoc (rw (c.a
 
 pub returns-in-NoRoom-clause-part : goal.returns-in-NoRoom-clause-part
 returns-in-NoRoom-clause-part g c = rw c.in-NoRoom.is (simp append_assoc (rw (c.as_bytes-in-NoRoom.ensures.value, c.as_bytes-needed.ensures.value, c.as_bytes-had.ensures.value, c.format-in-NoRoom.ensures.text, c.format-in-NoRoom-2.ensures.text) at c.put_pieces-in-NoRoom.ensures.part))
+
+pub returns-in-NoNotes-clause-all : goal.returns-in-NoNotes-clause-all
+returns-in-NoNotes-clause-all g c = rw c.in-NoNotes.is (simp append_assoc (rw (c.as_bytes-in-NoNotes.ensures.value) at c.put_pieces-in-NoNotes.ensures.all))
+
+pub returns-in-NoNotes-clause-part : goal.returns-in-NoNotes-clause-part
+returns-in-NoNotes-clause-part g c = rw c.in-NoNotes.is (simp append_assoc (rw (c.as_bytes-in-NoNotes.ensures.value) at c.put_pieces-in-NoNotes.ensures.part))
+
+pub returns-in-BadNotes-clause-all : goal.returns-in-BadNotes-clause-all
+returns-in-BadNotes-clause-all g c = rw c.in-BadNotes.is (simp append_assoc (rw (c.as_bytes-in-BadNotes.ensures.value, c.as_bytes-at.ensures.value, c.format-in-BadNotes.ensures.text) at c.put_pieces-in-BadNotes.ensures.all))
+
+pub returns-in-BadNotes-clause-part : goal.returns-in-BadNotes-clause-part
+returns-in-BadNotes-clause-part g c = rw c.in-BadNotes.is (simp append_assoc (rw (c.as_bytes-in-BadNotes.ensures.value, c.as_bytes-at.ensures.value, c.format-in-BadNotes.ensures.text) at c.put_pieces-in-BadNotes.ensures.part))

@@ -1,8 +1,32 @@
-use Rattle.eel.proofs.Shown.{done_shown, fault_shown}
+use Rattle.eel.proofs.Answered.{done_shown, refused_shown, failed_shown}
 use Rattle.eel.proofs.top.eel.Goals as goal
 
 pub returns-clause-done : goal.returns-clause-done
-returns-clause-done g c = done_shown _ _ _ _ _ _ c.perform-outcome.ensures.follows c.show.ensures.shows
+returns-clause-done g c = done_shown _ _ _ _ (record {
+  outcome = _;
+  err = _;
+  follows = c.perform-outcome.ensures.follows;
+  shown = c.show.ensures.shows;
+  later = c.perform-outcome.ensures.err_faults;
+  at_last = c.show.ensures.later;
+})
 
-pub returns-clause-fault : goal.returns-clause-fault
-returns-clause-fault g c = fault_shown _ _ _ _ _ _ c.perform-outcome.ensures.err_faults c.show.ensures.later c.perform-outcome.ensures.follows c.show.ensures.shows
+pub returns-clause-refused : goal.returns-clause-refused
+returns-clause-refused g c = refused_shown _ _ _ _ (record {
+  outcome = _;
+  err = _;
+  follows = c.perform-outcome.ensures.follows;
+  shown = c.show.ensures.shows;
+  later = c.perform-outcome.ensures.err_faults;
+  at_last = c.show.ensures.later;
+})
+
+pub returns-clause-failed : goal.returns-clause-failed
+returns-clause-failed g c = failed_shown _ _ _ _ (record {
+  outcome = _;
+  err = _;
+  follows = c.perform-outcome.ensures.follows;
+  shown = c.show.ensures.shows;
+  later = c.perform-outcome.ensures.err_faults;
+  at_last = c.show.ensures.later;
+})

@@ -1,7 +1,14 @@
+use Rattle.std.proofs.Common.{refl}
 use Rattle.eel.proofs.top.perform.Goals as goal
 
 pub returns-in-EditPlain-clause-follows : goal.returns-in-EditPlain-clause-follows
-returns-in-EditPlain-clause-follows g c = rw (← c.in-EditPlain.ensures.command) (c.edit_plain.ensures.follows _ _ _)
+returns-in-EditPlain-clause-follows g c =
+    rw (← c.in-EditPlain.ensures.command) (c.edit_plain.ensures.edits, refl, (refl, refl))
+
+pub returns-in-Run-clause-follows : goal.returns-in-Run-clause-follows
+returns-in-Run-clause-follows g c =
+    rw (← c.in-Run.ensures.command) (c.run_program.ensures.runs, c.run_program.ensures.kept)
 
 pub returns-in-Show-clause-follows : goal.returns-in-Show-clause-follows
-returns-in-Show-clause-follows g c = rw (← c.in-Show.ensures.command) (c.show_program.ensures.follows _ _)
+returns-in-Show-clause-follows g c =
+    rw (← c.in-Show.ensures.command) (c.show_program.ensures.lists _ _, c.show_program.ensures.kept, refl)

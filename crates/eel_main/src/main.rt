@@ -1,28 +1,10 @@
-//! EEL, an executable editor for SPARC V8.
+//! EEL, an executable editor for SPARC V8, with the files and streams of the system.
 #![tactic(auto)]
 
-#[cfg(test)]
-mod both_ways_tests;
-mod command;
-mod edit;
-mod listing;
-mod outcome;
-mod run;
-#[cfg(test)]
-mod run_tests;
-#[cfg(test)]
-mod show_tests;
-mod straight;
-#[cfg(test)]
-mod tests;
-mod top;
-mod written;
-
+use eel::{Outcome, show};
 use eel_base::{RealFiles, StdSink, StdSource};
-use outcome::Outcome;
 use std::process::ExitCode;
 use std::{env, io};
-use top::eel;
 
 /// The words after the program's name.
 fn words_given(rt: &HostRuntime) -> io::Result<Vec<String>> {
@@ -37,7 +19,7 @@ fn run_command(rt: &HostRuntime) -> io::Result<u8> {
     let mut input = StdSource::new(rt.stdin());
     let mut out = StdSink::new(rt.stdout());
     let mut err = StdSink::new(rt.stderr());
-    Ok(eel(
+    Ok(eel::eel(
         rt.alloc(),
         &words,
         &mut files,
@@ -58,7 +40,7 @@ fn refusal(fault: io::Error) -> Outcome<'static> {
 fn main(rt: HostRuntime) -> ExitCode {
     let status = match run_command(&rt) {
         Ok(status) => status,
-        Err(fault) => outcome::show(&refusal(fault), &mut StdSink::new(rt.stderr())),
+        Err(fault) => show(&refusal(fault), &mut StdSink::new(rt.stderr())),
     };
     ExitCode::from(status)
 }

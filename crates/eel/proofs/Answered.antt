@@ -1,0 +1,61 @@
+-- What there is after a call, by its status.
+use Rattle.std.proofs.Common.{◌≡◌, ℕ, inl, inr, ap, subst, arith}
+use Rattle.eel.specs.Command.{Command, EditPlain, Run, Show, Unknown}
+use Rattle.eel.specs.Outcome.{Shows, shown, failed, status_of}
+use Rattle.eel.specs.Answers.{Ran, IsDone, IsRefusal, IsUnchanged, HasFailed, meaning_of, unknown_means}
+use Rattle.eel.specs.Answers.Shared.{Outside, with_err}
+use Rattle.eel.proofs.Later.{rose-before, rose-after}
+use Rattle.eel.proofs.Meanings.{IsByStatus, AnyRose, refusal_is_bad}
+use Rattle.eel.proofs.Editing.{edit_by_status}
+use Rattle.eel.proofs.Running.{run_by_status}
+use Rattle.eel.proofs.Showing.{show_by_status}
+
+unknown_by_status : IsByStatus unknown_means
+unknown_by_status = record {
+  done = λ old new err outcome follows zero took.
+      let at : status_of outcome ≡ 64 = ap status_of follows.0 in absurd (omega (arith, zero, at));
+  refused = λ old new outcome follows refusal. record { files = follows.1; out = ap (λ s. s.taken) follows.3.0 };
+  failed = λ old new outcome follows fails.
+      let at : status_of outcome ≡ 64 = ap status_of follows.0 in absurd (omega (arith, fails, at));
+}
+
+by_status : (command : Command) → IsByStatus (meaning_of command)
+by_status (EditPlain input output) = edit_by_status input output
+by_status (Run file limit args) = run_by_status file limit args
+by_status (Show file) = show_by_status file
+by_status Unknown = unknown_by_status
+
+pub done_shown : (command : Command) (old new : Outside) (status : ℕ) → Ran command old new status
+    → status ≡ 0 → IsDone command old new
+done_shown command old new status r zero = at r.shown
+  where
+    at : Shows r.outcome status r.err new.err → IsDone command old new
+    at (shown is took) = (by_status command).done old new r.err r.outcome r.follows (omega (arith, is, zero)) took
+    at (failed is took rose) = absurd (omega (arith, is, zero))
+
+pub refused_shown : (command : Command) (old new : Outside) (status : ℕ) → Ran command old new status
+    → IsRefusal status → IsUnchanged old new
+refused_shown command old new status r refusal = at r.shown
+  where
+    at : Shows r.outcome status r.err new.err → IsUnchanged old new
+    at (shown is took) =
+        let kept = (by_status command).refused old (with_err new r.err) r.outcome r.follows (subst IsRefusal is refusal) in
+        record { files = kept.files; out = kept.out }
+    at (failed is took rose) = absurd ((refusal_is_bad status refusal).not_failed is)
+
+pub failed_shown : (command : Command) (old new : Outside) (status : ℕ) → Ran command old new status
+    → status ≡ 74 → HasFailed command old new
+failed_shown command old new status r fails = at r.shown
+  where
+    with_line : AnyRose old (with_err new r.err) ((meaning_of command).lacks old.files) → HasFailed command old new
+    with_line (inl files) = inl files
+    with_line (inr (inl input)) = inr (inl input)
+    with_line (inr (inr (inl out))) = inr (inr (inl out))
+    with_line (inr (inr (inr (inl err)))) = inr (inr (inr (inl (rose-after old.err.faults r.err.faults new.err.faults r.at_last err))))
+    with_line (inr (inr (inr (inr lacks)))) = inr (inr (inr (inr lacks)))
+
+    at : Shows r.outcome status r.err new.err → HasFailed command old new
+    at (shown is took) =
+        with_line ((by_status command).failed old (with_err new r.err) r.outcome r.follows (omega (arith, is, fails)))
+    at (failed is took rose) =
+        inr (inr (inr (inl (rose-before old.err.faults r.err.faults new.err.faults r.later rose))))

@@ -1,0 +1,25 @@
+-- What was so from a later moment on is so from an earlier one, between which only faults were counted; and
+-- taking nothing.
+use Rattle.std.proofs.Common.{◌≡◌, ℕ, ◌≤◌, List, [], Option, Some, None, refl, ap, ◌∙◌, subst, append-nil, arith}
+use Rattle.eel_base.specs.Outside.{Holding, stored, SameBut, Rose, appended}
+use Rattle.eel.specs.Outcome.{Outcome, Done, OutOfMemory, DeviceFault}
+use Rattle.eel.specs.Answers.Shared.{Store, store, IsPut}
+
+pub appended-nil : (old : Option (List ℕ)) → appended old [] ≡ old
+appended-nil None = refl
+appended-nil (Some bytes) = ap (λ z. Some z) (append-nil bytes)
+
+pub rose-before : (old mid new : ℕ) → old ≤ mid → Rose mid new → Rose old new
+rose-before old mid new later rose = omega arith
+
+pub rose-after : (old mid new : ℕ) → mid ≤ new → Rose old mid → Rose old new
+rose-after old mid new later rose = omega arith
+
+pub put-later : (old mid : Option Holding) (faults more : ℕ) (new : Store) (name bytes : List ℕ) (outcome : Outcome)
+    → mid ≡ old → faults ≤ more → IsPut (store mid more) new name bytes outcome
+    → IsPut (store old faults) new name bytes outcome
+put-later old mid faults more new name bytes Done same later is = is ∙ ap (λ held. stored held name bytes) same
+put-later old mid faults more new name bytes OutOfMemory same later is = is ∙ same
+put-later old mid faults more new name bytes DeviceFault same later (rose, but) =
+    (rose-before faults more new.faults later rose, subst (λ held. SameBut name held new.held) same but)
+put-later old mid faults more new name bytes _ same later is = absurd is

@@ -1,0 +1,95 @@
+-- What is true of each command, by the status: the statements, and what all commands share.
+use Rattle.std.proofs.Common.{◌≡◌, ℕ, ◌≤◌, ◌⊎◌, inl, inr, List, [], refl, arith}
+use Rattle.eel_base.specs.Outside.{Rose, IsMissing, appended, stored}
+use Rattle.eel.specs.Outcome.{Outcome, Done, TooLong, OutOfMemory, DeviceFault, Stream, status_of, line_of}
+use Rattle.eel.specs.Answers.{IsRefusal, IsUnchanged}
+use Rattle.eel.specs.Answers.Shared.{Store, Outside, Meaning, with_err, IsUnread, IsPut, IsPrinted}
+
+-- a count of faults rose
+abbrev pub AnyRose : Outside → Outside → Type 0 → Type 0
+AnyRose old new Lacks =
+    Rose old.files.faults new.files.faults ⊎ Rose old.input.faults new.input.faults
+    ⊎ Rose old.out.faults new.out.faults ⊎ Rose old.err.faults new.err.faults ⊎ Lacks
+
+pub record IsByStatus (m : Meaning) : Type 0 where
+  pub done : (old new : Outside) (err : Stream) (outcome : Outcome) → m.follows old (with_err new err) outcome
+      → status_of outcome ≡ 0 → new.err.taken ≡ appended err.taken (line_of outcome) → m.does old new
+  pub refused : (old new : Outside) (outcome : Outcome) → m.follows old new outcome → IsRefusal (status_of outcome)
+      → IsUnchanged old new
+  pub failed : (old new : Outside) (outcome : Outcome) → m.follows old new outcome → status_of outcome ≡ 74
+      → AnyRose old new (m.lacks old.files)
+
+-- a status that is neither that of success nor that of a device fault
+pub record IsBad (status : ℕ) : Type 0 where
+  pub not_done : status ≡ 0 → ⊥
+  pub not_failed : status ≡ 74 → ⊥
+
+pub bad : (status : ℕ) → 64 ≤ status → status ≤ 70 → IsBad status
+bad status from to = record { not_done = λ e. absurd (omega (arith, e)); not_failed = λ e. absurd (omega (arith, e)) }
+
+pub refusal_is_bad : (status : ℕ) → IsRefusal status → IsBad status
+refusal_is_bad status (inl is) = bad status (omega arith) (omega arith)
+refusal_is_bad status (inr (inl is)) = bad status (omega arith) (omega arith)
+refusal_is_bad status (inr (inr (inl is))) = bad status (omega arith) (omega arith)
+refusal_is_bad status (inr (inr (inr (inl is)))) = bad status (omega arith) (omega arith)
+refusal_is_bad status (inr (inr (inr (inr is)))) = bad status (omega arith) (omega arith)
+
+-- ---- reading
+
+pub unread_not_done : (old new : Store) (name : List ℕ) (limit : ℕ) (outcome : Outcome)
+    → IsUnread old new name limit outcome → status_of outcome ≡ 0 → ⊥
+unread_not_done old new name limit (TooLong named most) is zero = cc
+unread_not_done old new name limit OutOfMemory is zero = cc
+unread_not_done old new name limit DeviceFault is zero = cc
+unread_not_done old new name limit _ is zero = is
+
+pub unread_failed : (old new : Store) (name : List ℕ) (limit : ℕ) (outcome : Outcome)
+    → IsUnread old new name limit outcome → status_of outcome ≡ 74
+    → IsMissing old.held name ⊎ Rose old.faults new.faults
+unread_failed old new name limit (TooLong named most) is fails = absurd (omega arith)
+unread_failed old new name limit OutOfMemory is fails = absurd (omega arith)
+unread_failed old new name limit DeviceFault is fails = is
+unread_failed old new name limit _ is fails = absurd is
+
+-- ---- writing
+
+pub put_done : (old new : Store) (name bytes : List ℕ) (outcome : Outcome)
+    → IsPut old new name bytes outcome → status_of outcome ≡ 0
+    → (line_of outcome ≡ []) × (new.held ≡ stored old.held name bytes)
+put_done old new name bytes Done is zero = (refl, is)
+put_done old new name bytes OutOfMemory is zero = absurd (omega arith)
+put_done old new name bytes DeviceFault is zero = absurd (omega arith)
+put_done old new name bytes _ is zero = absurd is
+
+pub put_refused : (old new : Store) (name bytes : List ℕ) (outcome : Outcome)
+    → IsPut old new name bytes outcome → IsBad (status_of outcome) → new.held ≡ old.held
+put_refused old new name bytes Done is other = absurd (other.not_done refl)
+put_refused old new name bytes OutOfMemory is other = is
+put_refused old new name bytes DeviceFault is other = absurd (other.not_failed refl)
+put_refused old new name bytes _ is other = absurd is
+
+pub put_failed : (old new : Store) (name bytes : List ℕ) (outcome : Outcome)
+    → IsPut old new name bytes outcome → status_of outcome ≡ 74 → Rose old.faults new.faults
+put_failed old new name bytes Done is fails = absurd (omega arith)
+put_failed old new name bytes OutOfMemory is fails = absurd (omega arith)
+put_failed old new name bytes DeviceFault is fails = is.0
+put_failed old new name bytes _ is fails = absurd is
+
+pub printed_done : (old new : Stream) (bytes : List ℕ) (outcome : Outcome)
+    → IsPrinted old new bytes outcome → status_of outcome ≡ 0
+    → (line_of outcome ≡ []) × (new.taken ≡ appended old.taken bytes)
+printed_done old new bytes Done is zero = (refl, is)
+printed_done old new bytes DeviceFault is zero = absurd (omega arith)
+printed_done old new bytes _ is zero = absurd is
+
+pub printed_not_refused : (old new : Stream) (bytes : List ℕ) (outcome : Outcome)
+    → IsPrinted old new bytes outcome → IsBad (status_of outcome) → ⊥
+printed_not_refused old new bytes Done is other = other.not_done refl
+printed_not_refused old new bytes DeviceFault is other = other.not_failed refl
+printed_not_refused old new bytes _ is other = is
+
+pub printed_failed : (old new : Stream) (bytes : List ℕ) (outcome : Outcome)
+    → IsPrinted old new bytes outcome → status_of outcome ≡ 74 → Rose old.faults new.faults
+printed_failed old new bytes Done is fails = absurd (omega arith)
+printed_failed old new bytes DeviceFault is fails = is.0
+printed_failed old new bytes _ is fails = absurd is

@@ -1,0 +1,89 @@
+-- All that a call has to do with outside itself; and texts and files that it reads and writes.
+use Rattle.std.specs.Prelude.{◌≡◌, ℕ, ◌*◌, ◌^◌, ◌≤◌, ◌⊎◌, List, length, Option}
+use Rattle.eel_base.specs.Outside.{Holding, stored, IsMissing, AreUnder, IsLonger, SameBut, Rose, appended, TookPart}
+use Rattle.eel.specs.Outcome.{Outcome, Done, TooLong, OutOfMemory, DeviceFault, Stream}
+
+-- The files: what they hold, where they tell it, and their faults.
+pub record Store : Type 0 where
+  pub held : Option Holding
+  pub faults : ℕ
+
+abbrev pub store : Option Holding → ℕ → Store
+store held faults = record { held = held; faults = faults }
+
+-- The input: what it has left, where it tells it, and its faults.
+pub record Feed : Type 0 where
+  pub left : Option (List ℕ)
+  pub faults : ℕ
+
+abbrev pub feed : Option (List ℕ) → ℕ → Feed
+feed left faults = record { left = left; faults = faults }
+
+pub record Outside : Type 0 where
+  pub files : Store
+  pub input : Feed
+  pub out : Stream
+  pub err : Stream
+
+abbrev pub outside : Store → Feed → Stream → Stream → Outside
+outside files input out err = record { files = files; input = input; out = out; err = err }
+
+-- another error stream
+abbrev pub with_err : Outside → Stream → Outside
+with_err old err = record old { err = err }
+
+-- how long a file may be that is edited or shown, and one that an edit may have written
+abbrev pub edit_limit : ℕ
+edit_limit = 64 * 2 ^ 20
+
+abbrev pub written_limit : ℕ
+written_limit = 1536 * 2 ^ 20
+
+-- ---- reading
+
+-- the name was read, and gave these bytes
+pub record WasRead (files : Store) (name : List ℕ) (limit : ℕ) (bytes : List ℕ) : Type 0 where
+  pub under : AreUnder files.held name bytes
+  pub within : length bytes ≤ limit
+
+-- The name gave no bytes, and this comes of it: a name that is told to be missing is always a device fault.
+abbrev pub IsUnread : Store → Store → List ℕ → ℕ → Outcome → Type 0
+IsUnread old new name limit (TooLong named most) = (named ≡ name) × (most ≡ limit) × IsLonger old.held name limit
+IsUnread old new name limit OutOfMemory = IsMissing old.held name → ⊥
+IsUnread old new name limit DeviceFault = IsMissing old.held name ⊎ Rose old.faults new.faults
+IsUnread old new name limit _ = ⊥
+
+-- ---- writing
+
+-- The bytes were to be put under the name, and this comes of it: all other names are as they were.
+abbrev pub IsPut : Store → Store → List ℕ → List ℕ → Outcome → Type 0
+IsPut old new name bytes Done = new.held ≡ stored old.held name bytes
+IsPut old new name bytes OutOfMemory = new.held ≡ old.held
+IsPut old new name bytes DeviceFault = Rose old.faults new.faults × SameBut name old.held new.held
+IsPut old new name bytes _ = ⊥
+
+-- The bytes were to be printed, and this comes of it.
+abbrev pub IsPrinted : Stream → Stream → List ℕ → Outcome → Type 0
+IsPrinted old new bytes Done = new.taken ≡ appended old.taken bytes
+IsPrinted old new bytes DeviceFault = Rose old.faults new.faults × TookPart old.taken new.taken bytes
+IsPrinted old new bytes _ = ⊥
+
+-- ---- what stays
+
+-- the input is as it was
+abbrev pub IsUnused : Outside → Outside → Type 0
+IsUnused old new = new.input ≡ old.input
+
+-- the output and the error stream are as they were
+abbrev pub IsQuiet : Outside → Outside → Type 0
+IsQuiet old new = (new.out ≡ old.out) × (new.err.taken ≡ old.err.taken)
+
+-- ---- what is said of a command
+
+pub record Meaning : Type 1 where
+  -- which outcome comes of it, why, and what is there afterwards, but for the outcome's line
+  pub follows : Outside → Outside → Outcome → Type 0
+  -- what is there once it is done, with its line
+  pub does : Outside → Outside → Type 0
+  -- that the name which it reads is known not to be held
+  pub lacks : Store → Type 0

@@ -1,0 +1,16 @@
+//! EEL, an executable editor for SPARC V8: what comes of the words of a call, over files and streams that are
+//! given.
+#![tactic(auto)]
+
+mod command;
+mod edit;
+mod listing;
+mod outcome;
+mod run;
+mod straight;
+mod texts;
+mod top;
+mod written;
+
+pub use outcome::{Outcome, show};
+pub use top::eel;

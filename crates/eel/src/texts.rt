@@ -1,0 +1,81 @@
+//! Texts that come in and go out: their bytes, or what comes of it where they can't be had or put.
+ghost use Rattle.std.specs.Prelude.{◌≡◌, ◌≤◌, IfOk, IfErr};
+ghost use Rattle.eel.specs.Outcome.{outcome_seen, stream};
+ghost use Rattle.eel.specs.Answers.Shared.{IsPrinted, IsPut, IsUnread, WasRead, feed, store};
+ghost use Rattle.eel.specs.Answers.Run.{IsUnfed, WasFed};
+
+use crate::outcome::Outcome;
+use eel_base::{Failed, FetchFault, Files, PutFault, Sink, Source, put_all, read_all};
+use std::alloc::Global;
+
+/// How many bytes the input of a run may have.
+const INPUT_LIMIT: u64 = 64 << 20;
+
+/// What the input is called where it is refused.
+const STANDARD_INPUT: &str = "standard input";
+
+/// Reads the file `name`.
+pub fn fetch_file<'a, F: Files>(
+    alloc: Global,
+    files: &mut F,
+    name: &'a str,
+    limit: u64,
+) -> Result<Vec<u8>, Outcome<'a>>
+    ensures read { IfOk result (λ bytes.
+        WasRead (store (F.held files.old) (F.faults files.old)) name.now limit bytes.items) }
+    ensures unread { IfErr result (λ outcome. IsUnread (store (F.held files.old) (F.faults files.old))
+        (store (F.held files.new) (F.faults files.new)) name.now limit (outcome_seen outcome)) }
+    ensures kept { F.held files.new ≡ F.held files.old }
+    ensures later { F.faults files.old ≤ F.faults files.new }
+{
+    match files.fetch(alloc, name, limit) {
+        Ok(bytes) => Ok(bytes),
+        Err(FetchFault::Failed) => Err(Outcome::DeviceFault),
+        Err(FetchFault::TooLong) => Err(Outcome::TooLong { name, limit }),
+        Err(FetchFault::NoMemory) => Err(Outcome::OutOfMemory),
+    }
+}
+
+/// Reads the whole input of a run.
+pub fn read_input<I: Source>(alloc: Global, input: &mut I) -> Result<Vec<u8>, Outcome<'static>>
+    ensures fed { IfOk result (λ given. WasFed (feed (I.left input.old) (I.faults input.old))
+        (feed (I.left input.new) (I.faults input.new)) given.items) }
+    ensures unfed { IfErr result (λ outcome. IsUnfed (feed (I.left input.old) (I.faults input.old))
+        (feed (I.left input.new) (I.faults input.new)) (outcome_seen outcome)) }
+    ensures later { I.faults input.old ≤ I.faults input.new }
+{
+    match read_all(alloc, input, INPUT_LIMIT) {
+        Ok(given) => Ok(given),
+        Err(FetchFault::Failed) => Err(Outcome::DeviceFault),
+        Err(FetchFault::TooLong) => Err(Outcome::TooLong {
+            name: STANDARD_INPUT,
+            limit: INPUT_LIMIT,
+        }),
+        Err(FetchFault::NoMemory) => Err(Outcome::OutOfMemory),
+    }
+}
+
+/// Puts the bytes as the file `name`.
+pub fn put_file<F: Files>(files: &mut F, name: &str, bytes: &[u8]) -> Outcome<'static>
+    ensures put { IsPut (store (F.held files.old) (F.faults files.old))
+        (store (F.held files.new) (F.faults files.new)) name.now bytes.now (outcome_seen result) }
+    ensures later { F.faults files.old ≤ F.faults files.new }
+{
+    match files.put(name, bytes) {
+        Ok(()) => Outcome::Done,
+        Err(PutFault::NoMemory) => Outcome::OutOfMemory,
+        Err(PutFault::Failed) => Outcome::DeviceFault,
+    }
+}
+
+/// Prints the bytes.
+pub fn print<O: Sink>(out: &mut O, bytes: &[u8]) -> Outcome<'static>
+    ensures printed { IsPrinted (stream (O.taken out.old) (O.faults out.old))
+        (stream (O.taken out.new) (O.faults out.new)) bytes.now (outcome_seen result) }
+    ensures later { O.faults out.old ≤ O.faults out.new }
+{
+    match put_all(out, bytes) {
+        Ok(()) => Outcome::Done,
+        Err(Failed) => Outcome::DeviceFault,
+    }
+}

@@ -1,0 +1,130 @@
+"""Sessions that crates/program_runs plays: calls of the editor over files in memory, and what must come of each."""
+import struct
+
+from programs import SMALL, STRAIGHT, WITH_TRANSFERS, Program
+from written import written
+
+BAD_WORDS = b'eel: bad words\n'
+DEVICE_FAULT = b'eel: device fault\n'
+
+THREE_WORDS = SMALL[0]
+ECHOES = next(program for program in STRAIGHT if program.name == 'echoes')
+NEWLINE_COUNT = next(program for program in WITH_TRANSFERS if program.name == 'newline_count')
+
+# Prints five bytes of its first argument, and exits with the number of arguments, its name among them.
+ARGUMENT = Program('prints_its_argument',
+    'd203a048 82102004 90102001 94102005 91d02010 d003a040 82102001 91d02010', 8, 'exit 3')
+
+LISTING = (b'routine 00010054 -\nblock 0 00010054 3\nedge 0 fall 00010054 x -\n'
+    b'edge 1 land x 00010054 -\nroutines 1 blocks 1 edges 2\n')
+
+
+def call(words, status, out=b'', err=b''):
+    """A call, and what is printed of it."""
+    line = ' '.join(['eel', *words])
+    printed = f'{line}: {status}\n'.encode()
+    printed += out and out + b'\n'
+    printed += err and b'to the error stream: ' + err + b'\n'
+    return line, printed
+
+
+def eel(words, status, out=b'', err=b''):
+    return call(words.split(), status, out, err)
+
+
+def cramped():
+    """three_words with a second segment, of 16 bytes without file bytes at the end of a program's addresses."""
+    file = bytearray(THREE_WORDS.file())
+    file[44:46] = struct.pack('>H', 2)
+    first = struct.pack('>8I', 1, 116, 0x10074, 0x10074, 12, 12, 5, 0x10000)
+    second = struct.pack('>8I', 1, 0, 0x7fff0000, 0x7fff0000, 0, 0x10000, 6, 0)
+    file[24:28] = struct.pack('>I', 0x10074)
+    return bytes(file[:52]) + first + second + bytes(file[84:])
+
+
+def edits():
+    """Straight programs beside their edited files, which run as they do."""
+    yield 'hold three_words.edited', b''
+    for program in STRAIGHT:
+        name = program.name
+        ran = program.output, program.errors + program.ending.encode() + b'\n'
+        yield f'hold {name}', b''
+        if program.given:
+            yield f'input {name}.input', b''
+        yield eel(f'edit {name} edited plain', 0)
+        if program is THREE_WORDS:
+            yield 'same edited three_words.edited', b''
+        yield eel(f'run {name}', 0, *ran)
+        yield eel(f'run edited', 0, *ran)
+
+
+def words():
+    """Words inside and outside the grammar."""
+    yield 'hold three_words', b''
+    yield 'hold prints_its_argument', b''
+    yield 'hold newline_count', b''
+    yield 'input newline_count.input', b''
+    for line in ['', 'help', 'edit three_words out', 'edit three_words out profile', 'show',
+            'show three_words three_words', 'run', 'run three_words -q', 'run three_words -n',
+            'run three_words -n 0x1', 'run three_words -n 18446744073709551616',
+            'run three_words -n 1 -n 2', 'run three_words x']:
+        yield eel(line, 64, err=BAD_WORDS)
+    yield eel('run three_words -n 2', 0, err=b'stopped 2\n')
+    yield eel('run three_words -n 18446744073709551615', 0, err=b'exit 3\n')
+    yield eel('run three_words -n 00000000000000000000 -- -n -- a', 0, err=b'stopped 0\n')
+    yield eel('run prints_its_argument -- hello world', 0, b'hello', b'exit 3\n')
+    yield eel('run newline_count -n 463091', 0, b'4096', b'stopped 463091\n')
+    most = 'run three_words -n 0 --' + 1000 * ' x'
+    yield eel(most, 0, err=b'stopped 0\n')
+    yield eel(most + ' x', 64, err=BAD_WORDS)
+    yield eel('show three_words', 0, LISTING)
+
+
+def refusals():
+    """Files that are refused, and files and streams that fail."""
+    yield 'fail 1 5', b''
+    yield 'hold three_words', b''
+    yield eel('edit missing out plain', 74, err=DEVICE_FAULT)
+    yield eel('edit three_words out plain', 74, err=DEVICE_FAULT)
+    yield eel('edit three_words out plain', 0)
+    yield eel('edit three_words other plain', 74, err=DEVICE_FAULT)
+    yield eel('edit out other plain', 65, err=b'eel: out: file fault 12\n')
+    yield eel('show other', 74, err=DEVICE_FAULT)
+    yield eel('run other', 74, err=DEVICE_FAULT)
+    for name, where in [('branch_over_nop', 1), ('call_and_return', 0), ('misaligned_jump', 1)]:
+        yield f'hold {name}', b''
+        yield eel(f'edit {name} other plain', 65, err=f'eel: {name}: not built at {0x10054 + 4 * where:08x}\n'.encode())
+    yield 'hold cramped', b''
+    yield eel('edit cramped other plain', 69, err=b'eel: cramped: room 1050112 needed, 0 had\n')
+    yield 'zeros long 67108865', b''
+    yield eel('edit long other plain', 66, err=b'eel: long: longer than 67108864 bytes\n')
+    yield eel('show long', 66, err=b'eel: long: longer than 67108864 bytes\n')
+    yield eel('run long', 65, err=b'eel: long: file fault 2\n')
+    yield 'hold echoes', b''
+    yield 'input echoes.input 1', b''
+    yield eel('run echoes', 74, err=DEVICE_FAULT)
+    yield 'input echoes.input', b''
+    yield 'room 5 100', b''
+    yield eel('run echoes', 74, b'hello', DEVICE_FAULT)
+    yield eel('show three_words', 74, LISTING[:5], DEVICE_FAULT)
+    yield 'room 100 4', b''
+    yield eel('run echoes', 74, ECHOES.output, b'hele')
+    yield eel('help', 74, err=b'eel:')
+    yield eel('edit other out plain', 74, err=b'eel:')
+
+
+SESSIONS = {'edits': list(edits()), 'words': list(words()), 'refusals': list(refusals())}
+
+
+def files():
+    """Scripts, and the files that they name besides the programs."""
+    yield 'three_words.edited', written(THREE_WORDS.file())
+    yield ARGUMENT.name, ARGUMENT.file()
+    yield 'cramped', cramped()
+    for name, lines in SESSIONS.items():
+        yield name, ''.join(f'{line}\n' for line, _ in lines).encode()
+
+
+def printed():
+    """What is printed of each script."""
+    return {name: f'{name}:\n'.encode() + b''.join(text for _, text in lines) for name, lines in SESSIONS.items()}
