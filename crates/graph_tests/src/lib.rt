@@ -1,3 +1,10 @@
 //! Tests of the crates of the graph and of flows: what no clause says, and each call once where it may want
 //! memory. They stand here together, since a crate with tests is proved twice.
 #![tactic(auto)]
+
+#[cfg(test)]
+mod blocks_tests;
+#[cfg(test)]
+mod edges_tests;
+#[cfg(test)]
+mod views_tests;
