@@ -13,11 +13,11 @@ use Rattle.cfg_blocks.specs.declared.BlockEnd.TheVariants.{Fall}
 use Rattle.cfg_blocks.specs.declared.Into.{Into}
 use Rattle.cfg_blocks.specs.declared.Into.TheVariants.{Nothing}
 use Rattle.cfg_blocks.specs.Ends.{Way, end_at, is_transfer, target_in}
-use Rattle.cfg_blocks.specs.Blocks.{Blocks, below, is_it, is_target, follows_transfer, leads, leaders, blocks_of, block_end, last_word, size_of, AreFirsts}
+use Rattle.cfg_blocks.specs.Blocks.{Blocks, below, is_it, is_target, follows_transfer, is_among, leads, leaders, blocks_of, last_word, AreFirsts}
 use Rattle.cfg_blocks.specs.Entries.{Entered, Entry, all_entries, entered_of, entries_from, into_of, is_bare_slot, is_counted, is_empty, is_fall, leads_to, ways_from}
-use Rattle.cfg_blocks.specs.Marks.{block_end_in, end_in, follows, is_in, is_target_in, leads_in, marked, numbers, word_ends}
+use Rattle.cfg_blocks.specs.Marks.{block_end_in, end_in, is_in, leads_in, marked, numbers, word_ends}
 use Rattle.cfg_blocks.specs.Arrivals.{added_all, counted, counted_from, entered_in, into_in, is_bare_by, is_led_by, is_led_from}
-use Rattle.cfg_blocks.proofs.Below.{length-below, get_or-below, list_any-map, filter_below_same, filter_below_firsts, map_below_same}
+use Rattle.cfg_blocks.proofs.Below.{any_below_same, length-below, get_or-below, list_any-map, filter_below_same, filter_below_firsts, map_below_same}
 use Rattle.cfg_blocks.proofs.Entering.{counted_from_more, counted_from_same, into_by-added}
 
 -- ---- how control leaves each word
@@ -34,20 +34,21 @@ end_in-word_ends text k h =
     (omega (arith, length-below (length text.words)))
     ∙ ap (end_at text) (get_or-below (length text.words) k 0 h)
 
-is_target_in-word_ends : (text : Words) (k : ℕ) → is_target_in (word_ends text) k ≡ is_target text k
-unfolding word_ends
-is_target_in-word_ends text k =
-    list_any-map (λ end. is_it k (target_in end)) (end_at text) (below (length text.words))
+is_target-word_ends : (text : Words) (k : ℕ)
+    → is_target (length (word_ends text)) (end_in (word_ends text)) k ≡ is_target (length text.words) (end_at text) k
+is_target-word_ends text k =
+    rw (length-word_ends text) (any_below_same (length text.words) _ _
+    (λ other h. ap (λ end. is_it k (target_in end)) (end_in-word_ends text other h)))
 
 follows-word_ends : (text : Words) (back k : ℕ) → k < length text.words
-    → follows (word_ends text) back k ≡ follows_transfer text back k
+    → follows_transfer (end_in (word_ends text)) back k ≡ follows_transfer (end_at text) back k
 follows-word_ends text back k h =
     ap (λ end. nat_le back k && is_transfer end) (end_in-word_ends text (k - back) (omega arith))
 
 -- ---- leaders
 
 pub given_by : (starts marks : List WordNo) (k : ℕ)
-    → (is_in starts k || is_in marks k) ≡ list_any (λ other. other == k) (numbers starts ++ numbers marks)
+    → (is_in starts k || is_in marks k) ≡ is_among (numbers starts ++ numbers marks) k
 given_by starts marks k =
     let front : list_any (λ other. other == k) (numbers starts) ≡ is_in starts k =
     list_any-map (λ other. other == k) (λ word. word.0) starts in
@@ -59,25 +60,26 @@ given_by starts marks k =
 
 abbrev IsGiven : Words → List ℕ → List Bool → Type 0
 IsGiven text given marks = (k : ℕ) → k < length text.words
-    → marked marks k ≡ list_any (λ other. other == k) given
+    → marked marks k ≡ is_among given k
 
 leads_in-word_ends : (text : Words) (given : List ℕ) (marks : List Bool) → IsGiven text given marks
     → (k : ℕ) → k < length text.words
-    → leads_in (word_ends text) marks k ≡ leads text given k
+    → leads_in (word_ends text) marks k
+    ≡ leads (length text.words) (end_at text) (is_among given) k
 leads_in-word_ends text given marks g k h =
-    cc (g k h, is_target_in-word_ends text k, follows-word_ends text 1 k h, follows-word_ends text 2 k h)
+    cc (g k h, is_target-word_ends text k, follows-word_ends text 1 k h, follows-word_ends text 2 k h)
 
 firsts_are : (text : Words) (given : List ℕ) (marks : List Bool) → IsGiven text given marks
     → filter (leads_in (word_ends text) marks) (below (length (word_ends text))) ≡ leaders text given
 unfolding leaders
 firsts_are text given marks g =
-    rw (length-word_ends text) (filter_below_same (length text.words) _ _
-    (leads_in-word_ends text given marks g))
+    ap (λ n. filter (leads_in (word_ends text) marks) (below n)) (length-word_ends text)
+    ∙ filter_below_same (length text.words) _ _ (leads_in-word_ends text given marks g)
 
 firsts_of : (text : Words) (given : List ℕ) → 1 ≤ length text.words
     → AreFirsts (length text.words) (leaders text given)
 unfolding leaders
-firsts_of text given some = filter_below_firsts (length text.words) (leads text given) some refl
+firsts_of text given some = filter_below_firsts (length text.words) (leads (length text.words) (end_at text) (is_among given)) some refl
 
 last_word_within : (words : ℕ) (firsts : List ℕ) (block : ℕ) → AreFirsts words firsts
     → block < length firsts → last_word firsts words block < words
@@ -136,28 +138,15 @@ is_empty-all_entries b block =
     (λ way. leads_to (slice_index b.firsts block) way.to) (ways_from b other))
 
 bare_alike : (text : Words) (given : List ℕ) (marks : List Bool) (b : Blocks) (block : ℕ)
-    → IsGiven text given marks → b.words ≡ length text.words
-    → slice_index b.firsts block < length text.words
-    → is_bare_by b (word_ends text) marks block ≡ is_bare_slot text given b block
-bare_alike text given marks b block g words h =
+    → IsGiven text given marks → slice_index b.firsts block < length text.words
+    → is_bare_by b (word_ends text) marks block ≡ is_bare_slot (end_at text) (is_among given) b block
+bare_alike text given marks b block g h =
     let first = slice_index b.firsts block in
-    let size : (block_end b.firsts (length (word_ends text)) block - first == 1) ≡ (size_of b block == 1) =
-    ap (λ n. block_end b.firsts n block - first == 1) (length-word_ends text ∙ sym words) in
-    let slot = follows-word_ends text 1 first h in
-    let is_given = g first h in
-    let led = is_empty-all_entries b block in
-    ap (λ x. (x && follows (word_ends text) 1 first) && not (marked marks first) && not
-    (is_led_from b (length b.firsts) first)) size
-    ∙ ap (λ x. ((size_of b block == 1) && x) && not (marked marks first) && not
-    (is_led_from b (length b.firsts) first)) slot
-    ∙ ap (λ x. ((size_of b block == 1) && follows_transfer text 1 first) && not x && not
-    (is_led_from b (length b.firsts) first)) is_given
-    ∙ ap (λ x. ((size_of b block == 1) && follows_transfer text 1 first) && not
-    (list_any (λ other. other == first) given) && x) (sym led)
+    cc (follows-word_ends text 1 first h, g first h, is_empty-all_entries b block)
 
 counted_alike : (text : Words) (given : List ℕ) (b : Blocks) (count word : ℕ)
-    → filter (is_counted text given b) (flat_map (entries_from b word) (below count))
-    ≡ counted_from b (is_bare_slot text given b) count word
+    → filter (is_counted (end_at text) (is_among given) b) (flat_map (entries_from b word) (below count))
+    ≡ counted_from b (is_bare_slot (end_at text) (is_among given) b) count word
 counted_alike text given b zero word = refl
 counted_alike text given b (suc count) word =
     let entries : flat_map (entries_from b word) (below count ++ count ∷ [])
@@ -165,36 +154,36 @@ counted_alike text given b (suc count) word =
     flat_map-append (entries_from b word) (below count) (count ∷ []) in
     let last : flat_map (entries_from b word) (count ∷ []) ≡ entries_from b word count =
     append-nil (entries_from b word count) in
-    let here : filter (is_counted text given b) (entries_from b word count)
-    ≡ counted count (is_bare_slot text given b count) (ways_from b count) word =
-    filter_map_same (is_counted text given b)
-    (λ entry. not (is_fall entry.kind && is_bare_slot text given b count))
+    let here : filter (is_counted (end_at text) (is_among given) b) (entries_from b word count)
+    ≡ counted count (is_bare_slot (end_at text) (is_among given) b count) (ways_from b count) word =
+    filter_map_same (is_counted (end_at text) (is_among given) b)
+    (λ entry. not (is_fall entry.kind && is_bare_slot (end_at text) (is_among given) b count))
     (λ way. record { from = count; kind = way.kind })
     (filter (λ way. leads_to word way.to) (ways_from b count)) (λ way. refl) in
-    ap (filter (is_counted text given b)) entries
-    ∙ filter-append (is_counted text given b) (flat_map (entries_from b word) (below count))
+    ap (filter (is_counted (end_at text) (is_among given) b)) entries
+    ∙ filter-append (is_counted (end_at text) (is_among given) b) (flat_map (entries_from b word) (below count))
     (flat_map (entries_from b word) (count ∷ []))
-    ∙ ap (λ es. filter (is_counted text given b) (flat_map (entries_from b word) (below count)) ++ filter
-    (is_counted text given b) es) last
-    ∙ ap (λ es. es ++ filter (is_counted text given b) (entries_from b word count))
+    ∙ ap (λ es. filter (is_counted (end_at text) (is_among given) b) (flat_map (entries_from b word) (below count)) ++ filter
+    (is_counted (end_at text) (is_among given) b) es) last
+    ∙ ap (λ es. es ++ filter (is_counted (end_at text) (is_among given) b) (entries_from b word count))
     (counted_alike text given b count word)
-    ∙ ap (λ es. counted_from b (is_bare_slot text given b) count word ++ es) here
-    ∙ sym (counted_from_more b (is_bare_slot text given b) count word)
+    ∙ ap (λ es. counted_from b (is_bare_slot (end_at text) (is_among given) b) count word ++ es) here
+    ∙ sym (counted_from_more b (is_bare_slot (end_at text) (is_among given) b) count word)
 
 into_alike : (text : Words) (given : List ℕ) (marks : List Bool) (b : Blocks) (block : ℕ)
-    → IsGiven text given marks → b.words ≡ length text.words
+    → IsGiven text given marks
     → ((k : ℕ) → k < length b.firsts → slice_index b.firsts k < length text.words)
     → into_in b (word_ends text) marks block ≡ into_of text given b block
 unfolding into_in into_of
-into_alike text given marks b block g words within =
+into_alike text given marks b block g within =
     let first = slice_index b.firsts block in
     let edges : counted_from b (is_bare_by b (word_ends text) marks) (length b.firsts) first
-    ≡ filter (is_counted text given b) (all_entries b block) =
+    ≡ filter (is_counted (end_at text) (is_among given) b) (all_entries b block) =
     counted_from_same b _ _ (length b.firsts) first
-    (λ k h. bare_alike text given marks b k g words (within k h))
+    (λ k h. bare_alike text given marks b k g (within k h))
     ∙ sym (counted_alike text given b (length b.firsts) first) in
     ap (λ es. added_all Nothing es) edges
-    ∙ sym (into_by-added (filter (is_counted text given b) (all_entries b block)))
+    ∙ sym (into_by-added (filter (is_counted (end_at text) (is_among given) b) (all_entries b block)))
 
 -- ---- the whole list
 
@@ -226,7 +215,7 @@ entered_alike text given marks some g =
     let intos : map (into_in (blocks_of text given) (word_ends text) marks) (below (length firsts))
     ≡ map (into_of text given (blocks_of text given)) (below (length firsts)) =
     map_below_same (length firsts) _ _
-    (λ block h. into_alike text given marks (blocks_of text given) block g refl f.within) in
+    (λ block h. into_alike text given marks (blocks_of text given) block g f.within) in
     rw (firsts_are text given marks g, length-word_ends text, ends)
     (ap (λ (is : List Into). let e : Entered =
     record { blocks = blocks_of text given; intos = is } in e) intos)

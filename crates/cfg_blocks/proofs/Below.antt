@@ -1,9 +1,10 @@
 -- The numbers below n, and those of them that pass a test.
-use Rattle.std.proofs.Common.{◌≡◌, ℕ, zero, suc, ◌+◌, ◌<◌, ◌≤◌, Bool, true, false, ◌||◌, cond, List, [], ◌∷◌, ◌++◌, length, map, get_or, slice_index, refl, ap, ◌∙◌, arith, length-append, below_more, subst}
+use Rattle.std.proofs.Common.{◌≡◌, ℕ, zero, suc, ◌+◌, ◌<◌, ◌≤◌, Bool, true, false, ◌||◌, cond, List, [], ◌∷◌, ◌++◌, length, map, get_or, slice_index, refl, ap, sym, ◌∙◌, arith, length-append, below_more, subst}
 use Rattle.std.specs.List.{filter, list_any}
 use Rattle.std.proofs.lemmas.List.{append-nil, get_or_append_left, map-append}
 use Rattle.std.proofs.Math.Seq.{get_or-append_seam}
 use Rattle.std.proofs.lemmas.List.Elements.{filter-append}
+use Rattle.std.proofs.lemmas.List.Folds.{list_any-append}
 use Rattle.cfg_blocks.specs.Blocks.{below, AreFirsts}
 
 pub length-below : (n : ℕ) → length (below n) ≡ n
@@ -30,6 +31,15 @@ filter_below_same (suc n) p q same =
     filter_below_same n p q (λ k h. same k (omega arith)) in
     let last : filter p (n ∷ []) ≡ filter q (n ∷ []) = ap (λ b. cond b (n ∷ []) []) (same n (omega arith)) in
     cc (filter-append p (below n) (n ∷ []), filter-append q (below n) (n ∷ []))
+
+pub any_below_same : (n : ℕ) (p q : ℕ → Bool) → ((k : ℕ) → k < n → p k ≡ q k)
+    → list_any p (below n) ≡ list_any q (below n)
+any_below_same zero p q same = refl
+any_below_same (suc n) p q same =
+    let fewer : list_any p (below n) ≡ list_any q (below n) = any_below_same n p q (λ k h. same k (omega arith)) in
+    let last : list_any p (n ∷ []) ≡ list_any q (n ∷ []) = ap (λ x. x || false) (same n (omega arith)) in
+    list_any-append p (below n) (n ∷ []) ∙ ap (λ x. x || list_any p (n ∷ [])) fewer
+    ∙ ap (λ x. list_any q (below n) || x) last ∙ sym (list_any-append q (below n) (n ∷ []))
 
 pub map_below_same : {A : Type 0} (n : ℕ) (f g : ℕ → A) → ((k : ℕ) → k < n → f k ≡ g k)
     → map f (below n) ≡ map g (below n)

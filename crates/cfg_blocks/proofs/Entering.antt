@@ -4,14 +4,14 @@ use Rattle.std.specs.List.{flat_map}
 use Rattle.std.proofs.lemmas.List.Folds.{list_any-append}
 use Rattle.std.proofs.lemmas.Grind.{flat_map-append}
 use Rattle.std.proofs.lemmas.List.{append-nil}
-use Rattle.cfg_blocks.specs.Marks.{marked}
+use Rattle.cfg_blocks.specs.Marks.{end_in, marked}
 use Rattle.cfg_blocks.specs.declared.BlockEnd.{BlockEnd}
 use Rattle.cfg_blocks.specs.declared.Into.{Into}
 use Rattle.cfg_blocks.specs.declared.Into.TheVariants.{Nothing, More}
-use Rattle.cfg_blocks.specs.Ends.{Way}
-use Rattle.cfg_blocks.specs.Blocks.{Blocks, below}
-use Rattle.cfg_blocks.specs.Entries.{Entry, ways_from, into_by}
-use Rattle.cfg_blocks.specs.Arrivals.{added, added_all, counted, counted_from, into_at, into_first, into_in, is_bare_by, is_bare_in, is_led_by, is_led_from, is_slot_in}
+use Rattle.cfg_blocks.specs.Ends.{Way, target_in}
+use Rattle.cfg_blocks.specs.Blocks.{Blocks, below, is_it, is_target}
+use Rattle.cfg_blocks.specs.Entries.{Entry, is_slot, ways_from, into_by}
+use Rattle.cfg_blocks.specs.Arrivals.{added, added_all, counted, counted_from, into_at, into_first, into_in, is_bare_by, is_bare_in, is_led_by, is_led_from}
 
 pub added_all-append : (into : Into) (xs ys : List Entry)
     → added_all into (xs ++ ys) ≡ added_all (added_all into xs) ys
@@ -63,6 +63,18 @@ is_led_from_more b count word =
     list_any-append (λ block. is_led_by (ways_from b block) word) (below count) (count ∷ [])
     ∙ ap (λ x. is_led_from b count word || x) (or-false (is_led_by (ways_from b count) word))
 
+-- one turn of the loop that marks targets
+pub target_step : (count : ℕ) (end : ℕ → BlockEnd) (word : ℕ) (initial was now : Bool)
+    → was ≡ (initial || is_target count end word) → now ≡ (was || is_it word (target_in (end count)))
+    → now ≡ (initial || is_target (count + 1) end word)
+target_step count end word initial was now so_far step =
+    let here = is_it word (target_in (end count)) in
+    let more : is_target (suc count) end word ≡ (is_target count end word || here) =
+    list_any-append (λ other. is_it word (target_in (end other))) (below count) (count ∷ [])
+    ∙ ap (λ x. is_target count end word || x) (or-false here) in
+    rw add-one (step ∙ ap (λ x. x || here) so_far ∙ or-assoc initial (is_target count end word) here
+    ∙ ap (λ x. initial || x) (sym more))
+
 -- one turn of the loop that marks the words to which an edge leads
 pub led_step : (b : Blocks) (count word : ℕ) (initial was now : Bool) (ways : List Way)
     → was ≡ (initial || is_led_from b count word) → ways_from b count ≡ ways
@@ -107,7 +119,7 @@ pub into_first_is : (b : Blocks) (word_ends : List BlockEnd) (given arrivals : L
     → slice_index b.firsts block < b.words
     → ((k : ℕ) → k < b.words → marked arrivals k ≡ is_led_from b (length b.firsts) k)
     → ((k : ℕ) → k < b.words → into_at intos k
-    ≡ added_all Nothing (counted_from b (is_bare_in b.firsts word_ends given arrivals)
+    ≡ added_all Nothing (counted_from b (is_bare_in b word_ends given arrivals)
     (length b.firsts) k))
     → ((k : ℕ) → k < length b.firsts → slice_index b.firsts k < b.words)
     → into_first intos b.firsts block ≡ into_in b word_ends given block
@@ -115,7 +127,7 @@ unfolding into_first into_in
 into_first_is b word_ends given arrivals intos block here led into within =
     let first = slice_index b.firsts block in
     let bare : (k : ℕ) → k < length b.firsts
-    → is_bare_in b.firsts word_ends given arrivals k ≡ is_bare_by b word_ends given k =
-    λ k h. ap (λ x. is_slot_in b.firsts word_ends given k && not x)
+    → is_bare_in b word_ends given arrivals k ≡ is_bare_by b word_ends given k =
+    λ k h. ap (λ x. is_slot (end_in word_ends) (marked given) b k && not x)
     (led (slice_index b.firsts k) (within k h)) in
     into first here ∙ ap (λ es. added_all Nothing es) (counted_from_same b _ _ (length b.firsts) first bare)

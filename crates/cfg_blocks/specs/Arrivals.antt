@@ -1,15 +1,15 @@
 -- What the lists say from which it is told what leads to each block: for each word, whether an edge leads
 -- there, and what does.
-use Rattle.std.specs.Prelude.{ℕ, ◌-◌, Bool, not, ◌&&◌, ◌==◌, List, [], ◌∷◌, length, map, filter, slice_index, slice_index_or, option_to_list, Option}
+use Rattle.std.specs.Prelude.{ℕ, Bool, not, ◌&&◌, List, [], ◌∷◌, length, map, filter, slice_index, slice_index_or, option_to_list, Option}
 use Rattle.std.specs.List.{list_any, flat_map}
 use Rattle.cfg_blocks.specs.declared.BlockEnd.{BlockEnd}
 use Rattle.cfg_blocks.specs.declared.Into.{Into}
 use Rattle.cfg_blocks.specs.declared.Into.TheVariants.{Nothing, One, More}
 use Rattle.cfg_blocks.specs.declared.entries.Exit.{Exit}
 use Rattle.cfg_blocks.specs.Ends.{Way}
-use Rattle.cfg_blocks.specs.Blocks.{Blocks, below, block_end}
-use Rattle.cfg_blocks.specs.Entries.{Entered, Entry, is_fall, leads_to, ways_from}
-use Rattle.cfg_blocks.specs.Marks.{block_end_in, follows, leads_in, marked}
+use Rattle.cfg_blocks.specs.Blocks.{Blocks, below}
+use Rattle.cfg_blocks.specs.Entries.{Entered, Entry, is_fall, is_slot, leads_to, ways_from}
+use Rattle.cfg_blocks.specs.Marks.{block_end_in, end_in, leads_in, marked}
 
 -- the ways that are listed as one and perhaps another
 abbrev pub way_of : Exit → Way
@@ -26,21 +26,16 @@ is_led_by ways word = list_any (λ way. leads_to word way.to) ways
 abbrev pub is_led_from : Blocks → ℕ → ℕ → Bool
 is_led_from b count word = list_any (λ block. is_led_by (ways_from b block) word) (below count)
 
--- the first word of a block that is only a delay slot, where a list marks the words that are given
-abbrev pub is_slot_in : List ℕ → List BlockEnd → List Bool → ℕ → Bool
-is_slot_in firsts word_ends given block =
-    (block_end firsts (length word_ends) block - slice_index firsts block == 1)
-    && follows word_ends 1 (slice_index firsts block) && not (marked given (slice_index firsts block))
-
--- such a block to which no edge leads, where another list marks the words to which one does
-abbrev pub is_bare_in : List ℕ → List BlockEnd → List Bool → List Bool → ℕ → Bool
-is_bare_in firsts word_ends given arrivals block =
-    is_slot_in firsts word_ends given block && not (marked arrivals (slice_index firsts block))
+-- A block that is only a delay slot, to which no edge leads: a list marks the words that are given, and another those to
+-- which an edge leads.
+abbrev pub is_bare_in : Blocks → List BlockEnd → List Bool → List Bool → ℕ → Bool
+is_bare_in b word_ends given arrivals block =
+    is_slot (end_in word_ends) (marked given) b block && not (marked arrivals (slice_index b.firsts block))
 
 abbrev pub is_bare_by : Blocks → List BlockEnd → List Bool → ℕ → Bool
 is_bare_by b word_ends given block =
-    is_slot_in b.firsts word_ends given block && not
-    (is_led_from b (length b.firsts) (slice_index b.firsts block))
+    is_slot (end_in word_ends) (marked given) b block
+    && not (is_led_from b (length b.firsts) (slice_index b.firsts block))
 
 abbrev pub into_at : List Into → ℕ → Into
 into_at intos word = slice_index_or intos word Nothing

@@ -18,24 +18,30 @@ abbrev pub is_it : ℕ → Option WordNo → Bool
 is_it word None = false
 is_it word (Some target) = target.0 == word
 
--- a branch or CALL of the text leads to the word
-abbrev pub is_target : Words → ℕ → Bool
-is_target text word =
-    list_any (λ other. is_it word (target_in (end_at text other))) (below (length text.words))
+-- Below, `end` says how control leaves each of `count` words, and `given` which words are given.
+
+-- a branch or CALL leads to the word
+abbrev pub is_target : ℕ → (ℕ → BlockEnd) → ℕ → Bool
+is_target count end word = list_any (λ other. is_it word (target_in (end other))) (below count)
 
 -- a transfer stands `back` words before
-abbrev pub follows_transfer : Words → ℕ → ℕ → Bool
-follows_transfer text back word = nat_le back word && is_transfer (end_at text (word - back))
+abbrev pub follows_transfer : (ℕ → BlockEnd) → ℕ → ℕ → Bool
+follows_transfer end back word = nat_le back word && is_transfer (end (word - back))
 
--- The text's first word leads, the words that are given, each target, and the two words after each
--- transfer: its delay slot and the word after that.
-abbrev pub leads : Words → List ℕ → ℕ → Bool
-leads text given word =
-    (word == 0) || list_any (λ other. other == word) given || is_target text word
-    || follows_transfer text 1 word || follows_transfer text 2 word
+-- The first word leads, the words that are given, each target, and the two words after each transfer: its delay
+-- slot and the word after that.
+abbrev pub leads : ℕ → (ℕ → BlockEnd) → (ℕ → Bool) → ℕ → Bool
+leads count end given word =
+    (word == 0) || given word || is_target count end word
+    || follows_transfer end 1 word || follows_transfer end 2 word
+
+-- the word is one of these
+abbrev pub is_among : List ℕ → ℕ → Bool
+is_among words word = list_any (λ other. other == word) words
 
 unfoldable pub leaders : Words → List ℕ → List ℕ
-leaders text given = filter (leads text given) (below (length text.words))
+leaders text given =
+    filter (leads (length text.words) (end_at text) (is_among given)) (below (length text.words))
 
 -- ---- blocks: each runs from a leader to the next, or to the end of the text
 

@@ -1,7 +1,6 @@
 -- How control leaves a word of a text (The SPARC Architecture Manual, Version 8, B.21, B.24 and B.25): by a
 -- transfer, or on to the next word.
-use Rattle.std.specs.Prelude.{ℕ, ◌+◌, ◌-◌, ◌*◌, ◌/◌, ◌%◌, ◌^◌, ◌<◌, Bool, true, false, ◌&&◌, ◌==◌, nat_le, nat_lt, if◌then◌else◌, List, [], ◌∷◌, length, slice_index, Option, Some, None, IfSome, ℤ}
-use Rattle.std.specs.Int.{w32, cast_unsigned}
+use Rattle.std.specs.Prelude.{ℕ, ◌+◌, ◌<◌, Bool, true, false, ◌==◌, nat_lt, if◌then◌else◌, List, [], ◌∷◌, slice_index, Option, Some, None, IfSome, ℤ}
 use Rattle.eel_base.specs.CodeText.{Words, numbered, target_of}
 use Rattle.eel_base.specs.declared.numbers.WordNo.{WordNo}
 use Rattle.v8_decode.specs.declared.Instr.{Instr}

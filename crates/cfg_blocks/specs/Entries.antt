@@ -1,13 +1,14 @@
 -- How control comes into a block.
 use Rattle.std.specs.Prelude.{◌≡◌, ℕ, ◌^◌, ◌≤◌, Bool, true, false, not, ◌&&◌, ◌==◌, List, [], ◌∷◌, length, map, filter, slice_index, Option, Some, None}
-use Rattle.std.specs.List.{All, list_any, flat_map}
+use Rattle.std.specs.List.{All, flat_map}
 use Rattle.eel_base.specs.CodeText.{Words}
+use Rattle.cfg_blocks.specs.declared.BlockEnd.{BlockEnd}
 use Rattle.cfg_blocks.specs.declared.EdgeKind.{EdgeKind}
 use Rattle.cfg_blocks.specs.declared.EdgeKind.TheVariants as kinds
 use Rattle.cfg_blocks.specs.declared.Into.{Into}
 use Rattle.cfg_blocks.specs.declared.Into.TheVariants.{Nothing, One, More}
-use Rattle.cfg_blocks.specs.Ends.{TargetsWithin, Way, ways_of}
-use Rattle.cfg_blocks.specs.Blocks.{Blocks, below, blocks_of, end_of, last_word, size_of, follows_transfer, AreFirsts}
+use Rattle.cfg_blocks.specs.Ends.{TargetsWithin, Way, end_at, ways_of}
+use Rattle.cfg_blocks.specs.Blocks.{Blocks, below, blocks_of, end_of, last_word, size_of, follows_transfer, is_among, AreFirsts}
 
 -- an edge into a block: the block that it leaves, and its kind
 pub record Entry : Type 0 where
@@ -40,16 +41,20 @@ abbrev pub is_empty : List Entry → Bool
 is_empty [] = true
 is_empty (entry ∷ entries) = false
 
--- A block that is only a delay slot: one word after a transfer, which is not given, and to which no edge
--- leads. Its way on is taken only after a landing there.
-abbrev pub is_bare_slot : Words → List ℕ → Blocks → ℕ → Bool
-is_bare_slot text given b block =
-    let first = slice_index b.firsts block in
-    (size_of b block == 1) && follows_transfer text 1 first && not (list_any (λ other. other == first) given)
-    && is_empty (all_entries b block)
+-- a block of one word after a transfer, which is not given
+abbrev pub is_slot : (ℕ → BlockEnd) → (ℕ → Bool) → Blocks → ℕ → Bool
+is_slot end given b block =
+    (size_of b block == 1) && follows_transfer end 1 (slice_index b.firsts block)
+    && not (given (slice_index b.firsts block))
 
-abbrev pub is_counted : Words → List ℕ → Blocks → Entry → Bool
-is_counted text given b entry = not (is_fall entry.kind && is_bare_slot text given b entry.from)
+-- A block that is only a delay slot: such a block, to which no edge leads. Its way on is taken only after a landing
+-- there.
+abbrev pub is_bare_slot : (ℕ → BlockEnd) → (ℕ → Bool) → Blocks → ℕ → Bool
+is_bare_slot end given b block =
+    is_slot end given b block && is_empty (all_entries b block)
+
+abbrev pub is_counted : (ℕ → BlockEnd) → (ℕ → Bool) → Blocks → Entry → Bool
+is_counted end given b entry = not (is_fall entry.kind && is_bare_slot end given b entry.from)
 
 -- what leads to a block: nothing, one edge, or more
 abbrev pub into_by : List Entry → Into
@@ -58,7 +63,8 @@ into_by (entry ∷ []) = One (record { 0 = entry.from }) entry.kind
 into_by (entry ∷ other ∷ entries) = More
 
 unfoldable pub into_of : Words → List ℕ → Blocks → ℕ → Into
-into_of text given b block = into_by (filter (is_counted text given b) (all_entries b block))
+into_of text given b block =
+    into_by (filter (is_counted (end_at text) (is_among given) b) (all_entries b block))
 
 -- ---- the list of blocks: the blocks, and what leads to each
 

@@ -1,12 +1,12 @@
 -- What the lists say from which blocks are made: how control leaves each word, and which words are marked.
-use Rattle.std.specs.Prelude.{ℕ, ◌-◌, ◌<◌, Bool, false, ◌||◌, ◌&&◌, ◌==◌, nat_le, List, length, map, slice_index_or}
+use Rattle.std.specs.Prelude.{ℕ, ◌<◌, Bool, false, ◌==◌, List, length, map, slice_index_or}
 use Rattle.std.specs.List.{All, list_any}
 use Rattle.eel_base.specs.CodeText.{Words}
 use Rattle.eel_base.specs.declared.numbers.WordNo.{WordNo}
 use Rattle.cfg_blocks.specs.declared.BlockEnd.{BlockEnd}
 use Rattle.cfg_blocks.specs.declared.BlockEnd.TheVariants.{Fall}
-use Rattle.cfg_blocks.specs.Ends.{end_at, is_transfer, target_in}
-use Rattle.cfg_blocks.specs.Blocks.{below, is_it, last_word}
+use Rattle.cfg_blocks.specs.Ends.{end_at}
+use Rattle.cfg_blocks.specs.Blocks.{below, last_word, leads}
 
 -- how control leaves each word of a text
 unfoldable pub word_ends : Words → List BlockEnd
@@ -35,15 +35,6 @@ AreWords text = All (λ word. word.0 < length text.words)
 abbrev pub is_in : List WordNo → ℕ → Bool
 is_in words word = list_any (λ other. other.0 == word) words
 
--- one of the transfers leads to the word
-abbrev pub is_target_in : List BlockEnd → ℕ → Bool
-is_target_in ends word = list_any (λ end. is_it word (target_in end)) ends
-
--- a transfer stands `back` words before
-abbrev pub follows : List BlockEnd → ℕ → ℕ → Bool
-follows ends back word = nat_le back word && is_transfer (end_in ends (word - back))
-
--- the word leads, where `given` marks those that are given
+-- the word leads, by a list of how control leaves each word and the marks of those that are given
 abbrev pub leads_in : List BlockEnd → List Bool → ℕ → Bool
-leads_in ends given word =
-    (word == 0) || marked given word || is_target_in ends word || follows ends 1 word || follows ends 2 word
+leads_in ends given = leads (length ends) (end_in ends) (marked given)

@@ -1,11 +1,11 @@
 //! How control leaves the words of a text.
 ghost use Rattle.std.specs.Prelude.{◌≡◌, ◌+◌, ◌<◌, ℤ, length, map, IfOk};
-ghost use Rattle.eel_base.specs.CodeText.{numbered, target_of};
+ghost use Rattle.eel_base.specs.CodeText.{numbered};
 ghost use Rattle.cfg_blocks.specs.Ends.{branch_target, end_at, is_transfer, target_in};
 ghost use Rattle.cfg_blocks.specs.Marks.{word_ends};
 
 use crate::BlockEnd;
-use eel_base::{Addr, NoMemory, Text, WordNo};
+use eel_base::{NoMemory, Text, WordNo};
 use std::alloc::Global;
 use v8_decode::{Cond, Instr, decode};
 
@@ -13,15 +13,6 @@ use v8_decode::{Cond, Instr, decode};
 pub(crate) const NEVER: u8 = 0;
 
 pub(crate) const ALWAYS: u8 = 8;
-
-// The word to which a displacement leads, which counts words.
-fn target(text: &Text, w: WordNo, displacement: i32) -> Option<WordNo>
-    requires { w.0 < length text.now.words }
-    ensures { result ≡ numbered (target_of text.now w.0 displacement) }
-{
-    let distance = displacement.cast_unsigned().wrapping_mul(4);
-    text.find(Addr(text.address(w).0.wrapping_add(distance)))
-}
 
 // The word to which a branch leads; one on never leads nowhere.
 fn branch_target(text: &Text, w: WordNo, cond: Cond, displacement: i32) -> Option<WordNo>
@@ -31,7 +22,7 @@ fn branch_target(text: &Text, w: WordNo, cond: Cond, displacement: i32) -> Optio
     if cond.number() == NEVER {
         None
     } else {
-        target(text, w, displacement)
+        text.target(w, displacement)
     }
 }
 
@@ -52,7 +43,7 @@ fn word_end(text: &Text, w: WordNo) -> BlockEnd
             target: branch_target(text, w, cond, disp22),
         },
         Instr::Call { disp30 } => BlockEnd::Call {
-            target: target(text, w, disp30),
+            target: text.target(w, disp30),
         },
         Instr::Jmpl { .. } => BlockEnd::Jump,
         _ => BlockEnd::Fall,

@@ -1,5 +1,6 @@
 //! What leads to each block: first for each word, then for the first word of each block.
-ghost use Rattle.std.specs.Prelude.{◌≡◌, ℕ, ◌+◌, ◌-◌, ◌^◌, ◌<◌, ◌≤◌, ◌||◌, [], ◌∷◌, length, map, option_to_list, slice_index, IfOk};
+ghost use Rattle.std.specs.Prelude.{◌≡◌, ℕ, ◌+◌, ◌-◌, ◌^◌, ◌<◌, ◌≤◌, ◌||◌, List, [], ◌∷◌, length, map, option_to_list, slice_index, IfOk};
+ghost use Rattle.cfg_blocks.specs.declared.BlockEnd.{BlockEnd};
 ghost use Rattle.cfg_blocks.specs.Arrivals.{added, added_all, counted, counted_from, into_at, into_first, into_in, is_bare_in, is_led_by, is_led_from, way_of, ways_in};
 ghost use Rattle.cfg_blocks.specs.Blocks.{below, AreFirsts, Blocks};
 ghost use Rattle.cfg_blocks.specs.Ends.{number_of, ways_of, within};
@@ -161,7 +162,8 @@ fn is_bare(
     requires firsts { AreFirsts (length word_ends.now) firsts.now }
     requires given { length given.now ≡ length word_ends.now }
     requires arrivals { length arrivals.now ≡ length word_ends.now }
-    ensures { result ≡ is_bare_in firsts.now word_ends.now given.now arrivals.now block }
+    ensures { (ends : List BlockEnd) → let b : Blocks = record { firsts = firsts.now; words = length word_ends.now; ends = ends } in
+        result ≡ is_bare_in b word_ends.now given.now arrivals.now block }
 {
     let first = firsts[block as usize] as usize;
     block_size(firsts, word_ends.len() as u32, block) == 1
@@ -222,7 +224,7 @@ fn enter_all(
     requires arrivals { length arrivals.now ≡ length word_ends.now }
     ensures { let b : Blocks = record { firsts = firsts.now; words = length word_ends.now; ends = ends.now } in
         (k : ℕ) → k < length intos.old → into_at intos.new k ≡ added_all (into_at intos.old k)
-        (counted_from b (is_bare_in firsts.now word_ends.now given.now arrivals.now) (length firsts.now) k) }
+        (counted_from b (is_bare_in b word_ends.now given.now arrivals.now) (length firsts.now) k) }
 {
     let words = word_ends.len() as u32;
     for block in 0..firsts.len() as u32 {
@@ -248,7 +250,7 @@ fn word_intos(
     ensures words { IfOk result (λ v. length v.items ≡ length word_ends.now) }
     ensures intos { let b : Blocks = record { firsts = firsts.now; words = length word_ends.now; ends = ends.now } in
         IfOk result (λ v. (k : ℕ) → k < length word_ends.now → into_at v.items k ≡ added_all Into.Nothing
-        (counted_from b (is_bare_in firsts.now word_ends.now given.now arrivals.now) (length firsts.now) k)) }
+        (counted_from b (is_bare_in b word_ends.now given.now arrivals.now) (length firsts.now) k)) }
 {
     let mut intos = vec![in alloc; Into::Nothing; word_ends.len()]?;
     enter_all(&mut intos, firsts, ends, word_ends, given, arrivals);

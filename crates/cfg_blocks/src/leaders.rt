@@ -1,8 +1,8 @@
 //! Leaders: the words with which a block begins.
 ghost use Rattle.std.specs.Prelude.{◌≡◌, ℕ, ◌+◌, ◌<◌, ◌≤◌, ◌||◌, ◌^◌, length, filter, IfOk};
 ghost use Rattle.std.specs.List.{All};
-ghost use Rattle.cfg_blocks.specs.Blocks.{below, is_it, AreFirsts};
-ghost use Rattle.cfg_blocks.specs.Marks.{follows, is_in, is_target_in, leads_in, marked};
+ghost use Rattle.cfg_blocks.specs.Blocks.{below, follows_transfer, is_it, is_target, AreFirsts};
+ghost use Rattle.cfg_blocks.specs.Marks.{end_in, is_in, leads_in, marked};
 
 use crate::BlockEnd;
 use crate::ends::{is_transfer, target_of};
@@ -34,7 +34,7 @@ fn mark_target(marks: &mut [bool], target: Option<WordNo>)
 // Marks the words to which a transfer leads.
 fn mark_targets(marks: &mut [bool], ends: &[BlockEnd])
     ensures { (k : ℕ) → k < length marks.old →
-        marked marks.new k ≡ (marked marks.old k || is_target_in ends.now k) }
+        marked marks.new k ≡ (marked marks.old k || is_target (length ends.now) (end_in ends.now) k) }
 {
     for end in ends {
         mark_target(marks, target_of(end));
@@ -45,7 +45,7 @@ fn mark_targets(marks: &mut [bool], ends: &[BlockEnd])
 fn mark_followers(marks: &mut [bool], ends: &[BlockEnd])
     requires { length marks.old ≡ length ends.now }
     ensures { (k : ℕ) → k < length marks.old →
-        marked marks.new k ≡ (marked marks.old k || (follows ends.now 1 k || follows ends.now 2 k)) }
+        marked marks.new k ≡ (marked marks.old k || (follows_transfer (end_in ends.now) 1 k || follows_transfer (end_in ends.now) 2 k)) }
 {
     for word in 0..ends.len() {
         if is_follower(ends, word) {
@@ -57,7 +57,7 @@ fn mark_followers(marks: &mut [bool], ends: &[BlockEnd])
 // Whether the word is one of the two after a transfer.
 fn is_follower(ends: &[BlockEnd], word: usize) -> bool
     requires { word ≤ length ends.now }
-    ensures { result ≡ (follows ends.now 1 word || follows ends.now 2 word) }
+    ensures { result ≡ (follows_transfer (end_in ends.now) 1 word || follows_transfer (end_in ends.now) 2 word) }
 {
     follows(ends, word, 1) || follows(ends, word, 2)
 }
@@ -66,7 +66,7 @@ fn is_follower(ends: &[BlockEnd], word: usize) -> bool
 pub(crate) fn follows(ends: &[BlockEnd], word: usize, back: usize) -> bool
     requires within { word ≤ length ends.now }
     requires back { 0 < back }
-    ensures { result ≡ follows ends.now back word }
+    ensures { result ≡ follows_transfer (end_in ends.now) back word }
 {
     back <= word && is_transfer(&ends[word - back])
 }

@@ -12,8 +12,6 @@ mod ends;
 mod entries;
 mod leaders;
 mod list;
-#[cfg(test)]
-mod tests;
 
 pub use list::{BlockList, blocks};
 

@@ -1,6 +1,7 @@
 //! The edges of a list of blocks.
 ghost use Rattle.std.specs.Prelude.{◌≡◌, ◌+◌, ◌^◌, ◌<◌, ◌≤◌, ◌++◌, ◌∷◌, if◌then◌else◌, length, map, slice_index, option_to_list, IfOk, OnOk};
 ghost use Rattle.std.specs.List.{flat_map};
+ghost use Rattle.std.specs.Option.{ForSome};
 ghost use Rattle.cfg_blocks.specs.Blocks.{below, block_end, end_of, holding_of, last_word, size_of};
 ghost use Rattle.cfg_blocks.specs.Ends.{number_of, within};
 ghost use Rattle.cfg_blocks.specs.Entries.{IsBlockList};
@@ -186,12 +187,12 @@ fn node(blocks: &BlockList, words: u32, word: u32) -> Node
 }
 
 // The block to which a transfer leads, or X.
-fn target_node(blocks: &BlockList, words: u32, target: Option<WordNo>) -> Node
-    requires { words ≡ blocks.now.blocks.words }
+fn target_node(blocks: &BlockList, target: Option<WordNo>) -> Node
+    requires { ForSome target (λ word. word.0 < blocks.now.blocks.words) }
     ensures { result ≡ node_of blocks.now.blocks (number_of target) }
 {
     match target {
-        Some(word) => node(blocks, words, word.0),
+        Some(word) => Node::Block(blocks.holding(word)),
         None => Node::X,
     }
 }
@@ -230,7 +231,7 @@ fn edges_out(blocks: &BlockList, words: u32, block: BlockNo) -> (Edge, Option<Ed
             None,
         ),
         BlockEnd::Call { target } => (
-            edge(EdgeKind::Call, target_node(blocks, words, target), slot),
+            edge(EdgeKind::Call, target_node(blocks, target), slot),
             None,
         ),
         BlockEnd::Jump => (edge(EdgeKind::Out, Node::X, slot), None),
@@ -240,7 +241,7 @@ fn edges_out(blocks: &BlockList, words: u32, block: BlockNo) -> (Edge, Option<Ed
             target,
         } => {
             let kept = if annul { Slot::Nothing } else { slot };
-            let taken = target_node(blocks, words, target);
+            let taken = target_node(blocks, target);
             let untaken = edge(EdgeKind::Untaken, node(blocks, words, last + 2), kept);
             match cond.number() {
                 ALWAYS => (edge(EdgeKind::Taken, taken, kept), None),

@@ -5,8 +5,6 @@ use cfg_blocks::EdgeKind;
 use eel_base::{BlockNo, WordNo};
 
 mod flow;
-#[cfg(test)]
-mod tests;
 
 pub use flow::{FlowGraph, graph};
 

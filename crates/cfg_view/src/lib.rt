@@ -15,9 +15,6 @@ use elf32_sparc::{Image, ReadFault, read_image};
 use routines::{Routine, Routines, find};
 use std::alloc::Global;
 
-#[cfg(test)]
-mod tests;
-
 /// A program's image, its routines, and its blocks and flow graph.
 #[derive(Drop)]
 pub struct View {

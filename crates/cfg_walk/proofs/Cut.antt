@@ -9,7 +9,7 @@ use Rattle.eel_base.specs.CodeText.{Words}
 use Rattle.eel_base.specs.declared.numbers.WordNo.{WordNo}
 use Rattle.cfg_blocks.specs.declared.BlockEnd.TheVariants.{Fall}
 use Rattle.cfg_blocks.specs.Ends.{end_at, is_transfer, target_in}
-use Rattle.cfg_blocks.specs.Blocks.{Blocks, AreFirsts, below, is_it, is_target, follows_transfer, leads, leaders, blocks_of, end_of, last_word}
+use Rattle.cfg_blocks.specs.Blocks.{Blocks, AreFirsts, below, is_it, is_target, follows_transfer, is_among, leads, leaders, blocks_of, end_of, last_word}
 use Rattle.cfg_blocks.proofs.Below.{filter_below_firsts, get_or-below, length-below}
 use Rattle.cfg_walk.proofs.Lists.{any_below}
 use Rattle.cfg_walk.proofs.Holding.{Leads}
@@ -44,20 +44,24 @@ passing p (suc n) k l h =
 
 -- ---- words that lead
 
-target_leads : (text : Words) (given : List ℕ) (word : ℕ) → is_target text word ≡ true
-    → leads text given word ≡ true
+-- `leads` of a text with the words that are given
+abbrev leads_here : Words → List ℕ → ℕ → Bool
+leads_here text given = leads (length text.words) (end_at text) (is_among given)
+
+target_leads : (text : Words) (given : List ℕ) (word : ℕ) → is_target (length text.words) (end_at text) word ≡ true
+    → leads_here text given word ≡ true
 target_leads text given word h = grind (arith, h)
 
-after_leads : (text : Words) (given : List ℕ) (word : ℕ) → follows_transfer text 1 word ≡ true
-    → leads text given word ≡ true
+after_leads : (text : Words) (given : List ℕ) (word : ℕ) → follows_transfer (end_at text) 1 word ≡ true
+    → leads_here text given word ≡ true
 after_leads text given word h = grind (arith, h)
 
-second_leads : (text : Words) (given : List ℕ) (word : ℕ) → follows_transfer text 2 word ≡ true
-    → leads text given word ≡ true
+second_leads : (text : Words) (given : List ℕ) (word : ℕ) → follows_transfer (end_at text) 2 word ≡ true
+    → leads_here text given word ≡ true
 second_leads text given word h = grind (arith, h)
 
 follows : (text : Words) (back word : ℕ) → is_transfer (end_at text word) ≡ true
-    → follows_transfer text back (word + back) ≡ true
+    → follows_transfer (end_at text) back (word + back) ≡ true
 follows text back word h =
     let from : word + back - back ≡ word = omega arith in
     and_from _ _ (le-leb _ _ (omega arith)) (ap (λ w. is_transfer (end_at text w)) from ∙ h)
@@ -81,7 +85,7 @@ cut text given some =
     let n = length text.words in
     record {
       words = refl;
-      firsts = filter_below_firsts n (leads text given) some refl;
+      firsts = filter_below_firsts n (leads_here text given) some refl;
       ends = λ block h.
           get_or-map (λ k. end_at text (last_word (leaders text given) n k))
           (below (length (leaders text given))) block 0 Fall
@@ -89,11 +93,11 @@ cut text given some =
           ∙ ap (λ k. end_at text (last_word (leaders text given) n k))
           (get_or-below (length (leaders text given)) block 0 h);
       targets = λ word target l e m.
-          passing (leads text given) n target.0 m (target_leads text given target.0
+          passing (leads_here text given) n target.0 m (target_leads text given target.0
           (any_below (λ other. is_it target.0 (target_in (end_at text other))) n word l
           (ap (is_it target.0) e ∙ eq-eqb _ _ refl)));
       after = λ word h l.
-          passing (leads text given) n _ l (after_leads text given _ (follows text 1 word h));
+          passing (leads_here text given) n _ l (after_leads text given _ (follows text 1 word h));
       second = λ word h l.
-          passing (leads text given) n _ l (second_leads text given _ (follows text 2 word h));
+          passing (leads_here text given) n _ l (second_leads text given _ (follows text 2 word h));
     }

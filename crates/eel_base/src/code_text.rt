@@ -1,7 +1,7 @@
 //! The text of a program.
 ghost use Rattle.std.specs.Prelude.{◌≡◌, ◌≢◌, ℕ, ◌+◌, ◌<◌, ◌≤◌, length, slice_index, IfSome, IfNone};
 ghost use Rattle.std.specs.Option.{SomeIff};
-ghost use Rattle.eel_base.specs.CodeText.{Words, IsText, address_of, numbered, word_at};
+ghost use Rattle.eel_base.specs.CodeText.{Words, IsText, address_of, numbered, target_of, word_at};
 
 use crate::numbers::{Addr, WordNo};
 use std::marker::Model;
@@ -90,5 +90,15 @@ impl Text {
         } else {
             None
         }
+    }
+
+    /// The word to which a transfer at the word `w` leads, whose displacement counts words.
+    #[inline]
+    pub fn target(&self, w: WordNo, displacement: i32) -> Option<WordNo>
+        requires { w.0 < length self.now.words }
+        ensures { result ≡ numbered (target_of self.now w.0 displacement) }
+    {
+        let distance = displacement.cast_unsigned().wrapping_mul(4);
+        self.find(Addr(self.address(w).0.wrapping_add(distance)))
     }
 }

@@ -3,4 +3,10 @@
 #![tactic(auto)]
 
 #[cfg(test)]
+mod blocks_tests;
+#[cfg(test)]
+mod edges_tests;
+#[cfg(test)]
 mod flows_tests;
+#[cfg(test)]
+mod views_tests;

@@ -7,8 +7,6 @@ use elf32_sparc::Name;
 mod calls;
 mod list;
 mod starts;
-#[cfg(test)]
-mod tests;
 
 pub use list::{Routines, find};
 

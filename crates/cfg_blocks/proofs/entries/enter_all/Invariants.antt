@@ -8,4 +8,4 @@ invariant-loop-block l =
     let b : Blocks = record { firsts = l.firsts; words = length l.word_ends; ends = l.ends } in
     (k : ℕ) → k < length l.initial.intos → into_at l.intos k
     ≡ added_all (into_at l.initial.intos k)
-    (counted_from b (is_bare_in l.firsts l.word_ends l.given l.arrivals) l.block k)
+    (counted_from b (is_bare_in (record { firsts = l.firsts; words = length l.word_ends; ends = l.ends }) l.word_ends l.given l.arrivals) l.block k)

@@ -1,13 +1,13 @@
-//! Graphs of small programs, worked out by hand.
-use crate::{Edge, FlowGraph, Node, Slot, graph};
+//! Edges of small programs, worked out by hand.
 use cfg_blocks::{EdgeKind, blocks};
+use cfg_normal::{Edge, FlowGraph, Node, Slot, graph};
 use eel_base::{Addr, BlockNo, Text, WordNo};
 use std::alloc::Global;
 use std::test::Fail;
 
 const NOP: u32 = 0x0100_0000;
 
-// The graph of these words at 0x10054, where the first word is given and one more.
+/// The graph of these words at 0x10054, where the first word is given and one more.
 fn graph_of(alloc: Global, words: &[u32], start: u32) -> Result<FlowGraph, Fail> {
     let words = Vec::from_slice(alloc, words)?;
     let text = Text::new(Addr(0x10054), words).ok_or("a text")?;
@@ -41,49 +41,6 @@ fn landing(b: u32) -> Edge {
 }
 
 #[test]
-fn a_call_and_a_return(rt: HostRuntime) -> Result<(), Fail> {
-    let words = [
-        0x4000_0004,
-        NOP,
-        0x8210_2001,
-        0x91d0_2010,
-        0x81c3_e008,
-        0x900b_e0ff,
-    ];
-    let graph = graph_of(rt.alloc(), &words, 4)?;
-    let wants = [
-        edge(EdgeKind::Call, block(0), block(3), word(1)),
-        edge(EdgeKind::Fall, block(1), block(2), Slot::Nothing),
-        edge(EdgeKind::Fall, block(2), block(3), Slot::Nothing),
-        edge(EdgeKind::Out, block(3), Node::X, word(5)),
-        edge(EdgeKind::Fall, block(4), Node::X, Slot::Nothing),
-        landing(0),
-        landing(1),
-        landing(2),
-        landing(3),
-        landing(4),
-    ];
-    assert_eq!(rt; graph.edges(), wants.as_slice());
-    assert_eq!(rt; graph.count(), 5);
-    assert_eq!(rt; graph.holding(WordNo(3)), BlockNo(2));
-    assert_eq!(rt; graph.first(BlockNo(3)), WordNo(4));
-    assert_eq!(rt; graph.words(BlockNo(2)), 2);
-    Ok(())
-}
-
-#[test]
-fn slots_that_the_text_lacks(rt: HostRuntime) -> Result<(), Fail> {
-    let graph = graph_of(rt.alloc(), &[NOP, 0x0280_0004], 0)?;
-    let wants = [
-        edge(EdgeKind::Taken, block(0), Node::X, Slot::Off),
-        edge(EdgeKind::Untaken, block(0), Node::X, Slot::Off),
-        landing(0),
-    ];
-    assert_eq!(rt; graph.edges(), wants.as_slice());
-    Ok(())
-}
-
-#[test]
 fn branches_with_and_without_slots(rt: HostRuntime) -> Result<(), Fail> {
     let words = [
         0x0080_0003,
@@ -113,6 +70,11 @@ fn branches_with_and_without_slots(rt: HostRuntime) -> Result<(), Fail> {
     ];
     let first = graph.edges().get(..11).ok_or("edges")?;
     assert_eq!(rt; first, wants.as_slice());
+    assert_eq!(rt; graph.edges().get(12), Some(&landing(1)));
     assert_eq!(rt; graph.edges().len(), 21);
+    assert_eq!(rt; graph.count(), 10);
+    assert_eq!(rt; graph.holding(WordNo(3)), BlockNo(3));
+    assert_eq!(rt; graph.first(BlockNo(3)), WordNo(3));
+    assert_eq!(rt; graph.words(BlockNo(2)), 1);
     Ok(())
 }

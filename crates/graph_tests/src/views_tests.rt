@@ -1,6 +1,7 @@
-//! Routines of two small files, worked out by hand.
-use crate::find;
-use elf32_sparc::read_image;
+//! Views of two small files: their routines, worked out by hand, and a mark that leads.
+use cfg_view::look;
+use eel_base::{BlockNo, WordNo};
+use elf32_sparc::{FileFault, ReadFault};
 use std::alloc::Global;
 use std::process::Abort;
 use std::test::Fail;
@@ -50,10 +51,9 @@ fn expect<R: Abort>(
     bytes: &[u8],
     wants: &[(u32, &str)],
 ) -> Result<(), Fail> {
-    let image = read_image(alloc, bytes).map_err(|_| Fail::from("an image"))?;
-    let routines = find(alloc, &image).map_err(|_| Fail::from("memory"))?;
-    assert_eq!(rt; routines.list().len(), wants.len());
-    for (routine, (start, name)) in routines.list().iter().zip(wants) {
+    let view = look(alloc, bytes, &[]).map_err(|_| Fail::from("a view"))?;
+    assert_eq!(rt; view.routines.list().len(), wants.len());
+    for (routine, (start, name)) in view.routines.list().iter().zip(wants) {
         assert_eq!(rt; routine.start.0, *start);
         assert_eq!(rt; routine.name.bytes(), name.as_bytes(), "at {start}");
     }
@@ -71,4 +71,21 @@ fn function_symbols_name_routines(rt: HostRuntime) -> Result<(), Fail> {
     let bytes = file(rt.alloc(), 3, &[&SECTIONS, &SYMBOLS])?;
     let wants = [(0, ""), (1, "main"), (4, ""), (5, "late")];
     expect(&rt, rt.alloc(), &bytes, &wants)
+}
+
+#[test]
+fn marks_in_the_text_lead(rt: HostRuntime) -> Result<(), Fail> {
+    let bytes = file(rt.alloc(), 0, &[])?;
+    let view = look(rt.alloc(), &bytes, &[WordNo(6), WordNo(3)]);
+    let view = view.map_err(|_| Fail::from("a view"))?;
+    assert_eq!(rt; view.graph.count(), 6);
+    assert_eq!(rt; view.graph.first(BlockNo(3)), WordNo(3));
+    Ok(())
+}
+
+#[test]
+fn an_empty_file_is_refused(rt: HostRuntime) -> Result<(), Fail> {
+    let view = look(rt.alloc(), &[], &[]);
+    assert_eq!(rt; view.err(), Some(ReadFault::File(FileFault::Short)));
+    Ok(())
 }
