@@ -78,7 +78,7 @@ module _ (file : List ℕ) (limit : length file ≤ 2 ^ 26) (bytes : AreBytes fi
   followed last within =
       copies_follow notes text.start base (length text.words) s0 t0 copied last within.untouched within.inside
 
-  answered : (n : ℕ) → IsWithin text notes s0 n → Answers notes s0 t0 n (live_steps s0 n)
+  answered : (n : ℕ) → IsWithin text notes s0 n → IsLeast (Answers notes s0 t0 n) (live_steps s0 n)
   answered n within =
       (runs_follow notes s0 t0 0 (λ n. 1) (live_steps s0) n (followed n within)).0 n (omega arith)
 

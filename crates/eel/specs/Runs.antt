@@ -22,9 +22,10 @@ abbrev pub step_limit : ℕ
 step_limit = 64
 
 pub record AreRunsAlike (text : Words) (notes : Notes) (s0 t0 : State) : Type 0 where
-  -- Going on and ending: after some steps the written file is where the original is after n, by the same trail.
-  pub answered : (n : ℕ) → IsWithin text notes s0 n → (m : ℕ) × Answers notes s0 t0 n m
-  -- The step bound: so many steps at most lie before the first visit, and from each to the next.
+  -- Going on and ending: there is a first moment at which the written file is where the original is after n steps, by
+  -- the same trail.
+  pub answered : (n : ℕ) → IsWithin text notes s0 n → (m : ℕ) × IsLeast (Answers notes s0 t0 n) m
+  -- The step bound: so many steps at most lie before the first of these moments, and from each to the next.
   pub soon : IsWithin text notes s0 0 → (m : ℕ) → IsLeast (Answers notes s0 t0 0) m → m ≤ step_limit
   pub bounded : (n : ℕ) → IsWithin text notes s0 (suc n) → IsBounded notes s0 t0 n step_limit
 

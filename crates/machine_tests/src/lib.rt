@@ -10,3 +10,5 @@ mod v8_decode_tests;
 mod v8_encode_tests;
 #[cfg(test)]
 mod v8_memory_tests;
+#[cfg(test)]
+mod v8_step_tests;

@@ -1,12 +1,13 @@
 -- From one step to whole runs.
-use Rattle.std.proofs.Common.{◌≡◌, ℕ, zero, suc, ◌+◌, ◌-◌, ◌<◌, ◌≤◌, Option, Some, None, [], ◌∷◌, ◌++◌, length, refl, ap, sym, ◌∙◌, subst, arith, length-append, append-nil, add-suc}
-use Rattle.elf32_sparc.specs.Notes.{Notes}
+use Rattle.std.proofs.Common.{◌≡◌, ℕ, zero, suc, ◌+◌, ◌-◌, ◌<◌, ◌≤◌, Option, Some, None, [], ◌∷◌, ◌++◌, length, refl, ap, sym, ◌∙◌, subst, arith, ◌⊎◌, inl, inr, length-append, append-nil, add-suc}
+use Rattle.std.proofs.lemmas.Bool.{cases_lt}
+use Rattle.elf32_sparc.specs.Notes.{Notes, range_at}
 use Rattle.v8_memory.specs.Regions.{fetch_of, byte_at, heap_end_of}
 use Rattle.v8_step.specs.declared.Ending.{Ending}
 use Rattle.v8_step.specs.State.{State}
 use Rattle.v8_step.specs.Step.{step_of, puts_of, on_word, unless_ended, puts_unless_ended, puts_on_word}
 use Rattle.v8_step.specs.Run.{run, run_puts}
-use Rattle.v8_step.specs.Visits.{visit_of, trail_of, own_trail, as_list, if_live}
+use Rattle.v8_step.specs.Visits.{visit_of, visited, in_pages, trail_of, own_trail, as_list, if_live}
 use Rattle.v8_step.specs.TwoRuns.{GoesOn, Ends, MatchesBy, Answers, IsLeast, IsBounded}
 use Rattle.v8_step.specs.Follows.{IsQuiet, IsFollowed, RunsFollow}
 
@@ -21,6 +22,23 @@ unfolding puts_of
 puts_nothing s d descriptor e =
     ap (λ x. puts_unless_ended x (puts_on_word s (fetch_of s.memory s.pc) descriptor)) e
 
+still_ended : (t0 : State) (m k : ℕ) (d : Ending) → (run t0 m).ending ≡ Some d → (run t0 (m + k)).ending ≡ Some d
+still_ended t0 m zero d e = let s : m + 0 ≡ m = omega arith in ap (λ n. (run t0 n).ending) s ∙ e
+still_ended t0 m (suc k) d e =
+    let before = still_ended t0 m k d e in
+    ap (λ n. (run t0 n).ending) (add-suc m k)
+    ∙ ap (λ (s : State). s.ending) (stays_ended (run t0 (m + k)) d before) ∙ before
+
+ended_later : (t0 : State) (m k : ℕ) (d : Ending) → m ≤ k → (run t0 m).ending ≡ Some d → (run t0 k).ending ≡ Some d
+ended_later t0 m k d l e =
+    let s : k ≡ m + (k - m) = omega arith in ap (λ n. (run t0 n).ending) s ∙ still_ended t0 m (k - m) d e
+
+-- a visit is of a run that goes on
+visit_lives : (notes : Notes) (t : State) (pc : ℕ) → visit_of notes t ≡ Some pc → (d : Ending) → t.ending ≡ Some d → ⊥
+visit_lives notes t pc v d e =
+    let none : visit_of notes t ≡ None =
+    ap (λ x. if_live x (visited (range_at notes t.pc) (in_pages notes t.pc) t.pc)) e in absurd (cc (v, none))
+
 -- ---- trails
 
 quiet_trail : (notes : Notes) (t0 : State) (m k : ℕ) → IsQuiet notes t0 m (m + k)
@@ -28,7 +46,7 @@ quiet_trail : (notes : Notes) (t0 : State) (m k : ℕ) → IsQuiet notes t0 m (m
 quiet_trail notes t0 m zero q = let e : m + 0 ≡ m = omega arith in ap (trail_of notes t0) e
 quiet_trail notes t0 m (suc k) q =
     ap (trail_of notes t0) (add-suc m k)
-    ∙ ap (λ x. trail_of notes t0 (m + k) ++ as_list x) (q (m + k) (omega arith) (omega arith))
+    ∙ ap (λ x. trail_of notes t0 (m + k) ++ as_list x) (q (m + k) (omega arith) (omega arith)).1
     ∙ append-nil (trail_of notes t0 (m + k))
     ∙ quiet_trail notes t0 m k (λ j a b. q j a (omega arith))
 
@@ -141,6 +159,52 @@ module _ (notes : Notes) (s0 t0 : State) (early : ℕ) (limits moments : ℕ →
   answered : (n : ℕ) → n ≤ last → Answers notes s0 t0 n (moments n)
   answered n l = record { trail = trails n l; matches = f.matches n l }
 
+  -- once the original has ended, no earlier moment of the written file has
+  ends_next : (n : ℕ) (d : Ending) (k : ℕ) → n < last → (run s0 (suc n)).ending ≡ Some d
+      → (run t0 k).ending ≡ Some d → ((run s0 n).ending ≡ Some d → moments n ≤ k) → moments (suc n) ≤ k
+  ends_next n d k l e h before = by (run s0 n).ending refl
+    where
+      by : (x : Option Ending) → (run s0 n).ending ≡ x → moments (suc n) ≤ k
+      by (Some c) was =
+          let same : (run s0 (suc n)).ending ≡ Some c = ap (λ (s : State). s.ending) (stays_ended (run s0 n) c was) ∙ was in
+          let one : Some c ≡ Some d = sym same ∙ e in
+          subst (λ m. m ≤ k) (sym (f.stays n l c was)) (before (was ∙ one))
+      by None was = past (cases_lt k (moments (suc n)))
+        where
+          at : k < moments (suc n) → (moments n < k) ⊎ (k ≤ moments n) → moments (suc n) ≤ k
+          at less (inl after) = absurd (cc (((f.goes n l was).quiet k after less).0, h))
+          at less (inr earlier) =
+              absurd (visit_lives notes (run t0 (moments n)) (run s0 n).pc
+              (going notes s0 t0 n (moments n) (run s0 n).ending was (f.matches n (omega arith))).visit d
+              (ended_later t0 k (moments n) d earlier h))
+
+          past : (k < moments (suc n)) ⊎ (moments (suc n) ≤ k) → moments (suc n) ≤ k
+          past (inr more) = more
+          past (inl less) = at less (cases_lt (moments n) k)
+
+  ends_at : (n : ℕ) (d : Ending) (k : ℕ) → n ≤ last → (run s0 n).ending ≡ Some d → (run t0 k).ending ≡ Some d
+      → moments n ≤ k
+  ends_at zero d k l e h = by (cases_lt k (moments zero))
+    where
+      by : (k < moments zero) ⊎ (moments zero ≤ k) → moments zero ≤ k
+      by (inl less) = absurd (cc ((f.quiet k (omega arith) less).0, h))
+      by (inr more) = more
+  ends_at (suc n) d k l e h = ends_next n d k l e h (λ was. ends_at n d k (omega arith) was h)
+
+  least_by : (n : ℕ) (x : Option Ending) → (run s0 n).ending ≡ x → n ≤ last → (k : ℕ) → Answers notes s0 t0 n k
+      → moments n ≤ k
+  least_by n None e l k h =
+      let a = going notes s0 t0 n k (run s0 n).ending e h.matches in
+      let b = going notes s0 t0 n (moments n) (run s0 n).ending e (f.matches n l) in
+      let same : k ≡ moments n =
+      one_visit notes t0 k (moments n) (run s0 n).pc a.visit b.visit (h.trail ∙ sym (trails n l)) in
+      omega arith
+  least_by n (Some d) e l k h =
+      ends_at n d k l e ((ending notes s0 t0 n k (run s0 n).ending d e h.matches).ending ∙ e)
+
+  least : (n : ℕ) → n ≤ last → IsLeast (Answers notes s0 t0 n) (moments n)
+  least n l = record { holds = answered n l; least = least_by n (run s0 n).ending refl l }
+
   first : (m : ℕ) → IsLeast (Answers notes s0 t0 zero) m → m ≤ early
   first m h =
       let l : m ≤ moments zero = h.least (moments zero) (answered zero (omega arith)) in
@@ -164,7 +228,7 @@ module _ (notes : Notes) (s0 t0 : State) (early : ℕ) (limits moments : ℕ →
 
 pub runs_follow : RunsFollow
 runs_follow notes s0 t0 early limits moments last f = (
-  answered notes s0 t0 early limits moments last f,
+  least notes s0 t0 early limits moments last f,
   first notes s0 t0 early limits moments last f,
   bounded notes s0 t0 early limits moments last f,
 )

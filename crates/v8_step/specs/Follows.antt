@@ -8,9 +8,10 @@ use Rattle.v8_step.specs.Run.{run}
 use Rattle.v8_step.specs.Visits.{visit_of}
 use Rattle.v8_step.specs.TwoRuns.{Matches, Answers, IsLeast, IsBounded}
 
--- no state visits anything from moment `begin` on, up to but not including moment `end`
+-- the run goes on and no state visits anything from moment `begin` on, up to but not including moment `end`
 abbrev pub IsQuiet : Notes → State → ℕ → ℕ → Type 0
-IsQuiet notes t0 begin end = (j : ℕ) → begin ≤ j → j < end → visit_of notes (run t0 j) ≡ None
+IsQuiet notes t0 begin end =
+    (j : ℕ) → begin ≤ j → j < end → ((run t0 j).ending ≡ None) × (visit_of notes (run t0 j) ≡ None)
 
 -- the way from one visit to what answers the next step, within a limit
 pub record IsWay (notes : Notes) (t0 : State) (m k limit : ℕ) : Type 0 where
@@ -32,6 +33,6 @@ abbrev pub RunsFollow : Type 0
 RunsFollow =
     (notes : Notes) (s0 t0 : State) (early : ℕ) (limits moments : ℕ → ℕ) (last : ℕ)
     → IsFollowed notes s0 t0 early limits moments last
-    → ((n : ℕ) → n ≤ last → Answers notes s0 t0 n (moments n))
+    → ((n : ℕ) → n ≤ last → IsLeast (Answers notes s0 t0 n) (moments n))
     × ((m : ℕ) → IsLeast (Answers notes s0 t0 zero) m → m ≤ early)
     × ((n : ℕ) → n < last → IsBounded notes s0 t0 n (limits n))

@@ -35,6 +35,7 @@ impl Machine {
         requires { number < 128 }
         ensures state { OnOk result (self.new ≡ trap_step self.old number) }
         ensures same { OnErr result (self.new ≡ self.old) }
+        ensures going { OnErr result ((trap_step self.old number).ending ≡ self.old.ending) }
         ensures out { Puts (O.taken out.old) (O.taken out.new) (trap_puts self.old number 1) result }
         ensures err { Puts (E.taken err.old) (E.taken err.new) (trap_puts self.old number 2) result }
         ensures cause { OnErr result (Rose (O.faults out.old) (O.faults out.new) ⊎ Rose (E.faults err.old) (E.faults err.new)) }
@@ -53,6 +54,7 @@ impl Machine {
     fn call_system<O: Sink, E: Sink>(&mut self, out: &mut O, err: &mut E) -> Result<(), Failed>
         ensures state { OnOk result (self.new ≡ system_step self.old) }
         ensures same { OnErr result (self.new ≡ self.old) }
+        ensures going { OnErr result ((system_step self.old).ending ≡ self.old.ending) }
         ensures out { Puts (O.taken out.old) (O.taken out.new) (written_out self.old 1) result }
         ensures err { Puts (E.taken err.old) (E.taken err.new) (written_out self.old 2) result }
         ensures cause { OnErr result (Rose (O.faults out.old) (O.faults out.new) ⊎ Rose (E.faults err.old) (E.faults err.new)) }
@@ -101,6 +103,7 @@ impl Machine {
     ) -> Result<(), Failed>
         ensures state { OnOk result (self.new ≡ write_call self.old descriptor address count) }
         ensures same { OnErr result (self.new ≡ self.old) }
+        ensures going { OnErr result ((write_call self.old descriptor address count).ending ≡ self.old.ending) }
         ensures out { Puts (O.taken out.old) (O.taken out.new) (call_puts self.old.memory descriptor address count 1) result }
         ensures err { Puts (E.taken err.old) (E.taken err.new) (call_puts self.old.memory descriptor address count 2) result }
         ensures cause { OnErr result (Rose (O.faults out.old) (O.faults out.new) ⊎ Rose (E.faults err.old) (E.faults err.new)) }

@@ -14,8 +14,6 @@ mod accesses;
 mod calls;
 mod machine;
 mod steps;
-#[cfg(test)]
-mod tests;
 mod transfers;
 mod traps;
 mod window_moves;

@@ -1,5 +1,6 @@
 //! One step of the machine.
-ghost use Rattle.std.specs.Prelude.{◌≡◌, ◌⊎◌, ◌≤◌, IsTrue, None, OnOk, OnErr};
+ghost use Rattle.std.specs.Prelude.{◌≡◌, ◌⊎◌, ◌≤◌, IsTrue, Some, None, OnOk, OnErr};
+ghost use Rattle.v8_step.specs.declared.Ending.{Ending};
 ghost use Rattle.eel_base.specs.Outside.{Rose};
 ghost use Rattle.v8_decode.specs.Ranges.{has_even_pair};
 ghost use Rattle.v8_alu.specs.Alu.{alu_has_form};
@@ -33,6 +34,8 @@ pub enum StepOut {
 #[tactic(auto, using(crate::proofs::Quiet::appended_nothing), unfolding(crate::specs::Step::step_of, crate::specs::Step::puts_of))]
 pub fn step<O: Sink, E: Sink>(m: &mut Machine, out: &mut O, err: &mut E) -> StepOut
     ensures state { Steps m.old m.new result }
+    // A sink can fail only in a step that doesn't end the run.
+    ensures ends { (ending : Ending) → (step_of m.old).ending ≡ Some ending → result ≡ StepOut.Ended ending }
     ensures out { Takes (O.taken out.old) (O.taken out.new) (puts_of m.old 1) result }
     ensures err { Takes (E.taken err.old) (E.taken err.new) (puts_of m.old 2) result }
     ensures cause { result ≡ StepOut.SinkFault → Rose (O.faults out.old) (O.faults out.new) ⊎ Rose (E.faults err.old) (E.faults err.new) }
@@ -59,6 +62,7 @@ impl Machine {
         requires { self.old.ending ≡ None }
         ensures state { OnOk result (self.new ≡ step_of self.old) }
         ensures same { OnErr result (self.new ≡ self.old) }
+        ensures going { OnErr result ((step_of self.old).ending ≡ None) }
         ensures out { Puts (O.taken out.old) (O.taken out.new) (puts_of self.old 1) result }
         ensures err { Puts (E.taken err.old) (E.taken err.new) (puts_of self.old 2) result }
         ensures cause { OnErr result (Rose (O.faults out.old) (O.faults out.new) ⊎ Rose (E.faults err.old) (E.faults err.new)) }
@@ -85,6 +89,7 @@ impl Machine {
         requires pair { IsTrue (has_even_pair instr) }
         ensures state { OnOk result (self.new ≡ act self.old instr) }
         ensures same { OnErr result (self.new ≡ self.old) }
+        ensures going { OnErr result ((act self.old instr).ending ≡ self.old.ending) }
         ensures out { Puts (O.taken out.old) (O.taken out.new) (puts_by self.old instr 1) result }
         ensures err { Puts (E.taken err.old) (E.taken err.new) (puts_by self.old instr 2) result }
         ensures cause { OnErr result (Rose (O.faults out.old) (O.faults out.new) ⊎ Rose (E.faults err.old) (E.faults err.new)) }
@@ -113,6 +118,7 @@ impl Machine {
     ) -> Result<(), Failed>
         ensures state { OnOk result (self.new ≡ act self.old (Instr.Ticc cond rs1 op2)) }
         ensures same { OnErr result (self.new ≡ self.old) }
+        ensures going { OnErr result ((act self.old (Instr.Ticc cond rs1 op2)).ending ≡ self.old.ending) }
         ensures out { Puts (O.taken out.old) (O.taken out.new) (puts_by self.old (Instr.Ticc cond rs1 op2) 1) result }
         ensures err { Puts (E.taken err.old) (E.taken err.new) (puts_by self.old (Instr.Ticc cond rs1 op2) 2) result }
         ensures cause { OnErr result (Rose (O.faults out.old) (O.faults out.new) ⊎ Rose (E.faults err.old) (E.faults err.new)) }

@@ -1,12 +1,12 @@
 //! The machine, one step at a time: values worked out by hand.
-use crate::machine::register;
-use crate::{Ending, Machine, StepOut, step};
 use eel_base::{Addr, MemSink};
 use elf32_sparc::SegFlags;
 use std::alloc::Global;
 use std::test::Fail;
 use v8_alu::Codes;
+use v8_decode::Reg;
 use v8_memory::{Memory, RegionPlan};
+use v8_step::{Ending, Machine, StepOut, step};
 
 const ENTRY: Addr = Addr(0x10000);
 
@@ -129,6 +129,12 @@ impl Run {
         }
     }
 
+    /// The register of this number in the current window.
+    fn reg(&self, number: u8) -> Result<u32, Fail> {
+        let register = Reg::new(number).ok_or("a register")?;
+        Ok(self.machine.reg(register))
+    }
+
     fn is(&self, wanted: Seen) -> Result<bool, Fail> {
         let m = &self.machine;
         let word = m.memory().load32(Addr(0x20000));
@@ -136,9 +142,9 @@ impl Run {
             last: self.last,
             pc: m.pc(),
             npc: m.npc(),
-            sp: m.reg(register(14)),
-            o0: m.reg(register(8)),
-            o1: m.reg(register(9)),
+            sp: self.reg(14)?,
+            o0: self.reg(8)?,
+            o1: self.reg(9)?,
             codes: m.codes(),
             y: m.y(),
             word: word.map_err(|_| Fail::from("word"))?,
@@ -164,58 +170,11 @@ fn come_to(
     run.is(wanted)
 }
 
-/// Writes "hello" to descriptor 2, then "hell" to descriptor 1.
-const WRITES: [u32; 8] = [
-    G1 + 4,
-    POINT,
-    O2 + 5,
-    O0 + 2,
-    SYSTEM,
-    O2 + 4,
-    O0 + 1,
-    SYSTEM,
-];
-
 /// Reads up to two bytes, again, and then from descriptor 1.
 const READS: [u32; 8] = [G1 + 3, O0, POINT, O2 + 2, SYSTEM, O0, SYSTEM, SYSTEM];
 
 /// Writes "hello" to descriptor 1.
 const WRITE: [u32; 8] = [G1 + 4, POINT, O2 + 5, O0 + 1, SYSTEM, 0, 0, 0];
-
-/// Exits with 0x103, before a word that would change %o1.
-const EXIT: [u32; 8] = [G1 + 1, O0 + 0x103, SYSTEM, O1 + 7, 0, 0, 0, 0];
-
-#[test]
-fn a_machine_starts_at_its_entry(rt: HostRuntime) -> Result<(), Fail> {
-    assert!(rt; come_to(rt.alloc(), [0; 8], b"", 0, 0, FIRST)?);
-    Ok(())
-}
-
-/// What is seen of WRITES after the first write.
-const WROTE_TO_2: Seen = Seen {
-    pc: Addr(0x10014),
-    npc: Addr(0x10018),
-    o0: 5,
-    o1: 0x20000,
-    err: b"hello",
-    ..FIRST
-};
-
-/// What is seen of WRITES after both writes.
-const WROTE_TO_BOTH: Seen = Seen {
-    pc: Addr(0x10020),
-    npc: Addr(0x10024),
-    o0: 4,
-    out: b"hell",
-    ..WROTE_TO_2
-};
-
-#[test]
-fn writes_go_to_their_descriptors(rt: HostRuntime) -> Result<(), Fail> {
-    assert!(rt; come_to(rt.alloc(), WRITES, b"", 16, 5, WROTE_TO_2)?);
-    assert!(rt; come_to(rt.alloc(), WRITES, b"", 16, 8, WROTE_TO_BOTH)?);
-    Ok(())
-}
 
 /// What is seen of READS after the first read.
 const READ_TWO: Seen = Seen {
@@ -282,54 +241,5 @@ fn a_step_whose_sink_fails_is_not_made(rt: HostRuntime) -> Result<(), Fail> {
     run.out = sink(rt.alloc(), 16)?;
     run.steps(1);
     assert!(rt; run.is(WROTE)?);
-    Ok(())
-}
-
-/// What is seen of EXIT from its end on.
-const EXITED: Seen = Seen {
-    last: StepOut::Ended(Ending::Exit(3)),
-    pc: Addr(0x10008),
-    npc: Addr(0x1000c),
-    o0: 0x103,
-    ending: Some(Ending::Exit(3)),
-    ..FIRST
-};
-
-#[test]
-fn an_ended_machine_stays(rt: HostRuntime) -> Result<(), Fail> {
-    assert!(rt; come_to(rt.alloc(), EXIT, b"", 0, 3, EXITED)?);
-    assert!(rt; come_to(rt.alloc(), EXIT, b"", 0, 5, EXITED)?);
-    Ok(())
-}
-
-/// Whether this comes of the last of so many steps of these words.
-fn ends(alloc: Global, words: [u32; 8], count: u32, wanted: StepOut) -> Result<bool, Fail> {
-    let mut run = Run::new(alloc, words, b"", 0)?;
-    run.steps(count);
-    Ok(run.last == wanted)
-}
-
-/// A branch in the delay slot of another one.
-const COUPLE: [u32; 8] = [SKIP, SKIP, 0, 0, 0, 0, 0, 0];
-
-/// UNIMP, whose trap is illegal_instruction.
-const ILLEGAL: [u32; 8] = [0; 8];
-
-/// Goes on beyond its last word.
-const RUNNING_OUT: [u32; 8] = [O0; 8];
-
-/// A software trap that is no system call.
-const OTHER_TRAP: [u32; 8] = [0x91d0_2005, 0, 0, 0, 0, 0, 0, 0];
-
-#[test]
-fn runs_end_by_traps_and_couples(rt: HostRuntime) -> Result<(), Fail> {
-    let alloc = rt.alloc();
-    let trap = |number| StepOut::Ended(Ending::Trap(number));
-    assert!(rt; ends(alloc, COUPLE, 1, StepOut::Went)?);
-    assert!(rt; ends(alloc, COUPLE, 2, StepOut::Ended(Ending::Couple))?);
-    assert!(rt; ends(alloc, ILLEGAL, 1, trap(2))?);
-    assert!(rt; ends(alloc, RUNNING_OUT, 8, StepOut::Went)?);
-    assert!(rt; ends(alloc, RUNNING_OUT, 9, trap(1))?);
-    assert!(rt; ends(alloc, OTHER_TRAP, 1, trap(0x85))?);
     Ok(())
 }
