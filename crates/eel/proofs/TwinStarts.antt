@@ -63,7 +63,7 @@ spans original file notes has = sym (map-map page_of note_of (pages has)) ∙ ap
 -- The two start with the same in all but pc, npc and the pages.
 pub twin-starts : (original file : List ℕ) (notes : Notes) → HasPages original file notes
     → (args : List (List ℕ)) (input : List ℕ)
-    → AreTwins notes (start_of original args input) (start_of file args input)
+    → AreTwins (pages_of notes) (start_of original args input) (start_of file args input)
 unfolding start_of
 twin-starts original file notes has args input =
     let texts : List (List ℕ) = program_name ∷ args in
@@ -75,6 +75,7 @@ twin-starts original file notes has args input =
       window = refl;
       valid = refl;
       input = refl;
+      ending = refl;
       memory =
           subst (λ (z : List Span). IsSameOutside z (start_memory original texts) (start_memory file texts))
           (spans original file notes has)

@@ -11,7 +11,8 @@ use Rattle.v8_step.specs.Visits.{visit_of, visited, if_live, in_pages, pages_of}
 use Rattle.v8_step.specs.TwoRuns.{HasSameOutside, MatchesBy}
 use Rattle.v8_step.specs.Follows.{IsWay}
 use Rattle.v8_step.specs.Copied.{IsCopy, IsAt, AreTwins, IsCopied, IsInside, counted, live_steps, CopiesFollow}
-use Rattle.v8_step.proofs.CopiedSteps.{AreAfter, twins_item, step_after, at_next}
+use Rattle.v8_step.proofs.CopiedSteps.{AreAfter, step_after, at_next}
+use Rattle.v8_step.proofs.Twins.{twins_same}
 use Rattle.v8_step.proofs.Outside.{byte_outside, heap_end_same}
 use Rattle.v8_step.proofs.Executable.{code_stays}
 use Rattle.v8_step.proofs.Follows.{stays_ended, puts_nothing}
@@ -19,7 +20,7 @@ use Rattle.v8_step.proofs.ValidSteps.{run-valid}
 
 -- two live states at the same word of the original and of the copy
 record AreTogether (notes : Notes) (start base : ℕ) (s t : State) : Type 0 where
-  pub twins : AreTwins notes s t
+  pub twins : AreTwins (pages_of notes) s t
   pub place : ℕ
   pub first_at : IsAt (start + 4 * place) s
   pub second_at : IsAt (base + 4 * place) t
@@ -155,7 +156,7 @@ module _ (notes : Notes) (start base count : ℕ) (s0 t0 : State)
           visit = visits n m l g;
           window = g.twins.window;
           valid = g.twins.valid;
-          needed = λ item _. twins_item notes (run s0 n) (run t0 m) g.twins item;
+          needed = λ item _. twins_same (pages_of notes) (run s0 n) (run t0 m) g.twins item;
           world = same_outside n m h;
         }
     matches_by n m (Some d) e l h = record { ending = sym h.ending; world = same_outside n m h }

@@ -23,20 +23,16 @@ use Rattle.v8_step.specs.Copied.{IsCopy, IsAt, AreTwins}
 use Rattle.v8_step.proofs.Alike.{live_step, steps_alike}
 use Rattle.v8_step.proofs.CopiedMoves.{GoesTo, goes_act}
 use Rattle.v8_step.proofs.JudgedAlike.{judged_alike}
+use Rattle.v8_step.proofs.Twins.{twins_same}
 
 -- ---- twins
 
-pub twins_item : (notes : Notes) (s t : State) → AreTwins notes s t → (item : Item) → IsSameAt item s t
-twins_item notes s t h (Register k) = ap (λ z. slice_index z k) h.registers
-twins_item notes s t h Codes = h.codes
-twins_item notes s t h YRegister = h.y
-
-twins_parts : (notes : Notes) (s t : State) → AreTwins notes s t → (parts : List Part) → AreSameAt parts s t
+twins_parts : (notes : Notes) (s t : State) → AreTwins (pages_of notes) s t → (parts : List Part) → AreSameAt parts s t
 twins_parts notes s t h [] = tt
-twins_parts notes s t h (p ∷ ps) = (twins_item notes s t h _, twins_parts notes s t h ps)
+twins_parts notes s t h (p ∷ ps) = (twins_same (pages_of notes) s t h _, twins_parts notes s t h ps)
 
 twins_ready : (notes : Notes) (instr : Instr) (s t : State) → s.ending ≡ None → t.ending ≡ None
-    → AreRegisters s.registers → AreRegisters t.registers → AreTwins notes s t
+    → AreRegisters s.registers → AreRegisters t.registers → AreTwins (pages_of notes) s t
     → AllApart (pages_of notes) (judged_by s instr) → IsReady (pages_of notes) instr s t
 twins_ready notes instr s t live live' registers registers' h apart = record {
   first_live = live;
@@ -50,22 +46,23 @@ twins_ready notes instr s t live live' registers registers' h apart = record {
     memory = h.memory;
     registers = ap length h.registers;
   };
-  items = (λ _ item _. twins_item notes s t h item, twins_parts notes s t h (reads_of instr));
+  items = (λ _ item _. twins_same (pages_of notes) s t h item, twins_parts notes s t h (reads_of instr));
   first_apart = apart;
   second_apart = judged_alike notes instr s t h apart;
 }
 
-twins_after : (notes : Notes) (instr : Instr) (s t s' t' : State) → AreTwins notes s t
-    → AreSameAfter (pages_of notes) instr s t s' t' → s'.ending ≡ None → AreTwins notes s' t'
+twins_after : (notes : Notes) (instr : Instr) (s t s' t' : State) → AreTwins (pages_of notes) s t
+    → AreSameAfter (pages_of notes) instr s t s' t' → s'.ending ≡ None → AreTwins (pages_of notes) s' t'
 twins_after notes instr s t s' t' h after live = record {
   registers =
       ext_get_or 0 s'.registers t'.registers after.world.registers
-      (λ k below. after.items live (Register k) (inr (twins_item notes s t h (Register k))));
+      (λ k below. after.items live (Register k) (inr (twins_same (pages_of notes) s t h (Register k))));
   codes = after.items live Codes (inr h.codes);
   y = after.items live YRegister (inr h.y);
   window = after.world.window;
   valid = after.world.valid;
   input = after.world.input;
+  ending = after.ending;
   memory = after.world.memory;
 }
 
@@ -100,12 +97,12 @@ pub record AreAfter (notes : Notes) (s t s' t' : State) : Type 0 where
   pub input : s'.input ≡ t'.input
   pub memory : IsSameOutside (pages_of notes) s'.memory t'.memory
   pub puts : (descriptor : ℕ) → puts_of s descriptor ≡ puts_of t descriptor
-  pub twins : s'.ending ≡ None → AreTwins notes s' t'
+  pub twins : s'.ending ≡ None → AreTwins (pages_of notes) s' t'
   pub first_goes : GoesTo s.npc s'
   pub second_goes : GoesTo t.npc t'
 
 pub step_after : (notes : Notes) (from to : ℕ) (s t : State) → IsCopy s.memory t.memory from to
-    → IsAt from s → IsAt to t → AreRegisters s.registers → AreRegisters t.registers → AreTwins notes s t
+    → IsAt from s → IsAt to t → AreRegisters s.registers → AreRegisters t.registers → AreTwins (pages_of notes) s t
     → AllApart (pages_of notes) (judged_in s (instr_at s)) → AreAfter notes s t (step_of s) (step_of t)
 step_after notes from to s t copy at at' registers registers' h apart =
     let fetched : fetch_of s.memory s.pc ≡ Some copy.word = ap (fetch_of s.memory) at.pc ∙ copy.first in

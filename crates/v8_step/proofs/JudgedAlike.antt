@@ -22,26 +22,11 @@ use Rattle.v8_step.specs.Step.{trap_number}
 use Rattle.v8_step.specs.Judged.{aligned_span, buffer_span, judged_by_call, saved_span, frame_span, judged_after, judged_by_spills, judged_by_trap, judged_by}
 use Rattle.v8_step.specs.Visits.{pages_of}
 use Rattle.v8_step.specs.Copied.{AreTwins}
-use Rattle.v8_step.proofs.Twins.{AreTwins as AreEndingTwins, saved_alike, apart_first, apart_rest}
+use Rattle.v8_step.proofs.Twins.{twin_register, twin_sum, saved_alike, apart_first, apart_rest}
 
 -- ---- what is read of the states
 
-same_register : (notes : Notes) (s t : State) (r : ℕ) → AreTwins notes s t
-    → register_of s r ≡ register_of t r
-same_register notes s t r h =
-    ap (λ z. register_in z s.window r) h.registers ∙ ap (λ z. register_in t.registers z r) h.window
-
-same_sum : (notes : Notes) (s t : State) (rs1 : ℕ) (op2 : Op2) → AreTwins notes s t
-    → sum_of s rs1 op2 ≡ sum_of t rs1 op2
-same_sum notes s t rs1 op2 h =
-    ap (λ z. (z + operand_of s op2) % 2 ^ 32) (same_register notes s t rs1 h)
-    ∙ ap (λ z. (register_of t rs1 + z) % 2 ^ 32) (operand op2)
-  where
-    operand : (op2 : Op2) → operand_of s op2 ≡ operand_of t op2
-    operand (o.Reg r) = same_register notes s t r h
-    operand (o.Imm z) = refl
-
-same_address : (notes : Notes) (s t : State) → AreTwins notes s t → save_address s ≡ save_address t
+same_address : (notes : Notes) (s t : State) → AreTwins (pages_of notes) s t → save_address s ≡ save_address t
 same_address notes s t h =
     let oldest : oldest_window s ≡ oldest_window t =
     ap (λ z. oldest_of z s.valid) h.window ∙ ap (λ z. oldest_of t.window z) h.valid in
@@ -49,28 +34,14 @@ same_address notes s t h =
 
 -- ---- windows that are saved
 
--- with the first one's ending, which no window needs
-with_ending : (notes : Notes) (s t : State) → AreTwins notes s t
-    → AreEndingTwins (pages_of notes) s (record t { ending = s.ending })
-with_ending notes s t h = record {
-  registers = h.registers;
-  codes = h.codes;
-  y = h.y;
-  window = h.window;
-  valid = h.valid;
-  input = h.input;
-  ending = refl;
-  memory = h.memory;
-}
-
-same_writes : (notes : Notes) (s t : State) → AreTwins notes s t → AllApart (pages_of notes) (saved_span s)
+same_writes : (notes : Notes) (s t : State) → AreTwins (pages_of notes) s t → AllApart (pages_of notes) (saved_span s)
     → AreSameWrites (pages_of notes) (saved_memory s) (saved_memory t)
 same_writes notes s t h apart =
-    saved_alike (pages_of notes) s (record t { ending = s.ending }) (with_ending notes s t h) apart
+    saved_alike (pages_of notes) s t h apart
 
-twins_saved : (notes : Notes) (s t : State) (a b : Memory) → AreTwins notes s t
+twins_saved : (notes : Notes) (s t : State) (a b : Memory) → AreTwins (pages_of notes) s t
     → IsSameOutside (pages_of notes) a b
-    → AreTwins notes (record s { memory = a; valid = s.valid - 1 })
+    → AreTwins (pages_of notes) (record s { memory = a; valid = s.valid - 1 })
     (record t { memory = b; valid = t.valid - 1 })
 twins_saved notes s t a b h e = record {
   registers = h.registers;
@@ -79,11 +50,12 @@ twins_saved notes s t a b h e = record {
   window = h.window;
   valid = ap (λ z. z - 1) h.valid;
   input = h.input;
+  ending = h.ending;
   memory = e;
 }
 
-same_after : (notes : Notes) (n : ℕ) (s t : State) → AreTwins notes s t
-    → ((p q : State) → AreTwins notes p q → AllApart (pages_of notes) (judged_by_spills n p)
+same_after : (notes : Notes) (n : ℕ) (s t : State) → AreTwins (pages_of notes) s t
+    → ((p q : State) → AreTwins (pages_of notes) p q → AllApart (pages_of notes) (judged_by_spills n p)
     → judged_by_spills n p ≡ judged_by_spills n q)
     → (a b : Option Memory) → AreSameWrites (pages_of notes) a b
     → AllApart (pages_of notes) (judged_after (judged_by_spills n) s a)
@@ -95,7 +67,7 @@ same_after notes n s t h rec (Some a) (Some b) e apart =
 same_after notes n s t h rec None (Some b) e apart = absurd e
 same_after notes n s t h rec (Some a) None e apart = absurd e
 
-pub same_spills : (notes : Notes) (n : ℕ) (s t : State) → AreTwins notes s t
+pub same_spills : (notes : Notes) (n : ℕ) (s t : State) → AreTwins (pages_of notes) s t
     → AllApart (pages_of notes) (judged_by_spills n s) → judged_by_spills n s ≡ judged_by_spills n t
 unfolding judged_by_spills
 same_spills notes zero s t h apart = refl
@@ -116,7 +88,7 @@ same_call s t n a b c e =
     ap (λ (z : List ℕ). if n == 3 then (if a == 0 then buffer_span b (length (take c z)) else []) else
     if n == 4 then (if is_output a then buffer_span b c else []) else []) e
 
-trap_by : (notes : Notes) (s t : State) (spills call : Bool) → AreTwins notes s t
+trap_by : (notes : Notes) (s t : State) (spills call : Bool) → AreTwins (pages_of notes) s t
     → AllApart (pages_of notes) (if spills then judged_by_spills (s.valid - 1) s else
     (if call
     then judged_by_call s (register_of s 1) (register_of s 8) (register_of s 9) (register_of s 10)
@@ -133,17 +105,17 @@ trap_by notes s t false true h apart =
     judged_by_call t (register_of s 1) (register_of s 8) (register_of s 9) (register_of s 10)
     ≡ judged_by_call t (register_of t 1) (register_of t 8) (register_of t 9) (register_of t 10) =
     rw (
-      same_register notes s t 1 h,
-      same_register notes s t 8 h,
-      same_register notes s t 9 h,
-      same_register notes s t 10 h,
+      twin_register (pages_of notes) s t 1 h,
+      twin_register (pages_of notes) s t 8 h,
+      twin_register (pages_of notes) s t 9 h,
+      twin_register (pages_of notes) s t 10 h,
     ) refl in
     subst (AllApart (pages_of notes))
     (same_call s t (register_of s 1) (register_of s 8) (register_of s 9) (register_of s 10) h.input
     ∙ numbers) apart
 trap_by notes s t false false h apart = apart
 
-ticc_by : (notes : Notes) (s t : State) (n : ℕ) (taken : Bool) → AreTwins notes s t
+ticc_by : (notes : Notes) (s t : State) (n : ℕ) (taken : Bool) → AreTwins (pages_of notes) s t
     → AllApart (pages_of notes) (if taken then judged_by_trap s n else [])
     → AllApart (pages_of notes) (if taken then judged_by_trap t n else [])
 ticc_by notes s t n true h apart = trap_by notes s t (n == flush_windows) (n == call_system) h apart
@@ -151,18 +123,18 @@ ticc_by notes s t n false h apart = apart
 
 -- ---- every instruction
 
-pub judged_alike : (notes : Notes) (instr : Instr) (s t : State) → AreTwins notes s t
+pub judged_alike : (notes : Notes) (instr : Instr) (s t : State) → AreTwins (pages_of notes) s t
     → AllApart (pages_of notes) (judged_by s instr) → AllApart (pages_of notes) (judged_by t instr)
 judged_alike notes (i.Load kind rd rs1 op2) s t h apart =
     subst (λ (z : ℕ). AllApart (pages_of notes) (aligned_span (load_size kind) z (load_size kind)))
-    (same_sum notes s t rs1 op2 h) apart
+    (twin_sum (pages_of notes) s t rs1 op2 h) apart
 judged_alike notes (i.Store kind rd rs1 op2) s t h apart =
     subst (λ (z : ℕ). AllApart (pages_of notes) (aligned_span (store_size kind) z (store_size kind)))
-    (same_sum notes s t rs1 op2 h) apart
+    (twin_sum (pages_of notes) s t rs1 op2 h) apart
 judged_alike notes (i.Ldstub rd rs1 op2) s t h apart =
-    subst (λ (z : ℕ). AllApart (pages_of notes) (aligned_span 1 z 1)) (same_sum notes s t rs1 op2 h) apart
+    subst (λ (z : ℕ). AllApart (pages_of notes) (aligned_span 1 z 1)) (twin_sum (pages_of notes) s t rs1 op2 h) apart
 judged_alike notes (i.Swap rd rs1 op2) s t h apart =
-    subst (λ (z : ℕ). AllApart (pages_of notes) (aligned_span 4 z 4)) (same_sum notes s t rs1 op2 h) apart
+    subst (λ (z : ℕ). AllApart (pages_of notes) (aligned_span 4 z 4)) (twin_sum (pages_of notes) s t rs1 op2 h) apart
 judged_alike notes (i.Save rd rs1 op2) s t h apart =
     subst (λ (z : ℕ). AllApart (pages_of notes) (if z == 7 then saved_span t else [])) h.valid
     (subst (λ (z : ℕ). AllApart (pages_of notes) (if s.valid == 7 then frame_span z else []))
@@ -172,12 +144,12 @@ judged_alike notes (i.Restore rd rs1 op2) s t h apart =
     (if z == 1 then frame_span (register_of t frame_pointer) else []))
     h.valid
     (subst (λ (z : ℕ). AllApart (pages_of notes) (if s.valid == 1 then frame_span z else []))
-    (same_register notes s t frame_pointer h) apart)
+    (twin_register (pages_of notes) s t frame_pointer h) apart)
 judged_alike notes (i.Ticc cond rs1 op2) s t h apart =
     subst (λ (z : Codes). AllApart (pages_of notes)
     (if holds_of cond z then judged_by_trap t (trap_number t rs1 op2) else [])) h.codes
     (subst (λ (z : ℕ). AllApart (pages_of notes)
-    (if holds_of cond s.codes then judged_by_trap t (z % 128) else [])) (same_sum notes s t rs1 op2 h)
+    (if holds_of cond s.codes then judged_by_trap t (z % 128) else [])) (twin_sum (pages_of notes) s t rs1 op2 h)
     (ticc_by notes s t (trap_number s rs1 op2) (holds_of cond s.codes) h apart))
 judged_alike notes (i.Sethi rd imm22) s t h apart = apart
 judged_alike notes (i.Branch cond annul disp22) s t h apart = apart

@@ -27,17 +27,8 @@ use Rattle.v8_step.specs.Calls.{answered, succeeds, refuses, read_into, read_cal
 use Rattle.v8_step.specs.Step.{act, puts_by}
 use Rattle.v8_step.specs.Items.{Item, Register, Codes, YRegister, IsSameAt}
 use Rattle.v8_step.specs.Judged.{buffer_span, judged_by_call, saved_span, frame_span, judged_after, judged_by_spills, judged_by_trap}
+use Rattle.v8_step.specs.Copied.{AreTwins}
 use Rattle.v8_step.specs.Alike.{AreSameAfter, IsReady, ActsAlike}
-
-pub record AreTwins (pages : List Span) (s t : State) : Type 0 where
-  pub registers : s.registers ≡ t.registers
-  pub codes : s.codes ≡ t.codes
-  pub y : s.y ≡ t.y
-  pub window : s.window ≡ t.window
-  pub valid : s.valid ≡ t.valid
-  pub input : s.input ≡ t.input
-  pub ending : s.ending ≡ t.ending
-  pub memory : IsSameOutside pages s.memory t.memory
 
 pub twins_of : (pages : List Span) (instr : Instr) (s t : State) → reads_all instr ≡ true → IsReady pages instr s t
     → AreTwins pages s t
@@ -58,7 +49,7 @@ twins_of pages instr s t all ready = record {
         let count : length s.registers ≡ 136 = ready.first_registers.count in
         ready.items.0 all (Register (suc k)) (omega arith, omega arith)
 
-twins_same : (pages : List Span) (s t : State) → AreTwins pages s t → (item : Item) → IsSameAt item s t
+pub twins_same : (pages : List Span) (s t : State) → AreTwins pages s t → (item : Item) → IsSameAt item s t
 twins_same pages s t h (Register k) = ap (λ z. slice_index z k) h.registers
 twins_same pages s t h Codes = h.codes
 twins_same pages s t h YRegister = h.y

@@ -1,9 +1,9 @@
 -- Straight code that was copied: what two runs have to begin with, so that one follows the other step by step.
-use Rattle.std.specs.Prelude.{◌≡◌, ℕ, zero, suc, ◌+◌, ◌*◌, ◌<◌, ◌≤◌, ◌^◌, false, Option, Some, None}
+use Rattle.std.specs.Prelude.{◌≡◌, ℕ, zero, suc, ◌+◌, ◌*◌, ◌<◌, ◌≤◌, ◌^◌, false, List, Option, Some, None}
 use Rattle.elf32_sparc.specs.Notes.{Notes, range_at}
 use Rattle.v8_decode.specs.Words.{decode_of}
 use Rattle.v8_memory.specs.Regions.{Memory, fetch_of}
-use Rattle.v8_memory.specs.Spans.{IsSameOutside}
+use Rattle.v8_memory.specs.Spans.{Span, IsSameOutside}
 use Rattle.v8_step.specs.declared.Ending.{Ending}
 use Rattle.v8_step.specs.State.{State, NoSlot}
 use Rattle.v8_step.specs.Run.{run}
@@ -27,21 +27,22 @@ pub record IsAt (address : ℕ) (s : State) : Type 0 where
   pub npc : s.npc ≡ address + 4
   pub slot : s.slot ≡ NoSlot
 
--- two states with the same in all but pc, npc, and memory in the pages
-pub record AreTwins (notes : Notes) (s t : State) : Type 0 where
+-- two states with the same in all but pc, npc, slot, and memory in the pages
+pub record AreTwins (pages : List Span) (s t : State) : Type 0 where
   pub registers : s.registers ≡ t.registers
   pub codes : s.codes ≡ t.codes
   pub y : s.y ≡ t.y
   pub window : s.window ≡ t.window
   pub valid : s.valid ≡ t.valid
   pub input : s.input ≡ t.input
-  pub memory : IsSameOutside (pages_of notes) s.memory t.memory
+  pub ending : s.ending ≡ t.ending
+  pub memory : IsSameOutside pages s.memory t.memory
 
 -- The words of a text of `count` words at `start` stand again at `base`, where the notes have a place for each.
 pub record IsCopied (notes : Notes) (start base count : ℕ) (s0 t0 : State) : Type 0 where
   pub first_valid : IsValid s0
   pub second_valid : IsValid t0
-  pub twins : AreTwins notes s0 t0
+  pub twins : AreTwins (pages_of notes) s0 t0
   pub entry : ℕ
   pub first_at : IsAt (start + 4 * entry) s0
   pub second_at : IsAt (base + 4 * entry) t0
