@@ -1,0 +1,4 @@
+pub mod Seen
+pub mod Rules
+pub mod Written
+pub mod Parts
