@@ -1,2 +1,3 @@
+pub mod CellMarks
 pub mod Steps
 pub mod Tables

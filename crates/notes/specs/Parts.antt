@@ -1,18 +1,9 @@
 -- The parts of which reading is made: the numbers before the tables, and a row of each table.
-use Rattle.std.specs.Prelude.{ℕ, ◌+◌, ◌*◌, ◌%◌, ◌^◌, Bool, true, false, not, ◌&&◌, ◌||◌, ◌==◌, nat_lt, nat_le, List, length, get_or, slice_set, Option, Some, None, Result, Ok}
+use Rattle.std.specs.Prelude.{◌≡◌, ◌<◌, ℕ, ◌+◌, ◌*◌, ◌%◌, ◌^◌, Bool, true, false, not, ◌&&◌, ◌||◌, ◌==◌, nat_lt, nat_le, List, length, get_or, slice_set, Option, Some, None, Result, Ok}
+use Rattle.std.specs.List.{list_any}
 use Rattle.elf32_sparc.specs.Notes.{NoteSegment, NoteEdge, NoteRange, NoNotes, ◌>>=◌, note_at, note_that, kept, follows, no_cell, cell_of}
+use Rattle.notes.specs.declared.reading.Head.{Head}
 use Rattle.notes.specs.Rules.{is_segment, is_range}
-
-pub record Head : Type 0 where
-  pub delta : ℕ
-  pub length : ℕ
-  pub tool : ℕ
-  pub start : ℕ
-  pub words : ℕ
-  pub entry : ℕ
-  pub base : ℕ
-  pub cells : ℕ
-  pub segments : ℕ
 
 -- the first nine words, in a file of this size
 unfoldable pub head_of : ℕ → List ℕ → Result Head NoNotes
@@ -27,7 +18,7 @@ head_of size notes = do
   cells_read ← note_at notes 28
   base ← kept ((base_read % 4 == 0) && nat_le (base_read + 4 * cells_read) (2 ^ 32)) 24 base_read
   cells ← kept (nat_le cells_read (2 ^ 22)) 28 cells_read
-  segments ← note_that (λ count. nat_le count 8) notes 32
+  segment_count ← note_that (λ count. nat_le count 8) notes 32
   Ok (record {
     delta = delta;
     length = length;
@@ -37,8 +28,15 @@ head_of size notes = do
     entry = entry;
     base = base;
     cells = cells;
-    segments = segments;
+    segment_count = segment_count;
   })
+
+-- the number of blocks, of a text of so many words that is entered at the block `entry`
+unfoldable pub block_count_at : ℕ → ℕ → List ℕ → ℕ → Result ℕ NoNotes
+block_count_at entry words notes at = do
+  count ← note_at notes at
+  below ← kept (nat_lt entry count) 20 entry
+  kept (nat_le 1 count && nat_le count words) at count
 
 -- the rows of the tables
 
@@ -78,3 +76,7 @@ is_open marks word = (word == no_cell) || (nat_lt word (length marks) && not (ge
 abbrev pub with_mark : Option ℕ → List Bool → List Bool
 with_mark None marks = marks
 with_mark (Some cell) marks = slice_set marks cell true
+
+-- The marks are those of the cells in the list.
+abbrev pub AreMarks : List Bool → List ℕ → Type 0
+AreMarks marks taken = (cell : ℕ) → cell < length marks → get_or marks cell false ≡ list_any (λ other. other == cell) taken

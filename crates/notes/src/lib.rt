@@ -5,6 +5,7 @@
 //! and the places in them: which instruction stands at an address, and for which node.
 #![tactic(auto)]
 
+mod cells;
 mod note;
 mod reading;
 mod rows;

@@ -1,8 +1,8 @@
 //! Notes, and why a file has none that can be read.
 ghost use Rattle.std.specs.Prelude.{◌≡◌};
 
-use eel_base::{NoMemory, Range};
-use std::alloc::AllocFailed;
+use eel_base::Range;
+use std::alloc::{AllocError, AllocFailed};
 
 /// A page that was added.
 #[derive(Clone, Copy, Debug, PartialEq, Eq)]
@@ -57,22 +57,22 @@ pub enum NotesFault {
     NoMemory,
 }
 
-impl From<NoMemory> for NotesFault {
-    ghost use Rattle.notes.specs.declared.note.NotesFault.TheVariants as faults;
-
-    ghost from_gives = { λ _ fault. fault ≡ faults.NoMemory };
-
-    fn from(_: NoMemory) -> NotesFault {
-        NotesFault::NoMemory
-    }
-}
-
 impl<T: Drop> From<AllocFailed<T>> for NotesFault {
     ghost use Rattle.notes.specs.declared.note.NotesFault.TheVariants as faults;
 
     ghost from_gives = { λ _ fault. fault ≡ faults.NoMemory };
 
     fn from(_: AllocFailed<T>) -> NotesFault {
+        NotesFault::NoMemory
+    }
+}
+
+impl From<AllocError> for NotesFault {
+    ghost use Rattle.notes.specs.declared.note.NotesFault.TheVariants as faults;
+
+    ghost from_gives = { λ _ fault. fault ≡ faults.NoMemory };
+
+    fn from(_: AllocError) -> NotesFault {
         NotesFault::NoMemory
     }
 }

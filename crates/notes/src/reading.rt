@@ -1,14 +1,87 @@
 //! Reading notes.
-ghost use Rattle.std.specs.Prelude.{◌≡◌, ◌≤◌, ◌<◌, ◌+◌, ◌*◌, ◌^◌, None, length, map};
-ghost use Rattle.std.specs.Option.{option_map};
-ghost use Rattle.elf32_sparc.specs.Notes.{note_at, segments_at, blocks_at, edges_at, ranges_at};
-ghost use Rattle.notes.specs.Seen.{Answers, segment_seen, edge_seen, range_seen, notes_seen};
-ghost use Rattle.notes.specs.Parts.{head_of};
+ghost use Rattle.std.specs.Prelude.{◌≡◌, ◌≤◌, ◌<◌, ◌+◌, ◌*◌, ◌%◌, ◌^◌, ◌&&◌, ◌==◌, nat_le, nat_lt, [], None, length, map};
+ghost use Rattle.elf32_sparc.specs.Notes.{note_that, segments_at, blocks_at, edges_at, ranges_at};
+ghost use Rattle.notes.specs.Seen.{Answers, segment_seen, edge_seen, range_seen};
+ghost use Rattle.notes.specs.Parts.{head_of, block_count_at};
 
+use crate::cells::Taken;
 use crate::note::{NoteEdge, NoteSegment, Notes, NotesFault};
-use crate::rows::{block_at, edge_at, keep, mark, range_at, segment_at, word_at};
+use crate::rows::{block_at, edge_at, keep, range_at, segment_at, word_at};
 use eel_base::{Addr, Range};
 use std::alloc::Global;
+
+/// The numbers before the tables.
+#[derive(Clone, Copy)]
+struct Head {
+    delta: u32,
+    length: u32,
+    tool: u32,
+    start: u32,
+    words: u32,
+    entry: u32,
+    base: u32,
+    cells: u32,
+    segment_count: u32,
+}
+
+/// The numbers before the tables, in a file of this size.
+#[tactic(auto, unfolding(crate::specs::Parts::head_of))]
+fn read_head(notes: &[u8], size: usize) -> Result<Head, NotesFault>
+    ensures { Answers (λ head. head) result (head_of size notes.now) }
+{
+    let delta = word_at(notes, 0)?;
+    keep(delta >= 4096, 0)?;
+    let length = word_at(notes, 4)?;
+    keep(delta as usize + length as usize <= size, 4)?;
+    let tool = word_at(notes, 8)?;
+    keep(tool <= 2, 8)?;
+    let start = word_at(notes, 12)?;
+    keep(start % 4 == 0 && start >= 0x1000, 12)?;
+    let words = word_at(notes, 16)?;
+    keep(is_text(start, words), 16)?;
+    let entry = word_at(notes, 20)?;
+    let base = word_at(notes, 24)?;
+    let cells = word_at(notes, 28)?;
+    keep(are_cells(base, cells), 24)?;
+    keep(cells <= 1 << 22, 28)?;
+    let segment_count = word_at(notes, 32)?;
+    keep(segment_count <= 8, 32)?;
+    Ok(Head { delta, length, tool, start, words, entry, base, cells, segment_count })
+}
+
+/// A text has one to 2^20 words, and ends at 2^31 at most.
+fn is_text(start: u32, words: u32) -> bool
+    ensures { result ≡ (nat_le 1 words && nat_le words (2 ^ 20) && nat_le (start + 4 * words) 0x80000000) }
+{
+    words >= 1 && words <= 1 << 20 && u64::from(start) + 4 * u64::from(words) <= 1 << 31
+}
+
+/// Cells are words, and end at 2^32 at most.
+fn are_cells(base: u32, cells: u32) -> bool
+    ensures { result ≡ ((base % 4 == 0) && nat_le (base + 4 * cells) (2 ^ 32)) }
+{
+    base % 4 == 0 && u64::from(base) + 4 * u64::from(cells) <= 1 << 32
+}
+
+/// The number of blocks, of a text of so many words that is entered at the block `entry`.
+#[tactic(auto, unfolding(crate::specs::Parts::block_count_at))]
+fn block_count_at(notes: &[u8], at: u32, entry: u32, words: u32) -> Result<u32, NotesFault>
+    ensures { Answers (λ count. count) result (block_count_at entry words notes.now at) }
+{
+    let count = word_at(notes, at)?;
+    keep(entry < count, 20)?;
+    keep(count >= 1 && count <= words, at)?;
+    Ok(count)
+}
+
+/// A number of rows, which is below `limit`.
+fn count_at(notes: &[u8], at: u32, limit: u32) -> Result<u32, NotesFault>
+    ensures { Answers (λ count. count) result (note_that (λ count. nat_lt count limit) notes.now at) }
+{
+    let count = word_at(notes, at)?;
+    keep(count < limit, at)?;
+    Ok(count)
+}
 
 /// The pages.
 fn read_segments(alloc: Global, notes: &[u8], at: u32, count: u32) -> Result<Vec<NoteSegment>, NotesFault>
@@ -38,4 +111,49 @@ fn read_blocks(alloc: Global, notes: &[u8], at: u32, count: u32, words: u32) -> 
         blocks.push(first)?;
     }
     Ok(blocks)
+}
+
+/// The edges of a graph of so many blocks.
+fn read_edges(
+    alloc: Global,
+    notes: &[u8],
+    at: u32,
+    count: u32,
+    blocks: u32,
+    cells: u32,
+) -> Result<Vec<NoteEdge>, NotesFault>
+    requires few { cells ≤ 2 ^ 22 }
+    requires place { at + 16 * count < 2 ^ 32 }
+    ensures { Answers (λ edges. map edge_seen edges.items) result (edges_at blocks cells notes.now at [] count) }
+{
+    let mut taken = Taken::none(alloc, cells)?;
+    let mut edges = Vec::new(alloc);
+    for row in 0..count {
+        let edge = edge_at(notes, at + 16 * row, blocks, &taken)?;
+        taken.mark(edge.cell);
+        edges.push(edge)?;
+    }
+    Ok(edges)
+}
+
+/// The places, for a graph of so many blocks.
+fn read_ranges(
+    alloc: Global,
+    notes: &[u8],
+    at: u32,
+    count: u32,
+    blocks: u32,
+    segments: &[NoteSegment],
+) -> Result<Vec<Range>, NotesFault>
+    requires { at + 16 * count < 2 ^ 32 }
+    ensures { Answers (λ ranges. map range_seen ranges.items) result (ranges_at blocks (map segment_seen segments.now) notes.now at 0 count) }
+{
+    let mut ranges = Vec::new(alloc);
+    let mut end = Addr(0);
+    for row in 0..count {
+        let range = range_at(notes, at + 16 * row, blocks, segments, end)?;
+        end = range.hi;
+        ranges.push(range)?;
+    }
+    Ok(ranges)
 }

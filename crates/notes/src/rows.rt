@@ -4,14 +4,12 @@ ghost use Rattle.std.specs.List.{list_any};
 ghost use Rattle.elf32_sparc.specs.Notes.{note_at, follows, cell_of, holds};
 ghost use Rattle.notes.specs.Seen.{Answers, segment_seen, edge_seen, range_seen};
 ghost use Rattle.notes.specs.Rules.{is_segment, is_range};
-ghost use Rattle.notes.specs.Parts.{segment_at, block_at, edge_at, range_at, is_open, with_mark};
+ghost use Rattle.notes.specs.Parts.{segment_at, block_at, edge_at, range_at, is_open};
 ghost use Rattle.notes.specs.declared.note.NotesFault.TheVariants as faults;
 
+use crate::cells::{NO_CELL, Taken};
 use crate::note::{NoteEdge, NoteSegment, NotesFault};
 use eel_base::{Addr, Range, be32_at};
-
-/// The word of an edge without a cell.
-pub(crate) const NO_CELL: u32 = 0xffff_ffff;
 
 /// The word at an offset.
 pub(crate) fn word_at(notes: &[u8], at: u32) -> Result<u32, NotesFault>
@@ -74,41 +72,25 @@ fn follows(before: Option<u32>, first: u32) -> bool
     }
 }
 
-/// The edge at an offset, in a graph of so many blocks. `taken` marks the cells that edges have.
+/// The edge at an offset, in a graph of so many blocks.
 #[tactic(auto, unfolding(crate::specs::Parts::edge_at))]
-pub(crate) fn edge_at(notes: &[u8], at: u32, blocks: u32, taken: &[bool]) -> Result<NoteEdge, NotesFault>
+pub(crate) fn edge_at(notes: &[u8], at: u32, blocks: u32, taken: &Taken) -> Result<NoteEdge, NotesFault>
     requires { at + 16 < 2 ^ 32 }
-    ensures { Answers edge_seen result (edge_at blocks (is_open taken.now) notes.now at) }
+    ensures { Answers edge_seen result (edge_at blocks (is_open taken.now.marks.items) notes.now at) }
 {
     let kind = word_at(notes, at)?;
     let from = word_at(notes, at + 4)?;
     let to = word_at(notes, at + 8)?;
     let cell = word_at(notes, at + 12)?;
-    keep(kind <= 5 && from <= blocks && to <= blocks && is_open(taken, cell), at)?;
+    keep(kind <= 5 && from <= blocks && to <= blocks && taken.is_open(cell), at)?;
     let cell = cell_of(cell);
     Ok(NoteEdge { kind, from, to, cell })
-}
-
-/// The word is no cell, or one that isn't taken.
-fn is_open(taken: &[bool], word: u32) -> bool
-    ensures { result ≡ is_open taken.now word }
-{
-    word == NO_CELL || ((word as usize) < taken.len() && !taken[word as usize])
 }
 
 fn cell_of(word: u32) -> Option<u32>
     ensures { result ≡ cell_of word }
 {
     if word == NO_CELL { None } else { Some(word) }
-}
-
-/// Marks an edge's cell as taken.
-pub(crate) fn mark(taken: &mut [bool], cell: Option<u32>)
-    ensures { taken.new ≡ with_mark cell taken.old }
-{
-    if let Some(cell) = cell && (cell as usize) < taken.len() {
-        taken[cell as usize] = true;
-    }
 }
 
 /// The place at an offset, which begins at `end` or above.
