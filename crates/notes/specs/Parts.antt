@@ -1,7 +1,7 @@
 -- The parts of which reading is made: the numbers before the tables, and a row of each table.
-use Rattle.std.specs.Prelude.{◌≡◌, ◌<◌, ℕ, ◌+◌, ◌*◌, ◌%◌, ◌^◌, Bool, true, false, not, ◌&&◌, ◌||◌, ◌==◌, nat_lt, nat_le, List, length, get_or, slice_set, Option, Some, None, Result, Ok}
+use Rattle.std.specs.Prelude.{◌≡◌, ◌<◌, ℕ, ◌+◌, ◌*◌, ◌%◌, ◌^◌, Bool, true, false, not, [], ◌&&◌, ◌||◌, ◌==◌, nat_lt, nat_le, List, length, get_or, slice_set, Option, Some, None, Result, Ok}
 use Rattle.std.specs.List.{list_any}
-use Rattle.elf32_sparc.specs.Notes.{NoteSegment, NoteEdge, NoteRange, NoNotes, ◌>>=◌, note_at, note_that, kept, follows, no_cell, cell_of}
+use Rattle.elf32_sparc.specs.Notes.{NoteSegment, NoteEdge, NoteRange, Notes, NoNotes, ◌>>=◌, note_at, note_that, kept, follows, no_cell, cell_of, byte_count, segments_at, blocks_at, edges_at, ranges_at}
 use Rattle.notes.specs.declared.reading.Head.{Head}
 use Rattle.notes.specs.Rules.{is_segment, is_range}
 
@@ -37,6 +37,35 @@ block_count_at entry words notes at = do
   count ← note_at notes at
   below ← kept (nat_lt entry count) 20 entry
   kept (nat_le 1 count && nat_le count words) at count
+
+-- what comes after the numbers: the tables, and no more
+unfoldable pub tables_of : List ℕ → Head → Result Notes NoNotes
+tables_of notes head = do
+  segments ← segments_at notes 36 0 head.segment_count
+  let blocks_place = 36 + 8 * head.segment_count
+  block_count ← block_count_at head.entry head.words notes blocks_place
+  blocks ← blocks_at head.words notes (blocks_place + 4) None block_count
+  let edges_place = blocks_place + 4 + 4 * block_count
+  edge_count ← note_that (λ count. nat_lt count (2 ^ 24)) notes edges_place
+  edges ← edges_at block_count head.cells notes (edges_place + 4) [] edge_count
+  let ranges_place = edges_place + 4 + 16 * edge_count
+  range_count ← note_that (λ count. nat_lt count (2 ^ 26)) notes ranges_place
+  ranges ← ranges_at block_count segments notes (ranges_place + 4) 0 range_count
+  let notes_end = ranges_place + 4 + 16 * range_count
+  kept (byte_count notes == notes_end) notes_end (record {
+    delta = head.delta;
+    length = head.length;
+    tool = head.tool;
+    start = head.start;
+    words = head.words;
+    entry = head.entry;
+    base = head.base;
+    cells = head.cells;
+    segments = segments;
+    blocks = blocks;
+    edges = edges;
+    ranges = ranges;
+  })
 
 -- the rows of the tables
 

@@ -1,8 +1,8 @@
 //! Reading notes.
-ghost use Rattle.std.specs.Prelude.{◌≡◌, ◌≤◌, ◌<◌, ◌+◌, ◌*◌, ◌%◌, ◌^◌, ◌&&◌, ◌==◌, nat_le, nat_lt, [], None, length, map};
+ghost use Rattle.std.specs.Prelude.{◌≡◌, ◌≤◌, ◌<◌, ◌+◌, ◌*◌, ◌%◌, ◌^◌, ◌&&◌, ◌==◌, nat_le, nat_lt, [], None, IfOk, length, map};
 ghost use Rattle.elf32_sparc.specs.Notes.{note_that, segments_at, blocks_at, edges_at, ranges_at};
-ghost use Rattle.notes.specs.Seen.{Answers, segment_seen, edge_seen, range_seen};
-ghost use Rattle.notes.specs.Parts.{head_of, block_count_at};
+ghost use Rattle.notes.specs.Seen.{Answers, segment_seen, edge_seen, range_seen, notes_seen};
+ghost use Rattle.notes.specs.Parts.{head_of, block_count_at, tables_of};
 
 use crate::cells::Taken;
 use crate::note::{NoteEdge, NoteSegment, Notes, NotesFault};
@@ -27,7 +27,10 @@ struct Head {
 /// The numbers before the tables, in a file of this size.
 #[tactic(auto, unfolding(crate::specs::Parts::head_of))]
 fn read_head(notes: &[u8], size: usize) -> Result<Head, NotesFault>
-    ensures { Answers (λ head. head) result (head_of size notes.now) }
+    ensures head { Answers (λ head. head) result (head_of size notes.now) }
+    ensures cells { IfOk result (λ head. head.cells ≤ 2 ^ 22) }
+    ensures words { IfOk result (λ head. head.words ≤ 2 ^ 20) }
+    ensures segments { IfOk result (λ head. head.segment_count ≤ 8) }
 {
     let delta = word_at(notes, 0)?;
     keep(delta >= 4096, 0)?;
@@ -66,7 +69,8 @@ fn are_cells(base: u32, cells: u32) -> bool
 /// The number of blocks, of a text of so many words that is entered at the block `entry`.
 #[tactic(auto, unfolding(crate::specs::Parts::block_count_at))]
 fn block_count_at(notes: &[u8], at: u32, entry: u32, words: u32) -> Result<u32, NotesFault>
-    ensures { Answers (λ count. count) result (block_count_at entry words notes.now at) }
+    ensures count { Answers (λ count. count) result (block_count_at entry words notes.now at) }
+    ensures few { IfOk result (λ count. count ≤ words) }
 {
     let count = word_at(notes, at)?;
     keep(entry < count, 20)?;
@@ -76,11 +80,48 @@ fn block_count_at(notes: &[u8], at: u32, entry: u32, words: u32) -> Result<u32, 
 
 /// A number of rows, which is below `limit`.
 fn count_at(notes: &[u8], at: u32, limit: u32) -> Result<u32, NotesFault>
-    ensures { Answers (λ count. count) result (note_that (λ count. nat_lt count limit) notes.now at) }
+    ensures count { Answers (λ count. count) result (note_that (λ count. nat_lt count limit) notes.now at) }
+    ensures few { IfOk result (λ count. count < limit) }
 {
     let count = word_at(notes, at)?;
     keep(count < limit, at)?;
     Ok(count)
+}
+
+/// What comes after the numbers: the tables, and no more.
+#[tactic(auto, unfolding(crate::specs::Parts::tables_of))]
+fn read_tables(alloc: Global, notes: &[u8], head: &Head) -> Result<Notes, NotesFault>
+    requires cells { head.now.cells ≤ 2 ^ 22 }
+    requires words { head.now.words ≤ 2 ^ 20 }
+    requires segments { head.now.segment_count ≤ 8 }
+    ensures { Answers notes_seen result (tables_of notes.now head.now) }
+{
+    let segments = read_segments(alloc, notes, 36, head.segment_count)?;
+    let blocks_at = 36 + 8 * head.segment_count;
+    let block_count = block_count_at(notes, blocks_at, head.entry, head.words)?;
+    let blocks = read_blocks(alloc, notes, blocks_at + 4, block_count, head.words)?;
+    let edges_at = blocks_at + 4 + 4 * block_count;
+    let edge_count = count_at(notes, edges_at, 1 << 24)?;
+    let edges = read_edges(alloc, notes, edges_at + 4, edge_count, block_count, head.cells)?;
+    let ranges_at = edges_at + 4 + 16 * edge_count;
+    let range_count = count_at(notes, ranges_at, 1 << 26)?;
+    let ranges = read_ranges(alloc, notes, ranges_at + 4, range_count, block_count, &segments)?;
+    let end = ranges_at + 4 + 16 * range_count;
+    keep(notes.len() == end as usize, end)?;
+    Ok(Notes {
+        delta: head.delta,
+        length: head.length,
+        tool: head.tool,
+        start: head.start,
+        words: head.words,
+        entry: head.entry,
+        base: head.base,
+        cells: head.cells,
+        segments,
+        blocks,
+        edges,
+        ranges,
+    })
 }
 
 /// The pages.
