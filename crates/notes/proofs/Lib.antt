@@ -1,3 +1,5 @@
 pub mod CellMarks
 pub mod Steps
-pub mod Tables
+pub mod TableRows
+pub mod Whole
+pub mod Kept

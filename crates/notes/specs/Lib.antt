@@ -2,3 +2,4 @@ pub mod Seen
 pub mod Rules
 pub mod Written
 pub mod Parts
+pub mod Laws

@@ -9,9 +9,10 @@ mod cells;
 mod note;
 mod reading;
 mod rows;
+mod tables;
 mod writing;
 
 pub use eel_base::Range;
 pub use note::{NoteEdge, NoteSegment, Notes, NotesFault};
-//pub use reading::read_notes;
+pub use reading::read_notes;
 //pub use writing::write_notes;

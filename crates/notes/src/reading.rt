@@ -1,14 +1,76 @@
 //! Reading notes.
-ghost use Rattle.std.specs.Prelude.{◌≡◌, ◌≤◌, ◌<◌, ◌+◌, ◌*◌, ◌%◌, ◌^◌, ◌&&◌, ◌==◌, nat_le, nat_lt, [], None, IfOk, length, map};
-ghost use Rattle.elf32_sparc.specs.Notes.{note_that, segments_at, blocks_at, edges_at, ranges_at};
-ghost use Rattle.notes.specs.Seen.{Answers, segment_seen, edge_seen, range_seen, notes_seen};
+ghost use Rattle.std.specs.Prelude.{◌≡◌, ◌≤◌, ◌<◌, ◌+◌, ◌*◌, ◌%◌, ◌^◌, ◌&&◌, ◌==◌, nat_le, nat_lt, IfOk, MatchResult, length};
+ghost use Rattle.elf32_sparc.specs.Header.{word_at};
+ghost use Rattle.elf32_sparc.specs.Notes.{note_that, has_locator, notes_of, read_notes};
+ghost use Rattle.notes.specs.Seen.{Answers, IsFault, notes_seen};
+ghost use Rattle.notes.specs.Rules.{AreNotes};
 ghost use Rattle.notes.specs.Parts.{head_of, block_count_at, tables_of};
 
-use crate::cells::Taken;
-use crate::note::{NoteEdge, NoteSegment, Notes, NotesFault};
-use crate::rows::{block_at, edge_at, keep, range_at, segment_at, word_at};
-use eel_base::{Addr, Range};
+use crate::note::{Notes, NotesFault};
+use crate::rows::{keep, word_at};
+use crate::tables::{read_blocks, read_edges, read_ranges, read_segments};
+use eel_base::be32_at;
 use std::alloc::Global;
+
+/// Where the locator stands, and how it begins: `EELN` and the version.
+const LOCATOR_AT: usize = 4032;
+
+const LOCATOR: u32 = 0x4545_4c4e;
+
+const NOTES_VERSION: u32 = 1;
+
+/// The notes of a written file.
+///
+/// They are read in one pass. Beside the rows that are there it needs a byte for each cell that the notes name.
+pub fn read_notes(alloc: Global, file: &[u8]) -> Result<Notes, NotesFault>
+    ensures read { Answers notes_seen result (notes_of file.now) }
+    ensures rules { IfOk result (λ notes. AreNotes (notes_seen notes)) }
+{
+    let notes = find_notes(file)?;
+    let notes = read_words(alloc, notes, file.len())?;
+    Ok(notes)
+}
+
+/// The bytes of the notes, where the locator says.
+#[tactic(auto, unfolding(elf32_sparc::specs::Notes::notes_of))]
+fn find_notes(file: &[u8]) -> Result<&[u8], NotesFault>
+    ensures { MatchResult result (λ notes. notes_of file.now ≡ read_notes (length file.now) notes.now) (λ fault. IsFault fault (notes_of file.now)) }
+{
+    if !has_locator(file) {
+        return Err(NotesFault::Absent);
+    }
+    let offset = field(file, LOCATOR_AT + 8) as usize;
+    let length = field(file, LOCATOR_AT + 12) as usize;
+    if offset + length > file.len() {
+        return Err(NotesFault::Bad(0));
+    }
+    Ok(&file[offset..offset + length])
+}
+
+fn has_locator(file: &[u8]) -> bool
+    ensures { result ≡ has_locator file.now }
+{
+    file.len() >= 4096
+        && field(file, LOCATOR_AT) == LOCATOR
+        && field(file, LOCATOR_AT + 4) == NOTES_VERSION
+}
+
+/// The word at an offset of a file, or 0 past its end.
+#[tactic(auto, unfolding(elf32_sparc::specs::Header::word_at))]
+fn field(file: &[u8], at: usize) -> u32
+    ensures { result ≡ word_at file.now at }
+{
+    be32_at(file, at).unwrap_or(0)
+}
+
+/// The notes in these bytes, of a file of this size.
+fn read_words(alloc: Global, notes: &[u8], size: usize) -> Result<Notes, NotesFault>
+    ensures { Answers notes_seen result (read_notes size notes.now) }
+{
+    let head = read_head(notes, size)?;
+    let notes = read_tables(alloc, notes, &head)?;
+    Ok(notes)
+}
 
 /// The numbers before the tables.
 #[derive(Clone, Copy)]
@@ -122,79 +184,4 @@ fn read_tables(alloc: Global, notes: &[u8], head: &Head) -> Result<Notes, NotesF
         edges,
         ranges,
     })
-}
-
-/// The pages.
-fn read_segments(alloc: Global, notes: &[u8], at: u32, count: u32) -> Result<Vec<NoteSegment>, NotesFault>
-    requires { at + 8 * count < 2 ^ 32 }
-    ensures { Answers (λ segments. map segment_seen segments.items) result (segments_at notes.now at 0 count) }
-{
-    let mut segments = Vec::new(alloc);
-    let mut end = 0;
-    for row in 0..count {
-        let segment = segment_at(notes, at + 8 * row, end)?;
-        end = u64::from(segment.start) + u64::from(segment.length);
-        segments.push(segment)?;
-    }
-    Ok(segments)
-}
-
-/// The blocks of a text of so many words.
-fn read_blocks(alloc: Global, notes: &[u8], at: u32, count: u32, words: u32) -> Result<Vec<u32>, NotesFault>
-    requires { at + 4 * count < 2 ^ 32 }
-    ensures { Answers (λ blocks. blocks.items) result (blocks_at words notes.now at None count) }
-{
-    let mut blocks = Vec::new(alloc);
-    let mut before = None;
-    for row in 0..count {
-        let first = block_at(notes, at + 4 * row, before, words)?;
-        before = Some(first);
-        blocks.push(first)?;
-    }
-    Ok(blocks)
-}
-
-/// The edges of a graph of so many blocks.
-fn read_edges(
-    alloc: Global,
-    notes: &[u8],
-    at: u32,
-    count: u32,
-    blocks: u32,
-    cells: u32,
-) -> Result<Vec<NoteEdge>, NotesFault>
-    requires few { cells ≤ 2 ^ 22 }
-    requires place { at + 16 * count < 2 ^ 32 }
-    ensures { Answers (λ edges. map edge_seen edges.items) result (edges_at blocks cells notes.now at [] count) }
-{
-    let mut taken = Taken::none(alloc, cells)?;
-    let mut edges = Vec::new(alloc);
-    for row in 0..count {
-        let edge = edge_at(notes, at + 16 * row, blocks, &taken)?;
-        taken.mark(edge.cell);
-        edges.push(edge)?;
-    }
-    Ok(edges)
-}
-
-/// The places, for a graph of so many blocks.
-fn read_ranges(
-    alloc: Global,
-    notes: &[u8],
-    at: u32,
-    count: u32,
-    blocks: u32,
-    segments: &[NoteSegment],
-) -> Result<Vec<Range>, NotesFault>
-    requires { at + 16 * count < 2 ^ 32 }
-    ensures { Answers (λ ranges. map range_seen ranges.items) result (ranges_at blocks (map segment_seen segments.now) notes.now at 0 count) }
-{
-    let mut ranges = Vec::new(alloc);
-    let mut end = Addr(0);
-    for row in 0..count {
-        let range = range_at(notes, at + 16 * row, blocks, segments, end)?;
-        end = range.hi;
-        ranges.push(range)?;
-    }
-    Ok(ranges)
 }

@@ -1,7 +1,7 @@
 use Rattle.std.proofs.Common.{◌≡◌, ◌+◌, ◌*◌, ◌-◌, None}
 use Rattle.elf32_sparc.specs.Notes.{blocks_at}
 use Rattle.notes.proofs.Steps.{after}
-use Rattle.notes.proofs.reading.read_blocks.Given as goal
+use Rattle.notes.proofs.tables.read_blocks.Given as goal
 
 -- what was read and what is left are the whole table
 abbrev pub invariant-loop-row : goal.invariant-loop-row

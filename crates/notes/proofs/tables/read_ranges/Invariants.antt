@@ -2,7 +2,7 @@ use Rattle.std.proofs.Common.{◌≡◌, ◌+◌, ◌*◌, ◌-◌, map}
 use Rattle.elf32_sparc.specs.Notes.{ranges_at}
 use Rattle.notes.specs.Seen.{segment_seen, range_seen}
 use Rattle.notes.proofs.Steps.{after}
-use Rattle.notes.proofs.reading.read_ranges.Given as goal
+use Rattle.notes.proofs.tables.read_ranges.Given as goal
 
 -- what was read and what is left are the whole table
 abbrev pub invariant-loop-row : goal.invariant-loop-row

@@ -2,8 +2,8 @@ use Rattle.std.proofs.Common.{◌≡◌, ◌+◌, ◌*◌, ◌-◌, ◌∙◌, �
 use Rattle.std.proofs.lemmas.List.{map-append}
 use Rattle.notes.specs.Seen.{range_seen}
 use Rattle.notes.proofs.Steps.{fault_out}
-use Rattle.notes.proofs.Tables.{ranges-more, ranges-fault, ranges-none}
-use Rattle.notes.proofs.reading.read_ranges.Goals as goal
+use Rattle.notes.proofs.TableRows.{ranges-more, ranges-fault, ranges-none}
+use Rattle.notes.proofs.tables.read_ranges.Goals as goal
 
 pub returns-in_err-range : goal.returns-in_err-range
 returns-in_err-range c =

@@ -3,8 +3,8 @@ use Rattle.std.proofs.lemmas.List.{map-append}
 use Rattle.elf32_sparc.specs.Notes.{segments_at}
 use Rattle.notes.specs.Seen.{segment_seen}
 use Rattle.notes.proofs.Steps.{fault_out}
-use Rattle.notes.proofs.Tables.{segments-more, segments-fault, segments-none}
-use Rattle.notes.proofs.reading.read_segments.Goals as goal
+use Rattle.notes.proofs.TableRows.{segments-more, segments-fault, segments-none}
+use Rattle.notes.proofs.tables.read_segments.Goals as goal
 
 pub returns-in_err-segment : goal.returns-in_err-segment
 returns-in_err-segment c =

@@ -2,8 +2,8 @@ use Rattle.std.proofs.Common.{◌≡◌, ◌+◌, ◌*◌, ◌-◌, ◌∙◌, �
 use Rattle.std.proofs.lemmas.List.{map-append}
 use Rattle.notes.specs.Seen.{edge_seen}
 use Rattle.notes.proofs.Steps.{fault_out}
-use Rattle.notes.proofs.Tables.{edges-more, edges-fault, edges-none, edges-none-read}
-use Rattle.notes.proofs.reading.read_edges.Goals as goal
+use Rattle.notes.proofs.TableRows.{edges-more, edges-fault, edges-none, edges-none-read}
+use Rattle.notes.proofs.tables.read_edges.Goals as goal
 
 pub loop-row-init : goal.loop-row-init
 loop-row-init c =

@@ -1,8 +1,8 @@
 use Rattle.std.proofs.Common.{◌≡◌, ◌+◌, ◌*◌, ◌-◌, ◌∙◌, ◌++◌, ◌∷◌, [], map, ap, sym, arith}
 use Rattle.elf32_sparc.specs.Notes.{blocks_at}
 use Rattle.notes.proofs.Steps.{fault_out}
-use Rattle.notes.proofs.Tables.{blocks-more, blocks-fault, blocks-none}
-use Rattle.notes.proofs.reading.read_blocks.Goals as goal
+use Rattle.notes.proofs.TableRows.{blocks-more, blocks-fault, blocks-none}
+use Rattle.notes.proofs.tables.read_blocks.Goals as goal
 
 pub returns-in_err-first : goal.returns-in_err-first
 returns-in_err-first c =
