@@ -3,3 +3,4 @@ pub mod Steps
 pub mod TableRows
 pub mod Whole
 pub mod Kept
+pub mod Bytes

@@ -3,3 +3,4 @@ pub mod Rules
 pub mod Written
 pub mod Parts
 pub mod Laws
+pub mod Rows

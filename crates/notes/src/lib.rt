@@ -15,4 +15,4 @@ mod writing;
 pub use eel_base::Range;
 pub use note::{NoteEdge, NoteSegment, Notes, NotesFault};
 pub use reading::read_notes;
-//pub use writing::write_notes;
+pub use writing::write_notes;
