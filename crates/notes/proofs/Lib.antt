@@ -4,3 +4,5 @@ pub mod TableRows
 pub mod Whole
 pub mod Kept
 pub mod Bytes
+pub mod WordsRead
+pub mod ReadsBack

@@ -5,6 +5,8 @@
 //! and the places in them: which instruction stands at an address, and for which node.
 #![tactic(auto)]
 
+ghost use Rattle.notes.specs.Laws.{WrittenNotesRead, ReadNotesMeetRules};
+
 mod cells;
 mod note;
 mod reading;
@@ -16,3 +18,13 @@ pub use eel_base::Range;
 pub use note::{NoteEdge, NoteSegment, Notes, NotesFault};
 pub use reading::read_notes;
 pub use writing::write_notes;
+
+/// Notes that meet the rules read back from what is written of them.
+pub fn written_notes_read()
+    ensures { WrittenNotesRead }
+{}
+
+/// Notes that were read meet the rules.
+pub fn read_notes_meet_rules()
+    ensures { ReadNotesMeetRules }
+{}
