@@ -1,18 +1,14 @@
 -- Words as bytes, and back.
-use Rattle.std.proofs.Common.{◌≡◌, ℕ, zero, suc, ◌+◌, ◌*◌, ◌<◌, ◌≤◌, ◌^◌, List, [], ◌∷◌, ◌++◌, map, length, drop, Some, Ok, refl, ap, sym, ◌∙◌, append_assoc, arith}
-use Rattle.std.specs.List.{flat_map, All}
-use Rattle.std.proofs.lemmas.Bool.{le-leb}
+use Rattle.std.proofs.Common.{◌≡◌, ℕ, List, [], ◌∷◌, ◌++◌, map, length, refl, ap, sym, ◌∙◌, append_assoc}
+use Rattle.std.specs.List.{flat_map}
 use Rattle.std.proofs.lemmas.Grind.{flat_map-append}
-use Rattle.byteorder.specs.Endian.{big_bytes, big_number}
-use Rattle.byteorder.specs.Numbers.{big_number-reads_back, length-bytes_high_first}
+use Rattle.byteorder.specs.Endian.{big_bytes}
 use Rattle.eel_base.specs.declared.range.Range as declared_range
-use Rattle.eel_base.specs.Fields.{be_field}
-use Rattle.elf32_sparc.specs.Notes.{found, note_at}
 use Rattle.notes.specs.declared.note.NoteSegment as declared_segment
 use Rattle.notes.specs.declared.note.NoteEdge as declared_edge
 use Rattle.notes.specs.declared.note.Notes as declared_notes
 use Rattle.notes.specs.Seen.{segment_seen, edge_seen, range_seen, notes_seen}
-use Rattle.notes.specs.Written.{words_bytes, segment_words, edge_words, range_words, notes_words, notes_bytes}
+use Rattle.notes.specs.Written.{words_bytes, segment_words, edge_words, range_words, notes_bytes}
 use Rattle.notes.specs.Rows.{segment_bytes, edge_bytes, range_bytes}
 
 pub words_bytes-append : (xs ys : List ℕ) → words_bytes (xs ++ ys) ≡ words_bytes xs ++ words_bytes ys

@@ -1,12 +1,12 @@
 -- What was written reads back.
-use Rattle.std.proofs.Common.{◌≡◌, ℕ, zero, suc, ◌+◌, ◌*◌, ◌%◌, ◌<◌, ◌≤◌, ◌^◌, Bool, true, false, not, ◌&&◌, ◌||◌, ◌==◌, List, [], ◌∷◌, ◌++◌, length, Option, Some, None, Ok, refl, ap, sym, subst, ◌∙◌, arith}
+use Rattle.std.proofs.Common.{◌≡◌, ℕ, ◌+◌, ◌*◌, ◌%◌, ◌<◌, ◌≤◌, ◌^◌, true, not, ◌&&◌, ◌==◌, List, [], ◌∷◌, ◌++◌, length, Option, Some, None, Ok, refl, ap, ◌∙◌, arith}
 use Rattle.std.specs.Prelude.{nat_le, nat_lt}
 use Rattle.std.specs.List.{flat_map, list_any, All}
 use Rattle.std.proofs.lemmas.Bool.{and_parts, and_from, or_right, le-leb, lt-ltb, eq-eqb, ltb-true, ne_eqb}
 use Rattle.std.proofs.lemmas.List.{length-append}
 use Rattle.byteorder.specs.Endian.{big_bytes}
 use Rattle.byteorder.specs.Numbers.{length-bytes_high_first}
-use Rattle.elf32_sparc.specs.Notes.{NoteSegment, NoteEdge, NoteRange, Notes, ◌>>=◌, note_at, note_that, follows, no_cell, cell_of, is_cell, byte_count, segments_at, blocks_at, edges_at, ranges_at, read_notes}
+use Rattle.elf32_sparc.specs.Notes.{NoteSegment, NoteEdge, NoteRange, Notes, note_at, follows, no_cell, cell_of, is_cell, byte_count, segments_at, blocks_at, edges_at, ranges_at, read_notes}
 use Rattle.notes.specs.declared.reading.Head.{Head}
 use Rattle.notes.specs.Rules.{AreNotes, is_segment, are_segments, are_blocks, is_free, is_edge, with_cell, are_edges, is_range, are_ranges}
 use Rattle.notes.specs.Parts.{head_of, tables_of, block_count_at}

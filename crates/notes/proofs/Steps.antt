@@ -1,8 +1,8 @@
 -- Steps of a reading, one after the other.
-use Rattle.std.proofs.Common.{◌≡◌, ℕ, Bool, true, false, List, [], ◌∷◌, ◌++◌, ◌||◌, map, Result, Ok, Err, if◌then◌else◌, refl, ap, sym, subst, append_assoc, ◌∙◌}
+use Rattle.std.proofs.Common.{◌≡◌, ℕ, Bool, true, false, List, [], ◌∷◌, ◌++◌, ◌||◌, map, Result, Ok, Err, if◌then◌else◌, refl, ap, sym, subst, append_assoc}
 use Rattle.std.specs.Result.{IsErrAnd}
 use Rattle.std.specs.List.{list_any}
-use Rattle.elf32_sparc.specs.Notes.{NoNotes, Absent, Bad, ◌>>=◌, kept}
+use Rattle.elf32_sparc.specs.Notes.{NoNotes, Bad, ◌>>=◌, kept}
 use Rattle.notes.specs.Seen.{IsFault, Answers}
 use Rattle.notes.specs.declared.note.NotesFault.{NotesFault}
 use Rattle.notes.specs.declared.note.NotesFault.TheVariants as faults

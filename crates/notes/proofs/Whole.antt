@@ -1,6 +1,6 @@
 -- Reading is reading the numbers, and then the tables.
-use Rattle.std.proofs.Common.{◌≡◌, ℕ, List, Result, Ok, refl, if◌then◌else◌}
-use Rattle.elf32_sparc.specs.Notes.{Bad, ◌>>=◌, read_notes}
+use Rattle.std.proofs.Common.{◌≡◌, ℕ, List}
+use Rattle.elf32_sparc.specs.Notes.{◌>>=◌, read_notes}
 use Rattle.notes.specs.Parts.{head_of, tables_of, block_count_at}
 use Rattle.notes.proofs.Steps.{bind_assoc, kept_then, choice_then}
 

@@ -1,5 +1,5 @@
 -- Notes as the definitions of reading have them, and what an answer says of a definition.
-use Rattle.std.specs.Prelude.{◌≡◌, ℕ, List, map, Result, Ok, Err, ⊤}
+use Rattle.std.specs.Prelude.{◌≡◌, map, Result, Ok, Err, ⊤}
 use Rattle.eel_base.specs.declared.range.Range as declared_range
 use Rattle.elf32_sparc.specs.Notes.{NoteSegment, NoteEdge, NoteRange, Notes, NoNotes, Absent, Bad}
 use Rattle.notes.specs.declared.note.NoteSegment as declared_segment

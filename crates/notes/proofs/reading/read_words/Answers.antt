@@ -1,5 +1,4 @@
-use Rattle.std.proofs.Common.{◌≡◌, ◌∙◌, sym, subst, ap}
-use Rattle.elf32_sparc.specs.Notes.{◌>>=◌}
+use Rattle.std.proofs.Common.{sym, subst}
 use Rattle.notes.specs.Seen.{IsFault}
 use Rattle.notes.specs.Parts.{head_of, tables_of}
 use Rattle.notes.proofs.Steps.{fault_out, through}

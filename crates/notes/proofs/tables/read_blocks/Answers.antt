@@ -1,5 +1,4 @@
-use Rattle.std.proofs.Common.{◌≡◌, ◌+◌, ◌*◌, ◌-◌, ◌∙◌, ◌++◌, ◌∷◌, [], map, ap, sym, arith}
-use Rattle.elf32_sparc.specs.Notes.{blocks_at}
+use Rattle.std.proofs.Common.{◌≡◌, ◌-◌, ◌∙◌, arith}
 use Rattle.notes.proofs.Steps.{fault_out}
 use Rattle.notes.proofs.TableRows.{blocks-more, blocks-fault, blocks-none}
 use Rattle.notes.proofs.tables.read_blocks.Goals as goal

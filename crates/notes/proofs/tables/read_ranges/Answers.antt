@@ -1,4 +1,4 @@
-use Rattle.std.proofs.Common.{◌≡◌, ◌+◌, ◌*◌, ◌-◌, ◌∙◌, ◌++◌, ◌∷◌, [], map, ap, sym, arith}
+use Rattle.std.proofs.Common.{◌≡◌, ◌-◌, ◌∙◌, ◌∷◌, [], map, ap, arith}
 use Rattle.std.proofs.lemmas.List.{map-append}
 use Rattle.notes.specs.Seen.{range_seen}
 use Rattle.notes.proofs.Steps.{fault_out}

@@ -1,6 +1,5 @@
-use Rattle.std.proofs.Common.{◌≡◌, ◌+◌, ◌*◌, ◌-◌, ◌∙◌, ◌++◌, ◌∷◌, [], map, ap, sym, arith}
+use Rattle.std.proofs.Common.{◌≡◌, ◌-◌, ◌∙◌, ◌∷◌, [], map, ap, arith}
 use Rattle.std.proofs.lemmas.List.{map-append}
-use Rattle.elf32_sparc.specs.Notes.{segments_at}
 use Rattle.notes.specs.Seen.{segment_seen}
 use Rattle.notes.proofs.Steps.{fault_out}
 use Rattle.notes.proofs.TableRows.{segments-more, segments-fault, segments-none}

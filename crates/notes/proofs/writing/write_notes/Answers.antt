@@ -1,9 +1,5 @@
-use Rattle.std.proofs.Common.{arith, ◌≡◌, ◌++◌, ◌∷◌, [], map, length, refl, ap, sym, ◌∙◌}
-use Rattle.std.specs.List.{flat_map}
+use Rattle.std.proofs.Common.{arith, refl}
 use Rattle.std.proofs.lemmas.Grind.{common_steps}
-use Rattle.notes.specs.Seen.{segment_seen, edge_seen, range_seen}
-use Rattle.notes.specs.Written.{words_bytes}
-use Rattle.notes.specs.Rows.{segment_bytes, edge_bytes, range_bytes}
 use Rattle.notes.proofs.Bytes.{turns}
 use Rattle.notes.proofs.writing.write_notes.Goals as goal
 
