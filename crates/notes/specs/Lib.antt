@@ -4,3 +4,4 @@ pub mod Written
 pub mod Parts
 pub mod Laws
 pub mod Rows
+pub mod Examples
