@@ -1,7 +1,7 @@
 //! Reading notes.
 ghost use Rattle.std.specs.Prelude.{◌≡◌, ◌≤◌, ◌<◌, ◌+◌, ◌*◌, ◌%◌, ◌^◌, ◌&&◌, ◌==◌, nat_le, nat_lt, IfOk, MatchResult, length};
 ghost use Rattle.elf32_sparc.specs.Header.{word_at};
-ghost use Rattle.elf32_sparc.specs.Notes.{note_that, has_locator, notes_of, read_notes};
+ghost use Rattle.elf32_sparc.specs.Notes.{byte_count, note_that, has_locator, notes_of, read_notes};
 ghost use Rattle.notes.specs.Seen.{Answers, IsFault, notes_seen};
 ghost use Rattle.notes.specs.Rules.{AreNotes};
 ghost use Rattle.notes.specs.Parts.{head_of, block_count_at, tables_of};
@@ -128,6 +128,13 @@ fn are_cells(base: u32, cells: u32) -> bool
     base % 4 == 0 && u64::from(base) + 4 * u64::from(cells) <= 1 << 32
 }
 
+/// Nothing follows what ends at this offset.
+fn end_at(notes: &[u8], end: u32) -> bool
+    ensures { result ≡ (byte_count notes.now == end) }
+{
+    notes.len() == end as usize
+}
+
 /// The number of blocks, of a text of so many words that is entered at the block `entry`.
 #[tactic(auto, unfolding(crate::specs::Parts::block_count_at))]
 fn block_count_at(notes: &[u8], at: u32, entry: u32, words: u32) -> Result<u32, NotesFault>
@@ -169,7 +176,7 @@ fn read_tables(alloc: Global, notes: &[u8], head: &Head) -> Result<Notes, NotesF
     let range_count = count_at(notes, ranges_at, 1 << 26)?;
     let ranges = read_ranges(alloc, notes, ranges_at + 4, range_count, block_count, &segments)?;
     let end = ranges_at + 4 + 16 * range_count;
-    keep(notes.len() == end as usize, end)?;
+    keep(end_at(notes, end), end)?;
     Ok(Notes {
         delta: head.delta,
         length: head.length,

@@ -1,5 +1,5 @@
 //! The words of notes, and the rows of their tables.
-ghost use Rattle.std.specs.Prelude.{◌≡◌, ◌≤◌, ◌<◌, ◌+◌, ◌^◌, MatchResult, length, map, true, false, ◌&&◌, nat_lt};
+ghost use Rattle.std.specs.Prelude.{◌≡◌, ◌≤◌, ◌<◌, ◌+◌, ◌^◌, MatchResult, length, map, true, false, ◌&&◌, nat_le, nat_lt};
 ghost use Rattle.std.specs.List.{list_any};
 ghost use Rattle.elf32_sparc.specs.Notes.{note_at, follows, cell_of, holds};
 ghost use Rattle.notes.specs.Seen.{Answers, segment_seen, edge_seen, range_seen};
@@ -25,11 +25,10 @@ pub(crate) fn word_at(notes: &[u8], at: u32) -> Result<u32, NotesFault>
 pub(crate) fn keep(rule: bool, at: u32) -> Result<(), NotesFault>
     ensures { MatchResult result (λ _. rule ≡ true) (λ fault. (rule ≡ false) × (fault ≡ faults.Bad at)) }
 {
-    if rule {
-        Ok(())
-    } else {
-        Err(NotesFault::Bad(at))
+    if !rule {
+        return Err(NotesFault::Bad(at));
     }
+    Ok(())
 }
 
 /// The page at an offset, which begins at `end` or above.
@@ -82,9 +81,16 @@ pub(crate) fn edge_at(notes: &[u8], at: u32, blocks: u32, taken: &Taken) -> Resu
     let from = word_at(notes, at + 4)?;
     let to = word_at(notes, at + 8)?;
     let cell = word_at(notes, at + 12)?;
-    keep(kind <= 5 && from <= blocks && to <= blocks && taken.is_open(cell), at)?;
+    keep(is_between(kind, from, to, blocks) && taken.is_open(cell), at)?;
     let cell = cell_of(cell);
     Ok(NoteEdge { kind, from, to, cell })
+}
+
+/// An edge of one of the six kinds, between nodes.
+fn is_between(kind: u32, from: u32, to: u32, blocks: u32) -> bool
+    ensures { result ≡ (nat_le kind 5 && nat_le from blocks && nat_le to blocks) }
+{
+    kind <= 5 && from <= blocks && to <= blocks
 }
 
 fn cell_of(word: u32) -> Option<u32>
