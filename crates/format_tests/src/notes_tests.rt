@@ -37,6 +37,11 @@ fn named(alloc: Global, file: &[u8]) -> Option<NotesFault> {
     read_notes(alloc, file).err()
 }
 
+/// The bytes from one place to another.
+fn part(bytes: &[u8], from: usize, to: usize) -> &[u8] {
+    bytes.get(from..to).unwrap_or(&[])
+}
+
 /// The notes of a file, read and written again.
 fn written_again(alloc: Global, file: &[u8]) -> Result<Vec<u8>, Fail> {
     let Ok(notes) = read_notes(alloc, file) else {
@@ -49,7 +54,7 @@ fn written_again(alloc: Global, file: &[u8]) -> Result<Vec<u8>, Fail> {
 fn notes_read_and_are_written_again(rt: HostRuntime) -> Result<(), Fail> {
     let file = file(rt.alloc(), LENGTH, 0, 4096)?;
     let again = written_again(rt.alloc(), &file)?;
-    assert_eq!(rt; again.as_slice(), &file[4096..4264]);
+    assert_eq!(rt; again.as_slice(), part(&file, 4096, 4264));
     Ok(())
 }
 
@@ -129,8 +134,8 @@ fn missing_words_and_bytes_left_over_are_named(rt: HostRuntime) -> Result<(), Fa
 #[test]
 fn notes_are_absent_without_a_locator(rt: HostRuntime) -> Result<(), Fail> {
     let file = file(rt.alloc(), LENGTH, 0, 4096)?;
-    assert_eq!(rt; named(rt.alloc(), &file[..4095]), Some(NotesFault::Absent));
-    assert_eq!(rt; named(rt.alloc(), &file[4..]), Some(NotesFault::Absent));
-    assert_eq!(rt; named(rt.alloc(), &file[..4096]), Some(NotesFault::Bad(0)));
+    assert_eq!(rt; named(rt.alloc(), part(&file, 0, 4095)), Some(NotesFault::Absent));
+    assert_eq!(rt; named(rt.alloc(), part(&file, 4, 8192)), Some(NotesFault::Absent));
+    assert_eq!(rt; named(rt.alloc(), part(&file, 0, 4096)), Some(NotesFault::Bad(0)));
     Ok(())
 }
