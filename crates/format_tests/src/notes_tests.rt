@@ -5,9 +5,48 @@ use std::test::Fail;
 
 /// The notes of a text of four words: the numbers, two pages, two blocks, three edges and three places.
 const WORDS: [u32; 42] = [
-    4096, 16, 1, 0x10000, 4, 1, 0x30000, 2, 2, 0x20000, 0x1000, 0x30000, 8, 2, 0, 2, 3, 0, 0, 1, 0,
-    4, 1, 2, u32::MAX, 5, 2, 0, 1, 3, 0x20000, 0x20004, 0x10000, 0, 0x20004, 0x2000c, 0x10004, 0,
-    0x20010, 0x20014, 0x10008, 1,
+    4096,
+    16,
+    1,
+    0x10000,
+    4,
+    1,
+    0x30000,
+    2,
+    2,
+    0x20000,
+    0x1000,
+    0x30000,
+    8,
+    2,
+    0,
+    2,
+    3,
+    0,
+    0,
+    1,
+    0,
+    4,
+    1,
+    2,
+    u32::MAX,
+    5,
+    2,
+    0,
+    1,
+    3,
+    0x20000,
+    0x20004,
+    0x10000,
+    0,
+    0x20004,
+    0x2000c,
+    0x10004,
+    0,
+    0x20010,
+    0x20014,
+    0x10008,
+    1,
 ];
 
 /// How many bytes they have.
@@ -104,7 +143,11 @@ const BROKEN: [(usize, u32, u32); 38] = [
 fn broken_rules_are_named(rt: HostRuntime) -> Result<(), Fail> {
     for (at, word, offset) in BROKEN {
         let file = file(rt.alloc(), LENGTH, at, word)?;
-        assert_eq!(rt; named(rt.alloc(), &file), Some(NotesFault::Bad(offset)), "{word} at {at}");
+        assert_eq!(rt;
+            named(rt.alloc(), &file),
+            Some(NotesFault::Bad(offset)),
+            "{word} at {at}"
+        );
     }
     Ok(())
 }
@@ -126,7 +169,11 @@ const CUT: [(u32, u32); 9] = [
 fn missing_words_and_bytes_left_over_are_named(rt: HostRuntime) -> Result<(), Fail> {
     for (length, offset) in CUT {
         let file = file(rt.alloc(), length, 0, 4096)?;
-        assert_eq!(rt; named(rt.alloc(), &file), Some(NotesFault::Bad(offset)), "{length} bytes");
+        assert_eq!(rt;
+            named(rt.alloc(), &file),
+            Some(NotesFault::Bad(offset)),
+            "{length} bytes"
+        );
     }
     Ok(())
 }
@@ -134,8 +181,17 @@ fn missing_words_and_bytes_left_over_are_named(rt: HostRuntime) -> Result<(), Fa
 #[test]
 fn notes_are_absent_without_a_locator(rt: HostRuntime) -> Result<(), Fail> {
     let file = file(rt.alloc(), LENGTH, 0, 4096)?;
-    assert_eq!(rt; named(rt.alloc(), part(&file, 0, 4095)), Some(NotesFault::Absent));
-    assert_eq!(rt; named(rt.alloc(), part(&file, 4, 8192)), Some(NotesFault::Absent));
-    assert_eq!(rt; named(rt.alloc(), part(&file, 0, 4096)), Some(NotesFault::Bad(0)));
+    assert_eq!(rt;
+        named(rt.alloc(), part(&file, 0, 4095)),
+        Some(NotesFault::Absent)
+    );
+    assert_eq!(rt;
+        named(rt.alloc(), part(&file, 4, 8192)),
+        Some(NotesFault::Absent)
+    );
+    assert_eq!(rt;
+        named(rt.alloc(), part(&file, 0, 4096)),
+        Some(NotesFault::Bad(0))
+    );
     Ok(())
 }

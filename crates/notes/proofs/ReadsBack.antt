@@ -126,15 +126,19 @@ tables_back : (bytes : List ℕ) (n : Notes) → Found bytes n → AreNotes n �
 } → tables_of bytes head ≡ Ok n
 unfolding tables_of
 tables_back bytes n found are head same =
-    rw (same,
-    segments_back bytes 36 0 n.segments found.segments are.segments,
-    count_back n.entry n.words bytes (36 + 8 * length n.segments) (length n.blocks) found.block_count are.entry are.block_count,
-    blocks_back n.words bytes (36 + 8 * length n.segments + 4) None n.blocks found.blocks are.blocks,
-    found.edge_count, lt-ltb (length n.edges) (2 ^ 24) are.edge_count,
-    edges_back (length n.blocks) n.cells are.cells bytes (36 + 8 * length n.segments + 4 + 4 * length n.blocks + 4) [] [] (λ cell below. refl) n.edges found.edges are.edges,
-    found.range_count, lt-ltb (length n.ranges) (2 ^ 26) are.range_count,
-    ranges_back (length n.blocks) n.segments bytes (36 + 8 * length n.segments + 4 + 4 * length n.blocks + 4 + 16 * length n.edges + 4) 0 n.ranges found.ranges are.ranges,
-    eq-eqb (byte_count bytes) (36 + 8 * length n.segments + 4 + 4 * length n.blocks + 4 + 16 * length n.edges + 4 + 16 * length n.ranges) found.size) refl
+    rw (
+      same,
+      segments_back bytes 36 0 n.segments found.segments are.segments,
+      count_back n.entry n.words bytes (36 + 8 * length n.segments) (length n.blocks) found.block_count are.entry are.block_count,
+      blocks_back n.words bytes (36 + 8 * length n.segments + 4) None n.blocks found.blocks are.blocks,
+      found.edge_count,
+      lt-ltb (length n.edges) (2 ^ 24) are.edge_count,
+      edges_back (length n.blocks) n.cells are.cells bytes (36 + 8 * length n.segments + 4 + 4 * length n.blocks + 4) [] [] (λ cell below. refl) n.edges found.edges are.edges,
+      found.range_count,
+      lt-ltb (length n.ranges) (2 ^ 26) are.range_count,
+      ranges_back (length n.blocks) n.segments bytes (36 + 8 * length n.segments + 4 + 4 * length n.blocks + 4 + 16 * length n.edges + 4) 0 n.ranges found.ranges are.ranges,
+      eq-eqb (byte_count bytes) (36 + 8 * length n.segments + 4 + 4 * length n.blocks + 4 + 16 * length n.edges + 4 + 16 * length n.ranges) found.size,
+    ) refl
 
 pub read_back : (n : Notes) (size : ℕ) (bytes : List ℕ) → Found bytes n → AreNotes n → n.delta + n.length ≤ size → read_notes size bytes ≡ Ok n
 read_back n size bytes found are inside =

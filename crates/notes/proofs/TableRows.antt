@@ -117,6 +117,7 @@ edges-none-read blocks cells notes at count = record {
   where
     zero-place : (at : ℕ) → at + 16 * 0 ≡ at
     zero-place at = omega arith
+
     zero-rows : (count : ℕ) → count - 0 ≡ count
     zero-rows count = omega arith
 

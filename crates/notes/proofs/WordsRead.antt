@@ -34,9 +34,10 @@ has_words before (word ∷ words) fits =
     let bytes : (before ++ big_bytes 4 word) ++ words_bytes words ≡ before ++ words_bytes (word ∷ words) = append_assoc before (big_bytes 4 word) (words_bytes words) ∙ ap (λ (b : List ℕ). before ++ b) (sym (words_bytes-cons word words)) in
     let size = length-append before (big_bytes 4 word) in
     let four = length-bytes_high_first 4 word in
-    let place : length (before ++ big_bytes 4 word) ≡ length before + 4 = omega arith in
-    (rw (words_bytes-cons word words) (word-there before word (words_bytes words) (fits 0 0 (omega arith))),
-    subst₂ (λ (b : List ℕ) (at : ℕ). HasWords b at words) bytes place next)
+    let place : length (before ++ big_bytes 4 word) ≡ length before + 4 = omega arith in (
+      rw (words_bytes-cons word words) (word-there before word (words_bytes words) (fits 0 0 (omega arith))),
+      subst₂ (λ (b : List ℕ) (at : ℕ). HasWords b at words) bytes place next,
+    )
 
 pub move : (notes : List ℕ) (words : List ℕ) (at to : ℕ) → at ≡ to → HasWords notes at words → HasWords notes to words
 move notes words at to same has = subst (λ (a : ℕ). HasWords notes a words) same has

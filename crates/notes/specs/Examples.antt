@@ -1,5 +1,5 @@
 -- The notes of a text of four words in two blocks, and each rule broken once: they compute.
-use Rattle.std.specs.Prelude.{◌≡◌, ℕ, ◌+◌, List, [], ◌∷◌, ◌++◌, take, drop, map, Option, Some, None, Result, Ok, Err, refl}
+use Rattle.std.specs.Prelude.{◌≡◌, ℕ, ◌+◌, List, [], ◌∷◌, ◌++◌, take, drop, map, Some, None, Result, Ok, Err, refl}
 use Rattle.elf32_sparc.specs.Notes.{Notes, NoNotes, Bad, read_notes, segments_at, blocks_at, edges_at, ranges_at, node_at}
 use Rattle.notes.specs.Written.{words_bytes, notes_bytes}
 

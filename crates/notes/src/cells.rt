@@ -33,7 +33,9 @@ impl Taken {
     pub(crate) fn mark(&mut self, cell: Option<u32>)
         ensures { self.new.marks.items ≡ with_mark cell self.old.marks.items }
     {
-        if let Some(cell) = cell && (cell as usize) < self.marks.len() {
+        if let Some(cell) = cell
+            && (cell as usize) < self.marks.len()
+        {
             self.marks[cell as usize] = true;
         }
     }

@@ -111,7 +111,17 @@ fn read_head(notes: &[u8], size: usize) -> Result<Head, NotesFault>
     keep(cells <= 1 << 22, 28)?;
     let segment_count = word_at(notes, 32)?;
     keep(segment_count <= 8, 32)?;
-    Ok(Head { delta, length, tool, start, words, entry, base, cells, segment_count })
+    Ok(Head {
+        delta,
+        length,
+        tool,
+        start,
+        words,
+        entry,
+        base,
+        cells,
+        segment_count,
+    })
 }
 
 /// A text has one to 2^20 words, and ends at 2^31 at most.
@@ -171,10 +181,24 @@ fn read_tables(alloc: Global, notes: &[u8], head: &Head) -> Result<Notes, NotesF
     let blocks = read_blocks(alloc, notes, blocks_at + 4, block_count, head.words)?;
     let edges_at = blocks_at + 4 + 4 * block_count;
     let edge_count = count_at(notes, edges_at, 1 << 24)?;
-    let edges = read_edges(alloc, notes, edges_at + 4, edge_count, block_count, head.cells)?;
+    let edges = read_edges(
+        alloc,
+        notes,
+        edges_at + 4,
+        edge_count,
+        block_count,
+        head.cells,
+    )?;
     let ranges_at = edges_at + 4 + 16 * edge_count;
     let range_count = count_at(notes, ranges_at, 1 << 26)?;
-    let ranges = read_ranges(alloc, notes, ranges_at + 4, range_count, block_count, &segments)?;
+    let ranges = read_ranges(
+        alloc,
+        notes,
+        ranges_at + 4,
+        range_count,
+        block_count,
+        &segments,
+    )?;
     let end = ranges_at + 4 + 16 * range_count;
     keep(end_at(notes, end), end)?;
     Ok(Notes {

@@ -54,7 +54,12 @@ fn is_segment(segment: &NoteSegment, end: u64) -> bool
 
 /// The first word of the block at an offset, after the block that begins at `before`.
 #[tactic(auto, unfolding(crate::specs::Parts::block_at))]
-pub(crate) fn block_at(notes: &[u8], at: u32, before: Option<u32>, words: u32) -> Result<u32, NotesFault>
+pub(crate) fn block_at(
+    notes: &[u8],
+    at: u32,
+    before: Option<u32>,
+    words: u32,
+) -> Result<u32, NotesFault>
     ensures { Answers (λ first. first) result (block_at words before notes.now at) }
 {
     let first = word_at(notes, at)?;
@@ -73,7 +78,12 @@ fn follows(before: Option<u32>, first: u32) -> bool
 
 /// The edge at an offset, in a graph of so many blocks.
 #[tactic(auto, unfolding(crate::specs::Parts::edge_at))]
-pub(crate) fn edge_at(notes: &[u8], at: u32, blocks: u32, taken: &Taken) -> Result<NoteEdge, NotesFault>
+pub(crate) fn edge_at(
+    notes: &[u8],
+    at: u32,
+    blocks: u32,
+    taken: &Taken,
+) -> Result<NoteEdge, NotesFault>
     requires { at + 16 < 2 ^ 32 }
     ensures { Answers edge_seen result (edge_at blocks (is_open taken.now.marks.items) notes.now at) }
 {
@@ -81,9 +91,17 @@ pub(crate) fn edge_at(notes: &[u8], at: u32, blocks: u32, taken: &Taken) -> Resu
     let from = word_at(notes, at + 4)?;
     let to = word_at(notes, at + 8)?;
     let cell = word_at(notes, at + 12)?;
-    keep(is_between(kind, from, to, blocks) && taken.is_open(cell), at)?;
+    keep(
+        is_between(kind, from, to, blocks) && taken.is_open(cell),
+        at,
+    )?;
     let cell = cell_of(cell);
-    Ok(NoteEdge { kind, from, to, cell })
+    Ok(NoteEdge {
+        kind,
+        from,
+        to,
+        cell,
+    })
 }
 
 /// An edge of one of the six kinds, between nodes.
@@ -115,7 +133,12 @@ pub(crate) fn range_at(
     let hi = Addr(word_at(notes, at + 4)?);
     let address = Addr(word_at(notes, at + 8)?);
     let node = word_at(notes, at + 12)?;
-    let range = Range { lo, hi, address, node };
+    let range = Range {
+        lo,
+        hi,
+        address,
+        node,
+    };
     keep(is_range(&range, blocks, segments, end), at)?;
     Ok(range)
 }

@@ -10,7 +10,12 @@ use eel_base::{Addr, Range};
 use std::alloc::Global;
 
 /// The pages.
-pub(crate) fn read_segments(alloc: Global, notes: &[u8], at: u32, count: u32) -> Result<Vec<NoteSegment>, NotesFault>
+pub(crate) fn read_segments(
+    alloc: Global,
+    notes: &[u8],
+    at: u32,
+    count: u32,
+) -> Result<Vec<NoteSegment>, NotesFault>
     requires { at + 8 * count < 2 ^ 32 }
     ensures { Answers (λ segments. map segment_seen segments.items) result (segments_at notes.now at 0 count) }
 {
@@ -25,7 +30,13 @@ pub(crate) fn read_segments(alloc: Global, notes: &[u8], at: u32, count: u32) ->
 }
 
 /// The blocks of a text of so many words.
-pub(crate) fn read_blocks(alloc: Global, notes: &[u8], at: u32, count: u32, words: u32) -> Result<Vec<u32>, NotesFault>
+pub(crate) fn read_blocks(
+    alloc: Global,
+    notes: &[u8],
+    at: u32,
+    count: u32,
+    words: u32,
+) -> Result<Vec<u32>, NotesFault>
     requires { at + 4 * count < 2 ^ 32 }
     ensures { Answers (λ blocks. blocks.items) result (blocks_at words notes.now at None count) }
 {

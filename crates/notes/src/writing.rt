@@ -20,7 +20,9 @@ pub fn write_notes(alloc: Global, n: &Notes) -> Result<Vec<u8>, NoMemory>
     let mut out = Vec::new(alloc);
     put_words(
         &mut out,
-        &[n.delta, n.length, n.tool, n.start, n.words, n.entry, n.base, n.cells],
+        &[
+            n.delta, n.length, n.tool, n.start, n.words, n.entry, n.base, n.cells,
+        ],
     )?;
     put_words(&mut out, &[n.segments.len() as u32])?;
     put_segments(&mut out, &n.segments)?;
