@@ -4,3 +4,5 @@
 
 #[cfg(test)]
 mod eel_base_tests;
+#[cfg(test)]
+mod notes_tests;

@@ -1,0 +1,41 @@
+-- Cells as words, and their marks.
+use Rattle.std.proofs.Common.{◌≡◌, ℕ, ◌≤◌, ◌^◌, inl, inr, Bool, true, false, not, ◌&&◌, ◌||◌, ◌==◌, List, [], ◌∷◌, length, replicate, Option, Some, None, refl, ap, sym, ◌∙◌, arith}
+use Rattle.std.specs.Prelude.{nat_lt, get_or}
+use Rattle.std.specs.List.{list_any}
+use Rattle.std.proofs.lemmas.Bool.{eq-eqb, ne_eqb, eqb-true, ltb-true, cases_eq, cond_both}
+use Rattle.std.proofs.lemmas.List.{get_or-set_same, get_or-set_other, get_or-replicate, length-set, length-replicate}
+use Rattle.elf32_sparc.specs.Notes.{no_cell, cell_of, is_cell}
+use Rattle.notes.specs.Parts.{AreMarks, is_open, with_mark}
+use Rattle.notes.specs.Written.{cell_word}
+
+-- a cell's word gives the cell, and the cell the word
+pub cell_word-of : (word : ℕ) → cell_word (cell_of word) ≡ word
+cell_word-of word = cond_both (word == no_cell) None (Some word) (λ cell. cell_word cell ≡ word) (λ is. sym (eqb-true word no_cell is)) (λ _. refl)
+
+same_and : (b x y : Bool) → (b ≡ true → x ≡ y) → (b && not x) ≡ (b && not y)
+same_and true x y same = ap not (same refl)
+same_and false x y same = refl
+
+pub open_cell : (cells : ℕ) (marks : List Bool) (taken : List ℕ) → length marks ≡ cells → AreMarks marks taken → (word : ℕ) → is_open marks word ≡ is_cell cells taken word
+open_cell cells marks taken size marked word =
+    ap (λ rest. (word == no_cell) || rest) (same_and (nat_lt word (length marks)) (get_or marks word false) (list_any (λ cell. cell == word) taken) (λ below. marked word (ltb-true word (length marks) below))
+    ∙ ap (λ (n : ℕ). nat_lt word n && not (list_any (λ cell. cell == word) taken)) size)
+
+pub none_marked : (cells : ℕ) → AreMarks (replicate cells false) []
+none_marked cells cell below =
+    let size = length-replicate cells false in
+    get_or-replicate cells cell false false (omega arith)
+
+pub marks_long : (cell : Option ℕ) (marks : List Bool) → length (with_mark cell marks) ≡ length marks
+marks_long None marks = refl
+marks_long (Some cell) marks = length-set marks cell true
+
+pub marked_more : (cell : Option ℕ) (marks : List Bool) (taken : List ℕ) → length marks ≤ 2 ^ 22 → AreMarks marks taken → AreMarks (with_mark cell marks) (cell_word cell ∷ taken)
+marked_more None marks taken few marked other below =
+    rw (ne_eqb no_cell other (λ is. absurd (omega arith))) (marked other below)
+marked_more (Some cell) marks taken few marked other below =
+    let size = length-set marks cell true in
+    elim (cases_eq other cell) [
+      | inl same ↦ rw (same, eq-eqb cell cell refl) (get_or-set_same marks cell true false (omega arith))
+      | inr differ ↦ rw (ne_eqb cell other (λ is. differ (sym is)), get_or-set_other marks cell other true false differ) (marked other (omega arith))
+    ]

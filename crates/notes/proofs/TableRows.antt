@@ -1,0 +1,145 @@
+-- A table is its first row, and then the others.
+use Rattle.std.proofs.Common.{◌≡◌, ℕ, suc, ◌+◌, ◌*◌, ◌-◌, ◌<◌, ◌≤◌, ◌^◌, Bool, false, List, [], ◌∷◌, ◌++◌, Option, Some, Result, Ok, refl, ap, sym, subst, ◌∙◌, length, replicate, arith}
+use Rattle.std.proofs.lemmas.List.{append-nil, length-replicate}
+use Rattle.elf32_sparc.specs.Notes.{is_cell, NoteSegment, NoteEdge, NoteRange, NoNotes, ◌>>=◌, segments_at, blocks_at, edges_at, ranges_at}
+use Rattle.notes.specs.Parts.{AreMarks, is_open, with_mark, segment_at, block_at, edge_at, range_at}
+use Rattle.notes.proofs.Steps.{bind_assoc, kept_then, after, after_none, after_next, through}
+use Rattle.notes.specs.Seen.{IsFault}
+use Rattle.notes.specs.declared.note.NotesFault.{NotesFault}
+use Rattle.notes.specs.Written.{cell_word}
+use Rattle.notes.proofs.CellMarks.{cell_word-of, open_cell, none_marked, marks_long, marked_more}
+
+-- the place of a row, and of the next
+abbrev pub row_place : ℕ → ℕ → ℕ → ℕ
+row_place at size row = at + size * row
+
+next-place : (at size row : ℕ) → at + size * row + size ≡ at + size * (row + 1)
+next-place at size row = omega arith
+
+one-more : (count row : ℕ) → row < count → count - row ≡ suc (count - (row + 1))
+one-more count row below = omega arith
+
+pub segments-next : (notes : List ℕ) (at end count : ℕ)
+    → segments_at notes at end (suc count) ≡ (segment_at end notes at >>= (λ segment. segments_at notes (at + 8) (segment.start + segment.length) count >>= (λ others. Ok (segment ∷ others))))
+unfolding segments_at segment_at
+segments-next notes at end count = simp (bind_assoc, kept_then)
+
+pub blocks-next : (words : ℕ) (notes : List ℕ) (at : ℕ) (before : Option ℕ) (count : ℕ)
+    → blocks_at words notes at before (suc count) ≡ (block_at words before notes at >>= (λ first. blocks_at words notes (at + 4) (Some first) count >>= (λ others. Ok (first ∷ others))))
+unfolding blocks_at block_at
+blocks-next words notes at before count = simp (bind_assoc, kept_then)
+
+pub segments-row : (rows : List NoteSegment) (notes : List ℕ) (at end count row : ℕ) → row < count
+    → after rows (segments_at notes (at + 8 * row) end (count - row)) ≡ (segment_at end notes (at + 8 * row) >>= (λ segment. after (rows ++ segment ∷ []) (segments_at notes (at + 8 * (row + 1)) (segment.start + segment.length) (count - (row + 1)))))
+segments-row rows notes at end count row below =
+    rw (one-more count row below, segments-next notes (at + 8 * row) end (count - (row + 1)), next-place at 8 row) (after_next rows (segment_at end notes (at + 8 * row)) (λ segment. segments_at notes (at + 8 * (row + 1)) (segment.start + segment.length) (count - (row + 1))))
+
+-- a row that can be read
+pub segments-more : (rows : List NoteSegment) (notes : List ℕ) (at end count row : ℕ) (whole : Result (List NoteSegment) NoNotes) (segment : NoteSegment) → row < count → segment_at end notes (at + 8 * row) ≡ Ok segment
+    → whole ≡ after rows (segments_at notes (at + 8 * row) end (count - row)) → whole ≡ after (rows ++ segment ∷ []) (segments_at notes (at + 8 * (row + 1)) (segment.start + segment.length) (count - (row + 1)))
+segments-more rows notes at end count row whole segment below is so_far = so_far ∙ segments-row rows notes at end count row below ∙ rw is refl
+
+-- a row that can't be read
+pub segments-fault : (fault : NotesFault) (rows : List NoteSegment) (notes : List ℕ) (at end count row : ℕ) (whole : Result (List NoteSegment) NoNotes) → row < count → IsFault fault (segment_at end notes (at + 8 * row))
+    → whole ≡ after rows (segments_at notes (at + 8 * row) end (count - row)) → IsFault fault whole
+segments-fault fault rows notes at end count row whole below is so_far =
+    subst (IsFault fault) (sym (so_far ∙ segments-row rows notes at end count row below)) (through fault (segment_at end notes (at + 8 * row)) _ is)
+
+pub segments-none : (rows : List NoteSegment) (notes : List ℕ) (at end : ℕ) → after rows (segments_at notes at end 0) ≡ Ok rows
+unfolding segments_at
+segments-none rows notes at end = ap Ok (append-nil rows)
+
+pub blocks-row : (rows : List ℕ) (words : ℕ) (notes : List ℕ) (at : ℕ) (before : Option ℕ) (count row : ℕ) → row < count
+    → after rows (blocks_at words notes (at + 4 * row) before (count - row)) ≡ (block_at words before notes (at + 4 * row) >>= (λ first. after (rows ++ first ∷ []) (blocks_at words notes (at + 4 * (row + 1)) (Some first) (count - (row + 1)))))
+blocks-row rows words notes at before count row below =
+    rw (one-more count row below, blocks-next words notes (at + 4 * row) before (count - (row + 1)), next-place at 4 row) (after_next rows (block_at words before notes (at + 4 * row)) (λ first. blocks_at words notes (at + 4 * (row + 1)) (Some first) (count - (row + 1))))
+
+pub blocks-more : (rows : List ℕ) (words : ℕ) (notes : List ℕ) (at : ℕ) (before : Option ℕ) (count row : ℕ) (whole : Result (List ℕ) NoNotes) (first : ℕ) → row < count → block_at words before notes (at + 4 * row) ≡ Ok first
+    → whole ≡ after rows (blocks_at words notes (at + 4 * row) before (count - row)) → whole ≡ after (rows ++ first ∷ []) (blocks_at words notes (at + 4 * (row + 1)) (Some first) (count - (row + 1)))
+blocks-more rows words notes at before count row whole first below is so_far = so_far ∙ blocks-row rows words notes at before count row below ∙ rw is refl
+
+pub blocks-fault : (fault : NotesFault) (rows : List ℕ) (words : ℕ) (notes : List ℕ) (at : ℕ) (before : Option ℕ) (count row : ℕ) (whole : Result (List ℕ) NoNotes) → row < count → IsFault fault (block_at words before notes (at + 4 * row))
+    → whole ≡ after rows (blocks_at words notes (at + 4 * row) before (count - row)) → IsFault fault whole
+blocks-fault fault rows words notes at before count row whole below is so_far =
+    subst (IsFault fault) (sym (so_far ∙ blocks-row rows words notes at before count row below)) (through fault (block_at words before notes (at + 4 * row)) _ is)
+
+pub blocks-none : (rows : List ℕ) (words : ℕ) (notes : List ℕ) (at : ℕ) (before : Option ℕ) → after rows (blocks_at words notes at before 0) ≡ Ok rows
+unfolding blocks_at
+blocks-none rows words notes at before = ap Ok (append-nil rows)
+
+pub ranges-next : (blocks : ℕ) (segments : List NoteSegment) (notes : List ℕ) (at end count : ℕ)
+    → ranges_at blocks segments notes at end (suc count) ≡ (range_at blocks segments end notes at >>= (λ range. ranges_at blocks segments notes (at + 16) range.hi count >>= (λ others. Ok (range ∷ others))))
+unfolding ranges_at range_at
+ranges-next blocks segments notes at end count = simp (bind_assoc, kept_then)
+
+pub ranges-row : (rows : List NoteRange) (blocks : ℕ) (segments : List NoteSegment) (notes : List ℕ) (at end count row : ℕ) → row < count
+    → after rows (ranges_at blocks segments notes (at + 16 * row) end (count - row)) ≡ (range_at blocks segments end notes (at + 16 * row) >>= (λ range. after (rows ++ range ∷ []) (ranges_at blocks segments notes (at + 16 * (row + 1)) range.hi (count - (row + 1)))))
+ranges-row rows blocks segments notes at end count row below =
+    rw (one-more count row below, ranges-next blocks segments notes (at + 16 * row) end (count - (row + 1)), next-place at 16 row) (after_next rows (range_at blocks segments end notes (at + 16 * row)) (λ range. ranges_at blocks segments notes (at + 16 * (row + 1)) range.hi (count - (row + 1))))
+
+pub ranges-more : (rows : List NoteRange) (blocks : ℕ) (segments : List NoteSegment) (notes : List ℕ) (at end count row : ℕ) (whole : Result (List NoteRange) NoNotes) (range : NoteRange) → row < count → range_at blocks segments end notes (at + 16 * row) ≡ Ok range
+    → whole ≡ after rows (ranges_at blocks segments notes (at + 16 * row) end (count - row)) → whole ≡ after (rows ++ range ∷ []) (ranges_at blocks segments notes (at + 16 * (row + 1)) range.hi (count - (row + 1)))
+ranges-more rows blocks segments notes at end count row whole range below is so_far = so_far ∙ ranges-row rows blocks segments notes at end count row below ∙ rw is refl
+
+pub ranges-fault : (fault : NotesFault) (rows : List NoteRange) (blocks : ℕ) (segments : List NoteSegment) (notes : List ℕ) (at end count row : ℕ) (whole : Result (List NoteRange) NoNotes) → row < count → IsFault fault (range_at blocks segments end notes (at + 16 * row))
+    → whole ≡ after rows (ranges_at blocks segments notes (at + 16 * row) end (count - row)) → IsFault fault whole
+ranges-fault fault rows blocks segments notes at end count row whole below is so_far =
+    subst (IsFault fault) (sym (so_far ∙ ranges-row rows blocks segments notes at end count row below)) (through fault (range_at blocks segments end notes (at + 16 * row)) _ is)
+
+pub ranges-none : (rows : List NoteRange) (blocks : ℕ) (segments : List NoteSegment) (notes : List ℕ) (at end : ℕ) → after rows (ranges_at blocks segments notes at end 0) ≡ Ok rows
+unfolding ranges_at
+ranges-none rows blocks segments notes at end = ap Ok (append-nil rows)
+
+pub edges-next : (blocks cells : ℕ) (notes : List ℕ) (at : ℕ) (taken : List ℕ) (count : ℕ)
+    → edges_at blocks cells notes at taken (suc count) ≡ (edge_at blocks (is_cell cells taken) notes at >>= (λ edge. edges_at blocks cells notes (at + 16) (cell_word edge.cell ∷ taken) count >>= (λ others. Ok (edge ∷ others))))
+unfolding edges_at edge_at
+edges-next blocks cells notes at taken count = simp (bind_assoc, kept_then, cell_word-of)
+
+pub edges-row : (rows : List NoteEdge) (blocks cells : ℕ) (notes : List ℕ) (at : ℕ) (taken : List ℕ) (count row : ℕ) → row < count
+    → after rows (edges_at blocks cells notes (at + 16 * row) taken (count - row)) ≡ (edge_at blocks (is_cell cells taken) notes (at + 16 * row) >>= (λ edge. after (rows ++ edge ∷ []) (edges_at blocks cells notes (at + 16 * (row + 1)) (cell_word edge.cell ∷ taken) (count - (row + 1)))))
+edges-row rows blocks cells notes at taken count row below =
+    rw (one-more count row below, edges-next blocks cells notes (at + 16 * row) taken (count - (row + 1)), next-place at 16 row) (after_next rows (edge_at blocks (is_cell cells taken) notes (at + 16 * row)) (λ edge. edges_at blocks cells notes (at + 16 * (row + 1)) (cell_word edge.cell ∷ taken) (count - (row + 1))))
+
+-- What was read of the edges, with the marks of their cells, and what is left.
+pub record EdgesRead (blocks cells : ℕ) (notes : List ℕ) (at count row : ℕ) (rows : List NoteEdge) (marks : List Bool) (whole : Result (List NoteEdge) NoNotes) : Type 0 where
+  pub taken : List ℕ
+  pub size : length marks ≡ cells
+  pub marked : AreMarks marks taken
+  pub so_far : whole ≡ after rows (edges_at blocks cells notes (at + 16 * row) taken (count - row))
+
+pub edges-none-read : (blocks cells : ℕ) (notes : List ℕ) (at count : ℕ) → EdgesRead blocks cells notes at count 0 [] (replicate cells false) (edges_at blocks cells notes at [] count)
+edges-none-read blocks cells notes at count = record {
+  taken = [];
+  size = length-replicate cells false;
+  marked = none_marked cells;
+  so_far = sym (rw (zero-place at, zero-rows count) (after_none (edges_at blocks cells notes at [] count)));
+}
+  where
+    zero-place : (at : ℕ) → at + 16 * 0 ≡ at
+    zero-place at = omega arith
+
+    zero-rows : (count : ℕ) → count - 0 ≡ count
+    zero-rows count = omega arith
+
+-- an edge by its marks, and by the cells that they mark
+edge-same : (blocks cells : ℕ) (notes : List ℕ) (at : ℕ) (marks : List Bool) (taken : List ℕ) → length marks ≡ cells → AreMarks marks taken → edge_at blocks (is_open marks) notes at ≡ edge_at blocks (is_cell cells taken) notes at
+edge-same blocks cells notes at marks taken size marked = ap (λ (test : ℕ → Bool). edge_at blocks test notes at) (λ i word. open_cell cells marks taken size marked word i)
+
+pub edges-more : (blocks cells : ℕ) (notes : List ℕ) (at count row : ℕ) (rows : List NoteEdge) (marks : List Bool) (whole : Result (List NoteEdge) NoNotes) (edge : NoteEdge) → cells ≤ 2 ^ 22 → row < count → edge_at blocks (is_open marks) notes (at + 16 * row) ≡ Ok edge
+    → EdgesRead blocks cells notes at count row rows marks whole → EdgesRead blocks cells notes at count (row + 1) (rows ++ edge ∷ []) (with_mark edge.cell marks) whole
+edges-more blocks cells notes at count row rows marks whole edge few below is read = record {
+  taken = cell_word edge.cell ∷ read.taken;
+  size = marks_long edge.cell marks ∙ read.size;
+  marked = marked_more edge.cell marks read.taken (subst (λ (n : ℕ). n ≤ 2 ^ 22) (sym read.size) few) read.marked;
+  so_far = read.so_far ∙ edges-row rows blocks cells notes at read.taken count row below ∙ rw (sym (edge-same blocks cells notes (at + 16 * row) marks read.taken read.size read.marked) ∙ is) refl;
+}
+
+pub edges-fault : (fault : NotesFault) (blocks cells : ℕ) (notes : List ℕ) (at count row : ℕ) (rows : List NoteEdge) (marks : List Bool) (whole : Result (List NoteEdge) NoNotes) → row < count → IsFault fault (edge_at blocks (is_open marks) notes (at + 16 * row))
+    → EdgesRead blocks cells notes at count row rows marks whole → IsFault fault whole
+edges-fault fault blocks cells notes at count row rows marks whole below is read =
+    let judged = subst (IsFault fault) (edge-same blocks cells notes (at + 16 * row) marks read.taken read.size read.marked) is in
+    subst (IsFault fault) (sym (read.so_far ∙ edges-row rows blocks cells notes at read.taken count row below)) (through fault (edge_at blocks (is_cell cells read.taken) notes (at + 16 * row)) _ judged)
+
+pub edges-none : (rows : List NoteEdge) (blocks cells : ℕ) (notes : List ℕ) (at : ℕ) (taken : List ℕ) → after rows (edges_at blocks cells notes at taken 0) ≡ Ok rows
+unfolding edges_at
+edges-none rows blocks cells notes at taken = ap Ok (append-nil rows)

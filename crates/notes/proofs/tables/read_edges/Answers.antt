@@ -1,0 +1,25 @@
+use Rattle.std.proofs.Common.{◌≡◌, ◌-◌, ◌∙◌, ◌∷◌, [], map, ap, arith}
+use Rattle.std.proofs.lemmas.List.{map-append}
+use Rattle.notes.specs.Seen.{edge_seen}
+use Rattle.notes.proofs.Steps.{fault_out}
+use Rattle.notes.proofs.TableRows.{edges-more, edges-fault, edges-none, edges-none-read}
+use Rattle.notes.proofs.tables.read_edges.Goals as goal
+
+pub loop-row-init : goal.loop-row-init
+loop-row-init c =
+    rw (ap (map edge_seen) c.new-edges.ensures.items, c.in_ok-taken.ensures) (edges-none-read _ _ _ _ _)
+
+pub returns-in_err-edge : goal.returns-in_err-edge
+returns-in_err-edge c =
+    fault_out _ _ _ _ c.from_residual-in_err-edge.ensures.1 (edges-fault _ _ _ _ _ _ _ _ _ _ (omega arith) c.in_err-edge.ensures c.loop-row.invariant)
+
+pub loop-row-preserved : goal.loop-row-preserved
+loop-row-preserved c =
+    let items = ap (map edge_seen) c.in_ok-push.ensures.items ∙ map-append edge_seen c.loop-row.edges.items (c.in_ok-edge.edge ∷ []) in
+    rw (items, c.mark.ensures) (edges-more _ _ _ _ _ _ _ _ _ _ c.requires.few (omega arith) c.in_ok-edge.ensures c.loop-row.invariant)
+
+pub returns : goal.returns
+returns c =
+    let left : c.args.count - c.loop-row.row ≡ 0 = omega arith in
+    let read = c.loop-row.invariant in
+    read.so_far ∙ rw left (edges-none _ _ _ _ _ _)

@@ -1,0 +1,89 @@
+-- The notes of a text of four words in two blocks, and each rule broken once: they compute.
+use Rattle.std.specs.Prelude.{◌≡◌, ℕ, ◌+◌, List, [], ◌∷◌, ◌++◌, take, drop, map, Some, None, Result, Ok, Err, refl}
+use Rattle.elf32_sparc.specs.Notes.{Notes, NoNotes, Bad, read_notes, segments_at, blocks_at, edges_at, ranges_at, node_at}
+use Rattle.notes.specs.Written.{words_bytes, notes_bytes}
+
+-- Two pages, two blocks, three edges of which two have a cell, and three places with a gap before the last.
+abbrev small : Notes
+small = record {
+  delta = 4096;
+  length = 16;
+  tool = 1;
+  start = 0x10000;
+  words = 4;
+  entry = 1;
+  base = 0x30000;
+  cells = 2;
+  segments = record { start = 0x20000; length = 0x1000 } ∷ record { start = 0x30000; length = 8 } ∷ [];
+  blocks = 0 ∷ 2 ∷ [];
+  edges = record { kind = 0; from = 0; to = 1; cell = Some 0 } ∷ record { kind = 4; from = 1; to = 2; cell = None } ∷ record { kind = 5; from = 2; to = 0; cell = Some 1 } ∷ [];
+  ranges = record { lo = 0x20000; hi = 0x20004; address = 0x10000; node = 0 } ∷ record { lo = 0x20004; hi = 0x2000c; address = 0x10004; node = 0 } ∷ record { lo = 0x20010; hi = 0x20014; address = 0x10008; node = 1 } ∷ [];
+}
+
+abbrev words : List ℕ
+words = 4096 ∷ 16 ∷ 1 ∷ 0x10000 ∷ 4 ∷ 1 ∷ 0x30000 ∷ 2 ∷ 2 ∷ 0x20000 ∷ 0x1000 ∷ 0x30000 ∷ 8 ∷ 2 ∷ 0 ∷ 2
+    ∷ 3 ∷ 0 ∷ 0 ∷ 1 ∷ 0 ∷ 4 ∷ 1 ∷ 2 ∷ 0xffffffff ∷ 5 ∷ 2 ∷ 0 ∷ 1
+    ∷ 3 ∷ 0x20000 ∷ 0x20004 ∷ 0x10000 ∷ 0 ∷ 0x20004 ∷ 0x2000c ∷ 0x10004 ∷ 0 ∷ 0x20010 ∷ 0x20014 ∷ 0x10008 ∷ 1 ∷ []
+
+written : notes_bytes small ≡ words_bytes words
+unfolding notes_bytes words_bytes
+written = refl
+
+-- one word changed, and the notes read in a file of 8192 bytes
+abbrev with_word : ℕ × ℕ × ℕ → Result Notes NoNotes
+with_word change = read_notes 8192 (take change.0 (words_bytes words) ++ words_bytes (change.1 ∷ []) ++ drop (change.0 + 4) (words_bytes words))
+
+abbrev named : ℕ × ℕ × ℕ → Result Notes NoNotes
+named change = Err (Bad change.2)
+
+read : read_notes 8192 (words_bytes words) ≡ Ok small
+unfolding words_bytes read_notes segments_at blocks_at edges_at ranges_at
+read = refl
+
+-- The offset of a word, what it becomes, and the offset that is named.
+
+abbrev broken_numbers : List (ℕ × ℕ × ℕ)
+broken_numbers = (0, 4095, 0) ∷ (4, 4097, 4) ∷ (8, 3, 8)
+    ∷ (12, 0x10002, 12) ∷ (12, 0xffc, 12)
+    ∷ (16, 0, 16) ∷ (16, 0x100001, 16) ∷ (12, 0x7ffffff4, 16)
+    ∷ (20, 2, 20)
+    ∷ (24, 0x30002, 24) ∷ (24, 0xfffffffc, 24) ∷ (28, 0x3fff4001, 24)
+    ∷ (28, 0x400001, 28) ∷ (32, 9, 32) ∷ []
+
+numbers : map with_word broken_numbers ≡ map named broken_numbers
+unfolding words_bytes read_notes segments_at blocks_at edges_at ranges_at
+numbers = refl
+
+abbrev broken_rows : List (ℕ × ℕ × ℕ)
+broken_rows = (40, 0, 36) ∷ (44, 0x20ffc, 44) ∷ (48, 0xfffd0001, 44)
+    ∷ (52, 0, 20) ∷ (52, 5, 52)
+    ∷ (56, 1, 56) ∷ (60, 0, 60) ∷ (60, 4, 60)
+    ∷ (64, 0x1000000, 64)
+    ∷ (68, 6, 68) ∷ (72, 3, 68) ∷ (76, 3, 68) ∷ (80, 2, 68) ∷ (112, 0, 100)
+    ∷ (116, 0x4000000, 116)
+    ∷ (120, 0x1fffe, 120) ∷ (124, 0x20002, 120) ∷ (128, 0x10002, 120) ∷ (132, 3, 120)
+    ∷ (124, 0x20000, 120) ∷ (136, 0x20000, 136) ∷ (156, 0x21004, 152) ∷ []
+
+rows : map with_word broken_rows ≡ map named broken_rows
+unfolding words_bytes read_notes segments_at blocks_at edges_at ranges_at
+rows = refl
+
+-- the first bytes alone, and the offset of the word that is missing
+abbrev cut : ℕ × ℕ → Result Notes NoNotes
+cut ending = read_notes 8192 (take ending.0 (words_bytes words))
+
+abbrev missing : List (ℕ × ℕ)
+missing = (0, 0) ∷ (24, 24) ∷ (30, 28) ∷ (40, 40) ∷ (55, 52) ∷ (116, 116) ∷ (167, 164) ∷ []
+
+missing_word : map cut missing ≡ map (λ ending. Err (Bad ending.1)) missing
+unfolding words_bytes read_notes segments_at blocks_at edges_at ranges_at
+missing_word = refl
+
+-- a byte after the last place
+left_over : read_notes 8192 (words_bytes words ++ 0 ∷ []) ≡ Err (Bad 168)
+unfolding words_bytes read_notes segments_at blocks_at edges_at ranges_at
+left_over = refl
+
+-- A place's first and inner address, an address in a page and in no place, one outside all pages, and the last place's.
+nodes : map (node_at small) (0x20004 ∷ 0x20008 ∷ 0x2000c ∷ 0x21000 ∷ 0x20010 ∷ []) ≡ Some 0 ∷ Some 0 ∷ None ∷ Some 2 ∷ Some 1 ∷ []
+nodes = refl

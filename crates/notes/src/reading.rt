@@ -1,0 +1,218 @@
+//! Reading notes.
+ghost use Rattle.std.specs.Prelude.{◌≡◌, ◌≤◌, ◌<◌, ◌+◌, ◌*◌, ◌%◌, ◌^◌, ◌&&◌, ◌==◌, nat_le, nat_lt, IfOk, MatchResult, length};
+ghost use Rattle.elf32_sparc.specs.Header.{word_at};
+ghost use Rattle.elf32_sparc.specs.Notes.{byte_count, note_that, has_locator, notes_of, read_notes};
+ghost use Rattle.notes.specs.Seen.{Answers, IsFault, notes_seen};
+ghost use Rattle.notes.specs.Rules.{AreNotes};
+ghost use Rattle.notes.specs.Parts.{head_of, block_count_at, tables_of};
+
+use crate::note::{Notes, NotesFault};
+use crate::rows::{keep, word_at};
+use crate::tables::{read_blocks, read_edges, read_ranges, read_segments};
+use eel_base::be32_at;
+use std::alloc::Global;
+
+/// Where the locator stands, and how it begins: `EELN` and the version.
+const LOCATOR_AT: usize = 4032;
+
+const LOCATOR: u32 = 0x4545_4c4e;
+
+const NOTES_VERSION: u32 = 1;
+
+/// The notes of a written file.
+///
+/// They are read in one pass. Beside the rows that are there it needs a byte for each cell that the notes name.
+pub fn read_notes(alloc: Global, file: &[u8]) -> Result<Notes, NotesFault>
+    ensures read { Answers notes_seen result (notes_of file.now) }
+    ensures rules { IfOk result (λ notes. AreNotes (notes_seen notes)) }
+{
+    let notes = find_notes(file)?;
+    let notes = read_words(alloc, notes, file.len())?;
+    Ok(notes)
+}
+
+/// The bytes of the notes, where the locator says.
+#[tactic(auto, unfolding(elf32_sparc::specs::Notes::notes_of))]
+fn find_notes(file: &[u8]) -> Result<&[u8], NotesFault>
+    ensures { MatchResult result (λ notes. notes_of file.now ≡ read_notes (length file.now) notes.now) (λ fault. IsFault fault (notes_of file.now)) }
+{
+    if !has_locator(file) {
+        return Err(NotesFault::Absent);
+    }
+    let offset = field(file, LOCATOR_AT + 8) as usize;
+    let length = field(file, LOCATOR_AT + 12) as usize;
+    if offset + length > file.len() {
+        return Err(NotesFault::Bad(0));
+    }
+    Ok(&file[offset..offset + length])
+}
+
+fn has_locator(file: &[u8]) -> bool
+    ensures { result ≡ has_locator file.now }
+{
+    file.len() >= 4096
+        && field(file, LOCATOR_AT) == LOCATOR
+        && field(file, LOCATOR_AT + 4) == NOTES_VERSION
+}
+
+/// The word at an offset of a file, or 0 past its end.
+#[tactic(auto, unfolding(elf32_sparc::specs::Header::word_at))]
+fn field(file: &[u8], at: usize) -> u32
+    ensures { result ≡ word_at file.now at }
+{
+    be32_at(file, at).unwrap_or(0)
+}
+
+/// The notes in these bytes, of a file of this size.
+fn read_words(alloc: Global, notes: &[u8], size: usize) -> Result<Notes, NotesFault>
+    ensures { Answers notes_seen result (read_notes size notes.now) }
+{
+    let head = read_head(notes, size)?;
+    let notes = read_tables(alloc, notes, &head)?;
+    Ok(notes)
+}
+
+/// The numbers before the tables.
+#[derive(Clone, Copy)]
+struct Head {
+    delta: u32,
+    length: u32,
+    tool: u32,
+    start: u32,
+    words: u32,
+    entry: u32,
+    base: u32,
+    cells: u32,
+    segment_count: u32,
+}
+
+/// The numbers before the tables, in a file of this size.
+#[tactic(auto, unfolding(crate::specs::Parts::head_of))]
+fn read_head(notes: &[u8], size: usize) -> Result<Head, NotesFault>
+    ensures head { Answers (λ head. head) result (head_of size notes.now) }
+    ensures cells { IfOk result (λ head. head.cells ≤ 2 ^ 22) }
+    ensures words { IfOk result (λ head. head.words ≤ 2 ^ 20) }
+    ensures segments { IfOk result (λ head. head.segment_count ≤ 8) }
+{
+    let delta = word_at(notes, 0)?;
+    keep(delta >= 4096, 0)?;
+    let length = word_at(notes, 4)?;
+    keep(delta as usize + length as usize <= size, 4)?;
+    let tool = word_at(notes, 8)?;
+    keep(tool <= 2, 8)?;
+    let start = word_at(notes, 12)?;
+    keep(start % 4 == 0 && start >= 0x1000, 12)?;
+    let words = word_at(notes, 16)?;
+    keep(is_text(start, words), 16)?;
+    let entry = word_at(notes, 20)?;
+    let base = word_at(notes, 24)?;
+    let cells = word_at(notes, 28)?;
+    keep(are_cells(base, cells), 24)?;
+    keep(cells <= 1 << 22, 28)?;
+    let segment_count = word_at(notes, 32)?;
+    keep(segment_count <= 8, 32)?;
+    Ok(Head {
+        delta,
+        length,
+        tool,
+        start,
+        words,
+        entry,
+        base,
+        cells,
+        segment_count,
+    })
+}
+
+/// A text has one to 2^20 words, and ends at 2^31 at most.
+fn is_text(start: u32, words: u32) -> bool
+    ensures { result ≡ (nat_le 1 words && nat_le words (2 ^ 20) && nat_le (start + 4 * words) 0x80000000) }
+{
+    words >= 1 && words <= 1 << 20 && u64::from(start) + 4 * u64::from(words) <= 1 << 31
+}
+
+/// Cells are words, and end at 2^32 at most.
+fn are_cells(base: u32, cells: u32) -> bool
+    ensures { result ≡ ((base % 4 == 0) && nat_le (base + 4 * cells) (2 ^ 32)) }
+{
+    base % 4 == 0 && u64::from(base) + 4 * u64::from(cells) <= 1 << 32
+}
+
+/// Nothing follows what ends at this offset.
+fn end_at(notes: &[u8], end: u32) -> bool
+    ensures { result ≡ (byte_count notes.now == end) }
+{
+    notes.len() == end as usize
+}
+
+/// The number of blocks, of a text of so many words that is entered at the block `entry`.
+#[tactic(auto, unfolding(crate::specs::Parts::block_count_at))]
+fn block_count_at(notes: &[u8], at: u32, entry: u32, words: u32) -> Result<u32, NotesFault>
+    ensures count { Answers (λ count. count) result (block_count_at entry words notes.now at) }
+    ensures few { IfOk result (λ count. count ≤ words) }
+{
+    let count = word_at(notes, at)?;
+    keep(entry < count, 20)?;
+    keep(count >= 1 && count <= words, at)?;
+    Ok(count)
+}
+
+/// A number of rows, which is below `limit`.
+fn count_at(notes: &[u8], at: u32, limit: u32) -> Result<u32, NotesFault>
+    ensures count { Answers (λ count. count) result (note_that (λ count. nat_lt count limit) notes.now at) }
+    ensures few { IfOk result (λ count. count < limit) }
+{
+    let count = word_at(notes, at)?;
+    keep(count < limit, at)?;
+    Ok(count)
+}
+
+/// What comes after the numbers: the tables, and no more.
+#[tactic(auto, unfolding(crate::specs::Parts::tables_of))]
+fn read_tables(alloc: Global, notes: &[u8], head: &Head) -> Result<Notes, NotesFault>
+    requires cells { head.now.cells ≤ 2 ^ 22 }
+    requires words { head.now.words ≤ 2 ^ 20 }
+    requires segments { head.now.segment_count ≤ 8 }
+    ensures { Answers notes_seen result (tables_of notes.now head.now) }
+{
+    let segments = read_segments(alloc, notes, 36, head.segment_count)?;
+    let blocks_at = 36 + 8 * head.segment_count;
+    let block_count = block_count_at(notes, blocks_at, head.entry, head.words)?;
+    let blocks = read_blocks(alloc, notes, blocks_at + 4, block_count, head.words)?;
+    let edges_at = blocks_at + 4 + 4 * block_count;
+    let edge_count = count_at(notes, edges_at, 1 << 24)?;
+    let edges = read_edges(
+        alloc,
+        notes,
+        edges_at + 4,
+        edge_count,
+        block_count,
+        head.cells,
+    )?;
+    let ranges_at = edges_at + 4 + 16 * edge_count;
+    let range_count = count_at(notes, ranges_at, 1 << 26)?;
+    let ranges = read_ranges(
+        alloc,
+        notes,
+        ranges_at + 4,
+        range_count,
+        block_count,
+        &segments,
+    )?;
+    let end = ranges_at + 4 + 16 * range_count;
+    keep(end_at(notes, end), end)?;
+    Ok(Notes {
+        delta: head.delta,
+        length: head.length,
+        tool: head.tool,
+        start: head.start,
+        words: head.words,
+        entry: head.entry,
+        base: head.base,
+        cells: head.cells,
+        segments,
+        blocks,
+        edges,
+        ranges,
+    })
+}
