@@ -21,6 +21,6 @@ pub use flags::SegFlags;
 pub use header::ProgramHeader;
 pub use name::Name;
 pub use program::{Image, Segment, read_entry, read_image, read_segments};
-pub use sections::Func;
+pub use sections::{Func, has_sections};
 pub use table::read_headers;
 pub use verdicts::{load_verdict, verdict};

@@ -1,0 +1,10 @@
+pub mod Deltas
+pub mod Laws
+pub mod LoadParts
+pub mod Mapped
+pub mod Part
+pub mod Powers
+pub mod Segments
+pub mod Tables
+pub mod WordsBytes
+pub mod WrittenParts

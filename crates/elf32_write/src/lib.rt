@@ -1,0 +1,22 @@
+//! The written file: an original, whole, with segments and notes around it.
+//!
+//! The laws say of every written file what those who read it, map it or run it need to know.
+#![tactic(auto)]
+
+ghost use Rattle.elf32_write.specs.Laws.{OriginalIsHeld};
+
+mod bytes;
+mod file;
+mod headers;
+mod layout;
+mod sections;
+mod segment;
+
+pub use file::write_around;
+pub use segment::NewSegment;
+
+/// The original stands whole in the written file, at its delta.
+pub fn original_is_held()
+    ensures { OriginalIsHeld }
+{}
+
