@@ -10,7 +10,7 @@ use Rattle.elf32_sparc.proofs.Tables.{aligned}
 use Rattle.elf32_write.specs.Headers.{AddedSegment, segments_end, delta_of}
 use Rattle.elf32_write.specs.Written.{delta_in, original_end, notes_at}
 use Rattle.elf32_write.specs.Conditions.{CanWrite}
-use Rattle.elf32_write.proofs.Segments.{segments_end-to}
+use Rattle.elf32_write.proofs.Segments.{segments_end-from, segments_end-to}
 
 abbrev greatest : ℕ → List ProgramHeader → ℕ
 greatest least headers = fold (λ most header. max most header.p_align) least headers
@@ -46,3 +46,10 @@ offsets_fit original added notes can =
     let few = can.few in
     let small = can.small in
     omega (arith, end, delta, few, small)
+
+-- the notes stand behind the locator's page
+pub notes-beyond : (original : List ℕ) (added : List AddedSegment) → 4096 ≤ notes_at original added
+notes-beyond original added =
+    let end = segments_end-from (original_end original) added in
+    let delta = delta-from original in
+    omega (arith, end, delta)

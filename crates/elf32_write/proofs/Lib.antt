@@ -1,4 +1,5 @@
 pub mod Deltas
+pub mod Fields
 pub mod Laws
 pub mod LoadParts
 pub mod Mapped
@@ -7,4 +8,5 @@ pub mod Powers
 pub mod Segments
 pub mod Tables
 pub mod WordsBytes
+pub mod WrittenHeader
 pub mod WrittenParts

@@ -64,7 +64,7 @@ EntryIsGiven =
 abbrev pub SizeIsBounded : Type 0
 SizeIsBounded =
     (original : List ℕ) (added : List AddedSegment) (entry : ℕ) (notes : List ℕ)
-    → CanWrite original added notes
+    → CanWrite original added notes → AreNumbers original added entry
     → length (written original added entry notes)
     ≤ length original + sum_by (λ s. length s.bytes) added + length notes + 2 ^ 22
 

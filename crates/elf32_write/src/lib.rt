@@ -3,7 +3,7 @@
 //! The laws say of every written file what those who read it, map it or run it need to know.
 #![tactic(auto)]
 
-ghost use Rattle.elf32_write.specs.Laws.{OriginalIsHeld};
+ghost use Rattle.elf32_write.specs.Laws.{OriginalIsHeld, NotesAreRead, EntryIsGiven, SizeIsBounded};
 
 mod bytes;
 mod file;
@@ -20,3 +20,17 @@ pub fn original_is_held()
     ensures { OriginalIsHeld }
 {}
 
+/// The notes of the written file are those that were given.
+pub fn notes_are_read()
+    ensures { NotesAreRead }
+{}
+
+/// The written file is entered where it was asked to be.
+pub fn entry_is_given()
+    ensures { EntryIsGiven }
+{}
+
+/// The written file has at most 4 MiB more than all that it holds.
+pub fn size_is_bounded()
+    ensures { SizeIsBounded }
+{}
