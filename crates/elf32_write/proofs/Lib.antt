@@ -1,3 +1,4 @@
+pub mod Carried
 pub mod Deltas
 pub mod Fields
 pub mod Laws

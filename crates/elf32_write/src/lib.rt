@@ -3,7 +3,7 @@
 //! The laws say of every written file what those who read it, map it or run it need to know.
 #![tactic(auto)]
 
-ghost use Rattle.elf32_write.specs.Laws.{OriginalIsHeld, NotesAreRead, EntryIsGiven, SizeIsBounded};
+ghost use Rattle.elf32_write.specs.Laws.{OriginalIsHeld, NotesAreRead, SegmentsAreMapped, EntryIsGiven, SizeIsBounded};
 
 mod bytes;
 mod file;
@@ -23,6 +23,11 @@ pub fn original_is_held()
 /// The notes of the written file are those that were given.
 pub fn notes_are_read()
     ensures { NotesAreRead }
+{}
+
+/// The written file maps what the original maps, its text no longer executable, and then the added segments.
+pub fn segments_are_mapped()
+    ensures { SegmentsAreMapped }
 {}
 
 /// The written file is entered where it was asked to be.
