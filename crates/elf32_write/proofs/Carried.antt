@@ -41,7 +41,7 @@ carried_more f h kept all true false after same later =
 carried_more f h kept all false true after same later = absurd (false≢true (after refl))
 carried_more f h kept all false false after same later = later
 
-loadable-carried : (delta : ℕ) (hs : List ProgramHeader) → filter is_loadable (map (carried_on delta) (filter is_carried hs)) ≡ map (carried_on delta) (filter is_loadable hs)
+pub loadable-carried : (delta : ℕ) (hs : List ProgramHeader) → filter is_loadable (map (carried_on delta) (filter is_carried hs)) ≡ map (carried_on delta) (filter is_loadable hs)
 loadable-carried delta [] = refl
 loadable-carried delta (h ∷ hs) =
     carried_more (carried_on delta) h (filter is_carried hs) (filter is_loadable hs) (is_carried h) (is_loadable h) (is_carried-loadable h) refl (loadable-carried delta hs)

@@ -3,6 +3,7 @@ pub mod Deltas
 pub mod Fields
 pub mod Laws
 pub mod LoadParts
+pub mod Loads
 pub mod Mapped
 pub mod Part
 pub mod Powers

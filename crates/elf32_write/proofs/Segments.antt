@@ -103,7 +103,7 @@ word_is n = omega arith
 
 -- ---- how many headers
 
-length-added_headers : (end : ℕ) (xs : List AddedSegment) → length (added_headers end xs) ≡ length xs
+pub length-added_headers : (end : ℕ) (xs : List AddedSegment) → length (added_headers end xs) ≡ length xs
 length-added_headers end [] = refl
 length-added_headers end (x ∷ xs) = ap suc (length-added_headers (next_page end + length x.bytes) xs)
 

@@ -3,7 +3,7 @@
 //! The laws say of every written file what those who read it, map it or run it need to know.
 #![tactic(auto)]
 
-ghost use Rattle.elf32_write.specs.Laws.{OriginalIsHeld, NotesAreRead, SegmentsAreMapped, EntryIsGiven, SizeIsBounded};
+ghost use Rattle.elf32_write.specs.Laws.{OriginalIsHeld, NotesAreRead, SegmentsAreMapped, FileLoads, EntryIsGiven, SizeIsBounded};
 
 mod bytes;
 mod file;
@@ -28,6 +28,11 @@ pub fn notes_are_read()
 /// The written file maps what the original maps, its text no longer executable, and then the added segments.
 pub fn segments_are_mapped()
     ensures { SegmentsAreMapped }
+{}
+
+/// The written file can be run, where the added segments can be loaded.
+pub fn file_loads()
+    ensures { FileLoads }
 {}
 
 /// The written file is entered where it was asked to be.
