@@ -1,6 +1,7 @@
 pub mod Carried
 pub mod Deltas
 pub mod Fields
+pub mod FileBytes
 pub mod Laws
 pub mod LoadParts
 pub mod Loads

@@ -3,7 +3,7 @@
 //! The laws say of every written file what those who read it, map it or run it need to know.
 #![tactic(auto)]
 
-ghost use Rattle.elf32_write.specs.Laws.{OriginalIsHeld, NotesAreRead, SegmentsAreMapped, FileLoads, EntryIsGiven, SizeIsBounded};
+ghost use Rattle.elf32_write.specs.Laws.{OriginalIsHeld, NotesAreRead, SegmentsAreMapped, FileLoads, EntryIsGiven, SizeIsBounded, FileIsBytes};
 
 mod bytes;
 mod file;
@@ -43,4 +43,9 @@ pub fn entry_is_given()
 /// The written file has at most 4 MiB more than all that it holds.
 pub fn size_is_bounded()
     ensures { SizeIsBounded }
+{}
+
+/// The written file is made of bytes, where its parts are.
+pub fn file_is_bytes()
+    ensures { FileIsBytes }
 {}
