@@ -1,6 +1,6 @@
 -- What is loaded of a written file: the entries of the original as they are carried on, then the segments that
 -- are added.
-use Rattle.std.proofs.Common.{◌≡◌, ℕ, zero, suc, ◌+◌, ◌<◌, ◌≤◌, Bool, true, false, not, ◌&&◌, cond, nat_lt, nat_eq, List, [], ◌∷◌, ◌++◌, length, take, drop, map, refl, sym, ap, ◌∙◌, arith, All}
+use Rattle.std.proofs.Common.{◌≡◌, ℕ, zero, suc, ◌+◌, ◌<◌, Bool, true, false, not, ◌&&◌, cond, nat_lt, nat_eq, List, [], ◌∷◌, ◌++◌, length, take, drop, map, refl, sym, ap, ◌∙◌, arith, All}
 use Rattle.std.specs.List.{filter}
 use Rattle.std.proofs.lemmas.Bool.{and_parts, and_from, and_right, ltb-true, eqb-true, lt-ltb, ne_eqb, not_from_false, false≢true}
 use Rattle.std.proofs.lemmas.List.{map-append}
@@ -13,13 +13,12 @@ use Rattle.elf32_sparc.proofs.Accepted.{accepted}
 use Rattle.elf32_write.specs.Bytes.{next_page, padded_to}
 use Rattle.elf32_write.specs.Headers.{AddedSegment, added_header, added_headers, is_carried, carried_on, carried_headers}
 use Rattle.elf32_write.specs.Written.{delta_in, original_end, segment_headers, headers, locator, with_segments, written}
-use Rattle.elf32_write.specs.Conditions.{CanWrite, AreNumbers}
 use Rattle.elf32_write.specs.Laws.{kept, mapping_added, SegmentsAreMapped}
 use Rattle.elf32_write.proofs.Part.{Part, take_part}
 use Rattle.elf32_write.proofs.Deltas.{delta-to}
 use Rattle.elf32_write.proofs.Fields.{segments-fields}
 use Rattle.elf32_write.proofs.Mapped.{carried-mappings}
-use Rattle.elf32_write.proofs.WrittenParts.{front, part_segments, part_segment, length-segment, written_stands}
+use Rattle.elf32_write.proofs.WrittenParts.{front, part_segment, length-segment, written_stands}
 use Rattle.elf32_write.proofs.WrittenHeader.{headers_are}
 
 -- an entry to load is carried on

@@ -1,13 +1,13 @@
 -- Where the original stands, and that all offsets fit.
-use Rattle.std.proofs.Common.{◌≡◌, ℕ, zero, suc, ◌+◌, ◌*◌, ◌^◌, ◌≤◌, ◌<◌, max, List, [], ◌∷◌, length, map, refl, sym, ap, ◌∙◌, arith, All}
-use Rattle.std.specs.List.{fold, sum_by}
+use Rattle.std.proofs.Common.{◌≡◌, ℕ, zero, suc, ◌+◌, ◌*◌, ◌^◌, ◌≤◌, ◌<◌, max, List, [], ◌∷◌, length, arith, All}
+use Rattle.std.specs.List.{fold}
 use Rattle.std.proofs.lemmas.List.Folds.{fold-map}
 use Rattle.elf32_sparc.specs.declared.header.ProgramHeader.{ProgramHeader}
 use Rattle.elf32_sparc.specs.Header.{program_headers, loadable}
 use Rattle.elf32_sparc.specs.Image.{segment_of, image_of}
 use Rattle.elf32_sparc.proofs.Accepted.{accepted}
 use Rattle.elf32_sparc.proofs.Tables.{aligned}
-use Rattle.elf32_write.specs.Headers.{AddedSegment, segments_end, delta_of}
+use Rattle.elf32_write.specs.Headers.{AddedSegment}
 use Rattle.elf32_write.specs.Written.{delta_in, original_end, notes_at}
 use Rattle.elf32_write.specs.Conditions.{CanWrite}
 use Rattle.elf32_write.proofs.Segments.{segments_end-from, segments_end-to}

@@ -1,5 +1,5 @@
 -- The fields of program headers are words.
-use Rattle.std.proofs.Common.{◌≡◌, ℕ, zero, suc, ◌+◌, ◌%◌, ◌^◌, ◌<◌, ◌≤◌, Bool, true, false, cond, nat_le, List, [], ◌∷◌, ◌++◌, length, map, drop, slice_index, unwrap_or, get_or, Some, None, arith, lit<, All}
+use Rattle.std.proofs.Common.{ℕ, zero, suc, ◌+◌, ◌^◌, ◌<◌, Bool, true, false, cond, nat_le, List, [], ◌∷◌, length, map, drop, slice_index, unwrap_or, get_or, Some, None, arith, lit<, All}
 use Rattle.std.specs.Prelude.{if◌then◌else◌}
 use Rattle.std.specs.List.{filter}
 use Rattle.std.specs.Int.Bits.{and_lt}
@@ -11,7 +11,7 @@ use Rattle.elf32_sparc.specs.Header.{word_at, half_at, program_header, headers_f
 use Rattle.elf32_sparc.specs.Symbols.{e_shnum, has_sections, section_count}
 use Rattle.elf32_write.specs.Bytes.{next_page}
 use Rattle.elf32_write.specs.Headers.{AddedSegment, segments_end, added_header, added_headers, is_carried, not_executable, carried_on}
-use Rattle.elf32_write.specs.Written.{delta_in, original_end, notes_at, segment_headers}
+use Rattle.elf32_write.specs.Written.{delta_in, original_end, segment_headers}
 use Rattle.elf32_write.specs.Conditions.{CanWrite, AreNumbers, HasWords}
 use Rattle.elf32_write.proofs.Segments.{segments_end-from}
 use Rattle.elf32_write.proofs.Deltas.{offsets_fit}

@@ -1,27 +1,26 @@
 -- That a written file can be run.
-use Rattle.std.proofs.Common.{◌≡◌, ℕ, zero, suc, ◌+◌, ◌*◌, ◌/◌, ◌%◌, ◌^◌, ◌<◌, ◌≤◌, ◌⊎◌, inl, inr, max, Bool, true, false, not, ◌&&◌, ◌||◌, nat_lt, nat_le, nat_eq, List, [], ◌∷◌, ◌++◌, length, map, Option, Some, None, refl, sym, ap, ◌∙◌, subst, arith, length-append, All}
+use Rattle.std.proofs.Common.{◌≡◌, ℕ, zero, suc, ◌+◌, ◌*◌, ◌/◌, ◌%◌, ◌^◌, ◌≤◌, inl, inr, max, Bool, true, false, not, ◌&&◌, ◌||◌, nat_lt, nat_le, nat_eq, List, [], ◌∷◌, ◌++◌, length, map, Option, Some, None, refl, sym, ap, ◌∙◌, subst, arith, length-append, All}
 use Rattle.std.specs.List.{filter, fold, list_any, sum_by}
 use Rattle.std.specs.Int.{is_power_of_two}
 use Rattle.std.proofs.lemmas.Bool.{or_parts, or_from, and_from, and_left, and_right, ltb-false, le-ltb, eq-eqb, ne_eqb, not_from_true, false≢true}
 use Rattle.std.proofs.lemmas.List.{length-map}
 use Rattle.std.proofs.lemmas.List.Sums.{sum_by-cons, length-filter, count_by-le-length}
 use Rattle.elf32_sparc.specs.declared.header.ProgramHeader.{ProgramHeader}
-use Rattle.elf32_sparc.specs.Header.{ei_magic, ei_class, ei_data, ei_version, e_version, e_phoff, e_ehsize, e_phentsize, e_phnum, program_headers, is_loadable, loadable, end_of, text_header}
+use Rattle.elf32_sparc.specs.Header.{ei_version, e_version, e_phoff, e_ehsize, e_phentsize, e_phnum, program_headers, is_loadable, loadable, end_of, text_header}
 use Rattle.elf32_sparc.specs.FileFault.{header_rows, load_rows, load_fault, leaves_file, leaves_room, is_last_page, descends_from, is_aligned, is_short, has_other_magic, has_other_class, has_other_order, has_other_version, has_other_type, has_other_machine, has_other_sizes, has_bad_table, has_bytes_outside, has_memory_outside, has_memory_outside_a_run, has_disorder, has_misaligned, memory_size}
 use Rattle.elf32_sparc.specs.Image.{segment_of, segment_end, highest_end, text_from, image_of}
 use Rattle.elf32_sparc.proofs.Accepted.{Accepted, IsFit, accepted, has_text, text_passes, text_is_fit}
-use Rattle.elf32_sparc.proofs.Tables.{aligned}
 use Rattle.elf32_write.specs.Bytes.{next_page}
-use Rattle.elf32_write.specs.Headers.{AddedSegment, segments_end, added_header, added_headers, delta_of, is_carried, carried_on, carried_headers}
-use Rattle.elf32_write.specs.Written.{delta_in, original_end, notes_at, segment_headers, written}
-use Rattle.elf32_write.specs.Conditions.{CanWrite, AreNumbers, CanLoad, IsInReach, Ascend}
+use Rattle.elf32_write.specs.Headers.{AddedSegment, segments_end, added_header, added_headers, is_carried, carried_on, carried_headers}
+use Rattle.elf32_write.specs.Written.{delta_in, original_end, segment_headers, written}
+use Rattle.elf32_write.specs.Conditions.{CanWrite, CanLoad, IsInReach, Ascend}
 use Rattle.elf32_write.specs.Laws.{FileLoads}
 use Rattle.elf32_write.proofs.Powers.{IsPower, power-4096, greatest_power, greatest_above}
 use Rattle.elf32_write.proofs.LoadParts.{passes, any-map, any-filter, any-append, carried-inside, ends-below, in_order, aligns_of, all-aligned, memory-all}
-use Rattle.elf32_write.proofs.Segments.{segments_end-from, few-segment_headers, length-added_headers}
+use Rattle.elf32_write.proofs.Segments.{segments_end-from, few-segment_headers}
 use Rattle.elf32_write.proofs.Deltas.{delta-to, notes-beyond}
 use Rattle.elf32_write.proofs.Fields.{segments-fields}
-use Rattle.elf32_write.proofs.WrittenParts.{Stands, written_stands}
+use Rattle.elf32_write.proofs.WrittenParts.{written_stands}
 use Rattle.elf32_write.proofs.WrittenHeader.{HeaderFacts, header_facts, headers_are}
 use Rattle.elf32_write.proofs.Carried.{loadable-carried, loadable-segment_headers}
 

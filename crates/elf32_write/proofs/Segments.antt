@@ -1,5 +1,5 @@
 -- The segments that are added, one after the other.
-use Rattle.std.proofs.Common.{◌≡◌, ℕ, zero, suc, ◌+◌, ◌-◌, ◌*◌, ◌%◌, ◌≤◌, ◌<◌, List, [], ◌∷◌, ◌++◌, length, map, filter, take, drop, get_or, length-append, refl, sym, ap, ◌∙◌, append-nil, arith}
+use Rattle.std.proofs.Common.{◌≡◌, ℕ, zero, suc, ◌+◌, ◌*◌, ◌≤◌, ◌<◌, List, [], ◌∷◌, ◌++◌, length, map, filter, take, drop, get_or, length-append, refl, sym, ap, ◌∙◌, append-nil, arith}
 use Rattle.std.specs.List.{flat_map, sum_by}
 use Rattle.std.specs.Int.{next_multiple_of}
 use Rattle.std.proofs.Math.Seq.{drop-cons}

@@ -1,5 +1,5 @@
 -- What a written file's header, program headers and locator say.
-use Rattle.std.proofs.Common.{◌≡◌, ℕ, zero, suc, ◌+◌, ◌*◌, ◌^◌, ◌<◌, ◌≤◌, true, List, [], ◌∷◌, ◌++◌, length, take, slice_index, refl, sym, ap, ◌∙◌, length-append, arith, All}
+use Rattle.std.proofs.Common.{◌≡◌, ℕ, zero, suc, ◌+◌, ◌^◌, ◌<◌, ◌≤◌, true, List, [], ◌∷◌, ◌++◌, length, take, slice_index, refl, sym, ap, ◌∙◌, length-append, arith, All}
 use Rattle.std.specs.List.{flat_map}
 use Rattle.std.proofs.lemmas.Bool.{le-leb}
 use Rattle.std.proofs.lemmas.List.{get_or-take, length-take-le}
@@ -14,7 +14,7 @@ use Rattle.elf32_sparc.proofs.Accepted.{accepted}
 use Rattle.elf32_sparc.proofs.Tables.{whole_header}
 use Rattle.elf32_write.specs.Bytes.{words_bytes, halves_bytes}
 use Rattle.elf32_write.specs.Headers.{AddedSegment, program_header, section_names}
-use Rattle.elf32_write.specs.Written.{notes_at, sections_at, locator_at, segment_headers, headers, locator, written}
+use Rattle.elf32_write.specs.Written.{notes_at, sections_at, locator_at, segment_headers, headers, written}
 use Rattle.elf32_write.specs.Conditions.{CanWrite}
 use Rattle.elf32_write.proofs.WordsBytes.{words_bytes-cons, halves_bytes-cons, length-words_bytes, length-halves_bytes}
 use Rattle.elf32_write.proofs.Part.{Part, part_front, part_back, take_part, word_part, half_part}

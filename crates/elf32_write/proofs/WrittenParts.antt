@@ -1,19 +1,19 @@
 -- Where the parts of a written file stand.
-use Rattle.std.proofs.Common.{◌≡◌, ℕ, ◌+◌, ◌-◌, ◌*◌, ◌/◌, ◌≤◌, List, [], ◌∷◌, ◌++◌, length, take, replicate, refl, sym, ap, ◌∙◌, length-append, arith}
+use Rattle.std.proofs.Common.{◌≡◌, ℕ, ◌+◌, ◌-◌, ◌*◌, ◌/◌, ◌≤◌, List, [], ◌∷◌, ◌++◌, length, take, replicate, refl, ap, ◌∙◌, length-append, arith}
 use Rattle.std.specs.List.{flat_map}
 use Rattle.std.proofs.lemmas.List.{length-replicate, length-take-le}
 use Rattle.elf32_sparc.specs.declared.header.ProgramHeader.{ProgramHeader}
-use Rattle.elf32_sparc.specs.Header.{word_at, program_headers}
+use Rattle.elf32_sparc.specs.Header.{word_at}
 use Rattle.elf32_sparc.specs.Symbols.{section_count}
 use Rattle.elf32_sparc.proofs.Accepted.{accepted}
 use Rattle.elf32_sparc.proofs.Tables.{whole_header}
 use Rattle.elf32_write.specs.Bytes.{words_bytes, halves_bytes, padded_to, next_page}
-use Rattle.elf32_write.specs.Headers.{AddedSegment, segments_end, added_headers, carried_headers, program_header, section_names, file_header}
+use Rattle.elf32_write.specs.Headers.{AddedSegment, segments_end, program_header, section_names}
 use Rattle.elf32_write.specs.Sections.{section_table}
 use Rattle.elf32_write.specs.Written.{delta_in, original_end, notes_at, sections_at, locator_at, segment_headers, headers, locator, with_segments, written}
 use Rattle.elf32_write.specs.Conditions.{CanWrite}
 use Rattle.elf32_write.proofs.WordsBytes.{length-words_bytes, length-halves_bytes, length-flat_map}
-use Rattle.elf32_write.proofs.Part.{Part, part_more, part_last, part_front, part_back}
+use Rattle.elf32_write.proofs.Part.{Part, part_more, part_last}
 use Rattle.elf32_write.proofs.Segments.{few-segment_headers}
 use Rattle.elf32_write.proofs.Deltas.{delta-from}
 

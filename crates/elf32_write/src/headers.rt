@@ -42,7 +42,14 @@ pub(crate) fn put_file_header(
     put_words(out, &[1, entry.0, 52, sections, flags])?;
     put_halves(
         out,
-        &[52, 32, segments, 40, section_count(bytes), section_names(bytes)],
+        &[
+            52,
+            32,
+            segments,
+            40,
+            section_count(bytes),
+            section_names(bytes),
+        ],
     )?;
     Ok(())
 }

@@ -1,9 +1,9 @@
-use Rattle.std.proofs.Common.{◌≡◌, ◌+◌, length, map, filter, ap, ◌∙◌, append_assoc, arith}
+use Rattle.std.proofs.Common.{◌+◌, length, map, filter, append_assoc}
 use Rattle.std.specs.List.{flat_map}
 use Rattle.std.proofs.lemmas.Grind.{flat_map-append}
 use Rattle.elf32_sparc.specs.Header.{program_headers}
 use Rattle.elf32_write.specs.Headers.{segment_seen, added_headers, is_carried, carried_headers, program_header, file_header}
-use Rattle.elf32_write.specs.Written.{delta_in, original_end, sections_at, segment_headers, written}
+use Rattle.elf32_write.specs.Written.{delta_in, original_end, sections_at, written}
 use Rattle.elf32_write.proofs.Segments.{length-segment_headers}
 use Rattle.elf32_write.proofs.file.write_around.Goals as goal
 
@@ -38,7 +38,7 @@ returns c =
       table,
       count,
       append_assoc
-      (file_header original c.args.entry.0 (length (filter is_carried (program_headers original)) + length c.args.added.now) (sections_at original added c.args.notes.now))
-      (flat_map program_header (carried_headers (delta_in original) (program_headers original)))
-      (flat_map program_header (added_headers (original_end original) added)),
+          (file_header original c.args.entry.0 (length (filter is_carried (program_headers original)) + length c.args.added.now) (sections_at original added c.args.notes.now))
+          (flat_map program_header (carried_headers (delta_in original) (program_headers original)))
+          (flat_map program_header (added_headers (original_end original) added)),
     )

@@ -1,4 +1,4 @@
-use Rattle.std.proofs.Common.{◌≡◌, ◌+◌, ◌*◌, ◌/◌, ◌∙◌, ap, map, arith}
+use Rattle.std.proofs.Common.{◌+◌, ◌*◌, ◌/◌, ◌∙◌, ap, map, arith}
 use Rattle.std.proofs.lemmas.List.{take_all}
 use Rattle.elf32_write.specs.Headers.{segment_seen, segments_end}
 use Rattle.elf32_write.proofs.Segments.{page_is, seen_ends, end_more}
