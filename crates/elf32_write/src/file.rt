@@ -1,9 +1,9 @@
 //! The written file.
-ghost use Rattle.std.specs.Prelude.{◌≡◌, ◌++◌, map, IfOk, OnOk};
-ghost use Rattle.std.specs.List.{flat_map};
+ghost use Rattle.std.specs.Prelude.{◌≡◌, [], ◌∷◌, ◌++◌, length, map, IfOk, OnOk};
 ghost use Rattle.elf32_sparc.specs.Image.{image_of};
+ghost use Rattle.elf32_write.specs.Bytes.{words_bytes, padded_to, next_page};
 ghost use Rattle.elf32_write.specs.Headers.{segment_seen};
-ghost use Rattle.elf32_write.specs.Written.{with_segments, written};
+ghost use Rattle.elf32_write.specs.Written.{locator_at, with_segments, written};
 ghost use Rattle.elf32_write.specs.Conditions.{CanWrite};
 
 use crate::bytes::{pad_to, put_words};
@@ -42,11 +42,7 @@ pub fn write_around(
     put_file_header(&mut out, bytes, entry, segments, layout.sections)?;
     put_carried_headers(&mut out, &headers, layout.delta)?;
     put_added_headers(&mut out, layout.original_end, added)?;
-    pad_to(&mut out, LOCATOR_AT)?;
-    put_words(
-        &mut out,
-        &[LOCATOR, NOTES_VERSION, layout.notes, notes.len() as u32],
-    )?;
+    put_locator(&mut out, layout.notes, notes.len() as u32)?;
     pad_to(&mut out, layout.delta as usize)?;
     out.extend_from_slice(bytes)?;
     put_segments(&mut out, added)?;
@@ -56,13 +52,30 @@ pub fn write_around(
     Ok(out)
 }
 
+/// The locator of notes that stand at an offset.
+fn put_locator(out: &mut Vec<u8>, offset: u32, length: u32) -> Result<(), NoMemory>
+    ensures { OnOk result (out.new.items ≡ padded_to locator_at out.old.items ++ words_bytes (0x45454c4e ∷ 1 ∷ offset ∷ length ∷ [])) }
+{
+    pad_to(out, LOCATOR_AT)?;
+    put_words(out, &[LOCATOR, NOTES_VERSION, offset, length])?;
+    Ok(())
+}
+
 /// The bytes of each segment, at the next page.
 fn put_segments(out: &mut Vec<u8>, added: &[NewSegment]) -> Result<(), NoMemory>
     ensures { OnOk result (out.new.items ≡ with_segments out.old.items (map segment_seen added.now)) }
 {
     for segment in added {
-        pad_to(out, out.len().next_multiple_of(PAGE_SIZE as usize))?;
-        out.extend_from_slice(&segment.bytes)?;
+        put_at_page(out, &segment.bytes)?;
     }
+    Ok(())
+}
+
+/// The bytes, at the next page.
+fn put_at_page(out: &mut Vec<u8>, bytes: &[u8]) -> Result<(), NoMemory>
+    ensures { OnOk result (out.new.items ≡ padded_to (next_page (length out.old.items)) out.old.items ++ bytes.now) }
+{
+    pad_to(out, out.len().next_multiple_of(PAGE_SIZE as usize))?;
+    out.extend_from_slice(bytes)?;
     Ok(())
 }

@@ -137,10 +137,13 @@ fn added_header(offset: u32, segment: &NewSegment) -> ProgramHeader
     }
 }
 
+/// It is neither that of the table itself, nor an empty one to load.
 fn is_carried(header: &ProgramHeader) -> bool
     ensures { result ≡ is_carried_of header.now }
 {
-    header.p_type != PT_PHDR && !(header.is_load() && header.p_memsz == 0)
+    let is_table = header.p_type == PT_PHDR;
+    let is_empty = header.is_load() && header.p_memsz == 0;
+    !is_table && !is_empty
 }
 
 /// The header with its bytes `delta` further on, and the text no longer executable.

@@ -3,6 +3,7 @@ ghost use Rattle.std.specs.Prelude.{◌≡◌, ◌+◌, ◌<◌, ◌^◌, if◌t
 ghost use Rattle.std.specs.List.{fold};
 ghost use Rattle.elf32_sparc.specs.Image.{image_of};
 ghost use Rattle.elf32_sparc.specs.Symbols.{has_sections};
+ghost use Rattle.elf32_write.specs.Bytes.{next_word as next_word_of};
 ghost use Rattle.elf32_write.specs.Headers.{segment_seen, segments_end};
 ghost use Rattle.elf32_write.specs.Written.{delta_in, original_end, notes_at, sections_at};
 ghost use Rattle.elf32_write.specs.Conditions.{CanWrite};
@@ -37,8 +38,7 @@ impl Layout {
     {
         let delta = delta_above(image.segments());
         let original_end = delta + bytes.len() as u32;
-        let end = segments_end(original_end, added);
-        let notes_at = end.next_multiple_of(WORD_SIZE);
+        let notes_at = next_word(segments_end(original_end, added));
         let notes_end = notes_at + notes.len() as u32;
         Layout {
             delta,
@@ -47,6 +47,14 @@ impl Layout {
             sections: sections_at(bytes, notes_end),
         }
     }
+}
+
+/// The first offset from there on at which a word may stand.
+fn next_word(offset: u32) -> u32
+    requires { next_word_of offset < 2 ^ 32 }
+    ensures { result ≡ next_word_of offset }
+{
+    offset.next_multiple_of(WORD_SIZE)
 }
 
 /// Where the section table stands, if there is one.

@@ -2,5 +2,10 @@
 //! want memory. They stand here together, since a crate with tests is proved twice.
 #![tactic(auto)]
 
+mod adding;
 #[cfg(test)]
 mod eel_base_tests;
+#[cfg(test)]
+mod elf32_write_tests;
+
+pub use adding::can_write;
