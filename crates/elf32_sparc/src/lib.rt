@@ -7,13 +7,9 @@ mod flags;
 mod header;
 mod name;
 mod program;
-#[cfg(test)]
-mod section_tests;
 mod sections;
 mod survey;
 mod table;
-#[cfg(test)]
-mod tests;
 mod verdicts;
 
 pub use fault::{FileFault, ReadFault};

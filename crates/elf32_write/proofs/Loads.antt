@@ -9,7 +9,7 @@ use Rattle.elf32_sparc.specs.declared.header.ProgramHeader.{ProgramHeader}
 use Rattle.elf32_sparc.specs.Header.{ei_version, e_version, e_phoff, e_ehsize, e_phentsize, e_phnum, program_headers, is_loadable, loadable, end_of, text_header}
 use Rattle.elf32_sparc.specs.FileFault.{header_rows, load_rows, load_fault, leaves_file, leaves_room, is_last_page, descends_from, is_aligned, is_short, has_other_magic, has_other_class, has_other_order, has_other_version, has_other_type, has_other_machine, has_other_sizes, has_bad_table, has_bytes_outside, has_memory_outside, has_memory_outside_a_run, has_disorder, has_misaligned, memory_size}
 use Rattle.elf32_sparc.specs.Image.{segment_of, segment_end, highest_end, text_from, image_of}
-use Rattle.elf32_sparc.proofs.Accepted.{Accepted, IsFit, accepted, has_text, text_passes, text_is_fit}
+use Rattle.elf32_sparc.proofs.Accepted.{Accepted, HeaderAccepted, IsFit, accepted, has_text, text_passes, text_is_fit}
 use Rattle.elf32_write.specs.Bytes.{next_page}
 use Rattle.elf32_write.specs.Headers.{AddedSegment, segments_end, added_header, added_headers, is_carried, carried_on, carried_headers}
 use Rattle.elf32_write.specs.Written.{delta_in, original_end, segment_headers, written}
@@ -137,18 +137,7 @@ good_table phnum phoff size some few place long =
     (or_from (nat_eq phnum 0) (nat_lt 80 phnum) (ne_eqb phnum 0 (λ e. omega arith)) (le-ltb 80 phnum (omega arith)))
     (le-ltb size (phoff + 32 * phnum) (omega arith))
 
-record HeaderPasses (new : List ℕ) : Type 0 where
-  short : is_short new ≡ false
-  magic : has_other_magic new ≡ false
-  «class» : has_other_class new ≡ false
-  order : has_other_order new ≡ false
-  version : has_other_version new ≡ false
-  kind : has_other_type new ≡ false
-  machine : has_other_machine new ≡ false
-  header_size : has_other_sizes new ≡ false
-  headers : has_bad_table 80 new ≡ false
-
-header_passes : (original : List ℕ) (added : List AddedSegment) (entry : ℕ) (notes new : List ℕ) → CanWrite original added notes → HeaderFacts original added entry new → 4096 ≤ length new → HeaderPasses new
+header_passes : (original : List ℕ) (added : List AddedSegment) (entry : ℕ) (notes new : List ℕ) → CanWrite original added notes → HeaderFacts original added entry new → 4096 ≤ length new → HeaderAccepted 80 new
 unfolding is_short has_other_magic has_other_class has_other_order has_other_version has_other_type has_other_machine has_other_sizes has_bad_table
 header_passes original added entry notes new can facts long =
     let ok : Accepted original = accepted original can.sound in
@@ -157,11 +146,11 @@ header_passes original added entry notes new can facts long =
     let entries = facts.entries in
     record {
       short = le-ltb (length new) 52 (omega arith);
-      magic = ap (λ n. not (nat_eq n 0x7f454c46)) facts.magic ∙ ok.magic;
-      «class» = ap (λ n. not (nat_eq n 1)) facts.file_class ∙ ok.«class»;
-      order = ap (λ n. not (nat_eq n 2)) facts.order ∙ ok.order;
+      magic = ap (λ n. not (nat_eq n 0x7f454c46)) facts.magic ∙ ok.header.magic;
+      «class» = ap (λ n. not (nat_eq n 1)) facts.file_class ∙ ok.header.«class»;
+      order = ap (λ n. not (nat_eq n 2)) facts.order ∙ ok.header.order;
       version = or_from (not (nat_eq (ei_version new) 1)) (not (nat_eq (e_version new) 1))
-          (ap (λ n. not (nat_eq n 1)) facts.ident_version ∙ (or_parts (not (nat_eq (ei_version original) 1)) (not (nat_eq (e_version original) 1)) ok.version).0)
+          (ap (λ n. not (nat_eq n 1)) facts.ident_version ∙ (or_parts (not (nat_eq (ei_version original) 1)) (not (nat_eq (e_version original) 1)) ok.header.version).0)
           (ap (λ n. not (nat_eq n 1)) facts.version);
       kind = ap (λ n. not (nat_eq n 2)) facts.kind;
       machine = ap (λ n. not (nat_eq n 2)) facts.machine;
@@ -241,7 +230,7 @@ entry-memory original added notes can loads =
     ∙ ap (λ n. nat_lt (1280 * 2 ^ 20) n) (memory-all (delta_in original) (loadable hs) (added_headers (original_end original) added) 0 ∙ added-memory (original_end original) sum added)
     ∙ sum_fits sum (sum_by (λ s. s.memsz) added) ok.memory_large loads.memory
 
-by_rows : (new : List ℕ) → HeaderPasses new → EntryPasses (length new) (program_headers new) → load_fault new ≡ None
+by_rows : (new : List ℕ) → HeaderAccepted 80 new → EntryPasses (length new) (program_headers new) → load_fault new ≡ None
 unfolding load_fault
 by_rows new header entry =
     passes (header_rows 80 new ++ load_rows (length new) (program_headers new)) (

@@ -6,6 +6,10 @@ mod adding;
 #[cfg(test)]
 mod eel_base_tests;
 #[cfg(test)]
+mod elf32_sparc_tests;
+#[cfg(test)]
 mod elf32_write_tests;
+#[cfg(test)]
+mod symbol_tests;
 
 pub use adding::can_write;

@@ -1,5 +1,5 @@
 //! What no clause says: verdicts from outside, the displayed text, and that an image can be read.
-use crate::{FileFault, ReadFault, SegFlags, load_verdict, read_image, verdict};
+use elf32_sparc::{FileFault, ReadFault, SegFlags, load_verdict, read_image, verdict};
 use eel_base::{Addr, WordNo};
 use std::alloc::{AllocError, Global};
 use std::test::Fail;

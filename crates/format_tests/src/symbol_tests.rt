@@ -1,5 +1,5 @@
 //! Function symbols of files whose section table was made by hand.
-use crate::{Image, read_image};
+use elf32_sparc::{Image, read_image};
 use eel_base::WordNo;
 use std::alloc::{AllocError, Global};
 use std::test::Fail;
