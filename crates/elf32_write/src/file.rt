@@ -9,7 +9,7 @@ ghost use Rattle.elf32_write.specs.Conditions.{CanWrite};
 use crate::bytes::{pad_to, put_words};
 use crate::headers::{count_carried, put_added_headers, put_carried_headers, put_file_header};
 use crate::layout::{Layout, PAGE_SIZE};
-use crate::sections::put_sections;
+use crate::sections::{put_sections, table_size};
 use crate::segment::NewSegment;
 use eel_base::{Addr, NoMemory};
 use elf32_sparc::{Image, read_headers};
@@ -38,7 +38,8 @@ pub fn write_around(
     let layout = Layout::of(bytes, image, added, notes);
     let headers = read_headers(alloc, bytes)?;
     let segments = (count_carried(&headers) + added.len()) as u16;
-    let mut out = Vec::with_capacity(alloc, layout.notes as usize + notes.len())?;
+    let size = layout.notes as usize + notes.len() + table_size(bytes);
+    let mut out = Vec::with_capacity(alloc, size)?;
     put_file_header(&mut out, bytes, entry, segments, layout.sections)?;
     put_carried_headers(&mut out, &headers, layout.delta)?;
     put_added_headers(&mut out, layout.original_end, added)?;

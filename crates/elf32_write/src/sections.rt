@@ -1,5 +1,5 @@
 //! The section table of a written file.
-ghost use Rattle.std.specs.Prelude.{◌≡◌, ◌+◌, ◌*◌, ◌++◌, take, drop, OnOk};
+ghost use Rattle.std.specs.Prelude.{◌≡◌, ◌+◌, ◌*◌, ◌^◌, ◌<◌, ◌++◌, take, drop, OnOk};
 ghost use Rattle.elf32_sparc.specs.Symbols.{e_shoff};
 ghost use Rattle.elf32_write.specs.Sections.{section_copy, section_entry as section_entry_of, section_table, moved};
 
@@ -17,6 +17,13 @@ const SH_TYPE: usize = 4;
 const SH_OFFSET: usize = 16;
 
 const SHT_NULL: u32 = 0;
+
+/// How many bytes the copied table has.
+pub(crate) fn table_size(bytes: &[u8]) -> usize
+    ensures { result < 2 ^ 22 }
+{
+    SECTION_HEADER_SIZE * usize::from(section_count(bytes))
+}
 
 /// The original's section table, whose sections stand `delta` further on; no bytes where it can't be read.
 #[tactic(auto, unfolding(crate::specs::Sections::section_table))]

@@ -1,6 +1,6 @@
 //! What no clause says: verdicts from outside, the displayed text, and that an image can be read.
-use elf32_sparc::{FileFault, ReadFault, SegFlags, load_verdict, read_image, verdict};
 use eel_base::{Addr, WordNo};
+use elf32_sparc::{FileFault, ReadFault, SegFlags, load_verdict, read_image, verdict};
 use std::alloc::{AllocError, Global};
 use std::test::Fail;
 

@@ -1,6 +1,6 @@
 //! Function symbols of files whose section table was made by hand.
-use elf32_sparc::{Image, read_image};
 use eel_base::WordNo;
+use elf32_sparc::{Image, read_image};
 use std::alloc::{AllocError, Global};
 use std::test::Fail;
 
