@@ -10,14 +10,11 @@ use Rattle.elf32_sparc.specs.declared.fault.FileFault.{FileFault}
 use Rattle.elf32_sparc.specs.Header.{is_load, end_of}
 use Rattle.elf32_sparc.specs.FileFault.{first_that_holds, leaves_file, descends_from, is_aligned}
 use Rattle.elf32_sparc.specs.Image.{segment_of, segment_end}
+use Rattle.elf32_sparc.proofs.Accepted.{NoneHolds}
 use Rattle.elf32_write.specs.Headers.{carried_on}
 use Rattle.elf32_write.proofs.Powers.{IsPower, power_of_two, power_divides, shifted}
 
 -- No test holds.
-
-abbrev pub NoneHolds : List (FileFault × Bool) → Type 0
-NoneHolds [] = Unit {0}
-NoneHolds (row ∷ rows) = (row.1 ≡ false) × NoneHolds rows
 
 pub passes : (rows : List (FileFault × Bool)) → NoneHolds rows → first_that_holds rows ≡ None
 passes [] none = refl

@@ -1,5 +1,5 @@
 -- The section table: an entry more, and how long it is.
-use Rattle.std.proofs.Common.{◌≡◌, ℕ, zero, suc, ◌+◌, ◌*◌, ◌%◌, ◌^◌, ◌≤◌, Bool, true, false, nat_eq, List, [], ◌∷◌, ◌++◌, length, take, drop, append-nil, length-append, ap, ◌∙◌, arith}
+use Rattle.std.proofs.Common.{◌≡◌, ℕ, suc, ◌+◌, ◌*◌, ◌%◌, ◌^◌, ◌≤◌, Bool, true, false, nat_eq, List, [], ◌∷◌, ◌++◌, length, take, drop, append-nil, length-append, ap, ◌∙◌, arith}
 use Rattle.std.specs.Prelude.{if◌then◌else◌}
 use Rattle.std.specs.List.{flat_map, range_with_len}
 use Rattle.std.proofs.lemmas.List.{length-take, length-drop}
@@ -8,12 +8,9 @@ use Rattle.byteorder.specs.Endian.{big_bytes}
 use Rattle.byteorder.specs.Numbers.{length-bytes_high_first}
 use Rattle.elf32_sparc.specs.Header.{word_at}
 use Rattle.elf32_sparc.specs.Symbols.{e_shoff, section_count}
+use Rattle.elf32_sparc.proofs.Functions.{one_more}
 use Rattle.elf32_write.specs.Sections.{moved, section_copy, section_entry, section_table}
 use Rattle.std.proofs.lemmas.Grind.{flat_map-append}
-
-one_more : (a n j : ℕ) → a + n ≡ j → range_with_len a (suc n) ≡ range_with_len a n ++ j ∷ []
-one_more a zero j e = let same : a ≡ j = omega arith in ap (λ k. k ∷ []) same
-one_more a (suc n) j e = ap (λ l. a ∷ l) (one_more (a + 1) n j (omega arith))
 
 pub entries-more : (h : ℕ → List ℕ) (n : ℕ) → flat_map h (range_with_len 0 (n + 1)) ≡ flat_map h (range_with_len 0 n) ++ h n
 entries-more h n =

@@ -1,7 +1,6 @@
 use Rattle.std.proofs.Common.{◌≡◌, map, arith}
-use Rattle.elf32_write.specs.Headers.{segment_seen, segments_end}
-use Rattle.elf32_write.specs.Written.{delta_in, original_end}
-use Rattle.elf32_write.proofs.Segments.{word_is}
+use Rattle.elf32_write.specs.Headers.{segment_seen}
+use Rattle.elf32_write.specs.Written.{delta_in}
 use Rattle.elf32_write.proofs.Deltas.{delta-image, delta-to, offsets_fit}
 use Rattle.elf32_write.proofs.layout.Layout.of.Goals as goal
 use Rattle.elf32_write.proofs.layout.Layout.of.Goals.{After-segments, After-delta_above-delta}
