@@ -38,18 +38,20 @@ pub record HeaderAccepted (most : ℕ) (file : List ℕ) : Type 0 where
 
 -- the header's rows, and those after them
 pub header_accepted : (most : ℕ) (file : List ℕ) (rows : List (FileFault × Bool)) → NoneHolds (header_rows most file ++ rows) → HeaderAccepted most file × NoneHolds rows
-header_accepted most file rows all =
-    (record {
-      short = all.0;
-      magic = all.1.0;
-      «class» = all.1.1.0;
-      order = all.1.1.1.0;
-      version = all.1.1.1.1.0;
-      kind = all.1.1.1.1.1.0;
-      machine = all.1.1.1.1.1.1.0;
-      header_size = all.1.1.1.1.1.1.1.0;
-      headers = all.1.1.1.1.1.1.1.1.0;
-    }, all.1.1.1.1.1.1.1.1.1)
+header_accepted most file rows all = (
+  record {
+    short = all.0;
+    magic = all.1.0;
+    «class» = all.1.1.0;
+    order = all.1.1.1.0;
+    version = all.1.1.1.1.0;
+    kind = all.1.1.1.1.1.0;
+    machine = all.1.1.1.1.1.1.0;
+    header_size = all.1.1.1.1.1.1.1.0;
+    headers = all.1.1.1.1.1.1.1.1.0;
+  },
+  all.1.1.1.1.1.1.1.1.1,
+)
 
 pub record Accepted (file : List ℕ) : Type 0 where
   pub header : HeaderAccepted 64 file
