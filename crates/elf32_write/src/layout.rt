@@ -1,5 +1,5 @@
 //! Where the parts of a written file stand.
-ghost use Rattle.std.specs.Prelude.{◌≡◌, ◌+◌, ◌<◌, ◌^◌, if◌then◌else◌, max, length, map};
+ghost use Rattle.std.specs.Prelude.{ℕ, List, ◌≡◌, ◌+◌, ◌<◌, ◌^◌, if◌then◌else◌, max, length, map};
 ghost use Rattle.std.specs.List.{fold};
 ghost use Rattle.elf32_sparc.specs.Image.{image_of};
 ghost use Rattle.elf32_sparc.specs.Symbols.{has_sections};
@@ -47,6 +47,13 @@ impl Layout {
             sections: sections_at(bytes, notes_end),
         }
     }
+}
+
+/// Where the original stands in every file that is written around it; notes say it.
+pub fn delta(image: &Image) -> u32
+    ensures { (original : List ℕ) → image.now ≡ image_of original → result ≡ delta_in original }
+{
+    delta_above(image.segments())
 }
 
 /// The first offset from there on at which a word may stand.

@@ -13,6 +13,7 @@ mod sections;
 mod segment;
 
 pub use file::write_around;
+pub use layout::delta;
 pub use segment::NewSegment;
 
 /// The original stands whole in the written file, at its delta.
