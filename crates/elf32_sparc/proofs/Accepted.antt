@@ -24,7 +24,8 @@ pub none_holds : (rows : List (FileFault × Bool)) → first_that_holds rows ≡
 none_holds [] none = tt
 none_holds (row ∷ rows) none = passed_by rows row.0 row.1 (none_holds rows) none
 
-pub record Accepted (file : List ℕ) : Type 0 where
+-- the header of a file that may have so many program headers
+pub record HeaderAccepted (most : ℕ) (file : List ℕ) : Type 0 where
   pub short : is_short file ≡ false
   pub magic : has_other_magic file ≡ false
   pub «class» : has_other_class file ≡ false
@@ -33,7 +34,27 @@ pub record Accepted (file : List ℕ) : Type 0 where
   pub kind : has_other_type file ≡ false
   pub machine : has_other_machine file ≡ false
   pub header_size : has_other_sizes file ≡ false
-  pub headers : has_bad_table 64 file ≡ false
+  pub headers : has_bad_table most file ≡ false
+
+-- the header's rows, and those after them
+pub header_accepted : (most : ℕ) (file : List ℕ) (rows : List (FileFault × Bool)) → NoneHolds (header_rows most file ++ rows) → HeaderAccepted most file × NoneHolds rows
+header_accepted most file rows all = (
+  record {
+    short = all.0;
+    magic = all.1.0;
+    «class» = all.1.1.0;
+    order = all.1.1.1.0;
+    version = all.1.1.1.1.0;
+    kind = all.1.1.1.1.1.0;
+    machine = all.1.1.1.1.1.1.0;
+    header_size = all.1.1.1.1.1.1.1.0;
+    headers = all.1.1.1.1.1.1.1.1.0;
+  },
+  all.1.1.1.1.1.1.1.1.1,
+)
+
+pub record Accepted (file : List ℕ) : Type 0 where
+  pub header : HeaderAccepted 64 file
   pub dynamic : has_dynamic (program_headers file) ≡ false
   pub segment_file : has_bytes_outside (length file) (program_headers file) ≡ false
   pub segment_room : has_memory_outside (program_headers file) ≡ false
@@ -49,18 +70,11 @@ pub record Accepted (file : List ℕ) : Type 0 where
 pub accepted : (file : List ℕ) → fault file ≡ None → Accepted file
 unfolding fault
 accepted file none =
-    let all = none_holds (header_rows 64 file ++ entry_rows (length file) (e_entry file) (program_headers file)) none in
-    let later = all.1.1.1.1.1.1.1.1.1 in
+    let rows = entry_rows (length file) (e_entry file) (program_headers file) in
+    let all = header_accepted 64 file rows (none_holds (header_rows 64 file ++ rows) none) in
+    let later = all.1 in
     record {
-      short = all.0;
-      magic = all.1.0;
-      «class» = all.1.1.0;
-      order = all.1.1.1.0;
-      version = all.1.1.1.1.0;
-      kind = all.1.1.1.1.1.0;
-      machine = all.1.1.1.1.1.1.0;
-      header_size = all.1.1.1.1.1.1.1.0;
-      headers = all.1.1.1.1.1.1.1.1.0;
+      header = all.0;
       dynamic = later.0;
       segment_file = later.1.0;
       segment_room = later.1.1.0;

@@ -89,7 +89,7 @@ with_strings file text symbols strings found linked =
     ap (λ o. option_map_or (funcs_in file text symbols) o []) (sym linked) ∙ with_symbols file text symbols found
 
 -- what comes of one number more
-one_more : (a n j : ℕ) → a + n ≡ j → range_with_len a (suc n) ≡ range_with_len a n ++ j ∷ []
+pub one_more : (a n j : ℕ) → a + n ≡ j → range_with_len a (suc n) ≡ range_with_len a n ++ j ∷ []
 one_more a zero j e = let same : a ≡ j = omega arith in ap (λ k. k ∷ []) same
 one_more a (suc n) j e = ap (λ l. a ∷ l) (one_more (a + 1) n j (omega arith))
 

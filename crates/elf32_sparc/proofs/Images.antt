@@ -31,6 +31,19 @@ pub record IsRead (file : List ℕ) (h : ProgramHeader) (segments : List Segment
   pub entry_is : entry ≡ (e_entry file - h.p_vaddr) / 4
   pub base_is : base ≡ rounded_up (highest_end segments)
 
+pub is_read : (file : List ℕ) (h : ProgramHeader) (segments : List Segment) (text : Words) (funcs : List Func) (address base : ℕ)
+    → text_header (program_headers file) ≡ Some h → segments ≡ map segment_of (loadable (program_headers file)) → text ≡ text_from file h
+    → funcs ≡ funcs_of file text → address ≡ e_entry file → base ≡ rounded_up (highest_end segments)
+    → IsRead file h segments text funcs ((address - h.p_vaddr) / 4) base
+is_read file h segments text funcs address base found segments_are text_is funcs_are entry_is base_is = record {
+  found = found;
+  segments_are = segments_are;
+  text_is = text_is;
+  funcs_are = funcs_are;
+  entry_is = ap (λ e. (e - h.p_vaddr) / 4) entry_is;
+  base_is = base_is;
+}
+
 abbrev program : List Segment → Words → List Func → ℕ → ℕ → Program
 program segments text funcs entry base = record { segments = segments; text = text; funcs = funcs; entry = entry; base = base; room = room_from base }
 

@@ -10,11 +10,11 @@ use Rattle.elf32_sparc.proofs.Surveys.{headers_from-more}
 
 pub few_headers : (file : List ℕ) → Accepted file → e_phnum file ≤ 64
 unfolding has_bad_table
-few_headers file ok = ltb-false 64 (e_phnum file) (or_parts _ _ (or_parts _ _ ok.headers).0).1
+few_headers file ok = ltb-false 64 (e_phnum file) (or_parts _ _ (or_parts _ _ ok.header.headers).0).1
 
 pub whole_header : (file : List ℕ) → Accepted file → 52 ≤ length file
 unfolding is_short
-whole_header file ok = ltb-false (length file) 52 ok.short
+whole_header file ok = ltb-false (length file) 52 ok.header.short
 
 small : (align : ℕ) (zero other : Bool) → (zero ≡ true → align ≡ 0) → (other ≡ true → align ≤ 2 ^ 20) → (zero || other) ≡ true → align ≤ 2 ^ 20
 small align true other is bounded holds = let e = is refl in omega arith

@@ -7,13 +7,9 @@ mod flags;
 mod header;
 mod name;
 mod program;
-#[cfg(test)]
-mod section_tests;
 mod sections;
 mod survey;
 mod table;
-#[cfg(test)]
-mod tests;
 mod verdicts;
 
 pub use fault::{FileFault, ReadFault};
@@ -21,6 +17,6 @@ pub use flags::SegFlags;
 pub use header::ProgramHeader;
 pub use name::Name;
 pub use program::{Image, Segment, read_entry, read_image, read_segments};
-pub use sections::Func;
+pub use sections::{Func, has_sections};
 pub use table::read_headers;
 pub use verdicts::{load_verdict, verdict};

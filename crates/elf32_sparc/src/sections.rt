@@ -1,6 +1,6 @@
 //! The section table of a file, and the function symbols to which it leads.
 ghost use Rattle.std.specs.Prelude.{◌≡◌, ◌+◌, ◌*◌, ◌<◌, ◌^◌, drop, find, slice_get, take, IfOk, IfSome};
-ghost use Rattle.elf32_sparc.specs.Symbols.{e_shnum, e_shoff, func_at, funcs_in, funcs_of, funcs_with, has_sections, is_function, is_readable, is_string_table, is_symbol_table, lie_in, name_in, section_bytes, section_count, section_header, section_in, sections, string_table, symbol_table};
+ghost use Rattle.elf32_sparc.specs.Symbols.{e_shoff, func_at, funcs_in, funcs_of, funcs_with, has_sections, is_function, is_readable, is_string_table, is_symbol_table, lie_in, name_in, section_bytes, section_count, section_header, section_in, sections, string_table, symbol_table};
 
 use crate::header::{half_at, word_at};
 use crate::name::Name;
@@ -97,16 +97,19 @@ fn lie_in(bytes: &[u8], offset: u32, size: u32) -> bool
 fn section_count(bytes: &[u8]) -> u16
     ensures { result ≡ section_count bytes.now }
 {
-    let count = half_at(bytes, E_SHNUM);
-    if has_sections(bytes, count) { count } else { 0 }
+    if has_sections(bytes) {
+        half_at(bytes, E_SHNUM)
+    } else {
+        0
+    }
 }
 
-/// The file has a table of so many sections.
-fn has_sections(bytes: &[u8], count: u16) -> bool
-    requires { count ≡ e_shnum bytes.now }
+/// The section table can be read: it has entries of 40 bytes, at least one, and all of them lie in the file.
+pub fn has_sections(bytes: &[u8]) -> bool
     ensures { result ≡ has_sections bytes.now }
 {
     let table = word_at(bytes, E_SHOFF);
+    let count = half_at(bytes, E_SHNUM);
     table != 0
         && u32::from(half_at(bytes, E_SHENTSIZE)) == SECTION_HEADER_SIZE
         && count >= 1

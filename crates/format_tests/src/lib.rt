@@ -3,6 +3,14 @@
 #![tactic(auto)]
 
 #[cfg(test)]
+mod adding;
+#[cfg(test)]
 mod eel_base_tests;
 #[cfg(test)]
+mod elf32_sparc_tests;
+#[cfg(test)]
+mod elf32_write_tests;
+#[cfg(test)]
 mod notes_tests;
+#[cfg(test)]
+mod symbol_tests;

@@ -1,7 +1,7 @@
-use Rattle.std.proofs.Common.{◌-◌, ◌/◌, ◌≤◌, sym, ap, ◌∙◌}
+use Rattle.std.proofs.Common.{◌≤◌, sym, ap, ◌∙◌}
 use Rattle.elf32_sparc.specs.Image.{highest_end, rounded_up}
 use Rattle.elf32_sparc.proofs.Accepted.{accepted, has_text, text_is_fit, segments_end_below}
-use Rattle.elf32_sparc.proofs.Images.{IsRead, text-survey_of, image_is, image_is_program}
+use Rattle.elf32_sparc.proofs.Images.{is_read, text-survey_of, image_is, image_is_program}
 use Rattle.elf32_sparc.proofs.program.read_image.Goals as goal
 
 pub unreachable-requires : goal.unreachable-requires
@@ -37,28 +37,15 @@ invariant_of-result c =
     let h = c.in-Some-text.header in
     let segments = c.in_ok-segments.segments.items in
     let ends : highest_end segments ≤ 0x80000000 = rw c.in_ok-segments.ensures (segments_end_below file ok) in
-    let read : IsRead file h segments c.in_ok-text.text c.in_ok-funcs.funcs.items ((c.word_at.result - h.p_vaddr) / 4) c.base_above-base.result.0 = record {
-      found = found;
-      segments_are = c.in_ok-segments.ensures;
-      text_is = c.in_ok-text.ensures;
-      funcs_are = c.in_ok-funcs.ensures;
-      entry_is = ap (λ e. (e - h.p_vaddr) / 4) c.word_at.ensures;
-      base_is = c.base_above-base.ensures ∙ ap (λ s. rounded_up (highest_end s)) c.deref.ensures.value;
-    } in
-    image_is_program file h segments c.in_ok-text.text c.in_ok-funcs.funcs.items _ _ (text_is_fit file h ok found) ends read
+    let base = c.base_above-base.ensures ∙ ap (λ s. rounded_up (highest_end s)) c.deref.ensures.value in
+    image_is_program file h segments c.in_ok-text.text c.in_ok-funcs.funcs.items _ _ (text_is_fit file h ok found) ends
+    (is_read file h segments c.in_ok-text.text c.in_ok-funcs.funcs.items c.word_at.result c.base_above-base.result.0 found c.in_ok-segments.ensures c.in_ok-text.ensures c.in_ok-funcs.ensures c.word_at.ensures base)
 
 pub returns-clause-image : goal.returns-clause-image
 returns-clause-image c =
     let file = c.args.bytes.now in
     let found = sym (text-survey_of file) ∙ (ap (λ s. s.text) (sym c.of.ensures) ∙ c.in-Some-text.is) in
     let h = c.in-Some-text.header in
-    let segments = c.in_ok-segments.segments.items in
-    let read : IsRead file h segments c.in_ok-text.text c.in_ok-funcs.funcs.items ((c.word_at.result - h.p_vaddr) / 4) c.base_above-base.result.0 = record {
-      found = found;
-      segments_are = c.in_ok-segments.ensures;
-      text_is = c.in_ok-text.ensures;
-      funcs_are = c.in_ok-funcs.ensures;
-      entry_is = ap (λ e. (e - h.p_vaddr) / 4) c.word_at.ensures;
-      base_is = c.base_above-base.ensures ∙ ap (λ s. rounded_up (highest_end s)) c.deref.ensures.value;
-    } in
-    image_is file h segments c.in_ok-text.text c.in_ok-funcs.funcs.items _ _ read
+    let base = c.base_above-base.ensures ∙ ap (λ s. rounded_up (highest_end s)) c.deref.ensures.value in
+    image_is file h c.in_ok-segments.segments.items c.in_ok-text.text c.in_ok-funcs.funcs.items _ _
+    (is_read file h c.in_ok-segments.segments.items c.in_ok-text.text c.in_ok-funcs.funcs.items c.word_at.result c.base_above-base.result.0 found c.in_ok-segments.ensures c.in_ok-text.ensures c.in_ok-funcs.ensures c.word_at.ensures base)
