@@ -2,7 +2,6 @@
 //! want memory. They stand here together, since a crate with tests is proved twice.
 #![tactic(auto)]
 
-#[cfg(test)]
 mod adding;
 #[cfg(test)]
 mod eel_base_tests;
@@ -14,3 +13,5 @@ mod elf32_write_tests;
 mod notes_tests;
 #[cfg(test)]
 mod symbol_tests;
+
+pub use adding::can_write;

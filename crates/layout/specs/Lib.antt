@@ -1,0 +1,3 @@
+pub mod Emitting
+pub mod Laid
+pub mod Running
