@@ -1,0 +1,12 @@
+pub mod Acts
+pub mod Hops
+pub mod Leads
+pub mod LongJump
+pub mod Ours
+pub mod Outside
+pub mod Points
+pub mod PointsAlike
+pub mod Stays
+pub mod StoredWords
+pub mod Straight
+pub mod TwoRegisters

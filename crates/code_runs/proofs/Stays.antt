@@ -1,0 +1,135 @@
+-- Words of the pages stay.
+use Rattle.std.proofs.Common.{◌≡◌, ℕ, ◌+◌, ◌-◌, ◌<◌, ◌≤◌, ◌⊎◌, inl, inr, Bool, true, false, ◌&&◌, Some, List, [], ◌∷◌, ◌++◌, length, take, drop, refl, ap, sym, ◌∙◌, subst, arith, length-append, length-drop}
+use Rattle.std.specs.Prelude.{if◌then◌else◌}
+use Rattle.std.specs.Int.{w32, from_be_bytes}
+use Rattle.std.specs.List.{find}
+use Rattle.std.specs.Option.{option_map}
+use Rattle.std.proofs.lemmas.List.{length-take}
+use Rattle.std.proofs.lemmas.Bool.Decides.{nat_tests}
+use Rattle.v8_memory.specs.Regions.{Memory, Region, covers, part_of, changed, written, all_written, with_heap_end, is_heap_end, region_at}
+use Rattle.v8_memory.specs.Segments.{heap_start, heap_room}
+use Rattle.v8_memory.specs.Spans.{Span, IsApartFromAll}
+use Rattle.v8_memory.proofs.Same.{find-written}
+use Rattle.v8_step.specs.Step.{act}
+use Rattle.code_runs.specs.StoredWords.{word_in, memory_word, CanLoad, CanStore}
+use Rattle.code_runs.specs.Ours.{HasWordAt, IsIn, WordsStay}
+use Rattle.code_runs.proofs.StoredWords.{covered, covers_first, spliced_other}
+use Rattle.code_runs.proofs.Outside.{kept_act}
+
+pub record SameShape (r q : Region) : Type 0 where
+  pub start : q.start ≡ r.start
+  pub size : q.size ≡ r.size
+  pub readable : q.readable ≡ r.readable
+  pub writable : q.writable ≡ r.writable
+  pub whole : r.size ≤ length r.bytes → q.size ≤ length q.bytes
+
+pub shape : (b : ℕ) (bs : List ℕ) (r : Region) → SameShape r (written b bs r)
+shape b bs r = go (covers b (length bs) r) refl r.writable
+  where
+    go : (c : Bool) → covers b (length bs) r ≡ c → (w : Bool) → SameShape r (if c && w then changed b bs r else r)
+    go true e true = record {
+      start = refl;
+      size = refl;
+      readable = refl;
+      writable = refl;
+      whole = λ h. (let i = covered b (length bs) r e in
+          omega (arith, length-append (take (b - r.start) r.bytes ++ bs) (drop (b - r.start + length bs) r.bytes), length-append (take (b - r.start) r.bytes) bs, length-take (b - r.start) r.bytes, length-drop (b - r.start + length bs) r.bytes, i.0, i.1));
+    }
+    go true e false = record { start = refl; size = refl; readable = refl; writable = refl; whole = λ h. h }
+    go false e w = record { start = refl; size = refl; readable = refl; writable = refl; whole = λ h. h }
+
+part : (r : Region) (a b : ℕ) (bs : List ℕ) → r.size ≤ length r.bytes → covers a 4 r ≡ true → (a + 4 ≤ b) ⊎ (b + length bs ≤ a) → part_of (written b bs r) a 4 ≡ part_of r a 4
+part r a b bs whole has apart = go (covers b (length bs) r) refl r.writable apart
+  where
+    go : (c : Bool) → covers b (length bs) r ≡ c → (w : Bool) → (a + 4 ≤ b) ⊎ (b + length bs ≤ a) → part_of (if c && w then changed b bs r else r) a 4 ≡ part_of r a 4
+    go true e true (inl s) = let i = covered b (length bs) r e in let j = covered a 4 r has in spliced_other r.bytes bs (b - r.start) (a - r.start) 4 (omega (arith, i.0, i.1)) (inl (omega (arith, i.0, i.1, j.0, j.1)))
+    go true e true (inr s) = let i = covered b (length bs) r e in let j = covered a 4 r has in spliced_other r.bytes bs (b - r.start) (a - r.start) 4 (omega (arith, i.0, i.1)) (inr (omega (arith, i.0, i.1, j.0, j.1)))
+    go true e false s = refl
+    go false e w s = refl
+
+-- what is apart from all of the pages is apart from the word
+abbrev IsWithin : List Span → ℕ → Type 0
+IsWithin pages a = (x : Span) → 0 < x.count → IsApartFromAll pages x → (a + 4 ≤ x.from) ⊎ (x.from + x.count ≤ a)
+
+is_within : (pages : List Span) (a : ℕ) → IsIn pages a → IsWithin pages a
+is_within (page ∷ pages) a (inl h) = λ x some apart. go x (apart.0)
+  where
+    go : (x : Span) → (page.from + page.count ≤ x.from) ⊎ (x.from + x.count ≤ page.from)
+        → (a + 4 ≤ x.from) ⊎ (x.from + x.count ≤ a)
+    go x (inl k) = let b = h.0 in let c = h.1 in inl (omega arith)
+    go x (inr k) = let b = h.0 in let c = h.1 in inr (omega arith)
+is_within (page ∷ pages) a (inr h) = λ x some apart. is_within pages a h x some apart.1
+is_within [] a h = absurd h
+
+-- the word, by the region that has it
+abbrev word : ℕ → Memory → ℕ
+word a m = word_in a (find (covers a 4) m.regions)
+
+record Keeps (a : ℕ) (writable : Bool) (m n : Memory) : Type 0 where
+  pub keeps : HasWordAt a writable m → HasWordAt a writable n × (word a n ≡ word a m)
+
+keeps_same : (a : ℕ) (f : Bool) (m : Memory) → Keeps a f m m
+keeps_same a f m = record { keeps = λ h. (h, refl) }
+
+keeps_then : (a : ℕ) (f : Bool) (m n o : Memory) → Keeps a f m n → Keeps a f n o → Keeps a f m o
+keeps_then a f m n o h k = record { keeps = λ x. (let y = h.keeps x in let z = k.keeps y.0 in (z.0, z.1 ∙ y.1)) }
+
+-- a region has the word after a write as well
+pub there_written : (a b : ℕ) (writable : Bool) (bs : List ℕ) (m : Memory) → HasWordAt a writable m
+    → HasWordAt a writable (all_written b bs m)
+there_written a b writable bs m h =
+    let s = shape b bs h.region in
+    let t = shape b bs m.heap in
+    record {
+      start = t.start ∙ h.start;
+      size = subst (λ z. z ≤ heap_room) (sym t.size) h.size;
+      away = h.away;
+      region = written b bs h.region;
+      at = find-written a 4 b bs m.regions ∙ ap (option_map (written b bs)) h.at;
+      readable = s.readable ∙ h.readable;
+      may_write = s.writable ∙ h.may_write;
+      whole = s.whole h.whole;
+    }
+
+keeps_write : (a : ℕ) (f : Bool) (pages : List Span) (b : ℕ) (bs : List ℕ) (m : Memory) → IsWithin pages a → 0 < length bs → IsApartFromAll pages (record { from = b; count = length bs }) → Keeps a f m (all_written b bs m)
+keeps_write a f pages b bs m within some apart = record {
+  keeps = λ h. (
+    there_written a b f bs m h,
+    ap (word_in a) (find-written a 4 b bs m.regions ∙ ap (option_map (written b bs)) h.at)
+        ∙ ap (from_be_bytes w32) (part h.region a b bs h.whole (covers_first (covers a 4) m.regions h.region h.at)
+        (within (record { from = b; count = length bs }) some apart))
+        ∙ sym (ap (word_in a) h.at),
+  );
+}
+
+keeps_heap : (a : ℕ) (f : Bool) (m : Memory) (b : ℕ) → is_heap_end b ≡ true → Keeps a f m (with_heap_end m b)
+keeps_heap a f m b e = record { keeps = λ h. (record { start = h.start; size = (let s = h.start in let g : b ≤ 0x81000000 = top b e in omega arith); away = h.away; region = h.region; at = h.at; readable = h.readable; may_write = h.may_write; whole = h.whole }, refl) }
+  where
+    top : (b : ℕ) → is_heap_end b ≡ true → b ≤ 0x81000000
+    top b e = grind (arith, nat_tests)
+
+-- such a word is the one that is loaded and stored
+pub not_heap : (a : ℕ) (f : Bool) (m : Memory) → HasWordAt a f m → covers a 4 m.heap ≡ false
+not_heap a f m h = go (covers a 4 m.heap) refl h.away
+  where
+    go : (c : Bool) → covers a 4 m.heap ≡ c → (a + 4 ≤ heap_start) ⊎ (heap_start + heap_room ≤ a) → c ≡ false
+    go false e o = refl
+    go true e (inl k) = let i = covered a 4 m.heap e in let s = h.start in let z = h.size in absurd (omega (arith, i.0, i.1))
+    go true e (inr k) = let i = covered a 4 m.heap e in let s = h.start in let z = h.size in absurd (omega (arith, i.0, i.1))
+
+pub region_of_word : (a : ℕ) (f : Bool) (m : Memory) → HasWordAt a f m → region_at m a 4 ≡ find (covers a 4) m.regions
+region_of_word a f m h = ap (λ (z : Bool). if z then Some m.heap else find (covers a 4) m.regions) (not_heap a f m h)
+
+pub loads_there : (a : ℕ) (f : Bool) (m : Memory) → HasWordAt a f m → CanLoad m a
+loads_there a f m h = record { region = h.region; at = region_of_word a f m h ∙ h.at; readable = h.readable }
+
+pub stores_there : (a : ℕ) (m : Memory) → HasWordAt a true m → CanStore m a
+stores_there a m h = record { region = h.region; at = region_of_word a true m h ∙ h.at; readable = h.readable; writable = h.may_write; whole = h.whole }
+
+pub words_stay : WordsStay
+unfolding memory_word
+words_stay pages a writable s x within apart h =
+    let k : Keeps a writable s.memory (act s x).memory = kept_act pages (Keeps a writable) (keeps_same a writable) (keeps_then a writable)
+    (λ b bs m some z. keeps_write a writable pages b bs m (is_within pages a within) some z) (keeps_heap a writable) s.memory s x (keeps_same a writable s.memory) apart in
+    let y = k.keeps h in
+    (y.0, ap (word_in a) (region_of_word a writable (act s x).memory y.0) ∙ y.1 ∙ sym (ap (word_in a) (region_of_word a writable s.memory h)))

@@ -1,0 +1,10 @@
+pub mod Hops
+pub mod Leads
+pub mod LongJump
+pub mod Ours
+pub mod Page
+pub mod Points
+pub mod PointsAlike
+pub mod StoredWords
+pub mod Straight
+pub mod TwoRegisters
