@@ -1,6 +1,6 @@
 -- What a layout of pieces promises: where each item stands, and that its words do what it says.
-use Rattle.std.specs.Prelude.{◌≡◌, ℕ, zero, suc, ◌+◌, ◌-◌, ◌*◌, ◌%◌, ◌^◌, ◌<◌, ◌≤◌, Bool, true, false, ◌&&◌, List, [], ◌∷◌, length, map, sum, Option, Some, None, Result, Ok, Err, if◌then◌else◌, nat_le, nat_lt, slice_get, slice_index, ℤ, pos}
-use Rattle.std.specs.List.{find}
+use Rattle.std.specs.Prelude.{◌≡◌, ℕ, zero, suc, ◌+◌, ◌-◌, ◌*◌, ◌%◌, ◌^◌, ◌<◌, ◌≤◌, Bool, true, false, ◌&&◌, List, [], ◌∷◌, length, map, Option, Some, None, Result, Ok, Err, if◌then◌else◌, nat_le, nat_lt, slice_get, slice_index, ℤ, pos}
+use Rattle.std.specs.List.{find, sum_by}
 use Rattle.std.specs.Option.{option_map}
 use Rattle.std.specs.Int.{w32, cast_unsigned}
 use Rattle.eel_base.specs.declared.numbers.Addr.{Addr}
@@ -224,9 +224,12 @@ pub record IsPlain (pieces : List (List Item)) (base : ℕ) (place : ℕ → ℕ
 abbrev pub Lays : (List (List Item) → ℕ → (ℕ → ℕ → ℕ) → Type 0) → List (List Item) → ℕ → Placement → Type 0
 Lays Forms pieces base p = (place : ℕ → ℕ → ℕ) × IsLaid pieces base p place × Forms pieces base place
 
--- how many bytes the pieces take, each item in its long form
+-- how many words a piece takes, and how many bytes the pieces, each item in its long form
+abbrev pub piece_words : List Item → ℕ
+piece_words items = sum_by long_words items
+
 abbrev pub long_bytes : List (List Item) → ℕ
-long_bytes pieces = 4 * sum (map (λ items. sum (map long_words items)) pieces)
+long_bytes pieces = 4 * sum_by piece_words pieces
 
 -- The code has just these bytes, and room for them. A refusal for want of room names them, and comes just where they are
 -- too many.

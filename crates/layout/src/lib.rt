@@ -3,9 +3,15 @@
 
 ghost use Rattle.layout.specs.Running.{BranchesHop, JumpsHop, WordsStand};
 
+mod emitting;
 mod items;
+mod placing;
+mod ranges;
+mod sizes;
+mod words;
 
 pub use items::{Item, LayoutFault, Piece, Placed};
+pub use placing::place;
 
 /// A Jump leads to its piece, with all as it was but word 0 of the editor's page.
 pub fn jumps_hop()
