@@ -1,25 +1,23 @@
 -- What placed items do.
-use Rattle.std.proofs.Common.{◌≡◌, ℕ, zero, suc, ◌+◌, ◌-◌, ◌*◌, ◌/◌, ◌%◌, ◌^◌, ◌<◌, ◌≤◌, Bool, true, false, not, Option, Some, None, List, [], ◌∷◌, length, refl, ap, sym, ◌∙◌, subst, arith}
+use Rattle.std.proofs.Common.{◌≡◌, ℕ, zero, suc, ◌+◌, ◌-◌, ◌%◌, ◌^◌, ◌<◌, ◌≤◌, Bool, true, false, not, Option, Some, None, List, [], ◌∷◌, length, refl, ap, sym, ◌∙◌, subst, arith}
 use Rattle.std.specs.Prelude.{if◌then◌else◌, ◌==◌, slice_index, slice_get, ℤ, pos}
-use Rattle.v8_decode.specs.declared.Op2.TheVariants.{Imm}
 use Rattle.v8_decode.specs.declared.Instr.{Instr}
 use Rattle.v8_decode.specs.declared.Instr.TheVariants as i
 use Rattle.v8_alu.specs.declared.Codes.{Codes}
 use Rattle.v8_alu.specs.Numbers.{wrapped}
 use Rattle.v8_alu.specs.Conditions.{holds_of}
-use Rattle.v8_memory.specs.Regions.{Memory, Region, code_of, fetch_from}
+use Rattle.v8_memory.specs.Regions.{Memory, code_of, fetch_from}
 use Rattle.v8_step.specs.declared.Slot.{Slot}
 use Rattle.v8_step.specs.declared.Slot.TheVariants.{NoSlot, Taken, Untaken}
 use Rattle.v8_step.specs.State.{State, register_of}
 use Rattle.v8_step.specs.Transfers.{branched, branch_step, target_of, unless_couple}
 use Rattle.v8_step.specs.Step.{act, step_of}
 use Rattle.v8_step.specs.Valid.{IsValid}
-use Rattle.v8_step.proofs.ValidStates.{register_of-range}
 use Rattle.v8_step.proofs.ValidSteps.{run-valid}
-use Rattle.code_runs.specs.StoredWords.{store_word, CanStore, Stores}
+use Rattle.code_runs.specs.StoredWords.{store_word}
 use Rattle.code_runs.specs.Leads.{Leads}
 use Rattle.code_runs.specs.Straight.{IsReady, Says, StandIn}
-use Rattle.code_runs.specs.TwoRegisters.{HasScratch, IsBetween}
+use Rattle.code_runs.specs.TwoRegisters.{IsBetween}
 use Rattle.code_runs.specs.Hops.{hopped, Hops}
 use Rattle.code_runs.proofs.Acts.{says_step, says_puts}
 use Rattle.code_runs.proofs.Leads.{leads_none, leads_one, leads_then, leads_weaker, silent_none, silent_one, silent_then}

@@ -1,13 +1,13 @@
 -- The plain layout is a layout.
-use Rattle.std.proofs.Common.{◌≡◌, ℕ, zero, suc, ◌+◌, ◌-◌, ◌*◌, ◌%◌, ◌^◌, ◌<◌, ◌≤◌, false, List, length, map, slice_index, slice_get, Some, refl, ap, sym, ◌∙◌, subst, arith}
-use Rattle.std.specs.List.{flat_map, sum_by}
+use Rattle.std.proofs.Common.{◌≡◌, ℕ, ◌+◌, ◌*◌, ◌%◌, ◌^◌, ◌≤◌, List, length, map, slice_index, slice_get, refl, ap, sym, ◌∙◌, subst, arith}
+use Rattle.std.specs.List.{sum_by}
 use Rattle.std.proofs.lemmas.List.{length-map}
 use Rattle.eel_base.specs.declared.numbers.Addr.{Addr}
 use Rattle.elf32_sparc.specs.Notes.{NoteRange}
 use Rattle.layout.specs.declared.items.Item.{Item}
 use Rattle.layout.specs.declared.items.Placed.{Placed}
-use Rattle.layout.specs.Laid.{Placement, placement_of, note_range, size_of, is_jump, item_at, range_in, range_of, open_in, AllMarked, Ascend, IsLaid, IsPlaceIn, IsPlain, Lays, long_bytes, piece_words}
-use Rattle.layout.specs.Emitting.{IsEmitted, address_in, addresses, all_ranges, piece_code}
+use Rattle.layout.specs.Laid.{Placement, placement_of, note_range, item_at, range_in, AllMarked, Ascend, IsLaid, IsPlaceIn, IsPlain, Lays, long_bytes, piece_words}
+use Rattle.layout.specs.Emitting.{IsEmitted, addresses, all_ranges}
 use Rattle.layout.proofs.Listed.{length-addresses}
 use Rattle.layout.proofs.Places.{place_from, first_piece, next_piece, next_place, place_within, starts_are, start_within}
 use Rattle.layout.proofs.Ranging.{all_ascend, all_found, all_made, one_of}

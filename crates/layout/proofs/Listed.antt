@@ -1,10 +1,10 @@
 -- Pieces one after the other.
-use Rattle.std.proofs.Common.{◌≡◌, ℕ, zero, suc, ◌+◌, ◌*◌, ◌<◌, ◌≤◌, List, [], ◌∷◌, length, get_or, slice_get, take, Some, refl, ap, sym, ◌∙◌, subst, arith}
+use Rattle.std.proofs.Common.{◌≡◌, ℕ, suc, ◌+◌, ◌*◌, ◌<◌, ◌≤◌, List, [], ◌∷◌, length, get_or, slice_get, take, Some, refl, ap, sym, ◌∙◌, subst, arith}
 use Rattle.std.specs.List.{sum_by}
 use Rattle.std.proofs.lemmas.List.Sums.{sum_by_more, sum_by_more_le}
 use Rattle.std.proofs.lemmas.Option.{slice_get-get_or}
 use Rattle.layout.specs.declared.items.Item.{Item}
-use Rattle.layout.specs.Laid.{AllLead, LeadsBelow, item_at, item_in, piece_words}
+use Rattle.layout.specs.Laid.{AllLead, LeadsBelow, item_in, piece_words}
 use Rattle.layout.specs.Emitting.{addresses, PieceLeads}
 
 pub length-addresses : (pieces : List (List Item)) (here : ℕ) → length (addresses here pieces) ≡ length pieces

@@ -1,16 +1,15 @@
 -- The ranges of the plain layout are those of its Marks.
 use Rattle.std.proofs.Common.{◌≡◌, ℕ, zero, suc, ◌+◌, ◌*◌, ◌<◌, ◌≤◌, Bool, true, false, ◌&&◌, Option, Some, None, List, [], ◌∷◌, ◌++◌, length, map, slice_get, refl, ap, sym, ◌∙◌, subst, arith}
 use Rattle.std.specs.Prelude.{nat_le, nat_lt, if◌then◌else◌}
-use Rattle.std.specs.List.{find, sum_by}
+use Rattle.std.specs.List.{sum_by}
 use Rattle.std.proofs.lemmas.Bool.Decides.{nat_tests}
 use Rattle.std.proofs.lemmas.List.{map-append}
-use Rattle.eel_base.specs.declared.numbers.Addr.{Addr}
 use Rattle.eel_base.specs.declared.range.Range.{Range}
 use Rattle.elf32_sparc.specs.Notes.{NoteRange}
 use Rattle.layout.specs.declared.items.Item.{Item}
 use Rattle.layout.specs.declared.items.Item.TheVariants as it
 use Rattle.layout.specs.declared.ranges.Open.{Open as OpenAt}
-use Rattle.layout.specs.Laid.{note_range, range_in, item_at, IsMarked, AllMarked, AreMarked, Open, is_end, end_from, opened, open_from, open_in, range_of, Ascend, IsRangeOf, long_words, piece_words}
+use Rattle.layout.specs.Laid.{note_range, range_in, item_at, IsMarked, AreMarked, Open, end_from, open_from, open_in, range_of, Ascend, IsRangeOf, long_words, piece_words}
 use Rattle.layout.specs.Emitting.{closed, ranges_from, all_ranges}
 use Rattle.layout.proofs.Places.{item_place, place_from, first_item, item_within, place_within, words_more, pieces_more}
 

@@ -1,10 +1,9 @@
 -- The words of the plain layout stand where its items do.
-use Rattle.std.proofs.Common.{◌≡◌, ℕ, zero, suc, ◌+◌, ◌-◌, ◌*◌, ◌/◌, ◌%◌, ◌^◌, ◌<◌, Bool, true, false, ◌&&◌, IsTrue, List, [], ◌∷◌, ◌++◌, length, map, slice_get, Some, refl, ap, sym, ◌∙◌, subst, arith, length-append}
+use Rattle.std.proofs.Common.{◌≡◌, ℕ, zero, suc, ◌+◌, ◌-◌, ◌*◌, ◌/◌, ◌%◌, ◌^◌, ◌<◌, Bool, true, false, ◌&&◌, List, [], ◌∷◌, ◌++◌, length, map, slice_get, Some, refl, ap, sym, ◌∙◌, subst, arith, length-append}
 use Rattle.std.specs.Prelude.{pos, nat_lt, if◌then◌else◌, slice_index}
 use Rattle.std.proofs.lemmas.Bool.Decides.{nat_tests}
 use Rattle.v8_decode.specs.declared.Op2.TheVariants.{Imm}
 use Rattle.std.specs.List.{flat_map, list_all, sum_by}
-use Rattle.std.proofs.lemmas.List.{length-map}
 use Rattle.eel_base.specs.declared.numbers.Addr.{Addr}
 use Rattle.v8_decode.specs.declared.Instr.{Instr}
 use Rattle.v8_decode.specs.declared.Instr.TheVariants as i
@@ -18,8 +17,8 @@ use Rattle.code_runs.specs.LongJump.{long_jump}
 use Rattle.code_runs.specs.Page.{of_page}
 use Rattle.layout.specs.declared.items.Item.{Item}
 use Rattle.layout.specs.declared.items.Item.TheVariants as it
-use Rattle.layout.specs.Laid.{Placement, IsWordAt, SaysFrom, jump_long, branch_long, Stands, item_at, long_words, nop, opposite, piece_words}
-use Rattle.layout.specs.Emitting.{address_in, has_condition, have_conditions, item_code, piece_code, words_of, long_branch}
+use Rattle.layout.specs.Laid.{Placement, SaysFrom, jump_long, branch_long, Stands, item_at, long_words, nop, opposite, piece_words}
+use Rattle.layout.specs.Emitting.{address_in, has_condition, have_conditions, item_code, piece_code, words_of}
 use Rattle.layout.proofs.Places.{item_place, place_from, first_item, words_more, pieces_more}
 
 -- ---- words in code
@@ -58,7 +57,7 @@ says_words base code [] n a e d h = tt
 says_words base code (x ∷ xs) n a e d h = (
   (word_of x, (n, e, ap (slice_get code) (let g : n ≡ n + 0 = omega arith in g) ∙ h 0 (word_of x) refl), d.0),
   says_words base code xs (n + 1) (a + 4) (omega arith) d.1
-  (λ j w f. ap (slice_get code) (let g : n + 1 + j ≡ n + suc j = omega arith in g) ∙ h (suc j) w f),
+      (λ j w f. ap (slice_get code) (let g : n + 1 + j ≡ n + suc j = omega arith in g) ∙ h (suc j) w f),
 )
 
 decodes : (x : Instr) → is_in_range x ≡ true → has_word x ≡ true → decode_of (word_of x) ≡ x

@@ -44,9 +44,6 @@ pub struct Placed {
 #[derive(Clone, Copy, Debug, PartialEq, Eq)]
 pub enum LayoutFault {
     /// The code has more bytes than there is room for.
-    Room {
-        needed: u64,
-        had: u64,
-    },
+    Room { needed: u64, had: u64 },
     NoMemory,
 }

@@ -26,12 +26,7 @@ fn lay(alloc: Global, pieces: &[Piece], base: Addr) -> Result<Placed, AllocError
 }
 
 /// Places pieces one after the other, in the order of the list, each Jump and Branch in its long form.
-pub fn place(
-    alloc: Global,
-    pieces: &[Piece],
-    base: Addr,
-    room: u32,
-) -> Result<Placed, LayoutFault>
+pub fn place(alloc: Global, pieces: &[Piece], base: Addr, room: u32) -> Result<Placed, LayoutFault>
     requires count { length pieces.now ≤ 2 ^ 28 }
     requires items { sum_by length pieces.now ≤ 2 ^ 40 }
     requires leads { AllLead pieces.now }

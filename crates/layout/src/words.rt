@@ -1,11 +1,15 @@
 //! The words of jumps and branches.
 
-ghost use Rattle.std.specs.Prelude.{◌≡◌, ◌<◌, ◌++◌, IsTrue, OnOk, IfSome, false, pos, length};
+ghost use Rattle.std.specs.Prelude.{◌≡◌, ◌/◌, ◌%◌, ◌<◌, IsTrue, false, pos};
 ghost use Rattle.v8_decode.specs.declared.Instr.TheVariants as w;
+ghost use Rattle.v8_decode.specs.declared.Op2.TheVariants.{Imm};
+ghost use Rattle.v8_decode.specs.declared.LoadKind.TheVariants as loads;
+ghost use Rattle.v8_decode.specs.declared.StoreKind.TheVariants as stores;
 ghost use Rattle.v8_encode.specs.Encoding.{has_word, word_of as word_in};
 ghost use Rattle.code_runs.specs.LongJump.{long_jump};
-ghost use Rattle.layout.specs.Laid.{nop, opposite, LeadsBelow};
-ghost use Rattle.layout.specs.Emitting.{address_in, has_condition, item_code, words_of};
+ghost use Rattle.code_runs.specs.Page.{of_page};
+ghost use Rattle.layout.specs.Laid.{nop, opposite};
+ghost use Rattle.layout.specs.Emitting.{words_of};
 
 use v8_decode::{Cond, Instr, LoadKind, Op2, Reg, StoreKind};
 use v8_encode::encode;
@@ -31,33 +35,59 @@ fn register(number: u8) -> Reg
     }
 }
 
+// Word 0 of the editor's page, from %g0.
+const FIRST_WORD: i32 = -4096;
+
+// %g1 goes into word 0 of the editor's page.
+fn spill_word() -> u32
+    ensures { result ≡ word_in (w.Store stores.ST 1 0 (of_page 0)) }
+{
+    word_of(Instr::Store {
+        kind: StoreKind::ST,
+        rd: register(1),
+        rs1: register(0),
+        op2: Op2::Imm(FIRST_WORD),
+    })
+}
+
+// %g1 comes back from there.
+fn reload_word() -> u32
+    ensures { result ≡ word_in (w.Load loads.LD 1 0 (of_page 0)) }
+{
+    word_of(Instr::Load {
+        kind: LoadKind::LD,
+        rd: register(1),
+        rs1: register(0),
+        op2: Op2::Imm(FIRST_WORD),
+    })
+}
+
+// %g1 takes the high part of an address.
+fn high_word(to: u32) -> u32
+    ensures { result ≡ word_in (w.Sethi 1 (to / 1024)) }
+{
+    word_of(Instr::Sethi {
+        rd: register(1),
+        imm22: to / 1024,
+    })
+}
+
+// A jump to %g1 and the low part of an address.
+fn jump_word(to: u32) -> u32
+    ensures { result ≡ word_in (w.Jmpl 0 1 (Imm (pos (to % 1024)))) }
+{
+    word_of(Instr::Jmpl {
+        rd: register(0),
+        rs1: register(1),
+        op2: Op2::Imm((to % 1024) as i32),
+    })
+}
+
 /// A jump to an address, which keeps %g1 in the editor's page meanwhile.
 pub fn long_jump_words(to: u32) -> [u32; 4]
     ensures { result ≡ words_of (long_jump to) }
 {
-    [
-        word_of(Instr::Store {
-            kind: StoreKind::ST,
-            rd: register(1),
-            rs1: register(0),
-            op2: Op2::Imm(-4096),
-        }),
-        word_of(Instr::Sethi {
-            rd: register(1),
-            imm22: to / 1024,
-        }),
-        word_of(Instr::Jmpl {
-            rd: register(0),
-            rs1: register(1),
-            op2: Op2::Imm((to % 1024) as i32),
-        }),
-        word_of(Instr::Load {
-            kind: LoadKind::LD,
-            rd: register(1),
-            rs1: register(0),
-            op2: Op2::Imm(-4096),
-        }),
-    ]
+    [spill_word(), high_word(to), jump_word(to), reload_word()]
 }
 
 fn condition(number: u8) -> Cond
