@@ -83,6 +83,13 @@ IsMarked (Some items) = AreMarked false items
 abbrev pub AllMarked : List (List Item) → Type 0
 AllMarked pieces = (k : ℕ) → IsMarked (slice_get pieces k)
 
+-- pieces that can be placed
+pub record ArePieces (pieces : List (List Item)) : Type 0 where
+  pub count : length pieces ≤ 2 ^ 28
+  pub items : sum_by length pieces ≤ 2 ^ 40
+  pub leads : AllLead pieces
+  pub marked : AllMarked pieces
+
 -- ---- what stands where an item was placed
 
 -- a word of the code at an address

@@ -2,7 +2,7 @@
 
 ghost use Rattle.std.specs.Prelude.{◌≡◌, ◌+◌, ◌*◌, ◌^◌, ◌%◌, ◌≤◌, length, IfOk};
 ghost use Rattle.std.specs.List.{sum_by};
-ghost use Rattle.layout.specs.Laid.{piece_words, placement_of, AllLead, AllMarked, IsPlain, Lays, RoomIs};
+ghost use Rattle.layout.specs.Laid.{piece_words, placement_of, AllLead, ArePieces, IsPlain, Lays, RoomIs};
 ghost use Rattle.layout.specs.Emitting.{IsEmitted};
 
 use crate::emitting::code_of;
@@ -27,10 +27,7 @@ fn lay(alloc: Global, pieces: &[Piece], base: Addr) -> Result<Placed, AllocError
 
 /// Places pieces one after the other, in the order of the list, each Jump and Branch in its long form.
 pub fn place(alloc: Global, pieces: &[Piece], base: Addr, room: u32) -> Result<Placed, LayoutFault>
-    requires count { length pieces.now ≤ 2 ^ 28 }
-    requires items { sum_by length pieces.now ≤ 2 ^ 40 }
-    requires leads { AllLead pieces.now }
-    requires marked { AllMarked pieces.now }
+    requires pieces { ArePieces pieces.now }
     requires aligned { base.0 % 4 ≡ 0 }
     requires low { base.0 + room ≤ 2 ^ 31 }
     ensures laid { IfOk result (λ p. Lays IsPlain pieces.now base.0 (placement_of p.code.items p.at.items p.ranges.items)) }
