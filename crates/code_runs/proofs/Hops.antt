@@ -41,11 +41,13 @@ each-then : (May : ℕ → Type 0) (ws vs : List (ℕ × ℕ)) → AllAt May ws 
 each-then May [] vs h k = k
 each-then May (w ∷ ws) vs h k = (h.0, each-then May ws vs h.1 k)
 
-each-weaker : (May Might : ℕ → Type 0) → ((z : ℕ) → May z → Might z) → (ws : List (ℕ × ℕ)) → AllAt May ws → AllAt Might ws
+each-weaker : (May Might : ℕ → Type 0) → ((z : ℕ) → May z → Might z) → (ws : List (ℕ × ℕ)) → AllAt May ws
+    → AllAt Might ws
 each-weaker May Might f [] h = tt
 each-weaker May Might f (w ∷ ws) h = (f w.0 h.0, each-weaker May Might f ws h.1)
 
-pub stores_then : (May Might : ℕ → Type 0) (m n o : Memory) → ((z : ℕ) → May z → Might z) → Stores Might m n → Stores May n o → Stores Might m o
+pub stores_then : (May Might : ℕ → Type 0) (m n o : Memory) → ((z : ℕ) → May z → Might z) → Stores Might m n
+    → Stores May n o → Stores Might m o
 stores_then May Might m n o f h k = record {
   writes = h.writes ++ k.writes;
   each = each-then Might h.writes k.writes h.each (each-weaker May Might f k.writes k.each);
@@ -53,8 +55,10 @@ stores_then May Might m n o f h k = record {
 }
 
 -- ---- one block after another
-pub works_then : (s : State) (count more : ℕ) (May Might : ℕ → Type 0) (a b n k : ℕ) (m m' : Memory) (x y x' y' : ℕ) → ((z : ℕ) → May z → Might z)
-    → (w : Works s count Might a b n m x y) → Works w.after more May a b k m' x' y' → n + more ≤ count → k ≤ more → 0 < n → 0 < k → Works s count Might a b (n + k) m' x' y'
+pub works_then : (s : State) (count more : ℕ) (May Might : ℕ → Type 0) (a b n k : ℕ) (m m' : Memory) (x y x' y' : ℕ)
+    → ((z : ℕ) → May z → Might z)
+    → (w : Works s count Might a b n m x y) → Works w.after more May a b k m' x' y' → n + more ≤ count → k ≤ more
+    → 0 < n → 0 < k → Works s count Might a b (n + k) m' x' y'
 works_then s count more May Might a b n k m m' x y x' y' f w v room few some some' =
     let p = w.pc in
     let q = w.npc in
@@ -62,13 +66,19 @@ works_then s count more May Might a b n k m m' x y x' y' f w v room few some som
     let qv = v.npc in
     let g = w.alike in
     let h = v.alike in
-    let on = λ (o : Memory) (z : Stores May w.after.memory o). stores_then May Might s.memory m o f w.stores (subst (λ (o' : Memory). Stores May o' o) g.memory z) in
+    let on = λ (o : Memory) (z : Stores May w.after.memory o). stores_then May Might s.memory m o f w.stores
+    (subst (λ (o' : Memory). Stores May o' o) g.memory z) in
     record {
       after = v.after;
       path = leads_then (IsBetween s count Might) s w.after v.after n k w.path
           (leads_weaker (IsBetween w.after more May) (IsBetween s count Might) w.after v.after k
           (λ u z. let a1 = z.past in let a2 = z.before in record { past = omega arith; before = omega arith; stores = on u.memory z.stores }) v.path)
-          (λ _ _. record { past = omega arith; before = omega arith; stores = subst (Stores Might s.memory) (sym g.memory) w.stores });
+          (λ _ _. record {
+            past = omega arith;
+            before = omega arith;
+            stores = subst (Stores Might s.memory)
+                (sym g.memory) w.stores;
+          });
       silent = silent_then s w.after n k w.path.steps w.silent v.silent;
       pc = omega arith;
       npc = omega arith;
@@ -83,7 +93,8 @@ works_then s count more May Might a b n k m m' x y x' y' f w v room few some som
         registers = h.registers;
         first = h.first;
         second = h.second;
-        others = λ z na nb. h.others z (subst (λ (wd : ℕ). z ≢ place_of wd a) (sym g.window) na) (subst (λ (wd : ℕ). z ≢ place_of wd b) (sym g.window) nb) ∙ g.others z na nb;
+        others = λ z na nb. h.others z (subst (λ (wd : ℕ). z ≢ place_of wd a) (sym g.window) na)
+            (subst (λ (wd : ℕ). z ≢ place_of wd b) (sym g.window) nb) ∙ g.others z na nb;
         memory = h.memory;
       };
       stores = on m' v.stores;
@@ -91,11 +102,14 @@ works_then s count more May Might a b n k m m' x y x' y' f w v room few some som
     }
 
 -- ---- the state that was reached, as a whole
-same_state : (u : State) (pc npc : ℕ) (slot : Slot) (registers : List ℕ) (window valid : ℕ) (codes : Codes) (y : ℕ) (memory : Memory) (input : List ℕ) (ending : Option Ending)
-    → u.pc ≡ pc → u.npc ≡ npc → u.slot ≡ slot → u.registers ≡ registers → u.window ≡ window → u.valid ≡ valid → u.codes ≡ codes → u.y ≡ y → u.memory ≡ memory → u.input ≡ input → u.ending ≡ ending
+same_state : (u : State) (pc npc : ℕ) (slot : Slot) (registers : List ℕ) (window valid : ℕ) (codes : Codes) (y : ℕ)
+    (memory : Memory) (input : List ℕ) (ending : Option Ending)
+    → u.pc ≡ pc → u.npc ≡ npc → u.slot ≡ slot → u.registers ≡ registers → u.window ≡ window → u.valid ≡ valid
+    → u.codes ≡ codes → u.y ≡ y → u.memory ≡ memory → u.input ≡ input → u.ending ≡ ending
     → u ≡ record { pc = pc; npc = npc; slot = slot; registers = registers; window = window; valid = valid; codes = codes; y = y; memory = memory; input = input; ending = ending }
 same_state u pc npc slot registers window valid codes y memory input ending e1 e2 e3 e4 e5 e6 e7 e8 e9 e10 e11 =
-    ap (λ z. record u { pc = z }) e1 ∙ ap (λ z. record u { pc = pc; npc = z }) e2 ∙ ap (λ (z : Slot). record u { pc = pc; npc = npc; slot = z }) e3
+    ap (λ z. record u { pc = z }) e1 ∙ ap (λ z. record u { pc = pc; npc = z }) e2
+    ∙ ap (λ (z : Slot). record u { pc = pc; npc = npc; slot = z }) e3
     ∙ ap (λ (z : List ℕ). record u { pc = pc; npc = npc; slot = slot; registers = z }) e4
     ∙ ap (λ z. record u { pc = pc; npc = npc; slot = slot; registers = registers; window = z }) e5
     ∙ ap (λ z. record u { pc = pc; npc = npc; slot = slot; registers = registers; window = window; valid = z }) e6
@@ -110,13 +124,18 @@ in_place registers w zero some = absurd (omega arith)
 in_place registers w (suc r) some = refl
 
 -- both registers as they are in another list
-both_same : (us qs : List ℕ) (w a b : ℕ) → 0 < a → 0 < b → length us ≡ 136 → length qs ≡ 136 → register_in us w a ≡ register_in qs w a → register_in us w b ≡ register_in qs w b
+both_same : (us qs : List ℕ) (w a b : ℕ) → 0 < a → 0 < b → length us ≡ 136 → length qs ≡ 136
+    → register_in us w a ≡ register_in qs w a → register_in us w b ≡ register_in qs w b
     → ((p : ℕ) → p ≢ place_of w a → p ≢ place_of w b → slice_index us p ≡ slice_index qs p) → us ≡ qs
-both_same us qs w a b sa sb lu lq ea eb others = ext_get_or 0 us qs (lu ∙ sym lq) (λ p h. at p (equal_or_not p (place_of w a)) (equal_or_not p (place_of w b)))
+both_same us qs w a b sa sb lu lq ea eb others = ext_get_or 0 us qs (lu
+    ∙ sym lq) (λ p h. at p (equal_or_not p (place_of w a)) (equal_or_not p (place_of w b)))
   where
-    at : (p : ℕ) → (p ≡ place_of w a) ⊎ (p ≢ place_of w a) → (p ≡ place_of w b) ⊎ (p ≢ place_of w b) → slice_index us p ≡ slice_index qs p
-    at p (inl e) k = ap (slice_index us) e ∙ sym (in_place us w a sa) ∙ ea ∙ in_place qs w a sa ∙ ap (slice_index qs) (sym e)
-    at p (inr n) (inl e) = ap (slice_index us) e ∙ sym (in_place us w b sb) ∙ eb ∙ in_place qs w b sb ∙ ap (slice_index qs) (sym e)
+    at : (p : ℕ) → (p ≡ place_of w a) ⊎ (p ≢ place_of w a) → (p ≡ place_of w b) ⊎ (p ≢ place_of w b)
+        → slice_index us p ≡ slice_index qs p
+    at p (inl e) k = ap (slice_index us) e ∙ sym (in_place us w a sa) ∙ ea ∙ in_place qs w a sa
+        ∙ ap (slice_index qs) (sym e)
+    at p (inr n) (inl e) = ap (slice_index us) e ∙ sym (in_place us w b sb) ∙ eb ∙ in_place qs w b sb
+        ∙ ap (slice_index qs) (sym e)
     at p (inr n) (inr k) = others p n k
 
 module _ (s : State) (count : ℕ) (May : ℕ → Type 0) (a b : ℕ) (c : HasScratch s count a b) where
@@ -127,27 +146,36 @@ module _ (s : State) (count : ℕ) (May : ℕ → Type 0) (a b : ℕ) (c : HasSc
       let h = w.alike in
       same_state w.after _ _ _ (register_set s.registers s.window b y) _ _ _ _ _ _ s.ending w.pc w.npc (w.slot some)
       (both_same w.after.registers (register_set s.registers s.window b y) s.window a b c.first_some c.second_some h.registers (length-register_set s.registers s.window b y ∙ c.registers)
-      (subst (λ (wd : ℕ). register_in w.after.registers wd a ≡ register_in s.registers s.window a) h.window h.first ∙ sym (kept y))
-      (subst (λ (wd : ℕ). register_in w.after.registers wd b ≡ y) h.window h.second ∙ sym (register_in-set s.registers s.window b y c.registers c.second_some))
+      (subst (λ (wd : ℕ). register_in w.after.registers wd a ≡ register_in s.registers s.window a) h.window h.first
+      ∙ sym (kept y))
+      (subst (λ (wd : ℕ). register_in w.after.registers wd b ≡ y) h.window h.second
+      ∙ sym (register_in-set s.registers s.window b y c.registers c.second_some))
       (λ p na nb. h.others p na nb ∙ sym (set_stays s.registers s.window b y p nb)))
       h.window h.valid h.codes h.y_register h.memory h.input (h.live ∙ sym c.ready.live)
     where
       kept : (v : ℕ) → register_in (register_set s.registers s.window b v) s.window a ≡ register_in s.registers s.window a
-      kept v = in_place _ s.window a c.first_some ∙ set_stays s.registers s.window b v (place_of s.window a) (places_differ s.window a b c.window c.first_below c.second_below c.differ) ∙ sym (in_place _ s.window a c.first_some)
+      kept v = in_place _ s.window a c.first_some ∙ set_stays s.registers s.window b v (place_of s.window a)
+          (places_differ s.window a b c.window c.first_below c.second_below c.differ)
+          ∙ sym (in_place _ s.window a c.first_some)
 
   set_own : register_set s.registers s.window b (register_of s b) ≡ s.registers
-  set_own = both_same _ _ s.window a b c.first_some c.second_some (length-register_set s.registers s.window b (register_of s b) ∙ c.registers) c.registers
-      (in_place _ s.window a c.first_some ∙ set_stays s.registers s.window b (register_of s b) (place_of s.window a) (places_differ s.window a b c.window c.first_below c.second_below c.differ) ∙ sym (in_place _ s.window a c.first_some))
+  set_own = both_same _ _ s.window a b c.first_some c.second_some
+      (length-register_set s.registers s.window b (register_of s b) ∙ c.registers) c.registers
+      (in_place _ s.window a c.first_some ∙ set_stays s.registers s.window b (register_of s b) (place_of s.window a)
+      (places_differ s.window a b c.window c.first_below c.second_below c.differ)
+      ∙ sym (in_place _ s.window a c.first_some))
       (register_in-set s.registers s.window b (register_of s b) c.registers c.second_some)
       (λ p na nb. set_stays s.registers s.window b (register_of s b) p nb)
 
   -- both registers as they were
   pub works_same : (n : ℕ) (m : Memory) (w : Works s count May a b n m (register_of s a) (register_of s b)) → 0 < n
       → w.after ≡ record s { pc = s.pc + 4 * n; npc = s.pc + 4 * n + 4; slot = NoSlot; memory = m }
-  works_same n m w some = works_state n m (register_of s b) w some ∙ ap (λ (z : List ℕ). record s { pc = s.pc + 4 * n; npc = s.pc + 4 * n + 4; slot = NoSlot; memory = m; registers = z }) set_own
+  works_same n m w some = works_state n m (register_of s b) w some
+      ∙ ap (λ (z : List ℕ). record s { pc = s.pc + 4 * n; npc = s.pc + 4 * n + 4; slot = NoSlot; memory = m; registers = z }) set_own
 
   -- a register that isn't the first, as long as the second is as it was
-  pub read_is : (m : Memory) (x : ℕ) (u : State) (r : ℕ) → IsAlike s a b m x (register_of s b) u → r < 32 → r ≢ a → register_of u r ≡ register_of s r
+  pub read_is : (m : Memory) (x : ℕ) (u : State) (r : ℕ) → IsAlike s a b m x (register_of s b) u → r < 32 → r ≢ a
+      → register_of u r ≡ register_of s r
   read_is m x u r h low na = go (equal_or_not r b)
     where
       go : (r ≡ b) ⊎ (r ≢ b) → register_of u r ≡ register_of s r
@@ -155,10 +183,13 @@ module _ (s : State) (count : ℕ) (May : ℕ → Type 0) (a b : ℕ) (c : HasSc
       go (inr n) = other_is s count May a b c m x (register_of s b) u r h low na n
 
   -- a jump through the first register, which is loaded back in the jump's slot
-  pub hops_through : (n : ℕ) (m : Memory) (x to : ℕ) (through back : Op2) (address : ℕ) (w : Works s count May a b n m x (register_of s b)) → 0 < n → n + 2 ≡ count
-      → (to % 4 == 0) ≡ true → Says (code_of s.memory) (s.pc + 4 * n) (i.Jmpl 0 a through) → Says (code_of s.memory) (s.pc + 4 * n + 4) (i.Load loads.LD a 0 back)
+  pub hops_through : (n : ℕ) (m : Memory) (x to : ℕ) (through back : Op2) (address : ℕ)
+      (w : Works s count May a b n m x (register_of s b)) → 0 < n → n + 2 ≡ count
+      → (to % 4 == 0) ≡ true → Says (code_of s.memory) (s.pc + 4 * n) (i.Jmpl 0 a through)
+      → Says (code_of s.memory) (s.pc + 4 * n + 4) (i.Load loads.LD a 0 back)
       → ((u : State) → IsAlike s a b m x (register_of s b) u → sum_of u a through ≡ to)
-      → ((u : State) → sum_of u 0 back ≡ address) → (address % 4 == 0) ≡ true → CanLoad m address → memory_word m address ≡ register_of s a
+      → ((u : State) → sum_of u 0 back ≡ address) → (address % 4 == 0) ≡ true → CanLoad m address
+      → memory_word m address ≡ register_of s a
       → Hops s count May to m
   hops_through n m x to through back address w some whole four jump load target sums aligned can value =
       let h = w.alike in
@@ -168,31 +199,45 @@ module _ (s : State) (count : ℕ) (May : ℕ → Type 0) (a b : ℕ) (c : HasSc
       let s2 = delayed (with_register w.after 0 w.after.pc) to in
       let code_is : code_of w.after.memory ≡ code_of s.memory = ap code_of h.memory ∙ w.code in
       let jump_here : Says (code_of w.after.memory) w.after.pc (i.Jmpl 0 a through) =
-      subst (λ (z : List Region). Says z w.after.pc (i.Jmpl 0 a through)) (sym code_is) (subst (λ z. Says (code_of s.memory) z (i.Jmpl 0 a through)) (sym w.pc) jump) in
+      subst (λ (z : List Region). Says z w.after.pc (i.Jmpl 0 a through)) (sym code_is)
+      (subst (λ z. Says (code_of s.memory) z (i.Jmpl 0 a through)) (sym w.pc) jump) in
       let load_here : Says (code_of w.after.memory) w.after.npc (i.Load loads.LD a 0 back) =
-      subst (λ (z : List Region). Says z w.after.npc (i.Load loads.LD a 0 back)) (sym code_is) (subst (λ z. Says (code_of s.memory) z (i.Load loads.LD a 0 back)) (sym w.npc) load) in
-      let one : step_of w.after ≡ s2 = says_step w.after (i.Jmpl 0 a through) h.live jump_here ∙ jump_acts w.after 0 a through to (w.slot some) (target w.after h) four in
+      subst (λ (z : List Region). Says z w.after.npc (i.Load loads.LD a 0 back)) (sym code_is)
+      (subst (λ z. Says (code_of s.memory) z (i.Load loads.LD a 0 back)) (sym w.npc) load) in
+      let one : step_of w.after ≡ s2 = says_step w.after (i.Jmpl 0 a through) h.live jump_here
+      ∙ jump_acts w.after 0 a through to (w.slot some) (target w.after h) four in
       let two : step_of s2 ≡ next (with_register s2 a (register_of s a)) =
       says_step s2 (i.Load loads.LD a 0 back) h.live load_here
       ∙ ld_acts s2 a 0 back address (sums s2) aligned (subst (λ (z : Memory). CanLoad z address) (sym h.memory) can)
       ∙ ap (λ z. next (with_register s2 a z)) (ap (λ (z : Memory). memory_word z address) h.memory ∙ value) in
       let there : next (with_register s2 a (register_of s a)) ≡ hopped s to m =
       same_state (next (with_register s2 a (register_of s a))) _ _ _ s.registers _ _ _ _ _ _ s.ending refl refl refl
-      (both_same (register_set w.after.registers w.after.window a (register_of s a)) s.registers s.window a b c.first_some c.second_some
+      (both_same (register_set w.after.registers w.after.window a
+      (register_of s a)) s.registers s.window a b c.first_some c.second_some
       (length-register_set w.after.registers w.after.window a (register_of s a) ∙ h.registers) c.registers
-      (subst (λ (wd : ℕ). register_in (register_set w.after.registers wd a (register_of s a)) s.window a ≡ register_of s a) (sym h.window) (register_in-set w.after.registers s.window a (register_of s a) h.registers c.first_some))
-      (subst (λ (wd : ℕ). register_in (register_set w.after.registers wd a (register_of s a)) s.window b ≡ register_of s b) (sym h.window)
-      (in_place _ s.window b c.second_some ∙ set_stays w.after.registers s.window a (register_of s a) (place_of s.window b) (places_differ s.window b a c.window c.second_below c.first_below (λ e. c.differ (sym e)))
-      ∙ sym (in_place _ s.window b c.second_some) ∙ subst (λ (wd : ℕ). register_in w.after.registers wd b ≡ register_of s b) h.window h.second))
-      (λ z na nb. set_stays w.after.registers w.after.window a (register_of s a) z (subst (λ (wd : ℕ). z ≢ place_of wd a) (sym h.window) na) ∙ h.others z na nb))
+      (subst (λ (wd : ℕ). register_in (register_set w.after.registers wd a
+      (register_of s a)) s.window a ≡ register_of s a) (sym h.window) (register_in-set w.after.registers s.window a (register_of s a) h.registers c.first_some))
+      (subst (λ (wd : ℕ). register_in (register_set w.after.registers wd a
+      (register_of s a)) s.window b ≡ register_of s b) (sym h.window)
+      (in_place _ s.window b c.second_some ∙ set_stays w.after.registers s.window a (register_of s a)
+      (place_of s.window b) (places_differ s.window b a c.window c.second_below c.first_below
+      (λ e. c.differ (sym e)))
+      ∙ sym (in_place _ s.window b c.second_some) ∙ subst
+      (λ (wd : ℕ). register_in w.after.registers wd b ≡ register_of s b) h.window h.second))
+      (λ z na nb. set_stays w.after.registers w.after.window a (register_of s a) z
+      (subst (λ (wd : ℕ). z ≢ place_of wd a) (sym h.window) na) ∙ h.others z na nb))
       h.window h.valid h.codes h.y_register h.memory h.input (h.live ∙ sym c.ready.live) in
       let inside : Stores May s.memory w.after.memory = subst (Stores May s.memory) (sym h.memory) w.stores in
-      let last = leads_then (IsBetween s count May) w.after s2 (hopped s to m) 1 1 (leads_one _ w.after s2 one) (leads_one _ s2 _ (two ∙ there)) (λ _ _. record { past = omega arith; before = omega arith; stores = inside }) in
+      let last = leads_then (IsBetween s count May) w.after s2 (hopped s to m) 1 1 (leads_one _ w.after s2 one)
+      (leads_one _ s2 _ (two ∙ there)) (λ _ _. record { past = omega arith; before = omega arith; stores = inside }) in
       record {
         path = subst (λ z. Leads (IsBetween s count May) s (hopped s to m) z) whole
-            (leads_then (IsBetween s count May) s w.after (hopped s to m) n 2 w.path last (λ _ _. record { past = omega arith; before = omega arith; stores = inside }));
+            (leads_then (IsBetween s count May) s w.after (hopped s to m) n 2 w.path last
+            (λ _ _. record { past = omega arith; before = omega arith; stores = inside }));
         silent = subst (λ z. IsSilent s z) whole
             (silent_then s w.after n 2 w.path.steps w.silent
-            (silent_then w.after s2 1 1 one (silent_one w.after (says_puts w.after (i.Jmpl 0 a through) (λ cond r x e. cc) jump_here)) (silent_one s2 (says_puts s2 (i.Load loads.LD a 0 back) (λ cond r x e. cc) load_here))));
+            (silent_then w.after s2 1 1 one (silent_one w.after
+            (says_puts w.after (i.Jmpl 0 a through) (λ cond r x e. cc) jump_here)) (silent_one s2
+            (says_puts s2 (i.Load loads.LD a 0 back) (λ cond r x e. cc) load_here))));
         stores = w.stores;
       }

@@ -40,11 +40,14 @@ long_jumps_hop to s valid ready low can words short aligned =
     let rules : BlockRules s 4 IsFirstWord 1 2 = block_rules s 4 IsFirstWord 1 2 c in
     let stored =
     rules.st 0 s.memory g1 g2 1 0 (of_page 0) (page_word 0) g1 rules.none
-    (omega arith, says_at code _ _ _ (omega arith) words.0) (record { sums = λ u k. refl; aligned = refl }) can (λ u k. k.first) refl in
+    (omega arith, says_at code _ _ _ (omega arith) words.0) (record { sums = λ u k. refl; aligned = refl }) can
+    (λ u k. k.first) refl in
     let high =
-    rules.sethi_first 1 m g1 g2 (to / 1024) (1024 * (to / 1024)) stored (omega arith, says_at code _ _ _ (omega arith) words.1.0)
+    rules.sethi_first 1 m g1 g2 (to / 1024) (1024 * (to / 1024)) stored
+    (omega arith, says_at code _ _ _ (omega arith) words.1.0)
     (let e : wrapped (1024 * (to / 1024)) ≡ 1024 * (to / 1024) = omega arith in e) in
-    hops_through s 4 IsFirstWord 1 2 c 2 m (1024 * (to / 1024)) to (Imm (pos (to % 1024))) (of_page 0) (page_word 0) high
+    hops_through s 4 IsFirstWord 1 2 c 2 m (1024 * (to / 1024)) to (Imm (pos (to % 1024))) (of_page 0)
+    (page_word 0) high
     (omega arith) (omega arith) (ap (λ z. z == 0) aligned)
     (says_at code _ _ _ (omega arith) words.1.1.0) (says_at code _ _ _ (omega arith) words.1.1.1.0)
     (λ u k. ap (λ z. wrapped (z + wrapped (to % 1024))) k.first

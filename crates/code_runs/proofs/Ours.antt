@@ -25,7 +25,8 @@ has_not_written a b bs (Some r) h = covers-written a 4 b bs r ∙ h
 unwritten : (a v : ℕ) (r : Region) → covers a 4 r ≡ false → written a (to_be_bytes w32 v) r ≡ r
 unwritten a v r h = ap (λ (z : Bool). if z && r.writable then changed a (to_be_bytes w32 v) r else r) h
 
-same_unwritten : (a v : ℕ) (o : Option Region) → HasNot a o → IsSameRegion o (option_map (written a (to_be_bytes w32 v)) o)
+same_unwritten : (a v : ℕ) (o : Option Region) → HasNot a o
+    → IsSameRegion o (option_map (written a (to_be_bytes w32 v)) o)
 same_unwritten a v None h = tt
 same_unwritten a v (Some r) h = ap without_execution (sym (unwritten a v r h))
 
@@ -44,7 +45,8 @@ region_then (Some a) (Some b) None h k = absurd k
 module _ (pages : List Span) (own : List ℕ) where
   -- ---- words stored
 
-  same_stored : (m : Memory) (a v : ℕ) → IsOurs pages own m → IsAmongWords own a → IsSameOutside pages m (store_word m a v)
+  same_stored : (m : Memory) (a v : ℕ) → IsOurs pages own m → IsAmongWords own a
+      → IsSameOutside pages m (store_word m a v)
   unfolding store_word
   same_stored m a v h among = record {
     heap = sym (unwritten a v m.heap (not_heap a true m (h.words a among)));
@@ -93,7 +95,8 @@ module _ (pages : List Span) (own : List ℕ) where
       kept_act pages Keeps (λ m. record { keeps = λ f. f }) (λ m n o a b. record { keeps = λ f. b.keeps (a.keeps f) })
       (λ b bs m some z. record {
         keeps = λ f a from count among pos out.
-            subst (HasNot a) (sym (find-written from count b bs m.regions)) (has_not_written a b bs _ (f a from count among pos out));
+            subst (HasNot a) (sym (find-written from count b bs m.regions))
+            (has_not_written a b bs _ (f a from count among pos out));
       })
       (λ m b e. record { keeps = λ f. f }) s.memory s x (record { keeps = λ f. f }) apart in
       record {
@@ -106,4 +109,5 @@ ours_stay pages own s x are h apart = still_ours pages own s x are h apart
 
 pub ours_are_stored : OursAreStored
 ours_are_stored pages own m n h k =
-    subst (λ (z : Memory). IsOurs pages own z × IsSameOutside pages m z) (sym k.result) (all_stored pages own k.writes m h k.each)
+    subst (λ (z : Memory). IsOurs pages own z × IsSameOutside pages m z) (sym k.result)
+    (all_stored pages own k.writes m h k.each)

@@ -94,13 +94,15 @@ named_codes false = tt
 named_reads : (instr : Instr) → AreNamed (reads_of instr)
 unfolding AreNamed
 named_reads (i.Branch cond annul disp22) = named_codes (is_conditional cond)
-named_reads (i.Alu op cc rd rs1 op2) = named_then (reg rs1 ++ op2_parts op2) (alu_inputs op) (named_both rs1 op2) (named_inputs op)
+named_reads (i.Alu op cc rd rs1 op2) = named_then (reg rs1 ++ op2_parts op2) (alu_inputs op) (named_both rs1 op2)
+    (named_inputs op)
 named_reads (i.ReadY rd) = tt
 named_reads (i.WriteY rs1 op2) = named_both rs1 op2
 named_reads (i.Jmpl rd rs1 op2) = named_both rs1 op2
 named_reads (i.Flush rs1 op2) = named_both rs1 op2
 named_reads (i.Load kind rd rs1 op2) = named_both rs1 op2
-named_reads (i.Store kind rd rs1 op2) = named_then (reg rs1 ++ op2_parts op2) (stored_parts kind rd) (named_both rs1 op2) (named_stored kind rd)
+named_reads (i.Store kind rd rs1 op2) = named_then (reg rs1 ++ op2_parts op2) (stored_parts kind rd)
+    (named_both rs1 op2) (named_stored kind rd)
 named_reads (i.Ldstub rd rs1 op2) = named_both rs1 op2
 named_reads (i.Swap rd rs1 op2) = named_then (reg rs1 ++ op2_parts op2) (reg rd) (named_both rs1 op2) (named_reg rd)
 named_reads _ = tt
@@ -109,13 +111,17 @@ pub same_parts : (ps : List Part) (s u : State) → AreNamed ps
     → ((item : Item) → IsItem item → IsAmong item s.window ps → IsSameAt item s u) → AreSameAt ps s u
 unfolding AreNamed
 same_parts [] s u h f = tt
-same_parts (Reg r ∷ ps) s u h f =
-    (f (Register (place_of s.window r)) (place_of-some s.window r h.0, place_of-below s.window r) (inl refl), same_parts ps s u h.1 (λ item is z. f item is (inr z)))
+same_parts (Reg r ∷ ps) s u h f = (
+  f (Register (place_of s.window r)) (place_of-some s.window r h.0, place_of-below s.window r)
+      (inl refl),
+  same_parts ps s u h.1 (λ item is z. f item is (inr z)),
+)
 same_parts (Icc ∷ ps) s u h f = (f Codes tt (inl refl), same_parts ps s u h (λ item is z. f item is (inr z)))
 same_parts (Y ∷ ps) s u h f = (f YRegister tt (inl refl), same_parts ps s u h (λ item is z. f item is (inr z)))
 
 same_reading : (instr : Instr) (s u : State)
-    → ((item : Item) → IsItem item → ReadsIn (Some instr) s.window item → IsSameAt item s u) → IsSameForReading instr s u
+    → ((item : Item) → IsItem item → ReadsIn (Some instr) s.window item → IsSameAt item s u)
+    → IsSameForReading instr s u
 same_reading instr s u f = (
   λ all item is. f item is (inl all),
   same_parts (reads_of instr) s u (named_reads instr) (λ item is z. f item is (inr z)),
@@ -137,17 +143,20 @@ twins_from notes s u rs ru w f = record {
   where
     register : (k : ℕ) → k < length s.registers → slice_index s.registers k ≡ slice_index u.registers k
     register zero below = rs.zero ∙ sym ru.zero
-    register (suc k) below = let count : length s.registers ≡ 136 = rs.count in f (Register (suc k)) (omega arith, omega arith)
+    register (suc k) below = let count : length s.registers ≡ 136 = rs.count in f (Register (suc k))
+        (omega arith, omega arith)
 
 module _ (notes : Notes) (s u : State) (rs : AreRegisters s.registers) (ru : AreRegisters u.registers)
     (w : IsSameWorld (pages_of notes) s u) where
   sum_same : (rs1 : ℕ) (op2 : Op2) → AreSameAt (reg rs1 ++ op2_parts op2) s u → sum_of s rs1 op2 ≡ sum_of u rs1 op2
-  sum_same rs1 op2 h = same_sum rs1 op2 s u w.window (same_first (reg rs1) (op2_parts op2) s u h) (same_rest (reg rs1) (op2_parts op2) s u h)
+  sum_same rs1 op2 h = same_sum rs1 op2 s u w.window (same_first (reg rs1) (op2_parts op2) s u h)
+      (same_rest (reg rs1) (op2_parts op2) s u h)
 
   judged_same : (instr : Instr) → IsSameForReading instr s u → AllApart (pages_of notes) (judged_by s instr)
       → AllApart (pages_of notes) (judged_by u instr)
   judged_same (i.Load kind rd rs1 op2) h apart =
-      subst (λ (z : ℕ). AllApart (pages_of notes) (aligned_span (load_size kind) z (load_size kind))) (sum_same rs1 op2 h.1) apart
+      subst (λ (z : ℕ). AllApart (pages_of notes) (aligned_span (load_size kind) z (load_size kind)))
+      (sum_same rs1 op2 h.1) apart
   judged_same (i.Store kind rd rs1 op2) h apart =
       subst (λ (z : ℕ). AllApart (pages_of notes) (aligned_span (store_size kind) z (store_size kind)))
       (sum_same rs1 op2 (same_first (reg rs1 ++ op2_parts op2) (stored_parts kind rd) s u h.1)) apart
@@ -156,9 +165,12 @@ module _ (notes : Notes) (s u : State) (rs : AreRegisters s.registers) (ru : Are
   judged_same (i.Swap rd rs1 op2) h apart =
       subst (λ (z : ℕ). AllApart (pages_of notes) (aligned_span 4 z 4))
       (sum_same rs1 op2 (same_first (reg rs1 ++ op2_parts op2) (reg rd) s u h.1)) apart
-  judged_same (i.Save rd rs1 op2) h apart = judged_alike notes (i.Save rd rs1 op2) s u (twins_from notes s u rs ru w (h.0 refl)) apart
-  judged_same (i.Restore rd rs1 op2) h apart = judged_alike notes (i.Restore rd rs1 op2) s u (twins_from notes s u rs ru w (h.0 refl)) apart
-  judged_same (i.Ticc cond rs1 op2) h apart = judged_alike notes (i.Ticc cond rs1 op2) s u (twins_from notes s u rs ru w (h.0 refl)) apart
+  judged_same (i.Save rd rs1 op2) h apart = judged_alike notes (i.Save rd rs1 op2) s u
+      (twins_from notes s u rs ru w (h.0 refl)) apart
+  judged_same (i.Restore rd rs1 op2) h apart = judged_alike notes (i.Restore rd rs1 op2) s u
+      (twins_from notes s u rs ru w (h.0 refl)) apart
+  judged_same (i.Ticc cond rs1 op2) h apart = judged_alike notes (i.Ticc cond rs1 op2) s u
+      (twins_from notes s u rs ru w (h.0 refl)) apart
   judged_same (i.Sethi rd imm22) h apart = apart
   judged_same (i.Branch cond annul disp22) h apart = apart
   judged_same (i.Call disp30) h apart = apart
@@ -200,7 +212,8 @@ led_unless pages instr s u a b x y e w h =
 
 module _ (pages : List Span) (s u : State) (live : s.ending ≡ None) (live' : u.ending ≡ None)
     (w : IsSameWorld pages s u) (at : AreAtOnePoint s u) where
-  linked_items : (rd v v' : ℕ) (to to' : ℕ) → v ≡ v' → (item : Item) → IsAmong item s.window (reg rd) ⊎ IsSameAt item s u
+  linked_items : (rd v v' : ℕ) (to to' : ℕ) → v ≡ v' → (item : Item)
+      → IsAmong item s.window (reg rd) ⊎ IsSameAt item s u
       → IsSameAt item (delayed (with_register s rd v) to) (delayed (with_register u rd v') to')
   linked_items rd v v' to to' e (Register n) h =
       place_one s.registers u.registers s.window rd v n w.registers h
@@ -223,15 +236,18 @@ module _ (pages : List Span) (s u : State) (live : s.ending ≡ None) (live' : u
         valid = w.valid;
         input = w.input;
         memory = w.memory;
-        registers = same_lengths s.registers u.registers (register_set s.registers s.window rd s.pc) (register_set u.registers u.window rd u.pc)
-            w.registers (length-register_set s.registers s.window rd s.pc) (length-register_set u.registers u.window rd u.pc);
+        registers = same_lengths s.registers u.registers (register_set s.registers s.window rd s.pc)
+            (register_set u.registers u.window rd u.pc)
+            w.registers (length-register_set s.registers s.window rd s.pc)
+            (length-register_set u.registers u.window rd u.pc);
       };
       items = λ _ item g. linked_items rd s.pc u.pc to to' at.pc item (among item g);
     };
     point = λ _. record { pc = at.npc; npc = e; slot = refl };
   }
     where
-      among : (item : Item) → IsAmong item s.window (writes_of instr) ⊎ IsSameAt item s u → IsAmong item s.window (reg rd) ⊎ IsSameAt item s u
+      among : (item : Item) → IsAmong item s.window (writes_of instr) ⊎ IsSameAt item s u
+          → IsAmong item s.window (reg rd) ⊎ IsSameAt item s u
       among item (inl x) = inl (f item x)
       among item (inr x) = inr x
 
@@ -242,7 +258,8 @@ module _ (pages : List Span) (s u : State) (live : s.ending ≡ None) (live' : u
   still_items pc npc pc' npc' slot slot' Codes (inr h) = h
   still_items pc npc pc' npc' slot slot' YRegister (inr h) = h
 
-  led_moved : (cond : ℕ) (annul : Bool) (disp : ℤ) (pc npc pc' npc' : ℕ) (slot slot' : Slot) → pc ≡ pc' → npc ≡ npc' → slot ≡ slot'
+  led_moved : (cond : ℕ) (annul : Bool) (disp : ℤ) (pc npc pc' npc' : ℕ) (slot slot' : Slot) → pc ≡ pc' → npc ≡ npc'
+      → slot ≡ slot'
       → AreLed pages (i.Branch cond annul disp) s u (moved pc npc slot s) (moved pc' npc' slot' u)
   led_moved cond annul disp pc npc pc' npc' slot slot' a b c = record {
     alike = record {
@@ -255,12 +272,14 @@ module _ (pages : List Span) (s u : State) (live : s.ending ≡ None) (live' : u
 
   led_branched : (cond : ℕ) (a : Bool) (disp : ℤ) (flag always annul : Bool) (to to' : ℕ) → to ≡ to'
       → AreLed pages (i.Branch cond a disp) s u (branched flag always annul s to) (branched flag always annul u to')
-  led_branched cond a disp true true true to to' e = led_moved cond a disp _ _ _ _ s.slot u.slot e (ap (λ z. wrapped (z + 4)) e) at.slot
+  led_branched cond a disp true true true to to' e = led_moved cond a disp _ _ _ _ s.slot u.slot e
+      (ap (λ z. wrapped (z + 4)) e) at.slot
   led_branched cond a disp true true false to to' e = led_moved cond a disp _ _ _ _ Taken Taken at.npc e refl
   led_branched cond a disp true false true to to' e = led_moved cond a disp _ _ _ _ Taken Taken at.npc e refl
   led_branched cond a disp true false false to to' e = led_moved cond a disp _ _ _ _ Taken Taken at.npc e refl
   led_branched cond a disp false always true to to' e =
-      led_moved cond a disp _ _ _ _ s.slot u.slot (ap (λ z. wrapped (z + 8)) at.pc) (ap (λ z. wrapped (z + 12)) at.pc) at.slot
+      led_moved cond a disp _ _ _ _ s.slot u.slot (ap (λ z. wrapped (z + 8)) at.pc)
+      (ap (λ z. wrapped (z + 12)) at.pc) at.slot
   led_branched cond a disp false always false to to' e =
       led_moved cond a disp _ _ _ _ Untaken Untaken at.npc (ap (λ z. wrapped (z + 4)) at.npc) refl
 
@@ -290,18 +309,22 @@ module _ (pages : List Span) (s u : State) (live : s.ending ≡ None) (live' : u
   transfers_alike (i.Branch cond annul disp22) e h =
       led_unless pages (i.Branch cond annul disp22) s u _ _ s.slot u.slot at.slot w
       (subst (λ (z : Bool). AreLed pages (i.Branch cond annul disp22) s u
-      (branched (holds_of cond s.codes) (cond == 8) annul s (target_of s disp22)) (branched z (cond == 8) annul u (target_of u disp22)))
+      (branched (holds_of cond s.codes) (cond == 8) annul s (target_of s disp22))
+      (branched z (cond == 8) annul u (target_of u disp22)))
       (holds_same cond (cond == 0) (cond == 8) refl refl h.1)
-      (led_branched cond annul disp22 (holds_of cond s.codes) (cond == 8) annul (target_of s disp22) (target_of u disp22) (target_same disp22)))
+      (led_branched cond annul disp22 (holds_of cond s.codes) (cond == 8) annul (target_of s disp22)
+      (target_of u disp22) (target_same disp22)))
   transfers_alike (i.Call disp30) e h =
       led_unless pages (i.Call disp30) s u _ _ s.slot u.slot at.slot w
       (led_delayed (i.Call disp30) 15 (target_of s disp30) (target_of u disp30) (target_same disp30) (λ item x. x))
   transfers_alike (i.Jmpl rd rs1 op2) e h =
       let sum : sum_of s rs1 op2 ≡ sum_of u rs1 op2 =
-      same_sum rs1 op2 s u w.window (same_first (reg rs1) (op2_parts op2) s u h.1) (same_rest (reg rs1) (op2_parts op2) s u h.1) in
+      same_sum rs1 op2 s u w.window (same_first (reg rs1) (op2_parts op2) s u h.1)
+      (same_rest (reg rs1) (op2_parts op2) s u h.1) in
       led_unless pages (i.Jmpl rd rs1 op2) s u _ _ s.slot u.slot at.slot w
       (subst (λ (z : ℕ). AreLed pages (i.Jmpl rd rs1 op2) s u
-      (if sum_of s rs1 op2 % 4 == 0 then delayed (with_register s rd s.pc) (sum_of s rs1 op2) else trapped s mem_address_not_aligned)
+      (if sum_of s rs1 op2 % 4 == 0 then delayed (with_register s rd s.pc)
+      (sum_of s rs1 op2) else trapped s mem_address_not_aligned)
       (if z % 4 == 0 then delayed (with_register u rd u.pc) z else trapped u mem_address_not_aligned)) sum
       (led_jump rd rs1 op2 (sum_of s rs1 op2 % 4 == 0) (sum_of s rs1 op2) (sum_of s rs1 op2) refl))
   transfers_alike (i.Sethi rd imm22) e h = absurd (cc)

@@ -33,17 +33,31 @@ shape b bs r = go (covers b (length bs) r) refl r.writable
       readable = refl;
       writable = refl;
       whole = λ h. (let i = covered b (length bs) r e in
-          omega (arith, length-append (take (b - r.start) r.bytes ++ bs) (drop (b - r.start + length bs) r.bytes), length-append (take (b - r.start) r.bytes) bs, length-take (b - r.start) r.bytes, length-drop (b - r.start + length bs) r.bytes, i.0, i.1));
+          omega (
+            arith,
+            length-append (take (b - r.start) r.bytes ++ bs)
+                (drop (b - r.start + length bs) r.bytes),
+            length-append (take (b - r.start) r.bytes) bs,
+            length-take
+                (b - r.start) r.bytes,
+            length-drop (b - r.start + length bs) r.bytes,
+            i.0,
+            i.1,
+          ));
     }
     go true e false = record { start = refl; size = refl; readable = refl; writable = refl; whole = λ h. h }
     go false e w = record { start = refl; size = refl; readable = refl; writable = refl; whole = λ h. h }
 
-part : (r : Region) (a b : ℕ) (bs : List ℕ) → r.size ≤ length r.bytes → covers a 4 r ≡ true → (a + 4 ≤ b) ⊎ (b + length bs ≤ a) → part_of (written b bs r) a 4 ≡ part_of r a 4
+part : (r : Region) (a b : ℕ) (bs : List ℕ) → r.size ≤ length r.bytes → covers a 4 r ≡ true
+    → (a + 4 ≤ b) ⊎ (b + length bs ≤ a) → part_of (written b bs r) a 4 ≡ part_of r a 4
 part r a b bs whole has apart = go (covers b (length bs) r) refl r.writable apart
   where
-    go : (c : Bool) → covers b (length bs) r ≡ c → (w : Bool) → (a + 4 ≤ b) ⊎ (b + length bs ≤ a) → part_of (if c && w then changed b bs r else r) a 4 ≡ part_of r a 4
-    go true e true (inl s) = let i = covered b (length bs) r e in let j = covered a 4 r has in spliced_other r.bytes bs (b - r.start) (a - r.start) 4 (omega (arith, i.0, i.1)) (inl (omega (arith, i.0, i.1, j.0, j.1)))
-    go true e true (inr s) = let i = covered b (length bs) r e in let j = covered a 4 r has in spliced_other r.bytes bs (b - r.start) (a - r.start) 4 (omega (arith, i.0, i.1)) (inr (omega (arith, i.0, i.1, j.0, j.1)))
+    go : (c : Bool) → covers b (length bs) r ≡ c → (w : Bool) → (a + 4 ≤ b) ⊎ (b + length bs ≤ a)
+        → part_of (if c && w then changed b bs r else r) a 4 ≡ part_of r a 4
+    go true e true (inl s) = let i = covered b (length bs) r e in let j = covered a 4 r has in spliced_other r.bytes bs
+        (b - r.start) (a - r.start) 4 (omega (arith, i.0, i.1)) (inl (omega (arith, i.0, i.1, j.0, j.1)))
+    go true e true (inr s) = let i = covered b (length bs) r e in let j = covered a 4 r has in spliced_other r.bytes bs
+        (b - r.start) (a - r.start) 4 (omega (arith, i.0, i.1)) (inr (omega (arith, i.0, i.1, j.0, j.1)))
     go true e false s = refl
     go false e w s = refl
 
@@ -91,7 +105,8 @@ there_written a b writable bs m h =
       whole = s.whole h.whole;
     }
 
-keeps_write : (a : ℕ) (f : Bool) (pages : List Span) (b : ℕ) (bs : List ℕ) (m : Memory) → IsWithin pages a → 0 < length bs → IsApartFromAll pages (record { from = b; count = length bs }) → Keeps a f m (all_written b bs m)
+keeps_write : (a : ℕ) (f : Bool) (pages : List Span) (b : ℕ) (bs : List ℕ) (m : Memory) → IsWithin pages a
+    → 0 < length bs → IsApartFromAll pages (record { from = b; count = length bs }) → Keeps a f m (all_written b bs m)
 keeps_write a f pages b bs m within some apart = record {
   keeps = λ h. (
     there_written a b f bs m h,
@@ -103,7 +118,22 @@ keeps_write a f pages b bs m within some apart = record {
 }
 
 keeps_heap : (a : ℕ) (f : Bool) (m : Memory) (b : ℕ) → is_heap_end b ≡ true → Keeps a f m (with_heap_end m b)
-keeps_heap a f m b e = record { keeps = λ h. (record { start = h.start; size = (let s = h.start in let g : b ≤ 0x81000000 = top b e in omega arith); away = h.away; region = h.region; at = h.at; readable = h.readable; may_write = h.may_write; whole = h.whole }, refl) }
+keeps_heap a f m b e = record {
+  keeps = λ h. (
+    record {
+      start = h.start;
+      size =
+          (let s = h.start in let g : b ≤ 0x81000000 = top b e in omega arith);
+      away = h.away;
+      region = h.region;
+      at = h.at;
+      readable = h.readable;
+      may_write = h.may_write;
+      whole = h.whole;
+    },
+    refl,
+  );
+}
   where
     top : (b : ℕ) → is_heap_end b ≡ true → b ≤ 0x81000000
     top b e = grind (arith, nat_tests)
@@ -114,8 +144,10 @@ not_heap a f m h = go (covers a 4 m.heap) refl h.away
   where
     go : (c : Bool) → covers a 4 m.heap ≡ c → (a + 4 ≤ heap_start) ⊎ (heap_start + heap_room ≤ a) → c ≡ false
     go false e o = refl
-    go true e (inl k) = let i = covered a 4 m.heap e in let s = h.start in let z = h.size in absurd (omega (arith, i.0, i.1))
-    go true e (inr k) = let i = covered a 4 m.heap e in let s = h.start in let z = h.size in absurd (omega (arith, i.0, i.1))
+    go true e (inl k) = let i = covered a 4 m.heap e in let s = h.start in let z = h.size in absurd
+        (omega (arith, i.0, i.1))
+    go true e (inr k) = let i = covered a 4 m.heap e in let s = h.start in let z = h.size in absurd
+        (omega (arith, i.0, i.1))
 
 pub region_of_word : (a : ℕ) (f : Bool) (m : Memory) → HasWordAt a f m → region_at m a 4 ≡ find (covers a 4) m.regions
 region_of_word a f m h = ap (λ (z : Bool). if z then Some m.heap else find (covers a 4) m.regions) (not_heap a f m h)
@@ -124,12 +156,24 @@ pub loads_there : (a : ℕ) (f : Bool) (m : Memory) → HasWordAt a f m → CanL
 loads_there a f m h = record { region = h.region; at = region_of_word a f m h ∙ h.at; readable = h.readable }
 
 pub stores_there : (a : ℕ) (m : Memory) → HasWordAt a true m → CanStore m a
-stores_there a m h = record { region = h.region; at = region_of_word a true m h ∙ h.at; readable = h.readable; writable = h.may_write; whole = h.whole }
+stores_there a m h = record {
+  region = h.region;
+  at = region_of_word a true m h
+      ∙ h.at;
+  readable = h.readable;
+  writable = h.may_write;
+  whole = h.whole;
+}
 
 pub words_stay : WordsStay
 unfolding memory_word
 words_stay pages a writable s x within apart h =
-    let k : Keeps a writable s.memory (act s x).memory = kept_act pages (Keeps a writable) (keeps_same a writable) (keeps_then a writable)
-    (λ b bs m some z. keeps_write a writable pages b bs m (is_within pages a within) some z) (keeps_heap a writable) s.memory s x (keeps_same a writable s.memory) apart in
-    let y = k.keeps h in
-    (y.0, ap (word_in a) (region_of_word a writable (act s x).memory y.0) ∙ y.1 ∙ sym (ap (word_in a) (region_of_word a writable s.memory h)))
+    let k : Keeps a writable s.memory (act s x).memory = kept_act pages (Keeps a writable) (keeps_same a writable)
+    (keeps_then a writable)
+    (λ b bs m some z. keeps_write a writable pages b bs m (is_within pages a within) some z)
+    (keeps_heap a writable) s.memory s x (keeps_same a writable s.memory) apart in
+    let y = k.keeps h in (
+      y.0,
+      ap (word_in a) (region_of_word a writable (act s x).memory y.0) ∙ y.1
+          ∙ sym (ap (word_in a) (region_of_word a writable s.memory h)),
+    )

@@ -16,7 +16,8 @@ use Rattle.v8_step.specs.Valid.{AreBytes, IsValidMemory, IsValidRegion}
 use Rattle.v8_step.proofs.ValidNumbers.{word_of-range}
 use Rattle.code_runs.specs.StoredWords.{word_in, memory_word, store_word, CanLoad, CanStore}
 
-covers_case : (p : Region → Bool) (q r : Region) (rs : List Region) (b : Bool) → p q ≡ b → (if b then Some q else find p rs) ≡ Some r → (find p rs ≡ Some r → p r ≡ true) → p r ≡ true
+covers_case : (p : Region → Bool) (q r : Region) (rs : List Region) (b : Bool) → p q ≡ b
+    → (if b then Some q else find p rs) ≡ Some r → (find p rs ≡ Some r → p r ≡ true) → p r ≡ true
 covers_case p q r rs true h f k = let g : q ≡ r = cc in subst (λ (z : Region). p z ≡ true) g h
 covers_case p q r rs false h f k = k f
 
@@ -25,19 +26,24 @@ covers_first p [] r e = absurd (cc)
 covers_first p (q ∷ rs) r e = covers_case p q r rs (p q) refl e (λ f. covers_first p rs r f)
 
 -- a part of what was spliced in
-spliced_same : (xs bs : List ℕ) (k : ℕ) → k ≤ length xs → take (length bs) (drop k (take k xs ++ bs ++ drop (k + length bs) xs)) ≡ bs
+spliced_same : (xs bs : List ℕ) (k : ℕ) → k ≤ length xs
+    → take (length bs) (drop k (take k xs ++ bs ++ drop (k + length bs) xs)) ≡ bs
 spliced_same xs bs k h =
     let e : length (take k xs) ≡ k = omega (arith, length-take k xs) in
     ap (λ (z : List ℕ). take (length bs) (drop k z)) (append_assoc (take k xs) bs (drop (k + length bs) xs))
     ∙ ap (λ z. take (length bs) (drop z (take k xs ++ (bs ++ drop (k + length bs) xs)))) (sym e)
-    ∙ ap (take (length bs)) (drop-append_seam (take k xs) (bs ++ drop (k + length bs) xs)) ∙ take-append_seam bs (drop (k + length bs) xs)
+    ∙ ap (take (length bs)) (drop-append_seam (take k xs) (bs ++ drop (k + length bs) xs))
+    ∙ take-append_seam bs (drop (k + length bs) xs)
 
 before : (xs ys : List ℕ) (j n : ℕ) → j + n ≤ length xs → take n (drop j (xs ++ ys)) ≡ take n (drop j xs)
-before xs ys j n h = ap (take n) (drop-append-le j xs ys (omega arith)) ∙ take-append-le n (drop j xs) ys (omega (arith, length-drop j xs))
+before xs ys j n h = ap (take n) (drop-append-le j xs ys (omega arith))
+    ∙ take-append-le n (drop j xs) ys (omega (arith, length-drop j xs))
 
-past : (xs bs ys : List ℕ) (j : ℕ) → length xs + length bs ≤ j → drop j (xs ++ bs ++ ys) ≡ drop (j - (length xs + length bs)) ys
+past : (xs bs ys : List ℕ) (j : ℕ) → length xs + length bs ≤ j
+    → drop j (xs ++ bs ++ ys) ≡ drop (j - (length xs + length bs)) ys
 past xs bs ys j h =
-    ap (λ z. drop z (xs ++ bs ++ ys)) (let e : j ≡ length (xs ++ bs) + (j - (length xs + length bs)) = omega (arith, length-append xs bs) in e)
+    ap (λ z. drop z (xs ++ bs ++ ys)) (let e : j ≡ length (xs ++ bs) + (j - (length xs + length bs)) = omega
+    (arith, length-append xs bs) in e)
     ∙ drop-append-add (xs ++ bs) ys (j - (length xs + length bs))
 
 whole : (xs : List ℕ) (k n : ℕ) → take k xs ++ take n (drop k xs) ++ drop (k + n) xs ≡ xs
@@ -46,16 +52,20 @@ whole xs k n =
     ∙ ap (λ (z : List ℕ). take k xs ++ (take n (drop k xs) ++ z)) (sym (drop-drop n k xs))
     ∙ ap (λ (z : List ℕ). take k xs ++ z) (take-append-drop n (drop k xs)) ∙ take-append-drop k xs
 
-pub spliced_other : (xs bs : List ℕ) (k j n : ℕ) → k + length bs ≤ length xs → (j + n ≤ k) ⊎ (k + length bs ≤ j) → take n (drop j (take k xs ++ bs ++ drop (k + length bs) xs)) ≡ take n (drop j xs)
+pub spliced_other : (xs bs : List ℕ) (k j n : ℕ) → k + length bs ≤ length xs → (j + n ≤ k) ⊎ (k + length bs ≤ j)
+    → take n (drop j (take k xs ++ bs ++ drop (k + length bs) xs)) ≡ take n (drop j xs)
 spliced_other xs bs k j n h (inl s) =
     let e : length (take k xs) ≡ k = omega (arith, length-take k xs) in
     ap (λ (z : List ℕ). take n (drop j z)) (append_assoc (take k xs) bs (drop (k + length bs) xs))
-    ∙ before (take k xs) _ j n (omega arith) ∙ sym (before (take k xs) (drop k xs) j n (omega arith)) ∙ ap (λ (z : List ℕ). take n (drop j z)) (take-append-drop k xs)
+    ∙ before (take k xs) _ j n (omega arith) ∙ sym (before (take k xs) (drop k xs) j n (omega arith))
+    ∙ ap (λ (z : List ℕ). take n (drop j z)) (take-append-drop k xs)
 spliced_other xs bs k j n h (inr s) =
     let e : length (take k xs) ≡ k = omega (arith, length-take k xs) in
-    let f : length (take (length bs) (drop k xs)) ≡ length bs = omega (arith, length-take (length bs) (drop k xs), length-drop k xs) in
+    let f : length (take (length bs) (drop k xs)) ≡ length bs = omega
+    (arith, length-take (length bs) (drop k xs), length-drop k xs) in
     ap (take n) (past (take k xs) bs (drop (k + length bs) xs) j (omega arith)
-    ∙ ap (λ z. drop z (drop (k + length bs) xs)) (let g : j - (length (take k xs) + length bs) ≡ j - (length (take k xs) + length (take (length bs) (drop k xs))) = omega arith in g)
+    ∙ ap (λ z. drop z (drop (k + length bs) xs)) (let g : j - (length (take k xs) + length bs) ≡ j -
+    (length (take k xs) + length (take (length bs) (drop k xs))) = omega arith in g)
     ∙ sym (past (take k xs) (take (length bs) (drop k xs)) (drop (k + length bs) xs) j (omega arith))
     ∙ ap (drop j) (whole xs k (length bs)))
 
@@ -63,34 +73,69 @@ spliced_other xs bs k j n h (inr s) =
 width : (v : ℕ) → length (to_be_bytes w32 v) ≡ 4
 width v = refl
 
-placed_in : (m : Memory) (a b v : ℕ) → region_at (store_word m b v) a 4 ≡ option_map (written b (to_be_bytes w32 v)) (region_at m a 4)
+placed_in : (m : Memory) (a b v : ℕ) → region_at (store_word m b v) a 4 ≡ option_map (written b (to_be_bytes w32 v))
+    (region_at m a 4)
 unfolding store_word
 placed_in m a b v = find-written a 4 b (to_be_bytes w32 v) (m.heap ∷ m.regions)
 
-written_when : (a : ℕ) (bs : List ℕ) (r : Region) → covers a (length bs) r ≡ true → r.writable ≡ true → written a bs r ≡ record r { bytes = take (a - r.start) r.bytes ++ bs ++ drop (a - r.start + length bs) r.bytes }
-written_when a bs r h k = ap (λ (z : Bool). if z && r.writable then record r { bytes = take (a - r.start) r.bytes ++ bs ++ drop (a - r.start + length bs) r.bytes } else r) h
-    ∙ ap (λ (z : Bool). if z then record r { bytes = take (a - r.start) r.bytes ++ bs ++ drop (a - r.start + length bs) r.bytes } else r) k
+written_when : (a : ℕ) (bs : List ℕ) (r : Region) → covers a (length bs) r ≡ true → r.writable ≡ true
+    → written a bs r ≡ record r { bytes = take (a - r.start) r.bytes ++ bs ++ drop (a - r.start + length bs) r.bytes }
+written_when a bs r h k = ap (λ (z : Bool). if z && r.writable then record r {
+  bytes = take
+      (a - r.start) r.bytes ++ bs ++ drop (a - r.start + length bs) r.bytes;
+} else r) h
+    ∙ ap (λ (z : Bool). if z then record r {
+      bytes = take (a - r.start) r.bytes ++ bs ++ drop
+          (a - r.start + length bs) r.bytes;
+    } else r) k
 
 pub covered : (a n : ℕ) (r : Region) → covers a n r ≡ true → (r.start ≤ a) × (a + n ≤ r.start + r.size)
 covered a n r h = grind (arith, nat_tests)
 
 -- a region that has the cell still has it after a write
-kept : (b v : ℕ) (r : Region) → r.size ≤ length r.bytes → (written b (to_be_bytes w32 v) r).size ≤ length (written b (to_be_bytes w32 v) r).bytes
+kept : (b v : ℕ) (r : Region) → r.size ≤ length r.bytes
+    → (written b (to_be_bytes w32 v) r).size ≤ length (written b (to_be_bytes w32 v) r).bytes
 kept b v r h = go (covers b 4 r) refl r.writable
   where
-    go : (c : Bool) → covers b 4 r ≡ c → (w : Bool) → (if c && w then record r { bytes = take (b - r.start) r.bytes ++ to_be_bytes w32 v ++ drop (b - r.start + 4) r.bytes } else r).size
-        ≤ length (if c && w then record r { bytes = take (b - r.start) r.bytes ++ to_be_bytes w32 v ++ drop (b - r.start + 4) r.bytes } else r).bytes
+    go : (c : Bool) → covers b 4 r ≡ c → (w : Bool)
+        → (if c && w then record r {
+          bytes = take (b - r.start) r.bytes ++ to_be_bytes w32 v ++ drop
+              (b - r.start + 4) r.bytes;
+        } else r).size
+        ≤ length (if c && w then record r {
+          bytes = take (b - r.start) r.bytes ++ to_be_bytes w32 v ++ drop
+              (b - r.start + 4) r.bytes;
+        } else r).bytes
     go true e true =
         let i = covered b 4 r e in
-        omega (arith, length-append (take (b - r.start) r.bytes ++ to_be_bytes w32 v) (drop (b - r.start + 4) r.bytes), length-append (take (b - r.start) r.bytes) (to_be_bytes w32 v), width v, length-take (b - r.start) r.bytes, length-drop (b - r.start + 4) r.bytes, i.0, i.1)
+        omega (
+          arith,
+          length-append (take (b - r.start) r.bytes ++ to_be_bytes w32 v)
+              (drop (b - r.start + 4) r.bytes),
+          length-append (take (b - r.start) r.bytes)
+              (to_be_bytes w32 v),
+          width v,
+          length-take (b - r.start) r.bytes,
+          length-drop
+              (b - r.start + 4) r.bytes,
+          i.0,
+          i.1,
+        )
     go true e false = h
     go false e w = h
 
-flags : (b v : ℕ) (r : Region) → ((written b (to_be_bytes w32 v) r).readable ≡ r.readable) × ((written b (to_be_bytes w32 v) r).writable ≡ r.writable)
+flags : (b v : ℕ) (r : Region) → ((written b (to_be_bytes w32 v) r).readable ≡ r.readable)
+    × ((written b (to_be_bytes w32 v) r).writable ≡ r.writable)
 flags b v r = go (covers b 4 r && r.writable)
   where
-    go : (c : Bool) → ((if c then record r { bytes = take (b - r.start) r.bytes ++ to_be_bytes w32 v ++ drop (b - r.start + 4) r.bytes } else r).readable ≡ r.readable)
-        × ((if c then record r { bytes = take (b - r.start) r.bytes ++ to_be_bytes w32 v ++ drop (b - r.start + 4) r.bytes } else r).writable ≡ r.writable)
+    go : (c : Bool) → ((if c then record r {
+      bytes = take (b - r.start) r.bytes ++ to_be_bytes w32 v ++ drop
+          (b - r.start + 4) r.bytes;
+    } else r).readable ≡ r.readable)
+        × ((if c then record r {
+          bytes = take (b - r.start) r.bytes ++ to_be_bytes w32 v ++ drop
+              (b - r.start + 4) r.bytes;
+        } else r).writable ≡ r.writable)
     go true = (refl, refl)
     go false = (refl, refl)
 
@@ -110,20 +155,30 @@ pub word_stored : (m : Memory) (a v : ℕ) → v < 2 ^ 32 → CanStore m a → m
 unfolding memory_word
 word_stored m a v small h =
     let i = covered a 4 h.region (has m a h) in
-    ap (word_in a) (placed_in m a a v ∙ ap (option_map (written a (to_be_bytes w32 v))) h.at ∙ ap (λ (z : Region). Some z) (written_when a (to_be_bytes w32 v) h.region (has m a h) h.writable))
-    ∙ ap (from_be_bytes w32) (spliced_same h.region.bytes (to_be_bytes w32 v) (a - h.region.start) (let w = h.whole in omega (arith, i.0, i.1)))
+    ap (word_in a) (placed_in m a a v ∙ ap (option_map (written a (to_be_bytes w32 v))) h.at
+    ∙ ap (λ (z : Region). Some z) (written_when a (to_be_bytes w32 v) h.region (has m a h) h.writable))
+    ∙ ap (from_be_bytes w32) (spliced_same h.region.bytes (to_be_bytes w32 v) (a - h.region.start)
+    (let w = h.whole in omega (arith, i.0, i.1)))
     ∙ from_be_bytes-to_be_bytes_4 v small
 
-other_part : (r : Region) (a b v : ℕ) → r.size ≤ length r.bytes → r.start ≤ a → (a + 4 ≤ b) ⊎ (b + 4 ≤ a) → part_of (written b (to_be_bytes w32 v) r) a 4 ≡ part_of r a 4
+other_part : (r : Region) (a b v : ℕ) → r.size ≤ length r.bytes → r.start ≤ a → (a + 4 ≤ b) ⊎ (b + 4 ≤ a)
+    → part_of (written b (to_be_bytes w32 v) r) a 4 ≡ part_of r a 4
 other_part r a b v whole low apart = go (covers b 4 r) refl r.writable apart
   where
-    go : (c : Bool) → covers b 4 r ≡ c → (w : Bool) → (a + 4 ≤ b) ⊎ (b + 4 ≤ a) → part_of (if c && w then record r { bytes = take (b - r.start) r.bytes ++ to_be_bytes w32 v ++ drop (b - r.start + 4) r.bytes } else r) a 4 ≡ part_of r a 4
-    go true e true (inl s) = let i = covered b 4 r e in spliced_other r.bytes (to_be_bytes w32 v) (b - r.start) (a - r.start) 4 (omega (arith, width v, i.0, i.1)) (inl (omega (arith, i.0, i.1)))
-    go true e true (inr s) = let i = covered b 4 r e in spliced_other r.bytes (to_be_bytes w32 v) (b - r.start) (a - r.start) 4 (omega (arith, width v, i.0, i.1)) (inr (omega (arith, width v, i.0, i.1)))
+    go : (c : Bool) → covers b 4 r ≡ c → (w : Bool) → (a + 4 ≤ b) ⊎ (b + 4 ≤ a)
+        → part_of (if c && w then record r {
+          bytes = take (b - r.start) r.bytes ++ to_be_bytes w32 v ++ drop
+              (b - r.start + 4) r.bytes;
+        } else r) a 4 ≡ part_of r a 4
+    go true e true (inl s) = let i = covered b 4 r e in spliced_other r.bytes (to_be_bytes w32 v) (b - r.start)
+        (a - r.start) 4 (omega (arith, width v, i.0, i.1)) (inl (omega (arith, i.0, i.1)))
+    go true e true (inr s) = let i = covered b 4 r e in spliced_other r.bytes (to_be_bytes w32 v) (b - r.start)
+        (a - r.start) 4 (omega (arith, width v, i.0, i.1)) (inr (omega (arith, width v, i.0, i.1)))
     go true e false s = refl
     go false e w s = refl
 
-pub other_word_stored : (m : Memory) (a b v : ℕ) → CanStore m a → (a + 4 ≤ b) ⊎ (b + 4 ≤ a) → memory_word (store_word m b v) a ≡ memory_word m a
+pub other_word_stored : (m : Memory) (a b v : ℕ) → CanStore m a → (a + 4 ≤ b) ⊎ (b + 4 ≤ a)
+    → memory_word (store_word m b v) a ≡ memory_word m a
 unfolding memory_word
 other_word_stored m a b v h apart =
     let i = covered a 4 h.region (has m a h) in
@@ -135,13 +190,20 @@ other_word_stored m a b v h apart =
 pub can_load : (m : Memory) (a : ℕ) → CanStore m a → CanLoad m a
 can_load m a h = record { region = h.region; at = h.at; readable = h.readable }
 
-pub word_bytes : (m : Memory) (a : ℕ) → CanLoad m a → (bs : List ℕ) × (bytes_at m a 4 ≡ Some bs) × (from_be_bytes w32 bs ≡ memory_word m a)
+pub word_bytes : (m : Memory) (a : ℕ) → CanLoad m a
+    → (bs : List ℕ) × (bytes_at m a 4 ≡ Some bs) × (from_be_bytes w32 bs ≡ memory_word m a)
 unfolding bytes_at memory_word
-word_bytes m a h = (part_of h.region a 4, ap (read_region a 4) h.at ∙ ap (λ z. if_allowed z (part_of h.region a 4)) h.readable, ap (word_in a) (sym h.at))
+word_bytes m a h = (
+  part_of h.region a 4,
+  ap (read_region a 4) h.at
+      ∙ ap (λ z. if_allowed z (part_of h.region a 4)) h.readable,
+  ap (word_in a) (sym h.at),
+)
 
 pub word_written : (m : Memory) (a v : ℕ) → CanStore m a → with_bytes m a (to_be_bytes w32 v) ≡ Some (store_word m a v)
 unfolding with_bytes store_word
-word_written m a v h = ap (write_region a (to_be_bytes w32 v) m) h.at ∙ ap (λ z. if_allowed z (all_written a (to_be_bytes w32 v) m)) h.writable
+word_written m a v h = ap (write_region a (to_be_bytes w32 v) m) h.at
+    ∙ ap (λ z. if_allowed z (all_written a (to_be_bytes w32 v) m)) h.writable
 
 -- ---- all that is known of a word of valid memory
 found : (P : Region → Type 0) (p : Region → Bool) (rs : List Region) → All P rs → IfSome (find p rs) P
@@ -169,11 +231,14 @@ pub whole_of : (m : Memory) (a : ℕ) (r : Region) → IsValidMemory m → regio
 whole_of m a r h e =
     subst (λ (z : Option Region). IfSome z (λ q. q.size ≤ length q.bytes)) e
     (found (λ q. q.size ≤ length q.bytes) (covers a 4) (m.heap ∷ m.regions)
-    (All-cons (λ q. q.size ≤ length q.bytes) m.heap m.regions (let b = h.heap.size in let c = h.heap.count in omega arith)
-    (All-weaker IsValidRegion (λ q. q.size ≤ length q.bytes) (λ q k. let c = k.count in omega arith) m.regions h.regions)))
+    (All-cons (λ q. q.size ≤ length q.bytes) m.heap m.regions
+    (let b = h.heap.size in let c = h.heap.count in omega arith)
+    (All-weaker IsValidRegion (λ q. q.size ≤ length q.bytes)
+    (λ q k. let c = k.count in omega arith) m.regions h.regions)))
 
 -- another word that is loaded stays
-pub other_loaded : (m : Memory) (a b v : ℕ) (h : CanLoad m a) → h.region.size ≤ length h.region.bytes → (a + 4 ≤ b) ⊎ (b + 4 ≤ a) → memory_word (store_word m b v) a ≡ memory_word m a
+pub other_loaded : (m : Memory) (a b v : ℕ) (h : CanLoad m a) → h.region.size ≤ length h.region.bytes
+    → (a + 4 ≤ b) ⊎ (b + 4 ≤ a) → memory_word (store_word m b v) a ≡ memory_word m a
 unfolding memory_word
 other_loaded m a b v h whole apart =
     let i = covered a 4 h.region (covers_first (covers a 4) (m.heap ∷ m.regions) h.region h.at) in
@@ -186,8 +251,10 @@ pub memory_word-range : (m : Memory) (a : ℕ) → IsValidMemory m → memory_wo
 unfolding memory_word
 memory_word-range m a h =
     go (region_at m a 4) (found (λ r. AreBytes r.bytes) (covers a 4) (m.heap ∷ m.regions)
-    (All-cons (λ r. AreBytes r.bytes) m.heap m.regions h.heap.bytes (All-weaker IsValidRegion (λ r. AreBytes r.bytes) (λ r k. k.bytes) m.regions h.regions)))
+    (All-cons (λ r. AreBytes r.bytes) m.heap m.regions h.heap.bytes
+    (All-weaker IsValidRegion (λ r. AreBytes r.bytes) (λ r k. k.bytes) m.regions h.regions)))
   where
     go : (x : Option Region) → IfSome x (λ r. AreBytes r.bytes) → word_in a x < 2 ^ 32
     go None k = omega arith
-    go (Some r) k = word_of-range (part_of r a 4) (All-take (λ b. b < 256) 4 _ (All-drop (λ b. b < 256) (a - r.start) r.bytes k))
+    go (Some r) k = word_of-range (part_of r a 4) (All-take (λ b. b < 256) 4 _
+        (All-drop (λ b. b < 256) (a - r.start) r.bytes k))

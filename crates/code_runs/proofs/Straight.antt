@@ -57,7 +57,13 @@ keeps s (i.Sethi rd imm) = record { code = refl; pc = refl; npc = refl; ending =
 keeps s (i.Alu op cc rd rs1 x) = alu_keeps s rd (alu_of op cc (register_of s rs1) (operand_of s x) s.codes s.y)
 keeps s (i.ReadY rd) = record { code = refl; pc = refl; npc = refl; ending = refl }
 keeps s (i.Load loads.LD rd rs1 x) = record { code = refl; pc = refl; npc = refl; ending = refl }
-keeps s (i.Store stores.ST rd rs1 x) = record { code = code-store_word s.memory (sum_of s rs1 x) (register_of s rd); pc = refl; npc = refl; ending = refl }
+keeps s (i.Store stores.ST rd rs1 x) = record {
+  code = code-store_word s.memory (sum_of s rs1 x)
+      (register_of s rd);
+  pc = refl;
+  npc = refl;
+  ending = refl;
+}
 keeps s _ = same s
 
 -- where the machine is after n words
@@ -67,7 +73,8 @@ pub record HasArrived (s t : State) (n : ℕ) : Type 0 where
   pub npc : t.npc ≡ s.pc + 4 * n + 4
   pub live : t.ending ≡ None
 
-pub arrives : (xs : List Instr) (s : State) → IsReady s → s.pc + 4 * length xs < 2 ^ 32 - 4 → HasArrived s (went_all s xs) (length xs)
+pub arrives : (xs : List Instr) (s : State) → IsReady s → s.pc + 4 * length xs < 2 ^ 32 - 4
+    → HasArrived s (went_all s xs) (length xs)
 arrives [] s h low = record { code = refl; pc = omega arith; npc = let e = h.npc in omega arith; live = h.live }
 arrives (x ∷ xs) s h low =
     let g = keeps s x in
@@ -75,7 +82,13 @@ arrives (x ∷ xs) s h low =
     let p : (went s x).pc ≡ s.pc + 4 = g.npc ∙ e in
     let q : (went s x).npc ≡ (went s x).pc + 4 = (let a = g.npc in omega arith) in
     let r = arrives xs (went s x) (record { live = g.ending ∙ h.live; npc = q }) (omega arith) in
-    record { code = r.code ∙ g.code; pc = (let a = r.pc in omega arith); npc = (let a = r.npc in omega arith); live = r.live }
+    record {
+      code = r.code ∙ g.code;
+      pc = (let a = r.pc in omega arith);
+      npc =
+          (let a = r.npc in omega arith);
+      live = r.live;
+    }
 
 -- each state between the first and the last has the property
 abbrev pub Along : (State → Type 0) → State → List Instr → Type 0
@@ -83,7 +96,8 @@ Along P s [] = Unit {0}
 Along P s (x ∷ xs) = (0 < length xs → P (went s x)) × Along P (went s x) xs
 
 -- the words are carried out one after the other
-pub straight : (P : State → Type 0) (xs : List Instr) (s : State) → IsReady s → s.pc + 4 * length xs < 2 ^ 32 - 4 → StandIn (code_of s.memory) s.pc xs → AreFine s xs → Along P s xs → Leads P s (went_all s xs) (length xs)
+pub straight : (P : State → Type 0) (xs : List Instr) (s : State) → IsReady s → s.pc + 4 * length xs < 2 ^ 32 - 4
+    → StandIn (code_of s.memory) s.pc xs → AreFine s xs → Along P s xs → Leads P s (went_all s xs) (length xs)
 straight P [] s h low stand fine along = leads_none P s
 straight P (x ∷ xs) s h low stand fine along =
     let g = keeps s x in
@@ -92,12 +106,14 @@ straight P (x ∷ xs) s h low stand fine along =
     let q : (went s x).npc ≡ (went s x).pc + 4 = (let a = g.npc in omega arith) in
     let one : step_of s ≡ went s x = says_step s x h.live stand.0 ∙ fine_acts s x fine.0 in
     let rest = straight P xs (went s x) (record { live = g.ending ∙ h.live; npc = q }) (omega arith)
-    (subst (λ (z : List Region). StandIn z (went s x).pc xs) (sym g.code) (subst (λ (z : ℕ). StandIn (code_of s.memory) z xs) (sym p) stand.1)) fine.1 along.1 in
+    (subst (λ (z : List Region). StandIn z (went s x).pc xs) (sym g.code)
+    (subst (λ (z : ℕ). StandIn (code_of s.memory) z xs) (sym p) stand.1)) fine.1 along.1 in
     subst (λ (z : ℕ). Leads P s (went_all s (x ∷ xs)) z) (let z : 1 + length xs ≡ suc (length xs) = omega arith in z)
     (leads_then P s (went s x) (went_all s (x ∷ xs)) 1 (length xs) (leads_one P s (went s x) one) rest (λ _. along.0))
 
 -- and put nothing out
-pub straight_silent : (xs : List Instr) (s : State) → IsReady s → s.pc + 4 * length xs < 2 ^ 32 - 4 → StandIn (code_of s.memory) s.pc xs → AreFine s xs → IsSilent s (length xs)
+pub straight_silent : (xs : List Instr) (s : State) → IsReady s → s.pc + 4 * length xs < 2 ^ 32 - 4
+    → StandIn (code_of s.memory) s.pc xs → AreFine s xs → IsSilent s (length xs)
 straight_silent [] s h low stand fine = silent_none s
 straight_silent (x ∷ xs) s h low stand fine =
     let g = keeps s x in
@@ -106,29 +122,40 @@ straight_silent (x ∷ xs) s h low stand fine =
     let q : (went s x).npc ≡ (went s x).pc + 4 = (let a = g.npc in omega arith) in
     let one : step_of s ≡ went s x = says_step s x h.live stand.0 ∙ fine_acts s x fine.0 in
     let rest = straight_silent xs (went s x) (record { live = g.ending ∙ h.live; npc = q }) (omega arith)
-    (subst (λ (z : List Region). StandIn z (went s x).pc xs) (sym g.code) (subst (λ (z : ℕ). StandIn (code_of s.memory) z xs) (sym p) stand.1)) fine.1 in
+    (subst (λ (z : List Region). StandIn z (went s x).pc xs) (sym g.code)
+    (subst (λ (z : ℕ). StandIn (code_of s.memory) z xs) (sym p) stand.1)) fine.1 in
     subst (λ (z : ℕ). IsSilent s z) (let z : 1 + length xs ≡ suc (length xs) = omega arith in z)
     (silent_then s (went s x) 1 (length xs) one (silent_one s (says_puts s x (plain s x fine.0) stand.0)) rest)
 
 -- where the property says no more than where the pc is
-pub along_pcs : (P : State → Type 0) (lo hi : ℕ) → ((u : State) → lo < u.pc → u.pc < hi → P u) → (xs : List Instr) (s : State) → IsReady s → s.pc + 4 * length xs < 2 ^ 32 - 4 → lo ≤ s.pc → s.pc + 4 * length xs ≤ hi → Along P s xs
+pub along_pcs : (P : State → Type 0) (lo hi : ℕ) → ((u : State) → lo < u.pc → u.pc < hi → P u)
+    → (xs : List Instr) (s : State) → IsReady s → s.pc + 4 * length xs < 2 ^ 32 - 4 → lo ≤ s.pc
+    → s.pc + 4 * length xs ≤ hi → Along P s xs
 along_pcs P lo hi f [] s h low a b = tt
 along_pcs P lo hi f (x ∷ xs) s h low a b =
     let g = keeps s x in
     let e = h.npc in
     let p : (went s x).pc ≡ s.pc + 4 = g.npc ∙ e in
-    let q : (went s x).npc ≡ (went s x).pc + 4 = (let a = g.npc in omega arith) in
-    (λ more. f (went s x) (omega arith) (omega arith), along_pcs P lo hi f xs (went s x) (record { live = g.ending ∙ h.live; npc = q }) (omega arith) (omega arith) (omega arith))
+    let q : (went s x).npc ≡ (went s x).pc + 4 = (let a = g.npc in omega arith) in (
+      λ more. f (went s x) (omega arith) (omega arith),
+      along_pcs P lo hi f xs (went s x) (record {
+        live = g.ending
+            ∙ h.live;
+        npc = q;
+      }) (omega arith) (omega arith) (omega arith),
+    )
 
 pub straight_leads : StraightLeads
 straight_leads xs s h low stand fine = (
   straight (IsInside s.pc (s.pc + 4 * length xs)) xs s h low stand fine
-      (along_pcs (IsInside s.pc (s.pc + 4 * length xs)) s.pc (s.pc + 4 * length xs) (λ u a b. (a, b)) xs s h low (omega arith) (omega arith)),
+      (along_pcs (IsInside s.pc (s.pc + 4 * length xs)) s.pc (s.pc + 4 * length xs) (λ u a b. (a, b)) xs s h low
+      (omega arith) (omega arith)),
   straight_silent xs s h low stand fine,
 )
 
 -- what the words say that stand there
-pub words_say : (code : List Region) (a : ℕ) (ws : List ℕ) (xs : List Instr) → HasWords code a ws → map decode_of ws ≡ xs → StandIn code a xs
+pub words_say : (code : List Region) (a : ℕ) (ws : List ℕ) (xs : List Instr) → HasWords code a ws
+    → map decode_of ws ≡ xs → StandIn code a xs
 words_say code a ws xs h e = subst (StandIn code a) e (go a ws h)
   where
     go : (a : ℕ) (ws : List ℕ) → HasWords code a ws → StandIn code a (map decode_of ws)

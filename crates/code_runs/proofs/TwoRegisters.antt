@@ -29,14 +29,16 @@ use Rattle.code_runs.proofs.Leads.{leads_none, leads_one, leads_then, silent_non
 pub places_differ : (w r q : ℕ) → w < windows → r < 32 → q < 32 → r ≢ q → place_of w r ≢ place_of w q
 places_differ w r q a b c ne = λ e. go (nat_lt r 8) (nat_lt q 8) refl refl e
   where
-    go : (x y : Bool) → nat_lt r 8 ≡ x → nat_lt q 8 ≡ y → (if x then r else 8 + (16 * w + (r - 8)) % 128) ≡ (if y then q else 8 + (16 * w + (q - 8)) % 128) → ⊥
+    go : (x y : Bool) → nat_lt r 8 ≡ x → nat_lt q 8 ≡ y
+        → (if x then r else 8 + (16 * w + (r - 8)) % 128) ≡ (if y then q else 8 + (16 * w + (q - 8)) % 128) → ⊥
     go true true f g e = ne e
     go true false f g e = grind (arith, nat_tests)
     go false true f g e = grind (arith, nat_tests)
     go false false f g e = grind (arith, nat_tests)
 
 -- what a write to a register leaves
-pub set_stays : (registers : List ℕ) (w r v p : ℕ) → p ≢ place_of w r → slice_index (register_set registers w r v) p ≡ slice_index registers p
+pub set_stays : (registers : List ℕ) (w r v p : ℕ) → p ≢ place_of w r
+    → slice_index (register_set registers w r v) p ≡ slice_index registers p
 set_stays registers w zero v p ne = refl
 set_stays registers w (suc r) v p ne = get_or-set_other registers (place_of w (suc r)) p v 0 ne
 
@@ -44,7 +46,8 @@ set_stays registers w (suc r) v p ne = get_or-set_other registers (place_of w (s
 pub stores_none : (May : ℕ → Type 0) (m : Memory) → Stores May m m
 stores_none May m = record { writes = []; each = tt; result = refl }
 
-store_all-append : (ws : List (ℕ × ℕ)) (a v : ℕ) (m : Memory) → store_all (ws ++ (a, v) ∷ []) m ≡ store_word (store_all ws m) a v
+store_all-append : (ws : List (ℕ × ℕ)) (a v : ℕ) (m : Memory)
+    → store_all (ws ++ (a, v) ∷ []) m ≡ store_word (store_all ws m) a v
 store_all-append [] a v m = refl
 store_all-append (w ∷ ws) a v m = store_all-append ws a v (store_word m w.0 w.1)
 
@@ -87,30 +90,40 @@ module _ (s : State) (count : ℕ) (May : ℕ → Type 0) (a b : ℕ) (c : HasSc
   }
 
   -- another register
-  pub other_is : (m : Memory) (x y : ℕ) (u : State) (r : ℕ) → IsAlike s a b m x y u → r < 32 → r ≢ a → r ≢ b → register_of u r ≡ register_of s r
+  pub other_is : (m : Memory) (x y : ℕ) (u : State) (r : ℕ) → IsAlike s a b m x y u → r < 32 → r ≢ a → r ≢ b
+      → register_of u r ≡ register_of s r
   other_is m x y u zero h low na nb = refl
   other_is m x y u (suc r) h low na nb =
       ap (λ w. slice_index u.registers (place_of w (suc r))) h.window
-      ∙ h.others (place_of s.window (suc r)) (places_differ s.window (suc r) a c.window low c.first_below na) (places_differ s.window (suc r) b c.window low c.second_below nb)
+      ∙ h.others (place_of s.window (suc r)) (places_differ s.window (suc r) a c.window low c.first_below na)
+      (places_differ s.window (suc r) b c.window low c.second_below nb)
 
   -- one word more, by what it does beside going on
   pub works_step : (n : ℕ) (m m' : Memory) (x y x' y' : ℕ) (instr : Instr) → (w : Works s count May a b n m x y)
-      → IsNext s count n instr → IsPlain instr → (v : State) → act w.after instr ≡ next v → v.pc ≡ w.after.pc → v.npc ≡ w.after.npc
-      → IsAlike s a b m' x' y' v → Stores May s.memory m' → code_of m' ≡ code_of s.memory → Works s count May a b (suc n) m' x' y'
+      → IsNext s count n instr → IsPlain instr → (v : State) → act w.after instr ≡ next v → v.pc ≡ w.after.pc
+      → v.npc ≡ w.after.npc
+      → IsAlike s a b m' x' y' v → Stores May s.memory m' → code_of m' ≡ code_of s.memory
+      → Works s count May a b (suc n) m' x' y'
   works_step n m m' x y x' y' instr w is plain v acts pc npc alike stores code =
       let low = c.low in
       let p = w.pc in
       let q = w.npc in
       let code_is : code_of w.after.memory ≡ code_of s.memory = ap code_of w.alike.memory ∙ w.code in
       let here : Says (code_of w.after.memory) w.after.pc instr =
-      subst (λ (z : List Region). Says z w.after.pc instr) (sym code_is) (subst (λ z. Says (code_of s.memory) z instr) (sym w.pc) is.1) in
+      subst (λ (z : List Region). Says z w.after.pc instr) (sym code_is)
+      (subst (λ z. Says (code_of s.memory) z instr) (sym w.pc) is.1) in
       let below : n < count = is.0 in
       let one : step_of w.after ≡ next v = says_step w.after instr w.alike.live here ∙ acts in
       record {
         after = next v;
         path = subst (λ z. Leads (IsBetween s count May) s (next v) z) (let z : n + 1 ≡ suc n = omega arith in z)
             (leads_then (IsBetween s count May) s w.after (next v) n 1 w.path (leads_one _ w.after (next v) one)
-            (λ some _. record { past = omega arith; before = omega arith; stores = subst (Stores May s.memory) (sym w.alike.memory) w.stores }));
+            (λ some _. record {
+              past = omega arith;
+              before = omega arith;
+              stores = subst (Stores May s.memory)
+                  (sym w.alike.memory) w.stores;
+            }));
         silent = subst (λ z. IsSilent s z) (let z : n + 1 ≡ suc n = omega arith in z)
             (silent_then s w.after n 1 w.path.steps w.silent (silent_one w.after (says_puts w.after instr plain here)));
         pc = (let z : v.npc ≡ s.pc + 4 * suc n = omega arith in z);
@@ -145,12 +158,15 @@ module _ (s : State) (count : ℕ) (May : ℕ → Type 0) (a b : ℕ) (c : HasSc
     registers = length-register_set u.registers u.window a v ∙ h.registers;
     first = register_in-set u.registers u.window a v h.registers c.first_some;
     second = register_in-other u.registers u.window a v u.window b
-        (subst (λ w. place_of w a ≢ place_of w b) (sym h.window) (places_differ s.window a b c.window c.first_below c.second_below c.differ)) ∙ h.second;
-    others = λ p na nb. set_stays u.registers u.window a v p (subst (λ w. p ≢ place_of w a) (sym h.window) na) ∙ h.others p na nb;
+        (subst (λ w. place_of w a ≢ place_of w b) (sym h.window)
+        (places_differ s.window a b c.window c.first_below c.second_below c.differ)) ∙ h.second;
+    others = λ p na nb. set_stays u.registers u.window a v p (subst (λ w. p ≢ place_of w a) (sym h.window) na)
+        ∙ h.others p na nb;
     memory = h.memory;
   }
 
-  alike_second : (m : Memory) (x y v : ℕ) (u : State) → IsAlike s a b m x y u → IsAlike s a b m x v (with_register u b v)
+  alike_second : (m : Memory) (x y v : ℕ) (u : State) → IsAlike s a b m x y u
+      → IsAlike s a b m x v (with_register u b v)
   alike_second m x y v u h = record {
     live = h.live;
     window = h.window;
@@ -160,9 +176,11 @@ module _ (s : State) (count : ℕ) (May : ℕ → Type 0) (a b : ℕ) (c : HasSc
     y_register = h.y_register;
     registers = length-register_set u.registers u.window b v ∙ h.registers;
     first = register_in-other u.registers u.window b v u.window a
-        (subst (λ w. place_of w b ≢ place_of w a) (sym h.window) (places_differ s.window b a c.window c.second_below c.first_below (λ e. c.differ (sym e)))) ∙ h.first;
+        (subst (λ w. place_of w b ≢ place_of w a) (sym h.window)
+        (places_differ s.window b a c.window c.second_below c.first_below (λ e. c.differ (sym e)))) ∙ h.first;
     second = register_in-set u.registers u.window b v h.registers c.second_some;
-    others = λ p na nb. set_stays u.registers u.window b v p (subst (λ w. p ≢ place_of w b) (sym h.window) nb) ∙ h.others p na nb;
+    others = λ p na nb. set_stays u.registers u.window b v p (subst (λ w. p ≢ place_of w b) (sym h.window) nb)
+        ∙ h.others p na nb;
     memory = h.memory;
   }
 
@@ -192,21 +210,24 @@ module _ (s : State) (count : ℕ) (May : ℕ → Type 0) (a b : ℕ) (c : HasSc
       → Works s count May a b (suc n) m v y
   alu_first n m x y op rs1 op2 v w is e =
       works_step n m m x y v y (i.Alu op false a rs1 op2) w is (λ cond q r f. cc) (with_register w.after a v)
-      (alu_acts w.after op a rs1 op2 v (e w.after w.alike)) refl refl (alike_first m x y v w.after w.alike) w.stores w.code
+      (alu_acts w.after op a rs1 op2 v (e w.after w.alike)) refl refl
+      (alike_first m x y v w.after w.alike) w.stores w.code
 
   alu_second : (n : ℕ) (m : Memory) (x y : ℕ) (op : AluOp) (rs1 : ℕ) (op2 : Op2) (v : ℕ) → Works s count May a b n m x y
       → IsNext s count n (i.Alu op false b rs1 op2) → ((u : State) → IsAlike s a b m x y u → Gives op rs1 op2 v u)
       → Works s count May a b (suc n) m x v
   alu_second n m x y op rs1 op2 v w is e =
       works_step n m m x y x v (i.Alu op false b rs1 op2) w is (λ cond q r f. cc) (with_register w.after b v)
-      (alu_acts w.after op b rs1 op2 v (e w.after w.alike)) refl refl (alike_second m x y v w.after w.alike) w.stores w.code
+      (alu_acts w.after op b rs1 op2 v (e w.after w.alike)) refl refl
+      (alike_second m x y v w.after w.alike) w.stores w.code
 
   -- ---- loads
   load_acts : (m : Memory) (x y : ℕ) (rd rs1 : ℕ) (op2 : Op2) (address v : ℕ) (u : State) → IsAlike s a b m x y u
       → IsSumIn (IsAlike s a b m x y) rs1 op2 address → CanLoad m address → memory_word m address ≡ v
       → act u (i.Load loads.LD rd rs1 op2) ≡ next (with_register u rd v)
   load_acts m x y rd rs1 op2 address v u h at can e =
-      ld_acts u rd rs1 op2 address (at.sums u h) at.aligned (subst (λ (z : Memory). CanLoad z address) (sym h.memory) can)
+      ld_acts u rd rs1 op2 address (at.sums u h) at.aligned
+      (subst (λ (z : Memory). CanLoad z address) (sym h.memory) can)
       ∙ ap (λ z. next (with_register u rd z)) (ap (λ (z : Memory). memory_word z address) h.memory ∙ e)
 
   ld_first : (n : ℕ) (m : Memory) (x y rs1 : ℕ) (op2 : Op2) (address v : ℕ) → Works s count May a b n m x y
@@ -214,27 +235,32 @@ module _ (s : State) (count : ℕ) (May : ℕ → Type 0) (a b : ℕ) (c : HasSc
       → memory_word m address ≡ v → Works s count May a b (suc n) m v y
   ld_first n m x y rs1 op2 address v w is at can e =
       works_step n m m x y v y (i.Load loads.LD a rs1 op2) w is (λ cond q r f. cc) (with_register w.after a v)
-      (load_acts m x y a rs1 op2 address v w.after w.alike at can e) refl refl (alike_first m x y v w.after w.alike) w.stores w.code
+      (load_acts m x y a rs1 op2 address v w.after w.alike at can e) refl refl
+      (alike_first m x y v w.after w.alike) w.stores w.code
 
   ld_second : (n : ℕ) (m : Memory) (x y rs1 : ℕ) (op2 : Op2) (address v : ℕ) → Works s count May a b n m x y
       → IsNext s count n (i.Load loads.LD b rs1 op2) → IsSumIn (IsAlike s a b m x y) rs1 op2 address → CanLoad m address
       → memory_word m address ≡ v → Works s count May a b (suc n) m x v
   ld_second n m x y rs1 op2 address v w is at can e =
       works_step n m m x y x v (i.Load loads.LD b rs1 op2) w is (λ cond q r f. cc) (with_register w.after b v)
-      (load_acts m x y b rs1 op2 address v w.after w.alike at can e) refl refl (alike_second m x y v w.after w.alike) w.stores w.code
+      (load_acts m x y b rs1 op2 address v w.after w.alike at can e) refl refl
+      (alike_second m x y v w.after w.alike) w.stores w.code
 
   -- ---- stores
   st : (n : ℕ) (m : Memory) (x y rd rs1 : ℕ) (op2 : Op2) (address v : ℕ) → Works s count May a b n m x y
-      → IsNext s count n (i.Store stores.ST rd rs1 op2) → IsSumIn (IsAlike s a b m x y) rs1 op2 address → CanStore m address
+      → IsNext s count n (i.Store stores.ST rd rs1 op2) → IsSumIn (IsAlike s a b m x y) rs1 op2 address
+      → CanStore m address
       → ((u : State) → IsAlike s a b m x y u → register_of u rd ≡ v) → May address
       → Works s count May a b (suc n) (store_word m address v) x y
   st n m x y rd rs1 op2 address v w is at can value may =
       let h = w.alike in
       works_step n m (store_word m address v) x y x y (i.Store stores.ST rd rs1 op2) w is (λ cond q r f. cc)
       (record w.after { memory = store_word m address v })
-      (st_acts w.after rd rs1 op2 address (at.sums w.after w.alike) at.aligned (subst (λ (z : Memory). CanStore z address) (sym h.memory) can)
+      (st_acts w.after rd rs1 op2 address (at.sums w.after w.alike) at.aligned
+      (subst (λ (z : Memory). CanStore z address) (sym h.memory) can)
       ∙ ap (λ (z : Memory). next (record w.after { memory = z }))
-      (ap (λ (z : Memory). store_word z address (register_of w.after rd)) h.memory ∙ ap (store_word m address) (value w.after w.alike)))
+      (ap (λ (z : Memory). store_word z address (register_of w.after rd)) h.memory
+      ∙ ap (store_word m address) (value w.after w.alike)))
       refl refl
       (record {
         live = h.live;

@@ -71,7 +71,8 @@ IsNext s count n x = (n < count) × Says (code_of s.memory) (s.pc + 4 * n) x
 -- an operation gives a value, and leaves the codes and Y
 abbrev pub Gives : AluOp → ℕ → Op2 → ℕ → State → Type 0
 Gives op rs1 op2 v u =
-    alu_of op false (register_of u rs1) (operand_of u op2) u.codes u.y ≡ Ok (record { value = v; codes = u.codes; y = u.y })
+    alu_of op false (register_of u rs1) (operand_of u op2) u.codes u.y ≡ Ok
+    (record { value = v; codes = u.codes; y = u.y })
 
 -- an aligned address that is the sum of two operands
 pub record IsSumIn (IsThere : State → Type 0) (rs1 : ℕ) (op2 : Op2) (address : ℕ) : Type 0 where
@@ -81,14 +82,18 @@ pub record IsSumIn (IsThere : State → Type 0) (rs1 : ℕ) (op2 : Op2) (address
 -- What each kind of word makes of a block. The values of operands hold of any state that the block so far leads to.
 pub record BlockRules (s : State) (count : ℕ) (May : ℕ → Type 0) (a b : ℕ) : Type 0 where
   pub none : Works s count May a b 0 s.memory (register_of s a) (register_of s b)
-  pub sethi_first : (n : ℕ) (m : Memory) (x y imm v : ℕ) → Works s count May a b n m x y → IsNext s count n (i.Sethi a imm)
+  pub sethi_first : (n : ℕ) (m : Memory) (x y imm v : ℕ) → Works s count May a b n m x y
+      → IsNext s count n (i.Sethi a imm)
       → wrapped (1024 * imm) ≡ v → Works s count May a b (suc n) m v y
-  pub sethi_second : (n : ℕ) (m : Memory) (x y imm v : ℕ) → Works s count May a b n m x y → IsNext s count n (i.Sethi b imm)
+  pub sethi_second : (n : ℕ) (m : Memory) (x y imm v : ℕ) → Works s count May a b n m x y
+      → IsNext s count n (i.Sethi b imm)
       → wrapped (1024 * imm) ≡ v → Works s count May a b (suc n) m x v
-  pub alu_first : (n : ℕ) (m : Memory) (x y : ℕ) (op : AluOp) (rs1 : ℕ) (op2 : Op2) (v : ℕ) → Works s count May a b n m x y
+  pub alu_first : (n : ℕ) (m : Memory) (x y : ℕ) (op : AluOp) (rs1 : ℕ) (op2 : Op2) (v : ℕ)
+      → Works s count May a b n m x y
       → IsNext s count n (i.Alu op false a rs1 op2) → ((u : State) → IsAlike s a b m x y u → Gives op rs1 op2 v u)
       → Works s count May a b (suc n) m v y
-  pub alu_second : (n : ℕ) (m : Memory) (x y : ℕ) (op : AluOp) (rs1 : ℕ) (op2 : Op2) (v : ℕ) → Works s count May a b n m x y
+  pub alu_second : (n : ℕ) (m : Memory) (x y : ℕ) (op : AluOp) (rs1 : ℕ) (op2 : Op2) (v : ℕ)
+      → Works s count May a b n m x y
       → IsNext s count n (i.Alu op false b rs1 op2) → ((u : State) → IsAlike s a b m x y u → Gives op rs1 op2 v u)
       → Works s count May a b (suc n) m x v
   pub ld_first : (n : ℕ) (m : Memory) (x y rs1 : ℕ) (op2 : Op2) (address v : ℕ) → Works s count May a b n m x y
@@ -98,10 +103,12 @@ pub record BlockRules (s : State) (count : ℕ) (May : ℕ → Type 0) (a b : �
       → IsNext s count n (i.Load loads.LD b rs1 op2) → IsSumIn (IsAlike s a b m x y) rs1 op2 address → CanLoad m address
       → memory_word m address ≡ v → Works s count May a b (suc n) m x v
   pub st : (n : ℕ) (m : Memory) (x y rd rs1 : ℕ) (op2 : Op2) (address v : ℕ) → Works s count May a b n m x y
-      → IsNext s count n (i.Store stores.ST rd rs1 op2) → IsSumIn (IsAlike s a b m x y) rs1 op2 address → CanStore m address
+      → IsNext s count n (i.Store stores.ST rd rs1 op2) → IsSumIn (IsAlike s a b m x y) rs1 op2 address
+      → CanStore m address
       → ((u : State) → IsAlike s a b m x y u → register_of u rd ≡ v) → May address
       → Works s count May a b (suc n) (store_word m address v) x y
 
 -- So blocks work, whichever words they may store.
 abbrev pub BlocksWork : Type 0
-BlocksWork = (s : State) (count a b : ℕ) (own : List ℕ) → HasScratch s count a b → BlockRules s count (IsAmongWords own) a b
+BlocksWork = (s : State) (count a b : ℕ) (own : List ℕ) → HasScratch s count a b
+    → BlockRules s count (IsAmongWords own) a b

@@ -10,5 +10,6 @@ unfolding encode_of
 word_is instr word has e = by (has_word instr) refl has
   where
     by : (b : Bool) → has_word instr ≡ b → IsTrue b → word ≡ word_of instr
-    by true f h = let g : Some word ≡ Some (word_of instr) = e ∙ ap (λ (z : Bool). if z then Some (word_of instr) else None) f in cc
+    by true f h = let g : Some word ≡ Some (word_of instr) = e
+        ∙ ap (λ (z : Bool). if z then Some (word_of instr) else None) f in cc
     by false f h = absurd (false≢true h)

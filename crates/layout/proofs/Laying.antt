@@ -13,7 +13,8 @@ use Rattle.layout.proofs.Places.{place_from, first_piece, next_piece, next_place
 use Rattle.layout.proofs.Ranging.{all_ascend, all_found, all_made, one_of}
 use Rattle.layout.proofs.Standing.{all_stand, code_length}
 
-pub code_bytes : (pieces : List (List Item)) (base : ℕ) (p : Placed) → IsEmitted pieces base p → 4 * length p.code.items ≡ long_bytes pieces
+pub code_bytes : (pieces : List (List Item)) (base : ℕ) (p : Placed) → IsEmitted pieces base p
+    → 4 * length p.code.items ≡ long_bytes pieces
 code_bytes pieces base p h = ap (λ n. 4 * n) (ap length h.code ∙ code_length p.at.items pieces)
 
 module _ (pieces : List (List Item)) (base : ℕ) (p : Placed) (h : IsEmitted pieces base p) (marked : AllMarked pieces)
@@ -50,7 +51,8 @@ module _ (pieces : List (List Item)) (base : ℕ) (p : Placed) (h : IsEmitted pi
     count = length-map p.at.items (λ (a : Addr). a.0) ∙ ap length h.at ∙ length-addresses pieces base;
     starts = λ k l. ap (λ (z : List ℕ). slice_index z k) at_is ∙ starts_are pieces k base l;
     aligned = start_low;
-    items = all_stand base placed p.at.items refl (λ k. let l = (start_low k).1 in omega arith) pieces h.conditions h.code;
+    items = all_stand base placed p.at.items refl (λ k. let l =
+        (start_low k).1 in omega arith) pieces h.conditions h.code;
     falls = λ k l j. sym (next_piece pieces k base (omega arith));
     within = λ k n l m. within k n;
     ranges = λ k n a x e l g.

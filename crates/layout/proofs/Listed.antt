@@ -13,14 +13,16 @@ length-addresses (items ∷ pieces) here = ap suc (length-addresses pieces (here
 
 -- one piece more in a sum
 pub one_more : (f : List Item → ℕ) (pieces : List (List Item)) (i before n : ℕ) (piece : List Item) → i < length pieces
-    → piece ≡ get_or pieces i piece → before ≡ sum_by f (take i pieces) → n ≡ f piece → before + n ≡ sum_by f (take (i + 1) pieces)
+    → piece ≡ get_or pieces i piece → before ≡ sum_by f (take i pieces) → n ≡ f piece
+    → before + n ≡ sum_by f (take (i + 1) pieces)
 one_more f pieces i before n piece within is e g =
     let h : n ≡ f (get_or pieces i piece) = g ∙ ap f is in
     let more = sum_by_more f pieces i piece within in
     omega (arith, more, e, h)
 
 -- a piece's items are among all of them
-pub piece_fits : (pieces : List (List Item)) (i : ℕ) (piece : List Item) → i < length pieces → piece ≡ get_or pieces i piece
+pub piece_fits : (pieces : List (List Item)) (i : ℕ) (piece : List Item) → i < length pieces
+    → piece ≡ get_or pieces i piece
     → sum_by length (take i pieces) + length piece ≤ sum_by length pieces
 piece_fits pieces i piece within is =
     let h : length piece ≡ length (get_or pieces i piece) = ap length is in

@@ -60,7 +60,8 @@ item_within (x ∷ xs) (suc n) here =
 
 -- ---- in all pieces
 
-pub pieces_more : (items : List Item) (pieces : List (List Item)) → sum_by piece_words (items ∷ pieces) ≡ piece_words items + sum_by piece_words pieces
+pub pieces_more : (items : List Item) (pieces : List (List Item))
+    → sum_by piece_words (items ∷ pieces) ≡ piece_words items + sum_by piece_words pieces
 pieces_more items pieces = sum_by-cons piece_words items pieces
 
 pub first_piece : (pieces : List (List Item)) (here : ℕ) → place_from here pieces 0 0 ≡ here
@@ -102,7 +103,8 @@ starts_are (items ∷ pieces) zero here h = sym (first_item items here)
 starts_are (items ∷ pieces) (suc k) here h = starts_are pieces k (here + 4 * piece_words items) (omega arith)
 
 -- one that isn't there has the address 0
-pub start_within : (pieces : List (List Item)) (k here end : ℕ) → here % 4 ≡ 0 → here + 4 * sum_by piece_words pieces ≤ end
+pub start_within : (pieces : List (List Item)) (k here end : ℕ) → here % 4 ≡ 0
+    → here + 4 * sum_by piece_words pieces ≤ end
     → (slice_index (map (λ (a : Addr). a.0) (addresses here pieces)) k % 4 ≡ 0)
     × (slice_index (map (λ (a : Addr). a.0) (addresses here pieces)) k ≤ end)
 start_within [] k here end e low = (refl, omega arith)

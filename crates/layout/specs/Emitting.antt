@@ -62,7 +62,8 @@ closed (Some open_mark) here =
 -- the ranges of items, the first of which stands at an address
 abbrev pub ranges_from : ℕ → Option Open → List Item → List Range
 ranges_from here mark [] = []
-ranges_from here mark (it.Mark address node ∷ items) = ranges_from here (Some (record { lo = record { 0 = here }; address = address; node = node })) items
+ranges_from here mark (it.Mark address node ∷ items) = ranges_from here
+    (Some (record { lo = record { 0 = here }; address = address; node = node })) items
 ranges_from here mark (it.EndMark ∷ items) = closed mark here ++ ranges_from here None items
 ranges_from here mark (it.Word word ∷ items) = ranges_from (here + 4) mark items
 ranges_from here mark (it.Jump to ∷ items) = ranges_from (here + 16) mark items

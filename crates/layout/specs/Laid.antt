@@ -99,7 +99,8 @@ IsWordAt base code a word = (n : ℕ) × (a ≡ base + 4 * n) × (slice_get code
 -- the code says these instructions from an address on
 abbrev pub SaysFrom : ℕ → List ℕ → ℕ → List Instr → Type 0
 SaysFrom base code a [] = Unit {0}
-SaysFrom base code a (x ∷ xs) = ((word : ℕ) × IsWordAt base code a word × (decode_of word ≡ x)) × SaysFrom base code (a + 4) xs
+SaysFrom base code a (x ∷ xs) = ((word : ℕ) × IsWordAt base code a word × (decode_of word ≡ x))
+    × SaysFrom base code (a + 4) xs
 
 abbrev pub nop : Instr
 nop = i.Sethi 0 0
@@ -115,13 +116,16 @@ Reaches from to disp22 = wrapped (from + 4 * cast_unsigned w32 disp22) ≡ to
 -- A Jump takes no word where its target comes next, one word, or four.
 pub data JumpStands (base : ℕ) (code : List ℕ) (to a b : ℕ) : Type 0 where
   jump_nothing : a ≡ to → b ≡ a → JumpStands base code to a b
-  jump_short : (disp22 : ℤ) → b ≡ a + 4 → Reaches a to disp22 → SaysFrom base code a (i.Branch 8 true disp22 ∷ []) → JumpStands base code to a b
+  jump_short : (disp22 : ℤ) → b ≡ a + 4 → Reaches a to disp22 → SaysFrom base code a (i.Branch 8 true disp22 ∷ [])
+      → JumpStands base code to a b
   jump_long : b ≡ a + 16 → SaysFrom base code a (long_jump to) → JumpStands base code to a b
 
 -- A Branch takes two words, or six: past a long jump on the opposite condition.
 pub data BranchStands (base : ℕ) (code : List ℕ) (cond to a b : ℕ) : Type 0 where
-  branch_short : (disp22 : ℤ) → b ≡ a + 8 → Reaches a to disp22 → SaysFrom base code a (i.Branch cond false disp22 ∷ nop ∷ []) → BranchStands base code cond to a b
-  branch_long : b ≡ a + 24 → SaysFrom base code a (i.Branch (opposite cond) false (pos 6) ∷ nop ∷ []) → SaysFrom base code (a + 8) (long_jump to)
+  branch_short : (disp22 : ℤ) → b ≡ a + 8 → Reaches a to disp22
+      → SaysFrom base code a (i.Branch cond false disp22 ∷ nop ∷ []) → BranchStands base code cond to a b
+  branch_long : b ≡ a + 24 → SaysFrom base code a (i.Branch (opposite cond) false (pos 6) ∷ nop ∷ [])
+      → SaysFrom base code (a + 8) (long_jump to)
       → BranchStands base code cond to a b
 
 -- an item stands from a to b
@@ -151,7 +155,13 @@ end_from [] n = n
 end_from (x ∷ xs) n = if is_end x then n else end_from xs (suc n)
 
 abbrev pub opened : Item → List Item → ℕ → Option Open → Option Open
-opened (it.Mark address node) xs n o = Some (record { first = suc n; last = end_from xs (suc n); address = address.0; node = node })
+opened (it.Mark address node) xs n o = Some (record {
+  first = suc n;
+  last = end_from xs
+      (suc n);
+  address = address.0;
+  node = node;
+})
 opened it.EndMark xs n o = None
 opened _ xs n o = o
 

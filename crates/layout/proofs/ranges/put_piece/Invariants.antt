@@ -5,6 +5,7 @@ use Rattle.layout.proofs.ranges.put_piece.Given as goal
 
 abbrev pub invariant-loop-item : goal.invariant-loop-item
 invariant-loop-item l = record {
-  told : l.ranges.items ++ ranges_from l.turn.here.0 l.turn.open_mark (drop l.item-index l.piece) ≡ l.initial.ranges.items ++ ranges_from l.fn.here.0 None l.piece;
+  told : l.ranges.items ++ ranges_from l.turn.here.0 l.turn.open_mark
+      (drop l.item-index l.piece) ≡ l.initial.ranges.items ++ ranges_from l.fn.here.0 None l.piece;
   left : l.turn.here.0 + 4 * piece_words (drop l.item-index l.piece) ≡ l.fn.here.0 + 4 * piece_words l.piece;
 }
