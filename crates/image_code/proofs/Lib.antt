@@ -1,0 +1,6 @@
+pub mod Ended
+pub mod Cases
+pub mod Couple
+pub mod Turns
+pub mod Idle
+pub mod Imaged
