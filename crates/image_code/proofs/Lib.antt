@@ -4,3 +4,5 @@ pub mod Couple
 pub mod Turns
 pub mod Idle
 pub mod Imaged
+pub mod Listed
+pub mod Made

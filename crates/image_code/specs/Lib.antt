@@ -6,3 +6,4 @@ pub mod Couple
 pub mod Turns
 pub mod Idle
 pub mod Imaged
+pub mod Made

@@ -5,6 +5,7 @@ ghost use Rattle.image_code.specs.Cases.{PlainsStep, PlainsVisit};
 ghost use Rattle.image_code.specs.Couple.{CouplesStep};
 ghost use Rattle.image_code.specs.Idle.{IdlesStep};
 ghost use Rattle.image_code.specs.Imaged.{HeadsVisit, ImagesSimulate};
+ghost use Rattle.image_code.specs.Made.{PiecesMakeImages};
 ghost use Rattle.image_code.specs.Turns.{TurnsStep};
 
 /// The image of a word that is no transfer, or the copy of a slot's word, is one step of the original.
@@ -40,4 +41,9 @@ pub fn heads_visit()
 /// Where each point has a piece of one of the shapes, the pieces promise what they should.
 pub fn images_simulate()
     ensures { ImagesSimulate }
+{}
+
+/// The pieces of a text whose transfers are branches promise what they should.
+pub fn pieces_make_images()
+    ensures { PiecesMakeImages }
 {}
