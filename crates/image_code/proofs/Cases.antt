@@ -50,11 +50,11 @@ use Rattle.code_runs.specs.LongJump.{IsFirstWord}
 use Rattle.code_runs.specs.Page.{page_word}
 use Rattle.code_runs.proofs.Ours.{ours_stay, ours_are_stored}
 use Rattle.eel_base.specs.declared.numbers.PieceNo.{PieceNo}
-use Rattle.layout.specs.declared.Item.{Item}
-use Rattle.layout.specs.declared.Item.TheVariants as it
+use Rattle.layout.specs.declared.items.Item.{Item}
+use Rattle.layout.specs.declared.items.Item.TheVariants as it
 use Rattle.layout.specs.Laid.{Placement, item_at, item_in, items_in, size_of, open_in, open_from, range_in, range_of, IsWordAt}
-use Rattle.layout.specs.Hops.{HasCode, CanRun, Goes}
-use Rattle.layout.proofs.Items.{stays, jumps_hop, branches_hop, words_stand, taken_acts, untaken_acts}
+use Rattle.layout.specs.Running.{HasCode, CanRun, Goes}
+use Rattle.layout.proofs.Going.{stays, jumps_hop, branches_hop, words_stand, taken_acts, untaken_acts}
 use Rattle.image_code.specs.Simulates.{updates, Setting, StepsOn, IsOnWay, IsFollowedBy, at_point, does_at, gone_at, graph_in, number_in, word_of}
 use Rattle.image_code.specs.Images.{Pieces, Frame, Here, IsPlaced, visited_at}
 use Rattle.image_code.specs.Cases.{Everything, visits_it, LeadsTo, LeadsOn, plain_piece, IsPlain, PlainsVisit, PlainsStep}
@@ -105,6 +105,13 @@ item_size pieces k n x e = go (slice_get pieces k) e
     go : (o : Option (List Item)) → item_in o n ≡ Some x → suc n ≤ items_in o
     go None e = absurd (cc)
     go (Some items) e = let f = get_below items n x e in omega arith
+
+item_below : (pieces : List (List Item)) (k n : ℕ) (x : Item) → item_at pieces k n ≡ Some x → k < length pieces
+item_below pieces k n x e = go (slice_get pieces k) refl e
+  where
+    go : (o : Option (List Item)) → slice_get pieces k ≡ o → item_in o n ≡ Some x → k < length pieces
+    go None f e = absurd (cc)
+    go (Some items) f e = get_below pieces k items f
 
 module _ (g : Setting) (l : Pieces) (base : ℕ) (p : Placement) (place : ℕ → ℕ → ℕ) (f : Frame) (h : IsPlaced g l base p place f) where
   -- ---- what the notes say
@@ -222,11 +229,12 @@ module _ (g : Setting) (l : Pieces) (base : ℕ) (p : Placement) (place : ℕ �
   jump_on k n z item closed a w at =
       let j = jumps_hop l.list base p place h.laid k n z item a w at in
       let size = item_size l.list k n (it.Jump z) item in
-      let ends = (h.laid.within k (suc n) (omega arith)).1 in
-      let starts = (h.laid.within k n (omega arith)).0 in
+      let here = item_below l.list k n (it.Jump z) item in
+      let ends = (h.laid.within k (suc n) here (omega arith)).ends in
+      let starts = (h.laid.within k n here (omega arith)).begins in
       let ins = j.inside in
       let none : (u : State) → place k n ≤ u.pc → u.pc < place k (suc n) → IsBare u =
-      λ u low high. (omega arith, omega arith, h.laid.ranges k n u.pc low high ∙ ap (range_of (place k)) closed) in
+      λ u low high. (omega arith, omega arith, h.laid.ranges k n u.pc (it.Jump z) item low high ∙ ap (range_of (place k)) closed) in
       record {
         count = j.count;
         memory = j.memory;
@@ -313,14 +321,12 @@ module _ (g : Setting) (l : Pieces) (base : ℕ) (p : Placement) (place : ℕ �
     inside : (base ≤ t.pc) × (t.pc + 4 ≤ base + 4 * length p.code) × (t.pc + 4 ≤ 2 ^ 31)
     inside =
         let s = size in
-        let b = h.laid.within c.piece 1 (omega arith) in
-        let d = h.laid.within c.piece 3 (omega arith) in
+        let b0 = (h.laid.within c.piece 1 c.within (omega arith)).begins in
+        let d1 = (h.laid.within c.piece 3 c.within (omega arith)).ends in
         let low = h.laid.low in
         let w = word_stands.0 in
         let k = closes in
         let a = at in
-        let b0 = b.0 in
-        let d1 = d.1 in
         (omega arith, omega arith, omega arith)
 
     range : NoteRange
@@ -330,7 +336,7 @@ module _ (g : Setting) (l : Pieces) (base : ℕ) (p : Placement) (place : ℕ �
     in_range =
         let a = at in
         let w = word_stands.0 in
-        h.laid.ranges c.piece 1 t.pc (omega arith) (omega arith)
+        h.laid.ranges c.piece 1 t.pc (it.Word c.word) (item 1) (omega arith) (omega arith)
         ∙ ap (λ (v : Option (List Item)). range_of (place c.piece) (open_in v 1)) c.items
 
     visits : visits_it g node x t
@@ -338,11 +344,6 @@ module _ (g : Setting) (l : Pieces) (base : ℕ) (p : Placement) (place : ℕ �
         let i0 = inside.0 in
         let i1 = inside.1 in
         at_range node x t (record { lo = place c.piece 1; hi = place c.piece 2; address = c.address.0; node = number_in g node }) here.live i0 (omega arith) in_range (sym at) refl c.original
-
-    no_range : (a : ℕ) → place c.piece 3 ≤ a → a < place c.piece 4 → range_in p.ranges a ≡ None
-    no_range a low high =
-        h.laid.ranges c.piece 3 a low high ∙ ap (λ (v : Option (List Item)). range_of (place c.piece) (open_in v 3)) c.items
-        ∙ ap (range_of (place c.piece)) (open_rest c.rest)
 
     ready : CanRun base p.code t
     ready =

@@ -20,10 +20,10 @@ use Rattle.cfg_normal.specs.declared.Node.{Node}
 use Rattle.cfg_walk.specs.Walk.{Point}
 use Rattle.cfg_walk.proofs.Ways.{always_holds}
 use Rattle.code_runs.proofs.Acts.{step_is}
-use Rattle.layout.specs.declared.Item.{Item}
-use Rattle.layout.specs.declared.Item.TheVariants as it
+use Rattle.layout.specs.declared.items.Item.{Item}
+use Rattle.layout.specs.declared.items.Item.TheVariants as it
 use Rattle.layout.specs.Laid.{Placement, item_at, item_in, items_in, size_of, open_in, range_in, range_of, IsWordAt}
-use Rattle.layout.proofs.Items.{taken_acts, word_is}
+use Rattle.layout.proofs.Going.{taken_acts, word_is}
 use Rattle.image_code.specs.Simulates.{Setting, StepsOn, IsOnWay, at_point, does_at, gone_at, number_in}
 use Rattle.image_code.specs.Images.{Pieces, Frame, Here, IsPlaced}
 use Rattle.image_code.specs.Cases.{Everything}
@@ -89,8 +89,8 @@ module _ (g : Setting) (l : Pieces) (base : ℕ) (p : Placement) (place : ℕ �
   inside : (base ≤ t.pc) × (t.pc + 8 ≤ base + 4 * length p.code) × (t.pc + 8 ≤ 2 ^ 31)
   inside =
       let s = size in
-      let b = (h.laid.within c.piece 1 (omega arith)).0 in
-      let d = (h.laid.within c.piece 3 (omega arith)).1 in
+      let b = (h.laid.within c.piece 1 c.within (omega arith)).begins in
+      let d = (h.laid.within c.piece 3 c.within (omega arith)).ends in
       let low = h.laid.low in
       let u = first.0 in
       let w = second.0 in
@@ -102,7 +102,7 @@ module _ (g : Setting) (l : Pieces) (base : ℕ) (p : Placement) (place : ℕ �
 
   in_range : (a : ℕ) → place c.piece 2 ≤ a → a < place c.piece 3
       → range_in p.ranges a ≡ Some (record { lo = place c.piece 1; hi = place c.piece 3; address = c.address.0; node = number_in g node })
-  in_range a low high = h.laid.ranges c.piece 2 a low high ∙ ap (λ (v : Option (List Item)). range_of (place c.piece) (open_in v 2)) c.items
+  in_range a low high = h.laid.ranges c.piece 2 a (it.Word c.ba) (item 2) low high ∙ ap (λ (v : Option (List Item)). range_of (place c.piece) (open_in v 2)) c.items
 
   -- in the slot of the first word
   mid : State

@@ -26,11 +26,11 @@ use Rattle.code_runs.specs.Hops.{hopped}
 use Rattle.code_runs.specs.Ours.{IsAmongWords}
 use Rattle.code_runs.proofs.Acts.{step_is}
 use Rattle.code_runs.proofs.Leads.{leads_one, leads_then, puts_add}
-use Rattle.layout.specs.declared.Item.{Item}
-use Rattle.layout.specs.declared.Item.TheVariants as it
+use Rattle.layout.specs.declared.items.Item.{Item}
+use Rattle.layout.specs.declared.items.Item.TheVariants as it
 use Rattle.layout.specs.Laid.{nop, Placement, item_at, item_in, items_in, size_of, open_in, range_in, range_of, IsWordAt}
-use Rattle.layout.specs.Hops.{HasCode, CanRun}
-use Rattle.layout.proofs.Items.{words_stand}
+use Rattle.layout.specs.Running.{HasCode, CanRun}
+use Rattle.layout.proofs.Going.{words_stand}
 use Rattle.image_code.specs.Simulates.{Setting, StepsOn, at_point, does_at, gone_at, graph_in, number_in}
 use Rattle.image_code.specs.Images.{Pieces, Frame, Here, IsPlaced, visited_at}
 use Rattle.image_code.specs.Cases.{Everything, visits_it, plain_piece}
@@ -60,14 +60,12 @@ module _ (g : Setting) (l : Pieces) (base : ℕ) (p : Placement) (place : ℕ �
   inside : (base ≤ t.pc) × (t.pc + 4 ≤ base + 4 * length p.code) × (t.pc + 4 ≤ 2 ^ 31)
   inside =
       let s = size in
-      let b = h.laid.within c.piece 1 (omega arith) in
-      let d = h.laid.within c.piece 3 (omega arith) in
+      let b0 = (h.laid.within c.piece 1 c.within (omega arith)).begins in
+      let d1 = (h.laid.within c.piece 3 c.within (omega arith)).ends in
       let low = h.laid.low in
       let w = word_stands.0 in
       let k = closes in
       let a = at in
-      let b0 = b.0 in
-      let d1 = d.1 in
       (omega arith, omega arith, omega arith)
 
   ready : CanRun base p.code t

@@ -7,8 +7,8 @@ use Rattle.v8_step.specs.Needed.{judged_in}
 use Rattle.v8_step.specs.Visits.{pages_of}
 use Rattle.cfg_normal.specs.declared.Node.{Node}
 use Rattle.cfg_walk.specs.Walk.{Point}
-use Rattle.layout.specs.declared.Item.{Item}
-use Rattle.layout.specs.declared.Item.TheVariants as it
+use Rattle.layout.specs.declared.items.Item.{Item}
+use Rattle.layout.specs.declared.items.Item.TheVariants as it
 use Rattle.layout.specs.Laid.{Placement, Stands, BranchStands, branch_short, branch_long, item_in, items_in, size_of, open_in, range_of, end_from}
 use Rattle.image_code.specs.Simulates.{StepsOn, at_point, does_at, gone_at, number_in, word_of}
 use Rattle.code_runs.specs.PointsAlike.{instr_of}
@@ -38,12 +38,12 @@ heads_visit g l base p place f node x t h here c =
     let mark : place c.piece 1 ≡ place c.piece 0 = h.laid.items c.piece 0 (it.Mark c.address (number_in g node)) (item 0) in
     let room : place c.piece 1 < place c.piece 2 = has_room base p c.item (place c.piece 1) (place c.piece 2) c.takes (h.laid.items c.piece 1 c.item (item 1)) in
     let at : t.pc ≡ place c.piece 1 = here.at ∙ c.here ∙ h.laid.starts c.piece c.within ∙ sym mark in
-    let low = (h.laid.within c.piece 1 (omega arith)).0 in
-    let high = (h.laid.within c.piece 2 (omega arith)).1 in
+    let low = (h.laid.within c.piece 1 c.within (omega arith)).begins in
+    let high = (h.laid.within c.piece 2 c.within (omega arith)).ends in
     at_range g l base p place f h node x t
     (record { lo = place c.piece 1; hi = place c.piece (end_from (c.item ∷ c.rest) 1); address = c.address.0; node = number_in g node })
     here.live (omega arith) (omega arith)
-    (h.laid.ranges c.piece 1 t.pc (omega arith) (omega arith) ∙ ap (λ (v : Option (List Item)). range_of (place c.piece) (open_in v 1)) c.items)
+    (h.laid.ranges c.piece 1 t.pc c.item (item 1) (omega arith) (omega arith) ∙ ap (λ (v : Option (List Item)). range_of (place c.piece) (open_in v 1)) c.items)
     (sym at) refl c.original
 
 pub images_simulate : ImagesSimulate

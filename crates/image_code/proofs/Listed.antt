@@ -14,8 +14,8 @@ use Rattle.cfg_normal.specs.declared.Edge.{Edge}
 use Rattle.cfg_normal.specs.Graph.{Graph, graph_of, edges_in, edges_of, landing_at}
 use Rattle.cfg_walk.specs.Walk.{same_kind}
 use Rattle.cfg_walk.proofs.Lists.{each, each-map, each_at}
-use Rattle.layout.specs.declared.Item.{Item}
-use Rattle.layout.specs.declared.Item.TheVariants as it
+use Rattle.layout.specs.declared.items.Item.{Item}
+use Rattle.layout.specs.declared.items.Item.TheVariants as it
 use Rattle.image_code.specs.Made.{illegal_word, image, own_edges, outside_piece, piece_list, way_along}
 
 get_first : {A : Type 0} (xs ys : List A) (n : ℕ) (x : A) → slice_get xs n ≡ Some x → slice_get (xs ++ ys) n ≡ Some x

@@ -47,8 +47,8 @@ use Rattle.cfg_walk.proofs.Leaving.{here, is_in, node_is, transfer_ends, way_fou
 use Rattle.cfg_walk.proofs.Slots.{LeadsIfThere}
 use Rattle.cfg_walk.proofs.Ways.{IsOne}
 use Rattle.cfg_walk.proofs.Edges.{block}
-use Rattle.layout.specs.declared.Item.{Item}
-use Rattle.layout.specs.declared.Item.TheVariants as it
+use Rattle.layout.specs.declared.items.Item.{Item}
+use Rattle.layout.specs.declared.items.Item.TheVariants as it
 use Rattle.layout.specs.Laid.{Placement, IsLaid, item_at, item_in, items_in, is_jump, size_of, nop}
 use Rattle.image_code.specs.Simulates.{Setting, at_point, does_at, gone_at, graph_in, number_in, word_of}
 use Rattle.image_code.specs.Images.{Pieces, Frame, Here, along_first, slot_piece, visited_at, visited_by}
@@ -235,17 +235,16 @@ module _ (g : Setting) (is : IsText g.text) (branches : HasBranchesOnly g.text) 
 
     in_slot : (node : Node) (x : Point) (slot : ℕ) → word_at g.text x.pc ≡ Some slot → x.slot ≢ NoSlot
         → IsOnItsWay g.text (graph_in g) node x (way_of (instr_at g.text (x.pc - 4)) x.slot) → InSlot node x
+    unfolding IsTurned
     in_slot node x slot at not way = by way.edge.slot refl
       where
-        kind : EdgeKind
+        abbrev kind : EdgeKind
         kind = way_of (instr_at g.text (x.pc - 4)) x.slot
 
         turned : IsTurned kind
-        unfolding kind
         turned = turns (x.pc - 4) x.slot
 
         found : position (λ (edge : Edge). same_node edge.from node && same_kind edge.kind kind) (edges_in b) ≡ Some way.number
-        unfolding kind
         found = number_of_list _ way.number way.only
 
         passes : (same_node way.edge.from node && same_kind way.edge.kind kind) ≡ true

@@ -26,11 +26,11 @@ use Rattle.code_runs.specs.Ours.{IsAmongWords}
 use Rattle.code_runs.proofs.Leads.{leads_then, leads_weaker, silent_then}
 use Rattle.code_runs.proofs.Hops.{stores_then}
 use Rattle.code_runs.specs.LongJump.{IsFirstWord}
-use Rattle.layout.specs.declared.Item.{Item}
-use Rattle.layout.specs.declared.Item.TheVariants as it
+use Rattle.layout.specs.declared.items.Item.{Item}
+use Rattle.layout.specs.declared.items.Item.TheVariants as it
 use Rattle.layout.specs.Laid.{Placement, item_at, item_in, items_in, size_of, open_in, range_in, range_of}
-use Rattle.layout.specs.Hops.{HasCode, CanRun, Goes}
-use Rattle.layout.proofs.Items.{branches_hop}
+use Rattle.layout.specs.Running.{HasCode, CanRun, Goes}
+use Rattle.layout.proofs.Going.{branches_hop}
 use Rattle.image_code.specs.Simulates.{Setting, StepsOn, IsOnWay, at_point, does_at, gone_at, graph_in, number_in}
 use Rattle.image_code.specs.Images.{Pieces, Frame, Here, IsPlaced, visited_at, visited_by}
 use Rattle.image_code.specs.Cases.{Everything, LeadsTo, branch_piece}
@@ -60,7 +60,7 @@ module _ (g : Setting) (l : Pieces) (base : ℕ) (p : Placement) (place : ℕ �
   b_ready : CanRun base p.code t
   b_ready =
       let s = b_size in
-      let b = (h.laid.within (l.image node c.number) 1 (omega arith)).1 in
+      let b = (h.laid.within (l.image node c.number) 1 c.within (omega arith)).ends in
       let low = h.laid.low in
       let a = b_at in
       let n = here.npc in
@@ -75,13 +75,13 @@ module _ (g : Setting) (l : Pieces) (base : ℕ) (p : Placement) (place : ℕ �
       let a = b_at in
       let some = hop.some in
       let ins = hop.inside in
-      let b = (h.laid.within (l.image node c.number) 1 (omega arith)).0 in
-      (omega arith, omega arith, (h.laid.within (l.image node c.number) 2 (omega arith)).1, (h.laid.within (l.image node c.number) 4 (omega arith)).1)
+      let b = (h.laid.within (l.image node c.number) 1 c.within (omega arith)).begins in
+      (omega arith, omega arith, (h.laid.within (l.image node c.number) 2 c.within (omega arith)).ends, (h.laid.within (l.image node c.number) 4 c.within (omega arith)).ends)
 
   b_range : (a : ℕ) → place (l.image node c.number) 1 ≤ a → a < place (l.image node c.number) 2 → range_in p.ranges a
       ≡ Some (record { lo = place (l.image node c.number) 1; hi = place (l.image node c.number) 2; address = c.address.0; node = number_in g node })
   b_range a low high =
-      h.laid.ranges (l.image node c.number) 1 a low high ∙ ap (λ (v : Option (List Item)). range_of (place (l.image node c.number)) (open_in v 1)) c.items
+      h.laid.ranges (l.image node c.number) 1 a (it.Branch c.cond (record { 0 = c.taken })) (b_item 1) low high ∙ ap (λ (v : Option (List Item)). range_of (place (l.image node c.number)) (open_in v 1)) c.items
 
   -- on the way: in the branch's place, or on Jumps after it
   IsOn : State → Type 0

@@ -8,7 +8,7 @@ use Rattle.v8_step.specs.State.{State}
 use Rattle.cfg_blocks.specs.declared.EdgeKind.TheVariants as kinds
 use Rattle.cfg_normal.specs.declared.Node.{Node}
 use Rattle.cfg_walk.specs.Walk.{Point, point_of, node_after, instr_at, way_of, same_kind}
-use Rattle.layout.specs.declared.Item.{Item}
+use Rattle.layout.specs.declared.items.Item.{Item}
 use Rattle.layout.specs.Laid.{Placement, nop}
 use Rattle.image_code.specs.Simulates.{Setting, StepsOn, does_at, gone_at, graph_in, number_in, word_of}
 use Rattle.image_code.specs.Images.{Pieces, Frame, Here, IsPlaced, visited_at}

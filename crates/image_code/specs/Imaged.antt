@@ -5,8 +5,8 @@ use Rattle.v8_step.specs.State.{State}
 use Rattle.cfg_normal.specs.declared.Node.{Node}
 use Rattle.cfg_walk.specs.Walk.{Point, point_of}
 use Rattle.cfg_walk.specs.Matches.{Matches}
-use Rattle.layout.specs.declared.Item.{Item}
-use Rattle.layout.specs.declared.Item.TheVariants as it
+use Rattle.layout.specs.declared.items.Item.{Item}
+use Rattle.layout.specs.declared.items.Item.TheVariants as it
 use Rattle.layout.specs.Laid.{Placement}
 use Rattle.image_code.specs.Simulates.{Setting, Simulates, does_at, graph_in, number_in}
 use Rattle.image_code.specs.Images.{Pieces, Frame, Here, IsPlaced, visited_at}

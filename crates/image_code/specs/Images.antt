@@ -14,9 +14,9 @@ use Rattle.cfg_walk.specs.Walk.{Point, edge_from, instr_at, same_kind, way_of}
 use Rattle.code_runs.specs.StoredWords.{memory_word}
 use Rattle.code_runs.specs.Ours.{AreOwn, IsOurs}
 use Rattle.code_runs.specs.Page.{page_word}
-use Rattle.layout.specs.declared.Item.{Item}
+use Rattle.layout.specs.declared.items.Item.{Item}
 use Rattle.layout.specs.Laid.{Placement, IsLaid, range_in}
-use Rattle.layout.specs.Hops.{HasCode}
+use Rattle.layout.specs.Running.{HasCode}
 use Rattle.image_code.specs.Simulates.{Setting, graph_in, updates}
 
 -- ---- pieces by what they are for

@@ -21,8 +21,8 @@ use Rattle.cfg_normal.specs.declared.Slot.TheVariants as slots
 use Rattle.cfg_normal.specs.Graph.{Graph, node_of}
 use Rattle.cfg_walk.specs.Walk.{edge_from}
 use Rattle.cfg_walk.specs.Counts.{node_number}
-use Rattle.layout.specs.declared.Item.{Item}
-use Rattle.layout.specs.declared.Item.TheVariants as it
+use Rattle.layout.specs.declared.items.Item.{Item}
+use Rattle.layout.specs.declared.items.Item.TheVariants as it
 use Rattle.image_code.specs.Simulates.{Setting, graph_in}
 use Rattle.image_code.specs.Images.{Frame, Pieces}
 use Rattle.image_code.specs.Cases.{plain_piece, branch_piece}
