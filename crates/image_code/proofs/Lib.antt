@@ -6,3 +6,4 @@ pub mod Idle
 pub mod Imaged
 pub mod Listed
 pub mod Made
+pub mod Numbers

@@ -7,3 +7,4 @@ pub mod Turns
 pub mod Idle
 pub mod Imaged
 pub mod Made
+pub mod Parts
