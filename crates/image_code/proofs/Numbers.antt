@@ -3,10 +3,10 @@ use Rattle.std.proofs.Common.{◌≡◌, ℕ, zero, suc, ◌+◌, ◌-◌, ◌*�
 use Rattle.std.specs.Prelude.{if◌then◌else◌, nat_lt, slice_index, ℤ}
 use Rattle.std.specs.List.{flat_map, position, position_or_len}
 use Rattle.std.specs.Option.{option_to_list}
-use Rattle.std.proofs.lemmas.Bool.{and_from, cases_lt, cond_both, eq-eqb, lt-ltb, eqb-true}
+use Rattle.std.proofs.lemmas.Bool.{and_from, cases_lt, cond_both, eq-eqb, le-ltb, lt-ltb, eqb-true}
 use Rattle.std.proofs.lemmas.Bool.Decides.{nat_tests}
 use Rattle.std.proofs.lemmas.Grind.{flat_map-append}
-use Rattle.std.proofs.lemmas.List.{length-map, append-nil}
+use Rattle.std.proofs.lemmas.List.{length-map, append-nil, map-append}
 use Rattle.eel_base.specs.CodeText.{Words, IsText, address_of}
 use Rattle.eel_base.specs.declared.numbers.Addr.{Addr}
 use Rattle.eel_base.specs.declared.numbers.PieceNo.{PieceNo}
@@ -18,7 +18,7 @@ use Rattle.cfg_blocks.specs.declared.BlockEnd.TheVariants as ends
 use Rattle.cfg_blocks.specs.declared.EdgeKind.{EdgeKind}
 use Rattle.cfg_blocks.specs.declared.EdgeKind.TheVariants as kinds
 use Rattle.cfg_blocks.specs.Ends.{Way, always, never, branch_target, end_at, end_by, is_transfer, number_of, way, ways_of, within}
-use Rattle.cfg_blocks.specs.Blocks.{Blocks, below, blocks_of, end_of, holding_of, last_word}
+use Rattle.cfg_blocks.specs.Blocks.{Blocks, below, block_end, blocks_of, end_of, holding_of, last_word}
 use Rattle.cfg_blocks.specs.Entries.{ways_from}
 use Rattle.cfg_blocks.proofs.Below.{length-below}
 use Rattle.cfg_normal.specs.declared.Edge.{Edge}
@@ -28,11 +28,12 @@ use Rattle.cfg_walk.specs.Walk.{edge_from, same_kind, same_node}
 use Rattle.cfg_walk.proofs.Lists.{Each, each-append, each-below, each-flat_map, each-map, each, each-then}
 use Rattle.cfg_walk.proofs.Cut.{IsCut, cut}
 use Rattle.cfg_walk.proofs.Edges.{block}
+use Rattle.cfg_walk.proofs.Holding.{is_held, some_words}
 use Rattle.cfg_walk.proofs.Leaving.{end_is, is_in, node_is, transfer_ends, ways_at}
 use Rattle.layout.specs.declared.items.Item.{Item}
 use Rattle.image_code.specs.Cases.{branch_piece, plain_piece}
 use Rattle.image_code.specs.Made.{branch_image, first_way, image, image_by, jump_to, nop_word, own_edges, rest_after, way_out}
-use Rattle.image_code.specs.Parts.{IsGraphOf, branch_from, branch_ways, edges_after, edges_before, first_way_of, image_from, jump_if}
+use Rattle.image_code.specs.Parts.{IsGraphOf, begin_of, branch_from, branch_ways, edges_after, edges_before, first_way_of, image_from, jump_if}
 
 -- ---- how many edges there are
 
@@ -280,3 +281,61 @@ image_is text graph h some word l first is rest after =
     by (i.Call disp) says = refl
     by (i.Jmpl rd rs1 op2) says = refl
     by _ says = ap (plain_piece (record { 0 = address_of text word }) (holding_of graph.blocks word) (slice_index text.words word)) after
+
+-- the ways along the edges of a block lie before the last piece
+pub first_low : (text : Words) (graph : Graph) → IsGraphOf text graph → 1 ≤ length text.words → (word : ℕ) → word < length text.words
+    → first_way_of text graph (holding_of graph.blocks word) ≤ 3 * length text.words
+first_low text graph h some word l =
+    let words = words_are text graph h in
+    let c = cut_of text graph h some in
+    let inside = (is_in text graph.blocks c word (omega arith)).within in
+    let few = c.firsts.few in
+    omega (arith, few_before graph.blocks (holding_of graph.blocks word))
+
+-- a word from the first of a block on, and before its end, is held by the block
+pub held_by : (text : Words) (graph : Graph) → IsGraphOf text graph → 1 ≤ length text.words → (k word : ℕ) → k < length graph.blocks.firsts
+    → slice_index graph.blocks.firsts k ≤ word → word < block_end graph.blocks.firsts graph.blocks.words k → k ≡ holding_of graph.blocks word
+held_by text graph h some k word l above below =
+    sym (is_held graph.blocks.words graph.blocks.firsts (cut_of text graph h some).firsts word k (record { within = l; above = above; below = below }))
+
+-- the blocks' words follow one another
+pub begin_after : (text : Words) (graph : Graph) → IsGraphOf text graph → 1 ≤ length text.words → (k : ℕ) → k < length graph.blocks.firsts
+    → begin_of graph.blocks (k + 1) ≡ last_word graph.blocks.firsts graph.blocks.words k + 1
+begin_after text graph h some k l =
+    let f = (cut_of text graph h some).firsts in
+    let next : suc k ≡ k + 1 = omega arith in
+    let room = some_words graph.blocks.words graph.blocks.firsts f k l in
+    let same : begin_of graph.blocks (suc k) ≡ block_end graph.blocks.firsts graph.blocks.words k = refl in
+    ap (begin_of graph.blocks) (sym next) ∙ same
+    ∙ (let e : block_end graph.blocks.firsts graph.blocks.words k ≡ last_word graph.blocks.firsts graph.blocks.words k + 1 = omega arith in e)
+
+pub begin_first : (text : Words) (graph : Graph) → IsGraphOf text graph → 1 ≤ length text.words → begin_of graph.blocks 0 ≡ 0
+begin_first text graph h some =
+    let f = (cut_of text graph h some).firsts in
+    ap (λ (b : Bool). if b then slice_index graph.blocks.firsts 0 else graph.blocks.words) (lt-ltb 0 (length graph.blocks.firsts) (omega (arith, f.some))) ∙ f.begin
+
+pub begin_last : (text : Words) (graph : Graph) → IsGraphOf text graph → (k : ℕ) → length graph.blocks.firsts ≤ k → begin_of graph.blocks k ≡ length text.words
+begin_last text graph h k m =
+    ap (λ (b : Bool). if b then slice_index graph.blocks.firsts k else graph.blocks.words) (le-ltb k (length graph.blocks.firsts) m) ∙ words_are text graph h
+
+-- the way after those along a block's edges
+pub way_after : (text : Words) (graph : Graph) → (way out k : ℕ) → way ≡ first_way_of text graph k → out ≡ length (edges_of graph.blocks k)
+    → way + out ≡ first_way_of text graph (k + 1)
+way_after text graph way out k e f =
+    let next : suc k ≡ k + 1 = omega arith in
+    let n = next_before graph.blocks k in
+    (let q : way + out ≡ length text.words + edges_before graph.blocks (suc k) = omega arith in q) ∙ ap (λ j. length text.words + edges_before graph.blocks j) next
+
+pub way_few : (text : Words) (graph : Graph) → IsGraphOf text graph → 1 ≤ length text.words → (k : ℕ) → k < length graph.blocks.firsts
+    → first_way_of text graph k ≤ 3 * length text.words
+way_few text graph h some k l =
+    let words = words_are text graph h in
+    let few = (cut_of text graph h some).firsts.few in
+    omega (arith, few_before graph.blocks k)
+
+pub image_more : {A : Type 0} (f : ℕ → A) (n : ℕ) → map f (below (n + 1)) ≡ map f (below n) ++ f n ∷ []
+image_more f n = let e : n + 1 ≡ suc n = omega arith in ap (λ k. map f (below k)) e ∙ map-append f (below n) (n ∷ [])
+
+pub way_first : (text : Words) (graph : Graph) → length text.words ≡ first_way_of text graph 0
+unfolding edges_before
+way_first text graph = omega arith

@@ -1,5 +1,5 @@
 -- What the parts of making pieces make, by the numbers that they are given.
-use Rattle.std.specs.Prelude.{◌≡◌, ℕ, ◌+◌, ◌==◌, if◌then◌else◌, List, [], ◌∷◌, length, Option, Some, None}
+use Rattle.std.specs.Prelude.{◌≡◌, ℕ, ◌+◌, ◌==◌, if◌then◌else◌, nat_lt, slice_index, List, [], ◌∷◌, length, Option, Some, None}
 use Rattle.std.specs.List.{flat_map}
 use Rattle.eel_base.specs.CodeText.{Words}
 use Rattle.eel_base.specs.declared.numbers.Addr.{Addr}
@@ -36,6 +36,10 @@ branch_from address node cond first =
 -- how many edges leave the blocks before one
 unfoldable pub edges_before : Blocks → ℕ → ℕ
 edges_before b block = length (flat_map (edges_of b) (below block))
+
+-- where a block begins; past the last one, the end of the text
+abbrev pub begin_of : Blocks → ℕ → ℕ
+begin_of b block = if nat_lt block (length b.firsts) then slice_index b.firsts block else b.words
 
 -- the way along the first edge that leaves a block
 abbrev pub first_way_of : Words → Graph → ℕ → ℕ

@@ -1,7 +1,8 @@
 //! The pieces of a text: one pass over its words, by blocks, and one over the edges.
 
-ghost use Rattle.std.specs.Prelude.{◌≡◌, ◌+◌, ◌*◌, ◌^◌, ◌<◌, ◌≤◌, ◌++◌, length, map, slice_index, IfOk, OnOk};
+ghost use Rattle.std.specs.Prelude.{◌≡◌, ◌+◌, ◌*◌, ◌^◌, ◌<◌, ◌≤◌, ◌++◌, [], length, map, slice_index, All, IfOk, OnOk};
 ghost use Rattle.cfg_blocks.specs.Blocks.{below, holding_of, last_word};
+ghost use Rattle.eel_base.specs.CodeText.{IsText};
 ghost use Rattle.cfg_normal.specs.Graph.{IsEdgeIn, IsNodeIn, edges_of};
 ghost use Rattle.cfg_walk.specs.Counts.{node_number as node_number_of};
 ghost use Rattle.image_code.specs.Made.{image as image_of, outside_piece, own_edges as own_edges_of, piece_at as piece_at_of, piece_list, rest_after as rest_after_of, way_along};
@@ -48,7 +49,8 @@ pub fn pieces(
 // The edges but for the landings, which come last, one at each block.
 fn own_edges(graph: &FlowGraph) -> &[Edge]
     requires { length graph.now.blocks.firsts ≤ length graph.now.edges }
-    ensures { result.now ≡ own_edges_of graph.now }
+    ensures edges { result.now ≡ own_edges_of graph.now }
+    ensures inside { All (IsEdgeIn graph.now.blocks) result.now }
 {
     let edges = graph.edges();
     &edges[..edges.len() - graph.count() as usize]
@@ -74,7 +76,7 @@ fn push_images(
     graph: &FlowGraph,
 ) -> Result<(), NoMemory>
     requires graph { IsGraphOf text.now graph.now }
-    requires empty { length list.now.items ≡ 0 }
+    requires empty { list.now.items ≡ [] }
     ensures { OnOk result (list.new.items ≡ map (image_of text.now graph.now) (below (length text.now.words))) }
 {
     let mut way = text.len();
@@ -147,9 +149,11 @@ fn image(
 fn rest_after(text: &Text, graph: &FlowGraph, word: WordNo) -> Option<PieceNo>
     requires graph { IsGraphOf text.now graph.now }
     requires word { word.0 < length text.now.words }
-    ensures { jump_if result ≡ rest_after_of text.now graph.now word.0 }
+    ensures rest { jump_if result ≡ rest_after_of text.now graph.now word.0 }
+    ensures text { IsText text.now }
 {
-    if word.0 + 1 < text.len() {
+    let words = text.len();
+    if word.0 + 1 < words {
         None
     } else {
         Some(outside(text, graph))

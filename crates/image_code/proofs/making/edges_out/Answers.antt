@@ -1,4 +1,4 @@
-use Rattle.std.proofs.Common.{◌≤◌, ◌≡◌, ◌+◌, ◌-◌, length, slice_index, ap, sym, ◌∙◌, arith}
+use Rattle.std.proofs.Common.{ℕ, ◌≤◌, ◌≡◌, ◌+◌, ◌-◌, length, slice_index, ap, sym, ◌∙◌, arith}
 use Rattle.v8_decode.specs.Words.{decode_of}
 use Rattle.cfg_blocks.specs.Blocks.{last_word}
 use Rattle.image_code.specs.Parts.{edges_after}
@@ -14,4 +14,6 @@ returns-clause-count c =
     omega (arith, words_are c.args.text.now c.args.graph.now c.requires.graph, c.words.ensures.within, c.words.ensures.some) in
     let last : c.first.result.0 + c.words.result - 1 ≡ last_word c.args.graph.now.blocks.firsts c.args.graph.now.blocks.words c.args.block.0 =
     omega (arith, c.first.ensures.first, c.words.ensures.size, c.words.ensures.some) in
-    ?
+    c.edges_after.ensures.count ∙ ap (λ (w : ℕ). edges_after (decode_of w)) c.word.ensures
+    ∙ ap (λ (n : ℕ). edges_after (decode_of (slice_index c.args.text.now.words n))) last
+    ∙ sym (edges_out c.args.text.now c.args.graph.now c.requires.graph some c.args.block.0 c.requires.block)
