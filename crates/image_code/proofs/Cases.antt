@@ -1,23 +1,19 @@
 -- The images of a plain word and of a conditional branch are one step each.
-use Rattle.std.proofs.Common.{◌≡◌, ◌≢◌, ℕ, zero, suc, ◌+◌, ◌-◌, ◌*◌, ◌^◌, ◌<◌, ◌≤◌, ◌⊎◌, inl, inr, Bool, true, false, Option, Some, None, List, [], ◌∷◌, ◌++◌, length, append-nil, refl, ap, sym, ◌∙◌, subst, arith}
+use Rattle.std.proofs.Common.{◌≡◌, ℕ, zero, suc, ◌+◌, ◌-◌, ◌*◌, ◌^◌, ◌<◌, ◌≤◌, inl, inr, Bool, true, false, Option, Some, None, List, [], ◌∷◌, ◌++◌, length, append-nil, refl, ap, sym, ◌∙◌, subst, arith}
 use Rattle.std.specs.Prelude.{if◌then◌else◌, slice_get, slice_index, ◌==◌, ℤ}
 use Rattle.std.specs.Option.{option_map, option_or}
 use Rattle.std.proofs.lemmas.Bool.{cases_lt}
 use Rattle.std.proofs.lemmas.Bool.Decides.{nat_tests}
-use Rattle.eel_base.specs.CodeText.{word_at}
 use Rattle.elf32_sparc.specs.Notes.{Notes, NoteRange, range_at, node_at}
 use Rattle.v8_decode.specs.declared.Instr.{Instr}
 use Rattle.v8_decode.specs.declared.Instr.TheVariants as i
 use Rattle.v8_decode.specs.Words.{decode_of}
-use Rattle.v8_alu.specs.Conditions.{holds_of}
 use Rattle.v8_alu.specs.Numbers.{wrapped}
 use Rattle.v8_memory.specs.Regions.{Memory, Region, code_of, fetch_of, fetch_from}
 use Rattle.v8_memory.specs.Spans.{Span, AllApart, IsSameOutside, IsSameRegion}
 use Rattle.v8_step.specs.declared.Ending.{Ending}
-use Rattle.v8_step.specs.declared.Slot.{Slot}
-use Rattle.v8_step.specs.declared.Slot.TheVariants.{NoSlot, Taken, Untaken}
+use Rattle.v8_step.specs.declared.Slot.TheVariants.{NoSlot}
 use Rattle.v8_step.specs.State.{State}
-use Rattle.v8_step.specs.Transfers.{target_of}
 use Rattle.v8_step.specs.Step.{act, step_of, on_word, puts_by, puts_on_word}
 use Rattle.v8_step.specs.Run.{run, run_puts}
 use Rattle.v8_step.specs.Items.{Item as Thing, Register, Codes, YRegister, IsSameAt}
@@ -30,9 +26,7 @@ use Rattle.v8_step.proofs.CopiedMoves.{goes_act}
 use Rattle.v8_step.proofs.Executable.{code_stays}
 use Rattle.v8_step.proofs.ValidSteps.{run-valid}
 use Rattle.cfg_walk.proofs.Walks as walks
-use Rattle.cfg_blocks.specs.declared.EdgeKind.{EdgeKind}
-use Rattle.cfg_blocks.specs.declared.EdgeKind.TheVariants as kinds
-use Rattle.cfg_walk.specs.Walk.{Point, point_of, node_after, unless_ended, gone, completed, edge_from, instr_at, way_of, same_kind}
+use Rattle.cfg_walk.specs.Walk.{Point, point_of, node_after}
 use Rattle.cfg_normal.specs.declared.Node.{Node}
 use Rattle.code_runs.specs.StoredWords.{AllAt, Stores}
 use Rattle.code_runs.specs.Leads.{Leads, IsSilent}
@@ -53,8 +47,8 @@ use Rattle.eel_base.specs.declared.numbers.PieceNo.{PieceNo}
 use Rattle.layout.specs.declared.items.Item.{Item}
 use Rattle.layout.specs.declared.items.Item.TheVariants as it
 use Rattle.layout.specs.Laid.{Placement, item_at, item_in, items_in, size_of, open_in, open_from, range_in, range_of, IsWordAt}
-use Rattle.layout.specs.Running.{HasCode, CanRun, Goes}
-use Rattle.layout.proofs.Going.{stays, jumps_hop, branches_hop, words_stand, taken_acts, untaken_acts}
+use Rattle.layout.specs.Running.{HasCode, CanRun}
+use Rattle.layout.proofs.Going.{stays, jumps_hop, words_stand}
 use Rattle.image_code.specs.Simulates.{updates, Setting, StepsOn, IsOnWay, IsFollowedBy, at_point, does_at, gone_at, graph_in, number_in, word_of}
 use Rattle.image_code.specs.Images.{Pieces, Frame, Here, IsPlaced, visited_at}
 use Rattle.image_code.specs.Cases.{Everything, visits_it, LeadsTo, LeadsOn, plain_piece, IsPlain, PlainsVisit, PlainsStep}

@@ -1,7 +1,6 @@
 -- A nop and then the way.
-use Rattle.std.proofs.Common.{◌≡◌, ℕ, suc, ◌+◌, ◌*◌, ◌^◌, ◌<◌, ◌≤◌, Bool, true, false, Option, Some, None, List, [], ◌++◌, length, append-nil, refl, ap, sym, ◌∙◌, subst, arith}
+use Rattle.std.proofs.Common.{◌≡◌, ℕ, suc, ◌+◌, ◌*◌, ◌^◌, ◌≤◌, Bool, true, false, Option, Some, List, [], ◌++◌, length, append-nil, refl, ap, sym, ◌∙◌, subst, arith}
 use Rattle.std.specs.Prelude.{slice_get, ◌==◌}
-use Rattle.elf32_sparc.specs.Notes.{NoteRange}
 use Rattle.v8_decode.specs.declared.Instr.{Instr}
 use Rattle.v8_decode.specs.declared.Instr.TheVariants as i
 use Rattle.v8_decode.specs.Words.{decode_of}
@@ -23,17 +22,16 @@ use Rattle.cfg_walk.specs.Walk.{Point, point_of, node_after}
 use Rattle.cfg_normal.specs.declared.Node.{Node}
 use Rattle.code_runs.specs.Points.{moved}
 use Rattle.code_runs.specs.Hops.{hopped}
-use Rattle.code_runs.specs.Ours.{IsAmongWords}
 use Rattle.code_runs.proofs.Acts.{step_is}
 use Rattle.code_runs.proofs.Leads.{leads_one, leads_then, puts_add}
 use Rattle.layout.specs.declared.items.Item.{Item}
 use Rattle.layout.specs.declared.items.Item.TheVariants as it
-use Rattle.layout.specs.Laid.{nop, Placement, item_at, item_in, items_in, size_of, open_in, range_in, range_of, IsWordAt}
+use Rattle.layout.specs.Laid.{nop, Placement, item_at, item_in, items_in, size_of, IsWordAt}
 use Rattle.layout.specs.Running.{HasCode, CanRun}
 use Rattle.layout.proofs.Going.{words_stand}
 use Rattle.image_code.specs.Simulates.{Setting, StepsOn, at_point, does_at, gone_at, graph_in, number_in}
 use Rattle.image_code.specs.Images.{Pieces, Frame, Here, IsPlaced, visited_at}
-use Rattle.image_code.specs.Cases.{Everything, visits_it, plain_piece}
+use Rattle.image_code.specs.Cases.{Everything, plain_piece}
 use Rattle.image_code.specs.Idle.{IsIdle, IdlesStep}
 use Rattle.image_code.proofs.Cases.{fetch_is, can_run, code_after, tail, quiet_of, bare_on, IsBare, IsFit, own_stored, cells_same, same_at, no_puts}
 

@@ -7,3 +7,4 @@ pub mod Imaged
 pub mod Listed
 pub mod Made
 pub mod Numbers
+pub mod Fit

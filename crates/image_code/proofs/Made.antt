@@ -1,16 +1,13 @@
 -- The pieces that are made are images.
-use Rattle.std.proofs.Common.{◌≡◌, ◌≢◌, ℕ, suc, ◌+◌, ◌-◌, ◌*◌, ◌%◌, ◌^◌, ◌<◌, ◌≤◌, ◌⊎◌, inl, inr, Bool, true, false, not, Option, Some, None, List, [], ◌∷◌, length, refl, ap, sym, ◌∙◌, subst, arith}
+use Rattle.std.proofs.Common.{◌≡◌, ◌≢◌, ℕ, suc, ◌+◌, ◌-◌, ◌%◌, ◌^◌, ◌<◌, inl, inr, Bool, true, false, not, Option, Some, None, List, [], ◌∷◌, length, refl, ap, sym, ◌∙◌, subst, arith}
 use Rattle.std.specs.Prelude.{if◌then◌else◌, nat_lt, ◌&&◌, ◌||◌, pos, slice_get, slice_index, ◌==◌, ℤ}
 use Rattle.std.specs.Option.{option_map, option_to_list}
-use Rattle.std.specs.Int.{w32, cast_unsigned}
 use Rattle.std.specs.List.{position}
-use Rattle.std.proofs.lemmas.Bool.{and_parts, cases_lt, cond_both, eqb-true, false≢true, lt-ltb, ltb-true}
+use Rattle.std.proofs.lemmas.Bool.{and_parts, cond_both, eqb-true, false≢true, lt-ltb, ltb-true}
 use Rattle.std.proofs.lemmas.List.Quantifiers.{position-Some}
 use Rattle.std.proofs.lemmas.Option.{get_or_from_slice_get}
 use Rattle.eel_base.specs.CodeText.{Words, IsText, address_of, word_at, numbered, target_of}
 use Rattle.eel_base.specs.declared.numbers.Addr.{Addr}
-use Rattle.eel_base.specs.declared.numbers.WordNo.{WordNo}
-use Rattle.eel_base.specs.declared.numbers.PieceNo.{PieceNo}
 use Rattle.v8_decode.specs.declared.Instr.{Instr}
 use Rattle.v8_decode.specs.declared.Instr.TheVariants as i
 use Rattle.v8_decode.specs.Words.{decode_of, branch_or_sethi}
@@ -37,13 +34,13 @@ use Rattle.cfg_normal.specs.declared.Node.{Node}
 use Rattle.cfg_normal.specs.declared.Node.TheVariants.{Block, X}
 use Rattle.cfg_normal.specs.declared.Slot.{Slot as Carried}
 use Rattle.cfg_normal.specs.declared.Slot.TheVariants as carried
-use Rattle.cfg_normal.specs.Graph.{Graph, graph_of, node_of, edge_of, edges_in, runs_slot, slot_behind, slot_on}
-use Rattle.cfg_walk.specs.Walk.{Point, point_of, completed, edge_from, gone, goes_on_at, instr_at, node_after, same_kind, same_node, unless_ended, way_of}
+use Rattle.cfg_normal.specs.Graph.{Graph, node_of, edge_of, edges_in, runs_slot, slot_behind, slot_on}
+use Rattle.cfg_walk.specs.Walk.{Point, point_of, completed, edge_from, gone, instr_at, node_after, same_kind, same_node, unless_ended, way_of}
 use Rattle.cfg_walk.specs.Counts.{node_number}
 use Rattle.cfg_walk.specs.Matches.{Begins, IsCarried, IsOnItsWay, Matches, MatchesBy}
 use Rattle.cfg_walk.proofs.Addresses.{IsWord, word_at-address, word_at-some, next_word}
 use Rattle.cfg_walk.proofs.Cut.{IsCut, cut}
-use Rattle.cfg_walk.proofs.Holding.{Leads, first_held}
+use Rattle.cfg_walk.proofs.Holding.{first_held}
 use Rattle.cfg_walk.proofs.Points.{Stands, jumps_to, passes}
 use Rattle.cfg_walk.proofs.Leaving.{end_is, is_in, node_is, transfer_ends, way_found}
 use Rattle.cfg_walk.proofs.Slots.{LeadsIfThere}
@@ -54,13 +51,11 @@ use Rattle.layout.specs.declared.items.Item.TheVariants as it
 use Rattle.layout.specs.Laid.{Placement, IsLaid, item_at, item_in, items_in, is_jump, size_of, nop}
 use Rattle.image_code.specs.Simulates.{Setting, at_point, does_at, gone_at, graph_in, number_in, word_of}
 use Rattle.image_code.specs.Images.{Pieces, Frame, Here, along_first, slot_piece, visited_at, visited_by}
-use Rattle.image_code.specs.Cases.{IsPlain, LeadsOn, LeadsTo, plain_piece, branch_piece}
-use Rattle.image_code.specs.Couple.{IsCouple, couple_piece}
-use Rattle.image_code.specs.Idle.{IsIdle}
-use Rattle.image_code.specs.Turns.{IsTurn}
-use Rattle.image_code.specs.Imaged.{IsHead, TakesWords, IsCase, IsImaged, plain, couple, turn, idle}
+use Rattle.image_code.specs.Cases.{LeadsOn, LeadsTo, plain_piece, branch_piece}
+use Rattle.image_code.specs.Couple.{couple_piece}
+use Rattle.image_code.specs.Imaged.{IsHead, TakesWords, IsCase, plain, couple, turn, idle}
 use Rattle.image_code.specs.Whole.{IsInText}
-use Rattle.image_code.specs.Made.{HasBranchesOnly, IsBuilt, PiecesMakeImages, couple_word, nop_word, branch_image, first_way, image_by, illegal_word, jump_to, outside_piece, own_edges, piece_at, piece_list, pieces_in, rest_after, slot_copy, way_along, way_by, way_out}
+use Rattle.image_code.specs.Made.{HasBranchesOnly, IsBuilt, PiecesMakeImages, couple_word, nop_word, first_way, image_by, illegal_word, jump_to, outside_piece, piece_at, pieces_in, rest_after, slot_copy, way_by, way_out}
 use Rattle.image_code.proofs.Cases.{get_below}
 use Rattle.image_code.proofs.Imaged.{images_simulate}
 use Rattle.image_code.proofs.Listed.{image_at, own_at, way_at}
@@ -111,7 +106,7 @@ not_out kinds.Call h = absurd h
 not_out kinds.Out h = absurd h
 not_out kinds.Land h = absurd h
 
-same_is : (k j : EdgeKind) → same_kind k j ≡ true → k ≡ j
+pub same_is : (k j : EdgeKind) → same_kind k j ≡ true → k ≡ j
 same_is kinds.Fall kinds.Fall e = refl
 same_is kinds.Taken kinds.Taken e = refl
 same_is kinds.Untaken kinds.Untaken e = refl
@@ -502,8 +497,11 @@ module _ (g : Setting) (is : IsText g.text) (branches : HasBranchesOnly g.text) 
             → word_at g.text v.pc ≡ w.to → LeadsIfThere b w.to → Leads_along w.kind v
         past w v live slot inside one bare fall land to leads =
             let there = is_there (word_at g.text v.pc) inside in
-            inr (record { 0 = there.0 }, bare_way w one bare fall land there.0 (sym to ∙ there.1) leads,
-            sym (visited_word (node_after (graph_in g) node (gone_at g node x v)) (point_of v) there.0 there.1 slot))
+            inr (
+              record { 0 = there.0 },
+              bare_way w one bare fall land there.0 (sym to ∙ there.1) leads,
+              sym (visited_word (node_after (graph_in g) node (gone_at g node x v)) (point_of v) there.0 there.1 slot),
+            )
 
         acts : does_at g x t ≡ branched (holds_of cond t.codes) (cond == always) annul (at_point x t) (target_from (at_point x t) disp)
         unfolding act branch_step
@@ -666,8 +664,11 @@ module _ (g : Setting) (is : IsText g.text) (branches : HasBranchesOnly g.text) 
               let inside = is_there (word_at g.text v.pc) (subst (λ (z : State). IsInText g (point_of z)) is (on (ap (λ (z : State). z.ending) is ∙ live))) in
               let there : piece_at g.text (graph_in g) k.edge.to ≡ inside.0 =
               begins_piece g.text (graph_in g) k.edge.to (word_at g.text x.npc) inside.0 (ap (word_at g.text) (sym pc) ∙ inside.1) k.begins in
-              inr (record { 0 = piece_at g.text (graph_in g) k.edge.to }, ap (λ (v : Option (List Item)). item_in v 3) (made false e),
-              inl (ap (slice_index p.at) there ∙ sym (visited_word (node_after (graph_in g) node (gone_at g node x v)) (point_of v) inside.0 inside.1 none)))
+              inr (
+                record { 0 = piece_at g.text (graph_in g) k.edge.to },
+                ap (λ (v : Option (List Item)). item_in v 3) (made false e),
+                inl (ap (slice_index p.at) there ∙ sym (visited_word (node_after (graph_in g) node (gone_at g node x v)) (point_of v) inside.0 inside.1 none)),
+              )
 
           by : (b : Bool) → is_transfer (decode_of (slice_index g.text.words k.slot)) ≡ b → IsCase g l p place f node x t
           by true e = couple (record {

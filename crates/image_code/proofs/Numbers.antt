@@ -1,13 +1,13 @@
 -- The graph of a text by numbers: how many edges there are, and which number an edge has.
-use Rattle.std.proofs.Common.{◌≡◌, ℕ, zero, suc, ◌+◌, ◌-◌, ◌*◌, ◌^◌, ◌<◌, ◌≤◌, Bool, true, false, not, ◌&&◌, ◌==◌, cond, List, [], ◌∷◌, ◌++◌, length, map, take, Option, Some, None, length-append, length-take, append_assoc, refl, ap, sym, ◌∙◌, subst, arith, inl, inr}
-use Rattle.std.specs.Prelude.{if◌then◌else◌, nat_lt, slice_index, ℤ}
+use Rattle.std.proofs.Common.{◌≡◌, ℕ, zero, suc, ◌+◌, ◌-◌, ◌*◌, ◌<◌, ◌≤◌, Bool, true, false, not, ◌&&◌, ◌==◌, cond, List, [], ◌∷◌, ◌++◌, length, map, Option, Some, None, length-append, length-take, append_assoc, refl, ap, sym, ◌∙◌, subst, arith, inl, inr}
+use Rattle.std.specs.Prelude.{if◌then◌else◌, slice_index, ℤ}
 use Rattle.std.specs.List.{flat_map, position, position_or_len}
 use Rattle.std.specs.Option.{option_to_list}
-use Rattle.std.proofs.lemmas.Bool.{and_from, cases_lt, cond_both, eq-eqb, le-ltb, lt-ltb, eqb-true}
+use Rattle.std.proofs.lemmas.Bool.{and_from, cases_lt, cond_both, eq-eqb, le-ltb, lt-ltb}
 use Rattle.std.proofs.lemmas.Bool.Decides.{nat_tests}
 use Rattle.std.proofs.lemmas.Grind.{flat_map-append}
 use Rattle.std.proofs.lemmas.List.{length-map, append-nil, map-append}
-use Rattle.eel_base.specs.CodeText.{Words, IsText, address_of}
+use Rattle.eel_base.specs.CodeText.{Words, address_of}
 use Rattle.eel_base.specs.declared.numbers.Addr.{Addr}
 use Rattle.eel_base.specs.declared.numbers.PieceNo.{PieceNo}
 use Rattle.v8_decode.specs.declared.Instr.{Instr}
@@ -17,20 +17,19 @@ use Rattle.cfg_blocks.specs.declared.BlockEnd.{BlockEnd}
 use Rattle.cfg_blocks.specs.declared.BlockEnd.TheVariants as ends
 use Rattle.cfg_blocks.specs.declared.EdgeKind.{EdgeKind}
 use Rattle.cfg_blocks.specs.declared.EdgeKind.TheVariants as kinds
-use Rattle.cfg_blocks.specs.Ends.{Way, always, never, branch_target, end_at, end_by, is_transfer, number_of, way, ways_of, within}
+use Rattle.cfg_blocks.specs.Ends.{Way, always, never, branch_target, end_by, is_transfer, number_of, way, ways_of, within}
 use Rattle.cfg_blocks.specs.Blocks.{Blocks, below, block_end, blocks_of, end_of, holding_of, last_word}
 use Rattle.cfg_blocks.specs.Entries.{ways_from}
 use Rattle.cfg_blocks.proofs.Below.{length-below}
 use Rattle.cfg_normal.specs.declared.Edge.{Edge}
 use Rattle.cfg_normal.specs.declared.Node.{Node}
-use Rattle.cfg_normal.specs.Graph.{Graph, graph_of, node_of, edge_of, edges_in, edges_of, landing_at}
+use Rattle.cfg_normal.specs.Graph.{Graph, graph_of, edge_of, edges_in, edges_of, landing_at}
 use Rattle.cfg_walk.specs.Walk.{edge_from, same_kind, same_node}
 use Rattle.cfg_walk.proofs.Lists.{Each, each-append, each-below, each-flat_map, each-map, each, each-then}
 use Rattle.cfg_walk.proofs.Cut.{IsCut, cut}
 use Rattle.cfg_walk.proofs.Edges.{block}
 use Rattle.cfg_walk.proofs.Holding.{is_held, some_words}
 use Rattle.cfg_walk.proofs.Leaving.{end_is, is_in, node_is, transfer_ends, ways_at}
-use Rattle.layout.specs.declared.items.Item.{Item}
 use Rattle.image_code.specs.Cases.{branch_piece, plain_piece}
 use Rattle.image_code.specs.Made.{branch_image, first_way, image, image_by, jump_to, nop_word, own_edges, rest_after, way_out}
 use Rattle.image_code.specs.Parts.{IsGraphOf, begin_of, branch_from, branch_ways, edges_after, edges_before, first_way_of, image_from, jump_if}

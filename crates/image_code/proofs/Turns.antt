@@ -1,5 +1,5 @@
 -- The image of a branch is one step, whatever its annul bit.
-use Rattle.std.proofs.Common.{◌≡◌, ℕ, ◌+◌, ◌-◌, ◌*◌, ◌^◌, ◌<◌, ◌≤◌, ◌⊎◌, inl, inr, Bool, true, false, Option, Some, None, List, [], length, refl, ap, sym, ◌∙◌, subst, arith}
+use Rattle.std.proofs.Common.{◌≡◌, ℕ, ◌+◌, ◌-◌, ◌*◌, ◌^◌, ◌<◌, ◌≤◌, ◌⊎◌, inl, inr, Bool, true, false, Option, Some, None, List, length, refl, ap, sym, ◌∙◌, subst, arith}
 use Rattle.std.specs.Prelude.{if◌then◌else◌, slice_get, slice_index, ◌==◌}
 use Rattle.v8_decode.specs.declared.Instr.{Instr}
 use Rattle.v8_decode.specs.declared.Instr.TheVariants as i
@@ -22,7 +22,6 @@ use Rattle.code_runs.specs.StoredWords.{Stores}
 use Rattle.code_runs.specs.Leads.{Leads, IsSilent}
 use Rattle.code_runs.specs.Points.{moved}
 use Rattle.code_runs.specs.Hops.{hopped}
-use Rattle.code_runs.specs.Ours.{IsAmongWords}
 use Rattle.code_runs.proofs.Leads.{leads_then, leads_weaker, silent_then}
 use Rattle.code_runs.proofs.Hops.{stores_then}
 use Rattle.code_runs.specs.LongJump.{IsFirstWord}

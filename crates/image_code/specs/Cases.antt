@@ -1,25 +1,21 @@
 -- The images of a plain word and of a conditional branch, whole.
-use Rattle.std.specs.Prelude.{◌≡◌, ℕ, ◌+◌, ◌<◌, ◌⊎◌, false, List, [], ◌∷◌, length, Some, None, slice_get, slice_index, ℤ}
-use Rattle.eel_base.specs.CodeText.{word_at}
+use Rattle.std.specs.Prelude.{◌≡◌, ℕ, ◌<◌, ◌⊎◌, false, List, [], ◌∷◌, length, Some, None, slice_get, slice_index}
 use Rattle.eel_base.specs.declared.numbers.Addr.{Addr}
 use Rattle.eel_base.specs.declared.numbers.PieceNo.{PieceNo}
 use Rattle.elf32_sparc.specs.Notes.{node_at}
-use Rattle.v8_decode.specs.declared.Instr.TheVariants as i
 use Rattle.v8_decode.specs.Words.{decode_of}
 use Rattle.v8_memory.specs.Spans.{AllApart}
-use Rattle.v8_step.specs.declared.Slot.TheVariants.{NoSlot}
 use Rattle.v8_step.specs.State.{State}
 use Rattle.v8_step.specs.Items.{Item as Thing, is_transfer}
 use Rattle.v8_step.specs.Judged.{judged_by}
 use Rattle.v8_step.specs.Visits.{visit_of, pages_of}
-use Rattle.cfg_blocks.specs.declared.EdgeKind.TheVariants as kinds
 use Rattle.cfg_normal.specs.declared.Node.{Node}
-use Rattle.cfg_walk.specs.Walk.{Point, point_of, edge_from, node_after}
+use Rattle.cfg_walk.specs.Walk.{Point, point_of, node_after}
 use Rattle.layout.specs.declared.items.Item.{Item}
 use Rattle.layout.specs.declared.items.Item.TheVariants as it
 use Rattle.layout.specs.Laid.{Placement, item_at}
 use Rattle.image_code.specs.Simulates.{Setting, StepsOn, at_point, does_at, gone_at, graph_in, number_in, word_of}
-use Rattle.image_code.specs.Images.{Pieces, Frame, Here, IsPlaced, along_first, visited_at}
+use Rattle.image_code.specs.Images.{Pieces, Frame, Here, IsPlaced, visited_at}
 
 -- every item is kept
 abbrev pub Everything : List ℕ → ℕ → Thing → Type 0

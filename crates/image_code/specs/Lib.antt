@@ -8,3 +8,4 @@ pub mod Idle
 pub mod Imaged
 pub mod Made
 pub mod Parts
+pub mod Fit

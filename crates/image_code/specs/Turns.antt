@@ -1,5 +1,5 @@
 -- The image of a branch, whatever its annul bit: where the walk goes on, there its piece leads.
-use Rattle.std.specs.Prelude.{◌≡◌, ℕ, ◌-◌, ◌<◌, Bool, true, length, Some, if◌then◌else◌, slice_get, slice_index, ℤ}
+use Rattle.std.specs.Prelude.{◌≡◌, ℕ, ◌-◌, ◌<◌, Bool, true, length, Some, if◌then◌else◌, slice_get, ℤ}
 use Rattle.eel_base.specs.CodeText.{word_at}
 use Rattle.eel_base.specs.declared.numbers.Addr.{Addr}
 use Rattle.v8_decode.specs.declared.Instr.TheVariants as i

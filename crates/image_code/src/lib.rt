@@ -3,6 +3,7 @@
 
 ghost use Rattle.image_code.specs.Cases.{PlainsStep, PlainsVisit};
 ghost use Rattle.image_code.specs.Couple.{CouplesStep};
+ghost use Rattle.image_code.specs.Fit.{PiecesFit, PlacesSay};
 ghost use Rattle.image_code.specs.Idle.{IdlesStep};
 ghost use Rattle.image_code.specs.Imaged.{HeadsVisit, ImagesSimulate};
 ghost use Rattle.image_code.specs.Made.{PiecesMakeImages};
@@ -51,4 +52,14 @@ pub fn images_simulate()
 /// The pieces of a text whose transfers are branches promise what they should.
 pub fn pieces_make_images()
     ensures { PiecesMakeImages }
+{}
+
+/// The pieces of a text can be placed, in 500 bytes a word at most, and half a MiB.
+pub fn pieces_fit()
+    ensures { PiecesFit }
+{}
+
+/// Wherever they are placed, the word of each place is the original's, but for transfers.
+pub fn places_say()
+    ensures { PlacesSay }
 {}

@@ -141,7 +141,13 @@ fn image(
         address: text.address(word),
         node: block.0,
     };
-    parts::image(alloc, visit, text.word(word), way, rest_after(text, graph, word))
+    parts::image(
+        alloc,
+        visit,
+        text.word(word),
+        way,
+        rest_after(text, graph, word),
+    )
 }
 
 // Where control goes after a word that is no transfer: the image of the next word comes next, but the text's last word
@@ -196,7 +202,12 @@ fn way(alloc: Global, text: &Text, graph: &FlowGraph, edge: &Edge) -> Result<Pie
                 address: text.address(slot),
                 node: node_number(graph, edge.from),
             };
-            copy(alloc, visit, text.word(slot), piece_at(text, graph, edge.to))
+            copy(
+                alloc,
+                visit,
+                text.word(slot),
+                piece_at(text, graph, edge.to),
+            )
         }
     }
 }

@@ -45,12 +45,7 @@ impl Visit {
 }
 
 /// A word in its Mark, and then a Jump if there is one.
-pub fn plain(
-    alloc: Global,
-    visit: Visit,
-    word: u32,
-    to: Option<PieceNo>,
-) -> Result<Piece, NoMemory>
+pub fn plain(alloc: Global, visit: Visit, word: u32, to: Option<PieceNo>) -> Result<Piece, NoMemory>
     ensures { IfOk result (λ p. p ≡ plain_piece visit.address visit.node word (jump_if to)) }
 {
     let mut items = vec![in alloc; visit.mark(), Item::Word(word), Item::EndMark]?;
@@ -64,8 +59,12 @@ pub fn plain(
 pub fn couple(alloc: Global, visit: Visit) -> Result<Piece, NoMemory>
     ensures { IfOk result (λ p. p ≡ couple_piece visit.address visit.node couple_word []) }
 {
-    let items =
-        vec![in alloc; visit.mark(), Item::Word(COUPLE), Item::Word(COUPLE), Item::EndMark]?;
+    let items = vec![in alloc;
+        visit.mark(),
+        Item::Word(COUPLE),
+        Item::Word(COUPLE),
+        Item::EndMark,
+    ]?;
     Ok(Piece { items })
 }
 

@@ -1,8 +1,7 @@
-use Rattle.std.proofs.Common.{ℕ, List, ◌≤◌, ◌≡◌, ◌+◌, ◌*◌, length, slice_index, ap, sym, ◌∙◌, subst, arith}
+use Rattle.std.proofs.Common.{ℕ, List, ◌≡◌, ap, ◌∙◌, subst, arith}
 use Rattle.eel_base.specs.CodeText.{address_of}
 use Rattle.v8_decode.specs.Words.{decode_of}
 use Rattle.cfg_blocks.specs.Blocks.{holding_of}
-use Rattle.eel_base.specs.declared.numbers.Addr.{Addr}
 use Rattle.std.specs.Result.{IfOk}
 use Rattle.layout.specs.declared.items.Item.{Item}
 use Rattle.image_code.specs.Parts.{first_way_of, image_from}

@@ -1,4 +1,4 @@
-use Rattle.std.proofs.Common.{◌≤◌, ◌*◌, ◌≡◌, ℕ, length, ap, arith}
+use Rattle.std.proofs.Common.{◌≤◌, ◌*◌, ◌≡◌, length, ap, arith}
 use Rattle.image_code.specs.Made.{own_edges}
 use Rattle.image_code.proofs.Numbers.{landings_within, own_few}
 use Rattle.image_code.proofs.making.outside.Goals as goal

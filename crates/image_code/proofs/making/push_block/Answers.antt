@@ -1,4 +1,4 @@
-use Rattle.std.proofs.Common.{ℕ, List, [], ◌∷◌, ◌++◌, ◌≡◌, ◌≤◌, ◌+◌, length, map, slice_index, ap, sym, ◌∙◌, arith}
+use Rattle.std.proofs.Common.{ℕ, List, [], ◌∷◌, ◌++◌, ◌≡◌, ◌≤◌, ◌+◌, length, map, ap, sym, ◌∙◌, arith}
 use Rattle.cfg_blocks.specs.Blocks.{below, last_word}
 use Rattle.layout.specs.declared.items.Item.{Item}
 use Rattle.image_code.specs.Made.{image as image_of}

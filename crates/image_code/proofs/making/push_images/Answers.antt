@@ -1,7 +1,6 @@
-use Rattle.std.proofs.Common.{ℕ, ◌≡◌, ◌≤◌, ◌+◌, length, map, ap, sym, ◌∙◌, arith}
+use Rattle.std.proofs.Common.{ℕ, map, ap, sym, ◌∙◌, arith}
 use Rattle.cfg_blocks.specs.Blocks.{below}
 use Rattle.image_code.specs.Made.{image as image_of}
-use Rattle.image_code.specs.Parts.{begin_of}
 use Rattle.image_code.proofs.Numbers.{begin_after, begin_first, begin_last, way_after, way_few, way_first}
 use Rattle.image_code.proofs.making.push_images.Goals as goal
 

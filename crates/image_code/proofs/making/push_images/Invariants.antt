@@ -1,4 +1,4 @@
-use Rattle.std.proofs.Common.{◌≡◌, ◌<◌, ◌+◌, ℕ, length, map, slice_index}
+use Rattle.std.proofs.Common.{◌≡◌, map}
 use Rattle.cfg_blocks.specs.Blocks.{below}
 use Rattle.image_code.specs.Made.{image as image_of}
 use Rattle.image_code.specs.Parts.{begin_of, first_way_of}
