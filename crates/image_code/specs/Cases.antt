@@ -24,6 +24,12 @@ Everything edges window item = Unit {0}
 abbrev pub visits_it : Setting → Node → Point → State → Type 0
 visits_it g node x t = (visit_of g.notes t ≡ Some x.pc) × (node_at g.notes t.pc ≡ Some (number_in g node))
 
+-- where the written file visits the point to which the original goes on
+abbrev pub next_visit : Setting → Pieces → Placement → Frame → Node → Point → State → ℕ
+next_visit g l p f node x t =
+    let v = does_at g x t in
+    visited_at g l p f (node_after (graph_in g) node (gone_at g node x v)) (point_of v)
+
 -- control that comes to a piece goes on to an address: the piece stands there, or is a Jump alone to one that does
 abbrev pub LeadsTo : Pieces → Placement → PieceNo → ℕ → Type 0
 LeadsTo l p piece to =
@@ -41,7 +47,8 @@ LeadsOn l p place k n to =
 abbrev pub plain_piece : Addr → ℕ → ℕ → List Item → List Item
 plain_piece address number word rest = it.Mark address number ∷ it.Word word ∷ it.EndMark ∷ rest
 
-pub record IsPlain (g : Setting) (l : Pieces) (p : Placement) (place : ℕ → ℕ → ℕ) (f : Frame) (node : Node) (x : Point) (t : State) : Type 0 where
+pub record IsPlain (g : Setting) (l : Pieces) (p : Placement) (place : ℕ → ℕ → ℕ) (f : Frame)
+    (node : Node) (x : Point) (t : State) : Type 0 where
   pub piece : ℕ
   pub within : piece < length l.list
   pub here : visited_at g l p f node x ≡ slice_index p.at piece
@@ -53,17 +60,18 @@ pub record IsPlain (g : Setting) (l : Pieces) (p : Placement) (place : ℕ → �
   pub rest : List Item
   pub items : slice_get l.list piece ≡ Some (plain_piece address (number_in g node) word rest)
   -- where the walk goes on, there the piece leads
-  pub leads : (does_at g x t).ending ≡ None
-      → LeadsOn l p place piece 3 (visited_at g l p f (node_after (graph_in g) node (gone_at g node x (does_at g x t))) (point_of (does_at g x t)))
+  pub leads : (does_at g x t).ending ≡ None → LeadsOn l p place piece 3 (next_visit g l p f node x t)
 
 abbrev pub PlainsVisit : Type 0
 PlainsVisit =
-    (g : Setting) (l : Pieces) (base : ℕ) (p : Placement) (place : ℕ → ℕ → ℕ) (f : Frame) (node : Node) (x : Point) (t : State)
+    (g : Setting) (l : Pieces) (base : ℕ) (p : Placement) (place : ℕ → ℕ → ℕ) (f : Frame)
+    (node : Node) (x : Point) (t : State)
     → IsPlaced g l base p place f → Here g l base p f node x t → IsPlain g l p place f node x t → visits_it g node x t
 
 abbrev pub PlainsStep : Type 0
 PlainsStep =
-    (g : Setting) (l : Pieces) (base : ℕ) (p : Placement) (place : ℕ → ℕ → ℕ) (f : Frame) (node : Node) (x : Point) (t : State)
+    (g : Setting) (l : Pieces) (base : ℕ) (p : Placement) (place : ℕ → ℕ → ℕ) (f : Frame)
+    (node : Node) (x : Point) (t : State)
     → IsPlaced g l base p place f → Here g l base p f node x t → (c : IsPlain g l p place f node x t)
     → AllApart (pages_of g.notes) (judged_by (at_point x t) (decode_of c.word))
     → StepsOn g (Here g l base p f) Everything (gone_at g node x (does_at g x t)) node x t (does_at g x t)

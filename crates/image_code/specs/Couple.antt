@@ -37,6 +37,7 @@ pub record IsCouple (g : Setting) (l : Pieces) (p : Placement) (f : Frame) (node
 
 abbrev pub CouplesStep : Type 0
 CouplesStep =
-    (g : Setting) (l : Pieces) (base : ℕ) (p : Placement) (place : ℕ → ℕ → ℕ) (f : Frame) (node : Node) (x : Point) (t : State)
+    (g : Setting) (l : Pieces) (base : ℕ) (p : Placement) (place : ℕ → ℕ → ℕ) (f : Frame)
+    (node : Node) (x : Point) (t : State)
     → IsPlaced g l base p place f → Here g l base p f node x t → IsCouple g l p f node x
     → StepsOn g (Here g l base p f) Everything (gone_at g node x (does_at g x t)) node x t (does_at g x t)

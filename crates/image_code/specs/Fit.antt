@@ -32,8 +32,8 @@ pub record AreFit (text : Words) (list : List (List Item)) : Type 0 where
 abbrev pub PiecesFit : Type 0
 PiecesFit = (text : Words) (graph : Graph) → IsText text → IsGraphOf text graph → AreFit text (piece_list text graph)
 
--- Wherever they are placed, the first word of a range whose address is that of a word of the text, which is no transfer,
--- is that word.
+-- Wherever they are placed, the first word of a range whose address is that of a word of the text is that word, unless
+-- it is a transfer.
 abbrev pub PlacesSay : Type 0
 PlacesSay =
     (text : Words) (graph : Graph) (base : ℕ) (p : Placement) (place : ℕ → ℕ → ℕ) → IsText text → IsGraphOf text graph

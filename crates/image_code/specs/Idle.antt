@@ -12,9 +12,11 @@ use Rattle.layout.specs.declared.items.Item.{Item}
 use Rattle.layout.specs.Laid.{Placement, nop}
 use Rattle.image_code.specs.Simulates.{Setting, StepsOn, does_at, gone_at, graph_in, number_in, word_of}
 use Rattle.image_code.specs.Images.{Pieces, Frame, Here, IsPlaced, visited_at}
-use Rattle.image_code.specs.Cases.{Everything, LeadsOn, plain_piece}
+use Rattle.image_code.specs.Cases.{Everything, LeadsOn, next_visit, plain_piece}
+use Rattle.image_code.specs.Turns.{IsNoJumpsSlot}
 
-pub record IsIdle (g : Setting) (l : Pieces) (p : Placement) (place : ℕ → ℕ → ℕ) (f : Frame) (node : Node) (x : Point) (t : State) : Type 0 where
+pub record IsIdle (g : Setting) (l : Pieces) (p : Placement) (place : ℕ → ℕ → ℕ) (f : Frame)
+    (node : Node) (x : Point) (t : State) : Type 0 where
   pub none : x.slot ≡ NoSlot
   pub piece : ℕ
   pub within : piece < length l.list
@@ -31,12 +33,12 @@ pub record IsIdle (g : Setting) (l : Pieces) (p : Placement) (place : ℕ → �
   pub idle : decode_of word ≡ nop
   pub rest : List Item
   pub items : slice_get l.list piece ≡ Some (plain_piece address (number_in g node) word rest)
-  pub leads : LeadsOn l p place piece 3 (visited_at g l p f (node_after (graph_in g) node (gone_at g node x (does_at g x t))) (point_of (does_at g x t)))
-  -- no jump's slot comes next
-  pub never : (does_at g x t).slot ≡ Taken → same_kind (way_of (instr_at g.text ((does_at g x t).pc - 4)) (does_at g x t).slot) kinds.Out ≡ true → ⊥
+  pub leads : LeadsOn l p place piece 3 (next_visit g l p f node x t)
+  pub never : IsNoJumpsSlot g (does_at g x t)
 
 abbrev pub IdlesStep : Type 0
 IdlesStep =
-    (g : Setting) (l : Pieces) (base : ℕ) (p : Placement) (place : ℕ → ℕ → ℕ) (f : Frame) (node : Node) (x : Point) (t : State)
+    (g : Setting) (l : Pieces) (base : ℕ) (p : Placement) (place : ℕ → ℕ → ℕ) (f : Frame)
+    (node : Node) (x : Point) (t : State)
     → IsPlaced g l base p place f → Here g l base p f node x t → IsIdle g l p place f node x t
     → StepsOn g (Here g l base p f) Everything (gone_at g node x (does_at g x t)) node x t (does_at g x t)

@@ -36,11 +36,13 @@ pub record IsHead (g : Setting) (l : Pieces) (p : Placement) (f : Frame) (node :
 
 abbrev pub HeadsVisit : Type 0
 HeadsVisit =
-    (g : Setting) (l : Pieces) (base : ℕ) (p : Placement) (place : ℕ → ℕ → ℕ) (f : Frame) (node : Node) (x : Point) (t : State)
+    (g : Setting) (l : Pieces) (base : ℕ) (p : Placement) (place : ℕ → ℕ → ℕ) (f : Frame)
+    (node : Node) (x : Point) (t : State)
     → IsPlaced g l base p place f → Here g l base p f node x t → IsHead g l p f node x → visits_it g node x t
 
 -- the shape of a point's piece
-pub data IsCase (g : Setting) (l : Pieces) (p : Placement) (place : ℕ → ℕ → ℕ) (f : Frame) (node : Node) (x : Point) (t : State) : Type 0 where
+pub data IsCase (g : Setting) (l : Pieces) (p : Placement) (place : ℕ → ℕ → ℕ) (f : Frame)
+    (node : Node) (x : Point) (t : State) : Type 0 where
   plain : IsPlain g l p place f node x t → IsCase g l p place f node x t
   couple : IsCouple g l p f node x → IsCase g l p place f node x t
   turn : IsTurn g l p f node x t → IsCase g l p place f node x t
@@ -49,7 +51,8 @@ pub data IsCase (g : Setting) (l : Pieces) (p : Placement) (place : ℕ → ℕ 
 -- each point that the walk's node matches has a piece of one of the shapes
 pub record IsImaged (g : Setting) (l : Pieces) (base : ℕ) (p : Placement) (place : ℕ → ℕ → ℕ) (f : Frame) : Type 0 where
   pub heads : (node : Node) (x : Point) → Matches g.text (graph_in g) node x → IsInText g x → IsHead g l p f node x
-  pub cases : (node : Node) (x : Point) (t : State) → Matches g.text (graph_in g) node x → IsInText g x → Here g l base p f node x t
+  pub cases : (node : Node) (x : Point) (t : State) → Matches g.text (graph_in g) node x → IsInText g x
+      → Here g l base p f node x t
       → ((does_at g x t).ending ≡ None → IsInText g (point_of (does_at g x t))) → IsCase g l p place f node x t
 
 abbrev pub ImagesSimulate : Type 0

@@ -52,7 +52,8 @@ visited_at g l p f node x = visited_by g l p f node x (word_at g.text x.pc) x.sl
 
 -- ---- a machine at the visit of a point
 
-pub record Here (g : Setting) (l : Pieces) (base : ℕ) (p : Placement) (f : Frame) (node : Node) (x : Point) (t : State) : Type 0 where
+pub record Here (g : Setting) (l : Pieces) (base : ℕ) (p : Placement) (f : Frame)
+    (node : Node) (x : Point) (t : State) : Type 0 where
   pub valid : IsValid t
   pub live : t.ending ≡ None
   pub at : t.pc ≡ visited_at g l p f node x

@@ -82,9 +82,12 @@ module _ (text : Words) (graph : Graph) where
   -- `ba` and `bn` go one way
   abbrev pub branch_image : Addr → Node → ℕ → List Item
   branch_image address node cond =
-      if cond == always then plain_piece address (node_number graph node) nop_word (jump_to (way_out node kinds.Taken)) else
-      if cond == never then plain_piece address (node_number graph node) nop_word (jump_to (way_out node kinds.Untaken)) else
-      branch_piece address (node_number graph node) cond (way_out node kinds.Taken) (way_out node kinds.Untaken)
+      let number = node_number graph node in
+      let taken = way_out node kinds.Taken in
+      let untaken = way_out node kinds.Untaken in
+      if cond == always then plain_piece address number nop_word (jump_to taken) else
+      if cond == never then plain_piece address number nop_word (jump_to untaken) else
+      branch_piece address number cond taken untaken
 
   -- CALL and JMPL aren't built yet
   abbrev pub image_by : Addr → Node → ℕ → Instr → List Item

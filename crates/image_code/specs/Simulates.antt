@@ -108,7 +108,8 @@ pub record StepsOn (g : Setting) (Here : Node → Point → State → Type 0) (K
   pub count : ℕ
   pub after : State
   pub path : Onward g node (limit_on g edges) t after count
-  pub puts : (descriptor : ℕ) → run_puts t count descriptor ≡ puts_on_word (at_point p t) (word_of g.text p.pc) descriptor
+  pub puts : (descriptor : ℕ)
+      → run_puts t count descriptor ≡ puts_on_word (at_point p t) (word_of g.text p.pc) descriptor
   pub followed : IsFollowedBy (pages_of g.notes) (Kept edges v.window) v after
   pub cells : g.cells_of after ≡ updates g.store edges (g.cells_of t) v
   pub here : v.ending ≡ None → Here (node_after (graph_in g) node edges) (point_of v) after
@@ -116,7 +117,8 @@ pub record StepsOn (g : Setting) (Here : Node → Point → State → Type 0) (K
 
 -- What the pieces promise. `Here` says that a machine is at the visit of a point at a node of the walk. `Inside` says
 -- to which points the pieces lead: those at words of the text at first, and then all.
-pub record Simulates (g : Setting) (Inside : Point → Type 0) (Here : Node → Point → State → Type 0) (Kept : List ℕ → ℕ → Item → Type 0) : Type 0 where
+pub record Simulates (g : Setting) (Inside : Point → Type 0) (Here : Node → Point → State → Type 0)
+    (Kept : List ℕ → ℕ → Item → Type 0) : Type 0 where
   pub visits : (node : Node) (p : Point) (t : State) → Matches g.text (graph_in g) node p → Inside p → Here node p t
       → (t.ending ≡ None) × (visit_of g.notes t ≡ Some p.pc) × (node_at g.notes t.pc ≡ Some (number_in g node))
   pub steps : (node : Node) (p : Point) (t : State) → Matches g.text (graph_in g) node p → Inside p → Here node p t

@@ -13,9 +13,15 @@ use Rattle.cfg_walk.specs.Walk.{Point, point_of, node_after, instr_at, way_of, s
 use Rattle.layout.specs.Laid.{Placement}
 use Rattle.image_code.specs.Simulates.{Setting, StepsOn, does_at, gone_at, graph_in, number_in, word_of}
 use Rattle.image_code.specs.Images.{Pieces, Frame, Here, IsPlaced, visited_at}
-use Rattle.image_code.specs.Cases.{Everything, LeadsTo, branch_piece}
+use Rattle.image_code.specs.Cases.{Everything, LeadsTo, branch_piece, next_visit}
 
-pub record IsTurn (g : Setting) (l : Pieces) (p : Placement) (f : Frame) (node : Node) (x : Point) (t : State) : Type 0 where
+-- the machine doesn't come to a jump's slot
+abbrev pub IsNoJumpsSlot : Setting → State → Type 0
+IsNoJumpsSlot g v =
+    v.slot ≡ Taken → same_kind (way_of (instr_at g.text (v.pc - 4)) v.slot) kinds.Out ≡ true → ⊥
+
+pub record IsTurn (g : Setting) (l : Pieces) (p : Placement) (f : Frame)
+    (node : Node) (x : Point) (t : State) : Type 0 where
   pub none : x.slot ≡ NoSlot
   pub number : ℕ
   pub is_number : word_at g.text x.pc ≡ Some number
@@ -33,12 +39,12 @@ pub record IsTurn (g : Setting) (l : Pieces) (p : Placement) (f : Frame) (node :
   pub untaken : ℕ
   pub items : slice_get l.list (l.image node number) ≡ Some (branch_piece address (number_in g node) cond taken untaken)
   pub leads : LeadsTo l p (record { 0 = if holds_of cond t.codes then taken else untaken })
-      (visited_at g l p f (node_after (graph_in g) node (gone_at g node x (does_at g x t))) (point_of (does_at g x t)))
-  -- no jump's slot comes next
-  pub never : (does_at g x t).slot ≡ Taken → same_kind (way_of (instr_at g.text ((does_at g x t).pc - 4)) (does_at g x t).slot) kinds.Out ≡ true → ⊥
+      (next_visit g l p f node x t)
+  pub never : IsNoJumpsSlot g (does_at g x t)
 
 abbrev pub TurnsStep : Type 0
 TurnsStep =
-    (g : Setting) (l : Pieces) (base : ℕ) (p : Placement) (place : ℕ → ℕ → ℕ) (f : Frame) (node : Node) (x : Point) (t : State)
+    (g : Setting) (l : Pieces) (base : ℕ) (p : Placement) (place : ℕ → ℕ → ℕ) (f : Frame)
+    (node : Node) (x : Point) (t : State)
     → IsPlaced g l base p place f → Here g l base p f node x t → IsTurn g l p f node x t
     → StepsOn g (Here g l base p f) Everything (gone_at g node x (does_at g x t)) node x t (does_at g x t)
