@@ -1,0 +1,5 @@
+use Rattle.edit_core.proofs.Whole.{edits_answer}
+use Rattle.edit_core.proofs.edits_answer.Goals as goal
+
+pub returns : goal.returns
+returns c = edits_answer

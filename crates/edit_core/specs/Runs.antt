@@ -1,0 +1,112 @@
+-- What a run of a written file rests on, and what follows for it as a whole.
+use Rattle.std.specs.Prelude.{◌≡◌, ℕ, zero, suc, ◌<◌, ◌≤◌, ◌⊎◌, List, Option, Some, None}
+use Rattle.eel_base.specs.CodeText.{IsText}
+use Rattle.elf32_sparc.specs.Notes.{Notes, node_at}
+use Rattle.v8_decode.specs.declared.Instr.{Instr}
+use Rattle.v8_memory.specs.Spans.{Span, AllApart}
+use Rattle.v8_windows.specs.Registers.{AreRegisters}
+use Rattle.v8_step.specs.declared.Ending.{Ending}
+use Rattle.v8_step.specs.State.{State}
+use Rattle.v8_step.specs.Step.{on_word, puts_on_word}
+use Rattle.v8_step.specs.Run.{run, run_puts}
+use Rattle.v8_step.specs.Items.{Item, IsItem, IsSameAt}
+use Rattle.v8_step.specs.Alike.{IsSameWorld}
+use Rattle.v8_step.specs.Needed.{ReadsIn, WritesIn, IsNeeded, judged_in}
+use Rattle.v8_step.specs.Valid.{IsValid}
+use Rattle.v8_step.specs.Visits.{visit_of, pages_of}
+use Rattle.v8_step.specs.Follows.{IsFollowed}
+use Rattle.cfg_normal.specs.declared.Node.{Node}
+use Rattle.code_runs.specs.PointsAlike.{instr_of}
+use Rattle.cfg_walk.specs.Walk.{Point, point_of, end_of_walk, gone_in}
+use Rattle.cfg_walk.specs.Matches.{FetchesOnly, BeginsAt}
+use Rattle.image_code.specs.Simulates.{Setting, Simulates, graph_in, number_in, word_of, updates, store_of, limit_on}
+
+-- ---- the items that are kept equal, step by step
+
+-- the instruction of step n
+abbrev pub instr_in : Setting → State → ℕ → Option Instr
+instr_in g s0 n = instr_of (word_of g.text (run s0 n).pc)
+
+-- At first K holds of every item. Once dead registers are taken: of those that are needed, or that a later snippet
+-- names before they are written.
+pub record Keeping (g : Setting) (entry : ℕ) (Kept : List ℕ → ℕ → Item → Type 0)
+    (s0 : State) (K : ℕ → Item → Type 0) : Type 0 where
+  pub reads : (n : ℕ) (item : Item) → IsItem item → ReadsIn (instr_in g s0 n) (run s0 n).window item → K n item
+  pub back : (n : ℕ) (item : Item) → IsItem item → K (suc n) item
+      → WritesIn (instr_in g s0 n) (run s0 n).window item ⊎ K n item
+  pub live : (n : ℕ) (item : Item) → IsItem item → K (suc n) item
+      → Kept (gone_in g.text (graph_in g) entry s0 n) (run s0 (suc n)).window item
+  pub needed : (n : ℕ) (item : Item) → IsNeeded s0 n item → K n item
+  -- what an edge's snippet makes of the cells depends on kept items alone
+  pub named : (n : ℕ) (cells : List ℕ) (v : State) → (run s0 (suc n)).ending ≡ None
+      → (run s0 (suc n)).window ≡ v.window
+      → ((item : Item) → IsItem item → (WritesIn (instr_in g s0 n) (run s0 n).window item ⊎ K n item)
+      → IsSameAt item (run s0 (suc n)) v)
+      → updates g.store (gone_in g.text (graph_in g) entry s0 n) cells (run s0 (suc n))
+      ≡ updates g.store (gone_in g.text (graph_in g) entry s0 n) cells v
+
+-- ---- the two runs
+
+-- what both have alike, going on or at the end
+pub record AreTogether (g : Setting) (entry : ℕ) (s0 t0 : State) (n m : ℕ) : Type 0 where
+  pub world : IsSameWorld (pages_of g.notes) (run s0 n) (run t0 m)
+  pub puts : (descriptor : ℕ) → run_puts s0 n descriptor ≡ run_puts t0 m descriptor
+  pub cells : g.cells_of (run t0 m) ≡ store_of g entry s0 n
+
+-- the original while it runs, and the written file at its visit
+pub record Linked (g : Setting) (entry : ℕ) (Here : Node → Point → State → Type 0) (K : ℕ → Item → Type 0)
+    (s0 t0 : State) (n m : ℕ) : Type 0 where
+  pub live : (run s0 n).ending ≡ None
+  pub here : Here (end_of_walk g.text (graph_in g) entry s0 n) (point_of (run s0 n)) (run t0 m)
+  pub items : (item : Item) → IsItem item → K n item → IsSameAt item (run s0 n) (run t0 m)
+  pub together : AreTogether g entry s0 t0 n m
+
+-- both are over; the written file's pc is then in a place of the node where the original's walk ended
+pub record Closed (g : Setting) (entry : ℕ) (s0 t0 : State) (n m : ℕ) (d : Ending) : Type 0 where
+  pub first : (run s0 n).ending ≡ Some d
+  pub second : (run t0 m).ending ≡ Some d
+  pub node : node_at g.notes (run t0 m).pc ≡ Some (number_in g (end_of_walk g.text (graph_in g) entry s0 n))
+  pub together : AreTogether g entry s0 t0 n m
+
+-- What is proved of the files, the pieces and the items.
+pub record Rests (g : Setting) (entry : ℕ) (Inside : Point → Type 0)
+    (Here : Node → Point → State → Type 0) (Kept : List ℕ → ℕ → Item → Type 0)
+    (K : ℕ → Item → Type 0) (s0 t0 : State) : Type 0 where
+  pub text : IsText g.text
+  pub first_valid : IsValid s0
+  pub second_valid : IsValid t0
+  pub fetches : FetchesOnly g.text s0
+  pub begins : BeginsAt g.text entry s0
+  pub simulates : Simulates g Inside Here Kept
+  pub keeping : Keeping g entry Kept s0 K
+  -- from the entry to the first visit, with no visit and in no place before
+  pub begin : ℕ
+  pub soon : begin ≤ 64
+  pub first : Linked g entry Here K s0 t0 zero begin
+  pub early : (j : ℕ) → j < begin
+      → ((run t0 j).ending ≡ None) × (visit_of g.notes (run t0 j) ≡ None) × (node_at g.notes (run t0 j).pc ≡ None)
+
+-- how many steps may answer step n
+abbrev pub limits_in : Setting → ℕ → State → ℕ → ℕ
+limits_in g entry s0 n = limit_on g (gone_in g.text (graph_in g) entry s0 n)
+
+-- the first states of the original, up to the n-th, stand at points to which the pieces lead, while it runs
+abbrev pub StaysInside : (Point → Type 0) → State → ℕ → Type 0
+StaysInside Inside s0 n = (k : ℕ) → k ≤ n → (run s0 k).ending ≡ None → Inside (point_of (run s0 k))
+
+-- What a stop at moment m tells, where it is in a place: the node where the original's walk of n steps stands, and the
+-- cells of that walk.
+abbrev pub Tells : Setting → ℕ → State → State → ℕ → ℕ → Type 0
+Tells g entry s0 t0 n m =
+    (r : ℕ) → node_at g.notes (run t0 m).pc ≡ Some r
+    → (r ≡ number_in g (end_of_walk g.text (graph_in g) entry s0 n)) × (g.cells_of (run t0 m) ≡ store_of g entry s0 n)
+
+-- what follows
+pub record Follows (g : Setting) (entry : ℕ) (s0 t0 : State) (last : ℕ) : Type 0 where
+  pub moments : ℕ → ℕ
+  pub followed : IsFollowed g.notes s0 t0 64 (limits_in g entry s0) moments last
+  pub cells : (n : ℕ) → n ≤ last → g.cells_of (run t0 (moments n)) ≡ store_of g entry s0 n
+  -- before the first visit in no place, at each visit and at the end as it tells, and between two as the first of them
+  pub early : (m : ℕ) → m < moments zero → node_at g.notes (run t0 m).pc ≡ None
+  pub told : (n : ℕ) → n ≤ last → Tells g entry s0 t0 n (moments n)
+  pub between : (n m : ℕ) → n < last → moments n ≤ m → m < moments (suc n) → Tells g entry s0 t0 n m

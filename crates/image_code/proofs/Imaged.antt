@@ -1,0 +1,67 @@
+-- From the cases to the promise as a whole.
+use Rattle.std.proofs.Common.{◌≡◌, ℕ, suc, ◌+◌, ◌<◌, Option, List, ◌∷◌, length, refl, ap, sym, ◌∙◌, subst, arith}
+use Rattle.std.specs.Prelude.{slice_index}
+use Rattle.v8_memory.specs.Spans.{AllApart}
+use Rattle.v8_step.specs.State.{State}
+use Rattle.v8_step.specs.Needed.{judged_in}
+use Rattle.v8_step.specs.Visits.{pages_of}
+use Rattle.cfg_normal.specs.declared.Node.{Node}
+use Rattle.cfg_walk.specs.Walk.{Point}
+use Rattle.layout.specs.declared.items.Item.{Item}
+use Rattle.layout.specs.declared.items.Item.TheVariants as it
+use Rattle.layout.specs.Laid.{Placement, Stands, BranchStands, branch_short, branch_long, item_in, items_in, size_of, open_in, range_of, end_from}
+use Rattle.image_code.specs.Simulates.{StepsOn, at_point, does_at, gone_at, number_in, word_of}
+use Rattle.code_runs.specs.PointsAlike.{instr_of}
+use Rattle.image_code.specs.Images.{Here}
+use Rattle.image_code.specs.Cases.{Everything}
+use Rattle.image_code.specs.Imaged.{TakesWords, HeadsVisit, IsCase, plain, couple, turn, idle, ImagesSimulate}
+use Rattle.image_code.proofs.Cases.{at_range, plains_step}
+use Rattle.image_code.proofs.Couple.{couples_step}
+use Rattle.image_code.proofs.Turns.{turns_step}
+use Rattle.image_code.proofs.Idle.{idles_step}
+
+branch_room : (base : ℕ) (code : List ℕ) (cond to a b : ℕ) → BranchStands base code cond to a b → a < b
+branch_room base code cond to a b (branch_short d e r s) = omega arith
+branch_room base code cond to a b (branch_long e s r) = omega arith
+
+has_room : (base : ℕ) (p : Placement) (x : Item) (a b : ℕ) → TakesWords x → Stands base p x a b → a < b
+has_room base p (it.Word w) a b takes h = let e : b ≡ a + 4 = h.0 in omega arith
+has_room base p (it.Branch cond to) a b takes h = branch_room base p.code cond (slice_index p.at to.0) a b h
+has_room base p (it.Jump to) a b takes h = absurd takes
+has_room base p (it.Mark address node) a b takes h = absurd takes
+has_room base p it.EndMark a b takes h = absurd takes
+
+pub heads_visit : HeadsVisit
+heads_visit g l base p place f node x t h here c =
+    let item = λ (n : ℕ). ap (λ (v : Option (List Item)). item_in v n) c.items in
+    let size : size_of l.list c.piece ≡ suc (suc (length c.rest)) = ap (λ (v : Option (List Item)). items_in v) c.items in
+    let mark : place c.piece 1 ≡ place c.piece 0 = h.laid.items c.piece 0 (it.Mark c.address (number_in g node)) (item 0) in
+    let room : place c.piece 1 < place c.piece 2 = has_room base p c.item (place c.piece 1) (place c.piece 2) c.takes (h.laid.items c.piece 1 c.item (item 1)) in
+    let at : t.pc ≡ place c.piece 1 = here.at ∙ c.here ∙ h.laid.starts c.piece c.within ∙ sym mark in
+    let low = (h.laid.within c.piece 1 c.within (omega arith)).begins in
+    let high = (h.laid.within c.piece 2 c.within (omega arith)).ends in
+    at_range g l base p place f h node x t
+    (record { lo = place c.piece 1; hi = place c.piece (end_from (c.item ∷ c.rest) 1); address = c.address.0; node = number_in g node })
+    here.live (omega arith) (omega arith)
+    (h.laid.ranges c.piece 1 t.pc c.item (item 1) (omega arith) (omega arith) ∙ ap (λ (v : Option (List Item)). range_of (place c.piece) (open_in v 1)) c.items)
+    (sym at) refl c.original
+
+pub images_simulate : ImagesSimulate
+images_simulate g l base p place f h c = record {
+  visits = λ node x t matches inside here. (
+    here.live,
+    (heads_visit g l base p place f node x t h here (c.heads node x matches inside)).0,
+    (heads_visit g l base p place f node x t h here (c.heads node x matches inside)).1,
+  );
+  steps = λ node x t matches inside here apart on. by node x t here apart (c.cases node x t matches inside here on);
+}
+  where
+    by : (node : Node) (x : Point) (t : State) → Here g l base p f node x t
+        → AllApart (pages_of g.notes) (judged_in (at_point x t) (instr_of (word_of g.text x.pc))) → IsCase g l p place f node x t
+        → StepsOn g (Here g l base p f) Everything (gone_at g node x (does_at g x t)) node x t (does_at g x t)
+    by node x t here apart (plain k) =
+        plains_step g l base p place f node x t h here k
+        (subst (λ (o : Option ℕ). AllApart (pages_of g.notes) (judged_in (at_point x t) (instr_of o))) k.is_word apart)
+    by node x t here apart (couple k) = couples_step g l base p place f node x t h here k
+    by node x t here apart (turn k) = turns_step g l base p place f node x t h here k
+    by node x t here apart (idle k) = idles_step g l base p place f node x t h here k

@@ -1,0 +1,78 @@
+-- Which piece has which number.
+use Rattle.std.proofs.Common.{◌≡◌, ℕ, zero, suc, ◌+◌, ◌-◌, ◌<◌, true, false, Some, List, [], ◌∷◌, ◌++◌, length, map, take, length-append, refl, ap, sym, ◌∙◌, arith, inl, inr}
+use Rattle.std.specs.Prelude.{slice_get}
+use Rattle.std.specs.List.{flat_map}
+use Rattle.std.specs.Option.{option_map}
+use Rattle.std.proofs.lemmas.Bool.{cases_lt}
+use Rattle.std.proofs.lemmas.List.{length-map}
+use Rattle.std.proofs.lemmas.Option.{slice_get-map, slice_get-get_or}
+use Rattle.eel_base.specs.CodeText.{Words}
+use Rattle.cfg_blocks.specs.declared.EdgeKind.TheVariants as kinds
+use Rattle.cfg_blocks.specs.Blocks.{Blocks, below}
+use Rattle.cfg_blocks.proofs.Below.{get_or-below, length-below}
+use Rattle.cfg_normal.specs.declared.Edge.{Edge}
+use Rattle.cfg_normal.specs.Graph.{Graph, graph_of, edges_in, edges_of, landing_at}
+use Rattle.cfg_walk.specs.Walk.{same_kind}
+use Rattle.cfg_walk.proofs.Lists.{each, each-map, each_at}
+use Rattle.image_code.specs.Made.{image, own_edges, piece_list, way_along}
+
+get_first : {A : Type 0} (xs ys : List A) (n : ℕ) (x : A) → slice_get xs n ≡ Some x → slice_get (xs ++ ys) n ≡ Some x
+get_first [] ys n x e = absurd (cc)
+get_first (y ∷ xs) ys zero x e = e
+get_first (y ∷ xs) ys (suc n) x e = get_first xs ys n x e
+
+get_second : {A : Type 0} (xs ys : List A) (n : ℕ) → slice_get (xs ++ ys) (length xs + n) ≡ slice_get ys n
+get_second [] ys n = let e : 0 + n ≡ n = omega arith in ap (slice_get ys) e
+get_second (x ∷ xs) ys n =
+    let e : suc (length xs) + n ≡ suc (length xs + n) = omega arith in
+    ap (slice_get (x ∷ xs ++ ys)) e ∙ get_second xs ys n
+
+get_taken : {A : Type 0} (n k : ℕ) (xs : List A) → k < n → slice_get (take n xs) k ≡ slice_get xs k
+get_taken zero k xs l = absurd (omega arith)
+get_taken (suc n) k [] l = refl
+get_taken (suc n) zero (x ∷ xs) l = refl
+get_taken (suc n) (suc k) (x ∷ xs) l = get_taken n k xs (omega arith)
+
+pub get_below : (n k : ℕ) → k < n → slice_get (below n) k ≡ Some k
+get_below n k l = slice_get-get_or (below n) k 0 (omega (arith, length-below n)) ∙ ap (λ z. Some z) (get_or-below n k 0 l)
+
+module _ (text : Words) (graph : Graph) where
+  images_end : length (map (image text graph) (below (length text.words))) ≡ length text.words
+  images_end = length-map (below (length text.words)) (image text graph) ∙ length-below (length text.words)
+
+  pub image_at : (word : ℕ) → word < length text.words → slice_get (piece_list text graph) word ≡ Some (image text graph word)
+  unfolding piece_list
+  image_at word l =
+      get_first _ _ word _ (get_first _ _ word _
+      (slice_get-map (image text graph) (below (length text.words)) word
+      ∙ ap (option_map (image text graph)) (get_below (length text.words) word l)))
+
+  pub way_at : (number : ℕ) (edge : Edge) → slice_get (own_edges graph) number ≡ Some edge
+      → slice_get (piece_list text graph) (length text.words + number) ≡ Some (way_along text graph edge)
+  unfolding piece_list
+  way_at number edge e =
+      get_first _ _ (length text.words + number) _
+      (ap (λ n. slice_get (map (image text graph) (below (length text.words)) ++ map (way_along text graph) (own_edges graph)) (n + number)) (sym images_end)
+      ∙ get_second (map (image text graph) (below (length text.words))) (map (way_along text graph) (own_edges graph)) number
+      ∙ slice_get-map (way_along text graph) (own_edges graph) number ∙ ap (option_map (way_along text graph)) e)
+
+-- an edge that is no landing is among those that have ways
+pub own_at : (b : Blocks) (number : ℕ) (edge : Edge) → slice_get (edges_in b) number ≡ Some edge
+    → same_kind edge.kind kinds.Land ≡ false → slice_get (own_edges (graph_of b)) number ≡ Some edge
+unfolding edges_in
+own_at b number edge e other =
+    let own : List Edge = flat_map (edges_of b) (below (length b.firsts)) in
+    let landings : List Edge = map landing_at (below (length b.firsts)) in
+    let many : length landings ≡ length b.firsts = length-map (below (length b.firsts)) landing_at ∙ length-below (length b.firsts) in
+    let all : length (own ++ landings) ≡ length own + length landings = length-append own landings in
+    elim (cases_lt number (length own)) [
+      | inl l ↦ get_taken (length (own ++ landings) - length b.firsts) number (own ++ landings) (omega arith) ∙ e
+      | inr m ↦
+          let past : length own + (number - length own) ≡ number = omega arith in
+          let there : slice_get landings (number - length own) ≡ Some edge =
+          sym (get_second own landings (number - length own)) ∙ ap (slice_get (own ++ landings)) past ∙ e in
+          let lands : same_kind edge.kind kinds.Land ≡ true =
+          each_at (λ (x : Edge). same_kind x.kind kinds.Land ≡ true) landings (number - length own) edge
+          (each-map _ landing_at (below (length b.firsts)) (each _ (below (length b.firsts)) (λ j. refl))) there in
+          absurd (cc)
+    ]

@@ -1,0 +1,247 @@
+-- The image of a branch is one step, whatever its annul bit.
+use Rattle.std.proofs.Common.{◌≡◌, ℕ, ◌+◌, ◌-◌, ◌*◌, ◌^◌, ◌<◌, ◌≤◌, ◌⊎◌, inl, inr, Bool, true, false, Option, Some, None, List, length, refl, ap, sym, ◌∙◌, subst, arith}
+use Rattle.std.specs.Prelude.{if◌then◌else◌, slice_get, slice_index, ◌==◌}
+use Rattle.v8_decode.specs.declared.Instr.{Instr}
+use Rattle.v8_decode.specs.declared.Instr.TheVariants as i
+use Rattle.v8_alu.specs.Conditions.{holds_of}
+use Rattle.v8_alu.specs.Numbers.{wrapped}
+use Rattle.v8_memory.specs.Regions.{Memory}
+use Rattle.v8_memory.specs.Spans.{IsSameOutside}
+use Rattle.v8_step.specs.declared.Slot.{Slot}
+use Rattle.v8_step.specs.declared.Slot.TheVariants.{Taken, Untaken}
+use Rattle.v8_step.specs.State.{State}
+use Rattle.v8_step.specs.Transfers.{target_of, branched, branch_step, unless_couple}
+use Rattle.v8_step.specs.Step.{act, on_word, puts_by, puts_on_word}
+use Rattle.v8_step.specs.Valid.{IsValid}
+use Rattle.v8_step.specs.Visits.{pages_of}
+use Rattle.v8_step.proofs.ValidSteps.{run-valid}
+use Rattle.cfg_blocks.specs.declared.EdgeKind.TheVariants as kinds
+use Rattle.cfg_walk.specs.Walk.{Point, point_of, node_after, instr_at, way_of, same_kind}
+use Rattle.cfg_normal.specs.declared.Node.{Node}
+use Rattle.code_runs.specs.StoredWords.{Stores}
+use Rattle.code_runs.specs.Leads.{Leads, IsSilent}
+use Rattle.code_runs.specs.Points.{moved}
+use Rattle.code_runs.specs.Hops.{hopped}
+use Rattle.code_runs.proofs.Leads.{leads_then, leads_weaker, silent_then}
+use Rattle.code_runs.proofs.Hops.{stores_then}
+use Rattle.code_runs.specs.LongJump.{IsFirstWord}
+use Rattle.layout.specs.declared.items.Item.{Item}
+use Rattle.layout.specs.declared.items.Item.TheVariants as it
+use Rattle.layout.specs.Laid.{Placement, item_at, item_in, items_in, size_of, open_in, range_in, range_of}
+use Rattle.layout.specs.Running.{HasCode, CanRun, Goes}
+use Rattle.layout.proofs.Going.{branches_hop}
+use Rattle.image_code.specs.Simulates.{Setting, StepsOn, IsOnWay, at_point, does_at, gone_at, graph_in, number_in}
+use Rattle.image_code.specs.Images.{Pieces, Frame, Here, IsPlaced, visited_at, visited_by}
+use Rattle.image_code.specs.Cases.{Everything, LeadsTo, branch_piece}
+use Rattle.image_code.specs.Turns.{IsTurn, TurnsStep}
+use Rattle.image_code.proofs.Cases.{can_run, code_after, tail, arrive, quiet_of, bare_on, IsBare, IsFit, hopped_fit, Arrives, own_stored, on_range, cells_same, same_at, no_puts}
+
+module _ (g : Setting) (l : Pieces) (base : ℕ) (p : Placement) (place : ℕ → ℕ → ℕ) (f : Frame) (h : IsPlaced g l base p place f)
+    (node : Node) (x : Point) (t : State) (here : Here g l base p f node x t) (c : IsTurn g l p f node x t) where
+  b_item : (n : ℕ) → item_at l.list (l.image node c.number) n ≡ slice_get (branch_piece c.address (number_in g node) c.cond c.taken c.untaken) n
+  b_item n = ap (λ (v : Option (List Item)). item_in v n) c.items
+
+  b_size : size_of l.list (l.image node c.number) ≡ 4
+  b_size = ap (λ (v : Option (List Item)). items_in v) c.items
+
+  b_mark : place (l.image node c.number) 1 ≡ place (l.image node c.number) 0
+  b_mark = h.laid.items (l.image node c.number) 0 (it.Mark c.address (number_in g node)) (b_item 0)
+
+  b_closes : place (l.image node c.number) 3 ≡ place (l.image node c.number) 2
+  b_closes = h.laid.items (l.image node c.number) 2 it.EndMark (b_item 2)
+
+  b_at : t.pc ≡ place (l.image node c.number) 1
+  b_at =
+      here.at ∙ ap (λ (o : Option ℕ). visited_by g l p f node x o x.slot) c.is_number
+      ∙ ap (λ (s : Slot). visited_by g l p f node x (Some c.number) s) c.none
+      ∙ h.laid.starts (l.image node c.number) c.within ∙ sym b_mark
+
+  b_ready : CanRun base p.code t
+  b_ready =
+      let s = b_size in
+      let b = (h.laid.within (l.image node c.number) 1 c.within (omega arith)).ends in
+      let low = h.laid.low in
+      let a = b_at in
+      let n = here.npc in
+      can_run g l base p place f h t here.valid here.live (let e : t.npc ≡ t.pc + 4 = n ∙ (let q : wrapped (t.pc + 4) ≡ t.pc + 4 = omega arith in q) in e) here.slot here.code here.ours
+
+  hop : Goes t (if holds_of c.cond t.codes then slice_index p.at c.taken else place (l.image node c.number) 2) (place (l.image node c.number) 2) 2 6
+  hop = branches_hop l.list base p place h.laid (l.image node c.number) 1 c.cond (record { 0 = c.taken }) (b_item 1) c.small t b_ready b_at
+
+  b_inside : (base ≤ t.pc) × (t.pc + 8 ≤ place (l.image node c.number) 2) × (place (l.image node c.number) 2 ≤ base + 4 * length p.code) × (place (l.image node c.number) 4 ≤ base + 4 * length p.code)
+  b_inside =
+      let s = b_size in
+      let a = b_at in
+      let some = hop.some in
+      let ins = hop.inside in
+      let b = (h.laid.within (l.image node c.number) 1 c.within (omega arith)).begins in
+      (omega arith, omega arith, (h.laid.within (l.image node c.number) 2 c.within (omega arith)).ends, (h.laid.within (l.image node c.number) 4 c.within (omega arith)).ends)
+
+  b_range : (a : ℕ) → place (l.image node c.number) 1 ≤ a → a < place (l.image node c.number) 2 → range_in p.ranges a
+      ≡ Some (record { lo = place (l.image node c.number) 1; hi = place (l.image node c.number) 2; address = c.address.0; node = number_in g node })
+  b_range a low high =
+      h.laid.ranges (l.image node c.number) 1 a (it.Branch c.cond (record { 0 = c.taken })) (b_item 1) low high ∙ ap (λ (v : Option (List Item)). range_of (place (l.image node c.number)) (open_in v 1)) c.items
+
+  -- on the way: in the branch's place, or on Jumps after it
+  IsOn : State → Type 0
+  IsOn u = ((t.pc < u.pc) × (u.pc < place (l.image node c.number) 2)) ⊎ IsBare g l base p place f h u
+
+  on_way : (u : State) → u.ending ≡ None → IsOn u → IsOnWay g node t u
+  unfolding IsOn
+  on_way u live (inl z) =
+      let a = b_at in
+      let n0 = b_inside.0 in
+      let n2 = b_inside.2 in
+      let z0 = z.0 in
+      let z1 = z.1 in
+      on_range g l base p place f h node t u (record { lo = place (l.image node c.number) 1; hi = place (l.image node c.number) 2; address = c.address.0; node = number_in g node })
+      live (omega arith) (omega arith) (b_range u.pc (omega arith) z1) (omega arith) refl
+  on_way u live (inr z) = bare_on g l base p place f h node t u live z
+
+  record Comes (to most : ℕ) : Type 0 where
+    pub count : ℕ
+    pub memory : Memory
+    pub some : 0 < count
+    pub few : count ≤ most
+    pub path : Leads IsOn t (hopped t to memory) count
+    pub silent : IsSilent t count
+    pub stores : Stores IsFirstWord t.memory memory
+
+  of_hop : (to : ℕ) → Goes t to (place (l.image node c.number) 2) 2 6 → Comes to 6
+  unfolding IsOn
+  of_hop to j =
+      let some = j.some in
+      let few = j.few in
+      let ins = j.inside in
+      record {
+        count = j.count;
+        memory = j.memory;
+        some = omega arith;
+        few = omega arith;
+        path = leads_weaker _ _ t _ j.count (λ u q. let b = q.past in let d = q.before in inl (omega arith, omega arith)) j.hops.path;
+        silent = j.hops.silent;
+        stores = j.hops.stores;
+      }
+
+  of_hop_fit : (to : ℕ) → to ≤ 2 ^ 31 → (j : Goes t to (place (l.image node c.number) 2) 2 6) → IsFit g l base p place f h (hopped t to j.memory)
+  of_hop_fit to low j =
+      hopped_fit g l base p place f h t to (record { valid = here.valid; ours = here.ours; runs = b_ready }) low j.count j.memory j.hops.path.steps j.hops.stores
+
+  -- on from where the branch leads
+  then_on : (mid to most : ℕ) (j : Goes t mid (place (l.image node c.number) 2) 2 6) → Arrives g l base p place f h (hopped t mid j.memory) to most → Comes to (6 + most)
+  unfolding IsOn of_hop
+  then_on mid to most k rest =
+      let some = k.some in
+      let few = k.few in
+      let rfew = rest.few in
+      record {
+        count = k.count + rest.count;
+        memory = rest.memory;
+        some = omega arith;
+        few = omega arith;
+        path = leads_then _ t (hopped t mid k.memory) _ k.count rest.count (of_hop mid k).path
+            (leads_weaker _ _ (hopped t mid k.memory) _ rest.count (λ u q. inr q) rest.path) (λ _ pos. inr (rest.begins pos));
+        silent = silent_then t (hopped t mid k.memory) k.count rest.count k.hops.path.steps k.hops.silent rest.silent;
+        stores = stores_then IsFirstWord IsFirstWord t.memory k.memory rest.memory (λ z e. e) k.hops.stores rest.stores;
+      }
+
+  takes : (to : ℕ) → Goes t (slice_index p.at c.taken) (place (l.image node c.number) 2) 2 6 → LeadsTo l p (record { 0 = c.taken }) to → Comes to 10
+  takes to j leads =
+      then_on (slice_index p.at c.taken) to 4 j
+      (arrive g l base p place f h (record { 0 = c.taken }) (hopped t (slice_index p.at c.taken) j.memory) to
+      (of_hop_fit (slice_index p.at c.taken) (h.laid.aligned c.taken).1 j) refl leads)
+
+  passes : (to : ℕ) → Goes t (place (l.image node c.number) 2) (place (l.image node c.number) 2) 2 6 → LeadsTo l p (record { 0 = c.untaken }) to → Comes to 14
+  passes to j leads =
+      let low = h.laid.low in
+      let n2 = b_inside.2 in
+      then_on (place (l.image node c.number) 2) to 8 j
+      (tail g l base p place f h (l.image node c.number) _ _ _ c.items (hopped t (place (l.image node c.number) 2) j.memory) to
+      (of_hop_fit (place (l.image node c.number) 2) (omega arith) j) (sym b_closes) (omega arith)
+      (inr (record { 0 = c.untaken }, b_item 3, leads)))
+
+  -- a branch goes on somewhere, with all else as it was
+  record IsMoved (s u : State) : Type 0 where
+    pub pc : ℕ
+    pub npc : ℕ
+    pub slot : Slot
+    pub is : u ≡ moved pc npc slot s
+
+  moved_by : (flag always annul : Bool) (s : State) (to : ℕ) → IsMoved s (branched flag always annul s to)
+  moved_by true true true s to = record { pc = to; npc = wrapped (to + 4); slot = s.slot; is = refl }
+  moved_by true true false s to = record { pc = s.npc; npc = to; slot = Taken; is = refl }
+  moved_by true false true s to = record { pc = s.npc; npc = to; slot = Taken; is = refl }
+  moved_by true false false s to = record { pc = s.npc; npc = to; slot = Taken; is = refl }
+  moved_by false always true s to = record { pc = wrapped (s.pc + 8); npc = wrapped (s.pc + 12); slot = s.slot; is = refl }
+  moved_by false always false s to = record { pc = s.npc; npc = wrapped (s.npc + 4); slot = Untaken; is = refl }
+
+  branch_acts : act (at_point x t) (i.Branch c.cond c.annul c.disp) ≡ branched (holds_of c.cond t.codes) (c.cond == 8) c.annul (at_point x t) (target_of (at_point x t) c.disp)
+  unfolding act branch_step
+  branch_acts = ap (λ (z : Slot). unless_couple z (at_point x t) (branched (holds_of c.cond t.codes) (c.cond == 8) c.annul (at_point x t) (target_of (at_point x t) c.disp))) c.none
+
+  does_is : does_at g x t ≡ branched (holds_of c.cond t.codes) (c.cond == 8) c.annul (at_point x t) (target_of (at_point x t) c.disp)
+  does_is = ap (on_word (at_point x t)) c.is_word ∙ ap (act (at_point x t)) c.says ∙ branch_acts
+
+  turned : (to most : ℕ) (v : State) → IsMoved (at_point x t) v → Comes to most → most ≤ 64 → (edges : List ℕ)
+      → to ≡ visited_at g l p f (node_after (graph_in g) node edges) (point_of v)
+      → (v.slot ≡ Taken → same_kind (way_of (instr_at g.text (v.pc - 4)) v.slot) kinds.Out ≡ true → ⊥)
+      → StepsOn g (Here g l base p f) Everything edges node x t v
+  turned to most v m j bound edges is never =
+      let few = j.few in
+      let kept = own_stored g l base p place f h t.memory j.memory here.ours j.stores in
+      let w : State = moved m.pc m.npc m.slot t in
+      let same : v ≡ moved m.pc m.npc m.slot t = m.is in
+      record {
+        count = j.count;
+        after = hopped t to j.memory;
+        path = record {
+          steps = j.path.steps;
+          some = j.some;
+          few = omega arith;
+          quiet = quiet_of g l base p place f h node t _ j.count IsOn j.path here.live on_way;
+        };
+        puts = λ descriptor. j.silent descriptor
+            ∙ sym (ap (λ (o : Option ℕ). puts_on_word (at_point x t) o descriptor) c.is_word ∙ ap (λ (q : Instr). puts_by (at_point x t) q descriptor) c.says
+            ∙ no_puts (at_point x t) c.cond c.annul c.disp descriptor);
+        followed = record {
+          ending = sym (ap (λ (z : State). z.ending) same);
+          window = sym (ap (λ (z : State). z.window) same);
+          valid = sym (ap (λ (z : State). z.valid) same);
+          registers = sym (ap (λ (z : State). length z.registers) same);
+          input = sym (ap (λ (z : State). z.input) same);
+          memory = subst (λ (z : Memory). IsSameOutside (pages_of g.notes) z j.memory) (sym (ap (λ (z : State). z.memory) same)) kept.1;
+          items = λ _ thing _ _. same_at thing v (hopped t to j.memory) (ap (λ (z : State). z.registers) same) (ap (λ (z : State). z.codes) same) (ap (λ (z : State). z.y) same);
+        };
+        cells = cells_same g l base p place f h edges t v (hopped t to j.memory);
+        here = λ _. record {
+          valid = subst IsValid j.path.steps (run-valid t j.count here.valid);
+          live = here.live;
+          at = is;
+          npc = refl;
+          slot = refl;
+          code = subst (λ (z : State). HasCode base p.code z.memory) j.path.steps (code_after g l base p place f h t j.count here.code);
+          ours = kept.0;
+          waits = λ a b. absurd (never a b);
+        };
+        place = λ e. absurd (e (ap (λ (z : State). z.ending) same ∙ here.live));
+      }
+
+  turn_moved : IsMoved (at_point x t) (does_at g x t)
+  turn_moved = subst (IsMoved (at_point x t)) (sym does_is) (moved_by (holds_of c.cond t.codes) (c.cond == 8) c.annul (at_point x t) (target_of (at_point x t) c.disp))
+
+  b_step : (flag : Bool) → holds_of c.cond t.codes ≡ flag → StepsOn g (Here g l base p f) Everything (gone_at g node x (does_at g x t)) node x t (does_at g x t)
+  b_step true e =
+      let to = visited_at g l p f (node_after (graph_in g) node (gone_at g node x (does_at g x t))) (point_of (does_at g x t)) in
+      let way = subst (λ (b : Bool). Goes t (if b then slice_index p.at c.taken else place (l.image node c.number) 2) (place (l.image node c.number) 2) 2 6) e hop in
+      turned to 10 (does_at g x t) turn_moved
+      (takes to way (subst (λ (b : Bool). LeadsTo l p (record { 0 = if b then c.taken else c.untaken }) to) e c.leads))
+      (omega arith) (gone_at g node x (does_at g x t)) refl c.never
+  b_step false e =
+      let to = visited_at g l p f (node_after (graph_in g) node (gone_at g node x (does_at g x t))) (point_of (does_at g x t)) in
+      let way = subst (λ (b : Bool). Goes t (if b then slice_index p.at c.taken else place (l.image node c.number) 2) (place (l.image node c.number) 2) 2 6) e hop in
+      turned to 14 (does_at g x t) turn_moved
+      (passes to way (subst (λ (b : Bool). LeadsTo l p (record { 0 = if b then c.taken else c.untaken }) to) e c.leads))
+      (omega arith) (gone_at g node x (does_at g x t)) refl c.never
+
+pub turns_step : TurnsStep
+turns_step g l base p place f node x t h here c = b_step g l base p place f h node x t here c (holds_of c.cond t.codes) refl

@@ -1,0 +1,83 @@
+-- The images of a plain word and of a conditional branch, whole.
+use Rattle.std.specs.Prelude.{◌≡◌, ℕ, ◌<◌, ◌⊎◌, false, List, [], ◌∷◌, length, Some, None, slice_get, slice_index}
+use Rattle.eel_base.specs.declared.numbers.Addr.{Addr}
+use Rattle.eel_base.specs.declared.numbers.PieceNo.{PieceNo}
+use Rattle.elf32_sparc.specs.Notes.{node_at}
+use Rattle.v8_decode.specs.Words.{decode_of}
+use Rattle.v8_memory.specs.Spans.{AllApart}
+use Rattle.v8_step.specs.State.{State}
+use Rattle.v8_step.specs.Items.{Item as Thing, is_transfer}
+use Rattle.v8_step.specs.Judged.{judged_by}
+use Rattle.v8_step.specs.Visits.{visit_of, pages_of}
+use Rattle.cfg_normal.specs.declared.Node.{Node}
+use Rattle.cfg_walk.specs.Walk.{Point, point_of, node_after}
+use Rattle.layout.specs.declared.items.Item.{Item}
+use Rattle.layout.specs.declared.items.Item.TheVariants as it
+use Rattle.layout.specs.Laid.{Placement, item_at}
+use Rattle.image_code.specs.Simulates.{Setting, StepsOn, at_point, does_at, gone_at, graph_in, number_in, word_of}
+use Rattle.image_code.specs.Images.{Pieces, Frame, Here, IsPlaced, visited_at}
+
+-- every item is kept
+abbrev pub Everything : List ℕ → ℕ → Thing → Type 0
+Everything edges window item = Unit {0}
+
+abbrev pub visits_it : Setting → Node → Point → State → Type 0
+visits_it g node x t = (visit_of g.notes t ≡ Some x.pc) × (node_at g.notes t.pc ≡ Some (number_in g node))
+
+-- where the written file visits the point to which the original goes on
+abbrev pub next_visit : Setting → Pieces → Placement → Frame → Node → Point → State → ℕ
+next_visit g l p f node x t =
+    let v = does_at g x t in
+    visited_at g l p f (node_after (graph_in g) node (gone_at g node x v)) (point_of v)
+
+-- control that comes to a piece goes on to an address: the piece stands there, or is a Jump alone to one that does
+abbrev pub LeadsTo : Pieces → Placement → PieceNo → ℕ → Type 0
+LeadsTo l p piece to =
+    (slice_index p.at piece.0 ≡ to)
+    ⊎ ((z : PieceNo) × (slice_get l.list piece.0 ≡ Some (it.Jump z ∷ [])) × (slice_index p.at z.0 ≡ to))
+
+-- after its item n, a piece goes on to an address: it ends and the next piece begins there, or a Jump leads there
+abbrev pub LeadsOn : Pieces → Placement → (ℕ → ℕ → ℕ) → ℕ → ℕ → ℕ → Type 0
+LeadsOn l p place k n to =
+    (place k n ≡ to) ⊎ ((z : PieceNo) × (item_at l.list k n ≡ Some (it.Jump z)) × LeadsTo l p z to)
+
+-- ---- a plain word, or the copy of a slot's word
+
+-- the piece of a word in its Mark, and what comes after that
+abbrev pub plain_piece : Addr → ℕ → ℕ → List Item → List Item
+plain_piece address number word rest = it.Mark address number ∷ it.Word word ∷ it.EndMark ∷ rest
+
+pub record IsPlain (g : Setting) (l : Pieces) (p : Placement) (place : ℕ → ℕ → ℕ) (f : Frame)
+    (node : Node) (x : Point) (t : State) : Type 0 where
+  pub piece : ℕ
+  pub within : piece < length l.list
+  pub here : visited_at g l p f node x ≡ slice_index p.at piece
+  pub address : Addr
+  pub original : address.0 ≡ x.pc
+  pub word : ℕ
+  pub is_word : word_of g.text x.pc ≡ Some word
+  pub straight : is_transfer (decode_of word) ≡ false
+  pub rest : List Item
+  pub items : slice_get l.list piece ≡ Some (plain_piece address (number_in g node) word rest)
+  -- where the walk goes on, there the piece leads
+  pub leads : (does_at g x t).ending ≡ None → LeadsOn l p place piece 3 (next_visit g l p f node x t)
+
+abbrev pub PlainsVisit : Type 0
+PlainsVisit =
+    (g : Setting) (l : Pieces) (base : ℕ) (p : Placement) (place : ℕ → ℕ → ℕ) (f : Frame)
+    (node : Node) (x : Point) (t : State)
+    → IsPlaced g l base p place f → Here g l base p f node x t → IsPlain g l p place f node x t → visits_it g node x t
+
+abbrev pub PlainsStep : Type 0
+PlainsStep =
+    (g : Setting) (l : Pieces) (base : ℕ) (p : Placement) (place : ℕ → ℕ → ℕ) (f : Frame)
+    (node : Node) (x : Point) (t : State)
+    → IsPlaced g l base p place f → Here g l base p f node x t → (c : IsPlain g l p place f node x t)
+    → AllApart (pages_of g.notes) (judged_by (at_point x t) (decode_of c.word))
+    → StepsOn g (Here g l base p f) Everything (gone_at g node x (does_at g x t)) node x t (does_at g x t)
+
+-- ---- a branch on a condition
+
+abbrev pub branch_piece : Addr → ℕ → ℕ → ℕ → ℕ → List Item
+branch_piece address number cond taken untaken =
+    it.Mark address number ∷ it.Branch cond (record { 0 = taken }) ∷ it.EndMark ∷ it.Jump (record { 0 = untaken }) ∷ []

@@ -1,0 +1,44 @@
+-- The image of a branch that always goes one way: a nop in its Mark, and then the way.
+use Rattle.std.specs.Prelude.{◌≡◌, ℕ, ◌-◌, ◌<◌, Bool, true, List, length, Some, slice_get, slice_index, ℤ}
+use Rattle.eel_base.specs.declared.numbers.Addr.{Addr}
+use Rattle.v8_decode.specs.declared.Instr.TheVariants as i
+use Rattle.v8_decode.specs.Words.{decode_of}
+use Rattle.v8_step.specs.declared.Slot.TheVariants.{NoSlot, Taken}
+use Rattle.v8_step.specs.State.{State}
+use Rattle.cfg_blocks.specs.declared.EdgeKind.TheVariants as kinds
+use Rattle.cfg_normal.specs.declared.Node.{Node}
+use Rattle.cfg_walk.specs.Walk.{Point, point_of, node_after, instr_at, way_of, same_kind}
+use Rattle.layout.specs.declared.items.Item.{Item}
+use Rattle.layout.specs.Laid.{Placement, nop}
+use Rattle.image_code.specs.Simulates.{Setting, StepsOn, does_at, gone_at, graph_in, number_in, word_of}
+use Rattle.image_code.specs.Images.{Pieces, Frame, Here, IsPlaced, visited_at}
+use Rattle.image_code.specs.Cases.{Everything, LeadsOn, next_visit, plain_piece}
+use Rattle.image_code.specs.Turns.{IsNoJumpsSlot}
+
+pub record IsIdle (g : Setting) (l : Pieces) (p : Placement) (place : ℕ → ℕ → ℕ) (f : Frame)
+    (node : Node) (x : Point) (t : State) : Type 0 where
+  pub none : x.slot ≡ NoSlot
+  pub piece : ℕ
+  pub within : piece < length l.list
+  pub here : visited_at g l p f node x ≡ slice_index p.at piece
+  pub address : Addr
+  pub original : address.0 ≡ x.pc
+  pub cond : ℕ
+  pub annul : Bool
+  pub disp : ℤ
+  pub original_word : ℕ
+  pub is_word : word_of g.text x.pc ≡ Some original_word
+  pub says : decode_of original_word ≡ i.Branch cond annul disp
+  pub word : ℕ
+  pub idle : decode_of word ≡ nop
+  pub rest : List Item
+  pub items : slice_get l.list piece ≡ Some (plain_piece address (number_in g node) word rest)
+  pub leads : LeadsOn l p place piece 3 (next_visit g l p f node x t)
+  pub never : IsNoJumpsSlot g (does_at g x t)
+
+abbrev pub IdlesStep : Type 0
+IdlesStep =
+    (g : Setting) (l : Pieces) (base : ℕ) (p : Placement) (place : ℕ → ℕ → ℕ) (f : Frame)
+    (node : Node) (x : Point) (t : State)
+    → IsPlaced g l base p place f → Here g l base p f node x t → IsIdle g l p place f node x t
+    → StepsOn g (Here g l base p f) Everything (gone_at g node x (does_at g x t)) node x t (does_at g x t)

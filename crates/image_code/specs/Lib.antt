@@ -1,0 +1,11 @@
+pub mod Simulates
+pub mod Images
+pub mod Cases
+pub mod Whole
+pub mod Couple
+pub mod Turns
+pub mod Idle
+pub mod Imaged
+pub mod Made
+pub mod Parts
+pub mod Fit

@@ -1,0 +1,65 @@
+//! The images of words: where a machine stands that visits one, and that each image follows the original's step.
+#![tactic(auto)]
+
+ghost use Rattle.image_code.specs.Cases.{PlainsStep, PlainsVisit};
+ghost use Rattle.image_code.specs.Couple.{CouplesStep};
+ghost use Rattle.image_code.specs.Fit.{PiecesFit, PlacesSay};
+ghost use Rattle.image_code.specs.Idle.{IdlesStep};
+ghost use Rattle.image_code.specs.Imaged.{HeadsVisit, ImagesSimulate};
+ghost use Rattle.image_code.specs.Made.{PiecesMakeImages};
+ghost use Rattle.image_code.specs.Turns.{TurnsStep};
+
+mod making;
+mod parts;
+
+pub use making::{PieceList, pieces};
+
+/// The image of a word that is no transfer, or the copy of a slot's word, is one step of the original.
+pub fn plains_step()
+    ensures { PlainsStep }
+{}
+
+/// A machine at the image of such a word visits it.
+pub fn plains_visit()
+    ensures { PlainsVisit }
+{}
+
+/// The image of a transfer in a slot ends the run as the original does.
+pub fn couples_step()
+    ensures { CouplesStep }
+{}
+
+/// The image of any branch is one step of the original, where its piece leads to where the walk goes on.
+pub fn turns_step()
+    ensures { TurnsStep }
+{}
+
+/// So is a nop in the branch's Mark, and then the way to where the walk goes on.
+pub fn idles_step()
+    ensures { IdlesStep }
+{}
+
+/// A machine at a piece that begins with the Mark of a point visits the point.
+pub fn heads_visit()
+    ensures { HeadsVisit }
+{}
+
+/// Where each point has a piece of one of the shapes, the pieces promise what they should.
+pub fn images_simulate()
+    ensures { ImagesSimulate }
+{}
+
+/// The pieces of a text whose transfers are branches promise what they should.
+pub fn pieces_make_images()
+    ensures { PiecesMakeImages }
+{}
+
+/// The pieces of a text can be placed, in 500 bytes a word at most, and half a MiB.
+pub fn pieces_fit()
+    ensures { PiecesFit }
+{}
+
+/// Wherever they are placed, the word of each place is the original's, but for transfers.
+pub fn places_say()
+    ensures { PlacesSay }
+{}
