@@ -129,15 +129,17 @@ same_reading instr s u f = (
 
 -- ---- what is judged
 
-twins_from : (notes : Notes) (s u : State) → AreRegisters s.registers → AreRegisters u.registers
-    → IsSameWorld (pages_of notes) s u → ((item : Item) → IsItem item → IsSameAt item s u) → AreTwins notes s u
-twins_from notes s u rs ru w f = record {
+twins_from : (pages : List Span) (s u : State) → AreRegisters s.registers → AreRegisters u.registers
+    → s.ending ≡ u.ending → IsSameWorld pages s u → ((item : Item) → IsItem item → IsSameAt item s u)
+    → AreTwins pages s u
+twins_from pages s u rs ru e w f = record {
   registers = ext_get_or 0 s.registers u.registers w.registers register;
   codes = f Codes tt;
   y = f YRegister tt;
   window = w.window;
   valid = w.valid;
   input = w.input;
+  ending = e;
   memory = w.memory;
 }
   where
@@ -147,7 +149,7 @@ twins_from notes s u rs ru w f = record {
         (omega arith, omega arith)
 
 module _ (notes : Notes) (s u : State) (rs : AreRegisters s.registers) (ru : AreRegisters u.registers)
-    (w : IsSameWorld (pages_of notes) s u) where
+    (e : s.ending ≡ u.ending) (w : IsSameWorld (pages_of notes) s u) where
   sum_same : (rs1 : ℕ) (op2 : Op2) → AreSameAt (reg rs1 ++ op2_parts op2) s u → sum_of s rs1 op2 ≡ sum_of u rs1 op2
   sum_same rs1 op2 h = same_sum rs1 op2 s u w.window (same_first (reg rs1) (op2_parts op2) s u h)
       (same_rest (reg rs1) (op2_parts op2) s u h)
@@ -166,11 +168,11 @@ module _ (notes : Notes) (s u : State) (rs : AreRegisters s.registers) (ru : Are
       subst (λ (z : ℕ). AllApart (pages_of notes) (aligned_span 4 z 4))
       (sum_same rs1 op2 (same_first (reg rs1 ++ op2_parts op2) (reg rd) s u h.1)) apart
   judged_same (i.Save rd rs1 op2) h apart = judged_alike notes (i.Save rd rs1 op2) s u
-      (twins_from notes s u rs ru w (h.0 refl)) apart
+      (twins_from (pages_of notes) s u rs ru e w (h.0 refl)) apart
   judged_same (i.Restore rd rs1 op2) h apart = judged_alike notes (i.Restore rd rs1 op2) s u
-      (twins_from notes s u rs ru w (h.0 refl)) apart
+      (twins_from (pages_of notes) s u rs ru e w (h.0 refl)) apart
   judged_same (i.Ticc cond rs1 op2) h apart = judged_alike notes (i.Ticc cond rs1 op2) s u
-      (twins_from notes s u rs ru w (h.0 refl)) apart
+      (twins_from (pages_of notes) s u rs ru e w (h.0 refl)) apart
   judged_same (i.Sethi rd imm22) h apart = apart
   judged_same (i.Branch cond annul disp22) h apart = apart
   judged_same (i.Call disp30) h apart = apart
@@ -365,7 +367,7 @@ points_act_alike notes (Some word) s u live live' rs ru at w f apart = by (is_tr
     reading = same_reading (decode_of word) s u f
 
     judged : AllApart (pages_of notes) (judged_by u (decode_of word))
-    judged = judged_same notes s u rs ru w (decode_of word) reading apart
+    judged = judged_same notes s u rs ru (live ∙ sym live') w (decode_of word) reading apart
 
     by : (b : Bool) → is_transfer (decode_of word) ≡ b
         → AreAlikeOn (pages_of notes) (Some word) s u (act s (decode_of word)) (act u (decode_of word))

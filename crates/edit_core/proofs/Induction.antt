@@ -337,7 +337,8 @@ module _ (g : Setting) (entry : ℕ) (Inside : Point → Type 0) (Here : Node �
           quiet = λ j a b.
               let at : run t0 j ≡ run (run t0 m) (j - m) =
               (let e : j ≡ (j - m) + m = omega arith in ap (run t0) e) ∙ run_add t0 m (j - m) in
-              ap (visit_of g.notes) at ∙ (x.on.path.quiet (j - m) (omega arith) (omega arith)).visit;
+              let on = x.on.path.quiet (j - m) (omega arith) (omega arith) in
+              (ap (λ (s : State). s.ending) at ∙ on.live, ap (visit_of g.notes) at ∙ on.visit);
         }
 
     way_on : (n m : ℕ) (h : Linked g entry Here K s0 t0 n m) → n < last → (c : (n < last) ⊎ (last ≤ n))
@@ -407,7 +408,7 @@ module _ (g : Setting) (entry : ℕ) (Inside : Point → Type 0) (Here : Node �
       moments = moments;
       followed = record {
         soon = r.soon;
-        quiet = λ j a b. (r.early j b).1;
+        quiet = λ j a b. ((r.early j b).0, (r.early j b).1);
         matches = λ n l. matches_at n l (reached n);
         goes = λ n l live. way_at n l live (reached n);
         stays = λ n l d over. stays_at n l d over (reached n);

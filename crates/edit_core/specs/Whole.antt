@@ -25,7 +25,7 @@ KeepsAll = (g : Setting) (entry : ℕ) (s0 : State) → CountsNothing g → Keep
 -- and from then on in none, or in one of the node where the original's walk stands.
 pub record Answered (g : Setting) (entry : ℕ) (s0 t0 : State) (last : ℕ) : Type 0 where
   pub moments : ℕ → ℕ
-  pub answers : (n : ℕ) → n ≤ last → Answers g.notes s0 t0 n (moments n)
+  pub answers : (n : ℕ) → n ≤ last → IsLeast (Answers g.notes s0 t0 n) (moments n)
   pub soon : (m : ℕ) → IsLeast (Answers g.notes s0 t0 zero) m → m ≤ 64
   pub bounded : (n : ℕ) → n < last → IsBounded g.notes s0 t0 n (limits_in g entry s0 n)
   pub cells : (n : ℕ) → n ≤ last → g.cells_of (run t0 (moments n)) ≡ store_of g entry s0 n

@@ -461,6 +461,7 @@ judged_moved notes x t instr apart = judged_alike notes instr (at_point x t) t (
   window = refl;
   valid = refl;
   input = refl;
+  ending = refl;
   memory = outside_refl (pages_of notes) t.memory;
 }) apart
 
