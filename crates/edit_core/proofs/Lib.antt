@@ -1,2 +1,4 @@
 pub mod Induction
 pub mod Whole
+pub mod Taken
+pub mod Views

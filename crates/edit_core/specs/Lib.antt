@@ -1,2 +1,6 @@
 pub mod Runs
 pub mod Whole
+pub mod Taken
+pub mod RunsAlike
+pub mod Faithful
+pub mod Written

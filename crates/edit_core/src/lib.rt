@@ -1,7 +1,13 @@
-//! From one step of the original to whole runs of the written file. There is no code here, but definitions and laws.
+//! The edit of a file, and what ties the written file to its original.
 #![tactic(auto)]
 
 ghost use Rattle.edit_core.specs.Whole.{EditsAnswer, KeepsAll};
+
+mod editing;
+mod taking;
+
+pub use editing::edit_bytes;
+pub use taking::EditFault;
 
 /// Without snippets every item is kept.
 pub fn all_is_kept()

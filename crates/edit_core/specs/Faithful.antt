@@ -1,0 +1,112 @@
+-- What ties a written file to its original: the parts of a faithful edit.
+use Rattle.std.specs.Prelude.{◌≡◌, ℕ, ◌+◌, ◌-◌, ◌*◌, ◌^◌, ◌<◌, ◌≤◌, false, ◌&&◌, nat_le, List, [], ◌∷◌, ◌++◌, length, take, drop, map, slice_index, Option, Some, None, Ok, All}
+use Rattle.std.specs.List.{find}
+use Rattle.std.specs.Option.{option_map}
+use Rattle.byteorder.specs.Endian.{big_number}
+use Rattle.eel_base.specs.CodeText.{address_of}
+use Rattle.elf32_sparc.specs.FileFault.{load_fault}
+use Rattle.elf32_sparc.specs.Mapping.{Mapping, mappings}
+use Rattle.elf32_sparc.specs.Image.{image_of}
+use Rattle.elf32_sparc.specs.Notes.{Notes, NoteEdge, NoteSegment, NoteRange, notes_of}
+use Rattle.elf32_write.specs.Laws.{kept}
+use Rattle.v8_decode.specs.Words.{decode_of}
+use Rattle.v8_step.specs.Items.{is_transfer}
+use Rattle.cfg_blocks.specs.declared.EdgeKind.{EdgeKind}
+use Rattle.cfg_blocks.specs.declared.EdgeKind.TheVariants as kinds
+use Rattle.cfg_blocks.specs.Blocks.{holding_of}
+use Rattle.cfg_normal.specs.declared.Edge.{Edge}
+use Rattle.cfg_normal.specs.Graph.{Graph}
+use Rattle.cfg_view.specs.View.{view_of}
+use Rattle.cfg_walk.specs.Counts.{node_number}
+use Rattle.edit_core.specs.Taken.{bound_of}
+use Rattle.edit_core.specs.RunsAlike.{HaveRunsAlike}
+
+-- Whole: the written file can be run, its notes read, and it holds the original whole at their delta.
+pub record IsWhole (original file : List ℕ) (notes : Notes) : Type 0 where
+  pub loads : load_fault file ≡ None
+  pub reads : notes_of file ≡ Ok notes
+  pub size : notes.length ≡ length original
+  pub holds : take notes.length (drop notes.delta file) ≡ original
+  pub small : length file ≤ 1536 * 2 ^ 20
+
+-- Graph: the notes have the graph of the original.
+
+-- the kinds by their numbers
+abbrev pub kind_number : EdgeKind → ℕ
+kind_number kinds.Fall = 0
+kind_number kinds.Taken = 1
+kind_number kinds.Untaken = 2
+kind_number kinds.Call = 3
+kind_number kinds.Out = 4
+kind_number kinds.Land = 5
+
+-- an edge between nodes by their numbers, without a cell
+abbrev pub note_edge : Graph → Edge → NoteEdge
+note_edge graph edge = record {
+  kind = kind_number edge.kind;
+  from = node_number graph edge.from;
+  to = node_number graph edge.to;
+  cell = None;
+}
+
+pub record HasGraph (original : List ℕ) (notes : Notes) : Type 0 where
+  pub start : notes.start ≡ (image_of original).text.start
+  pub words : notes.words ≡ length (image_of original).text.words
+  pub entry : notes.entry ≡ holding_of (view_of original []).graph.blocks (image_of original).entry
+  pub blocks : notes.blocks ≡ (view_of original []).graph.blocks.firsts
+  pub edges : notes.edges ≡ map (note_edge (view_of original []).graph) (view_of original []).graph.edges
+  -- without snippets, there are no cells
+  pub tool : notes.tool ≡ 0
+  pub cells : notes.cells ≡ 0
+
+-- Pages: what is mapped is what the original maps, its text no longer executable, and then the pages of the notes. The
+-- last of them is the editor's, and all others lie in the room.
+
+abbrev pub editor_page : ℕ
+editor_page = 0xfffff000
+
+abbrev pub page_size : ℕ
+page_size = 4096
+
+abbrev pub note_of : Mapping → NoteSegment
+note_of m = record { start = m.start; length = m.length }
+
+-- a page lies from the base to at most the bound above it
+abbrev pub IsInRoom : List ℕ → Mapping → Type 0
+IsInRoom original m =
+    let base = (image_of original).base in
+    (base ≤ m.start) × (m.start + m.length ≤ base + bound_of (image_of original).text)
+
+abbrev pub IsEditorPage : Mapping → Type 0
+IsEditorPage m = (m.start ≡ editor_page) × (m.length ≡ page_size)
+
+pub record HasPages (original file : List ℕ) (notes : Notes) : Type 0 where
+  pub room : List Mapping
+  pub editor : Mapping
+  pub mapped : mappings file ≡ map kept (mappings original) ++ (room ++ editor ∷ [])
+  pub noted : map note_of (room ++ editor ∷ []) ≡ notes.segments
+  pub inside : All (IsInRoom original) room
+  pub own : IsEditorPage editor
+
+-- Places: where the notes say that a word of the text stands that is no transfer, it does.
+
+-- the word of memory at an address, before any step
+abbrev pub word_mapped : List ℕ → ℕ → Option ℕ
+word_mapped file address =
+    option_map (λ m. big_number 4 (drop (address - m.start) m.first))
+    (find (λ m. nat_le m.start address && nat_le (address + 4) (m.start + m.length)) (mappings file))
+
+abbrev pub IsPlace : List ℕ → List ℕ → NoteRange → Type 0
+IsPlace original file range =
+    let text = (image_of original).text in
+    (word : ℕ) → word < length text.words → is_transfer (decode_of (slice_index text.words word)) ≡ false
+    → range.address ≡ address_of text word
+    → word_mapped file range.lo ≡ Some (slice_index text.words word)
+
+pub record IsFaithful (original file : List ℕ) : Type 0 where
+  pub notes : Notes
+  pub whole : IsWhole original file notes
+  pub graph : HasGraph original notes
+  pub pages : HasPages original file notes
+  pub places : All (IsPlace original file) notes.ranges
+  pub runs : HaveRunsAlike original file notes
