@@ -2,3 +2,10 @@ pub mod Induction
 pub mod Whole
 pub mod Taken
 pub mod Views
+pub mod Shapes
+pub mod Ranges
+pub mod Noted
+pub mod Originals
+pub mod Edits
+pub mod Mapped
+pub mod Faithful

@@ -112,7 +112,7 @@ transfer_says text word items t = record { says = λ other e f. none other e f }
 word_says : (text : Words) (word : ℕ) (items : List Item) → SaysWord text (address_of text word) (it.Word (slice_index text.words word) ∷ items)
 word_says text word items = record { says = λ other e f. ap (λ n. Some (it.Word (slice_index text.words n))) (at_same text word other e) }
 
-each_index : {A : Type 0} (P : A → Type 0) (xs : List A) → ((k : ℕ) (x : A) → slice_get xs k ≡ Some x → P x) → Each P xs
+pub each_index : {A : Type 0} (P : A → Type 0) (xs : List A) → ((k : ℕ) (x : A) → slice_get xs k ≡ Some x → P x) → Each P xs
 each_index P [] h = tt
 each_index P (x ∷ xs) h = (h 0 x refl, each_index P xs (λ k y e. h (suc k) y e))
 
@@ -127,7 +127,7 @@ number_of_list None number rest e = absurd (cc)
 number_of_list (Some n) number rest e = let q : n ≡ number = cc in ap (λ z. Some z) q
 
 module _ (text : Words) (graph : Graph) (is : IsText text) (h : IsGraphOf text graph) where
-  count_is : length (piece_list text graph) ≡ length text.words + length (own_edges graph) + 1
+  pub count_is : length (piece_list text graph) ≡ length text.words + length (own_edges graph) + 1
   unfolding piece_list
   count_is =
       length-append (map (image text graph) (below (length text.words)) ++ map (way_along text graph) (own_edges graph)) ((it.Word illegal_word ∷ []) ∷ [])
@@ -195,7 +195,7 @@ module _ (text : Words) (graph : Graph) (is : IsText text) (h : IsGraphOf text g
   image_small : (word : ℕ) → word < length text.words → IsSmall text (length (piece_list text graph)) (image text graph word)
   image_small word l = image_by_small word (decode_of (slice_index text.words word)) refl
 
-  edge_in : (number : ℕ) (edge : Edge) → slice_get (own_edges graph) number ≡ Some edge → IsEdgeIn graph.blocks edge
+  pub edge_in : (number : ℕ) (edge : Edge) → slice_get (own_edges graph) number ≡ Some edge → IsEdgeIn graph.blocks edge
   edge_in number edge e =
       let all : slice_get (edges_in graph.blocks) number ≡ Some edge =
       sym (ap (λ (es : List Edge). slice_get es number) (edges_are text graph h)) ∙ get_taken (length graph.edges - length graph.blocks.firsts) number graph.edges edge e in

@@ -4,6 +4,8 @@ use Rattle.elf32_sparc.specs.Image.{image_of, Program}
 use Rattle.cfg_view.specs.declared.View.{View}
 use Rattle.edit_core.proofs.Taken.{branches_only}
 use Rattle.edit_core.proofs.Views.{view_image}
+
+use Rattle.edit_core.proofs.Faithful.{faithful}
 use Rattle.edit_core.proofs.editing.edit_bytes.Goals as goal
 
 pub returns-in-Some-clause-refused : goal.returns-in-Some-clause-refused

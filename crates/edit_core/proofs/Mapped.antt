@@ -1,0 +1,76 @@
+-- The words of the code in the memory of a written file.
+use Rattle.std.proofs.Common.{◌≡◌, ℕ, zero, suc, ◌+◌, ◌-◌, ◌*◌, ◌^◌, ◌<◌, ◌≤◌, Bool, true, false, ◌&&◌, cond, nat_le, max, List, [], ◌∷◌, ◌++◌, length, drop, map, slice_index, Option, Some, None, refl, ap, ◌∙◌, arith, All}
+use Rattle.std.specs.List.{find, fold}
+use Rattle.std.specs.Option.{option_map, option_or}
+use Rattle.std.proofs.Math.Seq.{drop-append-add}
+use Rattle.std.proofs.lemmas.Bool.{and_from, le-leb, lt-leb}
+use Rattle.std.proofs.lemmas.List.Folds.{find-append}
+use Rattle.byteorder.specs.Endian.{big_number, big_bytes}
+use Rattle.byteorder.specs.Numbers.{big_number-reads_back}
+use Rattle.elf32_sparc.specs.declared.header.ProgramHeader.{ProgramHeader}
+use Rattle.elf32_sparc.specs.Header.{program_headers, loadable}
+use Rattle.elf32_sparc.specs.Mapping.{Mapping, mapping_of, mappings}
+use Rattle.elf32_sparc.specs.Image.{image_of, segment_of, segment_end}
+use Rattle.elf32_write.specs.Bytes.{words_bytes}
+use Rattle.elf32_write.specs.Laws.{kept}
+use Rattle.edit_core.specs.Faithful.{word_mapped}
+use Rattle.edit_core.proofs.Originals.{base_above}
+
+abbrev covers : ℕ → Mapping → Bool
+covers address m = nat_le m.start address && nat_le (address + 4) (m.start + m.length)
+
+passed : (b c : Bool) (x : Mapping) (rest : Option Mapping) → c ≡ false → cond (b && c) (Some x) rest ≡ rest
+passed true c x rest failed = ap (λ z. cond z (Some x) rest) failed
+passed false c x rest failed = refl
+
+-- the greatest end is not below what it began with
+end_from : (hs : List ProgramHeader) (n : ℕ) → n ≤ fold (λ end segment. max end (segment_end segment)) n (map segment_of hs)
+end_from [] n = omega arith
+end_from (h ∷ hs) n = let later = end_from hs (max n (h.p_vaddr + h.p_memsz)) in omega arith
+
+-- no entry below an address covers it
+none_covers : (file : List ℕ) (hs : List ProgramHeader) (n address : ℕ) → fold (λ end segment. max end (segment_end segment)) n (map segment_of hs) ≤ address
+    → find (covers address) (map kept (map (mapping_of file) hs)) ≡ None
+none_covers file [] n address above = refl
+none_covers file (h ∷ hs) n address above =
+    let ends = end_from hs (max n (h.p_vaddr + h.p_memsz)) in
+    let below : h.p_vaddr + h.p_memsz < address + 4 = omega arith in
+    passed (nat_le h.p_vaddr address) (nat_le (address + 4) (h.p_vaddr + h.p_memsz)) (kept (mapping_of file h)) (find (covers address) (map kept (map (mapping_of file) hs)))
+    (lt-leb (address + 4) (h.p_vaddr + h.p_memsz) below)
+    ∙ none_covers file hs (max n (h.p_vaddr + h.p_memsz)) address above
+
+original_covers : (original : List ℕ) (address : ℕ) → (image_of original).base ≤ address → find (covers address) (map kept (mappings original)) ≡ None
+unfolding mappings image_of
+original_covers original address above =
+    let end = base_above original in
+    none_covers original (loadable (program_headers original)) 0 address (omega arith)
+
+-- a word among words as bytes
+word_among : (words : List ℕ) (word : ℕ) → word < length words → All (λ w. w < 2 ^ 32) words → big_number 4 (drop (4 * word) (words_bytes words)) ≡ slice_index words word
+unfolding words_bytes
+word_among [] word inside all = absurd (omega arith)
+word_among (w ∷ words) zero inside all = big_number-reads_back 4 w (words_bytes words) (all zero w (omega arith))
+word_among (w ∷ words) (suc word) inside all =
+    let next : 4 * suc word ≡ length (big_bytes 4 w) + 4 * word = omega arith in
+    ap (λ at. big_number 4 (drop at (big_bytes 4 w ++ words_bytes words))) next
+    ∙ ap (big_number 4) (drop-append-add (big_bytes 4 w) (words_bytes words) (4 * word))
+    ∙ word_among words word (omega arith) (λ k d below. all (suc k) d (omega arith))
+
+-- the words of code that is mapped next above the original
+pub code_mapped : (original file : List ℕ) (words : List ℕ) (code : Mapping) (more : List Mapping)
+    → mappings file ≡ map kept (mappings original) ++ code ∷ more → All (λ w. w < 2 ^ 32) words
+    → code.start ≡ (image_of original).base → code.length ≡ 4 * length words → code.first ≡ words_bytes words
+    → (n : ℕ) → n < length words → word_mapped file ((image_of original).base + 4 * n) ≡ Some (slice_index words n)
+code_mapped original file words code more all fits start size first n inside =
+    let address : ℕ = (image_of original).base + 4 * n in
+    let here : address - code.start ≡ 4 * n = omega arith in
+    let is_found : find (covers address) (mappings file) ≡ Some code =
+    ap (find (covers address)) all
+    ∙ find-append (covers address) (map kept (mappings original)) (code ∷ more)
+    ∙ ap (λ o. option_or o (find (covers address) (code ∷ more))) (original_covers original address (omega arith))
+    ∙ ap (λ (b : Bool). cond b (Some code) (find (covers address) more))
+    (and_from _ _ (le-leb code.start address (omega arith)) (le-leb (address + 4) (code.start + code.length) (omega arith))) in
+    ap (option_map (λ m. big_number 4 (drop (address - m.start) m.first))) is_found
+    ∙ ap (λ at. Some (big_number 4 (drop at code.first))) here
+    ∙ ap (λ bytes. Some (big_number 4 (drop (4 * n) bytes))) first
+    ∙ ap (λ w. Some w) (word_among words n inside fits)

@@ -1,0 +1,29 @@
+-- What a file that can be edited has.
+use Rattle.std.proofs.Common.{◌≡◌, ℕ, ◌+◌, ◌-◌, ◌*◌, ◌/◌, ◌^◌, ◌≤◌, min, List, length, map, Option, Some, None, refl, arith}
+use Rattle.std.specs.Option.{option_map_or}
+use Rattle.eel_base.specs.CodeText.{IsText}
+use Rattle.elf32_sparc.specs.declared.header.ProgramHeader.{ProgramHeader}
+use Rattle.elf32_sparc.specs.Header.{program_headers, loadable, text_header}
+use Rattle.elf32_sparc.specs.FileFault.{fault}
+use Rattle.elf32_sparc.specs.Image.{text_from, text_of, no_text, segment_of, highest_end, image_of}
+use Rattle.elf32_sparc.proofs.Accepted.{Accepted, IsFit, accepted, has_text, text_is_fit}
+
+text_is : (file : List ℕ) → Accepted file → (found : Option ProgramHeader) → text_header (program_headers file) ≡ found → IsText (option_map_or (text_from file) found no_text)
+text_is file ok None none = absurd (has_text file ok none)
+text_is file ok (Some h) found = let fit : IsFit file h = text_is_fit file h ok found in fit.text
+
+pub image_text : (file : List ℕ) → fault file ≡ None → IsText (image_of file).text
+unfolding image_of text_of
+image_text file sound = text_is file (accepted file sound) (text_header (program_headers file)) refl
+
+pub image_room : (file : List ℕ) → (image_of file).room ≡ min (2 ^ 30) (0x80000000 - (image_of file).base)
+unfolding image_of
+image_room file = refl
+
+-- the base is not below the end of any segment
+pub base_above : (file : List ℕ) → highest_end (image_of file).segments ≤ (image_of file).base
+unfolding image_of
+base_above file = rounded (highest_end (map segment_of (loadable (program_headers file))))
+  where
+    rounded : (end : ℕ) → end ≤ (end + 0xffff) / 0x10000 * 0x10000
+    rounded end = omega arith

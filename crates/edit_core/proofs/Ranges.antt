@@ -1,0 +1,217 @@
+-- What laid code has: words, and ranges that notes may have.
+use Rattle.std.proofs.Common.{◌≡◌, ℕ, zero, suc, ◌+◌, ◌-◌, ◌*◌, ◌%◌, ◌^◌, ◌<◌, ◌≤◌, Bool, true, false, ◌&&◌, ◌==◌, cond, nat_lt, nat_le, Option, Some, None, List, [], ◌∷◌, ◌++◌, length, map, refl, ap, sym, ◌∙◌, subst, arith}
+use Rattle.std.specs.Prelude.{slice_get}
+use Rattle.std.specs.List.{list_any, sum_by}
+use Rattle.std.proofs.lemmas.Bool.{and_from, or_left, le-leb, le-ltb, lt-ltb, eq-eqb}
+use Rattle.std.proofs.lemmas.Option.{slice_get_within}
+use Rattle.eel_base.specs.CodeText.{Words, IsText}
+use Rattle.eel_base.specs.declared.numbers.Addr.{Addr}
+use Rattle.elf32_sparc.specs.Notes.{NoteSegment, NoteRange, holds}
+use Rattle.notes.specs.Rules.{is_range, are_ranges}
+use Rattle.cfg_blocks.specs.Blocks.{below}
+use Rattle.cfg_normal.specs.Graph.{Graph}
+use Rattle.cfg_walk.proofs.Lists.{Each, each_at}
+use Rattle.layout.specs.declared.items.Item.{Item}
+use Rattle.layout.specs.declared.items.Item.TheVariants as it
+use Rattle.layout.specs.Laid.{Ascend, IsLaid, IsRangeOf, Open, Placement, Stands, JumpStands, BranchStands, branch_short, branch_long, item_at, item_in, items_in, range_in, range_of, open_in, end_from, piece_words}
+use Rattle.layout.proofs.Places.{pieces_more}
+use Rattle.image_code.specs.Imaged.{TakesWords}
+use Rattle.image_code.specs.Made.{illegal_word, image, own_edges, piece_list, way_along}
+use Rattle.image_code.specs.Parts.{IsGraphOf}
+use Rattle.image_code.proofs.Fit.{count_is, each_index}
+use Rattle.image_code.proofs.Numbers.{own_few}
+use Rattle.edit_core.proofs.Shapes.{IsMark, NoMarks, MarksFirst, IsShaped, all_shaped}
+
+-- ---- ranges one after the other
+
+pub ends_by : (from to : ℕ) (rs : List NoteRange) → Ascend from to rs → from ≤ to
+ends_by from to [] a = a
+ends_by from to (r ∷ rs) a = let e = ends_by r.hi to rs a.2 in let f = a.0 in let l = a.1 in omega arith
+
+begins_by : (from to : ℕ) (rs : List NoteRange) → Ascend from to rs → (n : ℕ) (r : NoteRange) → slice_get rs n ≡ Some r → from ≤ r.lo
+begins_by from to [] a n r e = absurd (cc)
+begins_by from to (x ∷ rs) a zero r e = let same : x ≡ r = cc in subst (λ (z : NoteRange). from ≤ z.lo) same a.0
+begins_by from to (x ∷ rs) a (suc n) r e =
+    let later = begins_by x.hi to rs a.2 n r e in let f = a.0 in let l = a.1 in omega arith
+
+-- a range is found by its first address
+found : (from to : ℕ) (rs : List NoteRange) → Ascend from to rs → (n : ℕ) (r : NoteRange) → slice_get rs n ≡ Some r → range_in rs r.lo ≡ Some r
+found from to [] a n r e = absurd (cc)
+found from to (x ∷ rs) a zero r e =
+    let same : x ≡ r = cc in
+    subst (λ (z : NoteRange). range_in (x ∷ rs) z.lo ≡ Some z) same
+    (ap (λ (b : Bool). cond b (Some x) (range_in rs x.lo)) (and_from (nat_le x.lo x.lo) (nat_lt x.lo x.hi) (le-leb x.lo x.lo (omega arith)) (lt-ltb x.lo x.hi a.1)))
+found from to (x ∷ rs) a (suc n) r e =
+    let later : x.hi ≤ r.lo = begins_by x.hi to rs a.2 n r e in
+    passed (nat_le x.lo r.lo) (nat_lt r.lo x.hi) x (range_in rs r.lo) (le-ltb r.lo x.hi later) ∙ found x.hi to rs a.2 n r e
+  where
+    passed : (b c : Bool) (x : NoteRange) (rest : Option NoteRange) → c ≡ false → cond (b && c) (Some x) rest ≡ rest
+    passed true c x rest failed = ap (λ z. cond z (Some x) rest) failed
+    passed false c x rest failed = refl
+
+-- ---- ranges of whole words
+
+pub record IsWhole (nodes : ℕ) (r : NoteRange) : Type 0 where
+  pub lo : r.lo % 4 ≡ 0
+  pub hi : r.hi % 4 ≡ 0
+  pub address : r.address % 4 ≡ 0
+  pub low : r.address < 2 ^ 31
+  pub node : r.node ≤ nodes
+
+-- there are no more than words
+pub count_ranges : (nodes from to : ℕ) (rs : List NoteRange) → Ascend from to rs → Each (IsWhole nodes) rs → from + 4 * length rs ≤ to
+count_ranges nodes from to [] a w = omega (arith, a)
+count_ranges nodes from to (r ∷ rs) a w =
+    let later = count_ranges nodes r.hi to rs a.2 w.1 in
+    let f = a.0 in let l = a.1 in let lo = w.0.lo in let hi = w.0.hi in omega arith
+
+-- they meet the rules of notes
+pub ranges_rule : (nodes : ℕ) (segment : NoteSegment) (segments : List NoteSegment) (end from to : ℕ) (rs : List NoteRange)
+    → Ascend from to rs → Each (IsWhole nodes) rs → end ≤ from → segment.start ≤ from → to ≤ segment.start + segment.length
+    → are_ranges nodes (segment ∷ segments) end rs ≡ true
+ranges_rule nodes segment segments end from to [] a w e s t = refl
+ranges_rule nodes segment segments end from to (r ∷ rs) a w e s t =
+    let f = a.0 in
+    let l = a.1 in
+    let past : r.hi ≤ to = ends_by r.hi to rs a.2 in
+    let held : list_any (holds r.lo r.hi) (segment ∷ segments) ≡ true =
+    or_left (holds r.lo r.hi segment) (list_any (holds r.lo r.hi) segments)
+    (and_from (nat_le segment.start r.lo) (nat_le r.hi (segment.start + segment.length)) (le-leb segment.start r.lo (omega arith)) (le-leb r.hi (segment.start + segment.length) (omega arith))) in
+    and_from _ _
+    (rw (eq-eqb _ _ w.0.lo, eq-eqb _ _ w.0.hi, eq-eqb _ _ w.0.address, lt-ltb r.lo r.hi l, le-leb end r.lo (omega arith), held, le-leb r.node nodes w.0.node) refl)
+    (ranges_rule nodes segment segments r.hi r.hi to rs a.2 w.1 (omega arith) (omega arith) t)
+
+-- ---- the ranges of laid pieces
+
+-- only the first item of a piece is a Mark
+none_marked : (items : List Item) → NoMarks items → (n : ℕ) (address : Addr) (node : ℕ) → slice_get items n ≡ Some (it.Mark address node) → ⊥
+none_marked [] h n address node e = absurd (cc)
+none_marked (it.Mark a m ∷ items) h n address node e = h
+none_marked (it.Word w ∷ items) h zero address node e = absurd (cc)
+none_marked (it.Jump to ∷ items) h zero address node e = absurd (cc)
+none_marked (it.Branch c to ∷ items) h zero address node e = absurd (cc)
+none_marked (it.EndMark ∷ items) h zero address node e = absurd (cc)
+none_marked (it.Word w ∷ items) h (suc n) address node e = none_marked items h n address node e
+none_marked (it.Jump to ∷ items) h (suc n) address node e = none_marked items h n address node e
+none_marked (it.Branch c to ∷ items) h (suc n) address node e = none_marked items h n address node e
+none_marked (it.EndMark ∷ items) h (suc n) address node e = none_marked items h n address node e
+
+pub record IsHead (nodes : ℕ) (address : Addr) (node n : ℕ) (items : List Item) : Type 0 where
+  pub rest : List Item
+  pub is : items ≡ it.Mark address node ∷ rest
+  pub first : n ≡ 0
+  pub mark : IsMark nodes address node rest
+
+marked_first : (nodes : ℕ) (items : List Item) → MarksFirst nodes items → (n : ℕ) (address : Addr) (node : ℕ)
+    → slice_get items n ≡ Some (it.Mark address node) → IsHead nodes address node n items
+marked_first nodes [] h n address node e = absurd (cc)
+marked_first nodes (it.Mark a m ∷ items) h zero address node e =
+    let same : a ≡ address = cc in
+    let also : m ≡ node = cc in
+    record { rest = items; is = rw (same, also) refl; first = refl; mark = subst (λ z. IsMark nodes z node items) same (subst (λ z. IsMark nodes a z items) also h.0) }
+marked_first nodes (it.Mark a m ∷ items) h (suc n) address node e = absurd (none_marked items h.1 n address node e)
+marked_first nodes (it.Word w ∷ items) h n address node e = absurd (none_marked (it.Word w ∷ items) h n address node e)
+marked_first nodes (it.Jump to ∷ items) h n address node e = absurd (none_marked (it.Jump to ∷ items) h n address node e)
+marked_first nodes (it.Branch c to ∷ items) h n address node e = absurd (none_marked (it.Branch c to ∷ items) h n address node e)
+marked_first nodes (it.EndMark ∷ items) h n address node e = absurd (none_marked (it.EndMark ∷ items) h n address node e)
+
+-- an item that takes words ends behind where it begins
+covers : (base : ℕ) (p : Placement) (x : Item) (a b : ℕ) → TakesWords x → Stands base p x a b → a < b
+covers base p (it.Word w) a b t s = omega (arith, s.0)
+covers base p (it.Branch c to) a b t s = by s
+  where
+    by : {to : ℕ} → BranchStands base p.code c to a b → a < b
+    by (branch_short disp q r says) = omega (arith, q)
+    by (branch_long q says more) = omega (arith, q)
+covers base p (it.Jump to) a b t s = absurd t
+covers base p (it.Mark x m) a b t s = absurd t
+covers base p it.EndMark a b t s = absurd t
+
+module _ (text : Words) (graph : Graph) (is : IsText text) (h : IsGraphOf text graph) (base : ℕ) (p : Placement) (place : ℕ → ℕ → ℕ)
+    (laid : IsLaid (piece_list text graph) base p place) where
+  abbrev pieces : List (List Item)
+  pieces = piece_list text graph
+
+  abbrev count : ℕ
+  count = length graph.blocks.firsts
+
+  some_piece : (k n : ℕ) (x : Item) → (o : Option (List Item)) → slice_get pieces k ≡ o → item_in o n ≡ Some x
+      → (items : List Item) × (slice_get pieces k ≡ Some items) × (slice_get items n ≡ Some x)
+  some_piece k n x None e i = absurd (cc)
+  some_piece k n x (Some items) e i = (items, e, i)
+
+  whole_here : (r : NoteRange) (k : ℕ) (address : Addr) (rest : List Item) → slice_get pieces k ≡ Some (it.Mark address r.node ∷ rest)
+      → IsMark count address r.node rest → r.address ≡ address.0 → r.lo ≡ place k 1 → range_in p.ranges r.lo ≡ Some r → IsWhole count r
+  whole_here r k address rest piece m says lo is_found =
+      let inside : k < length pieces = slice_get_within pieces k _ piece in
+      let item : item_at pieces k 1 ≡ Some m.item = ap (λ o. item_in o 1) piece ∙ ap (λ (xs : List Item). slice_get xs 0) m.is in
+      let stands = laid.items k 1 m.item item in
+      let wide : place k 1 < place k 2 = covers base p m.item (place k 1) (place k 2) m.takes stands in
+      let there = laid.ranges k 1 r.lo m.item item (omega (arith, lo)) (omega (arith, lo, wide)) in
+      let opening : range_of (place k) (open_in (slice_get pieces k) 1)
+      ≡ Some (record { lo = place k 1; hi = place k (end_from rest 1); address = address.0; node = r.node }) = ap (λ o. range_of (place k) (open_in o 1)) piece ∙ opens rest m in
+      let same : r ≡ record { lo = place k 1; hi = place k (end_from rest 1); address = address.0; node = r.node } = some_same (sym is_found ∙ there ∙ opening) in
+      let size : items_in (slice_get pieces k) ≡ suc (length rest) = ap items_in piece in
+      let first = laid.within k 1 inside (omega (arith, size)) in
+      let last = laid.within k (end_from rest 1) inside (omega (arith, size, m.ends)) in
+      record {
+        lo = ap (λ z. z % 4) lo ∙ first.aligned;
+        hi = ap (λ (z : NoteRange). z.hi % 4) same ∙ last.aligned;
+        address = ap (λ z. z % 4) says ∙ m.aligned;
+        low = omega (arith, says, m.low);
+        node = m.inside;
+      }
+    where
+      some_same : {a b : NoteRange} → Some a ≡ Some b → a ≡ b
+      some_same e = cc
+      opens : (xs : List Item) → IsMark count address r.node xs
+          → range_of (place k) (open_in (Some (it.Mark address r.node ∷ xs)) 1)
+          ≡ Some (record { lo = place k 1; hi = place k (end_from xs 1); address = address.0; node = r.node })
+      opens [] m = absurd (let e = m.is in cc)
+      opens (x ∷ xs) m = refl
+
+  whole_at : (n : ℕ) (r : NoteRange) → slice_get p.ranges n ≡ Some r → IsWhole count r
+  whole_at n r e =
+      let m : IsRangeOf pieces place r = laid.marks n r e in
+      let piece = some_piece m.piece m.item (it.Mark m.address r.node) (slice_get pieces m.piece) refl m.mark in
+      let shaped : IsShaped count piece.0 = each_at _ pieces m.piece piece.0 (all_shaped text graph is h) piece.1 in
+      let head = marked_first count piece.0 shaped.mark m.item m.address r.node piece.2 in
+      whole_here r m.piece m.address head.rest (piece.1 ∙ ap (λ (xs : List Item). Some xs) head.is) head.mark m.says
+      (m.lo ∙ ap (λ z. place m.piece (suc z)) head.first) (found base (base + 4 * length p.code) p.ranges laid.ascend n r e)
+
+  pub ranges_whole : Each (IsWhole count) p.ranges
+  ranges_whole = each_index _ p.ranges whole_at
+
+  -- ---- how many words there are
+
+  last_is : (xs : List (List Item)) (x : List Item) → slice_get (xs ++ x ∷ []) (length xs) ≡ Some x
+  last_is [] x = refl
+  last_is (y ∷ xs) x = last_is xs x
+
+  last_piece : (k : ℕ) × (item_at pieces k 0 ≡ Some (it.Word illegal_word))
+  unfolding piece_list
+  last_piece =
+      let xs = map (image text graph) (below (length text.words)) ++ map (way_along text graph) (own_edges graph) in
+      (length xs, ap (λ o. item_in o 0) (last_is xs (it.Word illegal_word ∷ [])))
+
+  pub some_code : 0 < length p.code
+  some_code =
+      let last = last_piece in
+      let stands = laid.items last.0 0 (it.Word illegal_word) last.1 in
+      let word = stands.1 in
+      let l = slice_get_within p.code word.0 illegal_word word.2 in
+      omega (arith, l)
+
+  sum_shaped : (xs : List (List Item)) → Each (IsShaped count) xs → sum_by piece_words xs ≤ 10 * length xs
+  sum_shaped xs each = sums xs each
+    where
+      sums : (xs : List (List Item)) → Each (IsShaped count) xs → sum_by piece_words xs ≤ 10 * length xs
+      sums [] each = omega arith
+      sums (x ∷ xs) each = let here = each.0.words in let later = sums xs each.1 in omega (arith, pieces_more x xs)
+
+  pub few_words : sum_by piece_words pieces ≤ 10 * (3 * length text.words + 1)
+  few_words =
+      let own = own_few text graph h is.some in
+      let c = count_is text graph is h in
+      let s = sum_shaped pieces (all_shaped text graph is h) in
+      omega arith
