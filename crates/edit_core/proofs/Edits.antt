@@ -129,7 +129,7 @@ module _ (original : List ℕ) (limit : length original ≤ 2 ^ 26) (can : CanEd
   code_few : length p.code ≤ 10 * (3 * length (text_of original).words + 1)
   code_few = let f = few_words (text_of original) (graph_in original) text_is graph_is (base_of original) p place code.laid in let s = code.size in omega arith
 
-  two : AreTwo (highest_end (image_of original).segments) (code_segment original p) (page_segment original)
+  two : AreTwo (highest_end (image_of original).segments) (code_segment original p) (page_segment)
   two =
       let f = code_few in
       let base = (accepted-program original can.reads.sound).base in
@@ -150,7 +150,7 @@ module _ (original : List ℕ) (limit : length original ≤ 2 ^ 26) (can : CanEd
 
   held : (notes : List ℕ) → length notes ≤ 2 ^ 30 → HoldsOriginal original (written original (added original p) (entry_of original p) notes)
   held notes few = original_is_held original (added original p) (entry_of original p) notes
-      (can_write original (code_segment original p) (page_segment original) notes can.reads.sound limit two few)
+      (can_write original (code_segment original p) (page_segment) notes can.reads.sound limit two few)
 
   noted : IsNoted (graph_in original) p (notes_on original p)
   noted =
@@ -197,7 +197,7 @@ module _ (original : List ℕ) (limit : length original ≤ 2 ^ 26) (can : CanEd
   notes_few = few_bytes (graph_in original) p (notes_on original p) noted
 
   pub can_be_written : CanWrite original (added original p) (notes_bytes (notes_on original p))
-  can_be_written = can_write original (code_segment original p) (page_segment original) _ can.reads.sound limit two notes_few
+  can_be_written = can_write original (code_segment original p) (page_segment) _ can.reads.sound limit two notes_few
 
   pub holds : HoldsOriginal original (edit_file original p)
   holds = held (notes_bytes (notes_on original p)) notes_few
@@ -207,7 +207,7 @@ module _ (original : List ℕ) (limit : length original ≤ 2 ^ 26) (can : CanEd
 
   module _ (bytes : AreBytes original) where
     numbers : AreNumbers original (added original p) (entry_of original p)
-    numbers = are_numbers original (code_segment original p) (page_segment original) (entry_of original p) _ two bytes entry_low
+    numbers = are_numbers original (code_segment original p) (page_segment) (entry_of original p) _ two bytes entry_low
 
     pub small_file : length (edit_file original p) ≤ 1536 * 2 ^ 20
     small_file =
@@ -227,14 +227,14 @@ module _ (original : List ℕ) (limit : length original ≤ 2 ^ 26) (can : CanEd
           given = bytes;
           code = code;
           bytes = file_is_bytes original (added original p) (entry_of original p) ns bytes
-              (all_two (λ s. AreBytes s.bytes) (code_segment original p) (page_segment original) (words_are_bytes p.code) (All-replicate (λ b. b < 256) page_size 0 (omega arith)))
+              (all_two (λ s. AreBytes s.bytes) (code_segment original p) (page_segment) (words_are_bytes p.code) (All-replicate (λ b. b < 256) page_size 0 (omega arith)))
               (notes_are_bytes (notes_on original p));
           loads = file_loads original (added original p) (entry_of original p) ns can_be_written numbers
-              (can_load (code_segment original p) (page_segment original) _ two);
+              (can_load (code_segment original p) (page_segment) _ two);
           reads = notes_are_read original (added original p) (entry_of original p) ns can_be_written
               ∙ written_back (notes_on original p) (length (edit_file original p)) notes_meet_rules
               (are_words (graph_in original) p (notes_on original p) noted) holds.inside;
           mapped = segments_are_mapped original (added original p) (entry_of original p) ns can_be_written numbers
-              (can_load (code_segment original p) (page_segment original) _ two).filled;
+              (can_load (code_segment original p) (page_segment) _ two).filled;
           entered = entry_is_given original (added original p) (entry_of original p) ns can_be_written numbers;
         }

@@ -57,7 +57,7 @@ module _ (original : List ℕ) (p : Placement) (place : ℕ → ℕ → ℕ) (fi
       let size = is.code.size in
       record {
         room = mapping_added (code_segment original p) ∷ [];
-        editor = mapping_added (page_segment original);
+        editor = mapping_added (page_segment);
         mapped = is.mapped;
         noted = refl;
         inside = all_one (IsInRoom original) (mapping_added (code_segment original p)) (omega arith, omega arith);
@@ -71,7 +71,7 @@ module _ (original : List ℕ) (p : Placement) (place : ℕ → ℕ → ℕ) (fi
       places_say (text_of original) (graph_in original) (base_of original) p place (image_text original is.taken.reads.sound) is_graph is.code.laid n r e word here plain in
       let inside = slice_get_within p.code at.0 (slice_index (text_of original).words word) at.2 in
       ap (word_mapped file) at.1
-      ∙ code_mapped original file p.code (mapping_added (code_segment original p)) (mapping_added (page_segment original) ∷ []) is.mapped is.code.words refl refl refl at.0 inside
+      ∙ code_mapped original file p.code (mapping_added (code_segment original p)) (mapping_added (page_segment) ∷ []) is.mapped is.code.words refl refl refl at.0 inside
       ∙ ap (λ w. Some w) (get_or_from_slice_get p.code at.0 (slice_index (text_of original).words word) 0 at.2)
 
   places_are : All (IsPlace original file) p.ranges

@@ -9,3 +9,5 @@ pub mod Originals
 pub mod Edits
 pub mod Mapped
 pub mod Faithful
+pub mod Room
+pub mod Steps

@@ -1,8 +1,11 @@
 -- What the view of a file has.
-use Rattle.std.proofs.Common.{◌≡◌, ℕ, List, [], refl}
-use Rattle.elf32_sparc.specs.Image.{image_of}
+use Rattle.std.proofs.Common.{◌≡◌, ℕ, ◌≤◌, List, [], None, refl, sym, ap, ◌∙◌, subst}
+use Rattle.elf32_sparc.specs.FileFault.{fault}
+use Rattle.elf32_sparc.specs.Image.{Program, image_of}
 use Rattle.cfg_blocks.specs.Entries.{entered_of}
+use Rattle.cfg_view.specs.declared.View.{View}
 use Rattle.cfg_view.specs.View.{view_of}
+use Rattle.edit_core.specs.Taken.{CanEdit, IsBuilt, bound_of}
 use Rattle.edit_core.specs.Written.{graph_in}
 
 pub view_image : (file : List ℕ) → (view_of file []).image ≡ image_of file
@@ -12,3 +15,13 @@ view_image file = refl
 pub view_graph : (file : List ℕ) → (view_of file []).graph ≡ graph_in file
 unfolding view_of entered_of
 view_graph file = refl
+
+-- what was seen of a file that can be edited
+pub can_edit : (file : List ℕ) (view : View) → view ≡ view_of file [] → None ≡ fault file → IsBuilt view.image.text
+    → bound_of view.image.text ≤ view.image.room → CanEdit file
+can_edit file view is sound built room =
+    let image : view.image ≡ image_of file = ap (λ (v : View). v.image) is ∙ view_image file in
+    record {
+      reads = record { sound = sym sound; built = subst (λ (i : Program). IsBuilt i.text) image built };
+      room = subst (λ (i : Program). bound_of i.text ≤ i.room) image room;
+    }

@@ -3,7 +3,10 @@
 
 ghost use Rattle.edit_core.specs.Whole.{EditsAnswer, KeepsAll};
 
+mod building;
 mod editing;
+mod noting;
+mod segments;
 mod taking;
 
 pub use editing::edit_bytes;

@@ -1,0 +1,72 @@
+//! The segments that are added to a file.
+ghost use Rattle.std.specs.Prelude.{◌≡◌, ◌*◌, ◌^◌, ◌<◌, ◌≤◌, length, replicate, All, IfOk, OnOk};
+ghost use Rattle.elf32_write.specs.Bytes.{words_bytes};
+ghost use Rattle.elf32_write.specs.Headers.{segment_seen};
+ghost use Rattle.edit_core.specs.Written.{code_at, page_segment as page_segment_of};
+
+use byteorder::{BigEndian, ByteOrder};
+use eel_base::{Addr, NoMemory};
+use elf32_sparc::SegFlags;
+use elf32_write::NewSegment;
+use std::alloc::Global;
+
+// PF_R with PF_X, and with PF_W.
+const CODE: SegFlags = SegFlags(5);
+
+const DATA: SegFlags = SegFlags(6);
+
+/// Where the editor's own page stands, and how many bytes it has.
+pub(crate) const EDITOR_PAGE: Addr = Addr(0xffff_f000);
+
+pub(crate) const PAGE_SIZE: u32 = 4096;
+
+/// New code, which can be executed and not written.
+pub(crate) fn code_segment(
+    alloc: Global,
+    base: Addr,
+    code: &[u32],
+) -> Result<NewSegment, NoMemory>
+    requires { 4 * length code.now ≤ 2 ^ 31 }
+    ensures segment { IfOk result (λ s. segment_seen s ≡ code_at base.0 code.now) }
+    ensures words { OnOk result (All (λ word. word < 2 ^ 32) code.now) }
+{
+    Ok(NewSegment {
+        vaddr: base,
+        memsz: 4 * code.len() as u32,
+        flags: CODE,
+        bytes: code_bytes(alloc, code)?,
+    })
+}
+
+// Words as they stand in memory.
+#[tactic(auto, unfolding(elf32_write::specs::Bytes::words_bytes))]
+fn code_bytes(alloc: Global, code: &[u32]) -> Result<Vec<u8>, NoMemory>
+    ensures { IfOk result (λ bytes. bytes.items ≡ words_bytes code.now) }
+{
+    let mut bytes = Vec::new(alloc);
+    for word in code {
+        let mut field = [0; 4];
+        BigEndian::write_u32(&mut field, *word);
+        bytes.extend_from_slice(&field)?;
+    }
+    Ok(bytes)
+}
+
+/// The editor's page, which can be written and not executed.
+pub(crate) fn page_segment(alloc: Global) -> Result<NewSegment, NoMemory>
+    ensures { IfOk result (λ s. segment_seen s ≡ page_segment_of) }
+{
+    Ok(NewSegment {
+        vaddr: EDITOR_PAGE,
+        memsz: PAGE_SIZE,
+        flags: DATA,
+        bytes: zeros(alloc, PAGE_SIZE)?,
+    })
+}
+
+fn zeros(alloc: Global, count: u32) -> Result<Vec<u8>, NoMemory>
+    ensures { IfOk result (λ bytes. bytes.items ≡ replicate count 0) }
+{
+    let bytes = vec![in alloc; 0; count as usize]?;
+    Ok(bytes)
+}
