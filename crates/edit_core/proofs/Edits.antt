@@ -1,6 +1,5 @@
 -- What is written is an edit: its notes meet their rules, and the laws of written files give the rest.
-use Rattle.std.proofs.Common.{◌≡◌, ℕ, zero, suc, ◌+◌, ◌-◌, ◌*◌, ◌%◌, ◌^◌, ◌<◌, ◌≤◌, List, [], ◌∷◌, length, length-take, map, replicate, nat_le, slice_index, Some, Ok, None, inl, inr, refl, ap, sym, ◌∙◌, subst, arith, All}
-use Rattle.std.specs.List.{sum_by, count_by}
+use Rattle.std.proofs.Common.{◌≡◌, ℕ, zero, suc, ◌+◌, ◌-◌, ◌*◌, ◌%◌, ◌^◌, ◌<◌, ◌≤◌, List, [], ◌∷◌, length, length-take, replicate, nat_le, None, inl, inr, refl, ap, ◌∙◌, arith, All}
 use Rattle.std.proofs.lemmas.List.{length-replicate}
 use Rattle.std.proofs.lemmas.List.Sums.{count_by-le-length}
 use Rattle.std.proofs.lemmas.List.Elements.{All-replicate}
@@ -8,7 +7,7 @@ use Rattle.byteorder.specs.Endian.{big_bytes}
 use Rattle.eel_base.specs.CodeText.{IsText}
 use Rattle.elf32_sparc.specs.FileFault.{fault}
 use Rattle.elf32_sparc.specs.Image.{image_of, highest_end}
-use Rattle.elf32_sparc.specs.Notes.{Notes, notes_of, read_notes}
+use Rattle.elf32_sparc.specs.Notes.{Notes}
 use Rattle.elf32_sparc.proofs.Images.{accepted-program}
 use Rattle.notes.specs.Rules.{AreNotes}
 use Rattle.notes.specs.Written.{notes_bytes, notes_words, words_bytes as note_bytes}
@@ -17,7 +16,7 @@ use Rattle.elf32_write.specs.Bytes.{words_bytes}
 use Rattle.elf32_write.specs.Headers.{AddedSegment}
 use Rattle.elf32_write.specs.Conditions.{CanWrite, AreNumbers, CanLoad, HasWords, IsInReach}
 use Rattle.elf32_write.specs.Laws.{AreBytes, HoldsOriginal}
-use Rattle.elf32_write.specs.Written.{delta_in, written}
+use Rattle.elf32_write.specs.Written.{written}
 use Rattle.elf32_write.proofs.Carried.{segments_are_mapped}
 use Rattle.elf32_write.proofs.FileBytes.{file_is_bytes}
 use Rattle.elf32_write.proofs.Laws.{original_is_held, notes_are_read, entry_is_given, size_is_bounded}
@@ -26,8 +25,7 @@ use Rattle.elf32_write.proofs.WordsBytes.{length-words_bytes}
 use Rattle.v8_step.proofs.ValidNumbers.{high_first-bytes, flat_map-bytes}
 use Rattle.cfg_blocks.specs.Blocks.{Blocks, holding_of}
 use Rattle.cfg_normal.proofs.Edges.{edges_in-in}
-use Rattle.layout.specs.Laid.{Placement, IsLaid}
-use Rattle.image_code.specs.Made.{own_edges}
+use Rattle.layout.specs.Laid.{Placement}
 use Rattle.image_code.specs.Parts.{IsGraphOf}
 use Rattle.image_code.proofs.Numbers.{cut_of, own_few}
 use Rattle.edit_core.specs.Taken.{CanEdit}

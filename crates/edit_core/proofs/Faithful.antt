@@ -1,25 +1,21 @@
 -- An edit is faithful.
-use Rattle.std.proofs.Common.{◌≡◌, ℕ, zero, suc, ◌+◌, ◌*◌, ◌^◌, ◌<◌, ◌≤◌, Bool, false, cond, nat_lt, List, [], ◌∷◌, length, map, slice_index, get_or, Some, None, refl, ap, sym, ◌∙◌, subst, arith, All}
+use Rattle.std.proofs.Common.{◌≡◌, ℕ, zero, suc, ◌^◌, ◌<◌, ◌≤◌, Bool, cond, List, [], ◌∷◌, length, map, slice_index, get_or, Some, None, refl, ap, sym, ◌∙◌, arith, All}
 use Rattle.std.specs.Prelude.{slice_get}
 use Rattle.std.proofs.lemmas.Bool.{lt-ltb}
 use Rattle.std.proofs.lemmas.Option.{slice_get-get_or, slice_get_within, get_or_from_slice_get}
-use Rattle.eel_base.specs.CodeText.{IsText, address_of, word_at}
+use Rattle.eel_base.specs.CodeText.{address_of, word_at}
 use Rattle.elf32_sparc.specs.Image.{image_of}
 use Rattle.elf32_sparc.specs.Mapping.{Mapping}
 use Rattle.elf32_sparc.specs.Notes.{NoteRange}
 use Rattle.elf32_write.specs.Laws.{AreBytes, mapping_added}
-use Rattle.v8_decode.specs.Words.{decode_of}
-use Rattle.v8_step.specs.Items.{is_transfer}
 use Rattle.cfg_blocks.specs.Blocks.{holding_of}
 use Rattle.cfg_normal.specs.Graph.{Graph}
-use Rattle.cfg_view.specs.View.{view_of}
 use Rattle.cfg_walk.proofs.Addresses.{word_at-address}
-use Rattle.layout.specs.Laid.{Placement, IsLaid, IsWordAt}
-use Rattle.image_code.specs.Made.{piece_list}
+use Rattle.layout.specs.Laid.{Placement, IsWordAt}
 use Rattle.image_code.specs.Parts.{IsGraphOf}
 use Rattle.image_code.proofs.Fit.{places_say, pieces_fit}
 use Rattle.edit_core.specs.Taken.{CanEdit}
-use Rattle.edit_core.specs.Faithful.{IsFaithful, IsWhole, HasGraph, HasPages, IsInRoom, IsPlace, note_edge, word_mapped}
+use Rattle.edit_core.specs.Faithful.{IsFaithful, HasGraph, HasPages, IsInRoom, IsPlace, note_edge, word_mapped}
 use Rattle.edit_core.specs.Written.{IsNewCode, IsEdit, EditsRunAlike, text_of, given_of, graph_in, base_of, code_segment, page_segment, notes_on, edit_file}
 use Rattle.edit_core.proofs.Originals.{image_text}
 use Rattle.edit_core.proofs.Mapped.{code_mapped}

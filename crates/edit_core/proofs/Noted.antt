@@ -1,6 +1,6 @@
 -- The notes on an edit meet their rules.
-use Rattle.std.proofs.Common.{◌≡◌, ℕ, zero, suc, ◌+◌, ◌-◌, ◌*◌, ◌%◌, ◌^◌, ◌<◌, ◌≤◌, Bool, true, false, ◌&&◌, ◌==◌, nat_lt, nat_le, Option, Some, None, List, [], ◌∷◌, ◌++◌, length, length-append, map, get_or, IsTrue, refl, ap, sym, ◌∙◌, subst, arith, All}
-use Rattle.std.specs.Prelude.{slice_get, slice_index}
+use Rattle.std.proofs.Common.{◌≡◌, ℕ, zero, suc, ◌+◌, ◌*◌, ◌%◌, ◌^◌, ◌<◌, ◌≤◌, true, Option, Some, None, List, [], ◌∷◌, ◌++◌, length, length-append, map, refl, ap, ◌∙◌, arith, All}
+use Rattle.std.specs.Prelude.{slice_index}
 use Rattle.std.specs.List.{flat_map}
 use Rattle.std.proofs.lemmas.Grind.{get_or_default_zero}
 use Rattle.std.proofs.lemmas.Bool.{and_from, le-leb, lt-ltb, eq-eqb}
@@ -9,8 +9,8 @@ use Rattle.byteorder.specs.Endian.{big_bytes}
 use Rattle.byteorder.specs.Numbers.{length-bytes_high_first}
 use Rattle.elf32_write.proofs.WordsBytes.{length-flat_map}
 use Rattle.eel_base.specs.CodeText.{Words, IsText}
-use Rattle.elf32_sparc.specs.Notes.{Notes, NoteSegment, NoteEdge, NoteRange, follows}
-use Rattle.notes.specs.Rules.{AreNotes, are_segments, are_blocks, are_edges, are_ranges}
+use Rattle.elf32_sparc.specs.Notes.{Notes, NoteRange, follows}
+use Rattle.notes.specs.Rules.{AreNotes, are_segments, are_blocks, are_edges}
 use Rattle.notes.specs.Laws.{AreWords}
 use Rattle.notes.specs.Written.{words_bytes, notes_bytes, notes_words, segment_words, edge_words, range_words}
 use Rattle.cfg_blocks.specs.declared.EdgeKind.{EdgeKind}

@@ -1,5 +1,5 @@
 -- What laid code has: words, and ranges that notes may have.
-use Rattle.std.proofs.Common.{◌≡◌, ℕ, zero, suc, ◌+◌, ◌-◌, ◌*◌, ◌%◌, ◌^◌, ◌<◌, ◌≤◌, Bool, true, false, ◌&&◌, ◌==◌, cond, nat_lt, nat_le, Option, Some, None, List, [], ◌∷◌, ◌++◌, length, map, refl, ap, sym, ◌∙◌, subst, arith}
+use Rattle.std.proofs.Common.{◌≡◌, ℕ, zero, suc, ◌+◌, ◌*◌, ◌%◌, ◌^◌, ◌<◌, ◌≤◌, Bool, true, false, ◌&&◌, cond, nat_lt, nat_le, Option, Some, None, List, [], ◌∷◌, ◌++◌, length, map, refl, ap, sym, ◌∙◌, subst, arith}
 use Rattle.std.specs.Prelude.{slice_get}
 use Rattle.std.specs.List.{list_any, sum_by}
 use Rattle.std.proofs.lemmas.Bool.{and_from, or_left, le-leb, le-ltb, lt-ltb, eq-eqb}
@@ -7,13 +7,13 @@ use Rattle.std.proofs.lemmas.Option.{slice_get_within}
 use Rattle.eel_base.specs.CodeText.{Words, IsText}
 use Rattle.eel_base.specs.declared.numbers.Addr.{Addr}
 use Rattle.elf32_sparc.specs.Notes.{NoteSegment, NoteRange, holds}
-use Rattle.notes.specs.Rules.{is_range, are_ranges}
+use Rattle.notes.specs.Rules.{are_ranges}
 use Rattle.cfg_blocks.specs.Blocks.{below}
 use Rattle.cfg_normal.specs.Graph.{Graph}
 use Rattle.cfg_walk.proofs.Lists.{Each, each_at}
 use Rattle.layout.specs.declared.items.Item.{Item}
 use Rattle.layout.specs.declared.items.Item.TheVariants as it
-use Rattle.layout.specs.Laid.{Ascend, IsLaid, IsRangeOf, Open, Placement, Stands, JumpStands, BranchStands, branch_short, branch_long, item_at, item_in, items_in, range_in, range_of, open_in, end_from, piece_words}
+use Rattle.layout.specs.Laid.{Ascend, IsLaid, IsRangeOf, Placement, Stands, BranchStands, branch_short, branch_long, item_at, item_in, items_in, range_in, range_of, open_in, end_from, piece_words}
 use Rattle.layout.proofs.Places.{pieces_more}
 use Rattle.image_code.specs.Imaged.{TakesWords}
 use Rattle.image_code.specs.Made.{illegal_word, image, own_edges, piece_list, way_along}

@@ -1,5 +1,5 @@
 -- Each piece that is made: it takes few words, and if it has a Mark, begins with it and ends it.
-use Rattle.std.proofs.Common.{◌≡◌, ℕ, zero, suc, ◌+◌, ◌*◌, ◌%◌, ◌^◌, ◌<◌, ◌≤◌, true, false, ◌==◌, Some, List, [], ◌∷◌, ◌++◌, length, map, refl, subst, arith}
+use Rattle.std.proofs.Common.{◌≡◌, ℕ, suc, ◌+◌, ◌%◌, ◌^◌, ◌<◌, ◌≤◌, ◌==◌, Some, List, [], ◌∷◌, ◌++◌, length, map, refl, subst, arith}
 use Rattle.std.specs.Prelude.{nat_lt, slice_index}
 use Rattle.std.proofs.lemmas.Bool.{cond_both}
 use Rattle.eel_base.specs.CodeText.{Words, IsText, address_of}

@@ -1,7 +1,7 @@
 -- What the parts of an edit give it.
-use Rattle.std.proofs.Common.{◌≡◌, ℕ, ◌+◌, ◌-◌, ◌*◌, ◌^◌, ◌<◌, ◌≤◌, min, List, length, map, refl, sym, subst, arith, All}
+use Rattle.std.proofs.Common.{◌≡◌, ℕ, ◌+◌, ◌-◌, ◌*◌, ◌^◌, ◌<◌, ◌≤◌, min, List, length, refl, sym, subst, arith, All}
 use Rattle.std.proofs.lemmas.List.{length-map}
-use Rattle.eel_base.specs.CodeText.{Words, IsText}
+use Rattle.eel_base.specs.CodeText.{IsText}
 use Rattle.eel_base.specs.declared.numbers.Addr.{Addr}
 use Rattle.elf32_sparc.specs.Image.{Program, image_of}
 use Rattle.elf32_sparc.proofs.Images.{accepted-program}

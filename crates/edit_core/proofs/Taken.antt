@@ -1,5 +1,5 @@
 -- What is built.
-use Rattle.std.proofs.Common.{◌≡◌, ℕ, ◌<◌, true, length}
+use Rattle.std.proofs.Common.{◌≡◌, true}
 use Rattle.std.specs.Prelude.{slice_index}
 use Rattle.eel_base.specs.CodeText.{Words}
 use Rattle.v8_decode.specs.declared.Instr.{Instr}

@@ -1,5 +1,4 @@
-use Rattle.std.proofs.Common.{◌≡◌, ◌^◌, ◌+◌, ◌*◌, ◌≤◌, length, arith}
-use Rattle.layout.specs.Laid.{long_bytes}
+use Rattle.std.proofs.Common.{length}
 use Rattle.image_code.proofs.Fit.{pieces_fit}
 use Rattle.edit_core.proofs.Room.{never_cramped}
 use Rattle.edit_core.proofs.building.new_code.Goals as goal

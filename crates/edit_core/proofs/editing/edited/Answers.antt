@@ -1,6 +1,5 @@
-use Rattle.std.proofs.Common.{◌≡◌, ℕ, List, [], ◌∷◌, sym, ap, refl, ◌∙◌}
-use Rattle.elf32_write.specs.Headers.{AddedSegment}
-use Rattle.edit_core.proofs.Steps.{view_text, view_graph, view_low, view_words, code_is, entry_inside, code_low}
+use Rattle.std.proofs.Common.{refl, ◌∙◌}
+use Rattle.edit_core.proofs.Steps.{view_text, view_low, view_words, code_is, entry_inside}
 use Rattle.edit_core.proofs.Edits.{notes_meet_rules, can_be_written}
 use Rattle.edit_core.proofs.editing.edited.Goals as goal
 
