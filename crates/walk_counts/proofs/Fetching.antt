@@ -18,9 +18,9 @@ use Rattle.v8_memory.specs.Segments.{region_of}
 use Rattle.v8_step.specs.Valid.{AreBytes}
 use Rattle.v8_process.specs.Start.{start_memory, start_of, stack_region, program_name}
 use Rattle.v8_process.proofs.Fetched.{text_is_fetched}
-use Rattle.cfg_walk.specs.Files.{OnlyTextIsFetched}
-use Rattle.cfg_walk.proofs.Addresses.{IsWord, word_at-some}
-use Rattle.cfg_walk.proofs.Texts.{HasText, text_found, text_from-count, text_from-start}
+use Rattle.walk_counts.specs.Files.{OnlyTextIsFetched}
+use Rattle.cfg_blocks.proofs.Targets.{IsWord, word_at-some}
+use Rattle.walk_counts.proofs.Texts.{HasText, text_found, text_from-count, text_from-start}
 
 -- ---- the text's region is the only code
 

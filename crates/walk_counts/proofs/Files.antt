@@ -12,15 +12,16 @@ use Rattle.flows.specs.Walks.{IsWalk}
 use Rattle.cfg_blocks.specs.Blocks.{blocks_of}
 use Rattle.cfg_normal.specs.Graph.{graph_of, node_of}
 use Rattle.cfg_walk.specs.Matches.{BeginsAt}
-use Rattle.cfg_walk.specs.Files.{WalksOfFilesMatch}
-use Rattle.cfg_walk.specs.Counts.{CountsAreEnough, ExecutionsOfFilesAreFlows, links_of, node_number}
-use Rattle.cfg_walk.proofs.Texts.{HasText, text_found, text_from-start}
-use Rattle.cfg_walk.proofs.Fetching.{only_text_is_fetched}
+use Rattle.walk_counts.specs.Files.{WalksOfFilesMatch}
+use Rattle.cfg_walk.specs.Numbers.{node_number}
+use Rattle.walk_counts.specs.Counts.{CountsAreEnough, ExecutionsOfFilesAreFlows, links_of}
+use Rattle.walk_counts.proofs.Texts.{HasText, text_found, text_from-start}
+use Rattle.walk_counts.proofs.Fetching.{only_text_is_fetched}
 use Rattle.cfg_walk.proofs.Walks.{walks_match}
 use Rattle.cfg_normal.proofs.Edges.{node_of-in}
-use Rattle.cfg_walk.proofs.Links.{links_are_a_graph, number_inside}
+use Rattle.walk_counts.proofs.Links.{links_are_a_graph, number_inside}
 use Rattle.cfg_walk.proofs.Cut.{cut}
-use Rattle.cfg_walk.proofs.Paths.{executions_are_flows, walks_are_paths}
+use Rattle.walk_counts.proofs.Paths.{executions_are_flows, walks_are_paths}
 
 -- the entry is the address of a word
 record IsEntry (text : Words) (entry : ℕ) : Type 0 where

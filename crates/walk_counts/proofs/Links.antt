@@ -1,12 +1,12 @@
 -- The plain graph of a flow graph: both ends of each edge are nodes.
-use Rattle.std.proofs.Common.{◌≡◌, ℕ, zero, suc, ◌+◌, ◌<◌, [], length, refl, ap, arith}
+use Rattle.std.proofs.Common.{◌≡◌, ℕ, zero, suc, ◌+◌, ◌<◌, [], length, refl, arith}
 use Rattle.cfg_blocks.specs.Blocks.{Blocks}
 use Rattle.cfg_normal.specs.declared.Node.{Node}
 use Rattle.cfg_normal.specs.declared.Node.TheVariants.{Block, X}
 use Rattle.cfg_normal.specs.Graph.{IsEdgeIn, IsNodeIn, graph_of, edges_in}
 use Rattle.cfg_normal.proofs.Edges.{edges_in-in}
-use Rattle.cfg_walk.proofs.Edges.{block}
-use Rattle.cfg_walk.specs.Counts.{LinksAreAGraph, NodesAreApart, edge_at, node_number}
+use Rattle.cfg_walk.specs.Numbers.{node_number}
+use Rattle.walk_counts.specs.Counts.{LinksAreAGraph, edge_at}
 
 pub number_inside : (b : Blocks) (node : Node) → IsNodeIn b node
     → node_number (graph_of b) node < length b.firsts + 1
@@ -27,9 +27,3 @@ pub links_are_a_graph : LinksAreAGraph
 links_are_a_graph b e l =
     let h = edge_inside b e (length b.firsts) refl l in
     (number_inside b _ h.from, number_inside b _ h.to)
-
-pub nodes_are_apart : NodesAreApart
-nodes_are_apart b (Block one) (Block other) h k e = ap block e
-nodes_are_apart b (Block one) X h k e = absurd (omega (arith, h, e))
-nodes_are_apart b X (Block other) h k e = absurd (omega (arith, k, e))
-nodes_are_apart b X X h k e = refl
