@@ -36,9 +36,10 @@ use Rattle.cfg_normal.specs.declared.Slot.{Slot as Carried}
 use Rattle.cfg_normal.specs.declared.Slot.TheVariants as carried
 use Rattle.cfg_normal.specs.Graph.{Graph, node_of, edge_of, edges_in, runs_slot, slot_behind, slot_on}
 use Rattle.cfg_walk.specs.Walk.{Point, point_of, completed, edge_from, gone, instr_at, node_after, same_kind, same_node, unless_ended, way_of}
-use Rattle.cfg_walk.specs.Counts.{node_number}
+use Rattle.cfg_walk.specs.Numbers.{node_number}
 use Rattle.cfg_walk.specs.Matches.{Begins, IsCarried, IsOnItsWay, Matches, MatchesBy}
-use Rattle.cfg_walk.proofs.Addresses.{IsWord, word_at-address, word_at-some, next_word}
+use Rattle.cfg_blocks.proofs.Targets.{IsWord, word_at-some}
+use Rattle.cfg_walk.proofs.Addresses.{word_at-address, next_word}
 use Rattle.cfg_walk.proofs.Cut.{IsCut, cut}
 use Rattle.cfg_walk.proofs.Holding.{first_held}
 use Rattle.cfg_walk.proofs.Points.{Stands, jumps_to, passes}

@@ -320,7 +320,8 @@ transfer_in_untaken_slot_ends : (run (first_of transfer_in_untaken_slot) 2).endi
 unfolding decode_of branch_or_sethi arithmetic memory step_of act alu_step branch_step call_step jump_step load_step store_step ldstub_step swap_step save_step restore_step system_call trap_step alu_of holds_of fetch_of bytes_at with_bytes
 transfer_in_untaken_slot_ends = refl
 
--- six SAVEs save no window, and neither does the one that saves the first; save_to_nowhere ends at the eighth
+-- Six SAVEs make seven windows valid, and save none. The seventh saves the first window, which alone has a %sp; the
+-- eighth has to save the second, and ends save_to_nowhere.
 seven_saves_go_on : (run (first_of save_to_nowhere) 7).ending ≡ None
 unfolding decode_of branch_or_sethi arithmetic memory step_of act alu_step branch_step call_step jump_step load_step store_step ldstub_step swap_step save_step restore_step system_call trap_step alu_of holds_of fetch_of bytes_at with_bytes
 seven_saves_go_on = refl
