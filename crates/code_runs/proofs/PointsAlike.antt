@@ -167,11 +167,11 @@ module _ (notes : Notes) (s u : State) (rs : AreRegisters s.registers) (ru : Are
   judged_same (i.Swap rd rs1 op2) h apart =
       subst (λ (z : ℕ). AllApart (pages_of notes) (aligned_span 4 z 4))
       (sum_same rs1 op2 (same_first (reg rs1 ++ op2_parts op2) (reg rd) s u h.1)) apart
-  judged_same (i.Save rd rs1 op2) h apart = judged_alike (pages_of notes) (i.Save rd rs1 op2) s u
+  judged_same (i.Save rd rs1 op2) h apart = judged_alike notes (i.Save rd rs1 op2) s u
       (twins_from (pages_of notes) s u rs ru e w (h.0 refl)) apart
-  judged_same (i.Restore rd rs1 op2) h apart = judged_alike (pages_of notes) (i.Restore rd rs1 op2) s u
+  judged_same (i.Restore rd rs1 op2) h apart = judged_alike notes (i.Restore rd rs1 op2) s u
       (twins_from (pages_of notes) s u rs ru e w (h.0 refl)) apart
-  judged_same (i.Ticc cond rs1 op2) h apart = judged_alike (pages_of notes) (i.Ticc cond rs1 op2) s u
+  judged_same (i.Ticc cond rs1 op2) h apart = judged_alike notes (i.Ticc cond rs1 op2) s u
       (twins_from (pages_of notes) s u rs ru e w (h.0 refl)) apart
   judged_same (i.Sethi rd imm22) h apart = apart
   judged_same (i.Branch cond annul disp22) h apart = apart

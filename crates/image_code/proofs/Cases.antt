@@ -454,7 +454,7 @@ plains_visit g l base p place f node x t h here c = visits g l base p place f h 
 -- an instruction judges the same bytes wherever it stands
 judged_moved : (notes : Notes) (x : Point) (t : State) (instr : Instr) → AllApart (pages_of notes) (judged_by (at_point x t) instr)
     → AllApart (pages_of notes) (judged_by t instr)
-judged_moved notes x t instr apart = judged_alike (pages_of notes) instr (at_point x t) t (record {
+judged_moved notes x t instr apart = judged_alike notes instr (at_point x t) t (record {
   registers = refl;
   codes = refl;
   y = refl;

@@ -41,7 +41,7 @@ twins_ready notes instr s t live live' registers registers' h apart = record {
   world = same_world (pages_of notes) s t h;
   items = (λ _ item _. twins_same (pages_of notes) s t h item, twins_parts notes s t h (reads_of instr));
   first_apart = apart;
-  second_apart = judged_alike (pages_of notes) instr s t h apart;
+  second_apart = judged_alike notes instr s t h apart;
 }
 
 twins_after : (notes : Notes) (instr : Instr) (s t s' t' : State) → AreTwins (pages_of notes) s t

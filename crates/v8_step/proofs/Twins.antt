@@ -79,6 +79,18 @@ pub twin_register : (pages : List Span) (s t : State) (r : ℕ) → AreTwins pag
 twin_register pages s t r h =
     ap (λ z. register_in z s.window r) h.registers ∙ ap (λ z. register_in t.registers z r) h.window
 
+-- what is told by the number and the arguments of a system call
+pub same_arguments : {A : Type 0} (pages : List Span) (s t : State) (f : ℕ → ℕ → ℕ → ℕ → A) → AreTwins pages s t
+    → f (register_of s 1) (register_of s 8) (register_of s 9) (register_of s 10)
+    ≡ f (register_of t 1) (register_of t 8) (register_of t 9) (register_of t 10)
+same_arguments pages s t f h =
+    rw (
+      twin_register pages s t 1 h,
+      twin_register pages s t 8 h,
+      twin_register pages s t 9 h,
+      twin_register pages s t 10 h,
+    ) refl
+
 pub twin_sum : (pages : List Span) (s t : State) (rs1 : ℕ) (op2 : Op2) → AreTwins pages s t
     → sum_of s rs1 op2 ≡ sum_of t rs1 op2
 twin_sum pages s t rs1 op2 h =
@@ -341,14 +353,7 @@ trap_by pages s t n true call h apart =
     subst (λ (z : ℕ). AreTwins pages (spill_many (s.valid - 1) s) (spill_many (z - 1) t)) h.valid
     (twins_spills pages (s.valid - 1) s t h apart)
 trap_by pages s t n false true h apart =
-    let f : system_call t (register_of s 1) (register_of s 8) (register_of s 9) (register_of s 10) ≡ system_step t =
-    rw (
-      twin_register pages s t 1 h,
-      twin_register pages s t 8 h,
-      twin_register pages s t 9 h,
-      twin_register pages s t 10 h,
-    ) refl in
-    subst (λ (z : State). AreTwins pages (system_step s) z) f
+    subst (λ (z : State). AreTwins pages (system_step s) z) (same_arguments pages s t (system_call t) h)
     (twins_call pages s t (register_of s 1) (register_of s 8) (register_of s 9) (register_of s 10) h apart)
 trap_by pages s t n false false h apart = twins_ended pages s t (Trap (trap_instruction n)) h
 
