@@ -1,17 +1,14 @@
 -- What a run of a written file rests on, and what follows for it as a whole.
 use Rattle.std.specs.Prelude.{◌≡◌, ℕ, zero, suc, ◌<◌, ◌≤◌, ◌⊎◌, List, Option, Some, None}
 use Rattle.eel_base.specs.CodeText.{IsText}
-use Rattle.elf32_sparc.specs.Notes.{Notes, node_at}
+use Rattle.elf32_sparc.specs.Notes.{node_at}
 use Rattle.v8_decode.specs.declared.Instr.{Instr}
-use Rattle.v8_memory.specs.Spans.{Span, AllApart}
-use Rattle.v8_windows.specs.Registers.{AreRegisters}
 use Rattle.v8_step.specs.declared.Ending.{Ending}
 use Rattle.v8_step.specs.State.{State}
-use Rattle.v8_step.specs.Step.{on_word, puts_on_word}
 use Rattle.v8_step.specs.Run.{run, run_puts}
 use Rattle.v8_step.specs.Items.{Item, IsItem, IsSameAt}
 use Rattle.v8_step.specs.Alike.{IsSameWorld}
-use Rattle.v8_step.specs.Needed.{ReadsIn, WritesIn, IsNeeded, judged_in}
+use Rattle.v8_step.specs.Needed.{ReadsIn, WritesIn, IsNeeded}
 use Rattle.v8_step.specs.Valid.{IsValid}
 use Rattle.v8_step.specs.Visits.{visit_of, pages_of}
 use Rattle.v8_step.specs.Follows.{IsFollowed}
