@@ -1,8 +1,8 @@
 -- A restored original, by its status.
-use Rattle.std.proofs.Common.{◌≡◌, ℕ, inl, inr, List, [], refl, ap, ◌∙◌, lit≤}
+use Rattle.std.proofs.Common.{◌≡◌, ℕ, inl, inr, List, [], ap, ◌∙◌, lit≤}
 use Rattle.eel_base.specs.Outside.{IsMissing, appended}
 use Rattle.eel.specs.Outcome.{Outcome, NoNotes, BadNotes, OutOfMemory, status_of, line_of}
-use Rattle.eel.specs.Answers.Shared.{Store, Outside, with_err, written_limit}
+use Rattle.eel.specs.Answers.Shared.{Store, Outside, written_limit}
 use Rattle.eel.specs.Answers.Restore.{Restores, unread, refused, put, IsRestored, IsNotRestored, restore_means}
 use Rattle.eel.proofs.Later.{appended-nil}
 use Rattle.eel.proofs.Meanings.{AnyRose, IsByStatus, IsBad, bad, refusal_is_bad, unread_not_done, unread_failed, put_done, put_refused, put_failed}
