@@ -54,6 +54,8 @@ def edits():
         yield eel(f'edit {name} edited plain', 0)
         if program is THREE_WORDS:
             yield 'same edited three_words.edited', b''
+        yield eel('restore edited restored', 0)
+        yield f'same restored {name}', b''
         yield eel(f'run {name}', 0, *ran)
         yield eel(f'run edited', 0, *ran)
 
@@ -65,6 +67,7 @@ def words():
     yield 'hold newline_count', b''
     yield 'input newline_count.input', b''
     for line in ['', 'help', 'edit three_words out', 'edit three_words out profile', 'show',
+            'restore', 'restore three_words', 'restore three_words out out',
             'show three_words three_words', 'run', 'run three_words -q', 'run three_words -n',
             'run three_words -n 0x1', 'run three_words -n 18446744073709551616',
             'run three_words -n 1 -n 2', 'run three_words x']:
@@ -78,6 +81,27 @@ def words():
     yield eel(most, 0, err=b'stopped 0\n')
     yield eel(most + ' x', 64, err=BAD_WORDS)
     yield eel('show three_words', 0, LISTING)
+
+
+def broken():
+    """three_words edited, with notes that name a tool that there isn't, in the word at 8."""
+    file = bytearray(written(THREE_WORDS.file()))
+    notes_at, = struct.unpack_from('>I', file, 4040)
+    file[notes_at + 8:notes_at + 12] = struct.pack('>I', 3)
+    return bytes(file)
+
+
+def restores():
+    """Files of which the original can't be told."""
+    yield 'hold three_words', b''
+    yield 'hold three_words.broken', b''
+    yield eel('restore three_words out', 65, err=b'eel: three_words: no notes\n')
+    yield eel('restore three_words.broken out', 65, err=b'eel: three_words.broken: bad notes at 8\n')
+    yield eel('restore missing out', 74, err=DEVICE_FAULT)
+    yield eel('run out', 74, err=DEVICE_FAULT)
+    yield 'hold three_words.edited', b''
+    yield eel('restore three_words.edited three_words.edited', 0)
+    yield 'same three_words.edited three_words', b''
 
 
 def refusals():
@@ -113,12 +137,13 @@ def refusals():
     yield eel('edit other out plain', 74, err=b'eel:')
 
 
-SESSIONS = {'edits': list(edits()), 'words': list(words()), 'refusals': list(refusals())}
+SESSIONS = {'edits': list(edits()), 'words': list(words()), 'restores': list(restores()), 'refusals': list(refusals())}
 
 
 def files():
     """Scripts, and the files that they name besides the programs."""
     yield 'three_words.edited', written(THREE_WORDS.file())
+    yield 'three_words.broken', broken()
     yield ARGUMENT.name, ARGUMENT.file()
     yield 'cramped', cramped()
     for name, lines in SESSIONS.items():

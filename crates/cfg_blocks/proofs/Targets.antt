@@ -1,12 +1,12 @@
 -- Where a transfer of a text leads to a word, the text has that word.
-use Rattle.std.proofs.Common.{◌≡◌, ℕ, ◌-◌, ◌<◌, ◌≤◌, ◌&&◌, ◌==◌, nat_le, nat_lt, List, length, map, Option, Some, None, IfSome, ◌⊎◌, inl, inr, arith}
-use Rattle.std.specs.Prelude.{◌/◌, ◌%◌, slice_index}
+use Rattle.std.proofs.Common.{◌≡◌, ℕ, ◌<◌, ◌≤◌, ◌==◌, List, length, map, Option, Some, None, IfSome, ◌⊎◌, inl, inr, refl, arith}
+use Rattle.std.specs.Prelude.{slice_index}
 use Rattle.std.specs.List.{All}
 use Rattle.std.proofs.Math.ListN.{get_or-eq_default}
 use Rattle.std.proofs.lemmas.Bool.{cases_lt, cond_both}
 use Rattle.std.proofs.lemmas.Bool.Decides.{nat_tests}
 use Rattle.std.proofs.lemmas.List.Elements.{All-get_or, All-map}
-use Rattle.eel_base.specs.CodeText.{Words, numbered, target_of, word_at}
+use Rattle.eel_base.specs.CodeText.{Words, address_of, numbered, target_of, word_at}
 use Rattle.v8_decode.specs.declared.Instr.{Instr}
 use Rattle.v8_decode.specs.declared.Instr.TheVariants as i
 use Rattle.v8_decode.specs.Words.{decode_of}
@@ -19,12 +19,21 @@ use Rattle.cfg_blocks.specs.Marks.{block_end_in, end_in, word_ends}
 abbrev IsWithin : Words → Option ℕ → Type 0
 IsWithin text to = IfSome (numbered to) (λ word. word.0 < length text.words)
 
+-- the address of a word that the text has
+pub record IsWord (text : Words) (address word : ℕ) : Type 0 where
+  pub within : word < length text.words
+  pub is : address ≡ address_of text word
+
+pub word_at-some : (text : Words) (address word : ℕ) → word_at text address ≡ Some word
+    → IsWord text address word
+word_at-some text address word e = record { within = grind (arith, nat_tests); is = grind (arith, nat_tests) }
+
 word_at-within : (text : Words) (address : ℕ) → IsWithin text (word_at text address)
-word_at-within text address =
-    let word = (address - text.start) / 4 in
-    cond_both
-    (nat_le text.start address && ((address - text.start) % 4 == 0) && nat_lt word (length text.words))
-    (Some word) None (IsWithin text) (λ h. grind (arith, nat_tests)) (λ h. tt)
+word_at-within text address = by (word_at text address) refl
+  where
+    by : (o : Option ℕ) → word_at text address ≡ o → IsWithin text o
+    by None e = tt
+    by (Some word) e = (word_at-some text address word e).within
 
 end_by-within : (text : Words) (word : ℕ) (instr : Instr)
     → TargetsWithin (length text.words) (end_by text word instr)

@@ -10,8 +10,4 @@ pub mod Points
 pub mod Transfers
 pub mod States
 pub mod Walks
-pub mod Texts
-pub mod Fetching
-pub mod Files
-pub mod Links
-pub mod Paths
+pub mod Numbers

@@ -23,7 +23,8 @@ use Rattle.cfg_walk.specs.Matches.{IsOnItsWay, MatchesBy}
 use Rattle.cfg_walk.proofs.Holding.{Leads}
 use Rattle.cfg_walk.proofs.Cut.{IsCut}
 use Rattle.cfg_walk.proofs.Ways.{IsOne}
-use Rattle.cfg_walk.proofs.Addresses.{IsWord, word_at-address, word_at-some, next_address, next_word, second_word}
+use Rattle.cfg_blocks.proofs.Targets.{IsWord, word_at-some}
+use Rattle.cfg_walk.proofs.Addresses.{word_at-address, next_address, next_word, second_word}
 use Rattle.cfg_walk.proofs.Edges.{block, leads_along}
 use Rattle.cfg_walk.proofs.Leaving.{node_is, straight_on, transfer_ends, way_found}
 use Rattle.cfg_walk.proofs.Slots.{LeadsIfThere, on_its_way}

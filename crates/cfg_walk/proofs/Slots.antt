@@ -16,7 +16,8 @@ use Rattle.cfg_walk.specs.Matches.{Begins, IsCarried, IsOnItsWay}
 use Rattle.cfg_walk.proofs.Holding.{Leads, in_held, first_held}
 use Rattle.cfg_walk.proofs.Cut.{IsCut}
 use Rattle.cfg_walk.proofs.Ways.{IsOne}
-use Rattle.cfg_walk.proofs.Addresses.{word_at-address, word_at-some}
+use Rattle.cfg_blocks.proofs.Targets.{word_at-some}
+use Rattle.cfg_walk.proofs.Addresses.{word_at-address}
 use Rattle.cfg_walk.proofs.Edges.{block, landing_found, leads_along, out_to}
 use Rattle.cfg_walk.proofs.Leaving.{here, is_in, node_is, transfer_ends, way_found}
 

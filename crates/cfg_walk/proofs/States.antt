@@ -29,7 +29,7 @@ use Rattle.cfg_normal.specs.Graph.{Graph, graph_of, node_of}
 use Rattle.cfg_walk.specs.Walk.{point_of, instr_at, node_after, slot_left, way_of}
 use Rattle.cfg_walk.specs.Matches.{FetchesOnly, IsOnItsWay, MatchesBy, Matches}
 use Rattle.cfg_walk.proofs.Cut.{IsCut}
-use Rattle.cfg_walk.proofs.Addresses.{word_at-some}
+use Rattle.cfg_blocks.proofs.Targets.{word_at-some}
 use Rattle.cfg_walk.proofs.Slots.{out_of_slot}
 use Rattle.cfg_walk.proofs.Points.{Stands, StepsTo, straight_step}
 use Rattle.cfg_walk.proofs.Transfers.{always_annulled, untaken_annulled, taken_delayed, untaken_delayed, call_delayed, jump_delayed}

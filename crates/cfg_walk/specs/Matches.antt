@@ -61,10 +61,15 @@ pub record BeginsAt (text : Words) (entry : ℕ) (s0 : State) : Type 0 where
   pub npc : s0.npc ≡ address_of text entry + 4
   pub slot : s0.slot ≡ NoSlot
 
--- The walk of a run over the graph of its text matches the run at each step, as long as that goes on, whatever words
--- lead besides.
+-- what holds of the walk of each run over the graph of its text, whatever words lead besides
+abbrev pub OfEachRun : (Words → Graph → ℕ → State → ℕ → Type 0) → Type 0
+OfEachRun Holds = (text : Words) (given : List ℕ) (entry : ℕ) (s0 : State) (n : ℕ) → IsText text
+    → FetchesOnly text s0 → BeginsAt text entry s0 → Holds text (graph_of (blocks_of text given)) entry s0 n
+
+-- it matches the run after n steps, if that goes on
+abbrev pub MatchesRun : Words → Graph → ℕ → State → ℕ → Type 0
+MatchesRun text graph entry s0 n =
+    (run s0 n).ending ≡ None → Matches text graph (end_of_walk text graph entry s0 n) (point_of (run s0 n))
+
 abbrev pub WalksMatch : Type 0
-WalksMatch = (text : Words) (given : List ℕ) (entry : ℕ) (s0 : State) (n : ℕ) → IsText text → FetchesOnly text s0
-    → BeginsAt text entry s0 → (run s0 n).ending ≡ None
-    → Matches text (graph_of (blocks_of text given))
-    (end_of_walk text (graph_of (blocks_of text given)) entry s0 n) (point_of (run s0 n))
+WalksMatch = OfEachRun MatchesRun

@@ -56,10 +56,27 @@ same_kind kinds.Out kinds.Out = true
 same_kind kinds.Land kinds.Land = true
 same_kind _ _ = false
 
--- the number of the edge of a kind that leaves a node
+-- A way out of a node: the kind of its edge, and the node to which it leads where a node has several edges of the kind.
+pub record WayOut : Type 0 where
+  pub kind : EdgeKind
+  pub to : Option Node
+
+-- the way of a kind of which a node has one edge
+abbrev pub by_kind : EdgeKind → WayOut
+by_kind kind = record { kind = kind; to = None }
+
+abbrev pub leads_along : Option Node → Edge → Bool
+leads_along None edge = true
+leads_along (Some node) edge = same_node edge.to node
+
+-- the number of the edge along which a way leaves a node
+abbrev pub edge_along : Graph → Node → WayOut → List ℕ
+edge_along graph node way =
+    option_to_list (position (λ edge. leads_along way.to edge && (same_node edge.from node && same_kind edge.kind way.kind)) graph.edges)
+
+-- the edge of a kind of which the node has one
 abbrev pub edge_from : Graph → Node → EdgeKind → List ℕ
-edge_from graph node kind =
-    option_to_list (position (λ edge. same_node edge.from node && same_kind edge.kind kind) graph.edges)
+edge_from graph node kind = edge_along graph node (by_kind kind)
 
 -- the number of the landing at a node
 abbrev pub landing_at : Graph → Node → List ℕ
@@ -105,9 +122,13 @@ landed text graph kinds.Out address = if_there (word_at text address)
     if_there (Some word) = landing_at graph (node_of graph.blocks (Some word))
 landed text graph _ address = []
 
+-- the way that a transfer of a kind goes, where control goes on at an address
+abbrev pub way_to : EdgeKind → ℕ → WayOut
+way_to kind next = by_kind kind
+
 -- the step of a slot completes the edge of the transfer before it
 abbrev pub slot_left : Words → Graph → Node → EdgeKind → ℕ → List ℕ
-slot_left text graph node way next = edge_from graph node way ++ landed text graph way next
+slot_left text graph node kind next = edge_along graph node (way_to kind next) ++ landed text graph kind next
 
 -- a step from a point, with what was the slot before and is afterwards
 abbrev pub completed : Words → Graph → Node → Point → Point → Slot → Slot → List ℕ

@@ -2,9 +2,8 @@
 //! and laws.
 #![tactic(auto)]
 
-ghost use Rattle.cfg_walk.specs.Counts.{CountsAreEnough, ExecutionsAreFlows, ExecutionsOfFilesAreFlows, LinksAreAGraph, NodesAreApart, WalksArePaths};
-ghost use Rattle.cfg_walk.specs.Files.{OnlyTextIsFetched, WalksOfFilesMatch};
 ghost use Rattle.cfg_walk.specs.Matches.{WalksMatch};
+ghost use Rattle.cfg_walk.specs.Numbers.{NodesAreApart};
 
 /// Outside a delay slot, the walk stands in the block that holds the instruction which comes next, or outside where
 /// the text has no such word. In a slot, its block has the edge on which that slot is run.
@@ -12,49 +11,7 @@ pub fn walks_match()
     ensures { WalksMatch }
 {}
 
-/// Where a file without a fault starts, a word can be fetched just where the file's text has it: neither a
-/// data segment, nor the stack, nor a last part of the text that is no whole word can be executed.
-pub fn only_text_is_fetched()
-    ensures { OnlyTextIsFetched }
-{}
-
-/// The walk of a file without a fault, from its entry over the graph of its text, matches the file's run at
-/// each step, as long as that goes on, whatever the arguments, the input and the words that lead besides.
-pub fn walks_of_files_match()
-    ensures { WalksOfFilesMatch }
-{}
-
-/// Both ends of each edge of a flow graph are nodes, where a block is the node of its own number, and all
-/// that lies outside is the node after the last block.
-pub fn links_are_a_graph()
-    ensures { LinksAreAGraph }
-{}
-
 /// No two nodes of a flow graph have the same number.
 pub fn nodes_are_apart()
     ensures { NodesAreApart }
-{}
-
-/// The edges of a walk lead from the entry's block to the node where the walk stands, each from where the one
-/// before it ends. A jump's edge leads outside, and the landing after it leads in again. This also holds once
-/// the run has ended: the walk then stands where the last step before that left it.
-pub fn walks_are_paths()
-    ensures { WalksArePaths }
-{}
-
-/// How often a run completes each edge is a flow: into each node leads as much as out of it, where one counts
-/// as come into the entry's block, and one as gone out of the node where the walk stands.
-pub fn executions_are_flows()
-    ensures { ExecutionsAreFlows }
-{}
-
-/// So it is of the run of a file without a fault, over the graph of its text.
-pub fn executions_of_files_are_flows()
-    ensures { ExecutionsOfFilesAreFlows }
-{}
-
-/// Where some edges of the graph determine the counts, as those off a spanning tree do, how often a run completes
-/// them, with where its walk ends, tells how often it completes each edge.
-pub fn counts_are_enough()
-    ensures { CountsAreEnough }
 {}

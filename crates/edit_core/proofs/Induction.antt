@@ -47,7 +47,8 @@ pub outside_trans : (pages : List Span) (m n o : Memory) → IsSameOutside pages
     → IsSameOutside pages m o
 outside_trans pages m n o h k = record {
   heap = h.heap ∙ k.heap;
-  outside = λ address count some apart. region_trans _ _ _ (h.outside address count some apart) (k.outside address count some apart);
+  outside = λ address count some apart. region_trans _ _ _ (h.outside address count some apart)
+      (k.outside address count some apart);
 }
 
 world_then : (pages : List Span) (Kept : Item → Type 0) (s v t : State) → IsSameWorld pages s v
@@ -76,7 +77,8 @@ instr_same (Some d) o h = absurd (cc)
 
 step_live : (s : State) (o : Option ℕ) → s.ending ≡ None → fetch_of s.memory s.pc ≡ o → step_of s ≡ on_word s o
 unfolding step_of
-step_live s o e f = ap (λ (z : Option Ending). unless_ended s z (on_word s (fetch_of s.memory s.pc))) e ∙ ap (on_word s) f
+step_live s o e f = ap (λ (z : Option Ending). unless_ended s z (on_word s (fetch_of s.memory s.pc))) e
+    ∙ ap (on_word s) f
 
 puts_live : (s : State) (o : Option ℕ) (descriptor : ℕ) → s.ending ≡ None → fetch_of s.memory s.pc ≡ o
     → puts_of s descriptor ≡ puts_on_word s o descriptor
@@ -88,7 +90,8 @@ puts_live s o descriptor e f =
 goes_same : (x : Option Ending) (s v : State) → s.ending ≡ x → s.ending ≡ v.ending
     → (s.ending ≡ None → point_of s ≡ point_of v) → goes_on_at v ≡ goes_on_at s
 goes_same None s v e h k =
-    ap (λ (z : Option Ending). point_unless z (point_of v)) (sym h ∙ e) ∙ ap (λ (z : Point). point_unless None z) (sym (k e))
+    ap (λ (z : Option Ending). point_unless z (point_of v)) (sym h ∙ e)
+    ∙ ap (λ (z : Point). point_unless None z) (sym (k e))
     ∙ sym (ap (λ (z : Option Ending). point_unless z (point_of s)) e)
 goes_same (Some d) s v e h k =
     ap (λ (z : Option Ending). point_unless z (point_of v)) (sym h ∙ e)
@@ -100,14 +103,16 @@ goes_nowhere s d e = ap (λ (z : Option Ending). point_unless z (point_of s)) e
 -- the same point, as one
 one_point : (s u : State) → AreAtOnePoint s u → point_of s ≡ point_of u
 one_point s u h =
-    ap (λ (z : ℕ). record { pc = z; npc = s.npc; slot = s.slot }) h.pc ∙ ap (λ (z : ℕ). record { pc = u.pc; npc = z; slot = s.slot }) h.npc
+    ap (λ (z : ℕ). record { pc = z; npc = s.npc; slot = s.slot }) h.pc
+    ∙ ap (λ (z : ℕ). record { pc = u.pc; npc = z; slot = s.slot }) h.npc
     ∙ ap (λ (z : Slot). record { pc = u.pc; npc = u.npc; slot = z }) h.slot
 
 -- ---- one step
 
 pub record IsNext (g : Setting) (entry : ℕ) (Here : Node → Point → State → Type 0) (Kept : List ℕ → ℕ → Item → Type 0)
     (s0 t0 : State) (n m : ℕ) : Type 0 where
-  pub alike : AreAlikeOn (pages_of g.notes) (word_of g.text (run s0 n).pc) (run s0 n) (at_point (point_of (run s0 n)) (run t0 m))
+  pub alike : AreAlikeOn (pages_of g.notes) (word_of g.text (run s0 n).pc) (run s0 n)
+      (at_point (point_of (run s0 n)) (run t0 m))
       (run s0 (suc n)) (does_at g (point_of (run s0 n)) (run t0 m))
   pub on : StepsOn g Here Kept (gone_in g.text (graph_in g) entry s0 n) (end_of_walk g.text (graph_in g) entry s0 n)
       (point_of (run s0 n)) (run t0 m) (does_at g (point_of (run s0 n)) (run t0 m))
@@ -119,12 +124,14 @@ pub data Reached (g : Setting) (entry : ℕ) (Here : Node → Point → State �
   ends : (m : ℕ) (d : Ending) → Closed g entry s0 t0 n m d → Reached g entry Here K s0 t0 last n
   past : (m : ℕ) → last < n → Reached g entry Here K s0 t0 last n
 
-module _ (g : Setting) (entry : ℕ) (Inside : Point → Type 0) (Here : Node → Point → State → Type 0) (Kept : List ℕ → ℕ → Item → Type 0)
+module _ (g : Setting) (entry : ℕ) (Inside : Point → Type 0) (Here : Node → Point → State → Type 0)
+    (Kept : List ℕ → ℕ → Item → Type 0)
     (K : ℕ → Item → Type 0) (s0 t0 : State) (r : Rests g entry Inside Here Kept K s0 t0) where
   fetched : (n : ℕ) → fetch_of (run s0 n).memory (run s0 n).pc ≡ word_of g.text (run s0 n).pc
   fetched n = code_stays.1 s0 n (run s0 n).pc ∙ r.fetches (run s0 n).pc
 
-  end_next : (n : ℕ) → node_after (graph_in g) (end_of_walk g.text (graph_in g) entry s0 n) (gone_in g.text (graph_in g) entry s0 n)
+  end_next : (n : ℕ) → node_after (graph_in g) (end_of_walk g.text (graph_in g) entry s0 n)
+      (gone_in g.text (graph_in g) entry s0 n)
       ≡ end_of_walk g.text (graph_in g) entry s0 (suc n)
   unfolding end_of_walk
   end_next n = refl
@@ -132,31 +139,41 @@ module _ (g : Setting) (entry : ℕ) (Inside : Point → Type 0) (Here : Node �
   -- a step that ends the run, or comes after, completes no edge
   gone_none : (n : ℕ) (d : Ending) → (run s0 (suc n)).ending ≡ Some d → gone_in g.text (graph_in g) entry s0 n ≡ []
   gone_none n d e =
-      ap (λ (o : Option Point). gone g.text (graph_in g) (end_of_walk g.text (graph_in g) entry s0 n) (point_of (run s0 n)) o)
+      ap (λ (o : Option Point). gone g.text (graph_in g) (end_of_walk g.text (graph_in g) entry s0 n)
+      (point_of (run s0 n)) o)
       (goes_nowhere (run s0 (suc n)) d e)
 
   end_stays : (n : ℕ) (d : Ending) → (run s0 (suc n)).ending ≡ Some d
       → end_of_walk g.text (graph_in g) entry s0 n ≡ end_of_walk g.text (graph_in g) entry s0 (suc n)
   end_stays n d e =
-      sym (ap (λ es. node_after (graph_in g) (end_of_walk g.text (graph_in g) entry s0 n) es) (gone_none n d e)) ∙ end_next n
+      sym (ap (λ es. node_after (graph_in g) (end_of_walk g.text (graph_in g) entry s0 n) es) (gone_none n d e))
+      ∙ end_next n
 
-  store_stays : (n : ℕ) (d : Ending) → (run s0 (suc n)).ending ≡ Some d → store_of g entry s0 n ≡ store_of g entry s0 (suc n)
+  store_stays : (n : ℕ) (d : Ending) → (run s0 (suc n)).ending ≡ Some d
+      → store_of g entry s0 n ≡ store_of g entry s0 (suc n)
   store_stays n d e = sym (ap (λ es. updates g.store es (store_of g entry s0 n) (run s0 (suc n))) (gone_none n d e))
 
   pub next_of : (n m : ℕ) → Linked g entry Here K s0 t0 n m
       → AllApart (pages_of g.notes) (judged_in (run s0 n) (instr_at (run s0 n))) → Inside (point_of (run s0 n))
       → ((run s0 (suc n)).ending ≡ None → Inside (point_of (run s0 (suc n)))) → IsNext g entry Here Kept s0 t0 n m
   next_of n m h apart within inside =
-      let visits = r.simulates.visits _ _ _ (walks_match g.text g.given entry s0 n r.text r.fetches r.begins h.live) within h.here in
-      let stepped : run s0 (suc n) ≡ on_word (run s0 n) (word_of g.text (run s0 n).pc) = step_live (run s0 n) _ h.live (fetched n) in
+      let visits = r.simulates.visits _ _ _
+      (walks_match g.text g.given entry s0 n r.text r.fetches r.begins h.live) within h.here in
+      let stepped : run s0 (suc n) ≡ on_word (run s0 n) (word_of g.text (run s0 n).pc) = step_live (run s0 n) _ h.live
+      (fetched n) in
       let judged : AllApart (pages_of g.notes) (judged_in (run s0 n) (instr_of (word_of g.text (run s0 n).pc))) =
       subst (λ (z : Option Instr). AllApart (pages_of g.notes) (judged_in (run s0 n) z))
-      (ap (decoded (run s0 n).ending) (fetched n) ∙ instr_same (run s0 n).ending (word_of g.text (run s0 n).pc) h.live) apart in
-      let a = points_act_alike g.notes (word_of g.text (run s0 n).pc) (run s0 n) (at_point (point_of (run s0 n)) (run t0 m)) h.live visits.0
-      (run-valid s0 n r.first_valid).registers (run-valid t0 m r.second_valid).registers (record { pc = refl; npc = refl; slot = refl })
+      (ap (decoded (run s0 n).ending) (fetched n) ∙ instr_same (run s0 n).ending
+      (word_of g.text (run s0 n).pc) h.live) apart in
+      let a = points_act_alike g.notes (word_of g.text (run s0 n).pc) (run s0 n)
+      (at_point (point_of (run s0 n)) (run t0 m)) h.live visits.0
+      (run-valid s0 n r.first_valid).registers (run-valid t0 m r.second_valid).registers
+      (record { pc = refl; npc = refl; slot = refl })
       (world_moved (pages_of g.notes) (run s0 n) (run t0 m) (point_of (run s0 n)) h.together.world)
-      (λ item is d. same_moved item (run s0 n) (run t0 m) (point_of (run s0 n)) (h.items item is (r.keeping.reads n item is d))) judged in
-      let b : AreAlikeOn (pages_of g.notes) (word_of g.text (run s0 n).pc) (run s0 n) (at_point (point_of (run s0 n)) (run t0 m))
+      (λ item is d. same_moved item (run s0 n) (run t0 m) (point_of (run s0 n))
+      (h.items item is (r.keeping.reads n item is d))) judged in
+      let b : AreAlikeOn (pages_of g.notes) (word_of g.text (run s0 n).pc) (run s0 n)
+      (at_point (point_of (run s0 n)) (run t0 m))
       (run s0 (suc n)) (does_at g (point_of (run s0 n)) (run t0 m)) =
       subst (λ (z : State). AreAlikeOn (pages_of g.notes) (word_of g.text (run s0 n).pc) (run s0 n)
       (at_point (point_of (run s0 n)) (run t0 m)) z (does_at g (point_of (run s0 n)) (run t0 m))) (sym stepped) a in
@@ -164,11 +181,16 @@ module _ (g : Setting) (entry : ℕ) (Inside : Point → Type 0) (Here : Node �
         alike = b;
         on = subst (λ (z : Option Point). StepsOn g Here Kept
             (gone g.text (graph_in g) (end_of_walk g.text (graph_in g) entry s0 n) (point_of (run s0 n)) z)
-            (end_of_walk g.text (graph_in g) entry s0 n) (point_of (run s0 n)) (run t0 m) (does_at g (point_of (run s0 n)) (run t0 m)))
-            (goes_same (run s0 (suc n)).ending (run s0 (suc n)) (does_at g (point_of (run s0 n)) (run t0 m)) refl b.ending (λ live. one_point (run s0 (suc n)) (does_at g (point_of (run s0 n)) (run t0 m)) (b.point live)))
+            (end_of_walk g.text (graph_in g) entry s0 n) (point_of (run s0 n)) (run t0 m)
+            (does_at g (point_of (run s0 n)) (run t0 m)))
+            (goes_same (run s0 (suc n)).ending (run s0 (suc n))
+            (does_at g (point_of (run s0 n)) (run t0 m)) refl b.ending
+            (λ live. one_point (run s0 (suc n)) (does_at g (point_of (run s0 n)) (run t0 m)) (b.point live)))
             (r.simulates.steps (end_of_walk g.text (graph_in g) entry s0 n) (point_of (run s0 n)) (run t0 m)
             (walks_match g.text g.given entry s0 n r.text r.fetches r.begins h.live) within h.here b.judged
-            (λ live. let on : (run s0 (suc n)).ending ≡ None = b.ending ∙ live in subst Inside (one_point (run s0 (suc n)) (does_at g (point_of (run s0 n)) (run t0 m)) (b.point on)) (inside on)));
+            (λ live. let on : (run s0 (suc n)).ending ≡ None = b.ending
+            ∙ live in subst Inside (one_point (run s0 (suc n)) (does_at g (point_of (run s0 n)) (run t0 m))
+            (b.point on)) (inside on)));
       }
 
   -- where the written file is after the step
@@ -180,18 +202,21 @@ module _ (g : Setting) (entry : ℕ) (Inside : Point → Type 0) (Here : Node �
   puts_next n m h x descriptor =
       ap (λ z. z ++ puts_of (run s0 n) descriptor) (h.together.puts descriptor)
       ∙ ap (λ z. run_puts t0 m descriptor ++ z)
-      (puts_live (run s0 n) (word_of g.text (run s0 n).pc) descriptor h.live (fetched n) ∙ x.alike.puts descriptor ∙ sym (x.on.puts descriptor))
+      (puts_live (run s0 n) (word_of g.text (run s0 n).pc) descriptor h.live (fetched n) ∙ x.alike.puts descriptor
+      ∙ sym (x.on.puts descriptor))
       ∙ sym (puts_add t0 m x.on.count descriptor)
 
   world_next : (n m : ℕ) (x : IsNext g entry Here Kept s0 t0 n m)
       → IsSameWorld (pages_of g.notes) (run s0 (suc n)) (run t0 (x.on.count + m))
   world_next n m x =
       subst (λ (z : State). IsSameWorld (pages_of g.notes) (run s0 (suc n)) z) (sym (arrived n m x))
-      (world_then (pages_of g.notes) _ _ (does_at g (point_of (run s0 n)) (run t0 m)) x.on.after x.alike.world x.on.followed)
+      (world_then (pages_of g.notes) _ _ (does_at g (point_of (run s0 n))
+      (run t0 m)) x.on.after x.alike.world x.on.followed)
 
   before : (n m : ℕ) → Linked g entry Here K s0 t0 n m → (item : Item) → IsItem item
       → WritesIn (instr_in g s0 n) (run s0 n).window item ⊎ K n item
-      → WritesIn (instr_in g s0 n) (run s0 n).window item ⊎ IsSameAt item (run s0 n) (at_point (point_of (run s0 n)) (run t0 m))
+      → WritesIn (instr_in g s0 n) (run s0 n).window item ⊎ IsSameAt item (run s0 n)
+      (at_point (point_of (run s0 n)) (run t0 m))
   before n m h item is (inl a) = inl a
   before n m h item is (inr a) = inr (same_moved item (run s0 n) (run t0 m) (point_of (run s0 n)) (h.items item is a))
 
@@ -203,18 +228,24 @@ module _ (g : Setting) (entry : ℕ) (Inside : Point → Type 0) (Here : Node �
       let go : (does_at g (point_of (run s0 n)) (run t0 m)).ending ≡ None = sym x.alike.ending ∙ live in
       record {
         live = live;
-        here = subst (λ (z : State). Here (end_of_walk g.text (graph_in g) entry s0 (suc n)) (point_of (run s0 (suc n))) z) (sym at)
-            (subst (λ (z : Point). Here (end_of_walk g.text (graph_in g) entry s0 (suc n)) z x.on.after) (sym (one_point (run s0 (suc n)) (does_at g (point_of (run s0 n)) (run t0 m)) (x.alike.point live)))
-            (subst (λ (z : Node). Here z (point_of (does_at g (point_of (run s0 n)) (run t0 m))) x.on.after) (end_next n) (x.on.here go)));
+        here = subst (λ (z : State). Here (end_of_walk g.text (graph_in g) entry s0 (suc n))
+            (point_of (run s0 (suc n))) z) (sym at)
+            (subst (λ (z : Point). Here (end_of_walk g.text (graph_in g) entry s0 (suc n)) z x.on.after)
+            (sym (one_point (run s0 (suc n)) (does_at g (point_of (run s0 n)) (run t0 m)) (x.alike.point live)))
+            (subst (λ (z : Node). Here z (point_of (does_at g (point_of (run s0 n)) (run t0 m))) x.on.after)
+            (end_next n) (x.on.here go)));
         items = λ item is k. subst (λ (z : State). IsSameAt item (run s0 (suc n)) z) (sym at)
-            (same_trans item (run s0 (suc n)) v x.on.after (x.alike.items live item is (before n m h item is (r.keeping.back n item is k)))
+            (same_trans item (run s0 (suc n)) v x.on.after
+            (x.alike.items live item is (before n m h item is (r.keeping.back n item is k)))
             (x.on.followed.items go item is
-            (subst (λ (z : ℕ). Kept (gone_in g.text (graph_in g) entry s0 n) z item) x.alike.world.window (r.keeping.live n item is k))));
+            (subst (λ (z : ℕ). Kept (gone_in g.text (graph_in g) entry s0 n) z item) x.alike.world.window
+            (r.keeping.live n item is k))));
         together = record {
           world = world_next n m x;
           puts = puts_next n m h x;
           cells = ap g.cells_of at ∙ x.on.cells
-              ∙ ap (λ z. updates g.store (gone_in g.text (graph_in g) entry s0 n) z (does_at g (point_of (run s0 n)) (run t0 m))) h.together.cells
+              ∙ ap (λ z. updates g.store (gone_in g.text (graph_in g) entry s0 n) z
+              (does_at g (point_of (run s0 n)) (run t0 m))) h.together.cells
               ∙ sym (r.keeping.named n (store_of g entry s0 n) v live x.alike.world.window
               (λ item is k. x.alike.items live item is (before n m h item is k)));
         };
@@ -234,7 +265,8 @@ module _ (g : Setting) (entry : ℕ) (Inside : Point → Type 0) (Here : Node �
           world = world_next n m x;
           puts = puts_next n m h x;
           cells = ap g.cells_of at ∙ x.on.cells
-              ∙ ap (λ es. updates g.store es (g.cells_of (run t0 m)) (does_at g (point_of (run s0 n)) (run t0 m))) (gone_none n d over)
+              ∙ ap (λ es. updates g.store es (g.cells_of (run t0 m)) (does_at g (point_of (run s0 n)) (run t0 m)))
+              (gone_none n d over)
               ∙ h.together.cells ∙ store_stays n d over;
         };
       }
@@ -269,7 +301,8 @@ module _ (g : Setting) (entry : ℕ) (Inside : Point → Type 0) (Here : Node �
     went_by n m h x None e = goes (x.on.count + m) (linked_next n m h x e)
     went_by n m h x (Some d) e = ends (x.on.count + m) d (closed_next n m h x d e)
 
-    moment_by : (n m : ℕ) (h : Linked g entry Here K s0 t0 n m) (x : IsNext g entry Here Kept s0 t0 n m) (e : Option Ending)
+    moment_by : (n m : ℕ) (h : Linked g entry Here K s0 t0 n m) (x : IsNext g entry Here Kept s0 t0 n m)
+        (e : Option Ending)
         (is : (run s0 (suc n)).ending ≡ e) → moment_of (suc n) (went_by n m h x e is) ≡ x.on.count + m
     unfolding moment_of went_by
     moment_by n m h x None is = refl
@@ -278,8 +311,10 @@ module _ (g : Setting) (entry : ℕ) (Inside : Point → Type 0) (Here : Node �
     weaken : (n : ℕ) → n < last → n ≤ last
     weaken n l = omega arith
 
-    go_on : (n m : ℕ) → Linked g entry Here K s0 t0 n m → (n < last) ⊎ (last ≤ n) → Reached g entry Here K s0 t0 last (suc n)
-    go_on n m h (inl l) = went_by n m h (next_of n m h (u.unjudged n l) (inside n (weaken n l) h.live) (inside (suc n) l)) (run s0 (suc n)).ending refl
+    go_on : (n m : ℕ) → Linked g entry Here K s0 t0 n m → (n < last) ⊎ (last ≤ n)
+        → Reached g entry Here K s0 t0 last (suc n)
+    go_on n m h (inl l) = went_by n m h (next_of n m h (u.unjudged n l) (inside n (weaken n l) h.live)
+        (inside (suc n) l)) (run s0 (suc n)).ending refl
     go_on n m h (inr l) = past m (omega arith)
 
     step : (n : ℕ) → Reached g entry Here K s0 t0 last n → Reached g entry Here K s0 t0 last (suc n)
@@ -304,11 +339,13 @@ module _ (g : Setting) (entry : ℕ) (Inside : Point → Type 0) (Here : Node �
       memory = λ address out. byte_outside g.notes _ _ address h.world.memory out;
     }
 
-    matches_at : (n : ℕ) → n ≤ last → (x : Reached g entry Here K s0 t0 last n) → Matches g.notes s0 t0 n (moment_of n x)
+    matches_at : (n : ℕ) → n ≤ last → (x : Reached g entry Here K s0 t0 last n)
+        → Matches g.notes s0 t0 n (moment_of n x)
     unfolding moment_of
     matches_at n l (goes m h) =
         let on : GoesOn g.notes s0 t0 n m = record {
-          visit = (r.simulates.visits _ _ _ (walks_match g.text g.given entry s0 n r.text r.fetches r.begins h.live) (inside n l h.live) h.here).1;
+          visit = (r.simulates.visits _ _ _ (walks_match g.text g.given entry s0 n r.text r.fetches r.begins h.live)
+              (inside n l h.live) h.here).1;
           window = h.together.world.window;
           valid = h.together.world.valid;
           needed = λ item needed. h.items item needed.is_item (r.keeping.needed n item needed);
@@ -316,7 +353,11 @@ module _ (g : Setting) (entry : ℕ) (Inside : Point → Type 0) (Here : Node �
         } in
         subst (λ (e : Option Ending). MatchesBy e g.notes s0 t0 n m) (sym h.live) on
     matches_at n l (ends m d h) =
-        let on : Ends g.notes s0 t0 n m = record { ending = h.second ∙ sym h.first; world = same_outside n m h.together } in
+        let on : Ends g.notes s0 t0 n m = record {
+          ending = h.second
+              ∙ sym h.first;
+          world = same_outside n m h.together;
+        } in
         subst (λ (e : Option Ending). MatchesBy e g.notes s0 t0 n m) (sym h.first) on
     matches_at n l (past m k) = absurd (omega arith)
 
@@ -327,7 +368,8 @@ module _ (g : Setting) (entry : ℕ) (Inside : Point → Type 0) (Here : Node �
     cells_at n l (ends m d h) = h.together.cells
     cells_at n l (past m k) = absurd (omega arith)
 
-    way_by : (n m : ℕ) (x : IsNext g entry Here Kept s0 t0 n m) → IsWay g.notes t0 m (x.on.count + m) (limits_in g entry s0 n)
+    way_by : (n m : ℕ) (x : IsNext g entry Here Kept s0 t0 n m)
+        → IsWay g.notes t0 m (x.on.count + m) (limits_in g entry s0 n)
     way_by n m x =
         let some = x.on.path.some in
         let few = x.on.path.few in
@@ -346,7 +388,8 @@ module _ (g : Setting) (entry : ℕ) (Inside : Point → Type 0) (Here : Node �
     unfolding go_on
     way_on n m h l (inl k) =
         let x = next_of n m h (u.unjudged n k) (inside n (weaken n k) h.live) (inside (suc n) k) in
-        subst (λ (z : ℕ). IsWay g.notes t0 m z (limits_in g entry s0 n)) (sym (moment_by n m h x (run s0 (suc n)).ending refl)) (way_by n m x)
+        subst (λ (z : ℕ). IsWay g.notes t0 m z (limits_in g entry s0 n))
+        (sym (moment_by n m h x (run s0 (suc n)).ending refl)) (way_by n m x)
     way_on n m h l (inr k) = absurd (omega arith)
 
     way_at : (n : ℕ) → n < last → (run s0 n).ending ≡ None → (x : Reached g entry Here K s0 t0 last n)
@@ -356,7 +399,8 @@ module _ (g : Setting) (entry : ℕ) (Inside : Point → Type 0) (Here : Node �
     way_at n l live (ends m d h) = let over : (run s0 n).ending ≡ Some d = h.first in absurd (cc)
     way_at n l live (past m k) = absurd (omega arith)
 
-    stays_at : (n : ℕ) → n < last → (d : Ending) → (run s0 n).ending ≡ Some d → (x : Reached g entry Here K s0 t0 last n)
+    stays_at : (n : ℕ) → n < last → (d : Ending) → (run s0 n).ending ≡ Some d
+        → (x : Reached g entry Here K s0 t0 last n)
         → moment_of (suc n) (step n x) ≡ moment_of n x
     unfolding moment_of step
     stays_at n l d over (goes m h) = let live : (run s0 n).ending ≡ None = h.live in absurd (cc)
@@ -370,18 +414,30 @@ module _ (g : Setting) (entry : ℕ) (Inside : Point → Type 0) (Here : Node �
 
     told_at : (n : ℕ) → n ≤ last → (x : Reached g entry Here K s0 t0 last n) → Tells g entry s0 t0 n (moment_of n x)
     unfolding moment_of
-    told_at n l (goes m h) = λ q e. (some_same q _ (sym e ∙ (r.simulates.visits _ _ _ (walks_match g.text g.given entry s0 n r.text r.fetches r.begins h.live) (inside n l h.live) h.here).2), h.together.cells)
+    told_at n l (goes m h) = λ q e. (
+      some_same q _ (sym e
+          ∙ (r.simulates.visits _ _ _ (walks_match g.text g.given entry s0 n r.text r.fetches r.begins h.live)
+          (inside n l h.live) h.here).2),
+      h.together.cells,
+    )
     told_at n l (ends m d h) = λ q e. (some_same q _ (sym e ∙ h.node), h.together.cells)
     told_at n l (past m k) = absurd (omega arith)
 
     -- at a visit, or past it
-    told_from : (n m k : ℕ) → n ≤ last → (h : Linked g entry Here K s0 t0 n m) (x : IsNext g entry Here Kept s0 t0 n m) → m ≤ k → k < x.on.count + m
+    told_from : (n m k : ℕ) → n ≤ last → (h : Linked g entry Here K s0 t0 n m)
+        (x : IsNext g entry Here Kept s0 t0 n m) → m ≤ k → k < x.on.count + m
         → (m < k) ⊎ (k ≤ m) → Tells g entry s0 t0 n k
     told_from n m k l h x a b (inr c) =
         let e : m ≡ k = omega arith in
-        subst (λ (z : ℕ). Tells g entry s0 t0 n z) e (λ q e. (some_same q _ (sym e ∙ (r.simulates.visits _ _ _ (walks_match g.text g.given entry s0 n r.text r.fetches r.begins h.live) (inside n l h.live) h.here).2), h.together.cells))
+        subst (λ (z : ℕ). Tells g entry s0 t0 n z) e (λ q e. (
+          some_same q _ (sym e ∙ (r.simulates.visits _ _ _
+              (walks_match g.text g.given entry s0 n r.text r.fetches r.begins h.live)
+              (inside n l h.live) h.here).2),
+          h.together.cells,
+        ))
     told_from n m k l h x a b (inl c) =
-        let at : run t0 k ≡ run (run t0 m) (k - m) = (let e : k ≡ (k - m) + m = omega arith in ap (run t0) e) ∙ run_add t0 m (k - m) in
+        let at : run t0 k ≡ run (run t0 m) (k - m) = (let e : k ≡ (k - m) + m = omega arith in ap (run t0) e)
+        ∙ run_add t0 m (k - m) in
         let on = x.on.path.quiet (k - m) (omega arith) (omega arith) in
         λ q e.
         let z = on.place q (sym (ap (λ (u : State). node_at g.notes u.pc) at) ∙ e) in
@@ -392,10 +448,12 @@ module _ (g : Setting) (entry : ℕ) (Inside : Point → Type 0) (Here : Node �
     unfolding go_on
     between_on n m k h l (inl i) a b =
         let x = next_of n m h (u.unjudged n i) (inside n (weaken n i) h.live) (inside (suc n) i) in
-        told_from n m k (weaken n i) h x a (subst (λ (z : ℕ). k < z) (moment_by n m h x (run s0 (suc n)).ending refl) b) (split_below m k)
+        told_from n m k (weaken n i) h x a (subst (λ (z : ℕ). k < z)
+        (moment_by n m h x (run s0 (suc n)).ending refl) b) (split_below m k)
     between_on n m k h l (inr i) a b = absurd (omega arith)
 
-    between_at : (n k : ℕ) → n < last → (x : Reached g entry Here K s0 t0 last n) → moment_of n x ≤ k → k < moment_of (suc n) (step n x)
+    between_at : (n k : ℕ) → n < last → (x : Reached g entry Here K s0 t0 last n) → moment_of n x ≤ k
+        → k < moment_of (suc n) (step n x)
         → Tells g entry s0 t0 n k
     unfolding moment_of step
     between_at n k l (goes m h) a b = between_on n m k h l (split_below n last) a b

@@ -18,7 +18,7 @@ use Rattle.cfg_normal.specs.declared.Slot.{Slot}
 use Rattle.cfg_normal.specs.declared.Slot.TheVariants as slots
 use Rattle.cfg_normal.specs.Graph.{Graph, IsEdgeIn, IsNodeIn, IsSlotIn, node_of}
 use Rattle.cfg_normal.proofs.Edges.{node_of-in}
-use Rattle.cfg_walk.specs.Counts.{node_number}
+use Rattle.cfg_walk.specs.Numbers.{node_number}
 use Rattle.cfg_walk.proofs.Lists.{Each, each-append, each-below, each-map}
 use Rattle.layout.specs.declared.items.Item.{Item}
 use Rattle.layout.specs.declared.items.Item.TheVariants as it

@@ -17,11 +17,13 @@ all_is_kept g entry s0 h = record {
   back = λ n item is k. inr tt;
   live = λ n item is k. tt;
   needed = λ n item k. tt;
-  named = λ n cells v live w k. h.still (gone_in g.text (graph_in g) entry s0 n) cells (run s0 (suc n)) ∙ sym (h.still (gone_in g.text (graph_in g) entry s0 n) cells v);
+  named = λ n cells v live w k. h.still (gone_in g.text (graph_in g) entry s0 n) cells (run s0 (suc n))
+      ∙ sym (h.still (gone_in g.text (graph_in g) entry s0 n) cells v);
 }
 
 pub edits_answer : EditsAnswer
 edits_answer g l base p f entry s0 t0 last r u inside =
-    let k : Follows g entry s0 t0 last = follows g entry (IsInText g) (Here g l base p f) Everything EveryItem s0 t0 r last u inside in
+    let k : Follows g entry s0 t0 last = follows g entry (IsInText g)
+    (Here g l base p f) Everything EveryItem s0 t0 r last u inside in
     let all = runs_follow g.notes s0 t0 64 (limits_in g entry s0) k.moments last k.followed in
     record { moments = k.moments; answers = all.0; soon = all.1; bounded = all.2; cells = k.cells; early = k.early; told = k.told; between = k.between }

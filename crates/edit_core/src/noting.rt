@@ -1,7 +1,7 @@
 //! The notes on an edit.
 ghost use Rattle.std.specs.Prelude.{◌≡◌, ◌+◌, ◌*◌, ◌^◌, ◌<◌, ◌≤◌, length, map, IfOk};
 ghost use Rattle.notes.specs.Seen.{notes_seen, edge_seen, segment_seen};
-ghost use Rattle.cfg_walk.specs.Counts.{node_number as node_number_of};
+ghost use Rattle.cfg_walk.specs.Numbers.{node_number as node_number_of};
 ghost use Rattle.edit_core.specs.Faithful.{kind_number as kind_number_of, note_edge as note_edge_of};
 ghost use Rattle.edit_core.specs.Written.{notes_on, segments_noted, placement_in, IsViewOf};
 

@@ -1,6 +1,6 @@
 -- What there is after a call, by its status.
 use Rattle.std.proofs.Common.{◌≡◌, ℕ, inl, inr, ap, subst, arith}
-use Rattle.eel.specs.Command.{Command, EditPlain, Run, Show, Unknown}
+use Rattle.eel.specs.Command.{Command, EditPlain, Run, Show, Restore, Unknown}
 use Rattle.eel.specs.Outcome.{Shows, shown, failed, status_of}
 use Rattle.eel.specs.Answers.{Ran, IsDone, IsRefusal, IsUnchanged, HasFailed, meaning_of, unknown_means}
 use Rattle.eel.specs.Answers.Shared.{Outside, with_err}
@@ -9,6 +9,7 @@ use Rattle.eel.proofs.Meanings.{IsByStatus, AnyRose, refusal_is_bad}
 use Rattle.eel.proofs.Editing.{edit_by_status}
 use Rattle.eel.proofs.Running.{run_by_status}
 use Rattle.eel.proofs.Showing.{show_by_status}
+use Rattle.eel.proofs.Restoring.{restore_by_status}
 
 unknown_by_status : IsByStatus unknown_means
 unknown_by_status = record {
@@ -23,6 +24,7 @@ by_status : (command : Command) → IsByStatus (meaning_of command)
 by_status (EditPlain input output) = edit_by_status input output
 by_status (Run file limit args) = run_by_status file limit args
 by_status (Show file) = show_by_status file
+by_status (Restore written output) = restore_by_status written output
 by_status Unknown = unknown_by_status
 
 pub done_shown : (command : Command) (old new : Outside) (status : ℕ) → Ran command old new status

@@ -18,6 +18,7 @@ pub mod PlanFacts
 pub mod Plans
 pub mod Powers
 pub mod ReadNotes
+pub mod Restoring
 pub mod Running
 pub mod RunsAlike
 pub mod Showing

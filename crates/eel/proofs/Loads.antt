@@ -133,11 +133,11 @@ header_passes file can new facts at whole =
     let long = at.headers in
     record {
       short = le-ltb (length new) 52 (omega arith);
-      magic = ap (λ n. not (nat_eq n 0x7f454c46)) (facts.magic ∙ ap ei_magic whole) ∙ ok.magic;
-      «class» = ap (λ n. not (nat_eq n 1)) (facts.file_class ∙ ap ei_class whole) ∙ ok.«class»;
-      order = ap (λ n. not (nat_eq n 2)) (facts.order ∙ ap ei_data whole) ∙ ok.order;
+      magic = ap (λ n. not (nat_eq n 0x7f454c46)) (facts.magic ∙ ap ei_magic whole) ∙ ok.header.magic;
+      «class» = ap (λ n. not (nat_eq n 1)) (facts.file_class ∙ ap ei_class whole) ∙ ok.header.«class»;
+      order = ap (λ n. not (nat_eq n 2)) (facts.order ∙ ap ei_data whole) ∙ ok.header.order;
       version = or_from (not (nat_eq (ei_version new) 1)) (not (nat_eq (e_version new) 1))
-          (ap (λ n. not (nat_eq n 1)) (facts.ident_version ∙ ap ei_version whole) ∙ (or_parts (not (nat_eq (ei_version file) 1)) (not (nat_eq (e_version file) 1)) ok.version).0)
+          (ap (λ n. not (nat_eq n 1)) (facts.ident_version ∙ ap ei_version whole) ∙ (or_parts (not (nat_eq (ei_version file) 1)) (not (nat_eq (e_version file) 1)) ok.header.version).0)
           (ap (λ n. not (nat_eq n 1)) facts.version);
       kind = ap (λ n. not (nat_eq n 2)) facts.kind;
       machine = ap (λ n. not (nat_eq n 2)) facts.machine;

@@ -4,6 +4,7 @@ pub mod Files
 pub mod Edit
 pub mod Run
 pub mod Show
+pub mod Restore
 use Rattle.std.specs.Prelude.{◌≡◌, ℕ, ◌≤◌, ◌⊎◌}
 use Rattle.eel_base.specs.Outside.{Rose}
 use Rattle.eel.specs.Command.{Command}
@@ -13,6 +14,7 @@ use Rattle.eel.specs.Answers.Shared.{Outside, Meaning, with_err, IsUnused, IsQui
 use Rattle.eel.specs.Answers.Edit.{edit_means}
 use Rattle.eel.specs.Answers.Run.{run_means}
 use Rattle.eel.specs.Answers.Show.{show_means}
+use Rattle.eel.specs.Answers.Restore.{restore_means}
 
 -- words outside the grammar
 abbrev pub unknown_means : Meaning
@@ -27,6 +29,7 @@ abbrev pub meaning_of : Command → Meaning
 meaning_of (words.EditPlain input output) = edit_means input output
 meaning_of (words.Run file limit args) = run_means file limit args
 meaning_of (words.Show file) = show_means file
+meaning_of (words.Restore written output) = restore_means written output
 meaning_of words.Unknown = unknown_means
 
 -- A call of the program: some outcome follows from the command, and then its line is written to the error stream.

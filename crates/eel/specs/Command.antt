@@ -15,6 +15,8 @@ pub data Command : Type 0 where
   Run : (file : List ℕ) (limit : ℕ) (args : List (List ℕ)) → Command
   -- show FILE
   Show : (file : List ℕ) → Command
+  -- restore WRITTEN OUTPUT
+  Restore : (written output : List ℕ) → Command
   -- words outside the grammar
   Unknown : Command
 
@@ -76,6 +78,12 @@ abbrev pub show_of : List (List ℕ) → Command
 show_of (file ∷ []) = Show file
 show_of _ = Unknown
 
+-- ---- restore
+
+abbrev pub restore_of : List (List ℕ) → Command
+restore_of (written ∷ output ∷ []) = Restore written output
+restore_of _ = Unknown
+
 -- ---- what the words ask for
 
 abbrev pub command_of : List (List ℕ) → Command
@@ -83,7 +91,8 @@ command_of [] = Unknown
 command_of (verb ∷ words) =
     if bytes_eq verb (codes "edit") then edit_of words else
     if bytes_eq verb (codes "run") then run_of words else
-    if bytes_eq verb (codes "show") then show_of words else Unknown
+    if bytes_eq verb (codes "show") then show_of words else
+    if bytes_eq verb (codes "restore") then restore_of words else Unknown
 
 -- the arguments of a run, where the command is one, are ones that a program can be given
 abbrev pub HasArguments : Command → Type 0
@@ -95,4 +104,5 @@ abbrev pub command_seen : declared.Command → Command
 command_seen (variants.EditPlain input output) = EditPlain input.now output.now
 command_seen (variants.Run file limit args) = Run file.now limit (texts args.now)
 command_seen (variants.Show file) = Show file.now
+command_seen (variants.Restore written output) = Restore written.now output.now
 command_seen variants.Unknown = Unknown

@@ -5,7 +5,7 @@ ghost use Rattle.std.specs.List.{All, list_all};
 ghost use Rattle.v8_step.specs.Valid.{AreBytes};
 ghost use Rattle.v8_process.specs.Arguments.{AreArguments};
 ghost use Rattle.v8_process.specs.Start.{strings};
-ghost use Rattle.eel.specs.Command.{HasArguments, command_of, command_seen, edit_of, run_of, options_of, arguments_of, are_few, is_digit, limit_of, show_of, texts};
+ghost use Rattle.eel.specs.Command.{HasArguments, command_of, command_seen, edit_of, run_of, options_of, arguments_of, are_few, is_digit, limit_of, restore_of, show_of, texts};
 
 /// What the words ask for.
 #[derive(Clone, Copy)]
@@ -24,6 +24,11 @@ pub enum Command<'a> {
     /// `show FILE`: print the routines, blocks and edges of the program `file`.
     Show {
         file: &'a str,
+    },
+    /// `restore WRITTEN OUTPUT`: write the original that the file `written` was made of as the file `output`.
+    Restore {
+        written: &'a str,
+        output: &'a str,
     },
     /// The words are outside the grammar.
     Unknown,
@@ -50,6 +55,7 @@ pub fn parse<'a>(words: &'a [&'a str]) -> Command<'a>
         [verb, words @ ..] if *verb == "edit" => parse_edit(words),
         [verb, words @ ..] if *verb == "run" => parse_run(words),
         [verb, words @ ..] if *verb == "show" => parse_show(words),
+        [verb, words @ ..] if *verb == "restore" => parse_restore(words),
         _ => Command::Unknown,
     }
 }
@@ -70,6 +76,16 @@ fn parse_show<'a>(words: &'a [&'a str]) -> Command<'a>
 {
     match words {
         [file] => Command::Show { file },
+        _ => Command::Unknown,
+    }
+}
+
+/// What follows the word `restore`.
+fn parse_restore<'a>(words: &'a [&'a str]) -> Command<'a>
+    ensures { command_seen result ≡ restore_of (texts words.now) }
+{
+    match words {
+        [written, output] => Command::Restore { written, output },
         _ => Command::Unknown,
     }
 }

@@ -6,6 +6,7 @@ mod command;
 mod edit;
 mod listing;
 mod outcome;
+mod restore;
 mod run;
 mod straight;
 mod texts;

@@ -16,8 +16,8 @@ use v8_process::{LoadFault, load};
 use v8_runner::{RunEnd, Stop, run};
 use v8_step::Machine;
 
-/// How many bytes a file may have that is run.
-const RUN_LIMIT: u64 = 1536 << 20;
+/// How many bytes a file may have that is run, or that an edit has written.
+pub const WRITTEN_LIMIT: u64 = 1536 << 20;
 
 /// A program that is to run.
 #[derive(Clone, Copy)]
@@ -49,7 +49,7 @@ pub fn run_program<'a, F: Files, I: Source, O: Sink, E: Sink>(
     ensures out_faults { O.faults out.old ≤ O.faults out.new }
     ensures err_faults { E.faults err.old ≤ E.faults err.new }
 {
-    let bytes = match fetch_file(alloc, files, job.file, RUN_LIMIT) {
+    let bytes = match fetch_file(alloc, files, job.file, WRITTEN_LIMIT) {
         Ok(bytes) => bytes,
         Err(outcome) => return outcome,
     };

@@ -9,6 +9,7 @@ use crate::command::{Command, parse};
 use crate::edit::edit_plain;
 use crate::listing::show_program;
 use crate::outcome::{Outcome, show};
+use crate::restore::restore_original;
 use crate::run::{Job, run_program};
 use eel_base::{Files, Sink, Source};
 use std::alloc::Global;
@@ -29,7 +30,7 @@ pub fn eel<F: Files, I: Source, O: Sink, E: Sink>(
         (outside (store (F.held files.new) (F.faults files.new)) (feed (I.left input.new) (I.faults input.new))
         (stream (O.taken out.new) (O.faults out.new)) (stream (E.taken err.new) (E.faults err.new))) result }
 
-    // Done: the edited file is written, the program ran, or its listing was printed.
+    // Done: the edited or the original file is written, the program ran, or its listing was printed.
     ensures done { result ≡ 0 → IsDone (command_of (texts words.now))
         (outside (store (F.held files.old) (F.faults files.old)) (feed (I.left input.old) (I.faults input.old))
         (stream (O.taken out.old) (O.faults out.old)) (stream (E.taken err.old) (E.faults err.old)))
@@ -80,6 +81,7 @@ fn perform<'a, F: Files, I: Source, O: Sink, E: Sink>(
             run_program(alloc, Job { file, limit, args }, files, input, out, err)
         }
         Command::Show { file } => show_program(alloc, file, files, out),
+        Command::Restore { written, output } => restore_original(alloc, files, written, output),
         Command::Unknown => Outcome::BadWords,
     }
 }

@@ -59,17 +59,20 @@ use Rattle.image_code.proofs.Ended.{stops_act}
 live_before : (s : State) (k j : ℕ) → (run s (k + j)).ending ≡ None → (run s j).ending ≡ None
 live_before s zero j e = (let f : j ≡ zero + j = omega arith in ap (λ z. (run s z).ending) f) ∙ e
 live_before s (suc k) j e =
-    live_before s k j (walks.live_before (run s (k + j)) ((let f : suc (k + j) ≡ suc k + j = omega arith in ap (λ z. (run s z).ending) f) ∙ e))
+    live_before s k j (walks.live_before (run s (k + j))
+    ((let f : suc (k + j) ≡ suc k + j = omega arith in ap (λ z. (run s z).ending) f) ∙ e))
 
 pub fetch_is : (m : Memory) (a : ℕ) → fetch_of m a ≡ fetch_from (code_of m) a
 unfolding fetch_of
 fetch_is m a = refl
 
-each_weaker : (May Might : ℕ → Type 0) → ((z : ℕ) → May z → Might z) → (ws : List (ℕ × ℕ)) → AllAt May ws → AllAt Might ws
+each_weaker : (May Might : ℕ → Type 0) → ((z : ℕ) → May z → Might z) → (ws : List (ℕ × ℕ)) → AllAt May ws
+    → AllAt Might ws
 each_weaker May Might f [] h = tt
 each_weaker May Might f (w ∷ ws) h = (f w.0 h.0, each_weaker May Might f ws h.1)
 
-pub stores_weaker : (May Might : ℕ → Type 0) (m n : Memory) → ((z : ℕ) → May z → Might z) → Stores May m n → Stores Might m n
+pub stores_weaker : (May Might : ℕ → Type 0) (m n : Memory) → ((z : ℕ) → May z → Might z) → Stores May m n
+    → Stores Might m n
 stores_weaker May Might m n f h = record { writes = h.writes; each = each_weaker May Might f h.writes h.each; result = h.result }
 
 region_refl : (o : Option Region) → IsSameRegion o o
@@ -79,7 +82,8 @@ region_refl (Some r) = refl
 pub outside_refl : (pages : List Span) (m : Memory) → IsSameOutside pages m m
 outside_refl pages m = record { heap = refl; outside = λ a c some apart. region_refl _ }
 
-pub same_at : (item : Thing) (s t : State) → s.registers ≡ t.registers → s.codes ≡ t.codes → s.y ≡ t.y → IsSameAt item s t
+pub same_at : (item : Thing) (s t : State) → s.registers ≡ t.registers → s.codes ≡ t.codes → s.y ≡ t.y
+    → IsSameAt item s t
 same_at (Register n) s t a b c = ap (λ z. slice_index z n) a
 same_at Codes s t a b c = b
 same_at YRegister s t a b c = c
@@ -107,16 +111,20 @@ item_below pieces k n x e = go (slice_get pieces k) refl e
     go None f e = absurd (cc)
     go (Some items) f e = get_below pieces k items f
 
-module _ (g : Setting) (l : Pieces) (base : ℕ) (p : Placement) (place : ℕ → ℕ → ℕ) (f : Frame) (h : IsPlaced g l base p place f) where
+module _ (g : Setting) (l : Pieces) (base : ℕ) (p : Placement) (place : ℕ → ℕ → ℕ) (f : Frame)
+    (h : IsPlaced g l base p place f) where
   -- ---- what the notes say
 
   pub node_is : (a : ℕ) (o : Option NoteRange) → base ≤ a → a < base + 4 * length p.code → range_in p.ranges a ≡ o
       → node_at g.notes a ≡ option_or (option_map (λ (r : NoteRange). r.node) o) None
   node_is a o low high r =
-      ap (λ (z : Option NoteRange). option_or (option_map (λ (r : NoteRange). r.node) z) (if in_pages g.notes a then None else Some (length g.notes.blocks))) (h.noted.ranges a low high ∙ r)
-      ∙ ap (λ (b : Bool). option_or (option_map (λ (r : NoteRange). r.node) o) (if b then None else Some (length g.notes.blocks))) (h.noted.inside a low high)
+      ap (λ (z : Option NoteRange). option_or (option_map (λ (r : NoteRange). r.node) z)
+      (if in_pages g.notes a then None else Some (length g.notes.blocks))) (h.noted.ranges a low high ∙ r)
+      ∙ ap (λ (b : Bool). option_or (option_map (λ (r : NoteRange). r.node) o)
+      (if b then None else Some (length g.notes.blocks))) (h.noted.inside a low high)
 
-  visit_is : (u : State) (o : Option NoteRange) → u.ending ≡ None → base ≤ u.pc → u.pc < base + 4 * length p.code → range_in p.ranges u.pc ≡ o
+  visit_is : (u : State) (o : Option NoteRange) → u.ending ≡ None → base ≤ u.pc → u.pc < base + 4 * length p.code
+      → range_in p.ranges u.pc ≡ o
       → visit_of g.notes u ≡ visited o true u.pc
   visit_is u o live low high r =
       ap (λ (e : Option Ending). if_live e (visited (range_at g.notes u.pc) (in_pages g.notes u.pc) u.pc)) live
@@ -124,20 +132,27 @@ module _ (g : Setting) (l : Pieces) (base : ℕ) (p : Placement) (place : ℕ �
       ∙ ap (λ (b : Bool). visited o b u.pc) (h.noted.inside u.pc low high)
 
   -- between places
-  pub on_none : (node : Node) (t u : State) → u.ending ≡ None → base ≤ u.pc → u.pc < base + 4 * length p.code → range_in p.ranges u.pc ≡ None → IsOnWay g node t u
+  pub on_none : (node : Node) (t u : State) → u.ending ≡ None → base ≤ u.pc → u.pc < base + 4 * length p.code
+      → range_in p.ranges u.pc ≡ None → IsOnWay g node t u
   on_none node t u live low high r =
       let n : node_at g.notes u.pc ≡ None = node_is u.pc None low high r in
       record { live = live; visit = visit_is u None live low high r; place = λ q e. absurd (cc) }
 
   -- in a place of the node, past its first address
-  pub on_range : (node : Node) (t u : State) (r : NoteRange) → u.ending ≡ None → base ≤ u.pc → u.pc < base + 4 * length p.code
+  pub on_range : (node : Node) (t u : State) (r : NoteRange) → u.ending ≡ None → base ≤ u.pc
+      → u.pc < base + 4 * length p.code
       → range_in p.ranges u.pc ≡ Some r → r.lo < u.pc → r.node ≡ number_in g node → IsOnWay g node t u
   on_range node t u r live low high is past same =
       let n : node_at g.notes u.pc ≡ Some r.node = node_is u.pc (Some r) low high is in
       record {
         live = live;
-        visit = visit_is u (Some r) live low high is ∙ ap (λ (b : Bool). if b then Some r.address else None) (not_first r.lo u.pc past);
-        place = λ q e. (let k : q ≡ r.node = some_same q r.node (sym e ∙ n) in k ∙ same, h.counts.none u ∙ sym (h.counts.none t));
+        visit = visit_is u (Some r) live low high is ∙ ap (λ (b : Bool). if b then Some r.address else None)
+            (not_first r.lo u.pc past);
+        place = λ q e. (
+          let k : q ≡ r.node = some_same q r.node (sym e ∙ n) in k ∙ same,
+          h.counts.none u
+              ∙ sym (h.counts.none t),
+        );
       }
     where
       not_first : (a b : ℕ) → a < b → (a == b) ≡ false
@@ -147,26 +162,33 @@ module _ (g : Setting) (l : Pieces) (base : ℕ) (p : Placement) (place : ℕ �
       some_same a b e = cc
 
   -- at the first address of a place
-  pub at_range : (node : Node) (x : Point) (t : State) (r : NoteRange) → t.ending ≡ None → base ≤ t.pc → t.pc < base + 4 * length p.code
-      → range_in p.ranges t.pc ≡ Some r → r.lo ≡ t.pc → r.node ≡ number_in g node → r.address ≡ x.pc → visits_it g node x t
+  pub at_range : (node : Node) (x : Point) (t : State) (r : NoteRange) → t.ending ≡ None → base ≤ t.pc
+      → t.pc < base + 4 * length p.code
+      → range_in p.ranges t.pc ≡ Some r → r.lo ≡ t.pc → r.node ≡ number_in g node → r.address ≡ x.pc
+      → visits_it g node x t
   at_range node x t r live low high is lo same address = (
-    visit_is t (Some r) live low high is ∙ ap (λ (b : Bool). if b then Some r.address else None) (first r.lo t.pc lo) ∙ ap (λ z. Some z) address,
+    visit_is t (Some r) live low high is ∙ ap (λ (b : Bool). if b then Some r.address else None) (first r.lo t.pc lo)
+        ∙ ap (λ z. Some z) address,
     node_is t.pc (Some r) low high is ∙ ap (λ z. Some z) same,
   )
     where
       first : (a b : ℕ) → a ≡ b → (a == b) ≡ true
       first a b e = grind (arith, nat_tests)
 
-  pub quiet_of : (node : Node) (t after : State) (count : ℕ) (P : State → Type 0) → Leads P t after count → after.ending ≡ None
-      → ((u : State) → u.ending ≡ None → P u → IsOnWay g node t u) → (j : ℕ) → 0 < j → j < count → IsOnWay g node t (run t j)
+  pub quiet_of : (node : Node) (t after : State) (count : ℕ) (P : State → Type 0) → Leads P t after count
+      → after.ending ≡ None
+      → ((u : State) → u.ending ≡ None → P u → IsOnWay g node t u) → (j : ℕ) → 0 < j → j < count
+      → IsOnWay g node t (run t j)
   quiet_of node t after count P way live on j a b =
-      let e : (run t (count - j + j)).ending ≡ None = (let q : count - j + j ≡ count = omega arith in ap (λ z. (run t z).ending) q) ∙ ap (λ (z : State). z.ending) way.steps ∙ live in
+      let e : (run t (count - j + j)).ending ≡ None = (let q : count - j + j ≡ count = omega arith in ap
+      (λ z. (run t z).ending) q) ∙ ap (λ (z : State). z.ending) way.steps ∙ live in
       on (run t j) (live_before t (count - j) j e) (way.during j a b)
 
   pub cells_same : (edges : List ℕ) (t v after : State) → g.cells_of after ≡ updates g.store edges (g.cells_of t) v
   cells_same edges t v after = h.counts.none after ∙ sym (h.counts.still edges (g.cells_of t) v ∙ h.counts.none t)
 
-  pub can_run : (t : State) → IsValid t → t.ending ≡ None → t.npc ≡ t.pc + 4 → t.slot ≡ NoSlot → HasCode base p.code t.memory
+  pub can_run : (t : State) → IsValid t → t.ending ≡ None → t.npc ≡ t.pc + 4 → t.slot ≡ NoSlot
+      → HasCode base p.code t.memory
       → IsOurs (pages_of g.notes) f.own t.memory → CanRun base p.code t
   can_run t valid live npc slot code ours = record {
     valid = valid;
@@ -178,7 +200,8 @@ module _ (g : Setting) (l : Pieces) (base : ℕ) (p : Placement) (place : ℕ �
 
   pub code_after : (t : State) (k : ℕ) → HasCode base p.code t.memory → HasCode base p.code (run t k).memory
   code_after t k code n word e =
-      sym (fetch_is (run t k).memory (base + 4 * n)) ∙ code_stays.1 t k (base + 4 * n) ∙ fetch_is t.memory (base + 4 * n) ∙ code n word e
+      sym (fetch_is (run t k).memory (base + 4 * n)) ∙ code_stays.1 t k (base + 4 * n)
+      ∙ fetch_is t.memory (base + 4 * n) ∙ code n word e
 
   -- words stored in word 0 of the page leave all else
   pub own_stored : (m n : Memory) → IsOurs (pages_of g.notes) f.own m → Stores IsFirstWord m n
@@ -211,7 +234,8 @@ module _ (g : Setting) (l : Pieces) (base : ℕ) (p : Placement) (place : ℕ �
     count = 0;
     memory = a.memory;
     few = omega arith;
-    path = subst (λ (q : State). Leads IsBare a q 0) (sym (stays a to e w.ready.npc w.slot (omega arith))) (leads_none _ a);
+    path = subst (λ (q : State). Leads IsBare a q 0) (sym (stays a to e w.ready.npc w.slot (omega arith)))
+        (leads_none _ a);
     silent = silent_none a;
     stores = stores_none IsFirstWord a.memory;
     begins = λ q. absurd (omega arith);
@@ -228,19 +252,26 @@ module _ (g : Setting) (l : Pieces) (base : ℕ) (p : Placement) (place : ℕ �
       let starts = (h.laid.within k n here (omega arith)).begins in
       let ins = j.inside in
       let none : (u : State) → place k n ≤ u.pc → u.pc < place k (suc n) → IsBare u =
-      λ u low high. (omega arith, omega arith, h.laid.ranges k n u.pc (it.Jump z) item low high ∙ ap (range_of (place k)) closed) in
+      λ u low high. (
+        omega arith,
+        omega arith,
+        h.laid.ranges k n u.pc (it.Jump z) item low high
+            ∙ ap (range_of (place k)) closed,
+      ) in
       record {
         count = j.count;
         memory = j.memory;
         few = j.few;
-        path = leads_weaker _ _ a _ j.count (λ u q. let b = q.past in let c = q.before in none u (omega arith) (omega arith)) j.hops.path;
+        path = leads_weaker _ _ a _ j.count (λ u q. let b = q.past in let c = q.before in none u (omega arith)
+            (omega arith)) j.hops.path;
         silent = j.hops.silent;
         stores = j.hops.stores;
         begins = λ q. none a (omega arith) (omega arith);
       }
 
   -- a way after another one
-  on_then : (a : State) (mid to few more : ℕ) (one : Arrives a mid few) → Arrives (hopped a mid one.memory) to more → Arrives a to (few + more)
+  on_then : (a : State) (mid to few more : ℕ) (one : Arrives a mid few) → Arrives (hopped a mid one.memory) to more
+      → Arrives a to (few + more)
   on_then a mid to few more one other =
       let f = one.few in
       let m = other.few in
@@ -251,7 +282,8 @@ module _ (g : Setting) (l : Pieces) (base : ℕ) (p : Placement) (place : ℕ �
         few = omega arith;
         path = leads_then IsBare a b _ one.count other.count one.path other.path (λ _ some. other.begins some);
         silent = silent_then a b one.count other.count one.path.steps one.silent other.silent;
-        stores = stores_then IsFirstWord IsFirstWord a.memory one.memory other.memory (λ z e. e) one.stores other.stores;
+        stores = stores_then IsFirstWord IsFirstWord a.memory one.memory other.memory
+            (λ z e. e) one.stores other.stores;
         begins = λ some. elim (cases_lt 0 one.count) [
           | inl more ↦ one.begins more
           | inr none ↦
@@ -266,39 +298,48 @@ module _ (g : Setting) (l : Pieces) (base : ℕ) (p : Placement) (place : ℕ �
     pub ours : IsOurs (pages_of g.notes) f.own a.memory
     pub runs : CanRun base p.code a
 
-  pub hopped_fit : (a : State) (to : ℕ) → IsFit a → to ≤ 2 ^ 31 → (count : ℕ) (m : Memory) → run a count ≡ hopped a to m → Stores IsFirstWord a.memory m
+  pub hopped_fit : (a : State) (to : ℕ) → IsFit a → to ≤ 2 ^ 31 → (count : ℕ) (m : Memory)
+      → run a count ≡ hopped a to m → Stores IsFirstWord a.memory m
       → IsFit (hopped a to m)
   hopped_fit a to k low count m steps stores =
       let valid : IsValid (hopped a to m) = subst IsValid steps (run-valid a count k.valid) in
       let ours = (own_stored a.memory m k.ours stores).0 in
-      let code : HasCode base p.code m = subst (λ (z : State). HasCode base p.code z.memory) steps (code_after a count k.runs.code) in
+      let code : HasCode base p.code m = subst (λ (z : State). HasCode base p.code z.memory) steps
+      (code_after a count k.runs.code) in
       let npc : wrapped (to + 4) ≡ to + 4 = omega arith in
       record { valid = valid; ours = ours; runs = can_run (hopped a to m) valid k.runs.ready.live npc refl code ours }
 
   -- from the beginning of a piece
-  pub arrive : (z : PieceNo) (a : State) (to : ℕ) → IsFit a → a.pc ≡ slice_index p.at z.0 → LeadsTo l p z to → Arrives a to 4
+  pub arrive : (z : PieceNo) (a : State) (to : ℕ) → IsFit a → a.pc ≡ slice_index p.at z.0 → LeadsTo l p z to
+      → Arrives a to 4
   arrive z a to k at (inl e) = let low = (h.laid.aligned z.0).1 in stays_here a to 4 k.runs (at ∙ e) (omega arith)
   arrive z a to k at (inr (y, is, e)) =
-      subst (λ q. Arrives a q 4) e (jump_on z.0 0 y (ap (λ (v : Option (List Item)). item_in v 0) is) (ap (λ (v : Option (List Item)). open_in v 0) is) a k.runs
+      subst (λ q. Arrives a q 4) e (jump_on z.0 0 y (ap (λ (v : Option (List Item)). item_in v 0) is)
+      (ap (λ (v : Option (List Item)). open_in v 0) is) a k.runs
       (at ∙ h.laid.starts z.0 (get_below l.list z.0 _ is)))
 
   -- from item 3 of a piece on
-  pub tail : (k : ℕ) (rest : List Item) (x y : Item) → slice_get l.list k ≡ Some (x ∷ y ∷ it.EndMark ∷ rest) → (a : State) (to : ℕ) → IsFit a → a.pc ≡ place k 3
+  pub tail : (k : ℕ) (rest : List Item) (x y : Item) → slice_get l.list k ≡ Some (x ∷ y ∷ it.EndMark ∷ rest)
+      → (a : State) (to : ℕ) → IsFit a → a.pc ≡ place k 3
       → a.pc ≤ 2 ^ 31 → LeadsOn l p place k 3 to → Arrives a to 8
   tail k rest x y is a to w at low (inl e) = stays_here a to 8 w.runs (at ∙ e) low
   tail k rest x y is a to w at low (inr (z, item, leads)) =
       let one = jump_on k 3 z item (ap (λ (v : Option (List Item)). open_in v 3) is ∙ open_rest rest) a w.runs at in
       on_then a (slice_index p.at z.0) to 4 4 one
-      (arrive z (hopped a (slice_index p.at z.0) one.memory) to (hopped_fit a (slice_index p.at z.0) w (h.laid.aligned z.0).1 one.count one.memory one.path.steps one.stores) refl leads)
+      (arrive z (hopped a (slice_index p.at z.0) one.memory) to
+      (hopped_fit a (slice_index p.at z.0) w
+      (h.laid.aligned z.0).1 one.count one.memory one.path.steps one.stores) refl leads)
 
   -- ---- plain words
 
-  module _ (node : Node) (x : Point) (t : State) (here : Here g l base p f node x t) (c : IsPlain g l p place f node x t) where
+  module _ (node : Node) (x : Point) (t : State) (here : Here g l base p f node x t)
+      (c : IsPlain g l p place f node x t) where
     item : (n : ℕ) → item_at l.list c.piece n ≡ slice_get (plain_piece c.address (number_in g node) c.word c.rest) n
     item n = ap (λ (v : Option (List Item)). item_in v n) c.items
 
     size : size_of l.list c.piece ≡ 3 + length c.rest
-    size = ap (λ (v : Option (List Item)). items_in v) c.items ∙ (let s : suc (suc (suc (length c.rest))) ≡ 3 + length c.rest = omega arith in s)
+    size = ap (λ (v : Option (List Item)). items_in v) c.items
+        ∙ (let s : suc (suc (suc (length c.rest))) ≡ 3 + length c.rest = omega arith in s)
 
     mark : place c.piece 1 ≡ place c.piece 0
     mark = h.laid.items c.piece 0 (it.Mark c.address (number_in g node)) (item 0)
@@ -326,7 +367,8 @@ module _ (g : Setting) (l : Pieces) (base : ℕ) (p : Placement) (place : ℕ �
     range : NoteRange
     range = record { lo = place c.piece 1; hi = place c.piece 2; address = c.address.0; node = number_in g node }
 
-    in_range : range_in p.ranges t.pc ≡ Some (record { lo = place c.piece 1; hi = place c.piece 2; address = c.address.0; node = number_in g node })
+    in_range : range_in p.ranges t.pc ≡ Some
+        (record { lo = place c.piece 1; hi = place c.piece 2; address = c.address.0; node = number_in g node })
     in_range =
         let a = at in
         let w = word_stands.0 in
@@ -343,7 +385,8 @@ module _ (g : Setting) (l : Pieces) (base : ℕ) (p : Placement) (place : ℕ �
     ready =
         let i2 = inside.2 in
         let n = here.npc in
-        can_run t here.valid here.live (let e : t.npc ≡ t.pc + 4 = n ∙ (let q : wrapped (t.pc + 4) ≡ t.pc + 4 = omega arith in q) in e) here.slot here.code here.ours
+        can_run t here.valid here.live (let e : t.npc ≡ t.pc + 4 = n
+        ∙ (let q : wrapped (t.pc + 4) ≡ t.pc + 4 = omega arith in q) in e) here.slot here.code here.ours
 
     fetched : fetch_from (code_of t.memory) t.pc ≡ Some c.word
     fetched = (words_stand l.list base p place h.laid c.piece 1 c.word (item 1) t ready at).0
@@ -351,7 +394,8 @@ module _ (g : Setting) (l : Pieces) (base : ℕ) (p : Placement) (place : ℕ �
     one : step_of t ≡ act t (decode_of c.word)
     one = step_is t c.word here.live fetched
 
-    same : moved x.pc x.npc x.slot (act t (decode_of c.word)) ≡ moved x.pc x.npc x.slot (act (at_point x t) (decode_of c.word))
+    same : moved x.pc x.npc x.slot (act t (decode_of c.word)) ≡ moved x.pc x.npc x.slot
+        (act (at_point x t) (decode_of c.word))
     same = (acts_anywhere x.pc x.npc x.slot t (decode_of c.word) c.straight).0
 
     puts_one : (descriptor : ℕ) → run_puts t 1 descriptor ≡ puts_on_word (at_point x t) (word_of g.text x.pc) descriptor
@@ -361,19 +405,24 @@ module _ (g : Setting) (l : Pieces) (base : ℕ) (p : Placement) (place : ℕ �
         ∙ sym (ap (λ (o : Option ℕ). puts_on_word (at_point x t) o descriptor) c.is_word)
 
     -- the same but for where it goes on, and what the pages hold
-    followed : (after : State) → after.ending ≡ (act t (decode_of c.word)).ending → after.window ≡ (act t (decode_of c.word)).window
+    followed : (after : State) → after.ending ≡ (act t (decode_of c.word)).ending
+        → after.window ≡ (act t (decode_of c.word)).window
         → after.valid ≡ (act t (decode_of c.word)).valid → after.registers ≡ (act t (decode_of c.word)).registers
-        → after.codes ≡ (act t (decode_of c.word)).codes → after.y ≡ (act t (decode_of c.word)).y → after.input ≡ (act t (decode_of c.word)).input
+        → after.codes ≡ (act t (decode_of c.word)).codes → after.y ≡ (act t (decode_of c.word)).y
+        → after.input ≡ (act t (decode_of c.word)).input
         → IsSameOutside (pages_of g.notes) (act t (decode_of c.word)).memory after.memory → (edges : List ℕ)
-        → IsFollowedBy (pages_of g.notes) (Everything edges (act (at_point x t) (decode_of c.word)).window) (act (at_point x t) (decode_of c.word)) after
+        → IsFollowedBy (pages_of g.notes) (Everything edges (act (at_point x t) (decode_of c.word)).window)
+        (act (at_point x t) (decode_of c.word)) after
     followed after e1 e2 e3 e4 e5 e6 e7 e8 edges = record {
       ending = e1 ∙ ap (λ (z : State). z.ending) same;
       window = e2 ∙ ap (λ (z : State). z.window) same;
       valid = e3 ∙ ap (λ (z : State). z.valid) same;
       registers = ap length (e4 ∙ ap (λ (z : State). z.registers) same);
       input = e7 ∙ ap (λ (z : State). z.input) same;
-      memory = subst (λ (z : Memory). IsSameOutside (pages_of g.notes) z after.memory) (ap (λ (z : State). z.memory) same) e8;
-      items = λ _ thing _ _. same_at thing _ _ (sym (e4 ∙ ap (λ (z : State). z.registers) same)) (sym (e5 ∙ ap (λ (z : State). z.codes) same)) (sym (e6 ∙ ap (λ (z : State). z.y) same));
+      memory = subst (λ (z : Memory). IsSameOutside (pages_of g.notes) z after.memory)
+          (ap (λ (z : State). z.memory) same) e8;
+      items = λ _ thing _ _. same_at thing _ _ (sym (e4 ∙ ap (λ (z : State). z.registers) same))
+          (sym (e5 ∙ ap (λ (z : State). z.codes) same)) (sym (e6 ∙ ap (λ (z : State). z.y) same));
     }
 
     ends : (edges : List ℕ) (d : Ending) → (act (at_point x t) (decode_of c.word)).ending ≡ Some d
@@ -385,15 +434,18 @@ module _ (g : Setting) (l : Pieces) (base : ℕ) (p : Placement) (place : ℕ �
           after = act t (decode_of c.word);
           path = record { steps = one; some = omega arith; few = omega arith; quiet = λ j a b. absurd (omega arith) };
           puts = puts_one;
-          followed = followed (act t (decode_of c.word)) refl refl refl refl refl refl refl (outside_refl (pages_of g.notes) _) edges;
+          followed = followed (act t (decode_of c.word)) refl refl refl refl refl refl refl
+              (outside_refl (pages_of g.notes) _) edges;
           cells = cells_same edges t _ _;
           here = λ live. absurd (cc);
           place = λ _. ap (node_at g.notes) (stops_act t (decode_of c.word) c.straight here.live d stopped) ∙ visits.1;
         }
 
-    goes : (edges : List ℕ) → (act (at_point x t) (decode_of c.word)).ending ≡ None → AllApart (pages_of g.notes) (judged_by (at_point x t) (decode_of c.word))
+    goes : (edges : List ℕ) → (act (at_point x t) (decode_of c.word)).ending ≡ None
+        → AllApart (pages_of g.notes) (judged_by (at_point x t) (decode_of c.word))
         → AllApart (pages_of g.notes) (judged_by t (decode_of c.word))
-        → LeadsOn l p place c.piece 3 (visited_at g l p f (node_after (graph_in g) node edges) (point_of (act (at_point x t) (decode_of c.word))))
+        → LeadsOn l p place c.piece 3 (visited_at g l p f (node_after (graph_in g) node edges)
+        (point_of (act (at_point x t) (decode_of c.word))))
         → StepsOn g (Here g l base p f) Everything edges node x t (act (at_point x t) (decode_of c.word))
     goes edges live apart' apart leads =
         let a : State = act t (decode_of c.word) in
@@ -410,13 +462,22 @@ module _ (g : Setting) (l : Pieces) (base : ℕ) (p : Placement) (place : ℕ �
         let w1 = went.1 in
         let pc : (act t (decode_of c.word)).pc ≡ place c.piece 3 = omega arith in
         let onpc : (act t (decode_of c.word)).npc ≡ (act t (decode_of c.word)).pc + 4 = omega arith in
-        let to = visited_at g l p f (node_after (graph_in g) node edges) (point_of (act (at_point x t) (decode_of c.word))) in
+        let to = visited_at g l p f (node_after (graph_in g) node edges)
+        (point_of (act (at_point x t) (decode_of c.word))) in
         let valid : IsValid (act t (decode_of c.word)) = subst IsValid one (run-valid t 1 here.valid) in
-        let code : HasCode base p.code (act t (decode_of c.word)).memory = subst (λ (z : State). HasCode base p.code z.memory) one (code_after t 1 here.code) in
+        let code : HasCode base p.code (act t (decode_of c.word)).memory = subst
+        (λ (z : State). HasCode base p.code z.memory) one (code_after t 1 here.code) in
         let ours = ours_stay (pages_of g.notes) f.own t (decode_of c.word) h.own here.ours apart in
-        let fit : IsFit (act t (decode_of c.word)) = record { valid = valid; ours = ours; runs = can_run (act t (decode_of c.word)) valid alive onpc went.2 code ours } in
-        let rest = tail c.piece c.rest (it.Mark c.address (number_in g node)) (it.Word c.word) c.items (act t (decode_of c.word)) to fit pc (omega arith) leads in
-        let way = leads_then IsBare t (act t (decode_of c.word)) _ 1 rest.count (leads_one _ t _ one) rest.path (λ _ some. rest.begins some) in
+        let fit : IsFit (act t (decode_of c.word)) = record {
+          valid = valid;
+          ours = ours;
+          runs = can_run
+              (act t (decode_of c.word)) valid alive onpc went.2 code ours;
+        } in
+        let rest = tail c.piece c.rest (it.Mark c.address (number_in g node)) (it.Word c.word) c.items
+        (act t (decode_of c.word)) to fit pc (omega arith) leads in
+        let way = leads_then IsBare t (act t (decode_of c.word)) _ 1 rest.count (leads_one _ t _ one) rest.path
+        (λ _ some. rest.begins some) in
         let few = rest.few in
         let kept = own_stored (act t (decode_of c.word)).memory rest.memory ours rest.stores in
         record {
@@ -432,8 +493,10 @@ module _ (g : Setting) (l : Pieces) (base : ℕ) (p : Placement) (place : ℕ �
               ap (λ n. run_puts t n descriptor) (let e : 1 + rest.count ≡ rest.count + 1 = omega arith in e)
               ∙ puts_add t 1 rest.count descriptor
               ∙ ap (λ (z : State). run_puts t 1 descriptor ++ run_puts z rest.count descriptor) one
-              ∙ ap (λ z. run_puts t 1 descriptor ++ z) (rest.silent descriptor) ∙ append-nil (run_puts t 1 descriptor) ∙ puts_one descriptor;
-          followed = followed (hopped (act t (decode_of c.word)) to rest.memory) refl refl refl refl refl refl refl kept.1 edges;
+              ∙ ap (λ z. run_puts t 1 descriptor ++ z) (rest.silent descriptor) ∙ append-nil (run_puts t 1 descriptor)
+              ∙ puts_one descriptor;
+          followed = followed (hopped
+              (act t (decode_of c.word)) to rest.memory) refl refl refl refl refl refl refl kept.1 edges;
           cells = cells_same edges t _ _;
           here = λ _. record {
             valid = subst IsValid way.steps (run-valid t (1 + rest.count) here.valid);
@@ -441,7 +504,8 @@ module _ (g : Setting) (l : Pieces) (base : ℕ) (p : Placement) (place : ℕ �
             at = refl;
             npc = refl;
             slot = refl;
-            code = subst (λ (z : State). HasCode base p.code z.memory) way.steps (code_after t (1 + rest.count) here.code);
+            code = subst (λ (z : State). HasCode base p.code z.memory) way.steps
+                (code_after t (1 + rest.count) here.code);
             ours = kept.0;
             waits = λ e. let none = vwent.2 in absurd (cc);
           };
@@ -452,7 +516,8 @@ pub plains_visit : PlainsVisit
 plains_visit g l base p place f node x t h here c = visits g l base p place f h node x t here c
 
 -- an instruction judges the same bytes wherever it stands
-judged_moved : (notes : Notes) (x : Point) (t : State) (instr : Instr) → AllApart (pages_of notes) (judged_by (at_point x t) instr)
+judged_moved : (notes : Notes) (x : Point) (t : State) (instr : Instr)
+    → AllApart (pages_of notes) (judged_by (at_point x t) instr)
     → AllApart (pages_of notes) (judged_by t instr)
 judged_moved notes x t instr apart = judged_alike notes instr (at_point x t) t (record {
   registers = refl;
@@ -470,16 +535,23 @@ plains_step g l base p place f node x t h here c apart =
     let is : does_at g x t ≡ act (at_point x t) (decode_of c.word) = ap (on_word (at_point x t)) c.is_word in
     subst (λ (z : State). StepsOn g (Here g l base p f) Everything (gone_at g node x z) node x t z) (sym is)
     (by (act (at_point x t) (decode_of c.word)).ending refl
-    (subst (λ (z : State). z.ending ≡ None → LeadsOn l p place c.piece 3 (visited_at g l p f (node_after (graph_in g) node (gone_at g node x z)) (point_of z))) is c.leads))
+    (subst (λ (z : State). z.ending ≡ None → LeadsOn l p place c.piece 3
+    (visited_at g l p f (node_after (graph_in g) node (gone_at g node x z)) (point_of z))) is c.leads))
   where
     by : (e : Option Ending) → (act (at_point x t) (decode_of c.word)).ending ≡ e
-        → ((act (at_point x t) (decode_of c.word)).ending ≡ None → LeadsOn l p place c.piece 3 (visited_at g l p f (node_after (graph_in g) node (gone_at g node x (act (at_point x t) (decode_of c.word)))) (point_of (act (at_point x t) (decode_of c.word)))))
-        → StepsOn g (Here g l base p f) Everything (gone_at g node x (act (at_point x t) (decode_of c.word))) node x t (act (at_point x t) (decode_of c.word))
-    by None e leads = goes g l base p place f h node x t here c _ e apart (judged_moved g.notes x t (decode_of c.word) apart) (leads e)
+        → ((act (at_point x t) (decode_of c.word)).ending ≡ None
+        → LeadsOn l p place c.piece 3 (visited_at g l p f
+        (node_after (graph_in g) node (gone_at g node x (act (at_point x t) (decode_of c.word))))
+        (point_of (act (at_point x t) (decode_of c.word)))))
+        → StepsOn g (Here g l base p f) Everything (gone_at g node x (act (at_point x t) (decode_of c.word))) node x t
+        (act (at_point x t) (decode_of c.word))
+    by None e leads = goes g l base p place f h node x t here c _ e apart
+        (judged_moved g.notes x t (decode_of c.word) apart) (leads e)
     by (Some d) e leads = ends g l base p place f h node x t here c _ d e
 
 -- ---- branches
 
-pub no_puts : (s : State) (cond : ℕ) (annul : Bool) (disp : ℤ) (descriptor : ℕ) → puts_by s (i.Branch cond annul disp) descriptor ≡ []
+pub no_puts : (s : State) (cond : ℕ) (annul : Bool) (disp : ℤ) (descriptor : ℕ)
+    → puts_by s (i.Branch cond annul disp) descriptor ≡ []
 unfolding puts_by
 no_puts s cond annul disp descriptor = refl

@@ -66,13 +66,15 @@ unfolding puts_by
 quiet_transfer s (i.Ticc cond rs1 op2) descriptor e = absurd (cc)
 quiet_transfer s _ descriptor e = refl
 
-module _ (g : Setting) (l : Pieces) (base : ℕ) (p : Placement) (place : ℕ → ℕ → ℕ) (f : Frame) (h : IsPlaced g l base p place f)
+module _ (g : Setting) (l : Pieces) (base : ℕ) (p : Placement) (place : ℕ → ℕ → ℕ) (f : Frame)
+    (h : IsPlaced g l base p place f)
     (node : Node) (x : Point) (t : State) (here : Here g l base p f node x t) (c : IsCouple g l p f node x) where
   item : (n : ℕ) → item_at l.list c.piece n ≡ slice_get (couple_piece c.address (number_in g node) c.ba c.rest) n
   item n = ap (λ (v : Option (List Item)). item_in v n) c.items
 
   size : size_of l.list c.piece ≡ 4 + length c.rest
-  size = ap (λ (v : Option (List Item)). items_in v) c.items ∙ (let s : suc (suc (suc (suc (length c.rest)))) ≡ 4 + length c.rest = omega arith in s)
+  size = ap (λ (v : Option (List Item)). items_in v) c.items
+      ∙ (let s : suc (suc (suc (suc (length c.rest)))) ≡ 4 + length c.rest = omega arith in s)
 
   mark : place c.piece 1 ≡ place c.piece 0
   mark = h.laid.items c.piece 0 (it.Mark c.address (number_in g node)) (item 0)
@@ -101,29 +103,36 @@ module _ (g : Setting) (l : Pieces) (base : ℕ) (p : Placement) (place : ℕ �
   npc = let i2 = inside.2 in here.npc ∙ (let q : wrapped (t.pc + 4) ≡ t.pc + 4 = omega arith in q)
 
   in_range : (a : ℕ) → place c.piece 2 ≤ a → a < place c.piece 3
-      → range_in p.ranges a ≡ Some (record { lo = place c.piece 1; hi = place c.piece 3; address = c.address.0; node = number_in g node })
-  in_range a low high = h.laid.ranges c.piece 2 a (it.Word c.ba) (item 2) low high ∙ ap (λ (v : Option (List Item)). range_of (place c.piece) (open_in v 2)) c.items
+      → range_in p.ranges a ≡ Some
+      (record { lo = place c.piece 1; hi = place c.piece 3; address = c.address.0; node = number_in g node })
+  in_range a low high = h.laid.ranges c.piece 2 a (it.Word c.ba) (item 2) low high
+      ∙ ap (λ (v : Option (List Item)). range_of (place c.piece) (open_in v 2)) c.items
 
   -- in the slot of the first word
   mid : State
   mid = record t { pc = t.npc; npc = target_of t c.disp; slot = Taken }
 
   fetched : fetch_from (code_of t.memory) t.pc ≡ Some c.ba
-  fetched = ap (fetch_from (code_of t.memory)) at ∙ word_is base (place c.piece 1) c.ba p.code t.memory here.code first.1
+  fetched = ap (fetch_from (code_of t.memory)) at ∙ word_is base
+      (place c.piece 1) c.ba p.code t.memory here.code first.1
 
   fetched_mid : fetch_from (code_of t.memory) t.npc ≡ Some c.ba
   fetched_mid =
       let n = npc in
       let a = at in
       let u = first.0 in
-      ap (fetch_from (code_of t.memory)) (let e : t.npc ≡ place c.piece 2 = omega arith in e) ∙ word_is base (place c.piece 2) c.ba p.code t.memory here.code second.1
+      ap (fetch_from (code_of t.memory)) (let e : t.npc ≡ place c.piece 2 = omega arith in e)
+      ∙ word_is base (place c.piece 2) c.ba p.code t.memory here.code second.1
 
   one : step_of t ≡ record t { pc = t.npc; npc = target_of t c.disp; slot = Taken }
-  one = step_is t c.ba here.live fetched ∙ ap (act t) c.says ∙ taken_acts t 8 c.disp true here.slot (always_holds 8 t.codes refl) refl
+  one = step_is t c.ba here.live fetched ∙ ap (act t) c.says
+      ∙ taken_acts t 8 c.disp true here.slot (always_holds 8 t.codes refl) refl
 
-  two : step_of (record t { pc = t.npc; npc = target_of t c.disp; slot = Taken }) ≡ ended (record t { pc = t.npc; npc = target_of t c.disp; slot = Taken }) Couple
+  two : step_of (record t { pc = t.npc; npc = target_of t c.disp; slot = Taken }) ≡ ended
+      (record t { pc = t.npc; npc = target_of t c.disp; slot = Taken }) Couple
   unfolding mid
-  two = step_is mid c.ba here.live fetched_mid ∙ ap (act mid) c.says ∙ couple_acts mid (i.Branch 8 false c.disp) refl (λ e. cc)
+  two = step_is mid c.ba here.live fetched_mid ∙ ap (act mid) c.says
+      ∙ couple_acts mid (i.Branch 8 false c.disp) refl (λ e. cc)
 
   on_way : IsOnWay g node t (record t { pc = t.npc; npc = target_of t c.disp; slot = Taken })
   unfolding mid
@@ -134,7 +143,8 @@ module _ (g : Setting) (l : Pieces) (base : ℕ) (p : Placement) (place : ℕ �
       let w = second.0 in
       let i0 = inside.0 in
       let i1 = inside.1 in
-      on_range g l base p place f h node t mid (record { lo = place c.piece 1; hi = place c.piece 3; address = c.address.0; node = number_in g node })
+      on_range g l base p place f h node t mid
+      (record { lo = place c.piece 1; hi = place c.piece 3; address = c.address.0; node = number_in g node })
       here.live (omega arith) (omega arith) (in_range t.npc (omega arith) (omega arith)) (omega arith) refl
 
   does_is : does_at g x t ≡ ended (at_point x t) Couple
@@ -143,8 +153,11 @@ module _ (g : Setting) (l : Pieces) (base : ℕ) (p : Placement) (place : ℕ �
   silent : (descriptor : ℕ) → run_puts t 2 descriptor ≡ []
   unfolding mid
   silent descriptor =
-      let a : puts_of t descriptor ≡ [] = live_puts t c.ba descriptor here.live (fetch_is t.memory t.pc ∙ fetched) ∙ ap (λ (q : Instr). puts_by t q descriptor) c.says ∙ no_puts t 8 false c.disp descriptor in
-      let b : puts_of mid descriptor ≡ [] = live_puts mid c.ba descriptor here.live (fetch_is t.memory t.npc ∙ fetched_mid) ∙ ap (λ (q : Instr). puts_by mid q descriptor) c.says ∙ no_puts mid 8 false c.disp descriptor in
+      let a : puts_of t descriptor ≡ [] = live_puts t c.ba descriptor here.live (fetch_is t.memory t.pc ∙ fetched)
+      ∙ ap (λ (q : Instr). puts_by t q descriptor) c.says ∙ no_puts t 8 false c.disp descriptor in
+      let b : puts_of mid descriptor ≡ [] = live_puts mid c.ba descriptor here.live
+      (fetch_is t.memory t.npc ∙ fetched_mid) ∙ ap (λ (q : Instr). puts_by mid q descriptor) c.says
+      ∙ no_puts mid 8 false c.disp descriptor in
       ap (λ (z : State). puts_of t descriptor ++ puts_of z descriptor) one
       ∙ ap (λ z. z ++ puts_of (record t { pc = t.npc; npc = target_of t c.disp; slot = Taken }) descriptor) a ∙ b
 
@@ -157,10 +170,12 @@ module _ (g : Setting) (l : Pieces) (base : ℕ) (p : Placement) (place : ℕ �
       steps = ap step_of one ∙ two;
       some = omega arith;
       few = omega arith;
-      quiet = λ j a b. subst (λ (n : ℕ). IsOnWay g node t (run t n)) (let e : 1 ≡ j = omega arith in e) (subst (IsOnWay g node t) (sym one) on_way);
+      quiet = λ j a b. subst (λ (n : ℕ). IsOnWay g node t (run t n)) (let e : 1 ≡ j = omega arith in e)
+          (subst (IsOnWay g node t) (sym one) on_way);
     };
     puts = λ descriptor. silent descriptor
-        ∙ sym (ap (λ (o : Option ℕ). puts_on_word (at_point x t) o descriptor) c.is_word ∙ quiet_transfer (at_point x t) (decode_of c.word) descriptor c.transfer);
+        ∙ sym (ap (λ (o : Option ℕ). puts_on_word (at_point x t) o descriptor) c.is_word
+        ∙ quiet_transfer (at_point x t) (decode_of c.word) descriptor c.transfer);
     followed = record {
       ending = refl;
       window = refl;
@@ -170,7 +185,8 @@ module _ (g : Setting) (l : Pieces) (base : ℕ) (p : Placement) (place : ℕ �
       memory = outside_refl (pages_of g.notes) t.memory;
       items = λ live thing _ _. absurd (cc);
     };
-    cells = cells_same g l base p place f h edges t (ended (at_point x t) Couple) (ended (record t { pc = t.npc; npc = target_of t c.disp; slot = Taken }) Couple);
+    cells = cells_same g l base p place f h edges t (ended (at_point x t) Couple)
+        (ended (record t { pc = t.npc; npc = target_of t c.disp; slot = Taken }) Couple);
     here = λ live. absurd (cc);
     place = λ _.
         let n = npc in
@@ -179,10 +195,12 @@ module _ (g : Setting) (l : Pieces) (base : ℕ) (p : Placement) (place : ℕ �
         let w = second.0 in
         let i0 = inside.0 in
         let i1 = inside.1 in
-        node_is g l base p place f h t.npc (Some (record { lo = place c.piece 1; hi = place c.piece 3; address = c.address.0; node = number_in g node })) (omega arith) (omega arith) (in_range t.npc (omega arith) (omega arith));
+        node_is g l base p place f h t.npc
+        (Some (record { lo = place c.piece 1; hi = place c.piece 3; address = c.address.0; node = number_in g node })) (omega arith) (omega arith) (in_range t.npc (omega arith) (omega arith));
   }
 
 pub couples_step : CouplesStep
 couples_step g l base p place f node x t h here c =
-    subst (λ (z : State). StepsOn g (Here g l base p f) Everything (gone_at g node x z) node x t z) (sym (does_is g l base p place f h node x t here c))
+    subst (λ (z : State). StepsOn g (Here g l base p f) Everything (gone_at g node x z) node x t z)
+    (sym (does_is g l base p place f h node x t here c))
     (steps g l base p place f h node x t here c (gone_at g node x (ended (at_point x t) Couple)))

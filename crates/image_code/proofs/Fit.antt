@@ -28,7 +28,7 @@ use Rattle.cfg_normal.specs.declared.Slot.TheVariants as slots
 use Rattle.cfg_normal.specs.Graph.{Graph, IsEdgeIn, IsNodeIn, edges_in, graph_of, node_of}
 use Rattle.cfg_normal.proofs.Edges.{edges_in-in}
 use Rattle.cfg_walk.specs.Walk.{same_kind, same_node}
-use Rattle.cfg_walk.specs.Counts.{node_number}
+use Rattle.cfg_walk.specs.Numbers.{node_number}
 use Rattle.cfg_walk.proofs.Addresses.{word_at-address}
 use Rattle.cfg_walk.proofs.Lists.{Each, each_at, each-append, each-below, each-map}
 use Rattle.layout.specs.declared.items.Item.{Item}
@@ -40,14 +40,15 @@ use Rattle.image_code.specs.Made.{illegal_word, image, first_way, image_by, outs
 use Rattle.image_code.specs.Parts.{IsGraphOf}
 use Rattle.image_code.specs.Fit.{AreFit, PiecesFit, PlacesSay, marks_in}
 use Rattle.image_code.proofs.Listed.{own_at}
-use Rattle.image_code.proofs.Made.{same_is}
+use Rattle.image_code.proofs.Branches.{same_is}
 use Rattle.image_code.proofs.Numbers.{cut_of, edges_are, graph_is, own_few}
 
 -- ---- one piece
 
 -- the item behind a Mark at such an address is the word there, unless that is a transfer
 record SaysWord (text : Words) (address : ℕ) (items : List Item) : Type 0 where
-  pub says : (word : ℕ) → word_at text address ≡ Some word → is_transfer (decode_of (slice_index text.words word)) ≡ false
+  pub says : (word : ℕ) → word_at text address ≡ Some word
+      → is_transfer (decode_of (slice_index text.words word)) ≡ false
       → slice_get items 0 ≡ Some (it.Word (slice_index text.words word))
 
 abbrev MarksSay : Words → List Item → Type 0
@@ -69,48 +70,76 @@ record IsSmall (text : Words) (count : ℕ) (items : List Item) : Type 0 where
 
 module _ (text : Words) (count : ℕ) where
   small_jump : (to : ℕ) → to < count → IsSmall text count (it.Jump (record { 0 = to }) ∷ [])
-  small_jump to l = record { few = omega arith; words = omega arith; marks = omega arith; marked = tt; leads = (l, tt); says = tt }
+  small_jump to l = record {
+    few = omega arith;
+    words = omega arith;
+    marks = omega arith;
+    marked = tt;
+    leads =
+        (l, tt);
+    says = tt;
+  }
 
-  small_falling : (address : Addr) (node word : ℕ) → SaysWord text address.0 (it.Word word ∷ it.EndMark ∷ []) → IsSmall text count (plain_piece address node word [])
+  small_falling : (address : Addr) (node word : ℕ) → SaysWord text address.0 (it.Word word ∷ it.EndMark ∷ [])
+      → IsSmall text count (plain_piece address node word [])
   small_falling address node word says = record { few = omega arith; words = omega arith; marks = omega arith; marked = tt; leads = (tt, (tt, (tt, tt))); says = (says, tt) }
 
-  small_jumping : (address : Addr) (node word to : ℕ) → to < count → SaysWord text address.0 (it.Word word ∷ it.EndMark ∷ it.Jump (record { 0 = to }) ∷ [])
+  small_jumping : (address : Addr) (node word to : ℕ) → to < count
+      → SaysWord text address.0 (it.Word word ∷ it.EndMark ∷ it.Jump (record { 0 = to }) ∷ [])
       → IsSmall text count (plain_piece address node word (it.Jump (record { 0 = to }) ∷ []))
   small_jumping address node word to l says = record { few = omega arith; words = omega arith; marks = omega arith; marked = tt; leads = (tt, (tt, (tt, (l, tt)))); says = (says, tt) }
 
   small_branch : (address : Addr) (node cond taken untaken : ℕ) → taken < count → untaken < count
-      → SaysWord text address.0 (it.Branch cond (record { 0 = taken }) ∷ it.EndMark ∷ it.Jump (record { 0 = untaken }) ∷ [])
+      → SaysWord text address.0 (it.Branch cond (record { 0 = taken }) ∷ it.EndMark ∷ it.Jump
+      (record { 0 = untaken }) ∷ [])
       → IsSmall text count (branch_piece address node cond taken untaken)
   small_branch address node cond taken untaken l m says = record { few = omega arith; words = omega arith; marks = omega arith; marked = tt; leads = (tt, (l, (tt, (m, tt)))); says = (says, tt) }
 
-  small_couple : (address : Addr) (node word : ℕ) → SaysWord text address.0 (it.Word word ∷ it.Word word ∷ it.EndMark ∷ []) → IsSmall text count (couple_piece address node word [])
+  small_couple : (address : Addr) (node word : ℕ) → SaysWord text address.0
+      (it.Word word ∷ it.Word word ∷ it.EndMark ∷ []) → IsSmall text count (couple_piece address node word [])
   small_couple address node word says = record { few = omega arith; words = omega arith; marks = omega arith; marked = tt; leads = (tt, (tt, (tt, (tt, tt)))); says = (says, tt) }
 
   small_empty : IsSmall text count []
   small_empty = record { few = omega arith; words = omega arith; marks = omega arith; marked = tt; leads = tt; says = tt }
 
   small_word : (word : ℕ) → IsSmall text count (it.Word word ∷ [])
-  small_word word = record { few = omega arith; words = omega arith; marks = omega arith; marked = tt; leads = (tt, tt); says = tt }
+  small_word word = record {
+    few = omega arith;
+    words = omega arith;
+    marks = omega arith;
+    marked = tt;
+    leads =
+        (tt, tt);
+    says = tt;
+  }
 
 within_is : (count word other : ℕ) → within count word ≡ Some other → word ≡ other
-within_is count word other e = cond_both (nat_lt word count) _ _ (λ (o : Option ℕ). o ≡ Some other → word ≡ other) (λ _ q. cc) (λ _ q. absurd (cc)) e
+within_is count word other e = cond_both (nat_lt word count) _ _ (λ (o : Option ℕ). o ≡ Some other → word ≡ other)
+    (λ _ q. cc) (λ _ q. absurd (cc)) e
 
 at_same : (text : Words) (word other : ℕ) → word_at text (address_of text word) ≡ Some other → word ≡ other
 at_same text word other e = within_is (length text.words) word other (sym (word_at-address text word) ∙ e)
 
 -- a transfer may have anything in its place
-transfer_says : (text : Words) (word : ℕ) (items : List Item) → is_transfer (decode_of (slice_index text.words word)) ≡ true → SaysWord text (address_of text word) items
+transfer_says : (text : Words) (word : ℕ) (items : List Item)
+    → is_transfer (decode_of (slice_index text.words word)) ≡ true → SaysWord text (address_of text word) items
 transfer_says text word items t = record { says = λ other e f. none other e f }
   where
-    none : (other : ℕ) → word_at text (address_of text word) ≡ Some other → is_transfer (decode_of (slice_index text.words other)) ≡ false
+    none : (other : ℕ) → word_at text (address_of text word) ≡ Some other
+        → is_transfer (decode_of (slice_index text.words other)) ≡ false
         → slice_get items 0 ≡ Some (it.Word (slice_index text.words other))
     none other e f =
         let same : word ≡ other = at_same text word other e in
-        let g : is_transfer (decode_of (slice_index text.words word)) ≡ false = ap (λ n. is_transfer (decode_of (slice_index text.words n))) same ∙ f in
+        let g : is_transfer (decode_of (slice_index text.words word)) ≡ false = ap
+        (λ n. is_transfer (decode_of (slice_index text.words n))) same ∙ f in
         absurd (cc)
 
-word_says : (text : Words) (word : ℕ) (items : List Item) → SaysWord text (address_of text word) (it.Word (slice_index text.words word) ∷ items)
-word_says text word items = record { says = λ other e f. ap (λ n. Some (it.Word (slice_index text.words n))) (at_same text word other e) }
+word_says : (text : Words) (word : ℕ) (items : List Item)
+    → SaysWord text (address_of text word) (it.Word (slice_index text.words word) ∷ items)
+word_says text word items = record {
+  says = λ other e f. ap (λ n. Some (it.Word (slice_index text.words n)))
+      (at_same text word other e);
+}
 
 pub each_index : {A : Type 0} (P : A → Type 0) (xs : List A) → ((k : ℕ) (x : A) → slice_get xs k ≡ Some x → P x) → Each P xs
 each_index P [] h = tt
@@ -130,9 +159,12 @@ module _ (text : Words) (graph : Graph) (is : IsText text) (h : IsGraphOf text g
   pub count_is : length (piece_list text graph) ≡ length text.words + length (own_edges graph) + 1
   unfolding piece_list
   count_is =
-      length-append (map (image text graph) (below (length text.words)) ++ map (way_along text graph) (own_edges graph)) ((it.Word illegal_word ∷ []) ∷ [])
-      ∙ ap (λ n. n + 1) (length-append (map (image text graph) (below (length text.words))) (map (way_along text graph) (own_edges graph))
-      ∙ ap (λ n. n + length (map (way_along text graph) (own_edges graph))) (length-map (below (length text.words)) (image text graph) ∙ length-below (length text.words))
+      length-append (map (image text graph) (below (length text.words)) ++ map (way_along text graph)
+      (own_edges graph)) ((it.Word illegal_word ∷ []) ∷ [])
+      ∙ ap (λ n. n + 1) (length-append (map (image text graph) (below (length text.words)))
+      (map (way_along text graph) (own_edges graph))
+      ∙ ap (λ n. n + length (map (way_along text graph) (own_edges graph)))
+      (length-map (below (length text.words)) (image text graph) ∙ length-below (length text.words))
       ∙ ap (λ n. length text.words + n) (length-map (own_edges graph) (way_along text graph)))
 
   outside_below : outside_piece text graph < length (piece_list text graph)
@@ -145,25 +177,32 @@ module _ (text : Words) (graph : Graph) (is : IsText text) (h : IsGraphOf text g
   abbrev no_edge : Edge
   no_edge = record { from = X; to = X; kind = kinds.Land; slot = slots.Nothing }
 
-  found_below : (node : Node) (kind : EdgeKind) → same_kind kind kinds.Land ≡ false → (number : ℕ) → position (Leaves node kind) graph.edges ≡ Some number
+  found_below : (node : Node) (kind : EdgeKind) → same_kind kind kinds.Land ≡ false → (number : ℕ)
+      → position (Leaves node kind) graph.edges ≡ Some number
       → number < length (own_edges graph)
   found_below node kind other number e =
       let found = position-Some (Leaves node kind) graph.edges number no_edge e in
       let edge : Edge = get_or graph.edges number no_edge in
-      let here : slice_get graph.edges number ≡ Some (get_or graph.edges number no_edge) = slice_get-get_or graph.edges number no_edge found.0 in
+      let here : slice_get graph.edges number ≡ Some
+      (get_or graph.edges number no_edge) = slice_get-get_or graph.edges number no_edge found.0 in
       let same : (get_or graph.edges number no_edge).kind ≡ kind =
-      same_is _ kind (and_parts (same_node (get_or graph.edges number no_edge).from node) (same_kind (get_or graph.edges number no_edge).kind kind) found.1).1 in
+      same_is _ kind (and_parts (same_node (get_or graph.edges number no_edge).from node)
+      (same_kind (get_or graph.edges number no_edge).kind kind) found.1).1 in
       let own : slice_get (own_edges (graph_of graph.blocks)) number ≡ Some (get_or graph.edges number no_edge) =
-      own_at graph.blocks number (get_or graph.edges number no_edge) (sym (ap (λ (es : List Edge). slice_get es number) (edges_are text graph h)) ∙ here)
+      own_at graph.blocks number (get_or graph.edges number no_edge)
+      (sym (ap (λ (es : List Edge). slice_get es number) (edges_are text graph h)) ∙ here)
       (ap (λ (k : EdgeKind). same_kind k kinds.Land) same ∙ other) in
-      slice_get_within (own_edges graph) number (get_or graph.edges number no_edge) (ap (λ (x : Graph). slice_get (own_edges x) number) (graph_is text graph h) ∙ own)
+      slice_get_within (own_edges graph) number (get_or graph.edges number no_edge)
+      (ap (λ (x : Graph). slice_get (own_edges x) number) (graph_is text graph h) ∙ own)
 
-  way_by_number : (node : Node) (kind : EdgeKind) → same_kind kind kinds.Land ≡ false → (o : Option ℕ) → position (Leaves node kind) graph.edges ≡ o
+  way_by_number : (node : Node) (kind : EdgeKind) → same_kind kind kinds.Land ≡ false → (o : Option ℕ)
+      → position (Leaves node kind) graph.edges ≡ o
       → first_way text graph (option_to_list o) < length (piece_list text graph)
   way_by_number node kind other None e = omega (arith, count_is)
   way_by_number node kind other (Some number) e = omega (arith, count_is, found_below node kind other number e)
 
-  way_below : (node : Node) (kind : EdgeKind) → same_kind kind kinds.Land ≡ false → way_out text graph node kind < length (piece_list text graph)
+  way_below : (node : Node) (kind : EdgeKind) → same_kind kind kinds.Land ≡ false
+      → way_out text graph node kind < length (piece_list text graph)
   way_below node kind other = way_by_number node kind other (position (Leaves node kind) graph.edges) refl
 
   node_below : (node : Node) → IsNodeIn graph.blocks node → piece_at text graph node < length (piece_list text graph)
@@ -177,50 +216,65 @@ module _ (text : Words) (graph : Graph) (is : IsText text) (h : IsGraphOf text g
   here word = node_of graph.blocks (Some word)
 
   image_by_small : (word : ℕ) → (instr : Instr) → decode_of (slice_index text.words word) ≡ instr
-      → IsSmall text (length (piece_list text graph)) (image_by text graph (record { 0 = address_of text word }) (here word) word instr)
+      → IsSmall text (length (piece_list text graph)) (image_by text graph (record { 0 = address_of text word })
+      (here word) word instr)
   image_by_small word (i.Branch c annul disp) e =
       let t : is_transfer (decode_of (slice_index text.words word)) ≡ true = ap is_transfer e in
       let taken = way_below (here word) kinds.Taken refl in
       let untaken = way_below (here word) kinds.Untaken refl in
-      cond_both (c == always) _ _ (IsSmall text (length (piece_list text graph))) (λ _. small_jumping text _ _ _ _ _ taken (transfer_says text word _ t))
-      (λ _. cond_both (c == never) _ _ (IsSmall text (length (piece_list text graph))) (λ _. small_jumping text _ _ _ _ _ untaken (transfer_says text word _ t))
+      cond_both (c == always) _ _ (IsSmall text (length (piece_list text graph)))
+      (λ _. small_jumping text _ _ _ _ _ taken (transfer_says text word _ t))
+      (λ _. cond_both (c == never) _ _ (IsSmall text (length (piece_list text graph)))
+      (λ _. small_jumping text _ _ _ _ _ untaken (transfer_says text word _ t))
       (λ _. small_branch text _ _ _ c _ _ taken untaken (transfer_says text word _ t)))
   image_by_small word (i.Call disp) e = small_falling text _ _ _ _ (transfer_says text word _ (ap is_transfer e))
   image_by_small word (i.Jmpl rd rs1 op2) e = small_falling text _ _ _ _ (transfer_says text word _ (ap is_transfer e))
   image_by_small word instr e =
       cond_both (nat_lt (word + 1) (length text.words)) _ _
-      (λ (rest : List Item). IsSmall text (length (piece_list text graph)) (plain_piece (record { 0 = address_of text word }) (node_number graph (here word)) (slice_index text.words word) rest))
-      (λ _. small_falling text _ _ _ _ (word_says text word _)) (λ _. small_jumping text _ _ _ _ _ outside_below (word_says text word _))
+      (λ (rest : List Item). IsSmall text (length (piece_list text graph))
+      (plain_piece (record { 0 = address_of text word }) (node_number graph (here word))
+      (slice_index text.words word) rest))
+      (λ _. small_falling text _ _ _ _ (word_says text word _))
+      (λ _. small_jumping text _ _ _ _ _ outside_below (word_says text word _))
 
-  image_small : (word : ℕ) → word < length text.words → IsSmall text (length (piece_list text graph)) (image text graph word)
+  image_small : (word : ℕ) → word < length text.words → IsSmall text (length (piece_list text graph))
+      (image text graph word)
   image_small word l = image_by_small word (decode_of (slice_index text.words word)) refl
 
   pub edge_in : (number : ℕ) (edge : Edge) → slice_get (own_edges graph) number ≡ Some edge → IsEdgeIn graph.blocks edge
   edge_in number edge e =
       let all : slice_get (edges_in graph.blocks) number ≡ Some edge =
-      sym (ap (λ (es : List Edge). slice_get es number) (edges_are text graph h)) ∙ get_taken (length graph.edges - length graph.blocks.firsts) number graph.edges edge e in
+      sym (ap (λ (es : List Edge). slice_get es number) (edges_are text graph h))
+      ∙ get_taken (length graph.edges - length graph.blocks.firsts) number graph.edges edge e in
       subst (IsEdgeIn graph.blocks) (get_or_from_slice_get (edges_in graph.blocks) number edge edge all)
-      (edges_in-in graph.blocks (cut_of text graph h is.some).firsts.some number edge (slice_get_within (edges_in graph.blocks) number edge all))
+      (edges_in-in graph.blocks (cut_of text graph h is.some).firsts.some number edge
+      (slice_get_within (edges_in graph.blocks) number edge all))
 
-  way_by_small : (edge : Edge) → IsEdgeIn graph.blocks edge → (slot : Slot) → IsSmall text (length (piece_list text graph)) (way_by text graph edge slot)
+  way_by_small : (edge : Edge) → IsEdgeIn graph.blocks edge → (slot : Slot)
+      → IsSmall text (length (piece_list text graph)) (way_by text graph edge slot)
   way_by_small edge inside slots.Nothing = small_jump text _ _ (node_below edge.to inside.to)
   way_by_small edge inside slots.Off = small_jump text _ _ outside_below
   way_by_small edge inside (slots.Word slot) =
-      cond_both (is_transfer (decode_of (slice_index text.words slot.0))) _ _ (IsSmall text (length (piece_list text graph)))
+      cond_both (is_transfer (decode_of (slice_index text.words slot.0))) _ _
+      (IsSmall text (length (piece_list text graph)))
       (λ t. small_couple text _ _ _ _ (transfer_says text slot.0 _ t))
       (λ _. small_jumping text _ _ _ _ _ (node_below edge.to inside.to) (word_says text slot.0 _))
 
-  way_small : (edge : Edge) → IsEdgeIn graph.blocks edge → IsSmall text (length (piece_list text graph)) (way_along text graph edge)
+  way_small : (edge : Edge) → IsEdgeIn graph.blocks edge
+      → IsSmall text (length (piece_list text graph)) (way_along text graph edge)
   way_small edge inside =
-      cond_both (is_fall edge.kind) _ _ (IsSmall text (length (piece_list text graph))) (λ _. small_empty text _) (λ _. way_by_small edge inside edge.slot)
+      cond_both (is_fall edge.kind) _ _ (IsSmall text (length (piece_list text graph))) (λ _. small_empty text _)
+      (λ _. way_by_small edge inside edge.slot)
 
   all_small : Each (IsSmall text (length (piece_list text graph))) (piece_list text graph)
   unfolding piece_list
   all_small =
-      each-append _ (map (image text graph) (below (length text.words)) ++ map (way_along text graph) (own_edges graph)) ((it.Word illegal_word ∷ []) ∷ [])
+      each-append _ (map (image text graph) (below (length text.words)) ++ map (way_along text graph)
+      (own_edges graph)) ((it.Word illegal_word ∷ []) ∷ [])
       (each-append _ (map (image text graph) (below (length text.words))) (map (way_along text graph) (own_edges graph))
       (each-map _ (image text graph) (below (length text.words)) (each-below _ (length text.words) image_small))
-      (each-map _ (way_along text graph) (own_edges graph) (each_index _ (own_edges graph) (λ number edge e. way_small edge (edge_in number edge e)))))
+      (each-map _ (way_along text graph) (own_edges graph)
+      (each_index _ (own_edges graph) (λ number edge e. way_small edge (edge_in number edge e)))))
       (small_word text _ illegal_word, tt)
 
   -- ---- all of them
@@ -231,7 +285,8 @@ module _ (text : Words) (graph : Graph) (is : IsText text) (h : IsGraphOf text g
   any_leads count (suc n) (x ∷ items) l = any_leads count n items l.1
 
   -- a property of each piece, at a piece's number
-  at_piece : (P : Option (List Item) → Type 0) → P None → ((items : List Item) → IsSmall text (length (piece_list text graph)) items → P (Some items))
+  at_piece : (P : Option (List Item) → Type 0) → P None →
+      ((items : List Item) → IsSmall text (length (piece_list text graph)) items → P (Some items))
       → (k : ℕ) → P (slice_get (piece_list text graph) k)
   at_piece P none some k = by (slice_get (piece_list text graph) k) refl
     where
@@ -239,14 +294,18 @@ module _ (text : Words) (graph : Graph) (is : IsText text) (h : IsGraphOf text g
       by None e = none
       by (Some items) e = some items (each_at _ (piece_list text graph) k items all_small e)
 
-  sums : (f : List Item → ℕ) (most : ℕ) → ((items : List Item) → IsSmall text (length (piece_list text graph)) items → f items ≤ most)
-      → (xs : List (List Item)) → Each (IsSmall text (length (piece_list text graph))) xs → sum_by f xs ≤ length xs * most
+  sums : (f : List Item → ℕ) (most : ℕ) → ((items : List Item) → IsSmall text (length (piece_list text graph)) items
+      → f items ≤ most)
+      → (xs : List (List Item)) → Each (IsSmall text (length (piece_list text graph))) xs
+      → sum_by f xs ≤ length xs * most
   sums f most small xs each = sum_by-le f most xs (all_in xs each)
     where
-      all_in : (xs : List (List Item)) → Each (IsSmall text (length (piece_list text graph))) xs → All (λ items. f items ≤ most) xs
+      all_in : (xs : List (List Item)) → Each (IsSmall text (length (piece_list text graph))) xs
+          → All (λ items. f items ≤ most) xs
       all_in xs each k d l = at_each xs each k d l
         where
-          at_each : (xs : List (List Item)) → Each (IsSmall text (length (piece_list text graph))) xs → (k : ℕ) (d : List Item) → k < length xs → f (get_or xs k d) ≤ most
+          at_each : (xs : List (List Item)) → Each (IsSmall text (length (piece_list text graph))) xs
+              → (k : ℕ) (d : List Item) → k < length xs → f (get_or xs k d) ≤ most
           at_each [] each k d l = absurd (omega arith)
           at_each (x ∷ xs) each zero d l = small x each.0
           at_each (x ∷ xs) each (suc k) d l = at_each xs each.1 k d (omega arith)
@@ -263,7 +322,8 @@ module _ (text : Words) (graph : Graph) (is : IsText text) (h : IsGraphOf text g
         pieces = record {
           count = omega arith;
           items = omega arith;
-          leads = λ k n. at_piece (λ (o : Option (List Item)). LeadsBelow (length (piece_list text graph)) (item_in o n)) tt (λ items small. any_leads _ n items small.leads) k;
+          leads = λ k n. at_piece (λ (o : Option (List Item)). LeadsBelow (length (piece_list text graph))
+              (item_in o n)) tt (λ items small. any_leads _ n items small.leads) k;
           marked = at_piece IsMarked tt (λ items small. small.marked);
         };
         images = omega arith;
@@ -271,7 +331,8 @@ module _ (text : Words) (graph : Graph) (is : IsText text) (h : IsGraphOf text g
         bytes = omega arith;
       }
 
-  any_says : (items : List Item) → MarksSay text items → (n : ℕ) (address : Addr) (node : ℕ) → slice_get items n ≡ Some (it.Mark address node)
+  any_says : (items : List Item) → MarksSay text items → (n : ℕ) (address : Addr) (node : ℕ)
+      → slice_get items n ≡ Some (it.Mark address node)
       → (word : ℕ) → word_at text address.0 ≡ Some word → is_transfer (decode_of (slice_index text.words word)) ≡ false
       → slice_get items (suc n) ≡ Some (it.Word (slice_index text.words word))
   any_says [] says n address node e word at plain = absurd (cc)
@@ -282,17 +343,23 @@ module _ (text : Words) (graph : Graph) (is : IsText text) (h : IsGraphOf text g
   any_says (it.Jump to ∷ items) says zero address node e word at plain = absurd (cc)
   any_says (it.Branch c to ∷ items) says zero address node e word at plain = absurd (cc)
   any_says (it.EndMark ∷ items) says zero address node e word at plain = absurd (cc)
-  any_says (it.Mark a m ∷ items) says (suc n) address node e word at plain = any_says items says.1 n address node e word at plain
-  any_says (it.Word w ∷ items) says (suc n) address node e word at plain = any_says items says n address node e word at plain
-  any_says (it.Jump to ∷ items) says (suc n) address node e word at plain = any_says items says n address node e word at plain
-  any_says (it.Branch c to ∷ items) says (suc n) address node e word at plain = any_says items says n address node e word at plain
-  any_says (it.EndMark ∷ items) says (suc n) address node e word at plain = any_says items says n address node e word at plain
+  any_says (it.Mark a m ∷ items) says
+      (suc n) address node e word at plain = any_says items says.1 n address node e word at plain
+  any_says (it.Word w ∷ items) says
+      (suc n) address node e word at plain = any_says items says n address node e word at plain
+  any_says (it.Jump to ∷ items) says
+      (suc n) address node e word at plain = any_says items says n address node e word at plain
+  any_says (it.Branch c to ∷ items) says
+      (suc n) address node e word at plain = any_says items says n address node e word at plain
+  any_says (it.EndMark ∷ items) says
+      (suc n) address node e word at plain = any_says items says n address node e word at plain
 
   item_says : (k n : ℕ) (address : Addr) (node : ℕ) → item_at (piece_list text graph) k n ≡ Some (it.Mark address node)
       → (word : ℕ) → word_at text address.0 ≡ Some word → is_transfer (decode_of (slice_index text.words word)) ≡ false
       → item_at (piece_list text graph) k (suc n) ≡ Some (it.Word (slice_index text.words word))
   item_says k n address node e word at plain =
-      at_piece (λ (o : Option (List Item)). item_in o n ≡ Some (it.Mark address node) → item_in o (suc n) ≡ Some (it.Word (slice_index text.words word)))
+      at_piece (λ (o : Option (List Item)). item_in o n ≡ Some (it.Mark address node)
+      → item_in o (suc n) ≡ Some (it.Word (slice_index text.words word)))
       (λ q. absurd (cc)) (λ items small q. any_says items small.says n address node q word at plain) k e
 
 pub pieces_fit : PiecesFit
@@ -301,6 +368,7 @@ pieces_fit text graph is h = fits text graph is h
 pub places_say : PlacesSay
 places_say text graph base p place is h laid n r e word at plain =
     let m = laid.marks n r e in
-    let item = item_says text graph is h m.piece m.item m.address r.node m.mark word (ap (word_at text) (sym m.says) ∙ at) plain in
+    let item = item_says text graph is h m.piece m.item m.address r.node m.mark word
+    (ap (word_at text) (sym m.says) ∙ at) plain in
     let stands = laid.items m.piece (suc m.item) (it.Word (slice_index text.words word)) item in
     subst (λ a. IsWordAt base p.code a (slice_index text.words word)) (sym m.lo) stands.1

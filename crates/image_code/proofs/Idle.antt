@@ -35,13 +35,15 @@ use Rattle.image_code.specs.Cases.{Everything, plain_piece}
 use Rattle.image_code.specs.Idle.{IsIdle, IdlesStep}
 use Rattle.image_code.proofs.Cases.{fetch_is, can_run, code_after, tail, quiet_of, bare_on, IsBare, IsFit, own_stored, cells_same, same_at, no_puts}
 
-module _ (g : Setting) (l : Pieces) (base : ℕ) (p : Placement) (place : ℕ → ℕ → ℕ) (f : Frame) (h : IsPlaced g l base p place f)
+module _ (g : Setting) (l : Pieces) (base : ℕ) (p : Placement) (place : ℕ → ℕ → ℕ) (f : Frame)
+    (h : IsPlaced g l base p place f)
     (node : Node) (x : Point) (t : State) (here : Here g l base p f node x t) (c : IsIdle g l p place f node x t) where
   item : (n : ℕ) → item_at l.list c.piece n ≡ slice_get (plain_piece c.address (number_in g node) c.word c.rest) n
   item n = ap (λ (v : Option (List Item)). item_in v n) c.items
 
   size : size_of l.list c.piece ≡ 3 + length c.rest
-  size = ap (λ (v : Option (List Item)). items_in v) c.items ∙ (let s : suc (suc (suc (length c.rest))) ≡ 3 + length c.rest = omega arith in s)
+  size = ap (λ (v : Option (List Item)). items_in v) c.items
+      ∙ (let s : suc (suc (suc (length c.rest))) ≡ 3 + length c.rest = omega arith in s)
 
   mark : place c.piece 1 ≡ place c.piece 0
   mark = h.laid.items c.piece 0 (it.Mark c.address (number_in g node)) (item 0)
@@ -70,7 +72,9 @@ module _ (g : Setting) (l : Pieces) (base : ℕ) (p : Placement) (place : ℕ �
   ready =
       let i2 = inside.2 in
       let n = here.npc in
-      can_run g l base p place f h t here.valid here.live (let e : t.npc ≡ t.pc + 4 = n ∙ (let q : wrapped (t.pc + 4) ≡ t.pc + 4 = omega arith in q) in e) here.slot here.code here.ours
+      can_run g l base p place f h t here.valid here.live
+      (let e : t.npc ≡ t.pc + 4 = n ∙ (let q : wrapped (t.pc + 4)
+      ≡ t.pc + 4 = omega arith in q) in e) here.slot here.code here.ours
 
   fetched : fetch_from (code_of t.memory) t.pc ≡ Some c.word
   fetched = (words_stand l.list base p place h.laid c.piece 1 c.word (item 1) t ready at).0
@@ -90,18 +94,29 @@ module _ (g : Setting) (l : Pieces) (base : ℕ) (p : Placement) (place : ℕ �
   moved_by true true false s to = record { pc = s.npc; npc = to; slot = Taken; is = refl }
   moved_by true false true s to = record { pc = s.npc; npc = to; slot = Taken; is = refl }
   moved_by true false false s to = record { pc = s.npc; npc = to; slot = Taken; is = refl }
-  moved_by false always true s to = record { pc = wrapped (s.pc + 8); npc = wrapped (s.pc + 12); slot = s.slot; is = refl }
+  moved_by false always true s to = record {
+    pc = wrapped (s.pc + 8);
+    npc = wrapped
+        (s.pc + 12);
+    slot = s.slot;
+    is = refl;
+  }
   moved_by false always false s to = record { pc = s.npc; npc = wrapped (s.npc + 4); slot = Untaken; is = refl }
 
-  branch_acts : act (at_point x t) (i.Branch c.cond c.annul c.disp) ≡ branched (holds_of c.cond t.codes) (c.cond == 8) c.annul (at_point x t) (target_of (at_point x t) c.disp)
+  branch_acts : act (at_point x t) (i.Branch c.cond c.annul c.disp) ≡ branched (holds_of c.cond t.codes)
+      (c.cond == 8) c.annul (at_point x t) (target_of (at_point x t) c.disp)
   unfolding act branch_step
-  branch_acts = ap (λ (z : Slot). unless_couple z (at_point x t) (branched (holds_of c.cond t.codes) (c.cond == 8) c.annul (at_point x t) (target_of (at_point x t) c.disp))) c.none
+  branch_acts = ap (λ (z : Slot). unless_couple z (at_point x t)
+      (branched (holds_of c.cond t.codes) (c.cond == 8) c.annul (at_point x t)
+      (target_of (at_point x t) c.disp))) c.none
 
-  does_is : does_at g x t ≡ branched (holds_of c.cond t.codes) (c.cond == 8) c.annul (at_point x t) (target_of (at_point x t) c.disp)
+  does_is : does_at g x t ≡ branched (holds_of c.cond t.codes) (c.cond == 8) c.annul (at_point x t)
+      (target_of (at_point x t) c.disp)
   does_is = ap (on_word (at_point x t)) c.is_word ∙ ap (act (at_point x t)) c.says ∙ branch_acts
 
   moved_on : IsMoved (at_point x t) (does_at g x t)
-  moved_on = subst (IsMoved (at_point x t)) (sym does_is) (moved_by (holds_of c.cond t.codes) (c.cond == 8) c.annul (at_point x t) (target_of (at_point x t) c.disp))
+  moved_on = subst (IsMoved (at_point x t)) (sym does_is)
+      (moved_by (holds_of c.cond t.codes) (c.cond == 8) c.annul (at_point x t) (target_of (at_point x t) c.disp))
 
   idle_acts : act t nop ≡ record t { pc = t.npc; npc = wrapped (t.npc + 4); slot = NoSlot }
   unfolding act
@@ -116,7 +131,8 @@ module _ (g : Setting) (l : Pieces) (base : ℕ) (p : Placement) (place : ℕ �
 
   puts_first : (descriptor : ℕ) → run_puts t 1 descriptor ≡ []
   puts_first descriptor =
-      live_puts t c.word descriptor here.live (fetch_is t.memory t.pc ∙ fetched) ∙ ap (λ (q : Instr). puts_by t q descriptor) c.idle ∙ idle_puts t descriptor
+      live_puts t c.word descriptor here.live (fetch_is t.memory t.pc ∙ fetched)
+      ∙ ap (λ (q : Instr). puts_by t q descriptor) c.idle ∙ idle_puts t descriptor
 
   steps : StepsOn g (Here g l base p f) Everything (gone_at g node x (does_at g x t)) node x t (does_at g x t)
   steps =
@@ -129,19 +145,38 @@ module _ (g : Setting) (l : Pieces) (base : ℕ) (p : Placement) (place : ℕ �
       let v : State = does_at g x t in
       let m = moved_on in
       let same : does_at g x t ≡ moved m.pc m.npc m.slot t = m.is in
-      let to = visited_at g l p f (node_after (graph_in g) node (gone_at g node x (does_at g x t))) (point_of (does_at g x t)) in
+      let to = visited_at g l p f (node_after (graph_in g) node (gone_at g node x (does_at g x t)))
+      (point_of (does_at g x t)) in
       let on : wrapped (t.npc + 4) ≡ t.npc + 4 = omega arith in
       let pc : t.npc ≡ place c.piece 3 = omega arith in
-      let valid : IsValid (record t { pc = t.npc; npc = wrapped (t.npc + 4); slot = NoSlot }) = subst IsValid idle_step (run-valid t 1 here.valid) in
+      let valid : IsValid (record t {
+        pc = t.npc;
+        npc = wrapped
+            (t.npc + 4);
+        slot = NoSlot;
+      }) = subst IsValid idle_step (run-valid t 1 here.valid) in
       let mid : State = record t { pc = t.npc; npc = wrapped (t.npc + 4); slot = NoSlot } in
-      let fit : IsFit g l base p place f h (record t { pc = t.npc; npc = wrapped (t.npc + 4); slot = NoSlot }) = record {
+      let fit : IsFit g l base p place f h (record t {
+        pc = t.npc;
+        npc = wrapped
+            (t.npc + 4);
+        slot = NoSlot;
+      }) = record {
         valid = valid;
         ours = here.ours;
-        runs = can_run g l base p place f h (record t { pc = t.npc; npc = wrapped (t.npc + 4); slot = NoSlot }) valid here.live on refl here.code here.ours;
+        runs = can_run g l base p place f h (record t {
+          pc = t.npc;
+          npc = wrapped
+              (t.npc + 4);
+          slot = NoSlot;
+        }) valid here.live on refl here.code here.ours;
       } in
-      let rest = tail g l base p place f h c.piece c.rest (it.Mark c.address (number_in g node)) (it.Word c.word) c.items
+      let rest = tail g l base p place f h c.piece c.rest (it.Mark c.address (number_in g node))
+      (it.Word c.word) c.items
       (record t { pc = t.npc; npc = wrapped (t.npc + 4); slot = NoSlot }) to fit pc (omega arith) c.leads in
-      let way = leads_then (IsBare g l base p place f h) t (record t { pc = t.npc; npc = wrapped (t.npc + 4); slot = NoSlot }) (hopped t to rest.memory) 1 rest.count (leads_one _ t _ idle_step) rest.path (λ _ some. rest.begins some) in
+      let way = leads_then (IsBare g l base p place f h) t
+      (record t { pc = t.npc; npc = wrapped (t.npc + 4); slot = NoSlot }) (hopped t to rest.memory) 1 rest.count
+      (leads_one _ t _ idle_step) rest.path (λ _ some. rest.begins some) in
       let few = rest.few in
       let kept = own_stored g l base p place f h t.memory rest.memory here.ours rest.stores in
       record {
@@ -151,14 +186,17 @@ module _ (g : Setting) (l : Pieces) (base : ℕ) (p : Placement) (place : ℕ �
           steps = way.steps;
           some = omega arith;
           few = omega arith;
-          quiet = λ j p1 p2. quiet_of g l base p place f h node t _ (1 + rest.count) (IsBare g l base p place f h) way here.live (bare_on g l base p place f h node t) j p1 p2;
+          quiet = λ j p1 p2. quiet_of g l base p place f h node t _ (1 + rest.count)
+              (IsBare g l base p place f h) way here.live (bare_on g l base p place f h node t) j p1 p2;
         };
         puts = λ descriptor.
             ap (λ n. run_puts t n descriptor) (let e : 1 + rest.count ≡ rest.count + 1 = omega arith in e)
             ∙ puts_add t 1 rest.count descriptor
             ∙ ap (λ (z : State). run_puts t 1 descriptor ++ run_puts z rest.count descriptor) idle_step
-            ∙ ap (λ z. run_puts t 1 descriptor ++ z) (rest.silent descriptor) ∙ append-nil (run_puts t 1 descriptor) ∙ puts_first descriptor
-            ∙ sym (ap (λ (o : Option ℕ). puts_on_word (at_point x t) o descriptor) c.is_word ∙ ap (λ (q : Instr). puts_by (at_point x t) q descriptor) c.says
+            ∙ ap (λ z. run_puts t 1 descriptor ++ z) (rest.silent descriptor) ∙ append-nil (run_puts t 1 descriptor)
+            ∙ puts_first descriptor
+            ∙ sym (ap (λ (o : Option ℕ). puts_on_word (at_point x t) o descriptor) c.is_word
+            ∙ ap (λ (q : Instr). puts_by (at_point x t) q descriptor) c.says
             ∙ no_puts (at_point x t) c.cond c.annul c.disp descriptor);
         followed = record {
           ending = sym (ap (λ (z : State). z.ending) same);
@@ -166,8 +204,10 @@ module _ (g : Setting) (l : Pieces) (base : ℕ) (p : Placement) (place : ℕ �
           valid = sym (ap (λ (z : State). z.valid) same);
           registers = sym (ap (λ (z : State). length z.registers) same);
           input = sym (ap (λ (z : State). z.input) same);
-          memory = subst (λ (z : Memory). IsSameOutside (pages_of g.notes) z rest.memory) (sym (ap (λ (z : State). z.memory) same)) kept.1;
-          items = λ _ thing _ _. same_at thing v (hopped t to rest.memory) (ap (λ (z : State). z.registers) same) (ap (λ (z : State). z.codes) same) (ap (λ (z : State). z.y) same);
+          memory = subst (λ (z : Memory). IsSameOutside (pages_of g.notes) z rest.memory)
+              (sym (ap (λ (z : State). z.memory) same)) kept.1;
+          items = λ _ thing _ _. same_at thing v (hopped t to rest.memory) (ap (λ (z : State). z.registers) same)
+              (ap (λ (z : State). z.codes) same) (ap (λ (z : State). z.y) same);
         };
         cells = cells_same g l base p place f h (gone_at g node x (does_at g x t)) t v (hopped t to rest.memory);
         here = λ _. record {
@@ -176,7 +216,8 @@ module _ (g : Setting) (l : Pieces) (base : ℕ) (p : Placement) (place : ℕ �
           at = refl;
           npc = refl;
           slot = refl;
-          code = subst (λ (z : State). HasCode base p.code z.memory) way.steps (code_after g l base p place f h t (1 + rest.count) here.code);
+          code = subst (λ (z : State). HasCode base p.code z.memory) way.steps
+              (code_after g l base p place f h t (1 + rest.count) here.code);
           ours = kept.0;
           waits = λ a b. absurd (c.never a b);
         };

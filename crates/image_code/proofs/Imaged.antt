@@ -34,16 +34,26 @@ has_room base p it.EndMark a b takes h = absurd takes
 pub heads_visit : HeadsVisit
 heads_visit g l base p place f node x t h here c =
     let item = λ (n : ℕ). ap (λ (v : Option (List Item)). item_in v n) c.items in
-    let size : size_of l.list c.piece ≡ suc (suc (length c.rest)) = ap (λ (v : Option (List Item)). items_in v) c.items in
-    let mark : place c.piece 1 ≡ place c.piece 0 = h.laid.items c.piece 0 (it.Mark c.address (number_in g node)) (item 0) in
-    let room : place c.piece 1 < place c.piece 2 = has_room base p c.item (place c.piece 1) (place c.piece 2) c.takes (h.laid.items c.piece 1 c.item (item 1)) in
+    let size : size_of l.list c.piece ≡ suc (suc (length c.rest)) = ap
+    (λ (v : Option (List Item)). items_in v) c.items in
+    let mark : place c.piece 1 ≡ place c.piece 0 = h.laid.items c.piece 0 (it.Mark c.address (number_in g node))
+    (item 0) in
+    let room : place c.piece 1 < place c.piece 2 = has_room base p c.item (place c.piece 1) (place c.piece 2) c.takes
+    (h.laid.items c.piece 1 c.item (item 1)) in
     let at : t.pc ≡ place c.piece 1 = here.at ∙ c.here ∙ h.laid.starts c.piece c.within ∙ sym mark in
     let low = (h.laid.within c.piece 1 c.within (omega arith)).begins in
     let high = (h.laid.within c.piece 2 c.within (omega arith)).ends in
     at_range g l base p place f h node x t
-    (record { lo = place c.piece 1; hi = place c.piece (end_from (c.item ∷ c.rest) 1); address = c.address.0; node = number_in g node })
+    (record {
+      lo = place c.piece 1;
+      hi = place c.piece (end_from
+          (c.item ∷ c.rest) 1);
+      address = c.address.0;
+      node = number_in g node;
+    })
     here.live (omega arith) (omega arith)
-    (h.laid.ranges c.piece 1 t.pc c.item (item 1) (omega arith) (omega arith) ∙ ap (λ (v : Option (List Item)). range_of (place c.piece) (open_in v 1)) c.items)
+    (h.laid.ranges c.piece 1 t.pc c.item (item 1) (omega arith) (omega arith)
+    ∙ ap (λ (v : Option (List Item)). range_of (place c.piece) (open_in v 1)) c.items)
     (sym at) refl c.original
 
 pub images_simulate : ImagesSimulate
@@ -57,7 +67,8 @@ images_simulate g l base p place f h c = record {
 }
   where
     by : (node : Node) (x : Point) (t : State) → Here g l base p f node x t
-        → AllApart (pages_of g.notes) (judged_in (at_point x t) (instr_of (word_of g.text x.pc))) → IsCase g l p place f node x t
+        → AllApart (pages_of g.notes) (judged_in (at_point x t) (instr_of (word_of g.text x.pc)))
+        → IsCase g l p place f node x t
         → StepsOn g (Here g l base p f) Everything (gone_at g node x (does_at g x t)) node x t (does_at g x t)
     by node x t here apart (plain k) =
         plains_step g l base p place f node x t h here k

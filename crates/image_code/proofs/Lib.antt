@@ -1,3 +1,4 @@
+pub mod Branches
 pub mod Ended
 pub mod Cases
 pub mod Couple

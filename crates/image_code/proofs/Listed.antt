@@ -34,13 +34,15 @@ get_taken (suc n) zero (x ∷ xs) l = refl
 get_taken (suc n) (suc k) (x ∷ xs) l = get_taken n k xs (omega arith)
 
 pub get_below : (n k : ℕ) → k < n → slice_get (below n) k ≡ Some k
-get_below n k l = slice_get-get_or (below n) k 0 (omega (arith, length-below n)) ∙ ap (λ z. Some z) (get_or-below n k 0 l)
+get_below n k l = slice_get-get_or (below n) k 0 (omega (arith, length-below n))
+    ∙ ap (λ z. Some z) (get_or-below n k 0 l)
 
 module _ (text : Words) (graph : Graph) where
   images_end : length (map (image text graph) (below (length text.words))) ≡ length text.words
   images_end = length-map (below (length text.words)) (image text graph) ∙ length-below (length text.words)
 
-  pub image_at : (word : ℕ) → word < length text.words → slice_get (piece_list text graph) word ≡ Some (image text graph word)
+  pub image_at : (word : ℕ) → word < length text.words → slice_get (piece_list text graph) word ≡ Some
+      (image text graph word)
   unfolding piece_list
   image_at word l =
       get_first _ _ word _ (get_first _ _ word _
@@ -52,8 +54,10 @@ module _ (text : Words) (graph : Graph) where
   unfolding piece_list
   way_at number edge e =
       get_first _ _ (length text.words + number) _
-      (ap (λ n. slice_get (map (image text graph) (below (length text.words)) ++ map (way_along text graph) (own_edges graph)) (n + number)) (sym images_end)
-      ∙ get_second (map (image text graph) (below (length text.words))) (map (way_along text graph) (own_edges graph)) number
+      (ap (λ n. slice_get (map (image text graph) (below (length text.words)) ++ map (way_along text graph)
+      (own_edges graph)) (n + number)) (sym images_end)
+      ∙ get_second (map (image text graph) (below (length text.words)))
+      (map (way_along text graph) (own_edges graph)) number
       ∙ slice_get-map (way_along text graph) (own_edges graph) number ∙ ap (option_map (way_along text graph)) e)
 
 -- an edge that is no landing is among those that have ways
@@ -63,7 +67,8 @@ unfolding edges_in
 own_at b number edge e other =
     let own : List Edge = flat_map (edges_of b) (below (length b.firsts)) in
     let landings : List Edge = map landing_at (below (length b.firsts)) in
-    let many : length landings ≡ length b.firsts = length-map (below (length b.firsts)) landing_at ∙ length-below (length b.firsts) in
+    let many : length landings ≡ length b.firsts = length-map (below (length b.firsts)) landing_at
+    ∙ length-below (length b.firsts) in
     let all : length (own ++ landings) ≡ length own + length landings = length-append own landings in
     elim (cases_lt number (length own)) [
       | inl l ↦ get_taken (length (own ++ landings) - length b.firsts) number (own ++ landings) (omega arith) ∙ e

@@ -1,17 +1,16 @@
 -- The pieces that are made are images.
 use Rattle.std.proofs.Common.{◌≡◌, ◌≢◌, ℕ, suc, ◌+◌, ◌-◌, ◌%◌, ◌^◌, ◌<◌, inl, inr, Bool, true, false, not, Option, Some, None, List, [], ◌∷◌, length, refl, ap, sym, ◌∙◌, subst, arith}
-use Rattle.std.specs.Prelude.{if◌then◌else◌, nat_lt, ◌&&◌, ◌||◌, pos, slice_get, slice_index, ◌==◌, ℤ}
-use Rattle.std.specs.Option.{option_map, option_to_list}
+use Rattle.std.specs.Prelude.{if◌then◌else◌, ◌&&◌, ◌||◌, pos, slice_get, slice_index, ◌==◌, ℤ}
+use Rattle.std.specs.Option.{option_map}
 use Rattle.std.specs.List.{position}
-use Rattle.std.proofs.lemmas.Bool.{and_parts, cond_both, eqb-true, false≢true, lt-ltb, ltb-true}
+use Rattle.std.proofs.lemmas.Bool.{and_parts, cond_both, false≢true, lt-ltb}
 use Rattle.std.proofs.lemmas.List.Quantifiers.{position-Some}
 use Rattle.std.proofs.lemmas.Option.{get_or_from_slice_get}
 use Rattle.eel_base.specs.CodeText.{Words, IsText, address_of, word_at, numbered, target_of}
 use Rattle.eel_base.specs.declared.numbers.Addr.{Addr}
 use Rattle.v8_decode.specs.declared.Instr.{Instr}
 use Rattle.v8_decode.specs.declared.Instr.TheVariants as i
-use Rattle.v8_decode.specs.Words.{decode_of, branch_or_sethi}
-use Rattle.v8_decode.proofs.Rows.{decoded_range}
+use Rattle.v8_decode.specs.Words.{decode_of}
 use Rattle.v8_alu.specs.Conditions.{holds_of}
 use Rattle.v8_alu.specs.Numbers.{wrapped}
 use Rattle.v8_step.specs.declared.Ending.{Ending}
@@ -31,14 +30,14 @@ use Rattle.cfg_blocks.specs.Blocks.{Blocks, blocks_of, end_of, holding_of, last_
 use Rattle.cfg_blocks.specs.Entries.{is_fall}
 use Rattle.cfg_normal.specs.declared.Edge.{Edge}
 use Rattle.cfg_normal.specs.declared.Node.{Node}
-use Rattle.cfg_normal.specs.declared.Node.TheVariants.{Block, X}
 use Rattle.cfg_normal.specs.declared.Slot.{Slot as Carried}
 use Rattle.cfg_normal.specs.declared.Slot.TheVariants as carried
 use Rattle.cfg_normal.specs.Graph.{Graph, node_of, edge_of, edges_in, runs_slot, slot_behind, slot_on}
 use Rattle.cfg_walk.specs.Walk.{Point, point_of, completed, edge_from, gone, instr_at, node_after, same_kind, same_node, unless_ended, way_of}
-use Rattle.cfg_walk.specs.Counts.{node_number}
+use Rattle.cfg_walk.specs.Numbers.{node_number}
 use Rattle.cfg_walk.specs.Matches.{Begins, IsCarried, IsOnItsWay, Matches, MatchesBy}
-use Rattle.cfg_walk.proofs.Addresses.{IsWord, word_at-address, word_at-some, next_word}
+use Rattle.cfg_blocks.proofs.Targets.{IsWord, word_at-some}
+use Rattle.cfg_walk.proofs.Addresses.{word_at-address, next_word}
 use Rattle.cfg_walk.proofs.Cut.{IsCut, cut}
 use Rattle.cfg_walk.proofs.Holding.{first_held}
 use Rattle.cfg_walk.proofs.Points.{Stands, jumps_to, passes}
@@ -48,126 +47,18 @@ use Rattle.cfg_walk.proofs.Ways.{IsOne, always_holds, never_holds, not_always, n
 use Rattle.cfg_walk.proofs.Edges.{block}
 use Rattle.layout.specs.declared.items.Item.{Item}
 use Rattle.layout.specs.declared.items.Item.TheVariants as it
-use Rattle.layout.specs.Laid.{Placement, IsLaid, item_at, item_in, items_in, is_jump, size_of, nop}
+use Rattle.layout.specs.Laid.{Placement, IsLaid, item_at, item_in, items_in, is_jump, size_of}
 use Rattle.image_code.specs.Simulates.{Setting, at_point, does_at, gone_at, graph_in, number_in, word_of}
 use Rattle.image_code.specs.Images.{Pieces, Frame, Here, along_first, slot_piece, visited_at, visited_by}
 use Rattle.image_code.specs.Cases.{LeadsOn, LeadsTo, plain_piece, branch_piece}
 use Rattle.image_code.specs.Couple.{couple_piece}
-use Rattle.image_code.specs.Imaged.{IsHead, TakesWords, IsCase, plain, couple, turn, idle}
+use Rattle.image_code.specs.Imaged.{IsHead, IsCase, plain, couple, turn, idle}
 use Rattle.image_code.specs.Whole.{IsInText}
 use Rattle.image_code.specs.Made.{HasBranchesOnly, IsBuilt, PiecesMakeImages, couple_word, nop_word, first_way, image_by, illegal_word, jump_to, outside_piece, piece_at, pieces_in, rest_after, slot_copy, way_by, way_out}
 use Rattle.image_code.proofs.Cases.{get_below}
 use Rattle.image_code.proofs.Imaged.{images_simulate}
 use Rattle.image_code.proofs.Listed.{image_at, own_at, way_at}
-
--- ---- words
-
-small : (word cond : ℕ) (annul : Bool) (disp : ℤ) → decode_of word ≡ i.Branch cond annul disp → cond < 16
-small word cond annul disp e = ltb-true cond 16 (decoded_range (i.Branch cond annul disp) word (sym e))
-
-pub nop_says : decode_of nop_word ≡ nop
-unfolding decode_of branch_or_sethi
-nop_says = refl
-
-couple_says : decode_of couple_word ≡ i.Branch 8 false (pos 2)
-unfolding decode_of branch_or_sethi
-couple_says = refl
-
-branched_lives : (flag all annul : Bool) (s : State) (to : ℕ) → s.ending ≡ None → (branched flag all annul s to).ending ≡ None
-branched_lives true true true s to e = e
-branched_lives true true false s to e = e
-branched_lives true false true s to e = e
-branched_lives true false false s to e = e
-branched_lives false all true s to e = e
-branched_lives false all false s to e = e
-
--- ---- ways
-
--- a transfer that is a branch goes one of two ways
-IsTurned : EdgeKind → Type 0
-IsTurned kinds.Taken = Unit {0}
-IsTurned kinds.Untaken = Unit {0}
-IsTurned _ = ⊥
-
-built_turns : (instr : Instr) (slot : Slot) → IsBuilt instr → IsTurned (way_of (Some instr) slot)
-unfolding IsTurned
-built_turns (i.Call disp30) slot h = absurd h
-built_turns (i.Jmpl rd rs1 op2) slot h = absurd h
-built_turns _ Untaken h = tt
-built_turns _ NoSlot h = tt
-built_turns _ Taken h = tt
-
-not_out : (k : EdgeKind) → IsTurned k → same_kind k kinds.Out ≡ false
-unfolding IsTurned
-not_out kinds.Taken h = refl
-not_out kinds.Untaken h = refl
-not_out kinds.Fall h = absurd h
-not_out kinds.Call h = absurd h
-not_out kinds.Out h = absurd h
-not_out kinds.Land h = absurd h
-
-pub same_is : (k j : EdgeKind) → same_kind k j ≡ true → k ≡ j
-same_is kinds.Fall kinds.Fall e = refl
-same_is kinds.Taken kinds.Taken e = refl
-same_is kinds.Untaken kinds.Untaken e = refl
-same_is kinds.Call kinds.Call e = refl
-same_is kinds.Out kinds.Out e = refl
-same_is kinds.Land kinds.Land e = refl
-same_is _ _ e = absurd (cc)
-
-turned_is : (k : EdgeKind) → IsTurned k → (is_fall k ≡ false) × (same_kind k kinds.Land ≡ false)
-unfolding IsTurned
-turned_is kinds.Taken h = (refl, refl)
-turned_is kinds.Untaken h = (refl, refl)
-turned_is kinds.Fall h = absurd h
-turned_is kinds.Call h = absurd h
-turned_is kinds.Out h = absurd h
-turned_is kinds.Land h = absurd h
-
-node_same : (n m : Node) → same_node n m ≡ true → n ≡ m
-node_same (Block one) (Block other) e = let k : one.0 ≡ other.0 = eqb-true _ _ e in ap (λ z. Block (record { 0 = z })) k
-node_same X X e = refl
-node_same _ _ e = absurd (cc)
-
-image_straight : (text : Words) (graph : Graph) (address : Addr) (node : Node) (word : ℕ) (instr : Instr) → is_transfer instr ≡ false
-    → image_by text graph address node word instr ≡ plain_piece address (node_number graph node) (slice_index text.words word) (rest_after text graph word)
-image_straight text graph address node word (i.Branch cond annul disp) e = absurd (cc)
-image_straight text graph address node word (i.Call disp) e = absurd (cc)
-image_straight text graph address node word (i.Jmpl rd rs1 op2) e = absurd (cc)
-image_straight text graph address node word _ e = refl
-
-first_along : (text : Words) (graph : Graph) (edges : List ℕ) → first_way text graph edges ≡ along_first (pieces_in text graph) edges
-first_along text graph [] = refl
-first_along text graph (edge ∷ edges) = refl
-
--- where a node's block begins with a word, control goes there to the word's image
-begins_piece : (text : Words) (graph : Graph) (node : Node) (o : Option ℕ) (word : ℕ) → o ≡ Some word → Begins graph node o → piece_at text graph node ≡ word
-begins_piece text graph (Block k) None word e h = absurd h
-begins_piece text graph (Block k) (Some w) word e h = let q : w ≡ word = cc in h ∙ q
-begins_piece text graph X None word e h = absurd (cc)
-begins_piece text graph X (Some w) word e h = absurd h
-
-within_some : (count word other : ℕ) → within count word ≡ Some other → (word < count) × (word ≡ other)
-within_some count word other e = cond_both (nat_lt word count) _ _ (λ (o : Option ℕ). o ≡ Some other → (word < count) × (word ≡ other))
-    (λ l q. (ltb-true _ _ l, let r : word ≡ other = cc in r)) (λ _ q. absurd (cc)) e
-
--- a piece begins with a Mark and an item that takes words
-record HeadOf (address : Addr) (node : ℕ) (xs : List Item) : Type 0 where
-  pub item : Item
-  pub takes : TakesWords item
-  pub rest : List Item
-  pub is : xs ≡ it.Mark address node ∷ item ∷ rest
-
-within_is : (count word other : ℕ) → within count word ≡ Some other → word ≡ other
-within_is count word other e = cond_both (nat_lt word count) _ _ (λ (o : Option ℕ). o ≡ Some other → word ≡ other) (λ _ q. cc) (λ _ q. absurd (cc)) e
-
-is_there : (o : Option ℕ) → o ≢ None → (word : ℕ) × (o ≡ Some word)
-is_there None h = absurd (h refl)
-is_there (Some word) h = (word, refl)
-
-number_of_list : (o : Option ℕ) (number : ℕ) → option_to_list o ≡ number ∷ [] → o ≡ Some number
-number_of_list None number e = absurd (cc)
-number_of_list (Some n) number e = cc
+use Rattle.image_code.proofs.Branches.{small, nop_says, couple_says, branched_lives, IsTurned, built_turns, not_out, same_is, turned_is, node_same, image_straight, first_along, begins_piece, within_some, HeadOf, within_is, is_there, number_of_list}
 
 module _ (g : Setting) (is : IsText g.text) (branches : HasBranchesOnly g.text) where
   abbrev b : Blocks
@@ -204,18 +95,21 @@ module _ (g : Setting) (is : IsText g.text) (branches : HasBranchesOnly g.text) 
     visited_word : (node : Node) (x : Point) (word : ℕ) → word_at g.text x.pc ≡ Some word → x.slot ≡ NoSlot
         → visited_at g l p f node x ≡ slice_index p.at word
     visited_word node x word e n =
-        ap (λ (o : Option ℕ). visited_by g l p f node x o x.slot) e ∙ ap (λ (s : Slot). visited_by g l p f node x (Some word) s) n
+        ap (λ (o : Option ℕ). visited_by g l p f node x o x.slot) e
+        ∙ ap (λ (s : Slot). visited_by g l p f node x (Some word) s) n
 
     visited_slot : (node : Node) (x : Point) (word : ℕ) → word_at g.text x.pc ≡ Some word → x.slot ≢ NoSlot
         → visited_at g l p f node x ≡ slice_index p.at (slot_piece g l node x)
     visited_slot node x word e n = ap (λ (o : Option ℕ). visited_by g l p f node x o x.slot) e ∙ by x.slot n
       where
-        by : (s : Slot) → s ≢ NoSlot → visited_by g l p f node x (Some word) s ≡ slice_index p.at (slot_piece g l node x)
+        by : (s : Slot) → s ≢ NoSlot → visited_by g l p f node x (Some word) s ≡ slice_index p.at
+            (slot_piece g l node x)
         by NoSlot n = absurd (n refl)
         by Taken n = refl
         by Untaken n = refl
 
-    word_is : (x : Point) (word : ℕ) → word_at g.text x.pc ≡ Some word → word_of g.text x.pc ≡ Some (slice_index g.text.words word)
+    word_is : (x : Point) (word : ℕ) → word_at g.text x.pc ≡ Some word
+        → word_of g.text x.pc ≡ Some (slice_index g.text.words word)
     word_is x word e = ap (option_map (λ n. slice_index g.text.words n)) e
 
     -- ---- outside a slot
@@ -229,12 +123,15 @@ module _ (g : Setting) (is : IsText g.text) (branches : HasBranchesOnly g.text) 
       address = record { 0 = address_of g.text word }
 
       items : (instr : Instr) → decode_of (slice_index g.text.words word) ≡ instr
-          → slice_get l.list word ≡ Some (image_by g.text (graph_in g) (record { 0 = address_of g.text word }) node word instr)
+          → slice_get l.list word ≡ Some (image_by g.text (graph_in g)
+          (record { 0 = address_of g.text word }) node word instr)
       items instr e =
           image_at g.text (graph_in g) word word_in.within
-          ∙ ap (λ (n : Node). Some (image_by g.text (graph_in g) (record { 0 = address_of g.text word }) n word (decode_of (slice_index g.text.words word))))
+          ∙ ap (λ (n : Node). Some (image_by g.text (graph_in g) (record { 0 = address_of g.text word }) n word
+          (decode_of (slice_index g.text.words word))))
           (sym (held ∙ ap (node_of b) at))
-          ∙ ap (λ (d : Instr). Some (image_by g.text (graph_in g) (record { 0 = address_of g.text word }) node word d)) e
+          ∙ ap (λ (d : Instr). Some (image_by g.text (graph_in g)
+          (record { 0 = address_of g.text word }) node word d)) e
 
       within_list : (piece : ℕ) (xs : List Item) → slice_get l.list piece ≡ Some xs → piece < length l.list
       within_list piece xs e = get_below l.list piece xs e
@@ -248,7 +145,8 @@ module _ (g : Setting) (is : IsText g.text) (branches : HasBranchesOnly g.text) 
       pub at : word_at g.text x.pc ≡ Some slot
       pub visited : visited_at g l p f node x ≡ slice_index p.at (length g.text.words + number)
       pub items : slice_get l.list (length g.text.words + number)
-          ≡ Some (slot_copy g.text (graph_in g) (record { 0 = address_of g.text slot }) node (slice_index g.text.words slot) (piece_at g.text (graph_in g) edge.to))
+          ≡ Some (slot_copy g.text (graph_in g) (record { 0 = address_of g.text slot }) node
+          (slice_index g.text.words slot) (piece_at g.text (graph_in g) edge.to))
       pub begins : Begins (graph_in g) edge.to (word_at g.text x.npc)
 
     on_its_way : (node : Node) (x : Point) (s : Slot) → s ≢ NoSlot → MatchesBy g.text (graph_in g) node x s
@@ -265,21 +163,28 @@ module _ (g : Setting) (is : IsText g.text) (branches : HasBranchesOnly g.text) 
         turned : IsTurned (way_in x)
         turned = turns (x.pc - 4) x.slot
 
-        found : position (λ (edge : Edge). same_node edge.from node && same_kind edge.kind (way_in x)) (edges_in b) ≡ Some way.number
+        found : position (λ (edge : Edge). same_node edge.from node && same_kind edge.kind (way_in x)) (edges_in b)
+            ≡ Some way.number
         found = number_of_list _ way.number way.only
 
         passes : (same_node way.edge.from node && same_kind way.edge.kind (way_in x)) ≡ true
         passes =
-            ap (λ (e : Edge). same_node e.from node && same_kind e.kind (way_in x)) (sym (get_or_from_slice_get (edges_in b) way.number way.edge way.edge way.is))
-            ∙ (position-Some (λ (e : Edge). same_node e.from node && same_kind e.kind (way_in x)) (edges_in b) way.number way.edge found).1
+            ap (λ (e : Edge). same_node e.from node && same_kind e.kind (way_in x))
+            (sym (get_or_from_slice_get (edges_in b) way.number way.edge way.edge way.is))
+            ∙ (position-Some (λ (e : Edge). same_node e.from node && same_kind e.kind (way_in x))
+            (edges_in b) way.number way.edge found).1
 
         own : IsTurned way.edge.kind
-        own = subst IsTurned (sym (same_is way.edge.kind (way_in x) (and_parts (same_node way.edge.from node) (same_kind way.edge.kind (way_in x)) passes).1)) turned
+        own = subst IsTurned (sym (same_is way.edge.kind (way_in x)
+            (and_parts (same_node way.edge.from node) (same_kind way.edge.kind (way_in x)) passes).1)) turned
 
-        items : (to : Carried) → way.edge.slot ≡ to → slice_get l.list (length g.text.words + way.number) ≡ Some (way_by g.text (graph_in g) way.edge to)
+        items : (to : Carried) → way.edge.slot ≡ to → slice_get l.list (length g.text.words + way.number) ≡ Some
+            (way_by g.text (graph_in g) way.edge to)
         items to e =
-            way_at g.text (graph_in g) way.number way.edge (own_at b way.number way.edge way.is (turned_is way.edge.kind own).1)
-            ∙ ap (λ (t : Bool). Some (if t then [] else way_by g.text (graph_in g) way.edge way.edge.slot)) (turned_is way.edge.kind own).0
+            way_at g.text (graph_in g) way.number way.edge
+            (own_at b way.number way.edge way.is (turned_is way.edge.kind own).1)
+            ∙ ap (λ (t : Bool). Some (if t then [] else way_by g.text (graph_in g) way.edge way.edge.slot))
+            (turned_is way.edge.kind own).0
             ∙ ap (λ (s : Carried). Some (way_by g.text (graph_in g) way.edge s)) e
 
         by : (s : Carried) → way.edge.slot ≡ s → InSlot node x
@@ -295,26 +200,49 @@ module _ (g : Setting) (is : IsText g.text) (branches : HasBranchesOnly g.text) 
               edge = way.edge;
               slot = slot;
               at = at;
-              visited = visited_slot node x slot at inside ∙ ap (λ (ns : List ℕ). slice_index p.at (along_first l ns)) way.only;
+              visited = visited_slot node x slot at inside
+                  ∙ ap (λ (ns : List ℕ). slice_index p.at (along_first l ns)) way.only;
               items = items (carried.Word w) e
-                  ∙ ap (λ (k : ℕ). Some (slot_copy g.text (graph_in g) (record { 0 = address_of g.text k }) way.edge.from (slice_index g.text.words k) (piece_at g.text (graph_in g) way.edge.to))) same
-                  ∙ ap (λ (n : Node). Some (slot_copy g.text (graph_in g) (record { 0 = address_of g.text slot }) n (slice_index g.text.words slot) (piece_at g.text (graph_in g) way.edge.to)))
-                  (node_same way.edge.from node (and_parts (same_node way.edge.from node) (same_kind way.edge.kind (way_in x)) passes).0);
+                  ∙ ap (λ (k : ℕ). Some (slot_copy g.text (graph_in g)
+                  (record { 0 = address_of g.text k }) way.edge.from (slice_index g.text.words k)
+                  (piece_at g.text (graph_in g) way.edge.to))) same
+                  ∙ ap (λ (n : Node). Some (slot_copy g.text (graph_in g) (record { 0 = address_of g.text slot }) n
+                  (slice_index g.text.words slot) (piece_at g.text (graph_in g) way.edge.to)))
+                  (node_same way.edge.from node (and_parts (same_node way.edge.from node)
+                  (same_kind way.edge.kind (way_in x)) passes).0);
               begins = (way.leads (not_out (way_in x) turned)).0;
             }
 
     -- ---- heads
 
-    takes_words : (text : Words) (graph : Graph) (address : Addr) (node : Node) (word : ℕ) (instr : Instr) → HeadOf address (node_number graph node) (image_by text graph address node word instr)
+    takes_words : (text : Words) (graph : Graph) (address : Addr) (node : Node) (word : ℕ) (instr : Instr)
+        → HeadOf address (node_number graph node) (image_by text graph address node word instr)
     takes_words text graph address node word (i.Branch cond annul disp) =
-        cond_both (cond == always) _ _ (HeadOf address (node_number graph node)) (λ _. record { item = it.Word nop_word; takes = tt; rest = _; is = refl })
-        (λ _. cond_both (cond == never) _ _ (HeadOf address (node_number graph node)) (λ _. record { item = it.Word nop_word; takes = tt; rest = _; is = refl })
-        (λ _. record { item = it.Branch cond (record { 0 = way_out text graph node kinds.Taken }); takes = tt; rest = _; is = refl }))
-    takes_words text graph address node word (i.Call disp) = record { item = it.Word illegal_word; takes = tt; rest = _; is = refl }
-    takes_words text graph address node word (i.Jmpl rd rs1 op2) = record { item = it.Word illegal_word; takes = tt; rest = _; is = refl }
-    takes_words text graph address node word instr = record { item = it.Word (slice_index text.words word); takes = tt; rest = _; is = refl }
+        cond_both (cond == always) _ _ (HeadOf address (node_number graph node))
+        (λ _. record { item = it.Word nop_word; takes = tt; rest = _; is = refl })
+        (λ _. cond_both (cond == never) _ _ (HeadOf address (node_number graph node))
+        (λ _. record { item = it.Word nop_word; takes = tt; rest = _; is = refl })
+        (λ _. record {
+          item = it.Branch cond
+              (record { 0 = way_out text graph node kinds.Taken });
+          takes = tt;
+          rest = _;
+          is = refl;
+        }))
+    takes_words text graph address node word
+        (i.Call disp) = record { item = it.Word illegal_word; takes = tt; rest = _; is = refl }
+    takes_words text graph address node word
+        (i.Jmpl rd rs1 op2) = record { item = it.Word illegal_word; takes = tt; rest = _; is = refl }
+    takes_words text graph address node word instr = record {
+      item = it.Word
+          (slice_index text.words word);
+      takes = tt;
+      rest = _;
+      is = refl;
+    }
 
-    copy_head : (text : Words) (graph : Graph) (address : Addr) (node : Node) (word to : ℕ) → HeadOf address (node_number graph node) (slot_copy text graph address node word to)
+    copy_head : (text : Words) (graph : Graph) (address : Addr) (node : Node) (word to : ℕ)
+        → HeadOf address (node_number graph node) (slot_copy text graph address node word to)
     copy_head text graph address node word to =
         cond_both (is_transfer (decode_of word)) _ _ (HeadOf address (node_number graph node))
         (λ _. record { item = it.Word couple_word; takes = tt; rest = _; is = refl })
@@ -325,7 +253,8 @@ module _ (g : Setting) (is : IsText g.text) (branches : HasBranchesOnly g.text) 
         let there = is_there (word_at g.text x.pc) inside in
         by x.slot refl m there.0 there.1
       where
-        of : (piece : ℕ) (xs : List Item) (address : Addr) → visited_at g l p f node x ≡ slice_index p.at piece → address.0 ≡ x.pc
+        of : (piece : ℕ) (xs : List Item) (address : Addr) → visited_at g l p f node x ≡ slice_index p.at piece
+            → address.0 ≡ x.pc
             → slice_get l.list piece ≡ Some xs → HeadOf address (number_in g node) xs → IsHead g l p f node x
         of piece xs address at original is head = record {
           piece = piece;
@@ -339,21 +268,31 @@ module _ (g : Setting) (is : IsText g.text) (branches : HasBranchesOnly g.text) 
           items = is ∙ ap (λ z. Some z) head.is;
         }
 
-        slot : (word : ℕ) → word_at g.text x.pc ≡ Some word → x.slot ≢ NoSlot → IsOnItsWay g.text (graph_in g) node x (way_in x) → IsHead g l p f node x
+        slot : (word : ℕ) → word_at g.text x.pc ≡ Some word → x.slot ≢ NoSlot
+            → IsOnItsWay g.text (graph_in g) node x (way_in x) → IsHead g l p f node x
         slot word e not_none way =
             let k = in_slot node x word e not_none way in
-            of (length g.text.words + k.number) _ (record { 0 = address_of g.text k.slot }) k.visited (sym (word_at-some g.text x.pc k.slot k.at).is) k.items
-            (copy_head g.text (graph_in g) (record { 0 = address_of g.text k.slot }) node (slice_index g.text.words k.slot) (piece_at g.text (graph_in g) k.edge.to))
+            of (length g.text.words + k.number) _ (record { 0 = address_of g.text k.slot }) k.visited
+            (sym (word_at-some g.text x.pc k.slot k.at).is) k.items
+            (copy_head g.text (graph_in g) (record { 0 = address_of g.text k.slot }) node
+            (slice_index g.text.words k.slot) (piece_at g.text (graph_in g) k.edge.to))
 
-        by : (s : Slot) → x.slot ≡ s → MatchesBy g.text (graph_in g) node x s → (word : ℕ) → word_at g.text x.pc ≡ Some word → IsHead g l p f node x
+        by : (s : Slot) → x.slot ≡ s → MatchesBy g.text (graph_in g) node x s → (word : ℕ)
+            → word_at g.text x.pc ≡ Some word → IsHead g l p f node x
         by NoSlot none m word e =
-            of word _ (record { 0 = address_of g.text word }) (visited_word node x word e none) (sym (word_at-some g.text x.pc word e).is)
+            of word _ (record { 0 = address_of g.text word }) (visited_word node x word e none)
+            (sym (word_at-some g.text x.pc word e).is)
             (items node x word e none m.0 (decode_of (slice_index g.text.words word)) refl)
-            (takes_words g.text (graph_in g) (record { 0 = address_of g.text word }) node word (decode_of (slice_index g.text.words word)))
+            (takes_words g.text (graph_in g) (record { 0 = address_of g.text word }) node word
+            (decode_of (slice_index g.text.words word)))
         by Taken slot_is m word e =
-            slot word e (λ n. let q : Taken ≡ NoSlot = sym slot_is ∙ n in absurd (cc)) (subst (λ (s : Slot). IsOnItsWay g.text (graph_in g) node x (way_of (instr_at g.text (x.pc - 4)) s)) (sym slot_is) m)
+            slot word e (λ n. let q : Taken ≡ NoSlot = sym slot_is ∙ n in absurd (cc))
+            (subst (λ (s : Slot). IsOnItsWay g.text (graph_in g) node x (way_of (instr_at g.text (x.pc - 4)) s))
+            (sym slot_is) m)
         by Untaken slot_is m word e =
-            slot word e (λ n. let q : Untaken ≡ NoSlot = sym slot_is ∙ n in absurd (cc)) (subst (λ (s : Slot). IsOnItsWay g.text (graph_in g) node x (way_of (instr_at g.text (x.pc - 4)) s)) (sym slot_is) m)
+            slot word e (λ n. let q : Untaken ≡ NoSlot = sym slot_is ∙ n in absurd (cc))
+            (subst (λ (s : Slot). IsOnItsWay g.text (graph_in g) node x (way_of (instr_at g.text (x.pc - 4)) s))
+            (sym slot_is) m)
 
     -- ---- steps that go on outside a slot
 
@@ -378,10 +317,12 @@ module _ (g : Setting) (is : IsText g.text) (branches : HasBranchesOnly g.text) 
         leads = λ live. goes (does_at g x t) refl live;
       })
         where
-          found : slice_get l.list word ≡ Some (plain_piece (record { 0 = address_of g.text word }) (number_in g node) (slice_index g.text.words word) (rest_after g.text (graph_in g) word))
+          found : slice_get l.list word ≡ Some (plain_piece (record { 0 = address_of g.text word }) (number_in g node)
+              (slice_index g.text.words word) (rest_after g.text (graph_in g) word))
           found =
               items node x word at none held instr says
-              ∙ ap (λ z. Some z) (image_straight g.text (graph_in g) (record { 0 = address_of g.text word }) node word instr plain_one)
+              ∙ ap (λ z. Some z) (image_straight g.text (graph_in g)
+              (record { 0 = address_of g.text word }) node word instr plain_one)
 
           acts : does_at g x t ≡ act (at_point x t) instr
           acts = ap (on_word (at_point x t)) (word_is x word at) ∙ ap (act (at_point x t)) says
@@ -389,17 +330,24 @@ module _ (g : Setting) (is : IsText g.text) (branches : HasBranchesOnly g.text) 
           falls : (word + 1 < length g.text.words) → place word 3 ≡ slice_index p.at (word + 1)
           falls more =
               let next : word + 1 ≡ suc word = omega arith in
-              let after : suc word < length l.list = get_below l.list (suc word) _ (image_at g.text (graph_in g) (suc word) (omega arith)) in
-              let short : slice_get l.list word ≡ Some (plain_piece (record { 0 = address_of g.text word }) (number_in g node) (slice_index g.text.words word) []) =
-              found ∙ ap (λ (t : Bool). Some (plain_piece (record { 0 = address_of g.text word }) (number_in g node) (slice_index g.text.words word) (if t then [] else jump_to g.text (graph_in g) (outside_piece g.text (graph_in g)))))
+              let after : suc word < length l.list = get_below l.list (suc word) _
+              (image_at g.text (graph_in g) (suc word) (omega arith)) in
+              let short : slice_get l.list word ≡ Some (plain_piece (record { 0 = address_of g.text word })
+              (number_in g node) (slice_index g.text.words word) []) =
+              found ∙ ap (λ (t : Bool). Some (plain_piece (record { 0 = address_of g.text word }) (number_in g node)
+              (slice_index g.text.words word) (if t then [] else jump_to g.text (graph_in g)
+              (outside_piece g.text (graph_in g)))))
               (lt-ltb _ _ more) in
               let size : size_of l.list word ≡ 3 = ap (λ (v : Option (List Item)). items_in v) short in
               let closed : is_jump (item_at l.list word (size_of l.list word - 1)) ≡ false =
-              ap (λ n. is_jump (item_at l.list word (n - 1))) size ∙ ap (λ (v : Option (List Item)). is_jump (item_in v 2)) short in
-              ap (place word) (sym size) ∙ laid.falls word after closed ∙ sym (laid.starts (suc word) after) ∙ ap (slice_index p.at) (sym next)
+              ap (λ n. is_jump (item_at l.list word (n - 1))) size
+              ∙ ap (λ (v : Option (List Item)). is_jump (item_in v 2)) short in
+              ap (place word) (sym size) ∙ laid.falls word after closed ∙ sym (laid.starts (suc word) after)
+              ∙ ap (slice_index p.at) (sym next)
 
           goes : (v : State) → does_at g x t ≡ v → v.ending ≡ None
-              → LeadsOn l p place word 3 (visited_at g l p f (node_after (graph_in g) node (gone_at g node x v)) (point_of v))
+              → LeadsOn l p place word 3 (visited_at g l p f (node_after (graph_in g) node (gone_at g node x v))
+              (point_of v))
           goes v e live =
               let same : v ≡ act (at_point x t) instr = sym e ∙ acts in
               let went = goes_act (at_point x t) instr plain_one (ap (λ (z : State). z.ending) (sym same) ∙ live) in
@@ -407,16 +355,20 @@ module _ (g : Setting) (is : IsText g.text) (branches : HasBranchesOnly g.text) 
               ap (λ (z : State). word_at g.text z.pc) same ∙ ap (word_at g.text) (went.0 ∙ npc)
               ∙ next_word g.text x.pc word is (word_at-some g.text x.pc word at) in
               let slot : v.slot ≡ NoSlot = ap (λ (z : State). z.slot) same ∙ went.2 in
-              let inside = is_there (word_at g.text v.pc) (subst (λ (z : State). IsInText g (point_of z)) e (on (ap (λ (z : State). z.ending) e ∙ live))) in
+              let inside = is_there (word_at g.text v.pc)
+              (subst (λ (z : State). IsInText g (point_of z)) e (on (ap (λ (z : State). z.ending) e ∙ live))) in
               let next = within_some (length g.text.words) (word + 1) inside.0 (sym there ∙ inside.1) in
               inl (falls next.0 ∙ ap (slice_index p.at) next.1
-              ∙ sym (visited_word (node_after (graph_in g) node (gone_at g node x v)) (point_of v) inside.0 inside.1 slot))
+              ∙ sym (visited_word (node_after (graph_in g) node (gone_at g node x v))
+              (point_of v) inside.0 inside.1 slot))
 
       -- ---- branches
 
-      module _ (node : Node) (x : Point) (t : State) (word : ℕ) (at : word_at g.text x.pc ≡ Some word) (none : x.slot ≡ NoSlot)
+      module _ (node : Node) (x : Point) (t : State) (word : ℕ) (at : word_at g.text x.pc ≡ Some word)
+          (none : x.slot ≡ NoSlot)
           (held : node ≡ node_of b (word_at g.text x.pc)) (npc : x.npc ≡ (x.pc + 4) % 2 ^ 32)
-          (cond : ℕ) (annul : Bool) (disp : ℤ) (says : decode_of (slice_index g.text.words word) ≡ i.Branch cond annul disp) where
+          (cond : ℕ) (annul : Bool) (disp : ℤ) (says : decode_of (slice_index g.text.words word)
+          ≡ i.Branch cond annul disp) where
         stands : Stands g.text b node x word (i.Branch cond annul disp)
         stands = record { text_is = is; cut = cut_in; is = word_at-some g.text x.pc word at; npc = npc; decodes = says; held = held }
 
@@ -433,7 +385,8 @@ module _ (g : Setting) (is : IsText g.text) (branches : HasBranchesOnly g.text) 
         node_home = held ∙ ap (node_of b) at ∙ node_is b word low
 
         -- the way of an edge on which no slot is run is a Jump to the image of the word to which it leads
-        bare_way : (w : Way) → IsOne w (ways_of b.words word (end_at g.text word)) → runs_slot (end_at g.text word) w.kind ≡ false → is_fall w.kind ≡ false
+        bare_way : (w : Way) → IsOne w (ways_of b.words word (end_at g.text word))
+            → runs_slot (end_at g.text word) w.kind ≡ false → is_fall w.kind ≡ false
             → same_kind w.kind kinds.Land ≡ false → (to : ℕ) → w.to ≡ Some to → LeadsIfThere b w.to
             → slice_get l.list (way_out g.text (graph_in g) node w.kind) ≡ Some (it.Jump (record { 0 = to }) ∷ [])
         bare_way w one bare fall land to e leads =
@@ -443,15 +396,20 @@ module _ (g : Setting) (is : IsText g.text) (branches : HasBranchesOnly g.text) 
             let inside = is_in g.text b cut_in word low in
             let ended : end_of b k ≡ end_at g.text word = cut_in.ends k inside.within ∙ ap (end_at g.text) (sym last) in
             let number : way_out g.text (graph_in g) node w.kind ≡ length g.text.words + found.number =
-            ap (λ (n : Node). way_out g.text (graph_in g) n w.kind) node_home ∙ ap (first_way g.text (graph_in g)) found.only in
+            ap (λ (n : Node). way_out g.text (graph_in g) n w.kind) node_home
+            ∙ ap (first_way g.text (graph_in g)) found.only in
             let target = leads to e in
             let there : piece_at g.text (graph_in g) (node_of b w.to) ≡ to =
             ap (λ (o : Option ℕ). piece_at g.text (graph_in g) (node_of b o)) e
-            ∙ ap (piece_at g.text (graph_in g)) (node_is b to target.0) ∙ first_held b.words b.firsts cut_in.firsts to target.1 in
+            ∙ ap (piece_at g.text (graph_in g)) (node_is b to target.0)
+            ∙ first_held b.words b.firsts cut_in.firsts to target.1 in
             ap (slice_get l.list) number
-            ∙ way_at g.text (graph_in g) found.number (edge_of b k w) (own_at b found.number (edge_of b k w) found.is land)
-            ∙ ap (λ (f : Bool). Some (if f then [] else way_by g.text (graph_in g) (edge_of b k w) (slot_on b k w.kind))) fall
-            ∙ ap (λ (r : Bool). Some (way_by g.text (graph_in g) (edge_of b k w) (if r then slot_behind b.words (last_word b.firsts b.words k) else carried.Nothing)))
+            ∙ way_at g.text (graph_in g) found.number (edge_of b k w)
+            (own_at b found.number (edge_of b k w) found.is land)
+            ∙ ap (λ (f : Bool). Some (if f then [] else way_by g.text (graph_in g) (edge_of b k w)
+            (slot_on b k w.kind))) fall
+            ∙ ap (λ (r : Bool). Some (way_by g.text (graph_in g) (edge_of b k w)
+            (if r then slot_behind b.words (last_word b.firsts b.words k) else carried.Nothing)))
             (ap (λ (d : BlockEnd). runs_slot d w.kind) ended ∙ bare)
             ∙ ap (λ (n : ℕ). Some (it.Jump (record { 0 = n }) ∷ [])) there
 
@@ -470,7 +428,8 @@ module _ (g : Setting) (is : IsText g.text) (branches : HasBranchesOnly g.text) 
             omega arith
 
         -- into the slot
-        into : (kind : EdgeKind) (v : State) → v.ending ≡ None → v.pc ≡ x.npc → v.slot ≢ NoSlot → way_of (Some (i.Branch cond annul disp)) v.slot ≡ kind
+        into : (kind : EdgeKind) (v : State) → v.ending ≡ None → v.pc ≡ x.npc → v.slot ≢ NoSlot
+            → way_of (Some (i.Branch cond annul disp)) v.slot ≡ kind
             → IsInText g (point_of v) → Leads_along kind v
         into kind v live pc slot way inside =
             let there = is_there (word_at g.text v.pc) inside in
@@ -479,12 +438,15 @@ module _ (g : Setting) (is : IsText g.text) (branches : HasBranchesOnly g.text) 
             ∙ ap (λ (s : Slot). completed g.text (graph_in g) node x (point_of v) s v.slot) none ∙ still v.slot slot in
             let back : v.pc - 4 ≡ x.pc = (let low = address_low in omega arith) in
             let instr : instr_at g.text (v.pc - 4) ≡ Some (i.Branch cond annul disp) =
-            ap (instr_at g.text) back ∙ ap (option_map (λ w. decode_of (slice_index g.text.words w))) at ∙ ap (λ z. Some z) says in
-            let kind_is : way_of (instr_at g.text (v.pc - 4)) v.slot ≡ kind = ap (λ (o : Option Instr). way_of o v.slot) instr ∙ way in
+            ap (instr_at g.text) back ∙ ap (option_map (λ w. decode_of (slice_index g.text.words w))) at
+            ∙ ap (λ z. Some z) says in
+            let kind_is : way_of (instr_at g.text (v.pc - 4)) v.slot ≡ kind = ap
+            (λ (o : Option Instr). way_of o v.slot) instr ∙ way in
             inl (ap (slice_index p.at) (first_along g.text (graph_in g) (edge_from (graph_in g) node kind)
             ∙ ap (λ (k : EdgeKind). along_first l (edge_from (graph_in g) node k)) (sym kind_is))
             ∙ sym (visited_slot node (point_of v) there.0 there.1 slot)
-            ∙ ap (λ (edges : List ℕ). visited_at g l p f (node_after (graph_in g) node edges) (point_of v)) (sym gone_none))
+            ∙ ap (λ (edges : List ℕ). visited_at g l p f (node_after (graph_in g) node edges) (point_of v))
+            (sym gone_none))
           where
             still : (s : Slot) → s ≢ NoSlot → completed g.text (graph_in g) node x (point_of v) NoSlot s ≡ []
             still NoSlot n = absurd (n refl)
@@ -492,8 +454,10 @@ module _ (g : Setting) (is : IsText g.text) (branches : HasBranchesOnly g.text) 
             still Untaken n = refl
 
         -- past a slot that is annulled
-        past : (w : Way) (v : State) → v.ending ≡ None → v.slot ≡ NoSlot → IsInText g (point_of v) → IsOne w (ways_of b.words word (end_at g.text word))
-            → runs_slot (end_at g.text word) w.kind ≡ false → is_fall w.kind ≡ false → same_kind w.kind kinds.Land ≡ false
+        past : (w : Way) (v : State) → v.ending ≡ None → v.slot ≡ NoSlot → IsInText g (point_of v)
+            → IsOne w (ways_of b.words word (end_at g.text word))
+            → runs_slot (end_at g.text word) w.kind ≡ false → is_fall w.kind ≡ false
+            → same_kind w.kind kinds.Land ≡ false
             → word_at g.text v.pc ≡ w.to → LeadsIfThere b w.to → Leads_along w.kind v
         past w v live slot inside one bare fall land to leads =
             let there = is_there (word_at g.text v.pc) inside in
@@ -503,84 +467,129 @@ module _ (g : Setting) (is : IsText g.text) (branches : HasBranchesOnly g.text) 
               sym (visited_word (node_after (graph_in g) node (gone_at g node x v)) (point_of v) there.0 there.1 slot),
             )
 
-        acts : does_at g x t ≡ branched (holds_of cond t.codes) (cond == always) annul (at_point x t) (target_from (at_point x t) disp)
+        acts : does_at g x t ≡ branched (holds_of cond t.codes) (cond == always) annul (at_point x t)
+            (target_from (at_point x t) disp)
         unfolding act branch_step
         acts =
             ap (on_word (at_point x t)) (word_is x word at) ∙ ap (act (at_point x t)) says
-            ∙ ap (λ (z : Slot). unless_couple z (at_point x t) (branched (holds_of cond t.codes) (cond == 8) annul (at_point x t) (target_from (at_point x t) disp))) none
+            ∙ ap (λ (z : Slot). unless_couple z (at_point x t)
+            (branched (holds_of cond t.codes) (cond == 8) annul (at_point x t)
+            (target_from (at_point x t) disp))) none
 
-        into_taken : (v : State) → v.ending ≡ None → v.pc ≡ x.npc → v.slot ≡ Taken → IsInText g (point_of v) → Leads_along kinds.Taken v
+        into_taken : (v : State) → v.ending ≡ None → v.pc ≡ x.npc → v.slot ≡ Taken → IsInText g (point_of v)
+            → Leads_along kinds.Taken v
         into_taken v live pc slot inside =
-            into kinds.Taken v live pc (λ n. let q : Taken ≡ NoSlot = sym slot ∙ n in absurd (cc)) (ap (way_of (Some (i.Branch cond annul disp))) slot) inside
+            into kinds.Taken v live pc (λ n. let q : Taken ≡ NoSlot = sym slot ∙ n in absurd (cc))
+            (ap (way_of (Some (i.Branch cond annul disp))) slot) inside
 
-        taken_leads : holds_of cond t.codes ≡ true → annul ≡ true → (cond == always) ≡ true → (v : State) → v.ending ≡ None → v.slot ≡ NoSlot
+        taken_leads : holds_of cond t.codes ≡ true → annul ≡ true → (cond == always) ≡ true → (v : State)
+            → v.ending ≡ None → v.slot ≡ NoSlot
             → v.pc ≡ target_from (at_point x t) disp → IsInText g (point_of v) → Leads_along kinds.Taken v
         taken_leads holds ann all v live slot pc inside =
             let target = branch_target g.text word cond disp in
             let some : (cond == never) ≡ false = not_never cond t.codes holds in
-            let one = subst (λ (e : BlockEnd). IsOne (way kinds.Taken (number_of (branch_target g.text word cond disp))) (ways_of b.words word e)) (sym end)
+            let one = subst (λ (e : BlockEnd). IsOne (way kinds.Taken
+            (number_of (branch_target g.text word cond disp))) (ways_of b.words word e)) (sym end)
             (taken_is_one b.words word cond annul target some) in
             let bare : runs_slot (end_at g.text word) kinds.Taken ≡ false =
-            ap (λ (e : BlockEnd). runs_slot e kinds.Taken) end ∙ ap (λ (a : Bool). not a || (true && not (cond == always))) ann ∙ ap not all in
+            ap (λ (e : BlockEnd). runs_slot e kinds.Taken) end
+            ∙ ap (λ (a : Bool). not a || (true && not (cond == always))) ann ∙ ap not all in
             let to = jumps_to stands (point_of v) transfer target disp v.pc (ap target_in end)
             (ap (λ (n : Bool). if n then None else numbered (target_of g.text word disp)) some) pc in
-            past (way kinds.Taken (number_of (branch_target g.text word cond disp))) v live slot inside one bare refl refl to.0 to.1
+            past (way kinds.Taken
+            (number_of (branch_target g.text word cond disp))) v live slot inside one bare refl refl to.0 to.1
 
-        untaken_leads : holds_of cond t.codes ≡ false → annul ≡ true → (v : State) → v.ending ≡ None → v.slot ≡ NoSlot → v.pc ≡ wrapped (x.pc + 8)
+        untaken_leads : holds_of cond t.codes ≡ false → annul ≡ true → (v : State) → v.ending ≡ None → v.slot ≡ NoSlot
+            → v.pc ≡ wrapped (x.pc + 8)
             → IsInText g (point_of v) → Leads_along kinds.Untaken v
         untaken_leads holds ann v live slot pc inside =
-            let one = subst (λ (e : BlockEnd). IsOne (way kinds.Untaken (within b.words (word + 2))) (ways_of b.words word e)) (sym end)
-            (untaken_is_one b.words word cond annul (branch_target g.text word cond disp) (not_always cond t.codes holds)) in
+            let one = subst (λ (e : BlockEnd). IsOne (way kinds.Untaken (within b.words (word + 2)))
+            (ways_of b.words word e)) (sym end)
+            (untaken_is_one b.words word cond annul (branch_target g.text word cond disp)
+            (not_always cond t.codes holds)) in
             let bare : runs_slot (end_at g.text word) kinds.Untaken ≡ false =
             ap (λ (e : BlockEnd). runs_slot e kinds.Untaken) end ∙ ap (λ (a : Bool). not a || false) ann in
             let to = passes stands (record { pc = x.pc; npc = (x.npc + 4) % 2 ^ 32; slot = NoSlot }) transfer refl in
             let far : v.pc ≡ (x.npc + 4) % 2 ^ 32 = omega arith in
-            past (way kinds.Untaken (within b.words (word + 2))) v live slot inside one bare refl refl (ap (word_at g.text) far ∙ to.0) to.1
+            past (way kinds.Untaken (within b.words (word + 2))) v live slot inside one bare refl refl
+            (ap (word_at g.text) far ∙ to.0) to.1
 
-        goes : (flag all ann : Bool) → holds_of cond t.codes ≡ flag → (cond == always) ≡ all → annul ≡ ann → t.ending ≡ None
-            → (v : State) → v ≡ branched flag all ann (at_point x t) (target_from (at_point x t) disp) → IsInText g (point_of v)
+        goes : (flag all ann : Bool) → holds_of cond t.codes ≡ flag → (cond == always) ≡ all → annul ≡ ann
+            → t.ending ≡ None
+            → (v : State) → v ≡ branched flag all ann (at_point x t) (target_from (at_point x t) disp)
+            → IsInText g (point_of v)
             → Leads_along (if flag then kinds.Taken else kinds.Untaken) v
         goes true true true holds all annulled live v is inside =
-            taken_leads holds annulled all v (ap (λ (z : State). z.ending) is ∙ live) (ap (λ (z : State). z.slot) is ∙ none) (ap (λ (z : State). z.pc) is) inside
-        goes true true false holds all annulled live v is inside = into_taken v (ap (λ (z : State). z.ending) is ∙ live) (ap (λ (z : State). z.pc) is) (ap (λ (z : State). z.slot) is) inside
-        goes true false true holds all annulled live v is inside = into_taken v (ap (λ (z : State). z.ending) is ∙ live) (ap (λ (z : State). z.pc) is) (ap (λ (z : State). z.slot) is) inside
-        goes true false false holds all annulled live v is inside = into_taken v (ap (λ (z : State). z.ending) is ∙ live) (ap (λ (z : State). z.pc) is) (ap (λ (z : State). z.slot) is) inside
+            taken_leads holds annulled all v (ap (λ (z : State). z.ending) is ∙ live)
+            (ap (λ (z : State). z.slot) is ∙ none) (ap (λ (z : State). z.pc) is) inside
+        goes true true false holds all annulled live v is inside = into_taken v
+            (ap (λ (z : State). z.ending) is ∙ live) (ap (λ (z : State). z.pc) is)
+            (ap (λ (z : State). z.slot) is) inside
+        goes true false true holds all annulled live v is inside = into_taken v
+            (ap (λ (z : State). z.ending) is ∙ live) (ap (λ (z : State). z.pc) is)
+            (ap (λ (z : State). z.slot) is) inside
+        goes true false false holds all annulled live v is inside = into_taken v
+            (ap (λ (z : State). z.ending) is ∙ live) (ap (λ (z : State). z.pc) is)
+            (ap (λ (z : State). z.slot) is) inside
         goes false all true holds _ annulled live v is inside =
-            untaken_leads holds annulled v (ap (λ (z : State). z.ending) is ∙ live) (ap (λ (z : State). z.slot) is ∙ none) (ap (λ (z : State). z.pc) is) inside
+            untaken_leads holds annulled v (ap (λ (z : State). z.ending) is ∙ live)
+            (ap (λ (z : State). z.slot) is ∙ none) (ap (λ (z : State). z.pc) is) inside
         goes false all false holds _ annulled live v is inside =
             let slot : v.slot ≡ Untaken = ap (λ (z : State). z.slot) is in
-            into kinds.Untaken v (ap (λ (z : State). z.ending) is ∙ live) (ap (λ (z : State). z.pc) is) (λ n. let q : Untaken ≡ NoSlot = sym slot ∙ n in absurd (cc))
+            into kinds.Untaken v (ap (λ (z : State). z.ending) is ∙ live) (ap (λ (z : State). z.pc) is)
+            (λ n. let q : Untaken ≡ NoSlot = sym slot ∙ n in absurd (cc))
             (ap (way_of (Some (i.Branch cond annul disp))) slot) inside
 
-        turn_case : t.ending ≡ None → ((does_at g x t).ending ≡ None → IsInText g (point_of (does_at g x t))) → IsCase g l p place f node x t
+        turn_case : t.ending ≡ None → ((does_at g x t).ending ≡ None → IsInText g (point_of (does_at g x t)))
+            → IsCase g l p place f node x t
         turn_case live on = by (cond == always) refl (cond == never) refl
           where
             alive : (does_at g x t).ending ≡ None
-            alive = ap (λ (z : State). z.ending) acts ∙ branched_lives (holds_of cond t.codes) (cond == always) annul (at_point x t) (target_from (at_point x t) disp) live
+            alive = ap (λ (z : State). z.ending) acts ∙ branched_lives (holds_of cond t.codes) (cond == always) annul
+                (at_point x t) (target_from (at_point x t) disp) live
 
-            leads : (flag : Bool) → holds_of cond t.codes ≡ flag → Leads_along (if flag then kinds.Taken else kinds.Untaken) (does_at g x t)
+            leads : (flag : Bool) → holds_of cond t.codes ≡ flag
+                → Leads_along (if flag then kinds.Taken else kinds.Untaken) (does_at g x t)
             leads flag holds =
                 goes flag (cond == always) annul holds refl refl live (does_at g x t)
-                (acts ∙ ap (λ (h : Bool). branched h (cond == always) annul (at_point x t) (target_from (at_point x t) disp)) holds) (on alive)
+                (acts ∙ ap (λ (h : Bool). branched h (cond == always) annul (at_point x t)
+                (target_from (at_point x t) disp)) holds) (on alive)
 
             made : (always_is never_is : Bool) → (cond == always) ≡ always_is → (cond == never) ≡ never_is
-                → slice_get l.list word ≡ Some (if always_is then plain_piece (record { 0 = address_of g.text word }) (number_in g node) nop_word (jump_to g.text (graph_in g) (way_out g.text (graph_in g) node kinds.Taken)) else
-                if never_is then plain_piece (record { 0 = address_of g.text word }) (number_in g node) nop_word (jump_to g.text (graph_in g) (way_out g.text (graph_in g) node kinds.Untaken)) else
-                branch_piece (record { 0 = address_of g.text word }) (number_in g node) cond (way_out g.text (graph_in g) node kinds.Taken) (way_out g.text (graph_in g) node kinds.Untaken))
+                → slice_get l.list word ≡ Some (if always_is then plain_piece (record { 0 = address_of g.text word })
+                (number_in g node) nop_word (jump_to g.text (graph_in g)
+                (way_out g.text (graph_in g) node kinds.Taken)) else
+                if never_is then plain_piece (record { 0 = address_of g.text word }) (number_in g node) nop_word
+                (jump_to g.text (graph_in g) (way_out g.text (graph_in g) node kinds.Untaken)) else
+                branch_piece (record { 0 = address_of g.text word }) (number_in g node) cond
+                (way_out g.text (graph_in g) node kinds.Taken) (way_out g.text (graph_in g) node kinds.Untaken))
             made always_is never_is a n =
                 items node x word at none held (i.Branch cond annul disp) says
-                ∙ ap (λ (z : Bool). Some (if z then plain_piece (record { 0 = address_of g.text word }) (number_in g node) nop_word (jump_to g.text (graph_in g) (way_out g.text (graph_in g) node kinds.Taken)) else
-                if cond == never then plain_piece (record { 0 = address_of g.text word }) (number_in g node) nop_word (jump_to g.text (graph_in g) (way_out g.text (graph_in g) node kinds.Untaken)) else
-                branch_piece (record { 0 = address_of g.text word }) (number_in g node) cond (way_out g.text (graph_in g) node kinds.Taken) (way_out g.text (graph_in g) node kinds.Untaken))) a
-                ∙ ap (λ (z : Bool). Some (if always_is then plain_piece (record { 0 = address_of g.text word }) (number_in g node) nop_word (jump_to g.text (graph_in g) (way_out g.text (graph_in g) node kinds.Taken)) else
-                if z then plain_piece (record { 0 = address_of g.text word }) (number_in g node) nop_word (jump_to g.text (graph_in g) (way_out g.text (graph_in g) node kinds.Untaken)) else
-                branch_piece (record { 0 = address_of g.text word }) (number_in g node) cond (way_out g.text (graph_in g) node kinds.Taken) (way_out g.text (graph_in g) node kinds.Untaken))) n
+                ∙ ap (λ (z : Bool). Some (if z then plain_piece (record { 0 = address_of g.text word })
+                (number_in g node) nop_word (jump_to g.text (graph_in g)
+                (way_out g.text (graph_in g) node kinds.Taken)) else
+                if cond == never then plain_piece (record { 0 = address_of g.text word }) (number_in g node) nop_word
+                (jump_to g.text (graph_in g) (way_out g.text (graph_in g) node kinds.Untaken)) else
+                branch_piece (record { 0 = address_of g.text word }) (number_in g node) cond
+                (way_out g.text (graph_in g) node kinds.Taken)
+                (way_out g.text (graph_in g) node kinds.Untaken))) a
+                ∙ ap (λ (z : Bool). Some (if always_is then plain_piece (record { 0 = address_of g.text word })
+                (number_in g node) nop_word (jump_to g.text (graph_in g)
+                (way_out g.text (graph_in g) node kinds.Taken)) else
+                if z then plain_piece (record { 0 = address_of g.text word }) (number_in g node) nop_word
+                (jump_to g.text (graph_in g) (way_out g.text (graph_in g) node kinds.Untaken)) else
+                branch_piece (record { 0 = address_of g.text word }) (number_in g node) cond
+                (way_out g.text (graph_in g) node kinds.Taken)
+                (way_out g.text (graph_in g) node kinds.Untaken))) n
 
-            not_jump : (does_at g x t).slot ≡ Taken → same_kind (way_of (instr_at g.text ((does_at g x t).pc - 4)) (does_at g x t).slot) kinds.Out ≡ true → ⊥
-            not_jump _ e = absurd (false≢true (sym (not_out _ (turns ((does_at g x t).pc - 4) (does_at g x t).slot)) ∙ e))
+            not_jump : (does_at g x t).slot ≡ Taken → same_kind
+                (way_of (instr_at g.text ((does_at g x t).pc - 4)) (does_at g x t).slot) kinds.Out ≡ true → ⊥
+            not_jump _ e = absurd (false≢true (sym (not_out _ (turns ((does_at g x t).pc - 4) (does_at g x t).slot))
+                ∙ e))
 
             one_way : (kind : EdgeKind)
-                → slice_get l.list word ≡ Some (plain_piece (record { 0 = address_of g.text word }) (number_in g node) nop_word (jump_to g.text (graph_in g) (way_out g.text (graph_in g) node kind)))
+                → slice_get l.list word ≡ Some (plain_piece (record { 0 = address_of g.text word })
+                (number_in g node) nop_word (jump_to g.text (graph_in g) (way_out g.text (graph_in g) node kind)))
                 → Leads_along kind (does_at g x t) → IsCase g l p place f node x t
             one_way kind is leads = idle (record {
               none = none;
@@ -599,11 +608,18 @@ module _ (g : Setting) (is : IsText g.text) (branches : HasBranchesOnly g.text) 
               idle = nop_says;
               rest = jump_to g.text (graph_in g) (way_out g.text (graph_in g) node kind);
               items = is;
-              leads = inr (record { 0 = way_out g.text (graph_in g) node kind }, ap (λ (v : Option (List Item)). item_in v 3) is, leads);
+              leads = inr (
+                record { 0 = way_out g.text (graph_in g) node kind },
+                ap
+                    (λ (v : Option (List Item)). item_in v 3) is,
+                leads,
+              );
               never = not_jump;
             })
 
-            two_ways : slice_get l.list word ≡ Some (branch_piece (record { 0 = address_of g.text word }) (number_in g node) cond (way_out g.text (graph_in g) node kinds.Taken) (way_out g.text (graph_in g) node kinds.Untaken))
+            two_ways : slice_get l.list word ≡ Some (branch_piece (record { 0 = address_of g.text word })
+                (number_in g node) cond (way_out g.text (graph_in g) node kinds.Taken)
+                (way_out g.text (graph_in g) node kinds.Untaken))
                 → IsCase g l p place f node x t
             two_ways is = turn (record {
               none = none;
@@ -627,14 +643,26 @@ module _ (g : Setting) (is : IsText g.text) (branches : HasBranchesOnly g.text) 
             })
               where
                 either : (flag : Bool) → holds_of cond t.codes ≡ flag
-                    → LeadsTo l p (record { 0 = if holds_of cond t.codes then way_out g.text (graph_in g) node kinds.Taken else way_out g.text (graph_in g) node kinds.Untaken })
-                    (visited_at g l p f (node_after (graph_in g) node (gone_at g node x (does_at g x t))) (point_of (does_at g x t)))
+                    → LeadsTo l p (record {
+                      0 = if holds_of cond t.codes then way_out g.text
+                          (graph_in g) node kinds.Taken else way_out g.text (graph_in g) node kinds.Untaken;
+                    })
+                    (visited_at g l p f (node_after (graph_in g) node (gone_at g node x (does_at g x t)))
+                    (point_of (does_at g x t)))
                 either true e =
-                    subst (λ (h : Bool). LeadsTo l p (record { 0 = if h then way_out g.text (graph_in g) node kinds.Taken else way_out g.text (graph_in g) node kinds.Untaken })
-                    (visited_at g l p f (node_after (graph_in g) node (gone_at g node x (does_at g x t))) (point_of (does_at g x t)))) (sym e) (leads true e)
+                    subst (λ (h : Bool). LeadsTo l p (record {
+                      0 = if h then way_out g.text
+                          (graph_in g) node kinds.Taken else way_out g.text (graph_in g) node kinds.Untaken;
+                    })
+                    (visited_at g l p f (node_after (graph_in g) node (gone_at g node x (does_at g x t)))
+                    (point_of (does_at g x t)))) (sym e) (leads true e)
                 either false e =
-                    subst (λ (h : Bool). LeadsTo l p (record { 0 = if h then way_out g.text (graph_in g) node kinds.Taken else way_out g.text (graph_in g) node kinds.Untaken })
-                    (visited_at g l p f (node_after (graph_in g) node (gone_at g node x (does_at g x t))) (point_of (does_at g x t)))) (sym e) (leads false e)
+                    subst (λ (h : Bool). LeadsTo l p (record {
+                      0 = if h then way_out g.text
+                          (graph_in g) node kinds.Taken else way_out g.text (graph_in g) node kinds.Untaken;
+                    })
+                    (visited_at g l p f (node_after (graph_in g) node (gone_at g node x (does_at g x t)))
+                    (point_of (does_at g x t)))) (sym e) (leads false e)
 
             by : (a : Bool) → (cond == always) ≡ a → (n : Bool) → (cond == never) ≡ n → IsCase g l p place f node x t
             by true a n m = one_way kinds.Taken (made true n a m) (leads true (always_holds cond t.codes a))
@@ -648,29 +676,43 @@ module _ (g : Setting) (is : IsText g.text) (branches : HasBranchesOnly g.text) 
       copied node x t k slot on = by (is_transfer (decode_of (slice_index g.text.words k.slot))) refl
         where
           made : (b : Bool) → is_transfer (decode_of (slice_index g.text.words k.slot)) ≡ b
-              → slice_get l.list (length g.text.words + k.number) ≡ Some (if b then couple_piece (record { 0 = address_of g.text k.slot }) (number_in g node) couple_word []
-              else plain_piece (record { 0 = address_of g.text k.slot }) (number_in g node) (slice_index g.text.words k.slot) (jump_to g.text (graph_in g) (piece_at g.text (graph_in g) k.edge.to)))
+              → slice_get l.list (length g.text.words + k.number) ≡ Some
+              (if b then couple_piece (record { 0 = address_of g.text k.slot }) (number_in g node) couple_word []
+              else plain_piece (record { 0 = address_of g.text k.slot }) (number_in g node)
+              (slice_index g.text.words k.slot) (jump_to g.text (graph_in g)
+              (piece_at g.text (graph_in g) k.edge.to)))
           made b e =
-              k.items ∙ ap (λ (z : Bool). Some (if z then couple_piece (record { 0 = address_of g.text k.slot }) (number_in g node) couple_word []
-              else plain_piece (record { 0 = address_of g.text k.slot }) (number_in g node) (slice_index g.text.words k.slot) (jump_to g.text (graph_in g) (piece_at g.text (graph_in g) k.edge.to)))) e
+              k.items ∙ ap (λ (z : Bool). Some (if z then couple_piece (record { 0 = address_of g.text k.slot })
+              (number_in g node) couple_word []
+              else plain_piece (record { 0 = address_of g.text k.slot }) (number_in g node)
+              (slice_index g.text.words k.slot) (jump_to g.text (graph_in g)
+              (piece_at g.text (graph_in g) k.edge.to)))) e
 
-          goes : is_transfer (decode_of (slice_index g.text.words k.slot)) ≡ false → (v : State) → does_at g x t ≡ v → v.ending ≡ None
-              → LeadsOn l p place (length g.text.words + k.number) 3 (visited_at g l p f (node_after (graph_in g) node (gone_at g node x v)) (point_of v))
+          goes : is_transfer (decode_of (slice_index g.text.words k.slot)) ≡ false → (v : State) → does_at g x t ≡ v
+              → v.ending ≡ None
+              → LeadsOn l p place (length g.text.words + k.number) 3
+              (visited_at g l p f (node_after (graph_in g) node (gone_at g node x v)) (point_of v))
           goes e v is live =
-              let same : v ≡ act (at_point x t) (decode_of (slice_index g.text.words k.slot)) = sym is ∙ ap (on_word (at_point x t)) (word_is x k.slot k.at) in
-              let went = goes_act (at_point x t) (decode_of (slice_index g.text.words k.slot)) e (ap (λ (z : State). z.ending) (sym same) ∙ live) in
+              let same : v ≡ act (at_point x t) (decode_of (slice_index g.text.words k.slot)) = sym is
+              ∙ ap (on_word (at_point x t)) (word_is x k.slot k.at) in
+              let went = goes_act (at_point x t) (decode_of (slice_index g.text.words k.slot)) e
+              (ap (λ (z : State). z.ending) (sym same) ∙ live) in
               let pc : v.pc ≡ x.npc = ap (λ (z : State). z.pc) same ∙ went.0 in
               let none : v.slot ≡ NoSlot = ap (λ (z : State). z.slot) same ∙ went.2 in
-              let inside = is_there (word_at g.text v.pc) (subst (λ (z : State). IsInText g (point_of z)) is (on (ap (λ (z : State). z.ending) is ∙ live))) in
+              let inside = is_there (word_at g.text v.pc)
+              (subst (λ (z : State). IsInText g (point_of z)) is (on (ap (λ (z : State). z.ending) is ∙ live))) in
               let there : piece_at g.text (graph_in g) k.edge.to ≡ inside.0 =
-              begins_piece g.text (graph_in g) k.edge.to (word_at g.text x.npc) inside.0 (ap (word_at g.text) (sym pc) ∙ inside.1) k.begins in
+              begins_piece g.text (graph_in g) k.edge.to (word_at g.text x.npc) inside.0
+              (ap (word_at g.text) (sym pc) ∙ inside.1) k.begins in
               inr (
                 record { 0 = piece_at g.text (graph_in g) k.edge.to },
                 ap (λ (v : Option (List Item)). item_in v 3) (made false e),
-                inl (ap (slice_index p.at) there ∙ sym (visited_word (node_after (graph_in g) node (gone_at g node x v)) (point_of v) inside.0 inside.1 none)),
+                inl (ap (slice_index p.at) there ∙ sym (visited_word
+                    (node_after (graph_in g) node (gone_at g node x v)) (point_of v) inside.0 inside.1 none)),
               )
 
-          by : (b : Bool) → is_transfer (decode_of (slice_index g.text.words k.slot)) ≡ b → IsCase g l p place f node x t
+          by : (b : Bool) → is_transfer (decode_of (slice_index g.text.words k.slot)) ≡ b
+              → IsCase g l p place f node x t
           by true e = couple (record {
             slot = slot;
             piece = length g.text.words + k.number;
@@ -703,29 +745,41 @@ module _ (g : Setting) (is : IsText g.text) (branches : HasBranchesOnly g.text) 
 
       -- ---- all together
 
-      outside : (node : Node) (x : Point) (t : State) (word : ℕ) → word_at g.text x.pc ≡ Some word → x.slot ≡ NoSlot → MatchesBy g.text (graph_in g) node x NoSlot → t.ending ≡ None
-          → ((does_at g x t).ending ≡ None → IsInText g (point_of (does_at g x t))) → (instr : Instr) → decode_of (slice_index g.text.words word) ≡ instr → IsBuilt instr
+      outside : (node : Node) (x : Point) (t : State) (word : ℕ) → word_at g.text x.pc ≡ Some word → x.slot ≡ NoSlot
+          → MatchesBy g.text (graph_in g) node x NoSlot → t.ending ≡ None
+          → ((does_at g x t).ending ≡ None → IsInText g (point_of (does_at g x t))) → (instr : Instr)
+          → decode_of (slice_index g.text.words word) ≡ instr → IsBuilt instr
           → IsCase g l p place f node x t
-      outside node x t word at none m live on (i.Branch cond annul disp) says built = turn_case node x t word at none m.0 m.1 cond annul disp says live on
+      outside node x t word at none m live on
+          (i.Branch cond annul disp) says built = turn_case node x t word at none m.0 m.1 cond annul disp says live on
       outside node x t word at none m live on (i.Call disp) says built = absurd built
       outside node x t word at none m live on (i.Jmpl rd rs1 op2) says built = absurd built
       outside node x t word at none m live on instr says built = straight node x t word at none m.0 m.1 instr says refl on
 
-      case : (node : Node) (x : Point) (t : State) → Matches g.text (graph_in g) node x → IsInText g x → Here g l base p f node x t
+      case : (node : Node) (x : Point) (t : State) → Matches g.text (graph_in g) node x → IsInText g x
+          → Here g l base p f node x t
           → ((does_at g x t).ending ≡ None → IsInText g (point_of (does_at g x t))) → IsCase g l p place f node x t
       case node x t m inside here on =
           let there = is_there (word_at g.text x.pc) inside in
           by x.slot refl m there.0 there.1
         where
-          slot : (word : ℕ) → word_at g.text x.pc ≡ Some word → x.slot ≢ NoSlot → IsOnItsWay g.text (graph_in g) node x (way_in x) → IsCase g l p place f node x t
+          slot : (word : ℕ) → word_at g.text x.pc ≡ Some word → x.slot ≢ NoSlot
+              → IsOnItsWay g.text (graph_in g) node x (way_in x) → IsCase g l p place f node x t
           slot word e not_none way = copied node x t (in_slot node x word e not_none way) not_none on
 
-          by : (s : Slot) → x.slot ≡ s → MatchesBy g.text (graph_in g) node x s → (word : ℕ) → word_at g.text x.pc ≡ Some word → IsCase g l p place f node x t
-          by NoSlot none m word e = outside node x t word e none m here.live on (decode_of (slice_index g.text.words word)) refl (branches word (word_at-some g.text x.pc word e).within)
+          by : (s : Slot) → x.slot ≡ s → MatchesBy g.text (graph_in g) node x s → (word : ℕ)
+              → word_at g.text x.pc ≡ Some word → IsCase g l p place f node x t
+          by NoSlot none m word e = outside node x t word e none m here.live on
+              (decode_of (slice_index g.text.words word)) refl
+              (branches word (word_at-some g.text x.pc word e).within)
           by Taken slot_is m word e =
-              slot word e (λ n. let q : Taken ≡ NoSlot = sym slot_is ∙ n in absurd (cc)) (subst (λ (s : Slot). IsOnItsWay g.text (graph_in g) node x (way_of (instr_at g.text (x.pc - 4)) s)) (sym slot_is) m)
+              slot word e (λ n. let q : Taken ≡ NoSlot = sym slot_is ∙ n in absurd (cc))
+              (subst (λ (s : Slot). IsOnItsWay g.text (graph_in g) node x (way_of (instr_at g.text (x.pc - 4)) s))
+              (sym slot_is) m)
           by Untaken slot_is m word e =
-              slot word e (λ n. let q : Untaken ≡ NoSlot = sym slot_is ∙ n in absurd (cc)) (subst (λ (s : Slot). IsOnItsWay g.text (graph_in g) node x (way_of (instr_at g.text (x.pc - 4)) s)) (sym slot_is) m)
+              slot word e (λ n. let q : Untaken ≡ NoSlot = sym slot_is ∙ n in absurd (cc))
+              (subst (λ (s : Slot). IsOnItsWay g.text (graph_in g) node x (way_of (instr_at g.text (x.pc - 4)) s))
+              (sym slot_is) m)
 
 pub pieces_make_images : PiecesMakeImages
 pieces_make_images g f is branches base p place placed =

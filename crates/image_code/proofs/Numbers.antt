@@ -45,9 +45,11 @@ few_ways count word (ends.Branch cond annul target) =
     (λ _. cond_both (cond == never) _ _ (λ (ws : List Way). length ws ≤ 2) (λ _. omega arith) (λ _. omega arith))
 
 few_of : (b : Blocks) (k : ℕ) → length (edges_of b k) ≤ 2
-few_of b k = let f = few_ways b.words (last_word b.firsts b.words k) (end_of b k) in omega (arith, length-map (ways_from b k) (edge_of b k))
+few_of b k = let f = few_ways b.words (last_word b.firsts b.words k) (end_of b k) in omega
+    (arith, length-map (ways_from b k) (edge_of b k))
 
-before_next : (b : Blocks) (n : ℕ) → length (flat_map (edges_of b) (below (suc n))) ≡ length (flat_map (edges_of b) (below n)) + length (edges_of b n)
+before_next : (b : Blocks) (n : ℕ) → length (flat_map (edges_of b) (below (suc n))) ≡ length
+    (flat_map (edges_of b) (below n)) + length (edges_of b n)
 before_next b n =
     ap length (flat_map-append (edges_of b) (below n) (n ∷ []))
     ∙ length-append (flat_map (edges_of b) (below n)) (flat_map (edges_of b) (n ∷ []))
@@ -56,7 +58,8 @@ before_next b n =
 pub few_before : (b : Blocks) (n : ℕ) → edges_before b n ≤ 2 * n
 unfolding edges_before
 few_before b zero = omega arith
-few_before b (suc n) = let h : length (flat_map (edges_of b) (below n)) ≤ 2 * n = few_before b n in let f = few_of b n in omega (arith, before_next b n)
+few_before b (suc n) = let h : length (flat_map (edges_of b)
+    (below n)) ≤ 2 * n = few_before b n in let f = few_of b n in omega (arith, before_next b n)
 
 pub next_before : (b : Blocks) (n : ℕ) → edges_before b (suc n) ≡ edges_before b n + length (edges_of b n)
 unfolding edges_before
@@ -95,27 +98,38 @@ module _ (text : Words) (graph : Graph) (h : IsGraphOf text graph) where
   own_count = omega (arith, length-take (length graph.edges - length graph.blocks.firsts) graph.edges, count_of)
 
   pub own_few : 1 ≤ length text.words → length (own_edges graph) ≤ 2 * length text.words
-  own_few some = omega (arith, own_count, few_before graph.blocks (length graph.blocks.firsts), (cut_of some).firsts.few, words_are)
+  own_few some = omega (
+    arith,
+    own_count,
+    few_before graph.blocks (length graph.blocks.firsts),
+    (cut_of some).firsts.few,
+    words_are,
+  )
 
   -- ---- the end of a block
 
   end_says : 1 ≤ length text.words → (k : ℕ) → k < length graph.blocks.firsts
-      → end_of graph.blocks k ≡ end_by text (last_word graph.blocks.firsts graph.blocks.words k) (decode_of (slice_index text.words (last_word graph.blocks.firsts graph.blocks.words k)))
+      → end_of graph.blocks k ≡ end_by text (last_word graph.blocks.firsts graph.blocks.words k)
+      (decode_of (slice_index text.words (last_word graph.blocks.firsts graph.blocks.words k)))
   end_says some k l = (cut_of some).ends k l ∙ end_is text (last_word graph.blocks.firsts graph.blocks.words k) _ refl
 
-  ways_after : (count word : ℕ) (instr : Instr) → length (ways_of count word (end_by text word instr)) ≡ edges_after instr
+  ways_after : (count word : ℕ) (instr : Instr) → length (ways_of count word (end_by text word instr))
+      ≡ edges_after instr
   ways_after count word (i.Branch c annul disp) =
       cond_both (c == always) _ _ (λ (ws : List Way). length ws ≡ branch_ways c) (λ e. rw e refl)
-      (λ e. cond_both (c == never) _ _ (λ (ws : List Way). length ws ≡ branch_ways c) (λ f. rw (e, f) refl) (λ f. rw (e, f) refl))
+      (λ e. cond_both (c == never) _ _ (λ (ws : List Way). length ws ≡ branch_ways c) (λ f. rw (e, f) refl)
+      (λ f. rw (e, f) refl))
   ways_after count word (i.Call disp) = refl
   ways_after count word (i.Jmpl rd rs1 op2) = refl
   ways_after count word _ = refl
 
   pub edges_out : 1 ≤ length text.words → (k : ℕ) → k < length graph.blocks.firsts
-      → length (edges_of graph.blocks k) ≡ edges_after (decode_of (slice_index text.words (last_word graph.blocks.firsts graph.blocks.words k)))
+      → length (edges_of graph.blocks k) ≡ edges_after (decode_of
+      (slice_index text.words (last_word graph.blocks.firsts graph.blocks.words k)))
   edges_out some k l =
       length-map (ways_from graph.blocks k) (edge_of graph.blocks k)
-      ∙ ap (λ end. length (ways_of graph.blocks.words (last_word graph.blocks.firsts graph.blocks.words k) end)) (end_says some k l)
+      ∙ ap (λ end. length (ways_of graph.blocks.words (last_word graph.blocks.firsts graph.blocks.words k) end))
+      (end_says some k l)
       ∙ ways_after graph.blocks.words (last_word graph.blocks.firsts graph.blocks.words k)
       (decode_of (slice_index text.words (last_word graph.blocks.firsts graph.blocks.words k)))
 
@@ -126,13 +140,15 @@ first_passes : {A : Type 0} (p : A → Bool) (xs : List A) (y : A) (ys : List A)
 first_passes p [] y ys h e = ap (λ b. cond (not b) (1 + position_or_len p ys) 0) e
 first_passes p (x ∷ xs) y ys h e =
     ap (λ b. cond (not b) (1 + position_or_len p (xs ++ y ∷ ys)) 0) h.0
-    ∙ (let r = first_passes p xs y ys h.1 e in let q : 1 + position_or_len p (xs ++ y ∷ ys) ≡ suc (length xs) = omega arith in q)
+    ∙ (let r = first_passes p xs y ys h.1 e in let q : 1 + position_or_len p (xs ++ y ∷ ys) ≡ suc
+    (length xs) = omega arith in q)
 
 position_is : {A : Type 0} (p : A → Bool) (xs : List A) (y : A) (ys : List A) → Each (λ x. p x ≡ false) xs → p y ≡ true
     → position p (xs ++ y ∷ ys) ≡ Some (length xs)
 position_is p xs y ys h e =
     let at = first_passes p xs y ys h e in
-    let within : position_or_len p (xs ++ y ∷ ys) < length (xs ++ y ∷ ys) = (let l : length (xs ++ y ∷ ys) ≡ length xs + suc (length ys) = length-append xs (y ∷ ys) in omega arith) in
+    let within : position_or_len p (xs ++ y ∷ ys) < length (xs ++ y ∷ ys) =
+    (let l : length (xs ++ y ∷ ys) ≡ length xs + suc (length ys) = length-append xs (y ∷ ys) in omega arith) in
     ap (λ b. cond b (Some (position_or_len p (xs ++ y ∷ ys))) None) (lt-ltb _ _ within) ∙ ap (λ z. Some z) at
 
 -- the numbers below one, split at another
@@ -162,7 +178,8 @@ module _ (b : Blocks) (k : ℕ) (kind : EdgeKind) where
       each-map (λ edge. leaves edge ≡ false) (edge_of b j) (ways_from b j)
       (each _ (ways_from b j) (λ w. ap (λ t. t && same_kind w.kind kind) apart))
 
-  pub edge_number : k < length b.firsts → (pre : List Edge) (edge : Edge) (post : List Edge) → edges_of b k ≡ pre ++ edge ∷ post
+  pub edge_number : k < length b.firsts → (pre : List Edge) (edge : Edge) (post : List Edge)
+      → edges_of b k ≡ pre ++ edge ∷ post
       → Each (λ x. same_kind x.kind kind ≡ false) pre → edge.from ≡ block k → same_kind edge.kind kind ≡ true
       → edge_from (graph_of b) (block k) kind ≡ (edges_before b k + length pre) ∷ []
   unfolding edges_in edges_before leaves
@@ -175,22 +192,27 @@ module _ (b : Blocks) (k : ℕ) (kind : EdgeKind) where
       let all : flat_map (edges_of b) (below n) ++ landings ≡ (early ++ pre) ++ edge ∷ (late ++ landings) =
       ap (λ (ns : List ℕ). flat_map (edges_of b) ns ++ map landing_at (below n)) s.1
       ∙ ap (λ (es : List Edge). es ++ map landing_at (below n)) (flat_map-append (edges_of b) (below k) (k ∷ s.0))
-      ∙ ap (λ (es : List Edge). (flat_map (edges_of b) (below k) ++ (es ++ flat_map (edges_of b) s.0)) ++ map landing_at (below n)) is
+      ∙ ap (λ (es : List Edge). (flat_map (edges_of b) (below k) ++
+      (es ++ flat_map (edges_of b) s.0)) ++ map landing_at (below n)) is
       ∙ regroup early pre edge post (flat_map (edges_of b) s.0) landings in
       ap (λ (es : List Edge). option_to_list (position leaves es)) all
       ∙ ap option_to_list (position_is leaves (early ++ pre) edge (late ++ landings)
-      (each-append _ early pre (each-flat_map _ (edges_of b) (below k) (each-below (λ j. Each (λ edge. leaves edge ≡ false) (edges_of b j)) k others))
-      (each-then (λ (x : Edge). same_kind x.kind kind ≡ false) (λ (x : Edge). leaves x ≡ false) pre (λ x e. and_false (same_node x.from (block k)) (same_kind x.kind kind) e) before))
+      (each-append _ early pre (each-flat_map _ (edges_of b) (below k)
+      (each-below (λ j. Each (λ edge. leaves edge ≡ false) (edges_of b j)) k others))
+      (each-then (λ (x : Edge). same_kind x.kind kind ≡ false) (λ (x : Edge). leaves x ≡ false) pre
+      (λ x e. and_false (same_node x.from (block k)) (same_kind x.kind kind) e) before))
       (and_from _ _ (ap (λ (m : Node). same_node m (block k)) from ∙ eq-eqb k k refl) same))
       ∙ ap (λ m. m ∷ []) (length-append early pre)
     where
       regroup : (early pre : List Edge) (edge : Edge) (post more landings : List Edge)
-          → (early ++ ((pre ++ edge ∷ post) ++ more)) ++ landings ≡ (early ++ pre) ++ edge ∷ ((post ++ more) ++ landings)
+          → (early ++ ((pre ++ edge ∷ post) ++ more)) ++ landings ≡ (early ++ pre) ++ edge ∷
+          ((post ++ more) ++ landings)
       regroup early pre edge post more landings = search (append_assoc)
 
 -- ---- the ways of a branch
 
-module _ (text : Words) (graph : Graph) (h : IsGraphOf text graph) (some : 1 ≤ length text.words) (word : ℕ) (l : word < length text.words)
+module _ (text : Words) (graph : Graph) (h : IsGraphOf text graph) (some : 1 ≤ length text.words) (word : ℕ)
+    (l : word < length text.words)
     (c : ℕ) (annul : Bool) (disp : ℤ) (says : decode_of (slice_index text.words word) ≡ i.Branch c annul disp) where
   low : word < graph.blocks.words
   low = omega (arith, words_are text graph h)
@@ -198,7 +220,8 @@ module _ (text : Words) (graph : Graph) (h : IsGraphOf text graph) (some : 1 ≤
   abbrev k : ℕ
   k = holding_of graph.blocks word
 
-  ways_here : ways_from graph.blocks k ≡ ways_of graph.blocks.words word (ends.Branch c annul (branch_target text word c disp))
+  ways_here : ways_from graph.blocks k ≡ ways_of graph.blocks.words word
+      (ends.Branch c annul (branch_target text word c disp))
   ways_here =
       let is = end_is text word (i.Branch c annul disp) says in
       ways_at text graph.blocks (cut_of text graph h some) word low
@@ -211,38 +234,52 @@ module _ (text : Words) (graph : Graph) (h : IsGraphOf text graph) (some : 1 ≤
       → edge_from graph (block k) kind ≡ edges_before graph.blocks k ∷ []
   only_way kind w same itself one =
       ap (λ (g : Graph). edge_from g (block k) kind) (graph_is text graph h)
-      ∙ edge_number graph.blocks k kind (is_in text graph.blocks (cut_of text graph h some) word low).within [] (edge_of graph.blocks k w) []
-      (ap (map (edge_of graph.blocks k)) (ways_here ∙ one)) tt refl (ap (λ (j : EdgeKind). same_kind j kind) same ∙ itself)
+      ∙ edge_number graph.blocks k kind (is_in text graph.blocks (cut_of text graph h some) word low).within []
+      (edge_of graph.blocks k w) []
+      (ap (map (edge_of graph.blocks k)) (ways_here ∙ one)) tt refl
+      (ap (λ (j : EdgeKind). same_kind j kind) same ∙ itself)
       ∙ ap (λ n. n ∷ []) (let e : edges_before graph.blocks k + 0 ≡ edges_before graph.blocks k = omega arith in e)
 
   pub always_number : (c == always) ≡ true → edge_from graph (block k) kinds.Taken ≡ edges_before graph.blocks k ∷ []
-  always_number e = only_way kinds.Taken (way kinds.Taken (number_of (branch_target text word c disp))) refl refl (rw e refl)
+  always_number e = only_way kinds.Taken (way kinds.Taken (number_of (branch_target text word c disp))) refl refl
+      (rw e refl)
 
-  pub never_number : (c == always) ≡ false → (c == never) ≡ true → edge_from graph (block k) kinds.Untaken ≡ edges_before graph.blocks k ∷ []
-  never_number e f = only_way kinds.Untaken (way kinds.Untaken (within graph.blocks.words (word + 2))) refl refl (rw (e, f) refl)
+  pub never_number : (c == always) ≡ false → (c == never) ≡ true
+      → edge_from graph (block k) kinds.Untaken ≡ edges_before graph.blocks k ∷ []
+  never_number e f = only_way kinds.Untaken (way kinds.Untaken (within graph.blocks.words (word + 2))) refl refl
+      (rw (e, f) refl)
 
   two : (c == always) ≡ false → (c == never) ≡ false → edges_of graph.blocks k
-      ≡ edge_of graph.blocks k (way kinds.Taken (number_of (branch_target text word c disp))) ∷ edge_of graph.blocks k (way kinds.Untaken (within graph.blocks.words (word + 2))) ∷ []
+      ≡ edge_of graph.blocks k (way kinds.Taken (number_of (branch_target text word c disp))) ∷ edge_of graph.blocks k
+      (way kinds.Untaken (within graph.blocks.words (word + 2))) ∷ []
   two e f =
       ap (map (edge_of graph.blocks k)) (ways_here
-      ∙ ap (λ (a : Bool). if a then way kinds.Taken (number_of (branch_target text word c disp)) ∷ [] else if c == never then way kinds.Untaken (within graph.blocks.words (word + 2)) ∷ [] else
-      way kinds.Taken (number_of (branch_target text word c disp)) ∷ way kinds.Untaken (within graph.blocks.words (word + 2)) ∷ []) e
+      ∙ ap (λ (a : Bool). if a then way kinds.Taken (number_of
+      (branch_target text word c disp)) ∷ [] else if c == never then way kinds.Untaken
+      (within graph.blocks.words (word + 2)) ∷ [] else
+      way kinds.Taken (number_of (branch_target text word c disp)) ∷ way kinds.Untaken
+      (within graph.blocks.words (word + 2)) ∷ []) e
       ∙ ap (λ (a : Bool). if a then way kinds.Untaken (within graph.blocks.words (word + 2)) ∷ [] else
-      way kinds.Taken (number_of (branch_target text word c disp)) ∷ way kinds.Untaken (within graph.blocks.words (word + 2)) ∷ []) f)
+      way kinds.Taken (number_of (branch_target text word c disp)) ∷ way kinds.Untaken
+      (within graph.blocks.words (word + 2)) ∷ []) f)
 
-  pub taken_number : (c == always) ≡ false → (c == never) ≡ false → edge_from graph (block k) kinds.Taken ≡ edges_before graph.blocks k ∷ []
+  pub taken_number : (c == always) ≡ false → (c == never) ≡ false
+      → edge_from graph (block k) kinds.Taken ≡ edges_before graph.blocks k ∷ []
   taken_number e f =
       ap (λ (g : Graph). edge_from g (block k) kinds.Taken) (graph_is text graph h)
       ∙ edge_number graph.blocks k kinds.Taken (is_in text graph.blocks (cut_of text graph h some) word low).within []
-      (edge_of graph.blocks k (way kinds.Taken (number_of (branch_target text word c disp)))) (edge_of graph.blocks k (way kinds.Untaken (within graph.blocks.words (word + 2))) ∷ [])
+      (edge_of graph.blocks k (way kinds.Taken (number_of (branch_target text word c disp))))
+      (edge_of graph.blocks k (way kinds.Untaken (within graph.blocks.words (word + 2))) ∷ [])
       (two e f) tt refl refl
       ∙ ap (λ n. n ∷ []) (let z : edges_before graph.blocks k + 0 ≡ edges_before graph.blocks k = omega arith in z)
 
-  pub untaken_number : (c == always) ≡ false → (c == never) ≡ false → edge_from graph (block k) kinds.Untaken ≡ (edges_before graph.blocks k + 1) ∷ []
+  pub untaken_number : (c == always) ≡ false → (c == never) ≡ false
+      → edge_from graph (block k) kinds.Untaken ≡ (edges_before graph.blocks k + 1) ∷ []
   untaken_number e f =
       ap (λ (g : Graph). edge_from g (block k) kinds.Untaken) (graph_is text graph h)
       ∙ edge_number graph.blocks k kinds.Untaken (is_in text graph.blocks (cut_of text graph h some) word low).within
-      (edge_of graph.blocks k (way kinds.Taken (number_of (branch_target text word c disp))) ∷ []) (edge_of graph.blocks k (way kinds.Untaken (within graph.blocks.words (word + 2)))) []
+      (edge_of graph.blocks k (way kinds.Taken (number_of (branch_target text word c disp))) ∷ [])
+      (edge_of graph.blocks k (way kinds.Untaken (within graph.blocks.words (word + 2)))) []
       (two e f) (refl, tt) refl refl
 
   pub branch_is : (address : Addr) (first : ℕ) → first ≡ first_way_of text graph k
@@ -250,39 +287,53 @@ module _ (text : Words) (graph : Graph) (h : IsGraphOf text graph) (some : 1 ≤
   branch_is address first is =
       by (c == always) refl (c == never) refl
     where
-      none : (kind : EdgeKind) → edge_from graph (block k) kind ≡ edges_before graph.blocks k ∷ [] → way_out text graph (block k) kind ≡ first
+      none : (kind : EdgeKind) → edge_from graph (block k) kind ≡ edges_before graph.blocks k ∷ []
+          → way_out text graph (block k) kind ≡ first
       none kind e = ap (first_way text graph) e ∙ sym is
 
-      by : (a : Bool) → (c == always) ≡ a → (n : Bool) → (c == never) ≡ n → branch_image text graph address (block k) c ≡ branch_from address k c first
-      by true a n m = rw a (ap (λ z. plain_piece address k nop_word (jump_to text graph z)) (none kinds.Taken (always_number a)))
-      by false a true m = rw (a, m) (ap (λ z. plain_piece address k nop_word (jump_to text graph z)) (none kinds.Untaken (never_number a m)))
+      by : (a : Bool) → (c == always) ≡ a → (n : Bool) → (c == never) ≡ n
+          → branch_image text graph address (block k) c ≡ branch_from address k c first
+      by true a n m = rw a (ap (λ z. plain_piece address k nop_word (jump_to text graph z))
+          (none kinds.Taken (always_number a)))
+      by false a true m = rw (a, m) (ap (λ z. plain_piece address k nop_word (jump_to text graph z))
+          (none kinds.Untaken (never_number a m)))
       by false a false m =
           let second : way_out text graph (block k) kinds.Untaken ≡ first + 1 =
-          ap (first_way text graph) (untaken_number a m) ∙ (let q : length text.words + (edges_before graph.blocks k + 1) ≡ first + 1 = omega arith in q) in
-          rw (a, m) (ap (λ z. branch_piece address k c z (way_out text graph (block k) kinds.Untaken)) (none kinds.Taken (taken_number a m))
+          ap (first_way text graph) (untaken_number a m)
+          ∙ (let q : length text.words + (edges_before graph.blocks k + 1) ≡ first + 1 = omega arith in q) in
+          rw (a, m) (ap (λ z. branch_piece address k c z (way_out text graph (block k) kinds.Untaken))
+          (none kinds.Taken (taken_number a m))
           ∙ ap (branch_piece address k c first) second)
 
 -- ---- the image of a word
 
-pub image_is : (text : Words) (graph : Graph) → IsGraphOf text graph → 1 ≤ length text.words → (word : ℕ) → word < length text.words → (first : ℕ)
-    → first ≡ first_way_of text graph (holding_of graph.blocks word) → (rest : Option PieceNo) → jump_if rest ≡ rest_after text graph word
-    → image_from (record { 0 = address_of text word }) (holding_of graph.blocks word) (slice_index text.words word) first rest (decode_of (slice_index text.words word))
+pub image_is : (text : Words) (graph : Graph) → IsGraphOf text graph → 1 ≤ length text.words → (word : ℕ)
+    → word < length text.words → (first : ℕ)
+    → first ≡ first_way_of text graph (holding_of graph.blocks word) → (rest : Option PieceNo)
+    → jump_if rest ≡ rest_after text graph word
+    → image_from (record { 0 = address_of text word }) (holding_of graph.blocks word)
+    (slice_index text.words word) first rest (decode_of (slice_index text.words word))
     ≡ image text graph word
 image_is text graph h some word l first is rest after =
     by (decode_of (slice_index text.words word)) refl
-    ∙ ap (λ (n : Node). image_by text graph (record { 0 = address_of text word }) n word (decode_of (slice_index text.words word)))
+    ∙ ap (λ (n : Node). image_by text graph (record { 0 = address_of text word }) n word
+    (decode_of (slice_index text.words word)))
     (sym (node_is graph.blocks word (let e = words_are text graph h in omega arith)))
   where
     by : (instr : Instr) → decode_of (slice_index text.words word) ≡ instr
-        → image_from (record { 0 = address_of text word }) (holding_of graph.blocks word) (slice_index text.words word) first rest instr
+        → image_from (record { 0 = address_of text word }) (holding_of graph.blocks word)
+        (slice_index text.words word) first rest instr
         ≡ image_by text graph (record { 0 = address_of text word }) (block (holding_of graph.blocks word)) word instr
-    by (i.Branch c annul disp) says = sym (branch_is text graph h some word l c annul disp says (record { 0 = address_of text word }) first is)
+    by (i.Branch c annul disp) says = sym (branch_is text graph h some word l c annul disp says
+        (record { 0 = address_of text word }) first is)
     by (i.Call disp) says = refl
     by (i.Jmpl rd rs1 op2) says = refl
-    by _ says = ap (plain_piece (record { 0 = address_of text word }) (holding_of graph.blocks word) (slice_index text.words word)) after
+    by _ says = ap (plain_piece (record { 0 = address_of text word }) (holding_of graph.blocks word)
+        (slice_index text.words word)) after
 
 -- the ways along the edges of a block lie before the last piece
-pub first_low : (text : Words) (graph : Graph) → IsGraphOf text graph → 1 ≤ length text.words → (word : ℕ) → word < length text.words
+pub first_low : (text : Words) (graph : Graph) → IsGraphOf text graph → 1 ≤ length text.words → (word : ℕ)
+    → word < length text.words
     → first_way_of text graph (holding_of graph.blocks word) ≤ 3 * length text.words
 first_low text graph h some word l =
     let words = words_are text graph h in
@@ -292,13 +343,17 @@ first_low text graph h some word l =
     omega (arith, few_before graph.blocks (holding_of graph.blocks word))
 
 -- a word from the first of a block on, and before its end, is held by the block
-pub held_by : (text : Words) (graph : Graph) → IsGraphOf text graph → 1 ≤ length text.words → (k word : ℕ) → k < length graph.blocks.firsts
-    → slice_index graph.blocks.firsts k ≤ word → word < block_end graph.blocks.firsts graph.blocks.words k → k ≡ holding_of graph.blocks word
+pub held_by : (text : Words) (graph : Graph) → IsGraphOf text graph → 1 ≤ length text.words → (k word : ℕ)
+    → k < length graph.blocks.firsts
+    → slice_index graph.blocks.firsts k ≤ word → word < block_end graph.blocks.firsts graph.blocks.words k
+    → k ≡ holding_of graph.blocks word
 held_by text graph h some k word l above below =
-    sym (is_held graph.blocks.words graph.blocks.firsts (cut_of text graph h some).firsts word k (record { within = l; above = above; below = below }))
+    sym (is_held graph.blocks.words graph.blocks.firsts (cut_of text graph h some).firsts word k
+    (record { within = l; above = above; below = below }))
 
 -- the blocks' words follow one another
-pub begin_after : (text : Words) (graph : Graph) → IsGraphOf text graph → 1 ≤ length text.words → (k : ℕ) → k < length graph.blocks.firsts
+pub begin_after : (text : Words) (graph : Graph) → IsGraphOf text graph → 1 ≤ length text.words → (k : ℕ)
+    → k < length graph.blocks.firsts
     → begin_of graph.blocks (k + 1) ≡ last_word graph.blocks.firsts graph.blocks.words k + 1
 begin_after text graph h some k l =
     let f = (cut_of text graph h some).firsts in
@@ -306,26 +361,34 @@ begin_after text graph h some k l =
     let room = some_words graph.blocks.words graph.blocks.firsts f k l in
     let same : begin_of graph.blocks (suc k) ≡ block_end graph.blocks.firsts graph.blocks.words k = refl in
     ap (begin_of graph.blocks) (sym next) ∙ same
-    ∙ (let e : block_end graph.blocks.firsts graph.blocks.words k ≡ last_word graph.blocks.firsts graph.blocks.words k + 1 = omega arith in e)
+    ∙ (let e : block_end graph.blocks.firsts graph.blocks.words k
+    ≡ last_word graph.blocks.firsts graph.blocks.words k + 1 = omega arith in e)
 
-pub begin_first : (text : Words) (graph : Graph) → IsGraphOf text graph → 1 ≤ length text.words → begin_of graph.blocks 0 ≡ 0
+pub begin_first : (text : Words) (graph : Graph) → IsGraphOf text graph → 1 ≤ length text.words
+    → begin_of graph.blocks 0 ≡ 0
 begin_first text graph h some =
     let f = (cut_of text graph h some).firsts in
-    ap (λ (b : Bool). if b then slice_index graph.blocks.firsts 0 else graph.blocks.words) (lt-ltb 0 (length graph.blocks.firsts) (omega (arith, f.some))) ∙ f.begin
+    ap (λ (b : Bool). if b then slice_index graph.blocks.firsts 0 else graph.blocks.words)
+    (lt-ltb 0 (length graph.blocks.firsts) (omega (arith, f.some))) ∙ f.begin
 
-pub begin_last : (text : Words) (graph : Graph) → IsGraphOf text graph → (k : ℕ) → length graph.blocks.firsts ≤ k → begin_of graph.blocks k ≡ length text.words
+pub begin_last : (text : Words) (graph : Graph) → IsGraphOf text graph → (k : ℕ) → length graph.blocks.firsts ≤ k
+    → begin_of graph.blocks k ≡ length text.words
 begin_last text graph h k m =
-    ap (λ (b : Bool). if b then slice_index graph.blocks.firsts k else graph.blocks.words) (le-ltb k (length graph.blocks.firsts) m) ∙ words_are text graph h
+    ap (λ (b : Bool). if b then slice_index graph.blocks.firsts k else graph.blocks.words)
+    (le-ltb k (length graph.blocks.firsts) m) ∙ words_are text graph h
 
 -- the way after those along a block's edges
-pub way_after : (text : Words) (graph : Graph) → (way out k : ℕ) → way ≡ first_way_of text graph k → out ≡ length (edges_of graph.blocks k)
+pub way_after : (text : Words) (graph : Graph) → (way out k : ℕ) → way ≡ first_way_of text graph k
+    → out ≡ length (edges_of graph.blocks k)
     → way + out ≡ first_way_of text graph (k + 1)
 way_after text graph way out k e f =
     let next : suc k ≡ k + 1 = omega arith in
     let n = next_before graph.blocks k in
-    (let q : way + out ≡ length text.words + edges_before graph.blocks (suc k) = omega arith in q) ∙ ap (λ j. length text.words + edges_before graph.blocks j) next
+    (let q : way + out ≡ length text.words + edges_before graph.blocks (suc k) = omega arith in q)
+    ∙ ap (λ j. length text.words + edges_before graph.blocks j) next
 
-pub way_few : (text : Words) (graph : Graph) → IsGraphOf text graph → 1 ≤ length text.words → (k : ℕ) → k < length graph.blocks.firsts
+pub way_few : (text : Words) (graph : Graph) → IsGraphOf text graph → 1 ≤ length text.words → (k : ℕ)
+    → k < length graph.blocks.firsts
     → first_way_of text graph k ≤ 3 * length text.words
 way_few text graph h some k l =
     let words = words_are text graph h in

@@ -36,9 +36,11 @@ use Rattle.image_code.specs.Cases.{Everything, LeadsTo, branch_piece}
 use Rattle.image_code.specs.Turns.{IsTurn, TurnsStep}
 use Rattle.image_code.proofs.Cases.{can_run, code_after, tail, arrive, quiet_of, bare_on, IsBare, IsFit, hopped_fit, Arrives, own_stored, on_range, cells_same, same_at, no_puts}
 
-module _ (g : Setting) (l : Pieces) (base : ℕ) (p : Placement) (place : ℕ → ℕ → ℕ) (f : Frame) (h : IsPlaced g l base p place f)
+module _ (g : Setting) (l : Pieces) (base : ℕ) (p : Placement) (place : ℕ → ℕ → ℕ) (f : Frame)
+    (h : IsPlaced g l base p place f)
     (node : Node) (x : Point) (t : State) (here : Here g l base p f node x t) (c : IsTurn g l p f node x t) where
-  b_item : (n : ℕ) → item_at l.list (l.image node c.number) n ≡ slice_get (branch_piece c.address (number_in g node) c.cond c.taken c.untaken) n
+  b_item : (n : ℕ) → item_at l.list (l.image node c.number) n ≡ slice_get
+      (branch_piece c.address (number_in g node) c.cond c.taken c.untaken) n
   b_item n = ap (λ (v : Option (List Item)). item_in v n) c.items
 
   b_size : size_of l.list (l.image node c.number) ≡ 4
@@ -63,24 +65,41 @@ module _ (g : Setting) (l : Pieces) (base : ℕ) (p : Placement) (place : ℕ �
       let low = h.laid.low in
       let a = b_at in
       let n = here.npc in
-      can_run g l base p place f h t here.valid here.live (let e : t.npc ≡ t.pc + 4 = n ∙ (let q : wrapped (t.pc + 4) ≡ t.pc + 4 = omega arith in q) in e) here.slot here.code here.ours
+      can_run g l base p place f h t here.valid here.live
+      (let e : t.npc ≡ t.pc + 4 = n ∙ (let q : wrapped (t.pc + 4)
+      ≡ t.pc + 4 = omega arith in q) in e) here.slot here.code here.ours
 
-  hop : Goes t (if holds_of c.cond t.codes then slice_index p.at c.taken else place (l.image node c.number) 2) (place (l.image node c.number) 2) 2 6
-  hop = branches_hop l.list base p place h.laid (l.image node c.number) 1 c.cond (record { 0 = c.taken }) (b_item 1) c.small t b_ready b_at
+  hop : Goes t (if holds_of c.cond t.codes then slice_index p.at c.taken else place (l.image node c.number) 2)
+      (place (l.image node c.number) 2) 2 6
+  hop = branches_hop l.list base p place h.laid (l.image node c.number) 1 c.cond (record { 0 = c.taken })
+      (b_item 1) c.small t b_ready b_at
 
-  b_inside : (base ≤ t.pc) × (t.pc + 8 ≤ place (l.image node c.number) 2) × (place (l.image node c.number) 2 ≤ base + 4 * length p.code) × (place (l.image node c.number) 4 ≤ base + 4 * length p.code)
+  b_inside : (base ≤ t.pc) × (t.pc + 8 ≤ place (l.image node c.number) 2)
+      × (place (l.image node c.number) 2 ≤ base + 4 * length p.code)
+      × (place (l.image node c.number) 4 ≤ base + 4 * length p.code)
   b_inside =
       let s = b_size in
       let a = b_at in
       let some = hop.some in
       let ins = hop.inside in
-      let b = (h.laid.within (l.image node c.number) 1 c.within (omega arith)).begins in
-      (omega arith, omega arith, (h.laid.within (l.image node c.number) 2 c.within (omega arith)).ends, (h.laid.within (l.image node c.number) 4 c.within (omega arith)).ends)
+      let b = (h.laid.within (l.image node c.number) 1 c.within (omega arith)).begins in (
+        omega arith,
+        omega arith,
+        (h.laid.within (l.image node c.number) 2 c.within (omega arith)).ends,
+        (h.laid.within (l.image node c.number) 4 c.within (omega arith)).ends,
+      )
 
   b_range : (a : ℕ) → place (l.image node c.number) 1 ≤ a → a < place (l.image node c.number) 2 → range_in p.ranges a
-      ≡ Some (record { lo = place (l.image node c.number) 1; hi = place (l.image node c.number) 2; address = c.address.0; node = number_in g node })
+      ≡ Some (record {
+        lo = place (l.image node c.number) 1;
+        hi = place
+            (l.image node c.number) 2;
+        address = c.address.0;
+        node = number_in g node;
+      })
   b_range a low high =
-      h.laid.ranges (l.image node c.number) 1 a (it.Branch c.cond (record { 0 = c.taken })) (b_item 1) low high ∙ ap (λ (v : Option (List Item)). range_of (place (l.image node c.number)) (open_in v 1)) c.items
+      h.laid.ranges (l.image node c.number) 1 a (it.Branch c.cond (record { 0 = c.taken })) (b_item 1) low high
+      ∙ ap (λ (v : Option (List Item)). range_of (place (l.image node c.number)) (open_in v 1)) c.items
 
   -- on the way: in the branch's place, or on Jumps after it
   IsOn : State → Type 0
@@ -94,7 +113,13 @@ module _ (g : Setting) (l : Pieces) (base : ℕ) (p : Placement) (place : ℕ �
       let n2 = b_inside.2 in
       let z0 = z.0 in
       let z1 = z.1 in
-      on_range g l base p place f h node t u (record { lo = place (l.image node c.number) 1; hi = place (l.image node c.number) 2; address = c.address.0; node = number_in g node })
+      on_range g l base p place f h node t u (record {
+        lo = place (l.image node c.number) 1;
+        hi = place
+            (l.image node c.number) 2;
+        address = c.address.0;
+        node = number_in g node;
+      })
       live (omega arith) (omega arith) (b_range u.pc (omega arith) z1) (omega arith) refl
   on_way u live (inr z) = bare_on g l base p place f h node t u live z
 
@@ -118,17 +143,21 @@ module _ (g : Setting) (l : Pieces) (base : ℕ) (p : Placement) (place : ℕ �
         memory = j.memory;
         some = omega arith;
         few = omega arith;
-        path = leads_weaker _ _ t _ j.count (λ u q. let b = q.past in let d = q.before in inl (omega arith, omega arith)) j.hops.path;
+        path = leads_weaker _ _ t _ j.count (λ u q. let b = q.past in let d = q.before in inl
+            (omega arith, omega arith)) j.hops.path;
         silent = j.hops.silent;
         stores = j.hops.stores;
       }
 
-  of_hop_fit : (to : ℕ) → to ≤ 2 ^ 31 → (j : Goes t to (place (l.image node c.number) 2) 2 6) → IsFit g l base p place f h (hopped t to j.memory)
+  of_hop_fit : (to : ℕ) → to ≤ 2 ^ 31 → (j : Goes t to (place (l.image node c.number) 2) 2 6)
+      → IsFit g l base p place f h (hopped t to j.memory)
   of_hop_fit to low j =
-      hopped_fit g l base p place f h t to (record { valid = here.valid; ours = here.ours; runs = b_ready }) low j.count j.memory j.hops.path.steps j.hops.stores
+      hopped_fit g l base p place f h t to
+      (record { valid = here.valid; ours = here.ours; runs = b_ready }) low j.count j.memory j.hops.path.steps j.hops.stores
 
   -- on from where the branch leads
-  then_on : (mid to most : ℕ) (j : Goes t mid (place (l.image node c.number) 2) 2 6) → Arrives g l base p place f h (hopped t mid j.memory) to most → Comes to (6 + most)
+  then_on : (mid to most : ℕ) (j : Goes t mid (place (l.image node c.number) 2) 2 6)
+      → Arrives g l base p place f h (hopped t mid j.memory) to most → Comes to (6 + most)
   unfolding IsOn of_hop
   then_on mid to most k rest =
       let some = k.some in
@@ -140,23 +169,27 @@ module _ (g : Setting) (l : Pieces) (base : ℕ) (p : Placement) (place : ℕ �
         some = omega arith;
         few = omega arith;
         path = leads_then _ t (hopped t mid k.memory) _ k.count rest.count (of_hop mid k).path
-            (leads_weaker _ _ (hopped t mid k.memory) _ rest.count (λ u q. inr q) rest.path) (λ _ pos. inr (rest.begins pos));
+            (leads_weaker _ _ (hopped t mid k.memory) _ rest.count (λ u q. inr q) rest.path)
+            (λ _ pos. inr (rest.begins pos));
         silent = silent_then t (hopped t mid k.memory) k.count rest.count k.hops.path.steps k.hops.silent rest.silent;
         stores = stores_then IsFirstWord IsFirstWord t.memory k.memory rest.memory (λ z e. e) k.hops.stores rest.stores;
       }
 
-  takes : (to : ℕ) → Goes t (slice_index p.at c.taken) (place (l.image node c.number) 2) 2 6 → LeadsTo l p (record { 0 = c.taken }) to → Comes to 10
+  takes : (to : ℕ) → Goes t (slice_index p.at c.taken) (place (l.image node c.number) 2) 2 6
+      → LeadsTo l p (record { 0 = c.taken }) to → Comes to 10
   takes to j leads =
       then_on (slice_index p.at c.taken) to 4 j
       (arrive g l base p place f h (record { 0 = c.taken }) (hopped t (slice_index p.at c.taken) j.memory) to
       (of_hop_fit (slice_index p.at c.taken) (h.laid.aligned c.taken).1 j) refl leads)
 
-  passes : (to : ℕ) → Goes t (place (l.image node c.number) 2) (place (l.image node c.number) 2) 2 6 → LeadsTo l p (record { 0 = c.untaken }) to → Comes to 14
+  passes : (to : ℕ) → Goes t (place (l.image node c.number) 2) (place (l.image node c.number) 2) 2 6
+      → LeadsTo l p (record { 0 = c.untaken }) to → Comes to 14
   passes to j leads =
       let low = h.laid.low in
       let n2 = b_inside.2 in
       then_on (place (l.image node c.number) 2) to 8 j
-      (tail g l base p place f h (l.image node c.number) _ _ _ c.items (hopped t (place (l.image node c.number) 2) j.memory) to
+      (tail g l base p place f h (l.image node c.number) _ _ _ c.items
+      (hopped t (place (l.image node c.number) 2) j.memory) to
       (of_hop_fit (place (l.image node c.number) 2) (omega arith) j) (sym b_closes) (omega arith)
       (inr (record { 0 = c.untaken }, b_item 3, leads)))
 
@@ -172,14 +205,24 @@ module _ (g : Setting) (l : Pieces) (base : ℕ) (p : Placement) (place : ℕ �
   moved_by true true false s to = record { pc = s.npc; npc = to; slot = Taken; is = refl }
   moved_by true false true s to = record { pc = s.npc; npc = to; slot = Taken; is = refl }
   moved_by true false false s to = record { pc = s.npc; npc = to; slot = Taken; is = refl }
-  moved_by false always true s to = record { pc = wrapped (s.pc + 8); npc = wrapped (s.pc + 12); slot = s.slot; is = refl }
+  moved_by false always true s to = record {
+    pc = wrapped (s.pc + 8);
+    npc = wrapped
+        (s.pc + 12);
+    slot = s.slot;
+    is = refl;
+  }
   moved_by false always false s to = record { pc = s.npc; npc = wrapped (s.npc + 4); slot = Untaken; is = refl }
 
-  branch_acts : act (at_point x t) (i.Branch c.cond c.annul c.disp) ≡ branched (holds_of c.cond t.codes) (c.cond == 8) c.annul (at_point x t) (target_of (at_point x t) c.disp)
+  branch_acts : act (at_point x t) (i.Branch c.cond c.annul c.disp) ≡ branched (holds_of c.cond t.codes)
+      (c.cond == 8) c.annul (at_point x t) (target_of (at_point x t) c.disp)
   unfolding act branch_step
-  branch_acts = ap (λ (z : Slot). unless_couple z (at_point x t) (branched (holds_of c.cond t.codes) (c.cond == 8) c.annul (at_point x t) (target_of (at_point x t) c.disp))) c.none
+  branch_acts = ap (λ (z : Slot). unless_couple z (at_point x t)
+      (branched (holds_of c.cond t.codes) (c.cond == 8) c.annul (at_point x t)
+      (target_of (at_point x t) c.disp))) c.none
 
-  does_is : does_at g x t ≡ branched (holds_of c.cond t.codes) (c.cond == 8) c.annul (at_point x t) (target_of (at_point x t) c.disp)
+  does_is : does_at g x t ≡ branched (holds_of c.cond t.codes) (c.cond == 8) c.annul (at_point x t)
+      (target_of (at_point x t) c.disp)
   does_is = ap (on_word (at_point x t)) c.is_word ∙ ap (act (at_point x t)) c.says ∙ branch_acts
 
   turned : (to most : ℕ) (v : State) → IsMoved (at_point x t) v → Comes to most → most ≤ 64 → (edges : List ℕ)
@@ -201,7 +244,8 @@ module _ (g : Setting) (l : Pieces) (base : ℕ) (p : Placement) (place : ℕ �
           quiet = quiet_of g l base p place f h node t _ j.count IsOn j.path here.live on_way;
         };
         puts = λ descriptor. j.silent descriptor
-            ∙ sym (ap (λ (o : Option ℕ). puts_on_word (at_point x t) o descriptor) c.is_word ∙ ap (λ (q : Instr). puts_by (at_point x t) q descriptor) c.says
+            ∙ sym (ap (λ (o : Option ℕ). puts_on_word (at_point x t) o descriptor) c.is_word
+            ∙ ap (λ (q : Instr). puts_by (at_point x t) q descriptor) c.says
             ∙ no_puts (at_point x t) c.cond c.annul c.disp descriptor);
         followed = record {
           ending = sym (ap (λ (z : State). z.ending) same);
@@ -209,8 +253,10 @@ module _ (g : Setting) (l : Pieces) (base : ℕ) (p : Placement) (place : ℕ �
           valid = sym (ap (λ (z : State). z.valid) same);
           registers = sym (ap (λ (z : State). length z.registers) same);
           input = sym (ap (λ (z : State). z.input) same);
-          memory = subst (λ (z : Memory). IsSameOutside (pages_of g.notes) z j.memory) (sym (ap (λ (z : State). z.memory) same)) kept.1;
-          items = λ _ thing _ _. same_at thing v (hopped t to j.memory) (ap (λ (z : State). z.registers) same) (ap (λ (z : State). z.codes) same) (ap (λ (z : State). z.y) same);
+          memory = subst (λ (z : Memory). IsSameOutside (pages_of g.notes) z j.memory)
+              (sym (ap (λ (z : State). z.memory) same)) kept.1;
+          items = λ _ thing _ _. same_at thing v (hopped t to j.memory) (ap (λ (z : State). z.registers) same)
+              (ap (λ (z : State). z.codes) same) (ap (λ (z : State). z.y) same);
         };
         cells = cells_same g l base p place f h edges t v (hopped t to j.memory);
         here = λ _. record {
@@ -219,7 +265,8 @@ module _ (g : Setting) (l : Pieces) (base : ℕ) (p : Placement) (place : ℕ �
           at = is;
           npc = refl;
           slot = refl;
-          code = subst (λ (z : State). HasCode base p.code z.memory) j.path.steps (code_after g l base p place f h t j.count here.code);
+          code = subst (λ (z : State). HasCode base p.code z.memory) j.path.steps
+              (code_after g l base p place f h t j.count here.code);
           ours = kept.0;
           waits = λ a b. absurd (never a b);
         };
@@ -227,21 +274,28 @@ module _ (g : Setting) (l : Pieces) (base : ℕ) (p : Placement) (place : ℕ �
       }
 
   turn_moved : IsMoved (at_point x t) (does_at g x t)
-  turn_moved = subst (IsMoved (at_point x t)) (sym does_is) (moved_by (holds_of c.cond t.codes) (c.cond == 8) c.annul (at_point x t) (target_of (at_point x t) c.disp))
+  turn_moved = subst (IsMoved (at_point x t)) (sym does_is)
+      (moved_by (holds_of c.cond t.codes) (c.cond == 8) c.annul (at_point x t) (target_of (at_point x t) c.disp))
 
-  b_step : (flag : Bool) → holds_of c.cond t.codes ≡ flag → StepsOn g (Here g l base p f) Everything (gone_at g node x (does_at g x t)) node x t (does_at g x t)
+  b_step : (flag : Bool) → holds_of c.cond t.codes ≡ flag
+      → StepsOn g (Here g l base p f) Everything (gone_at g node x (does_at g x t)) node x t (does_at g x t)
   b_step true e =
-      let to = visited_at g l p f (node_after (graph_in g) node (gone_at g node x (does_at g x t))) (point_of (does_at g x t)) in
-      let way = subst (λ (b : Bool). Goes t (if b then slice_index p.at c.taken else place (l.image node c.number) 2) (place (l.image node c.number) 2) 2 6) e hop in
+      let to = visited_at g l p f (node_after (graph_in g) node (gone_at g node x (does_at g x t)))
+      (point_of (does_at g x t)) in
+      let way = subst (λ (b : Bool). Goes t (if b then slice_index p.at c.taken else place (l.image node c.number) 2)
+      (place (l.image node c.number) 2) 2 6) e hop in
       turned to 10 (does_at g x t) turn_moved
       (takes to way (subst (λ (b : Bool). LeadsTo l p (record { 0 = if b then c.taken else c.untaken }) to) e c.leads))
       (omega arith) (gone_at g node x (does_at g x t)) refl c.never
   b_step false e =
-      let to = visited_at g l p f (node_after (graph_in g) node (gone_at g node x (does_at g x t))) (point_of (does_at g x t)) in
-      let way = subst (λ (b : Bool). Goes t (if b then slice_index p.at c.taken else place (l.image node c.number) 2) (place (l.image node c.number) 2) 2 6) e hop in
+      let to = visited_at g l p f (node_after (graph_in g) node (gone_at g node x (does_at g x t)))
+      (point_of (does_at g x t)) in
+      let way = subst (λ (b : Bool). Goes t (if b then slice_index p.at c.taken else place (l.image node c.number) 2)
+      (place (l.image node c.number) 2) 2 6) e hop in
       turned to 14 (does_at g x t) turn_moved
       (passes to way (subst (λ (b : Bool). LeadsTo l p (record { 0 = if b then c.taken else c.untaken }) to) e c.leads))
       (omega arith) (gone_at g node x (does_at g x t)) refl c.never
 
 pub turns_step : TurnsStep
-turns_step g l base p place f node x t h here c = b_step g l base p place f h node x t here c (holds_of c.cond t.codes) refl
+turns_step g l base p place f node x t h here c = b_step g l base p place f h node x t here c
+    (holds_of c.cond t.codes) refl

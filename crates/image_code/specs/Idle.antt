@@ -1,16 +1,15 @@
 -- The image of a branch that always goes one way: a nop in its Mark, and then the way.
-use Rattle.std.specs.Prelude.{◌≡◌, ℕ, ◌-◌, ◌<◌, Bool, true, List, length, Some, slice_get, slice_index, ℤ}
+use Rattle.std.specs.Prelude.{◌≡◌, ℕ, ◌<◌, Bool, List, length, Some, slice_get, slice_index, ℤ}
 use Rattle.eel_base.specs.declared.numbers.Addr.{Addr}
 use Rattle.v8_decode.specs.declared.Instr.TheVariants as i
 use Rattle.v8_decode.specs.Words.{decode_of}
-use Rattle.v8_step.specs.declared.Slot.TheVariants.{NoSlot, Taken}
+use Rattle.v8_step.specs.declared.Slot.TheVariants.{NoSlot}
 use Rattle.v8_step.specs.State.{State}
-use Rattle.cfg_blocks.specs.declared.EdgeKind.TheVariants as kinds
 use Rattle.cfg_normal.specs.declared.Node.{Node}
-use Rattle.cfg_walk.specs.Walk.{Point, point_of, node_after, instr_at, way_of, same_kind}
+use Rattle.cfg_walk.specs.Walk.{Point}
 use Rattle.layout.specs.declared.items.Item.{Item}
 use Rattle.layout.specs.Laid.{Placement, nop}
-use Rattle.image_code.specs.Simulates.{Setting, StepsOn, does_at, gone_at, graph_in, number_in, word_of}
+use Rattle.image_code.specs.Simulates.{Setting, StepsOn, does_at, gone_at, number_in, word_of}
 use Rattle.image_code.specs.Images.{Pieces, Frame, Here, IsPlaced, visited_at}
 use Rattle.image_code.specs.Cases.{Everything, LeadsOn, next_visit, plain_piece}
 use Rattle.image_code.specs.Turns.{IsNoJumpsSlot}

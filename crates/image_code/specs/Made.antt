@@ -19,7 +19,7 @@ use Rattle.cfg_normal.specs.declared.Slot.{Slot}
 use Rattle.cfg_normal.specs.declared.Slot.TheVariants as slots
 use Rattle.cfg_normal.specs.Graph.{Graph, node_of}
 use Rattle.cfg_walk.specs.Walk.{edge_from}
-use Rattle.cfg_walk.specs.Counts.{node_number}
+use Rattle.cfg_walk.specs.Numbers.{node_number}
 use Rattle.layout.specs.declared.items.Item.{Item}
 use Rattle.layout.specs.declared.items.Item.TheVariants as it
 use Rattle.image_code.specs.Simulates.{Setting, graph_in}

@@ -4,7 +4,7 @@ ghost use Rattle.std.specs.Prelude.{◌≡◌, ◌+◌, ◌*◌, ◌^◌, ◌<�
 ghost use Rattle.cfg_blocks.specs.Blocks.{below, holding_of, last_word};
 ghost use Rattle.eel_base.specs.CodeText.{IsText};
 ghost use Rattle.cfg_normal.specs.Graph.{IsEdgeIn, IsNodeIn, edges_of};
-ghost use Rattle.cfg_walk.specs.Counts.{node_number as node_number_of};
+ghost use Rattle.cfg_walk.specs.Numbers.{node_number as node_number_of};
 ghost use Rattle.image_code.specs.Made.{image as image_of, outside_piece, own_edges as own_edges_of, piece_at as piece_at_of, piece_list, rest_after as rest_after_of, way_along};
 ghost use Rattle.image_code.specs.Parts.{IsGraphOf, first_way_of, jump_if};
 

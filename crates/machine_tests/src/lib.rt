@@ -13,4 +13,8 @@ mod v8_encode_tests;
 #[cfg(test)]
 mod v8_memory_tests;
 #[cfg(test)]
+mod v8_process_tests;
+#[cfg(test)]
+mod v8_runner_tests;
+#[cfg(test)]
 mod v8_step_tests;

@@ -25,6 +25,7 @@ const NOTES_VERSION: u32 = 1;
 pub fn read_notes(alloc: Global, file: &[u8]) -> Result<Notes, NotesFault>
     ensures read { Answers notes_seen result (notes_of file.now) }
     ensures rules { IfOk result (λ notes. AreNotes (notes_seen notes)) }
+    ensures inside { IfOk result (λ notes. notes.delta + notes.length ≤ length file.now) }
 {
     let notes = find_notes(file)?;
     let notes = read_words(alloc, notes, file.len())?;
@@ -65,7 +66,8 @@ fn field(file: &[u8], at: usize) -> u32
 
 /// The notes in these bytes, of a file of this size.
 fn read_words(alloc: Global, notes: &[u8], size: usize) -> Result<Notes, NotesFault>
-    ensures { Answers notes_seen result (read_notes size notes.now) }
+    ensures read { Answers notes_seen result (read_notes size notes.now) }
+    ensures inside { IfOk result (λ notes. notes.delta + notes.length ≤ size) }
 {
     let head = read_head(notes, size)?;
     let notes = read_tables(alloc, notes, &head)?;
@@ -90,6 +92,7 @@ struct Head {
 #[tactic(auto, unfolding(crate::specs::Parts::head_of))]
 fn read_head(notes: &[u8], size: usize) -> Result<Head, NotesFault>
     ensures head { Answers (λ head. head) result (head_of size notes.now) }
+    ensures inside { IfOk result (λ head. head.delta + head.length ≤ size) }
     ensures cells { IfOk result (λ head. head.cells ≤ 2 ^ 22) }
     ensures words { IfOk result (λ head. head.words ≤ 2 ^ 20) }
     ensures segments { IfOk result (λ head. head.segment_count ≤ 8) }
@@ -173,7 +176,9 @@ fn read_tables(alloc: Global, notes: &[u8], head: &Head) -> Result<Notes, NotesF
     requires cells { head.now.cells ≤ 2 ^ 22 }
     requires words { head.now.words ≤ 2 ^ 20 }
     requires segments { head.now.segment_count ≤ 8 }
-    ensures { Answers notes_seen result (tables_of notes.now head.now) }
+    ensures read { Answers notes_seen result (tables_of notes.now head.now) }
+    ensures delta { IfOk result (λ notes. notes.delta ≡ head.now.delta) }
+    ensures length { IfOk result (λ notes. notes.length ≡ head.now.length) }
 {
     let segments = read_segments(alloc, notes, 36, head.segment_count)?;
     let blocks_at = 36 + 8 * head.segment_count;

@@ -31,6 +31,15 @@ file_of words = bytes_of (
     ∷ 1 ∷ 0x54 ∷ 0x10054 ∷ 0x10054 ∷ 4 * length words ∷ 4 * length words ∷ 5 ∷ 0x10000
     ∷ words)
 
+-- A state after so many steps. Where this unfolds, all unfolds by which files are loaded and machines compute.
+unfoldable pub after : State → ℕ → State
+unfolding start_of half_at word_at program_header program_headers mappings decode_of branch_or_sethi arithmetic memory step_of act alu_step branch_step call_step jump_step load_step store_step ldstub_step swap_step save_step restore_step system_call trap_step alu_of holds_of fetch_of bytes_at with_bytes
+after s steps = run s steps
+
+-- how the run of these words as a file, without arguments and input, has ended after so many steps
+abbrev pub ending_of : List ℕ → ℕ → Option Ending
+ending_of words steps = (after (start_of (file_of words) [] []) steps).ending
+
 -- exits with 3
 abbrev pub three_words : List ℕ
 three_words = 0x82102001 ∷ 0x90102003 ∷ 0x91d02010 ∷ []
@@ -38,16 +47,16 @@ three_words = 0x82102001 ∷ 0x90102003 ∷ 0x91d02010 ∷ []
 without_arguments : first_sp (program_name ∷ []) ≡ 0xefffffa0
 without_arguments = refl
 
-three_words_ends : (run (start_of (file_of three_words) [] []) 3).ending ≡ Some (Exit 3)
-unfolding start_of half_at word_at program_header program_headers mappings decode_of arithmetic step_of act alu_step system_call trap_step alu_of holds_of fetch_of bytes_at with_bytes
+three_words_ends : ending_of three_words 3 ≡ Some (Exit 3)
+unfolding after
 three_words_ends = refl
 
 -- counts carries that stay live from one turn of the loop to the next, and exits with 4
 abbrev pub carry_loop : List ℕ
 carry_loop = 0x84102005 ∷ 0x90422000 ∷ 0x8480bfff ∷ 0x12bffffe ∷ 0x01000000 ∷ 0x82102001 ∷ 0x91d02010 ∷ []
 
-carry_loop_ends : (run (start_of (file_of carry_loop) [] []) 23).ending ≡ Some (Exit 4)
-unfolding start_of half_at word_at program_header program_headers mappings decode_of branch_or_sethi arithmetic step_of act alu_step branch_step system_call trap_step alu_of holds_of fetch_of bytes_at with_bytes
+carry_loop_ends : ending_of carry_loop 23 ≡ Some (Exit 4)
+unfolding after
 carry_loop_ends = refl
 
 -- a branch that is taken, with its slot
@@ -55,8 +64,8 @@ abbrev pub taken_branch : List ℕ
 taken_branch =
     0x80a02000 ∷ 0x02800004 ∷ 0x80a02001 ∷ 0x10800003 ∷ 0x90102001 ∷ 0x90102002 ∷ 0x82102001 ∷ 0x91d02010 ∷ []
 
-taken_branch_ends : (run (start_of (file_of taken_branch) [] []) 6).ending ≡ Some (Exit 2)
-unfolding start_of half_at word_at program_header program_headers mappings decode_of branch_or_sethi arithmetic memory step_of act alu_step branch_step call_step jump_step load_step store_step ldstub_step swap_step save_step restore_step system_call trap_step alu_of holds_of fetch_of bytes_at with_bytes
+taken_branch_ends : ending_of taken_branch 6 ≡ Some (Exit 2)
+unfolding after
 taken_branch_ends = refl
 
 -- be,a untaken, bn,a, ba,a and be,a taken
@@ -65,8 +74,8 @@ annulled_branches =
     0x80a02001 ∷ 0x22800003 ∷ 0x90022001 ∷ 0x20800002 ∷ 0x90022002 ∷ 0x30800002 ∷ 0x90022004 ∷ 0x80a02000
     ∷ 0x22800002 ∷ 0x90022008 ∷ 0x82102001 ∷ 0x91d02010 ∷ []
 
-annulled_branches_ends : (run (start_of (file_of annulled_branches) [] []) 9).ending ≡ Some (Exit 8)
-unfolding start_of half_at word_at program_header program_headers mappings decode_of branch_or_sethi arithmetic memory step_of act alu_step branch_step call_step jump_step load_step store_step ldstub_step swap_step save_step restore_step system_call trap_step alu_of holds_of fetch_of bytes_at with_bytes
+annulled_branches_ends : ending_of annulled_branches 9 ≡ Some (Exit 8)
+unfolding after
 annulled_branches_ends = refl
 
 -- a branch to the word after its slot
@@ -74,8 +83,8 @@ abbrev pub branch_over_nop : List ℕ
 branch_over_nop =
     0x80a02000 ∷ 0x02800002 ∷ 0x01000000 ∷ 0x82102001 ∷ 0x90102000 ∷ 0x91d02010 ∷ []
 
-branch_over_nop_ends : (run (start_of (file_of branch_over_nop) [] []) 6).ending ≡ Some (Exit 0)
-unfolding start_of half_at word_at program_header program_headers mappings decode_of branch_or_sethi arithmetic memory step_of act alu_step branch_step call_step jump_step load_step store_step ldstub_step swap_step save_step restore_step system_call trap_step alu_of holds_of fetch_of bytes_at with_bytes
+branch_over_nop_ends : ending_of branch_over_nop 6 ≡ Some (Exit 0)
+unfolding after
 branch_over_nop_ends = refl
 
 -- a call whose link is the answer
@@ -83,8 +92,8 @@ abbrev pub call_and_return : List ℕ
 call_and_return =
     0x40000004 ∷ 0x01000000 ∷ 0x82102001 ∷ 0x91d02010 ∷ 0x81c3e008 ∷ 0x900be0ff ∷ []
 
-call_and_return_ends : (run (start_of (file_of call_and_return) [] []) 6).ending ≡ Some (Exit 84)
-unfolding start_of half_at word_at program_header program_headers mappings decode_of branch_or_sethi arithmetic memory step_of act alu_step branch_step call_step jump_step load_step store_step ldstub_step swap_step save_step restore_step system_call trap_step alu_of holds_of fetch_of bytes_at with_bytes
+call_and_return_ends : ending_of call_and_return 6 ≡ Some (Exit 84)
+unfolding after
 call_and_return_ends = refl
 
 -- a jump to an address that is not aligned
@@ -92,8 +101,8 @@ abbrev pub misaligned_jump : List ℕ
 misaligned_jump =
     0x82102002 ∷ 0x81c06000 ∷ 0xc223a040 ∷ []
 
-misaligned_jump_ends : (run (start_of (file_of misaligned_jump) [] []) 2).ending ≡ Some (Trap 7)
-unfolding start_of half_at word_at program_header program_headers mappings decode_of branch_or_sethi arithmetic memory step_of act alu_step branch_step call_step jump_step load_step store_step ldstub_step swap_step save_step restore_step system_call trap_step alu_of holds_of fetch_of bytes_at with_bytes
+misaligned_jump_ends : ending_of misaligned_jump 2 ≡ Some (Trap 7)
+unfolding after
 misaligned_jump_ends = refl
 
 -- returns into the middle of straight code
@@ -102,8 +111,8 @@ inner_landings =
     0x40000002 ∷ 0x01000000 ∷ 0x81c3e018 ∷ 0x01000000 ∷ 0x90022001 ∷ 0x90022002 ∷ 0x90022004 ∷ 0x81c3e028
     ∷ 0x01000000 ∷ 0x10800002 ∷ 0x90022008 ∷ 0x82102001 ∷ 0x91d02010 ∷ []
 
-inner_landings_ends : (run (start_of (file_of inner_landings) [] []) 10).ending ≡ Some (Exit 12)
-unfolding start_of half_at word_at program_header program_headers mappings decode_of branch_or_sethi arithmetic memory step_of act alu_step branch_step call_step jump_step load_step store_step ldstub_step swap_step save_step restore_step system_call trap_step alu_of holds_of fetch_of bytes_at with_bytes
+inner_landings_ends : ending_of inner_landings 10 ≡ Some (Exit 12)
+unfolding after
 inner_landings_ends = refl
 
 -- calls without a return
@@ -112,8 +121,8 @@ exit_three_calls_deep =
     0x40000002 ∷ 0x01000000 ∷ 0x40000002 ∷ 0x01000000 ∷ 0x40000002 ∷ 0x01000000 ∷ 0x82102001 ∷ 0x90102000
     ∷ 0x91d02010 ∷ []
 
-exit_three_calls_deep_ends : (run (start_of (file_of exit_three_calls_deep) [] []) 9).ending ≡ Some (Exit 0)
-unfolding start_of half_at word_at program_header program_headers mappings decode_of branch_or_sethi arithmetic memory step_of act alu_step branch_step call_step jump_step load_step store_step ldstub_step swap_step save_step restore_step system_call trap_step alu_of holds_of fetch_of bytes_at with_bytes
+exit_three_calls_deep_ends : ending_of exit_three_calls_deep 9 ≡ Some (Exit 0)
+unfolding after
 exit_three_calls_deep_ends = refl
 
 -- a jump by a table in the text
@@ -122,8 +131,8 @@ switch_of_four =
     0x90102003 ∷ 0x80a22003 ∷ 0x1880000c ∷ 0x912a2002 ∷ 0x03000040 ∷ 0x82106078 ∷ 0xc2004008 ∷ 0x81c04000
     ∷ 0x01000000 ∷ 0x0001008c ∷ 0x0001008c ∷ 0x0001008c ∷ 0x00010088 ∷ 0x90102005 ∷ 0x82102001 ∷ 0x91d02010 ∷ []
 
-switch_of_four_ends : (run (start_of (file_of switch_of_four) [] []) 12).ending ≡ Some (Exit 5)
-unfolding start_of half_at word_at program_header program_headers mappings decode_of branch_or_sethi arithmetic memory step_of act alu_step branch_step call_step jump_step load_step store_step ldstub_step swap_step save_step restore_step system_call trap_step alu_of holds_of fetch_of bytes_at with_bytes
+switch_of_four_ends : ending_of switch_of_four 12 ≡ Some (Exit 5)
+unfolding after
 switch_of_four_ends = refl
 
 -- a run that leaves the text
@@ -131,8 +140,8 @@ abbrev pub one_nop : List ℕ
 one_nop =
     0x01000000 ∷ []
 
-one_nop_ends : (run (start_of (file_of one_nop) [] []) 2).ending ≡ Some (Trap 1)
-unfolding start_of half_at word_at program_header program_headers mappings decode_of branch_or_sethi arithmetic memory step_of act alu_step branch_step call_step jump_step load_step store_step ldstub_step swap_step save_step restore_step system_call trap_step alu_of holds_of fetch_of bytes_at with_bytes
+one_nop_ends : ending_of one_nop 2 ≡ Some (Trap 1)
+unfolding after
 one_nop_ends = refl
 
 -- a jump to where nothing is mapped
@@ -140,8 +149,8 @@ abbrev pub jump_to_zero : List ℕ
 jump_to_zero =
     0x81c02000 ∷ 0x01000000 ∷ []
 
-jump_to_zero_ends : (run (start_of (file_of jump_to_zero) [] []) 3).ending ≡ Some (Trap 1)
-unfolding start_of half_at word_at program_header program_headers mappings decode_of branch_or_sethi arithmetic memory step_of act alu_step branch_step call_step jump_step load_step store_step ldstub_step swap_step save_step restore_step system_call trap_step alu_of holds_of fetch_of bytes_at with_bytes
+jump_to_zero_ends : ending_of jump_to_zero 3 ≡ Some (Trap 1)
+unfolding after
 jump_to_zero_ends = refl
 
 -- a load from where nothing is mapped
@@ -149,8 +158,8 @@ abbrev pub load_from_zero : List ℕ
 load_from_zero =
     0xc2002000 ∷ []
 
-load_from_zero_ends : (run (start_of (file_of load_from_zero) [] []) 1).ending ≡ Some (Trap 9)
-unfolding start_of half_at word_at program_header program_headers mappings decode_of branch_or_sethi arithmetic memory step_of act alu_step branch_step call_step jump_step load_step store_step ldstub_step swap_step save_step restore_step system_call trap_step alu_of holds_of fetch_of bytes_at with_bytes
+load_from_zero_ends : ending_of load_from_zero 1 ≡ Some (Trap 9)
+unfolding after
 load_from_zero_ends = refl
 
 -- a branch in the slot of another
@@ -158,8 +167,8 @@ abbrev pub transfer_in_slot : List ℕ
 transfer_in_slot =
     0x10800002 ∷ 0x10800002 ∷ 0x01000000 ∷ []
 
-transfer_in_slot_ends : (run (start_of (file_of transfer_in_slot) [] []) 2).ending ≡ Some Couple
-unfolding start_of half_at word_at program_header program_headers mappings decode_of branch_or_sethi arithmetic memory step_of act alu_step branch_step call_step jump_step load_step store_step ldstub_step swap_step save_step restore_step system_call trap_step alu_of holds_of fetch_of bytes_at with_bytes
+transfer_in_slot_ends : ending_of transfer_in_slot 2 ≡ Some Couple
+unfolding after
 transfer_in_slot_ends = refl
 
 -- ---- programs that read their stack: it is a short list here, since zeros without number don't compute
@@ -179,6 +188,9 @@ first_of words =
     first_state (record { heap = empty_heap; regions = text_region words ∷ data_region 0xeffffc00 (zeros 1024) ∷ [] })
     0x10054 0xefffffa0 []
 
+abbrev pub ending_on_stack : List ℕ → ℕ → Option Ending
+ending_on_stack words steps = (after (first_of words) steps).ending
+
 -- seven SAVEs, the last of which saves the first window; its %l0 is written out from its frame
 abbrev pub window_overflow : List ℕ
 window_overflow =
@@ -186,12 +198,12 @@ window_overflow =
     ∷ 0x9de3bfa0 ∷ 0x82102004 ∷ 0x90102001 ∷ 0x92100003 ∷ 0x94102004 ∷ 0x91d02010 ∷ 0x82102001 ∷ 0x90102000
     ∷ 0x91d02010 ∷ []
 
-window_overflow_ends : (run (first_of window_overflow) 17).ending ≡ Some (Exit 0)
-unfolding decode_of arithmetic step_of act alu_step save_step system_call trap_step alu_of holds_of fetch_of bytes_at with_bytes
+window_overflow_ends : ending_on_stack window_overflow 17 ≡ Some (Exit 0)
+unfolding after
 window_overflow_ends = refl
 
 window_overflow_puts : run_puts (first_of window_overflow) 17 1 ≡ 0 ∷ 0 ∷ 0 ∷ 7 ∷ []
-unfolding decode_of arithmetic step_of act alu_step save_step system_call trap_step alu_of holds_of fetch_of bytes_at with_bytes puts_of puts_by
+unfolding after puts_of puts_by
 window_overflow_puts = refl
 
 -- a saved window whose frame is changed before it is loaded again
@@ -199,8 +211,8 @@ abbrev pub flushed_windows : List ℕ
 flushed_windows =
     0x9de3bfa0 ∷ 0x91d02003 ∷ 0x84102009 ∷ 0xc427a000 ∷ 0x81e80000 ∷ 0x90100010 ∷ 0x82102001 ∷ 0x91d02010 ∷ []
 
-flushed_windows_ends : (run (first_of flushed_windows) 8).ending ≡ Some (Exit 9)
-unfolding decode_of branch_or_sethi arithmetic memory step_of act alu_step branch_step call_step jump_step load_step store_step ldstub_step swap_step save_step restore_step system_call trap_step alu_of holds_of fetch_of bytes_at with_bytes
+flushed_windows_ends : ending_on_stack flushed_windows 8 ≡ Some (Exit 9)
+unfolding after
 flushed_windows_ends = refl
 
 -- a window that cannot be loaded, since %fp is 0
@@ -208,8 +220,8 @@ abbrev pub restore_from_nowhere : List ℕ
 restore_from_nowhere =
     0x81e80000 ∷ []
 
-restore_from_nowhere_ends : (run (first_of restore_from_nowhere) 1).ending ≡ Some Window
-unfolding decode_of branch_or_sethi arithmetic memory step_of act alu_step branch_step call_step jump_step load_step store_step ldstub_step swap_step save_step restore_step system_call trap_step alu_of holds_of fetch_of bytes_at with_bytes
+restore_from_nowhere_ends : ending_on_stack restore_from_nowhere 1 ≡ Some Window
+unfolding after
 restore_from_nowhere_ends = refl
 
 -- a window that cannot be saved, since its %sp is 0
@@ -217,8 +229,8 @@ abbrev pub save_to_nowhere : List ℕ
 save_to_nowhere =
     0x81e00000 ∷ 0x81e00000 ∷ 0x81e00000 ∷ 0x81e00000 ∷ 0x81e00000 ∷ 0x81e00000 ∷ 0x81e00000 ∷ 0x81e00000 ∷ []
 
-save_to_nowhere_ends : (run (first_of save_to_nowhere) 8).ending ≡ Some Window
-unfolding decode_of branch_or_sethi arithmetic memory step_of act alu_step branch_step call_step jump_step load_step store_step ldstub_step swap_step save_step restore_step system_call trap_step alu_of holds_of fetch_of bytes_at with_bytes
+save_to_nowhere_ends : ending_on_stack save_to_nowhere 8 ≡ Some Window
+unfolding after
 save_to_nowhere_ends = refl
 
 -- STD, LDSB, LDUB, LDSH, LDUH, SWAP, LDSTUB and LDD at the top of the stack
@@ -227,9 +239,9 @@ accesses =
     0x84103ffe ∷ 0x86102005 ∷ 0xc43ba000 ∷ 0xd04ba003 ∷ 0xd20ba003 ∷ 0xd453a002 ∷ 0xd613a002 ∷ 0xc47ba004
     ∷ 0xc86ba004 ∷ 0xcc1ba000 ∷ []
 
-accesses_give : map (register_of (run (first_of accesses) 10)) (2 ∷ 3 ∷ 4 ∷ 6 ∷ 7 ∷ 8 ∷ 9 ∷ 10 ∷ 11 ∷ [])
+accesses_give : map (register_of (after (first_of accesses) 10)) (2 ∷ 3 ∷ 4 ∷ 6 ∷ 7 ∷ 8 ∷ 9 ∷ 10 ∷ 11 ∷ [])
     ≡ 5 ∷ 5 ∷ 0xff ∷ 0xfffffffe ∷ 0xfffffffe ∷ 0xfffffffe ∷ 0xfe ∷ 0xfffffffe ∷ 0xfffe ∷ []
-unfolding decode_of branch_or_sethi arithmetic memory step_of act alu_step branch_step call_step jump_step load_step store_step ldstub_step swap_step save_step restore_step system_call trap_step alu_of holds_of fetch_of bytes_at with_bytes
+unfolding after
 accesses_give = refl
 
 -- WRY, RDY, UMUL, WRY with an exclusive or, RDY
@@ -237,8 +249,8 @@ abbrev pub y_register : List ℕ
 y_register =
     0x81802003 ∷ 0x91400000 ∷ 0x92520008 ∷ 0x81822001 ∷ 0x95400000 ∷ []
 
-y_register_gives : map (register_of (run (first_of y_register) 5)) (8 ∷ 9 ∷ 10 ∷ []) ≡ 3 ∷ 9 ∷ 2 ∷ []
-unfolding decode_of branch_or_sethi arithmetic memory step_of act alu_step branch_step call_step jump_step load_step store_step ldstub_step swap_step save_step restore_step system_call trap_step alu_of holds_of fetch_of bytes_at with_bytes
+y_register_gives : map (register_of (after (first_of y_register) 5)) (8 ∷ 9 ∷ 10 ∷ []) ≡ 3 ∷ 9 ∷ 2 ∷ []
+unfolding after
 y_register_gives = refl
 
 -- reads three bytes of input; is refused for a descriptor that does not read, and for a call that is not there
@@ -251,24 +263,24 @@ abbrev pub with_input : List ℕ → State → State
 with_input bytes s = record s { input = bytes }
 
 system_calls_give :
-    map (register_of (run (with_input (10 ∷ 20 ∷ 30 ∷ []) (first_of system_calls)) 11)) (2 ∷ 8 ∷ 11 ∷ []) ≡ 20 ∷ 90 ∷ 9 ∷ []
-unfolding decode_of branch_or_sethi arithmetic memory step_of act alu_step branch_step call_step jump_step load_step store_step ldstub_step swap_step save_step restore_step system_call trap_step alu_of holds_of fetch_of bytes_at with_bytes
+    map (register_of (after (with_input (10 ∷ 20 ∷ 30 ∷ []) (first_of system_calls)) 11)) (2 ∷ 8 ∷ 11 ∷ []) ≡ 20 ∷ 90 ∷ 9 ∷ []
+unfolding after
 system_calls_give = refl
 
-system_calls_refuse : (run (with_input (10 ∷ 20 ∷ 30 ∷ []) (first_of system_calls)) 11).codes.c ≡ true
-unfolding decode_of branch_or_sethi arithmetic memory step_of act alu_step branch_step call_step jump_step load_step store_step ldstub_step swap_step save_step restore_step system_call trap_step alu_of holds_of fetch_of bytes_at with_bytes
+system_calls_refuse : (after (with_input (10 ∷ 20 ∷ 30 ∷ []) (first_of system_calls)) 11).codes.c ≡ true
+unfolding after
 system_calls_refuse = refl
 
-system_calls_read : register_of (run (with_input (10 ∷ 20 ∷ 30 ∷ []) (first_of system_calls)) 5) 8 ≡ 3
-unfolding decode_of branch_or_sethi arithmetic memory step_of act alu_step branch_step call_step jump_step load_step store_step ldstub_step swap_step save_step restore_step system_call trap_step alu_of holds_of fetch_of bytes_at with_bytes
+system_calls_read : register_of (after (with_input (10 ∷ 20 ∷ 30 ∷ []) (first_of system_calls)) 5) 8 ≡ 3
+unfolding after
 system_calls_read = refl
 
 -- a call takes no more of the input than it has room for
 abbrev pub ten_bytes : List ℕ
 ten_bytes = 1 ∷ 2 ∷ 3 ∷ 4 ∷ 5 ∷ 6 ∷ 7 ∷ 8 ∷ 9 ∷ 10 ∷ []
 
-system_calls_take : (run (with_input ten_bytes (first_of system_calls)) 5).input ≡ 9 ∷ 10 ∷ []
-unfolding decode_of branch_or_sethi arithmetic memory step_of act alu_step branch_step call_step jump_step load_step store_step ldstub_step swap_step save_step restore_step system_call trap_step alu_of holds_of fetch_of bytes_at with_bytes
+system_calls_take : (after (with_input ten_bytes (first_of system_calls)) 5).input ≡ 9 ∷ 10 ∷ []
+unfolding after
 system_calls_take = refl
 
 -- what a read or a write of so many bytes answers where nothing is mapped
@@ -292,12 +304,12 @@ prints_its_header = bytes_of (
     ∷ 1 ∷ 0 ∷ 0x10000 ∷ 0x10000 ∷ 0x74 ∷ 0x74 ∷ 5 ∷ 0x10000
     ∷ 0x13000040 ∷ 0x94102034 ∷ 0x90102001 ∷ 0x82102004 ∷ 0x91d02010 ∷ 0x90102000 ∷ 0x82102001 ∷ 0x91d02010 ∷ [])
 
-prints_its_header_ends : (run (start_of prints_its_header [] []) 8).ending ≡ Some (Exit 0)
-unfolding start_of half_at word_at program_header program_headers mappings decode_of branch_or_sethi arithmetic step_of act alu_step system_call trap_step alu_of holds_of fetch_of bytes_at with_bytes
+prints_its_header_ends : (after (start_of prints_its_header [] []) 8).ending ≡ Some (Exit 0)
+unfolding after
 prints_its_header_ends = refl
 
 prints_its_header_puts : run_puts (start_of prints_its_header [] []) 8 1 ≡ take 52 prints_its_header
-unfolding start_of half_at word_at program_header program_headers mappings decode_of branch_or_sethi arithmetic step_of act alu_step system_call trap_step alu_of holds_of fetch_of bytes_at with_bytes puts_of puts_by
+unfolding after puts_of puts_by
 prints_its_header_puts = refl
 
 -- ---- more of what one instruction or one call does
@@ -307,8 +319,8 @@ abbrev pub jump_link : List ℕ
 jump_link =
     0x40000002 ∷ 0x01000000 ∷ 0x91c3e010 ∷ 0x01000000 ∷ 0x82102001 ∷ 0x91d02010 ∷ []
 
-jump_link_ends : (run (first_of jump_link) 6).ending ≡ Some (Exit 0x5c)
-unfolding decode_of branch_or_sethi arithmetic memory step_of act alu_step branch_step call_step jump_step load_step store_step ldstub_step swap_step save_step restore_step system_call trap_step alu_of holds_of fetch_of bytes_at with_bytes
+jump_link_ends : ending_on_stack jump_link 6 ≡ Some (Exit 0x5c)
+unfolding after
 jump_link_ends = refl
 
 -- a branch in the slot of one that is not taken
@@ -316,13 +328,14 @@ abbrev pub transfer_in_untaken_slot : List ℕ
 transfer_in_untaken_slot =
     0x00800002 ∷ 0x10800002 ∷ 0x01000000 ∷ []
 
-transfer_in_untaken_slot_ends : (run (first_of transfer_in_untaken_slot) 2).ending ≡ Some Couple
-unfolding decode_of branch_or_sethi arithmetic memory step_of act alu_step branch_step call_step jump_step load_step store_step ldstub_step swap_step save_step restore_step system_call trap_step alu_of holds_of fetch_of bytes_at with_bytes
+transfer_in_untaken_slot_ends : ending_on_stack transfer_in_untaken_slot 2 ≡ Some Couple
+unfolding after
 transfer_in_untaken_slot_ends = refl
 
--- six SAVEs save no window, and neither does the one that saves the first; save_to_nowhere ends at the eighth
-seven_saves_go_on : (run (first_of save_to_nowhere) 7).ending ≡ None
-unfolding decode_of branch_or_sethi arithmetic memory step_of act alu_step branch_step call_step jump_step load_step store_step ldstub_step swap_step save_step restore_step system_call trap_step alu_of holds_of fetch_of bytes_at with_bytes
+-- Six SAVEs make seven windows valid, and save none. The seventh saves the first window, which alone has a %sp; the
+-- eighth has to save the second, and ends save_to_nowhere.
+seven_saves_go_on : ending_on_stack save_to_nowhere 7 ≡ None
+unfolding after
 seven_saves_go_on = refl
 
 -- RESTORE adds registers of the old window, and gives a register of the new one
@@ -330,8 +343,8 @@ abbrev pub restore_adds : List ℕ
 restore_adds =
     0x9de3bfa0 ∷ 0xa0102005 ∷ 0x91ec2001 ∷ 0x82102001 ∷ 0x91d02010 ∷ []
 
-restore_adds_ends : (run (first_of restore_adds) 5).ending ≡ Some (Exit 6)
-unfolding decode_of branch_or_sethi arithmetic memory step_of act alu_step branch_step call_step jump_step load_step store_step ldstub_step swap_step save_step restore_step system_call trap_step alu_of holds_of fetch_of bytes_at with_bytes
+restore_adds_ends : ending_on_stack restore_adds 5 ≡ Some (Exit 6)
+unfolding after
 restore_adds_ends = refl
 
 -- a window that cannot be saved, since its %sp is no multiple of 8
@@ -339,8 +352,8 @@ abbrev pub flush_misaligned : List ℕ
 flush_misaligned =
     0x9c03a004 ∷ 0x9de3bfa0 ∷ 0x91d02003 ∷ []
 
-flush_misaligned_ends : (run (first_of flush_misaligned) 3).ending ≡ Some Window
-unfolding decode_of branch_or_sethi arithmetic memory step_of act alu_step branch_step call_step jump_step load_step store_step ldstub_step swap_step save_step restore_step system_call trap_step alu_of holds_of fetch_of bytes_at with_bytes
+flush_misaligned_ends : ending_on_stack flush_misaligned 3 ≡ Some Window
+unfolding after
 flush_misaligned_ends = refl
 
 -- a window that cannot be loaded, since %fp is no multiple of 8
@@ -348,8 +361,8 @@ abbrev pub restore_misaligned : List ℕ
 restore_misaligned =
     0xbc03bffc ∷ 0x81e80000 ∷ []
 
-restore_misaligned_ends : (run (first_of restore_misaligned) 2).ending ≡ Some Window
-unfolding decode_of branch_or_sethi arithmetic memory step_of act alu_step branch_step call_step jump_step load_step store_step ldstub_step swap_step save_step restore_step system_call trap_step alu_of holds_of fetch_of bytes_at with_bytes
+restore_misaligned_ends : ending_on_stack restore_misaligned 2 ≡ Some Window
+unfolding after
 restore_misaligned_ends = refl
 
 -- STH, STB and ST at the top of the stack, and LDD of the two words
@@ -357,13 +370,13 @@ abbrev pub parts_of_words : List ℕ
 parts_of_words =
     0x84102102 ∷ 0x86102007 ∷ 0xc4338000 ∷ 0xc42ba002 ∷ 0xc623a004 ∷ 0xc81b8000 ∷ []
 
-parts_of_words_give : map (register_of (run (first_of parts_of_words) 6)) (4 ∷ 5 ∷ []) ≡ 0x01020200 ∷ 7 ∷ []
-unfolding decode_of branch_or_sethi arithmetic memory step_of act alu_step branch_step call_step jump_step load_step store_step ldstub_step swap_step save_step restore_step system_call trap_step alu_of holds_of fetch_of bytes_at with_bytes
+parts_of_words_give : map (register_of (after (first_of parts_of_words) 6)) (4 ∷ 5 ∷ []) ≡ 0x01020200 ∷ 7 ∷ []
+unfolding after
 parts_of_words_give = refl
 
 -- how a program of one word ends
 abbrev pub ending_of_word : ℕ → Option Ending
-ending_of_word word = (run (first_of (word ∷ [])) 1).ending
+ending_of_word word = ending_on_stack (word ∷ []) 1
 
 -- LDUH, LDSH, LD, LDD, STH, ST, STD and SWAP at half of what they are aligned to
 abbrev pub misaligned_accesses : List ℕ
@@ -374,7 +387,7 @@ misaligned_accesses =
 misaligned_accesses_end : map ending_of_word misaligned_accesses
     ≡ Some (Trap 7) ∷ Some (Trap 7) ∷ Some (Trap 7) ∷ Some (Trap 7)
     ∷ Some (Trap 7) ∷ Some (Trap 7) ∷ Some (Trap 7) ∷ Some (Trap 7) ∷ []
-unfolding decode_of branch_or_sethi arithmetic memory step_of act alu_step branch_step call_step jump_step load_step store_step ldstub_step swap_step save_step restore_step system_call trap_step alu_of holds_of fetch_of bytes_at with_bytes
+unfolding after
 misaligned_accesses_end = refl
 
 -- exits with -1
@@ -382,8 +395,8 @@ abbrev pub exit_of_a_byte : List ℕ
 exit_of_a_byte =
     0x82102001 ∷ 0x90103fff ∷ 0x91d02010 ∷ []
 
-exit_of_a_byte_ends : (run (first_of exit_of_a_byte) 3).ending ≡ Some (Exit 255)
-unfolding decode_of branch_or_sethi arithmetic memory step_of act alu_step branch_step call_step jump_step load_step store_step ldstub_step swap_step save_step restore_step system_call trap_step alu_of holds_of fetch_of bytes_at with_bytes
+exit_of_a_byte_ends : ending_on_stack exit_of_a_byte 3 ≡ Some (Exit 255)
+unfolding after
 exit_of_a_byte_ends = refl
 
 -- calls the system by the number 144
@@ -391,8 +404,8 @@ abbrev pub high_trap_number : List ℕ
 high_trap_number =
     0x82102001 ∷ 0x84102090 ∷ 0x90102003 ∷ 0x91d08000 ∷ []
 
-high_trap_number_ends : (run (first_of high_trap_number) 4).ending ≡ Some (Exit 3)
-unfolding decode_of branch_or_sethi arithmetic memory step_of act alu_step branch_step call_step jump_step load_step store_step ldstub_step swap_step save_step restore_step system_call trap_step alu_of holds_of fetch_of bytes_at with_bytes
+high_trap_number_ends : ending_on_stack high_trap_number 4 ≡ Some (Exit 3)
+unfolding after
 high_trap_number_ends = refl
 
 -- writes three bytes to descriptor 2, with C set before
@@ -400,17 +413,17 @@ abbrev pub write_to_two : List ℕ
 write_to_two =
     0x80a02001 ∷ 0x82102004 ∷ 0x90102002 ∷ 0x9210000e ∷ 0x94102003 ∷ 0x91d02010 ∷ []
 
-write_to_two_gives : map (register_of (run (first_of write_to_two) 6)) (8 ∷ []) ≡ 3 ∷ []
-unfolding decode_of branch_or_sethi arithmetic memory step_of act alu_step branch_step call_step jump_step load_step store_step ldstub_step swap_step save_step restore_step system_call trap_step alu_of holds_of fetch_of bytes_at with_bytes
+write_to_two_gives : map (register_of (after (first_of write_to_two) 6)) (8 ∷ []) ≡ 3 ∷ []
+unfolding after
 write_to_two_gives = refl
 
-write_to_two_clears : (run (first_of write_to_two) 6).codes.c ≡ false
-unfolding decode_of branch_or_sethi arithmetic memory step_of act alu_step branch_step call_step jump_step load_step store_step ldstub_step swap_step save_step restore_step system_call trap_step alu_of holds_of fetch_of bytes_at with_bytes
+write_to_two_clears : (after (first_of write_to_two) 6).codes.c ≡ false
+unfolding after
 write_to_two_clears = refl
 
 write_to_two_puts : map (run_puts (first_of write_to_two) 6) (0 ∷ 1 ∷ 2 ∷ [])
     ≡ [] ∷ [] ∷ (0 ∷ 0 ∷ 0 ∷ []) ∷ []
-unfolding decode_of branch_or_sethi arithmetic memory step_of act alu_step branch_step call_step jump_step load_step store_step ldstub_step swap_step save_step restore_step system_call trap_step alu_of holds_of fetch_of bytes_at with_bytes puts_of puts_by
+unfolding after puts_of puts_by
 write_to_two_puts = refl
 
 -- writes to descriptor 0, which takes no output
@@ -418,12 +431,12 @@ abbrev pub write_to_zero : List ℕ
 write_to_zero =
     0x82102004 ∷ 0x9210000e ∷ 0x94102004 ∷ 0x90102000 ∷ 0x91d02010 ∷ []
 
-write_to_zero_gives : register_of (run (first_of write_to_zero) 5) 8 ≡ 9
-unfolding decode_of branch_or_sethi arithmetic memory step_of act alu_step branch_step call_step jump_step load_step store_step ldstub_step swap_step save_step restore_step system_call trap_step alu_of holds_of fetch_of bytes_at with_bytes
+write_to_zero_gives : register_of (after (first_of write_to_zero) 5) 8 ≡ 9
+unfolding after
 write_to_zero_gives = refl
 
 write_to_zero_puts : run_puts (first_of write_to_zero) 5 0 ≡ []
-unfolding decode_of branch_or_sethi arithmetic memory step_of act alu_step branch_step call_step jump_step load_step store_step ldstub_step swap_step save_step restore_step system_call trap_step alu_of holds_of fetch_of bytes_at with_bytes puts_of puts_by
+unfolding after puts_of puts_by
 write_to_zero_puts = refl
 
 -- UNIMP, RDPSR, LDF, a coprocessor's operation, UDIV by 0, TADDccTV of a tag, TA 5 and TN 5
@@ -435,7 +448,7 @@ words_that_trap =
 words_that_trap_end : map ending_of_word words_that_trap
     ≡ Some (Trap 0x02) ∷ Some (Trap 0x03) ∷ Some (Trap 0x04) ∷ Some (Trap 0x24)
     ∷ Some (Trap 0x2a) ∷ Some (Trap 0x0a) ∷ Some (Trap 0x85) ∷ None ∷ []
-unfolding decode_of branch_or_sethi arithmetic memory step_of act alu_step branch_step call_step jump_step load_step store_step ldstub_step swap_step save_step restore_step system_call trap_step alu_of holds_of fetch_of bytes_at with_bytes
+unfolding after
 words_that_trap_end = refl
 
 -- a store into the text
@@ -443,8 +456,8 @@ abbrev pub store_into_text : List ℕ
 store_into_text =
     0x40000002 ∷ 0xc023c000 ∷ []
 
-store_into_text_ends : (run (first_of store_into_text) 2).ending ≡ Some (Trap 9)
-unfolding decode_of branch_or_sethi arithmetic memory step_of act alu_step branch_step call_step jump_step load_step store_step ldstub_step swap_step save_step restore_step system_call trap_step alu_of holds_of fetch_of bytes_at with_bytes
+store_into_text_ends : ending_on_stack store_into_text 2 ≡ Some (Trap 9)
+unfolding after
 store_into_text_ends = refl
 
 -- a jump into the stack
@@ -452,8 +465,8 @@ abbrev pub jump_into_stack : List ℕ
 jump_into_stack =
     0x81c38000 ∷ 0x01000000 ∷ []
 
-jump_into_stack_ends : (run (first_of jump_into_stack) 3).ending ≡ Some (Trap 1)
-unfolding decode_of branch_or_sethi arithmetic memory step_of act alu_step branch_step call_step jump_step load_step store_step ldstub_step swap_step save_step restore_step system_call trap_step alu_of holds_of fetch_of bytes_at with_bytes
+jump_into_stack_ends : ending_on_stack jump_into_stack 3 ≡ Some (Trap 1)
+unfolding after
 jump_into_stack_ends = refl
 
 -- ---- the heap, with sixteen bytes of room here
@@ -478,8 +491,8 @@ heap_falls_and_rises =
     0x82102011 ∷ 0x05200000 ∷ 0x9000a008 ∷ 0x91d02010 ∷ 0x86102005 ∷ 0xc620a004 ∷ 0x90100002 ∷ 0x91d02010
     ∷ 0x9000a008 ∷ 0x91d02010 ∷ 0xd000a004 ∷ 0x82102001 ∷ 0x91d02010 ∷ []
 
-heap_falls_and_rises_ends : (run (with_short_heap heap_falls_and_rises) 13).ending ≡ Some (Exit 5)
-unfolding decode_of branch_or_sethi arithmetic memory step_of act alu_step branch_step call_step jump_step load_step store_step ldstub_step swap_step save_step restore_step system_call trap_step alu_of holds_of fetch_of bytes_at with_bytes
+heap_falls_and_rises_ends : (after (with_short_heap heap_falls_and_rises) 13).ending ≡ Some (Exit 5)
+unfolding after
 heap_falls_and_rises_ends = refl
 
 -- stores a word below the heap's end, and one above it
@@ -487,12 +500,12 @@ abbrev pub store_above_heap : List ℕ
 store_above_heap =
     0x82102011 ∷ 0x05200000 ∷ 0x9000a008 ∷ 0x91d02010 ∷ 0xc020a004 ∷ 0xc020a008 ∷ []
 
-store_above_heap_goes_on : (run (with_short_heap store_above_heap) 5).ending ≡ None
-unfolding decode_of branch_or_sethi arithmetic memory step_of act alu_step branch_step call_step jump_step load_step store_step ldstub_step swap_step save_step restore_step system_call trap_step alu_of holds_of fetch_of bytes_at with_bytes
+store_above_heap_goes_on : (after (with_short_heap store_above_heap) 5).ending ≡ None
+unfolding after
 store_above_heap_goes_on = refl
 
-store_above_heap_ends : (run (with_short_heap store_above_heap) 6).ending ≡ Some (Trap 9)
-unfolding decode_of branch_or_sethi arithmetic memory step_of act alu_step branch_step call_step jump_step load_step store_step ldstub_step swap_step save_step restore_step system_call trap_step alu_of holds_of fetch_of bytes_at with_bytes
+store_above_heap_ends : (after (with_short_heap store_above_heap) 6).ending ≡ Some (Trap 9)
+unfolding after
 store_above_heap_ends = refl
 
 -- ---- the stack of a program with the argument "a", from its argument words to its end

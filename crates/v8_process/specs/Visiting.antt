@@ -1,19 +1,11 @@
 -- Visits, trails and needed items of small runs: they compute.
 use Rattle.std.specs.Prelude.{◌≡◌, ℕ, [], ◌∷◌, Some, None, refl}
-use Rattle.elf32_sparc.specs.Header.{half_at, word_at, program_header, program_headers}
-use Rattle.elf32_sparc.specs.Mapping.{mappings}
 use Rattle.elf32_sparc.specs.Notes.{Notes}
-use Rattle.v8_decode.specs.Words.{decode_of, arithmetic}
-use Rattle.v8_memory.specs.Regions.{fetch_of, bytes_at, with_bytes}
-use Rattle.v8_alu.specs.Alu.{alu_of}
-use Rattle.v8_alu.specs.Conditions.{holds_of}
 use Rattle.v8_step.specs.declared.Ending.TheVariants.{Couple}
 use Rattle.v8_step.specs.State.{State}
-use Rattle.v8_step.specs.Step.{alu_step, act, step_of}
-use Rattle.v8_step.specs.Calls.{system_call, trap_step}
 use Rattle.v8_step.specs.Visits.{visit_of, own_trail}
 use Rattle.v8_process.specs.Start.{start_of}
-use Rattle.v8_process.specs.Programs.{file_of, three_words, first_of}
+use Rattle.v8_process.specs.Programs.{after, file_of, three_words, first_of}
 
 -- A page of 16 bytes: at 0x20000 stands the instruction of 0x10054 in two words, and at 0x2000c that of 0x10058.
 abbrev pub one_page : Notes
@@ -61,5 +53,5 @@ after_the_end = refl
 
 -- the last state has ended
 three_words_trail : own_trail (start_of (file_of three_words) [] []) 4 ≡ 0x10054 ∷ 0x10058 ∷ 0x1005c ∷ []
-unfolding start_of half_at word_at program_header program_headers mappings decode_of arithmetic step_of act alu_step system_call trap_step alu_of holds_of fetch_of bytes_at with_bytes
+unfolding after
 three_words_trail = refl

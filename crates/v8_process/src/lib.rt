@@ -12,8 +12,6 @@ ghost use Rattle.v8_process.specs.Valid.{MappingsHaveRoom, StartsValid};
 
 mod loader;
 mod stack;
-#[cfg(test)]
-mod tests;
 
 pub use elf32_sparc::load_verdict;
 pub use loader::{LoadFault, load};

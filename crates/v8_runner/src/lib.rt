@@ -10,9 +10,6 @@ ghost use Rattle.v8_runner.specs.Runs.{IsStop, AreMade, RunTakes};
 use eel_base::{Addr, Sink};
 use v8_step::{Ending, Machine, StepOut, step};
 
-#[cfg(test)]
-mod tests;
-
 /// Why a run stopped.
 #[derive(Clone, Copy, PartialEq, Eq, Debug, Drop)]
 pub enum Stop {

@@ -120,14 +120,9 @@ load_after pages kind rd rs1 op2 s t None e f h =
     ended_alike pages (i.Load kind rd rs1 op2) s t (Trap data_access_exception) h
 load_after pages kind rd rs1 op2 s t (Some bytes) e f h = record {
   ending = e ∙ sym f;
-  world = record {
-    window = h.window;
-    valid = h.valid;
-    input = h.input;
-    memory = h.memory;
-    registers = same_lengths s.registers t.registers _ _ h.registers (length-loaded kind s.registers s.window rd bytes)
-        (length-loaded kind t.registers t.window rd bytes);
-  };
+  world =
+      assumption (same_lengths s.registers t.registers _ _ h.registers
+      (length-loaded kind s.registers s.window rd bytes) (length-loaded kind t.registers t.window rd bytes));
   items = λ _ item g. loaded_items kind rd bytes s t item h.window h.registers g;
 }
 
@@ -199,7 +194,7 @@ store_after pages kind rd rs1 op2 s t None (Some n) e f h g = absurd g
 store_after pages kind rd rs1 op2 s t (Some m) None e f h g = absurd g
 store_after pages kind rd rs1 op2 s t (Some m) (Some n) e f h g = record {
   ending = e ∙ sym f;
-  world = record { window = h.window; valid = h.valid; input = h.input; memory = g; registers = h.registers };
+  world = assumption;
   items = λ _ item z. stored_items s t m n item z;
 }
 
@@ -266,14 +261,9 @@ module _ (pages : List Span) (instr : Instr) (rd : ℕ)
   exchange_written s t v (Some m) None e f h g = absurd g
   exchange_written s t v (Some m) (Some n) e f h g = record {
     ending = e ∙ sym f;
-    world = record {
-      window = h.window;
-      valid = h.valid;
-      input = h.input;
-      memory = g;
-      registers = same_lengths s.registers t.registers _ _ h.registers
-          (length-register_set s.registers s.window rd v) (length-register_set t.registers t.window rd v);
-    };
+    world =
+        assumption (same_lengths s.registers t.registers _ _ h.registers
+        (length-register_set s.registers s.window rd v) (length-register_set t.registers t.window rd v));
     items = λ _ item z. exchanged_items rd v m n s t item h.window h.registers (among item z);
   }
     where

@@ -1,6 +1,5 @@
 -- One step of the original is answered by one of the copy.
-use Rattle.std.proofs.Common.{◌≡◌, ℕ, suc, ◌+◌, ◌*◌, ◌^◌, ◌<◌, inr, false, Option, Some, None, List, [], ◌∷◌, length, ap, sym, ◌∙◌, subst, arith}
-use Rattle.std.specs.Prelude.{slice_index}
+use Rattle.std.proofs.Common.{◌≡◌, ℕ, suc, ◌+◌, ◌*◌, ◌^◌, ◌<◌, inr, false, Option, Some, None, List, [], ◌∷◌, ap, sym, ◌∙◌, subst, arith}
 use Rattle.std.proofs.Math.Seq.{ext_get_or}
 use Rattle.elf32_sparc.specs.Notes.{Notes}
 use Rattle.v8_decode.specs.declared.Instr.{Instr}
@@ -14,7 +13,7 @@ use Rattle.v8_alu.specs.Numbers.{wrapped}
 use Rattle.v8_step.specs.declared.Ending.{Ending}
 use Rattle.v8_step.specs.State.{State}
 use Rattle.v8_step.specs.Step.{step_of, puts_of}
-use Rattle.v8_step.specs.Items.{Item, Register, Codes, YRegister, IsSameAt, AreSameAt, is_transfer}
+use Rattle.v8_step.specs.Items.{Register, Codes, YRegister, AreSameAt, is_transfer}
 use Rattle.v8_step.specs.Judged.{judged_by}
 use Rattle.v8_step.specs.Needed.{decoded, instr_at, judged_in}
 use Rattle.v8_step.specs.Visits.{pages_of}
@@ -23,7 +22,7 @@ use Rattle.v8_step.specs.Copied.{IsCopy, IsAt, AreTwins}
 use Rattle.v8_step.proofs.Alike.{live_step, steps_alike}
 use Rattle.v8_step.proofs.CopiedMoves.{GoesTo, goes_act}
 use Rattle.v8_step.proofs.JudgedAlike.{judged_alike}
-use Rattle.v8_step.proofs.Twins.{twins_same}
+use Rattle.v8_step.proofs.Twins.{same_world, twins_same}
 
 -- ---- twins
 
@@ -39,13 +38,7 @@ twins_ready notes instr s t live live' registers registers' h apart = record {
   second_live = live';
   first_registers = registers;
   second_registers = registers';
-  world = record {
-    window = h.window;
-    valid = h.valid;
-    input = h.input;
-    memory = h.memory;
-    registers = ap length h.registers;
-  };
+  world = same_world (pages_of notes) s t h;
   items = (λ _ item _. twins_same (pages_of notes) s t h item, twins_parts notes s t h (reads_of instr));
   first_apart = apart;
   second_apart = judged_alike notes instr s t h apart;
@@ -53,18 +46,13 @@ twins_ready notes instr s t live live' registers registers' h apart = record {
 
 twins_after : (notes : Notes) (instr : Instr) (s t s' t' : State) → AreTwins (pages_of notes) s t
     → AreSameAfter (pages_of notes) instr s t s' t' → s'.ending ≡ None → AreTwins (pages_of notes) s' t'
-twins_after notes instr s t s' t' h after live = record {
-  registers =
+twins_after notes instr s t s' t' h after live =
+    assumption (
       ext_get_or 0 s'.registers t'.registers after.world.registers
-      (λ k below. after.items live (Register k) (inr (twins_same (pages_of notes) s t h (Register k))));
-  codes = after.items live Codes (inr h.codes);
-  y = after.items live YRegister (inr h.y);
-  window = after.world.window;
-  valid = after.world.valid;
-  input = after.world.input;
-  ending = after.ending;
-  memory = after.world.memory;
-}
+          (λ k below. after.items live (Register k) (inr (twins_same (pages_of notes) s t h (Register k)))),
+      after.items live Codes (inr h.codes),
+      after.items live YRegister (inr h.y),
+    )
 
 -- ---- where they go
 

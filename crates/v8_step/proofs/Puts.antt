@@ -18,7 +18,7 @@ use Rattle.v8_step.specs.Step.{act, trap_number, written_out, puts_by}
 use Rattle.v8_step.specs.Judged.{buffer_span, judged_by_call, judged_by_spills, judged_by_trap}
 use Rattle.v8_step.specs.Alike.{ActsAlike}
 use Rattle.v8_step.specs.Copied.{AreTwins}
-use Rattle.v8_step.proofs.Twins.{twins_of, alike_of, twin_register, twin_sum, buffer_reads, ticc_by}
+use Rattle.v8_step.proofs.Twins.{twins_of, alike_of, same_arguments, twin_sum, buffer_reads, ticc_by}
 
 -- what a call with these arguments puts out
 abbrev call_bytes : State → ℕ → ℕ → ℕ → ℕ → ℕ → List ℕ
@@ -52,15 +52,8 @@ written_same : (pages : List Span) (s t : State) (descriptor : ℕ) → AreTwins
     → AllApart pages (judged_by_call s (register_of s 1) (register_of s 8) (register_of s 9) (register_of s 10))
     → written_out s descriptor ≡ written_out t descriptor
 written_same pages s t descriptor h apart =
-    let f : call_bytes t (register_of s 1) (register_of s 8) (register_of s 9) (register_of s 10) descriptor
-    ≡ written_out t descriptor =
-    rw (
-      twin_register pages s t 1 h,
-      twin_register pages s t 8 h,
-      twin_register pages s t 9 h,
-      twin_register pages s t 10 h,
-    ) refl in
-    puts_call pages s t (register_of s 1) (register_of s 8) (register_of s 9) (register_of s 10) descriptor h apart ∙ f
+    puts_call pages s t (register_of s 1) (register_of s 8) (register_of s 9) (register_of s 10) descriptor h apart
+    ∙ same_arguments pages s t (λ n a b c. call_bytes t n a b c descriptor) h
 
 puts_trap : (pages : List Span) (s t : State) (descriptor n : ℕ) (taken : Bool) → AreTwins pages s t
     → AllApart pages (if taken then judged_by_trap s n else [])

@@ -87,15 +87,10 @@ items_after sets writes rd s t v v' k k' y y' w l ev ek ey YRegister (inl h) =
 world_after : (pages : List Span) (rd : ℕ) (s t : State) (v v' : ℕ) (k k' : Flags) (y y' : ℕ) → IsSameWorld pages s t
     → IsSameWorld pages (next (record (with_register s rd v) { codes = k; y = y }))
     (next (record (with_register t rd v') { codes = k'; y = y' }))
-world_after pages rd s t v v' k k' y y' h = record {
-  window = h.window;
-  valid = h.valid;
-  input = h.input;
-  memory = h.memory;
-  registers = same_lengths s.registers t.registers (register_set s.registers s.window rd v)
-      (register_set t.registers t.window rd v') h.registers
-      (length-register_set s.registers s.window rd v) (length-register_set t.registers t.window rd v');
-}
+world_after pages rd s t v v' k k' y y' h =
+    assumption (same_lengths s.registers t.registers (register_set s.registers s.window rd v)
+    (register_set t.registers t.window rd v') h.registers
+    (length-register_set s.registers s.window rd v) (length-register_set t.registers t.window rd v'))
 
 register_items : (rd : ℕ) (s t : State) (v v' : ℕ) → s.window ≡ t.window → length s.registers ≡ length t.registers
     → v ≡ v' → (item : Item) → IsAmong item s.window (reg rd) ⊎ IsSameAt item s t
@@ -200,7 +195,7 @@ write_y_acts rs1 op2 pages s t ready =
     let q = same_operand op2 s t h.window (same_rest (reg rs1) (op2_parts op2) s t ready.items.1) in (
       record {
         ending = ready.first_live ∙ sym ready.second_live;
-        world = record { window = h.window; valid = h.valid; input = h.input; memory = h.memory; registers = h.registers };
+        world = assumption;
         items = λ _ item g. y_items s t _ _
             (ap (λ z. bit_xor z (operand_of s op2)) p ∙ ap (λ z. bit_xor (register_of t rs1) z) q) item g;
       },
@@ -217,7 +212,7 @@ idle_after : (pages : List Span) (s t : State) → s.ending ≡ None → t.endin
     → AreSameAfter pages i.Stbar s t (next s) (next t)
 idle_after pages s t e f h = record {
   ending = e ∙ sym f;
-  world = record { window = h.window; valid = h.valid; input = h.input; memory = h.memory; registers = h.registers };
+  world = assumption;
   items = λ _ item g. idle_items s t item g;
 }
 
@@ -231,7 +226,7 @@ flush_acts rs1 op2 pages s t ready =
     let h = ready.world in (
       record {
         ending = ready.first_live ∙ sym ready.second_live;
-        world = record { window = h.window; valid = h.valid; input = h.input; memory = h.memory; registers = h.registers };
+        world = assumption;
         items = λ _ item g. idle_items s t item g;
       },
       λ _. refl,

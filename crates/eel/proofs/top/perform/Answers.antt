@@ -9,6 +9,10 @@ pub returns-in-Run-clause-follows : goal.returns-in-Run-clause-follows
 returns-in-Run-clause-follows g c =
     rw (← c.in-Run.ensures.command) (c.run_program.ensures.runs, c.run_program.ensures.kept)
 
+pub returns-in-Restore-clause-follows : goal.returns-in-Restore-clause-follows
+returns-in-Restore-clause-follows g c =
+    rw (← c.in-Restore.ensures.command) (c.restore_original.ensures.restores, refl, (refl, refl))
+
 pub returns-in-Show-clause-follows : goal.returns-in-Show-clause-follows
 returns-in-Show-clause-follows g c =
     rw (← c.in-Show.ensures.command) (c.show_program.ensures.lists _ _, c.show_program.ensures.kept, refl)

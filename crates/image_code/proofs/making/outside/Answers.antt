@@ -6,7 +6,8 @@ use Rattle.image_code.proofs.making.outside.Goals as goal
 few : (c : goal.After-own_edges) → length c.own_edges.result.now ≤ 2 * length c.args.text.now.words
 few c =
     let few = own_few c.args.text.now c.args.graph.now c.requires.graph c.len.ensures.text.some in
-    let same : length c.own_edges.result.now ≡ length (own_edges c.args.graph.now) = ap length c.own_edges.ensures.edges in
+    let same : length c.own_edges.result.now ≡ length
+    (own_edges c.args.graph.now) = ap length c.own_edges.ensures.edges in
     omega arith
 
 pub own_edges-requires : goal.own_edges-requires

@@ -11,4 +11,5 @@ returns-clause-list c =
     ∙ ap (λ (items : List Item). c.push_ways.new.list.items ++ items ∷ []) c.in_ok-illegal.ensures
     ∙ ap (λ (pieces : List (List Item)). pieces ++ (it.Word illegal_word ∷ []) ∷ [])
     (c.in_ok-push_ways.ensures
-    ∙ ap (λ (pieces : List (List Item)). pieces ++ map (way_along c.args.text.now c.args.graph.now) (own_edges c.args.graph.now)) c.in_ok-push_images.ensures)
+    ∙ ap (λ (pieces : List (List Item)). pieces ++ map (way_along c.args.text.now c.args.graph.now)
+    (own_edges c.args.graph.now)) c.in_ok-push_images.ensures)

@@ -7,7 +7,8 @@ use Rattle.image_code.proofs.making.push_block.Goals as goal
 
 pub loop-word-init : goal.loop-word-init
 loop-word-init c =
-    c.requires.before ∙ ap (λ (n : ℕ). map (image_of c.args.text.now c.args.graph.now) (below n)) (sym c.first-first.ensures.first)
+    c.requires.before ∙ ap (λ (n : ℕ). map (image_of c.args.text.now c.args.graph.now) (below n))
+    (sym c.first-first.ensures.first)
 
 pub image-requires-clause-word : goal.image-requires-clause-word
 image-requires-clause-word c =
@@ -25,11 +26,21 @@ pub loop-word-preserved : goal.loop-word-preserved
 loop-word-preserved c =
     c.in_ok-push.ensures.items
     ∙ ap (λ (items : List Item). c.loop-word.list.items ++ items ∷ []) c.in_ok-image.ensures
-    ∙ ap (λ (pieces : List (List Item)). pieces ++ image_of c.args.text.now c.args.graph.now c.loop-word.word ∷ []) c.loop-word.invariant
+    ∙ ap (λ (pieces : List
+    (List Item)). pieces ++ image_of c.args.text.now c.args.graph.now c.loop-word.word ∷ []) c.loop-word.invariant
     ∙ sym (image_more (image_of c.args.text.now c.args.graph.now) c.loop-word.word)
 
 pub returns : goal.returns
 returns c =
-    let last : c.loop-word.word ≡ last_word c.args.graph.now.blocks.firsts c.args.graph.now.blocks.words c.args.block.0 + 1 =
-    omega (arith, c.loop-word-test.false, c.loop-word.auto.word-end (omega arith), c.words.ensures.size, c.words.ensures.some, c.first-first.ensures.first) in
+    let last : c.loop-word.word
+    ≡ last_word c.args.graph.now.blocks.firsts c.args.graph.now.blocks.words c.args.block.0 + 1 =
+    omega (
+      arith,
+      c.loop-word-test.false,
+      c.loop-word.auto.word-end
+          (omega arith),
+      c.words.ensures.size,
+      c.words.ensures.some,
+      c.first-first.ensures.first,
+    ) in
     c.loop-word.invariant ∙ ap (λ (n : ℕ). map (image_of c.args.text.now c.args.graph.now) (below n)) last

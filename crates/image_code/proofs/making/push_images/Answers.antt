@@ -14,7 +14,8 @@ loop-block-init c = (
 
 pub overflow_add-way : goal.overflow_add-way
 overflow_add-way c =
-    let few = way_few c.args.text.now c.args.graph.now c.requires.graph c.len-way.ensures.text.some c.loop-block.block (omega (arith, c.loop-block-test.true, c.count-block-end.ensures.count)) in
+    let few = way_few c.args.text.now c.args.graph.now c.requires.graph c.len-way.ensures.text.some c.loop-block.block
+    (omega (arith, c.loop-block-test.true, c.count-block-end.ensures.count)) in
     omega (arith, c.loop-block.invariant.1, c.len-way.ensures.text.few, c.edges_out-way.ensures.few)
 
 pub loop-block-preserved : goal.loop-block-preserved
@@ -29,4 +30,5 @@ pub returns : goal.returns
 returns c =
     c.loop-block.invariant.0
     ∙ ap (λ (n : ℕ). map (image_of c.args.text.now c.args.graph.now) (below n))
-    (begin_last c.args.text.now c.args.graph.now c.requires.graph c.loop-block.block (omega (arith, c.loop-block-test.false, c.count-block-end.ensures.count)))
+    (begin_last c.args.text.now c.args.graph.now c.requires.graph c.loop-block.block
+    (omega (arith, c.loop-block-test.false, c.count-block-end.ensures.count)))

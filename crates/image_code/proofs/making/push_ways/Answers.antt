@@ -12,4 +12,5 @@ pub returns : goal.returns
 returns c =
     c.loop-edge.invariant
     ∙ ap (λ (edges : List Edge). c.args.list.now.items ++ map (way_along c.args.text.now c.args.graph.now) edges)
-    (take_all c.loop-edge.edge-index c.own_edges-edge-items.result.now c.loop-edge-test.false ∙ c.own_edges-edge-items.ensures.edges)
+    (take_all c.loop-edge.edge-index c.own_edges-edge-items.result.now c.loop-edge-test.false
+    ∙ c.own_edges-edge-items.ensures.edges)

@@ -6,7 +6,8 @@ use Rattle.image_code.proofs.making.way.Goals as goal
 
 inside : (c : goal.In_default-Word) → c.in_default-Word.slot.0 < length c.args.text.now.words
 inside c =
-    let in_slot = subst (λ (s : Slot). IsSlotIn c.args.graph.now.blocks s) c.in_default-Word.is-1 c.requires.edge.slot in
+    let in_slot = subst (λ
+    (s : Slot). IsSlotIn c.args.graph.now.blocks s) c.in_default-Word.is-1 c.requires.edge.slot in
     omega (arith, words_are c.args.text.now c.args.graph.now c.requires.graph)
 
 pub address-requires : goal.address-requires

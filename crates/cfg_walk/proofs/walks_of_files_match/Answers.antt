@@ -1,5 +1,0 @@
-use Rattle.cfg_walk.proofs.Files.{walks_of_files_match}
-use Rattle.cfg_walk.proofs.walks_of_files_match.Goals as goal
-
-pub returns : goal.returns
-returns c = walks_of_files_match

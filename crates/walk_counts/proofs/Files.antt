@@ -1,0 +1,95 @@
+-- The walk of a file's run matches it.
+use Rattle.std.proofs.Common.{◌≡◌, ℕ, ◌+◌, ◌<◌, List, [], ◌∷◌, length, Some, None, refl, sym, ap, ◌∙◌, subst, arith}
+use Rattle.eel_base.specs.CodeText.{Words, IsText, address_of}
+use Rattle.elf32_sparc.specs.Header.{e_entry}
+use Rattle.elf32_sparc.specs.FileFault.{fault}
+use Rattle.elf32_sparc.specs.Image.{text_of, word_number, IsProgram, image_of}
+use Rattle.elf32_sparc.proofs.Accepted.{accepted}
+use Rattle.elf32_sparc.proofs.Images.{accepted-program}
+use Rattle.v8_process.specs.Start.{start_of}
+use Rattle.flows.specs.Flows.{Graph as PlainGraph, IsGraph}
+use Rattle.flows.specs.Walks.{IsWalk}
+use Rattle.cfg_blocks.specs.Blocks.{blocks_of}
+use Rattle.cfg_normal.specs.Graph.{graph_of, node_of}
+use Rattle.cfg_walk.specs.Matches.{BeginsAt}
+use Rattle.walk_counts.specs.Files.{WalksOfFilesMatch}
+use Rattle.cfg_walk.specs.Numbers.{node_number}
+use Rattle.walk_counts.specs.Counts.{CountsAreEnough, ExecutionsOfFilesAreFlows, links_of}
+use Rattle.walk_counts.proofs.Texts.{HasText, text_found, text_from-start}
+use Rattle.walk_counts.proofs.Fetching.{only_text_is_fetched}
+use Rattle.cfg_walk.proofs.Walks.{walks_match}
+use Rattle.cfg_normal.proofs.Edges.{node_of-in}
+use Rattle.walk_counts.proofs.Links.{links_are_a_graph, number_inside}
+use Rattle.cfg_walk.proofs.Cut.{cut}
+use Rattle.walk_counts.proofs.Paths.{executions_are_flows, walks_are_paths}
+
+-- the entry is the address of a word
+record IsEntry (text : Words) (entry : ℕ) : Type 0 where
+  text_is : IsText text
+  within : word_number text entry < length text.words
+  address : entry ≡ address_of text (word_number text entry)
+
+entry_is : (file : List ℕ) → fault file ≡ None → IsEntry (text_of file) (e_entry file)
+unfolding image_of
+entry_is file sound =
+    let text : HasText file = text_found file (accepted file sound) in
+    let program : IsProgram (image_of file) = accepted-program file sound in
+    let start : (text_of file).start ≡ text.header.p_vaddr =
+    ap (λ (t : Words). t.start) text.is ∙ text_from-start file text.header in
+    let starts = text.fit.starts in
+    let aligned = text.fit.aligned in
+    record {
+      text_is = subst IsText (sym text.is) text.fit.text;
+      within = program.entry;
+      address = omega (arith, start, starts, aligned);
+    }
+
+begins : (file : List ℕ) (args : List (List ℕ)) (input : List ℕ) → IsEntry (text_of file) (e_entry file)
+    → BeginsAt (text_of file) (word_number (text_of file) (e_entry file)) (start_of file args input)
+unfolding start_of
+begins file args input entry =
+    let below = entry.text_is.below in
+    let within = entry.within in
+    record {
+      within = entry.within;
+      pc = entry.address;
+      npc = omega (arith, entry.address, below, within);
+      slot = refl;
+    }
+
+pub walks_of_files_match : WalksOfFilesMatch
+unfolding image_of
+walks_of_files_match file args input given n sound bytes live =
+    let entry : IsEntry (text_of file) (e_entry file) = entry_is file sound in
+    walks_match (text_of file) given (word_number (text_of file) (e_entry file)) (start_of file args input) n
+    entry.text_is (only_text_is_fetched file args input sound bytes) (begins file args input entry) live
+
+pub executions_of_files_are_flows : ExecutionsOfFilesAreFlows
+unfolding image_of
+executions_of_files_are_flows file args input given n sound bytes =
+    let entry : IsEntry (text_of file) (e_entry file) = entry_is file sound in
+    executions_are_flows (text_of file) given (word_number (text_of file) (e_entry file)) (start_of file args input) n
+    entry.text_is (only_text_is_fetched file args input sound bytes) (begins file args input entry)
+
+-- a walk of a graph from one of its nodes ends at one
+ends_inside : (g : PlainGraph) (a : ℕ) (es : List ℕ) (b : ℕ) → IsGraph g → a < g.nodes → IsWalk g a es b → b < g.nodes
+ends_inside g a [] b is inside walk = subst (λ (v : ℕ). v < g.nodes) walk inside
+ends_inside g a (e ∷ es) b is inside (below, leaves, walk) = ends_inside g (g.to e) es b is (is e below).1 walk
+
+pub counts_are_enough : CountsAreEnough
+unfolding image_of
+counts_are_enough file args input given n sound bytes edges flow determines is_flow agrees =
+    let text = text_of file in
+    let number = word_number text (e_entry file) in
+    let s0 = start_of file args input in
+    let entry : IsEntry text (e_entry file) = entry_is file sound in
+    let fetches = only_text_is_fetched file args input sound bytes in
+    let starts = begins file args input entry in
+    let b = blocks_of text given in
+    let some : 0 < length b.firsts = (cut text given entry.text_is.some).firsts.some in
+    let first_inside : node_number (graph_of b) (node_of b (Some number)) < length b.firsts + 1 =
+    number_inside b (node_of b (Some number)) (node_of-in b some (Some number)) in
+    determines _ _ flow _ first_inside
+    (ends_inside (links_of (graph_of b)) _ _ _ (links_are_a_graph b) first_inside
+    (walks_are_paths text given number s0 n entry.text_is fetches starts))
+    is_flow (executions_are_flows text given number s0 n entry.text_is fetches starts) agrees

@@ -1,0 +1,5 @@
+pub mod Texts
+pub mod Fetching
+pub mod Links
+pub mod Paths
+pub mod Files

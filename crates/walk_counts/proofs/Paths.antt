@@ -1,0 +1,166 @@
+-- The walk of a run is a walk of the plain graph.
+use Rattle.std.proofs.Common.{◌≡◌, ℕ, zero, suc, ◌<◌, Bool, true, ◌&&◌, List, [], ◌∷◌, ◌++◌, length, Option, Some, None, refl, ap, sym, ◌∙◌, subst}
+use Rattle.std.specs.List.{position, slice_get}
+use Rattle.std.specs.Option.{option_to_list}
+use Rattle.std.proofs.lemmas.Bool.{and_parts, cond_both, eqb-true, false≢true}
+use Rattle.std.proofs.lemmas.List.Quantifiers.{position-Some}
+use Rattle.std.proofs.lemmas.Option.{slice_get-get_or}
+use Rattle.eel_base.specs.CodeText.{Words, word_at}
+use Rattle.v8_decode.specs.declared.Instr.{Instr}
+use Rattle.v8_decode.specs.declared.Instr.TheVariants as i
+use Rattle.v8_step.specs.declared.Ending.{Ending}
+use Rattle.v8_step.specs.declared.Slot.{Slot}
+use Rattle.v8_step.specs.declared.Slot.TheVariants.{NoSlot, Taken, Untaken}
+use Rattle.v8_step.specs.State.{State}
+use Rattle.v8_step.specs.Run.{run}
+use Rattle.flows.specs.Flows.{Graph as PlainGraph}
+use Rattle.flows.specs.Walks.{IsWalk}
+use Rattle.flows.proofs.Walks.{walk_is_flow}
+use Rattle.cfg_blocks.specs.Blocks.{Blocks, blocks_of}
+use Rattle.cfg_blocks.specs.declared.EdgeKind.{EdgeKind}
+use Rattle.cfg_blocks.specs.declared.EdgeKind.TheVariants as kinds
+use Rattle.cfg_normal.specs.declared.Edge.{Edge}
+use Rattle.cfg_normal.specs.declared.Node.{Node}
+use Rattle.cfg_normal.specs.declared.Node.TheVariants.{Block, X}
+use Rattle.cfg_normal.specs.Graph.{Graph, graph_of, node_of}
+use Rattle.cfg_walk.specs.Walk.{Point, completed, edge_from, end_of_walk, ends_block, gone, landed, landing_at, led_to, left_at, left_by, node_after, point_of, same_kind, same_node, slot_left, unless_ended, walk}
+use Rattle.cfg_walk.specs.Matches.{IsOnItsWay, MatchesBy}
+use Rattle.cfg_walk.specs.Numbers.{node_number}
+use Rattle.walk_counts.specs.Counts.{ExecutionsAreFlows, WalksArePaths, edge_at, links_of}
+use Rattle.cfg_walk.proofs.Lists.{each_in}
+use Rattle.cfg_walk.proofs.Edges.{IsEdge, land_from, leads_along, out_to}
+use Rattle.cfg_walk.proofs.Walks.{live_before, walks_match}
+
+walk-append : (g : PlainGraph) (a b c : ℕ) (es more : List ℕ) → IsWalk g a es b → IsWalk g b more c
+    → IsWalk g a (es ++ more) c
+walk-append g a b c [] more h k = subst (λ n. IsWalk g n more c) (sym h) k
+walk-append g a b c (e ∷ es) more h k = (h.0, h.1, walk-append g (g.to e) b c es more h.2 k)
+
+module _ (graph : Graph) where
+  -- edges that lead on from a node
+  abbrev pub IsPath : Node → List ℕ → Type 0
+  IsPath node es =
+      IsWalk (links_of graph) (node_number graph node) es (node_number graph (node_after graph node es))
+
+  after-append : (es more : List ℕ) (node : Node)
+      → node_after graph node (es ++ more) ≡ node_after graph (node_after graph node es) more
+  after-append [] more node = refl
+  after-append (e ∷ es) more node = after-append es more (led_to node (slice_get graph.edges e))
+
+  pub path-append : (node : Node) (es more : List ℕ) → IsPath node es → IsPath (node_after graph node es) more
+      → IsPath node (es ++ more)
+  path-append node es more h k =
+      subst (λ to. IsWalk (links_of graph) (node_number graph node) (es ++ more) (node_number graph to))
+      (sym (after-append es more node)) (walk-append (links_of graph) _ _ _ es more h k)
+
+  -- the first edge that passes, where all that do leave the node
+  first_path : (p : Edge → Bool) (node : Node)
+      → ((k : ℕ) → k < length graph.edges → p (edge_at graph k) ≡ true
+      → node_number graph (edge_at graph k).from ≡ node_number graph node)
+      → IsPath node (option_to_list (position p graph.edges))
+  first_path p node from = by (position p graph.edges) refl
+    where
+      by : (o : Option ℕ) → position p graph.edges ≡ o → IsPath node (option_to_list o)
+      by None e = refl
+      by (Some k) e =
+          let passes = position-Some p graph.edges k _ e in (
+            passes.0,
+            from k passes.0 passes.1,
+            ap (λ o. node_number graph (led_to node o)) (sym (slice_get-get_or graph.edges k _ passes.0)),
+          )
+
+  same_number : (one other : Node) → same_node one other ≡ true
+      → node_number graph one ≡ node_number graph other
+  same_number (Block one) (Block other) e = eqb-true one.0 other.0 e
+  same_number (Block one) X e = absurd (false≢true e)
+  same_number X (Block other) e = absurd (false≢true e)
+  same_number X X e = refl
+
+  pub edge_path : (node : Node) (kind : EdgeKind) → IsPath node (edge_from graph node kind)
+  edge_path node kind =
+      first_path (λ edge. same_node edge.from node && same_kind edge.kind kind) node
+      (λ k l passes. same_number _ node (and_parts _ _ passes).0)
+
+  left_path : (node : Node) (word : ℕ) (instr : Instr) → IsPath node (left_by graph node word instr)
+  left_path node word (i.Branch cond annul disp22) = edge_path node _
+  left_path node word _ =
+      cond_both (ends_block graph node word) _ _ (IsPath node) (λ _. edge_path node kinds.Fall) (λ _. refl)
+
+  pub path_at : (text : Words) (node : Node) (o : Option ℕ) → IsPath node (left_at text graph node o)
+  path_at text node None = refl
+  path_at text node (Some word) = left_path node word _
+
+module _ (text : Words) (b : Blocks) where
+  abbrev graph : Graph
+  graph = graph_of b
+
+  -- ---- out of a slot
+
+  landing_path : (node : Node) → IsPath graph X (landing_at graph node)
+  landing_path node =
+      first_path graph (λ edge. same_node edge.to node && same_kind edge.kind kinds.Land) X
+      (λ k l passes. ap (node_number graph)
+      (each_in _ graph.edges k _ (land_from b) l (and_parts _ _ passes).1))
+
+  landed_path : (address : ℕ) (o : Option ℕ) → word_at text address ≡ o
+      → IsPath graph X (landed text graph kinds.Out address)
+  landed_path address None e = rw e refl
+  landed_path address (Some word) e = rw e (landing_path (node_of b (Some word)))
+
+  slot_path : (node : Node) (before : Point) (way : EdgeKind) (next : ℕ)
+      → IsOnItsWay text graph node before way → IsPath graph node (slot_left text graph node way next)
+  slot_path node before way next h =
+      path-append graph node (edge_from graph node way) (landed text graph way next)
+      (edge_path graph node way) (by way h)
+    where
+      by : (way : EdgeKind) → IsOnItsWay text graph node before way
+          → IsPath graph (node_after graph node (edge_from graph node way)) (landed text graph way next)
+      by kinds.Out h =
+          let is : IsEdge graph (edge_from graph node kinds.Out) h.edge =
+          record { number = h.number; only = h.only; is = h.is } in
+          let out : node_after graph node (edge_from graph node kinds.Out) ≡ X =
+          leads_along graph node _ h.edge is ∙ out_to b node h.edge is in
+          subst (λ to. IsPath graph to (landed text graph kinds.Out next)) (sym out)
+          (landed_path next (word_at text next) refl)
+      by kinds.Fall h = refl
+      by kinds.Taken h = refl
+      by kinds.Untaken h = refl
+      by kinds.Call h = refl
+      by kinds.Land h = refl
+
+  -- ---- a step
+
+  step_path : (node : Node) (before after : Point) (was now : Slot) → MatchesBy text graph node before was
+      → IsPath graph node (completed text graph node before after was now)
+  step_path node before after NoSlot NoSlot h = path_at graph text node (word_at text before.pc)
+  step_path node before after NoSlot Taken h = refl
+  step_path node before after NoSlot Untaken h = refl
+  step_path node before after Taken NoSlot h = slot_path node before _ after.pc h
+  step_path node before after Taken Taken h = refl
+  step_path node before after Taken Untaken h = refl
+  step_path node before after Untaken NoSlot h = slot_path node before _ after.pc h
+  step_path node before after Untaken Taken h = refl
+  step_path node before after Untaken Untaken h = refl
+
+  pub gone_path : (node : Node) (s t : State) (o : Option Ending)
+      → (o ≡ None → MatchesBy text graph node (point_of s) s.slot)
+      → IsPath graph node (gone text graph node (point_of s) (unless_ended o (point_of t)))
+  gone_path node s t None h = step_path node (point_of s) (point_of t) s.slot t.slot (h refl)
+  gone_path node s t (Some ending) h = refl
+
+pub walks_are_paths : WalksArePaths
+unfolding walk end_of_walk
+walks_are_paths text given entry s0 zero is fetches begins = refl
+walks_are_paths text given entry s0 (suc n) is fetches begins =
+    let b = blocks_of text given in
+    let node : Node = end_of_walk text (graph_of b) entry s0 n in
+    let s : State = run s0 n in
+    let t : State = run s0 (suc n) in
+    walk-append (links_of (graph_of b)) _ _ _ (walk text (graph_of b) entry s0 n) _
+    (walks_are_paths text given entry s0 n is fetches begins)
+    (gone_path text b node s t t.ending
+    (λ live. walks_match text given entry s0 n is fetches begins (live_before s live)))
+
+pub executions_are_flows : ExecutionsAreFlows
+executions_are_flows text given entry s0 n is fetches begins =
+    walk_is_flow _ _ _ _ (walks_are_paths text given entry s0 n is fetches begins)

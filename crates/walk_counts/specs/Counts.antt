@@ -1,0 +1,88 @@
+-- How often a run completes each edge of the flow graph. Its walk is one of a plain graph, where nodes and
+-- edges are numbers, so that the counts are a flow (Ball and Larus, "Optimally Profiling and Tracing Programs",
+-- ACM TOPLAS 16 (4), 1994).
+use Rattle.std.specs.Prelude.{ℕ, ◌+◌, length, slice_index_or, Some, ℤ, pos}
+use Rattle.eel_base.specs.CodeText.{Words}
+use Rattle.v8_step.specs.State.{State}
+use Rattle.flows.specs.Flows.{Agree, AgreeOn, Determines, EdgeSet, Graph as PlainGraph, IsGraph, IsFlow}
+use Rattle.flows.specs.Walks.{IsWalk, times}
+use Rattle.cfg_blocks.specs.declared.EdgeKind.TheVariants.{Land}
+use Rattle.cfg_blocks.specs.Blocks.{Blocks}
+use Rattle.cfg_normal.specs.declared.Edge.{Edge}
+use Rattle.cfg_normal.specs.declared.Node.TheVariants.{X}
+use Rattle.cfg_normal.specs.declared.Slot.TheVariants.{Nothing}
+use Rattle.cfg_normal.specs.Graph.{Graph, graph_of, node_of}
+use Rattle.cfg_walk.specs.Walk.{walk, end_of_walk}
+use Rattle.cfg_walk.specs.Matches.{OfEachRun}
+use Rattle.cfg_walk.specs.Numbers.{node_number}
+use Rattle.walk_counts.specs.Files.{OfEachFile}
+
+-- ---- the plain graph
+
+-- the edge of a number; past the last one, from X to X
+abbrev pub edge_at : Graph → ℕ → Edge
+edge_at graph number =
+    slice_index_or graph.edges number (record { from = X; to = X; kind = Land; slot = Nothing })
+
+-- nodes and edges by their numbers
+abbrev pub links_of : Graph → PlainGraph
+links_of graph = record {
+  nodes = length graph.blocks.firsts + 1;
+  edges = length graph.edges;
+  from = λ e. node_number graph (edge_at graph e).from;
+  to = λ e. node_number graph (edge_at graph e).to;
+}
+
+-- both ends of each edge are nodes
+abbrev pub LinksAreAGraph : Type 0
+LinksAreAGraph = (b : Blocks) → IsGraph (links_of (graph_of b))
+
+-- ---- the walk of the first n steps of a run, and its counts
+
+module _ (text : Words) (graph : Graph) (entry : ℕ) (s0 : State) (n : ℕ) where
+  -- how often they complete each edge
+  abbrev pub executions : ℕ → ℕ
+  executions e = times (walk text graph entry s0 n) e
+
+  -- the number of the entry's block
+  abbrev pub first_node : ℕ
+  first_node = node_number graph (node_of graph.blocks (Some entry))
+
+  -- the number of the node where the walk ends
+  abbrev pub last_node : ℕ
+  last_node = node_number graph (end_of_walk text graph entry s0 n)
+
+  -- the walk is one of the plain graph
+  abbrev pub IsPath : Type 0
+  IsPath = IsWalk (links_of graph) first_node (walk text graph entry s0 n) last_node
+
+  -- the counts that these are belong to a flow from the entry's block to the node where the walk ends
+  abbrev pub IsFlowOfRun : (ℕ → ℤ) → Type 0
+  IsFlowOfRun counts = IsFlow (links_of graph) first_node last_node counts
+
+  -- how often each edge is completed is such a flow
+  abbrev pub AreFlows : Type 0
+  AreFlows = IsFlowOfRun (λ e. pos (executions e))
+
+  -- Where some edges determine the counts, the run's own counts on them give all of them: of the flows from the
+  -- entry's block to where the walk ends, only the run's own has them.
+  abbrev pub AreEnough : Type 0
+  AreEnough =
+      (edges : EdgeSet) (flow : ℕ → ℤ) → Determines (links_of graph) edges → IsFlowOfRun flow
+      → AgreeOn (links_of graph) edges flow (λ e. pos (executions e))
+      → Agree (links_of graph) flow (λ e. pos (executions e))
+
+-- ---- what holds of them
+
+-- also once the run has ended
+abbrev pub WalksArePaths : Type 0
+WalksArePaths = OfEachRun IsPath
+
+abbrev pub ExecutionsAreFlows : Type 0
+ExecutionsAreFlows = OfEachRun AreFlows
+
+abbrev pub ExecutionsOfFilesAreFlows : Type 0
+ExecutionsOfFilesAreFlows = OfEachFile AreFlows
+
+abbrev pub CountsAreEnough : Type 0
+CountsAreEnough = OfEachFile AreEnough

@@ -1,0 +1,30 @@
+-- The walk of the run of a file without a fault.
+use Rattle.std.specs.Prelude.{◌≡◌, ℕ, List, None}
+use Rattle.eel_base.specs.CodeText.{Words}
+use Rattle.elf32_sparc.specs.FileFault.{fault}
+use Rattle.elf32_sparc.specs.Image.{text_of, image_of}
+use Rattle.v8_step.specs.State.{State}
+use Rattle.v8_step.specs.Valid.{AreBytes}
+use Rattle.v8_process.specs.Start.{start_of}
+use Rattle.cfg_blocks.specs.Blocks.{blocks_of}
+use Rattle.cfg_normal.specs.Graph.{Graph, graph_of}
+use Rattle.cfg_walk.specs.Matches.{FetchesOnly, MatchesRun}
+
+-- Where a file without a fault starts, a word can be fetched just where its text has it.
+abbrev pub OnlyTextIsFetched : Type 0
+OnlyTextIsFetched =
+    (file : List ℕ) (args : List (List ℕ)) (input : List ℕ) → fault file ≡ None → AreBytes file
+    → FetchesOnly (text_of file) (start_of file args input)
+
+-- the graph of a file's text, where these words lead besides
+abbrev pub graph_in : List ℕ → List ℕ → Graph
+graph_in file given = graph_of (blocks_of (text_of file) given)
+
+-- what holds of the walk of the run of each file, from its entry on
+abbrev pub OfEachFile : (Words → Graph → ℕ → State → ℕ → Type 0) → Type 0
+OfEachFile Holds =
+    (file : List ℕ) (args : List (List ℕ)) (input given : List ℕ) (n : ℕ) → fault file ≡ None → AreBytes file
+    → Holds (text_of file) (graph_in file given) (image_of file).entry (start_of file args input) n
+
+abbrev pub WalksOfFilesMatch : Type 0
+WalksOfFilesMatch = OfEachFile MatchesRun
