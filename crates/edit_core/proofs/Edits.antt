@@ -174,7 +174,7 @@ module _ (original : List ℕ) (limit : length original ≤ 2 ^ 26) (can : CanEd
         segments = refl;
         firsts = cut.firsts;
         blocks = refl;
-        edge_count = 
+        edge_count =
             let own = own_few (text_of original) (graph_in original) graph_is text_is.some in
             let taken = length-take (length (graph_in original).edges - length (graph_in original).blocks.firsts) (graph_in original).edges in
             let firsts = cut.firsts.few in

@@ -60,9 +60,11 @@ edges_rule : (graph : Graph) (es : List Edge) → Each (IsEdgeIn graph.blocks) e
 edges_rule graph [] each = refl
 edges_rule graph (e ∷ es) each =
     and_from _ _
-    (rw (le-leb (kind_number e.kind) 5 (kind_few e.kind),
-    le-leb (node_number graph e.from) (length graph.blocks.firsts) (node_few graph e.from each.0.from),
-    le-leb (node_number graph e.to) (length graph.blocks.firsts) (node_few graph e.to each.0.to)) refl)
+    (rw (
+      le-leb (kind_number e.kind) 5 (kind_few e.kind),
+      le-leb (node_number graph e.from) (length graph.blocks.firsts) (node_few graph e.from each.0.from),
+      le-leb (node_number graph e.to) (length graph.blocks.firsts) (node_few graph e.to each.0.to),
+    ) refl)
     (edges_rule graph es each.1)
 
 -- ---- words
@@ -145,8 +147,12 @@ module _ (graph : Graph) (p : Placement) (n : Notes) (is : IsNoted graph p n) wh
   segments_rule =
       let s = is.some in
       let l = is.low in
-      rw (le-leb 0 n.base (omega arith), lt-ltb 0 (4 * length p.code) (omega arith), le-leb (n.base + 4 * length p.code) (2 ^ 32) (omega arith),
-      le-leb (n.base + 4 * length p.code) editor_page (omega arith)) refl
+      rw (
+        le-leb 0 n.base (omega arith),
+        lt-ltb 0 (4 * length p.code) (omega arith),
+        le-leb (n.base + 4 * length p.code) (2 ^ 32) (omega arith),
+        le-leb (n.base + 4 * length p.code) editor_page (omega arith),
+      ) refl
 
   pub are_notes : AreNotes n
   are_notes =
@@ -175,6 +181,7 @@ module _ (graph : Graph) (p : Placement) (n : Notes) (is : IsNoted graph p n) wh
         range_count = omega (arith, places, text.few);
         ranges = rw (is.segments, is.ranges, is.blocks) (ranges_rule nodes (record { start = n.base; length = 4 * length p.code }) (record { start = editor_page; length = page_size } ∷ []) 0 n.base (n.base + 4 * length p.code) p.ranges is.ascend is.whole (omega arith) (omega arith) (omega arith));
       }
+
   pub are_words : AreWords n
   are_words =
       let text = is.is_text in
@@ -195,9 +202,19 @@ module _ (graph : Graph) (p : Placement) (n : Notes) (is : IsNoted graph p n) wh
       (each-append Fits (numbers ++ pages ++ firsts ++ links) marks
       (each-append Fits (numbers ++ pages ++ firsts) links
       (each-append Fits (numbers ++ pages) firsts
-      (each-append Fits numbers pages
-      (omega (arith, is.delta_to), (omega (arith, is.length_to), (omega (arith, is.tool), (omega (arith, is.start, text.below),
-      (omega (arith, is.words, text.few), (omega (arith, is.entry, nodes_few), (omega arith, (omega (arith, is.cells), tt))))))))
+      (each-append Fits numbers pages (
+        omega (arith, is.delta_to),
+        (
+          omega (arith, is.length_to),
+          (
+            omega (arith, is.tool),
+            (
+              omega (arith, is.start, text.below),
+              (omega (arith, is.words, text.few), (omega (arith, is.entry, nodes_few), (omega arith, (omega (arith, is.cells), tt)))),
+            ),
+          ),
+        ),
+      )
       (omega arith, rw (is.segments) (omega arith, (omega arith, (omega arith, (omega arith, tt))))))
       (omega (arith, blocks, nodes_few), rw (is.blocks) first_words))
       (omega (arith, counts, is.edge_count), rw (is.edges) (rows_fit edge_words (map (note_edge graph) graph.edges) (edges_fit graph graph.edges nodes_few is.edges_in))))

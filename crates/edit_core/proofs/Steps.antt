@@ -7,7 +7,6 @@ use Rattle.elf32_sparc.specs.Image.{Program, image_of}
 use Rattle.elf32_sparc.proofs.Images.{accepted-program}
 use Rattle.cfg_normal.specs.Graph.{Graph}
 use Rattle.cfg_view.specs.declared.View.{View}
-
 use Rattle.layout.specs.declared.items.Placed.{Placed}
 use Rattle.layout.specs.Laid.{IsLaid, long_bytes}
 use Rattle.image_code.specs.Made.{piece_list}

@@ -56,8 +56,14 @@ fn note_segments(alloc: Global, base: Addr, code: &[u32]) -> Result<Vec<NoteSegm
     ensures { IfOk result (λ v. map segment_seen v.items ≡ segments_noted base.0 code.now) }
 {
     let segments = vec![in alloc;
-        NoteSegment { start: base.0, length: 4 * code.len() as u32 },
-        NoteSegment { start: EDITOR_PAGE.0, length: PAGE_SIZE },
+        NoteSegment {
+            start: base.0,
+            length: 4 * code.len() as u32
+        },
+        NoteSegment {
+            start: EDITOR_PAGE.0,
+            length: PAGE_SIZE
+        },
     ]?;
     Ok(segments)
 }

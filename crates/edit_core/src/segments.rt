@@ -21,11 +21,7 @@ pub(crate) const EDITOR_PAGE: Addr = Addr(0xffff_f000);
 pub(crate) const PAGE_SIZE: u32 = 4096;
 
 /// New code, which can be executed and not written.
-pub(crate) fn code_segment(
-    alloc: Global,
-    base: Addr,
-    code: &[u32],
-) -> Result<NewSegment, NoMemory>
+pub(crate) fn code_segment(alloc: Global, base: Addr, code: &[u32]) -> Result<NewSegment, NoMemory>
     requires { 4 * length code.now ≤ 2 ^ 31 }
     ensures segment { IfOk result (λ s. segment_seen s ≡ code_at base.0 code.now) }
     ensures words { OnOk result (All (λ word. word < 2 ^ 32) code.now) }

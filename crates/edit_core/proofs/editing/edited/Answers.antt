@@ -35,6 +35,17 @@ returns c =
       place = _;
       code = code;
       is = c.in_ok-file.ensures
-        ∙ rw (c.in_ok-code_segment.ensures.segment, c.in_ok-page_segment.ensures, c.deref-3.ensures.value, c.in_ok-notes-2.ensures, c.in_ok-notes.ensures, c.deref-2.ensures.value, c.base.ensures.address,
-        c.image_of-entry.ensures, c.deref.ensures.value, c.entry.ensures.word, c.requires.view.0) refl;
+          ∙ rw (
+            c.in_ok-code_segment.ensures.segment,
+            c.in_ok-page_segment.ensures,
+            c.deref-3.ensures.value,
+            c.in_ok-notes-2.ensures,
+            c.in_ok-notes.ensures,
+            c.deref-2.ensures.value,
+            c.base.ensures.address,
+            c.image_of-entry.ensures,
+            c.deref.ensures.value,
+            c.entry.ensures.word,
+            c.requires.view.0,
+          ) refl;
     }
