@@ -100,7 +100,7 @@ can_load s t end two =
       memory = omega arith;
     }
 
-words_are_bytes : (words : List ℕ) → AreBytes (words_bytes words)
+pub words_are_bytes : (words : List ℕ) → AreBytes (words_bytes words)
 unfolding words_bytes
 words_are_bytes words = flat_map-bytes (big_bytes 4) (high_first-bytes 4) words
 

@@ -39,7 +39,7 @@ all_one : (P : Mapping → Type 0) (x : Mapping) → P x → All P (x ∷ [])
 all_one P x px zero d l = px
 all_one P x px (suc k) d l = absurd (omega arith)
 
-word_here : (original : List ℕ) (word : ℕ) → word < length (text_of original).words → word_at (text_of original) (address_of (text_of original) word) ≡ Some word
+pub word_here : (original : List ℕ) (word : ℕ) → word < length (text_of original).words → word_at (text_of original) (address_of (text_of original) word) ≡ Some word
 word_here original word l =
     word_at-address (text_of original) word ∙ ap (λ (b : Bool). cond b (Some word) None) (lt-ltb word (length (text_of original).words) l)
 

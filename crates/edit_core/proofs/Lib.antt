@@ -11,3 +11,7 @@ pub mod Mapped
 pub mod Faithful
 pub mod Room
 pub mod Steps
+pub mod Owned
+pub mod CodeFetched
+pub mod Starts
+pub mod RunsAlike

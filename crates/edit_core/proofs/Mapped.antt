@@ -39,14 +39,14 @@ none_covers file (h ∷ hs) n address above =
     (lt-leb (address + 4) (h.p_vaddr + h.p_memsz) below)
     ∙ none_covers file hs (max n (h.p_vaddr + h.p_memsz)) address above
 
-original_covers : (original : List ℕ) (address : ℕ) → (image_of original).base ≤ address → find (covers address) (map kept (mappings original)) ≡ None
+pub original_covers : (original : List ℕ) (address : ℕ) → (image_of original).base ≤ address → find (covers address) (map kept (mappings original)) ≡ None
 unfolding mappings image_of
 original_covers original address above =
     let end = base_above original in
     none_covers original (loadable (program_headers original)) 0 address (omega arith)
 
 -- a word among words as bytes
-word_among : (words : List ℕ) (word : ℕ) → word < length words → All (λ w. w < 2 ^ 32) words → big_number 4 (drop (4 * word) (words_bytes words)) ≡ slice_index words word
+pub word_among : (words : List ℕ) (word : ℕ) → word < length words → All (λ w. w < 2 ^ 32) words → big_number 4 (drop (4 * word) (words_bytes words)) ≡ slice_index words word
 unfolding words_bytes
 word_among [] word inside all = absurd (omega arith)
 word_among (w ∷ words) zero inside all = big_number-reads_back 4 w (words_bytes words) (all zero w (omega arith))

@@ -2,7 +2,7 @@
 ghost use Rattle.std.specs.Prelude.{◌≡◌, ◌<◌, ◌≤◌, ◌^◌, length, map, slice_index, IfErr, IfOk, OnOk};
 ghost use Rattle.edit_core.specs.Taken.{CanEdit, EditRefuses};
 ghost use Rattle.edit_core.specs.Faithful.{IsFaithful};
-ghost use Rattle.edit_core.specs.Written.{EditsRunAlike, IsViewOf, IsWritten};
+ghost use Rattle.edit_core.specs.Written.{IsViewOf, IsWritten};
 
 use crate::building::new_code;
 use crate::noting::notes;
@@ -19,7 +19,7 @@ pub fn edit_bytes(alloc: Global, bytes: &[u8]) -> Result<Vec<u8>, EditFault>
     requires { length bytes.now ≤ 2 ^ 26 }
     ensures taken { OnOk result (CanEdit bytes.now) }
     ensures refused { IfErr result (EditRefuses bytes.now) }
-    ensures faithful { EditsRunAlike → IfOk result (λ file. IsFaithful bytes.now file.items) }
+    ensures faithful { IfOk result (λ file. IsFaithful bytes.now file.items) }
 {
     let view = look(alloc, bytes, &[])?;
     let text = view.image.text();

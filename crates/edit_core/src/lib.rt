@@ -2,6 +2,7 @@
 #![tactic(auto)]
 
 ghost use Rattle.edit_core.specs.Whole.{EditsAnswer, KeepsAll};
+ghost use Rattle.edit_core.specs.Written.{EditsRunAlike};
 
 mod building;
 mod editing;
@@ -21,4 +22,9 @@ pub fn all_is_kept()
 /// the written file stands meanwhile.
 pub fn edits_answer()
     ensures { EditsAnswer }
+{}
+
+/// Whatever is written as an edit of an original runs as that does, with the same arguments and input.
+pub fn edits_run_alike()
+    ensures { EditsRunAlike }
 {}

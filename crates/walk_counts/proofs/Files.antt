@@ -24,12 +24,12 @@ use Rattle.cfg_walk.proofs.Cut.{cut}
 use Rattle.walk_counts.proofs.Paths.{executions_are_flows, walks_are_paths}
 
 -- the entry is the address of a word
-record IsEntry (text : Words) (entry : ℕ) : Type 0 where
-  text_is : IsText text
-  within : word_number text entry < length text.words
-  address : entry ≡ address_of text (word_number text entry)
+pub record IsEntry (text : Words) (entry : ℕ) : Type 0 where
+  pub text_is : IsText text
+  pub within : word_number text entry < length text.words
+  pub address : entry ≡ address_of text (word_number text entry)
 
-entry_is : (file : List ℕ) → fault file ≡ None → IsEntry (text_of file) (e_entry file)
+pub entry_is : (file : List ℕ) → fault file ≡ None → IsEntry (text_of file) (e_entry file)
 unfolding image_of
 entry_is file sound =
     let text : HasText file = text_found file (accepted file sound) in
@@ -44,7 +44,7 @@ entry_is file sound =
       address = omega (arith, start, starts, aligned);
     }
 
-begins : (file : List ℕ) (args : List (List ℕ)) (input : List ℕ) → IsEntry (text_of file) (e_entry file)
+pub begins : (file : List ℕ) (args : List (List ℕ)) (input : List ℕ) → IsEntry (text_of file) (e_entry file)
     → BeginsAt (text_of file) (word_number (text_of file) (e_entry file)) (start_of file args input)
 unfolding start_of
 begins file args input entry =

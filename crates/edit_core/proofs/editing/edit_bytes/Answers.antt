@@ -4,6 +4,7 @@ use Rattle.cfg_view.specs.declared.View.{View}
 use Rattle.edit_core.specs.Faithful.{IsFaithful}
 use Rattle.edit_core.proofs.Views.{can_edit, view_image, view_graph}
 use Rattle.edit_core.proofs.Faithful.{faithful}
+use Rattle.edit_core.proofs.RunsAlike.{edits_run_alike}
 use Rattle.edit_core.proofs.editing.edit_bytes.Goals as goal
 
 pub returns-in-Some-clause-refused : goal.returns-in-Some-clause-refused
@@ -38,10 +39,10 @@ returns-clause-taken c =
     (rw (← c.text-text.ensures, ← c.bound-needed.ensures, ← c.room.ensures, ← c.from-had.ensures) c.if-had-needed.false)
 
 pub returns-clause-faithful : goal.returns-clause-faithful
-returns-clause-faithful c = λ alike.
+returns-clause-faithful c =
     let written = c.in_ok-file.ensures in
     subst (IsFaithful c.args.bytes.now) (sym written.is)
-    (faithful alike c.args.bytes.now c.requires
+    (faithful edits_run_alike c.args.bytes.now c.requires
     (λ k d below. let same = get_or_default_zero c.args.bytes.now k d below in let fits = c.type_inv.bytes k in omega arith)
     (can_edit c.args.bytes.now c.in_ok-view.view c.in_ok-view.ensures.view c.in_ok-view.ensures.fault (rw (← c.text-text.ensures) c.in_default.ensures)
     (rw (← c.text-text.ensures, ← c.bound-needed.ensures, ← c.room.ensures, ← c.from-had.ensures) c.if-had-needed.false))

@@ -1,0 +1,88 @@
+-- The code of a written file is fetched before its first step.
+use Rattle.std.proofs.Common.{◌≡◌, ℕ, ◌+◌, ◌-◌, ◌*◌, ◌%◌, ◌^◌, ◌<◌, ◌≤◌, Bool, true, false, not, ◌&&◌, cond, nat_eq, List, [], ◌∷◌, ◌++◌, length, drop, map, replicate, slice_index, slice_get, Some, refl, sym, ap, ◌∙◌, subst, arith, All}
+use Rattle.std.specs.List.{list_any}
+use Rattle.std.specs.Int.Bits.{and_zero_r}
+use Rattle.std.proofs.lemmas.Nat.{and_assoc}
+use Rattle.std.proofs.lemmas.Bool.{and_left, or_from}
+use Rattle.std.proofs.lemmas.List.{append-nil}
+use Rattle.std.proofs.lemmas.Option.{slice_get_within, get_or_from_slice_get}
+use Rattle.byteorder.specs.Endian.{big_number}
+use Rattle.elf32_sparc.specs.Header.{has_flag}
+use Rattle.elf32_sparc.specs.Mapping.{Mapping, mappings}
+use Rattle.elf32_sparc.specs.Image.{image_of}
+use Rattle.elf32_sparc.proofs.Images.{accepted-program}
+use Rattle.elf32_write.specs.Bytes.{words_bytes}
+use Rattle.elf32_write.specs.Headers.{not_executable}
+use Rattle.elf32_write.specs.Laws.{is_code, kept, mapping_added}
+use Rattle.elf32_write.proofs.WordsBytes.{length-words_bytes}
+use Rattle.v8_memory.specs.Regions as regions
+use Rattle.v8_memory.specs.Regions.{fetch_of}
+use Rattle.v8_memory.specs.Segments.{region_of}
+use Rattle.v8_process.specs.Start.{start_memory}
+use Rattle.v8_process.specs.Fetched.{IsFirstCode}
+use Rattle.v8_process.proofs.Fetched.{code_is_fetched}
+use Rattle.layout.specs.Laid.{Placement}
+use Rattle.layout.specs.Running.{HasCode}
+use Rattle.image_code.proofs.Cases.{fetch_is}
+use Rattle.edit_core.specs.Written.{IsEdit, base_of, code_segment, page_segment}
+use Rattle.edit_core.proofs.Edits.{words_are_bytes}
+use Rattle.edit_core.proofs.Mapped.{word_among}
+
+-- ---- nothing that is kept is code
+
+-- flags without PF_X don't have it
+not_executable-flag : (flags : ℕ) → has_flag 1 (not_executable flags) ≡ false
+not_executable-flag flags = ap (λ (n : ℕ). nat_eq n 1) (and_assoc 1 flags 0xfffffffe ∙ and_zero_r flags)
+
+kept-no_code : (m : Mapping) → regions.is_code (region_of (kept m)) ≡ false
+kept-no_code m = go (is_code m) refl
+  where
+    go : (code : Bool) → is_code m ≡ code
+        → (has_flag 1 (cond code (not_executable m.flags) m.flags)
+        && not (has_flag 2 (cond code (not_executable m.flags) m.flags))) ≡ false
+    go true is =
+        and_left (has_flag 1 (not_executable m.flags)) (not (has_flag 2 (not_executable m.flags)))
+        (not_executable-flag m.flags)
+    go false is = is
+
+none_kept : (ms : List Mapping) → list_any (λ m. regions.is_code (region_of m)) (map kept ms) ≡ false
+none_kept [] = refl
+none_kept (m ∷ ms) =
+    or_from (regions.is_code (region_of (kept m)))
+    (list_any (λ z. regions.is_code (region_of z)) (map kept ms)) (kept-no_code m) (none_kept ms)
+
+-- ---- the code
+
+-- the bytes of its region are those of the words
+whole_region : (words : List ℕ) → words_bytes words ++ replicate (4 * length words - length (words_bytes words)) 0 ≡ words_bytes words
+whole_region words =
+    let size = length-words_bytes words in
+    let none : 4 * length words - length (words_bytes words) ≡ 0 = omega arith in
+    ap (λ (n : ℕ). words_bytes words ++ replicate n 0) none ∙ append-nil (words_bytes words)
+
+module _ (original : List ℕ) (p : Placement) (place : ℕ → ℕ → ℕ) (file : List ℕ) (is : IsEdit original p place file)
+    (texts : List (List ℕ)) where
+  first_code : IsFirstCode file (mapping_added (code_segment original p))
+  first_code = record {
+    before = map kept (mappings original);
+    after = mapping_added page_segment ∷ [];
+    mapped = is.mapped;
+    none_before = none_kept (mappings original);
+    executable = refl;
+  }
+
+  -- each word of the code is fetched at its place
+  fetched : (n : ℕ) → n < length p.code
+      → fetch_of (start_memory file texts) (base_of original + 4 * n) ≡ Some (slice_index p.code n)
+  fetched n inside =
+      let base = (accepted-program original is.taken.reads.sound).base in
+      code_is_fetched file texts (mapping_added (code_segment original p)) first_code (omega (arith, base)) (words_are_bytes p.code)
+      n (omega (arith, inside))
+      ∙ ap (λ bytes. Some (big_number 4 (drop (4 * n) bytes))) (whole_region p.code)
+      ∙ ap (λ w. Some w) (word_among p.code n inside is.code.words)
+
+  pub has_code : HasCode (base_of original) p.code (start_memory file texts)
+  has_code n word at =
+      let inside = slice_get_within p.code n word at in
+      sym (fetch_is (start_memory file texts) (base_of original + 4 * n)) ∙ fetched n inside
+      ∙ ap (λ w. Some w) (get_or_from_slice_get p.code n word 0 at)

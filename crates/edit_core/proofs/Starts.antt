@@ -1,0 +1,67 @@
+-- An original and its written file start in valid states, which are the same but for the pages and where they stand.
+use Rattle.std.proofs.Common.{◌≡◌, ℕ, ◌+◌, ◌*◌, ◌^◌, ◌<◌, ◌≤◌, Bool, true, false, cond, nat_eq, List, [], ◌∷◌, ◌++◌, length, map, None, refl, ap, sym, ◌∙◌, subst, arith}
+use Rattle.std.specs.Prelude.{bit_and}
+use Rattle.std.proofs.lemmas.Nat.{and_assoc}
+use Rattle.elf32_sparc.specs.Header.{has_flag, program_headers}
+use Rattle.elf32_sparc.specs.FileFault.{has_bytes_outside}
+use Rattle.elf32_sparc.specs.Mapping.{Mapping, mappings}
+use Rattle.elf32_sparc.proofs.Accepted.{accepted}
+use Rattle.elf32_sparc.proofs.Loadable.{loads_inside}
+use Rattle.elf32_write.specs.Headers.{not_executable}
+use Rattle.elf32_write.specs.Laws.{is_code, kept, mapping_added}
+use Rattle.v8_memory.specs.Spans.{IsSameOutside}
+use Rattle.v8_step.specs.Valid.{AreBytes, IsValid}
+use Rattle.v8_step.specs.Visits.{pages_of}
+use Rattle.v8_process.specs.Alike.{AreSameMappings, IsSameMapping}
+use Rattle.v8_process.specs.Arguments.{AreArguments}
+use Rattle.v8_process.specs.Start.{start_memory, start_of}
+use Rattle.v8_process.proofs.Alike.{starts_alike}
+use Rattle.v8_process.proofs.Arguments.{arguments_fit}
+use Rattle.v8_process.proofs.Valid.{mappings_have_room, starts_valid}
+use Rattle.layout.specs.Laid.{Placement}
+use Rattle.edit_core.specs.Written.{IsEdit, added, notes_on}
+
+-- ---- valid states
+
+-- a file of bytes, none of whose entries has bytes outside it
+inside_valid : (file : List ℕ) → AreBytes file
+    → has_bytes_outside (length file) (program_headers file) ≡ false → (args : List (List ℕ)) (input : List ℕ)
+    → AreArguments args → AreBytes input → IsValid (start_of file args input)
+inside_valid file bytes inside args input given read =
+    starts_valid file args input bytes given.bytes read (mappings_have_room file inside) (arguments_fit args given)
+
+-- ---- memory
+
+-- a flag other than PF_X stays, where the text loses its leave to be executed
+flag_kept : (flag flags : ℕ) (code : Bool) → bit_and 0xfffffffe flag ≡ flag
+    → has_flag flag flags ≡ has_flag flag (cond code (not_executable flags) flags)
+flag_kept flag flags true other =
+    ap (λ n. nat_eq n flag) (sym (and_assoc flag flags 0xfffffffe ∙ ap (bit_and flags) other))
+flag_kept flag flags false other = refl
+
+same_kept : (m : Mapping) → IsSameMapping m (kept m)
+same_kept m = record {
+  start = refl;
+  length = refl;
+  readable = flag_kept 4 m.flags (is_code m) refl;
+  writable = flag_kept 2 m.flags (is_code m) refl;
+  first = refl;
+}
+
+all_kept : (ms : List Mapping) → AreSameMappings ms (map kept ms)
+all_kept [] = tt
+all_kept (m ∷ ms) = (same_kept m, all_kept ms)
+
+module _ (original : List ℕ) (p : Placement) (place : ℕ → ℕ → ℕ) (file : List ℕ) (is : IsEdit original p place file) where
+  pub memory_alike : (texts : List (List ℕ)) → IsSameOutside (pages_of (notes_on original p)) (start_memory original texts) (start_memory file texts)
+  memory_alike texts =
+      starts_alike original file (map kept (mappings original)) (map mapping_added (added original p)) is.mapped
+      (all_kept (mappings original)) texts
+
+  module _ (args : List (List ℕ)) (input : List ℕ) (given : AreArguments args) (read : AreBytes input) where
+    pub original_valid : IsValid (start_of original args input)
+    original_valid =
+        inside_valid original is.given (accepted original is.taken.reads.sound).segment_file args input given read
+
+    pub file_valid : IsValid (start_of file args input)
+    file_valid = inside_valid file is.bytes (loads_inside file is.loads) args input given read

@@ -1,0 +1,5 @@
+use Rattle.edit_core.proofs.RunsAlike.{edits_run_alike}
+use Rattle.edit_core.proofs.edits_run_alike.Goals as goal
+
+pub returns : goal.returns
+returns c = edits_run_alike
