@@ -1,7 +1,7 @@
 -- What the parts of a machine's step answer, and what they leave.
-use Rattle.std.specs.Prelude.{◌≡◌, ℕ, ◌-◌, Bool, true, false, List, [], take, Option, Some, None, Result, Ok, Err, unwrap_or, ◌&&◌, ◌==◌, if◌then◌else◌}
+use Rattle.std.specs.Prelude.{◌≡◌, ◌≢◌, ℕ, ◌-◌, Bool, true, false, List, [], take, Option, Some, None, Result, Ok, Err, unwrap_or, ◌&&◌, ◌==◌, if◌then◌else◌}
 use Rattle.std.specs.Int.{Width, w8, w16, from_be_bytes}
-use Rattle.eel_base.specs.Outside.{appended, TookPart}
+use Rattle.eel_base.specs.Outside.{appended, TookPart, Rose}
 use Rattle.v8_decode.specs.declared.LoadKind.{LoadKind}
 use Rattle.v8_decode.specs.declared.LoadKind.TheVariants as loads
 use Rattle.v8_decode.specs.declared.Instr.{Instr}
@@ -78,6 +78,10 @@ trap_puts s number descriptor = if number == call_system then written_out s desc
 abbrev pub Puts : {A E : Type 0} → Option (List ℕ) → Option (List ℕ) → List ℕ → Result A E → Type 0
 Puts old new bytes (Ok x) = new ≡ appended old bytes
 Puts old new bytes (Err e) = TookPart old new bytes
+
+-- a sink that was to take some bytes failed: its count of faults rose
+abbrev pub FailsAt : List ℕ → ℕ → ℕ → Type 0
+FailsAt bytes before now = (bytes ≢ []) × Rose before now
 
 -- a step was made and the run goes on, or has ended, or a sink failed and no step was made
 abbrev pub Steps : State → State → StepOut → Type 0

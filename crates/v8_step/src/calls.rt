@@ -1,8 +1,7 @@
 //! Software traps and system calls.
 ghost use Rattle.std.specs.Prelude.{◌≡◌, ◌⊎◌, ◌≤◌, ◌<◌, OnOk, OnErr};
-ghost use Rattle.eel_base.specs.Outside.{Rose};
 ghost use Rattle.v8_step.specs.Calls.{answered, succeeds, refuses, read_call, write_call, heap_call, system_step, trap_step};
-ghost use Rattle.v8_step.specs.Machine.{Puts, call_puts, trap_puts};
+ghost use Rattle.v8_step.specs.Machine.{FailsAt, Puts, call_puts, trap_puts};
 ghost use Rattle.v8_step.specs.Step.{written_out};
 
 use crate::Ending;
@@ -38,7 +37,8 @@ impl Machine {
         ensures going { OnErr result ((trap_step self.old number).ending ≡ self.old.ending) }
         ensures out { Puts (O.taken out.old) (O.taken out.new) (trap_puts self.old number 1) result }
         ensures err { Puts (E.taken err.old) (E.taken err.new) (trap_puts self.old number 2) result }
-        ensures cause { OnErr result (Rose (O.faults out.old) (O.faults out.new) ⊎ Rose (E.faults err.old) (E.faults err.new)) }
+        ensures cause { OnErr result (FailsAt (trap_puts self.old number 1) (O.faults out.old) (O.faults out.new)
+            ⊎ FailsAt (trap_puts self.old number 2) (E.faults err.old) (E.faults err.new)) }
         ensures out_faults { O.faults out.old ≤ O.faults out.new }
         ensures err_faults { E.faults err.old ≤ E.faults err.new }
     {
@@ -57,7 +57,8 @@ impl Machine {
         ensures going { OnErr result ((system_step self.old).ending ≡ self.old.ending) }
         ensures out { Puts (O.taken out.old) (O.taken out.new) (written_out self.old 1) result }
         ensures err { Puts (E.taken err.old) (E.taken err.new) (written_out self.old 2) result }
-        ensures cause { OnErr result (Rose (O.faults out.old) (O.faults out.new) ⊎ Rose (E.faults err.old) (E.faults err.new)) }
+        ensures cause { OnErr result (FailsAt (written_out self.old 1) (O.faults out.old) (O.faults out.new)
+            ⊎ FailsAt (written_out self.old 2) (E.faults err.old) (E.faults err.new)) }
         ensures out_faults { O.faults out.old ≤ O.faults out.new }
         ensures err_faults { E.faults err.old ≤ E.faults err.new }
     {
@@ -93,6 +94,7 @@ impl Machine {
     }
 
     /// Writes to descriptor 1 or 2. After a failure the machine is as before, and the sink took a first part.
+    #[tactic(auto, using(crate::proofs::Quiet::appended_nothing))]
     fn write_output<O: Sink, E: Sink>(
         &mut self,
         descriptor: u32,
@@ -106,7 +108,9 @@ impl Machine {
         ensures going { OnErr result ((write_call self.old descriptor address count).ending ≡ self.old.ending) }
         ensures out { Puts (O.taken out.old) (O.taken out.new) (call_puts self.old.memory descriptor address count 1) result }
         ensures err { Puts (E.taken err.old) (E.taken err.new) (call_puts self.old.memory descriptor address count 2) result }
-        ensures cause { OnErr result (Rose (O.faults out.old) (O.faults out.new) ⊎ Rose (E.faults err.old) (E.faults err.new)) }
+        ensures cause { OnErr result (
+            FailsAt (call_puts self.old.memory descriptor address count 1) (O.faults out.old) (O.faults out.new)
+            ⊎ FailsAt (call_puts self.old.memory descriptor address count 2) (E.faults err.old) (E.faults err.new)) }
         ensures out_faults { O.faults out.old ≤ O.faults out.new }
         ensures err_faults { E.faults err.old ≤ E.faults err.new }
     {
@@ -119,9 +123,9 @@ impl Machine {
             return Ok(());
         };
         if descriptor == 1 {
-            put_all(out, bytes)?;
+            put_out(out, bytes)?;
         } else {
-            put_all(err, bytes)?;
+            put_out(err, bytes)?;
         }
         self.succeed(count);
         Ok(())
@@ -158,4 +162,16 @@ impl Machine {
         self.codes.c = carry;
         self.go_on();
     }
+}
+
+/// Puts the bytes out, and asks the sink for nothing where there are none. After a failure it took a first part.
+fn put_out<S: Sink>(sink: &mut S, bytes: &[u8]) -> Result<(), Failed>
+    ensures taken { Puts (S.taken sink.old) (S.taken sink.new) bytes.now result }
+    ensures cause { OnErr result (FailsAt bytes.now (S.faults sink.old) (S.faults sink.new)) }
+    ensures faults { S.faults sink.old ≤ S.faults sink.new }
+{
+    if bytes.is_empty() {
+        return Ok(());
+    }
+    put_all(sink, bytes)
 }

@@ -1,10 +1,9 @@
 //! One step of the machine.
 ghost use Rattle.std.specs.Prelude.{◌≡◌, ◌⊎◌, ◌≤◌, IsTrue, Some, None, OnOk, OnErr};
 ghost use Rattle.v8_step.specs.declared.Ending.{Ending};
-ghost use Rattle.eel_base.specs.Outside.{Rose};
 ghost use Rattle.v8_decode.specs.Ranges.{has_even_pair};
 ghost use Rattle.v8_alu.specs.Alu.{alu_has_form};
-ghost use Rattle.v8_step.specs.Machine.{Puts, Steps, Takes, quiet_act};
+ghost use Rattle.v8_step.specs.Machine.{FailsAt, Puts, Steps, Takes, quiet_act};
 ghost use Rattle.v8_step.specs.Step.{act, alu_step, puts_by, puts_of, step_of};
 
 use crate::Ending;
@@ -38,7 +37,8 @@ pub fn step<O: Sink, E: Sink>(m: &mut Machine, out: &mut O, err: &mut E) -> Step
     ensures ends { (ending : Ending) → (step_of m.old).ending ≡ Some ending → result ≡ StepOut.Ended ending }
     ensures out { Takes (O.taken out.old) (O.taken out.new) (puts_of m.old 1) result }
     ensures err { Takes (E.taken err.old) (E.taken err.new) (puts_of m.old 2) result }
-    ensures cause { result ≡ StepOut.SinkFault → Rose (O.faults out.old) (O.faults out.new) ⊎ Rose (E.faults err.old) (E.faults err.new) }
+    ensures cause { result ≡ StepOut.SinkFault → FailsAt (puts_of m.old 1) (O.faults out.old) (O.faults out.new)
+        ⊎ FailsAt (puts_of m.old 2) (E.faults err.old) (E.faults err.new) }
     ensures out_faults { O.faults out.old ≤ O.faults out.new }
     ensures err_faults { E.faults err.old ≤ E.faults err.new }
 {
@@ -65,7 +65,8 @@ impl Machine {
         ensures going { OnErr result ((step_of self.old).ending ≡ None) }
         ensures out { Puts (O.taken out.old) (O.taken out.new) (puts_of self.old 1) result }
         ensures err { Puts (E.taken err.old) (E.taken err.new) (puts_of self.old 2) result }
-        ensures cause { OnErr result (Rose (O.faults out.old) (O.faults out.new) ⊎ Rose (E.faults err.old) (E.faults err.new)) }
+        ensures cause { OnErr result (FailsAt (puts_of self.old 1) (O.faults out.old) (O.faults out.new)
+            ⊎ FailsAt (puts_of self.old 2) (E.faults err.old) (E.faults err.new)) }
         ensures out_faults { O.faults out.old ≤ O.faults out.new }
         ensures err_faults { E.faults err.old ≤ E.faults err.new }
     {
@@ -92,7 +93,8 @@ impl Machine {
         ensures going { OnErr result ((act self.old instr).ending ≡ self.old.ending) }
         ensures out { Puts (O.taken out.old) (O.taken out.new) (puts_by self.old instr 1) result }
         ensures err { Puts (E.taken err.old) (E.taken err.new) (puts_by self.old instr 2) result }
-        ensures cause { OnErr result (Rose (O.faults out.old) (O.faults out.new) ⊎ Rose (E.faults err.old) (E.faults err.new)) }
+        ensures cause { OnErr result (FailsAt (puts_by self.old instr 1) (O.faults out.old) (O.faults out.new)
+            ⊎ FailsAt (puts_by self.old instr 2) (E.faults err.old) (E.faults err.new)) }
         ensures out_faults { O.faults out.old ≤ O.faults out.new }
         ensures err_faults { E.faults err.old ≤ E.faults err.new }
     {
@@ -121,7 +123,9 @@ impl Machine {
         ensures going { OnErr result ((act self.old (Instr.Ticc cond rs1 op2)).ending ≡ self.old.ending) }
         ensures out { Puts (O.taken out.old) (O.taken out.new) (puts_by self.old (Instr.Ticc cond rs1 op2) 1) result }
         ensures err { Puts (E.taken err.old) (E.taken err.new) (puts_by self.old (Instr.Ticc cond rs1 op2) 2) result }
-        ensures cause { OnErr result (Rose (O.faults out.old) (O.faults out.new) ⊎ Rose (E.faults err.old) (E.faults err.new)) }
+        ensures cause { OnErr result (
+            FailsAt (puts_by self.old (Instr.Ticc cond rs1 op2) 1) (O.faults out.old) (O.faults out.new)
+            ⊎ FailsAt (puts_by self.old (Instr.Ticc cond rs1 op2) 2) (E.faults err.old) (E.faults err.new)) }
         ensures out_faults { O.faults out.old ≤ O.faults out.new }
         ensures err_faults { E.faults err.old ≤ E.faults err.new }
     {
