@@ -10,7 +10,7 @@ use Rattle.std.proofs.lemmas.List.FromFn.{length-map-range_with_len, get_or-map-
 use Rattle.eel_base.specs.CodeText.{Words, IsText, word_at}
 use Rattle.eel_base.specs.declared.numbers.Addr.{Addr}
 use Rattle.code_runs.proofs.Leads.{split_below}
-use Rattle.addr_translate.specs.Lookup.{TableAt, table_word, second_entry, third_entry, second_block, third_block, looked_up, IsBlock}
+use Rattle.addr_translate.specs.Lookup.{table_word, second_entry, third_entry, second_block, third_block, IsBlock}
 use Rattle.addr_translate.specs.Table.{first_part, parts, first_page, pages, blocks, size_of, target_of, target_for, IsTableOf}
 use Rattle.addr_translate.specs.Entries.{is_among, second_for, third_for, entry_in, entry, table_words, table_bytes, built}
 
@@ -175,7 +175,8 @@ module _ (t : Words) (targets : List Addr) (foreign : Addr) (base : ℕ) (text :
           else target_of targets foreign (word_at t (4096 * (first_page t + (block - 3 - parts t)) + 4 * place))) e
 
   -- ---- the three levels
-  second_is : (a : ℕ) → a < 2 ^ 32 → second_block (built t targets foreign base) a ≡ base + 4096 * second_for t (a / 2 ^ 22)
+  second_is : (a : ℕ) → a < 2 ^ 32
+      → second_block (built t targets foreign base) a ≡ base + 4096 * second_for t (a / 2 ^ 22)
   second_is a h = in_block 0 (a / 2 ^ 22) (base + 4 * (a / 2 ^ 22)) (omega arith) (omega arith) (omega arith)
 
   -- the block of the third level for an address, and what it has

@@ -1,8 +1,7 @@
 -- The translator, word by word.
-use Rattle.std.proofs.Common.{◌≡◌, ◌≢◌, ℕ, ◌+◌, ◌*◌, ◌/◌, ◌%◌, ◌^◌, ◌<◌, ◌≤◌, inl, true, false, Ok, List, length, map, refl, ap, sym, ◌∙◌, subst, arith, bit_and}
+use Rattle.std.proofs.Common.{◌≡◌, ◌≢◌, ℕ, ◌+◌, ◌*◌, ◌/◌, ◌%◌, ◌^◌, ◌<◌, ◌≤◌, inl, true, Ok, List, length, map, refl, ap, sym, ◌∙◌, subst, arith, bit_and}
 use Rattle.std.specs.Prelude.{◌==◌, pos}
 use Rattle.std.proofs.lemmas.Nat.Bits.{and_high}
-use Rattle.v8_decode.specs.declared.Op2.{Op2}
 use Rattle.v8_decode.specs.declared.Op2.TheVariants.{Reg, Imm}
 use Rattle.v8_decode.specs.declared.AluOp.TheVariants as ops
 use Rattle.v8_decode.specs.declared.Instr.{Instr}
@@ -10,7 +9,7 @@ use Rattle.v8_decode.specs.Words.{decode_of}
 use Rattle.v8_alu.specs.Alu.{alu_of}
 use Rattle.v8_alu.specs.Numbers.{wrapped}
 use Rattle.v8_memory.specs.Regions.{Memory, code_of}
-use Rattle.v8_step.specs.State.{State, register_of, operand_of, sum_of}
+use Rattle.v8_step.specs.State.{State, register_of}
 use Rattle.v8_step.proofs.ValidStates.{register_of-range}
 use Rattle.code_runs.specs.Page.{page_word, of_page}
 use Rattle.code_runs.specs.StoredWords.{memory_word, store_word, CanLoad, CanStore}
@@ -21,7 +20,7 @@ use Rattle.code_runs.proofs.Straight.{words_say}
 use Rattle.code_runs.proofs.LongJump.{says_at}
 use Rattle.code_runs.proofs.TwoRegisters.{block_rules}
 use Rattle.addr_translate.specs.Lookup.{TableAt, table_word, second_block, third_block, looked_up, IsBlock}
-use Rattle.addr_translate.specs.Translator.{translator, IsSecondWord, StandsAt, IsAboutToTranslate, Translates}
+use Rattle.addr_translate.specs.Translator.{translator, IsSecondWord, IsAboutToTranslate, Translates}
 
 -- ---- numbers
 masked : (y : ℕ) → bit_and y 0xffc ≡ 4 * (y / 4 % 1024)
@@ -128,24 +127,24 @@ translated base a b s x y t2 t3 v c stand aligned low r ex ey page e1 e2 e3 =
     (entry_sums s a b m i3 t3 e3.low e3.aligned) e3.loads e3.is
 
 -- a word of the table, after the store to the page
-entry_is : (m : Memory) (t : TableAt) (v block k : ℕ) → StandsAt m t
-    → ((z : ℕ) → (h : CanLoad m z) → h.region.size ≤ length h.region.bytes)
-    → t.base + length t.bytes ≤ 2 ^ 31 → IsBlock t block → k < 1024
-    → IsEntry (store_word m (page_word 1) v) (block + 4 * k) (table_word t (block + 4 * k))
-entry_is m t v block k stands whole below h low =
-    let from = h.from in
-    let to = h.to in
-    let aligned = h.aligned in
+entry_is : (words : List ℕ) (t : TableAt) (s : State) (v block k : ℕ) → IsAboutToTranslate words t s → IsBlock t block
+    → k < 1024 → IsEntry (store_word s.memory (page_word 1) v) (block + 4 * k) (table_word t (block + 4 * k))
+entry_is words t s v block k h at low =
+    let from = at.from in
+    let to = at.to in
+    let aligned = at.aligned in
+    let limit = h.table.below in
     let f : (block + 4 * k) % 4 ≡ 0 = omega arith in
     let g : t.base ≤ block + 4 * k = omega arith in
     let e : block + 4 * k + 4 ≤ t.base + length t.bytes = omega arith in
-    let c = stands.readable (block + 4 * k) g e f in
+    let c = h.stands.readable (block + 4 * k) g e f in
     record {
       low = omega arith;
       aligned = f;
-      loads = loads_stored m (block + 4 * k) (page_word 1) v c;
-      is = other_loaded m (block + 4 * k) (page_word 1) v c (whole (block + 4 * k) c) (inl (omega arith))
-          ∙ stands.same (block + 4 * k) g e f;
+      loads = loads_stored s.memory (block + 4 * k) (page_word 1) v c;
+      is = other_loaded s.memory (block + 4 * k) (page_word 1) v c
+          (whole_of s.memory (block + 4 * k) c.region h.valid.memory c.at) (inl (omega arith))
+          ∙ h.stands.same (block + 4 * k) g e f;
     }
 
 pub translates : (words : List ℕ) (base a b : ℕ) → 0 < a → a < 32 → 0 < b → b < 32 → a ≢ b
@@ -164,7 +163,6 @@ translates words base a b some below others within differ decode t s e h =
       second_below = within;
       differ = differ;
     } in
-    let whole = λ (z : ℕ) (k : CanLoad s.memory z). whole_of s.memory z k.region h.valid.memory k.at in
     let limit = h.table.below in
     let first = h.table.first in
     let root : IsBlock t t.base = record { from = omega arith; to = omega arith; aligned = h.table.aligned } in
@@ -173,6 +171,6 @@ translates words base a b some below others within differ decode t s e h =
     (subst (λ z. map decode_of words ≡ translator z a b) (sym e) decode) in
     translated t.base a b s x (register_of s b) (second_block t x) (third_block t x) (looked_up t x) c stand
     h.table.aligned (omega arith) r refl refl h.page
-    (entry_is s.memory t x t.base (x / 2 ^ 22) h.stands whole limit root (omega arith))
-    (entry_is s.memory t x (second_block t x) (x / 2 ^ 12 % 2 ^ 10) h.stands whole limit (h.table.second x r) (omega arith))
-    (entry_is s.memory t x (third_block t x) (x / 2 ^ 2 % 2 ^ 10) h.stands whole limit (h.table.third x r) (omega arith))
+    (entry_is words t s x t.base (x / 2 ^ 22) h root (omega arith))
+    (entry_is words t s x (second_block t x) (x / 2 ^ 12 % 2 ^ 10) h (h.table.second x r) (omega arith))
+    (entry_is words t s x (third_block t x) (x / 2 ^ 2 % 2 ^ 10) h (h.table.third x r) (omega arith))

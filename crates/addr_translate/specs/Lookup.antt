@@ -1,5 +1,5 @@
--- A table of addresses with three levels of blocks, each of 1,024 words of 32 bits, the highest byte first. The entries
--- of the first two levels are addresses of blocks of the next; those of the third are the addresses to be found.
+-- A table of addresses with three levels of blocks, each of 1,024 words of 32 bits, the highest byte first. The
+-- entries of the first two levels are addresses of blocks of the next; those of the third are the addresses found.
 use Rattle.std.specs.Prelude.{◌≡◌, ℕ, ◌+◌, ◌-◌, ◌*◌, ◌/◌, ◌%◌, ◌^◌, ◌<◌, ◌≤◌, List, length, take, drop}
 use Rattle.std.specs.Int.{w32, from_be_bytes}
 

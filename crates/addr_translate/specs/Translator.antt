@@ -16,8 +16,8 @@ use Rattle.code_runs.specs.Straight.{HasWords, IsReady}
 use Rattle.code_runs.specs.TwoRegisters.{Works}
 use Rattle.addr_translate.specs.Lookup.{TableAt, IsTable, looked_up, table_word, third_block}
 
--- Word 1 of the editor's page keeps the address. Register a takes, for each level, where the entry stands in its block,
--- and b the blocks.
+-- Word 1 of the editor's page keeps the address. For each level, register a takes where the entry stands in its
+-- block, and b the block.
 abbrev pub translator : ℕ → ℕ → ℕ → List Instr
 translator base a b =
     i.Store stores.ST a 0 (of_page 1)
@@ -61,7 +61,7 @@ Translates words base a b = (t : TableAt) (s : State) → t.base ≡ base → Is
     → Works s 12 IsSecondWord a b 12 (store_word s.memory (page_word 1) (register_of s a))
     (looked_up t (register_of s a)) (third_block t (register_of s a))
 
--- A table stands where one region that may be read has its bytes from its base on, and is the first that has each word.
+-- A table stands where a region that may be read has its bytes from its base on, and is the first that has each word.
 abbrev pub RegionsStand : Type 0
 RegionsStand = (m : Memory) (t : TableAt) (r : Region) → r.start ≡ t.base → r.bytes ≡ t.bytes → r.readable ≡ true
     → ((a : ℕ) → t.base ≤ a → a + 4 ≤ t.base + length t.bytes → region_at m a 4 ≡ Some r) → StandsAt m t

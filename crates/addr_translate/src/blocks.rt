@@ -3,17 +3,18 @@
 ghost use Rattle.std.specs.Prelude.{◌≡◌, ◌+◌, ◌^◌, ◌≤◌};
 ghost use Rattle.eel_base.specs.CodeText.{IsText};
 ghost use Rattle.addr_translate.specs.Entries.{is_among};
-ghost use Rattle.addr_translate.specs.Table.{first_page, first_part, pages, parts, size_of};
+ghost use Rattle.addr_translate.specs.Table.{blocks, first_page, first_part, last_byte as last_byte_of, pages, parts, size_of};
 
 use eel_base::Text;
 
 /// The bytes of a block of the table: 1,024 words.
 pub const BLOCK: u32 = 4096;
 
-// The bytes for which there is one block of the second level, and those for which there is one of the third.
-const PART: u32 = 1 << 22;
+/// The bytes for which there is one block of the second level.
+pub const PART: u32 = 1 << 22;
 
-const PAGE: u32 = 1 << 12;
+/// The bytes for which there is one block of the third level.
+pub const PAGE: u32 = 1 << 12;
 
 /// Parts of the address space, all of one size, one after the other: the number of the first, and how many.
 #[derive(Clone, Copy)]
@@ -31,16 +32,24 @@ impl Parts {
     }
 }
 
+// The address of the text's last byte.
+fn last_byte(text: &Text) -> u32
+    ensures value { result ≡ last_byte_of text.now }
+    ensures text { IsText text.now }
+{
+    text.start().0 + 4 * text.len() - 1
+}
+
 /// The parts of 4 MiB that hold text.
 pub fn parts_of(text: &Text) -> Parts
     ensures first { result.first ≡ first_part text.now }
     ensures count { result.count ≡ parts text.now }
     ensures few { result.count ≤ 2 }
-    ensures text { IsText text.now }
     ensures below { result.first + result.count ≤ 512 }
+    ensures text { IsText text.now }
 {
     let first = text.start().0 / PART;
-    let last = (text.start().0 + 4 * text.len() - 1) / PART;
+    let last = last_byte(text) / PART;
     Parts {
         first,
         count: last - first + 1,
@@ -55,18 +64,26 @@ pub fn pages_of(text: &Text) -> Parts
     ensures below { result.first + result.count ≤ 2 ^ 19 }
 {
     let first = text.start().0 / PAGE;
-    let last = (text.start().0 + 4 * text.len() - 1) / PAGE;
+    let last = last_byte(text) / PAGE;
     Parts {
         first,
         count: last - first + 1,
     }
 }
 
-/// How many bytes the table of a text has: 4096 for the first level, for a block of each other level that serves all
-/// that holds no text, and for each part of 4 MiB and each page of 4 KiB that holds text.
-pub fn table_size(text: &Text) -> u32
-    ensures size { result ≡ size_of text.now }
+/// How many blocks the table of a text has.
+pub fn block_count(text: &Text) -> u32
+    ensures value { result ≡ blocks text.now }
+    ensures few { result ≤ 1030 }
     ensures text { IsText text.now }
 {
-    BLOCK * (3 + parts_of(text).count + pages_of(text).count)
+    3 + parts_of(text).count + pages_of(text).count
+}
+
+/// How many bytes the table of a text has: 4096 for each block. There is a block for the first level, one of each
+/// other level for all that holds no text, and one for each part of 4 MiB and each page of 4 KiB that holds text.
+pub fn table_size(text: &Text) -> u32
+    ensures { result ≡ size_of text.now }
+{
+    BLOCK * block_count(text)
 }

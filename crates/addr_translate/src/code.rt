@@ -65,8 +65,8 @@ fn store(rd: Reg, rs1: Reg, op2: Op2) -> u32
 
 // An operation on one register.
 fn operation(op: AluOp, rd: Reg, immediate: i32) -> u32
-    requires form { has_form op false ≡ true }
-    requires fits { op2_fits (o.Imm immediate) ≡ true }
+    requires form { IsTrue (has_form op false) }
+    requires fits { IsTrue (op2_fits (o.Imm immediate)) }
     ensures word { result ≡ word_in (i.Alu op false rd rd (o.Imm immediate)) }
     ensures decodes { decode_of result ≡ i.Alu op false rd rd (o.Imm immediate) }
 {

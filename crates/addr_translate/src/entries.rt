@@ -10,7 +10,6 @@ use eel_base::{Addr, Text};
 
 // The block of the second level for a part of 4 MiB.
 fn second_number(text: &Text, part: u32) -> u32
-    requires { part < 1024 }
     ensures value { result ≡ second_for text.now part }
     ensures within { result < blocks text.now }
 {
@@ -24,7 +23,6 @@ fn second_number(text: &Text, part: u32) -> u32
 
 // The block of the third level for a page of 4 KiB.
 fn third_number(text: &Text, page: u32) -> u32
-    requires { page < 2 ^ 20 }
     ensures value { result ≡ third_for text.now page }
     ensures within { result < blocks text.now }
 {

@@ -7,7 +7,7 @@ ghost use Rattle.addr_translate.specs.Entries.{entry as entry_of, table_bytes};
 ghost use Rattle.addr_translate.specs.Lookup.{IsBlock, IsTable, looked_up, second_block as second_for, table_word, third_block as third_for};
 ghost use Rattle.addr_translate.specs.Table.{IsTableOf, blocks, size_of};
 
-use crate::blocks::table_size;
+use crate::blocks::{BLOCK, PAGE, PART, block_count};
 use crate::entries::entry;
 use eel_base::{Addr, NoMemory, Text};
 use std::alloc::{AllocError, Global};
@@ -50,11 +50,13 @@ fn bytes_of(
     ensures bytes { IfOk result (λ v. v.items ≡ table_bytes text.now targets.now foreign base.0) }
 
     // Each entry has 32 bits.
-    ensures fits { OnOk result ((n : ℕ) → n < 1024 * blocks text.now → entry_of text.now targets.now foreign base.0 n < 2 ^ 32) }
+    ensures fits { OnOk result ((n : ℕ) → n < 1024 * blocks text.now
+        → entry_of text.now targets.now foreign base.0 n < 2 ^ 32) }
     ensures text { IsText text.now }
 {
-    let mut out = Vec::new(alloc);
-    for n in 0..table_size(text) / 4 {
+    let count = block_count(text);
+    let mut out = Vec::with_capacity(alloc, (BLOCK * count) as usize)?;
+    for n in 0..1024 * count {
         put_word(&mut out, entry(text, targets, foreign, base, n))?;
     }
     Ok(out)
@@ -101,7 +103,7 @@ impl Table {
         ensures block { IsBlock self.now result }
         ensures below { self.now.base + length self.now.bytes ≤ 2 ^ 31 }
     {
-        self.word(self.second_block(t) + 4 * (t.0 / (1 << 12) % 1024))
+        self.word(self.second_block(t) + 4 * (t.0 / PAGE % 1024))
     }
 
     // The block of the second level for an address.
@@ -110,7 +112,7 @@ impl Table {
         ensures block { IsBlock self.now result }
         ensures below { self.now.base + length self.now.bytes ≤ 2 ^ 31 }
     {
-        self.word(self.base.0 + 4 * (t.0 / (1 << 22)))
+        self.word(self.base.0 + 4 * (t.0 / PART))
     }
 
     // The word of the table at an address.

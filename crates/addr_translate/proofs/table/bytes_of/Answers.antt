@@ -22,4 +22,4 @@ returns-clause-bytes c =
     ∙ ap (λ (z : ℕ). flat_map (to_be_bytes w32)
     (map (entry c.args.text.now c.args.targets.now c.args.foreign c.args.base.0) (range_with_len 0 z)))
     (let e : c.loop-n.n ≡ 1024 * blocks c.args.text.now = omega
-    (arith, c.loop-n-test.false, c.loop-n.auto.n-end, c.table_size-n-end.ensures.size) in e)
+    (arith, c.loop-n-test.false, c.loop-n.auto.n-end, c.block_count-count.ensures.value) in e)
