@@ -40,7 +40,7 @@ target_of targets foreign (Some word) = slice_index (map (λ (a : Addr). a.0) ta
 abbrev pub target_for : Words → List Addr → Addr → ℕ → ℕ
 target_for t targets foreign a = target_of targets foreign (word_at t (a - a % 4))
 
--- so it is for each of the 2^32 addresses
+-- The table of a text has its size, its entries lead to blocks of its own, and it finds each of the 2^32 addresses.
 pub record IsTableOf (t : Words) (targets : List Addr) (foreign : Addr) (table : TableAt) : Type 0 where
   pub size : length table.bytes ≡ size_of t
   pub whole : IsTable table

@@ -4,7 +4,7 @@ ghost use Rattle.std.specs.Prelude.{◌≡◌, ℕ, ◌+◌, ◌*◌, ◌%◌, �
 ghost use Rattle.std.specs.Int.{w32, to_be_bytes, from_be_bytes};
 ghost use Rattle.eel_base.specs.CodeText.{IsText};
 ghost use Rattle.addr_translate.specs.Entries.{entry as entry_of, table_bytes};
-ghost use Rattle.addr_translate.specs.Lookup.{IsBlock, IsTable, looked_up, second_block as second_for, table_word, third_block as third_for};
+ghost use Rattle.addr_translate.specs.Lookup.{IsBlock, IsTable, looked_up, second_block as second_block_of, table_word, third_block as third_block_of};
 ghost use Rattle.addr_translate.specs.Table.{IsTableOf, blocks, size_of};
 
 use crate::blocks::{BLOCK, PAGE, PART, block_count};
@@ -99,7 +99,7 @@ impl Table {
 
     // The block of the third level for an address.
     fn third_block(&self, t: Addr) -> u32
-        ensures value { result ≡ third_for self.now t.0 }
+        ensures value { result ≡ third_block_of self.now t.0 }
         ensures block { IsBlock self.now result }
         ensures below { self.now.base + length self.now.bytes ≤ 2 ^ 31 }
     {
@@ -108,7 +108,7 @@ impl Table {
 
     // The block of the second level for an address.
     fn second_block(&self, t: Addr) -> u32
-        ensures value { result ≡ second_for self.now t.0 }
+        ensures value { result ≡ second_block_of self.now t.0 }
         ensures block { IsBlock self.now result }
         ensures below { self.now.base + length self.now.bytes ≤ 2 ^ 31 }
     {
