@@ -3,6 +3,8 @@
 #![tactic(auto)]
 
 #[cfg(test)]
+mod addr_translate_tests;
+#[cfg(test)]
 mod layout_tests;
 #[cfg(test)]
 mod v8_alu_tests;

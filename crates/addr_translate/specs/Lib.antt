@@ -1,0 +1,4 @@
+pub mod Entries
+pub mod Lookup
+pub mod Table
+pub mod Translator
