@@ -1,0 +1,88 @@
+-- The fields of a dump, and the steps of a reading.
+use Rattle.std.proofs.Common.{◌≡◌, ℕ, ◌+◌, ◌*◌, ◌<◌, ◌≤◌, ◌^◌, Bool, true, false, List, ◌++◌, length, drop, Result, Ok, Err, Some, None, if◌then◌else◌, refl, ap, arith}
+use Rattle.std.specs.Prelude.{nat_le}
+use Rattle.std.proofs.lemmas.Bool.{le-leb, leb-true}
+use Rattle.std.proofs.lemmas.List.{length-append, length-drop, drop-drop}
+use Rattle.std.proofs.Math.Seq.{drop-append_seam}
+use Rattle.byteorder.specs.Endian.{big_number, big_bytes}
+use Rattle.byteorder.specs.Numbers.{big_number-reads_back, length-bytes_high_first, big_from-lt}
+use Rattle.dump_file.specs.Dump.{Dump, kind_of, number_of}
+use Rattle.dump_file.specs.Written.{mark}
+use Rattle.dump_file.specs.Reading.{◌>>=◌, found, field_at, kept}
+use Rattle.dump_file.proofs.Words.{AreBytes, bytes_dropped, written_4, written_8}
+
+-- The fields that a dump has before its cells.
+pub record Found (bytes : List ℕ) (dump : Dump) : Type 0 where
+  pub first : field_at 4 bytes 0 ≡ Ok mark
+  pub version : field_at 4 bytes 4 ≡ Ok 1
+  pub kind : field_at 4 bytes 8 ≡ Ok (kind_of dump.ending)
+  pub number : field_at 4 bytes 12 ≡ Ok (number_of dump.ending)
+  pub pc : field_at 4 bytes 16 ≡ Ok dump.pc
+  pub steps : field_at 8 bytes 20 ≡ Ok dump.steps
+  pub count : field_at 4 bytes 28 ≡ Ok (length dump.cells)
+  pub size : length bytes ≡ 32 + 4 * length dump.cells
+
+-- a number that stands at an offset
+pub field_there : (bytes before after : List ℕ) (size n at : ℕ) → bytes ≡ before ++ (big_bytes size n ++ after)
+    → length before ≡ at → n < 256 ^ size → field_at size bytes at ≡ Ok n
+field_there bytes before after size n at same place fits =
+    let all = length-append before (big_bytes size n ++ after) in
+    let more = length-append (big_bytes size n) after in
+    let own = length-bytes_high_first size n in
+    let there : length before + size ≤ length (before ++ (big_bytes size n ++ after)) = omega arith in
+    let test = le-leb (length before + size) (length (before ++ (big_bytes size n ++ after))) there in
+    rw (same, ← place, test, drop-append_seam before (big_bytes size n ++ after))
+    (ap Ok (big_number-reads_back size n after fits))
+
+-- A field that was read: the bytes reach so far, and the number is theirs.
+pub record Reached (size at n : ℕ) (bytes : List ℕ) : Type 0 where
+  pub there : at + size ≤ length bytes
+  pub is : n ≡ big_number size (drop at bytes)
+
+chosen : (test : Bool) (x n at : ℕ) → found (if test then Some x else None) at ≡ Ok n → (test ≡ true) × (n ≡ x)
+chosen true x n at h = (refl, cc h)
+chosen false x n at h = absurd (cc h)
+
+pub reached : (size at n : ℕ) (bytes : List ℕ) → field_at size bytes at ≡ Ok n → Reached size at n bytes
+reached size at n bytes h =
+    let parts = chosen (nat_le (at + size) (length bytes)) (big_number size (drop at bytes)) n at h in
+    record { there = leb-true (at + size) (length bytes) parts.0; is = parts.1 }
+
+pub field_fits : (size at n : ℕ) (bytes : List ℕ) → AreBytes bytes → field_at size bytes at ≡ Ok n → n < 256 ^ size
+field_fits size at n bytes are h =
+    rw ((reached size at n bytes h).is) (big_from-lt 0 size (drop at bytes) (bytes_dropped at bytes are))
+
+-- the bytes from an offset on begin with those of the number that was read there
+pub after_4 : (at next n : ℕ) (bytes : List ℕ) → AreBytes bytes → field_at 4 bytes at ≡ Ok n → at + 4 ≡ next
+    → drop at bytes ≡ big_bytes 4 n ++ drop next bytes
+after_4 at next n bytes are h place =
+    let is = reached 4 at n bytes h in
+    let there = is.there in
+    let size = length-drop at bytes in
+    rw (is.is, ← place, ← drop-drop 4 at bytes) (written_4 (drop at bytes) (omega arith) (bytes_dropped at bytes are))
+
+pub after_8 : (at next n : ℕ) (bytes : List ℕ) → AreBytes bytes → field_at 8 bytes at ≡ Ok n → at + 8 ≡ next
+    → drop at bytes ≡ big_bytes 8 n ++ drop next bytes
+after_8 at next n bytes are h place =
+    let is = reached 8 at n bytes h in
+    let there = is.there in
+    let size = length-drop at bytes in
+    rw (is.is, ← place, ← drop-drop 8 at bytes) (written_8 (drop at bytes) (omega arith) (bytes_dropped at bytes are))
+
+-- a reading that succeeds is a step that succeeds, and then the rest
+pub record Then {A B : Type 0} (m : Result A ℕ) (f : A → Result B ℕ) (y : B) : Type 0 where
+  pub got : A
+  pub is : m ≡ Ok got
+  pub rest : f got ≡ Ok y
+
+pub parted : {A B : Type 0} (m : Result A ℕ) (f : A → Result B ℕ) (y : B) → (m >>= f) ≡ Ok y → Then m f y
+parted (Ok x) f y h = record { got = x; is = refl; rest = h }
+parted (Err e) f y h = absurd (cc h)
+
+pub record Met {A : Type 0} (rule : Bool) (value x : A) : Type 0 where
+  pub met : rule ≡ true
+  pub same : value ≡ x
+
+pub met : {A : Type 0} (rule : Bool) (at : ℕ) (value x : A) → kept rule at value ≡ Ok x → Met rule value x
+met true at value x h = record { met = refl; same = cc h }
+met false at value x h = absurd (cc h)

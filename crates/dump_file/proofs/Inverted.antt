@@ -1,0 +1,125 @@
+-- What reads is what is written of the dump that was read.
+use Rattle.std.proofs.Common.{◌≡◌, ℕ, zero, suc, ◌+◌, ◌*◌, ◌<◌, ◌≤◌, ◌^◌, ◌==◌, List, ◌++◌, length, drop, Option, Ok, refl, ap, sym, subst, ◌∙◌, arith}
+use Rattle.std.specs.Prelude.{nat_le}
+use Rattle.std.specs.List.{All}
+use Rattle.std.proofs.lemmas.Bool.{leb-true, eqb-true}
+use Rattle.std.proofs.lemmas.List.{length-drop}
+use Rattle.byteorder.specs.Endian.{big_bytes}
+use Rattle.v8_step.specs.declared.Ending.{Ending}
+use Rattle.dump_file.specs.Dump.{Dump, IsDump, kind_of, number_of}
+use Rattle.dump_file.specs.Written.{mark, words_bytes, dump_bytes}
+use Rattle.dump_file.specs.Reading.{field_at, kept, number_limit, ending_of, ending_at, fits, words_of, read_dump}
+use Rattle.dump_file.proofs.Words.{AreBytes, are_bytes, bytes_dropped, words_again, length-words, words_fit}
+use Rattle.dump_file.proofs.Fields.{Found, after_4, after_8, field_fits, parted, met}
+
+ending_parts : (kind number : ℕ) → kind ≤ 4 → number ≤ number_limit kind
+    → (kind_of (ending_of kind number) ≡ kind) × (number_of (ending_of kind number) ≡ number) × (number < 2 ^ 8)
+ending_parts zero number few low = (refl, omega arith, omega arith)
+ending_parts (suc zero) number few low = (refl, refl, omega arith)
+ending_parts (suc (suc zero)) number few low = (refl, refl, omega arith)
+ending_parts (suc (suc (suc zero))) number few low = (refl, omega arith, omega arith)
+ending_parts (suc (suc (suc (suc zero)))) number few low = (refl, omega arith, omega arith)
+ending_parts (suc (suc (suc (suc (suc kind))))) number few low = absurd (omega arith)
+
+record EndingRead (bytes : List ℕ) (ending : Option Ending) : Type 0 where
+  kind : field_at 4 bytes 8 ≡ Ok (kind_of ending)
+  number : field_at 4 bytes 12 ≡ Ok (number_of ending)
+  small : number_of ending < 2 ^ 8
+
+ending_read : (bytes : List ℕ) (ending : Option Ending) → ending_at bytes ≡ Ok ending → EndingRead bytes ending
+unfolding ending_at
+ending_read bytes ending h =
+    let read = parted (field_at 4 bytes 8) _ ending h in
+    let kind = parted (kept (nat_le read.got 4) 8 read.got) _ ending read.rest in
+    let low = met (nat_le read.got 4) 8 read.got kind.got kind.is in
+    let number = parted (field_at 4 bytes 12) _ ending kind.rest in
+    let last =
+    met (nat_le number.got (number_limit kind.got)) 12 (ending_of kind.got number.got) ending number.rest in
+    let few : kind.got ≤ 4 = subst (λ (k : ℕ). k ≤ 4) low.same (leb-true read.got 4 low.met) in
+    let parts = ending_parts kind.got number.got few (leb-true number.got (number_limit kind.got) last.met) in
+    let whole : EndingRead bytes (ending_of kind.got number.got) = record {
+      kind = read.is ∙ ap Ok (low.same ∙ sym parts.0);
+      number = number.is ∙ ap Ok (sym parts.1);
+      small = rw (parts.1) (parts.2);
+    } in
+    subst (EndingRead bytes) last.same whole
+
+-- What was read, and the dump that it is.
+record Read (bytes : List ℕ) (dump : Dump) : Type 0 where
+  found : Found bytes dump
+  small : number_of dump.ending < 2 ^ 8
+  cells : dump.cells ≡ words_of (drop 32 bytes) (length dump.cells)
+
+read_parts : (bytes : List ℕ) (dump : Dump) → read_dump bytes ≡ Ok dump → Read bytes dump
+unfolding read_dump
+read_parts bytes dump h =
+    let first = parted (field_at 4 bytes 0) _ dump h in
+    let begins = parted (kept (first.got == mark) 0 first.got) _ dump first.rest in
+    let version = parted (field_at 4 bytes 4) _ dump begins.rest in
+    let known = parted (kept (version.got == 1) 4 version.got) _ dump version.rest in
+    let ending = parted (ending_at bytes) _ dump known.rest in
+    let pc = parted (field_at 4 bytes 16) _ dump ending.rest in
+    let steps = parted (field_at 8 bytes 20) _ dump pc.rest in
+    let count = parted (field_at 4 bytes 28) _ dump steps.rest in
+    let whole : Dump =
+    record { ending = ending.got; pc = pc.got; steps = steps.got; cells = words_of (drop 32 bytes) count.got } in
+    let last = met (fits bytes count.got) 28 whole dump count.rest in
+    let first_met = met (first.got == mark) 0 first.got begins.got begins.is in
+    let known_met = met (version.got == 1) 4 version.got known.got known.is in
+    let end = ending_read bytes ending.got ending.is in
+    let long = length-words count.got (drop 32 bytes) in
+    let size = eqb-true (length bytes) (32 + 4 * count.got) last.met in
+    let read : Read bytes whole = record {
+      found = record {
+        first = first.is ∙ ap Ok (eqb-true first.got mark first_met.met);
+        version = version.is ∙ ap Ok (eqb-true version.got 1 known_met.met);
+        kind = end.kind;
+        number = end.number;
+        pc = pc.is;
+        steps = steps.is;
+        count = count.is ∙ ap Ok (sym long);
+        size = rw long size;
+      };
+      small = end.small;
+      cells = ap (words_of (drop 32 bytes)) (sym long);
+    } in
+    subst (Read bytes) last.same read
+
+again : (bytes : List ℕ) (dump : Dump) → AreBytes bytes → Read bytes dump → bytes ≡ dump_bytes dump
+unfolding dump_bytes words_bytes
+again bytes dump are read =
+    let found = read.found in
+    let size = length-drop 32 bytes in
+    let all = found.size in
+    let cells = words_again (length dump.cells) (drop 32 bytes) (omega arith) (bytes_dropped 32 bytes are)
+    ∙ ap words_bytes (sym read.cells) in
+    let count = after_4 28 32 (length dump.cells) bytes are found.count refl
+    ∙ ap (λ (rest : List ℕ). big_bytes 4 (length dump.cells) ++ rest) cells in
+    let steps = after_8 20 28 dump.steps bytes are found.steps refl
+    ∙ ap (λ (rest : List ℕ). big_bytes 8 dump.steps ++ rest) count in
+    let pc = after_4 16 20 dump.pc bytes are found.pc refl
+    ∙ ap (λ (rest : List ℕ). big_bytes 4 dump.pc ++ rest) steps in
+    let number = after_4 12 16 (number_of dump.ending) bytes are found.number refl
+    ∙ ap (λ (rest : List ℕ). big_bytes 4 (number_of dump.ending) ++ rest) pc in
+    let kind = after_4 8 12 (kind_of dump.ending) bytes are found.kind refl
+    ∙ ap (λ (rest : List ℕ). big_bytes 4 (kind_of dump.ending) ++ rest) number in
+    let version = after_4 4 8 1 bytes are found.version refl ∙ ap (λ (rest : List ℕ). big_bytes 4 1 ++ rest) kind in
+    after_4 0 4 mark bytes are found.first refl ∙ ap (λ (rest : List ℕ). big_bytes 4 mark ++ rest) version
+
+pub read_again : (bytes : List ℕ) (dump : Dump) → All (λ byte. byte < 256) bytes → read_dump bytes ≡ Ok dump
+    → (bytes ≡ dump_bytes dump) × IsDump dump
+read_again bytes dump all h =
+    let are = are_bytes bytes all in
+    let read = read_parts bytes dump h in
+    let cells : All (λ cell. cell < 2 ^ 32) dump.cells =
+    subst (All (λ cell. cell < 2 ^ 32)) (sym read.cells)
+    (words_fit (length dump.cells) (drop 32 bytes) (bytes_dropped 32 bytes are)) in (
+      again bytes dump are read,
+      record {
+        number = read.small;
+        pc = field_fits 4 16 dump.pc bytes are read.found.pc;
+        steps = field_fits 8 20 dump.steps bytes are read.found.steps;
+        count = field_fits 4 28 (length dump.cells) bytes are read.found.count;
+        cells = cells;
+      },
+    )

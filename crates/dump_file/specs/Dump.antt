@@ -1,0 +1,47 @@
+-- Dumps of version 1. Numbers are big-endian, of four bytes each but for the steps, which have eight:
+--
+--   at 0   `EELD`
+--   at 4   the version, 1
+--   at 8   how the run ended: 0 not at all, 1 by exit, 2 by a trap, 3 by a window, 4 by a couple
+--   at 12  the number that goes with it: the low byte of exit's argument, or the trap's type; else 0
+--   at 16  where the run stands
+--   at 20  the steps that were made
+--   at 28  how many cells there are
+--   at 32  the cells
+use Rattle.std.specs.Prelude.{ℕ, ◌<◌, ◌^◌, List, length, Option, Some, None}
+use Rattle.std.specs.List.{All}
+use Rattle.v8_step.specs.declared.Ending.{Ending}
+use Rattle.v8_step.specs.declared.Ending.TheVariants.{Exit, Trap, Window, Couple}
+use Rattle.dump_file.specs.declared.dump.Dump as declared
+
+-- a dump without where its cells lie in memory
+pub record Dump : Type 0 where
+  pub ending : Option Ending
+  pub pc : ℕ
+  pub steps : ℕ
+  pub cells : List ℕ
+
+abbrev pub dump_seen : declared.Dump → Dump
+dump_seen dump = record { ending = dump.ending; pc = dump.pc.0; steps = dump.steps; cells = dump.cells.items }
+
+abbrev pub kind_of : Option Ending → ℕ
+kind_of None = 0
+kind_of (Some (Exit number)) = 1
+kind_of (Some (Trap number)) = 2
+kind_of (Some Window) = 3
+kind_of (Some Couple) = 4
+
+abbrev pub number_of : Option Ending → ℕ
+number_of None = 0
+number_of (Some (Exit number)) = number
+number_of (Some (Trap number)) = number
+number_of (Some Window) = 0
+number_of (Some Couple) = 0
+
+-- Each number fits its bytes.
+pub record IsDump (dump : Dump) : Type 0 where
+  pub number : number_of dump.ending < 2 ^ 8
+  pub pc : dump.pc < 2 ^ 32
+  pub steps : dump.steps < 2 ^ 64
+  pub count : length dump.cells < 2 ^ 32
+  pub cells : All (λ cell. cell < 2 ^ 32) dump.cells

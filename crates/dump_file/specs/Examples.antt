@@ -1,0 +1,76 @@
+-- Dumps that compute: one without cells, one with two, and each rule broken once.
+use Rattle.std.specs.Prelude.{◌≡◌, ℕ, List, [], ◌∷◌, ◌++◌, take, drop, map, Option, Some, None, Result, Ok, Err, ◌+◌, refl}
+use Rattle.v8_step.specs.declared.Ending.{Ending}
+use Rattle.v8_step.specs.declared.Ending.TheVariants.{Exit, Trap, Window, Couple}
+use Rattle.dump_file.specs.Dump.{Dump}
+use Rattle.dump_file.specs.Written.{words_bytes, dump_bytes}
+use Rattle.dump_file.specs.Reading.{read_dump, ending_at, words_of}
+
+-- exit with 3, at 0x20000 after 3 steps
+abbrev exits : Dump
+exits = record { ending = Some (Exit 3); pc = 0x20000; steps = 3; cells = [] }
+
+exits_bytes : dump_bytes exits ≡ words_bytes (0x45454c44 ∷ 1 ∷ 1 ∷ 3 ∷ 0x20000 ∷ 0 ∷ 3 ∷ 0 ∷ [])
+unfolding dump_bytes words_bytes
+exits_bytes = refl
+
+-- stopped at 0x10058 after 2^32 + 7 steps, with two cells
+abbrev stopped : Dump
+stopped = record { ending = None; pc = 0x10058; steps = 0x100000007; cells = 12 ∷ 0xffffffff ∷ [] }
+
+abbrev words : List ℕ
+words = 0x45454c44 ∷ 1 ∷ 0 ∷ 0 ∷ 0x10058 ∷ 1 ∷ 7 ∷ 2 ∷ 12 ∷ 0xffffffff ∷ []
+
+stopped_bytes : dump_bytes stopped ≡ words_bytes words
+unfolding dump_bytes words_bytes
+stopped_bytes = refl
+
+stopped_reads : read_dump (words_bytes words) ≡ Ok stopped
+unfolding words_bytes read_dump ending_at words_of
+stopped_reads = refl
+
+-- the dump with the words at 8 and 12 replaced
+abbrev with_ending : ℕ × ℕ → Result Dump ℕ
+with_ending ending =
+    let bytes = words_bytes words in
+    read_dump (take 8 bytes ++ words_bytes (ending.0 ∷ ending.1 ∷ []) ++ drop 16 bytes)
+
+abbrev ended : Option Ending → Result Dump ℕ
+ended ending = Ok (record { ending = ending; pc = 0x10058; steps = 0x100000007; cells = 12 ∷ 0xffffffff ∷ [] })
+
+endings : map with_ending ((0, 0) ∷ (1, 255) ∷ (2, 7) ∷ (3, 0) ∷ (4, 0) ∷ [])
+    ≡ map ended (None ∷ Some (Exit 255) ∷ Some (Trap 7) ∷ Some Window ∷ Some Couple ∷ [])
+unfolding words_bytes read_dump ending_at words_of
+endings = refl
+
+no_endings : map with_ending ((5, 0) ∷ (0, 1) ∷ (1, 256) ∷ (2, 256) ∷ (3, 1) ∷ (4, 1) ∷ [])
+    ≡ map Err (8 ∷ 12 ∷ 12 ∷ 12 ∷ 12 ∷ 12 ∷ [])
+unfolding words_bytes read_dump ending_at words_of
+no_endings = refl
+
+-- the dump with the word at an offset replaced
+abbrev with_word : ℕ × ℕ → Result Dump ℕ
+with_word change =
+    let bytes = words_bytes words in
+    read_dump (take change.0 bytes ++ words_bytes (change.1 ∷ []) ++ drop (change.0 + 4) bytes)
+
+broken : map with_word ((0, 0x45454c4e) ∷ (4, 2) ∷ (28, 1) ∷ (28, 3) ∷ []) ≡ map Err (0 ∷ 4 ∷ 28 ∷ 28 ∷ [])
+unfolding words_bytes read_dump ending_at words_of
+broken = refl
+
+-- The first bytes alone, so many, and the first number that isn't whole. The steps are one number of eight bytes.
+abbrev cut : ℕ × ℕ → Result Dump ℕ
+cut ending = read_dump (take ending.0 (words_bytes words))
+
+abbrev missing : List (ℕ × ℕ)
+missing = (0, 0) ∷ (3, 0) ∷ (4, 4) ∷ (11, 8) ∷ (15, 12) ∷ (19, 16) ∷ (20, 20) ∷ (24, 20) ∷ (27, 20) ∷ (28, 28)
+    ∷ (31, 28) ∷ (39, 28) ∷ []
+
+cuts : map cut missing ≡ map (λ ending. Err ending.1) missing
+unfolding words_bytes read_dump ending_at words_of
+cuts = refl
+
+-- a byte after the last cell
+left_over : read_dump (words_bytes words ++ 0 ∷ []) ≡ Err 28
+unfolding words_bytes read_dump ending_at words_of
+left_over = refl

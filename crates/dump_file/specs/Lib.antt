@@ -1,0 +1,5 @@
+pub mod Dump
+pub mod Written
+pub mod Reading
+pub mod Laws
+pub mod Examples

@@ -1,0 +1,80 @@
+-- Reading a dump, from left to right: the dump, or the offset of the first number that isn't whole or breaks its
+-- rule.
+use Rattle.std.specs.Prelude.{◌≡◌, ℕ, zero, suc, ◌+◌, ◌*◌, Bool, ◌||◌, ◌==◌, nat_le, if◌then◌else◌, List, [], ◌∷◌, length, drop, Option, Some, None, Result, Ok, Err, ⊤}
+use Rattle.byteorder.specs.Endian.{big_number}
+use Rattle.eel_base.specs.Fields.{be_field}
+use Rattle.v8_step.specs.declared.Ending.{Ending}
+use Rattle.v8_step.specs.declared.Ending.TheVariants.{Exit, Trap, Window, Couple}
+use Rattle.dump_file.specs.Dump.{Dump}
+use Rattle.dump_file.specs.Written.{mark}
+use Rattle.dump_file.specs.declared.dump.DumpFault.{DumpFault}
+use Rattle.dump_file.specs.declared.dump.DumpFault.TheVariants as faults
+
+infixl 10 ◌>>=◌
+abbrev pub ◌>>=◌ : {A B : Type 0} → Result A ℕ → (A → Result B ℕ) → Result B ℕ
+(Ok x) >>= f = f x
+(Err at) >>= f = Err at
+
+-- a number that is whole
+abbrev pub found : Option ℕ → ℕ → Result ℕ ℕ
+found (Some number) at = Ok number
+found None at = Err at
+
+-- the number of `size` bytes at an offset
+abbrev pub field_at : ℕ → List ℕ → ℕ → Result ℕ ℕ
+field_at size bytes at = found (be_field size bytes at) at
+
+-- a rule for what stands at an offset, once `value` was read
+abbrev pub kept : {A : Type 0} → Bool → ℕ → A → Result A ℕ
+kept rule at value = if rule then Ok value else Err at
+
+-- the greatest number that an ending of a kind has
+abbrev pub number_limit : ℕ → ℕ
+number_limit kind = if (kind == 1) || (kind == 2) then 255 else 0
+
+abbrev pub ending_of : ℕ → ℕ → Option Ending
+ending_of kind number =
+    if kind == 1 then Some (Exit number) else
+    (if kind == 2 then Some (Trap number) else
+    (if kind == 3 then Some Window else
+    (if kind == 4 then Some Couple else None)))
+
+-- kinds are 0 to 4
+unfoldable pub ending_at : List ℕ → Result (Option Ending) ℕ
+ending_at bytes = do
+  read ← field_at 4 bytes 8
+  kind ← kept (nat_le read 4) 8 read
+  number ← field_at 4 bytes 12
+  kept (nat_le number (number_limit kind)) 12 (ending_of kind number)
+
+-- so many cells are all that follows the first 32 bytes
+abbrev pub fits : List ℕ → ℕ → Bool
+fits bytes count = length bytes == 32 + 4 * count
+
+-- the first words, so many of them
+unfoldable pub words_of : List ℕ → ℕ → List ℕ
+words_of bytes zero = []
+words_of bytes (suc count) = big_number 4 bytes ∷ words_of (drop 4 bytes) count
+
+unfoldable pub read_dump : List ℕ → Result Dump ℕ
+read_dump bytes = do
+  first ← field_at 4 bytes 0
+  begins ← kept (first == mark) 0 first
+  version ← field_at 4 bytes 4
+  known ← kept (version == 1) 4 version
+  ending ← ending_at bytes
+  pc ← field_at 4 bytes 16
+  steps ← field_at 8 bytes 20
+  count ← field_at 4 bytes 28
+  let cells = words_of (drop 32 bytes) count
+  kept (fits bytes count) 28 (record { ending = ending; pc = pc; steps = steps; cells = cells })
+
+-- A fault is the one that was read; want of memory may come at any time.
+abbrev pub IsFault : {A : Type 0} → DumpFault → Result A ℕ → Type 0
+IsFault (faults.Bad at) read = read ≡ Err at
+IsFault faults.NoMemory read = ⊤
+
+-- an answer is what was read
+abbrev pub Answers : {A B : Type 0} → (A → B) → Result A DumpFault → Result B ℕ → Type 0
+Answers seen (Ok x) read = read ≡ Ok (seen x)
+Answers seen (Err fault) read = IsFault fault read

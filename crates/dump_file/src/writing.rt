@@ -1,0 +1,85 @@
+//! Writing dumps.
+ghost use Rattle.std.specs.Prelude.{◌≡◌, ◌++◌, ◌<◌, ◌^◌, IfOk, OnOk, vec_len};
+ghost use Rattle.byteorder.specs.Endian.{big_bytes};
+ghost use Rattle.dump_file.specs.Dump.{dump_seen, kind_of, number_of};
+ghost use Rattle.dump_file.specs.Written.{words_bytes, dump_bytes};
+
+use crate::dump::Dump;
+use byteorder::{BigEndian, ByteOrder};
+use eel_base::NoMemory;
+use std::alloc::Global;
+use v8_step::Ending;
+
+/// `EELD`, with which a dump begins.
+pub(crate) const MARK: u32 = 0x4545_4c44;
+
+pub(crate) const VERSION: u32 = 1;
+
+/// A dump as bytes.
+#[tactic(auto, unfolding(crate::specs::Written::dump_bytes))]
+pub fn write_dump(alloc: Global, d: &Dump) -> Result<Vec<u8>, NoMemory>
+    requires { vec_len d.now.cells < 2 ^ 30 }
+    ensures { IfOk result (λ bytes. bytes.items ≡ dump_bytes (dump_seen d.now)) }
+{
+    let mut out = Vec::new(alloc);
+    put_words(
+        &mut out,
+        &[
+            MARK,
+            VERSION,
+            kind_of(d.ending),
+            number_of(d.ending),
+            d.pc.0,
+        ],
+    )?;
+    put_long(&mut out, d.steps)?;
+    put_words(&mut out, &[d.cells.len() as u32])?;
+    put_words(&mut out, &d.cells)?;
+    Ok(out)
+}
+
+/// How a run ended, as a number; 0 where it hasn't.
+fn kind_of(ending: Option<Ending>) -> u32
+    ensures { result ≡ kind_of ending }
+{
+    match ending {
+        None => 0,
+        Some(Ending::Exit(_)) => 1,
+        Some(Ending::Trap(_)) => 2,
+        Some(Ending::Window) => 3,
+        Some(Ending::Couple) => 4,
+    }
+}
+
+/// The number that the ending has, or 0.
+fn number_of(ending: Option<Ending>) -> u32
+    ensures { result ≡ number_of ending }
+{
+    match ending {
+        Some(Ending::Exit(number) | Ending::Trap(number)) => u32::from(number),
+        _ => 0,
+    }
+}
+
+/// Adds big-endian words.
+#[tactic(auto, unfolding(crate::specs::Written::words_bytes))]
+fn put_words(out: &mut Vec<u8>, words: &[u32]) -> Result<(), NoMemory>
+    ensures { OnOk result (out.new.items ≡ out.old.items ++ words_bytes words.now) }
+{
+    for word in words {
+        let mut field = [0; 4];
+        BigEndian::write_u32(&mut field, *word);
+        out.extend_from_slice(&field)?;
+    }
+    Ok(())
+}
+
+/// Adds a big-endian number of eight bytes.
+fn put_long(out: &mut Vec<u8>, number: u64) -> Result<(), NoMemory>
+    ensures { OnOk result (out.new.items ≡ out.old.items ++ big_bytes 8 number) }
+{
+    let mut field = [0; 8];
+    BigEndian::write_u64(&mut field, number);
+    out.extend_from_slice(&field)?;
+    Ok(())
+}
