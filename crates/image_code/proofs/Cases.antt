@@ -43,6 +43,7 @@ use Rattle.code_runs.specs.Ours.{IsOurs}
 use Rattle.code_runs.specs.LongJump.{IsFirstWord}
 use Rattle.code_runs.specs.Page.{page_word}
 use Rattle.code_runs.proofs.Ours.{ours_stay, ours_are_stored}
+use Rattle.eel_base.specs.declared.numbers.Addr.{Addr}
 use Rattle.eel_base.specs.declared.numbers.PieceNo.{PieceNo}
 use Rattle.layout.specs.declared.items.Item.{Item}
 use Rattle.layout.specs.declared.items.Item.TheVariants as it
@@ -330,69 +331,72 @@ module _ (g : Setting) (l : Pieces) (base : ℕ) (p : Placement) (place : ℕ �
       (hopped_fit a (slice_index p.at z.0) w
       (h.laid.aligned z.0).1 one.count one.memory one.path.steps one.stores) refl leads)
 
+  -- ---- a word in its Mark, at the head of a piece
+
+  -- a machine stands at the word, and carries it out
+  pub record StandsAt (t : State) (piece word : ℕ) (rest : List Item) : Type 0 where
+    pub size : size_of l.list piece ≡ 3 + length rest
+    pub next : place piece 2 ≡ place piece 1 + 4
+    pub closes : place piece 3 ≡ place piece 2
+    pub at : t.pc ≡ place piece 1
+    pub inside : (base ≤ t.pc) × (t.pc + 4 ≤ base + 4 * length p.code) × (t.pc + 4 ≤ 2 ^ 31)
+    pub ready : CanRun base p.code t
+    pub fetched : fetch_from (code_of t.memory) t.pc ≡ Some word
+    pub one : step_of t ≡ act t (decode_of word)
+
+  pub stands_at : (node : Node) (x : Point) (t : State) → Here g l base p f node x t → (piece : ℕ) → piece < length l.list
+      → visited_at g l p f node x ≡ slice_index p.at piece → (address : Addr) (number word : ℕ) (rest : List Item)
+      → slice_get l.list piece ≡ Some (plain_piece address number word rest) → StandsAt t piece word rest
+  stands_at node x t here piece within visited address number word rest items =
+      let item : (n : ℕ) → item_at l.list piece n ≡ slice_get (plain_piece address number word rest) n =
+      λ n. ap (λ (v : Option (List Item)). item_in v n) items in
+      let size : size_of l.list piece ≡ 3 + length rest = ap (λ (v : Option (List Item)). items_in v) items
+      ∙ (let s : suc (suc (suc (length rest))) ≡ 3 + length rest = omega arith in s) in
+      let mark : place piece 1 ≡ place piece 0 = h.laid.items piece 0 (it.Mark address number) (item 0) in
+      let stands : (place piece 2 ≡ place piece 1 + 4) × IsWordAt base p.code (place piece 1) word =
+      h.laid.items piece 1 (it.Word word) (item 1) in
+      let closes : place piece 3 ≡ place piece 2 = h.laid.items piece 2 it.EndMark (item 2) in
+      let at : t.pc ≡ place piece 1 = here.at ∙ visited ∙ h.laid.starts piece within ∙ sym mark in
+      let begins = (h.laid.within piece 1 within (omega arith)).begins in
+      let ends = (h.laid.within piece 3 within (omega arith)).ends in
+      let low = h.laid.low in
+      let next = stands.0 in
+      let npc = here.npc in
+      let small : wrapped (t.pc + 4) ≡ t.pc + 4 = omega arith in
+      let ready : CanRun base p.code t = can_run t here.valid here.live (npc ∙ small) here.slot here.code here.ours in
+      let fetched : fetch_from (code_of t.memory) t.pc ≡ Some word =
+      (words_stand l.list base p place h.laid piece 1 word (item 1) t ready at).0 in
+      record {
+        size = size;
+        next = next;
+        closes = closes;
+        at = at;
+        inside = (omega arith, omega arith, omega arith);
+        ready = ready;
+        fetched = fetched;
+        one = step_is t word here.live fetched;
+      }
+
   -- ---- plain words
 
   module _ (node : Node) (x : Point) (t : State) (here : Here g l base p f node x t)
       (c : IsPlain g l p place f node x t) where
-    item : (n : ℕ) → item_at l.list c.piece n ≡ slice_get (plain_piece c.address (number_in g node) c.word c.rest) n
-    item n = ap (λ (v : Option (List Item)). item_in v n) c.items
-
-    size : size_of l.list c.piece ≡ 3 + length c.rest
-    size = ap (λ (v : Option (List Item)). items_in v) c.items
-        ∙ (let s : suc (suc (suc (length c.rest))) ≡ 3 + length c.rest = omega arith in s)
-
-    mark : place c.piece 1 ≡ place c.piece 0
-    mark = h.laid.items c.piece 0 (it.Mark c.address (number_in g node)) (item 0)
-
-    word_stands : (place c.piece 2 ≡ place c.piece 1 + 4) × IsWordAt base p.code (place c.piece 1) c.word
-    word_stands = h.laid.items c.piece 1 (it.Word c.word) (item 1)
-
-    closes : place c.piece 3 ≡ place c.piece 2
-    closes = h.laid.items c.piece 2 it.EndMark (item 2)
-
-    at : t.pc ≡ place c.piece 1
-    at = here.at ∙ c.here ∙ h.laid.starts c.piece c.within ∙ sym mark
-
-    inside : (base ≤ t.pc) × (t.pc + 4 ≤ base + 4 * length p.code) × (t.pc + 4 ≤ 2 ^ 31)
-    inside =
-        let s = size in
-        let b0 = (h.laid.within c.piece 1 c.within (omega arith)).begins in
-        let d1 = (h.laid.within c.piece 3 c.within (omega arith)).ends in
-        let low = h.laid.low in
-        let w = word_stands.0 in
-        let k = closes in
-        let a = at in
-        (omega arith, omega arith, omega arith)
-
-    range : NoteRange
-    range = record { lo = place c.piece 1; hi = place c.piece 2; address = c.address.0; node = number_in g node }
+    stands : StandsAt t c.piece c.word c.rest
+    stands = stands_at node x t here c.piece c.within c.here c.address (number_in g node) c.word c.rest c.items
 
     in_range : range_in p.ranges t.pc ≡ Some
         (record { lo = place c.piece 1; hi = place c.piece 2; address = c.address.0; node = number_in g node })
     in_range =
-        let a = at in
-        let w = word_stands.0 in
-        h.laid.ranges c.piece 1 t.pc (it.Word c.word) (item 1) (omega arith) (omega arith)
+        let a = stands.at in
+        let w = stands.next in
+        h.laid.ranges c.piece 1 t.pc (it.Word c.word) (ap (λ (v : Option (List Item)). item_in v 1) c.items) (omega arith) (omega arith)
         ∙ ap (λ (v : Option (List Item)). range_of (place c.piece) (open_in v 1)) c.items
 
     visits : visits_it g node x t
     visits =
-        let i0 = inside.0 in
-        let i1 = inside.1 in
-        at_range node x t (record { lo = place c.piece 1; hi = place c.piece 2; address = c.address.0; node = number_in g node }) here.live i0 (omega arith) in_range (sym at) refl c.original
-
-    ready : CanRun base p.code t
-    ready =
-        let i2 = inside.2 in
-        let n = here.npc in
-        can_run t here.valid here.live (let e : t.npc ≡ t.pc + 4 = n
-        ∙ (let q : wrapped (t.pc + 4) ≡ t.pc + 4 = omega arith in q) in e) here.slot here.code here.ours
-
-    fetched : fetch_from (code_of t.memory) t.pc ≡ Some c.word
-    fetched = (words_stand l.list base p place h.laid c.piece 1 c.word (item 1) t ready at).0
-
-    one : step_of t ≡ act t (decode_of c.word)
-    one = step_is t c.word here.live fetched
+        let i0 = stands.inside.0 in
+        let i1 = stands.inside.1 in
+        at_range node x t (record { lo = place c.piece 1; hi = place c.piece 2; address = c.address.0; node = number_in g node }) here.live i0 (omega arith) in_range (sym stands.at) refl c.original
 
     same : moved x.pc x.npc x.slot (act t (decode_of c.word)) ≡ moved x.pc x.npc x.slot
         (act (at_point x t) (decode_of c.word))
@@ -400,7 +404,7 @@ module _ (g : Setting) (l : Pieces) (base : ℕ) (p : Placement) (place : ℕ �
 
     puts_one : (descriptor : ℕ) → run_puts t 1 descriptor ≡ puts_on_word (at_point x t) (word_of g.text x.pc) descriptor
     puts_one descriptor =
-        live_puts t c.word descriptor here.live (fetch_is t.memory t.pc ∙ fetched)
+        live_puts t c.word descriptor here.live (fetch_is t.memory t.pc ∙ stands.fetched)
         ∙ (acts_anywhere x.pc x.npc x.slot t (decode_of c.word) c.straight).1 descriptor
         ∙ sym (ap (λ (o : Option ℕ). puts_on_word (at_point x t) o descriptor) c.is_word)
 
@@ -432,7 +436,7 @@ module _ (g : Setting) (l : Pieces) (base : ℕ) (p : Placement) (place : ℕ �
         record {
           count = 1;
           after = act t (decode_of c.word);
-          path = record { steps = one; some = omega arith; few = omega arith; quiet = λ j a b. absurd (omega arith) };
+          path = record { steps = stands.one; some = omega arith; few = omega arith; quiet = λ j a b. absurd (omega arith) };
           puts = puts_one;
           followed = followed (act t (decode_of c.word)) refl refl refl refl refl refl refl
               (outside_refl (pages_of g.notes) _) edges;
@@ -452,21 +456,21 @@ module _ (g : Setting) (l : Pieces) (base : ℕ) (p : Placement) (place : ℕ �
         let alive : (act t (decode_of c.word)).ending ≡ None = ap (λ (z : State). z.ending) same ∙ live in
         let went = goes_act t (decode_of c.word) c.straight alive in
         let vwent = goes_act (at_point x t) (decode_of c.word) c.straight live in
-        let npc = ready.ready.npc in
-        let i0 = inside.0 in
-        let i2 = inside.2 in
-        let w = word_stands.0 in
-        let k = closes in
-        let b = at in
+        let npc = stands.ready.ready.npc in
+        let i0 = stands.inside.0 in
+        let i2 = stands.inside.2 in
+        let w = stands.next in
+        let k = stands.closes in
+        let b = stands.at in
         let w0 = went.0 in
         let w1 = went.1 in
         let pc : (act t (decode_of c.word)).pc ≡ place c.piece 3 = omega arith in
         let onpc : (act t (decode_of c.word)).npc ≡ (act t (decode_of c.word)).pc + 4 = omega arith in
         let to = visited_at g l p f (node_after (graph_in g) node edges)
         (point_of (act (at_point x t) (decode_of c.word))) in
-        let valid : IsValid (act t (decode_of c.word)) = subst IsValid one (run-valid t 1 here.valid) in
+        let valid : IsValid (act t (decode_of c.word)) = subst IsValid stands.one (run-valid t 1 here.valid) in
         let code : HasCode base p.code (act t (decode_of c.word)).memory = subst
-        (λ (z : State). HasCode base p.code z.memory) one (code_after t 1 here.code) in
+        (λ (z : State). HasCode base p.code z.memory) stands.one (code_after t 1 here.code) in
         let ours = ours_stay (pages_of g.notes) f.own t (decode_of c.word) h.own here.ours apart in
         let fit : IsFit (act t (decode_of c.word)) = record {
           valid = valid;
@@ -476,7 +480,7 @@ module _ (g : Setting) (l : Pieces) (base : ℕ) (p : Placement) (place : ℕ �
         } in
         let rest = tail c.piece c.rest (it.Mark c.address (number_in g node)) (it.Word c.word) c.items
         (act t (decode_of c.word)) to fit pc (omega arith) leads in
-        let way = leads_then IsBare t (act t (decode_of c.word)) _ 1 rest.count (leads_one _ t _ one) rest.path
+        let way = leads_then IsBare t (act t (decode_of c.word)) _ 1 rest.count (leads_one _ t _ stands.one) rest.path
         (λ _ some. rest.begins some) in
         let few = rest.few in
         let kept = own_stored (act t (decode_of c.word)).memory rest.memory ours rest.stores in
@@ -492,7 +496,7 @@ module _ (g : Setting) (l : Pieces) (base : ℕ) (p : Placement) (place : ℕ �
           puts = λ descriptor.
               ap (λ n. run_puts t n descriptor) (let e : 1 + rest.count ≡ rest.count + 1 = omega arith in e)
               ∙ puts_add t 1 rest.count descriptor
-              ∙ ap (λ (z : State). run_puts t 1 descriptor ++ run_puts z rest.count descriptor) one
+              ∙ ap (λ (z : State). run_puts t 1 descriptor ++ run_puts z rest.count descriptor) stands.one
               ∙ ap (λ z. run_puts t 1 descriptor ++ z) (rest.silent descriptor) ∙ append-nil (run_puts t 1 descriptor)
               ∙ puts_one descriptor;
           followed = followed (hopped

@@ -33,97 +33,21 @@ use Rattle.image_code.specs.Simulates.{Setting, StepsOn, at_point, does_at, gone
 use Rattle.image_code.specs.Images.{Pieces, Frame, Here, IsPlaced, visited_at}
 use Rattle.image_code.specs.Cases.{Everything, plain_piece}
 use Rattle.image_code.specs.Idle.{IsIdle, IdlesStep}
-use Rattle.image_code.proofs.Cases.{fetch_is, can_run, code_after, tail, quiet_of, bare_on, IsBare, IsFit, own_stored, cells_same, same_at, no_puts}
+use Rattle.image_code.proofs.BranchMoves.{branch_moves}
+use Rattle.image_code.proofs.Cases.{StandsAt, stands_at, fetch_is, can_run, code_after, tail, quiet_of, bare_on, IsBare, IsFit, own_stored, cells_same, same_at, no_puts}
 
 module _ (g : Setting) (l : Pieces) (base : ℕ) (p : Placement) (place : ℕ → ℕ → ℕ) (f : Frame)
     (h : IsPlaced g l base p place f)
     (node : Node) (x : Point) (t : State) (here : Here g l base p f node x t) (c : IsIdle g l p place f node x t) where
-  item : (n : ℕ) → item_at l.list c.piece n ≡ slice_get (plain_piece c.address (number_in g node) c.word c.rest) n
-  item n = ap (λ (v : Option (List Item)). item_in v n) c.items
-
-  size : size_of l.list c.piece ≡ 3 + length c.rest
-  size = ap (λ (v : Option (List Item)). items_in v) c.items
-      ∙ (let s : suc (suc (suc (length c.rest))) ≡ 3 + length c.rest = omega arith in s)
-
-  mark : place c.piece 1 ≡ place c.piece 0
-  mark = h.laid.items c.piece 0 (it.Mark c.address (number_in g node)) (item 0)
-
-  word_stands : (place c.piece 2 ≡ place c.piece 1 + 4) × IsWordAt base p.code (place c.piece 1) c.word
-  word_stands = h.laid.items c.piece 1 (it.Word c.word) (item 1)
-
-  closes : place c.piece 3 ≡ place c.piece 2
-  closes = h.laid.items c.piece 2 it.EndMark (item 2)
-
-  at : t.pc ≡ place c.piece 1
-  at = here.at ∙ c.here ∙ h.laid.starts c.piece c.within ∙ sym mark
-
-  inside : (base ≤ t.pc) × (t.pc + 4 ≤ base + 4 * length p.code) × (t.pc + 4 ≤ 2 ^ 31)
-  inside =
-      let s = size in
-      let b0 = (h.laid.within c.piece 1 c.within (omega arith)).begins in
-      let d1 = (h.laid.within c.piece 3 c.within (omega arith)).ends in
-      let low = h.laid.low in
-      let w = word_stands.0 in
-      let k = closes in
-      let a = at in
-      (omega arith, omega arith, omega arith)
-
-  ready : CanRun base p.code t
-  ready =
-      let i2 = inside.2 in
-      let n = here.npc in
-      can_run g l base p place f h t here.valid here.live
-      (let e : t.npc ≡ t.pc + 4 = n ∙ (let q : wrapped (t.pc + 4)
-      ≡ t.pc + 4 = omega arith in q) in e) here.slot here.code here.ours
-
-  fetched : fetch_from (code_of t.memory) t.pc ≡ Some c.word
-  fetched = (words_stand l.list base p place h.laid c.piece 1 c.word (item 1) t ready at).0
-
-  one : step_of t ≡ act t (decode_of c.word)
-  one = step_is t c.word here.live fetched
-
-  -- a branch goes on somewhere, with all else as it was
-  record IsMoved (s u : State) : Type 0 where
-    pub pc : ℕ
-    pub npc : ℕ
-    pub slot : Slot
-    pub is : u ≡ moved pc npc slot s
-
-  moved_by : (flag always annul : Bool) (s : State) (to : ℕ) → IsMoved s (branched flag always annul s to)
-  moved_by true true true s to = record { pc = to; npc = wrapped (to + 4); slot = s.slot; is = refl }
-  moved_by true true false s to = record { pc = s.npc; npc = to; slot = Taken; is = refl }
-  moved_by true false true s to = record { pc = s.npc; npc = to; slot = Taken; is = refl }
-  moved_by true false false s to = record { pc = s.npc; npc = to; slot = Taken; is = refl }
-  moved_by false always true s to = record {
-    pc = wrapped (s.pc + 8);
-    npc = wrapped
-        (s.pc + 12);
-    slot = s.slot;
-    is = refl;
-  }
-  moved_by false always false s to = record { pc = s.npc; npc = wrapped (s.npc + 4); slot = Untaken; is = refl }
-
-  branch_acts : act (at_point x t) (i.Branch c.cond c.annul c.disp) ≡ branched (holds_of c.cond t.codes)
-      (c.cond == 8) c.annul (at_point x t) (target_of (at_point x t) c.disp)
-  unfolding act branch_step
-  branch_acts = ap (λ (z : Slot). unless_couple z (at_point x t)
-      (branched (holds_of c.cond t.codes) (c.cond == 8) c.annul (at_point x t)
-      (target_of (at_point x t) c.disp))) c.none
-
-  does_is : does_at g x t ≡ branched (holds_of c.cond t.codes) (c.cond == 8) c.annul (at_point x t)
-      (target_of (at_point x t) c.disp)
-  does_is = ap (on_word (at_point x t)) c.is_word ∙ ap (act (at_point x t)) c.says ∙ branch_acts
-
-  moved_on : IsMoved (at_point x t) (does_at g x t)
-  moved_on = subst (IsMoved (at_point x t)) (sym does_is)
-      (moved_by (holds_of c.cond t.codes) (c.cond == 8) c.annul (at_point x t) (target_of (at_point x t) c.disp))
+  stands : StandsAt g l base p place f h t c.piece c.word c.rest
+  stands = stands_at g l base p place f h node x t here c.piece c.within c.here c.address (number_in g node) c.word c.rest c.items
 
   idle_acts : act t nop ≡ record t { pc = t.npc; npc = wrapped (t.npc + 4); slot = NoSlot }
   unfolding act
   idle_acts = refl
 
   idle_step : step_of t ≡ record t { pc = t.npc; npc = wrapped (t.npc + 4); slot = NoSlot }
-  idle_step = one ∙ ap (act t) c.idle ∙ idle_acts
+  idle_step = stands.one ∙ ap (act t) c.idle ∙ idle_acts
 
   idle_puts : (s : State) (descriptor : ℕ) → puts_by s nop descriptor ≡ []
   unfolding puts_by
@@ -131,19 +55,19 @@ module _ (g : Setting) (l : Pieces) (base : ℕ) (p : Placement) (place : ℕ �
 
   puts_first : (descriptor : ℕ) → run_puts t 1 descriptor ≡ []
   puts_first descriptor =
-      live_puts t c.word descriptor here.live (fetch_is t.memory t.pc ∙ fetched)
+      live_puts t c.word descriptor here.live (fetch_is t.memory t.pc ∙ stands.fetched)
       ∙ ap (λ (q : Instr). puts_by t q descriptor) c.idle ∙ idle_puts t descriptor
 
   steps : StepsOn g (Here g l base p f) Everything (gone_at g node x (does_at g x t)) node x t (does_at g x t)
   steps =
-      let npc = ready.ready.npc in
-      let i0 = inside.0 in
-      let i2 = inside.2 in
-      let w = word_stands.0 in
-      let k = closes in
-      let b = at in
+      let npc = stands.ready.ready.npc in
+      let i0 = stands.inside.0 in
+      let i2 = stands.inside.2 in
+      let w = stands.next in
+      let k = stands.closes in
+      let b = stands.at in
       let v : State = does_at g x t in
-      let m = moved_on in
+      let m = branch_moves g x t c.none c.original_word c.is_word c.cond c.annul c.disp c.says in
       let same : does_at g x t ≡ moved m.pc m.npc m.slot t = m.is in
       let to = visited_at g l p f (node_after (graph_in g) node (gone_at g node x (does_at g x t)))
       (point_of (does_at g x t)) in

@@ -2,6 +2,7 @@ pub mod Branches
 pub mod Ended
 pub mod Cases
 pub mod Couple
+pub mod BranchMoves
 pub mod Turns
 pub mod Idle
 pub mod Imaged

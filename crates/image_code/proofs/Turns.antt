@@ -34,6 +34,7 @@ use Rattle.image_code.specs.Simulates.{Setting, StepsOn, IsOnWay, at_point, does
 use Rattle.image_code.specs.Images.{Pieces, Frame, Here, IsPlaced, visited_at, visited_by}
 use Rattle.image_code.specs.Cases.{Everything, LeadsTo, branch_piece}
 use Rattle.image_code.specs.Turns.{IsTurn, TurnsStep}
+use Rattle.image_code.proofs.BranchMoves.{IsMoved, branch_moves}
 use Rattle.image_code.proofs.Cases.{can_run, code_after, tail, arrive, quiet_of, bare_on, IsBare, IsFit, hopped_fit, Arrives, own_stored, on_range, cells_same, same_at, no_puts}
 
 module _ (g : Setting) (l : Pieces) (base : ℕ) (p : Placement) (place : ℕ → ℕ → ℕ) (f : Frame)
@@ -193,38 +194,6 @@ module _ (g : Setting) (l : Pieces) (base : ℕ) (p : Placement) (place : ℕ �
       (of_hop_fit (place (l.image node c.number) 2) (omega arith) j) (sym b_closes) (omega arith)
       (inr (record { 0 = c.untaken }, b_item 3, leads)))
 
-  -- a branch goes on somewhere, with all else as it was
-  record IsMoved (s u : State) : Type 0 where
-    pub pc : ℕ
-    pub npc : ℕ
-    pub slot : Slot
-    pub is : u ≡ moved pc npc slot s
-
-  moved_by : (flag always annul : Bool) (s : State) (to : ℕ) → IsMoved s (branched flag always annul s to)
-  moved_by true true true s to = record { pc = to; npc = wrapped (to + 4); slot = s.slot; is = refl }
-  moved_by true true false s to = record { pc = s.npc; npc = to; slot = Taken; is = refl }
-  moved_by true false true s to = record { pc = s.npc; npc = to; slot = Taken; is = refl }
-  moved_by true false false s to = record { pc = s.npc; npc = to; slot = Taken; is = refl }
-  moved_by false always true s to = record {
-    pc = wrapped (s.pc + 8);
-    npc = wrapped
-        (s.pc + 12);
-    slot = s.slot;
-    is = refl;
-  }
-  moved_by false always false s to = record { pc = s.npc; npc = wrapped (s.npc + 4); slot = Untaken; is = refl }
-
-  branch_acts : act (at_point x t) (i.Branch c.cond c.annul c.disp) ≡ branched (holds_of c.cond t.codes)
-      (c.cond == 8) c.annul (at_point x t) (target_of (at_point x t) c.disp)
-  unfolding act branch_step
-  branch_acts = ap (λ (z : Slot). unless_couple z (at_point x t)
-      (branched (holds_of c.cond t.codes) (c.cond == 8) c.annul (at_point x t)
-      (target_of (at_point x t) c.disp))) c.none
-
-  does_is : does_at g x t ≡ branched (holds_of c.cond t.codes) (c.cond == 8) c.annul (at_point x t)
-      (target_of (at_point x t) c.disp)
-  does_is = ap (on_word (at_point x t)) c.is_word ∙ ap (act (at_point x t)) c.says ∙ branch_acts
-
   turned : (to most : ℕ) (v : State) → IsMoved (at_point x t) v → Comes to most → most ≤ 64 → (edges : List ℕ)
       → to ≡ visited_at g l p f (node_after (graph_in g) node edges) (point_of v)
       → (v.slot ≡ Taken → same_kind (way_of (instr_at g.text (v.pc - 4)) v.slot) kinds.Out ≡ true → ⊥)
@@ -273,10 +242,6 @@ module _ (g : Setting) (l : Pieces) (base : ℕ) (p : Placement) (place : ℕ �
         place = λ e. absurd (e (ap (λ (z : State). z.ending) same ∙ here.live));
       }
 
-  turn_moved : IsMoved (at_point x t) (does_at g x t)
-  turn_moved = subst (IsMoved (at_point x t)) (sym does_is)
-      (moved_by (holds_of c.cond t.codes) (c.cond == 8) c.annul (at_point x t) (target_of (at_point x t) c.disp))
-
   b_step : (flag : Bool) → holds_of c.cond t.codes ≡ flag
       → StepsOn g (Here g l base p f) Everything (gone_at g node x (does_at g x t)) node x t (does_at g x t)
   b_step true e =
@@ -284,7 +249,7 @@ module _ (g : Setting) (l : Pieces) (base : ℕ) (p : Placement) (place : ℕ �
       (point_of (does_at g x t)) in
       let way = subst (λ (b : Bool). Goes t (if b then slice_index p.at c.taken else place (l.image node c.number) 2)
       (place (l.image node c.number) 2) 2 6) e hop in
-      turned to 10 (does_at g x t) turn_moved
+      turned to 10 (does_at g x t) (branch_moves g x t c.none c.word c.is_word c.cond c.annul c.disp c.says)
       (takes to way (subst (λ (b : Bool). LeadsTo l p (record { 0 = if b then c.taken else c.untaken }) to) e c.leads))
       (omega arith) (gone_at g node x (does_at g x t)) refl c.never
   b_step false e =
@@ -292,7 +257,7 @@ module _ (g : Setting) (l : Pieces) (base : ℕ) (p : Placement) (place : ℕ �
       (point_of (does_at g x t)) in
       let way = subst (λ (b : Bool). Goes t (if b then slice_index p.at c.taken else place (l.image node c.number) 2)
       (place (l.image node c.number) 2) 2 6) e hop in
-      turned to 14 (does_at g x t) turn_moved
+      turned to 14 (does_at g x t) (branch_moves g x t c.none c.word c.is_word c.cond c.annul c.disp c.says)
       (passes to way (subst (λ (b : Bool). LeadsTo l p (record { 0 = if b then c.taken else c.untaken }) to) e c.leads))
       (omega arith) (gone_at g node x (does_at g x t)) refl c.never
 
