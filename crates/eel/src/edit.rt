@@ -5,8 +5,8 @@ ghost use Rattle.eel.specs.Answers.Shared.{store};
 ghost use Rattle.eel.specs.Answers.Edit.{Edits, refusal_of};
 
 use crate::outcome::Outcome;
-use crate::straight::{EditFault, edited};
 use crate::texts::{fetch_file, put_file};
+use edit_core::{EditFault, edit_bytes};
 use eel_base::Files;
 use std::alloc::Global;
 
@@ -28,7 +28,7 @@ pub fn edit_plain<'a, F: Files>(
         Ok(bytes) => bytes,
         Err(outcome) => return outcome,
     };
-    match edited(alloc, &bytes) {
+    match edit_bytes(alloc, &bytes) {
         Ok(written) => put_file(files, output, &written),
         Err(fault) => refusal(input, fault),
     }

@@ -8,10 +8,8 @@ mod listing;
 mod outcome;
 mod restore;
 mod run;
-mod straight;
 mod texts;
 mod top;
-mod written;
 
 pub use outcome::{Outcome, show};
 pub use top::eel;
