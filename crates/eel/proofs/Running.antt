@@ -4,6 +4,7 @@ use Rattle.std.proofs.Math.Nat.{eq-or-lt_of_le}
 use Rattle.std.proofs.Math.Seq.{take-append-add}
 use Rattle.eel_base.specs.Outside.{IsMissing, Rose, appended, TookPart}
 use Rattle.eel_base.proofs.Parts.{appended-appended}
+use Rattle.v8_step.specs.Machine.{FailsAt}
 use Rattle.v8_step.specs.State.{State}
 use Rattle.v8_step.specs.Step.{puts_of}
 use Rattle.v8_step.specs.Run.{run, run_puts}
@@ -42,7 +43,7 @@ pub run_comes : (s0 s : State) (limit steps : ℕ) (stop : Stop) (old_out new_ou
     → s ≡ run s0 steps → IsStop s.ending limit steps stop → AreMade s0 steps
     → RunTakes old_out.taken new_out.taken (run_puts s0 steps 1) (puts_of s 1) stop
     → RunTakes old_err.taken new_err.taken (run_puts s0 steps 2) (puts_of s 2) stop
-    → (stop ≡ SinkFault → Rose old_out.faults new_out.faults ⊎ Rose old_err.faults new_err.faults)
+    → (stop ≡ SinkFault → FailsAt (puts_of s 1) old_out.faults new_out.faults ⊎ FailsAt (puts_of s 2) old_err.faults new_err.faults)
     → IsRun s0 limit old_out new_out old_err new_err (stopped_of stop steps)
 run_comes s0 s limit steps Limit old_out new_out old_err new_err is (all, none) made out err cause = record {
   made = made;
@@ -64,7 +65,7 @@ run_comes s0 s limit steps SinkFault old_out new_out old_err new_err is (within,
   made = made-next s0 steps made (rw is at none);
   out = took-step s0 steps 1 old_out.taken new_out.taken (rw is at out);
   err = took-step s0 steps 2 old_err.taken new_err.taken (rw is at err);
-  failed = cause refl;
+  failed = elim (cause refl) [ inl fails ↦ inl fails.1 | inr fails ↦ inr fails.1 ];
 }
 
 -- ---- the command, by its status

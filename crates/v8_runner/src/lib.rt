@@ -2,7 +2,7 @@
 #![tactic(auto)]
 
 ghost use Rattle.std.specs.Prelude.{◌≡◌, ◌⊎◌, ◌≤◌};
-ghost use Rattle.eel_base.specs.Outside.{Rose};
+ghost use Rattle.v8_step.specs.Machine.{FailsAt};
 ghost use Rattle.v8_step.specs.Run.{run as run_of, run_puts};
 ghost use Rattle.v8_step.specs.Step.{puts_of};
 ghost use Rattle.v8_runner.specs.Runs.{IsStop, AreMade, RunTakes};
@@ -38,7 +38,8 @@ pub fn run<O: Sink, E: Sink>(m: &mut Machine, limit: u64, out: &mut O, err: &mut
     ensures pc { result.pc.0 ≡ m.new.pc }
     ensures out { RunTakes (O.taken out.old) (O.taken out.new) (run_puts m.old result.steps 1) (puts_of m.new 1) result.stop }
     ensures err { RunTakes (E.taken err.old) (E.taken err.new) (run_puts m.old result.steps 2) (puts_of m.new 2) result.stop }
-    ensures cause { result.stop ≡ Stop.SinkFault → Rose (O.faults out.old) (O.faults out.new) ⊎ Rose (E.faults err.old) (E.faults err.new) }
+    ensures cause { result.stop ≡ Stop.SinkFault → FailsAt (puts_of m.new 1) (O.faults out.old) (O.faults out.new)
+        ⊎ FailsAt (puts_of m.new 2) (E.faults err.old) (E.faults err.new) }
     ensures out_faults { O.faults out.old ≤ O.faults out.new }
     ensures err_faults { E.faults err.old ≤ E.faults err.new }
 {
@@ -62,7 +63,8 @@ fn make_steps<O: Sink, E: Sink>(
     ensures made { AreMade m.old result.1 }
     ensures out { RunTakes (O.taken out.old) (O.taken out.new) (run_puts m.old result.1 1) (puts_of m.new 1) result.0 }
     ensures err { RunTakes (E.taken err.old) (E.taken err.new) (run_puts m.old result.1 2) (puts_of m.new 2) result.0 }
-    ensures cause { result.0 ≡ Stop.SinkFault → Rose (O.faults out.old) (O.faults out.new) ⊎ Rose (E.faults err.old) (E.faults err.new) }
+    ensures cause { result.0 ≡ Stop.SinkFault → FailsAt (puts_of m.new 1) (O.faults out.old) (O.faults out.new)
+        ⊎ FailsAt (puts_of m.new 2) (E.faults err.old) (E.faults err.new) }
     ensures out_faults { O.faults out.old ≤ O.faults out.new }
     ensures err_faults { E.faults err.old ≤ E.faults err.new }
 {
