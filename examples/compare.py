@@ -1,5 +1,5 @@
 #!/usr/bin/env python3
-"""Runs the programs of programs.py by ./eel, and the straight ones beside their edited files too.
+"""Runs the programs of programs.py by ./eel, and those that can be edited beside their edited files too.
 
 Prints a line for each answer that isn't what programs.py says.
 """
@@ -30,13 +30,13 @@ def compare_run(program, words, ending):
 
 
 def compare_program(program):
-    """Runs the file f in just its steps, in one less, and its edited file too where it is straight."""
+    """Runs the file f in just its steps, in one less, and its edited file too where it can be edited."""
     steps = program.steps
     faults = compare_run(program, ['f', '-n', str(steps)], program.ending)
     faults += compare_run(program, ['f', '-n', str(steps - 1)], f'stopped {steps - 1}')
-    if program.is_straight:
+    if program.is_built():
         faults += compare(f'{program.name}, its edit', eel('edit', 'f', 'g', 'plain'), (0, b'', b''))
-        faults += compare_run(program, ['g'], program.ending)
+        faults += compare_run(program, ['g'], program.edited or program.ending)
     return faults
 
 

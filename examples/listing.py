@@ -73,59 +73,77 @@ class Program:
         return 'fall', None, False, None
 
 
+class Graph:
+    """The routines of a program as a map from words to names, the first words of its blocks, and its edges."""
+
+    def __init__(self, program):
+        self.count = len(program.words)
+        self.ends = [program.end(word) for word in range(self.count)]
+        entry = program.word_at(program.entry)
+        self.routines = {entry: b''}
+        self.routines.update({end[1]: b'' for end in self.ends if end[0] == 'call' and end[1] is not None})
+        self.routines.update(dict(reversed(program.functions)))
+        leaders = {0} | set(self.routines) | {target for _, target, _, _ in self.ends if target is not None}
+        for word, (kind, _, _, _) in enumerate(self.ends):
+            if kind != 'fall':
+                leaders |= {word + 1, word + 2}
+        self.firsts = sorted(word for word in leaders if word < self.count)
+        self.edges = list(self.edges_of_blocks())
+
+    def size(self, block):
+        after = self.firsts[block + 1] if block + 1 < len(self.firsts) else self.count
+        return after - self.firsts[block]
+
+    def edges_of_blocks(self):
+        """Edges as kinds, the words at which their blocks begin, and their slots. What lies outside is the word None;
+        so is no slot, and a slot behind the text is 'off'."""
+        def node(word):
+            return word if word is not None and word < self.count else None
+
+        def slot(word):
+            return word + 1 if word + 1 < self.count else 'off'
+
+        for block, first in enumerate(self.firsts):
+            last = first + self.size(block) - 1
+            kind, target, annul, cond = self.ends[last]
+            if kind == 'fall':
+                yield 'fall', first, node(last + 1), None
+            elif kind == 'call':
+                yield 'call', first, node(target), slot(last)
+            elif kind == 'jump':
+                yield 'out', first, None, slot(last)
+            else:
+                always, never = cond == 8, cond == 0
+                if not never:
+                    yield 'taken', first, node(target), None if annul and always else slot(last)
+                if not always:
+                    yield 'untaken', first, node(last + 2), None if annul else slot(last)
+        for first in self.firsts:
+            yield 'land', None, first, None
+
+
 def listing(file):
     program = Program(file)
-    count = len(program.words)
-    ends = [program.end(word) for word in range(count)]
-    entry = program.word_at(program.entry)
-    routines = {entry: b''}
-    routines.update({target: b'' for kind, target, _, _ in ends if kind == 'call' and target is not None})
-    routines.update(dict(reversed(program.functions)))
-    leaders = {0} | set(routines) | {target for _, target, _, _ in ends if target is not None}
-    for word, (kind, _, _, _) in enumerate(ends):
-        if kind != 'fall':
-            leaders |= {word + 1, word + 2}
-    firsts = sorted(word for word in leaders if word < count)
-    block_of = {first: number for number, first in enumerate(firsts)}
+    graph = Graph(program)
 
     def address(word):
         return f'{program.start + 4 * word:08x}'
 
     def node(word):
-        return address(word) if word is not None and word < count else 'x'
+        return 'x' if word is None else address(word)
 
     def slot(word):
-        return address(word + 1) if word + 1 < count else 'off'
-
-    def edges():
-        for number, first in enumerate(firsts):
-            last = (firsts[number + 1] if number + 1 < len(firsts) else count) - 1
-            kind, target, annul, cond = ends[last]
-            if kind == 'fall':
-                yield 'fall', address(first), node(last + 1), '-'
-            elif kind == 'call':
-                yield 'call', address(first), node(target), slot(last)
-            elif kind == 'jump':
-                yield 'out', address(first), 'x', slot(last)
-            else:
-                always, never = cond == 8, cond == 0
-                if not never:
-                    yield 'taken', address(first), node(target), '-' if annul and always else slot(last)
-                if not always:
-                    yield 'untaken', address(first), node(last + 2), '-' if annul else slot(last)
-        for first in firsts:
-            yield 'land', 'x', address(first), '-'
+        return '-' if word is None else word if word == 'off' else address(word)
 
     lines = []
-    for start in sorted(routines):
-        name = bytes(byte if 0x21 <= byte <= 0x7e else 63 for byte in routines[start]).decode() or '-'
+    for start in sorted(graph.routines):
+        name = bytes(byte if 0x21 <= byte <= 0x7e else 63 for byte in graph.routines[start]).decode() or '-'
         lines.append(f'routine {address(start)} {name}')
-    for number, first in enumerate(firsts):
-        size = (firsts[number + 1] if number + 1 < len(firsts) else count) - first
-        lines.append(f'block {block_of[first]} {address(first)} {size}')
-    all_edges = list(edges())
-    lines += [f'edge {number} ' + ' '.join(edge) for number, edge in enumerate(all_edges)]
-    lines.append(f'routines {len(routines)} blocks {len(firsts)} edges {len(all_edges)}')
+    for number, first in enumerate(graph.firsts):
+        lines.append(f'block {number} {address(first)} {graph.size(number)}')
+    for number, (kind, start, end, carried) in enumerate(graph.edges):
+        lines.append(f'edge {number} {kind} {node(start)} {node(end)} {slot(carried)}')
+    lines.append(f'routines {len(graph.routines)} blocks {len(graph.firsts)} edges {len(graph.edges)}')
     return '\n'.join(lines) + '\n'
 
 

@@ -21,7 +21,7 @@ class Program:
     output: bytes = b''
     errors: bytes = b''  # to descriptor 2
     before: int = 0  # how many bytes of the file lie in the segment before the words
-    is_straight: bool = False
+    edited: str = ''  # how its edited file ends, where the program runs out of its text, of which no clause speaks
 
     def file(self):
         """The file of the words at 0x10054, or the one that examples/c/build.sh made."""
@@ -36,6 +36,13 @@ class Program:
         segment = struct.pack('>8I', 1, 84 - self.before, start, start, size, size, 5, 0x10000)
         return identity + header + segment + text
 
+    def is_built(self):
+        """Whether it has no CALL and no JMPL, so that it can be edited."""
+        if not self.words or self.before:
+            return False
+        text = struct.iter_unpack('>I', bytes.fromhex(self.words.replace(' ', '')))
+        return not any(word >> 30 == 1 or word >> 30 == 2 and word >> 19 & 63 == 0x38 for word, in text)
+
     def report(self):
         """What program_runs prints of it."""
         line = f'{self.name}: {self.ending} after {self.steps} steps, stopped after {self.steps - 1} steps\n'
@@ -44,49 +51,45 @@ class Program:
         return line.encode() + output + errors
 
 
-def straight(name, words, steps, ending, **more):
-    """A program without a branch, CALL or JMPL: each step carries out the next word."""
-    return Program(name, words, steps, ending, is_straight=True, **more)
-
-
+# Without a branch, CALL or JMPL: each step carries out the next word.
 STRAIGHT = [
-    straight('three_words', '82102001 90102003 91d02010', 3, 'exit 3'),
-    straight('one_nop', '01000000', 2, 'trap 1'),
-    straight('load_from_zero', 'c2002000', 1, 'trap 9'),
-    straight('window_overflow',
+    Program('three_words', '82102001 90102003 91d02010', 3, 'exit 3'),
+    Program('one_nop', '01000000', 2, 'trap 1', edited='trap 2'),
+    Program('load_from_zero', 'c2002000', 1, 'trap 9'),
+    Program('window_overflow',
         '8610000e a0102007 9de3bfa0 9de3bfa0 9de3bfa0 9de3bfa0 9de3bfa0 9de3bfa0 '
         '9de3bfa0 82102004 90102001 92100003 94102004 91d02010 82102001 90102000 '
         '91d02010', 17, 'exit 0', output=bytes([0, 0, 0, 7])),
-    straight('flushed_windows',
+    Program('flushed_windows',
         '9de3bfa0 91d02003 84102009 c427a000 81e80000 90100010 82102001 91d02010', 8, 'exit 9'),
-    straight('echoes',
+    Program('echoes',
         '82102003 90102000 9223a040 94102010 91d02010 94100008 82102004 90102001 '
         '91d02010 82102004 90102002 94102003 91d02010 82102001 91d02010', 15, 'exit 3',
         given=b'hello, world\n', output=b'hello, world\n', errors=b'hel'),
-    straight('stores_and_loads',
+    Program('stores_and_loads',
         '05048d15 8410a278 c423bff0 d213bff2 d44bbff0 d60bbff3 d233bff4 d62bbff6 '
         'd853bff4 9002800b 82102001 91d02010', 12, 'exit 138'),
-    straight('pairs_and_exchanges',
+    Program('pairs_and_exchanges',
         '8410200b 86102016 c43bbff0 d41bbff0 d86bbff7 da03bff4 a0102021 e07bbff0 '
         '9004000b 9002000c 82102001 91d02010', 12, 'exit 55'),
-    straight('saves_and_restores',
+    Program('saves_and_restores',
         '90102005 9de3bfa0 90062002 9de3bfa0 b0062003 91ee2004 91ea2008 82102001 '
         '91d02010', 9, 'exit 22'),
-    straight('uses_the_heap',
+    Program('uses_the_heap',
         '11200004 82102011 91d02010 05200000 8610202c c620aff0 d000aff0 82102001 '
         '91d02010', 9, 'exit 44'),
-    straight('multiplies_and_divides',
+    Program('multiplies_and_divides',
         '84102064 8650a04d 81800000 01000000 01000000 01000000 9070e009 925a3ffd '
         '95400000 96824008 9062e000 82102001 91d02010', 13, 'exit 82'),
-    straight('divides_by_zero', '84102001 9070a000', 2, 'trap 42'),
-    straight('traps_with_five', '90102002 91d02005', 2, 'trap 133'),
-    straight('traps_on_carry', '84a02001 9bd02007 8bd02009', 3, 'trap 137'),
-    straight('misaligned_load', '84102002 d003a002', 2, 'trap 7'),
-    straight('restores_from_nowhere', '84102001 81e80000', 2, 'window'),
-    straight('writes_its_text', '05000040 c420a054', 2, 'trap 9'),
-    straight('runs_an_illegal_word', '84102001 00000000', 2, 'trap 2'),
-    straight('runs_a_privileged_word', '84102001 87480000', 2, 'trap 3'),
-    straight('overflows_a_tag', '84102001 8710a004', 2, 'trap 10'),
+    Program('divides_by_zero', '84102001 9070a000', 2, 'trap 42'),
+    Program('traps_with_five', '90102002 91d02005', 2, 'trap 133'),
+    Program('traps_on_carry', '84a02001 9bd02007 8bd02009', 3, 'trap 137'),
+    Program('misaligned_load', '84102002 d003a002', 2, 'trap 7'),
+    Program('restores_from_nowhere', '84102001 81e80000', 2, 'window'),
+    Program('writes_its_text', '05000040 c420a054', 2, 'trap 9'),
+    Program('runs_an_illegal_word', '84102001 00000000', 2, 'trap 2'),
+    Program('runs_a_privileged_word', '84102001 87480000', 2, 'trap 3'),
+    Program('overflows_a_tag', '84102001 8710a004', 2, 'trap 10'),
 ]
 
 WITH_TRANSFERS = [

@@ -9,6 +9,9 @@ DEVICE_FAULT = b'eel: device fault\n'
 
 THREE_WORDS = SMALL[0]
 ECHOES = next(program for program in STRAIGHT if program.name == 'echoes')
+# Those whose edited files are made apart from EEL: straight code, branches with all kinds of slots, a loop, and a
+# branch in a slot.
+EDITED_APART = ['three_words', 'annulled_branches', 'carry_loop', 'transfer_in_slot']
 NEWLINE_COUNT = next(program for program in WITH_TRANSFERS if program.name == 'newline_count')
 
 # Prints five bytes of its first argument, and exits with the number of arguments, its name among them.
@@ -43,21 +46,25 @@ def cramped():
 
 
 def edits():
-    """Straight programs beside their edited files, which run as they do."""
-    yield 'hold three_words.edited', b''
-    for program in STRAIGHT:
+    """Programs whose transfers are branches beside their edited files, which run as they do."""
+    for name in EDITED_APART:
+        yield f'hold {name}.edited', b''
+    for program in SMALL:
+        if not program.is_built():
+            continue
         name = program.name
-        ran = program.output, program.errors + program.ending.encode() + b'\n'
+        ran, ran_edited = [(program.output, program.errors + ending.encode() + b'\n')
+            for ending in (program.ending, program.edited or program.ending)]
         yield f'hold {name}', b''
         if program.given:
             yield f'input {name}.input', b''
         yield eel(f'edit {name} edited plain', 0)
-        if program is THREE_WORDS:
-            yield 'same edited three_words.edited', b''
+        if name in EDITED_APART:
+            yield f'same edited {name}.edited', b''
         yield eel('restore edited restored', 0)
         yield f'same restored {name}', b''
         yield eel(f'run {name}', 0, *ran)
-        yield eel(f'run edited', 0, *ran)
+        yield eel('run edited', 0, *ran_edited)
 
 
 def words():
@@ -115,7 +122,7 @@ def refusals():
     yield eel('edit out other plain', 65, err=b'eel: out: file fault 12\n')
     yield eel('show other', 74, err=DEVICE_FAULT)
     yield eel('run other', 74, err=DEVICE_FAULT)
-    for name, where in [('branch_over_nop', 1), ('call_and_return', 0), ('misaligned_jump', 1)]:
+    for name, where in [('call_and_return', 0), ('misaligned_jump', 1), ('switch_of_four', 7)]:
         yield f'hold {name}', b''
         yield eel(f'edit {name} other plain', 65, err=f'eel: {name}: not built at {0x10054 + 4 * where:08x}\n'.encode())
     yield 'hold cramped', b''
@@ -142,7 +149,9 @@ SESSIONS = {'edits': list(edits()), 'words': list(words()), 'restores': list(res
 
 def files():
     """Scripts, and the files that they name besides the programs."""
-    yield 'three_words.edited', written(THREE_WORDS.file())
+    for program in SMALL:
+        if program.name in EDITED_APART:
+            yield f'{program.name}.edited', written(program.file())
     yield 'three_words.broken', broken()
     yield ARGUMENT.name, ARGUMENT.file()
     yield 'cramped', cramped()
