@@ -1,9 +1,10 @@
 -- The code of a written file is fetched before its first step.
-use Rattle.std.proofs.Common.{◌≡◌, ℕ, ◌+◌, ◌-◌, ◌*◌, ◌%◌, ◌^◌, ◌<◌, ◌≤◌, Bool, true, false, not, ◌&&◌, cond, nat_eq, List, [], ◌∷◌, ◌++◌, length, drop, map, replicate, slice_index, slice_get, Some, refl, sym, ap, ◌∙◌, subst, arith, All}
-use Rattle.std.specs.List.{list_any}
+use Rattle.std.proofs.Common.{◌≡◌, ℕ, ◌+◌, ◌-◌, ◌*◌, ◌%◌, ◌^◌, ◌<◌, ◌≤◌, ◌⊎◌, inl, inr, Bool, true, false, not, ◌&&◌, cond, nat_eq, List, [], ◌∷◌, ◌++◌, length, drop, map, replicate, slice_index, slice_get, Some, None, refl, sym, ap, ◌∙◌, subst, arith, All}
+use Rattle.std.specs.List.{filter, list_any}
 use Rattle.std.specs.Int.Bits.{and_zero_r}
 use Rattle.std.proofs.lemmas.Nat.{and_assoc}
 use Rattle.std.proofs.lemmas.Bool.{and_left, or_from}
+use Rattle.std.proofs.lemmas.Bool.Decides.{nat_tests}
 use Rattle.std.proofs.lemmas.List.{append-nil}
 use Rattle.std.proofs.lemmas.Option.{slice_get_within, get_or_from_slice_get}
 use Rattle.byteorder.specs.Endian.{big_number}
@@ -16,14 +17,15 @@ use Rattle.elf32_write.specs.Headers.{not_executable}
 use Rattle.elf32_write.specs.Laws.{is_code, kept, mapping_added}
 use Rattle.elf32_write.proofs.WordsBytes.{length-words_bytes}
 use Rattle.v8_memory.specs.Regions as regions
-use Rattle.v8_memory.specs.Regions.{fetch_of}
+use Rattle.v8_memory.specs.Regions.{Region, code_of, fetch_from, fetch_of}
 use Rattle.v8_memory.specs.Segments.{region_of}
-use Rattle.v8_process.specs.Start.{start_memory}
+use Rattle.v8_process.specs.Start.{stack_region, start_memory}
 use Rattle.v8_process.specs.Fetched.{IsFirstCode}
-use Rattle.v8_process.proofs.Fetched.{code_is_fetched}
+use Rattle.v8_process.proofs.Fetched.{code-from, code_is_fetched}
 use Rattle.layout.specs.Laid.{Placement}
 use Rattle.layout.specs.Running.{HasCode}
-use Rattle.image_code.proofs.Cases.{fetch_is}
+use Rattle.image_code.specs.Images.{IsBeside}
+use Rattle.image_code.proofs.Memories.{fetch_is}
 use Rattle.edit_core.specs.Written.{IsEdit, base_of, code_segment, page_segment}
 use Rattle.edit_core.proofs.Edits.{words_are_bytes}
 use Rattle.edit_core.proofs.Mapped.{word_among}
@@ -60,6 +62,11 @@ whole_region words =
     let none : 4 * length words - length (words_bytes words) ≡ 0 = omega arith in
     ap (λ (n : ℕ). words_bytes words ++ replicate n 0) none ∙ append-nil (words_bytes words)
 
+-- a region has no word that begins below it or past its end
+beside_region : (r : Region) (a : ℕ) → (a < r.start) ⊎ (r.start + r.size ≤ a) → fetch_from (r ∷ []) a ≡ None
+beside_region r a (inl below) = grind (arith, nat_tests)
+beside_region r a (inr past) = grind (arith, nat_tests)
+
 module _ (original : List ℕ) (p : Placement) (place : ℕ → ℕ → ℕ) (file : List ℕ) (is : IsEdit original p place file)
     (texts : List (List ℕ)) where
   first_code : IsFirstCode file (mapping_added (code_segment original p))
@@ -86,3 +93,14 @@ module _ (original : List ℕ) (p : Placement) (place : ℕ → ℕ → ℕ) (fi
       let inside = slice_get_within p.code n word at in
       sym (fetch_is (start_memory file texts) (base_of original + 4 * n)) ∙ fetched n inside
       ∙ ap (λ w. Some w) (get_or_from_slice_get p.code n word 0 at)
+
+  code_is : code_of (start_memory file texts) ≡ region_of (mapping_added (code_segment original p)) ∷ []
+  code_is =
+      ap (λ (ms : List Mapping). filter regions.is_code (map region_of ms ++ stack_region texts ∷ [])) is.mapped
+      ∙ code-from (map kept (mappings original)) (mapping_added page_segment ∷ []) (stack_region texts ∷ [])
+      (mapping_added (code_segment original p)) (none_kept (mappings original)) refl
+
+  -- and nothing else is
+  pub only_code : (a : ℕ) → IsBeside (base_of original) p.code a → fetch_from (code_of (start_memory file texts)) a ≡ None
+  only_code a beside =
+      ap (λ code. fetch_from code a) code_is ∙ beside_region (region_of (mapping_added (code_segment original p))) a beside

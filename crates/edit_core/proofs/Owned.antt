@@ -1,8 +1,8 @@
 -- The words of the editor's page, in the memory with which a written file starts.
-use Rattle.std.proofs.Common.{◌≡◌, ℕ, ◌+◌, ◌-◌, ◌*◌, ◌^◌, ◌<◌, ◌≤◌, ◌⊎◌, inl, inr, Bool, true, false, ◌&&◌, cond, nat_le, List, [], ◌∷◌, ◌++◌, length, length-append, map, replicate, Option, Some, None, refl, ap, sym, ◌∙◌, subst, arith}
+use Rattle.std.proofs.Common.{◌≡◌, ℕ, zero, suc, ◌+◌, ◌-◌, ◌*◌, ◌^◌, ◌<◌, ◌≤◌, ◌⊎◌, inl, inr, Bool, true, false, ◌&&◌, cond, nat_le, List, [], ◌∷◌, ◌++◌, length, length-append, map, replicate, Option, Some, None, refl, ap, sym, ◌∙◌, subst, arith}
 use Rattle.std.specs.List.{find}
 use Rattle.std.specs.Option.{option_map, option_or}
-use Rattle.std.proofs.lemmas.Bool.{and_parts, leb-true, lt-leb}
+use Rattle.std.proofs.lemmas.Bool.{and_from, and_parts, le-leb, leb-true, lt-leb}
 use Rattle.std.proofs.lemmas.List.{append_assoc, length-replicate, map-append}
 use Rattle.std.proofs.lemmas.List.Folds.{find-append}
 use Rattle.elf32_sparc.specs.Mapping.{Mapping, mappings}
@@ -15,24 +15,51 @@ use Rattle.v8_memory.specs.Spans.{IsApartFromAll}
 use Rattle.v8_process.specs.Start.{start_memory, stack_region}
 use Rattle.code_runs.specs.Ours.{AreOwn, HasNot, HasWordAt, IsAmongWords, IsIn, IsOurs}
 use Rattle.code_runs.specs.Page.{page_word}
+use Rattle.elf32_sparc.specs.Notes.{Notes}
 use Rattle.layout.specs.Laid.{Placement}
+use Rattle.image_code.specs.Simulates.{Setting}
+use Rattle.image_code.specs.Images.{Frame, IsFramed}
 use Rattle.v8_step.specs.Visits.{pages_of}
 use Rattle.edit_core.specs.Written.{IsEdit, code_segment, page_segment, notes_on}
 use Rattle.edit_core.proofs.Mapped.{original_covers}
 
--- word 0 of the page
+-- the words of the page that new code stores
 abbrev pub own_words : List ℕ
-own_words = page_word 0 ∷ []
+own_words = page_word 0 ∷ page_word 1 ∷ page_word 2 ∷ page_word 3 ∷ []
 
-pub are_own : (original : List ℕ) (p : Placement) → AreOwn (pages_of (notes_on original p)) own_words
-are_own original p = record {
-  first = inl refl;
-  within = λ a among. within a among;
+-- a word of the page, by its address
+record IsOfPage (a : ℕ) : Type 0 where
+  from : page_word 0 ≤ a
+  to : a + 4 ≤ page_word 0 + 4096
+
+of_page : (a : ℕ) → IsAmongWords own_words a → IsOfPage a
+of_page a (inl is) = record { from = omega (arith, is); to = omega (arith, is) }
+of_page a (inr (inl is)) = record { from = omega (arith, is); to = omega (arith, is) }
+of_page a (inr (inr (inl is))) = record { from = omega (arith, is); to = omega (arith, is) }
+of_page a (inr (inr (inr (inl is)))) = record { from = omega (arith, is); to = omega (arith, is) }
+of_page a (inr (inr (inr (inr none)))) = absurd none
+
+among_words : (n : ℕ) → n < 4 → IsAmongWords own_words (page_word n)
+among_words zero l = inl refl
+among_words (suc zero) l = inr (inl refl)
+among_words (suc (suc zero)) l = inr (inr (inl refl))
+among_words (suc (suc (suc zero))) l = inr (inr (inr (inl refl)))
+among_words (suc (suc (suc (suc n)))) l = absurd (omega (arith, l))
+
+-- a frame without a table
+abbrev pub frame : Frame
+frame = record { table = record { base = 0; bytes = [] }; own = own_words }
+
+pub is_framed : (original : List ℕ) (p : Placement) (g : Setting) → g.notes ≡ notes_on original p → IsFramed g frame
+is_framed original p g same = record {
+  own = subst (λ (n : Notes). AreOwn (pages_of n) own_words) (sym same) (record { first = inl refl; within = within });
+  page = among_words;
+  table = λ a from to. absurd (omega (arith, to));
+  apart = λ a among. inr (omega arith);
 }
   where
     within : (a : ℕ) → IsAmongWords own_words a → IsIn (pages_of (notes_on original p)) a
-    within a (inl is) = inr (inl (omega (arith, is), omega (arith, is)))
-    within a (inr none) = absurd none
+    within a among = let is = of_page a among in let from = is.from in let to = is.to in inr (inl (from, to))
 
 -- ---- regions
 
@@ -111,66 +138,65 @@ module _ (original : List ℕ) (p : Placement) (place : ℕ → ℕ → ℕ) (fi
       ≡ option_or (find q kept_regions) (find q (code_region ∷ page_region ∷ stack_region texts ∷ []))
   found_in q = ap (find q) regions_are ∙ find-append q kept_regions (code_region ∷ page_region ∷ stack_region texts ∷ [])
 
-  base_below : (image_of original).base ≤ page_word 0
-  base_below = let low = (accepted-program original is.taken.reads.sound).below in omega (arith, low)
+  module _ (a : ℕ) (of : IsOfPage a) where
+    none_kept : find (covers a 4) kept_regions ≡ None
+    none_kept =
+        let low = (accepted-program original is.taken.reads.sound).below in
+        let from = of.from in
+        find_regions (covers a 4) (map kept (mappings original))
+        ∙ ap (option_map region_of) (original_covers original a (omega (arith, low, from)))
 
-  none_kept : find (covers (page_word 0) 4) kept_regions ≡ None
-  none_kept =
-      find_regions (covers (page_word 0) 4) (map kept (mappings original))
-      ∙ ap (option_map region_of) (original_covers original (page_word 0) base_below)
+    code_low : covers a 4 code_region ≡ false
+    code_low = let low = is.code.laid.low in let from = of.from in none_covers a code_region (omega (arith, low, from))
 
-  code_low : covers (page_word 0) 4 code_region ≡ false
-  code_low = let low = is.code.laid.low in none_covers (page_word 0) code_region (omega (arith, low))
+    stack_low : covers a 4 (stack_region texts) ≡ false
+    stack_low = let from = of.from in none_covers a (stack_region texts) (omega (arith, from))
 
-  page_found : find (covers (page_word 0) 4) (start_memory file texts).regions ≡ Some page_region
-  page_found =
-      found_in (covers (page_word 0) 4)
-      ∙ ap (λ found. option_or found (find (covers (page_word 0) 4) (code_region ∷ page_region ∷ stack_region texts ∷ []))) none_kept
-      ∙ ap (λ (b : Bool). cond b (Some code_region) (find (covers (page_word 0) 4) (page_region ∷ stack_region texts ∷ []))) code_low
+    page_covers : covers a 4 page_region ≡ true
+    page_covers =
+        let from = of.from in
+        let to = of.to in
+        and_from _ _ (le-leb page_region.start a from) (le-leb (a + 4) (page_region.start + page_region.size) to)
 
-  word_at_page : HasWordAt (page_word 0) true (start_memory file texts)
-  word_at_page = record {
-    start = refl;
-    size = omega arith;
-    away = inr (omega arith);
-    region = page_region;
-    at = page_found;
-    readable = refl;
-    may_write = refl;
-    whole = region_whole (mapping_added page_segment);
-  }
+    page_found : find (covers a 4) (start_memory file texts).regions ≡ Some page_region
+    page_found =
+        found_in (covers a 4)
+        ∙ ap (λ found. option_or found (find (covers a 4) (code_region ∷ page_region ∷ stack_region texts ∷ []))) none_kept
+        ∙ ap (λ (b : Bool). cond b (Some code_region) (find (covers a 4) (page_region ∷ stack_region texts ∷ []))) code_low
+        ∙ ap (λ (b : Bool). cond b (Some page_region) (find (covers a 4) (stack_region texts ∷ []))) page_covers
 
-  apart_from_page : (from count : ℕ) → 0 < count → IsApartFromAll (pages_of (notes_on original p)) (record { from = from; count = count })
-      → covers from count page_region ≡ true → ⊥
-  apart_from_page from count some apart found = go apart.1.0 (inside_region page_region from count found)
-    where
-      go : (page_word 0 + 4096 ≤ from) ⊎ (from + count ≤ page_word 0)
-          → (page_word 0 ≤ from) × (from + count ≤ page_word 0 + 4096) → ⊥
-      go (inl after) inside = let a = inside.1 in omega (arith, after, a, some)
-      go (inr before) inside = let a = inside.0 in omega (arith, before, a, some)
+    word_at_page : HasWordAt a true (start_memory file texts)
+    word_at_page = let from = of.from in record {
+      start = refl;
+      size = omega arith;
+      away = inr (omega (arith, from));
+      region = page_region;
+      at = page_found;
+      readable = refl;
+      may_write = refl;
+      whole = region_whole (mapping_added page_segment);
+    }
 
-  alone_at_page : (from count : ℕ) → 0 < count → IsApartFromAll (pages_of (notes_on original p)) (record { from = from; count = count })
-      → HasNot (page_word 0) (find (covers from count) (start_memory file texts).regions)
-  alone_at_page from count some apart =
-      subst (HasNot (page_word 0)) (sym (found_in (covers from count)))
-      (or_has_not (page_word 0) (find (covers from count) kept_regions) _ (found_has_not kept_regions (page_word 0) from count none_kept)
-      (unless_found (page_word 0) (covers from count code_region) code_region _ (λ found. code_low)
-      (unless_found (page_word 0) (covers from count page_region) page_region _ (λ found. absurd (apart_from_page from count some apart found))
-      (unless_found (page_word 0) (covers from count (stack_region texts)) (stack_region texts) None (λ found. refl) tt))))
+    apart_from_page : (from count : ℕ) → 0 < count → IsApartFromAll (pages_of (notes_on original p)) (record { from = from; count = count })
+        → covers from count page_region ≡ true → ⊥
+    apart_from_page from count some apart found = go apart.1.0 (inside_region page_region from count found)
+      where
+        go : (page_word 0 + 4096 ≤ from) ⊎ (from + count ≤ page_word 0)
+            → (page_word 0 ≤ from) × (from + count ≤ page_word 0 + 4096) → ⊥
+        go (inl after) inside = let b = inside.1 in omega (arith, after, b, some)
+        go (inr before) inside = let b = inside.0 in omega (arith, before, b, some)
+
+    alone_at_page : (from count : ℕ) → 0 < count → IsApartFromAll (pages_of (notes_on original p)) (record { from = from; count = count })
+        → HasNot a (find (covers from count) (start_memory file texts).regions)
+    alone_at_page from count some apart =
+        subst (HasNot a) (sym (found_in (covers from count)))
+        (or_has_not a (find (covers from count) kept_regions) _ (found_has_not kept_regions a from count none_kept)
+        (unless_found a (covers from count code_region) code_region _ (λ found. code_low)
+        (unless_found a (covers from count page_region) page_region _ (λ found. absurd (apart_from_page from count some apart found))
+        (unless_found a (covers from count (stack_region texts)) (stack_region texts) None (λ found. stack_low) tt))))
 
   pub owned : IsOurs (pages_of (notes_on original p)) own_words (start_memory file texts)
   owned = record {
-    words = λ a among. words a among;
-    alone = λ a from count among. alone a from count among;
+    words = λ a among. word_at_page a (of_page a among);
+    alone = λ a from count among. alone_at_page a (of_page a among) from count;
   }
-    where
-      words : (a : ℕ) → IsAmongWords own_words a → HasWordAt a true (start_memory file texts)
-      words a (inl same) = subst (λ a. HasWordAt a true (start_memory file texts)) (sym same) word_at_page
-      words a (inr none) = absurd none
-
-      alone : (a from count : ℕ) → IsAmongWords own_words a → 0 < count
-          → IsApartFromAll (pages_of (notes_on original p)) (record { from = from; count = count })
-          → HasNot a (find (covers from count) (start_memory file texts).regions)
-      alone a from count (inl same) some apart =
-          subst (λ a. HasNot a (find (covers from count) (start_memory file texts).regions)) (sym same) (alone_at_page from count some apart)
-      alone a from count (inr none) some apart = absurd none

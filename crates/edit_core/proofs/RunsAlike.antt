@@ -1,8 +1,9 @@
 -- What was written of an original has runs like the original's.
-use Rattle.std.proofs.Common.{◌≡◌, ℕ, zero, suc, ◌+◌, ◌*◌, ◌<◌, ◌≤◌, Bool, true, ◌||◌, List, [], ◌∷◌, length, Some, refl, ap, sym, ◌∙◌, inl, arith}
+use Rattle.std.proofs.Common.{◌≡◌, ℕ, zero, suc, ◌+◌, ◌*◌, ◌<◌, ◌≤◌, ◌⊎◌, inl, inr, Bool, true, false, ◌&&◌, ◌||◌, cond, nat_le, nat_lt, List, [], ◌∷◌, length, Option, Some, None, refl, ap, sym, ◌∙◌, arith}
 use Rattle.std.specs.List.{list_any}
-use Rattle.std.proofs.lemmas.Bool.{and_from, le-leb}
-use Rattle.elf32_sparc.specs.Notes.{NoteSegment, holds}
+use Rattle.std.proofs.lemmas.Bool.{and_from, cases_lt, le-leb, lt-leb, or_parts}
+use Rattle.std.proofs.lemmas.Bool.Decides.{nat_tests}
+use Rattle.elf32_sparc.specs.Notes.{NoteRange, NoteSegment, holds}
 use Rattle.elf32_sparc.specs.Image.{image_of}
 use Rattle.eel_base.specs.CodeText.{Words, IsText, word_at}
 use Rattle.v8_step.specs.State.{State}
@@ -18,7 +19,7 @@ use Rattle.cfg_walk.specs.Matches.{FetchesOnly, BeginsAt}
 use Rattle.cfg_walk.specs.Walk.{gone_in, point_of}
 use Rattle.walk_counts.proofs.Fetching.{only_text_is_fetched}
 use Rattle.walk_counts.proofs.Files.{begins, entry_is}
-use Rattle.layout.specs.Laid.{Placement}
+use Rattle.layout.specs.Laid.{Ascend, Placement, range_in}
 use Rattle.image_code.specs.Simulates.{Setting, Store, graph_in as graph_of_setting, limit_on, operations_on, updates}
 use Rattle.image_code.specs.Images.{AreNoted, CountsNothing, Frame, Here, IsPlaced, Pieces, visited_by}
 use Rattle.image_code.specs.Cases.{Everything}
@@ -30,10 +31,11 @@ use Rattle.edit_core.specs.Runs.{Linked, Rests}
 use Rattle.edit_core.specs.RunsAlike.{AreRunsAlike, IsWithin, step_limit}
 use Rattle.edit_core.specs.Whole.{Answered, EveryItem}
 use Rattle.edit_core.specs.Written.{EditsRunAlike, IsEdit, base_of, given_of, graph_in, notes_on, text_of}
-use Rattle.edit_core.proofs.CodeFetched.{has_code}
+use Rattle.edit_core.proofs.CodeFetched.{has_code, only_code}
 use Rattle.edit_core.proofs.Faithful.{word_here}
 use Rattle.edit_core.proofs.Originals.{image_text}
-use Rattle.edit_core.proofs.Owned.{are_own, own_words, owned}
+use Rattle.edit_core.proofs.Owned.{frame, is_framed, owned}
+use Rattle.edit_core.proofs.Ranges.{ends_by}
 use Rattle.edit_core.proofs.Starts.{file_valid, memory_alike, original_valid}
 use Rattle.edit_core.proofs.Taken.{branches_only}
 use Rattle.edit_core.proofs.Whole.{all_is_kept, edits_answer}
@@ -55,9 +57,6 @@ setting original p = record {
 abbrev pieces : List ℕ → Pieces
 pieces original = pieces_in (text_of original) (graph_in original)
 
-abbrev frame : Frame
-frame = record { off = 0; own = own_words }
-
 still : (edges cells : List ℕ) (s : State) → updates no_store edges cells s ≡ cells
 still [] cells s = refl
 still (edge ∷ edges) cells s = still edges cells s
@@ -69,19 +68,59 @@ no_operations (edge ∷ edges) = let later = no_operations edges in omega (arith
 counts_nothing : (original : List ℕ) (p : Placement) → CountsNothing (setting original p)
 counts_nothing original p = record { none = λ t. refl; still = still }
 
-are_noted : (original : List ℕ) (p : Placement) → AreNoted (setting original p) (base_of original) p
-are_noted original p = record {
+-- ranges lie in the code's page
+none_below : (from to a : ℕ) (rs : List NoteRange) → Ascend from to rs → a < from → range_in rs a ≡ None
+none_below from to a [] ascend below = refl
+none_below from to a (r ∷ rs) ascend below =
+    let low = ascend.0 in
+    let some = ascend.1 in
+    ap (λ (b : Bool). cond (b && nat_lt a r.hi) (Some r) (range_in rs a)) (lt-leb r.lo a (omega (arith, low, below)))
+    ∙ none_below r.hi to a rs ascend.2 (omega (arith, low, some, below))
+
+none_past : (from to a : ℕ) (rs : List NoteRange) → Ascend from to rs → to ≤ a → range_in rs a ≡ None
+none_past from to a [] ascend past = refl
+none_past from to a (r ∷ rs) ascend past =
+    let later = ends_by r.hi to rs ascend.2 in
+    unfound r a (range_in rs a) (omega (arith, later, past)) ∙ none_past r.hi to a rs ascend.2 past
+  where
+    unfound : (r : NoteRange) (a : ℕ) (rest : Option NoteRange) → r.hi ≤ a
+        → cond (nat_le r.lo a && nat_lt a r.hi) (Some r) rest ≡ rest
+    unfound r a rest past = grind (arith, nat_tests)
+
+-- an address that a page doesn't hold
+beside_page : (segment : NoteSegment) (a : ℕ) → holds a (a + 1) segment ≡ false
+    → (a < segment.start) ⊎ (segment.start + segment.length ≤ a)
+beside_page segment a none = elim (cases_lt a segment.start) [
+  | inl below ↦ inl below
+  | inr from ↦ inr (past from)
+]
+  where
+    past : segment.start ≤ a → segment.start + segment.length ≤ a
+    past from = grind (arith, nat_tests)
+
+none_beside : (base : ℕ) (p : Placement) (a : ℕ) → Ascend base (base + 4 * length p.code) p.ranges
+    → (a < base) ⊎ (base + 4 * length p.code ≤ a) → range_in p.ranges a ≡ None
+none_beside base p a ascend (inl below) = none_below base (base + 4 * length p.code) a p.ranges ascend below
+none_beside base p a ascend (inr past) = none_past base (base + 4 * length p.code) a p.ranges ascend past
+
+are_noted : (original : List ℕ) (p : Placement) → Ascend (base_of original) (base_of original + 4 * length p.code) p.ranges
+    → AreNoted (setting original p) (base_of original) p
+are_noted original p ascend = record {
   inside = λ a from to. ap (λ (b : Bool). b || list_any (holds a (a + 1)) (record { start = editor_page; length = page_size } ∷ []))
       (and_from _ _ (le-leb (base_of original) a from) (le-leb (a + 1) (base_of original + 4 * length p.code) (omega (arith, to))));
   ranges = λ a from to. refl;
+  outside = λ a out. none_beside (base_of original) p a ascend
+      (beside_page (record { start = base_of original; length = 4 * length p.code }) a
+      (or_parts (holds a (a + 1) (record { start = base_of original; length = 4 * length p.code })) _ out).0);
+  blocks = refl;
 }
 
 module _ (original : List ℕ) (p : Placement) (place : ℕ → ℕ → ℕ) (file : List ℕ) (is : IsEdit original p place file) where
   placed : IsPlaced (setting original p) (pieces original) (base_of original) p place frame
   placed = record {
     laid = is.code.laid;
-    noted = are_noted original p;
-    own = are_own original p;
+    noted = are_noted original p is.code.laid.ascend;
+    frame = is_framed original p (setting original p) refl;
     counts = counts_nothing original p;
   }
 
@@ -117,8 +156,12 @@ module _ (original : List ℕ) (p : Placement) (place : ℕ → ℕ → ℕ) (fi
       at = is.entered ∙ ap (λ found. visited_by (setting original p) (pieces original) p frame node (point_of s0) found NoSlot) (sym entry_here);
       npc = refl;
       slot = refl;
-      code = has_code original p place file is (program_name ∷ args);
-      ours = owned original p place file is (program_name ∷ args);
+      memory = record {
+        code = has_code original p place file is (program_name ∷ args);
+        only = only_code original p place file is (program_name ∷ args);
+        ours = owned original p place file is (program_name ∷ args);
+        table = λ a from to. absurd (omega (arith, to));
+      };
       waits = λ taken way. absurd (cc);
     }
 

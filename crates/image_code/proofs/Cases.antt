@@ -51,9 +51,10 @@ use Rattle.layout.specs.Laid.{Placement, item_at, item_in, items_in, size_of, op
 use Rattle.layout.specs.Running.{HasCode, CanRun}
 use Rattle.layout.proofs.Going.{stays, jumps_hop, words_stand}
 use Rattle.image_code.specs.Simulates.{updates, Setting, StepsOn, IsOnWay, IsFollowedBy, at_point, does_at, gone_at, graph_in, number_in, word_of}
-use Rattle.image_code.specs.Images.{Pieces, Frame, Here, IsPlaced, visited_at}
+use Rattle.image_code.specs.Images.{Pieces, Frame, HasImages, Here, IsPlaced, visited_at}
 use Rattle.image_code.specs.Cases.{Everything, visits_it, LeadsTo, LeadsOn, plain_piece, IsPlain, PlainsVisit, PlainsStep}
 use Rattle.image_code.proofs.Ended.{stops_act}
+use Rattle.image_code.proofs.Memories.{fetch_is, images_stay, images_stored, same_stored}
 
 -- ---- small things
 
@@ -62,10 +63,6 @@ live_before s zero j e = (let f : j ≡ zero + j = omega arith in ap (λ z. (run
 live_before s (suc k) j e =
     live_before s k j (walks.live_before (run s (k + j))
     ((let f : suc (k + j) ≡ suc k + j = omega arith in ap (λ z. (run s z).ending) f) ∙ e))
-
-pub fetch_is : (m : Memory) (a : ℕ) → fetch_of m a ≡ fetch_from (code_of m) a
-unfolding fetch_of
-fetch_is m a = refl
 
 each_weaker : (May Might : ℕ → Type 0) → ((z : ℕ) → May z → Might z) → (ws : List (ℕ × ℕ)) → AllAt May ws
     → AllAt Might ws
@@ -189,27 +186,19 @@ module _ (g : Setting) (l : Pieces) (base : ℕ) (p : Placement) (place : ℕ �
   cells_same edges t v after = h.counts.none after ∙ sym (h.counts.still edges (g.cells_of t) v ∙ h.counts.none t)
 
   pub can_run : (t : State) → IsValid t → t.ending ≡ None → t.npc ≡ t.pc + 4 → t.slot ≡ NoSlot
-      → HasCode base p.code t.memory
-      → IsOurs (pages_of g.notes) f.own t.memory → CanRun base p.code t
-  can_run t valid live npc slot code ours = record {
+      → HasImages g base p f t.memory → CanRun base p.code t
+  can_run t valid live npc slot has = record {
     valid = valid;
     ready = record { live = live; npc = npc };
     slot = slot;
-    page = stores_there (page_word 0) t.memory (ours.words (page_word 0) h.own.first);
-    code = code;
+    page = stores_there (page_word 0) t.memory (has.ours.words (page_word 0) h.frame.own.first);
+    code = has.code;
   }
 
-  pub code_after : (t : State) (k : ℕ) → HasCode base p.code t.memory → HasCode base p.code (run t k).memory
-  code_after t k code n word e =
-      sym (fetch_is (run t k).memory (base + 4 * n)) ∙ code_stays.1 t k (base + 4 * n)
-      ∙ fetch_is t.memory (base + 4 * n) ∙ code n word e
-
-  -- words stored in word 0 of the page leave all else
-  pub own_stored : (m n : Memory) → IsOurs (pages_of g.notes) f.own m → Stores IsFirstWord m n
-      → IsOurs (pages_of g.notes) f.own n × IsSameOutside (pages_of g.notes) m n
-  own_stored m n ours k =
-      ours_are_stored (pages_of g.notes) f.own m n ours
-      (stores_weaker IsFirstWord (IsAmongWords f.own) m n (λ z e. subst (IsAmongWords f.own) (sym e) h.own.first) k)
+  -- word 0 of the page is one of the editor's
+  pub first_own : (m n : Memory) → Stores IsFirstWord m n → Stores (IsAmongWords f.own) m n
+  first_own m n stores =
+      stores_weaker IsFirstWord (IsAmongWords f.own) m n (λ z e. subst (IsAmongWords f.own) (sym e) h.frame.own.first) stores
 
   -- ---- where Jumps lead
 
@@ -296,7 +285,7 @@ module _ (g : Setting) (l : Pieces) (base : ℕ) (p : Placement) (place : ℕ �
   -- what it takes to run on
   pub record IsFit (a : State) : Type 0 where
     pub valid : IsValid a
-    pub ours : IsOurs (pages_of g.notes) f.own a.memory
+    pub has : HasImages g base p f a.memory
     pub runs : CanRun base p.code a
 
   pub hopped_fit : (a : State) (to : ℕ) → IsFit a → to ≤ 2 ^ 31 → (count : ℕ) (m : Memory)
@@ -304,11 +293,10 @@ module _ (g : Setting) (l : Pieces) (base : ℕ) (p : Placement) (place : ℕ �
       → IsFit (hopped a to m)
   hopped_fit a to k low count m steps stores =
       let valid : IsValid (hopped a to m) = subst IsValid steps (run-valid a count k.valid) in
-      let ours = (own_stored a.memory m k.ours stores).0 in
-      let code : HasCode base p.code m = subst (λ (z : State). HasCode base p.code z.memory) steps
-      (code_after a count k.runs.code) in
+      let has : HasImages g base p f m =
+      images_stored g f h.frame base p a (hopped a to m) count steps (first_own a.memory m stores) k.has in
       let npc : wrapped (to + 4) ≡ to + 4 = omega arith in
-      record { valid = valid; ours = ours; runs = can_run (hopped a to m) valid k.runs.ready.live npc refl code ours }
+      record { valid = valid; has = has; runs = can_run (hopped a to m) valid k.runs.ready.live npc refl has }
 
   -- from the beginning of a piece
   pub arrive : (z : PieceNo) (a : State) (to : ℕ) → IsFit a → a.pc ≡ slice_index p.at z.0 → LeadsTo l p z to
@@ -363,7 +351,7 @@ module _ (g : Setting) (l : Pieces) (base : ℕ) (p : Placement) (place : ℕ �
       let next = stands.0 in
       let npc = here.npc in
       let small : wrapped (t.pc + 4) ≡ t.pc + 4 = omega arith in
-      let ready : CanRun base p.code t = can_run t here.valid here.live (npc ∙ small) here.slot here.code here.ours in
+      let ready : CanRun base p.code t = can_run t here.valid here.live (npc ∙ small) here.slot here.memory in
       let fetched : fetch_from (code_of t.memory) t.pc ≡ Some word =
       (words_stand l.list base p place h.laid piece 1 word (item 1) t ready at).0 in
       record {
@@ -469,21 +457,19 @@ module _ (g : Setting) (l : Pieces) (base : ℕ) (p : Placement) (place : ℕ �
         let to = visited_at g l p f (node_after (graph_in g) node edges)
         (point_of (act (at_point x t) (decode_of c.word))) in
         let valid : IsValid (act t (decode_of c.word)) = subst IsValid stands.one (run-valid t 1 here.valid) in
-        let code : HasCode base p.code (act t (decode_of c.word)).memory = subst
-        (λ (z : State). HasCode base p.code z.memory) stands.one (code_after t 1 here.code) in
-        let ours = ours_stay (pages_of g.notes) f.own t (decode_of c.word) h.own here.ours apart in
+        let has : HasImages g base p f (act t (decode_of c.word)).memory =
+        images_stay g f h.frame base p t (decode_of c.word) stands.one apart here.memory in
         let fit : IsFit (act t (decode_of c.word)) = record {
           valid = valid;
-          ours = ours;
-          runs = can_run
-              (act t (decode_of c.word)) valid alive onpc went.2 code ours;
+          has = has;
+          runs = can_run (act t (decode_of c.word)) valid alive onpc went.2 has;
         } in
         let rest = tail c.piece c.rest (it.Mark c.address (number_in g node)) (it.Word c.word) c.items
         (act t (decode_of c.word)) to fit pc (omega arith) leads in
         let way = leads_then IsBare t (act t (decode_of c.word)) _ 1 rest.count (leads_one _ t _ stands.one) rest.path
         (λ _ some. rest.begins some) in
         let few = rest.few in
-        let kept = own_stored (act t (decode_of c.word)).memory rest.memory ours rest.stores in
+        let stores = first_own (act t (decode_of c.word)).memory rest.memory rest.stores in
         record {
           count = 1 + rest.count;
           after = hopped (act t (decode_of c.word)) to rest.memory;
@@ -500,7 +486,8 @@ module _ (g : Setting) (l : Pieces) (base : ℕ) (p : Placement) (place : ℕ �
               ∙ ap (λ z. run_puts t 1 descriptor ++ z) (rest.silent descriptor) ∙ append-nil (run_puts t 1 descriptor)
               ∙ puts_one descriptor;
           followed = followed (hopped
-              (act t (decode_of c.word)) to rest.memory) refl refl refl refl refl refl refl kept.1 edges;
+              (act t (decode_of c.word)) to rest.memory) refl refl refl refl refl refl refl
+              (same_stored g f h.frame base p _ rest.memory has stores) edges;
           cells = cells_same edges t _ _;
           here = λ _. record {
             valid = subst IsValid way.steps (run-valid t (1 + rest.count) here.valid);
@@ -508,9 +495,7 @@ module _ (g : Setting) (l : Pieces) (base : ℕ) (p : Placement) (place : ℕ �
             at = refl;
             npc = refl;
             slot = refl;
-            code = subst (λ (z : State). HasCode base p.code z.memory) way.steps
-                (code_after t (1 + rest.count) here.code);
-            ours = kept.0;
+            memory = images_stored g f h.frame base p (act t (decode_of c.word)) _ rest.count rest.path.steps stores has;
             waits = λ e. let none = vwent.2 in absurd (cc);
           };
           place = λ e. absurd (e live);

@@ -28,7 +28,8 @@ use Rattle.image_code.specs.Simulates.{Setting, StepsOn, IsOnWay, at_point, does
 use Rattle.image_code.specs.Images.{Pieces, Frame, Here, IsPlaced}
 use Rattle.image_code.specs.Cases.{Everything}
 use Rattle.image_code.specs.Couple.{couple_piece, IsCouple, CouplesStep}
-use Rattle.image_code.proofs.Cases.{on_range, node_is, cells_same, outside_refl, fetch_is, no_puts}
+use Rattle.image_code.proofs.Memories.{fetch_is}
+use Rattle.image_code.proofs.Cases.{on_range, node_is, cells_same, outside_refl, no_puts}
 
 couple_acts : (s : State) (x : Instr) → is_transfer x ≡ true → s.slot ≢ NoSlot → act s x ≡ ended s Couple
 unfolding act
@@ -114,7 +115,7 @@ module _ (g : Setting) (l : Pieces) (base : ℕ) (p : Placement) (place : ℕ �
 
   fetched : fetch_from (code_of t.memory) t.pc ≡ Some c.ba
   fetched = ap (fetch_from (code_of t.memory)) at ∙ word_is base
-      (place c.piece 1) c.ba p.code t.memory here.code first.1
+      (place c.piece 1) c.ba p.code t.memory here.memory.code first.1
 
   fetched_mid : fetch_from (code_of t.memory) t.npc ≡ Some c.ba
   fetched_mid =
@@ -122,7 +123,7 @@ module _ (g : Setting) (l : Pieces) (base : ℕ) (p : Placement) (place : ℕ �
       let a = at in
       let u = first.0 in
       ap (fetch_from (code_of t.memory)) (let e : t.npc ≡ place c.piece 2 = omega arith in e)
-      ∙ word_is base (place c.piece 2) c.ba p.code t.memory here.code second.1
+      ∙ word_is base (place c.piece 2) c.ba p.code t.memory here.memory.code second.1
 
   one : step_of t ≡ record t { pc = t.npc; npc = target_of t c.disp; slot = Taken }
   one = step_is t c.ba here.live fetched ∙ ap (act t) c.says

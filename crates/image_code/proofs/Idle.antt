@@ -34,7 +34,8 @@ use Rattle.image_code.specs.Images.{Pieces, Frame, Here, IsPlaced, visited_at}
 use Rattle.image_code.specs.Cases.{Everything, plain_piece}
 use Rattle.image_code.specs.Idle.{IsIdle, IdlesStep}
 use Rattle.image_code.proofs.BranchMoves.{branch_moves}
-use Rattle.image_code.proofs.Cases.{StandsAt, stands_at, fetch_is, can_run, code_after, tail, quiet_of, bare_on, IsBare, IsFit, own_stored, cells_same, same_at, no_puts}
+use Rattle.image_code.proofs.Memories.{fetch_is, images_stored, same_stored}
+use Rattle.image_code.proofs.Cases.{StandsAt, stands_at, can_run, first_own, tail, quiet_of, bare_on, IsBare, IsFit, cells_same, same_at, no_puts}
 
 module _ (g : Setting) (l : Pieces) (base : ℕ) (p : Placement) (place : ℕ → ℕ → ℕ) (f : Frame)
     (h : IsPlaced g l base p place f)
@@ -87,13 +88,13 @@ module _ (g : Setting) (l : Pieces) (base : ℕ) (p : Placement) (place : ℕ �
         slot = NoSlot;
       }) = record {
         valid = valid;
-        ours = here.ours;
+        has = here.memory;
         runs = can_run g l base p place f h (record t {
           pc = t.npc;
           npc = wrapped
               (t.npc + 4);
           slot = NoSlot;
-        }) valid here.live on refl here.code here.ours;
+        }) valid here.live on refl here.memory;
       } in
       let rest = tail g l base p place f h c.piece c.rest (it.Mark c.address (number_in g node))
       (it.Word c.word) c.items
@@ -102,7 +103,7 @@ module _ (g : Setting) (l : Pieces) (base : ℕ) (p : Placement) (place : ℕ �
       (record t { pc = t.npc; npc = wrapped (t.npc + 4); slot = NoSlot }) (hopped t to rest.memory) 1 rest.count
       (leads_one _ t _ idle_step) rest.path (λ _ some. rest.begins some) in
       let few = rest.few in
-      let kept = own_stored g l base p place f h t.memory rest.memory here.ours rest.stores in
+      let stores = first_own g l base p place f h t.memory rest.memory rest.stores in
       record {
         count = 1 + rest.count;
         after = hopped t to rest.memory;
@@ -129,7 +130,7 @@ module _ (g : Setting) (l : Pieces) (base : ℕ) (p : Placement) (place : ℕ �
           registers = sym (ap (λ (z : State). length z.registers) same);
           input = sym (ap (λ (z : State). z.input) same);
           memory = subst (λ (z : Memory). IsSameOutside (pages_of g.notes) z rest.memory)
-              (sym (ap (λ (z : State). z.memory) same)) kept.1;
+              (sym (ap (λ (z : State). z.memory) same)) (same_stored g f h.frame base p t.memory rest.memory here.memory stores);
           items = λ _ thing _ _. same_at thing v (hopped t to rest.memory) (ap (λ (z : State). z.registers) same)
               (ap (λ (z : State). z.codes) same) (ap (λ (z : State). z.y) same);
         };
@@ -140,9 +141,8 @@ module _ (g : Setting) (l : Pieces) (base : ℕ) (p : Placement) (place : ℕ �
           at = refl;
           npc = refl;
           slot = refl;
-          code = subst (λ (z : State). HasCode base p.code z.memory) way.steps
-              (code_after g l base p place f h t (1 + rest.count) here.code);
-          ours = kept.0;
+          memory = images_stored g f h.frame base p (record t { pc = t.npc; npc = wrapped (t.npc + 4); slot = NoSlot }) _
+              rest.count rest.path.steps stores here.memory;
           waits = λ a b. absurd (c.never a b);
         };
         place = λ e. absurd (e (ap (λ (z : State). z.ending) same ∙ here.live));

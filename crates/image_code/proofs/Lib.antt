@@ -1,3 +1,4 @@
+pub mod Memories
 pub mod Branches
 pub mod Ended
 pub mod Cases

@@ -35,7 +35,8 @@ use Rattle.image_code.specs.Images.{Pieces, Frame, Here, IsPlaced, visited_at, v
 use Rattle.image_code.specs.Cases.{Everything, LeadsTo, branch_piece}
 use Rattle.image_code.specs.Turns.{IsTurn, TurnsStep}
 use Rattle.image_code.proofs.BranchMoves.{IsMoved, branch_moves}
-use Rattle.image_code.proofs.Cases.{can_run, code_after, tail, arrive, quiet_of, bare_on, IsBare, IsFit, hopped_fit, Arrives, own_stored, on_range, cells_same, same_at, no_puts}
+use Rattle.image_code.proofs.Memories.{images_stored, same_stored}
+use Rattle.image_code.proofs.Cases.{can_run, first_own, tail, arrive, quiet_of, bare_on, IsBare, IsFit, hopped_fit, Arrives, on_range, cells_same, same_at, no_puts}
 
 module _ (g : Setting) (l : Pieces) (base : ℕ) (p : Placement) (place : ℕ → ℕ → ℕ) (f : Frame)
     (h : IsPlaced g l base p place f)
@@ -68,7 +69,7 @@ module _ (g : Setting) (l : Pieces) (base : ℕ) (p : Placement) (place : ℕ �
       let n = here.npc in
       can_run g l base p place f h t here.valid here.live
       (let e : t.npc ≡ t.pc + 4 = n ∙ (let q : wrapped (t.pc + 4)
-      ≡ t.pc + 4 = omega arith in q) in e) here.slot here.code here.ours
+      ≡ t.pc + 4 = omega arith in q) in e) here.slot here.memory
 
   hop : Goes t (if holds_of c.cond t.codes then slice_index p.at c.taken else place (l.image node c.number) 2)
       (place (l.image node c.number) 2) 2 6
@@ -154,7 +155,7 @@ module _ (g : Setting) (l : Pieces) (base : ℕ) (p : Placement) (place : ℕ �
       → IsFit g l base p place f h (hopped t to j.memory)
   of_hop_fit to low j =
       hopped_fit g l base p place f h t to
-      (record { valid = here.valid; ours = here.ours; runs = b_ready }) low j.count j.memory j.hops.path.steps j.hops.stores
+      (record { valid = here.valid; has = here.memory; runs = b_ready }) low j.count j.memory j.hops.path.steps j.hops.stores
 
   -- on from where the branch leads
   then_on : (mid to most : ℕ) (j : Goes t mid (place (l.image node c.number) 2) 2 6)
@@ -200,7 +201,7 @@ module _ (g : Setting) (l : Pieces) (base : ℕ) (p : Placement) (place : ℕ �
       → StepsOn g (Here g l base p f) Everything edges node x t v
   turned to most v m j bound edges is never =
       let few = j.few in
-      let kept = own_stored g l base p place f h t.memory j.memory here.ours j.stores in
+      let stores = first_own g l base p place f h t.memory j.memory j.stores in
       let w : State = moved m.pc m.npc m.slot t in
       let same : v ≡ moved m.pc m.npc m.slot t = m.is in
       record {
@@ -223,7 +224,7 @@ module _ (g : Setting) (l : Pieces) (base : ℕ) (p : Placement) (place : ℕ �
           registers = sym (ap (λ (z : State). length z.registers) same);
           input = sym (ap (λ (z : State). z.input) same);
           memory = subst (λ (z : Memory). IsSameOutside (pages_of g.notes) z j.memory)
-              (sym (ap (λ (z : State). z.memory) same)) kept.1;
+              (sym (ap (λ (z : State). z.memory) same)) (same_stored g f h.frame base p t.memory j.memory here.memory stores);
           items = λ _ thing _ _. same_at thing v (hopped t to j.memory) (ap (λ (z : State). z.registers) same)
               (ap (λ (z : State). z.codes) same) (ap (λ (z : State). z.y) same);
         };
@@ -234,9 +235,7 @@ module _ (g : Setting) (l : Pieces) (base : ℕ) (p : Placement) (place : ℕ �
           at = is;
           npc = refl;
           slot = refl;
-          code = subst (λ (z : State). HasCode base p.code z.memory) j.path.steps
-              (code_after g l base p place f h t j.count here.code);
-          ours = kept.0;
+          memory = images_stored g f h.frame base p t (hopped t to j.memory) j.count j.path.steps stores here.memory;
           waits = λ a b. absurd (never a b);
         };
         place = λ e. absurd (e (ap (λ (z : State). z.ending) same ∙ here.live));

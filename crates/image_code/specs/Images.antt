@@ -1,8 +1,9 @@
 -- Where a machine stands that visits a point of the original, and what it has.
-use Rattle.std.specs.Prelude.{◌≡◌, ℕ, ◌+◌, ◌-◌, ◌*◌, ◌<◌, ◌≤◌, true, List, [], ◌∷◌, length, Option, Some, None, slice_index}
+use Rattle.std.specs.Prelude.{◌≡◌, ℕ, ◌+◌, ◌-◌, ◌*◌, ◌%◌, ◌<◌, ◌≤◌, ◌⊎◌, true, false, List, [], ◌∷◌, length, Option, Some, None, slice_index}
 use Rattle.eel_base.specs.CodeText.{word_at}
 use Rattle.elf32_sparc.specs.Notes.{range_at}
 use Rattle.v8_alu.specs.Numbers.{wrapped}
+use Rattle.v8_memory.specs.Regions.{Memory, code_of, fetch_from}
 use Rattle.v8_step.specs.declared.Slot.{Slot}
 use Rattle.v8_step.specs.declared.Slot.TheVariants.{NoSlot, Taken}
 use Rattle.v8_step.specs.State.{State}
@@ -12,8 +13,9 @@ use Rattle.cfg_blocks.specs.declared.EdgeKind.TheVariants as kinds
 use Rattle.cfg_normal.specs.declared.Node.{Node}
 use Rattle.cfg_walk.specs.Walk.{Point, edge_from, instr_at, same_kind, way_of}
 use Rattle.code_runs.specs.StoredWords.{memory_word}
-use Rattle.code_runs.specs.Ours.{AreOwn, IsOurs}
+use Rattle.code_runs.specs.Ours.{AreOwn, HasWordAt, IsAmongWords, IsIn, IsOurs}
 use Rattle.code_runs.specs.Page.{page_word}
+use Rattle.addr_translate.specs.Lookup.{TableAt, table_word}
 use Rattle.layout.specs.declared.items.Item.{Item}
 use Rattle.layout.specs.Laid.{Placement, IsLaid, range_in}
 use Rattle.layout.specs.Running.{HasCode}
@@ -27,9 +29,9 @@ pub record Pieces : Type 0 where
   pub image : Node → ℕ → ℕ
   pub along : ℕ → ℕ
 
--- where a slot that is off the text has its place, and which words the editor's code may store
+-- the table that leads from addresses of the original to new code, and which words the editor's code may store
 pub record Frame : Type 0 where
-  pub off : ℕ
+  pub table : TableAt
   pub own : List ℕ
 
 abbrev pub along_first : Pieces → List ℕ → ℕ
@@ -40,15 +42,35 @@ along_first l (edge ∷ edges) = l.along edge
 abbrev pub slot_piece : Setting → Pieces → Node → Point → ℕ
 slot_piece g l node x = along_first l (edge_from (graph_in g) node (way_of (instr_at g.text (x.pc - 4)) x.slot))
 
+-- a slot that is off the text has its place where the table begins
 abbrev pub visited_by : Setting → Pieces → Placement → Frame → Node → Point → Option ℕ → Slot → ℕ
 visited_by g l p f node x (Some word) NoSlot = slice_index p.at (l.image node word)
 visited_by g l p f node x None NoSlot = x.pc
 visited_by g l p f node x (Some word) slot = slice_index p.at (slot_piece g l node x)
-visited_by g l p f node x None slot = f.off
+visited_by g l p f node x None slot = f.table.base
 
 -- the address at which the written file visits the point
 abbrev pub visited_at : Setting → Pieces → Placement → Frame → Node → Point → ℕ
 visited_at g l p f node x = visited_by g l p f node x (word_at g.text x.pc) x.slot
+
+-- ---- what its memory has all the while
+
+-- the table stands in memory, in words that can be loaded and not stored
+abbrev pub HasTable : TableAt → Memory → Type 0
+HasTable table m =
+    (a : ℕ) → table.base ≤ a → a + 4 ≤ table.base + length table.bytes → a % 4 ≡ 0
+    → HasWordAt a false m × (memory_word m a ≡ table_word table a)
+
+-- an address outside the code
+abbrev pub IsBeside : ℕ → List ℕ → ℕ → Type 0
+IsBeside base code a = (a < base) ⊎ (base + 4 * length code ≤ a)
+
+-- The code can be executed, and nothing else; the editor's words are its own, and the table stands.
+pub record HasImages (g : Setting) (base : ℕ) (p : Placement) (f : Frame) (m : Memory) : Type 0 where
+  pub code : HasCode base p.code m
+  pub only : (a : ℕ) → IsBeside base p.code a → fetch_from (code_of m) a ≡ None
+  pub ours : IsOurs (pages_of g.notes) f.own m
+  pub table : HasTable f.table m
 
 -- ---- a machine at the visit of a point
 
@@ -59,8 +81,7 @@ pub record Here (g : Setting) (l : Pieces) (base : ℕ) (p : Placement) (f : Fra
   pub at : t.pc ≡ visited_at g l p f node x
   pub npc : t.npc ≡ wrapped (t.pc + 4)
   pub slot : t.slot ≡ NoSlot
-  pub code : HasCode base p.code t.memory
-  pub ours : IsOurs (pages_of g.notes) f.own t.memory
+  pub memory : HasImages g base p f t.memory
   -- in the slot of a jump, its target waits in word 1 of the page
   pub waits : x.slot ≡ Taken → same_kind (way_of (instr_at g.text (x.pc - 4)) x.slot) kinds.Out ≡ true
       → memory_word t.memory (page_word 1) ≡ x.npc
@@ -70,6 +91,16 @@ pub record Here (g : Setting) (l : Pieces) (base : ℕ) (p : Placement) (f : Fra
 pub record AreNoted (g : Setting) (base : ℕ) (p : Placement) : Type 0 where
   pub inside : (a : ℕ) → base ≤ a → a < base + 4 * length p.code → in_pages g.notes a ≡ true
   pub ranges : (a : ℕ) → base ≤ a → a < base + 4 * length p.code → range_at g.notes a ≡ range_in p.ranges a
+  -- outside the pages nothing has a place, and all is at the node after the blocks
+  pub outside : (a : ℕ) → in_pages g.notes a ≡ false → range_at g.notes a ≡ None
+  pub blocks : length g.notes.blocks ≡ length (graph_in g).blocks.firsts
+
+-- the words of the editor's page that its code stores, and the table, which they leave alone
+pub record IsFramed (g : Setting) (f : Frame) : Type 0 where
+  pub own : AreOwn (pages_of g.notes) f.own
+  pub page : (n : ℕ) → n < 4 → IsAmongWords f.own (page_word n)
+  pub table : (a : ℕ) → f.table.base ≤ a → a + 4 ≤ f.table.base + length f.table.bytes → IsIn (pages_of g.notes) a
+  pub apart : (a : ℕ) → IsAmongWords f.own a → (a + 4 ≤ f.table.base) ⊎ (f.table.base + length f.table.bytes ≤ a)
 
 -- an edit without snippets: no cells
 pub record CountsNothing (g : Setting) : Type 0 where
@@ -80,5 +111,5 @@ pub record CountsNothing (g : Setting) : Type 0 where
 pub record IsPlaced (g : Setting) (l : Pieces) (base : ℕ) (p : Placement) (place : ℕ → ℕ → ℕ) (f : Frame) : Type 0 where
   pub laid : IsLaid l.list base p place
   pub noted : AreNoted g base p
-  pub own : AreOwn (pages_of g.notes) f.own
+  pub frame : IsFramed g f
   pub counts : CountsNothing g

@@ -37,7 +37,7 @@ word_in-region r k =
     ap (λ (at : ℕ). from_be_bytes w32 (take 4 (drop at r.bytes))) here ∙ word_of-bytes (drop k r.bytes)
 
 -- the code begins with the first mapping that is code
-code-from : (before after : List Mapping) (rest : List Region) (code : Mapping)
+pub code-from : (before after : List Mapping) (rest : List Region) (code : Mapping)
     → list_any (λ m. is_code (region_of m)) before ≡ false → is_code (region_of code) ≡ true
     → filter is_code (map region_of (before ++ code ∷ after) ++ rest)
     ≡ region_of code ∷ filter is_code (map region_of after ++ rest)

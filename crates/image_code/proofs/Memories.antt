@@ -1,0 +1,96 @@
+-- The memory of a written file keeps its code, the editor's words and the table.
+use Rattle.std.proofs.Common.{◌≡◌, ℕ, ◌+◌, ◌*◌, ◌≤◌, ◌⊎◌, inl, inr, false, List, [], ◌∷◌, length, None, refl, ap, sym, ◌∙◌, subst, arith}
+use Rattle.std.specs.Int.{w32, to_be_bytes}
+use Rattle.v8_decode.specs.declared.Instr.{Instr}
+use Rattle.v8_memory.specs.Regions.{Memory, code_of, fetch_of, fetch_from}
+use Rattle.v8_memory.specs.Spans.{AllApart, IsSameOutside}
+use Rattle.v8_step.specs.State.{State}
+use Rattle.v8_step.specs.Step.{act, step_of}
+use Rattle.v8_step.specs.Run.{run}
+use Rattle.v8_step.specs.Judged.{judged_by}
+use Rattle.v8_step.specs.Visits.{pages_of}
+use Rattle.v8_step.proofs.Executable.{code_of-run}
+use Rattle.code_runs.specs.StoredWords.{AllAt, Stores, memory_word, store_all, store_word}
+use Rattle.code_runs.specs.Ours.{HasWordAt, IsAmongWords}
+use Rattle.code_runs.proofs.Ours.{ours_are_stored, ours_stay}
+use Rattle.code_runs.proofs.Stays.{region_of_word, there_written, words_stay}
+use Rattle.code_runs.proofs.StoredWords.{other_loaded}
+use Rattle.addr_translate.specs.Lookup.{TableAt, table_word}
+use Rattle.layout.specs.Laid.{Placement}
+use Rattle.image_code.specs.Simulates.{Setting}
+use Rattle.image_code.specs.Images.{Frame, HasImages, HasTable, IsFramed}
+
+pub fetch_is : (m : Memory) (a : ℕ) → fetch_of m a ≡ fetch_from (code_of m) a
+unfolding fetch_of
+fetch_is m a = refl
+
+-- ---- the table, where words are stored beside it
+
+word_beside : (m : Memory) (a b v : ℕ) → (a + 4 ≤ b) ⊎ (b + 4 ≤ a) → HasWordAt a false m
+    → HasWordAt a false (store_word m b v) × (memory_word (store_word m b v) a ≡ memory_word m a)
+unfolding store_word
+word_beside m a b v apart has = (
+  there_written a b false (to_be_bytes w32 v) m has,
+  other_loaded m a b v
+      (record { region = has.region; at = region_of_word a false m has ∙ has.at; readable = has.readable }) has.whole apart,
+)
+
+table_beside : (table : TableAt) (m : Memory) (b v : ℕ)
+    → (b + 4 ≤ table.base) ⊎ (table.base + length table.bytes ≤ b) → HasTable table m → HasTable table (store_word m b v)
+table_beside table m b v apart has a from to aligned =
+    let old = has a from to aligned in
+    let new = word_beside m a b v (apart_word apart) old.0 in
+    (new.0, new.1 ∙ old.1)
+  where
+    apart_word : (b + 4 ≤ table.base) ⊎ (table.base + length table.bytes ≤ b) → (a + 4 ≤ b) ⊎ (b + 4 ≤ a)
+    apart_word (inl below) = inr (omega arith)
+    apart_word (inr above) = inl (omega arith)
+
+module _ (g : Setting) (f : Frame) (framed : IsFramed g f) where
+  table_after_all : (ws : List (ℕ × ℕ)) (m : Memory) → AllAt (IsAmongWords f.own) ws → HasTable f.table m
+      → HasTable f.table (store_all ws m)
+  table_after_all [] m each has = has
+  table_after_all (w ∷ ws) m each has =
+      table_after_all ws (store_word m w.0 w.1) each.1 (table_beside f.table m w.0 w.1 (framed.apart w.0 each.0) has)
+
+  table_stored : (m n : Memory) → Stores (IsAmongWords f.own) m n → HasTable f.table m → HasTable f.table n
+  table_stored m n stores has =
+      subst (HasTable f.table) (sym stores.result) (table_after_all stores.writes m stores.each has)
+
+  table_stays : (s : State) (x : Instr) → AllApart (pages_of g.notes) (judged_by s x) → HasTable f.table s.memory
+      → HasTable f.table (act s x).memory
+  table_stays s x apart has a from to aligned =
+      let old = has a from to aligned in
+      let new = words_stay (pages_of g.notes) a false s x (framed.table a from to) apart old.0 in
+      (new.0, new.1 ∙ old.1)
+
+  module _ (base : ℕ) (p : Placement) where
+    -- so many steps that stored the editor's words alone
+    pub images_stored : (t after : State) (count : ℕ) → run t count ≡ after → Stores (IsAmongWords f.own) t.memory after.memory
+        → HasImages g base p f t.memory → HasImages g base p f after.memory
+    images_stored t after count steps stores has =
+        let same : code_of after.memory ≡ code_of t.memory =
+        ap (λ (z : State). code_of z.memory) (sym steps) ∙ code_of-run t count in
+        record {
+          code = λ n word at. ap (λ code. fetch_from code (base + 4 * n)) same ∙ has.code n word at;
+          only = λ a beside. ap (λ code. fetch_from code a) same ∙ has.only a beside;
+          ours = (ours_are_stored (pages_of g.notes) f.own t.memory after.memory has.ours stores).0;
+          table = table_stored t.memory after.memory stores has.table;
+        }
+
+    pub same_stored : (m n : Memory) → HasImages g base p f m → Stores (IsAmongWords f.own) m n
+        → IsSameOutside (pages_of g.notes) m n
+    same_stored m n has stores = (ours_are_stored (pages_of g.notes) f.own m n has.ours stores).1
+
+    -- a step that judges no byte of the pages
+    pub images_stay : (t : State) (x : Instr) → step_of t ≡ act t x → AllApart (pages_of g.notes) (judged_by t x)
+        → HasImages g base p f t.memory → HasImages g base p f (act t x).memory
+    images_stay t x one apart has =
+        let same : code_of (act t x).memory ≡ code_of t.memory =
+        ap (λ (z : State). code_of z.memory) (sym one) ∙ code_of-run t 1 in
+        record {
+          code = λ n word at. ap (λ code. fetch_from code (base + 4 * n)) same ∙ has.code n word at;
+          only = λ a beside. ap (λ code. fetch_from code a) same ∙ has.only a beside;
+          ours = ours_stay (pages_of g.notes) f.own t x framed.own has.ours apart;
+          table = table_stays t x apart has.table;
+        }
