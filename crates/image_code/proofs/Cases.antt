@@ -13,7 +13,7 @@ use Rattle.v8_memory.specs.Regions.{Memory, Region, code_of, fetch_of, fetch_fro
 use Rattle.v8_memory.specs.Spans.{Span, AllApart, IsSameOutside, IsSameRegion}
 use Rattle.v8_step.specs.declared.Ending.{Ending}
 use Rattle.v8_step.specs.declared.Slot.TheVariants.{NoSlot}
-use Rattle.v8_step.specs.State.{State}
+use Rattle.v8_step.specs.State.{State, register_of}
 use Rattle.v8_step.specs.Step.{act, step_of, on_word, puts_by, puts_on_word}
 use Rattle.v8_step.specs.Run.{run, run_puts}
 use Rattle.v8_step.specs.Items.{Item as Thing, Register, Codes, YRegister, IsSameAt}
@@ -28,7 +28,7 @@ use Rattle.v8_step.proofs.ValidSteps.{run-valid}
 use Rattle.cfg_walk.proofs.Walks as walks
 use Rattle.cfg_walk.specs.Walk.{Point, point_of, node_after}
 use Rattle.cfg_normal.specs.declared.Node.{Node}
-use Rattle.code_runs.specs.StoredWords.{AllAt, Stores}
+use Rattle.code_runs.specs.StoredWords.{AllAt, Stores, store_word}
 use Rattle.code_runs.specs.Leads.{Leads, IsSilent}
 use Rattle.code_runs.specs.Points.{moved}
 use Rattle.code_runs.specs.Hops.{hopped}
@@ -40,7 +40,11 @@ use Rattle.code_runs.proofs.Points.{acts_anywhere}
 use Rattle.code_runs.proofs.TwoRegisters.{stores_none}
 use Rattle.code_runs.proofs.Stays.{stores_there}
 use Rattle.code_runs.specs.Ours.{IsOurs}
-use Rattle.code_runs.specs.LongJump.{IsFirstWord}
+use Rattle.code_runs.specs.LongJump.{IsFirstWord, long_jump}
+use Rattle.code_runs.specs.Straight.{StandIn}
+use Rattle.code_runs.proofs.LongJump.{long_jumps_hop}
+use Rattle.jump_code.specs.Pieces.{far_piece}
+use Rattle.jump_code.proofs.Laid.{pieces_are_laid}
 use Rattle.code_runs.specs.Page.{page_word}
 use Rattle.code_runs.proofs.Ours.{ours_stay, ours_are_stored}
 use Rattle.eel_base.specs.declared.numbers.Addr.{Addr}
@@ -52,7 +56,7 @@ use Rattle.layout.specs.Running.{HasCode, CanRun}
 use Rattle.layout.proofs.Going.{stays, jumps_hop, words_stand}
 use Rattle.image_code.specs.Simulates.{updates, Setting, StepsOn, IsOnWay, IsFollowedBy, at_point, does_at, gone_at, graph_in, number_in, word_of}
 use Rattle.image_code.specs.Images.{Pieces, Frame, HasImages, Here, IsPlaced, visited_at}
-use Rattle.image_code.specs.Cases.{Everything, visits_it, LeadsTo, LeadsOn, plain_piece, IsPlain, PlainsVisit, PlainsStep}
+use Rattle.image_code.specs.Cases.{Everything, visits_it, IsFar, LeadsTo, LeadsOn, plain_piece, IsPlain, PlainsVisit, PlainsStep}
 use Rattle.image_code.proofs.Ended.{stops_act}
 use Rattle.image_code.proofs.Memories.{fetch_is, images_stay, images_stored, same_stored}
 
@@ -298,14 +302,78 @@ module _ (g : Setting) (l : Pieces) (base : ℕ) (p : Placement) (place : ℕ �
       let npc : wrapped (to + 4) ≡ to + 4 = omega arith in
       record { valid = valid; has = has; runs = can_run (hopped a to m) valid k.runs.ready.live npc refl has }
 
+  -- a long jump to an address
+  far_on : (k to : ℕ) → IsFar to → slice_get l.list k ≡ Some (far_piece to) → (a : State) → IsFit a → a.pc ≡ place k 0
+      → Arrives a to 4
+  far_on k to far is a fit at =
+      let item : (n : ℕ) → item_at l.list k n ≡ slice_get (far_piece to) n = λ n. ap (λ (v : Option (List Item)). item_in v n) is in
+      let within = get_below l.list k _ is in
+      let size : size_of l.list k ≡ 4 = ap (λ (v : Option (List Item)). items_in v) is in
+      let one = h.laid.items k 0 _ (item 0) in
+      let two = h.laid.items k 1 _ (item 1) in
+      let three = h.laid.items k 2 _ (item 2) in
+      let four = h.laid.items k 3 _ (item 3) in
+      let begins = (h.laid.within k 0 within (omega arith)).begins in
+      let ends = (h.laid.within k 4 within (omega arith)).ends in
+      let low = h.laid.low in
+      let s1 = one.0 in
+      let s2 = two.0 in
+      let s3 = three.0 in
+      let s4 = four.0 in
+      let stand = (pieces_are_laid l.list base p place h.laid a.memory fit.has.code k (far_piece to) is).far to far.0 refl in
+      let hops = long_jumps_hop to a fit.valid fit.runs.ready (omega arith) fit.runs.page
+      (subst (λ q. StandIn (code_of a.memory) q (long_jump to)) (sym at) stand) far.0 far.1 in
+      let none : (n b : ℕ) (x : Item) → n < 4 → item_at l.list k n ≡ Some x → place k n ≤ b → b < place k (suc n)
+      → range_in p.ranges b ≡ None =
+      λ n b x l e from below. h.laid.ranges k n b x e from below
+      ∙ ap (λ (v : Option (List Item)). range_of (place k) (open_in v n)) is ∙ ap (range_of (place k)) (never_open to n l) in
+      let bare : (u : State) → a.pc ≤ u.pc → u.pc < a.pc + 16 → IsBare u =
+      λ u from to. (omega arith, omega arith, by_item (place k 0) (place k 1) (place k 2) (place k 3) (place k 4) u.pc
+      (omega arith) (omega arith)
+      (none 0 u.pc _ (omega arith) (item 0)) (none 1 u.pc _ (omega arith) (item 1)) (none 2 u.pc _ (omega arith) (item 2))
+      (none 3 u.pc _ (omega arith) (item 3))) in
+      record {
+        count = 4;
+        memory = store_word a.memory (page_word 0) (register_of a 1);
+        few = omega arith;
+        path = leads_weaker _ _ a _ 4 (λ u q. let b = q.past in let c = q.before in bare u (omega arith) (omega arith)) hops.path;
+        silent = hops.silent;
+        stores = hops.stores;
+        begins = λ q. bare a (omega arith) (omega arith);
+      }
+    where
+      never_open : (to n : ℕ) → n < 4 → open_in (Some (far_piece to)) n ≡ None
+      never_open to zero l = refl
+      never_open to (suc zero) l = refl
+      never_open to (suc (suc zero)) l = refl
+      never_open to (suc (suc (suc zero))) l = refl
+      never_open to (suc (suc (suc (suc n)))) l = absurd (omega (arith, l))
+
+      by_item : (p0 p1 p2 p3 p4 a : ℕ) → p0 ≤ a → a < p4
+          → (p0 ≤ a → a < p1 → range_in p.ranges a ≡ None) → (p1 ≤ a → a < p2 → range_in p.ranges a ≡ None)
+          → (p2 ≤ a → a < p3 → range_in p.ranges a ≡ None) → (p3 ≤ a → a < p4 → range_in p.ranges a ≡ None)
+          → range_in p.ranges a ≡ None
+      by_item p0 p1 p2 p3 p4 a from to h0 h1 h2 h3 = elim (cases_lt a p1) [
+        | inl b1 ↦ h0 from b1
+        | inr a1 ↦ elim (cases_lt a p2) [
+          | inl b2 ↦ h1 a1 b2
+          | inr a2 ↦ elim (cases_lt a p3) [
+            | inl b3 ↦ h2 a2 b3
+            | inr a3 ↦ h3 a3 to
+          ]
+        ]
+      ]
+
   -- from the beginning of a piece
   pub arrive : (z : PieceNo) (a : State) (to : ℕ) → IsFit a → a.pc ≡ slice_index p.at z.0 → LeadsTo l p z to
       → Arrives a to 4
   arrive z a to k at (inl e) = let low = (h.laid.aligned z.0).1 in stays_here a to 4 k.runs (at ∙ e) (omega arith)
-  arrive z a to k at (inr (y, is, e)) =
+  arrive z a to k at (inr (inl (y, is, e))) =
       subst (λ q. Arrives a q 4) e (jump_on z.0 0 y (ap (λ (v : Option (List Item)). item_in v 0) is)
       (ap (λ (v : Option (List Item)). open_in v 0) is) a k.runs
       (at ∙ h.laid.starts z.0 (get_below l.list z.0 _ is)))
+  arrive z a to k at (inr (inr (far, is))) =
+      far_on z.0 to far is a k (at ∙ h.laid.starts z.0 (get_below l.list z.0 _ is))
 
   -- from item 3 of a piece on
   pub tail : (k : ℕ) (rest : List Item) (x y : Item) → slice_get l.list k ≡ Some (x ∷ y ∷ it.EndMark ∷ rest)

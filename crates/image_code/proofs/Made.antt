@@ -461,11 +461,11 @@ module _ (g : Setting) (is : IsText g.text) (branches : HasBranchesOnly g.text) 
             → word_at g.text v.pc ≡ w.to → LeadsIfThere b w.to → Leads_along w.kind v
         past w v live slot inside one bare fall land to leads =
             let there = is_there (word_at g.text v.pc) inside in
-            inr (
+            inr (inl (
               record { 0 = there.0 },
               bare_way w one bare fall land there.0 (sym to ∙ there.1) leads,
               sym (visited_word (node_after (graph_in g) node (gone_at g node x v)) (point_of v) there.0 there.1 slot),
-            )
+            ))
 
         acts : does_at g x t ≡ branched (holds_of cond t.codes) (cond == always) annul (at_point x t)
             (target_from (at_point x t) disp)
