@@ -1,5 +1,5 @@
 -- What the proofs of these words share.
-use Rattle.std.proofs.Common.{◌≡◌, ◌≢◌, ℕ, suc, ◌+◌, ◌-◌, ◌*◌, ◌/◌, ◌%◌, ◌^◌, ◌<◌, ◌≤◌, inl, inr, true, false, Ok, length, refl, ap, ◌∙◌, subst, arith}
+use Rattle.std.proofs.Common.{◌≡◌, ◌≢◌, ℕ, suc, ◌+◌, ◌-◌, ◌*◌, ◌/◌, ◌%◌, ◌^◌, ◌<◌, ◌≤◌, inl, inr, true, false, Ok, refl, ap, ◌∙◌, subst, arith}
 use Rattle.std.specs.Prelude.{◌==◌, pos}
 use Rattle.std.proofs.lemmas.Bool.Decides.{nat_tests}
 use Rattle.v8_decode.specs.declared.Op2.{Op2}
@@ -14,7 +14,7 @@ use Rattle.v8_step.proofs.ValidStates.{register_of-range}
 use Rattle.v8_step.proofs.ValidSteps.{run-valid}
 use Rattle.code_runs.specs.Page.{page_word}
 use Rattle.code_runs.specs.Straight.{IsReady, StandIn}
-use Rattle.code_runs.specs.TwoRegisters.{HasScratch, IsAlike, Works, Gives, BlockRules}
+use Rattle.code_runs.specs.TwoRegisters.{HasScratch, Works, Gives, BlockRules}
 use Rattle.code_runs.proofs.LongJump.{says_at}
 use Rattle.code_runs.proofs.TwoRegisters.{block_rules}
 use Rattle.jump_code.specs.Links.{address_into}
@@ -96,5 +96,6 @@ module _ (s : State) (count a b : ℕ) (c : HasScratch s count a b) where
       (let e : wrapped (1024 * (address / 1024)) ≡ 1024 * (address / 1024) = omega arith in e) in
       rules.alu_second (suc n) m x (1024 * (address / 1024)) ops.ADD b (Imm (pos (address % 1024))) address high
       (omega arith, says_at (code_of s.memory) _ _ _ (omega arith) stand.1.0)
-      (λ u k. gives_sum u b (Imm (pos (address % 1024))) address (ap (λ z. wrapped (z + wrapped (address % 1024))) k.second
+      (λ u k. gives_sum u b (Imm (pos (address % 1024))) address
+      (ap (λ z. wrapped (z + wrapped (address % 1024))) k.second
       ∙ (let e : wrapped (1024 * (address / 1024) + wrapped (address % 1024)) ≡ address = omega arith in e)))

@@ -11,18 +11,18 @@ use Rattle.v8_encode.specs.Encoding.{word_of, has_word, op2_fits}
 use Rattle.v8_encode.proofs.Decoded.{decode_of-word_of}
 use Rattle.v8_memory.specs.Regions.{Memory, Region, code_of}
 use Rattle.code_runs.specs.LongJump.{long_jump}
-use Rattle.code_runs.specs.Straight.{StandIn, HasWords}
+use Rattle.code_runs.specs.Straight.{Says, StandIn, HasWords}
 use Rattle.layout.specs.declared.items.Item.{Item}
 use Rattle.layout.specs.declared.items.Item.TheVariants as it
 use Rattle.layout.specs.Emitting.{words_of}
-use Rattle.layout.specs.Laid.{Placement, IsLaid, Stands, item_at, item_in}
+use Rattle.layout.specs.Laid.{Placement, Stands, item_in}
 use Rattle.layout.specs.Running.{HasCode}
 use Rattle.layout.proofs.Going.{word_is}
 use Rattle.jump_code.specs.Jumps.{IsApart, jump_image}
 use Rattle.jump_code.specs.Leaving.{foreign}
 use Rattle.jump_code.specs.Links.{link}
 use Rattle.jump_code.specs.LookUps.{look_up_first, look_up_last}
-use Rattle.jump_code.specs.Pieces.{word_items, marked_piece, out_piece, MarkedIsLaid, OutIsLaid, WordsAreLaid, PiecesAreLaid}
+use Rattle.jump_code.specs.Pieces.{word_items, marked_piece, out_piece, MarkedIsLaid, OutIsLaid, PiecesAreLaid}
 
 -- ---- instructions that have words
 
@@ -33,7 +33,8 @@ Fit (x ∷ xs) = (is_in_range x ≡ true) × (has_word x ≡ true) × Fit xs
 words_mean : (code : List Region) (a : ℕ) (xs : List Instr) → Fit xs → HasWords code a (words_of xs) → StandIn code a xs
 words_mean code a [] f h = tt
 words_mean code a (x ∷ xs) f h =
-    (record { word = word_of x; fetched = h.0; decodes = decode_of-word_of x f.0 f.1 }, words_mean code (a + 4) xs f.2 h.1)
+    let says : Says code a x = record { word = word_of x; fetched = h.0; decodes = decode_of-word_of x f.0 f.1 } in
+    (says, words_mean code (a + 4) xs f.2 h.1)
 
 lt : (n m : ℕ) → n < m → nat_lt n m ≡ true
 lt n m h = grind (arith, nat_tests)
@@ -45,7 +46,9 @@ link_fits : (rd address : ℕ) → rd < 32 → address < 2 ^ 32 → Fit (link rd
 link_fits zero address low short = tt
 link_fits (suc r) address low short =
     let l = lt (suc r) 32 low in
-    (l, lt (address / 1024) (2 ^ 22) (omega arith), (both (nat_lt (suc r) 32) _ l (both (nat_lt (suc r) 32) true l refl), lt (address % 1024) 4096 (omega arith), tt))
+    let both_registers = both (nat_lt (suc r) 32) _ l (both (nat_lt (suc r) 32) true l refl) in
+    let high = lt (address / 1024) (2 ^ 22) (omega arith) in
+    (l, high, (both_registers, lt (address % 1024) 4096 (omega arith), tt))
 
 jump_fits : (x rd rs1 : ℕ) (op2 : Op2) (address : ℕ) → IsApart x rd rs1 op2 → op2_fits op2 ≡ true
     → op2_in_range op2 ≡ true → address < 2 ^ 32 → Fit (jump_image x rd rs1 op2 address)
@@ -53,11 +56,14 @@ jump_fits x rd rs1 op2 address a fits low short =
     let lx = lt x 32 a.below in
     let only = both (nat_lt x 32) true lx refl in
     let twice = both (nat_lt x 32) _ lx only in
-    (only, refl, (both (nat_lt x 32) _ lx (both (nat_lt rs1 32) _ (lt rs1 32 a.rs1_below) low), fits, (only, refl, (twice, refl, (twice, refl, (only, refl, link_fits rd address a.rd_below short))))))
+    let sum = both (nat_lt x 32) _ lx (both (nat_lt rs1 32) _ (lt rs1 32 a.rs1_below) low) in
+    let links = link_fits rd address a.rd_below short in
+    (only, refl, (sum, fits, (only, refl, (twice, refl, (twice, refl, (only, refl, links))))))
 
 long_jump_fits : (to : ℕ) → to < 2 ^ 32 → Fit (long_jump to)
 long_jump_fits to short =
-    (refl, refl, (refl, lt (to / 1024) (2 ^ 22) (omega arith), (refl, lt (to % 1024) 4096 (omega arith), (refl, refl, tt))))
+    let high = lt (to / 1024) (2 ^ 22) (omega arith) in
+    (refl, refl, (refl, high, (refl, lt (to % 1024) 4096 (omega arith), (refl, refl, tt))))
 
 as_many : (xs : List Instr) → length (words_of xs) ≡ length xs
 as_many [] = refl
@@ -78,7 +84,7 @@ module _ (base : ℕ) (p : Placement) (m : Memory) (has : HasCode base p.code m)
   all_stand (x ∷ xs) n h = (
     subst (λ z. Stands base p x (place z) (place (suc z))) (let e : n + 0 ≡ n = omega arith in e) (h 0 x refl),
     all_stand xs (suc n) (λ j y e. subst (λ z. Stands base p y (place z) (place (suc z)))
-    (let f : n + suc j ≡ suc n + j = omega arith in f) (h (suc j) y e)),
+        (let f : n + suc j ≡ suc n + j = omega arith in f) (h (suc j) y e)),
   )
 
   record Stood (n count : ℕ) (rest : List Item) : Type 0 where
@@ -152,7 +158,8 @@ pieces_are_laid pieces base p place laid m has k piece is =
     all_stand base p m has (place k) piece 0
     (λ j x e. subst (λ z. Stands base p x (place k z) (place k (suc z))) (let f : j ≡ 0 + j = omega arith in f)
     (laid.items k j x (ap (λ (z : Option (List Item)). item_in z j) is ∙ e))) in
-    let stands = λ (z : List Item) (e : piece ≡ z). subst (λ (o : List Item). AllStand base p m has (place k) o 0) e stand in
+    let stands = λ (z : List Item) (e : piece ≡ z).
+    subst (λ (o : List Item). AllStand base p m has (place k) o 0) e stand in
     record {
       jump = λ x rd rs1 op2 address node way apart fits low short e.
           marked_laid base p m has (place k) (jump_image x rd rs1 op2 address.0) address node way

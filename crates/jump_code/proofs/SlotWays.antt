@@ -123,13 +123,18 @@ module _ (words : List ℕ) (t : TableAt) (x : Instr) (pc target : ℕ) (s : Sta
       (hopped (act s x) (looked_up t z) (looked_memory (act s x))) 18) h.waits (looks live).hops.path in
       leads_then (IsInPiece (s.pc + 4) 18 (act s x).memory) s (act s x) _ 1 18 (leads_one _ s (act s x) one)
       (leads_weaker (IsBetween (act s x) 18 IsPageWord) (IsInPiece (s.pc + 4) 18 (act s x).memory) (act s x) _ 18
-      (λ u z. let a1 = z.past in let a2 = z.before in record { from = omega arith; to = omega arith; stores = z.stores })
-      k)
+      (λ u z.
+      let a1 = z.past in
+      let a2 = z.before in
+      record { from = omega arith; to = omega arith; stores = z.stores }) k)
       (λ _ _. record { from = omega arith; to = omega arith; stores = stores_none IsPageWord (act s x).memory })
 
-  -- at another place the original is where it is
+  -- the original, but for the place and for memory
+  abbrev at_place : ℕ → Memory → State
+  at_place place m = record (original_after pc target x s) { pc = place; npc = wrapped (place + 4); memory = m }
+
   placed : (act s x).ending ≡ None → (place : ℕ) (m : Memory)
-      → hopped (act s x) place m ≡ record (original_after pc target x s) { pc = place; npc = wrapped (place + 4); memory = m }
+      → hopped (act s x) place m ≡ at_place place m
   placed live place m =
       let v = original_after pc target x s in
       let g = goes_act (moved pc target Taken s) x h.plain (sym (ap (λ (z : State). z.ending) alike) ∙ live) in
@@ -216,7 +221,9 @@ module _ (words : List ℕ) (t : TableAt) (x : Instr) (pc target : ℕ) (s : Sta
 
 pub jump_ways : JumpWays
 jump_ways words t x pc target s translates h =
-    (ends_there words t x pc target s translates h, comes_to words t x pc target s translates h, comes_out words t x pc target s translates h)
+    let ends = ends_there words t x pc target s translates h in
+    let comes = comes_to words t x pc target s translates h in
+    (ends, comes, comes_out words t x pc target s translates h)
 
 pub slots_are_ready : SlotsAreReady
 slots_are_ready pages words t x target s h = record {

@@ -51,7 +51,8 @@ pub record IsInPiece (begin count : ℕ) (m : Memory) (u : State) : Type 0 where
   pub to : u.pc < begin + 4 * count
   pub stores : Stores IsPageWord m u.memory
 
--- The slot's word ends the run: one step, and the same ending, in a state that is the original's but for where it stands.
+-- The slot's word ends the run: one step, and the same ending, in a state that is the original's but for where it
+-- stands.
 pub record EndsThere (pc target : ℕ) (x : Instr) (s : State) (ending : Ending) : Type 0 where
   pub ends : (step_of s).ending ≡ Some ending
   pub same : moved pc target Taken (step_of s) ≡ moved pc target Taken (original_after pc target x s)
