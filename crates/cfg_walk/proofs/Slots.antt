@@ -1,8 +1,9 @@
 -- A transfer goes into its slot, and out of it.
 use Rattle.std.proofs.Common.{◌≡◌, ℕ, ◌+◌, ◌<◌, Bool, true, false, nat_lt, [], ◌++◌, Option, Some, None, refl, ap, sym, ◌∙◌, subst, arith, append-nil}
-use Rattle.std.specs.Prelude.{if◌then◌else◌}
+use Rattle.std.specs.Prelude.{if◌then◌else◌, slice_index}
 use Rattle.std.proofs.lemmas.Bool.{cond_both}
 use Rattle.eel_base.specs.CodeText.{Words, address_of, word_at}
+use Rattle.v8_decode.specs.Words.{decode_of}
 use Rattle.cfg_blocks.specs.declared.EdgeKind.{EdgeKind}
 use Rattle.cfg_blocks.specs.declared.EdgeKind.TheVariants as kinds
 use Rattle.cfg_blocks.specs.Ends.{Way, within, end_at, is_transfer, ways_of}
@@ -12,7 +13,7 @@ use Rattle.cfg_normal.specs.declared.Node.TheVariants.{X}
 use Rattle.cfg_normal.specs.declared.Slot.TheVariants as carried_slots
 use Rattle.cfg_normal.specs.Graph.{graph_of, node_of, edge_of, runs_slot, slot_behind, landing_at as landing}
 use Rattle.cfg_walk.specs.Walk.{Point, edge_from, landed, landing_at, node_after, led_to, same_kind, slot_left}
-use Rattle.cfg_walk.specs.Matches.{Begins, IsCarried, IsOnItsWay}
+use Rattle.cfg_walk.specs.Matches.{Begins, IsCarried, IsOnItsWay, target_along}
 use Rattle.cfg_walk.proofs.Holding.{Leads, in_held, first_held}
 use Rattle.cfg_walk.proofs.Cut.{IsCut}
 use Rattle.cfg_walk.proofs.Ways.{IsOne}
@@ -46,8 +47,10 @@ module _ (text : Words) (b : Blocks) (c : IsCut text b) where
     pub on_its_way : (point : Point) (w : Way) → point.pc ≡ address_of text (word + 1)
         → IsOne w (ways_of b.words word (end_at text word)) → runs_slot (end_at text word) w.kind ≡ true
         → (same_kind w.kind kinds.Out ≡ false → (word_at text point.npc ≡ w.to) × LeadsIfThere b w.to)
+        → (same_kind w.kind kinds.Out ≡ false
+        → point.npc ≡ target_along text word w.kind (decode_of (slice_index text.words word)))
         → IsOnItsWay text (graph_of b) (block (here text b c word l)) point w.kind
-    on_its_way point w pc one runs leads =
+    on_its_way point w pc one runs leads goes =
         let k : ℕ = holding_of b word in
         let last : word ≡ last_word b.firsts b.words k = transfer_ends text b c word l t in
         let found = way_found text b c word l w last one in
@@ -58,6 +61,9 @@ module _ (text : Words) (b : Blocks) (c : IsCut text b) where
           edge = edge_of b k w;
           only = found.only;
           is = found.is;
+          pc = pc ∙ ap (λ n. address_of text (n + 1)) last;
+          goes = λ no_jump.
+              goes no_jump ∙ ap (λ n. target_along text n w.kind (decode_of (slice_index text.words n))) last;
           carries =
               subst (λ (x : Bool). IsCarried text
               (if x then slot_behind b.words (last_word b.firsts b.words k) else carried_slots.Nothing)
