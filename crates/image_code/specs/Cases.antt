@@ -1,5 +1,6 @@
 -- The images of a plain word and of a conditional branch, whole.
-use Rattle.std.specs.Prelude.{◌≡◌, ℕ, ◌%◌, ◌^◌, ◌<◌, ◌⊎◌, false, List, [], ◌∷◌, length, Some, None, slice_get, slice_index}
+use Rattle.std.specs.Prelude.{◌≡◌, ℕ, ◌%◌, ◌^◌, ◌<◌, ◌⊎◌, false, List, [], ◌∷◌, drop, length, Some, None, slice_get, slice_index}
+use Rattle.std.specs.Option.{option_map}
 use Rattle.eel_base.specs.declared.numbers.Addr.{Addr}
 use Rattle.eel_base.specs.declared.numbers.PieceNo.{PieceNo}
 use Rattle.elf32_sparc.specs.Notes.{node_at}
@@ -43,10 +44,13 @@ LeadsTo l p piece to =
     ⊎ (((z : PieceNo) × (slice_get l.list piece.0 ≡ Some (it.Jump z ∷ [])) × (slice_index p.at z.0 ≡ to))
     ⊎ (IsFar to × (slice_get l.list piece.0 ≡ Some (far_piece to))))
 
--- after its item n, a piece goes on to an address: it ends and the next piece begins there, or a Jump leads there
+-- After its item n, a piece goes on to an address: it ends and the next piece begins there, or a Jump leads there, or a
+-- long jump is all that is left.
 abbrev pub LeadsOn : Pieces → Placement → (ℕ → ℕ → ℕ) → ℕ → ℕ → ℕ → Type 0
 LeadsOn l p place k n to =
-    (place k n ≡ to) ⊎ ((z : PieceNo) × (item_at l.list k n ≡ Some (it.Jump z)) × LeadsTo l p z to)
+    (place k n ≡ to)
+    ⊎ (((z : PieceNo) × (item_at l.list k n ≡ Some (it.Jump z)) × LeadsTo l p z to)
+    ⊎ (IsFar to × (option_map (drop n) (slice_get l.list k) ≡ Some (far_piece to))))
 
 -- ---- a plain word, or the copy of a slot's word
 
