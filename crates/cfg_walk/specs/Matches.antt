@@ -22,11 +22,11 @@ use Rattle.cfg_normal.specs.declared.Slot.TheVariants as carried
 use Rattle.cfg_normal.specs.Graph.{Graph, graph_of, node_of}
 use Rattle.cfg_walk.specs.Walk.{Point, point_of, edge_from, end_of_walk, instr_at, same_kind, way_of}
 
--- the word at the address is the one that the edge carries, or that word lies behind the text
+-- the address is that of the word which the edge carries, or of the end of the text, behind which that word lies
 abbrev pub IsCarried : Words → Carried → ℕ → Type 0
 IsCarried text carried.Nothing address = ⊥
 IsCarried text (carried.Word word) address = address ≡ address_of text word.0
-IsCarried text carried.Off address = word_at text address ≡ None
+IsCarried text carried.Off address = address ≡ address_of text (length text.words)
 
 -- the node's block begins with the word; X where the text has no such word
 abbrev pub Begins : Graph → Node → Option ℕ → Type 0

@@ -6,6 +6,7 @@ pub mod Couple
 pub mod BranchMoves
 pub mod Turns
 pub mod Idle
+pub mod Outside
 pub mod Imaged
 pub mod Listed
 pub mod Made

@@ -7,6 +7,7 @@ ghost use Rattle.image_code.specs.Fit.{PiecesFit, PlacesSay};
 ghost use Rattle.image_code.specs.Idle.{IdlesStep};
 ghost use Rattle.image_code.specs.Imaged.{HeadsVisit, ImagesSimulate};
 ghost use Rattle.image_code.specs.Made.{PiecesMakeImages};
+ghost use Rattle.image_code.specs.Outside.{ForeignStep, OffsStep};
 ghost use Rattle.image_code.specs.Turns.{TurnsStep};
 
 mod making;
@@ -37,6 +38,16 @@ pub fn turns_step()
 /// So is a nop in the branch's Mark, and then the way to where the walk goes on.
 pub fn idles_step()
     ensures { IdlesStep }
+{}
+
+/// A machine at an address outside the pages visits it as itself, and ends the run as the original does.
+pub fn foreign_step()
+    ensures { ForeignStep }
+{}
+
+/// So does one where the table begins, in a slot behind the text.
+pub fn offs_step()
+    ensures { OffsStep }
 {}
 
 /// A machine at a piece that begins with the Mark of a point visits the point.
