@@ -99,14 +99,15 @@ get_below [] n x e = absurd (cc)
 get_below (y ∷ ys) zero x e = omega arith
 get_below (y ∷ ys) (suc n) x e = let f = get_below ys n x e in omega arith
 
-item_size : (pieces : List (List Item)) (k n : ℕ) (x : Item) → item_at pieces k n ≡ Some x → suc n ≤ size_of pieces k
+pub item_size : (pieces : List (List Item)) (k n : ℕ) (x : Item) → item_at pieces k n ≡ Some x
+    → suc n ≤ size_of pieces k
 item_size pieces k n x e = go (slice_get pieces k) e
   where
     go : (o : Option (List Item)) → item_in o n ≡ Some x → suc n ≤ items_in o
     go None e = absurd (cc)
     go (Some items) e = let f = get_below items n x e in omega arith
 
-item_below : (pieces : List (List Item)) (k n : ℕ) (x : Item) → item_at pieces k n ≡ Some x → k < length pieces
+pub item_below : (pieces : List (List Item)) (k n : ℕ) (x : Item) → item_at pieces k n ≡ Some x → k < length pieces
 item_below pieces k n x e = go (slice_get pieces k) refl e
   where
     go : (o : Option (List Item)) → slice_get pieces k ≡ o → item_in o n ≡ Some x → k < length pieces
@@ -573,7 +574,7 @@ pub plains_visit : PlainsVisit
 plains_visit g l base p place f node x t h here c = visits g l base p place f h node x t here c
 
 -- an instruction judges the same bytes wherever it stands
-judged_moved : (notes : Notes) (x : Point) (t : State) (instr : Instr)
+pub judged_moved : (notes : Notes) (x : Point) (t : State) (instr : Instr)
     → AllApart (pages_of notes) (judged_by (at_point x t) instr)
     → AllApart (pages_of notes) (judged_by t instr)
 judged_moved notes x t instr apart = judged_alike notes instr (at_point x t) t (record {

@@ -6,6 +6,7 @@ ghost use Rattle.image_code.specs.Couple.{CouplesStep};
 ghost use Rattle.image_code.specs.Fit.{PiecesFit, PlacesSay};
 ghost use Rattle.image_code.specs.Idle.{IdlesStep};
 ghost use Rattle.image_code.specs.Imaged.{HeadsVisit, ImagesSimulate};
+ghost use Rattle.image_code.specs.Landings.{JumpSlotsStep};
 ghost use Rattle.image_code.specs.Made.{PiecesMakeImages};
 ghost use Rattle.image_code.specs.Turns.{TurnsStep};
 
@@ -37,6 +38,11 @@ pub fn turns_step()
 /// So is a nop in the branch's Mark, and then the way to where the walk goes on.
 pub fn idles_step()
     ensures { IdlesStep }
+{}
+
+/// The copy of a slot's word and the look-up behind it are the step of a jump's slot: the way on is that of its target.
+pub fn jump_slots_step()
+    ensures { JumpSlotsStep }
 {}
 
 /// A machine at a piece that begins with the Mark of a point visits the point.
