@@ -9,7 +9,7 @@ use Rattle.v8_decode.specs.declared.Instr.{Instr}
 use Rattle.v8_decode.specs.declared.Instr.TheVariants as i
 use Rattle.v8_decode.specs.Words.{decode_of}
 use Rattle.v8_alu.specs.Numbers.{wrapped}
-use Rattle.v8_memory.specs.Regions.{Memory, Region, code_of, fetch_of, fetch_from}
+use Rattle.v8_memory.specs.Regions.{Memory, Region, code_of, fetch_from}
 use Rattle.v8_memory.specs.Spans.{Span, AllApart, IsSameOutside, IsSameRegion}
 use Rattle.v8_step.specs.declared.Ending.{Ending}
 use Rattle.v8_step.specs.declared.Slot.TheVariants.{NoSlot}
@@ -23,7 +23,6 @@ use Rattle.v8_step.specs.Visits.{visit_of, visited, if_live, in_pages, pages_of}
 use Rattle.v8_step.proofs.Alike.{live_puts}
 use Rattle.v8_step.proofs.JudgedAlike.{judged_alike}
 use Rattle.v8_step.proofs.CopiedMoves.{goes_act}
-use Rattle.v8_step.proofs.Executable.{code_stays}
 use Rattle.v8_step.proofs.ValidSteps.{run-valid}
 use Rattle.cfg_walk.proofs.Walks as walks
 use Rattle.cfg_walk.specs.Walk.{Point, point_of, node_after}
@@ -39,7 +38,6 @@ use Rattle.code_runs.proofs.Hops.{stores_then}
 use Rattle.code_runs.proofs.Points.{acts_anywhere}
 use Rattle.code_runs.proofs.TwoRegisters.{stores_none}
 use Rattle.code_runs.proofs.Stays.{stores_there}
-use Rattle.code_runs.specs.Ours.{IsOurs}
 use Rattle.code_runs.specs.LongJump.{IsFirstWord, long_jump}
 use Rattle.code_runs.specs.Straight.{StandIn}
 use Rattle.code_runs.proofs.LongJump.{long_jumps_hop}
@@ -47,13 +45,12 @@ use Rattle.jump_code.specs.Pieces.{far_piece}
 use Rattle.jump_code.proofs.Fitting.{long_jump_fits}
 use Rattle.jump_code.proofs.Laid.{words_after}
 use Rattle.code_runs.specs.Page.{page_word}
-use Rattle.code_runs.proofs.Ours.{ours_stay, ours_are_stored}
 use Rattle.eel_base.specs.declared.numbers.Addr.{Addr}
 use Rattle.eel_base.specs.declared.numbers.PieceNo.{PieceNo}
 use Rattle.layout.specs.declared.items.Item.{Item}
 use Rattle.layout.specs.declared.items.Item.TheVariants as it
 use Rattle.layout.specs.Laid.{Placement, item_at, item_in, items_in, size_of, open_in, open_from, range_in, range_of, IsWordAt}
-use Rattle.layout.specs.Running.{HasCode, CanRun}
+use Rattle.layout.specs.Running.{CanRun}
 use Rattle.layout.proofs.Going.{stays, jumps_hop, words_stand}
 use Rattle.image_code.specs.Simulates.{updates, Setting, StepsOn, IsOnWay, IsFollowedBy, at_point, does_at, gone_at, graph_in, number_in, word_of}
 use Rattle.image_code.specs.Images.{Pieces, Frame, HasImages, Here, IsPlaced, visited_at}
@@ -100,14 +97,15 @@ get_below [] n x e = absurd (cc)
 get_below (y ∷ ys) zero x e = omega arith
 get_below (y ∷ ys) (suc n) x e = let f = get_below ys n x e in omega arith
 
-item_size : (pieces : List (List Item)) (k n : ℕ) (x : Item) → item_at pieces k n ≡ Some x → suc n ≤ size_of pieces k
+pub item_size : (pieces : List (List Item)) (k n : ℕ) (x : Item) → item_at pieces k n ≡ Some x
+    → suc n ≤ size_of pieces k
 item_size pieces k n x e = go (slice_get pieces k) e
   where
     go : (o : Option (List Item)) → item_in o n ≡ Some x → suc n ≤ items_in o
     go None e = absurd (cc)
     go (Some items) e = let f = get_below items n x e in omega arith
 
-item_below : (pieces : List (List Item)) (k n : ℕ) (x : Item) → item_at pieces k n ≡ Some x → k < length pieces
+pub item_below : (pieces : List (List Item)) (k n : ℕ) (x : Item) → item_at pieces k n ≡ Some x → k < length pieces
 item_below pieces k n x e = go (slice_get pieces k) refl e
   where
     go : (o : Option (List Item)) → slice_get pieces k ≡ o → item_in o n ≡ Some x → k < length pieces
@@ -611,7 +609,7 @@ pub plains_visit : PlainsVisit
 plains_visit g l base p place f node x t h here c = visits g l base p place f h node x t here c
 
 -- an instruction judges the same bytes wherever it stands
-judged_moved : (notes : Notes) (x : Point) (t : State) (instr : Instr)
+pub judged_moved : (notes : Notes) (x : Point) (t : State) (instr : Instr)
     → AllApart (pages_of notes) (judged_by (at_point x t) instr)
     → AllApart (pages_of notes) (judged_by t instr)
 judged_moved notes x t instr apart = judged_alike notes instr (at_point x t) t (record {

@@ -12,3 +12,4 @@ pub mod Listed
 pub mod Made
 pub mod Numbers
 pub mod Fit
+pub mod Landings

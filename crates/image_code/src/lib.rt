@@ -6,6 +6,7 @@ ghost use Rattle.image_code.specs.Couple.{CouplesStep};
 ghost use Rattle.image_code.specs.Fit.{PiecesFit, PlacesSay};
 ghost use Rattle.image_code.specs.Idle.{IdlesStep};
 ghost use Rattle.image_code.specs.Imaged.{HeadsVisit, ImagesSimulate};
+ghost use Rattle.image_code.specs.Landings.{JumpSlotsStep};
 ghost use Rattle.image_code.specs.Made.{PiecesMakeImages};
 ghost use Rattle.image_code.specs.Outside.{ForeignStep, OffsStep};
 ghost use Rattle.image_code.specs.Turns.{TurnsStep};
@@ -48,6 +49,11 @@ pub fn foreign_step()
 /// So does one where the table begins, in a slot behind the text.
 pub fn offs_step()
     ensures { OffsStep }
+{}
+
+/// The copy of a slot's word and the look-up behind it are the step of a jump's slot: the way on is that of its target.
+pub fn jump_slots_step()
+    ensures { JumpSlotsStep }
 {}
 
 /// A machine at a piece that begins with the Mark of a point visits the point.
