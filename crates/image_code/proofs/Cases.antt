@@ -236,7 +236,7 @@ module _ (g : Setting) (l : Pieces) (base : ℕ) (p : Placement) (place : ℕ �
   }
 
   -- a Jump outside each Mark
-  jump_on : (k n : ℕ) (z : PieceNo) → item_at l.list k n ≡ Some (it.Jump z) → open_in (slice_get l.list k) n ≡ None
+  pub jump_on : (k n : ℕ) (z : PieceNo) → item_at l.list k n ≡ Some (it.Jump z) → open_in (slice_get l.list k) n ≡ None
       → (a : State) → CanRun base p.code a → a.pc ≡ place k n → Arrives a (slice_index p.at z.0) 4
   jump_on k n z item closed a w at =
       let j = jumps_hop l.list base p place h.laid k n z item a w at in
@@ -264,7 +264,7 @@ module _ (g : Setting) (l : Pieces) (base : ℕ) (p : Placement) (place : ℕ �
       }
 
   -- a way after another one
-  on_then : (a : State) (mid to few more : ℕ) (one : Arrives a mid few) → Arrives (hopped a mid one.memory) to more
+  pub on_then : (a : State) (mid to few more : ℕ) (one : Arrives a mid few) → Arrives (hopped a mid one.memory) to more
       → Arrives a to (few + more)
   on_then a mid to few more one other =
       let f = one.few in

@@ -6,6 +6,9 @@ pub mod Couple
 pub mod BranchMoves
 pub mod Turns
 pub mod Idle
+pub mod Marked
+pub mod Through
+pub mod Calls
 pub mod Imaged
 pub mod Listed
 pub mod Made

@@ -1,6 +1,7 @@
 //! The images of words: where a machine stands that visits one, and that each image follows the original's step.
 #![tactic(auto)]
 
+ghost use Rattle.image_code.specs.Calls.{CallsStep};
 ghost use Rattle.image_code.specs.Cases.{PlainsStep, PlainsVisit};
 ghost use Rattle.image_code.specs.Couple.{CouplesStep};
 ghost use Rattle.image_code.specs.Fit.{PiecesFit, PlacesSay};
@@ -37,6 +38,11 @@ pub fn turns_step()
 /// So is a nop in the branch's Mark, and then the way to where the walk goes on.
 pub fn idles_step()
     ensures { IdlesStep }
+{}
+
+/// The link of a CALL, and then the way to where the walk goes on, are its step.
+pub fn calls_step()
+    ensures { CallsStep }
 {}
 
 /// A machine at a piece that begins with the Mark of a point visits the point.
