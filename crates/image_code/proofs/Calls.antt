@@ -1,7 +1,6 @@
 -- The link of a CALL, and then the way.
 use Rattle.std.proofs.Common.{◌≡◌, ℕ, ◌+◌, ◌*◌, ◌^◌, ◌<◌, Option, Some, List, [], length, refl, ap, sym, ◌∙◌, subst, arith}
 use Rattle.std.specs.Prelude.{ℤ}
-use Rattle.v8_decode.specs.declared.Instr.{Instr}
 use Rattle.v8_decode.specs.declared.Instr.TheVariants as i
 use Rattle.v8_decode.specs.Words.{decode_of}
 use Rattle.v8_memory.specs.Regions.{code_of}
@@ -9,7 +8,8 @@ use Rattle.v8_step.specs.declared.Slot.{Slot}
 use Rattle.v8_step.specs.declared.Slot.TheVariants.{NoSlot}
 use Rattle.v8_step.specs.State.{State, with_register}
 use Rattle.v8_step.specs.Transfers.{call_step, delayed, target_of, unless_couple}
-use Rattle.v8_step.specs.Step.{act, on_word, puts_by, puts_on_word}
+use Rattle.v8_step.specs.Step.{act, on_word, puts_on_word}
+use Rattle.v8_step.specs.Items.{is_transfer}
 use Rattle.cfg_normal.specs.declared.Node.{Node}
 use Rattle.cfg_walk.specs.Walk.{Point, point_of, node_after}
 use Rattle.code_runs.specs.Leads.{Leads}
@@ -26,11 +26,8 @@ use Rattle.image_code.specs.Images.{Pieces, Frame, Here, IsPlaced, visited_at}
 use Rattle.image_code.specs.Cases.{Everything, LeadsTo}
 use Rattle.image_code.specs.Turns.{IsNoJumpsSlot}
 use Rattle.image_code.specs.Calls.{IsCall, CallsStep}
+use Rattle.image_code.proofs.Couple.{quiet_transfer}
 use Rattle.image_code.proofs.Through.{Through, at_words, words_low, next_word, goes_through}
-
-quiet_call : (s : State) (disp : ℤ) (descriptor : ℕ) → puts_by s (i.Call disp) descriptor ≡ []
-unfolding puts_by
-quiet_call s disp descriptor = refl
 
 -- the original after its CALL
 abbrev called : Point → ℤ → State → State
@@ -83,7 +80,7 @@ module _ (g : Setting) (l : Pieces) (base : ℕ) (p : Placement) (place : ℕ �
         live = here.live;
         memory = refl;
         quiet = λ descriptor. ap (λ (o : Option ℕ). puts_on_word (at_point x t) o descriptor) c.is_word
-            ∙ ap (λ (q : Instr). puts_by (at_point x t) q descriptor) c.says ∙ quiet_call (at_point x t) c.disp descriptor;
+            ∙ quiet_transfer (at_point x t) (decode_of c.word) descriptor (ap is_transfer c.says);
         waits = λ a b. absurd (never a b);
       }) leads
 

@@ -62,7 +62,7 @@ use Rattle.image_code.proofs.Memories.{fetch_is, images_stay, images_stored, sam
 
 -- ---- small things
 
-live_before : (s : State) (k j : ℕ) → (run s (k + j)).ending ≡ None → (run s j).ending ≡ None
+pub live_before : (s : State) (k j : ℕ) → (run s (k + j)).ending ≡ None → (run s j).ending ≡ None
 live_before s zero j e = (let f : j ≡ zero + j = omega arith in ap (λ z. (run s z).ending) f) ∙ e
 live_before s (suc k) j e =
     live_before s k j (walks.live_before (run s (k + j))

@@ -9,6 +9,7 @@ pub mod Idle
 pub mod Marked
 pub mod Through
 pub mod Calls
+pub mod Jumps
 pub mod Imaged
 pub mod Listed
 pub mod Made

@@ -3,11 +3,12 @@ use Rattle.std.proofs.Common.{◌≡◌, ℕ, suc, ◌+◌, ◌*◌, ◌%◌, �
 use Rattle.std.specs.Prelude.{◌-◌, slice_get, slice_index}
 use Rattle.eel_base.specs.declared.numbers.Addr.{Addr}
 use Rattle.eel_base.specs.declared.numbers.PieceNo.{PieceNo}
+use Rattle.elf32_sparc.specs.Notes.{node_at}
 use Rattle.v8_decode.specs.declared.Instr.{Instr}
 use Rattle.v8_alu.specs.Numbers.{wrapped}
 use Rattle.v8_memory.specs.Regions.{Memory}
 use Rattle.v8_memory.specs.Spans.{IsSameOutside}
-use Rattle.v8_step.specs.declared.Slot.TheVariants.{NoSlot, Taken}
+use Rattle.v8_step.specs.declared.Slot.TheVariants.{Taken}
 use Rattle.v8_step.specs.State.{State}
 use Rattle.v8_step.specs.Step.{puts_on_word}
 use Rattle.v8_step.specs.Valid.{IsValid}
@@ -28,7 +29,6 @@ use Rattle.code_runs.proofs.Leads.{leads_then, leads_weaker, silent_then}
 use Rattle.code_runs.proofs.Stays.{stores_there}
 use Rattle.code_runs.proofs.StoredWords.{still_stored, other_word_stored}
 use Rattle.layout.specs.Laid.{Placement}
-use Rattle.layout.specs.Running.{CanRun}
 use Rattle.jump_code.specs.Links.{past}
 use Rattle.jump_code.specs.PageWords.{IsPageWord}
 use Rattle.jump_code.specs.Pieces.{marked_piece}
@@ -36,7 +36,7 @@ use Rattle.image_code.specs.Simulates.{Setting, StepsOn, IsOnWay, at_point, grap
 use Rattle.image_code.specs.Images.{Pieces, Frame, HasImages, Here, IsFramed, IsPlaced, visited_at}
 use Rattle.image_code.specs.Cases.{Everything, LeadsTo}
 use Rattle.image_code.proofs.Memories.{images_stored, same_stored}
-use Rattle.image_code.proofs.Cases.{Arrives, IsBare, IsFit, arrive, bare_on, can_run, cells_same, first_own, hopped_fit, jump_on, on_range, on_then, quiet_of, same_at, stores_weaker}
+use Rattle.image_code.proofs.Cases.{Arrives, IsBare, IsFit, arrive, bare_on, can_run, cells_same, first_own, hopped_fit, jump_on, node_is, on_range, on_then, quiet_of, same_at, stores_weaker}
 use Rattle.image_code.proofs.Marked.{StandMarked, stand_marked}
 
 -- the page's words are the editor's
@@ -91,6 +91,16 @@ module _ (g : Setting) (l : Pieces) (base : ℕ) (p : Placement) (place : ℕ �
       (record { lo = place k 1; hi = place k (suc (length xs)); address = address.0; node = number_in g node })
       live (omega arith) (omega arith) (stand.range u.pc (omega arith) (omega arith)) (omega arith) refl
 
+  -- a place of the node, which they are
+  pub node_there : (a : ℕ) → t.pc ≤ a → a < t.pc + 4 * length xs → node_at g.notes a ≡ Some (number_in g node)
+  node_there a from below =
+      let e = at_words in
+      let b = stand.begins in
+      let d = stand.ends in
+      node_is g l base p place f h a
+      (Some (record { lo = place k 1; hi = place k (suc (length xs)); address = address.0; node = number_in g node }))
+      (omega arith) (omega arith) (stand.range a (omega arith) (omega arith))
+
   On : State → Type 0
   On u = ((t.pc < u.pc) × (u.pc < t.pc + 4 * length xs)) ⊎ IsBare g l base p place f h u
 
@@ -110,7 +120,7 @@ module _ (g : Setting) (l : Pieces) (base : ℕ) (p : Placement) (place : ℕ �
     pub waits : v.slot ≡ Taken → same_kind (way_of (instr_at g.text (v.pc - 4)) v.slot) kinds.Out ≡ true
         → (memory_word m (page_word 1) ≡ v.npc) × (v.npc % 4 ≡ 0)
 
-  own_stored : (m : Memory) → Stores IsPageWord t.memory m → Stores (IsAmongWords f.own) t.memory m
+  pub own_stored : (m : Memory) → Stores IsPageWord t.memory m → Stores (IsAmongWords f.own) t.memory m
   own_stored m stores = stores_weaker IsPageWord (IsAmongWords f.own) t.memory m (page_own g f h.frame) stores
 
   past_has : (v : State) (m : Memory) → Through v m → HasImages g base p f m
@@ -146,10 +156,8 @@ module _ (g : Setting) (l : Pieces) (base : ℕ) (p : Placement) (place : ℕ �
       → StepsOn g (Here g l base p f) Everything edges node x t v
   unfolding On
   goes_through v m edges some short w leads =
-      let to : ℕ = visited_at g l p f (node_after (graph_in g) node edges) (point_of v) in
       let rest = on_along v m (visited_at g l p f (node_after (graph_in g) node edges) (point_of v)) w leads in
       let few = rest.few in
-      let after : State = hopped v (visited_at g l p f (node_after (graph_in g) node edges) (point_of v)) rest.memory in
       let path = leads_then On t (past t (length xs) m v)
       (hopped v (visited_at g l p f (node_after (graph_in g) node edges) (point_of v)) rest.memory)
       (length xs) rest.count

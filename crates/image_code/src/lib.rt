@@ -1,7 +1,7 @@
 //! The images of words: where a machine stands that visits one, and that each image follows the original's step.
 #![tactic(auto)]
 
-ghost use Rattle.image_code.specs.Calls.{CallsStep};
+ghost use Rattle.image_code.specs.Calls.{CallsStep, JumpsStep};
 ghost use Rattle.image_code.specs.Cases.{PlainsStep, PlainsVisit};
 ghost use Rattle.image_code.specs.Couple.{CouplesStep};
 ghost use Rattle.image_code.specs.Fit.{PiecesFit, PlacesSay};
@@ -43,6 +43,11 @@ pub fn idles_step()
 /// The link of a CALL, and then the way to where the walk goes on, are its step.
 pub fn calls_step()
     ensures { CallsStep }
+{}
+
+/// The image of a JMPL keeps its target in the page and goes on so, or ends the run as the JMPL does.
+pub fn jumps_step()
+    ensures { JumpsStep }
 {}
 
 /// A machine at a piece that begins with the Mark of a point visits the point.
