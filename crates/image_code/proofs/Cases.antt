@@ -328,10 +328,14 @@ module _ (g : Setting) (l : Pieces) (base : ℕ) (p : Placement) (place : ℕ �
       λ n b x l e from below. h.laid.ranges k n b x e from below
       ∙ ap (λ (v : Option (List Item)). range_of (place k) (open_in v n)) is ∙ ap (range_of (place k)) (never_open to n l) in
       let bare : (u : State) → a.pc ≤ u.pc → u.pc < a.pc + 16 → IsBare u =
-      λ u from to. (omega arith, omega arith, by_item (place k 0) (place k 1) (place k 2) (place k 3) (place k 4) u.pc
-      (omega arith) (omega arith)
-      (none 0 u.pc _ (omega arith) (item 0)) (none 1 u.pc _ (omega arith) (item 1)) (none 2 u.pc _ (omega arith) (item 2))
-      (none 3 u.pc _ (omega arith) (item 3))) in
+      λ u from to. (
+        omega arith,
+        omega arith,
+        by_item (place k 0) (place k 1) (place k 2) (place k 3) (place k 4) u.pc
+            (omega arith) (omega arith)
+            (none 0 u.pc _ (omega arith) (item 0)) (none 1 u.pc _ (omega arith) (item 1)) (none 2 u.pc _ (omega arith) (item 2))
+            (none 3 u.pc _ (omega arith) (item 3)),
+      ) in
       record {
         count = 4;
         memory = store_word a.memory (page_word 0) (register_of a 1);
