@@ -60,7 +60,7 @@ use Rattle.image_code.proofs.Memories.{fetch_is, images_stay, images_stored, sam
 
 -- ---- small things
 
-live_before : (s : State) (k j : ℕ) → (run s (k + j)).ending ≡ None → (run s j).ending ≡ None
+pub live_before : (s : State) (k j : ℕ) → (run s (k + j)).ending ≡ None → (run s j).ending ≡ None
 live_before s zero j e = (let f : j ≡ zero + j = omega arith in ap (λ z. (run s z).ending) f) ∙ e
 live_before s (suc k) j e =
     live_before s k j (walks.live_before (run s (k + j))
@@ -235,7 +235,7 @@ module _ (g : Setting) (l : Pieces) (base : ℕ) (p : Placement) (place : ℕ �
   }
 
   -- a Jump outside each Mark
-  jump_on : (k n : ℕ) (z : PieceNo) → item_at l.list k n ≡ Some (it.Jump z) → open_in (slice_get l.list k) n ≡ None
+  pub jump_on : (k n : ℕ) (z : PieceNo) → item_at l.list k n ≡ Some (it.Jump z) → open_in (slice_get l.list k) n ≡ None
       → (a : State) → CanRun base p.code a → a.pc ≡ place k n → Arrives a (slice_index p.at z.0) 4
   jump_on k n z item closed a w at =
       let j = jumps_hop l.list base p place h.laid k n z item a w at in
@@ -263,7 +263,7 @@ module _ (g : Setting) (l : Pieces) (base : ℕ) (p : Placement) (place : ℕ �
       }
 
   -- a way after another one
-  on_then : (a : State) (mid to few more : ℕ) (one : Arrives a mid few) → Arrives (hopped a mid one.memory) to more
+  pub on_then : (a : State) (mid to few more : ℕ) (one : Arrives a mid few) → Arrives (hopped a mid one.memory) to more
       → Arrives a to (few + more)
   on_then a mid to few more one other =
       let f = one.few in

@@ -7,6 +7,10 @@ pub mod BranchMoves
 pub mod Turns
 pub mod Idle
 pub mod Outside
+pub mod Marked
+pub mod Through
+pub mod Calls
+pub mod Jumps
 pub mod Imaged
 pub mod Listed
 pub mod Made

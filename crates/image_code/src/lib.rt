@@ -1,6 +1,7 @@
 //! The images of words: where a machine stands that visits one, and that each image follows the original's step.
 #![tactic(auto)]
 
+ghost use Rattle.image_code.specs.Calls.{CallsStep, JumpsStep};
 ghost use Rattle.image_code.specs.Cases.{PlainsStep, PlainsVisit};
 ghost use Rattle.image_code.specs.Couple.{CouplesStep};
 ghost use Rattle.image_code.specs.Fit.{PiecesFit, PlacesSay};
@@ -54,6 +55,16 @@ pub fn offs_step()
 /// The copy of a slot's word and the look-up behind it are the step of a jump's slot: the way on is that of its target.
 pub fn jump_slots_step()
     ensures { JumpSlotsStep }
+{}
+
+/// The link of a CALL, and then the way to where the walk goes on, are its step.
+pub fn calls_step()
+    ensures { CallsStep }
+{}
+
+/// The image of a JMPL keeps its target in the page and goes on so, or ends the run as the JMPL does.
+pub fn jumps_step()
+    ensures { JumpsStep }
 {}
 
 /// A machine at a piece that begins with the Mark of a point visits the point.
