@@ -1,5 +1,5 @@
 -- The graph of a text by numbers: how many edges there are, and which number an edge has.
-use Rattle.std.proofs.Common.{◌≡◌, ℕ, zero, suc, ◌+◌, ◌-◌, ◌*◌, ◌<◌, ◌≤◌, Bool, true, false, not, ◌&&◌, ◌==◌, cond, List, [], ◌∷◌, ◌++◌, length, map, Option, Some, None, length-append, length-take, append_assoc, refl, ap, sym, ◌∙◌, subst, arith, inl, inr}
+use Rattle.std.proofs.Common.{◌≡◌, ℕ, zero, suc, ◌+◌, ◌-◌, ◌*◌, ◌<◌, ◌≤◌, Bool, true, false, not, ◌&&◌, ◌==◌, cond, List, [], ◌∷◌, ◌++◌, length, map, Some, None, length-append, length-take, append_assoc, refl, ap, sym, ◌∙◌, subst, arith, inl, inr}
 use Rattle.std.specs.Prelude.{if◌then◌else◌, slice_index, ℤ}
 use Rattle.std.specs.List.{flat_map, position, position_or_len}
 use Rattle.std.specs.Option.{option_to_list}
@@ -324,28 +324,36 @@ module _ (text : Words) (graph : Graph) (h : IsGraphOf text graph) (some : 1 ≤
 
 -- ---- the image of a word
 
-pub image_is : (text : Words) (graph : Graph) (table : ℕ) → IsGraphOf text graph → 1 ≤ length text.words → (word : ℕ)
-    → word < length text.words → (first : PieceNo) → first.0 ≡ first_way_of text graph (holding_of graph.blocks word)
-    → image_in text word (holding_of graph.blocks word) first ≡ image text graph table word
-image_is text graph table h some word l first is =
-    by (decode_of (slice_index text.words word)) refl
-    ∙ ap (λ (n : Node). image_by text graph table (record { 0 = address_of text word }) n word
-    (decode_of (slice_index text.words word)))
-    (sym (node_is graph.blocks word (let e = words_are text graph h in omega arith)))
-  where
-    by : (instr : Instr) → decode_of (slice_index text.words word) ≡ instr
-        → image_from (record { 0 = address_of text word }) (holding_of graph.blocks word) (slice_index text.words word) first (rest_of text word) instr
-        ≡ image_by text graph table (record { 0 = address_of text word }) (block (holding_of graph.blocks word)) word instr
-    by (i.Branch c annul disp) says = sym (branch_is text graph h some word l c annul disp says table (record { 0 = address_of text word }) first.0 is)
-    by (i.Call disp) says =
-        ap (λ z. call_piece (record { 0 = address_of text word }) (holding_of graph.blocks word) (record { 0 = z })) (sym (only_piece text graph h some word l
-        (ends.Call (numbered (target_of text word disp))) (end_is text word (i.Call disp) says) refl kinds.Call
-        (way kinds.Call (number_of (numbered (target_of text word disp)))) refl refl refl first.0 is))
-    by (i.Jmpl rd rs1 op2) says =
-        ap (λ z. jump_piece (free_register rd rs1 op2) rd rs1 op2 (record { 0 = address_of text word }) (holding_of graph.blocks word) (record { 0 = z }))
-        (sym (only_piece text graph h some word l ends.Jump (end_is text word (i.Jmpl rd rs1 op2) says) refl kinds.Out
-        (way kinds.Out None) refl refl refl first.0 is))
-    by _ says = refl
+module _ (text : Words) (graph : Graph) (table : ℕ) (h : IsGraphOf text graph) (some : 1 ≤ length text.words) (word : ℕ)
+    (l : word < length text.words) (first : PieceNo)
+    (is : first.0 ≡ first_way_of text graph (holding_of graph.blocks word)) where
+  abbrev here : Addr
+  here = record { 0 = address_of text word }
+
+  abbrev its : ℕ
+  its = holding_of graph.blocks word
+
+  says_is : (instr : Instr) → decode_of (slice_index text.words word) ≡ instr
+      → image_from here its (slice_index text.words word) first (rest_of text word) instr
+      ≡ image_by text graph table here (block its) word instr
+  says_is (i.Branch c annul disp) says =
+      sym (branch_is text graph h some word l c annul disp says table here first.0 is)
+  says_is (i.Call disp) says =
+      let to = numbered (target_of text word disp) in
+      ap (λ z. call_piece here its (record { 0 = z }))
+      (sym (only_piece text graph h some word l (ends.Call to) (end_is text word (i.Call disp) says) refl kinds.Call
+      (way kinds.Call (number_of to)) refl refl refl first.0 is))
+  says_is (i.Jmpl rd rs1 op2) says =
+      ap (λ z. jump_piece (free_register rd rs1 op2) rd rs1 op2 here its (record { 0 = z }))
+      (sym (only_piece text graph h some word l ends.Jump (end_is text word (i.Jmpl rd rs1 op2) says) refl kinds.Out
+      (way kinds.Out None) refl refl refl first.0 is))
+  says_is _ says = refl
+
+  pub image_is : image_in text word its first ≡ image text graph table word
+  image_is =
+      says_is (decode_of (slice_index text.words word)) refl
+      ∙ ap (λ (n : Node). image_by text graph table here n word (decode_of (slice_index text.words word)))
+      (sym (node_is graph.blocks word (let e = words_are text graph h in omega arith)))
 
 -- a word from the first of a block on, and before its end, is held by the block
 pub held_by : (text : Words) (graph : Graph) → IsGraphOf text graph → 1 ≤ length text.words → (k word : ℕ)

@@ -68,7 +68,8 @@ image_from address node word first rest _ = plain_piece address node word rest
 
 -- how control goes on after a word that is no transfer
 abbrev pub rest_of : Words → ℕ → List Item
-rest_of text word = if nat_lt (word + 1) (length text.words) then [] else far_piece (address_of text (length text.words))
+rest_of text word =
+    if nat_lt (word + 1) (length text.words) then [] else far_piece (address_of text (length text.words))
 
 -- the image of a word of the text
 abbrev pub image_in : Words → ℕ → ℕ → PieceNo → List Item

@@ -39,8 +39,9 @@ pub struct PieceList {
     pub foreign: PieceNo,
 }
 
-/// Makes an image of each word, which falls through to the next word's, the way along each edge but for the landings, a
-/// landing at each word, and the foreign piece. A transfer decides first, and its slot is run on the way along its edge.
+/// Makes an image of each word, which falls through to the next word's, the way along each edge but for the landings,
+/// a landing at each word, and the foreign piece. A transfer decides first, and its slot is run on the way along its
+/// edge.
 pub fn pieces(
     alloc: Global,
     text: &Text,

@@ -1,4 +1,4 @@
-use Rattle.std.proofs.Common.{◌<◌, ◌≤◌, ℕ, ap, sym, ◌∙◌, arith, length}
+use Rattle.std.proofs.Common.{◌≤◌, ℕ, ap, sym, ◌∙◌, arith, length}
 use Rattle.std.specs.Prelude.{slice_index}
 use Rattle.v8_decode.specs.Words.{decode_of}
 use Rattle.image_code.specs.Parts.{edges_after}
