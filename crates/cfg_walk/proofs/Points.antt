@@ -19,7 +19,7 @@ use Rattle.cfg_blocks.specs.Blocks.{Blocks, holding_of}
 use Rattle.cfg_normal.specs.declared.Node.{Node}
 use Rattle.cfg_normal.specs.Graph.{Graph, graph_of, node_of, edge_of, runs_slot}
 use Rattle.cfg_walk.specs.Walk.{Point, completed, edge_from, instr_at, left_at, left_by, node_after, same_kind, way_of}
-use Rattle.cfg_walk.specs.Matches.{IsOnItsWay, MatchesBy}
+use Rattle.cfg_walk.specs.Matches.{GoesOn, IsOnItsWay, MatchesBy}
 use Rattle.cfg_walk.proofs.Holding.{Leads}
 use Rattle.cfg_walk.proofs.Cut.{IsCut}
 use Rattle.cfg_walk.proofs.Ways.{IsOne}
@@ -122,12 +122,13 @@ module _ {text : Words} {b : Blocks} {node : Node} {before : Point} {word : ℕ}
       slot_pc e =
           e ∙ h.npc ∙ ap (λ a. (a + 4) % 2 ^ 32) h.is.is ∙ next_address text word h.text_is h.is.within
 
+      pub back : after.pc ≡ before.npc → after.pc - 4 ≡ before.pc
+      back e = let pc : after.pc ≡ address_of text (word + 1) = slot_pc e in omega (arith, h.is.is)
+
       -- the transfer stands before its slot
       transfer_before : after.pc ≡ before.npc → instr_at text (after.pc - 4) ≡ Some instr
       transfer_before e =
-          let pc : after.pc ≡ address_of text (word + 1) = slot_pc e in
-          let back : after.pc - 4 ≡ before.pc = omega (arith, h.is.is) in
-          ap (instr_at text) back
+          ap (instr_at text) (back e)
           ∙ ap (option_map (λ w. decode_of (slice_index text.words w))) at ∙ ap Some h.decodes
 
       -- any other transfer goes into its slot
@@ -135,13 +136,15 @@ module _ {text : Words} {b : Blocks} {node : Node} {before : Point} {word : ℕ}
           → way_of (Some instr) now ≡ w.kind → runs_slot (end_at text word) w.kind ≡ true
           → after.pc ≡ before.npc
           → (same_kind w.kind kinds.Out ≡ false → (word_at text after.npc ≡ w.to) × LeadsIfThere b w.to)
+          → GoesOn (Some instr) after.slot after
           → IsOnItsWay text (graph_of b) node after (way_of (instr_at text (after.pc - 4)) now)
       unfolding home
-      into_slot now w one kind runs pc leads =
+      into_slot now w one kind runs pc leads goes =
           subst (λ (k : EdgeKind). IsOnItsWay text (graph_of b) node after k)
           (sym (ap (λ o. way_of o now) (transfer_before pc) ∙ kind))
           (subst (λ (m : Node). IsOnItsWay text (graph_of b) m after w.kind) (sym node_home)
-          (on_its_way text b h.cut word low t after w (slot_pc pc) one runs leads))
+          (on_its_way text b h.cut word low t after w (slot_pc pc) one runs leads
+          (subst (λ (o : Option Instr). GoesOn o after.slot after) (sym (transfer_before pc)) goes)))
 
       -- where a displacement leads
       pub jumps_to : (target : Option WordNo) (displacement : ℤ) (address : ℕ)

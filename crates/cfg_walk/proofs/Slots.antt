@@ -1,5 +1,5 @@
 -- A transfer goes into its slot, and out of it.
-use Rattle.std.proofs.Common.{◌≡◌, ℕ, ◌+◌, ◌<◌, Bool, true, false, nat_lt, [], ◌++◌, Option, Some, None, refl, ap, sym, ◌∙◌, subst, arith, append-nil}
+use Rattle.std.proofs.Common.{◌≡◌, ℕ, ◌+◌, ◌-◌, ◌<◌, Bool, true, false, nat_lt, [], ◌++◌, Option, Some, None, refl, ap, sym, ◌∙◌, subst, arith, append-nil}
 use Rattle.std.specs.Prelude.{if◌then◌else◌}
 use Rattle.std.proofs.lemmas.Bool.{cond_both}
 use Rattle.std.proofs.lemmas.Bool.Decides.{nat_tests}
@@ -12,8 +12,8 @@ use Rattle.cfg_normal.specs.declared.Node.{Node}
 use Rattle.cfg_normal.specs.declared.Node.TheVariants.{X}
 use Rattle.cfg_normal.specs.declared.Slot.TheVariants as carried_slots
 use Rattle.cfg_normal.specs.Graph.{graph_of, node_of, edge_of, runs_slot, slot_behind, landing_at as landing}
-use Rattle.cfg_walk.specs.Walk.{Point, edge_from, landed, landing_at, node_after, led_to, same_kind, slot_left}
-use Rattle.cfg_walk.specs.Matches.{Begins, IsCarried, IsOnItsWay}
+use Rattle.cfg_walk.specs.Walk.{Point, edge_from, instr_at, landed, landing_at, node_after, led_to, same_kind, slot_left}
+use Rattle.cfg_walk.specs.Matches.{Begins, GoesOn, IsCarried, IsOnItsWay}
 use Rattle.cfg_walk.proofs.Holding.{Leads, in_held, first_held}
 use Rattle.cfg_walk.proofs.Cut.{IsCut}
 use Rattle.cfg_walk.proofs.Ways.{IsOne}
@@ -48,8 +48,9 @@ module _ (text : Words) (b : Blocks) (c : IsCut text b) where
     pub on_its_way : (point : Point) (w : Way) → point.pc ≡ address_of text (word + 1)
         → IsOne w (ways_of b.words word (end_at text word)) → runs_slot (end_at text word) w.kind ≡ true
         → (same_kind w.kind kinds.Out ≡ false → (word_at text point.npc ≡ w.to) × LeadsIfThere b w.to)
+        → GoesOn (instr_at text (point.pc - 4)) point.slot point
         → IsOnItsWay text (graph_of b) (block (here text b c word l)) point w.kind
-    on_its_way point w pc one runs leads =
+    on_its_way point w pc one runs leads goes =
         let k : ℕ = holding_of b word in
         let last : word ≡ last_word b.firsts b.words k = transfer_ends text b c word l t in
         let found = way_found text b c word l w last one in
@@ -67,6 +68,7 @@ module _ (text : Words) (b : Blocks) (c : IsCut text b) where
               (sym (ap (λ e. runs_slot e w.kind) end ∙ runs))
               (subst (λ (n : ℕ). IsCarried text (slot_behind b.words n) point.pc) last
               (carried word point.pc l pc));
+          goes = goes;
           leads = λ no_jump.
               let to = leads no_jump in (
                 subst (λ (o : Option ℕ). Begins (graph_of b) (node_of b w.to) o) (sym to.0)

@@ -1,5 +1,5 @@
 -- What the walk does at each transfer outside a slot.
-use Rattle.std.proofs.Common.{◌≡◌, ℕ, ◌+◌, ◌*◌, ◌%◌, ◌^◌, Bool, true, false, not, ◌==◌, ◌||◌, Option, None, refl, ap, sym, ◌∙◌, subst}
+use Rattle.std.proofs.Common.{◌≡◌, ℕ, ◌+◌, ◌*◌, ◌%◌, ◌^◌, Bool, true, false, not, ◌==◌, ◌||◌, Option, Some, None, refl, ap, sym, ◌∙◌, subst}
 use Rattle.std.specs.Prelude.{if◌then◌else◌, ℤ}
 use Rattle.std.specs.Int.{w32, cast_unsigned}
 use Rattle.std.proofs.lemmas.Bool.{false≢true}
@@ -7,6 +7,7 @@ use Rattle.eel_base.specs.CodeText.{Words, numbered, target_of}
 use Rattle.eel_base.specs.declared.numbers.WordNo.{WordNo}
 use Rattle.v8_decode.specs.declared.Op2.{Op2}
 use Rattle.v8_decode.specs.declared.Instr.TheVariants as i
+use Rattle.v8_step.specs.declared.Slot.{Slot}
 use Rattle.v8_step.specs.declared.Slot.TheVariants.{NoSlot, Taken, Untaken}
 use Rattle.v8_alu.specs.declared.Codes.{Codes}
 use Rattle.v8_alu.specs.Conditions.{holds_of}
@@ -18,9 +19,10 @@ use Rattle.cfg_blocks.specs.Blocks.{Blocks}
 use Rattle.cfg_normal.specs.declared.Node.{Node}
 use Rattle.cfg_normal.specs.Graph.{graph_of, runs_slot}
 use Rattle.cfg_walk.specs.Walk.{Point, edge_from}
+use Rattle.cfg_walk.specs.Matches.{GoesOn}
 use Rattle.cfg_walk.proofs.Ways.{IsOne, taken_is_one, untaken_is_one, call_is_one, jump_is_one, not_never, not_always}
 use Rattle.cfg_walk.proofs.Leaving.{end_is}
-use Rattle.cfg_walk.proofs.Points.{Stands, StepsTo, annulled, into_slot, jumps_to, passes, skips}
+use Rattle.cfg_walk.proofs.Points.{Stands, StepsTo, annulled, back, into_slot, jumps_to, passes, skips}
 
 module _ {text : Words} {b : Blocks} {node : Node} {before : Point} {word : ℕ} where
   -- ---- branches
@@ -85,28 +87,32 @@ module _ {text : Words} {b : Blocks} {node : Node} {before : Point} {word : ℕ}
 
       pub taken_delayed : holds_of cond codes ≡ true → (not annul || not (cond == always)) ≡ true
           → after.pc ≡ before.npc → after.npc ≡ (before.pc + 4 * cast_unsigned w32 disp22) % 2 ^ 32
-          → StepsTo text (graph_of b) node before after NoSlot Taken
+          → after.slot ≡ Taken → StepsTo text (graph_of b) node before after NoSlot Taken
       unfolding taken
-      taken_delayed holds runs pc npc =
+      taken_delayed holds runs pc npc slot =
           into_slot h after transfer Taken taken (one_taken holds) refl
           (ap (λ (e : BlockEnd). runs_slot e kinds.Taken) end ∙ runs) pc
           (λ _. jumps_to h after transfer target disp22 after.npc (ap target_in end) (is_target holds) npc)
+          (subst (λ (x : Slot). GoesOn (Some (i.Branch cond annul disp22)) x after) (sym slot)
+          (npc ∙ ap (λ a. (a + 4 * cast_unsigned w32 disp22) % 2 ^ 32) (sym (back h after transfer pc))))
 
       pub untaken_delayed : holds_of cond codes ≡ false → annul ≡ false
           → after.pc ≡ before.npc → after.npc ≡ (before.npc + 4) % 2 ^ 32
-          → StepsTo text (graph_of b) node before after NoSlot Untaken
+          → after.slot ≡ Untaken → StepsTo text (graph_of b) node before after NoSlot Untaken
       unfolding untaken
-      untaken_delayed holds kept pc npc =
+      untaken_delayed holds kept pc npc slot =
           into_slot h after transfer Untaken untaken (one_untaken holds) refl
           (ap (λ (e : BlockEnd). runs_slot e kinds.Untaken) end ∙ ap (λ (x : Bool). not x || false) kept) pc
           (λ _. passes h after transfer npc)
+          (subst (λ (x : Slot). GoesOn (Some (i.Branch cond annul disp22)) x after) (sym slot)
+          (npc ∙ ap (λ a. (a + 4) % 2 ^ 32) (sym pc)))
 
   -- ---- CALL and JMPL
 
   pub call_delayed : (disp30 : ℤ) (after : Point) → Stands text b node before word (i.Call disp30)
       → after.pc ≡ before.npc → after.npc ≡ (before.pc + 4 * cast_unsigned w32 disp30) % 2 ^ 32
-      → StepsTo text (graph_of b) node before after NoSlot Taken
-  call_delayed disp30 after h pc npc =
+      → after.slot ≡ Taken → StepsTo text (graph_of b) node before after NoSlot Taken
+  call_delayed disp30 after h pc npc slot =
       let target : Option WordNo = numbered (target_of text word disp30) in
       let end : end_at text word ≡ ends.Call target = end_is text word (i.Call disp30) h.decodes in
       let transfer : is_transfer (end_at text word) ≡ true = ap is_transfer end in
@@ -115,13 +121,16 @@ module _ {text : Words} {b : Blocks} {node : Node} {before : Point} {word : ℕ}
       (call_is_one b.words word target))
       refl (ap (λ (e : BlockEnd). runs_slot e kinds.Call) end) pc
       (λ _. jumps_to h after transfer target disp30 after.npc (ap target_in end) refl npc)
+      (subst (λ (x : Slot). GoesOn (Some (i.Call disp30)) x after) (sym slot)
+      (npc ∙ ap (λ a. (a + 4 * cast_unsigned w32 disp30) % 2 ^ 32) (sym (back h after transfer pc))))
 
   pub jump_delayed : (rd rs1 : ℕ) (op2 : Op2) (after : Point)
       → Stands text b node before word (i.Jmpl rd rs1 op2) → after.pc ≡ before.npc
-      → StepsTo text (graph_of b) node before after NoSlot Taken
-  jump_delayed rd rs1 op2 after h pc =
+      → after.slot ≡ Taken → StepsTo text (graph_of b) node before after NoSlot Taken
+  jump_delayed rd rs1 op2 after h pc slot =
       let end : end_at text word ≡ ends.Jump = end_is text word (i.Jmpl rd rs1 op2) h.decodes in
       into_slot h after (ap is_transfer end) Taken (way kinds.Out None)
       (subst (λ (e : BlockEnd). IsOne (way kinds.Out None) (ways_of b.words word e)) (sym end)
       (jump_is_one b.words word))
       refl (ap (λ (e : BlockEnd). runs_slot e kinds.Out) end) pc (λ jump. absurd (false≢true (sym jump)))
+      (subst (λ (x : Slot). GoesOn (Some (i.Jmpl rd rs1 op2)) x after) (sym slot) tt)

@@ -1,11 +1,14 @@
 -- What holds of the walk's node while a run goes on.
-use Rattle.std.specs.Prelude.{◌≡◌, ℕ, ◌+◌, ◌-◌, ◌%◌, ◌^◌, ◌<◌, false, List, [], ◌∷◌, length, slice_get, slice_index, Option, Some, None}
+use Rattle.std.specs.Prelude.{◌≡◌, ℕ, ◌+◌, ◌-◌, ◌*◌, ◌%◌, ◌^◌, ◌<◌, false, List, [], ◌∷◌, length, slice_get, slice_index, Option, Some, None}
+use Rattle.std.specs.Int.{w32, cast_unsigned}
 use Rattle.std.specs.Option.{option_map}
 use Rattle.eel_base.specs.CodeText.{Words, IsText, address_of, word_at}
+use Rattle.v8_decode.specs.declared.Instr.{Instr}
+use Rattle.v8_decode.specs.declared.Instr.TheVariants as i
 use Rattle.v8_memory.specs.Regions.{fetch_of}
 use Rattle.v8_step.specs.State.{State}
 use Rattle.v8_step.specs.declared.Slot.{Slot}
-use Rattle.v8_step.specs.declared.Slot.TheVariants.{NoSlot}
+use Rattle.v8_step.specs.declared.Slot.TheVariants.{NoSlot, Taken, Untaken}
 use Rattle.v8_step.specs.Run.{run}
 use Rattle.cfg_blocks.specs.Blocks.{blocks_of}
 use Rattle.cfg_blocks.specs.declared.EdgeKind.{EdgeKind}
@@ -30,6 +33,15 @@ Begins graph (Block block) (Some word) = slice_index graph.blocks.firsts block.0
 Begins graph X None = Unit {0}
 Begins graph _ _ = ⊥
 
+-- Where the machine goes on after a slot, by the transfer before it and whether that was taken. A jump may go anywhere.
+abbrev pub GoesOn : Option Instr → Slot → Point → Type 0
+GoesOn (Some (i.Branch cond annul disp22)) Taken point =
+    point.npc ≡ (point.pc - 4 + 4 * cast_unsigned w32 disp22) % 2 ^ 32
+GoesOn (Some (i.Branch cond annul disp22)) Untaken point = point.npc ≡ (point.pc + 4) % 2 ^ 32
+GoesOn (Some (i.Call disp30)) Taken point = point.npc ≡ (point.pc - 4 + 4 * cast_unsigned w32 disp30) % 2 ^ 32
+GoesOn (Some (i.Jmpl rd rs1 op2)) Taken point = Unit {0}
+GoesOn _ _ point = ⊥
+
 -- In a slot the walk's node has one edge of the way that the transfer goes. That edge carries the slot, and but for
 -- a jump it leads to where the machine goes on after it.
 pub record IsOnItsWay (text : Words) (graph : Graph) (node : Node) (point : Point) (way : EdgeKind) : Type 0 where
@@ -38,6 +50,7 @@ pub record IsOnItsWay (text : Words) (graph : Graph) (node : Node) (point : Poin
   pub only : edge_from graph node way ≡ number ∷ []
   pub is : slice_get graph.edges number ≡ Some edge
   pub carries : IsCarried text edge.slot point.pc
+  pub goes : GoesOn (instr_at text (point.pc - 4)) point.slot point
   pub leads : same_kind way kinds.Out ≡ false
       → Begins graph edge.to (word_at text point.npc) × (edge.to ≡ node_of graph.blocks (word_at text point.npc))
 
