@@ -1,6 +1,7 @@
 -- The link of a CALL, and then the way.
 use Rattle.std.proofs.Common.{◌≡◌, ℕ, ◌+◌, ◌*◌, ◌^◌, ◌<◌, Option, Some, List, [], length, refl, ap, sym, ◌∙◌, subst, arith}
 use Rattle.std.specs.Prelude.{ℤ}
+use Rattle.v8_decode.specs.declared.Instr.{Instr}
 use Rattle.v8_decode.specs.declared.Instr.TheVariants as i
 use Rattle.v8_decode.specs.Words.{decode_of}
 use Rattle.v8_memory.specs.Regions.{code_of}
@@ -27,7 +28,7 @@ use Rattle.image_code.specs.Cases.{Everything, LeadsTo}
 use Rattle.image_code.specs.Turns.{IsNoJumpsSlot}
 use Rattle.image_code.specs.Calls.{IsCall, CallsStep}
 use Rattle.image_code.proofs.Couple.{quiet_transfer}
-use Rattle.image_code.proofs.Through.{Through, at_words, words_low, next_word, goes_through}
+use Rattle.image_code.proofs.Through.{AtWords, at_words, goes_through}
 
 -- the original after its CALL
 abbrev called : Point → ℤ → State → State
@@ -43,20 +44,20 @@ module _ (g : Setting) (l : Pieces) (base : ℕ) (p : Placement) (place : ℕ �
   does_is : does_at g x t ≡ called x c.disp t
   does_is = ap (on_word (at_point x t)) c.is_word ∙ ap (act (at_point x t)) c.says ∙ call_acts x c.disp t c.none
 
+  abbrev image : List Instr
+  image = link 15 c.address.0
+
+  ahead : AtWords g node t (place c.piece 1) (length image)
+  ahead = at_words g l base p place f h node x t here c.piece c.within c.here image c.address c.way c.items
+
   about : IsAboutToCall c.address.0 t
   about =
-      let low = words_low g l base p place f h node x t here c.piece c.within c.here (link 15 c.address.0) c.address c.way c.items in
+      let low = ahead.low in
       record {
         valid = here.valid;
-        ready = record {
-          live = here.live;
-          npc = next_word g l base p place f h node x t here c.piece c.within c.here
-              (link 15 c.address.0) c.address c.way c.items (omega arith);
-        };
+        ready = record { live = here.live; npc = ahead.next (omega arith) };
         low = omega arith;
-        words = subst (λ z. StandIn (code_of t.memory) z (link 15 c.address.0))
-            (sym (at_words g l base p place f h node x t here c.piece c.within c.here
-            (link 15 c.address.0) c.address c.way c.items))
+        words = subst (λ z. StandIn (code_of t.memory) z image) (sym ahead.at)
             ((pieces_are_laid l.list base p place h.laid t.memory here.memory.code c.piece _ c.items).call
             c.address (number_in g node) c.way short refl).words;
         short = short;
@@ -71,10 +72,11 @@ module _ (g : Setting) (l : Pieces) (base : ℕ) (p : Placement) (place : ℕ �
       → StepsOn g (Here g l base p f) Everything edges node x t (called x c.disp t)
   steps edges leads never =
       let acts = calls_act c.address.0 t about in
-      goes_through g l base p place f h node x t here c.piece c.within c.here (link 15 c.address.0) c.address c.way c.items
+      goes_through g l base p place f h node x t here c.piece c.within c.here image c.address c.way c.items
       (called x c.disp t) t.memory edges (omega arith) (omega arith)
       (record {
-        path = subst (λ a. Leads (IsBetween t 2 IsPageWord) t (past t 2 t.memory (with_register t 15 a)) 2) c.original acts.0;
+        path = subst (λ a. Leads (IsBetween t 2 IsPageWord) t (past t 2 t.memory (with_register t 15 a)) 2)
+            c.original acts.0;
         silent = acts.1;
         stores = stores_none IsPageWord t.memory;
         live = here.live;
@@ -89,5 +91,6 @@ calls_step g l base p place f node x t h here c =
     let is = does_is g l base p place f h node x t here c in
     subst (λ (z : State). StepsOn g (Here g l base p f) Everything (gone_at g node x z) node x t z) (sym is)
     (steps g l base p place f h node x t here c (gone_at g node x (called x c.disp t))
-    (subst (λ (z : State). LeadsTo l p c.way (visited_at g l p f (node_after (graph_in g) node (gone_at g node x z)) (point_of z)))
-    is c.leads) (subst (IsNoJumpsSlot g) is c.never))
+    (subst (λ (z : State). LeadsTo l p c.way
+    (visited_at g l p f (node_after (graph_in g) node (gone_at g node x z)) (point_of z))) is c.leads)
+    (subst (IsNoJumpsSlot g) is c.never))

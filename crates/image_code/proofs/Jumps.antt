@@ -39,7 +39,7 @@ use Rattle.image_code.specs.Calls.{IsJump, JumpsStep}
 use Rattle.image_code.proofs.Memories.{same_stored}
 use Rattle.image_code.proofs.Cases.{cells_same, live_before}
 use Rattle.image_code.proofs.Couple.{quiet_transfer}
-use Rattle.image_code.proofs.Through.{at_words, words_low, next_word, node_there, on_words, own_stored, goes_through}
+use Rattle.image_code.proofs.Through.{AtWords, at_words, own_stored, goes_through}
 
 link_few : (rd address : ℕ) → length (link rd address) ≤ 2
 link_few zero address = omega arith
@@ -55,10 +55,10 @@ module _ (g : Setting) (l : Pieces) (base : ℕ) (p : Placement) (place : ℕ �
   abbrev image : List Instr
   image = jump_image c.scratch c.rd c.rs1 c.op2 c.address.0
 
-  many : 6 ≤ length (jump_image c.scratch c.rd c.rs1 c.op2 c.address.0)
+  many : 6 ≤ length image
   many = omega arith
 
-  few : length (jump_image c.scratch c.rd c.rs1 c.op2 c.address.0) ≤ 8
+  few : length image ≤ 8
   few = let n = link_few c.rd c.address.0 in omega arith
 
   point_is : at_point x t ≡ moved c.address.0 (wrapped (c.address.0 + 4)) NoSlot t
@@ -66,25 +66,24 @@ module _ (g : Setting) (l : Pieces) (base : ℕ) (p : Placement) (place : ℕ �
       ap (λ (z : Slot). moved x.pc x.npc z t) c.none ∙ ap (λ z. moved x.pc z NoSlot t) c.next
       ∙ ap (λ z. moved z (wrapped (z + 4)) NoSlot t) (sym c.original)
 
-  does_is : does_at g x t ≡ jumped c.address.0 c.rd c.rs1 c.op2 t
+  does_is : does_at g x t ≡ after_jump
   does_is =
       ap (on_word (at_point x t)) c.is_word ∙ ap (act (at_point x t)) c.says
       ∙ ap (λ (z : State). act z (i.Jmpl c.rd c.rs1 c.op2)) point_is
 
+  ahead : AtWords g node t (place c.piece 1) (length image)
+  ahead = at_words g l base p place f h node x t here c.piece c.within c.here image c.address c.way c.items
+
   about : IsAboutToJump c.scratch c.rd c.rs1 c.op2 c.address.0 t
   about =
-      let low = words_low g l base p place f h node x t here c.piece c.within c.here image c.address c.way c.items in
+      let low = ahead.low in
       let n = many in
       record {
         valid = here.valid;
-        ready = record {
-          live = here.live;
-          npc = next_word g l base p place f h node x t here c.piece c.within c.here image c.address c.way c.items (omega arith);
-        };
+        ready = record { live = here.live; npc = ahead.next (omega arith) };
         low = omega arith;
         apart = c.apart;
-        words = subst (λ z. StandIn (code_of t.memory) z (jump_image c.scratch c.rd c.rs1 c.op2 c.address.0))
-            (sym (at_words g l base p place f h node x t here c.piece c.within c.here image c.address c.way c.items))
+        words = subst (λ z. StandIn (code_of t.memory) z image) (sym ahead.at)
             ((pieces_are_laid l.list base p place h.laid t.memory here.memory.code c.piece _ c.items).jump
             c.scratch c.rd c.rs1 c.op2 c.address (number_in g node) c.way c.apart c.fits c.in_range short refl).words;
         short = short;
@@ -95,37 +94,40 @@ module _ (g : Setting) (l : Pieces) (base : ℕ) (p : Placement) (place : ℕ �
       short : c.address.0 < 2 ^ 32
       short = let o = c.original in let low = c.low in omega arith
 
-  memory_is : (jumped c.address.0 c.rd c.rs1 c.op2 t).memory ≡ t.memory
+  memory_is : after_jump.memory ≡ t.memory
   memory_is = go (equal_or_not (sum_of t c.rs1 c.op2 % 4) 0)
     where
       go : (sum_of t c.rs1 c.op2 % 4 ≡ 0) ⊎ (sum_of t c.rs1 c.op2 % 4 ≢ 0)
-          → (jumped c.address.0 c.rd c.rs1 c.op2 t).memory ≡ t.memory
+          → after_jump.memory ≡ t.memory
       go (inl e) = ap (λ (z : State). z.memory) (goes c.scratch c.rd c.rs1 c.op2 c.address.0 t about e)
       go (inr ne) = ap (λ (z : State). z.memory) (stops c.scratch c.rd c.rs1 c.op2 c.address.0 t about ne)
 
   -- a JMPL goes on to a multiple of 4
-  aligned : (jumped c.address.0 c.rd c.rs1 c.op2 t).ending ≡ None → (jumped c.address.0 c.rd c.rs1 c.op2 t).npc % 4 ≡ 0
+  aligned : after_jump.ending ≡ None → after_jump.npc % 4 ≡ 0
   aligned live = go (equal_or_not (sum_of t c.rs1 c.op2 % 4) 0)
     where
       go : (sum_of t c.rs1 c.op2 % 4 ≡ 0) ⊎ (sum_of t c.rs1 c.op2 % 4 ≢ 0)
-          → (jumped c.address.0 c.rd c.rs1 c.op2 t).npc % 4 ≡ 0
+          → after_jump.npc % 4 ≡ 0
       go (inl e) = ap (λ (z : State). z.npc % 4) (goes c.scratch c.rd c.rs1 c.op2 c.address.0 t about e) ∙ e
       go (inr ne) =
-          let over = ap (λ (z : State). z.ending) (stops c.scratch c.rd c.rs1 c.op2 c.address.0 t about ne) in absurd (cc)
+          let over = ap (λ (z : State). z.ending) (stops c.scratch c.rd c.rs1 c.op2 c.address.0 t about ne) in
+          absurd (cc)
 
   -- one that ends the run changes nothing else
-  only_ends : (d : Ending) → (jumped c.address.0 c.rd c.rs1 c.op2 t).ending ≡ Some d
-      → jumped c.address.0 c.rd c.rs1 c.op2 t ≡ record (moved c.address.0 (wrapped (c.address.0 + 4)) NoSlot t) { ending = Some d }
+  only_ends : (d : Ending) → after_jump.ending ≡ Some d
+      → after_jump ≡ record (moved c.address.0 (wrapped (c.address.0 + 4)) NoSlot t) { ending = Some d }
   only_ends d is = go (equal_or_not (sum_of t c.rs1 c.op2 % 4) 0)
     where
-      go : (sum_of t c.rs1 c.op2 % 4 ≡ 0) ⊎ (sum_of t c.rs1 c.op2 % 4 ≢ 0) → jumped c.address.0 c.rd c.rs1 c.op2 t
+      go : (sum_of t c.rs1 c.op2 % 4 ≡ 0) ⊎ (sum_of t c.rs1 c.op2 % 4 ≢ 0) → after_jump
           ≡ record (moved c.address.0 (wrapped (c.address.0 + 4)) NoSlot t) { ending = Some d }
       go (inl e) =
-          let live = ap (λ (z : State). z.ending) (goes c.scratch c.rd c.rs1 c.op2 c.address.0 t about e) ∙ here.live in
+          let live = ap (λ (z : State). z.ending) (goes c.scratch c.rd c.rs1 c.op2 c.address.0 t about e)
+          ∙ here.live in
           absurd (cc)
       go (inr ne) =
           let end = stops c.scratch c.rd c.rs1 c.op2 c.address.0 t about ne in
-          end ∙ ap (λ (z : Option Ending). record (moved c.address.0 (wrapped (c.address.0 + 4)) NoSlot t) { ending = z })
+          end
+          ∙ ap (λ (z : Option Ending). record (moved c.address.0 (wrapped (c.address.0 + 4)) NoSlot t) { ending = z })
           (sym (ap (λ (z : State). z.ending) end) ∙ is)
 
   quiet : (descriptor : ℕ) → puts_on_word (at_point x t) (word_of g.text x.pc) descriptor ≡ []
@@ -133,15 +135,15 @@ module _ (g : Setting) (l : Pieces) (base : ℕ) (p : Placement) (place : ℕ �
       ap (λ (o : Option ℕ). puts_on_word (at_point x t) o descriptor) c.is_word
       ∙ quiet_transfer (at_point x t) (decode_of c.word) descriptor (ap is_transfer c.says)
 
-  going : (edges : List ℕ) → (jumped c.address.0 c.rd c.rs1 c.op2 t).ending ≡ None
+  going : (edges : List ℕ) → after_jump.ending ≡ None
       → LeadsTo l p c.way (visited_at g l p f (node_after (graph_in g) node edges)
-      (point_of (jumped c.address.0 c.rd c.rs1 c.op2 t)))
-      → StepsOn g (Here g l base p f) Everything edges node x t (jumped c.address.0 c.rd c.rs1 c.op2 t)
+      (point_of after_jump))
+      → StepsOn g (Here g l base p f) Everything edges node x t after_jump
   going edges live leads =
       let on = (jumps_simulate c.scratch c.rd c.rs1 c.op2 c.address.0 t about).0 live in
       let n = many in
       goes_through g l base p place f h node x t here c.piece c.within c.here image c.address c.way c.items
-      (jumped c.address.0 c.rd c.rs1 c.op2 t) (kept_target t c.scratch c.rs1 c.op2) edges (omega arith) few
+      after_jump (kept_target t c.scratch c.rs1 c.op2) edges (omega arith) few
       (record {
         path = on.path;
         silent = on.silent;
@@ -152,8 +154,8 @@ module _ (g : Setting) (l : Pieces) (base : ℕ) (p : Placement) (place : ℕ �
         waits = λ _ _. (on.waits, aligned live);
       }) leads
 
-  ends : (edges : List ℕ) (d : Ending) → (jumped c.address.0 c.rd c.rs1 c.op2 t).ending ≡ Some d
-      → StepsOn g (Here g l base p f) Everything edges node x t (jumped c.address.0 c.rd c.rs1 c.op2 t)
+  ends : (edges : List ℕ) (d : Ending) → after_jump.ending ≡ Some d
+      → StepsOn g (Here g l base p f) Everything edges node x t after_jump
   ends edges d over =
       let end = (jumps_simulate c.scratch c.rd c.rs1 c.op2 c.address.0 t about).1 d over in
       let traps = end.traps in
@@ -181,38 +183,34 @@ module _ (g : Setting) (l : Pieces) (base : ℕ) (p : Placement) (place : ℕ �
           input = traps.input ∙ sym (ap (λ (z : State). z.input) same);
           memory = subst (λ (z : Memory). IsSameOutside (pages_of g.notes) z traps.after.memory) (sym memory_is)
               (same_stored g f h.frame base p t.memory traps.after.memory here.memory
-              (own_stored g l base p place f h node x t here c.piece c.within c.here image c.address c.way c.items
-              traps.after.memory traps.stores));
+              (own_stored g f h.frame t.memory traps.after.memory traps.stores));
           items = λ live thing _ _. absurd (cc);
         };
-        cells = cells_same g l base p place f h edges t (jumped c.address.0 c.rd c.rs1 c.op2 t) traps.after;
+        cells = cells_same g l base p place f h edges t after_jump traps.after;
         here = λ live. absurd (cc);
-        place = λ _. node_there g l base p place f h node x t here c.piece c.within c.here image c.address c.way c.items
-            traps.after.pc (omega arith) (omega arith);
+        place = λ _. ahead.there traps.after.pc (omega arith) (omega arith);
       }
     where
       on_way : (run t 4).ending ≡ None → (j : ℕ) → 0 < j → j < 5 → t.pc < (run t j).pc → (run t j).pc < t.pc + 4 * 6
           → IsOnWay g node t (run t j)
       on_way live j some below past before =
           let n = many in
-          on_words g l base p place f h node x t here c.piece c.within c.here image c.address c.way c.items (run t j)
+          ahead.on (run t j)
           (live_before t (4 - j) j (ap (λ z. (run t z).ending) (let e : 4 - j + j ≡ 4 = omega arith in e) ∙ live))
           past (omega arith)
+
+  steps : (e : Option Ending) → after_jump.ending ≡ e
+      → (after_jump.ending ≡ None → LeadsTo l p c.way (visited_at g l p f
+      (node_after (graph_in g) node (gone_at g node x after_jump)) (point_of after_jump)))
+      → StepsOn g (Here g l base p f) Everything (gone_at g node x after_jump) node x t after_jump
+  steps None e leads = going (gone_at g node x after_jump) e (leads e)
+  steps (Some d) e leads = ends (gone_at g node x after_jump) d e
 
 pub jumps_step : JumpsStep
 jumps_step g l base p place f node x t h here c =
     let is = does_is g l base p place f h node x t here c in
     subst (λ (z : State). StepsOn g (Here g l base p f) Everything (gone_at g node x z) node x t z) (sym is)
-    (by (jumped c.address.0 c.rd c.rs1 c.op2 t).ending refl
+    (steps g l base p place f h node x t here c _ refl
     (subst (λ (z : State). z.ending ≡ None
-    → LeadsTo l p c.way (visited_at g l p f (node_after (graph_in g) node (gone_at g node x z)) (point_of z))) is c.leads))
-  where
-    by : (e : Option Ending) → (jumped c.address.0 c.rd c.rs1 c.op2 t).ending ≡ e
-        → ((jumped c.address.0 c.rd c.rs1 c.op2 t).ending ≡ None
-        → LeadsTo l p c.way (visited_at g l p f
-        (node_after (graph_in g) node (gone_at g node x (jumped c.address.0 c.rd c.rs1 c.op2 t)))
-        (point_of (jumped c.address.0 c.rd c.rs1 c.op2 t))))
-        → StepsOn g (Here g l base p f) Everything (gone_at g node x (jumped c.address.0 c.rd c.rs1 c.op2 t)) node x t
-        (jumped c.address.0 c.rd c.rs1 c.op2 t)
-    by None e leads = going g l base p place f h node x t here c _ e (leads e)
-    by (Some d) e leads = ends g l base p place f h node x t here c _ d e
+    → LeadsTo l p c.way (visited_at g l p f (node_after (graph_in g) node (gone_at g node x z)) (point_of z)))
+    is c.leads))

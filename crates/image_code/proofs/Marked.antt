@@ -17,7 +17,8 @@ word_item [] rest j low = absurd (omega (arith, low))
 word_item (x ∷ xs) rest zero low = (_, refl)
 word_item (x ∷ xs) rest (suc j) low = word_item xs rest j (omega (arith, low))
 
-end_behind : (xs : List Instr) (x : Item) (rest : List Item) → slice_get (word_items xs ++ x ∷ rest) (length xs) ≡ Some x
+end_behind : (xs : List Instr) (x : Item) (rest : List Item)
+    → slice_get (word_items xs ++ x ∷ rest) (length xs) ≡ Some x
 end_behind [] x rest = refl
 end_behind (y ∷ xs) x rest = end_behind xs x rest
 
@@ -30,9 +31,11 @@ items_more : (xs : List Instr) (rest : List Item) → length (word_items xs ++ r
 items_more [] rest = omega arith
 items_more (x ∷ xs) rest = let more = items_more xs rest in omega arith
 
-ends_at : (xs : List Instr) (rest : List Item) (n : ℕ) → end_from (word_items xs ++ it.EndMark ∷ rest) n ≡ n + length xs
+ends_at : (xs : List Instr) (rest : List Item) (n : ℕ)
+    → end_from (word_items xs ++ it.EndMark ∷ rest) n ≡ n + length xs
 ends_at [] rest n = omega arith
-ends_at (x ∷ xs) rest n = ends_at xs rest (suc n) ∙ (let e : suc n + length xs ≡ n + suc (length xs) = omega arith in e)
+ends_at (x ∷ xs) rest n =
+    ends_at xs rest (suc n) ∙ (let e : suc n + length xs ≡ n + suc (length xs) = omega arith in e)
 
 open_at : (xs : List Instr) (rest : List Item) (n j : ℕ) (o : Option Open) → j < length xs
     → open_from (word_items xs ++ rest) n j o ≡ o
@@ -57,7 +60,8 @@ pub record StandMarked (l : List (List Item)) (base : ℕ) (p : Placement) (plac
   pub ends : place k 1 + 4 * count ≤ base + 4 * length p.code
   pub low : place k 1 + 4 * count ≤ 2 ^ 31
   pub range : (a : ℕ) → place k 1 ≤ a → a < place k 1 + 4 * count
-      → range_in p.ranges a ≡ Some (record { lo = place k 1; hi = place k (suc count); address = address; node = node })
+      → range_in p.ranges a ≡ Some
+      (record { lo = place k 1; hi = place k (suc count); address = address; node = node })
 
 module _ (l : List (List Item)) (base : ℕ) (p : Placement) (place : ℕ → ℕ → ℕ) (laid : IsLaid l base p place)
     (k : ℕ) (within : k < length l) (xs : List Instr) (address : Addr) (node : ℕ) (way : PieceNo)
@@ -99,7 +103,6 @@ module _ (l : List (List Item)) (base : ℕ) (p : Placement) (place : ℕ → �
   in_range : (a : ℕ) → place k 1 ≤ a → a < place k 1 + 4 * length xs → range_in p.ranges a ≡ Some
       (record { lo = place k 1; hi = place k (suc (length xs)); address = address.0; node = node })
   in_range a from below =
-      let j : ℕ = (a - place k 1) / 4 in
       let low : (a - place k 1) / 4 < length xs = omega arith in
       let w = word ((a - place k 1) / 4) low in
       let begin = stands ((a - place k 1) / 4) (omega (arith, low)) in

@@ -3,7 +3,7 @@ use Rattle.std.proofs.Common.{◌≡◌, ℕ, suc, ◌+◌, ◌*◌, ◌%◌, �
 use Rattle.std.specs.Prelude.{◌-◌, slice_get, slice_index}
 use Rattle.eel_base.specs.declared.numbers.Addr.{Addr}
 use Rattle.eel_base.specs.declared.numbers.PieceNo.{PieceNo}
-use Rattle.elf32_sparc.specs.Notes.{node_at}
+use Rattle.elf32_sparc.specs.Notes.{NoteRange, node_at}
 use Rattle.v8_decode.specs.declared.Instr.{Instr}
 use Rattle.v8_alu.specs.Numbers.{wrapped}
 use Rattle.v8_memory.specs.Regions.{Memory}
@@ -40,12 +40,16 @@ use Rattle.image_code.proofs.Cases.{Arrives, IsBare, IsFit, arrive, bare_on, can
 use Rattle.image_code.proofs.Marked.{StandMarked, stand_marked}
 
 -- the page's words are the editor's
-pub page_own : (g : Setting) (f : Frame) → IsFramed g f → (z : ℕ) → IsPageWord z → IsAmongWords f.own z
+page_own : (g : Setting) (f : Frame) → IsFramed g f → (z : ℕ) → IsPageWord z → IsAmongWords f.own z
 page_own g f framed z (inl e) = subst (IsAmongWords f.own) (sym e) (framed.page 0 (omega arith))
 page_own g f framed z (inr (inl e)) = subst (IsAmongWords f.own) (sym e) (framed.page 1 (omega arith))
 page_own g f framed z (inr (inr (inl e))) = subst (IsAmongWords f.own) (sym e) (framed.page 2 (omega arith))
 page_own g f framed z (inr (inr (inr (inl e)))) = subst (IsAmongWords f.own) (sym e) (framed.page 3 (omega arith))
 page_own g f framed z (inr (inr (inr (inr e)))) = absurd e
+
+pub own_stored : (g : Setting) (f : Frame) → IsFramed g f → (m n : Memory) → Stores IsPageWord m n
+    → Stores (IsAmongWords f.own) m n
+own_stored g f framed m n stores = stores_weaker IsPageWord (IsAmongWords f.own) m n (page_own g f framed) stores
 
 -- word 1 waits while word 0 is stored
 waits_all : (ws : List (ℕ × ℕ)) (m : Memory) → AllAt IsFirstWord ws → CanStore m (page_word 1)
@@ -61,6 +65,14 @@ still_waits : (m n : Memory) → Stores IsFirstWord m n → CanStore m (page_wor
 still_waits m n stores can =
     ap (λ (z : Memory). memory_word z (page_word 1)) stores.result ∙ waits_all stores.writes m stores.each can
 
+-- A machine at the first of so many words of a node's Mark: the states between them are on the way.
+pub record AtWords (g : Setting) (node : Node) (t : State) (begin count : ℕ) : Type 0 where
+  pub at : t.pc ≡ begin
+  pub low : t.pc + 4 * count ≤ 2 ^ 31
+  pub next : 0 < count → t.npc ≡ t.pc + 4
+  pub on : (u : State) → u.ending ≡ None → t.pc < u.pc → u.pc < t.pc + 4 * count → IsOnWay g node t u
+  pub there : (a : ℕ) → t.pc ≤ a → a < t.pc + 4 * count → node_at g.notes a ≡ Some (number_in g node)
+
 module _ (g : Setting) (l : Pieces) (base : ℕ) (p : Placement) (place : ℕ → ℕ → ℕ) (f : Frame)
     (h : IsPlaced g l base p place f)
     (node : Node) (x : Point) (t : State) (here : Here g l base p f node x t)
@@ -70,43 +82,30 @@ module _ (g : Setting) (l : Pieces) (base : ℕ) (p : Placement) (place : ℕ �
   stand : StandMarked l.list base p place k address.0 (number_in g node) way (length xs)
   stand = stand_marked l.list base p place h.laid k within xs address (number_in g node) way is
 
-  pub at_words : t.pc ≡ place k 1
-  at_words = here.at ∙ visited ∙ h.laid.starts k within ∙ sym stand.mark
-
-  -- the words stand below 2 GiB
-  pub words_low : t.pc + 4 * length xs ≤ 2 ^ 31
-  words_low = let a = at_words in let low = stand.low in omega arith
-
-  pub next_word : 0 < length xs → t.npc ≡ t.pc + 4
-  next_word some =
-      let low = words_low in here.npc ∙ (let e : wrapped (t.pc + 4) ≡ t.pc + 4 = omega arith in e)
-
-  -- between the words, in their Mark
-  pub on_words : (u : State) → u.ending ≡ None → t.pc < u.pc → u.pc < t.pc + 4 * length xs → IsOnWay g node t u
-  on_words u live past before =
-      let a = at_words in
-      let b = stand.begins in
-      let e = stand.ends in
-      on_range g l base p place f h node t u
-      (record { lo = place k 1; hi = place k (suc (length xs)); address = address.0; node = number_in g node })
-      live (omega arith) (omega arith) (stand.range u.pc (omega arith) (omega arith)) (omega arith) refl
-
-  -- a place of the node, which they are
-  pub node_there : (a : ℕ) → t.pc ≤ a → a < t.pc + 4 * length xs → node_at g.notes a ≡ Some (number_in g node)
-  node_there a from below =
-      let e = at_words in
-      let b = stand.begins in
-      let d = stand.ends in
-      node_is g l base p place f h a
-      (Some (record { lo = place k 1; hi = place k (suc (length xs)); address = address.0; node = number_in g node }))
-      (omega arith) (omega arith) (stand.range a (omega arith) (omega arith))
+  pub at_words : AtWords g node t (place k 1) (length xs)
+  at_words =
+      let at : t.pc ≡ place k 1 = here.at ∙ visited ∙ h.laid.starts k within ∙ sym stand.mark in
+      let begins = stand.begins in
+      let ends = stand.ends in
+      let low = stand.low in
+      let range : NoteRange =
+      record { lo = place k 1; hi = place k (suc (length xs)); address = address.0; node = number_in g node } in
+      record {
+        at = at;
+        low = omega arith;
+        next = λ some. here.npc ∙ (let e : wrapped (t.pc + 4) ≡ t.pc + 4 = omega arith in e);
+        on = λ u live past before. on_range g l base p place f h node t u range live (omega arith) (omega arith)
+            (stand.range u.pc (omega arith) (omega arith)) (omega arith) refl;
+        there = λ a from below. node_is g l base p place f h a (Some range) (omega arith) (omega arith)
+            (stand.range a (omega arith) (omega arith));
+      }
 
   On : State → Type 0
   On u = ((t.pc < u.pc) × (u.pc < t.pc + 4 * length xs)) ⊎ IsBare g l base p place f h u
 
   on_way : (u : State) → u.ending ≡ None → On u → IsOnWay g node t u
   unfolding On
-  on_way u live (inl z) = on_words u live z.0 z.1
+  on_way u live (inl z) = at_words.on u live z.0 z.1
   on_way u live (inr z) = bare_on g l base p place f h node t u live z
 
   -- the words lead past them, to all of v but its place and memory
@@ -120,12 +119,10 @@ module _ (g : Setting) (l : Pieces) (base : ℕ) (p : Placement) (place : ℕ �
     pub waits : v.slot ≡ Taken → same_kind (way_of (instr_at g.text (v.pc - 4)) v.slot) kinds.Out ≡ true
         → (memory_word m (page_word 1) ≡ v.npc) × (v.npc % 4 ≡ 0)
 
-  pub own_stored : (m : Memory) → Stores IsPageWord t.memory m → Stores (IsAmongWords f.own) t.memory m
-  own_stored m stores = stores_weaker IsPageWord (IsAmongWords f.own) t.memory m (page_own g f h.frame) stores
-
   past_has : (v : State) (m : Memory) → Through v m → HasImages g base p f m
   past_has v m w =
-      images_stored g f h.frame base p t (past t (length xs) m v) (length xs) w.path.steps (own_stored m w.stores) here.memory
+      images_stored g f h.frame base p t (past t (length xs) m v) (length xs) w.path.steps
+      (own_stored g f h.frame t.memory m w.stores) here.memory
 
   past_fit : (v : State) (m : Memory) → Through v m → IsFit g l base p place f h (past t (length xs) m v)
   past_fit v m w =
@@ -141,7 +138,7 @@ module _ (g : Setting) (l : Pieces) (base : ℕ) (p : Placement) (place : ℕ �
   on_along : (v : State) (m : Memory) (to : ℕ) → Through v m → LeadsTo l p way to
       → Arrives g l base p place f h (past t (length xs) m v) to 8
   on_along v m to w leads =
-      let a = at_words in
+      let a = at_words.at in
       let b = stand.behind in
       let fit = past_fit v m w in
       let one = jump_on g l base p place f h k (suc (suc (length xs))) way stand.jump stand.shut
@@ -165,7 +162,8 @@ module _ (g : Setting) (l : Pieces) (base : ℕ) (p : Placement) (place : ℕ �
       (leads_weaker _ On (past t (length xs) m v) _ rest.count (λ u q. inr q) rest.path)
       (λ _ more. inr (rest.begins more)) in
       let stores : Stores (IsAmongWords f.own) t.memory rest.memory =
-      stores_then (IsAmongWords f.own) (IsAmongWords f.own) t.memory m rest.memory (λ z e. e) (own_stored m w.stores)
+      stores_then (IsAmongWords f.own) (IsAmongWords f.own) t.memory m rest.memory (λ z e. e)
+      (own_stored g f h.frame t.memory m w.stores)
       (first_own g l base p place f h m rest.memory rest.stores) in
       let still : memory_word rest.memory (page_word 1) ≡ memory_word m (page_word 1) =
       still_waits m rest.memory rest.stores
@@ -179,7 +177,8 @@ module _ (g : Setting) (l : Pieces) (base : ℕ) (p : Placement) (place : ℕ �
           few = omega arith;
           quiet = quiet_of g l base p place f h node t _ (length xs + rest.count) On path w.live on_way;
         };
-        puts = λ descriptor. silent_then t (past t (length xs) m v) (length xs) rest.count w.path.steps w.silent rest.silent descriptor
+        puts = λ descriptor.
+            silent_then t (past t (length xs) m v) (length xs) rest.count w.path.steps w.silent rest.silent descriptor
             ∙ sym (w.quiet descriptor);
         followed = record {
           ending = refl;
