@@ -9,7 +9,7 @@ use Rattle.v8_decode.specs.declared.Instr.{Instr}
 use Rattle.v8_decode.specs.declared.Instr.TheVariants as i
 use Rattle.v8_decode.specs.Words.{decode_of}
 use Rattle.v8_alu.specs.Numbers.{wrapped}
-use Rattle.v8_memory.specs.Regions.{Memory, Region, code_of, fetch_of, fetch_from}
+use Rattle.v8_memory.specs.Regions.{Memory, Region, code_of, fetch_from}
 use Rattle.v8_memory.specs.Spans.{Span, AllApart, IsSameOutside, IsSameRegion}
 use Rattle.v8_step.specs.declared.Ending.{Ending}
 use Rattle.v8_step.specs.declared.Slot.TheVariants.{NoSlot}
@@ -23,7 +23,6 @@ use Rattle.v8_step.specs.Visits.{visit_of, visited, if_live, in_pages, pages_of}
 use Rattle.v8_step.proofs.Alike.{live_puts}
 use Rattle.v8_step.proofs.JudgedAlike.{judged_alike}
 use Rattle.v8_step.proofs.CopiedMoves.{goes_act}
-use Rattle.v8_step.proofs.Executable.{code_stays}
 use Rattle.v8_step.proofs.ValidSteps.{run-valid}
 use Rattle.cfg_walk.proofs.Walks as walks
 use Rattle.cfg_walk.specs.Walk.{Point, point_of, node_after}
@@ -39,20 +38,18 @@ use Rattle.code_runs.proofs.Hops.{stores_then}
 use Rattle.code_runs.proofs.Points.{acts_anywhere}
 use Rattle.code_runs.proofs.TwoRegisters.{stores_none}
 use Rattle.code_runs.proofs.Stays.{stores_there}
-use Rattle.code_runs.specs.Ours.{IsOurs}
 use Rattle.code_runs.specs.LongJump.{IsFirstWord, long_jump}
 use Rattle.code_runs.specs.Straight.{StandIn}
 use Rattle.code_runs.proofs.LongJump.{long_jumps_hop}
 use Rattle.jump_code.specs.Pieces.{far_piece}
 use Rattle.jump_code.proofs.Laid.{pieces_are_laid}
 use Rattle.code_runs.specs.Page.{page_word}
-use Rattle.code_runs.proofs.Ours.{ours_stay, ours_are_stored}
 use Rattle.eel_base.specs.declared.numbers.Addr.{Addr}
 use Rattle.eel_base.specs.declared.numbers.PieceNo.{PieceNo}
 use Rattle.layout.specs.declared.items.Item.{Item}
 use Rattle.layout.specs.declared.items.Item.TheVariants as it
 use Rattle.layout.specs.Laid.{Placement, item_at, item_in, items_in, size_of, open_in, open_from, range_in, range_of, IsWordAt}
-use Rattle.layout.specs.Running.{HasCode, CanRun}
+use Rattle.layout.specs.Running.{CanRun}
 use Rattle.layout.proofs.Going.{stays, jumps_hop, words_stand}
 use Rattle.image_code.specs.Simulates.{updates, Setting, StepsOn, IsOnWay, IsFollowedBy, at_point, does_at, gone_at, graph_in, number_in, word_of}
 use Rattle.image_code.specs.Images.{Pieces, Frame, HasImages, Here, IsPlaced, visited_at}
@@ -328,10 +325,14 @@ module _ (g : Setting) (l : Pieces) (base : ℕ) (p : Placement) (place : ℕ �
       λ n b x l e from below. h.laid.ranges k n b x e from below
       ∙ ap (λ (v : Option (List Item)). range_of (place k) (open_in v n)) is ∙ ap (range_of (place k)) (never_open to n l) in
       let bare : (u : State) → a.pc ≤ u.pc → u.pc < a.pc + 16 → IsBare u =
-      λ u from to. (omega arith, omega arith, by_item (place k 0) (place k 1) (place k 2) (place k 3) (place k 4) u.pc
-      (omega arith) (omega arith)
-      (none 0 u.pc _ (omega arith) (item 0)) (none 1 u.pc _ (omega arith) (item 1)) (none 2 u.pc _ (omega arith) (item 2))
-      (none 3 u.pc _ (omega arith) (item 3))) in
+      λ u from to. (
+        omega arith,
+        omega arith,
+        by_item (place k 0) (place k 1) (place k 2) (place k 3) (place k 4) u.pc
+            (omega arith) (omega arith)
+            (none 0 u.pc _ (omega arith) (item 0)) (none 1 u.pc _ (omega arith) (item 1)) (none 2 u.pc _ (omega arith) (item 2))
+            (none 3 u.pc _ (omega arith) (item 3)),
+      ) in
       record {
         count = 4;
         memory = store_word a.memory (page_word 0) (register_of a 1);

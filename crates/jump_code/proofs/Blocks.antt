@@ -1,5 +1,5 @@
 -- What the proofs of these words share.
-use Rattle.std.proofs.Common.{◌≡◌, ◌≢◌, ℕ, suc, ◌+◌, ◌-◌, ◌*◌, ◌/◌, ◌%◌, ◌^◌, ◌<◌, ◌≤◌, inl, inr, true, false, Ok, length, refl, ap, ◌∙◌, subst, arith}
+use Rattle.std.proofs.Common.{◌≡◌, ◌≢◌, ℕ, suc, ◌+◌, ◌-◌, ◌*◌, ◌/◌, ◌%◌, ◌^◌, ◌<◌, ◌≤◌, inl, inr, true, false, Ok, refl, ap, ◌∙◌, subst, arith}
 use Rattle.std.specs.Prelude.{◌==◌, pos}
 use Rattle.std.proofs.lemmas.Bool.Decides.{nat_tests}
 use Rattle.v8_decode.specs.declared.Op2.{Op2}
@@ -14,7 +14,7 @@ use Rattle.v8_step.proofs.ValidStates.{register_of-range}
 use Rattle.v8_step.proofs.ValidSteps.{run-valid}
 use Rattle.code_runs.specs.Page.{page_word}
 use Rattle.code_runs.specs.Straight.{IsReady, StandIn}
-use Rattle.code_runs.specs.TwoRegisters.{HasScratch, IsAlike, Works, Gives, BlockRules}
+use Rattle.code_runs.specs.TwoRegisters.{HasScratch, Works, Gives, BlockRules}
 use Rattle.code_runs.proofs.LongJump.{says_at}
 use Rattle.code_runs.proofs.TwoRegisters.{block_rules}
 use Rattle.jump_code.specs.Links.{address_into}

@@ -15,14 +15,14 @@ use Rattle.code_runs.specs.Straight.{StandIn, HasWords}
 use Rattle.layout.specs.declared.items.Item.{Item}
 use Rattle.layout.specs.declared.items.Item.TheVariants as it
 use Rattle.layout.specs.Emitting.{words_of}
-use Rattle.layout.specs.Laid.{Placement, IsLaid, Stands, item_at, item_in}
+use Rattle.layout.specs.Laid.{Placement, Stands, item_in}
 use Rattle.layout.specs.Running.{HasCode}
 use Rattle.layout.proofs.Going.{word_is}
 use Rattle.jump_code.specs.Jumps.{IsApart, jump_image}
 use Rattle.jump_code.specs.Leaving.{foreign}
 use Rattle.jump_code.specs.Links.{link}
 use Rattle.jump_code.specs.LookUps.{look_up_first, look_up_last}
-use Rattle.jump_code.specs.Pieces.{word_items, marked_piece, out_piece, MarkedIsLaid, OutIsLaid, WordsAreLaid, PiecesAreLaid}
+use Rattle.jump_code.specs.Pieces.{word_items, marked_piece, out_piece, MarkedIsLaid, OutIsLaid, PiecesAreLaid}
 
 -- ---- instructions that have words
 
@@ -78,7 +78,7 @@ module _ (base : ℕ) (p : Placement) (m : Memory) (has : HasCode base p.code m)
   all_stand (x ∷ xs) n h = (
     subst (λ z. Stands base p x (place z) (place (suc z))) (let e : n + 0 ≡ n = omega arith in e) (h 0 x refl),
     all_stand xs (suc n) (λ j y e. subst (λ z. Stands base p y (place z) (place (suc z)))
-    (let f : n + suc j ≡ suc n + j = omega arith in f) (h (suc j) y e)),
+        (let f : n + suc j ≡ suc n + j = omega arith in f) (h (suc j) y e)),
   )
 
   record Stood (n count : ℕ) (rest : List Item) : Type 0 where

@@ -1,5 +1,5 @@
 -- The link of a CALL.
-use Rattle.std.proofs.Common.{ℕ, ◌+◌, ◌*◌, subst, arith}
+use Rattle.std.proofs.Common.{◌+◌, ◌*◌, subst, arith}
 use Rattle.v8_step.specs.State.{State, register_of}
 use Rattle.code_runs.specs.Leads.{Leads}
 use Rattle.code_runs.specs.Straight.{StandIn}
@@ -20,6 +20,8 @@ calls_act address s h =
     subst (λ z. StandIn (code_of s.memory) z (address_into 15 address)) (omega arith) h.words in
     let w : Works s 2 IsPageWord 1 15 2 s.memory (register_of s 1) address =
     addressed s 2 1 15 c 0 s.memory (register_of s 1) (register_of s 15) address
-    (block_rules s 2 IsPageWord 1 15 c).none h.short (omega arith) stand in
-    (subst (λ (z : State). Leads (IsBetween s 2 IsPageWord) s z 2)
-    (works_state s 2 IsPageWord 1 15 c 2 s.memory address w (omega arith)) w.path, w.silent)
+    (block_rules s 2 IsPageWord 1 15 c).none h.short (omega arith) stand in (
+      subst (λ (z : State). Leads (IsBetween s 2 IsPageWord) s z 2)
+          (works_state s 2 IsPageWord 1 15 c 2 s.memory address w (omega arith)) w.path,
+      w.silent,
+    )

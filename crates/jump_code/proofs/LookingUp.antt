@@ -4,7 +4,7 @@ use Rattle.std.specs.Prelude.{pos}
 use Rattle.v8_decode.specs.declared.Op2.TheVariants.{Imm}
 use Rattle.v8_alu.specs.Numbers.{wrapped}
 use Rattle.v8_memory.specs.Regions.{Memory, Region, code_of}
-use Rattle.v8_step.specs.State.{State, register_of}
+use Rattle.v8_step.specs.State.{register_of}
 use Rattle.v8_step.specs.Valid.{IsValidMemory}
 use Rattle.v8_step.proofs.ValidStates.{register_of-range}
 use Rattle.code_runs.specs.Page.{page_word, of_page}

@@ -1,5 +1,5 @@
 -- The words of a JMPL, one by one.
-use Rattle.std.proofs.Common.{◌≡◌, ◌≢◌, ℕ, zero, suc, ◌+◌, ◌*◌, ◌%◌, ◌^◌, ◌<◌, ◌≤◌, ◌⊎◌, inl, inr, false, Ok, List, length, refl, ap, sym, ◌∙◌, subst, arith, bit_and}
+use Rattle.std.proofs.Common.{◌≡◌, ◌≢◌, ℕ, zero, suc, ◌+◌, ◌*◌, ◌%◌, ◌<◌, ◌≤◌, ◌⊎◌, inl, inr, false, Ok, List, length, refl, ap, sym, ◌∙◌, subst, arith, bit_and}
 use Rattle.std.specs.Prelude.{◌==◌, pos}
 use Rattle.std.proofs.lemmas.Nat.{and_mask}
 use Rattle.v8_decode.specs.declared.Op2.{Op2}
