@@ -1,73 +1,24 @@
 -- Where the words of laid pieces stand.
-use Rattle.std.proofs.Common.{◌≡◌, ℕ, zero, suc, ◌+◌, ◌*◌, ◌/◌, ◌%◌, ◌^◌, ◌<◌, Bool, true, ◌&&◌, Some, Option, List, [], ◌∷◌, ◌++◌, length, map, append-nil, refl, ap, sym, ◌∙◌, subst, arith}
-use Rattle.std.specs.Prelude.{nat_lt, slice_get}
-use Rattle.std.proofs.lemmas.Bool.Decides.{nat_tests}
+use Rattle.std.proofs.Common.{◌≡◌, ℕ, suc, ◌+◌, ◌*◌, Some, Option, List, [], ◌∷◌, ◌++◌, length, map, append-nil, refl, ap, sym, ◌∙◌, subst, arith}
+use Rattle.std.specs.Prelude.{slice_get}
 use Rattle.eel_base.specs.declared.numbers.Addr.{Addr}
 use Rattle.eel_base.specs.declared.numbers.PieceNo.{PieceNo}
-use Rattle.v8_decode.specs.declared.Op2.{Op2}
 use Rattle.v8_decode.specs.declared.Instr.{Instr}
-use Rattle.v8_decode.specs.Ranges.{op2_in_range, is_in_range}
-use Rattle.v8_encode.specs.Encoding.{word_of, has_word, op2_fits}
-use Rattle.v8_encode.proofs.Decoded.{decode_of-word_of}
-use Rattle.v8_memory.specs.Regions.{Memory, Region, code_of}
+use Rattle.v8_memory.specs.Regions.{Memory, code_of}
 use Rattle.code_runs.specs.LongJump.{long_jump}
-use Rattle.code_runs.specs.Straight.{Says, StandIn, HasWords}
+use Rattle.code_runs.specs.Straight.{StandIn, HasWords}
 use Rattle.layout.specs.declared.items.Item.{Item}
 use Rattle.layout.specs.declared.items.Item.TheVariants as it
 use Rattle.layout.specs.Emitting.{words_of}
 use Rattle.layout.specs.Laid.{Placement, Stands, item_in}
 use Rattle.layout.specs.Running.{HasCode}
 use Rattle.layout.proofs.Going.{word_is}
-use Rattle.jump_code.specs.Jumps.{IsApart, jump_image}
+use Rattle.jump_code.proofs.Fitting.{words_mean, link_fits, jump_fits, long_jump_fits, as_many, Fit}
+use Rattle.jump_code.specs.Jumps.{jump_image}
 use Rattle.jump_code.specs.Leaving.{foreign}
 use Rattle.jump_code.specs.Links.{link}
 use Rattle.jump_code.specs.LookUps.{look_up_first, look_up_last}
 use Rattle.jump_code.specs.Pieces.{word_items, marked_piece, out_piece, MarkedIsLaid, OutIsLaid, PiecesAreLaid}
-
--- ---- instructions that have words
-
-abbrev Fit : List Instr → Type 0
-Fit [] = Unit {0}
-Fit (x ∷ xs) = (is_in_range x ≡ true) × (has_word x ≡ true) × Fit xs
-
-words_mean : (code : List Region) (a : ℕ) (xs : List Instr) → Fit xs → HasWords code a (words_of xs) → StandIn code a xs
-words_mean code a [] f h = tt
-words_mean code a (x ∷ xs) f h =
-    let says : Says code a x = record { word = word_of x; fetched = h.0; decodes = decode_of-word_of x f.0 f.1 } in
-    (says, words_mean code (a + 4) xs f.2 h.1)
-
-lt : (n m : ℕ) → n < m → nat_lt n m ≡ true
-lt n m h = grind (arith, nat_tests)
-
-both : (p q : Bool) → p ≡ true → q ≡ true → (p && q) ≡ true
-both p q e f = ap (λ z. z && q) e ∙ f
-
-link_fits : (rd address : ℕ) → rd < 32 → address < 2 ^ 32 → Fit (link rd address)
-link_fits zero address low short = tt
-link_fits (suc r) address low short =
-    let l = lt (suc r) 32 low in
-    let both_registers = both (nat_lt (suc r) 32) _ l (both (nat_lt (suc r) 32) true l refl) in
-    let high = lt (address / 1024) (2 ^ 22) (omega arith) in
-    (l, high, (both_registers, lt (address % 1024) 4096 (omega arith), tt))
-
-jump_fits : (x rd rs1 : ℕ) (op2 : Op2) (address : ℕ) → IsApart x rd rs1 op2 → op2_fits op2 ≡ true
-    → op2_in_range op2 ≡ true → address < 2 ^ 32 → Fit (jump_image x rd rs1 op2 address)
-jump_fits x rd rs1 op2 address a fits low short =
-    let lx = lt x 32 a.below in
-    let only = both (nat_lt x 32) true lx refl in
-    let twice = both (nat_lt x 32) _ lx only in
-    let sum = both (nat_lt x 32) _ lx (both (nat_lt rs1 32) _ (lt rs1 32 a.rs1_below) low) in
-    let links = link_fits rd address a.rd_below short in
-    (only, refl, (sum, fits, (only, refl, (twice, refl, (twice, refl, (only, refl, links))))))
-
-long_jump_fits : (to : ℕ) → to < 2 ^ 32 → Fit (long_jump to)
-long_jump_fits to short =
-    let high = lt (to / 1024) (2 ^ 22) (omega arith) in
-    (refl, refl, (refl, high, (refl, lt (to % 1024) 4096 (omega arith), (refl, refl, tt))))
-
-as_many : (xs : List Instr) → length (words_of xs) ≡ length xs
-as_many [] = refl
-as_many (x ∷ xs) = ap suc (as_many xs)
 
 -- ---- items that stand one after the other
 

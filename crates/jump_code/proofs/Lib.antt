@@ -1,4 +1,6 @@
 pub mod Blocks
+pub mod CodeWords
+pub mod Fitting
 pub mod Following
 pub mod Laid
 pub mod Leaving

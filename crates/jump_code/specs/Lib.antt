@@ -1,3 +1,4 @@
+pub mod FreeRegister
 pub mod Jumped
 pub mod Jumps
 pub mod Leaving
@@ -6,3 +7,4 @@ pub mod LookUps
 pub mod PageWords
 pub mod Pieces
 pub mod Ways
+pub mod Words

@@ -9,6 +9,13 @@ ghost use Rattle.jump_code.specs.LookUps.{LookUpsHop};
 ghost use Rattle.jump_code.specs.Pieces.{PiecesAreLaid};
 ghost use Rattle.jump_code.specs.Ways.{JumpWays, SlotsAreReady};
 
+mod code;
+mod registers;
+mod single;
+
+pub use code::{foreign_code, link_code, look_up_code, target_code};
+pub use registers::free_register;
+
 /// The words of a JMPL write its link and keep its target where that is aligned, and else end the run as the JMPL does.
 pub fn jumps_act()
     ensures { JumpsAct }
