@@ -1,5 +1,5 @@
 -- The words that make the image of a JMPL, and what they do.
-use Rattle.std.specs.Prelude.{◌≡◌, ◌≢◌, ℕ, ◌+◌, ◌*◌, ◌-◌, ◌%◌, ◌^◌, ◌<◌, false, List, [], ◌∷◌, ◌++◌, length, Some, pos}
+use Rattle.std.specs.Prelude.{◌≡◌, ◌≢◌, ℕ, ◌+◌, ◌*◌, ◌-◌, ◌%◌, ◌^◌, ◌<◌, false, List, [], ◌∷◌, ◌++◌, length, Some, pos, slice_index}
 use Rattle.v8_decode.specs.declared.Op2.{Op2}
 use Rattle.v8_decode.specs.declared.Op2.TheVariants.{Reg, Imm}
 use Rattle.v8_decode.specs.declared.AluOp.TheVariants as ops
@@ -8,6 +8,7 @@ use Rattle.v8_decode.specs.declared.Instr.TheVariants as i
 use Rattle.v8_decode.specs.declared.LoadKind.TheVariants as loads
 use Rattle.v8_decode.specs.declared.StoreKind.TheVariants as stores
 use Rattle.v8_memory.specs.Regions.{Memory, code_of}
+use Rattle.v8_windows.specs.Registers.{place_of}
 use Rattle.v8_step.specs.declared.Ending.TheVariants.{Trap}
 use Rattle.v8_step.specs.State.{State, register_of, with_register, sum_of}
 use Rattle.v8_step.specs.Traps.{mem_address_not_aligned}
@@ -74,7 +75,8 @@ pub record GoesOn (s : State) (x rd rs1 : ℕ) (op2 : Op2) (address count : ℕ)
   pub stores : Stores IsPageWord s.memory (kept_target s x rs1 op2)
   pub target : memory_word (kept_target s x rs1 op2) (page_word 1) ≡ sum_of s rs1 op2
 
--- A misaligned one: the fifth word ends the run, with the trap of a misaligned address.
+-- A misaligned one: the fifth word ends the run, with the trap of a misaligned address. All but register x and words of
+-- the page is as it was.
 pub record TrapsThere (s : State) (x rs1 : ℕ) (op2 : Op2) : Type 0 where
   pub after : State
   pub path : Leads (IsBetween s 8 IsPageWord) s after 5
@@ -83,6 +85,11 @@ pub record TrapsThere (s : State) (x rs1 : ℕ) (op2 : Op2) : Type 0 where
   pub pc : after.pc ≡ s.pc + 16
   pub window : after.window ≡ s.window
   pub valid : after.valid ≡ s.valid
+  pub codes : after.codes ≡ s.codes
+  pub y_register : after.y ≡ s.y
+  pub registers : length after.registers ≡ length s.registers
+  pub others : (place : ℕ) → place ≢ place_of s.window x
+      → slice_index after.registers place ≡ slice_index s.registers place
   pub input : after.input ≡ s.input
   pub stores : Stores IsPageWord s.memory after.memory
 
