@@ -21,8 +21,8 @@ use Rattle.code_runs.specs.TwoRegisters.{IsBetween}
 use Rattle.jump_code.specs.Links.{link, past}
 use Rattle.jump_code.specs.PageWords.{IsPageWord, HasPage}
 
--- The target goes into word 1 of the page, through a register x that waits in word 2 meanwhile. The second load but one
--- is misaligned where the target is, and then ends the run as the JMPL does; else it loads word 0.
+-- The target goes into word 1 of the page, through a register x that waits in word 2 meanwhile. The first load is
+-- misaligned where the target is, and then ends the run as the JMPL does; else it is of word 0.
 abbrev pub jump_target : ℕ → ℕ → Op2 → List Instr
 jump_target x rs1 op2 =
     i.Store stores.ST x 0 (of_page 2)
