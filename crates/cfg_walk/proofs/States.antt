@@ -132,15 +132,15 @@ module _ (text : Words) (is : IsText text) (b : Blocks) (c : IsCut text b) (node
     branch cond false disp22 true true h holds all =
         let t : State = branched true true false s (target_of s disp22) in
         at_slots text graph node s t NoSlot Taken e refl
-        (taken_delayed cond false disp22 s.codes h (point_of t) holds refl refl refl refl)
+        (taken_delayed cond false disp22 s.codes h (point_of t) holds refl refl refl)
     branch cond true disp22 true false h holds all =
         let t : State = branched true false true s (target_of s disp22) in
         at_slots text graph node s t NoSlot Taken e refl
-        (taken_delayed cond true disp22 s.codes h (point_of t) holds (ap not all) refl refl refl)
+        (taken_delayed cond true disp22 s.codes h (point_of t) holds (ap not all) refl refl)
     branch cond false disp22 true false h holds all =
         let t : State = branched true false false s (target_of s disp22) in
         at_slots text graph node s t NoSlot Taken e refl
-        (taken_delayed cond false disp22 s.codes h (point_of t) holds refl refl refl refl)
+        (taken_delayed cond false disp22 s.codes h (point_of t) holds refl refl refl)
     branch cond true disp22 false all h holds _ =
         let t : State = branched false all true s (target_of s disp22) in
         let npc : t.npc ≡ (t.pc + 4) % 2 ^ 32 = omega arith in
@@ -149,7 +149,7 @@ module _ (text : Words) (is : IsText text) (b : Blocks) (c : IsCut text b) (node
     branch cond false disp22 false all h holds _ =
         let t : State = branched false all false s (target_of s disp22) in
         at_slots text graph node s t NoSlot Untaken e refl
-        (untaken_delayed cond false disp22 s.codes h (point_of t) holds refl refl refl refl)
+        (untaken_delayed cond false disp22 s.codes h (point_of t) holds refl refl refl)
 
     jump : (rd rs1 : ℕ) (op2 : Op2) → Stands text b node (point_of s) word (i.Jmpl rd rs1 op2)
         → (jump_step s rd (sum_of s rs1 op2)).ending ≡ None
@@ -175,7 +175,7 @@ module _ (text : Words) (is : IsText text) (b : Blocks) (c : IsCut text b) (node
         let t : State = call_step s disp30 in
         subst (λ (x : Slot). GoesTo text graph node s (unless_couple x s t)) (sym e)
         (at_slots text graph node s t NoSlot Taken e refl
-        (call_delayed disp30 (point_of t) h refl refl refl))
+        (call_delayed disp30 (point_of t) h refl refl))
     outside (i.Jmpl rd rs1 op2) h live =
         let t : State = jump_step s rd (sum_of s rs1 op2) in
         subst (λ (x : Slot). (unless_couple x s t).ending ≡ None
