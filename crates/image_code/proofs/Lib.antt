@@ -12,6 +12,7 @@ pub mod Through
 pub mod Calls
 pub mod Jumps
 pub mod Imaged
+pub mod Along
 pub mod Listed
 pub mod Made
 pub mod Numbers
