@@ -57,44 +57,40 @@ module _ (g : Setting) (is : IsText g.text) (table : ℕ) where
   cut_in = cut g.text g.given is.some
 
   -- the one edge of a kind that leaves a node
-  pub record IsAlong (node : Node) (kind : EdgeKind) : Type 0 where
-    pub number : ℕ
-    pub edge : Edge
-    pub only : edge_from (graph_in g) node kind ≡ number ∷ []
+  pub record IsAlong (node : Node) (way : EdgeKind) (number : ℕ) (edge : Edge) : Type 0 where
+    pub only : edge_from (graph_in g) node way ≡ number ∷ []
     pub found : slice_get (edges_in b) number ≡ Some edge
-    pub from : edge.from ≡ node
-    pub same : edge.kind ≡ kind
+    pub leaves : edge.from ≡ node
+    pub same : edge.kind ≡ way
 
-  pub along : (node : Node) (kind : EdgeKind) (number : ℕ) (edge : Edge) → edge_from (graph_in g) node kind ≡ number ∷ []
-      → slice_get (edges_in b) number ≡ Some edge → IsAlong node kind
-  along node kind number edge only found =
-      let at : position (λ (edge : Edge). same_node edge.from node && same_kind edge.kind kind) (edges_in b)
+  pub along : (node : Node) (way : EdgeKind) (number : ℕ) (edge : Edge) → edge_from (graph_in g) node way ≡ number ∷ []
+      → slice_get (edges_in b) number ≡ Some edge → IsAlong node way number edge
+  along node way number edge only found =
+      let at : position (λ (edge : Edge). same_node edge.from node && same_kind edge.kind way) (edges_in b)
       ≡ Some number = number_of_list _ number only in
-      let passes : (same_node edge.from node && same_kind edge.kind kind) ≡ true =
-      ap (λ (e : Edge). same_node e.from node && same_kind e.kind kind)
+      let passes : (same_node edge.from node && same_kind edge.kind way) ≡ true =
+      ap (λ (e : Edge). same_node e.from node && same_kind e.kind way)
       (sym (get_or_from_slice_get (edges_in b) number edge edge found))
-      ∙ (position-Some (λ (e : Edge). same_node e.from node && same_kind e.kind kind) (edges_in b) number edge at).1 in
-      let parts = and_parts (same_node edge.from node) (same_kind edge.kind kind) passes in
+      ∙ (position-Some (λ (e : Edge). same_node e.from node && same_kind e.kind way) (edges_in b) number edge at).1 in
+      let parts = and_parts (same_node edge.from node) (same_kind edge.kind way) passes in
       record {
-        number = number;
-        edge = edge;
         only = only;
         found = found;
-        from = node_same edge.from node parts.0;
-        same = same_is edge.kind kind parts.1;
+        leaves = node_same edge.from node parts.0;
+        same = same_is edge.kind way parts.1;
       }
 
   -- the piece of its way
-  pub items_along : (node : Node) (kind : EdgeKind) (k : IsAlong node kind) → is_fall kind ≡ false
-      → same_kind kind kinds.Land ≡ false → (to : Carried) → k.edge.slot ≡ to
-      → slice_get (piece_list g.text (graph_in g) table) (length g.text.words + k.number)
-      ≡ Some (way_by g.text (graph_in g) table k.edge to)
-  items_along node kind k fall land to e =
-      way_at g.text (graph_in g) table k.number k.edge
-      (own_at b k.number k.edge k.found (ap (λ (j : EdgeKind). same_kind j kinds.Land) k.same ∙ land))
-      ∙ ap (λ (t : Bool). Some (if t then [] else way_by g.text (graph_in g) table k.edge k.edge.slot))
+  pub items_along : (node : Node) (way : EdgeKind) (number : ℕ) (edge : Edge) → IsAlong node way number edge
+      → is_fall way ≡ false → same_kind way kinds.Land ≡ false → (to : Carried) → edge.slot ≡ to
+      → slice_get (piece_list g.text (graph_in g) table) (length g.text.words + number)
+      ≡ Some (way_by g.text (graph_in g) table edge to)
+  items_along node way number edge k fall land to e =
+      way_at g.text (graph_in g) table number edge
+      (own_at b number edge k.found (ap (λ (j : EdgeKind). same_kind j kinds.Land) k.same ∙ land))
+      ∙ ap (λ (t : Bool). Some (if t then [] else way_by g.text (graph_in g) table edge edge.slot))
       (ap is_fall k.same ∙ fall)
-      ∙ ap (λ (s : Carried). Some (way_by g.text (graph_in g) table k.edge s)) e
+      ∙ ap (λ (s : Carried). Some (way_by g.text (graph_in g) table edge s)) e
 
   -- the slot that an edge carries stands in the text, or behind its end
   pub slot_in : (number : ℕ) (edge : Edge) → slice_get (edges_in b) number ≡ Some edge → IsSlotIn b edge.slot

@@ -13,6 +13,7 @@ pub mod Calls
 pub mod Jumps
 pub mod Imaged
 pub mod Along
+pub mod Visited
 pub mod Listed
 pub mod Made
 pub mod Numbers
