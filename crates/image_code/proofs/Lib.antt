@@ -14,6 +14,10 @@ pub mod Jumps
 pub mod Imaged
 pub mod Along
 pub mod Visited
+pub mod Heads
+pub mod PlainWords
+pub mod SlotCopies
+pub mod IntoSlots
 pub mod Listed
 pub mod Made
 pub mod Numbers
