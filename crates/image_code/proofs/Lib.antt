@@ -18,6 +18,7 @@ pub mod Heads
 pub mod PlainWords
 pub mod SlotCopies
 pub mod IntoSlots
+pub mod BranchImages
 pub mod Listed
 pub mod Made
 pub mod Numbers
