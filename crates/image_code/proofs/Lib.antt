@@ -17,6 +17,7 @@ pub mod Visited
 pub mod Heads
 pub mod PlainWords
 pub mod SlotCopies
+pub mod JumpWords
 pub mod IntoSlots
 pub mod BranchImages
 pub mod Listed
