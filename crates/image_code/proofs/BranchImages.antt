@@ -47,7 +47,7 @@ use Rattle.image_code.specs.Cases.{IsFar, LeadsTo, branch_piece, next_visit, pla
 use Rattle.image_code.specs.Imaged.{IsCase, turn, idle}
 use Rattle.image_code.specs.Turns.{IsNoJumpsSlot}
 use Rattle.image_code.specs.Made.{first_way, goes_on, jump_to, nop_word, way_by, way_out}
-use Rattle.image_code.proofs.Along.{along_far, cut_in}
+use Rattle.image_code.proofs.EdgePieces.{along_far, cut_in}
 use Rattle.image_code.proofs.Branches.{branched_lives, nop_says, small}
 use Rattle.image_code.proofs.Cases.{get_below}
 use Rattle.image_code.proofs.IntoSlots.{LeadsThere, entered, entered_untaken, no_jump, stands}

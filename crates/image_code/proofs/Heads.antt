@@ -35,7 +35,7 @@ use Rattle.image_code.specs.Images.{Frame, along_first, visited_at}
 use Rattle.image_code.specs.Imaged.{IsHead, IsVisited, head, outside, beyond}
 use Rattle.image_code.specs.Made.{IsOffNoted, couple_word, image_by, nop_word, slot_copy, way_out}
 use Rattle.image_code.specs.Outside.{IsForeign, IsOff, IsOpen}
-use Rattle.image_code.proofs.Along.{items_along}
+use Rattle.image_code.proofs.EdgePieces.{items_along}
 use Rattle.image_code.proofs.Branches.{HeadOf, way_is_own}
 use Rattle.image_code.proofs.Cases.{get_below}
 use Rattle.image_code.proofs.Visited.{edge_is, image_items, l, off, off_address, on, on_its_way, visited_slot, visited_word, way_in}

@@ -25,7 +25,7 @@ use Rattle.image_code.specs.Images.{Frame, visited_at}
 use Rattle.image_code.specs.Cases.{LeadsTo}
 use Rattle.image_code.specs.Turns.{IsNoJumpsSlot}
 use Rattle.image_code.specs.Made.{way_out}
-use Rattle.image_code.proofs.Along.{cut_in}
+use Rattle.image_code.proofs.EdgePieces.{cut_in}
 use Rattle.image_code.proofs.Visited.{enters, l, nothing_gone, on_its_way, way_in}
 
 module _ (g : Setting) (is : IsText g.text) (p : Placement) (f : Frame) (whole : IsTable f.table)

@@ -12,7 +12,7 @@ pub mod Through
 pub mod Calls
 pub mod Jumps
 pub mod Imaged
-pub mod Along
+pub mod EdgePieces
 pub mod Visited
 pub mod Heads
 pub mod PlainWords
@@ -20,6 +20,7 @@ pub mod SlotCopies
 pub mod JumpWords
 pub mod IntoSlots
 pub mod BranchImages
+pub mod JumpImages
 pub mod Listed
 pub mod Made
 pub mod Numbers

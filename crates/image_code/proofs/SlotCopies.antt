@@ -39,7 +39,7 @@ use Rattle.image_code.specs.Couple.{couple_piece}
 use Rattle.image_code.specs.Landings.{Lands}
 use Rattle.image_code.specs.Imaged.{IsCase, plain, couple, landing}
 use Rattle.image_code.specs.Made.{IsTableFor, couple_word, foreign_number, goes_along, goes_on, jump_to, landing_number, past_slot}
-use Rattle.image_code.proofs.Along.{along_far}
+use Rattle.image_code.proofs.EdgePieces.{along_far}
 use Rattle.image_code.proofs.Branches.{couple_says}
 use Rattle.image_code.proofs.Cases.{get_below}
 use Rattle.image_code.proofs.Heads.{copy_items, copy_visited}

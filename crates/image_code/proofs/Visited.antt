@@ -33,7 +33,7 @@ use Rattle.image_code.specs.Simulates.{Setting, gone_at, graph_in, number_in, wo
 use Rattle.image_code.specs.Images.{Pieces, Frame, along_first, slot_piece, visited_at, visited_by}
 use Rattle.image_code.specs.Cases.{IsFar, LeadsTo}
 use Rattle.image_code.specs.Made.{first_way, image_by, pieces_in, slot_copy, way_by, way_out}
-use Rattle.image_code.proofs.Along.{IsAlong, along, cut_in, items_along, slot_in}
+use Rattle.image_code.proofs.EdgePieces.{IsAlong, along, cut_in, items_along, slot_in}
 use Rattle.image_code.proofs.Branches.{first_along, way_is_own, within_is}
 use Rattle.image_code.proofs.Listed.{image_at}
 
