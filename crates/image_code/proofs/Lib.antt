@@ -26,3 +26,5 @@ pub mod Made
 pub mod Numbers
 pub mod Fit
 pub mod Landings
+pub mod Operands
+pub mod Along

@@ -11,7 +11,7 @@ use Rattle.cfg_blocks.specs.declared.EdgeKind.TheVariants as kinds
 use Rattle.cfg_blocks.specs.Blocks.{Blocks, below}
 use Rattle.cfg_blocks.proofs.Below.{get_or-below, length-below}
 use Rattle.cfg_normal.specs.declared.Edge.{Edge}
-use Rattle.cfg_normal.specs.Graph.{Graph, graph_of, edges_in, edges_of, landing_at as landing_edge}
+use Rattle.cfg_normal.specs.Graph.{Graph, graph_of, edges_in, edges_of, landing_at as edge_at_landing}
 use Rattle.cfg_walk.specs.Walk.{same_kind}
 use Rattle.cfg_walk.proofs.Lists.{each, each-map, each_at}
 use Rattle.jump_code.specs.Pieces.{foreign_piece}
@@ -52,18 +52,26 @@ module _ (text : Words) (graph : Graph) (table : ℕ) where
   images_end : length images ≡ length text.words
   images_end = length-map (below (length text.words)) (image text graph table) ∙ length-below (length text.words)
 
-  ways_end : length (images ++ ways) ≡ length text.words + length (own_edges graph)
+  pub ways_end : length (images ++ ways) ≡ length text.words + length (own_edges graph)
   ways_end =
-      let many = length-map (own_edges graph) (way_along text graph table) in
-      omega (arith, length-append images ways, images_end)
+      length-append images ways
+      ∙ ap (λ n. n + length ways) images_end
+      ∙ ap (λ n. length text.words + n) (length-map (own_edges graph) (way_along text graph table))
 
-  landings_end : length (images ++ ways ++ landings) ≡ foreign_number text graph
+  pub landings_end : length (images ++ ways ++ landings) ≡ foreign_number text graph
   landings_end =
-      let many = length-map (below (length text.words)) (landing text graph table) ∙ length-below (length text.words) in
-      omega (arith, length-append (images ++ ways) landings, ways_end)
+      length-append (images ++ ways) landings
+      ∙ ap (λ n. n + length landings) ways_end
+      ∙ ap (λ n. length text.words + length (own_edges graph) + n)
+      (length-map (below (length text.words)) (landing text graph table) ∙ length-below (length text.words))
 
-  pub image_at : (word : ℕ) → word < length text.words → slice_get (piece_list text graph table) word ≡ Some
-      (image text graph table word)
+  pub count_is : length (piece_list text graph table) ≡ foreign_number text graph + 1
+  unfolding piece_list
+  count_is =
+      length-append (images ++ ways ++ landings) (foreign_piece ∷ []) ∙ ap (λ n. n + 1) landings_end
+
+  pub image_at : (word : ℕ) → word < length text.words
+      → slice_get (piece_list text graph table) word ≡ Some (image text graph table word)
   unfolding piece_list
   image_at word l =
       get_first _ _ word _ (get_first _ _ word _ (get_first _ _ word _
@@ -93,8 +101,8 @@ module _ (text : Words) (graph : Graph) (table : ℕ) where
   pub foreign_at : slice_get (piece_list text graph table) (foreign_number text graph) ≡ Some foreign_piece
   unfolding piece_list
   foreign_at =
-      let past : foreign_number text graph ≡ length (images ++ ways ++ landings) + 0 = omega (arith, landings_end) in
-      ap (slice_get (images ++ ways ++ landings ++ foreign_piece ∷ [])) past
+      let here : foreign_number text graph ≡ length (images ++ ways ++ landings) + 0 = omega (arith, landings_end) in
+      ap (slice_get (images ++ ways ++ landings ++ foreign_piece ∷ [])) here
       ∙ get_second (images ++ ways ++ landings) (foreign_piece ∷ []) 0
 
 -- an edge that is no landing is among those that have ways
@@ -103,8 +111,8 @@ pub own_at : (b : Blocks) (number : ℕ) (edge : Edge) → slice_get (edges_in b
 unfolding edges_in
 own_at b number edge e other =
     let own : List Edge = flat_map (edges_of b) (below (length b.firsts)) in
-    let landings : List Edge = map landing_edge (below (length b.firsts)) in
-    let many : length landings ≡ length b.firsts = length-map (below (length b.firsts)) landing_edge
+    let landings : List Edge = map edge_at_landing (below (length b.firsts)) in
+    let many : length landings ≡ length b.firsts = length-map (below (length b.firsts)) edge_at_landing
     ∙ length-below (length b.firsts) in
     let all : length (own ++ landings) ≡ length own + length landings = length-append own landings in
     elim (cases_lt number (length own)) [
@@ -115,6 +123,6 @@ own_at b number edge e other =
           sym (get_second own landings (number - length own)) ∙ ap (slice_get (own ++ landings)) past ∙ e in
           let lands : same_kind edge.kind kinds.Land ≡ true =
           each_at (λ (x : Edge). same_kind x.kind kinds.Land ≡ true) landings (number - length own) edge
-          (each-map _ landing_edge (below (length b.firsts)) (each _ (below (length b.firsts)) (λ j. refl))) there in
+          (each-map _ edge_at_landing (below (length b.firsts)) (each _ (below (length b.firsts)) (λ j. refl))) there in
           absurd (cc)
     ]

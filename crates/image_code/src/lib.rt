@@ -15,7 +15,7 @@ ghost use Rattle.image_code.specs.Turns.{TurnsStep};
 mod making;
 mod parts;
 
-pub use making::{PieceList, pieces};
+pub use making::{Frame, PieceList, pieces};
 
 /// The image of a word that is no transfer, or the copy of a slot's word, is one step of the original.
 pub fn plains_step()
