@@ -31,15 +31,6 @@ no_out kinds.Untaken n = refl
 no_out kinds.Call n = refl
 no_out kinds.Land n = refl
 
-pub same_is : (k j : EdgeKind) → same_kind k j ≡ true → k ≡ j
-same_is kinds.Fall kinds.Fall e = refl
-same_is kinds.Taken kinds.Taken e = refl
-same_is kinds.Untaken kinds.Untaken e = refl
-same_is kinds.Call kinds.Call e = refl
-same_is kinds.Out kinds.Out e = refl
-same_is kinds.Land kinds.Land e = refl
-same_is _ _ e = absurd (cc)
-
 module _ (text : Words) (graph : Graph) (table : ℕ) (edge : Edge) where
   pub bare_way : edge.slot ≡ slots.Nothing → (edge.kind ≡ kinds.Fall → ⊥)
       → goes_along text graph table edge ≡ way_along text graph table edge
