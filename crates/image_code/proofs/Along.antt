@@ -1,5 +1,5 @@
 -- Ways along edges, by their kinds and slots.
-use Rattle.std.proofs.Common.{◌≡◌, ℕ, Bool, true, false, [], refl, ap, sym, ◌∙◌}
+use Rattle.std.proofs.Common.{◌≡◌, ℕ, Bool, false, [], refl, ap, sym, ◌∙◌}
 use Rattle.std.specs.Prelude.{if◌then◌else◌}
 use Rattle.eel_base.specs.CodeText.{Words}
 use Rattle.eel_base.specs.declared.numbers.Addr.{Addr}

@@ -1,7 +1,6 @@
 -- The images of branches: each way leads into a slot, to a word's image, or out of the text.
-use Rattle.std.proofs.Common.{◌≡◌, ◌≢◌, ℕ, ◌+◌, ◌-◌, ◌*◌, ◌%◌, ◌^◌, ◌<◌, inl, inr, Bool, true, false, not, Option, Some, None, List, [], ◌∷◌, length, refl, ap, sym, ◌∙◌, subst, arith}
+use Rattle.std.proofs.Common.{◌≡◌, ℕ, ◌+◌, ◌%◌, ◌^◌, ◌<◌, inl, inr, Bool, true, false, not, Option, Some, None, List, [], length, refl, ap, sym, ◌∙◌, subst, arith}
 use Rattle.std.specs.Prelude.{if◌then◌else◌, ◌&&◌, ◌||◌, slice_get, slice_index, ◌==◌, ℤ}
-use Rattle.std.specs.Int.{w32, cast_unsigned}
 use Rattle.eel_base.specs.CodeText.{IsText, address_of, word_at, numbered, target_of}
 use Rattle.eel_base.specs.declared.numbers.Addr.{Addr}
 use Rattle.v8_decode.specs.declared.Instr.{Instr}
@@ -39,24 +38,23 @@ use Rattle.cfg_walk.proofs.Ways.{IsOne, always_holds, never_holds, not_always, n
 use Rattle.addr_translate.specs.Lookup.{IsTable}
 use Rattle.jump_code.specs.Pieces.{far_piece}
 use Rattle.layout.specs.declared.items.Item.{Item}
-use Rattle.layout.specs.declared.items.Item.TheVariants as it
 use Rattle.layout.specs.Laid.{Placement, item_in}
 use Rattle.image_code.specs.Simulates.{Setting, at_point, does_at, gone_at, graph_in, number_in}
-use Rattle.image_code.specs.Images.{Frame, Here, visited_at}
-use Rattle.image_code.specs.Cases.{IsFar, LeadsTo, branch_piece, next_visit, plain_piece}
+use Rattle.image_code.specs.Images.{Frame, visited_at}
+use Rattle.image_code.specs.Cases.{LeadsTo, branch_piece, next_visit, plain_piece}
 use Rattle.image_code.specs.Imaged.{IsCase, turn, idle}
 use Rattle.image_code.specs.Turns.{IsNoJumpsSlot}
 use Rattle.image_code.specs.Made.{first_way, goes_on, jump_to, nop_word, way_by, way_out}
 use Rattle.image_code.proofs.EdgePieces.{along_far, cut_in}
-use Rattle.image_code.proofs.Branches.{branched_lives, nop_says, small}
+use Rattle.image_code.proofs.Branches.{nop_says, small}
 use Rattle.image_code.proofs.Cases.{get_below}
 use Rattle.image_code.proofs.IntoSlots.{LeadsThere, entered, entered_untaken, no_jump, stands}
 use Rattle.image_code.proofs.Listed.{own_at, way_at}
 use Rattle.image_code.proofs.Visited.{image_items, l, visited_none, visited_word, word_is}
 
 -- a branch comes to a taken transfer's slot only at the next instruction
-slot_next : (flag all annul : Bool) (s : State) (to : ℕ) → s.slot ≡ NoSlot → (branched flag all annul s to).slot ≡ Taken
-    → (branched flag all annul s to).pc ≡ s.npc
+slot_next : (flag all annul : Bool) (s : State) (to : ℕ) → s.slot ≡ NoSlot
+    → (branched flag all annul s to).slot ≡ Taken → (branched flag all annul s to).pc ≡ s.npc
 slot_next true true true s to none e = let q : NoSlot ≡ Taken = sym none ∙ e in absurd (cc)
 slot_next true true false s to none e = refl
 slot_next true false true s to none e = refl
@@ -67,7 +65,8 @@ slot_next false all false s to none e = refl
 module _ (g : Setting) (is : IsText g.text) (p : Placement) (f : Frame) (whole : IsTable f.table)
     (node : Node) (x : Point) (word : ℕ) (at : word_at g.text x.pc ≡ Some word) (none : x.slot ≡ NoSlot)
     (held : node ≡ node_of (blocks_of g.text g.given) (word_at g.text x.pc)) (npc : x.npc ≡ (x.pc + 4) % 2 ^ 32)
-    (cond : ℕ) (annul : Bool) (disp : ℤ) (says : decode_of (slice_index g.text.words word) ≡ i.Branch cond annul disp) where
+    (cond : ℕ) (annul : Bool) (disp : ℤ)
+    (says : decode_of (slice_index g.text.words word) ≡ i.Branch cond annul disp) where
   abbrev b : Blocks
   b = blocks_of g.text g.given
 
@@ -198,8 +197,8 @@ module _ (g : Setting) (is : IsText g.text) (p : Placement) (f : Frame) (whole :
         ∙ ap (λ (a : Bool). not a || (true && not (cond == always))) ann ∙ ap not all in
         let there = jumps_to here (point_of v) transfer target disp v.pc (ap target_in end)
         (ap (λ (n : Bool). if n then None else numbered (target_of g.text word disp)) some) pc in
-        past (way kinds.Taken (number_of (branch_target g.text word cond disp))) one bare refl refl v slot there.0 there.1
-        (jumps_along here (point_of v) transfer disp v.pc pc)
+        past (way kinds.Taken (number_of (branch_target g.text word cond disp))) one bare refl refl v slot
+        there.0 there.1 (jumps_along here (point_of v) transfer disp v.pc pc)
 
     past_untaken : holds_of cond t.codes ≡ false → annul ≡ true → (v : State) → v.slot ≡ NoSlot
         → v.pc ≡ wrapped (x.pc + 8) → Goes kinds.Untaken v

@@ -1,5 +1,5 @@
 -- Branches, their ways, and the words of their images.
-use Rattle.std.proofs.Common.{◌≡◌, ◌≢◌, ℕ, ◌<◌, Bool, true, false, Option, Some, None, List, [], ◌∷◌, refl, ap, sym, ◌∙◌}
+use Rattle.std.proofs.Common.{◌≡◌, ◌≢◌, ℕ, ◌<◌, Bool, true, false, Option, Some, None, List, [], ◌∷◌, refl, ap, sym}
 use Rattle.std.specs.Prelude.{nat_lt, pos, slice_index, ℤ}
 use Rattle.std.specs.Option.{option_to_list}
 use Rattle.std.proofs.lemmas.Bool.{cond_both, eqb-true, ltb-true}
@@ -74,12 +74,14 @@ same_is kinds.Land kinds.Land e = refl
 same_is _ _ e = absurd (cc)
 
 pub node_same : (n m : Node) → same_node n m ≡ true → n ≡ m
-node_same (Block one) (Block other) e = let k : one.0 ≡ other.0 = eqb-true _ _ e in ap (λ z. Block (record { 0 = z })) k
+node_same (Block one) (Block other) e =
+    let k : one.0 ≡ other.0 = eqb-true _ _ e in
+    ap (λ z. Block (record { 0 = z })) k
 node_same X X e = refl
 node_same _ _ e = absurd (cc)
 
-pub image_straight : (text : Words) (graph : Graph) (table : ℕ) (address : Addr) (node : Node) (word : ℕ) (instr : Instr)
-    → is_transfer instr ≡ false
+pub image_straight : (text : Words) (graph : Graph) (table : ℕ) (address : Addr) (node : Node) (word : ℕ)
+    (instr : Instr) → is_transfer instr ≡ false
     → image_by text graph table address node word instr ≡ plain_piece address (node_number graph node)
     (slice_index text.words word) (rest_after text graph table word)
 image_straight text graph table address node word (i.Branch cond annul disp) e = absurd (cc)

@@ -1,6 +1,6 @@
 -- The edges of a text's graph, and the pieces of the ways along them.
-use Rattle.std.proofs.Common.{◌≡◌, ℕ, ◌+◌, ◌*◌, ◌%◌, ◌^◌, ◌<◌, Bool, true, false, Some, List, [], ◌∷◌, length, refl, ap, sym, ◌∙◌, subst, arith}
-use Rattle.std.specs.Prelude.{if◌then◌else◌, ◌&&◌, slice_get, slice_index, ℤ}
+use Rattle.std.proofs.Common.{◌≡◌, ℕ, ◌+◌, ◌*◌, ◌%◌, ◌^◌, ◌<◌, Bool, true, false, Some, [], ◌∷◌, length, ap, sym, ◌∙◌, subst, arith}
+use Rattle.std.specs.Prelude.{if◌then◌else◌, ◌&&◌, slice_get}
 use Rattle.std.specs.Int.{w32, cast_unsigned}
 use Rattle.std.specs.List.{position}
 use Rattle.std.proofs.lemmas.Bool.{and_parts}
@@ -16,7 +16,7 @@ use Rattle.cfg_blocks.specs.Entries.{is_fall}
 use Rattle.cfg_normal.specs.declared.Edge.{Edge}
 use Rattle.cfg_normal.specs.declared.Node.{Node}
 use Rattle.cfg_normal.specs.declared.Slot.{Slot as Carried}
-use Rattle.cfg_normal.specs.Graph.{IsEdgeIn, IsSlotIn, edges_in}
+use Rattle.cfg_normal.specs.Graph.{IsSlotIn, edges_in}
 use Rattle.cfg_normal.proofs.Edges.{edges_in-in}
 use Rattle.cfg_walk.specs.Walk.{edge_from, same_kind, same_node}
 use Rattle.cfg_walk.specs.Matches.{target_along}

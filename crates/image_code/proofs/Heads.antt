@@ -1,5 +1,5 @@
 -- Each point outside the pages has a place: its piece begins with its Mark, or it lies outside the text.
-use Rattle.std.proofs.Common.{◌≡◌, ◌≢◌, ℕ, ◌+◌, ◌-◌, ◌/◌, ◌<◌, inl, false, Option, Some, None, List, ◌∷◌, length, refl, ap, sym, ◌∙◌, subst}
+use Rattle.std.proofs.Common.{◌≡◌, ◌≢◌, ℕ, ◌+◌, ◌-◌, ◌/◌, ◌<◌, inl, false, Option, Some, None, List, length, refl, ap, sym, ◌∙◌}
 use Rattle.std.specs.Prelude.{slice_get, slice_index, ◌==◌}
 use Rattle.std.proofs.lemmas.Bool.{cond_both}
 use Rattle.eel_base.specs.CodeText.{Words, IsText, address_of, word_at}
@@ -12,7 +12,6 @@ use Rattle.v8_encode.specs.Encoding.{word_of as word_for}
 use Rattle.v8_step.specs.declared.Slot.{Slot}
 use Rattle.v8_step.specs.declared.Slot.TheVariants.{NoSlot, Taken, Untaken}
 use Rattle.v8_step.specs.Items.{is_transfer}
-use Rattle.cfg_blocks.specs.declared.EdgeKind.{EdgeKind}
 use Rattle.cfg_blocks.specs.declared.EdgeKind.TheVariants as kinds
 use Rattle.cfg_blocks.specs.Blocks.{Blocks, blocks_of}
 use Rattle.cfg_blocks.specs.Ends.{always, never}
@@ -122,8 +121,9 @@ module _ (g : Setting) (is : IsText g.text) (p : Placement) (f : Frame) where
     apart = open_there;
   }
 
-  pub off_is : (base : ℕ) → f.table.base < base → IsOffNoted g f.table.base → (node : Node) (x : Point) → x.slot ≢ NoSlot
-      → word_at g.text x.pc ≡ None → IsOnItsWay g.text (graph_in g) node x (way_in g is p f x) → IsOff g base p f node x
+  pub off_is : (base : ℕ) → f.table.base < base → IsOffNoted g f.table.base → (node : Node) (x : Point)
+      → x.slot ≢ NoSlot → word_at g.text x.pc ≡ None → IsOnItsWay g.text (graph_in g) node x (way_in g is p f x)
+      → IsOff g base p f node x
   off_is base below noted node x slot none way = record {
     slot = slot;
     none = none;
@@ -167,7 +167,8 @@ module _ (g : Setting) (is : IsText g.text) (p : Placement) (f : Frame) where
       in_slot not way None e = beyond (off_is base below noted node x not e way)
       in_slot not way (Some slot) e =
           head (head_of node x (length g.text.words + way.number) _ (record { 0 = address_of g.text slot })
-          (copy_visited node x slot e way not) (sym (word_at-some g.text x.pc slot e).is) (copy_items node x slot e way)
+          (copy_visited node x slot e way not) (sym (word_at-some g.text x.pc slot e).is)
+          (copy_items node x slot e way)
           (copy_head g.text (graph_in g) f.table.base (record { 0 = address_of g.text slot }) (number_in g node)
           (slice_index g.text.words slot) way.edge))
 

@@ -1,5 +1,5 @@
 -- A transfer at a word goes into its slot, where the way of its edge leads.
-use Rattle.std.proofs.Common.{◌≡◌, ◌≢◌, ℕ, ◌+◌, ◌-◌, ◌*◌, ◌%◌, ◌^◌, ◌<◌, true, false, Option, Some, None, List, refl, ap, sym, ◌∙◌, subst, arith}
+use Rattle.std.proofs.Common.{◌≡◌, ◌≢◌, ℕ, ◌+◌, ◌-◌, ◌%◌, ◌^◌, ◌<◌, false, Option, Some, None, List, ap, sym, ◌∙◌, subst, arith}
 use Rattle.std.specs.Prelude.{slice_index}
 use Rattle.std.specs.Option.{option_map}
 use Rattle.std.proofs.lemmas.Bool.{false≢true}
@@ -26,7 +26,7 @@ use Rattle.image_code.specs.Cases.{LeadsTo}
 use Rattle.image_code.specs.Turns.{IsNoJumpsSlot}
 use Rattle.image_code.specs.Made.{way_out}
 use Rattle.image_code.proofs.EdgePieces.{cut_in}
-use Rattle.image_code.proofs.Visited.{enters, l, nothing_gone, on_its_way, way_in}
+use Rattle.image_code.proofs.Visited.{enters, l, nothing_gone, on_its_way}
 
 module _ (g : Setting) (is : IsText g.text) (p : Placement) (f : Frame) (whole : IsTable f.table)
     (node : Node) (x : Point) (word : ℕ) (at : word_at g.text x.pc ≡ Some word) (none : x.slot ≡ NoSlot)
@@ -56,7 +56,8 @@ module _ (g : Setting) (is : IsText g.text) (p : Placement) (f : Frame) (whole :
   before : (v : State) → v.pc ≡ x.npc → instr_at g.text (v.pc - 4) ≡ Some instr
   before v pc =
       let back : v.pc - 4 ≡ x.pc = (let low = address_low in omega arith) in
-      ap (instr_at g.text) back ∙ ap (option_map (λ w. decode_of (slice_index g.text.words w))) at ∙ ap (λ z. Some z) says
+      ap (instr_at g.text) back ∙ ap (option_map (λ w. decode_of (slice_index g.text.words w))) at
+      ∙ ap (λ z. Some z) says
 
   -- the way of the edge leads to the slot
   abbrev pub LeadsThere : EdgeKind → State → Type 0

@@ -1,11 +1,10 @@
 -- The images of CALL and JMPL: the way of the edge leads into the slot.
-use Rattle.std.proofs.Common.{◌≡◌, ◌≢◌, ℕ, ◌+◌, ◌*◌, ◌%◌, ◌^◌, ◌<◌, true, false, Option, Some, None, List, length, refl, ap, sym, ◌∙◌, subst, arith}
+use Rattle.std.proofs.Common.{◌≡◌, ℕ, ◌+◌, ◌%◌, ◌^◌, ◌<◌, Some, None, refl, ap, sym, ◌∙◌, arith}
 use Rattle.std.specs.Prelude.{if◌then◌else◌, slice_get, slice_index, ◌==◌, ℤ}
 use Rattle.std.proofs.lemmas.Bool.{cond_both}
 use Rattle.eel_base.specs.CodeText.{IsText, address_of, word_at}
 use Rattle.eel_base.specs.declared.numbers.Addr.{Addr}
 use Rattle.v8_decode.specs.declared.Op2.{Op2}
-use Rattle.v8_decode.specs.declared.Instr.{Instr}
 use Rattle.v8_decode.specs.declared.Instr.TheVariants as i
 use Rattle.v8_decode.specs.Words.{decode_of}
 use Rattle.v8_step.specs.declared.Slot.{Slot}
@@ -67,8 +66,8 @@ module _ (g : Setting) (is : IsText g.text) (p : Placement) (f : Frame) (whole :
         → v ≡ delayed (with_register (at_point x t) 15 x.pc) (target_of (at_point x t) disp)
         → LeadsThere g is p f whole node x word at none held npc (i.Call disp) says kinds.Call v
     call_leads live v e =
-        entered g is p f whole node x word at none held npc (i.Call disp) says v (ap (λ (z : State). z.ending) e ∙ live)
-        (ap (λ (z : State). z.pc) e) (ap (λ (z : State). z.slot) e)
+        entered g is p f whole node x word at none held npc (i.Call disp) says v
+        (ap (λ (z : State). z.ending) e ∙ live) (ap (λ (z : State). z.pc) e) (ap (λ (z : State). z.slot) e)
         (call_delayed disp (point_of v) (stands g is p f whole node x word at none held npc (i.Call disp) says)
         (ap (λ (z : State). z.pc) e) (ap (λ (z : State). z.npc) e))
 

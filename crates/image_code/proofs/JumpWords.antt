@@ -4,7 +4,6 @@ use Rattle.std.proofs.lemmas.Bool.{and_parts, cond_both, eqb-false, ltb-true}
 use Rattle.std.proofs.lemmas.Bool.Decides.{nat_tests}
 use Rattle.v8_decode.specs.declared.Op2.{Op2}
 use Rattle.v8_decode.specs.declared.Op2.TheVariants.{Reg, Imm}
-use Rattle.v8_decode.specs.declared.Instr.{Instr}
 use Rattle.v8_decode.specs.declared.Instr.TheVariants as i
 use Rattle.v8_decode.specs.Ranges.{op2_in_range, operands_in_range}
 use Rattle.v8_decode.specs.Words.{decode_of}
@@ -41,8 +40,8 @@ free_if number a b c some few e =
     }
 
 -- where 1 to 3 are all named, 4 isn't
-fourth : (a b c : ℕ) → not (is_one_of 1 a b c) ≡ false → not (is_one_of 2 a b c) ≡ false → not (is_one_of 3 a b c) ≡ false
-    → IsFree 4 a b c
+fourth : (a b c : ℕ) → not (is_one_of 1 a b c) ≡ false → not (is_one_of 2 a b c) ≡ false
+    → not (is_one_of 3 a b c) ≡ false → IsFree 4 a b c
 fourth a b c one two three = record {
   some = omega arith;
   few = omega arith;
@@ -72,7 +71,8 @@ not_in number (Imm n) range other = tt
 
 pub jmpl_is : (word rd rs1 : ℕ) (op2 : Op2) → decode_of word ≡ i.Jmpl rd rs1 op2 → IsJmpl rd rs1 op2
 jmpl_is word rd rs1 op2 says =
-    let parts = and_parts (nat_lt rd 32) (operands_in_range rs1 op2) (decoded_range (i.Jmpl rd rs1 op2) word (sym says)) in
+    let parts = and_parts (nat_lt rd 32) (operands_in_range rs1 op2)
+    (decoded_range (i.Jmpl rd rs1 op2) word (sym says)) in
     let more = and_parts (nat_lt rs1 32) (op2_in_range op2) parts.1 in
     let free = first_is_free rd rs1 (second_register op2) in
     let few = free.few in

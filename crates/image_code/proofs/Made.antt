@@ -1,5 +1,5 @@
 -- The pieces that are made are images.
-use Rattle.std.proofs.Common.{◌≡◌, ◌≢◌, ℕ, ◌+◌, ◌-◌, ◌%◌, ◌^◌, ◌<◌, false, Option, Some, None, refl, ap, sym, ◌∙◌}
+use Rattle.std.proofs.Common.{◌≡◌, ◌≢◌, ℕ, ◌+◌, ◌%◌, ◌^◌, ◌<◌, Option, Some, None, refl, ap, sym, ◌∙◌}
 use Rattle.std.specs.Prelude.{slice_index}
 use Rattle.eel_base.specs.CodeText.{IsText, word_at}
 use Rattle.v8_decode.specs.declared.Instr.{Instr}
@@ -74,6 +74,6 @@ pieces_make_images g base p place f is placed tables below noted =
     simulate calls_step jumps_step jump_slots_step g (pieces_in g.text (graph_in g) f.table.base) base p place f placed
     (record {
       visits = visits g is p f base below noted;
-      cases = λ node x t m open_there here _. case g is p f base place placed.laid tables below noted node x t m open_there
-          here;
+      cases = λ node x t m open_there here _.
+          case g is p f base place placed.laid tables below noted node x t m open_there here;
     })

@@ -22,7 +22,8 @@ Fits instr = jump_fits instr ≡ true
 read_state_fits : (w : ℕ) → Fits (read_state w)
 read_state_fits w = go (rs1_of w == 0) (rs1_of w == 15) (rd_of w == 0)
   where
-    go : (a b c : Bool) → Fits (if a then i.ReadY (rd_of w) else (if b then (if c then i.Stbar else i.Illegal) else i.Illegal))
+    go : (a b c : Bool)
+        → Fits (if a then i.ReadY (rd_of w) else (if b then (if c then i.Stbar else i.Illegal) else i.Illegal))
     go true b c = refl
     go false true true = refl
     go false true false = refl

@@ -1,18 +1,16 @@
 -- The image of a word that is no transfer goes on to the next word's image, or at the text's end out of the text.
-use Rattle.std.proofs.Common.{◌≡◌, ℕ, suc, ◌+◌, ◌-◌, ◌%◌, ◌^◌, ◌<◌, ◌≤◌, inl, inr, Bool, true, false, Option, Some, None, List, [], ◌∷◌, drop, length, refl, ap, sym, ◌∙◌, subst, arith}
+use Rattle.std.proofs.Common.{◌≡◌, ℕ, suc, ◌+◌, ◌-◌, ◌%◌, ◌^◌, ◌<◌, ◌≤◌, inl, inr, Bool, true, false, Option, Some, None, List, [], drop, length, refl, ap, sym, ◌∙◌, subst, arith}
 use Rattle.std.specs.Prelude.{if◌then◌else◌, nat_lt, slice_get, slice_index}
 use Rattle.std.specs.Option.{option_map}
 use Rattle.std.proofs.lemmas.Bool.{cases_lt, le-ltb, lt-ltb}
 use Rattle.eel_base.specs.CodeText.{IsText, address_of, word_at}
-use Rattle.v8_decode.specs.declared.Instr.{Instr}
 use Rattle.v8_decode.specs.Words.{decode_of}
-use Rattle.v8_step.specs.declared.Slot.{Slot}
 use Rattle.v8_step.specs.declared.Slot.TheVariants.{NoSlot}
 use Rattle.v8_step.specs.State.{State}
 use Rattle.v8_step.specs.Step.{act, on_word}
 use Rattle.v8_step.specs.Items.{is_transfer}
 use Rattle.v8_step.proofs.CopiedMoves.{goes_act}
-use Rattle.cfg_blocks.specs.Blocks.{Blocks, blocks_of}
+use Rattle.cfg_blocks.specs.Blocks.{blocks_of}
 use Rattle.cfg_blocks.specs.Ends.{within}
 use Rattle.cfg_blocks.proofs.Targets.{word_at-some}
 use Rattle.cfg_normal.specs.declared.Node.{Node}
@@ -50,8 +48,8 @@ module _ (g : Setting) (is : IsText g.text) (p : Placement) (f : Frame) (base : 
   low : word < length g.text.words
   low = (word_at-some g.text x.pc word at).within
 
-  found : slice_get (l g is p f).list word ≡ Some (plain_piece (record { 0 = address_of g.text word }) (number_in g node)
-      (slice_index g.text.words word) rest)
+  found : slice_get (l g is p f).list word ≡ Some (plain_piece (record { 0 = address_of g.text word })
+      (number_in g node) (slice_index g.text.words word) rest)
   found =
       image_items g is p f node x word at held (decode_of (slice_index g.text.words word)) refl
       ∙ ap (λ z. Some z) (image_straight g.text (graph_in g) f.table.base
@@ -79,7 +77,8 @@ module _ (g : Setting) (is : IsText g.text) (p : Placement) (f : Frame) (base : 
       ∙ ap (slice_index p.at) (sym next)
 
   leaves : length g.text.words ≤ word + 1
-      → option_map (drop 3) (slice_get (l g is p f).list word) ≡ Some (far_piece (address_of g.text (length g.text.words)))
+      → option_map (drop 3) (slice_get (l g is p f).list word)
+      ≡ Some (far_piece (address_of g.text (length g.text.words)))
   leaves last = ap (option_map (drop 3)) (with_rest false (le-ltb _ _ last))
 
   end_far : IsFar (address_of g.text (length g.text.words))

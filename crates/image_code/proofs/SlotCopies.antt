@@ -1,14 +1,12 @@
--- The copies of slots' words: a transfer ends the run, behind a JMPL its target is looked up, and else the copy goes on
--- to where the edge leads.
-use Rattle.std.proofs.Common.{◌≡◌, ◌≢◌, ℕ, ◌+◌, ◌-◌, ◌*◌, ◌/◌, ◌%◌, ◌^◌, ◌<◌, inl, inr, Bool, true, false, Option, Some, None, List, [], ◌∷◌, drop, length, map, refl, ap, sym, ◌∙◌, subst, arith}
+-- The copies of slots' words: a transfer ends the run, behind a JMPL its target is looked up, and else the copy goes
+-- on to where the edge leads.
+use Rattle.std.proofs.Common.{◌≡◌, ◌≢◌, ℕ, ◌+◌, ◌/◌, ◌%◌, ◌^◌, ◌<◌, inl, inr, Bool, true, false, Option, Some, None, List, [], drop, length, refl, ap, sym, ◌∙◌, subst, arith}
 use Rattle.std.specs.Prelude.{if◌then◌else◌, pos, slice_get, slice_index}
 use Rattle.std.specs.Option.{option_map}
 use Rattle.eel_base.specs.CodeText.{Words, IsText, address_of, word_at}
 use Rattle.eel_base.specs.declared.numbers.Addr.{Addr}
-use Rattle.v8_decode.specs.declared.Instr.{Instr}
 use Rattle.v8_decode.specs.Words.{decode_of}
-use Rattle.v8_step.specs.declared.Slot.{Slot}
-use Rattle.v8_step.specs.declared.Slot.TheVariants.{NoSlot, Taken}
+use Rattle.v8_step.specs.declared.Slot.TheVariants.{NoSlot}
 use Rattle.v8_step.specs.State.{State}
 use Rattle.v8_step.specs.Step.{act, on_word}
 use Rattle.v8_step.specs.Items.{is_transfer}
@@ -16,7 +14,6 @@ use Rattle.v8_step.proofs.CopiedMoves.{goes_act}
 use Rattle.cfg_blocks.specs.declared.EdgeKind.{EdgeKind}
 use Rattle.cfg_blocks.specs.declared.EdgeKind.TheVariants as kinds
 use Rattle.cfg_blocks.proofs.Targets.{word_at-some}
-use Rattle.cfg_normal.specs.declared.Edge.{Edge}
 use Rattle.cfg_normal.specs.declared.Node.{Node}
 use Rattle.cfg_normal.specs.declared.Node.TheVariants.{Block, X}
 use Rattle.cfg_normal.specs.Graph.{Graph}
@@ -30,7 +27,6 @@ use Rattle.jump_code.specs.Pieces.{far_piece, out_piece}
 use Rattle.jump_code.proofs.Fitting.{Fit, decoded, lt}
 use Rattle.layout.specs.Emitting.{words_of}
 use Rattle.layout.specs.declared.items.Item.{Item}
-use Rattle.layout.specs.declared.items.Item.TheVariants as it
 use Rattle.layout.specs.Laid.{Placement, item_in}
 use Rattle.image_code.specs.Simulates.{Setting, at_point, does_at, gone_at, graph_in, number_in}
 use Rattle.image_code.specs.Images.{Frame, Here, visited_at}
@@ -48,13 +44,11 @@ use Rattle.image_code.proofs.Visited.{edge_is, l, visited_none, visited_word, wa
 
 -- ---- the translator's words
 
-abbrev after_sethi : ℕ → List Instr
-after_sethi base = drop 4 (translator base 1 2)
-
 translator_fits : (base : ℕ) → base < 2 ^ 32 → Fit (translator base 1 2)
 translator_fits base short =
     let high = lt (base / 1024) (2 ^ 22) (omega arith) in
-    let more : Fit (after_sethi base) = (refl, refl, (refl, refl, (refl, refl, (refl, refl, (refl, refl, (refl, refl, (refl, refl, (refl, refl, tt)))))))) in
+    let last : Fit (drop 8 (translator base 1 2)) = (refl, refl, (refl, refl, (refl, refl, (refl, refl, tt)))) in
+    let more : Fit (drop 4 (translator base 1 2)) = (refl, refl, (refl, refl, (refl, refl, (refl, refl, last)))) in
     (refl, refl, (refl, refl, (refl, refl, (refl, high, more))))
 
 words_translate : (base : ℕ) → base < 2 ^ 32 → Translates (words_of (translator base 1 2)) base 1 2
@@ -64,15 +58,15 @@ words_translate base short =
 
 -- ---- where control goes on at a node
 
-goes_begins : (text : Words) (graph : Graph) (table : ℕ) (node : Node) (address : ℕ) (o : Option ℕ) → Begins graph node o
-    → (word : ℕ) → o ≡ Some word → goes_on text graph table node address ≡ jump_to word
+goes_begins : (text : Words) (graph : Graph) (table : ℕ) (node : Node) (address : ℕ) (o : Option ℕ)
+    → Begins graph node o → (word : ℕ) → o ≡ Some word → goes_on text graph table node address ≡ jump_to word
 goes_begins text graph table (Block k) address None h word e = absurd h
 goes_begins text graph table (Block k) address (Some w) h word e = let q : w ≡ word = cc in ap jump_to (h ∙ q)
 goes_begins text graph table X address None h word e = absurd (cc)
 goes_begins text graph table X address (Some w) h word e = absurd h
 
-goes_out : (text : Words) (graph : Graph) (table : ℕ) (node : Node) (address : ℕ) (o : Option ℕ) → Begins graph node o
-    → o ≡ None → goes_on text graph table node address ≡ far_piece address
+goes_out : (text : Words) (graph : Graph) (table : ℕ) (node : Node) (address : ℕ) (o : Option ℕ)
+    → Begins graph node o → o ≡ None → goes_on text graph table node address ≡ far_piece address
 goes_out text graph table (Block k) address None h e = absurd h
 goes_out text graph table (Block k) address (Some w) h e = absurd (cc)
 goes_out text graph table X address None h e = refl
@@ -262,7 +256,8 @@ module _ (g : Setting) (is : IsText g.text) (p : Placement) (f : Frame) (base : 
         lands = λ live. lands (does_at g x t) refl live;
       })
 
-    straight_case : (b : Bool) → same_kind (way_in g is p f x) kinds.Out ≡ b → IsCase g (l g is p f) base p place f node x t
+    straight_case : (b : Bool) → same_kind (way_in g is p f x) kinds.Out ≡ b
+        → IsCase g (l g is p f) base p place f node x t
     straight_case true e = jump_case e
     straight_case false e = plain_case e
 

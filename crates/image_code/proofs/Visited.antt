@@ -1,10 +1,9 @@
 -- Where the points of a text are visited, and what stands there.
-use Rattle.std.proofs.Common.{◌≡◌, ◌≢◌, ℕ, ◌+◌, ◌-◌, ◌*◌, ◌%◌, ◌^◌, ◌<◌, ◌≤◌, inl, inr, Bool, true, false, Option, Some, None, List, [], ◌∷◌, length, refl, ap, sym, ◌∙◌, subst, arith}
+use Rattle.std.proofs.Common.{◌≡◌, ◌≢◌, ℕ, ◌+◌, ◌-◌, ◌<◌, inl, inr, Bool, false, Option, Some, None, [], length, refl, ap, sym, ◌∙◌, subst, arith}
 use Rattle.std.specs.Prelude.{if◌then◌else◌, slice_get, slice_index}
 use Rattle.std.specs.Option.{option_map}
 use Rattle.std.proofs.lemmas.Bool.{lt-ltb}
 use Rattle.eel_base.specs.CodeText.{IsText, address_of, word_at}
-use Rattle.eel_base.specs.declared.numbers.Addr.{Addr}
 use Rattle.v8_decode.specs.declared.Instr.{Instr}
 use Rattle.v8_decode.specs.Words.{decode_of}
 use Rattle.v8_step.specs.declared.Ending.{Ending}
@@ -14,25 +13,21 @@ use Rattle.v8_step.specs.State.{State}
 use Rattle.cfg_blocks.specs.declared.EdgeKind.{EdgeKind}
 use Rattle.cfg_blocks.specs.declared.EdgeKind.TheVariants as kinds
 use Rattle.cfg_blocks.specs.Blocks.{Blocks, blocks_of}
-use Rattle.cfg_blocks.specs.Ends.{within}
 use Rattle.cfg_blocks.specs.Entries.{is_fall}
 use Rattle.cfg_blocks.proofs.Targets.{word_at-some}
-use Rattle.cfg_normal.specs.declared.Edge.{Edge}
 use Rattle.cfg_normal.specs.declared.Node.{Node}
 use Rattle.cfg_normal.specs.declared.Slot.{Slot as Carried}
 use Rattle.cfg_normal.specs.declared.Slot.TheVariants as carried
 use Rattle.cfg_normal.specs.Graph.{IsSlotIn, node_of}
-use Rattle.cfg_walk.specs.Walk.{Point, completed, edge_from, gone, instr_at, node_after, point_of, same_kind, unless_ended, way_of}
+use Rattle.cfg_walk.specs.Walk.{Point, completed, edge_from, gone, instr_at, point_of, same_kind, unless_ended, way_of}
 use Rattle.cfg_walk.specs.Matches.{IsCarried, IsOnItsWay, MatchesBy}
 use Rattle.cfg_walk.proofs.Addresses.{word_at-address}
 use Rattle.addr_translate.specs.Lookup.{IsTable}
-use Rattle.jump_code.specs.Pieces.{far_piece}
-use Rattle.layout.specs.declared.items.Item.{Item}
 use Rattle.layout.specs.Laid.{Placement}
-use Rattle.image_code.specs.Simulates.{Setting, gone_at, graph_in, number_in, word_of}
-use Rattle.image_code.specs.Images.{Pieces, Frame, along_first, slot_piece, visited_at, visited_by}
+use Rattle.image_code.specs.Simulates.{Setting, gone_at, graph_in, word_of}
+use Rattle.image_code.specs.Images.{Pieces, Frame, slot_piece, visited_at, visited_by}
 use Rattle.image_code.specs.Cases.{IsFar, LeadsTo}
-use Rattle.image_code.specs.Made.{first_way, image_by, pieces_in, slot_copy, way_by, way_out}
+use Rattle.image_code.specs.Made.{first_way, image_by, pieces_in, way_out}
 use Rattle.image_code.proofs.EdgePieces.{IsAlong, along, cut_in, items_along, slot_in}
 use Rattle.image_code.proofs.Branches.{first_along, way_is_own, within_is}
 use Rattle.image_code.proofs.Listed.{image_at}
@@ -89,8 +84,8 @@ module _ (g : Setting) (is : IsText g.text) (p : Placement) (f : Frame) where
       (record { 0 = address_of g.text word }) node word instr)
   image_items node x word at held instr e =
       image_at g.text (graph_in g) f.table.base word (word_at-some g.text x.pc word at).within
-      ∙ ap (λ (n : Node). Some (image_by g.text (graph_in g) f.table.base (record { 0 = address_of g.text word }) n word
-      (decode_of (slice_index g.text.words word))))
+      ∙ ap (λ (n : Node). Some (image_by g.text (graph_in g) f.table.base (record { 0 = address_of g.text word }) n
+      word (decode_of (slice_index g.text.words word))))
       (sym (held ∙ ap (node_of b) at))
       ∙ ap (λ (d : Instr). Some (image_by g.text (graph_in g) f.table.base
       (record { 0 = address_of g.text word }) node word d)) e
@@ -101,8 +96,8 @@ module _ (g : Setting) (is : IsText g.text) (p : Placement) (f : Frame) where
   abbrev pub way_in : Point → EdgeKind
   way_in x = way_of (instr_at g.text (x.pc - 4)) x.slot
 
-  pub on_its_way : (node : Node) (x : Point) (s : Slot) → x.slot ≡ s → s ≢ NoSlot → MatchesBy g.text (graph_in g) node x s
-      → IsOnItsWay g.text (graph_in g) node x (way_in x)
+  pub on_its_way : (node : Node) (x : Point) (s : Slot) → x.slot ≡ s → s ≢ NoSlot
+      → MatchesBy g.text (graph_in g) node x s → IsOnItsWay g.text (graph_in g) node x (way_in x)
   on_its_way node x NoSlot e n m = absurd (n refl)
   on_its_way node x Taken e n m =
       subst (λ (s : Slot). IsOnItsWay g.text (graph_in g) node x (way_of (instr_at g.text (x.pc - 4)) s)) (sym e) m
@@ -174,7 +169,9 @@ module _ (g : Setting) (is : IsText g.text) (p : Placement) (f : Frame) where
       own = way_is_own (instr_at g.text (x.pc - 4)) x.slot
 
       number : way_out g.text (graph_in g) node kind ≡ length g.text.words + way.number
-      number = ap (λ (k : EdgeKind). way_out g.text (graph_in g) node k) (sym same) ∙ ap (first_way g.text (graph_in g)) way.only
+      number =
+          ap (λ (k : EdgeKind). way_out g.text (graph_in g) node k) (sym same)
+          ∙ ap (first_way g.text (graph_in g)) way.only
 
       by : (o : Option ℕ) → word_at g.text x.pc ≡ o
           → LeadsTo l p (record { 0 = way_out g.text (graph_in g) node kind }) (visited_at g l p f node x)
