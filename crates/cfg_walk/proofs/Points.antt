@@ -10,7 +10,7 @@ use Rattle.eel_base.specs.declared.numbers.WordNo.{WordNo}
 use Rattle.v8_decode.specs.declared.Instr.{Instr}
 use Rattle.v8_decode.specs.Words.{decode_of}
 use Rattle.v8_step.specs.declared.Slot.{Slot}
-use Rattle.v8_step.specs.declared.Slot.TheVariants.{NoSlot}
+use Rattle.v8_step.specs.declared.Slot.TheVariants.{NoSlot, Taken}
 use Rattle.v8_step.specs.Items.{is_transfer as transfers}
 use Rattle.cfg_blocks.specs.declared.EdgeKind.{EdgeKind}
 use Rattle.cfg_blocks.specs.declared.EdgeKind.TheVariants as kinds
@@ -136,14 +136,15 @@ module _ {text : Words} {b : Blocks} {node : Node} {before : Point} {word : ℕ}
           → after.pc ≡ before.npc
           → (same_kind w.kind kinds.Out ≡ false → (word_at text after.npc ≡ w.to) × LeadsIfThere b w.to)
           → (same_kind w.kind kinds.Out ≡ false → after.npc ≡ target_along text word w.kind instr)
+          → (same_kind w.kind kinds.Out ≡ true → after.slot ≡ Taken)
           → IsOnItsWay text (graph_of b) node after (way_of (instr_at text (after.pc - 4)) now)
       unfolding home
-      into_slot now w one kind runs pc leads goes =
+      into_slot now w one kind runs pc leads goes jumps =
           subst (λ (k : EdgeKind). IsOnItsWay text (graph_of b) node after k)
           (sym (ap (λ o. way_of o now) (transfer_before pc) ∙ kind))
           (subst (λ (m : Node). IsOnItsWay text (graph_of b) m after w.kind) (sym node_home)
           (on_its_way text b h.cut word low t after w (slot_pc pc) one runs leads
-          (λ no_jump. goes no_jump ∙ ap (target_along text word w.kind) (sym h.decodes))))
+          (λ no_jump. goes no_jump ∙ ap (target_along text word w.kind) (sym h.decodes)) jumps))
 
       -- where a displacement leads
       pub jumps_to : (target : Option WordNo) (displacement : ℤ) (address : ℕ)

@@ -5,6 +5,7 @@ use Rattle.std.proofs.lemmas.Bool.{cond_both}
 use Rattle.std.proofs.lemmas.Bool.Decides.{nat_tests}
 use Rattle.eel_base.specs.CodeText.{Words, address_of, word_at}
 use Rattle.v8_decode.specs.Words.{decode_of}
+use Rattle.v8_step.specs.declared.Slot.TheVariants.{Taken}
 use Rattle.cfg_blocks.specs.declared.EdgeKind.{EdgeKind}
 use Rattle.cfg_blocks.specs.declared.EdgeKind.TheVariants as kinds
 use Rattle.cfg_blocks.specs.Ends.{Way, end_at, is_transfer, ways_of}
@@ -51,8 +52,9 @@ module _ (text : Words) (b : Blocks) (c : IsCut text b) where
         → (same_kind w.kind kinds.Out ≡ false → (word_at text point.npc ≡ w.to) × LeadsIfThere b w.to)
         → (same_kind w.kind kinds.Out ≡ false
         → point.npc ≡ target_along text word w.kind (decode_of (slice_index text.words word)))
+        → (same_kind w.kind kinds.Out ≡ true → point.slot ≡ Taken)
         → IsOnItsWay text (graph_of b) (block (here text b c word l)) point w.kind
-    on_its_way point w pc one runs leads goes =
+    on_its_way point w pc one runs leads goes jumps =
         let k : ℕ = holding_of b word in
         let last : word ≡ last_word b.firsts b.words k = transfer_ends text b c word l t in
         let found = way_found text b c word l w last one in
@@ -66,6 +68,7 @@ module _ (text : Words) (b : Blocks) (c : IsCut text b) where
           pc = pc ∙ ap (λ n. address_of text (n + 1)) last;
           goes = λ no_jump.
               goes no_jump ∙ ap (λ n. target_along text n w.kind (decode_of (slice_index text.words n))) last;
+          jumps = jumps;
           carries =
               subst (λ (x : Bool). IsCarried text
               (if x then slot_behind b.words (last_word b.firsts b.words k) else carried_slots.Nothing)

@@ -1,5 +1,5 @@
 -- What holds of the walk's node while a run goes on.
-use Rattle.std.specs.Prelude.{◌≡◌, ℕ, ◌+◌, ◌-◌, ◌*◌, ◌%◌, ◌^◌, ◌<◌, false, List, [], ◌∷◌, length, slice_get, slice_index, Option, Some, None}
+use Rattle.std.specs.Prelude.{◌≡◌, ℕ, ◌+◌, ◌-◌, ◌*◌, ◌%◌, ◌^◌, ◌<◌, true, false, List, [], ◌∷◌, length, slice_get, slice_index, Option, Some, None}
 use Rattle.std.specs.Int.{w32, cast_unsigned}
 use Rattle.std.specs.Option.{option_map}
 use Rattle.eel_base.specs.CodeText.{Words, IsText, address_of, word_at}
@@ -9,7 +9,7 @@ use Rattle.v8_decode.specs.Words.{decode_of}
 use Rattle.v8_memory.specs.Regions.{fetch_of}
 use Rattle.v8_step.specs.State.{State}
 use Rattle.v8_step.specs.declared.Slot.{Slot}
-use Rattle.v8_step.specs.declared.Slot.TheVariants.{NoSlot}
+use Rattle.v8_step.specs.declared.Slot.TheVariants.{NoSlot, Taken}
 use Rattle.v8_step.specs.Run.{run}
 use Rattle.cfg_blocks.specs.Blocks.{blocks_of, last_word}
 use Rattle.cfg_blocks.specs.declared.EdgeKind.{EdgeKind}
@@ -63,6 +63,8 @@ pub record IsOnItsWay (text : Words) (graph : Graph) (node : Node) (point : Poin
   pub pc : point.pc ≡ address_of text (last_in graph node + 1)
   pub carries : IsCarried text edge.slot point.pc
   pub goes : same_kind way kinds.Out ≡ false → point.npc ≡ way_address text graph node way
+  -- a JMPL is always taken
+  pub jumps : same_kind way kinds.Out ≡ true → point.slot ≡ Taken
   pub leads : same_kind way kinds.Out ≡ false
       → Begins graph edge.to (word_at text point.npc) × (edge.to ≡ node_of graph.blocks (word_at text point.npc))
 

@@ -1,5 +1,5 @@
 -- Ways along edges, by their kinds and slots.
-use Rattle.std.proofs.Common.{◌≡◌, ℕ, Bool, true, false, List, [], refl, ap, sym, ◌∙◌, subst}
+use Rattle.std.proofs.Common.{◌≡◌, ℕ, Bool, false, List, [], refl, ap, sym, ◌∙◌, subst}
 use Rattle.std.specs.Prelude.{if◌then◌else◌, Result}
 use Rattle.std.specs.Result.{IfOk}
 use Rattle.eel_base.specs.declared.numbers.NoMemory.{NoMemory}
@@ -35,15 +35,6 @@ no_out kinds.Taken n = refl
 no_out kinds.Untaken n = refl
 no_out kinds.Call n = refl
 no_out kinds.Land n = refl
-
-pub same_is : (k j : EdgeKind) → same_kind k j ≡ true → k ≡ j
-same_is kinds.Fall kinds.Fall e = refl
-same_is kinds.Taken kinds.Taken e = refl
-same_is kinds.Untaken kinds.Untaken e = refl
-same_is kinds.Call kinds.Call e = refl
-same_is kinds.Out kinds.Out e = refl
-same_is kinds.Land kinds.Land e = refl
-same_is _ _ e = absurd (cc)
 
 -- What is made is what it should be, where it goes on as the edge does, whatever the table.
 module _ (text : Words) (graph : Graph) (table : ℕ) (edge : Edge) (made : Result (List Item) NoMemory) (next : Next)

@@ -50,7 +50,7 @@ use Rattle.image_code.specs.Made.{first_way, goes_on, image, image_by, jump_to, 
 use Rattle.image_code.specs.Parts.{IsGraphOf}
 use Rattle.image_code.specs.Fit.{AreFit, PiecesFit, PlacesSay, marks_in}
 use Rattle.image_code.proofs.Listed.{count_is, own_at}
-use Rattle.image_code.proofs.Along.{same_is}
+use Rattle.image_code.proofs.Branches.{same_is}
 use Rattle.image_code.proofs.Numbers.{cut_of, edges_are, graph_is, own_few}
 
 -- ---- one piece

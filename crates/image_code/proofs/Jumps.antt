@@ -7,7 +7,6 @@ use Rattle.v8_alu.specs.Numbers.{wrapped}
 use Rattle.v8_memory.specs.Regions.{Memory, code_of}
 use Rattle.v8_memory.specs.Spans.{IsSameOutside}
 use Rattle.v8_step.specs.declared.Ending.{Ending}
-use Rattle.v8_step.specs.declared.Ending.TheVariants.{Trap}
 use Rattle.v8_step.specs.declared.Slot.{Slot}
 use Rattle.v8_step.specs.declared.Slot.TheVariants.{NoSlot}
 use Rattle.v8_step.specs.State.{State, sum_of}
@@ -26,7 +25,7 @@ use Rattle.code_runs.specs.Straight.{StandIn}
 use Rattle.code_runs.proofs.Hops.{equal_or_not}
 use Rattle.code_runs.proofs.Stays.{stores_there}
 use Rattle.layout.specs.Laid.{Placement}
-use Rattle.jump_code.specs.Jumped.{jumped, EndsAlike}
+use Rattle.jump_code.specs.Jumped.{jumped}
 use Rattle.jump_code.specs.Jumps.{IsAboutToJump, jump_image, kept_target}
 use Rattle.jump_code.specs.Links.{link}
 use Rattle.jump_code.specs.PageWords.{IsPageWord}

@@ -12,6 +12,15 @@ pub mod Through
 pub mod Calls
 pub mod Jumps
 pub mod Imaged
+pub mod EdgePieces
+pub mod Visited
+pub mod Heads
+pub mod PlainWords
+pub mod SlotCopies
+pub mod JumpWords
+pub mod IntoSlots
+pub mod BranchImages
+pub mod JumpImages
 pub mod Listed
 pub mod Made
 pub mod Numbers

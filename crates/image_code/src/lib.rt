@@ -77,7 +77,7 @@ pub fn images_simulate()
     ensures { ImagesSimulate }
 {}
 
-/// The pieces of a text promise what they should.
+/// However they are placed, the pieces of a text promise what they should.
 pub fn pieces_make_images()
     ensures { PiecesMakeImages }
 {}

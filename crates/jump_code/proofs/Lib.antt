@@ -6,5 +6,6 @@ pub mod Laid
 pub mod Leaving
 pub mod Linking
 pub mod LookingUp
+pub mod Owned
 pub mod SlotWays
 pub mod Targets

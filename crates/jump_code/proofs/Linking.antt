@@ -1,5 +1,7 @@
--- The link of a CALL.
-use Rattle.std.proofs.Common.{◌+◌, ◌*◌, subst, arith}
+-- The words of a CALL write its link, as the original's step does.
+use Rattle.std.proofs.Common.{◌+◌, ◌*◌, refl, subst, arith}
+use Rattle.v8_step.specs.Step.{act}
+use Rattle.v8_step.specs.Transfers.{call_step}
 use Rattle.v8_step.specs.State.{State, register_of}
 use Rattle.code_runs.specs.Leads.{Leads}
 use Rattle.code_runs.specs.Straight.{StandIn}
@@ -7,6 +9,7 @@ use Rattle.code_runs.specs.TwoRegisters.{IsBetween, Works}
 use Rattle.code_runs.proofs.Hops.{works_state}
 use Rattle.code_runs.proofs.TwoRegisters.{block_rules}
 use Rattle.v8_memory.specs.Regions.{code_of}
+use Rattle.jump_code.specs.Jumped.{CallsSimulate}
 use Rattle.jump_code.specs.Links.{address_into, CallsAct}
 use Rattle.jump_code.specs.PageWords.{IsPageWord}
 use Rattle.jump_code.proofs.Blocks.{scratch, addressed}
@@ -25,3 +28,9 @@ calls_act address s h =
           (works_state s 2 IsPageWord 1 15 c 2 s.memory address w (omega arith)) w.path,
       w.silent,
     )
+
+pub calls_simulate : CallsSimulate
+unfolding act call_step
+calls_simulate address disp30 s h =
+    let k = calls_act address s h in
+    record { live = h.ready.live; path = k.0; silent = k.1; memory = refl }

@@ -1,6 +1,6 @@
 -- The words of a JMPL, one by one.
 use Rattle.std.proofs.Common.{◌≡◌, ◌≢◌, ℕ, zero, suc, ◌+◌, ◌*◌, ◌%◌, ◌<◌, ◌≤◌, ◌⊎◌, inl, inr, false, Ok, List, length, refl, ap, sym, ◌∙◌, subst, arith, bit_and}
-use Rattle.std.specs.Prelude.{◌==◌, pos}
+use Rattle.std.specs.Prelude.{◌==◌, pos, slice_index}
 use Rattle.std.proofs.lemmas.Nat.{and_mask}
 use Rattle.v8_decode.specs.declared.Op2.{Op2}
 use Rattle.v8_decode.specs.declared.Op2.TheVariants.{Reg, Imm}
@@ -10,6 +10,7 @@ use Rattle.v8_decode.specs.declared.LoadKind.TheVariants as loads
 use Rattle.v8_alu.specs.Alu.{alu_of}
 use Rattle.v8_alu.specs.Numbers.{wrapped}
 use Rattle.v8_memory.specs.Regions.{Memory, Region, code_of}
+use Rattle.v8_windows.specs.Registers.{place_of, register_in}
 use Rattle.v8_step.specs.State.{State, register_of, operand_of, sum_of}
 use Rattle.v8_step.specs.Step.{step_of}
 use Rattle.v8_step.specs.Traps.{mem_address_not_aligned}
@@ -30,6 +31,10 @@ use Rattle.jump_code.specs.Jumps.{IsNotIn, jump_image, IsAboutToJump, kept_targe
 use Rattle.jump_code.specs.Links.{address_into}
 use Rattle.jump_code.specs.PageWords.{IsPageWord}
 use Rattle.jump_code.proofs.Blocks.{not_four, scratch, gives_sum, addressed, word1, word2}
+
+in_place : (registers : List ℕ) (w r : ℕ) → 0 < r → register_in registers w r ≡ slice_index registers (place_of w r)
+in_place registers w zero some = absurd (omega arith)
+in_place registers w (suc r) some = refl
 
 gives_low : (u : State) (x t : ℕ) → register_of u x ≡ t → Gives ops.AND x (Imm (pos 3)) (t % 4) u
 unfolding alu_of
@@ -110,6 +115,19 @@ module _ (x rd rs1 : ℕ) (op2 : Op2) (address : ℕ) (s : State) (h : IsAboutTo
       (wrapped-range (register_of s rs1 + operand_of s op2))
       (still_stored s.memory (page_word 1) (page_word 2) (register_of s x) p1)
 
+  -- so has the second register of the block what it had
+  other_places : (u : State) → IsAlike s x b (kept_target s x rs1 op2) (sum_of s rs1 op2 % 4) (register_of s b) u
+      → (place : ℕ) → place ≢ place_of s.window x → slice_index u.registers place ≡ slice_index s.registers place
+  other_places u k place apart = go (equal_or_not place (place_of s.window b))
+    where
+      go : (place ≡ place_of s.window b) ⊎ (place ≢ place_of s.window b)
+          → slice_index u.registers place ≡ slice_index s.registers place
+      go (inl e) =
+          ap (slice_index u.registers) (e ∙ ap (λ w. place_of w b) (sym k.window))
+          ∙ sym (in_place u.registers u.window b c.second_some) ∙ k.second
+          ∙ in_place s.registers s.window b c.second_some ∙ ap (slice_index s.registers) (sym e)
+      go (inr ne) = k.others place apart ne
+
   -- the load of a misaligned target ends the run
   traps : sum_of s rs1 op2 % 4 ≢ 0 → 6 ≡ count → TrapsThere s x rs1 op2
   traps odd six =
@@ -145,6 +163,10 @@ module _ (x rd rs1 : ℕ) (op2 : Op2) (address : ℕ) (s : State) (h : IsAboutTo
         pc = p;
         window = k.window;
         valid = k.valid;
+        codes = k.codes;
+        y_register = k.y_register;
+        registers = k.registers ∙ sym c.registers;
+        others = other_places w.after k;
         input = k.input;
         stores = subst (Stores IsPageWord s.memory) (sym k.memory) w.stores;
       }

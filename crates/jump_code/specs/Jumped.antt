@@ -1,5 +1,5 @@
--- The image of a JMPL against the original's step, at the original's address.
-use Rattle.std.specs.Prelude.{◌≡◌, ℕ, ◌+◌, length, Some, None}
+-- The images of a JMPL and of a CALL against the original's step, at the original's address.
+use Rattle.std.specs.Prelude.{◌≡◌, ℕ, ◌+◌, length, Some, None, ℤ}
 use Rattle.v8_decode.specs.declared.Op2.{Op2}
 use Rattle.v8_decode.specs.declared.Instr.TheVariants as i
 use Rattle.v8_alu.specs.Numbers.{wrapped}
@@ -13,7 +13,7 @@ use Rattle.code_runs.specs.Points.{moved}
 use Rattle.code_runs.specs.StoredWords.{memory_word, Stores}
 use Rattle.code_runs.specs.TwoRegisters.{IsBetween}
 use Rattle.jump_code.specs.Jumps.{jump_image, kept_target, IsAboutToJump, TrapsThere}
-use Rattle.jump_code.specs.Links.{past}
+use Rattle.jump_code.specs.Links.{past, IsAboutToCall}
 use Rattle.jump_code.specs.PageWords.{IsPageWord}
 
 -- the original after its JMPL
@@ -40,3 +40,18 @@ JumpsSimulate =
     → ((jumped address rd rs1 op2 s).ending ≡ None
     → ComesToEnd x rd rs1 op2 address s (length (jump_image x rd rs1 op2 address)))
     × ((ending : Ending) → (jumped address rd rs1 op2 s).ending ≡ Some ending → EndsAlike x rs1 op2 s ending)
+
+-- the original after a CALL
+abbrev pub called : ℕ → ℤ → State → State
+called address disp30 s = act (moved address (wrapped (address + 4)) NoSlot s) (i.Call disp30)
+
+-- It goes on, and the image's words lead to their end, where the machine is the original but for the place.
+pub record CallComesToEnd (address : ℕ) (disp30 : ℤ) (s : State) : Type 0 where
+  pub live : (called address disp30 s).ending ≡ None
+  pub path : Leads (IsBetween s 2 IsPageWord) s (past s 2 s.memory (called address disp30 s)) 2
+  pub silent : IsSilent s 2
+  pub memory : (called address disp30 s).memory ≡ s.memory
+
+abbrev pub CallsSimulate : Type 0
+CallsSimulate =
+    (address : ℕ) (disp30 : ℤ) (s : State) → IsAboutToCall address s → CallComesToEnd address disp30 s

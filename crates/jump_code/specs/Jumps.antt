@@ -1,5 +1,5 @@
 -- The words that make the image of a JMPL, and what they do.
-use Rattle.std.specs.Prelude.{◌≡◌, ◌≢◌, ℕ, ◌+◌, ◌*◌, ◌-◌, ◌%◌, ◌^◌, ◌<◌, false, List, [], ◌∷◌, ◌++◌, length, Some, None, pos}
+use Rattle.std.specs.Prelude.{◌≡◌, ◌≢◌, ℕ, ◌+◌, ◌*◌, ◌-◌, ◌%◌, ◌^◌, ◌<◌, false, List, [], ◌∷◌, ◌++◌, length, Some, None, pos, slice_index}
 use Rattle.v8_decode.specs.declared.Op2.{Op2}
 use Rattle.v8_decode.specs.declared.Op2.TheVariants.{Reg, Imm}
 use Rattle.v8_decode.specs.declared.AluOp.TheVariants as ops
@@ -8,6 +8,7 @@ use Rattle.v8_decode.specs.declared.Instr.TheVariants as i
 use Rattle.v8_decode.specs.declared.LoadKind.TheVariants as loads
 use Rattle.v8_decode.specs.declared.StoreKind.TheVariants as stores
 use Rattle.v8_memory.specs.Regions.{Memory, code_of}
+use Rattle.v8_windows.specs.Registers.{place_of}
 use Rattle.v8_step.specs.declared.Ending.TheVariants.{Trap}
 use Rattle.v8_step.specs.State.{State, register_of, with_register, sum_of}
 use Rattle.v8_step.specs.Run.{run}
@@ -21,8 +22,8 @@ use Rattle.code_runs.specs.TwoRegisters.{IsBetween}
 use Rattle.jump_code.specs.Links.{link, past}
 use Rattle.jump_code.specs.PageWords.{IsPageWord, HasPage}
 
--- The target goes into word 1 of the page, through a register x that waits in word 2 meanwhile. The second load but one
--- is misaligned where the target is, and then ends the run as the JMPL does; else it loads word 0.
+-- The target goes into word 1 of the page, through a register x that waits in word 2 meanwhile. The first load is
+-- misaligned where the target is, and then ends the run as the JMPL does; else it is of word 0.
 abbrev pub jump_target : ℕ → ℕ → Op2 → List Instr
 jump_target x rs1 op2 =
     i.Store stores.ST x 0 (of_page 2)
@@ -75,7 +76,8 @@ pub record GoesOn (s : State) (x rd rs1 : ℕ) (op2 : Op2) (address count : ℕ)
   pub stores : Stores IsPageWord s.memory (kept_target s x rs1 op2)
   pub target : memory_word (kept_target s x rs1 op2) (page_word 1) ≡ sum_of s rs1 op2
 
--- A misaligned one: the fifth of the first six words ends the run, with the trap of a misaligned address.
+-- A misaligned one: the fifth of the first six words ends the run, with the trap of a misaligned address. All but
+-- register x and words of the page is as it was.
 pub record TrapsThere (s : State) (x rs1 : ℕ) (op2 : Op2) : Type 0 where
   pub after : State
   pub path : Leads (IsBetween s 6 IsPageWord) s after 5
@@ -85,6 +87,11 @@ pub record TrapsThere (s : State) (x rs1 : ℕ) (op2 : Op2) : Type 0 where
   pub pc : after.pc ≡ s.pc + 16
   pub window : after.window ≡ s.window
   pub valid : after.valid ≡ s.valid
+  pub codes : after.codes ≡ s.codes
+  pub y_register : after.y ≡ s.y
+  pub registers : length after.registers ≡ length s.registers
+  pub others : (place : ℕ) → place ≢ place_of s.window x
+      → slice_index after.registers place ≡ slice_index s.registers place
   pub input : after.input ≡ s.input
   pub stores : Stores IsPageWord s.memory after.memory
 

@@ -8,7 +8,7 @@ ghost use Rattle.code_runs.specs.LongJump.{long_jump};
 ghost use Rattle.layout.specs.Emitting.{words_of};
 ghost use Rattle.jump_code.specs.Jumps.{jump_target};
 ghost use Rattle.jump_code.specs.Leaving.{foreign};
-ghost use Rattle.jump_code.specs.Links.{address_into, link};
+ghost use Rattle.jump_code.specs.Links.{link};
 ghost use Rattle.jump_code.specs.LookUps.{look_up, look_up_first, look_up_last};
 
 use crate::registers::register;
@@ -86,7 +86,7 @@ pub fn look_up_code(base: Addr) -> [u32; 18]
     ensures words { result ≡ words_of (look_up base.0) }
     ensures decodes { map decode_of result ≡ look_up base.0 }
 
-    // So do the words between the first three and the last three.
+    // The words between the first three and the last three translate.
     ensures translates { Translates (words_of (translator base.0 1 2)) base.0 1 2 }
 {
     let first = first_code();

@@ -1,11 +1,12 @@
 //! What becomes of calls, jumps and look-ups in new code: their words, and what machines do there.
 #![tactic(auto)]
 
-ghost use Rattle.jump_code.specs.Jumped.{JumpsSimulate};
+ghost use Rattle.jump_code.specs.Jumped.{CallsSimulate, JumpsSimulate};
 ghost use Rattle.jump_code.specs.Jumps.{JumpsAct};
 ghost use Rattle.jump_code.specs.Leaving.{FarGoes, ForeignLeaves};
 ghost use Rattle.jump_code.specs.Links.{CallsAct};
 ghost use Rattle.jump_code.specs.LookUps.{LookUpsHop};
+ghost use Rattle.jump_code.specs.PageWords.{PageWordsAreOurs};
 ghost use Rattle.jump_code.specs.Pieces.{PiecesAreLaid};
 ghost use Rattle.jump_code.specs.Ways.{JumpWays, SlotsAreReady};
 
@@ -31,6 +32,11 @@ pub fn calls_act()
     ensures { CallsAct }
 {}
 
+/// That is what the original's step does, but for where it goes on.
+pub fn calls_simulate()
+    ensures { CallsSimulate }
+{}
+
 /// The look-up goes on at what the table has for the address that waits.
 pub fn look_ups_hop()
     ensures { LookUpsHop }
@@ -54,6 +60,12 @@ pub fn jump_ways()
 /// What a slot's word leaves of the pages, if it touches none of them, is enough for the look-up.
 pub fn slots_are_ready()
     ensures { SlotsAreReady }
+{}
+
+/// Where the four words of the page are the editor's, they are what the laws above ask for, and all memory outside the
+/// editor's pages stays.
+pub fn page_words_are_ours()
+    ensures { PageWordsAreOurs }
 {}
 
 /// The words of laid pieces stand where the laws above ask for them.

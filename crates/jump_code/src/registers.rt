@@ -1,7 +1,7 @@
 //! Registers.
 
 ghost use Rattle.std.specs.Prelude.{◌≡◌, ◌<◌, ◌≢◌};
-ghost use Rattle.jump_code.specs.FreeRegister.{first_free as first_free_of, free_register as free_register_of, second_register as second_register_of};
+ghost use Rattle.jump_code.specs.FreeRegister.{first_free as first_free_of, free_register as free_register_of, is_one_of as is_one_of_these, second_register as second_register_of};
 ghost use Rattle.jump_code.specs.Jumps.{IsApart};
 
 use v8_decode::{Op2, Reg};
@@ -28,6 +28,12 @@ fn second_register(op2: &Op2) -> u8
     }
 }
 
+fn is_one_of(number: u8, a: u8, b: u8, c: u8) -> bool
+    ensures { result ≡ is_one_of_these number a b c }
+{
+    a == number || b == number || c == number
+}
+
 // The first of 1 to 4 that is none of these.
 fn first_free(a: u8, b: u8, c: u8) -> u8
     ensures value { result ≡ first_free_of a b c }
@@ -37,14 +43,14 @@ fn first_free(a: u8, b: u8, c: u8) -> u8
     ensures second { b ≢ result }
     ensures third { c ≢ result }
 {
-    if a == 1 || b == 1 || c == 1 {
-        if a == 2 || b == 2 || c == 2 {
-            if a == 3 || b == 3 || c == 3 { 4 } else { 3 }
-        } else {
-            2
-        }
-    } else {
+    if !is_one_of(1, a, b, c) {
         1
+    } else if !is_one_of(2, a, b, c) {
+        2
+    } else if !is_one_of(3, a, b, c) {
+        3
+    } else {
+        4
     }
 }
 

@@ -4,6 +4,6 @@ use Rattle.image_code.proofs.parts.image.Goals as goal
 
 pub jump-requires : goal.jump-requires
 jump-requires c = record {
-  fits = operand_fits c.args.word c.in-Jmpl.rd c.in-Jmpl.rs1 c.in-Jmpl.op2 c.ranges.word.fits
+  fits = operand_fits c.args.word c.in-Jmpl.rd c.in-Jmpl.rs1 c.in-Jmpl.op2
       (sym c.decode.ensures.value ∙ c.in-Jmpl.is);
 }
