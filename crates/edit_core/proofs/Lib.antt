@@ -1,6 +1,5 @@
 pub mod Induction
 pub mod Whole
-pub mod Taken
 pub mod Views
 pub mod Shapes
 pub mod Ranges
