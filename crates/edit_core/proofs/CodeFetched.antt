@@ -1,11 +1,12 @@
 -- The code of a written file is fetched before its first step.
-use Rattle.std.proofs.Common.{◌≡◌, ℕ, ◌+◌, ◌-◌, ◌*◌, ◌%◌, ◌^◌, ◌<◌, ◌≤◌, ◌⊎◌, inl, inr, Bool, true, false, not, ◌&&◌, cond, nat_eq, List, [], ◌∷◌, ◌++◌, length, drop, map, replicate, slice_index, slice_get, Some, None, refl, sym, ap, ◌∙◌, subst, arith, All}
+use Rattle.std.proofs.Common.{◌≡◌, ℕ, ◌+◌, ◌-◌, ◌*◌, ◌%◌, ◌^◌, ◌<◌, ◌≤◌, ◌⊎◌, inl, inr, Bool, true, false, not, ◌&&◌, ◌||◌, cond, nat_eq, List, [], ◌∷◌, ◌++◌, length, drop, map, replicate, slice_index, slice_get, Some, None, refl, sym, ap, ◌∙◌, subst, arith, All}
 use Rattle.std.specs.List.{filter, list_any}
 use Rattle.std.specs.Int.Bits.{and_zero_r}
 use Rattle.std.proofs.lemmas.Nat.{and_assoc}
 use Rattle.std.proofs.lemmas.Bool.{and_left, or_from}
 use Rattle.std.proofs.lemmas.Bool.Decides.{nat_tests}
-use Rattle.std.proofs.lemmas.List.{append-nil}
+use Rattle.std.proofs.lemmas.List.{append-nil, append_assoc}
+use Rattle.std.proofs.lemmas.List.Folds.{list_any-append}
 use Rattle.std.proofs.lemmas.Option.{slice_get_within, get_or_from_slice_get}
 use Rattle.byteorder.specs.Endian.{big_number}
 use Rattle.elf32_sparc.specs.Header.{has_flag}
@@ -22,15 +23,15 @@ use Rattle.v8_memory.specs.Segments.{region_of}
 use Rattle.v8_process.specs.Start.{stack_region, start_memory}
 use Rattle.v8_process.specs.Fetched.{IsFirstCode}
 use Rattle.v8_process.proofs.Fetched.{code-from, code_is_fetched}
+use Rattle.addr_translate.specs.Lookup.{TableAt}
 use Rattle.layout.specs.Laid.{Placement}
 use Rattle.layout.specs.Running.{HasCode}
 use Rattle.image_code.specs.Images.{IsBeside}
-use Rattle.image_code.proofs.Memories.{fetch_is}
-use Rattle.edit_core.specs.Written.{IsEdit, base_of, code_segment, page_segment}
+use Rattle.edit_core.specs.Written.{IsEdit, code_base, code_segment, page_segment, table_at}
 use Rattle.edit_core.proofs.Edits.{words_are_bytes}
 use Rattle.edit_core.proofs.Mapped.{word_among}
 
--- ---- nothing that is kept is code
+-- ---- nothing that is kept is code, nor is the table
 
 -- flags without PF_X don't have it
 not_executable-flag : (flags : ℕ) → has_flag 1 (not_executable flags) ≡ false
@@ -67,40 +68,54 @@ beside_region : (r : Region) (a : ℕ) → (a < r.start) ⊎ (r.start + r.size �
 beside_region r a (inl below) = grind (arith, nat_tests)
 beside_region r a (inr past) = grind (arith, nat_tests)
 
-module _ (original : List ℕ) (p : Placement) (place : ℕ → ℕ → ℕ) (file : List ℕ) (is : IsEdit original p place file)
-    (texts : List (List ℕ)) where
+module _ (original : List ℕ) (p : Placement) (place : ℕ → ℕ → ℕ) (table : TableAt) (file : List ℕ)
+    (is : IsEdit original p place table file) (texts : List (List ℕ)) where
+  abbrev before : List Mapping
+  before = map kept (mappings original) ++ mapping_added (table_at table) ∷ []
+
+  none_before : list_any (λ m. regions.is_code (region_of m)) before ≡ false
+  none_before =
+      list_any-append (λ m. regions.is_code (region_of m)) (map kept (mappings original)) (mapping_added (table_at table) ∷ [])
+      ∙ ap (λ (b : Bool). b || false) (none_kept (mappings original))
+
+  mapped : mappings file ≡ before ++ mapping_added (code_segment original p) ∷ mapping_added page_segment ∷ []
+  mapped =
+      is.mapped
+      ∙ sym (append_assoc (map kept (mappings original)) (mapping_added (table_at table) ∷ [])
+      (mapping_added (code_segment original p) ∷ mapping_added page_segment ∷ []))
+
   first_code : IsFirstCode file (mapping_added (code_segment original p))
   first_code = record {
-    before = map kept (mappings original);
+    before = before;
     after = mapping_added page_segment ∷ [];
-    mapped = is.mapped;
-    none_before = none_kept (mappings original);
+    mapped = mapped;
+    none_before = none_before;
     executable = refl;
   }
 
   -- each word of the code is fetched at its place
   fetched : (n : ℕ) → n < length p.code
-      → fetch_of (start_memory file texts) (base_of original + 4 * n) ≡ Some (slice_index p.code n)
+      → fetch_of (start_memory file texts) (code_base original + 4 * n) ≡ Some (slice_index p.code n)
   fetched n inside =
-      let base = (accepted-program original is.taken.reads.sound).base in
+      let base = (accepted-program original is.taken.sound).base in
       code_is_fetched file texts (mapping_added (code_segment original p)) first_code (omega (arith, base)) (words_are_bytes p.code)
       n (omega (arith, inside))
       ∙ ap (λ bytes. Some (big_number 4 (drop (4 * n) bytes))) (whole_region p.code)
       ∙ ap (λ w. Some w) (word_among p.code n inside is.code.words)
 
-  pub has_code : HasCode (base_of original) p.code (start_memory file texts)
+  pub has_code : HasCode (code_base original) p.code (start_memory file texts)
+  unfolding fetch_of
   has_code n word at =
       let inside = slice_get_within p.code n word at in
-      sym (fetch_is (start_memory file texts) (base_of original + 4 * n)) ∙ fetched n inside
-      ∙ ap (λ w. Some w) (get_or_from_slice_get p.code n word 0 at)
+      fetched n inside ∙ ap (λ w. Some w) (get_or_from_slice_get p.code n word 0 at)
 
   code_is : code_of (start_memory file texts) ≡ region_of (mapping_added (code_segment original p)) ∷ []
   code_is =
-      ap (λ (ms : List Mapping). filter regions.is_code (map region_of ms ++ stack_region texts ∷ [])) is.mapped
-      ∙ code-from (map kept (mappings original)) (mapping_added page_segment ∷ []) (stack_region texts ∷ [])
-      (mapping_added (code_segment original p)) (none_kept (mappings original)) refl
+      ap (λ (ms : List Mapping). filter regions.is_code (map region_of ms ++ stack_region texts ∷ [])) mapped
+      ∙ code-from before (mapping_added page_segment ∷ []) (stack_region texts ∷ [])
+      (mapping_added (code_segment original p)) none_before refl
 
   -- and nothing else is
-  pub only_code : (a : ℕ) → IsBeside (base_of original) p.code a → fetch_from (code_of (start_memory file texts)) a ≡ None
+  pub only_code : (a : ℕ) → IsBeside (code_base original) p.code a → fetch_from (code_of (start_memory file texts)) a ≡ None
   only_code a beside =
       ap (λ code. fetch_from code a) code_is ∙ beside_region (region_of (mapping_added (code_segment original p))) a beside

@@ -1,8 +1,9 @@
 pub mod Induction
 pub mod Whole
-pub mod Taken
 pub mod Views
+pub mod Eaches
 pub mod Shapes
+pub mod Counted
 pub mod Ranges
 pub mod Noted
 pub mod Originals
@@ -10,6 +11,8 @@ pub mod Edits
 pub mod Mapped
 pub mod Faithful
 pub mod Room
+pub mod Landings
+pub mod Off
 pub mod Steps
 pub mod Owned
 pub mod CodeFetched

@@ -56,18 +56,21 @@ word_among (w ∷ words) (suc word) inside all =
     ∙ ap (big_number 4) (drop-append-add (big_bytes 4 w) (words_bytes words) (4 * word))
     ∙ word_among words word (omega arith) (λ k d below. all (suc k) d (omega arith))
 
--- the words of code that is mapped next above the original
-pub code_mapped : (original file : List ℕ) (words : List ℕ) (code : Mapping) (more : List Mapping)
-    → mappings file ≡ map kept (mappings original) ++ code ∷ more → All (λ w. w < 2 ^ 32) words
-    → code.start ≡ (image_of original).base → code.length ≡ 4 * length words → code.first ≡ words_bytes words
-    → (n : ℕ) → n < length words → word_mapped file ((image_of original).base + 4 * n) ≡ Some (slice_index words n)
-code_mapped original file words code more all fits start size first n inside =
-    let address : ℕ = (image_of original).base + 4 * n in
+-- the words of code that is mapped above the original, right behind a table
+pub code_mapped : (original file : List ℕ) (words : List ℕ) (table code : Mapping) (more : List Mapping)
+    → mappings file ≡ map kept (mappings original) ++ table ∷ code ∷ more → All (λ w. w < 2 ^ 32) words
+    → table.start ≡ (image_of original).base → table.start + table.length ≡ code.start → code.length ≡ 4 * length words
+    → code.first ≡ words_bytes words
+    → (n : ℕ) → n < length words → word_mapped file (code.start + 4 * n) ≡ Some (slice_index words n)
+code_mapped original file words table code more all fits base behind size first n inside =
+    let address : ℕ = code.start + 4 * n in
     let here : address - code.start ≡ 4 * n = omega arith in
     let is_found : find (covers address) (mappings file) ≡ Some code =
     ap (find (covers address)) all
-    ∙ find-append (covers address) (map kept (mappings original)) (code ∷ more)
-    ∙ ap (λ o. option_or o (find (covers address) (code ∷ more))) (original_covers original address (omega arith))
+    ∙ find-append (covers address) (map kept (mappings original)) (table ∷ code ∷ more)
+    ∙ ap (λ o. option_or o (find (covers address) (table ∷ code ∷ more))) (original_covers original address (omega arith))
+    ∙ passed (nat_le table.start address) (nat_le (address + 4) (table.start + table.length)) table (find (covers address) (code ∷ more))
+    (lt-leb (address + 4) (table.start + table.length) (omega arith))
     ∙ ap (λ (b : Bool). cond b (Some code) (find (covers address) more))
     (and_from _ _ (le-leb code.start address (omega arith)) (le-leb (address + 4) (code.start + code.length) (omega arith))) in
     ap (option_map (λ m. big_number 4 (drop (address - m.start) m.first))) is_found

@@ -1,16 +1,16 @@
 -- The notes on an edit meet their rules.
 use Rattle.std.proofs.Common.{◌≡◌, ℕ, zero, suc, ◌+◌, ◌*◌, ◌%◌, ◌^◌, ◌<◌, ◌≤◌, true, Option, Some, None, List, [], ◌∷◌, ◌++◌, length, length-append, map, refl, ap, ◌∙◌, arith, All}
 use Rattle.std.specs.Prelude.{slice_index}
-use Rattle.std.specs.List.{flat_map}
+use Rattle.std.specs.List.{flat_map, list_any}
 use Rattle.std.proofs.lemmas.Grind.{get_or_default_zero}
-use Rattle.std.proofs.lemmas.Bool.{and_from, le-leb, lt-ltb, eq-eqb}
+use Rattle.std.proofs.lemmas.Bool.{and_from, eq-eqb, le-leb, lt-ltb, or_left, or_right}
 use Rattle.std.proofs.lemmas.List.{length-map}
 use Rattle.byteorder.specs.Endian.{big_bytes}
 use Rattle.byteorder.specs.Numbers.{length-bytes_high_first}
 use Rattle.elf32_write.proofs.WordsBytes.{length-flat_map}
-use Rattle.eel_base.specs.CodeText.{Words, IsText}
-use Rattle.elf32_sparc.specs.Notes.{Notes, NoteRange, follows}
-use Rattle.notes.specs.Rules.{AreNotes, are_segments, are_blocks, are_edges}
+use Rattle.eel_base.specs.CodeText.{Words, IsText, address_of}
+use Rattle.elf32_sparc.specs.Notes.{Notes, NoteRange, follows, holds}
+use Rattle.notes.specs.Rules.{AreNotes, are_segments, are_blocks, are_edges, are_ranges}
 use Rattle.notes.specs.Laws.{AreWords}
 use Rattle.notes.specs.Written.{words_bytes, notes_bytes, notes_words, segment_words, edge_words, range_words}
 use Rattle.cfg_blocks.specs.declared.EdgeKind.{EdgeKind}
@@ -23,8 +23,11 @@ use Rattle.cfg_normal.specs.Graph.{Graph, IsEdgeIn, IsNodeIn}
 use Rattle.cfg_walk.specs.Numbers.{node_number}
 use Rattle.cfg_walk.proofs.Lists.{Each, each-append}
 use Rattle.layout.specs.Laid.{Ascend, Placement}
-use Rattle.edit_core.specs.Faithful.{editor_page, page_size, kind_number, note_edge}
-use Rattle.edit_core.proofs.Ranges.{IsWhole, count_ranges, ends_by, ranges_rule}
+use Rattle.edit_core.specs.Faithful.{editor_page, kind_number, note_edge}
+use Rattle.edit_core.specs.Written.{off_range, off_ranges, segments_noted}
+use Rattle.edit_core.proofs.Eaches.{all_each, each_all}
+use Rattle.edit_core.proofs.Off.{off_each, off_few}
+use Rattle.edit_core.proofs.Ranges.{IsWhole, ends_by, ranges_rule}
 
 -- ---- blocks
 
@@ -76,15 +79,6 @@ rows_fit : {R : Type 0} (words : R → List ℕ) (rows : List R) → Each (λ ro
 rows_fit words [] each = tt
 rows_fit words (row ∷ rows) each = each-append Fits (words row) (flat_map words rows) each.0 (rows_fit words rows each.1)
 
-all_each : {A : Type 0} (P : A → Type 0) (xs : List A) → Each P xs → All P xs
-all_each P [] each k d l = absurd (omega arith)
-all_each P (x ∷ xs) each zero d l = each.0
-all_each P (x ∷ xs) each (suc k) d l = all_each P xs each.1 k d (omega arith)
-
-pub each_all : {A : Type 0} (P : A → Type 0) (xs : List A) → All P xs → Each P xs
-each_all P [] all = tt
-each_all P (x ∷ xs) all = (all zero x (omega arith), each_all P xs (λ k d l. all (suc k) d (omega arith)))
-
 edges_fit : (graph : Graph) (es : List Edge) → length graph.blocks.firsts ≤ 2 ^ 20 → Each (IsEdgeIn graph.blocks) es
     → Each (λ edge. Each Fits (edge_words edge)) (map (note_edge graph) es)
 edges_fit graph [] few each = tt
@@ -106,8 +100,8 @@ ranges_fit nodes from to (r ∷ rs) few low a each =
 
 -- ---- all of the notes
 
--- notes without cells, on one segment and the editor's page
-pub record IsNoted (graph : Graph) (p : Placement) (n : Notes) : Type 0 where
+-- notes without cells, on a table of this size, code right behind it, and the editor's page
+pub record IsNoted (graph : Graph) (size : ℕ) (p : Placement) (n : Notes) : Type 0 where
   pub delta_from : 4096 ≤ n.delta
   pub delta_to : n.delta ≤ 2 ^ 20
   pub length_to : n.length ≤ 2 ^ 26
@@ -121,49 +115,93 @@ pub record IsNoted (graph : Graph) (p : Placement) (n : Notes) : Type 0 where
   pub base : n.base % 4 ≡ 0
   pub cells : n.cells ≡ 0
   pub some : 0 < length p.code
-  pub low : n.base + 4 * length p.code ≤ 2 ^ 31
-  pub few : length p.code ≤ 10 * (3 * length text.words + 1)
-  pub segments : n.segments ≡ record { start = n.base; length = 4 * length p.code } ∷ record { start = editor_page; length = page_size } ∷ []
+  pub table : (4 ≤ size) × (size % 4 ≡ 0)
+  pub low : n.base + size + 4 * length p.code ≤ 2 ^ 31
+  pub segments : n.segments ≡ segments_noted n.base size p.code
   pub firsts : AreFirsts graph.blocks.words graph.blocks.firsts
   pub blocks : n.blocks ≡ graph.blocks.firsts
   pub edge_count : length graph.edges ≤ 3 * 2 ^ 20
   pub edges_in : Each (IsEdgeIn graph.blocks) graph.edges
   pub edges : n.edges ≡ map (note_edge graph) graph.edges
-  pub ranges : n.ranges ≡ p.ranges
-  pub ascend : Ascend n.base (n.base + 4 * length p.code) p.ranges
+  pub ranges : n.ranges ≡ off_ranges text graph n.base ++ p.ranges
+  pub range_count : length p.ranges ≤ 2 ^ 23
+  pub ascend : Ascend (n.base + size) (n.base + size + 4 * length p.code) p.ranges
   pub whole : Each (IsWhole (length graph.blocks.firsts)) p.ranges
 
-module _ (graph : Graph) (p : Placement) (n : Notes) (is : IsNoted graph p n) where
+module _ (graph : Graph) (size : ℕ) (p : Placement) (n : Notes) (is : IsNoted graph size p n) where
   abbrev nodes : ℕ
   nodes = length graph.blocks.firsts
 
   nodes_few : length graph.blocks.firsts ≤ 2 ^ 20
   nodes_few = omega (arith, is.firsts.few, is.graph_words, is.is_text.few)
 
-  ranges_few : 4 * length p.ranges ≤ 4 * length p.code
-  ranges_few = let c = count_ranges nodes n.base (n.base + 4 * length p.code) p.ranges is.ascend is.whole in omega arith
+  ranges_few : length n.ranges ≤ 2 ^ 23 + 1
+  ranges_few =
+      let count = length-append (off_ranges is.text graph n.base) p.ranges in
+      let few = off_few is.text graph n.base in
+      omega (arith, ap length is.ranges, count, few, is.range_count)
 
-  segments_rule : are_segments 0 (record { start = n.base; length = 4 * length p.code } ∷ record { start = editor_page; length = page_size } ∷ []) ≡ true
+  segments_rule : are_segments 0 (segments_noted n.base size p.code) ≡ true
   segments_rule =
       let s = is.some in
+      let t = is.table.0 in
       let l = is.low in
       rw (
         le-leb 0 n.base (omega arith),
+        lt-ltb 0 size (omega arith),
+        le-leb (n.base + size) (2 ^ 32) (omega arith),
+        le-leb (n.base + size) (n.base + size) (omega arith),
         lt-ltb 0 (4 * length p.code) (omega arith),
-        le-leb (n.base + 4 * length p.code) (2 ^ 32) (omega arith),
-        le-leb (n.base + 4 * length p.code) editor_page (omega arith),
+        le-leb (n.base + size + 4 * length p.code) (2 ^ 32) (omega arith),
+        le-leb (n.base + size + 4 * length p.code) editor_page (omega arith),
       ) refl
+
+  -- the table and the code hold what lies in them
+  table_holds : (lo hi : ℕ) → n.base ≤ lo → hi ≤ n.base + size → list_any (holds lo hi) (segments_noted n.base size p.code) ≡ true
+  table_holds lo hi from to = or_left _ _ (and_from _ _ (le-leb n.base lo from) (le-leb hi (n.base + size) to))
+
+  code_holds : (lo hi : ℕ) → n.base + size ≤ lo → hi ≤ n.base + size + 4 * length p.code
+      → list_any (holds lo hi) (segments_noted n.base size p.code) ≡ true
+  code_holds lo hi from to =
+      or_right _ _ (or_left _ _ (and_from _ _ (le-leb (n.base + size) lo from) (le-leb hi (n.base + size + 4 * length p.code) to)))
+
+  code_rule : (end : ℕ) → end ≤ n.base + size → are_ranges nodes (segments_noted n.base size p.code) end p.ranges ≡ true
+  code_rule end l =
+      ranges_rule nodes (segments_noted n.base size p.code) end (n.base + size) (n.base + size + 4 * length p.code) p.ranges
+      is.ascend is.whole l code_holds
+
+  off_rule : (edge : Edge) → IsEdgeIn graph.blocks edge
+      → are_ranges nodes (segments_noted n.base size p.code) 0 ((off_range is.text graph n.base edge ∷ []) ++ p.ranges) ≡ true
+  off_rule edge inside =
+      let four = is.table.0 in
+      let base = is.base in
+      let text = is.is_text in
+      and_from _ _
+      (rw (
+        eq-eqb (n.base % 4) 0 base,
+        eq-eqb ((n.base + 4) % 4) 0 (omega arith),
+        eq-eqb (address_of is.text (length is.text.words) % 4) 0 (omega (arith, text.aligned)),
+        lt-ltb n.base (n.base + 4) (omega arith),
+        le-leb 0 n.base (omega arith),
+        table_holds n.base (n.base + 4) (omega arith) (omega arith),
+        le-leb (node_number graph edge.from) nodes (node_few graph edge.from inside.from),
+      ) refl)
+      (code_rule (n.base + 4) (omega arith))
+
+  all_rule : are_ranges nodes (segments_noted n.base size p.code) 0 (off_ranges is.text graph n.base ++ p.ranges) ≡ true
+  all_rule =
+      off_each is.text graph n.base (IsEdgeIn graph.blocks)
+      (λ offs. are_ranges nodes (segments_noted n.base size p.code) 0 (offs ++ p.ranges) ≡ true) is.edges_in
+      (code_rule 0 (omega arith)) off_rule
 
   pub are_notes : AreNotes n
   are_notes =
       let text = is.is_text in
       let f = is.firsts in
-      let few = is.few in
       let low = is.low in
       let r = ranges_few in
       let blocks = ap length is.blocks in
       let counts = ap length is.edges ∙ length-map graph.edges (note_edge graph) in
-      let places = ap length is.ranges in
       record {
         delta = is.delta_from;
         tool = omega (arith, is.tool);
@@ -178,21 +216,19 @@ module _ (graph : Graph) (p : Placement) (n : Notes) (is : IsNoted graph p n) wh
         blocks = rw (is.blocks, is.words, ← is.graph_words) (blocks_rule graph.blocks.words graph.blocks.firsts None (λ b e l. absurd (cc)) (λ e l. f.begin) f.ascend f.within);
         edge_count = omega (arith, counts, is.edge_count);
         edges = rw (is.edges, is.cells, is.blocks) (edges_rule graph graph.edges is.edges_in);
-        range_count = omega (arith, places, text.few);
-        ranges = rw (is.segments, is.ranges, is.blocks) (ranges_rule nodes (record { start = n.base; length = 4 * length p.code }) (record { start = editor_page; length = page_size } ∷ []) 0 n.base (n.base + 4 * length p.code) p.ranges is.ascend is.whole (omega arith) (omega arith) (omega arith));
+        range_count = omega (arith, r);
+        ranges = rw (is.segments, is.ranges, is.blocks) all_rule;
       }
 
   pub are_words : AreWords n
   are_words =
       let text = is.is_text in
       let low = is.low in
-      let few = is.few in
       let r = ranges_few in
       let f = is.firsts in
       let blocks = ap length is.blocks in
       let segments = ap length is.segments in
       let counts = ap length is.edges ∙ length-map graph.edges (note_edge graph) in
-      let places = ap length is.ranges in
       let numbers : List ℕ = n.delta ∷ n.length ∷ n.tool ∷ n.start ∷ n.words ∷ n.entry ∷ n.base ∷ n.cells ∷ [] in
       let pages : List ℕ = length n.segments ∷ flat_map segment_words n.segments in
       let firsts : List ℕ = length n.blocks ∷ n.blocks in
@@ -215,11 +251,25 @@ module _ (graph : Graph) (p : Placement) (n : Notes) (is : IsNoted graph p n) wh
           ),
         ),
       )
-      (omega arith, rw (is.segments) (omega arith, (omega arith, (omega arith, (omega arith, tt))))))
+      (omega arith, rw (is.segments) (omega arith, (omega arith, (omega arith, (omega arith, (omega arith, (omega arith, tt))))))))
       (omega (arith, blocks, nodes_few), rw (is.blocks) first_words))
       (omega (arith, counts, is.edge_count), rw (is.edges) (rows_fit edge_words (map (note_edge graph) graph.edges) (edges_fit graph graph.edges nodes_few is.edges_in))))
-      (omega (arith, places, text.few), rw (is.ranges) (rows_fit range_words p.ranges (ranges_fit nodes n.base (n.base + 4 * length p.code) p.ranges nodes_few low is.ascend is.whole))))
+      (omega (arith, r), rw (is.ranges) (rows_fit range_words (off_ranges is.text graph n.base ++ p.ranges) all_fit)))
     where
+      off_fits : (edge : Edge) → IsEdgeIn graph.blocks edge
+          → Each (λ range. Each Fits (range_words range)) (off_range is.text graph n.base edge ∷ [])
+      off_fits edge inside =
+          let low = is.low in
+          let below = is.is_text.below in
+          let node = node_few graph edge.from inside.from in
+          ((omega arith, (omega arith, (omega arith, (omega (arith, node, nodes_few), tt)))), tt)
+
+      all_fit : Each (λ range. Each Fits (range_words range)) (off_ranges is.text graph n.base ++ p.ranges)
+      all_fit =
+          each-append _ (off_ranges is.text graph n.base) p.ranges
+          (off_each is.text graph n.base (IsEdgeIn graph.blocks) (Each (λ range. Each Fits (range_words range))) is.edges_in tt off_fits)
+          (ranges_fit nodes (n.base + size) (n.base + size + 4 * length p.code) p.ranges nodes_few is.low is.ascend is.whole)
+
       first_words : Each Fits graph.blocks.firsts
       first_words = each_all Fits graph.blocks.firsts (λ k d l.
           let within : slice_index graph.blocks.firsts k < graph.blocks.words = is.firsts.within k l in
@@ -227,15 +277,13 @@ module _ (graph : Graph) (p : Placement) (n : Notes) (is : IsNoted graph p n) wh
           omega (arith, within, same, is.graph_words, is.is_text.few))
 
   -- how many bytes they take
-  pub few_bytes : length (notes_bytes n) ≤ 2 ^ 30
+  pub few_bytes : length (notes_bytes n) ≤ 2 ^ 28
   unfolding notes_bytes words_bytes
   few_bytes =
       let text = is.is_text in
-      let few = is.few in
       let r = ranges_few in
       let blocks = ap length is.blocks in
       let counts = ap length is.edges ∙ length-map graph.edges (note_edge graph) in
-      let places = ap length is.ranges in
       let w = length-flat_map (big_bytes 4) 4 (length-bytes_high_first 4) (notes_words n) in
       let numbers : List ℕ = n.delta ∷ n.length ∷ n.tool ∷ n.start ∷ n.words ∷ n.entry ∷ n.base ∷ n.cells ∷ [] in
       let segments : List ℕ = length n.segments ∷ flat_map segment_words n.segments in
@@ -247,7 +295,7 @@ module _ (graph : Graph) (p : Placement) (n : Notes) (is : IsNoted graph p n) wh
       let l3 = length-append (numbers ++ segments ++ firsts) edges in
       let l4 = length-append (numbers ++ segments ++ firsts ++ edges) ranges in
       let s = length-flat_map segment_words 2 (λ x. refl) n.segments in
-      let two = ap length is.segments in
+      let three = ap length is.segments in
       let e = length-flat_map edge_words 4 (λ x. refl) n.edges in
       let g = length-flat_map range_words 4 (λ x. refl) n.ranges in
       omega (arith, nodes_few, is.edge_count, text.few)

@@ -1,26 +1,30 @@
--- The words of the editor's page, in the memory with which a written file starts.
+-- The words of the table and of the editor's page, in the memory with which a written file starts.
 use Rattle.std.proofs.Common.{◌≡◌, ℕ, zero, suc, ◌+◌, ◌-◌, ◌*◌, ◌^◌, ◌<◌, ◌≤◌, ◌⊎◌, inl, inr, Bool, true, false, ◌&&◌, cond, nat_le, List, [], ◌∷◌, ◌++◌, length, length-append, map, replicate, Option, Some, None, refl, ap, sym, ◌∙◌, subst, arith}
 use Rattle.std.specs.List.{find}
 use Rattle.std.specs.Option.{option_map, option_or}
 use Rattle.std.proofs.lemmas.Bool.{and_from, and_parts, le-leb, leb-true, lt-leb}
-use Rattle.std.proofs.lemmas.List.{append_assoc, length-replicate, map-append}
+use Rattle.std.proofs.lemmas.List.{append-nil, append_assoc, length-replicate, map-append}
 use Rattle.std.proofs.lemmas.List.Folds.{find-append}
 use Rattle.elf32_sparc.specs.Mapping.{Mapping, mappings}
 use Rattle.elf32_sparc.specs.Image.{image_of}
 use Rattle.elf32_sparc.proofs.Images.{accepted-program}
 use Rattle.elf32_write.specs.Laws.{kept, mapping_added}
-use Rattle.v8_memory.specs.Regions.{Region, covers}
-use Rattle.v8_memory.specs.Segments.{region_of}
+use Rattle.v8_memory.specs.Regions.{Region, covers, region_at}
+use Rattle.v8_memory.specs.Segments.{empty_heap, region_of}
 use Rattle.v8_memory.specs.Spans.{IsApartFromAll}
 use Rattle.v8_process.specs.Start.{start_memory, stack_region}
 use Rattle.code_runs.specs.Ours.{AreOwn, HasNot, HasWordAt, IsAmongWords, IsIn, IsOurs}
 use Rattle.code_runs.specs.Page.{page_word}
 use Rattle.elf32_sparc.specs.Notes.{Notes}
+use Rattle.addr_translate.specs.Lookup.{TableAt}
+use Rattle.addr_translate.specs.Table.{size_of}
+use Rattle.addr_translate.specs.Translator.{StandsAt}
+use Rattle.addr_translate.proofs.Regions.{regions_stand}
 use Rattle.layout.specs.Laid.{Placement}
 use Rattle.image_code.specs.Simulates.{Setting}
-use Rattle.image_code.specs.Images.{Frame, IsFramed}
+use Rattle.image_code.specs.Images.{Frame, HasTable, IsFramed}
 use Rattle.v8_step.specs.Visits.{pages_of}
-use Rattle.edit_core.specs.Written.{IsEdit, code_segment, page_segment, notes_on}
+use Rattle.edit_core.specs.Written.{IsEdit, code_segment, notes_on, page_segment, table_at, table_base, text_of}
 use Rattle.edit_core.proofs.Mapped.{original_covers}
 
 -- the words of the page that new code stores
@@ -46,20 +50,22 @@ among_words (suc (suc zero)) l = inr (inr (inl refl))
 among_words (suc (suc (suc zero))) l = inr (inr (inr (inl refl)))
 among_words (suc (suc (suc (suc n)))) l = absurd (omega (arith, l))
 
--- a frame without a table
-abbrev pub frame : Frame
-frame = record { table = record { base = 0; bytes = [] }; own = own_words }
+abbrev pub frame : TableAt → Frame
+frame table = record { table = table; own = own_words }
 
-pub is_framed : (original : List ℕ) (p : Placement) (g : Setting) → g.notes ≡ notes_on original p → IsFramed g frame
-is_framed original p g same = record {
+-- the pages of the notes: the table's, the code's and the editor's
+pub is_framed : (original : List ℕ) (p : Placement) (table : TableAt) (g : Setting) → g.notes ≡ notes_on original p
+    → table.base ≡ table_base original → length table.bytes ≡ size_of (text_of original)
+    → table.base + length table.bytes ≤ 2 ^ 31 → IsFramed g (frame table)
+is_framed original p table g same base size low = record {
   own = subst (λ (n : Notes). AreOwn (pages_of n) own_words) (sym same) (record { first = inl refl; within = within });
   page = among_words;
-  table = λ a from to. absurd (omega (arith, to));
-  apart = λ a among. inr (omega arith);
+  table = λ a from to. subst (λ (n : Notes). IsIn (pages_of n) a) (sym same) (inl (omega arith, omega arith));
+  apart = λ a among. inr (let is = of_page a among in let from = is.from in omega arith);
 }
   where
     within : (a : ℕ) → IsAmongWords own_words a → IsIn (pages_of (notes_on original p)) a
-    within a among = let is = of_page a among in let from = is.from in let to = is.to in inr (inl (from, to))
+    within a among = let is = of_page a among in let from = is.from in let to = is.to in inr (inr (inl (from, to)))
 
 -- ---- regions
 
@@ -116,8 +122,15 @@ inside_region r from count is =
 
 -- ---- a written file
 
-module _ (original : List ℕ) (p : Placement) (place : ℕ → ℕ → ℕ) (file : List ℕ) (is : IsEdit original p place file)
-    (texts : List (List ℕ)) where
+-- the heap has no byte below its start
+heap_low : (a : ℕ) → a < 2 ^ 31 → covers a 4 empty_heap ≡ false
+heap_low a below = ap (λ (b : Bool). b && nat_le (a + 4) (empty_heap.start + empty_heap.size)) (lt-leb empty_heap.start a below)
+
+module _ (original : List ℕ) (p : Placement) (place : ℕ → ℕ → ℕ) (table : TableAt) (file : List ℕ)
+    (is : IsEdit original p place table file) (texts : List (List ℕ)) where
+  abbrev pub table_region : Region
+  table_region = region_of (mapping_added (table_at table))
+
   abbrev code_region : Region
   code_region = region_of (mapping_added (code_segment original p))
 
@@ -127,24 +140,82 @@ module _ (original : List ℕ) (p : Placement) (place : ℕ → ℕ → ℕ) (fi
   abbrev kept_regions : List Region
   kept_regions = map region_of (map kept (mappings original))
 
-  regions_are : (start_memory file texts).regions ≡ kept_regions ++ code_region ∷ page_region ∷ stack_region texts ∷ []
+  regions_are : (start_memory file texts).regions ≡ kept_regions ++ table_region ∷ code_region ∷ page_region ∷ stack_region texts ∷ []
   regions_are =
       ap (λ ms. map region_of ms ++ stack_region texts ∷ []) is.mapped
       ∙ ap (λ rs. rs ++ stack_region texts ∷ [])
-      (map-append region_of (map kept (mappings original)) (mapping_added (code_segment original p) ∷ mapping_added page_segment ∷ []))
-      ∙ append_assoc kept_regions (code_region ∷ page_region ∷ []) (stack_region texts ∷ [])
+      (map-append region_of (map kept (mappings original)) (mapping_added (table_at table) ∷ mapping_added (code_segment original p) ∷ mapping_added page_segment ∷ []))
+      ∙ append_assoc kept_regions (table_region ∷ code_region ∷ page_region ∷ []) (stack_region texts ∷ [])
 
   found_in : (q : Region → Bool) → find q (start_memory file texts).regions
-      ≡ option_or (find q kept_regions) (find q (code_region ∷ page_region ∷ stack_region texts ∷ []))
-  found_in q = ap (find q) regions_are ∙ find-append q kept_regions (code_region ∷ page_region ∷ stack_region texts ∷ [])
+      ≡ option_or (find q kept_regions) (find q (table_region ∷ code_region ∷ page_region ∷ stack_region texts ∷ []))
+  found_in q = ap (find q) regions_are ∙ find-append q kept_regions (table_region ∷ code_region ∷ page_region ∷ stack_region texts ∷ [])
+
+  -- nothing that is kept has words above the original
+  kept_none : (a : ℕ) → table_base original ≤ a → find (covers a 4) kept_regions ≡ None
+  kept_none a above =
+      find_regions (covers a 4) (map kept (mappings original))
+      ∙ ap (option_map region_of) (original_covers original a above)
+
+  -- ---- the table
+
+  abbrev table_end : ℕ
+  table_end = table.base + length table.bytes
+
+  table_below : table.base + length table.bytes ≤ 2 ^ 31
+  table_below = is.code.leads.whole.below
+
+  module _ (a : ℕ) (from : table.base ≤ a) (to : a + 4 ≤ table.base + length table.bytes) where
+    table_found : find (covers a 4) (start_memory file texts).regions ≡ Some table_region
+    table_found =
+        let base = is.code.base in
+        found_in (covers a 4)
+        ∙ ap (λ found. option_or found (find (covers a 4) (table_region ∷ code_region ∷ page_region ∷ stack_region texts ∷ [])))
+        (kept_none a (omega (arith, base, from)))
+        ∙ ap (λ (b : Bool). cond b (Some table_region) (find (covers a 4) (code_region ∷ page_region ∷ stack_region texts ∷ [])))
+        (and_from _ _ (le-leb table.base a from) (le-leb (a + 4) (table.base + length table.bytes) to))
+
+    table_at_all : region_at (start_memory file texts) a 4 ≡ Some table_region
+    table_at_all =
+        ap (λ (b : Bool). cond b (Some empty_heap) (find (covers a 4) (start_memory file texts).regions))
+        (heap_low a (omega (arith, to, table_below)))
+        ∙ table_found
+
+    word_of_table : HasWordAt a false (start_memory file texts)
+    word_of_table = record {
+      start = refl;
+      size = omega arith;
+      away = inl (omega (arith, to, table_below));
+      region = table_region;
+      at = table_found;
+      readable = refl;
+      may_write = refl;
+      whole = region_whole (mapping_added (table_at table));
+    }
+
+  table_bytes : table_region.bytes ≡ table.bytes
+  table_bytes =
+      let none : length table.bytes - length table.bytes ≡ 0 = omega arith in
+      ap (λ (n : ℕ). table.bytes ++ replicate n 0) none ∙ append-nil table.bytes
+
+  stands : StandsAt (start_memory file texts) table
+  stands = regions_stand (start_memory file texts) table table_region refl table_bytes refl table_at_all
+
+  -- each word of the table can be loaded, and not stored
+  pub has_table : HasTable table (start_memory file texts)
+  has_table a from to aligned = (word_of_table a from to, stands.same a from to aligned)
+
+  -- ---- the editor's page
 
   module _ (a : ℕ) (of : IsOfPage a) where
     none_kept : find (covers a 4) kept_regions ≡ None
     none_kept =
-        let low = (accepted-program original is.taken.reads.sound).below in
+        let low = (accepted-program original is.taken.sound).below in
         let from = of.from in
-        find_regions (covers a 4) (map kept (mappings original))
-        ∙ ap (option_map region_of) (original_covers original a (omega (arith, low, from)))
+        kept_none a (omega (arith, low, from))
+
+    table_low : covers a 4 table_region ≡ false
+    table_low = let from = of.from in none_covers a table_region (omega (arith, table_below, from))
 
     code_low : covers a 4 code_region ≡ false
     code_low = let low = is.code.laid.low in let from = of.from in none_covers a code_region (omega (arith, low, from))
@@ -161,7 +232,8 @@ module _ (original : List ℕ) (p : Placement) (place : ℕ → ℕ → ℕ) (fi
     page_found : find (covers a 4) (start_memory file texts).regions ≡ Some page_region
     page_found =
         found_in (covers a 4)
-        ∙ ap (λ found. option_or found (find (covers a 4) (code_region ∷ page_region ∷ stack_region texts ∷ []))) none_kept
+        ∙ ap (λ found. option_or found (find (covers a 4) (table_region ∷ code_region ∷ page_region ∷ stack_region texts ∷ []))) none_kept
+        ∙ ap (λ (b : Bool). cond b (Some table_region) (find (covers a 4) (code_region ∷ page_region ∷ stack_region texts ∷ []))) table_low
         ∙ ap (λ (b : Bool). cond b (Some code_region) (find (covers a 4) (page_region ∷ stack_region texts ∷ []))) code_low
         ∙ ap (λ (b : Bool). cond b (Some page_region) (find (covers a 4) (stack_region texts ∷ []))) page_covers
 
@@ -179,7 +251,7 @@ module _ (original : List ℕ) (p : Placement) (place : ℕ → ℕ → ℕ) (fi
 
     apart_from_page : (from count : ℕ) → 0 < count → IsApartFromAll (pages_of (notes_on original p)) (record { from = from; count = count })
         → covers from count page_region ≡ true → ⊥
-    apart_from_page from count some apart found = go apart.1.0 (inside_region page_region from count found)
+    apart_from_page from count some apart found = go apart.1.1.0 (inside_region page_region from count found)
       where
         go : (page_word 0 + 4096 ≤ from) ⊎ (from + count ≤ page_word 0)
             → (page_word 0 ≤ from) × (from + count ≤ page_word 0 + 4096) → ⊥
@@ -191,9 +263,10 @@ module _ (original : List ℕ) (p : Placement) (place : ℕ → ℕ → ℕ) (fi
     alone_at_page from count some apart =
         subst (HasNot a) (sym (found_in (covers from count)))
         (or_has_not a (find (covers from count) kept_regions) _ (found_has_not kept_regions a from count none_kept)
+        (unless_found a (covers from count table_region) table_region _ (λ found. table_low)
         (unless_found a (covers from count code_region) code_region _ (λ found. code_low)
         (unless_found a (covers from count page_region) page_region _ (λ found. absurd (apart_from_page from count some apart found))
-        (unless_found a (covers from count (stack_region texts)) (stack_region texts) None (λ found. stack_low) tt))))
+        (unless_found a (covers from count (stack_region texts)) (stack_region texts) None (λ found. stack_low) tt)))))
 
   pub owned : IsOurs (pages_of (notes_on original p)) own_words (start_memory file texts)
   owned = record {

@@ -1,8 +1,8 @@
 -- What laid code has: words, and ranges that notes may have.
 use Rattle.std.proofs.Common.{◌≡◌, ℕ, zero, suc, ◌+◌, ◌*◌, ◌%◌, ◌^◌, ◌<◌, ◌≤◌, Bool, true, false, ◌&&◌, cond, nat_lt, nat_le, Option, Some, None, List, [], ◌∷◌, ◌++◌, length, map, refl, ap, sym, ◌∙◌, subst, arith}
 use Rattle.std.specs.Prelude.{slice_get}
-use Rattle.std.specs.List.{list_any, sum_by}
-use Rattle.std.proofs.lemmas.Bool.{and_from, or_left, le-leb, le-ltb, lt-ltb, eq-eqb}
+use Rattle.std.specs.List.{list_any}
+use Rattle.std.proofs.lemmas.Bool.{and_from, le-leb, le-ltb, lt-ltb, eq-eqb}
 use Rattle.std.proofs.lemmas.Option.{slice_get_within}
 use Rattle.eel_base.specs.CodeText.{Words, IsText}
 use Rattle.eel_base.specs.declared.numbers.Addr.{Addr}
@@ -13,14 +13,13 @@ use Rattle.cfg_normal.specs.Graph.{Graph}
 use Rattle.cfg_walk.proofs.Lists.{Each, each_at}
 use Rattle.layout.specs.declared.items.Item.{Item}
 use Rattle.layout.specs.declared.items.Item.TheVariants as it
-use Rattle.layout.specs.Laid.{Ascend, IsLaid, IsRangeOf, Placement, Stands, BranchStands, branch_short, branch_long, item_at, item_in, items_in, range_in, range_of, open_in, end_from, piece_words}
-use Rattle.layout.proofs.Places.{pieces_more}
+use Rattle.layout.specs.Laid.{Ascend, IsLaid, IsRangeOf, Placement, Stands, BranchStands, branch_short, branch_long, item_at, item_in, items_in, range_in, range_of, open_in, end_from}
+use Rattle.jump_code.specs.Pieces.{foreign_piece}
 use Rattle.image_code.specs.Imaged.{TakesWords}
-use Rattle.image_code.specs.Made.{illegal_word, image, own_edges, piece_list, way_along}
+use Rattle.image_code.specs.Made.{image, landing, own_edges, piece_list, way_along}
 use Rattle.image_code.specs.Parts.{IsGraphOf}
-use Rattle.image_code.proofs.Fit.{count_is, each_index}
-use Rattle.image_code.proofs.Numbers.{own_few}
-use Rattle.edit_core.proofs.Shapes.{IsMark, NoMarks, MarksFirst, IsShaped, all_shaped}
+use Rattle.edit_core.proofs.Eaches.{each_index}
+use Rattle.edit_core.proofs.Shapes.{IsMark, NoMarks, MarksFirst, all_marked}
 
 -- ---- ranges one after the other
 
@@ -58,28 +57,19 @@ pub record IsWhole (nodes : ℕ) (r : NoteRange) : Type 0 where
   pub low : r.address < 2 ^ 31
   pub node : r.node ≤ nodes
 
--- there are no more than words
-pub count_ranges : (nodes from to : ℕ) (rs : List NoteRange) → Ascend from to rs → Each (IsWhole nodes) rs → from + 4 * length rs ≤ to
-count_ranges nodes from to [] a w = omega (arith, a)
-count_ranges nodes from to (r ∷ rs) a w =
-    let later = count_ranges nodes r.hi to rs a.2 w.1 in
-    let f = a.0 in let l = a.1 in let lo = w.0.lo in let hi = w.0.hi in omega arith
-
--- they meet the rules of notes
-pub ranges_rule : (nodes : ℕ) (segment : NoteSegment) (segments : List NoteSegment) (end from to : ℕ) (rs : List NoteRange)
-    → Ascend from to rs → Each (IsWhole nodes) rs → end ≤ from → segment.start ≤ from → to ≤ segment.start + segment.length
-    → are_ranges nodes (segment ∷ segments) end rs ≡ true
-ranges_rule nodes segment segments end from to [] a w e s t = refl
-ranges_rule nodes segment segments end from to (r ∷ rs) a w e s t =
+-- they meet the rules of notes, where a page holds them
+pub ranges_rule : (nodes : ℕ) (segments : List NoteSegment) (end from to : ℕ) (rs : List NoteRange)
+    → Ascend from to rs → Each (IsWhole nodes) rs → end ≤ from
+    → ((lo hi : ℕ) → from ≤ lo → hi ≤ to → list_any (holds lo hi) segments ≡ true)
+    → are_ranges nodes segments end rs ≡ true
+ranges_rule nodes segments end from to [] a w e held = refl
+ranges_rule nodes segments end from to (r ∷ rs) a w e held =
     let f = a.0 in
     let l = a.1 in
     let past : r.hi ≤ to = ends_by r.hi to rs a.2 in
-    let held : list_any (holds r.lo r.hi) (segment ∷ segments) ≡ true =
-    or_left (holds r.lo r.hi segment) (list_any (holds r.lo r.hi) segments)
-    (and_from (nat_le segment.start r.lo) (nat_le r.hi (segment.start + segment.length)) (le-leb segment.start r.lo (omega arith)) (le-leb r.hi (segment.start + segment.length) (omega arith))) in
     and_from _ _
-    (rw (eq-eqb _ _ w.0.lo, eq-eqb _ _ w.0.hi, eq-eqb _ _ w.0.address, lt-ltb r.lo r.hi l, le-leb end r.lo (omega arith), held, le-leb r.node nodes w.0.node) refl)
-    (ranges_rule nodes segment segments r.hi r.hi to rs a.2 w.1 (omega arith) (omega arith) t)
+    (rw (eq-eqb _ _ w.0.lo, eq-eqb _ _ w.0.hi, eq-eqb _ _ w.0.address, lt-ltb r.lo r.hi l, le-leb end r.lo (omega arith), held r.lo r.hi f past, le-leb r.node nodes w.0.node) refl)
+    (ranges_rule nodes segments r.hi r.hi to rs a.2 w.1 (omega arith) (λ lo hi from_hi to_end. held lo hi (omega arith) to_end))
 
 -- ---- the ranges of laid pieces
 
@@ -127,10 +117,10 @@ covers base p (it.Jump to) a b t s = absurd t
 covers base p (it.Mark x m) a b t s = absurd t
 covers base p it.EndMark a b t s = absurd t
 
-module _ (text : Words) (graph : Graph) (is : IsText text) (h : IsGraphOf text graph) (base : ℕ) (p : Placement) (place : ℕ → ℕ → ℕ)
-    (laid : IsLaid (piece_list text graph) base p place) where
+module _ (text : Words) (graph : Graph) (table : ℕ) (is : IsText text) (h : IsGraphOf text graph) (base : ℕ) (p : Placement)
+    (place : ℕ → ℕ → ℕ) (laid : IsLaid (piece_list text graph table) base p place) where
   abbrev pieces : List (List Item)
-  pieces = piece_list text graph
+  pieces = piece_list text graph table
 
   abbrev count : ℕ
   count = length graph.blocks.firsts
@@ -175,8 +165,8 @@ module _ (text : Words) (graph : Graph) (is : IsText text) (h : IsGraphOf text g
   whole_at n r e =
       let m : IsRangeOf pieces place r = laid.marks n r e in
       let piece = some_piece m.piece m.item (it.Mark m.address r.node) (slice_get pieces m.piece) refl m.mark in
-      let shaped : IsShaped count piece.0 = each_at _ pieces m.piece piece.0 (all_shaped text graph is h) piece.1 in
-      let head = marked_first count piece.0 shaped.mark m.item m.address r.node piece.2 in
+      let marks : MarksFirst count piece.0 = each_at _ pieces m.piece piece.0 (all_marked text graph table is h) piece.1 in
+      let head = marked_first count piece.0 marks m.item m.address r.node piece.2 in
       whole_here r m.piece m.address head.rest (piece.1 ∙ ap (λ (xs : List Item). Some xs) head.is) head.mark m.says
       (m.lo ∙ ap (λ z. place m.piece (suc z)) head.first) (found base (base + 4 * length p.code) p.ranges laid.ascend n r e)
 
@@ -189,30 +179,17 @@ module _ (text : Words) (graph : Graph) (is : IsText text) (h : IsGraphOf text g
   last_is [] x = refl
   last_is (y ∷ xs) x = last_is xs x
 
-  last_piece : (k : ℕ) × (item_at pieces k 0 ≡ Some (it.Word illegal_word))
+  last_piece : (k : ℕ) × (word : ℕ) × (item_at pieces k 0 ≡ Some (it.Word word))
   unfolding piece_list
   last_piece =
-      let xs = map (image text graph) (below (length text.words)) ++ map (way_along text graph) (own_edges graph) in
-      (length xs, ap (λ o. item_in o 0) (last_is xs (it.Word illegal_word ∷ [])))
+      let xs = map (image text graph table) (below (length text.words)) ++ map (way_along text graph table) (own_edges graph)
+      ++ map (landing text graph table) (below (length text.words)) in
+      (length xs, _, ap (λ o. item_in o 0) (last_is xs foreign_piece))
 
   pub some_code : 0 < length p.code
   some_code =
       let last = last_piece in
-      let stands = laid.items last.0 0 (it.Word illegal_word) last.1 in
+      let stands = laid.items last.0 0 (it.Word last.1) last.2 in
       let word = stands.1 in
-      let l = slice_get_within p.code word.0 illegal_word word.2 in
+      let l = slice_get_within p.code word.0 last.1 word.2 in
       omega (arith, l)
-
-  sum_shaped : (xs : List (List Item)) → Each (IsShaped count) xs → sum_by piece_words xs ≤ 10 * length xs
-  sum_shaped xs each = sums xs each
-    where
-      sums : (xs : List (List Item)) → Each (IsShaped count) xs → sum_by piece_words xs ≤ 10 * length xs
-      sums [] each = omega arith
-      sums (x ∷ xs) each = let here = each.0.words in let later = sums xs each.1 in omega (arith, pieces_more x xs)
-
-  pub few_words : sum_by piece_words pieces ≤ 10 * (3 * length text.words + 1)
-  few_words =
-      let own = own_few text graph h is.some in
-      let c = count_is text graph is h in
-      let s = sum_shaped pieces (all_shaped text graph is h) in
-      omega arith

@@ -1,13 +1,16 @@
--- Each piece that is made: it takes few words, and if it has a Mark, begins with it and ends it.
-use Rattle.std.proofs.Common.{◌≡◌, ℕ, suc, ◌+◌, ◌%◌, ◌^◌, ◌<◌, ◌≤◌, ◌==◌, Some, List, [], ◌∷◌, ◌++◌, length, map, refl, subst, arith}
+-- Each piece that is made: if it has a Mark, it begins with it and ends it.
+use Rattle.std.proofs.Common.{◌≡◌, ℕ, suc, ◌+◌, ◌-◌, ◌%◌, ◌^◌, ◌<◌, ◌≤◌, ◌==◌, Some, List, [], ◌∷◌, ◌++◌, length, map, refl, subst, sym, arith}
 use Rattle.std.specs.Prelude.{nat_lt, slice_index}
 use Rattle.std.proofs.lemmas.Bool.{cond_both}
 use Rattle.eel_base.specs.CodeText.{Words, IsText, address_of}
 use Rattle.eel_base.specs.declared.numbers.Addr.{Addr}
+use Rattle.eel_base.specs.declared.numbers.PieceNo.{PieceNo}
 use Rattle.v8_decode.specs.declared.Instr.{Instr}
 use Rattle.v8_decode.specs.declared.Instr.TheVariants as i
 use Rattle.v8_decode.specs.Words.{decode_of}
+use Rattle.v8_encode.specs.Encoding.{word_of}
 use Rattle.v8_step.specs.Items.{is_transfer}
+use Rattle.cfg_blocks.specs.declared.EdgeKind.TheVariants as kinds
 use Rattle.cfg_blocks.specs.Ends.{always, never}
 use Rattle.cfg_blocks.specs.Blocks.{below}
 use Rattle.cfg_blocks.specs.Entries.{is_fall}
@@ -16,20 +19,31 @@ use Rattle.cfg_normal.specs.declared.Node.{Node}
 use Rattle.cfg_normal.specs.declared.Node.TheVariants.{Block, X}
 use Rattle.cfg_normal.specs.declared.Slot.{Slot}
 use Rattle.cfg_normal.specs.declared.Slot.TheVariants as slots
-use Rattle.cfg_normal.specs.Graph.{Graph, IsEdgeIn, IsNodeIn, IsSlotIn, node_of}
-use Rattle.cfg_normal.proofs.Edges.{node_of-in}
+use Rattle.cfg_normal.specs.Graph.{Graph, IsEdgeIn, IsNodeIn, IsSlotIn, edges_in, node_of}
+use Rattle.cfg_normal.proofs.Edges.{edges_in-in, node_of-in}
+use Rattle.cfg_walk.specs.Walk.{same_kind}
+use Rattle.cfg_walk.specs.Matches.{way_address}
 use Rattle.cfg_walk.specs.Numbers.{node_number}
-use Rattle.cfg_walk.proofs.Lists.{Each, each-append, each-below, each-map}
+use Rattle.cfg_walk.proofs.Lists.{Each, each, each-append, each-below, each-map}
+use Rattle.code_runs.specs.LongJump.{long_jump}
+use Rattle.addr_translate.specs.Translator.{translator}
+use Rattle.jump_code.specs.FreeRegister.{free_register}
+use Rattle.jump_code.specs.Jumps.{jump_image}
+use Rattle.jump_code.specs.Leaving.{foreign}
+use Rattle.jump_code.specs.Links.{link}
+use Rattle.jump_code.specs.LookUps.{look_up_first, look_up_last}
+use Rattle.jump_code.specs.Pieces.{far_piece, foreign_piece, marked_piece, out_piece, word_items}
+use Rattle.layout.specs.Emitting.{words_of}
 use Rattle.layout.specs.declared.items.Item.{Item}
 use Rattle.layout.specs.declared.items.Item.TheVariants as it
-use Rattle.layout.specs.Laid.{piece_words, end_from}
+use Rattle.layout.specs.Laid.{end_from, is_end}
 use Rattle.image_code.specs.Cases.{branch_piece, plain_piece}
 use Rattle.image_code.specs.Couple.{couple_piece}
 use Rattle.image_code.specs.Imaged.{TakesWords}
-use Rattle.image_code.specs.Made.{illegal_word, image, image_by, own_edges, piece_list, way_along, way_by}
+use Rattle.image_code.specs.Made.{goes_along, goes_on, image, image_by, landing, own_edges, piece_list, rest_after, way_along, way_by, way_out}
 use Rattle.image_code.specs.Parts.{IsGraphOf}
-use Rattle.image_code.proofs.Fit.{each_index, edge_in}
-use Rattle.image_code.proofs.Numbers.{cut_of, words_are}
+use Rattle.image_code.proofs.Numbers.{cut_of, edges_are, words_are}
+use Rattle.edit_core.proofs.Eaches.{each_all, each_taken}
 
 -- a Mark, which covers an item that takes words, and ends in its piece
 pub record IsMark (nodes : ℕ) (address : Addr) (node : ℕ) (rest : List Item) : Type 0 where
@@ -52,33 +66,78 @@ MarksFirst nodes [] = Unit {0}
 MarksFirst nodes (it.Mark address node ∷ rest) = IsMark nodes address node rest × NoMarks rest
 MarksFirst nodes (x ∷ items) = NoMarks items
 
-pub record IsShaped (nodes : ℕ) (items : List Item) : Type 0 where
-  pub words : piece_words items ≤ 10
-  pub mark : MarksFirst nodes items
+-- words alone have none
+no_marks : (words : List ℕ) (rest : List Item) → NoMarks rest → NoMarks (map it.Word words ++ rest)
+no_marks [] rest none = none
+no_marks (word ∷ words) rest none = no_marks words rest none
 
-module _ (nodes : ℕ) where
-  shaped_jump : (to : ℕ) → IsShaped nodes (it.Jump (record { 0 = to }) ∷ [])
-  shaped_jump to = record { words = omega arith; mark = tt }
+words_only : (words : List ℕ) → NoMarks (map it.Word words)
+words_only [] = tt
+words_only (word ∷ words) = words_only words
 
-  shaped_falling : (address : Addr) (node word : ℕ) → address.0 % 4 ≡ 0 → address.0 < 2 ^ 31 → node ≤ nodes → IsShaped nodes (plain_piece address node word [])
-  shaped_falling address node word a l n = record { words = omega arith; mark = (record { aligned = a; low = l; inside = n; item = _; more = _; is = refl; takes = tt; ends = omega arith }, tt) }
+unmarked : (nodes : ℕ) (items : List Item) → NoMarks items → MarksFirst nodes items
+unmarked nodes [] none = tt
+unmarked nodes (it.Mark address node ∷ items) none = absurd none
+unmarked nodes (it.Word word ∷ items) none = none
+unmarked nodes (it.Jump to ∷ items) none = none
+unmarked nodes (it.Branch cond to ∷ items) none = none
+unmarked nodes (it.EndMark ∷ items) none = none
 
-  shaped_jumping : (address : Addr) (node word to : ℕ) → address.0 % 4 ≡ 0 → address.0 < 2 ^ 31 → node ≤ nodes → IsShaped nodes (plain_piece address node word (it.Jump (record { 0 = to }) ∷ []))
-  shaped_jumping address node word to a l n = record { words = omega arith; mark = (record { aligned = a; low = l; inside = n; item = _; more = _; is = refl; takes = tt; ends = omega arith }, tt) }
+ends_within : (items : List Item) (n : ℕ) → end_from items n ≤ n + length items
+ends_within [] n = omega arith
+ends_within (x ∷ items) n =
+    cond_both (is_end x) n (end_from items (suc n)) (λ (k : ℕ). k ≤ n + suc (length items)) (λ _. omega arith)
+    (λ _. let later = ends_within items (suc n) in omega arith)
 
-  shaped_branch : (address : Addr) (node cond taken untaken : ℕ) → address.0 % 4 ≡ 0 → address.0 < 2 ^ 31 → node ≤ nodes → IsShaped nodes (branch_piece address node cond taken untaken)
-  shaped_branch address node cond taken untaken a l n = record { words = omega arith; mark = (record { aligned = a; low = l; inside = n; item = _; more = _; is = refl; takes = tt; ends = omega arith }, tt) }
+ends_from_one : (items : List Item) → end_from items 1 ≤ suc (length items)
+ends_from_one items = let e = ends_within items 1 in omega arith
 
-  shaped_couple : (address : Addr) (node word : ℕ) → address.0 % 4 ≡ 0 → address.0 < 2 ^ 31 → node ≤ nodes → IsShaped nodes (couple_piece address node word [])
-  shaped_couple address node word a l n = record { words = omega arith; mark = (record { aligned = a; low = l; inside = n; item = _; more = _; is = refl; takes = tt; ends = omega arith }, tt) }
+-- a Mark with a number of a text's word and of a node
+record IsVisit (nodes : ℕ) (address : Addr) (node : ℕ) : Type 0 where
+  aligned : address.0 % 4 ≡ 0
+  low : address.0 < 2 ^ 31
+  inside : node ≤ nodes
 
-  shaped_empty : IsShaped nodes []
-  shaped_empty = record { words = omega arith; mark = tt }
+module _ (nodes : ℕ) (address : Addr) (node : ℕ) (visit : IsVisit nodes address node) where
+  marked : (item : Item) (more : List Item) → TakesWords item → NoMarks (item ∷ more)
+      → MarksFirst nodes (it.Mark address node ∷ item ∷ more)
+  marked item more takes none = (record {
+    aligned = visit.aligned;
+    low = visit.low;
+    inside = visit.inside;
+    item = item;
+    more = more;
+    is = refl;
+    takes = takes;
+    ends = ends_from_one (item ∷ more);
+  }, none)
 
-  shaped_word : (word : ℕ) → IsShaped nodes (it.Word word ∷ [])
-  shaped_word word = record { words = omega arith; mark = tt }
+  plain_marked : (word : ℕ) (rest : List Item) → NoMarks rest → MarksFirst nodes (plain_piece address node word rest)
+  plain_marked word rest none = marked (it.Word word) (it.EndMark ∷ rest) tt none
 
-module _ (text : Words) (graph : Graph) (is : IsText text) (h : IsGraphOf text graph) where
+  branch_marked : (cond taken untaken : ℕ) → MarksFirst nodes (branch_piece address node cond taken untaken)
+  branch_marked cond taken untaken =
+      marked (it.Branch cond (record { 0 = taken })) (it.EndMark ∷ it.Jump (record { 0 = untaken }) ∷ []) tt tt
+
+  couple_marked : (word : ℕ) → MarksFirst nodes (couple_piece address node word [])
+  couple_marked word = marked (it.Word word) (it.Word word ∷ it.EndMark ∷ []) tt tt
+
+  words_marked : (xs : List Instr) (way : PieceNo) → 0 < length xs → MarksFirst nodes (marked_piece xs address node way)
+  words_marked [] way some = absurd (omega arith)
+  words_marked (first ∷ xs) way some =
+      marked (it.Word (word_of first)) (word_items xs ++ it.EndMark ∷ it.Jump way ∷ []) tt
+      (no_marks (words_of xs) (it.EndMark ∷ it.Jump way ∷ []) tt)
+
+  out_marked : (word : ℕ) (translator : List ℕ) → MarksFirst nodes (out_piece address node word [] translator)
+  out_marked word translator =
+      marked (it.Word word) _ tt
+      (no_marks (words_of look_up_first) (map it.Word translator ++ word_items look_up_last)
+      (no_marks translator (word_items look_up_last) (words_only (words_of look_up_last))))
+
+far_unmarked : (to : ℕ) → NoMarks (far_piece to)
+far_unmarked to = words_only (words_of (long_jump to))
+
+module _ (text : Words) (graph : Graph) (table : ℕ) (is : IsText text) (h : IsGraphOf text graph) where
   abbrev nodes : ℕ
   nodes = length graph.blocks.firsts
 
@@ -86,55 +145,88 @@ module _ (text : Words) (graph : Graph) (is : IsText text) (h : IsGraphOf text g
   number_few (Block k) l = omega (arith, l)
   number_few X l = omega arith
 
-  aligned_at : (word : ℕ) → address_of text word % 4 ≡ 0
-  aligned_at word = omega (arith, is.aligned)
+  visit_at : (word : ℕ) → word < length text.words → (node : Node) → IsNodeIn graph.blocks node
+      → IsVisit nodes (record { 0 = address_of text word }) (node_number graph node)
+  visit_at word l node inside = record {
+    aligned = omega (arith, is.aligned);
+    low = omega (arith, is.below, l);
+    inside = number_few node inside;
+  }
 
-  low_at : (word : ℕ) → word < length text.words → address_of text word < 2 ^ 31
-  low_at word l = omega (arith, is.below, l)
+  image_by_marked : (word : ℕ) (node : Node) → IsVisit nodes (record { 0 = address_of text word }) (node_number graph node)
+      → (instr : Instr) → MarksFirst nodes (image_by text graph table (record { 0 = address_of text word }) node word instr)
+  image_by_marked word node visit (i.Branch c annul disp) =
+      cond_both (c == always) _ _ (MarksFirst nodes) (λ _. plain_marked nodes _ _ visit _ _ tt)
+      (λ _. cond_both (c == never) _ _ (MarksFirst nodes) (λ _. plain_marked nodes _ _ visit _ _ tt)
+      (λ _. branch_marked nodes _ _ visit c _ _))
+  image_by_marked word node visit (i.Call disp) =
+      words_marked nodes _ _ visit (link 15 (address_of text word)) (record { 0 = way_out text graph node kinds.Call }) (omega arith)
+  image_by_marked word node visit (i.Jmpl rd rs1 op2) =
+      words_marked nodes _ _ visit (jump_image (free_register rd rs1 op2) rd rs1 op2 (address_of text word))
+      (record { 0 = way_out text graph node kinds.Out }) (omega arith)
+  image_by_marked word node visit instr =
+      plain_marked nodes _ _ visit _ (rest_after text graph table word)
+      (cond_both (nat_lt (word + 1) (length text.words)) _ _ NoMarks (λ _. tt) (λ _. far_unmarked (address_of text (length text.words))))
 
-  here_few : (word : ℕ) → node_number graph (node_of graph.blocks (Some word)) ≤ length graph.blocks.firsts
-  here_few word = number_few _ (node_of-in graph.blocks (cut_of text graph h is.some).firsts.some (Some word))
+  image_marked : (word : ℕ) → word < length text.words → MarksFirst nodes (image text graph table word)
+  image_marked word l =
+      image_by_marked word (node_of graph.blocks (Some word))
+      (visit_at word l _ (node_of-in graph.blocks (cut_of text graph h is.some).firsts.some (Some word)))
+      (decode_of (slice_index text.words word))
 
-  image_by_shaped : (word : ℕ) → word < length text.words → (instr : Instr)
-      → IsShaped nodes (image_by text graph (record { 0 = address_of text word }) (node_of graph.blocks (Some word)) word instr)
-  image_by_shaped word l (i.Branch c annul disp) =
-      cond_both (c == always) _ _ (IsShaped nodes) (λ _. shaped_jumping nodes _ _ _ _ (aligned_at word) (low_at word l) (here_few word))
-      (λ _. cond_both (c == never) _ _ (IsShaped nodes) (λ _. shaped_jumping nodes _ _ _ _ (aligned_at word) (low_at word l) (here_few word))
-      (λ _. shaped_branch nodes _ _ c _ _ (aligned_at word) (low_at word l) (here_few word)))
-  image_by_shaped word l (i.Call disp) = shaped_falling nodes _ _ _ (aligned_at word) (low_at word l) (here_few word)
-  image_by_shaped word l (i.Jmpl rd rs1 op2) = shaped_falling nodes _ _ _ (aligned_at word) (low_at word l) (here_few word)
-  image_by_shaped word l instr =
-      cond_both (nat_lt (word + 1) (length text.words)) _ _
-      (λ (rest : List Item). IsShaped nodes (plain_piece (record { 0 = address_of text word }) (node_number graph (node_of graph.blocks (Some word))) (slice_index text.words word) rest))
-      (λ _. shaped_falling nodes _ _ _ (aligned_at word) (low_at word l) (here_few word)) (λ _. shaped_jumping nodes _ _ _ _ (aligned_at word) (low_at word l) (here_few word))
+  goes_unmarked : (node : Node) (address : ℕ) → NoMarks (goes_on text graph table node address)
+  goes_unmarked (Block k) address = tt
+  goes_unmarked X address = far_unmarked address
 
-  image_shaped : (word : ℕ) → word < length text.words → IsShaped nodes (image text graph word)
-  image_shaped word l = image_by_shaped word l (decode_of (slice_index text.words word))
+  slot_marked : (edge : Edge) → IsEdgeIn graph.blocks edge → (word : ℕ) → word < length text.words
+      → MarksFirst nodes (way_by text graph table edge (slots.Word (record { 0 = word })))
+  slot_marked edge inside word l =
+      let visit = visit_at word l edge.from inside.from in
+      cond_both (is_transfer (decode_of (slice_index text.words word))) _ _ (MarksFirst nodes)
+      (λ _. couple_marked nodes _ _ visit _)
+      (λ _. cond_both (same_kind edge.kind kinds.Out) _ _ (MarksFirst nodes) (λ _. out_marked nodes _ _ visit _ (words_of (translator table 1 2)))
+      (λ _. plain_marked nodes _ _ visit _ _ (goes_unmarked edge.to _)))
 
-  slot_shaped : (edge : Edge) → IsEdgeIn graph.blocks edge → (word : ℕ) → word < length text.words
-      → IsShaped nodes (way_by text graph edge (slots.Word (record { 0 = word })))
-  slot_shaped edge inside word l =
-      cond_both (is_transfer (decode_of (slice_index text.words word))) _ _ (IsShaped nodes)
-      (λ t. shaped_couple nodes _ _ _ (aligned_at word) (low_at word l) (number_few _ inside.from))
-      (λ _. shaped_jumping nodes _ _ _ _ (aligned_at word) (low_at word l) (number_few _ inside.from))
-
-  way_by_shaped : (edge : Edge) → IsEdgeIn graph.blocks edge → (slot : Slot) → edge.slot ≡ slot → IsShaped nodes (way_by text graph edge slot)
-  way_by_shaped edge inside slots.Nothing e = shaped_jump nodes _
-  way_by_shaped edge inside slots.Off e = shaped_jump nodes _
-  way_by_shaped edge inside (slots.Word slot) e = slot_shaped edge inside slot.0 (in_slot edge.slot e inside.slot)
+  way_by_marked : (edge : Edge) → IsEdgeIn graph.blocks edge → (slot : Slot) → edge.slot ≡ slot
+      → MarksFirst nodes (way_by text graph table edge slot)
+  way_by_marked edge inside slots.Nothing e =
+      unmarked nodes (goes_along text graph table edge) (goes_unmarked edge.to (way_address text graph edge.from edge.kind))
+  way_by_marked edge inside slots.Off e = unmarked nodes (far_piece table) (far_unmarked table)
+  way_by_marked edge inside (slots.Word slot) e = slot_marked edge inside slot.0 (in_slot edge.slot e inside.slot)
     where
       in_slot : (s : Slot) → s ≡ slots.Word slot → IsSlotIn graph.blocks s → slot.0 < length text.words
       in_slot s e l = let m : slot.0 < graph.blocks.words = subst (IsSlotIn graph.blocks) e l in omega (arith, m, words_are text graph h)
 
-  way_shaped : (edge : Edge) → IsEdgeIn graph.blocks edge → IsShaped nodes (way_along text graph edge)
-  way_shaped edge inside =
-      cond_both (is_fall edge.kind) _ _ (IsShaped nodes) (λ _. shaped_empty nodes) (λ _. way_by_shaped edge inside edge.slot refl)
+  way_marked : (edge : Edge) → IsEdgeIn graph.blocks edge → MarksFirst nodes (way_along text graph table edge)
+  way_marked edge inside =
+      cond_both (is_fall edge.kind) _ _ (MarksFirst nodes) (λ _. tt) (λ _. way_by_marked edge inside edge.slot refl)
 
-  pub all_shaped : Each (IsShaped nodes) (piece_list text graph)
+  each_own : Each (IsEdgeIn graph.blocks) (own_edges graph)
+  each_own =
+      each_taken _ (length graph.edges - length graph.blocks.firsts) graph.edges
+      (subst (Each (IsEdgeIn graph.blocks)) (sym (edges_are text graph h))
+      (each_all _ (edges_in graph.blocks) (edges_in-in graph.blocks (cut_of text graph h is.some).firsts.some)))
+
+  abbrev images : List (List Item)
+  images = map (image text graph table) (below (length text.words))
+
+  abbrev ways : List (List Item)
+  ways = map (way_along text graph table) (own_edges graph)
+
+  abbrev landings : List (List Item)
+  landings = map (landing text graph table) (below (length text.words))
+
+  pub all_marked : Each (MarksFirst nodes) (piece_list text graph table)
   unfolding piece_list
-  all_shaped =
-      each-append _ (map (image text graph) (below (length text.words)) ++ map (way_along text graph) (own_edges graph)) ((it.Word illegal_word ∷ []) ∷ [])
-      (each-append _ (map (image text graph) (below (length text.words))) (map (way_along text graph) (own_edges graph))
-      (each-map _ (image text graph) (below (length text.words)) (each-below _ (length text.words) image_shaped))
-      (each-map _ (way_along text graph) (own_edges graph) (each_index _ (own_edges graph) (λ number edge e. way_shaped edge (edge_in text graph is h number edge e)))))
-      (shaped_word nodes illegal_word, tt)
+  all_marked =
+      each-append _ (images ++ ways ++ landings) (foreign_piece ∷ [])
+      (each-append _ (images ++ ways) landings
+      (each-append _ images ways
+      (each-map _ (image text graph table) (below (length text.words)) (each-below _ (length text.words) image_marked))
+      (each-map _ (way_along text graph table) (own_edges graph) (each_then (own_edges graph) each_own)))
+      (each-map _ (landing text graph table) (below (length text.words)) (each _ (below (length text.words)) (λ word. tt))))
+      (unmarked nodes foreign_piece (words_only (words_of foreign)), tt)
+    where
+      each_then : (es : List Edge) → Each (IsEdgeIn graph.blocks) es → Each (λ edge. MarksFirst nodes (way_along text graph table edge)) es
+      each_then [] each = tt
+      each_then (e ∷ es) each = (way_marked e each.0, each_then es each.1)

@@ -9,17 +9,19 @@ use Rattle.elf32_sparc.proofs.Accepted.{accepted}
 use Rattle.elf32_sparc.proofs.Loadable.{loads_inside}
 use Rattle.elf32_write.specs.Headers.{not_executable}
 use Rattle.elf32_write.specs.Laws.{is_code, kept, mapping_added}
-use Rattle.v8_memory.specs.Spans.{IsSameOutside}
+use Rattle.v8_memory.specs.Spans.{IsSameOutside, Span}
 use Rattle.v8_step.specs.Valid.{AreBytes, IsValid}
 use Rattle.v8_step.specs.Visits.{pages_of}
-use Rattle.v8_process.specs.Alike.{AreSameMappings, IsSameMapping}
+use Rattle.v8_process.specs.Alike.{AreSameMappings, IsSameMapping, span_of}
 use Rattle.v8_process.specs.Arguments.{AreArguments}
 use Rattle.v8_process.specs.Start.{start_memory, start_of}
 use Rattle.v8_process.proofs.Alike.{starts_alike}
 use Rattle.v8_process.proofs.Arguments.{arguments_fit}
 use Rattle.v8_process.proofs.Valid.{mappings_have_room, starts_valid}
+use Rattle.addr_translate.specs.Lookup.{TableAt}
 use Rattle.layout.specs.Laid.{Placement}
-use Rattle.edit_core.specs.Written.{IsEdit, added, notes_on}
+use Rattle.edit_core.specs.Faithful.{editor_page, page_size}
+use Rattle.edit_core.specs.Written.{IsEdit, added, code_base, notes_on, table_base}
 
 -- ---- valid states
 
@@ -52,16 +54,28 @@ all_kept : (ms : List Mapping) → AreSameMappings ms (map kept ms)
 all_kept [] = tt
 all_kept (m ∷ ms) = (same_kept m, all_kept ms)
 
-module _ (original : List ℕ) (p : Placement) (place : ℕ → ℕ → ℕ) (file : List ℕ) (is : IsEdit original p place file) where
+abbrev span : ℕ → ℕ → Span
+span from count = record { from = from; count = count }
+
+module _ (original : List ℕ) (p : Placement) (place : ℕ → ℕ → ℕ) (table : TableAt) (file : List ℕ)
+    (is : IsEdit original p place table file) where
+  -- what is added is what the notes say
+  pages_are : map span_of (map mapping_added (added original p table)) ≡ pages_of (notes_on original p)
+  pages_are =
+      let size = is.code.leads.size in
+      ap (λ (a : ℕ). span a (length table.bytes) ∷ span (code_base original) (4 * length p.code) ∷ span editor_page page_size ∷ []) is.code.base
+      ∙ ap (λ (n : ℕ). span (table_base original) n ∷ span (code_base original) (4 * length p.code) ∷ span editor_page page_size ∷ []) size
+
   pub memory_alike : (texts : List (List ℕ)) → IsSameOutside (pages_of (notes_on original p)) (start_memory original texts) (start_memory file texts)
   memory_alike texts =
-      starts_alike original file (map kept (mappings original)) (map mapping_added (added original p)) is.mapped
-      (all_kept (mappings original)) texts
+      subst (λ (pages : List Span). IsSameOutside pages (start_memory original texts) (start_memory file texts)) pages_are
+      (starts_alike original file (map kept (mappings original)) (map mapping_added (added original p table)) is.mapped
+      (all_kept (mappings original)) texts)
 
   module _ (args : List (List ℕ)) (input : List ℕ) (given : AreArguments args) (read : AreBytes input) where
     pub original_valid : IsValid (start_of original args input)
     original_valid =
-        inside_valid original is.given (accepted original is.taken.reads.sound).segment_file args input given read
+        inside_valid original is.given (accepted original is.taken.sound).segment_file args input given read
 
     pub file_valid : IsValid (start_of file args input)
     file_valid = inside_valid file is.bytes (loads_inside file is.loads) args input given read

@@ -5,7 +5,7 @@ use Rattle.elf32_sparc.specs.Image.{Program, image_of}
 use Rattle.cfg_blocks.specs.Entries.{entered_of}
 use Rattle.cfg_view.specs.declared.View.{View}
 use Rattle.cfg_view.specs.View.{view_of}
-use Rattle.edit_core.specs.Taken.{CanEdit, IsBuilt, bound_of}
+use Rattle.edit_core.specs.Taken.{CanEdit, bound_of}
 use Rattle.edit_core.specs.Written.{graph_in}
 
 pub view_image : (file : List ℕ) → (view_of file []).image ≡ image_of file
@@ -17,11 +17,11 @@ unfolding view_of entered_of
 view_graph file = refl
 
 -- what was seen of a file that can be edited
-pub can_edit : (file : List ℕ) (view : View) → view ≡ view_of file [] → None ≡ fault file → IsBuilt view.image.text
+pub can_edit : (file : List ℕ) (view : View) → view ≡ view_of file [] → None ≡ fault file
     → bound_of view.image.text ≤ view.image.room → CanEdit file
-can_edit file view is sound built room =
+can_edit file view is sound room =
     let image : view.image ≡ image_of file = ap (λ (v : View). v.image) is ∙ view_image file in
     record {
-      reads = record { sound = sym sound; built = subst (λ (i : Program). IsBuilt i.text) image built };
+      sound = sym sound;
       room = subst (λ (i : Program). bound_of i.text ≤ i.room) image room;
     }

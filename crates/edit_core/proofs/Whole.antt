@@ -8,7 +8,7 @@ use Rattle.edit_core.specs.Runs.{Follows, limits_in}
 use Rattle.edit_core.proofs.Induction.{follows}
 use Rattle.image_code.specs.Images.{Here}
 use Rattle.image_code.specs.Cases.{Everything}
-use Rattle.image_code.specs.Whole.{IsInText}
+use Rattle.image_code.specs.Outside.{IsOpen}
 use Rattle.edit_core.specs.Whole.{EveryItem, KeepsAll, EditsAnswer}
 
 pub all_is_kept : KeepsAll
@@ -22,8 +22,8 @@ all_is_kept g entry s0 h = record {
 }
 
 pub edits_answer : EditsAnswer
-edits_answer g l base p f entry s0 t0 last r u inside =
-    let k : Follows g entry s0 t0 last = follows g entry (IsInText g)
-    (Here g l base p f) Everything EveryItem s0 t0 r last u inside in
+edits_answer g l base p f entry s0 t0 last r u =
+    let k : Follows g entry s0 t0 last = follows g entry (IsOpen g)
+    (Here g l base p f) Everything EveryItem s0 t0 r last u (λ k below live. u.outside k below) in
     let all = runs_follow g.notes s0 t0 64 (limits_in g entry s0) k.moments last k.followed in
     record { moments = k.moments; answers = all.0; soon = all.1; bounded = all.2; cells = k.cells; early = k.early; told = k.told; between = k.between }

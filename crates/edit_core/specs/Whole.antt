@@ -11,8 +11,8 @@ use Rattle.layout.specs.Laid.{Placement}
 use Rattle.image_code.specs.Simulates.{Setting, store_of}
 use Rattle.image_code.specs.Images.{Pieces, Frame, Here, CountsNothing}
 use Rattle.image_code.specs.Cases.{Everything}
-use Rattle.image_code.specs.Whole.{IsInText}
-use Rattle.edit_core.specs.Runs.{Keeping, Rests, StaysInside, Tells, limits_in}
+use Rattle.image_code.specs.Outside.{IsOpen}
+use Rattle.edit_core.specs.Runs.{Keeping, Rests, Tells, limits_in}
 
 abbrev pub EveryItem : ℕ → Item → Type 0
 EveryItem n item = Unit {0}
@@ -36,5 +36,5 @@ pub record Answered (g : Setting) (entry : ℕ) (s0 t0 : State) (last : ℕ) : T
 abbrev pub EditsAnswer : Type 0
 EditsAnswer =
     (g : Setting) (l : Pieces) (base : ℕ) (p : Placement) (f : Frame) (entry : ℕ) (s0 t0 : State) (last : ℕ)
-    → Rests g entry (IsInText g) (Here g l base p f) Everything EveryItem s0 t0 → IsUntouched (pages_of g.notes) s0 last
-    → StaysInside (IsInText g) s0 last → Answered g entry s0 t0 last
+    → Rests g entry (IsOpen g) (Here g l base p f) Everything EveryItem s0 t0 → IsUntouched (pages_of g.notes) s0 last
+    → Answered g entry s0 t0 last

@@ -1,26 +1,41 @@
--- What is written of an original: its new code as one segment, a page for the editor, and notes of both.
-use Rattle.std.specs.Prelude.{◌≡◌, ℕ, ◌*◌, ◌^◌, ◌<◌, ◌≤◌, List, [], ◌∷◌, ◌++◌, length, map, replicate, slice_index, None, Ok, All}
-use Rattle.eel_base.specs.CodeText.{Words}
+-- What is written of an original: a table of addresses, its new code and a page for the editor, as segments, and notes
+-- of them.
+use Rattle.std.specs.Prelude.{◌≡◌, ℕ, ◌+◌, ◌*◌, ◌^◌, ◌<◌, ◌≤◌, Bool, true, false, List, [], ◌∷◌, ◌++◌, length, map, replicate, slice_index, None, Ok, All}
+use Rattle.std.specs.List.{find}
+use Rattle.std.specs.Option.{option_map, option_to_list}
+use Rattle.eel_base.specs.CodeText.{Words, address_of}
+use Rattle.eel_base.specs.declared.numbers.Addr.{Addr}
 use Rattle.elf32_sparc.specs.Header.{e_entry}
 use Rattle.elf32_sparc.specs.FileFault.{load_fault}
 use Rattle.elf32_sparc.specs.Mapping.{mappings}
 use Rattle.elf32_sparc.specs.Image.{image_of}
-use Rattle.elf32_sparc.specs.Notes.{Notes, NoteSegment, notes_of}
+use Rattle.elf32_sparc.specs.Notes.{Notes, NoteSegment, NoteRange, notes_of}
 use Rattle.notes.specs.Written.{notes_bytes}
 use Rattle.elf32_write.specs.Bytes.{words_bytes}
 use Rattle.elf32_write.specs.Headers.{AddedSegment}
 use Rattle.elf32_write.specs.Laws.{kept, mapping_added, AreBytes}
 use Rattle.elf32_write.specs.Written.{delta_in, written}
-use Rattle.cfg_blocks.specs.Blocks.{blocks_of, holding_of}
+use Rattle.cfg_blocks.specs.Blocks.{below, blocks_of, holding_of}
+use Rattle.cfg_normal.specs.declared.Edge.{Edge}
+use Rattle.cfg_normal.specs.declared.Slot.{Slot}
+use Rattle.cfg_normal.specs.declared.Slot.TheVariants as slots
 use Rattle.cfg_normal.specs.Graph.{Graph, graph_of}
 use Rattle.cfg_view.specs.View.{given_in}
 use Rattle.cfg_view.specs.declared.View.{View}
+use Rattle.cfg_walk.specs.Numbers.{node_number}
+use Rattle.addr_translate.specs.Lookup.{TableAt}
+use Rattle.addr_translate.specs.Table.{IsTableOf, size_of}
+use Rattle.layout.specs.declared.items.Item.{Item}
 use Rattle.layout.specs.declared.items.Placed.{Placed}
 use Rattle.layout.specs.Laid.{Placement, IsLaid, long_bytes, placement_of}
-use Rattle.image_code.specs.Made.{piece_list}
+use Rattle.image_code.specs.Made.{foreign_number, landing_number, piece_list}
 use Rattle.edit_core.specs.Taken.{CanEdit}
 use Rattle.edit_core.specs.RunsAlike.{HaveRunsAlike}
 use Rattle.edit_core.specs.Faithful.{editor_page, page_size, note_edge}
+
+-- a table of addresses as a segment, with the flag PF_R
+abbrev pub table_at : TableAt → AddedSegment
+table_at table = record { vaddr = table.base; memsz = length table.bytes; flags = 4; bytes = table.bytes }
 
 -- code as a segment, with the flags PF_R and PF_X
 abbrev pub code_at : ℕ → List ℕ → AddedSegment
@@ -30,10 +45,49 @@ code_at base code = record { vaddr = base; memsz = 4 * length code; flags = 5; b
 abbrev pub page_segment : AddedSegment
 page_segment = record { vaddr = editor_page; memsz = page_size; flags = 6; bytes = replicate page_size 0 }
 
--- both, as notes say them
-abbrev pub segments_noted : ℕ → List ℕ → List NoteSegment
-segments_noted base code =
-    record { start = base; length = 4 * length code } ∷ record { start = editor_page; length = page_size } ∷ []
+-- all three, as notes say them
+abbrev pub segments_noted : ℕ → ℕ → List ℕ → List NoteSegment
+segments_noted base size code =
+    record { start = base; length = size } ∷ record { start = base + size; length = 4 * length code }
+    ∷ record { start = editor_page; length = page_size } ∷ []
+
+-- ---- slots behind the text
+
+abbrev pub is_behind : Slot → Bool
+is_behind slots.Off = true
+is_behind _ = false
+
+abbrev pub is_off : Edge → Bool
+is_off edge = is_behind edge.slot
+
+-- Where some edge runs a slot behind the text, the place of that slot is the first word of the table: at the end of the
+-- text, and at the node which the edge leaves.
+abbrev pub off_range : Words → Graph → ℕ → Edge → NoteRange
+off_range text graph table edge = record {
+  lo = table;
+  hi = table + 4;
+  address = address_of text (length text.words);
+  node = node_number graph edge.from;
+}
+
+abbrev pub off_ranges : Words → Graph → ℕ → List NoteRange
+off_ranges text graph table = option_to_list (option_map (off_range text graph table) (find is_off graph.edges))
+
+-- ---- where the table leads: from each word of the text to its landing, and from all else to the foreign piece
+
+abbrev pub addr : ℕ → Addr
+addr a = record { 0 = a }
+
+abbrev pub landings_of : Words → Graph → Placement → List Addr
+landings_of text graph p = map (λ word. addr (slice_index p.at (landing_number text graph word))) (below (length text.words))
+
+abbrev pub foreign_of : Words → Graph → Placement → Addr
+foreign_of text graph p = addr (slice_index p.at (foreign_number text graph))
+
+abbrev pub LeadsTo : Words → Graph → Placement → TableAt → Type 0
+LeadsTo text graph p table = IsTableOf text (landings_of text graph p) (foreign_of text graph p) table
+
+-- ---- of an original
 
 module _ (original : List ℕ) where
   abbrev pub text_of : Words
@@ -46,8 +100,15 @@ module _ (original : List ℕ) where
   abbrev pub graph_in : Graph
   graph_in = graph_of (blocks_of text_of given_of)
 
-  abbrev pub base_of : ℕ
-  base_of = (image_of original).base
+  -- where the table stands, and the code right behind it
+  abbrev pub table_base : ℕ
+  table_base = (image_of original).base
+
+  abbrev pub code_base : ℕ
+  code_base = table_base + size_of text_of
+
+  abbrev pub pieces_of : List (List Item)
+  pieces_of = piece_list text_of graph_in table_base
 
   -- where the program is entered: the image of its entry
   abbrev pub entry_of : Placement → ℕ
@@ -56,10 +117,10 @@ module _ (original : List ℕ) where
   -- ---- the segments that are added
 
   abbrev pub code_segment : Placement → AddedSegment
-  code_segment p = code_at base_of p.code
+  code_segment p = code_at code_base p.code
 
-  abbrev pub added : Placement → List AddedSegment
-  added p = code_segment p ∷ page_segment ∷ []
+  abbrev pub added : Placement → TableAt → List AddedSegment
+  added p table = table_at table ∷ code_segment p ∷ page_segment ∷ []
 
   -- ---- the notes
 
@@ -71,52 +132,56 @@ module _ (original : List ℕ) where
     start = text_of.start;
     words = length text_of.words;
     entry = holding_of graph_in.blocks (image_of original).entry;
-    base = base_of;
+    base = table_base;
     cells = 0;
-    segments = segments_noted base_of p.code;
+    segments = segments_noted table_base (size_of text_of) p.code;
     blocks = graph_in.blocks.firsts;
     edges = map (note_edge graph_in) graph_in.edges;
-    ranges = p.ranges;
+    ranges = off_ranges text_of graph_in table_base ++ p.ranges;
   }
 
   -- ---- the file
 
-  abbrev pub edit_file : Placement → List ℕ
-  edit_file p = written original (added p) (entry_of p) (notes_bytes (notes_on p))
+  abbrev pub edit_file : Placement → TableAt → List ℕ
+  edit_file p table = written original (added p table) (entry_of p) (notes_bytes (notes_on p))
 
--- the code was laid at the base, in the bytes that its long forms take
-pub record IsNewCode (original : List ℕ) (p : Placement) (place : ℕ → ℕ → ℕ) : Type 0 where
-  pub laid : IsLaid (piece_list (text_of original) (graph_in original)) (base_of original) p place
-  pub size : 4 * length p.code ≡ long_bytes (piece_list (text_of original) (graph_in original))
+-- The code was laid behind the table, in the bytes that its long forms take, and the table leads to it.
+pub record IsNewCode (original : List ℕ) (p : Placement) (place : ℕ → ℕ → ℕ) (table : TableAt) : Type 0 where
+  pub laid : IsLaid (pieces_of original) (code_base original) p place
+  pub size : 4 * length p.code ≡ long_bytes (pieces_of original)
   pub words : All (λ word. word < 2 ^ 32) p.code
+  pub base : table.base ≡ table_base original
+  pub leads : LeadsTo (text_of original) (graph_in original) p table
+  pub bytes : AreBytes table.bytes
 
 -- What a written file is: all that those who map it, read its notes or run it need to know.
-pub record IsEdit (original : List ℕ) (p : Placement) (place : ℕ → ℕ → ℕ) (file : List ℕ) : Type 0 where
+pub record IsEdit (original : List ℕ) (p : Placement) (place : ℕ → ℕ → ℕ) (table : TableAt) (file : List ℕ) : Type 0 where
   -- of the original
   pub taken : CanEdit original
   pub limit : length original ≤ 2 ^ 26
   pub given : AreBytes original
-  -- of its code
-  pub code : IsNewCode original p place
+  -- of its code and its table
+  pub code : IsNewCode original p place table
   -- of the file
   pub bytes : AreBytes file
   pub loads : load_fault file ≡ None
   pub reads : notes_of file ≡ Ok (notes_on original p)
-  pub mapped : mappings file ≡ map kept (mappings original) ++ map mapping_added (added original p)
+  pub mapped : mappings file ≡ map kept (mappings original) ++ map mapping_added (added original p table)
   pub entered : e_entry file ≡ entry_of original p
 
 -- a file that was written of an original with new code
 pub record IsWritten (original file : List ℕ) : Type 0 where
   pub p : Placement
   pub place : ℕ → ℕ → ℕ
-  pub code : IsNewCode original p place
-  pub is : file ≡ edit_file original p
+  pub table : TableAt
+  pub code : IsNewCode original p place table
+  pub is : file ≡ edit_file original p table
 
 -- Whatever meets this has runs like those of its original.
 abbrev pub EditsRunAlike : Type 0
 EditsRunAlike =
-    (original : List ℕ) (p : Placement) (place : ℕ → ℕ → ℕ) (file : List ℕ) → IsEdit original p place file
-    → HaveRunsAlike original file (notes_on original p)
+    (original : List ℕ) (p : Placement) (place : ℕ → ℕ → ℕ) (table : TableAt) (file : List ℕ)
+    → IsEdit original p place table file → HaveRunsAlike original file (notes_on original p)
 
 -- ---- as the program keeps it
 

@@ -4,17 +4,17 @@ ghost use Rattle.edit_core.specs.Taken.{CanEdit, EditRefuses};
 ghost use Rattle.edit_core.specs.Faithful.{IsFaithful};
 ghost use Rattle.edit_core.specs.Written.{IsViewOf, IsWritten};
 
-use crate::building::new_code;
+use crate::building::{NewCode, code_base, new_code};
 use crate::noting::notes;
-use crate::segments::{code_segment, page_segment};
-use crate::taking::{EditFault, bound, first_unbuilt};
+use crate::segments::{code_segment, page_segment, table_segment};
+use crate::taking::{EditFault, bound};
 use cfg_view::{View, look};
 use eel_base::{Addr, NoMemory, WordNo};
 use elf32_write::write_around;
 use notes::write_notes;
 use std::alloc::Global;
 
-/// The edit of a file whose transfers are branches, without snippets.
+/// The edit of a file, without snippets.
 pub fn edit_bytes(alloc: Global, bytes: &[u8]) -> Result<Vec<u8>, EditFault>
     requires { length bytes.now ≤ 2 ^ 26 }
     ensures taken { OnOk result (CanEdit bytes.now) }
@@ -23,9 +23,6 @@ pub fn edit_bytes(alloc: Global, bytes: &[u8]) -> Result<Vec<u8>, EditFault>
 {
     let view = look(alloc, bytes, &[])?;
     let text = view.image.text();
-    if let Some(address) = first_unbuilt(text) {
-        return Err(EditFault::NotBuilt(address));
-    }
     let needed = bound(text);
     let had = u64::from(view.image.room());
     if had < needed {
@@ -43,10 +40,11 @@ fn edited(alloc: Global, bytes: &[u8], view: &View) -> Result<Vec<u8>, NoMemory>
     ensures { IfOk result (λ file. IsWritten bytes.now file.items) }
 {
     let image = &view.image;
-    let placed = new_code(alloc, view)?;
+    let NewCode { placed, table } = new_code(alloc, view)?;
     let entry = image_of(&placed.at, image.entry());
     let added = [
-        code_segment(alloc, image.base(), &placed.code)?,
+        table_segment(alloc, image.base(), &table)?,
+        code_segment(alloc, code_base(image), &placed.code)?,
         page_segment(alloc)?,
     ];
     let notes = notes(alloc, bytes, view, placed)?;

@@ -1,15 +1,21 @@
 //! The notes on an edit.
-ghost use Rattle.std.specs.Prelude.{◌≡◌, ◌+◌, ◌*◌, ◌^◌, ◌<◌, ◌≤◌, length, map, IfOk};
-ghost use Rattle.notes.specs.Seen.{notes_seen, edge_seen, segment_seen};
+ghost use Rattle.std.specs.Prelude.{◌≡◌, ◌+◌, ◌*◌, ◌^◌, ◌<◌, ◌≤◌, ◌++◌, length, map, IfOk};
+ghost use Rattle.std.specs.List.{find};
+ghost use Rattle.eel_base.specs.CodeText.{IsText};
+ghost use Rattle.notes.specs.Seen.{notes_seen, edge_seen, range_seen, segment_seen};
 ghost use Rattle.cfg_walk.specs.Numbers.{node_number as node_number_of};
+ghost use Rattle.addr_translate.specs.Table.{size_of};
 ghost use Rattle.edit_core.specs.Faithful.{kind_number as kind_number_of, note_edge as note_edge_of};
-ghost use Rattle.edit_core.specs.Written.{notes_on, segments_noted, placement_in, IsViewOf};
+ghost use Rattle.edit_core.specs.Written.{is_off as is_off_of, notes_on, off_range as off_range_of, off_ranges, segments_noted, placement_in, IsViewOf};
 
+use crate::building::code_base;
 use crate::segments::{EDITOR_PAGE, PAGE_SIZE};
+use addr_translate::table_size;
 use cfg_blocks::EdgeKind;
-use cfg_normal::{Edge, FlowGraph, Node};
+use cfg_normal::{Edge, FlowGraph, Node, Slot};
 use cfg_view::View;
-use eel_base::{Addr, BlockNo, NoMemory};
+use eel_base::{Addr, BlockNo, NoMemory, Range, Text, WordNo};
+use elf32_sparc::Image;
 use elf32_write::delta;
 use layout::Placed;
 use notes::{NoteEdge, NoteSegment, Notes};
@@ -28,7 +34,8 @@ pub(crate) fn notes(
     requires limit { length bytes.now ≤ 2 ^ 26 }
     requires view { IsViewOf bytes.now view.now }
     requires words { view.now.graph.blocks.words ≡ length view.now.image.text.words }
-    requires low { 4 * length placed.code.items ≤ 2 ^ 31 }
+    requires text { IsText view.now.image.text }
+    requires low { view.now.image.base + size_of view.now.image.text + 4 * length placed.code.items ≤ 2 ^ 31 }
     ensures { IfOk result (λ n. notes_seen n ≡ notes_on bytes.now (placement_in placed)) }
 {
     let image = &view.image;
@@ -43,21 +50,26 @@ pub(crate) fn notes(
         entry: graph.holding(image.entry()).0,
         base: image.base().0,
         cells: 0,
-        segments: note_segments(alloc, image.base(), &placed.code)?,
+        segments: note_segments(alloc, image, &placed.code)?,
         blocks: firsts(alloc, graph)?,
         edges: note_edges(alloc, graph)?,
-        ranges: placed.ranges,
+        ranges: places(alloc, text, graph, image.base(), &placed.ranges)?,
     })
 }
 
-// The code's segment, and the editor's page.
-fn note_segments(alloc: Global, base: Addr, code: &[u32]) -> Result<Vec<NoteSegment>, NoMemory>
-    requires { 4 * length code.now ≤ 2 ^ 31 }
-    ensures { IfOk result (λ v. map segment_seen v.items ≡ segments_noted base.0 code.now) }
+// The segments of the table and of the code, and the editor's page.
+fn note_segments(alloc: Global, image: &Image, code: &[u32]) -> Result<Vec<NoteSegment>, NoMemory>
+    requires { image.now.base + size_of image.now.text + 4 * length code.now ≤ 2 ^ 31 }
+    ensures { IfOk result (λ v. map segment_seen v.items
+        ≡ segments_noted image.now.base (size_of image.now.text) code.now) }
 {
     let segments = vec![in alloc;
         NoteSegment {
-            start: base.0,
+            start: image.base().0,
+            length: table_size(image.text()),
+        },
+        NoteSegment {
+            start: code_base(image).0,
             length: 4 * code.len() as u32
         },
         NoteSegment {
@@ -67,6 +79,55 @@ fn note_segments(alloc: Global, base: Addr, code: &[u32]) -> Result<Vec<NoteSegm
     ]?;
     Ok(segments)
 }
+
+// ---- places
+
+// The place of a slot behind the text, if one is run, and then those of the code.
+fn places(
+    alloc: Global,
+    text: &Text,
+    graph: &FlowGraph,
+    table: Addr,
+    code: &[Range],
+) -> Result<Vec<Range>, NoMemory>
+    requires { table.0 ≤ 2 ^ 31 }
+    ensures { IfOk result (λ v. map range_seen v.items
+        ≡ off_ranges text.now graph.now table.0 ++ map range_seen code.now) }
+{
+    let mut places = Vec::new(alloc);
+    if let Some(edge) = first_off(graph) {
+        places.push(off_range(text, graph, table, &edge))?;
+    }
+    places.extend_from_slice(code)?;
+    Ok(places)
+}
+
+// The first edge that runs a slot behind the text.
+fn first_off(graph: &FlowGraph) -> Option<Edge>
+    ensures { result ≡ find is_off_of graph.now.edges }
+{
+    graph.edges().iter().copied().find(|edge| is_off(*edge))
+}
+
+fn is_off(edge: Edge) -> bool
+    ensures { result ≡ is_off_of edge }
+{
+    matches!(edge.slot, Slot::Off)
+}
+
+fn off_range(text: &Text, graph: &FlowGraph, table: Addr, edge: &Edge) -> Range
+    requires { table.0 ≤ 2 ^ 31 }
+    ensures { range_seen result ≡ off_range_of text.now graph.now table.0 edge.now }
+{
+    Range {
+        lo: table,
+        hi: Addr(table.0 + 4),
+        address: text.address(WordNo(text.len())),
+        node: node_number(graph, edge.from),
+    }
+}
+
+// ---- the graph
 
 // The first word of each block.
 fn firsts(alloc: Global, graph: &FlowGraph) -> Result<Vec<u32>, NoMemory>

@@ -2,15 +2,19 @@
 ghost use Rattle.std.specs.Prelude.{◌≡◌, ◌*◌, ◌^◌, ◌<◌, ◌≤◌, length, replicate, All, IfOk, OnOk};
 ghost use Rattle.elf32_write.specs.Bytes.{words_bytes};
 ghost use Rattle.elf32_write.specs.Headers.{segment_seen};
-ghost use Rattle.edit_core.specs.Written.{code_at, page_segment as page_segment_of};
+ghost use Rattle.elf32_write.specs.Laws.{AreBytes};
+ghost use Rattle.edit_core.specs.Written.{code_at, page_segment as page_segment_of, table_at};
 
+use addr_translate::Table;
 use byteorder::{BigEndian, ByteOrder};
 use eel_base::{Addr, NoMemory};
 use elf32_sparc::SegFlags;
 use elf32_write::NewSegment;
 use std::alloc::Global;
 
-// PF_R with PF_X, and with PF_W.
+// PF_R alone, with PF_X, and with PF_W.
+const TABLE: SegFlags = SegFlags(4);
+
 const CODE: SegFlags = SegFlags(5);
 
 const DATA: SegFlags = SegFlags(6);
@@ -19,6 +23,31 @@ const DATA: SegFlags = SegFlags(6);
 pub(crate) const EDITOR_PAGE: Addr = Addr(0xffff_f000);
 
 pub(crate) const PAGE_SIZE: u32 = 4096;
+
+/// A table of addresses, which can only be read.
+pub(crate) fn table_segment(alloc: Global, base: Addr, table: &Table) -> Result<NewSegment, NoMemory>
+    requires { table.now.base ≡ base.0 }
+    ensures segment { IfOk result (λ s. segment_seen s ≡ table_at table.now) }
+    ensures bytes { OnOk result (AreBytes table.now.bytes) }
+{
+    read_only(alloc, base, table.bytes())
+}
+
+// Bytes that can only be read.
+fn read_only(alloc: Global, vaddr: Addr, bytes: &[u8]) -> Result<NewSegment, NoMemory>
+    requires { length bytes.now < 2 ^ 32 }
+    ensures segment { IfOk result (λ s. segment_seen s ≡ table_at (record { base = vaddr.0; bytes = bytes.now })) }
+    ensures bytes { OnOk result (AreBytes bytes.now) }
+{
+    let mut copy = Vec::new(alloc);
+    copy.extend_from_slice(bytes)?;
+    Ok(NewSegment {
+        vaddr,
+        memsz: bytes.len() as u32,
+        flags: TABLE,
+        bytes: copy,
+    })
+}
 
 /// New code, which can be executed and not written.
 pub(crate) fn code_segment(alloc: Global, base: Addr, code: &[u32]) -> Result<NewSegment, NoMemory>

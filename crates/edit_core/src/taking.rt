@@ -1,17 +1,14 @@
 //! Which files are edited, and why others are not.
-ghost use Rattle.std.specs.Prelude.{◌≡◌, MatchOption};
-ghost use Rattle.edit_core.specs.Taken.{bound_of, is_built as is_built_of, IsBuilt, IsFirstUnbuilt};
+ghost use Rattle.std.specs.Prelude.{◌≡◌};
+ghost use Rattle.edit_core.specs.Taken.{bound_of};
 
-use eel_base::{Addr, NoMemory, Text, WordNo};
+use eel_base::{NoMemory, Text};
 use elf32_sparc::{FileFault, ReadFault};
-use v8_decode::{Instr, decode};
 
 /// Why a file was not edited.
 #[derive(Clone, Copy, PartialEq, Eq, Debug)]
 pub enum EditFault {
     File(FileFault),
-    /// A word of a form that isn't built yet stands at this address, the first one.
-    NotBuilt(Addr),
     /// The edit asks for more bytes than there is room.
     Room { needed: u64, had: u64 },
     NoMemory,
@@ -39,24 +36,6 @@ impl From<ReadFault> for EditFault {
             ReadFault::NoMemory => EditFault::NoMemory,
         }
     }
-}
-
-/// The address of the first word that is a CALL or JMPL.
-pub(crate) fn first_unbuilt(text: &Text) -> Option<Addr>
-    ensures { MatchOption result (IsBuilt text.now) (λ address. IsFirstUnbuilt text.now address.0) }
-{
-    for word in 0..text.len() {
-        if !is_built(decode(text.word(WordNo(word)))) {
-            return Some(text.address(WordNo(word)));
-        }
-    }
-    None
-}
-
-fn is_built(instruction: Instr) -> bool
-    ensures { result ≡ is_built_of instruction }
-{
-    !matches!(instruction, Instr::Call { .. } | Instr::Jmpl { .. })
 }
 
 /// How many bytes of room an edit asks for.

@@ -1,0 +1,22 @@
+-- What holds of each element.
+use Rattle.std.proofs.Common.{◌≡◌, ℕ, zero, suc, ◌<◌, List, [], ◌∷◌, Some, take, refl, arith, All}
+use Rattle.std.specs.Prelude.{slice_get}
+use Rattle.cfg_walk.proofs.Lists.{Each}
+
+pub all_each : {A : Type 0} (P : A → Type 0) (xs : List A) → Each P xs → All P xs
+all_each P [] each k d l = absurd (omega arith)
+all_each P (x ∷ xs) each zero d l = each.0
+all_each P (x ∷ xs) each (suc k) d l = all_each P xs each.1 k d (omega arith)
+
+pub each_all : {A : Type 0} (P : A → Type 0) (xs : List A) → All P xs → Each P xs
+each_all P [] all = tt
+each_all P (x ∷ xs) all = (all zero x (omega arith), each_all P xs (λ k d l. all (suc k) d (omega arith)))
+
+pub each_index : {A : Type 0} (P : A → Type 0) (xs : List A) → ((k : ℕ) (x : A) → slice_get xs k ≡ Some x → P x) → Each P xs
+each_index P [] h = tt
+each_index P (x ∷ xs) h = (h 0 x refl, each_index P xs (λ k y e. h (suc k) y e))
+
+pub each_taken : {A : Type 0} (P : A → Type 0) (n : ℕ) (xs : List A) → Each P xs → Each P (take n xs)
+each_taken P zero xs each = tt
+each_taken P (suc n) [] each = tt
+each_taken P (suc n) (x ∷ xs) each = (each.0, each_taken P n xs each.1)

@@ -1,0 +1,161 @@
+-- The place of a slot behind the text: that of each edge which runs one.
+use Rattle.std.proofs.Common.{◌≡◌, ℕ, zero, suc, ◌+◌, ◌-◌, ◌<◌, ◌≤◌, ◌⊎◌, inl, inr, Bool, true, false, ◌&&◌, cond, nat_le, nat_lt, List, [], ◌∷◌, ◌++◌, length, map, Option, Some, None, refl, ap, sym, ◌∙◌, subst, arith}
+use Rattle.std.specs.Prelude.{slice_get, slice_index}
+use Rattle.std.specs.List.{find}
+use Rattle.std.specs.Option.{option_map, option_or, option_to_list}
+use Rattle.std.proofs.lemmas.Bool.{and_from, cases_lt, cond_both, le-leb, lt-ltb}
+use Rattle.std.proofs.lemmas.Bool.Decides.{nat_tests}
+use Rattle.std.proofs.lemmas.List.Folds.{find-append}
+use Rattle.eel_base.specs.CodeText.{Words}
+use Rattle.elf32_sparc.specs.Notes.{NoteRange}
+use Rattle.cfg_blocks.specs.Ends.{Way}
+use Rattle.cfg_blocks.specs.Blocks.{AreFirsts, Blocks, below, end_of, last_word}
+use Rattle.cfg_blocks.specs.Entries.{ways_from}
+use Rattle.cfg_normal.specs.declared.Edge.{Edge}
+use Rattle.cfg_normal.specs.declared.Node.{Node}
+use Rattle.cfg_normal.specs.declared.Node.TheVariants.{Block}
+use Rattle.cfg_normal.specs.declared.Slot.{Slot}
+use Rattle.cfg_normal.specs.declared.Slot.TheVariants as slots
+use Rattle.cfg_normal.specs.Graph.{Graph, edge_of, edges_in, edges_of, landing_at, runs_slot, slot_behind}
+use Rattle.cfg_walk.specs.Numbers.{node_number}
+use Rattle.cfg_walk.proofs.Lists.{Each, each, each-append, each-below, each-flat_map, each-map, each_at}
+use Rattle.layout.specs.Laid.{range_in}
+use Rattle.edit_core.specs.Written.{is_behind, is_off, off_range, off_ranges}
+
+-- ---- one that passes is found
+
+record IsFound {A : Type 0} (p : A → Bool) (Q : A → Type 0) (xs : List A) : Type 0 where
+  found : A
+  at : find p xs ≡ Some found
+  passes : p found ≡ true
+  each : Q found
+
+found_in : {A : Type 0} (p : A → Bool) (Q : A → Type 0) (xs : List A) (k : ℕ) (x : A) → Each Q xs → slice_get xs k ≡ Some x
+    → p x ≡ true → IsFound p Q xs
+found_in p Q [] k x each e is = absurd (cc)
+found_in p Q (y ∷ ys) zero x each e is =
+    let same : y ≡ x = cc in
+    let here : p y ≡ true = ap p same ∙ is in
+    record { found = y; at = ap (λ b. cond b (Some y) (find p ys)) here; passes = here; each = each.0 }
+found_in p Q (y ∷ ys) (suc k) x each e is = by (p y) refl (found_in p Q ys k x each.1 e is)
+  where
+    by : (b : Bool) → p y ≡ b → IsFound p Q ys → IsFound p Q (y ∷ ys)
+    by true here later = record { found = y; at = ap (λ b. cond b (Some y) (find p ys)) here; passes = here; each = each.0 }
+    by false here later = record {
+      found = later.found;
+      at = ap (λ b. cond b (Some y) (find p ys)) here ∙ later.at;
+      passes = later.passes;
+      each = later.each;
+    }
+
+-- ---- edges that run a slot behind the text leave the last block
+
+module _ (b : Blocks) (firsts : AreFirsts b.words b.firsts) where
+  abbrev IsLast : Edge → Type 0
+  IsLast edge = is_off edge ≡ true → edge.from ≡ Block (record { 0 = length b.firsts - 1 })
+
+  last_block : (block : ℕ) → block < length b.firsts → nat_lt (last_word b.firsts b.words block + 1) b.words ≡ false
+      → block ≡ length b.firsts - 1
+  last_block block l off = elim (cases_lt (suc block) (length b.firsts)) [
+    | inl more ↦
+      let next = firsts.within (suc block) more in
+      let above = firsts.ascend block (suc block) (omega arith) more in
+      absurd (grind (arith, nat_tests))
+    | inr past ↦ omega arith
+  ]
+
+  slot_last : (block : ℕ) → block < length b.firsts → (runs : Bool)
+      → is_behind (cond runs (slot_behind b.words (last_word b.firsts b.words block)) slots.Nothing) ≡ true
+      → block ≡ length b.firsts - 1
+  slot_last block l false e = absurd (cc)
+  slot_last block l true e = by (nat_lt (last_word b.firsts b.words block + 1) b.words) refl e
+    where
+      by : (inside : Bool) → nat_lt (last_word b.firsts b.words block + 1) b.words ≡ inside
+          → is_behind (cond inside (slots.Word (record { 0 = last_word b.firsts b.words block + 1 })) slots.Off) ≡ true
+          → block ≡ length b.firsts - 1
+      by true is e = absurd (cc)
+      by false is e = last_block block l is
+
+  way_last : (block : ℕ) → block < length b.firsts → (w : Way) → IsLast (edge_of b block w)
+  way_last block l w e =
+      ap (λ (n : ℕ). Block (record { 0 = n })) (slot_last block l (runs_slot (end_of b block) w.kind) e)
+
+  pub all_last : Each IsLast (edges_in b)
+  unfolding edges_in
+  all_last =
+      each-append IsLast _ (map landing_at (below (length b.firsts)))
+      (each-flat_map IsLast (edges_of b) (below (length b.firsts))
+      (each-below (λ block. Each IsLast (edges_of b block)) (length b.firsts)
+      (λ block l. each-map IsLast (edge_of b block) (ways_from b block) (each _ (ways_from b block) (way_last block l)))))
+      (each-map IsLast landing_at (below (length b.firsts)) (each _ (below (length b.firsts)) (λ block e. absurd (cc))))
+
+-- ---- their place
+
+module _ (text : Words) (graph : Graph) (table : ℕ) where
+  range_is : (e f : Edge) → e.from ≡ f.from → off_range text graph table e ≡ off_range text graph table f
+  range_is e f same = ap (λ (n : Node). off_range text graph table (record { from = n; to = e.to; kind = e.kind; slot = e.slot })) same
+
+  -- the one place is that of each such edge
+  pub off_is : graph.edges ≡ edges_in graph.blocks → AreFirsts graph.blocks.words graph.blocks.firsts → (number : ℕ) (edge : Edge)
+      → slice_get graph.edges number ≡ Some edge → edge.slot ≡ slots.Off
+      → off_ranges text graph table ≡ off_range text graph table edge ∷ []
+  off_is edges firsts number edge at off =
+      let all : Each (IsLast graph.blocks firsts) graph.edges = subst (Each (IsLast graph.blocks firsts)) (sym edges) (all_last graph.blocks firsts) in
+      let here : is_off edge ≡ true = ap is_behind off in
+      let one = found_in is_off (IsLast graph.blocks firsts) graph.edges number edge all at here in
+      ap (λ o. option_to_list (option_map (off_range text graph table) o)) one.at
+      ∙ ap (λ (r : NoteRange). r ∷ []) (range_is one.found edge (one.each one.passes ∙ sym (own_last all number edge at here)))
+    where
+      own_last : Each (IsLast graph.blocks firsts) graph.edges → (k : ℕ) (e : Edge) → slice_get graph.edges k ≡ Some e → is_off e ≡ true
+          → e.from ≡ Block (record { 0 = length graph.blocks.firsts - 1 })
+      own_last all k e at here = each_at (IsLast graph.blocks firsts) graph.edges k e all at here
+
+  -- there is one place at most
+  pub off_few : length (off_ranges text graph table) ≤ 1
+  off_few = by (find is_off graph.edges)
+    where
+      by : (o : Option Edge) → length (option_to_list (option_map (off_range text graph table) o)) ≤ 1
+      by None = omega arith
+      by (Some edge) = omega arith
+
+  -- what is so for each edge holds of the place
+  pub off_each : (Q : Edge → Type 0) (P : List NoteRange → Type 0) → Each Q graph.edges → P []
+      → ((edge : Edge) → Q edge → P (off_range text graph table edge ∷ [])) → P (off_ranges text graph table)
+  off_each Q P all none some = by (find is_off graph.edges) refl
+    where
+      found : (xs : List Edge) → Each Q xs → (edge : Edge) → find is_off xs ≡ Some edge → Q edge
+      found [] each edge e = absurd (cc)
+      found (x ∷ xs) each edge e = pick (is_off x) refl e (found xs each.1 edge)
+        where
+          pick : (b : Bool) → is_off x ≡ b → cond b (Some x) (find is_off xs) ≡ Some edge
+              → (find is_off xs ≡ Some edge → Q edge) → Q edge
+          pick true is e later = let same : x ≡ edge = cc in subst Q same each.0
+          pick false is e later = later e
+
+      by : (o : Option Edge) → find is_off graph.edges ≡ o → P (option_to_list (option_map (off_range text graph table) o))
+      by None e = none
+      by (Some edge) e = some edge (found graph.edges all edge e)
+
+  unfound : (r : NoteRange) (a : ℕ) → (a < r.lo) ⊎ (r.hi ≤ a) → range_in (r ∷ []) a ≡ None
+  unfound r a (inl below) = grind (arith, nat_tests)
+  unfound r a (inr past) = grind (arith, nat_tests)
+
+  -- no other address is in it
+  pub off_none : (a : ℕ) → (a < table) ⊎ (table + 4 ≤ a) → range_in (off_ranges text graph table) a ≡ None
+  off_none a beside = by (find is_off graph.edges)
+    where
+      by : (o : Option Edge) → range_in (option_to_list (option_map (off_range text graph table) o)) a ≡ None
+      by None = refl
+      by (Some edge) = unfound (off_range text graph table edge) a beside
+
+  pub ranges_beside : (ranges : List NoteRange) (a : ℕ) → (a < table) ⊎ (table + 4 ≤ a)
+      → range_in (off_ranges text graph table ++ ranges) a ≡ range_in ranges a
+  ranges_beside ranges a beside =
+      find-append (λ range. nat_le range.lo a && nat_lt a range.hi) (off_ranges text graph table) ranges
+      ∙ ap (λ found. option_or found (range_in ranges a)) (off_none a beside)
+
+  pub off_here : (edge : Edge) (ranges : List NoteRange)
+      → range_in ((off_range text graph table edge ∷ []) ++ ranges) table ≡ Some (off_range text graph table edge)
+  off_here edge ranges =
+      ap (λ (b : Bool). cond b (Some (off_range text graph table edge)) (range_in ranges table))
+      (and_from (nat_le table table) (nat_lt table (table + 4)) (le-leb table table (omega arith)) (lt-ltb table (table + 4) (omega arith)))
