@@ -5,3 +5,4 @@ pub mod Split
 pub mod Operations
 pub mod Lines
 pub mod Held
+pub mod Within

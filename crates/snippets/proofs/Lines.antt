@@ -1,8 +1,8 @@
 -- What lines say.
-use Rattle.std.proofs.Common.{◌≡◌, ℕ, Bool, true, false, ◌==◌, List, [], ◌∷◌, length, map, Option, Some, None, if◌then◌else◌, refl, ap, sym, subst, ◌∙◌, arith}
+use Rattle.std.proofs.Common.{◌≡◌, ℕ, Bool, true, false, ◌==◌, List, [], ◌∷◌, length, map, Option, Some, None, refl, ap, sym, subst, ◌∙◌, arith}
 use Rattle.std.proofs.lemmas.Bool.{eqb-true, eq-eqb, ne_eqb}
 use Rattle.snippets.specs.declared.snippet.Op.{Op}
-use Rattle.snippets.specs.Grammar.{AllSay, IsLine, IsSilent, Says, Said, Nothing, Does, Wrong, line_text}
+use Rattle.snippets.specs.Grammar.{AllSay, IsLine, IsSilent, Says, Said, Nothing, Does, Wrong}
 use Rattle.snippets.specs.Parts.{operation_of, said_by, said_of}
 use Rattle.snippets.proofs.Operations.{operation_back, operation_read}
 
@@ -10,14 +10,16 @@ silent_first : (byte : ℕ) (bytes : List ℕ) → (byte == 35) ≡ true → sai
 unfolding said_of
 silent_first byte bytes is = rw (ne_eqb (length (byte ∷ bytes)) 0 (λ none. absurd (omega arith)), is) refl
 
-spoken_first : (byte : ℕ) (bytes : List ℕ) → (byte == 35) ≡ false → said_of (byte ∷ bytes) ≡ said_by (operation_of (byte ∷ bytes))
+spoken_first : (byte : ℕ) (bytes : List ℕ) → (byte == 35) ≡ false
+    → said_of (byte ∷ bytes) ≡ said_by (operation_of (byte ∷ bytes))
 unfolding said_of
 spoken_first byte bytes is = rw (ne_eqb (length (byte ∷ bytes)) 0 (λ none. absurd (omega arith)), is) refl
 
 no_operation : (line : List ℕ) → operation_of line ≡ None → (edge : ℕ) (op : Op) → ¬ IsLine line edge op
 no_operation line none edge op is = cc (sym none ∙ operation_back line edge op is)
 
-by_operation : (line : List ℕ) → ¬ IsSilent line → (found : Option (ℕ × Op)) → operation_of line ≡ found → Says line (said_by found)
+by_operation : (line : List ℕ) → ¬ IsSilent line → (found : Option (ℕ × Op)) → operation_of line ≡ found
+    → Says line (said_by found)
 by_operation line spoken (Some found) is = operation_read line found is
 by_operation line spoken None is = (spoken, no_operation line is)
 
@@ -25,7 +27,8 @@ by_first : (byte : ℕ) (bytes : List ℕ) (b : Bool) → (byte == 35) ≡ b →
 by_first byte bytes true is = subst (Says (byte ∷ bytes)) (sym (silent_first byte bytes is)) (eqb-true byte 35 is)
 by_first byte bytes false is =
     let spoken : ¬ IsSilent (byte ∷ bytes) = λ silent. cc (sym is ∙ eq-eqb byte 35 silent) in
-    subst (Says (byte ∷ bytes)) (sym (spoken_first byte bytes is)) (by_operation (byte ∷ bytes) spoken (operation_of (byte ∷ bytes)) refl)
+    subst (Says (byte ∷ bytes)) (sym (spoken_first byte bytes is))
+    (by_operation (byte ∷ bytes) spoken (operation_of (byte ∷ bytes)) refl)
 
 nothing_says : said_of [] ≡ Nothing
 unfolding said_of
@@ -62,4 +65,3 @@ all_say (line ∷ lines) = (said_says line, all_say lines)
 
 pub one_thing : (line : List ℕ) → (said : Said) × Says line said × ((other : Said) → Says line other → other ≡ said)
 one_thing line = (said_of line, said_says line, said_alone line)
-

@@ -1,11 +1,10 @@
 -- Decimal numbers.
-use Rattle.std.proofs.Common.{◌≡◌, ℕ, zero, suc, ◌+◌, ◌<◌, ◌≤◌, ◌^◌, ◌==◌, ◌&&◌, ◌||◌, not, Bool, true, false, nat_lt, if◌then◌else◌, List, [], ◌∷◌, length, get_or, slice_index, Option, Some, None, Result, Ok, Err, decimal, refl, ap, sym, subst, ◌∙◌, arith, rules}
-use Rattle.std.specs.Prelude.{nat_le}
+use Rattle.std.proofs.Common.{◌≡◌, ℕ, zero, suc, ◌<◌, ◌^◌, ◌==◌, ◌&&◌, ◌||◌, not, true, false, nat_lt, List, length, slice_index, Some, None, Result, Ok, Err, decimal, refl, ap, sym, subst, ◌∙◌, arith, rules}
 use Rattle.std.specs.List.{list_all}
 use Rattle.std.specs.Result.{result_ok}
 use Rattle.std.specs.Str.{IsUtf8}
 use Rattle.std.specs.Str.Parse.{digits_value, ParsesUnsigned}
-use Rattle.std.proofs.lemmas.Bool.{and_parts, le-leb, lt-ltb, ltb-true, leb-true, eqb-true, eq-eqb, ne_eqb, false_from_ne_true}
+use Rattle.std.proofs.lemmas.Bool.{and_parts, lt-ltb, ltb-true, eqb-true, eq-eqb, ne_eqb, false_from_ne_true}
 use Rattle.std.proofs.lemmas.Str.{IsUtf8-from_ascii}
 use Rattle.std.proofs.lemmas.Str.Parse.{IsNumeralModel, numerals_by_value, parse_digits}
 use Rattle.std.proofs.lemmas.Fmt.{digits_decimal, digits_value-decimal, decimal_nonempty, first_decimal, decimal_digit, decimal-digits_value, IsAscii-from_digits}
@@ -24,7 +23,9 @@ pub record Decimal (word : List ℕ) : Type 0 where
 
 pub decimal_parts : (word : List ℕ) → is_decimal word ≡ true → Decimal word
 decimal_parts word h =
-    let outer = and_parts (list_all is_digit word && nat_lt 0 (length word)) (not (slice_index word 0 == 48) || (length word == 1)) h in
+    let outer =
+    and_parts (list_all is_digit word && nat_lt 0 (length word))
+    (not (slice_index word 0 == 48) || (length word == 1)) h in
     let inner = and_parts (list_all is_digit word) (nat_lt 0 (length word)) outer.0 in
     record { digits = inner.0; some = ltb-true 0 (length word) inner.1; front = outer.1 }
 
@@ -32,7 +33,8 @@ pub decimal_utf8 : (word : List ℕ) → is_decimal word ≡ true → IsUtf8 wor
 decimal_utf8 word h = IsUtf8-from_ascii word (IsAscii-from_digits word (own.to word (decimal_parts word h).digits))
 
 -- what parsing gives
-pub number-parsed : {E : Type 0} (word : List ℕ) (r : Result ℕ E) → ParsesUnsigned 32 10 word r → is_decimal word ≡ true → result_ok r ≡ number_of word
+pub number-parsed : {E : Type 0} (word : List ℕ) (r : Result ℕ E) → ParsesUnsigned 32 10 word r
+    → is_decimal word ≡ true → result_ok r ≡ number_of word
 unfolding number_of
 number-parsed {E} word (Ok n) parsed h =
     let parts = decimal_parts word h in
@@ -60,7 +62,9 @@ unfolding number_of
 number_back n fits =
     let small : n < 2 ^ 64 = omega arith in
     let some = decimal_nonempty n small in
-    rw (digits_decimal own n small, lt-ltb 0 (length (decimal n)) some, front_right n small, digits_value-decimal own n small, lt-ltb n (2 ^ 32) fits) refl
+    let digits = digits_decimal own n small in
+    let value = digits_value-decimal own n small in
+    rw (digits, lt-ltb 0 (length (decimal n)) some, front_right n small, value, lt-ltb n (2 ^ 32) fits) refl
 
 lone_zero : (x n : ℕ) → (not (x == 48) || (n == 1)) ≡ true → x ≡ 48 → n ≡ 1
 lone_zero x n h is = eqb-true n 1 (sym (rw (eq-eqb x 48 is) refl) ∙ h)
@@ -74,5 +78,7 @@ number_read word n h =
     let parts = decimal_parts word tests.0 in
     let fits = ltb-true (digits_value 10 word) (2 ^ 32) tests.1 in
     let small : digits_value 10 word < 2 ^ 64 = omega arith in
-    let text = decimal-digits_value own word parts.digits parts.some (lone_zero (slice_index word 0) (length word) parts.front) small in
+    let text =
+    decimal-digits_value own word parts.digits parts.some
+    (lone_zero (slice_index word 0) (length word) parts.front) small in
     (sym text ∙ ap decimal found.1, subst (λ (m : ℕ). m < 2 ^ 32) found.1 fits)

@@ -1,13 +1,12 @@
 -- Operations on edges.
-use Rattle.std.proofs.Common.{◌≡◌, ℕ, ◌<◌, ◌^◌, true, List, [], ◌∷◌, ◌++◌, Option, Some, None, ◌⊎◌, inl, inr, decimal, codes, refl, ap, ap₂, sym, subst, ◌∙◌, arith}
-use Rattle.std.specs.List.{join_with_byte}
+use Rattle.std.proofs.Common.{◌≡◌, ℕ, ◌<◌, ◌^◌, true, List, ◌∷◌, ◌++◌, Some, inl, inr, decimal, codes, refl, ap, ap₂, sym, subst, ◌∙◌}
 use Rattle.std.specs.Option.{option_map}
 use Rattle.std.specs.Str.{bytes_eq}
 use Rattle.std.proofs.lemmas.Slice.Eq.{bytes_eq-Decides}
 use Rattle.snippets.specs.declared.snippet.Op.{Op}
 use Rattle.snippets.specs.declared.snippet.Op.TheVariants.{Add, Put, Keep, Top}
 use Rattle.snippets.specs.Ops.{cell_of}
-use Rattle.snippets.specs.Grammar.{IsLine, IsOp, line_text, op_words, register_text}
+use Rattle.snippets.specs.Grammar.{IsLine, IsOp, line_text, register_text}
 use Rattle.snippets.specs.Parts.{after_edge, number_of, op_of, operation_of, register_of, split_word}
 use Rattle.snippets.proofs.Steps.{chosen, mapped, step, tested}
 use Rattle.snippets.proofs.Numbers.{number_back, number_read}
@@ -33,52 +32,61 @@ record OpRead (kind : List ℕ) (cell : ℕ) (operand : List ℕ) (op : Op) : Ty
   same_operand : operand ≡ operand_text op
   fits : cell < 2 ^ 32 → IsOp op
 
-number_op : (make : ℕ → ℕ → Op) (kind : List ℕ) (cell : ℕ) (operand : List ℕ) (op : Op) → option_map (make cell) (number_of operand) ≡ Some op
+number_op : (make : ℕ → ℕ → Op) (kind : List ℕ) (cell : ℕ) (operand : List ℕ) (op : Op)
+    → option_map (make cell) (number_of operand) ≡ Some op
     → ((n : ℕ) → n < 2 ^ 32 → OpRead kind cell (decimal n) (make cell n)) → OpRead kind cell operand op
 number_op make kind cell operand op h says =
     let found = mapped (make cell) (number_of operand) op h in
     let number = number_read operand found.got found.is in
-    subst (OpRead kind cell operand) found.same (subst (λ (w : List ℕ). OpRead kind cell w (make cell found.got)) (sym number.0) (says found.got number.1))
+    subst (OpRead kind cell operand) found.same
+    (subst (λ (w : List ℕ). OpRead kind cell w (make cell found.got)) (sym number.0) (says found.got number.1))
 
-register_op : (make : ℕ → ℕ → Op) (kind : List ℕ) (cell : ℕ) (operand : List ℕ) (op : Op) → option_map (make cell) (register_of operand) ≡ Some op
+register_op : (make : ℕ → ℕ → Op) (kind : List ℕ) (cell : ℕ) (operand : List ℕ) (op : Op)
+    → option_map (make cell) (register_of operand) ≡ Some op
     → ((reg : ℕ) → reg < 32 → OpRead kind cell (register_text reg) (make cell reg)) → OpRead kind cell operand op
 register_op make kind cell operand op h says =
     let found = mapped (make cell) (register_of operand) op h in
     let reg = register_read operand found.got found.is in
-    subst (OpRead kind cell operand) found.same (subst (λ (w : List ℕ). OpRead kind cell w (make cell found.got)) (sym reg.0) (says found.got reg.1))
+    subst (OpRead kind cell operand) found.same
+    (subst (λ (w : List ℕ). OpRead kind cell w (make cell found.got)) (sym reg.0) (says found.got reg.1))
 
-op_read : (kind : List ℕ) (cell : ℕ) (operand : List ℕ) (op : Op) → op_of kind cell operand ≡ Some op → OpRead kind cell operand op
+op_read : (kind : List ℕ) (cell : ℕ) (operand : List ℕ) (op : Op) → op_of kind cell operand ≡ Some op
+    → OpRead kind cell operand op
 unfolding op_of
 op_read kind cell operand op h =
     elim (chosen (bytes_eq kind (codes "add")) _ _ op h) as (λ _. OpRead kind cell operand op) [
-      inl is ↦ number_op Add kind cell operand op is.1 (λ n fits. record {
+      | inl is ↦ number_op Add kind cell operand op is.1 (λ n fits. record {
         same_cell = refl;
         same_kind = (bytes_eq-Decides kind (codes "add")).0 is.0;
         same_operand = refl;
         fits = λ small. (small, fits);
       })
-    | inr other ↦ elim (chosen (bytes_eq kind (codes "put")) _ _ op other.1) as (λ _. OpRead kind cell operand op) [
-      inl is ↦ number_op Put kind cell operand op is.1 (λ n fits. record {
-        same_cell = refl;
-        same_kind = (bytes_eq-Decides kind (codes "put")).0 is.0;
-        same_operand = refl;
-        fits = λ small. (small, fits);
-      })
-    | inr third ↦ elim (chosen (bytes_eq kind (codes "keep")) _ _ op third.1) as (λ _. OpRead kind cell operand op) [
-      inl is ↦ register_op Keep kind cell operand op is.1 (λ reg fits. record {
-        same_cell = refl;
-        same_kind = (bytes_eq-Decides kind (codes "keep")).0 is.0;
-        same_operand = refl;
-        fits = λ small. (small, fits);
-      })
-    | inr last ↦ elim (chosen (bytes_eq kind (codes "top")) _ _ op last.1) as (λ _. OpRead kind cell operand op) [
-      inl is ↦ register_op Top kind cell operand op is.1 (λ reg fits. record {
-        same_cell = refl;
-        same_kind = (bytes_eq-Decides kind (codes "top")).0 is.0;
-        same_operand = refl;
-        fits = λ small. (small, fits);
-      })
-    | inr none ↦ absurd (cc none.1) ] ] ] ]
+      | inr other ↦ elim (chosen (bytes_eq kind (codes "put")) _ _ op other.1) as (λ _. OpRead kind cell operand op) [
+        | inl is ↦ number_op Put kind cell operand op is.1 (λ n fits. record {
+          same_cell = refl;
+          same_kind = (bytes_eq-Decides kind (codes "put")).0 is.0;
+          same_operand = refl;
+          fits = λ small. (small, fits);
+        })
+        | inr more ↦ elim (chosen (bytes_eq kind (codes "keep")) _ _ op more.1) as (λ _. OpRead kind cell operand op) [
+          | inl is ↦ register_op Keep kind cell operand op is.1 (λ reg fits. record {
+            same_cell = refl;
+            same_kind = (bytes_eq-Decides kind (codes "keep")).0 is.0;
+            same_operand = refl;
+            fits = λ small. (small, fits);
+          })
+          | inr end ↦ elim (chosen (bytes_eq kind (codes "top")) _ _ op end.1) as (λ _. OpRead kind cell operand op) [
+            | inl is ↦ register_op Top kind cell operand op is.1 (λ reg fits. record {
+              same_cell = refl;
+              same_kind = (bytes_eq-Decides kind (codes "top")).0 is.0;
+              same_operand = refl;
+              fits = λ small. (small, fits);
+            })
+            | inr none ↦ absurd (cc none.1)
+          ]
+        ]
+      ]
+    ]
 
 op_back : (op : Op) → IsOp op → op_of (kind_text op) (cell_of op) (operand_text op) ≡ Some op
 unfolding op_of
@@ -103,7 +111,8 @@ kind_whole (Top cell reg) = refl
 abbrev spaced : List ℕ → List ℕ → List ℕ → List ℕ → List ℕ
 spaced edge kind cell operand = codes "edge" ++ (32 ∷ (edge ++ (32 ∷ (kind ++ (32 ∷ (cell ++ (32 ∷ operand)))))))
 
-line_spaced : (edge : ℕ) (op : Op) → line_text edge op ≡ spaced (decimal edge) (kind_text op) (decimal (cell_of op)) (operand_text op)
+line_spaced : (edge : ℕ) (op : Op)
+    → line_text edge op ≡ spaced (decimal edge) (kind_text op) (decimal (cell_of op)) (operand_text op)
 line_spaced edge (Add cell amount) = refl
 line_spaced edge (Put cell value) = refl
 line_spaced edge (Keep cell reg) = refl
@@ -113,7 +122,8 @@ line_spaced edge (Top cell reg) = refl
 words_back : (line first edge_word second kind third cell_word operand : List ℕ) (edge cell : ℕ) (op : Op)
     → split_word line ≡ Some (codes "edge", first) → split_word first ≡ Some (edge_word, second)
     → number_of edge_word ≡ Some edge → split_word second ≡ Some (kind, third)
-    → split_word third ≡ Some (cell_word, operand) → number_of cell_word ≡ Some cell → op_of kind cell operand ≡ Some op
+    → split_word third ≡ Some (cell_word, operand) → number_of cell_word ≡ Some cell
+    → op_of kind cell operand ≡ Some op
     → operation_of line ≡ Some (edge, op)
 unfolding operation_of
 words_back line first edge_word second kind third cell_word operand edge cell op a b c d e f g =
@@ -133,16 +143,17 @@ operation_back line edge op is =
     let at_cell = split_back (decimal (cell_of op)) operand (decimal_whole (cell_of op) small) in
     let edge_is = number_back edge is.edge_fits in
     let cell_is = number_back (cell_of op) small in
-    words_back line first (decimal edge) second (kind_text op) third (decimal (cell_of op)) operand edge (cell_of op) op
-    verb at_edge edge_is at_kind at_cell cell_is (op_back op is.op_fits)
+    words_back line first (decimal edge) second (kind_text op) third (decimal (cell_of op)) operand
+    edge (cell_of op) op verb at_edge edge_is at_kind at_cell cell_is (op_back op is.op_fits)
 
 glue : List ℕ → List ℕ → List ℕ
 glue word rest = word ++ (32 ∷ rest)
 
 -- words that were read
-joined : (line : List ℕ) (first : List ℕ × List ℕ) (rest : List ℕ) (second third fourth : List ℕ × List ℕ) (edge cell : ℕ)
-    (op : Op) → split_word line ≡ Some first → after_edge first ≡ Some rest → split_word rest ≡ Some second
-    → number_of second.0 ≡ Some edge → split_word second.1 ≡ Some third → split_word third.1 ≡ Some fourth
+joined : (line : List ℕ) (first : List ℕ × List ℕ) (rest : List ℕ) (second third fourth : List ℕ × List ℕ)
+    (edge cell : ℕ) (op : Op) → split_word line ≡ Some first → after_edge first ≡ Some rest
+    → split_word rest ≡ Some second → number_of second.0 ≡ Some edge → split_word second.1 ≡ Some third
+    → split_word third.1 ≡ Some fourth
     → number_of fourth.0 ≡ Some cell → op_of third.0 cell fourth.1 ≡ Some op → IsLine line edge op
 unfolding glue
 joined line first rest second third fourth edge cell op a b c d e f g h =

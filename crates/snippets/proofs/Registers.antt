@@ -1,5 +1,5 @@
 -- The names of registers.
-use Rattle.std.proofs.Common.{◌≡◌, ℕ, zero, suc, ◌+◌, ◌<◌, Bool, true, false, cond, List, length, get_or, map, Option, Some, None, refl, ap, sym, ◌∙◌, arith}
+use Rattle.std.proofs.Common.{◌≡◌, ℕ, zero, suc, ◌+◌, ◌<◌, Bool, true, false, cond, List, get_or, map, Option, Some, None, refl, ap, sym, ◌∙◌, arith}
 use Rattle.std.specs.List.{find, range_with_len}
 use Rattle.std.specs.Str.{bytes_eq}
 use Rattle.std.proofs.lemmas.List.FromFn.{get_or-map-range_with_len}
@@ -20,7 +20,8 @@ register_back reg small =
 
 by_test : (test : ℕ → Bool) (from count x : ℕ) (b : Bool) → test from ≡ b
     → (find test (range_with_len (from + 1) count) ≡ Some x → (test x ≡ true) × (x < from + 1 + count))
-    → cond b (Some from) (find test (range_with_len (from + 1) count)) ≡ Some x → (test x ≡ true) × (x < from + suc count)
+    → cond b (Some from) (find test (range_with_len (from + 1) count)) ≡ Some x
+    → (test x ≡ true) × (x < from + suc count)
 by_test test from count x true is later h =
     let same : from ≡ x = cc h in
     (ap test (sym same) ∙ is, omega arith)
@@ -29,7 +30,8 @@ by_test test from count x false is later h =
     let below = found.1 in
     (found.0, omega arith)
 
-found_one : (test : ℕ → Bool) (from count x : ℕ) → find test (range_with_len from count) ≡ Some x → (test x ≡ true) × (x < from + count)
+found_one : (test : ℕ → Bool) (from count x : ℕ) → find test (range_with_len from count) ≡ Some x
+    → (test x ≡ true) × (x < from + count)
 found_one test from zero x h = absurd (cc h)
 found_one test from (suc count) x h = by_test test from count x (test from) refl (found_one test (from + 1) count x) h
 

@@ -1,8 +1,7 @@
 -- Words, and the spaces between them.
-use Rattle.std.proofs.Common.{◌≡◌, ℕ, zero, suc, ◌+◌, ◌^◌, ◌<◌, ◌≤◌, ◌==◌, ◌&&◌, not, Bool, true, false, cond, nat_lt, List, [], ◌∷◌, ◌++◌, length, take, drop, get_or, Option, Some, None, refl, ap, ap₂, sym, subst, ◌∙◌, arith, rules, decimal}
+use Rattle.std.proofs.Common.{◌≡◌, ℕ, suc, ◌+◌, ◌^◌, ◌<◌, ◌==◌, not, Bool, true, List, [], ◌∷◌, ◌++◌, length, take, drop, get_or, Some, refl, ap, sym, subst, ◌∙◌, arith, decimal}
 use Rattle.std.specs.Prelude.{nat_le}
 use Rattle.std.specs.List.{list_all, position, position_or_len}
-use Rattle.std.specs.Option.{option_map}
 use Rattle.std.proofs.lemmas.Bool.{and_parts, and_from, lt-ltb, leb-true, eqb-true, ne_eqb}
 use Rattle.std.proofs.lemmas.List.{length-append, take-append-drop}
 use Rattle.std.proofs.lemmas.List.Quantifiers.{position-Some}
@@ -34,7 +33,8 @@ digits_whole (byte ∷ word) h =
 pub decimal_whole : (n : ℕ) → n < 2 ^ 32 → is_whole (decimal n) ≡ true
 decimal_whole n fits = digits_whole (decimal n) (digits_decimal own n (omega arith))
 
-space_after : (word rest : List ℕ) → is_whole word ≡ true → position_or_len is_space (word ++ (32 ∷ rest)) ≡ length word
+space_after : (word rest : List ℕ) → is_whole word ≡ true
+    → position_or_len is_space (word ++ (32 ∷ rest)) ≡ length word
 space_after [] rest h = refl
 space_after (byte ∷ word) rest h =
     let parts = and_parts (not (is_space byte)) (is_whole word) h in
@@ -48,10 +48,12 @@ split_back word rest h =
     let place = space_after word rest h in
     let long = length-append word (32 ∷ rest) in
     let within : length word < length (word ++ (32 ∷ rest)) = omega arith in
-    rw (place, lt-ltb (length word) (length (word ++ (32 ∷ rest))) within, take-append_seam word (32 ∷ rest), drop-append-add word (32 ∷ rest) 1) refl
+    let test = lt-ltb (length word) (length (word ++ (32 ∷ rest))) within in
+    rw (place, test, take-append_seam word (32 ∷ rest), drop-append-add word (32 ∷ rest) 1) refl
 
 -- and what was read is a word and the rest
-pub split_read : (bytes : List ℕ) (parts : List ℕ × List ℕ) → split_word bytes ≡ Some parts → bytes ≡ parts.0 ++ (32 ∷ parts.1)
+pub split_read : (bytes : List ℕ) (parts : List ℕ × List ℕ) → split_word bytes ≡ Some parts
+    → bytes ≡ parts.0 ++ (32 ∷ parts.1)
 unfolding split_word
 split_read bytes parts h =
     let found = mapped (λ (end : ℕ). (take end bytes, drop (end + 1) bytes)) (position is_space bytes) parts h in
@@ -60,5 +62,6 @@ split_read bytes parts h =
     let here = drop-cons bytes found.got 0 place.0 in
     let next : suc found.got ≡ found.got + 1 = omega arith in
     let rest : drop found.got bytes ≡ 32 ∷ drop (found.got + 1) bytes = here ∙ rw (space, next) refl in
-    let whole : bytes ≡ take found.got bytes ++ (32 ∷ drop (found.got + 1) bytes) = sym (take-append-drop found.got bytes) ∙ ap (λ (r : List ℕ). take found.got bytes ++ r) rest in
+    let whole : bytes ≡ take found.got bytes ++ (32 ∷ drop (found.got + 1) bytes) =
+    sym (take-append-drop found.got bytes) ∙ ap (λ (r : List ℕ). take found.got bytes ++ r) rest in
     subst (λ (p : List ℕ × List ℕ). bytes ≡ p.0 ++ (32 ∷ p.1)) found.same whole

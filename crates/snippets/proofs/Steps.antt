@@ -1,5 +1,5 @@
 -- Steps of a reading, one after the other.
-use Rattle.std.proofs.Common.{◌≡◌, ℕ, Bool, true, false, Option, Some, None, ◌⊎◌, inl, inr, if◌then◌else◌, refl}
+use Rattle.std.proofs.Common.{◌≡◌, Bool, true, false, Option, Some, None, ◌⊎◌, inl, inr, if◌then◌else◌, refl}
 use Rattle.std.specs.Option.{option_map}
 use Rattle.snippets.specs.Parts.{◌>>=◌}
 

@@ -1,7 +1,6 @@
 -- Lines and scripts that compute: what lines are spelled, what others say, and what comes of them.
-use Rattle.std.specs.Prelude.{◌≡◌, ℕ, ◌+◌, List, [], ◌∷◌, ◌++◌, map, Some, None, codes, refl}
+use Rattle.std.specs.Prelude.{◌≡◌, ℕ, List, [], ◌∷◌, ◌++◌, map, Some, None, codes, refl}
 use Rattle.std.specs.Fmt.{digits}
-use Rattle.snippets.specs.declared.snippet.Op.{Op}
 use Rattle.snippets.specs.declared.snippet.Op.TheVariants.{Add, Put, Keep, Top}
 use Rattle.snippets.specs.declared.script.ScriptFault.TheVariants as faults
 use Rattle.snippets.specs.Grammar.{Said, Nothing, Does, Wrong, lines_of, line_text, register_text}
@@ -11,12 +10,13 @@ use Rattle.snippets.specs.Parts.{split_word, number_of, register_of, op_of, oper
 -- how lines are spelled
 
 spelled : line_text 1 (Add 0 3) ∷ line_text 0 (Put 10 4294967295) ∷ line_text 2 (Keep 2 8) ∷ line_text 1 (Top 1 2) ∷ []
-    ≡ codes "edge 1 add 0 3" ∷ codes "edge 0 put 10 4294967295" ∷ codes "edge 2 keep 2 %o0" ∷ codes "edge 1 top 1 %g2" ∷ []
+    ≡ codes "edge 1 add 0 3" ∷ codes "edge 0 put 10 4294967295"
+    ∷ codes "edge 2 keep 2 %o0" ∷ codes "edge 1 top 1 %g2" ∷ []
 unfolding digits
 spelled = refl
 
-registers : map register_text (0 ∷ 7 ∷ 8 ∷ 14 ∷ 16 ∷ 23 ∷ 24 ∷ 30 ∷ 31 ∷ [])
-    ≡ codes "%g0" ∷ codes "%g7" ∷ codes "%o0" ∷ codes "%o6" ∷ codes "%l0" ∷ codes "%l7" ∷ codes "%i0" ∷ codes "%i6" ∷ codes "%i7" ∷ []
+registers : map register_text (0 ∷ 7 ∷ 8 ∷ 16 ∷ 23 ∷ 24 ∷ 31 ∷ [])
+    ≡ codes "%g0" ∷ codes "%g7" ∷ codes "%o0" ∷ codes "%l0" ∷ codes "%l7" ∷ codes "%i0" ∷ codes "%i7" ∷ []
 registers = refl
 
 -- the last line may lack its newline, and an empty line says nothing
@@ -26,13 +26,18 @@ lines = refl
 
 -- what lines say
 
-good : map said_of (codes "edge 1 add 0 3" ∷ codes "edge 0 put 10 0" ∷ codes "edge 2 keep 2 %o0" ∷ codes "edge 1 top 1 %g2" ∷ [] ∷ codes "# edge" ∷ [])
+abbrev inside : List (List ℕ)
+inside = codes "edge 1 add 0 3" ∷ codes "edge 0 put 10 0" ∷ codes "edge 2 keep 2 %o0" ∷ codes "edge 1 top 1 %g2"
+    ∷ [] ∷ codes "# edge" ∷ []
+
+good : map said_of inside
     ≡ Does 1 (Add 0 3) ∷ Does 0 (Put 10 0) ∷ Does 2 (Keep 2 8) ∷ Does 1 (Top 1 2) ∷ Nothing ∷ Nothing ∷ []
 unfolding said_of operation_of op_of register_of number_of split_word
 good = refl
 
 abbrev outside : List (List ℕ)
-outside = codes "edge 1  add 0 1" ∷ codes " edge 1 add 0 1" ∷ codes "edge 1 add 0 1 " ∷ codes "edge 1 add 0" ∷ codes "edge"
+outside =
+    codes "edge 1  add 0 1" ∷ codes " edge 1 add 0 1" ∷ codes "edge 1 add 0 1 " ∷ codes "edge 1 add 0" ∷ codes "edge"
     ∷ codes "edge 01 add 0 1" ∷ codes "edge 1 add 0 00" ∷ codes "edge 1 add 0 4294967296" ∷ codes "edge 1 add 0 +1"
     ∷ codes "edge 1 add 0 " ∷ codes "edge 1 sub 0 1" ∷ codes "Edge 1 add 0 1" ∷ codes "edge 1 add 0 %g1"
     ∷ codes "edge 1 keep 0 1" ∷ codes "edge 1 keep 0 %g8" ∷ codes "edge 1 keep 0 %sp" ∷ codes "edge 1 top 0 g1" ∷ []
@@ -57,10 +62,15 @@ no_fault = refl
 
 -- eight operations on an edge
 abbrev eight : List Said
-eight = Does 1 (Put 0 0) ∷ Does 1 (Put 0 1) ∷ Does 1 (Put 0 2) ∷ Does 1 (Put 0 3) ∷ Does 1 (Put 0 4) ∷ Does 1 (Put 0 5)
+eight =
+    Does 1 (Put 0 0) ∷ Does 1 (Put 0 1) ∷ Does 1 (Put 0 2) ∷ Does 1 (Put 0 3) ∷ Does 1 (Put 0 4) ∷ Does 1 (Put 0 5)
     ∷ Does 1 (Put 0 6) ∷ Does 1 (Put 0 7) ∷ []
 
 -- each cause alone, the first of several, and what just isn't one
-causes : map (fault_of 9 eight) (Wrong ∷ Does 9 (Add 4194304 1) ∷ Does 1 (Add 4194304 1) ∷ Does 1 (Add 4194303 1) ∷ Does 8 (Add 4194303 1) ∷ Nothing ∷ [])
+abbrev next : List Said
+next = Wrong ∷ Does 9 (Add 4194304 1) ∷ Does 1 (Add 4194304 1) ∷ Does 1 (Add 4194303 1) ∷ Does 8 (Add 4194303 1)
+    ∷ Nothing ∷ []
+
+causes : map (fault_of 9 eight) next
     ≡ Some (faults.Line 9) ∷ Some (faults.Edge 9) ∷ Some (faults.Cell 9) ∷ Some (faults.Ops 9) ∷ None ∷ None ∷ []
 causes = refl

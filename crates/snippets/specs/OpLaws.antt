@@ -20,12 +20,14 @@ inside_of-ops inside is =
     ap₂ made (fill ∙ rest ∙ take-append-drop inside.count inside.ops) count
 
 -- one operation more
-pub filled_more : (inside : Inside) (op : Op) → IsFilled inside → inside.count < 8 → IsFilled (record { ops = slice_set inside.ops inside.count op; count = inside.count + 1 })
+pub filled_more : (inside : Inside) (op : Op) → IsFilled inside → inside.count < 8
+    → IsFilled (record { ops = slice_set inside.ops inside.count op; count = inside.count + 1 })
 filled_more inside op is room = record {
   few = omega arith;
   size = length-set inside.ops inside.count op ∙ is.size;
   rest =
-      drop-set-lt (inside.count + 1) inside.ops inside.count op (omega arith) ∙ sym (drop-drop 1 inside.count inside.ops)
+      drop-set-lt (inside.count + 1) inside.ops inside.count op (omega arith)
+      ∙ sym (drop-drop 1 inside.count inside.ops)
       ∙ ap (drop 1) is.rest ∙ shorter (8 - inside.count) (8 - (inside.count + 1)) (omega arith);
 }
   where

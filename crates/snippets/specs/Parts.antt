@@ -73,8 +73,12 @@ said_of line =
 abbrev pub padded : ℕ → List (List Op) → List (List Op)
 padded count snips = snips ++ replicate (count - length snips) []
 
+-- the operations on an edge
+abbrev pub ops_at : ℕ → List (List Op) → List Op
+ops_at edge snips = get_or snips edge []
+
 abbrev pub with_op : ℕ → Op → List (List Op) → List (List Op)
-with_op edge op snips = slice_set (padded (edge + 1) snips) edge (get_or snips edge [] ++ op ∷ [])
+with_op edge op snips = slice_set (padded (edge + 1) snips) edge (ops_at edge snips ++ op ∷ [])
 
 abbrev pub snips_after : Said → List (List Op) → List (List Op)
 snips_after Nothing snips = snips
@@ -93,7 +97,7 @@ fault_in edges number snips Wrong = Some (faults.Line number)
 fault_in edges number snips (Does edge op) =
     if nat_le edges edge then Some (faults.Edge number) else
     (if nat_le (2 ^ 22) (cell_of op) then Some (faults.Cell number) else
-    (if nat_le 8 (length (get_or snips edge [])) then Some (faults.Ops number) else None))
+    (if nat_le 8 (length (ops_at edge snips)) then Some (faults.Ops number) else None))
 
 abbrev pub IsCause : ScriptFault → Option ScriptFault → Type 0
 IsCause (faults.Line number) cause = cause ≡ Some (faults.Line number)

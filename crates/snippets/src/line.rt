@@ -4,7 +4,8 @@ ghost use Rattle.std.specs.List.{list_all, position};
 ghost use Rattle.std.specs.Option.{option_map};
 ghost use Rattle.std.specs.Str.{bytes_eq};
 ghost use Rattle.snippets.specs.Grammar.{register_text};
-ghost use Rattle.snippets.specs.Parts.{is_decimal, is_digit, number_of, op_of, operation_of, register_of, said_of, split_word};
+ghost use Rattle.snippets.specs.Parts.{is_decimal, is_digit, number_of, op_of, operation_of, register_of};
+ghost use Rattle.snippets.specs.Parts.{said_of, split_word};
 
 use crate::snippet::Op;
 use std::str;
@@ -14,10 +15,7 @@ use v8_decode::Reg;
 #[derive(Clone, Copy, Debug, Drop)]
 pub(crate) enum Said {
     Nothing,
-    Does {
-        edge: u32,
-        op: Op,
-    },
+    Does { edge: u32, op: Op },
     /// What is outside the grammar.
     Wrong,
 }
@@ -152,9 +150,5 @@ fn register_text(number: u8) -> [u8; 3]
     ensures { result ≡ register_text number }
 {
     let banks = b"goli";
-    [
-        b'%',
-        banks[usize::from(number / 8)],
-        b'0' + number % 8,
-    ]
+    [b'%', banks[usize::from(number / 8)], b'0' + number % 8]
 }

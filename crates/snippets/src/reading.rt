@@ -1,12 +1,14 @@
 //! Reading a script.
-ghost use Rattle.std.specs.Prelude.{◌≡◌, ◌≤◌, ◌<◌, ◌+◌, ◌^◌, ◌++◌, ◌∷◌, [], None, max, get_or, length, List};
+ghost use Rattle.std.specs.Prelude.{◌≡◌, ◌≤◌, ◌<◌, ◌+◌, ◌^◌, ◌++◌, ◌∷◌, [], None, max, length, List};
 ghost use Rattle.std.specs.Prelude.{IfErr, MatchBool, OnOk, slice_set, vec_len};
+ghost use Rattle.std.specs.Bool.{OnFalse, OnTrue};
 ghost use Rattle.snippets.specs.declared.line.Said.{Said as Meaning};
 ghost use Rattle.snippets.specs.declared.line.Said.TheVariants.{Does};
 ghost use Rattle.snippets.specs.Ops.{cell_of};
 ghost use Rattle.snippets.specs.Grammar.{AllSay, lines_of};
 ghost use Rattle.snippets.specs.Scripts.{Answers};
-ghost use Rattle.snippets.specs.Parts.{IsCause, cells_after, fault_in, padded, said_of, snips_after, with_op};
+ghost use Rattle.snippets.specs.Parts.{IsCause, cells_after, fault_in, ops_at, padded, said_of, snips_after};
+ghost use Rattle.snippets.specs.Parts.{with_op};
 
 use crate::line::{Said, read_line};
 use crate::script::{Script, ScriptFault};
@@ -36,16 +38,11 @@ pub fn read_script(alloc: Global, bytes: &[u8], edges: u32) -> Result<Script, Sc
 }
 
 /// Does what a line says, the one with this number.
-fn take_line(
-    script: &mut Script,
-    line: &[u8],
-    number: u32,
-    edges: u32,
-) -> Result<(), ScriptFault>
+fn take_line(script: &mut Script, line: &[u8], number: u32, edges: u32) -> Result<(), ScriptFault>
     ensures good { OnOk result (fault_in edges number script.old.snips.items (said_of line.now) ≡ None) }
     ensures snips { OnOk result (script.new.snips.items ≡ snips_after (said_of line.now) script.old.snips.items) }
     ensures cells { OnOk result (script.new.cells ≡ cells_after (said_of line.now) script.old.cells) }
-    ensures fault { IfErr result (λ fault. IsCause fault (fault_in edges number script.old.snips.items (said_of line.now))) }
+    ensures fault { IfErr result (λ f. IsCause f (fault_in edges number script.old.snips.items (said_of line.now))) }
 {
     match read_line(line) {
         Said::Nothing => {}
@@ -56,17 +53,11 @@ fn take_line(
 }
 
 /// Adds the operation of the line with this number.
-fn add(
-    script: &mut Script,
-    edge: u32,
-    op: Op,
-    number: u32,
-    edges: u32,
-) -> Result<(), ScriptFault>
+fn add(script: &mut Script, edge: u32, op: Op, number: u32, edges: u32) -> Result<(), ScriptFault>
     ensures good { OnOk result (fault_in edges number script.old.snips.items (Does edge op) ≡ None) }
     ensures snips { OnOk result (script.new.snips.items ≡ with_op edge op script.old.snips.items) }
     ensures cells { OnOk result (script.new.cells ≡ max script.old.cells (cell_of op + 1)) }
-    ensures fault { IfErr result (λ fault. IsCause fault (fault_in edges number script.old.snips.items (Does edge op))) }
+    ensures fault { IfErr result (λ f. IsCause f (fault_in edges number script.old.snips.items (Does edge op))) }
 {
     if edge >= edges {
         return Err(ScriptFault::Edge(number));
@@ -94,8 +85,10 @@ fn reach(snips: &mut Vec<Snippet>, count: usize) -> Result<(), AllocError>
 /// Adds an operation to the snippet of an edge. Answers false, and changes nothing, where that has eight.
 fn push_at(snips: &mut Vec<Snippet>, edge: usize, op: Op) -> bool
     requires { edge < vec_len snips.old }
-    ensures room { MatchBool result (length (get_or snips.old.items edge []) < 8) (length (get_or snips.old.items edge []) ≡ 8) }
-    ensures snips { MatchBool result (snips.new.items ≡ slice_set snips.old.items edge (get_or snips.old.items edge [] ++ op ∷ [])) (snips.new.items ≡ snips.old.items) }
+    ensures room { let ops = ops_at edge snips.old.items in MatchBool result (length ops < 8) (length ops ≡ 8) }
+    ensures added { let ops = ops_at edge snips.old.items in
+        OnTrue result (snips.new.items ≡ slice_set snips.old.items edge (ops ++ op ∷ [])) }
+    ensures same { OnFalse result (snips.new.items ≡ snips.old.items) }
 {
     let snippet = &mut snips[edge];
     snippet.push(op)

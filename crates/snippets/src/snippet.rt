@@ -78,7 +78,8 @@ impl Snippet {
 
     /// Adds an operation behind the others. Answers false, and changes nothing, where there are eight.
     pub fn push(&mut self, op: Op) -> bool
-        ensures { MatchBool result (length self.old < 8 × self.new ≡ self.old ++ op ∷ []) (length self.old ≡ 8 × self.new ≡ self.old) }
+        ensures room { MatchBool result (length self.old < 8) (length self.old ≡ 8) }
+        ensures ops { MatchBool result (self.new ≡ self.old ++ op ∷ []) (self.new ≡ self.old) }
     {
         if self.count >= MOST_OPS {
             return false;
