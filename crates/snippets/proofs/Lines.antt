@@ -1,5 +1,5 @@
 -- What lines say.
-use Rattle.std.proofs.Common.{◌≡◌, ℕ, Bool, true, false, ◌==◌, List, [], ◌∷◌, length, map, Option, Some, None, refl, ap, sym, subst, ◌∙◌, arith}
+use Rattle.std.proofs.Common.{◌≡◌, ℕ, Bool, true, false, ◌==◌, List, [], ◌∷◌, length, map, Option, Some, None, refl, ap, ap₂, sym, subst, ◌∙◌, arith}
 use Rattle.std.proofs.lemmas.Bool.{eqb-true, eq-eqb, ne_eqb}
 use Rattle.snippets.specs.declared.snippet.Op.{Op}
 use Rattle.snippets.specs.Grammar.{AllSay, IsLine, IsSilent, Says, Said, Nothing, Does, Wrong}
@@ -63,5 +63,13 @@ pub all_say : (lines : List (List ℕ)) → AllSay lines (map said_of lines)
 all_say [] = tt
 all_say (line ∷ lines) = (said_says line, all_say lines)
 
-pub one_thing : (line : List ℕ) → (said : Said) × Says line said × ((other : Said) → Says line other → other ≡ said)
-one_thing line = (said_of line, said_says line, said_alone line)
+all_alone : (lines : List (List ℕ)) (others : List Said) → AllSay lines others → others ≡ map said_of lines
+all_alone [] [] all = refl
+all_alone [] (other ∷ others) all = absurd all
+all_alone (line ∷ lines) [] all = absurd all
+all_alone (line ∷ lines) (other ∷ others) all =
+    ap₂ (λ (said : Said) (rest : List Said). said ∷ rest) (said_alone line other all.0) (all_alone lines others all.1)
+
+pub one_thing : (lines : List (List ℕ))
+    → (said : List Said) × AllSay lines said × ((others : List Said) → AllSay lines others → others ≡ said)
+one_thing lines = (map said_of lines, all_say lines, all_alone lines)

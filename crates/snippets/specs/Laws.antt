@@ -2,13 +2,13 @@
 use Rattle.std.specs.Prelude.{◌≡◌, ◌<◌, ◌≤◌, ℕ, ◌^◌, List, length}
 use Rattle.std.specs.List.{All}
 use Rattle.snippets.specs.Ops.{cell_of}
-use Rattle.snippets.specs.Grammar.{Said, Says}
+use Rattle.snippets.specs.Grammar.{AllSay, Said}
 use Rattle.snippets.specs.Scripts.{IsGood, cell_end, edge_end, end_of, ops_on}
 
--- A line says one thing.
+-- Lines say something, and nothing else.
 abbrev pub LinesSayOneThing : Type 0
-LinesSayOneThing =
-    (line : List ℕ) → (said : Said) × Says line said × ((other : Said) → Says line other → other ≡ said)
+LinesSayOneThing = (lines : List (List ℕ))
+    → (said : List Said) × AllSay lines said × ((others : List Said) → AllSay lines others → others ≡ said)
 
 -- Its edges are there, its cells are few and below their number, and so are its operations on each edge.
 pub record IsWithin (edges : ℕ) (said : List Said) : Type 0 where

@@ -15,7 +15,7 @@ pub use reading::read_script;
 pub use script::{Script, ScriptFault};
 pub use snippet::{Op, Snippet};
 
-/// Each line says just one thing: nothing, an operation on an edge, or what is outside the grammar.
+/// Of any lines, each says just one thing: nothing, an operation on an edge, or what is outside the grammar.
 pub fn lines_say_one_thing()
     ensures { LinesSayOneThing }
 {}
