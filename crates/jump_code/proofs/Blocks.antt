@@ -1,0 +1,101 @@
+-- What the proofs of these words share.
+use Rattle.std.proofs.Common.{◌≡◌, ◌≢◌, ℕ, suc, ◌+◌, ◌-◌, ◌*◌, ◌/◌, ◌%◌, ◌^◌, ◌<◌, ◌≤◌, inl, inr, true, false, Ok, refl, ap, ◌∙◌, subst, arith}
+use Rattle.std.specs.Prelude.{◌==◌, pos}
+use Rattle.std.proofs.lemmas.Bool.Decides.{nat_tests}
+use Rattle.v8_decode.specs.declared.Op2.{Op2}
+use Rattle.v8_decode.specs.declared.Op2.TheVariants.{Imm}
+use Rattle.v8_decode.specs.declared.AluOp.TheVariants as ops
+use Rattle.v8_alu.specs.Alu.{alu_of}
+use Rattle.v8_alu.specs.Numbers.{wrapped}
+use Rattle.v8_memory.specs.Regions.{Memory, code_of}
+use Rattle.v8_step.specs.State.{State, register_of, operand_of, sum_of}
+use Rattle.v8_step.specs.Valid.{IsValid, IsValidMemory}
+use Rattle.v8_step.proofs.ValidStates.{register_of-range}
+use Rattle.v8_step.proofs.ValidSteps.{run-valid}
+use Rattle.code_runs.specs.Page.{page_word}
+use Rattle.code_runs.specs.Straight.{IsReady, StandIn}
+use Rattle.code_runs.specs.TwoRegisters.{HasScratch, Works, Gives, BlockRules}
+use Rattle.code_runs.proofs.LongJump.{says_at}
+use Rattle.code_runs.proofs.TwoRegisters.{block_rules}
+use Rattle.jump_code.specs.Links.{address_into}
+use Rattle.jump_code.specs.PageWords.{IsPageWord}
+
+pub four : (n : ℕ) → n % 4 ≡ 0 → (n % 4 == 0) ≡ true
+four n e = ap (λ z. z == 0) e
+
+pub not_four : (n : ℕ) → n % 4 ≢ 0 → (n % 4 == 0) ≡ false
+not_four n ne = grind (arith, nat_tests)
+
+-- ---- words of the page
+
+pub word0 : IsPageWord (page_word 0)
+word0 = inl refl
+
+pub word1 : IsPageWord (page_word 1)
+word1 = inr (inl refl)
+
+pub word2 : IsPageWord (page_word 2)
+word2 = inr (inr (inl refl))
+
+pub word3 : IsPageWord (page_word 3)
+word3 = inr (inr (inr (inl refl)))
+
+pub second_word : (z : ℕ) → z ≡ page_word 1 → IsPageWord z
+second_word z e = inr (inl e)
+
+-- ---- blocks
+
+pub scratch : (s : State) (count a b : ℕ) → IsValid s → IsReady s → s.pc + 4 * count < 2 ^ 32 - 4 → 0 < a → a < 32
+    → 0 < b → b < 32 → a ≢ b → HasScratch s count a b
+scratch s count a b valid ready low some below others within differ = record {
+  ready = ready;
+  low = low;
+  registers = valid.registers.count;
+  window = valid.window;
+  first_some = some;
+  first_below = below;
+  second_some = others;
+  second_below = within;
+  differ = differ;
+}
+
+pub after_valid : (s : State) (count : ℕ) (May : ℕ → Type 0) (a b n : ℕ) (m : Memory) (x y : ℕ) → IsValid s
+    → (w : Works s count May a b n m x y) → IsValid w.after
+after_valid s count May a b n m x y v w = subst IsValid w.path.steps (run-valid s n v)
+
+pub memory_valid : (s : State) (count : ℕ) (May : ℕ → Type 0) (a b n : ℕ) (m : Memory) (x y : ℕ) → IsValid s
+    → Works s count May a b n m x y → IsValidMemory m
+memory_valid s count May a b n m x y v w =
+    let k = after_valid s count May a b n m x y v w in subst IsValidMemory w.alike.memory k.memory
+
+pub first_range : (s : State) (count : ℕ) (May : ℕ → Type 0) (a b n : ℕ) (m : Memory) (x y : ℕ) → IsValid s
+    → Works s count May a b n m x y → x < 2 ^ 32
+first_range s count May a b n m x y v w =
+    subst (λ z. z < 2 ^ 32) w.alike.first (register_of-range w.after a (after_valid s count May a b n m x y v w))
+
+-- ---- sums, and addresses
+
+pub gives_sum : (u : State) (rs1 : ℕ) (op2 : Op2) (t : ℕ) → sum_of u rs1 op2 ≡ t → Gives ops.ADD rs1 op2 t u
+unfolding alu_of
+gives_sum u rs1 op2 t e =
+    ap (λ z. Ok (record { value = z; codes = u.codes; y = u.y }))
+    ((let f : wrapped (register_of u rs1 + operand_of u op2 + 0) ≡ wrapped (register_of u rs1 + operand_of u op2) = ap
+    wrapped (omega arith) in f) ∙ e)
+
+module _ (s : State) (count a b : ℕ) (c : HasScratch s count a b) where
+  rules : BlockRules s count IsPageWord a b
+  rules = block_rules s count IsPageWord a b c
+
+  -- the second register takes an address
+  pub addressed : (n : ℕ) (m : Memory) (x y address : ℕ) → Works s count IsPageWord a b n m x y → address < 2 ^ 32
+      → suc (suc n) ≤ count → StandIn (code_of s.memory) (s.pc + 4 * n) (address_into b address)
+      → Works s count IsPageWord a b (suc (suc n)) m x address
+  addressed n m x y address w short room stand =
+      let high : Works s count IsPageWord a b (suc n) m x (1024 * (address / 1024)) =
+      rules.sethi_second n m x y (address / 1024) (1024 * (address / 1024)) w (omega arith, stand.0)
+      (let e : wrapped (1024 * (address / 1024)) ≡ 1024 * (address / 1024) = omega arith in e) in
+      rules.alu_second (suc n) m x (1024 * (address / 1024)) ops.ADD b (Imm (pos (address % 1024))) address high
+      (omega arith, says_at (code_of s.memory) _ _ _ (omega arith) stand.1.0)
+      (λ u k. gives_sum u b (Imm (pos (address % 1024))) address
+      (ap (λ z. wrapped (z + wrapped (address % 1024))) k.second
+      ∙ (let e : wrapped (1024 * (address / 1024) + wrapped (address % 1024)) ≡ address = omega arith in e)))

@@ -1,0 +1,128 @@
+-- Where the words of laid pieces stand.
+use Rattle.std.proofs.Common.{◌≡◌, ℕ, suc, ◌+◌, ◌*◌, Some, Option, List, [], ◌∷◌, ◌++◌, length, map, append-nil, refl, ap, sym, ◌∙◌, subst, arith}
+use Rattle.std.specs.Prelude.{slice_get}
+use Rattle.eel_base.specs.declared.numbers.Addr.{Addr}
+use Rattle.eel_base.specs.declared.numbers.PieceNo.{PieceNo}
+use Rattle.v8_decode.specs.declared.Instr.{Instr}
+use Rattle.v8_memory.specs.Regions.{Memory, code_of}
+use Rattle.code_runs.specs.LongJump.{long_jump}
+use Rattle.code_runs.specs.Straight.{StandIn, HasWords}
+use Rattle.layout.specs.declared.items.Item.{Item}
+use Rattle.layout.specs.declared.items.Item.TheVariants as it
+use Rattle.layout.specs.Emitting.{words_of}
+use Rattle.layout.specs.Laid.{Placement, Stands, item_in}
+use Rattle.layout.specs.Running.{HasCode}
+use Rattle.layout.proofs.Going.{word_is}
+use Rattle.jump_code.proofs.Fitting.{words_mean, link_fits, jump_fits, long_jump_fits, as_many, Fit}
+use Rattle.jump_code.specs.Jumps.{jump_image}
+use Rattle.jump_code.specs.Leaving.{foreign}
+use Rattle.jump_code.specs.Links.{link}
+use Rattle.jump_code.specs.LookUps.{look_up_first, look_up_last}
+use Rattle.jump_code.specs.Pieces.{word_items, marked_piece, out_piece, MarkedIsLaid, OutIsLaid, PiecesAreLaid}
+
+-- ---- items that stand one after the other
+
+module _ (base : ℕ) (p : Placement) (m : Memory) (has : HasCode base p.code m) (place : ℕ → ℕ) where
+  -- from item n on
+  abbrev AllStand : List Item → ℕ → Type 0
+  AllStand [] n = Unit {0}
+  AllStand (x ∷ xs) n = Stands base p x (place n) (place (suc n)) × AllStand xs (suc n)
+
+  all_stand : (items : List Item) (n : ℕ)
+      → ((j : ℕ) (x : Item) → slice_get items j ≡ Some x → Stands base p x (place (n + j)) (place (suc (n + j))))
+      → AllStand items n
+  all_stand [] n h = tt
+  all_stand (x ∷ xs) n h = (
+    subst (λ z. Stands base p x (place z) (place (suc z))) (let e : n + 0 ≡ n = omega arith in e) (h 0 x refl),
+    all_stand xs (suc n) (λ j y e. subst (λ z. Stands base p y (place z) (place (suc z)))
+        (let f : n + suc j ≡ suc n + j = omega arith in f) (h (suc j) y e)),
+  )
+
+  record Stood (n count : ℕ) (rest : List Item) : Type 0 where
+    pub end : place (n + count) ≡ place n + 4 * count
+    pub after : AllStand rest (n + count)
+
+  words_stand : (ws : List ℕ) (rest : List Item) (n : ℕ) → AllStand (map it.Word ws ++ rest) n
+      → HasWords (code_of m) (place n) ws × Stood n (length ws) rest
+  words_stand [] rest n h = (
+    tt,
+    record {
+      end = (let e : n + 0 ≡ n = omega arith in ap place e ∙ omega arith);
+      after = subst (AllStand rest) (let e : n ≡ n + 0 = omega arith in e) h;
+    },
+  )
+  words_stand (w ∷ ws) rest n h =
+      let more = words_stand ws rest (suc n) h.1 in
+      let e : suc n + length ws ≡ n + suc (length ws) = omega arith in
+      let step = h.0.0 in
+      let end = more.1.end in (
+        (word_is base (place n) w p.code m has h.0.1, subst (λ z. HasWords (code_of m) z ws) step more.0),
+        record { end = ap place (sym e) ∙ end ∙ omega arith; after = subst (AllStand rest) e more.1.after },
+      )
+
+  -- a piece that is words alone
+  only_words : (xs : List Instr) → Fit xs → AllStand (word_items xs) 0 → StandIn (code_of m) (place 0) xs
+  only_words xs fit h =
+      words_mean (code_of m) (place 0) xs fit
+      (words_stand (words_of xs) [] 0 (subst (λ (z : List Item). AllStand z 0) (sym (append-nil (word_items xs))) h)).0
+
+  marked_laid : (xs : List Instr) (address : Addr) (node : ℕ) (way : PieceNo) → Fit xs
+      → AllStand (marked_piece xs address node way) 0 → MarkedIsLaid (code_of m) place xs
+  marked_laid xs address node way fit h =
+      let w = words_stand (words_of xs) (it.EndMark ∷ it.Jump way ∷ []) 1 h.1 in
+      record {
+        lo = h.0;
+        words = words_mean (code_of m) (place 1) xs fit w.0;
+        hi = subst (λ z. place (1 + z) ≡ place 1 + 4 * z) (as_many xs) w.1.end;
+      }
+
+  out_laid : (address : Addr) (node word : ℕ) (translator : List ℕ) → length translator ≡ 12
+      → AllStand (out_piece address node word [] translator) 0 → OutIsLaid (code_of m) place word translator
+  out_laid address node word translator twelve h =
+      let w1 = words_stand (words_of look_up_first) (map it.Word translator ++ word_items look_up_last) 3 h.1.1.1 in
+      let w2 = words_stand translator (word_items look_up_last) 6 w1.1.after in
+      let w3 = words_stand (words_of look_up_last) [] (6 + length translator)
+      (subst (λ (z : List Item). AllStand z (6 + length translator)) (sym (append-nil (word_items look_up_last)))
+      w2.1.after) in
+      let p2 = h.1.0.0 in
+      let p3 = h.1.1.0 in
+      let e1 = w1.1.end in
+      let e2 = w2.1.end in
+      record {
+        lo = h.0;
+        hi = h.1.0.0;
+        slot = word_is base (place 1) word p.code m has h.1.0.1;
+        first = subst (λ z. StandIn (code_of m) z look_up_first)
+            (let e : place 3 ≡ place 1 + 4 = omega arith in e)
+            (words_mean (code_of m) (place 3) look_up_first (refl, refl, (refl, refl, (refl, refl, tt))) w1.0);
+        middle = subst (λ z. HasWords (code_of m) z translator)
+            (let e : place 6 ≡ place 1 + 16 = omega arith in e) w2.0;
+        last = subst (λ z. StandIn (code_of m) z look_up_last)
+            (let e : place (6 + length translator) ≡ place 1 + 64 = omega arith in e)
+            (words_mean (code_of m) (place (6 + length translator)) look_up_last
+            (refl, refl, (refl, refl, (refl, refl, tt))) w3.0);
+      }
+
+pub pieces_are_laid : PiecesAreLaid
+pieces_are_laid pieces base p place laid m has k piece is =
+    let stand : AllStand base p m has (place k) piece 0 =
+    all_stand base p m has (place k) piece 0
+    (λ j x e. subst (λ z. Stands base p x (place k z) (place k (suc z))) (let f : j ≡ 0 + j = omega arith in f)
+    (laid.items k j x (ap (λ (z : Option (List Item)). item_in z j) is ∙ e))) in
+    let stands = λ (z : List Item) (e : piece ≡ z).
+    subst (λ (o : List Item). AllStand base p m has (place k) o 0) e stand in
+    record {
+      jump = λ x rd rs1 op2 address node way apart fits low short e.
+          marked_laid base p m has (place k) (jump_image x rd rs1 op2 address.0) address node way
+          (jump_fits x rd rs1 op2 address.0 apart fits low short) (stands _ e);
+      call = λ address node way short e.
+          marked_laid base p m has (place k) (link 15 address.0) address node way
+          (link_fits 15 address.0 (omega arith) short) (stands _ e);
+      out = λ address node word translator twelve e.
+          out_laid base p m has (place k) address node word translator twelve (stands _ e);
+      leaving = λ e.
+          only_words base p m has (place k) foreign
+          (refl, refl, (refl, refl, (refl, refl, (refl, refl, tt)))) (stands _ e);
+      far = λ to short e.
+          only_words base p m has (place k) (long_jump to) (long_jump_fits to short) (stands _ e);
+    }

@@ -1,0 +1,65 @@
+-- The foreign piece, and long jumps out of the text.
+use Rattle.std.proofs.Common.{◌≡◌, ℕ, ◌+◌, ◌^◌, ◌<◌, inl, refl, ap, ◌∙◌, arith}
+use Rattle.std.specs.Prelude.{pos}
+use Rattle.v8_decode.specs.declared.Op2.TheVariants.{Imm}
+use Rattle.v8_alu.specs.Numbers.{wrapped}
+use Rattle.v8_memory.specs.Regions.{Memory, code_of}
+use Rattle.v8_step.specs.State.{register_of}
+use Rattle.v8_step.proofs.ValidStates.{register_of-range}
+use Rattle.code_runs.specs.LongJump.{IsFirstWord}
+use Rattle.code_runs.specs.Page.{page_word, of_page}
+use Rattle.code_runs.specs.StoredWords.{memory_word, store_word, Stores}
+use Rattle.code_runs.specs.TwoRegisters.{IsBetween}
+use Rattle.code_runs.proofs.Hops.{hops_through, stores_then}
+use Rattle.code_runs.proofs.Leads.{leads_weaker}
+use Rattle.code_runs.proofs.LongJump.{long_jumps_hop, says_at}
+use Rattle.code_runs.proofs.StoredWords.{word_stored, other_word_stored, still_stored, can_load, memory_word-range}
+use Rattle.code_runs.proofs.TwoRegisters.{block_rules, stores_none}
+use Rattle.jump_code.specs.Leaving.{ForeignLeaves, FarGoes}
+use Rattle.jump_code.specs.PageWords.{IsPageWord, waiting}
+use Rattle.jump_code.proofs.Blocks.{four, scratch, word2}
+
+pub foreign_leaves : ForeignLeaves
+foreign_leaves s h =
+    let code = code_of s.memory in
+    let g1 = register_of s 1 in
+    let g2 = register_of s 2 in
+    let x = waiting s in
+    let m = store_word s.memory (page_word 2) g1 in
+    let c = scratch s 4 1 2 h.valid h.ready h.low (omega arith) (omega arith) (omega arith) (omega arith)
+    (omega arith) in
+    let rules = block_rules s 4 IsPageWord 1 2 c in
+    let p1 = h.page 1 (omega arith) in
+    let p2 = h.page 2 (omega arith) in
+    let r : x < 2 ^ 32 = memory_word-range s.memory (page_word 1) h.valid.memory in
+    let w1 = rules.st 0 s.memory g1 g2 1 0 (of_page 2) (page_word 2) g1 rules.none
+    (omega arith, says_at code _ _ _ (omega arith) h.words.0) (record { sums = λ u k. refl; aligned = refl }) p2
+    (λ u k. k.first) word2 in
+    let keeps : memory_word m (page_word 1) ≡ x =
+    other_word_stored s.memory (page_word 1) (page_word 2) g1 p1 (inl (omega arith)) in
+    let w2 = rules.ld_first 1 m g1 g2 0 (of_page 1) (page_word 1) x w1
+    (omega arith, says_at code _ _ _ (omega arith) h.words.1.0) (record { sums = λ u k. refl; aligned = refl })
+    (can_load m (page_word 1) (still_stored s.memory (page_word 1) (page_word 2) g1 p1)) keeps in
+    hops_through s 4 IsPageWord 1 2 c 2 m x x (Imm (pos 0)) (of_page 2) (page_word 2) w2 (omega arith) (omega arith)
+    (four x h.aligned)
+    (says_at code _ _ _ (omega arith) h.words.1.1.0) (says_at code _ _ _ (omega arith) h.words.1.1.1.0)
+    (λ u k. ap (λ z. wrapped (z + 0)) k.first ∙ (let e : wrapped (x + 0) ≡ x = omega arith in e)) (λ u. refl) refl
+    (can_load m (page_word 2) (still_stored s.memory (page_word 2) (page_word 2) g1 p2))
+    (word_stored s.memory (page_word 2) g1 (register_of-range s 1 h.valid) p2)
+
+-- word 0 is one of the words of the page
+first_word : (z : ℕ) → IsFirstWord z → IsPageWord z
+first_word z e = inl e
+
+pub far_goes : FarGoes
+far_goes to s h =
+    let low = h.low in
+    let k = long_jumps_hop to s h.valid h.ready (omega arith) (h.page 0 (omega arith)) h.words h.short h.aligned in
+    let more = λ (m : Memory) (z : Stores IsFirstWord s.memory m).
+    stores_then IsFirstWord IsPageWord s.memory s.memory m first_word (stores_none IsPageWord s.memory) z in
+    record {
+      path = leads_weaker (IsBetween s 4 IsFirstWord) (IsBetween s 4 IsPageWord) s _ 4
+          (λ u z. record { past = z.past; before = z.before; stores = more u.memory z.stores }) k.path;
+      silent = k.silent;
+      stores = more _ k.stores;
+    }

@@ -1,0 +1,11 @@
+pub mod Blocks
+pub mod CodeWords
+pub mod Fitting
+pub mod Following
+pub mod Laid
+pub mod Leaving
+pub mod Linking
+pub mod LookingUp
+pub mod Owned
+pub mod SlotWays
+pub mod Targets

@@ -1,0 +1,87 @@
+-- The pieces of transfers and of the ways along their edges, and where their words stand once they are laid.
+use Rattle.std.specs.Prelude.{◌≡◌, ℕ, ◌+◌, ◌*◌, ◌<◌, ◌^◌, true, List, [], ◌∷◌, ◌++◌, length, map, Some, slice_get}
+use Rattle.eel_base.specs.declared.numbers.Addr.{Addr}
+use Rattle.eel_base.specs.declared.numbers.PieceNo.{PieceNo}
+use Rattle.v8_decode.specs.declared.Op2.{Op2}
+use Rattle.v8_decode.specs.declared.Instr.{Instr}
+use Rattle.v8_decode.specs.Ranges.{op2_in_range}
+use Rattle.v8_encode.specs.Encoding.{op2_fits}
+use Rattle.v8_memory.specs.Regions.{Memory, Region, code_of, fetch_from}
+use Rattle.code_runs.specs.LongJump.{long_jump}
+use Rattle.code_runs.specs.Straight.{StandIn, HasWords}
+use Rattle.layout.specs.declared.items.Item.{Item}
+use Rattle.layout.specs.declared.items.Item.TheVariants as it
+use Rattle.layout.specs.Emitting.{words_of}
+use Rattle.layout.specs.Laid.{Placement, IsLaid}
+use Rattle.layout.specs.Running.{HasCode}
+use Rattle.jump_code.specs.Jumps.{IsApart, jump_image}
+use Rattle.jump_code.specs.Leaving.{foreign}
+use Rattle.jump_code.specs.Links.{link}
+use Rattle.jump_code.specs.LookUps.{look_up_first, look_up_last}
+
+-- ---- lists of items
+
+abbrev pub word_items : List Instr → List Item
+word_items xs = map it.Word (words_of xs)
+
+-- all in one Mark, and then the way to the piece of its edge
+abbrev pub marked_piece : List Instr → Addr → ℕ → PieceNo → List Item
+marked_piece xs address node way = it.Mark address node ∷ (word_items xs ++ it.EndMark ∷ it.Jump way ∷ [])
+
+-- the image of a JMPL, with its scratch register
+abbrev pub jump_piece : ℕ → ℕ → ℕ → Op2 → Addr → ℕ → PieceNo → List Item
+jump_piece x rd rs1 op2 address = marked_piece (jump_image x rd rs1 op2 address.0) address
+
+-- that of a CALL
+abbrev pub call_piece : Addr → ℕ → PieceNo → List Item
+call_piece address = marked_piece (link 15 address.0) address
+
+-- the edge of a JMPL: the slot's word in its Mark, the snippet, and the look-up with the translator's words
+abbrev pub out_piece : Addr → ℕ → ℕ → List Item → List ℕ → List Item
+out_piece address node word snippet translator =
+    it.Mark address node ∷ it.Word word ∷ it.EndMark
+    ∷ (snippet ++ (word_items look_up_first ++ (map it.Word translator ++ word_items look_up_last)))
+
+-- the piece to which the table leads every address outside the text
+abbrev pub foreign_piece : List Item
+foreign_piece = word_items foreign
+
+-- a way out of the text to an address that is known
+abbrev pub far_piece : ℕ → List Item
+far_piece to = word_items (long_jump to)
+
+-- ---- their words, where item n stands from `place n` on
+
+-- Instructions in a Mark: they stand from its first address to its end, where the way to the edge's piece begins.
+pub record MarkedIsLaid (code : List Region) (place : ℕ → ℕ) (xs : List Instr) : Type 0 where
+  pub lo : place 1 ≡ place 0
+  pub words : StandIn code (place 1) xs
+  pub hi : place (1 + length xs) ≡ place 1 + 4 * length xs
+
+-- The slot's word in its Mark, and the look-up right behind it, where there is no snippet.
+pub record OutIsLaid (code : List Region) (place : ℕ → ℕ) (word : ℕ) (translator : List ℕ) : Type 0 where
+  pub lo : place 1 ≡ place 0
+  pub hi : place 2 ≡ place 1 + 4
+  pub slot : fetch_from code (place 1) ≡ Some word
+  pub first : StandIn code (place 1 + 4) look_up_first
+  pub middle : HasWords code (place 1 + 16) translator
+  pub last : StandIn code (place 1 + 64) look_up_last
+
+-- The words of piece k stand where the laws of jumps ask for them, if it is one of these.
+pub record WordsAreLaid (piece : List Item) (code : List Region) (place : ℕ → ℕ) : Type 0 where
+  pub jump : (x rd rs1 : ℕ) (op2 : Op2) (address : Addr) (node : ℕ) (way : PieceNo) → IsApart x rd rs1 op2
+      → op2_fits op2 ≡ true → op2_in_range op2 ≡ true → address.0 < 2 ^ 32
+      → piece ≡ jump_piece x rd rs1 op2 address node way
+      → MarkedIsLaid code place (jump_image x rd rs1 op2 address.0)
+  pub call : (address : Addr) (node : ℕ) (way : PieceNo) → address.0 < 2 ^ 32 → piece ≡ call_piece address node way
+      → MarkedIsLaid code place (link 15 address.0)
+  pub out : (address : Addr) (node word : ℕ) (translator : List ℕ) → length translator ≡ 12
+      → piece ≡ out_piece address node word [] translator → OutIsLaid code place word translator
+  pub leaving : piece ≡ foreign_piece → StandIn code (place 0) foreign
+  pub far : (to : ℕ) → to < 2 ^ 32 → piece ≡ far_piece to → StandIn code (place 0) (long_jump to)
+
+abbrev pub PiecesAreLaid : Type 0
+PiecesAreLaid =
+    (pieces : List (List Item)) (base : ℕ) (p : Placement) (place : ℕ → ℕ → ℕ) → IsLaid pieces base p place
+    → (m : Memory) → HasCode base p.code m
+    → (k : ℕ) (piece : List Item) → slice_get pieces k ≡ Some piece → WordsAreLaid piece (code_of m) (place k)
