@@ -40,6 +40,9 @@ fn scripts_give_each_edge_its_operations(rt: HostRuntime) -> Result<(), Fail> {
 
 /// What is named for a script; nothing where it reads.
 fn named(alloc: Global, script: &str) -> Option<ScriptFault> {
+    if script.len() > 1 << 24 {
+        return None;
+    }
     read_script(alloc, script.as_bytes(), 9).err()
 }
 
