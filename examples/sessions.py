@@ -1,18 +1,18 @@
 """Sessions that crates/program_runs plays: calls of the editor over files in memory, and what must come of each."""
 import struct
 
-from programs import SMALL, STRAIGHT, WITH_TRANSFERS, Program
+from programs import EDITED, SMALL, Program
 from written import written
 
 BAD_WORDS = b'eel: bad words\n'
 DEVICE_FAULT = b'eel: device fault\n'
 
-THREE_WORDS = SMALL[0]
-ECHOES = next(program for program in STRAIGHT if program.name == 'echoes')
-# Those whose edited files are made apart from EEL: straight code, branches with all kinds of slots, a loop, and a
-# branch in a slot.
-EDITED_APART = ['three_words', 'annulled_branches', 'carry_loop', 'transfer_in_slot']
-NEWLINE_COUNT = next(program for program in WITH_TRANSFERS if program.name == 'newline_count')
+KNOWN = {program.name: program for program in SMALL}
+THREE_WORDS = KNOWN['three_words']
+ECHOES = KNOWN['echoes']
+
+# Programs whose edited files stand beside them, byte for byte.
+WRITTEN = ['three_words', 'annulled_branches', 'carry_loop', 'transfer_in_slot']
 
 # Prints five bytes of its first argument, and exits with the number of arguments, its name among them.
 ARGUMENT = Program('prints_its_argument',
@@ -45,26 +45,27 @@ def cramped():
     return bytes(file[:52]) + first + second + bytes(file[84:])
 
 
+def ran(program, ending):
+    """What a run puts out to its streams."""
+    return program.output, program.errors + ending.encode() + b'\n'
+
+
 def edits():
-    """Programs whose transfers are branches beside their edited files, which run as they do."""
-    for name in EDITED_APART:
+    """Programs beside their edited files, which run as they do."""
+    for name in WRITTEN:
         yield f'hold {name}.edited', b''
-    for program in SMALL:
-        if not program.is_built():
-            continue
+    for program in EDITED:
         name = program.name
-        ran, ran_edited = [(program.output, program.errors + ending.encode() + b'\n')
-            for ending in (program.ending, program.edited or program.ending)]
         yield f'hold {name}', b''
         if program.given:
             yield f'input {name}.input', b''
         yield eel(f'edit {name} edited plain', 0)
-        if name in EDITED_APART:
+        if name in WRITTEN:
             yield f'same edited {name}.edited', b''
         yield eel('restore edited restored', 0)
         yield f'same restored {name}', b''
-        yield eel(f'run {name}', 0, *ran)
-        yield eel('run edited', 0, *ran_edited)
+        yield eel(f'run {name}', 0, *ran(program, program.ending))
+        yield eel('run edited', 0, *ran(program, program.edited_ending()))
 
 
 def words():
@@ -149,9 +150,8 @@ SESSIONS = {'edits': list(edits()), 'words': list(words()), 'restores': list(res
 
 def files():
     """Scripts, and the files that they name besides the programs."""
-    for program in SMALL:
-        if program.name in EDITED_APART:
-            yield f'{program.name}.edited', written(program.file())
+    for name in WRITTEN:
+        yield f'{name}.edited', written(KNOWN[name].file())
     yield 'three_words.broken', broken()
     yield ARGUMENT.name, ARGUMENT.file()
     yield 'cramped', cramped()

@@ -19,8 +19,8 @@ use addr_translate::translator_code;
 use eel_base::Addr;
 use v8_decode::{Op2, Reg};
 
-/// The first words of a JMPL: its target goes into word 1 of the editor's page, through a register that it doesn't name,
-/// and is tested.
+/// The first words of a JMPL: its target goes into word 1 of the editor's page, through a register that the JMPL
+/// doesn't name, and is tested.
 pub fn target_code(through: Reg, rs1: Reg, op2: Op2) -> [u32; 6]
     requires fits { IsTrue (op2_fits op2) }
     ensures words { result ≡ words_of (jump_target through rs1 op2) }
