@@ -10,7 +10,7 @@ use Rattle.eel_base.specs.declared.numbers.WordNo.{WordNo}
 use Rattle.v8_decode.specs.declared.Instr.{Instr}
 use Rattle.v8_decode.specs.Words.{decode_of}
 use Rattle.v8_step.specs.declared.Slot.{Slot}
-use Rattle.v8_step.specs.declared.Slot.TheVariants.{NoSlot}
+use Rattle.v8_step.specs.declared.Slot.TheVariants.{NoSlot, Taken}
 use Rattle.v8_step.specs.Items.{is_transfer as transfers}
 use Rattle.cfg_blocks.specs.declared.EdgeKind.{EdgeKind}
 use Rattle.cfg_blocks.specs.declared.EdgeKind.TheVariants as kinds
@@ -19,12 +19,12 @@ use Rattle.cfg_blocks.specs.Blocks.{Blocks, holding_of}
 use Rattle.cfg_normal.specs.declared.Node.{Node}
 use Rattle.cfg_normal.specs.Graph.{Graph, graph_of, node_of, edge_of, runs_slot}
 use Rattle.cfg_walk.specs.Walk.{Point, completed, edge_from, instr_at, left_at, left_by, node_after, same_kind, way_of}
-use Rattle.cfg_walk.specs.Matches.{IsOnItsWay, MatchesBy}
+use Rattle.cfg_walk.specs.Matches.{IsOnItsWay, MatchesBy, target_along}
 use Rattle.cfg_walk.proofs.Holding.{Leads}
 use Rattle.cfg_walk.proofs.Cut.{IsCut}
 use Rattle.cfg_walk.proofs.Ways.{IsOne}
 use Rattle.cfg_blocks.proofs.Targets.{IsWord, word_at-some}
-use Rattle.cfg_walk.proofs.Addresses.{word_at-address, next_address, next_word, second_word}
+use Rattle.cfg_walk.proofs.Addresses.{word_at-address, next_address, next_word, second_address, second_word}
 use Rattle.cfg_walk.proofs.Edges.{block, leads_along}
 use Rattle.cfg_walk.proofs.Leaving.{node_is, straight_on, transfer_ends, way_found}
 use Rattle.cfg_walk.proofs.Slots.{LeadsIfThere, on_its_way}
@@ -135,13 +135,16 @@ module _ {text : Words} {b : Blocks} {node : Node} {before : Point} {word : ℕ}
           → way_of (Some instr) now ≡ w.kind → runs_slot (end_at text word) w.kind ≡ true
           → after.pc ≡ before.npc
           → (same_kind w.kind kinds.Out ≡ false → (word_at text after.npc ≡ w.to) × LeadsIfThere b w.to)
+          → (same_kind w.kind kinds.Out ≡ false → after.npc ≡ target_along text word w.kind instr)
+          → (same_kind w.kind kinds.Out ≡ true → after.slot ≡ Taken)
           → IsOnItsWay text (graph_of b) node after (way_of (instr_at text (after.pc - 4)) now)
       unfolding home
-      into_slot now w one kind runs pc leads =
+      into_slot now w one kind runs pc leads goes jumps =
           subst (λ (k : EdgeKind). IsOnItsWay text (graph_of b) node after k)
           (sym (ap (λ o. way_of o now) (transfer_before pc) ∙ kind))
           (subst (λ (m : Node). IsOnItsWay text (graph_of b) m after w.kind) (sym node_home)
-          (on_its_way text b h.cut word low t after w (slot_pc pc) one runs leads))
+          (on_its_way text b h.cut word low t after w (slot_pc pc) one runs leads
+          (λ no_jump. goes no_jump ∙ ap (target_along text word w.kind) (sym h.decodes)) jumps))
 
       -- where a displacement leads
       pub jumps_to : (target : Option WordNo) (displacement : ℤ) (address : ℕ)
@@ -165,6 +168,17 @@ module _ {text : Words} {b : Blocks} {node : Node} {before : Point} {word : ℕ}
                       (end ∙ is_target ∙ ap numbered (sym there ∙ found)) inside,
                 ),
           )
+
+      -- the same by its address
+      pub jumps_along : (displacement : ℤ) (address : ℕ) → address ≡ (before.pc + 4 * cast_unsigned w32 displacement) % 2 ^ 32
+          → address ≡ (address_of text word + 4 * cast_unsigned w32 displacement) % 2 ^ 32
+      jumps_along displacement address e = e ∙ ap (λ a. (a + 4 * cast_unsigned w32 displacement) % 2 ^ 32) h.is.is
+
+      pub passes_along : after.npc ≡ (before.npc + 4) % 2 ^ 32 → after.npc ≡ address_of text (word + 2)
+      passes_along e =
+          let npc : before.npc ≡ (before.pc + 4) % 2 ^ 32 = h.npc in
+          let far : after.npc ≡ (before.pc + 8) % 2 ^ 32 = omega arith in
+          far ∙ ap (λ a. (a + 8) % 2 ^ 32) h.is.is ∙ second_address text word h.text_is h.is.within
 
       -- where an untaken branch goes on after its slot
       pub passes : after.npc ≡ (before.npc + 4) % 2 ^ 32

@@ -1,23 +1,25 @@
 -- A transfer goes into its slot, and out of it.
 use Rattle.std.proofs.Common.{◌≡◌, ℕ, ◌+◌, ◌<◌, Bool, true, false, nat_lt, [], ◌++◌, Option, Some, None, refl, ap, sym, ◌∙◌, subst, arith, append-nil}
-use Rattle.std.specs.Prelude.{if◌then◌else◌}
+use Rattle.std.specs.Prelude.{if◌then◌else◌, slice_index}
 use Rattle.std.proofs.lemmas.Bool.{cond_both}
+use Rattle.std.proofs.lemmas.Bool.Decides.{nat_tests}
 use Rattle.eel_base.specs.CodeText.{Words, address_of, word_at}
+use Rattle.v8_decode.specs.Words.{decode_of}
+use Rattle.v8_step.specs.declared.Slot.TheVariants.{Taken}
 use Rattle.cfg_blocks.specs.declared.EdgeKind.{EdgeKind}
 use Rattle.cfg_blocks.specs.declared.EdgeKind.TheVariants as kinds
-use Rattle.cfg_blocks.specs.Ends.{Way, within, end_at, is_transfer, ways_of}
+use Rattle.cfg_blocks.specs.Ends.{Way, end_at, is_transfer, ways_of}
 use Rattle.cfg_blocks.specs.Blocks.{Blocks, end_of, holding_of, last_word}
 use Rattle.cfg_normal.specs.declared.Node.{Node}
 use Rattle.cfg_normal.specs.declared.Node.TheVariants.{X}
 use Rattle.cfg_normal.specs.declared.Slot.TheVariants as carried_slots
 use Rattle.cfg_normal.specs.Graph.{graph_of, node_of, edge_of, runs_slot, slot_behind, landing_at as landing}
 use Rattle.cfg_walk.specs.Walk.{Point, edge_from, landed, landing_at, node_after, led_to, same_kind, slot_left}
-use Rattle.cfg_walk.specs.Matches.{Begins, IsCarried, IsOnItsWay}
+use Rattle.cfg_walk.specs.Matches.{Begins, IsCarried, IsOnItsWay, target_along}
 use Rattle.cfg_walk.proofs.Holding.{Leads, in_held, first_held}
 use Rattle.cfg_walk.proofs.Cut.{IsCut}
 use Rattle.cfg_walk.proofs.Ways.{IsOne}
 use Rattle.cfg_blocks.proofs.Targets.{word_at-some}
-use Rattle.cfg_walk.proofs.Addresses.{word_at-address}
 use Rattle.cfg_walk.proofs.Edges.{block, landing_found, leads_along, out_to}
 use Rattle.cfg_walk.proofs.Leaving.{here, is_in, node_is, transfer_ends, way_found}
 
@@ -35,19 +37,24 @@ module _ (text : Words) (b : Blocks) (c : IsCut text b) where
       subst (λ node. Begins (graph_of b) node (Some word)) (sym (node_is b word leads.0))
       (first_held b.words b.firsts c.firsts word leads.1)
 
-  carried : (word address : ℕ) → address ≡ address_of text (word + 1)
+  last_of : (word n : ℕ) → word < n → nat_lt (word + 1) n ≡ false → word + 1 ≡ n
+  last_of word n l off = grind (l, off, arith, nat_tests)
+
+  carried : (word address : ℕ) → word < b.words → address ≡ address_of text (word + 1)
       → IsCarried text (slot_behind b.words word) address
-  carried word address e =
+  carried word address l e =
       cond_both (nat_lt (word + 1) b.words) _ _ (λ slot. IsCarried text slot address) (λ _. e)
-      (λ off. ap (word_at text) e ∙ word_at-address text (word + 1)
-      ∙ ap (λ n. within n (word + 1)) (sym c.words) ∙ ap (λ t. if t then Some (word + 1) else None) off)
+      (λ off. e ∙ ap (address_of text) (last_of word b.words l off ∙ c.words))
 
   module _ (word : ℕ) (l : word < b.words) (t : is_transfer (end_at text word) ≡ true) where
     pub on_its_way : (point : Point) (w : Way) → point.pc ≡ address_of text (word + 1)
         → IsOne w (ways_of b.words word (end_at text word)) → runs_slot (end_at text word) w.kind ≡ true
         → (same_kind w.kind kinds.Out ≡ false → (word_at text point.npc ≡ w.to) × LeadsIfThere b w.to)
+        → (same_kind w.kind kinds.Out ≡ false
+        → point.npc ≡ target_along text word w.kind (decode_of (slice_index text.words word)))
+        → (same_kind w.kind kinds.Out ≡ true → point.slot ≡ Taken)
         → IsOnItsWay text (graph_of b) (block (here text b c word l)) point w.kind
-    on_its_way point w pc one runs leads =
+    on_its_way point w pc one runs leads goes jumps =
         let k : ℕ = holding_of b word in
         let last : word ≡ last_word b.firsts b.words k = transfer_ends text b c word l t in
         let found = way_found text b c word l w last one in
@@ -58,13 +65,17 @@ module _ (text : Words) (b : Blocks) (c : IsCut text b) where
           edge = edge_of b k w;
           only = found.only;
           is = found.is;
+          pc = pc ∙ ap (λ n. address_of text (n + 1)) last;
+          goes = λ no_jump.
+              goes no_jump ∙ ap (λ n. target_along text n w.kind (decode_of (slice_index text.words n))) last;
+          jumps = jumps;
           carries =
               subst (λ (x : Bool). IsCarried text
               (if x then slot_behind b.words (last_word b.firsts b.words k) else carried_slots.Nothing)
               point.pc)
               (sym (ap (λ e. runs_slot e w.kind) end ∙ runs))
               (subst (λ (n : ℕ). IsCarried text (slot_behind b.words n) point.pc) last
-              (carried word point.pc pc));
+              (carried word point.pc l pc));
           leads = λ no_jump.
               let to = leads no_jump in (
                 subst (λ (o : Option ℕ). Begins (graph_of b) (node_of b w.to) o) (sym to.0)

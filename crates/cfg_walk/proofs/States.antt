@@ -161,7 +161,7 @@ module _ (text : Words) (is : IsText text) (b : Blocks) (c : IsCut text b) (node
         (λ _ live.
         let t : State = delayed (with_register s rd s.pc) (sum_of s rs1 op2) in
         at_slots text graph node s t NoSlot Taken e refl
-        (jump_delayed rd rs1 op2 (point_of t) h refl))
+        (jump_delayed rd rs1 op2 (point_of t) h refl refl))
         (λ _ live. absurd (cc))
 
     outside : (instr : Instr) → Stands text b node (point_of s) word instr

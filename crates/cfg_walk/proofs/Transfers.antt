@@ -20,7 +20,7 @@ use Rattle.cfg_normal.specs.Graph.{graph_of, runs_slot}
 use Rattle.cfg_walk.specs.Walk.{Point, edge_from}
 use Rattle.cfg_walk.proofs.Ways.{IsOne, taken_is_one, untaken_is_one, call_is_one, jump_is_one, not_never, not_always}
 use Rattle.cfg_walk.proofs.Leaving.{end_is}
-use Rattle.cfg_walk.proofs.Points.{Stands, StepsTo, annulled, into_slot, jumps_to, passes, skips}
+use Rattle.cfg_walk.proofs.Points.{Stands, StepsTo, annulled, into_slot, jumps_along, jumps_to, passes, passes_along, skips}
 
 module _ {text : Words} {b : Blocks} {node : Node} {before : Point} {word : ℕ} where
   -- ---- branches
@@ -91,6 +91,7 @@ module _ {text : Words} {b : Blocks} {node : Node} {before : Point} {word : ℕ}
           into_slot h after transfer Taken taken (one_taken holds) refl
           (ap (λ (e : BlockEnd). runs_slot e kinds.Taken) end ∙ runs) pc
           (λ _. jumps_to h after transfer target disp22 after.npc (ap target_in end) (is_target holds) npc)
+          (λ _. jumps_along h after transfer disp22 after.npc npc) (λ jump. absurd (false≢true jump))
 
       pub untaken_delayed : holds_of cond codes ≡ false → annul ≡ false
           → after.pc ≡ before.npc → after.npc ≡ (before.npc + 4) % 2 ^ 32
@@ -99,7 +100,8 @@ module _ {text : Words} {b : Blocks} {node : Node} {before : Point} {word : ℕ}
       untaken_delayed holds kept pc npc =
           into_slot h after transfer Untaken untaken (one_untaken holds) refl
           (ap (λ (e : BlockEnd). runs_slot e kinds.Untaken) end ∙ ap (λ (x : Bool). not x || false) kept) pc
-          (λ _. passes h after transfer npc)
+          (λ _. passes h after transfer npc) (λ _. passes_along h after transfer npc)
+          (λ jump. absurd (false≢true jump))
 
   -- ---- CALL and JMPL
 
@@ -115,13 +117,15 @@ module _ {text : Words} {b : Blocks} {node : Node} {before : Point} {word : ℕ}
       (call_is_one b.words word target))
       refl (ap (λ (e : BlockEnd). runs_slot e kinds.Call) end) pc
       (λ _. jumps_to h after transfer target disp30 after.npc (ap target_in end) refl npc)
+      (λ _. jumps_along h after transfer disp30 after.npc npc) (λ jump. absurd (false≢true jump))
 
   pub jump_delayed : (rd rs1 : ℕ) (op2 : Op2) (after : Point)
-      → Stands text b node before word (i.Jmpl rd rs1 op2) → after.pc ≡ before.npc
+      → Stands text b node before word (i.Jmpl rd rs1 op2) → after.pc ≡ before.npc → after.slot ≡ Taken
       → StepsTo text (graph_of b) node before after NoSlot Taken
-  jump_delayed rd rs1 op2 after h pc =
+  jump_delayed rd rs1 op2 after h pc slot =
       let end : end_at text word ≡ ends.Jump = end_is text word (i.Jmpl rd rs1 op2) h.decodes in
       into_slot h after (ap is_transfer end) Taken (way kinds.Out None)
       (subst (λ (e : BlockEnd). IsOne (way kinds.Out None) (ways_of b.words word e)) (sym end)
       (jump_is_one b.words word))
       refl (ap (λ (e : BlockEnd). runs_slot e kinds.Out) end) pc (λ jump. absurd (false≢true (sym jump)))
+      (λ jump. absurd (false≢true (sym jump))) (λ _. slot)

@@ -1,13 +1,17 @@
 -- What holds of the walk's node while a run goes on.
-use Rattle.std.specs.Prelude.{◌≡◌, ℕ, ◌+◌, ◌-◌, ◌%◌, ◌^◌, ◌<◌, false, List, [], ◌∷◌, length, slice_get, slice_index, Option, Some, None}
+use Rattle.std.specs.Prelude.{◌≡◌, ℕ, ◌+◌, ◌-◌, ◌*◌, ◌%◌, ◌^◌, ◌<◌, true, false, List, [], ◌∷◌, length, slice_get, slice_index, Option, Some, None}
+use Rattle.std.specs.Int.{w32, cast_unsigned}
 use Rattle.std.specs.Option.{option_map}
 use Rattle.eel_base.specs.CodeText.{Words, IsText, address_of, word_at}
+use Rattle.v8_decode.specs.declared.Instr.{Instr}
+use Rattle.v8_decode.specs.declared.Instr.TheVariants as i
+use Rattle.v8_decode.specs.Words.{decode_of}
 use Rattle.v8_memory.specs.Regions.{fetch_of}
 use Rattle.v8_step.specs.State.{State}
 use Rattle.v8_step.specs.declared.Slot.{Slot}
-use Rattle.v8_step.specs.declared.Slot.TheVariants.{NoSlot}
+use Rattle.v8_step.specs.declared.Slot.TheVariants.{NoSlot, Taken}
 use Rattle.v8_step.specs.Run.{run}
-use Rattle.cfg_blocks.specs.Blocks.{blocks_of}
+use Rattle.cfg_blocks.specs.Blocks.{blocks_of, last_word}
 use Rattle.cfg_blocks.specs.declared.EdgeKind.{EdgeKind}
 use Rattle.cfg_blocks.specs.declared.EdgeKind.TheVariants as kinds
 use Rattle.cfg_normal.specs.declared.Edge.{Edge}
@@ -18,17 +22,35 @@ use Rattle.cfg_normal.specs.declared.Slot.TheVariants as carried
 use Rattle.cfg_normal.specs.Graph.{Graph, graph_of, node_of}
 use Rattle.cfg_walk.specs.Walk.{Point, point_of, edge_from, end_of_walk, instr_at, same_kind, way_of}
 
--- the word at the address is the one that the edge carries, or that word lies behind the text
+-- the address is that of the word which the edge carries, or of the end of the text, behind which that word lies
 abbrev pub IsCarried : Words → Carried → ℕ → Type 0
 IsCarried text carried.Nothing address = ⊥
 IsCarried text (carried.Word word) address = address ≡ address_of text word.0
-IsCarried text carried.Off address = word_at text address ≡ None
+IsCarried text carried.Off address = address ≡ address_of text (length text.words)
 
 -- the node's block begins with the word; X where the text has no such word
 abbrev pub Begins : Graph → Node → Option ℕ → Type 0
 Begins graph (Block block) (Some word) = slice_index graph.blocks.firsts block.0 ≡ word
 Begins graph X None = Unit {0}
 Begins graph _ _ = ⊥
+
+-- the address to which a transfer at a word leads along a way (manual, B.21 and B.24); past its slot, where it doesn't
+-- jump
+abbrev pub target_along : Words → ℕ → EdgeKind → Instr → ℕ
+target_along text word kinds.Taken (i.Branch cond annul disp22) =
+    (address_of text word + 4 * cast_unsigned w32 disp22) % 2 ^ 32
+target_along text word kinds.Call (i.Call disp30) = (address_of text word + 4 * cast_unsigned w32 disp30) % 2 ^ 32
+target_along text word way instr = address_of text (word + 2)
+
+-- the word that ends a node's block
+abbrev pub last_in : Graph → Node → ℕ
+last_in graph (Block block) = last_word graph.blocks.firsts graph.blocks.words block.0
+last_in graph X = 0
+
+-- the address to which a way out of a node leads, unless that is a JMPL's
+abbrev pub way_address : Words → Graph → Node → EdgeKind → ℕ
+way_address text graph node way =
+    target_along text (last_in graph node) way (decode_of (slice_index text.words (last_in graph node)))
 
 -- In a slot the walk's node has one edge of the way that the transfer goes. That edge carries the slot, and but for
 -- a jump it leads to where the machine goes on after it.
@@ -37,7 +59,12 @@ pub record IsOnItsWay (text : Words) (graph : Graph) (node : Node) (point : Poin
   pub edge : Edge
   pub only : edge_from graph node way ≡ number ∷ []
   pub is : slice_get graph.edges number ≡ Some edge
+  -- the slot stands behind the block's last word
+  pub pc : point.pc ≡ address_of text (last_in graph node + 1)
   pub carries : IsCarried text edge.slot point.pc
+  pub goes : same_kind way kinds.Out ≡ false → point.npc ≡ way_address text graph node way
+  -- a JMPL is always taken
+  pub jumps : same_kind way kinds.Out ≡ true → point.slot ≡ Taken
   pub leads : same_kind way kinds.Out ≡ false
       → Begins graph edge.to (word_at text point.npc) × (edge.to ≡ node_of graph.blocks (word_at text point.npc))
 

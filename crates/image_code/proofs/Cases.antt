@@ -1,5 +1,5 @@
 -- The images of a plain word and of a conditional branch are one step each.
-use Rattle.std.proofs.Common.{◌≡◌, ℕ, zero, suc, ◌+◌, ◌-◌, ◌*◌, ◌^◌, ◌<◌, ◌≤◌, inl, inr, Bool, true, false, Option, Some, None, List, [], ◌∷◌, ◌++◌, length, append-nil, refl, ap, sym, ◌∙◌, subst, arith}
+use Rattle.std.proofs.Common.{◌≡◌, ℕ, zero, suc, ◌+◌, ◌-◌, ◌*◌, ◌^◌, ◌<◌, ◌≤◌, inl, inr, Bool, true, false, Option, Some, None, List, [], ◌∷◌, ◌++◌, drop, length, append-nil, refl, ap, sym, ◌∙◌, subst, arith}
 use Rattle.std.specs.Prelude.{if◌then◌else◌, slice_get, slice_index, ◌==◌, ℤ}
 use Rattle.std.specs.Option.{option_map, option_or}
 use Rattle.std.proofs.lemmas.Bool.{cases_lt}
@@ -9,11 +9,11 @@ use Rattle.v8_decode.specs.declared.Instr.{Instr}
 use Rattle.v8_decode.specs.declared.Instr.TheVariants as i
 use Rattle.v8_decode.specs.Words.{decode_of}
 use Rattle.v8_alu.specs.Numbers.{wrapped}
-use Rattle.v8_memory.specs.Regions.{Memory, Region, code_of, fetch_of, fetch_from}
+use Rattle.v8_memory.specs.Regions.{Memory, Region, code_of, fetch_from}
 use Rattle.v8_memory.specs.Spans.{Span, AllApart, IsSameOutside, IsSameRegion}
 use Rattle.v8_step.specs.declared.Ending.{Ending}
 use Rattle.v8_step.specs.declared.Slot.TheVariants.{NoSlot}
-use Rattle.v8_step.specs.State.{State}
+use Rattle.v8_step.specs.State.{State, register_of}
 use Rattle.v8_step.specs.Step.{act, step_of, on_word, puts_by, puts_on_word}
 use Rattle.v8_step.specs.Run.{run, run_puts}
 use Rattle.v8_step.specs.Items.{Item as Thing, Register, Codes, YRegister, IsSameAt}
@@ -23,12 +23,11 @@ use Rattle.v8_step.specs.Visits.{visit_of, visited, if_live, in_pages, pages_of}
 use Rattle.v8_step.proofs.Alike.{live_puts}
 use Rattle.v8_step.proofs.JudgedAlike.{judged_alike}
 use Rattle.v8_step.proofs.CopiedMoves.{goes_act}
-use Rattle.v8_step.proofs.Executable.{code_stays}
 use Rattle.v8_step.proofs.ValidSteps.{run-valid}
 use Rattle.cfg_walk.proofs.Walks as walks
 use Rattle.cfg_walk.specs.Walk.{Point, point_of, node_after}
 use Rattle.cfg_normal.specs.declared.Node.{Node}
-use Rattle.code_runs.specs.StoredWords.{AllAt, Stores}
+use Rattle.code_runs.specs.StoredWords.{AllAt, Stores, store_word}
 use Rattle.code_runs.specs.Leads.{Leads, IsSilent}
 use Rattle.code_runs.specs.Points.{moved}
 use Rattle.code_runs.specs.Hops.{hopped}
@@ -39,26 +38,29 @@ use Rattle.code_runs.proofs.Hops.{stores_then}
 use Rattle.code_runs.proofs.Points.{acts_anywhere}
 use Rattle.code_runs.proofs.TwoRegisters.{stores_none}
 use Rattle.code_runs.proofs.Stays.{stores_there}
-use Rattle.code_runs.specs.Ours.{IsOurs}
-use Rattle.code_runs.specs.LongJump.{IsFirstWord}
+use Rattle.code_runs.specs.LongJump.{IsFirstWord, long_jump}
+use Rattle.code_runs.specs.Straight.{StandIn}
+use Rattle.code_runs.proofs.LongJump.{long_jumps_hop}
+use Rattle.jump_code.specs.Pieces.{far_piece}
+use Rattle.jump_code.proofs.Fitting.{long_jump_fits}
+use Rattle.jump_code.proofs.Laid.{words_after}
 use Rattle.code_runs.specs.Page.{page_word}
-use Rattle.code_runs.proofs.Ours.{ours_stay, ours_are_stored}
 use Rattle.eel_base.specs.declared.numbers.Addr.{Addr}
 use Rattle.eel_base.specs.declared.numbers.PieceNo.{PieceNo}
 use Rattle.layout.specs.declared.items.Item.{Item}
 use Rattle.layout.specs.declared.items.Item.TheVariants as it
 use Rattle.layout.specs.Laid.{Placement, item_at, item_in, items_in, size_of, open_in, open_from, range_in, range_of, IsWordAt}
-use Rattle.layout.specs.Running.{HasCode, CanRun}
+use Rattle.layout.specs.Running.{CanRun}
 use Rattle.layout.proofs.Going.{stays, jumps_hop, words_stand}
 use Rattle.image_code.specs.Simulates.{updates, Setting, StepsOn, IsOnWay, IsFollowedBy, at_point, does_at, gone_at, graph_in, number_in, word_of}
 use Rattle.image_code.specs.Images.{Pieces, Frame, HasImages, Here, IsPlaced, visited_at}
-use Rattle.image_code.specs.Cases.{Everything, visits_it, LeadsTo, LeadsOn, plain_piece, IsPlain, PlainsVisit, PlainsStep}
+use Rattle.image_code.specs.Cases.{Everything, visits_it, IsFar, LeadsTo, LeadsOn, plain_piece, IsPlain, PlainsVisit, PlainsStep}
 use Rattle.image_code.proofs.Ended.{stops_act}
 use Rattle.image_code.proofs.Memories.{fetch_is, images_stay, images_stored, same_stored}
 
 -- ---- small things
 
-live_before : (s : State) (k j : ℕ) → (run s (k + j)).ending ≡ None → (run s j).ending ≡ None
+pub live_before : (s : State) (k j : ℕ) → (run s (k + j)).ending ≡ None → (run s j).ending ≡ None
 live_before s zero j e = (let f : j ≡ zero + j = omega arith in ap (λ z. (run s z).ending) f) ∙ e
 live_before s (suc k) j e =
     live_before s k j (walks.live_before (run s (k + j))
@@ -95,14 +97,15 @@ get_below [] n x e = absurd (cc)
 get_below (y ∷ ys) zero x e = omega arith
 get_below (y ∷ ys) (suc n) x e = let f = get_below ys n x e in omega arith
 
-item_size : (pieces : List (List Item)) (k n : ℕ) (x : Item) → item_at pieces k n ≡ Some x → suc n ≤ size_of pieces k
+pub item_size : (pieces : List (List Item)) (k n : ℕ) (x : Item) → item_at pieces k n ≡ Some x
+    → suc n ≤ size_of pieces k
 item_size pieces k n x e = go (slice_get pieces k) e
   where
     go : (o : Option (List Item)) → item_in o n ≡ Some x → suc n ≤ items_in o
     go None e = absurd (cc)
     go (Some items) e = let f = get_below items n x e in omega arith
 
-item_below : (pieces : List (List Item)) (k n : ℕ) (x : Item) → item_at pieces k n ≡ Some x → k < length pieces
+pub item_below : (pieces : List (List Item)) (k n : ℕ) (x : Item) → item_at pieces k n ≡ Some x → k < length pieces
 item_below pieces k n x e = go (slice_get pieces k) refl e
   where
     go : (o : Option (List Item)) → slice_get pieces k ≡ o → item_in o n ≡ Some x → k < length pieces
@@ -232,7 +235,7 @@ module _ (g : Setting) (l : Pieces) (base : ℕ) (p : Placement) (place : ℕ �
   }
 
   -- a Jump outside each Mark
-  jump_on : (k n : ℕ) (z : PieceNo) → item_at l.list k n ≡ Some (it.Jump z) → open_in (slice_get l.list k) n ≡ None
+  pub jump_on : (k n : ℕ) (z : PieceNo) → item_at l.list k n ≡ Some (it.Jump z) → open_in (slice_get l.list k) n ≡ None
       → (a : State) → CanRun base p.code a → a.pc ≡ place k n → Arrives a (slice_index p.at z.0) 4
   jump_on k n z item closed a w at =
       let j = jumps_hop l.list base p place h.laid k n z item a w at in
@@ -260,7 +263,7 @@ module _ (g : Setting) (l : Pieces) (base : ℕ) (p : Placement) (place : ℕ �
       }
 
   -- a way after another one
-  on_then : (a : State) (mid to few more : ℕ) (one : Arrives a mid few) → Arrives (hopped a mid one.memory) to more
+  pub on_then : (a : State) (mid to few more : ℕ) (one : Arrives a mid few) → Arrives (hopped a mid one.memory) to more
       → Arrives a to (few + more)
   on_then a mid to few more one other =
       let f = one.few in
@@ -298,21 +301,122 @@ module _ (g : Setting) (l : Pieces) (base : ℕ) (p : Placement) (place : ℕ �
       let npc : wrapped (to + 4) ≡ to + 4 = omega arith in
       record { valid = valid; has = has; runs = can_run (hopped a to m) valid k.runs.ready.live npc refl has }
 
+  -- a long jump to an address, outside each Mark
+  far_on : (k n to : ℕ) → IsFar to → k < length l.list → n + 4 ≤ size_of l.list k
+      → ((i : ℕ) (x : Item) → slice_get (far_piece to) i ≡ Some x → item_at l.list k (n + i) ≡ Some x)
+      → ((i : ℕ) → i < 4 → open_in (slice_get l.list k) (n + i) ≡ None)
+      → (a : State) → IsFit a → a.pc ≡ place k n → Arrives a to 4
+  far_on k n to far within size items closed a fit at =
+      let one = h.laid.items k (n + 0) _ (items 0 _ refl) in
+      let two = h.laid.items k (n + 1) _ (items 1 _ refl) in
+      let three = h.laid.items k (n + 2) _ (items 2 _ refl) in
+      let four = h.laid.items k (n + 3) _ (items 3 _ refl) in
+      let s0 : place k (n + 0) ≡ place k n = (let e : n + 0 ≡ n = omega arith in ap (place k) e) in
+      let s1 : place k (n + 1) ≡ place k (n + 0) + 4 = (let e : suc (n + 0) ≡ n + 1 = omega arith in ap (place k) (sym e) ∙ one.0) in
+      let s2 : place k (n + 2) ≡ place k (n + 1) + 4 = (let e : suc (n + 1) ≡ n + 2 = omega arith in ap (place k) (sym e) ∙ two.0) in
+      let s3 : place k (n + 3) ≡ place k (n + 2) + 4 = (let e : suc (n + 2) ≡ n + 3 = omega arith in ap (place k) (sym e) ∙ three.0) in
+      let s4 : place k (n + 4) ≡ place k (n + 3) + 4 = (let e : suc (n + 3) ≡ n + 4 = omega arith in ap (place k) (sym e) ∙ four.0) in
+      let begins = (h.laid.within k n within (omega arith)).begins in
+      let ends = (h.laid.within k (n + 4) within (omega arith)).ends in
+      let low = h.laid.low in
+      let stand : StandIn (code_of a.memory) (place k n) (long_jump to) =
+      words_after l.list base p place h.laid a.memory fit.has.code k n (long_jump to) (long_jump_fits to far.0) items in
+      let hops = long_jumps_hop to a fit.valid fit.runs.ready (omega arith) fit.runs.page
+      (subst (λ q. StandIn (code_of a.memory) q (long_jump to)) (sym at) stand) far.0 far.1 in
+      let none : (i b : ℕ) (x : Item) → i < 4 → slice_get (far_piece to) i ≡ Some x → place k (n + i) ≤ b
+      → b < place k (n + i) + 4 → place k (suc (n + i)) ≡ place k (n + i) + 4 → range_in p.ranges b ≡ None =
+      λ i b x l e from below next. h.laid.ranges k (n + i) b x (items i x e) from (omega arith) ∙ ap (range_of (place k)) (closed i l) in
+      let bare : (u : State) → a.pc ≤ u.pc → u.pc < a.pc + 16 → IsBare u =
+      λ u from to'. (omega arith, omega arith, by_item (place k (n + 0)) (place k (n + 1)) (place k (n + 2)) (place k (n + 3)) u.pc
+      (omega arith) (omega arith) s1 s2 s3
+      (λ f b. none 0 u.pc _ (omega arith) refl f b one.0) (λ f b. none 1 u.pc _ (omega arith) refl f b two.0)
+      (λ f b. none 2 u.pc _ (omega arith) refl f b three.0) (λ f b. none 3 u.pc _ (omega arith) refl f b four.0)) in
+      record {
+        count = 4;
+        memory = store_word a.memory (page_word 0) (register_of a 1);
+        few = omega arith;
+        path = leads_weaker _ _ a _ 4 (λ u q. let b = q.past in let c = q.before in bare u (omega arith) (omega arith)) hops.path;
+        silent = hops.silent;
+        stores = hops.stores;
+        begins = λ q. bare a (omega arith) (omega arith);
+      }
+    where
+      by_item : (p0 p1 p2 p3 a : ℕ) → p0 ≤ a → a < p3 + 4 → p1 ≡ p0 + 4 → p2 ≡ p1 + 4 → p3 ≡ p2 + 4
+          → (p0 ≤ a → a < p0 + 4 → range_in p.ranges a ≡ None) → (p1 ≤ a → a < p1 + 4 → range_in p.ranges a ≡ None)
+          → (p2 ≤ a → a < p2 + 4 → range_in p.ranges a ≡ None) → (p3 ≤ a → a < p3 + 4 → range_in p.ranges a ≡ None)
+          → range_in p.ranges a ≡ None
+      by_item p0 p1 p2 p3 a from to e1 e2 e3 h0 h1 h2 h3 = elim (cases_lt a p1) [
+        | inl b1 ↦ h0 from (omega (arith, b1, e1))
+        | inr a1 ↦ elim (cases_lt a p2) [
+          | inl b2 ↦ h1 a1 (omega (arith, b2, e2))
+          | inr a2 ↦ elim (cases_lt a p3) [
+            | inl b3 ↦ h2 a2 (omega (arith, b3, e3))
+            | inr a3 ↦ h3 a3 to
+          ]
+        ]
+      ]
+
   -- from the beginning of a piece
   pub arrive : (z : PieceNo) (a : State) (to : ℕ) → IsFit a → a.pc ≡ slice_index p.at z.0 → LeadsTo l p z to
       → Arrives a to 4
   arrive z a to k at (inl e) = let low = (h.laid.aligned z.0).1 in stays_here a to 4 k.runs (at ∙ e) (omega arith)
-  arrive z a to k at (inr (y, is, e)) =
+  arrive z a to k at (inr (inl (y, is, e))) =
       subst (λ q. Arrives a q 4) e (jump_on z.0 0 y (ap (λ (v : Option (List Item)). item_in v 0) is)
       (ap (λ (v : Option (List Item)). open_in v 0) is) a k.runs
       (at ∙ h.laid.starts z.0 (get_below l.list z.0 _ is)))
+  arrive z a to k at (inr (inr (far, is))) =
+      far_on z.0 0 to far (get_below l.list z.0 _ is)
+      (let size : size_of l.list z.0 ≡ 4 = ap (λ (v : Option (List Item)). items_in v) is in omega (arith, size))
+      (λ i x e. (let same : 0 + i ≡ i = omega arith in ap (item_at l.list z.0) same)
+      ∙ ap (λ (v : Option (List Item)). item_in v i) is ∙ e)
+      (λ i low. (let same : 0 + i ≡ i = omega arith in ap (open_in (slice_get l.list z.0)) same)
+      ∙ ap (λ (v : Option (List Item)). open_in v i) is ∙ never_open to i low)
+      a k (at ∙ h.laid.starts z.0 (get_below l.list z.0 _ is))
+    where
+      never_open : (to n : ℕ) → n < 4 → open_in (Some (far_piece to)) n ≡ None
+      never_open to zero l = refl
+      never_open to (suc zero) l = refl
+      never_open to (suc (suc zero)) l = refl
+      never_open to (suc (suc (suc zero))) l = refl
+      never_open to (suc (suc (suc (suc n)))) l = absurd (omega (arith, l))
 
   -- from item 3 of a piece on
   pub tail : (k : ℕ) (rest : List Item) (x y : Item) → slice_get l.list k ≡ Some (x ∷ y ∷ it.EndMark ∷ rest)
       → (a : State) (to : ℕ) → IsFit a → a.pc ≡ place k 3
       → a.pc ≤ 2 ^ 31 → LeadsOn l p place k 3 to → Arrives a to 8
   tail k rest x y is a to w at low (inl e) = stays_here a to 8 w.runs (at ∙ e) low
-  tail k rest x y is a to w at low (inr (z, item, leads)) =
+  tail k rest x y is a to w at low (inr (inr (far, e))) =
+      let left : rest ≡ far_piece to = some_rest rest (far_piece to) (sym (ap (option_map (drop 3)) is) ∙ e) in
+      let whole : slice_get l.list k ≡ Some (x ∷ y ∷ it.EndMark ∷ far_piece to) = is
+      ∙ ap (λ (z : List Item). Some (x ∷ y ∷ it.EndMark ∷ z)) left in
+      weaker_arrives a to (far_on k 3 to far (get_below l.list k _ is)
+      (let size : size_of l.list k ≡ 7 = ap (λ (v : Option (List Item)). items_in v) whole in omega (arith, size))
+      (λ i z f. (let same : 3 + i ≡ suc (suc (suc i)) = omega arith in ap (item_at l.list k) same)
+      ∙ ap (λ (v : Option (List Item)). item_in v (suc (suc (suc i)))) whole ∙ f)
+      (λ i few. (let same : 3 + i ≡ suc (suc (suc i)) = omega arith in ap (open_in (slice_get l.list k)) same)
+      ∙ ap (λ (v : Option (List Item)). open_in v (suc (suc (suc i)))) whole ∙ never_open to i few) a w at)
+    where
+      some_rest : (xs ys : List Item) → Some xs ≡ Some ys → xs ≡ ys
+      some_rest xs ys e = cc
+
+      never_open : (to n : ℕ) → n < 4 → open_from (far_piece to) 3 n None ≡ None
+      never_open to zero l = refl
+      never_open to (suc zero) l = refl
+      never_open to (suc (suc zero)) l = refl
+      never_open to (suc (suc (suc zero))) l = refl
+      never_open to (suc (suc (suc (suc n)))) l = absurd (omega (arith, l))
+
+      weaker_arrives : (a : State) (to : ℕ) → Arrives a to 4 → Arrives a to 8
+      weaker_arrives a to one = let few = one.few in record {
+        count = one.count;
+        memory = one.memory;
+        few = omega arith;
+        path = one.path;
+        silent = one.silent;
+        stores = one.stores;
+        begins = one.begins;
+      }
+  tail k rest x y is a to w at low (inr (inl (z, item, leads))) =
       let one = jump_on k 3 z item (ap (λ (v : Option (List Item)). open_in v 3) is ∙ open_rest rest) a w.runs at in
       on_then a (slice_index p.at z.0) to 4 4 one
       (arrive z (hopped a (slice_index p.at z.0) one.memory) to
@@ -505,7 +609,7 @@ pub plains_visit : PlainsVisit
 plains_visit g l base p place f node x t h here c = visits g l base p place f h node x t here c
 
 -- an instruction judges the same bytes wherever it stands
-judged_moved : (notes : Notes) (x : Point) (t : State) (instr : Instr)
+pub judged_moved : (notes : Notes) (x : Point) (t : State) (instr : Instr)
     → AllApart (pages_of notes) (judged_by (at_point x t) instr)
     → AllApart (pages_of notes) (judged_by t instr)
 judged_moved notes x t instr apart = judged_alike notes instr (at_point x t) t (record {

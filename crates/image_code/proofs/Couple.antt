@@ -62,7 +62,7 @@ couple_acts s x e ne = go x e
     go i.FpOff e = absurd (cc)
     go i.CpOff e = absurd (cc)
 
-quiet_transfer : (s : State) (x : Instr) (descriptor : ℕ) → is_transfer x ≡ true → puts_by s x descriptor ≡ []
+pub quiet_transfer : (s : State) (x : Instr) (descriptor : ℕ) → is_transfer x ≡ true → puts_by s x descriptor ≡ []
 unfolding puts_by
 quiet_transfer s (i.Ticc cond rs1 op2) descriptor e = absurd (cc)
 quiet_transfer s _ descriptor e = refl

@@ -1,18 +1,12 @@
 -- A nop and then the way.
-use Rattle.std.proofs.Common.{◌≡◌, ℕ, suc, ◌+◌, ◌*◌, ◌^◌, ◌≤◌, Bool, true, false, Option, Some, List, [], ◌++◌, length, append-nil, refl, ap, sym, ◌∙◌, subst, arith}
-use Rattle.std.specs.Prelude.{slice_get, ◌==◌}
+use Rattle.std.proofs.Common.{◌≡◌, ℕ, ◌+◌, Option, [], ◌++◌, length, append-nil, refl, ap, sym, ◌∙◌, subst, arith}
 use Rattle.v8_decode.specs.declared.Instr.{Instr}
-use Rattle.v8_decode.specs.declared.Instr.TheVariants as i
-use Rattle.v8_decode.specs.Words.{decode_of}
-use Rattle.v8_alu.specs.Conditions.{holds_of}
 use Rattle.v8_alu.specs.Numbers.{wrapped}
-use Rattle.v8_memory.specs.Regions.{Memory, code_of, fetch_from}
+use Rattle.v8_memory.specs.Regions.{Memory}
 use Rattle.v8_memory.specs.Spans.{IsSameOutside}
-use Rattle.v8_step.specs.declared.Slot.{Slot}
-use Rattle.v8_step.specs.declared.Slot.TheVariants.{NoSlot, Taken, Untaken}
+use Rattle.v8_step.specs.declared.Slot.TheVariants.{NoSlot}
 use Rattle.v8_step.specs.State.{State}
-use Rattle.v8_step.specs.Transfers.{target_of, branched, branch_step, unless_couple}
-use Rattle.v8_step.specs.Step.{act, step_of, on_word, puts_by, puts_on_word}
+use Rattle.v8_step.specs.Step.{act, step_of, puts_by, puts_on_word}
 use Rattle.v8_step.specs.Run.{run_puts}
 use Rattle.v8_step.specs.Valid.{IsValid}
 use Rattle.v8_step.specs.Visits.{pages_of}
@@ -22,16 +16,12 @@ use Rattle.cfg_walk.specs.Walk.{Point, point_of, node_after}
 use Rattle.cfg_normal.specs.declared.Node.{Node}
 use Rattle.code_runs.specs.Points.{moved}
 use Rattle.code_runs.specs.Hops.{hopped}
-use Rattle.code_runs.proofs.Acts.{step_is}
 use Rattle.code_runs.proofs.Leads.{leads_one, leads_then, puts_add}
-use Rattle.layout.specs.declared.items.Item.{Item}
 use Rattle.layout.specs.declared.items.Item.TheVariants as it
-use Rattle.layout.specs.Laid.{nop, Placement, item_at, item_in, items_in, size_of, IsWordAt}
-use Rattle.layout.specs.Running.{HasCode, CanRun}
-use Rattle.layout.proofs.Going.{words_stand}
+use Rattle.layout.specs.Laid.{nop, Placement}
 use Rattle.image_code.specs.Simulates.{Setting, StepsOn, at_point, does_at, gone_at, graph_in, number_in}
 use Rattle.image_code.specs.Images.{Pieces, Frame, Here, IsPlaced, visited_at}
-use Rattle.image_code.specs.Cases.{Everything, plain_piece}
+use Rattle.image_code.specs.Cases.{Everything}
 use Rattle.image_code.specs.Idle.{IsIdle, IdlesStep}
 use Rattle.image_code.proofs.BranchMoves.{branch_moves}
 use Rattle.image_code.proofs.Memories.{fetch_is, images_stored, same_stored}

@@ -1,8 +1,10 @@
 -- From the cases to the promise as a whole.
-use Rattle.std.proofs.Common.{◌≡◌, ℕ, suc, ◌+◌, ◌<◌, Option, List, ◌∷◌, length, refl, ap, sym, ◌∙◌, subst, arith}
+use Rattle.std.proofs.Common.{◌≡◌, ℕ, suc, ◌+◌, ◌<◌, Option, Some, List, ◌∷◌, length, refl, ap, sym, ◌∙◌, subst, arith}
 use Rattle.std.specs.Prelude.{slice_index}
+use Rattle.v8_decode.specs.Words.{decode_of}
 use Rattle.v8_memory.specs.Spans.{AllApart}
 use Rattle.v8_step.specs.State.{State}
+use Rattle.v8_step.specs.Judged.{judged_by}
 use Rattle.v8_step.specs.Needed.{judged_in}
 use Rattle.v8_step.specs.Visits.{pages_of}
 use Rattle.cfg_normal.specs.declared.Node.{Node}
@@ -13,12 +15,15 @@ use Rattle.layout.specs.Laid.{Placement, Stands, BranchStands, branch_short, bra
 use Rattle.image_code.specs.Simulates.{StepsOn, at_point, does_at, gone_at, number_in, word_of}
 use Rattle.code_runs.specs.PointsAlike.{instr_of}
 use Rattle.image_code.specs.Images.{Here}
-use Rattle.image_code.specs.Cases.{Everything}
-use Rattle.image_code.specs.Imaged.{TakesWords, HeadsVisit, IsCase, plain, couple, turn, idle, ImagesSimulate}
+use Rattle.image_code.specs.Cases.{Everything, visits_it}
+use Rattle.image_code.specs.Calls.{CallsStep, JumpsStep}
+use Rattle.image_code.specs.Landings.{JumpSlotsStep}
+use Rattle.image_code.specs.Imaged.{TakesWords, HeadsVisit, IsCase, plain, couple, turn, idle, call, jump, landing, foreign, off, IsVisited, head, outside, beyond, ImagesSimulate}
 use Rattle.image_code.proofs.Cases.{at_range, plains_step}
 use Rattle.image_code.proofs.Couple.{couples_step}
 use Rattle.image_code.proofs.Turns.{turns_step}
 use Rattle.image_code.proofs.Idle.{idles_step}
+use Rattle.image_code.proofs.Outside.{foreign_step, offs_step}
 
 branch_room : (base : ℕ) (code : List ℕ) (cond to a b : ℕ) → BranchStands base code cond to a b → a < b
 branch_room base code cond to a b (branch_short d e r s) = omega arith
@@ -56,23 +61,41 @@ heads_visit g l base p place f node x t h here c =
     ∙ ap (λ (v : Option (List Item)). range_of (place c.piece) (open_in v 1)) c.items)
     (sym at) refl c.original
 
-pub images_simulate : ImagesSimulate
-images_simulate g l base p place f h c = record {
-  visits = λ node x t matches inside here. (
-    here.live,
-    (heads_visit g l base p place f node x t h here (c.heads node x matches inside)).0,
-    (heads_visit g l base p place f node x t h here (c.heads node x matches inside)).1,
-  );
-  steps = λ node x t matches inside here apart on. by node x t here apart (c.cases node x t matches inside here on);
-}
-  where
-    by : (node : Node) (x : Point) (t : State) → Here g l base p f node x t
-        → AllApart (pages_of g.notes) (judged_in (at_point x t) (instr_of (word_of g.text x.pc)))
-        → IsCase g l p place f node x t
-        → StepsOn g (Here g l base p f) Everything (gone_at g node x (does_at g x t)) node x t (does_at g x t)
-    by node x t here apart (plain k) =
-        plains_step g l base p place f node x t h here k
-        (subst (λ (o : Option ℕ). AllApart (pages_of g.notes) (judged_in (at_point x t) (instr_of o))) k.is_word apart)
-    by node x t here apart (couple k) = couples_step g l base p place f node x t h here k
-    by node x t here apart (turn k) = turns_step g l base p place f node x t h here k
-    by node x t here apart (idle k) = idles_step g l base p place f node x t h here k
+module _ (calls : CallsStep) (jumps : JumpsStep) (slots : JumpSlotsStep) where
+  pub simulate : ImagesSimulate
+  simulate g l base p place f h c = record {
+    visits = λ node x t matches clear here. let at = there node x t here (c.visits node x matches clear) in (
+      here.live,
+      at.0,
+      at.1,
+    );
+    steps = λ node x t matches clear here apart on. by node x t here apart (c.cases node x t matches clear here on);
+  }
+    where
+      there : (node : Node) (x : Point) (t : State) → Here g l base p f node x t → IsVisited g l base p f node x
+          → visits_it g node x t
+      there node x t here (head k) = heads_visit g l base p place f node x t h here k
+      there node x t here (outside k) = (foreign_step g l base p place f node x t h here k).0
+      there node x t here (beyond k) = (offs_step g l base p place f node x t h here k).0
+
+      judged : (x : Point) (t : State) (word : ℕ) → word_of g.text x.pc ≡ Some word
+          → AllApart (pages_of g.notes) (judged_in (at_point x t) (instr_of (word_of g.text x.pc)))
+          → AllApart (pages_of g.notes) (judged_by (at_point x t) (decode_of word))
+      judged x t word is apart =
+          subst (λ (o : Option ℕ). AllApart (pages_of g.notes) (judged_in (at_point x t) (instr_of o))) is apart
+
+      by : (node : Node) (x : Point) (t : State) → Here g l base p f node x t
+          → AllApart (pages_of g.notes) (judged_in (at_point x t) (instr_of (word_of g.text x.pc)))
+          → IsCase g l base p place f node x t
+          → StepsOn g (Here g l base p f) Everything (gone_at g node x (does_at g x t)) node x t (does_at g x t)
+      by node x t here apart (plain k) =
+          plains_step g l base p place f node x t h here k (judged x t k.word k.is_word apart)
+      by node x t here apart (couple k) = couples_step g l base p place f node x t h here k
+      by node x t here apart (turn k) = turns_step g l base p place f node x t h here k
+      by node x t here apart (idle k) = idles_step g l base p place f node x t h here k
+      by node x t here apart (call k) = calls g l base p place f node x t h here k
+      by node x t here apart (jump k) = jumps g l base p place f node x t h here k
+      by node x t here apart (landing k) =
+          slots g l base p place f node x t h here k (judged x t k.word k.is_word apart)
+      by node x t here apart (foreign k) = (foreign_step g l base p place f node x t h here k).1
+      by node x t here apart (off k) = (offs_step g l base p place f node x t h here k).1

@@ -6,8 +6,16 @@ pub mod Couple
 pub mod BranchMoves
 pub mod Turns
 pub mod Idle
+pub mod Outside
+pub mod Marked
+pub mod Through
+pub mod Calls
+pub mod Jumps
 pub mod Imaged
 pub mod Listed
 pub mod Made
 pub mod Numbers
 pub mod Fit
+pub mod Landings
+pub mod Operands
+pub mod Along

@@ -461,11 +461,11 @@ module _ (g : Setting) (is : IsText g.text) (branches : HasBranchesOnly g.text) 
             → word_at g.text v.pc ≡ w.to → LeadsIfThere b w.to → Leads_along w.kind v
         past w v live slot inside one bare fall land to leads =
             let there = is_there (word_at g.text v.pc) inside in
-            inr (
+            inr (inl (
               record { 0 = there.0 },
               bare_way w one bare fall land there.0 (sym to ∙ there.1) leads,
               sym (visited_word (node_after (graph_in g) node (gone_at g node x v)) (point_of v) there.0 there.1 slot),
-            )
+            ))
 
         acts : does_at g x t ≡ branched (holds_of cond t.codes) (cond == always) annul (at_point x t)
             (target_from (at_point x t) disp)
@@ -608,12 +608,12 @@ module _ (g : Setting) (is : IsText g.text) (branches : HasBranchesOnly g.text) 
               idle = nop_says;
               rest = jump_to g.text (graph_in g) (way_out g.text (graph_in g) node kind);
               items = is;
-              leads = inr (
+              leads = inr (inl (
                 record { 0 = way_out g.text (graph_in g) node kind },
                 ap
                     (λ (v : Option (List Item)). item_in v 3) is,
                 leads,
-              );
+              ));
               never = not_jump;
             })
 
@@ -704,12 +704,12 @@ module _ (g : Setting) (is : IsText g.text) (branches : HasBranchesOnly g.text) 
               let there : piece_at g.text (graph_in g) k.edge.to ≡ inside.0 =
               begins_piece g.text (graph_in g) k.edge.to (word_at g.text x.npc) inside.0
               (ap (word_at g.text) (sym pc) ∙ inside.1) k.begins in
-              inr (
+              inr (inl (
                 record { 0 = piece_at g.text (graph_in g) k.edge.to },
                 ap (λ (v : Option (List Item)). item_in v 3) (made false e),
                 inl (ap (slice_index p.at) there ∙ sym (visited_word
                     (node_after (graph_in g) node (gone_at g node x v)) (point_of v) inside.0 inside.1 none)),
-              )
+              ))
 
           by : (b : Bool) → is_transfer (decode_of (slice_index g.text.words k.slot)) ≡ b
               → IsCase g l p place f node x t

@@ -1,5 +1,5 @@
 -- The memory of a written file keeps its code, the editor's words and the table.
-use Rattle.std.proofs.Common.{◌≡◌, ℕ, ◌+◌, ◌*◌, ◌≤◌, ◌⊎◌, inl, inr, false, List, [], ◌∷◌, length, None, refl, ap, sym, ◌∙◌, subst, arith}
+use Rattle.std.proofs.Common.{◌≡◌, ℕ, ◌+◌, ◌*◌, ◌≤◌, ◌⊎◌, inl, inr, false, List, [], ◌∷◌, length, refl, ap, sym, ◌∙◌, subst, arith}
 use Rattle.std.specs.Int.{w32, to_be_bytes}
 use Rattle.v8_decode.specs.declared.Instr.{Instr}
 use Rattle.v8_memory.specs.Regions.{Memory, code_of, fetch_of, fetch_from}
@@ -15,7 +15,7 @@ use Rattle.code_runs.specs.Ours.{HasWordAt, IsAmongWords}
 use Rattle.code_runs.proofs.Ours.{ours_are_stored, ours_stay}
 use Rattle.code_runs.proofs.Stays.{region_of_word, there_written, words_stay}
 use Rattle.code_runs.proofs.StoredWords.{other_loaded}
-use Rattle.addr_translate.specs.Lookup.{TableAt, table_word}
+use Rattle.addr_translate.specs.Lookup.{TableAt}
 use Rattle.layout.specs.Laid.{Placement}
 use Rattle.image_code.specs.Simulates.{Setting}
 use Rattle.image_code.specs.Images.{Frame, HasImages, HasTable, IsFramed}

@@ -1,17 +1,15 @@
 -- The image of a branch is one step, whatever its annul bit.
 use Rattle.std.proofs.Common.{◌≡◌, ℕ, ◌+◌, ◌-◌, ◌*◌, ◌^◌, ◌<◌, ◌≤◌, ◌⊎◌, inl, inr, Bool, true, false, Option, Some, None, List, length, refl, ap, sym, ◌∙◌, subst, arith}
-use Rattle.std.specs.Prelude.{if◌then◌else◌, slice_get, slice_index, ◌==◌}
+use Rattle.std.specs.Prelude.{if◌then◌else◌, slice_get, slice_index}
 use Rattle.v8_decode.specs.declared.Instr.{Instr}
-use Rattle.v8_decode.specs.declared.Instr.TheVariants as i
 use Rattle.v8_alu.specs.Conditions.{holds_of}
 use Rattle.v8_alu.specs.Numbers.{wrapped}
 use Rattle.v8_memory.specs.Regions.{Memory}
 use Rattle.v8_memory.specs.Spans.{IsSameOutside}
 use Rattle.v8_step.specs.declared.Slot.{Slot}
-use Rattle.v8_step.specs.declared.Slot.TheVariants.{Taken, Untaken}
+use Rattle.v8_step.specs.declared.Slot.TheVariants.{Taken}
 use Rattle.v8_step.specs.State.{State}
-use Rattle.v8_step.specs.Transfers.{target_of, branched, branch_step, unless_couple}
-use Rattle.v8_step.specs.Step.{act, on_word, puts_by, puts_on_word}
+use Rattle.v8_step.specs.Step.{puts_by, puts_on_word}
 use Rattle.v8_step.specs.Valid.{IsValid}
 use Rattle.v8_step.specs.Visits.{pages_of}
 use Rattle.v8_step.proofs.ValidSteps.{run-valid}
@@ -28,7 +26,7 @@ use Rattle.code_runs.specs.LongJump.{IsFirstWord}
 use Rattle.layout.specs.declared.items.Item.{Item}
 use Rattle.layout.specs.declared.items.Item.TheVariants as it
 use Rattle.layout.specs.Laid.{Placement, item_at, item_in, items_in, size_of, open_in, range_in, range_of}
-use Rattle.layout.specs.Running.{HasCode, CanRun, Goes}
+use Rattle.layout.specs.Running.{CanRun, Goes}
 use Rattle.layout.proofs.Going.{branches_hop}
 use Rattle.image_code.specs.Simulates.{Setting, StepsOn, IsOnWay, at_point, does_at, gone_at, graph_in, number_in}
 use Rattle.image_code.specs.Images.{Pieces, Frame, Here, IsPlaced, visited_at, visited_by}

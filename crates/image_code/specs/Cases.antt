@@ -1,5 +1,6 @@
 -- The images of a plain word and of a conditional branch, whole.
-use Rattle.std.specs.Prelude.{◌≡◌, ℕ, ◌<◌, ◌⊎◌, false, List, [], ◌∷◌, length, Some, None, slice_get, slice_index}
+use Rattle.std.specs.Prelude.{◌≡◌, ℕ, ◌%◌, ◌^◌, ◌<◌, ◌⊎◌, false, List, [], ◌∷◌, drop, length, Some, None, slice_get, slice_index}
+use Rattle.std.specs.Option.{option_map}
 use Rattle.eel_base.specs.declared.numbers.Addr.{Addr}
 use Rattle.eel_base.specs.declared.numbers.PieceNo.{PieceNo}
 use Rattle.elf32_sparc.specs.Notes.{node_at}
@@ -14,6 +15,7 @@ use Rattle.cfg_walk.specs.Walk.{Point, point_of, node_after}
 use Rattle.layout.specs.declared.items.Item.{Item}
 use Rattle.layout.specs.declared.items.Item.TheVariants as it
 use Rattle.layout.specs.Laid.{Placement, item_at}
+use Rattle.jump_code.specs.Pieces.{far_piece}
 use Rattle.image_code.specs.Simulates.{Setting, StepsOn, at_point, does_at, gone_at, graph_in, number_in, word_of}
 use Rattle.image_code.specs.Images.{Pieces, Frame, Here, IsPlaced, visited_at}
 
@@ -30,16 +32,25 @@ next_visit g l p f node x t =
     let v = does_at g x t in
     visited_at g l p f (node_after (graph_in g) node (gone_at g node x v)) (point_of v)
 
--- control that comes to a piece goes on to an address: the piece stands there, or is a Jump alone to one that does
+-- an address to which a long jump can lead
+abbrev pub IsFar : ℕ → Type 0
+IsFar to = (to < 2 ^ 32) × (to % 4 ≡ 0)
+
+-- Control that comes to a piece goes on to an address: the piece stands there, or is a Jump alone to one that does, or a
+-- long jump to the address itself.
 abbrev pub LeadsTo : Pieces → Placement → PieceNo → ℕ → Type 0
 LeadsTo l p piece to =
     (slice_index p.at piece.0 ≡ to)
-    ⊎ ((z : PieceNo) × (slice_get l.list piece.0 ≡ Some (it.Jump z ∷ [])) × (slice_index p.at z.0 ≡ to))
+    ⊎ (((z : PieceNo) × (slice_get l.list piece.0 ≡ Some (it.Jump z ∷ [])) × (slice_index p.at z.0 ≡ to))
+    ⊎ (IsFar to × (slice_get l.list piece.0 ≡ Some (far_piece to))))
 
--- after its item n, a piece goes on to an address: it ends and the next piece begins there, or a Jump leads there
+-- After its item n, a piece goes on to an address: it ends and the next piece begins there, or a Jump leads there, or a
+-- long jump is all that is left.
 abbrev pub LeadsOn : Pieces → Placement → (ℕ → ℕ → ℕ) → ℕ → ℕ → ℕ → Type 0
 LeadsOn l p place k n to =
-    (place k n ≡ to) ⊎ ((z : PieceNo) × (item_at l.list k n ≡ Some (it.Jump z)) × LeadsTo l p z to)
+    (place k n ≡ to)
+    ⊎ (((z : PieceNo) × (item_at l.list k n ≡ Some (it.Jump z)) × LeadsTo l p z to)
+    ⊎ (IsFar to × (option_map (drop n) (slice_get l.list k) ≡ Some (far_piece to))))
 
 -- ---- a plain word, or the copy of a slot's word
 

@@ -14,7 +14,9 @@ use Rattle.image_code.specs.Cases.{Everything, IsPlain, visits_it}
 use Rattle.image_code.specs.Couple.{IsCouple}
 use Rattle.image_code.specs.Turns.{IsTurn}
 use Rattle.image_code.specs.Idle.{IsIdle}
-use Rattle.image_code.specs.Whole.{IsInText}
+use Rattle.image_code.specs.Calls.{IsCall, IsJump}
+use Rattle.image_code.specs.Landings.{IsJumpsSlot}
+use Rattle.image_code.specs.Outside.{IsForeign, IsOff, IsOpen}
 
 -- an item that takes words in every form
 abbrev pub TakesWords : Item → Type 0
@@ -40,22 +42,35 @@ HeadsVisit =
     (node : Node) (x : Point) (t : State)
     → IsPlaced g l base p place f → Here g l base p f node x t → IsHead g l p f node x → visits_it g node x t
 
--- the shape of a point's piece
-pub data IsCase (g : Setting) (l : Pieces) (p : Placement) (place : ℕ → ℕ → ℕ) (f : Frame)
+-- the shape of a point's piece, or the point lies outside the text
+pub data IsCase (g : Setting) (l : Pieces) (base : ℕ) (p : Placement) (place : ℕ → ℕ → ℕ) (f : Frame)
     (node : Node) (x : Point) (t : State) : Type 0 where
-  plain : IsPlain g l p place f node x t → IsCase g l p place f node x t
-  couple : IsCouple g l p f node x → IsCase g l p place f node x t
-  turn : IsTurn g l p f node x t → IsCase g l p place f node x t
-  idle : IsIdle g l p place f node x t → IsCase g l p place f node x t
+  plain : IsPlain g l p place f node x t → IsCase g l base p place f node x t
+  couple : IsCouple g l p f node x → IsCase g l base p place f node x t
+  turn : IsTurn g l p f node x t → IsCase g l base p place f node x t
+  idle : IsIdle g l p place f node x t → IsCase g l base p place f node x t
+  call : IsCall g l p f node x t → IsCase g l base p place f node x t
+  jump : IsJump g l p f node x t → IsCase g l base p place f node x t
+  landing : IsJumpsSlot g l p f node x t → IsCase g l base p place f node x t
+  foreign : IsForeign g node x → IsCase g l base p place f node x t
+  off : IsOff g base p f node x → IsCase g l base p place f node x t
 
--- each point that the walk's node matches has a piece of one of the shapes
+-- where a point is visited
+pub data IsVisited (g : Setting) (l : Pieces) (base : ℕ) (p : Placement) (f : Frame)
+    (node : Node) (x : Point) : Type 0 where
+  head : IsHead g l p f node x → IsVisited g l base p f node x
+  outside : IsForeign g node x → IsVisited g l base p f node x
+  beyond : IsOff g base p f node x → IsVisited g l base p f node x
+
+-- each point outside the pages that the walk's node matches has a place, and is one of the cases
 pub record IsImaged (g : Setting) (l : Pieces) (base : ℕ) (p : Placement) (place : ℕ → ℕ → ℕ) (f : Frame) : Type 0 where
-  pub heads : (node : Node) (x : Point) → Matches g.text (graph_in g) node x → IsInText g x → IsHead g l p f node x
-  pub cases : (node : Node) (x : Point) (t : State) → Matches g.text (graph_in g) node x → IsInText g x
+  pub visits : (node : Node) (x : Point) → Matches g.text (graph_in g) node x → IsOpen g x
+      → IsVisited g l base p f node x
+  pub cases : (node : Node) (x : Point) (t : State) → Matches g.text (graph_in g) node x → IsOpen g x
       → Here g l base p f node x t
-      → ((does_at g x t).ending ≡ None → IsInText g (point_of (does_at g x t))) → IsCase g l p place f node x t
+      → ((does_at g x t).ending ≡ None → IsOpen g (point_of (does_at g x t))) → IsCase g l base p place f node x t
 
 abbrev pub ImagesSimulate : Type 0
 ImagesSimulate =
     (g : Setting) (l : Pieces) (base : ℕ) (p : Placement) (place : ℕ → ℕ → ℕ) (f : Frame) → IsPlaced g l base p place f
-    → IsImaged g l base p place f → Simulates g (IsInText g) (Here g l base p f) Everything
+    → IsImaged g l base p place f → Simulates g (IsOpen g) (Here g l base p f) Everything

@@ -9,3 +9,6 @@ pub mod Imaged
 pub mod Made
 pub mod Parts
 pub mod Fit
+pub mod Calls
+pub mod Landings
+pub mod Outside

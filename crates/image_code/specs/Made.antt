@@ -1,7 +1,8 @@
--- The pieces that are made of a text whose transfers are branches: an image of each word, the way along each edge but
--- for the landings, and last an illegal word for all that lies outside.
-use Rattle.std.specs.Prelude.{ℕ, ◌+◌, ◌-◌, ◌<◌, ◌==◌, nat_lt, if◌then◌else◌, List, [], ◌∷◌, ◌++◌, length, map, take, slice_index, Some}
-use Rattle.eel_base.specs.CodeText.{Words, IsText, address_of}
+-- The pieces that are made of a text: an image of each word, the way along each edge but for the landings, a landing at
+-- each word, and last the foreign piece, to which the table leads every address outside the text.
+use Rattle.std.specs.Prelude.{◌≡◌, ℕ, ◌+◌, ◌-◌, ◌%◌, ◌^◌, ◌<◌, ◌≤◌, ◌==◌, nat_lt, if◌then◌else◌, List, [], ◌∷◌, ◌++◌, length, map, take, slice_get, slice_index, Some, None}
+use Rattle.eel_base.specs.CodeText.{Words, IsText, address_of, word_at}
+use Rattle.elf32_sparc.specs.Notes.{range_at}
 use Rattle.eel_base.specs.declared.numbers.Addr.{Addr}
 use Rattle.v8_decode.specs.declared.Instr.{Instr}
 use Rattle.v8_decode.specs.declared.Instr.TheVariants as i
@@ -18,15 +19,22 @@ use Rattle.cfg_normal.specs.declared.Node.TheVariants.{Block, X}
 use Rattle.cfg_normal.specs.declared.Slot.{Slot}
 use Rattle.cfg_normal.specs.declared.Slot.TheVariants as slots
 use Rattle.cfg_normal.specs.Graph.{Graph, node_of}
-use Rattle.cfg_walk.specs.Walk.{edge_from}
+use Rattle.cfg_walk.specs.Walk.{edge_from, same_kind}
+use Rattle.cfg_walk.specs.Matches.{way_address}
 use Rattle.cfg_walk.specs.Numbers.{node_number}
+use Rattle.addr_translate.specs.Lookup.{TableAt, IsTable, looked_up}
+use Rattle.addr_translate.specs.Translator.{translator}
+use Rattle.jump_code.specs.FreeRegister.{free_register}
+use Rattle.jump_code.specs.Pieces.{call_piece, far_piece, foreign_piece, jump_piece, out_piece}
+use Rattle.layout.specs.Emitting.{words_of}
+use Rattle.layout.specs.Laid.{Placement}
 use Rattle.layout.specs.declared.items.Item.{Item}
 use Rattle.layout.specs.declared.items.Item.TheVariants as it
-use Rattle.image_code.specs.Simulates.{Setting, graph_in}
-use Rattle.image_code.specs.Images.{Frame, Pieces}
-use Rattle.image_code.specs.Cases.{plain_piece, branch_piece}
+use Rattle.image_code.specs.Simulates.{Setting, Simulates, graph_in, number_in}
+use Rattle.image_code.specs.Images.{Frame, Here, IsPlaced, Pieces}
+use Rattle.image_code.specs.Cases.{Everything, plain_piece, branch_piece}
 use Rattle.image_code.specs.Couple.{couple_piece}
-use Rattle.image_code.specs.Whole.{MakesImages}
+use Rattle.image_code.specs.Outside.{IsOpen}
 
 -- ---- words
 
@@ -38,34 +46,25 @@ nop_word = 0x01000000
 abbrev pub couple_word : ℕ
 couple_word = 0x10800002
 
--- UNIMP 0 (B.31)
-abbrev pub illegal_word : ℕ
-illegal_word = 0
-
 -- the edges but for the landings, which come last, one at each block
 abbrev pub own_edges : Graph → List Edge
 own_edges graph = take (length graph.edges - length graph.blocks.firsts) graph.edges
 
-module _ (text : Words) (graph : Graph) where
-  -- ---- the numbers of pieces
+abbrev pub jump_to : ℕ → List Item
+jump_to piece = it.Jump (record { 0 = piece }) ∷ []
 
-  -- first come the images of the words, by words, then the ways along edges, by edges
+-- ---- the numbers of pieces: first come the images of the words, by words, then the ways along edges, by edges, then the
+-- landings, by words, and last the foreign piece
+
+module _ (text : Words) (graph : Graph) where
   abbrev pub way_piece : ℕ → ℕ
   way_piece edge = length text.words + edge
 
-  -- and then the illegal word
-  abbrev pub outside_piece : ℕ
-  outside_piece = length text.words + length (own_edges graph)
+  abbrev pub landing_number : ℕ → ℕ
+  landing_number word = length text.words + length (own_edges graph) + word
 
-  -- where control goes at a node: to the image of its block's first word, and outside to the illegal word, for now
-  abbrev pub piece_at : Node → ℕ
-  piece_at (Block block) = slice_index graph.blocks.firsts block.0
-  piece_at X = outside_piece
-
-  abbrev pub jump_to : ℕ → List Item
-  jump_to piece = it.Jump (record { 0 = piece }) ∷ []
-
-  -- ---- images of words
+  abbrev pub foreign_number : ℕ
+  foreign_number = length text.words + length (own_edges graph) + length text.words
 
   abbrev pub first_way : List ℕ → ℕ
   first_way [] = 0
@@ -75,25 +74,30 @@ module _ (text : Words) (graph : Graph) where
   abbrev pub way_out : Node → EdgeKind → ℕ
   way_out node kind = first_way (edge_from graph node kind)
 
-  -- A word goes on to the image of the next one, which comes next; the text's last word has none.
+module _ (text : Words) (graph : Graph) (table : ℕ) where
+  -- ---- images of words
+
+  -- A word goes on to the image of the next one, which comes next; behind the text's last word control leaves the text.
   abbrev pub rest_after : ℕ → List Item
-  rest_after word = if nat_lt (word + 1) (length text.words) then [] else jump_to outside_piece
+  rest_after word = if nat_lt (word + 1) (length text.words) then [] else far_piece (address_of text (length text.words))
 
   -- `ba` and `bn` go one way
   abbrev pub branch_image : Addr → Node → ℕ → List Item
   branch_image address node cond =
       let number = node_number graph node in
-      let taken = way_out node kinds.Taken in
-      let untaken = way_out node kinds.Untaken in
+      let taken = way_out text graph node kinds.Taken in
+      let untaken = way_out text graph node kinds.Untaken in
       if cond == always then plain_piece address number nop_word (jump_to taken) else
       if cond == never then plain_piece address number nop_word (jump_to untaken) else
       branch_piece address number cond taken untaken
 
-  -- CALL and JMPL aren't built yet
   abbrev pub image_by : Addr → Node → ℕ → Instr → List Item
   image_by address node word (i.Branch cond annul disp22) = branch_image address node cond
-  image_by address node word (i.Call disp30) = plain_piece address (node_number graph node) illegal_word []
-  image_by address node word (i.Jmpl rd rs1 op2) = plain_piece address (node_number graph node) illegal_word []
+  image_by address node word (i.Call disp30) =
+      call_piece address (node_number graph node) (record { 0 = way_out text graph node kinds.Call })
+  image_by address node word (i.Jmpl rd rs1 op2) =
+      jump_piece (free_register rd rs1 op2) rd rs1 op2 address (node_number graph node)
+      (record { 0 = way_out text graph node kinds.Out })
   image_by address node word _ =
       plain_piece address (node_number graph node) (slice_index text.words word) (rest_after word)
 
@@ -105,18 +109,32 @@ module _ (text : Words) (graph : Graph) where
 
   -- ---- ways along edges
 
-  -- the copy of a slot's word, and what comes after it; a transfer in a slot ends the run
-  abbrev pub slot_copy : Addr → Node → ℕ → ℕ → List Item
-  slot_copy address node word to =
-      if is_transfer (decode_of word) then couple_piece address (node_number graph node) couple_word []
-      else plain_piece address (node_number graph node) word (jump_to to)
+  -- where control goes at a node: to the image of its block's first word, and outside the text to the address itself
+  abbrev pub goes_on : Node → ℕ → List Item
+  goes_on (Block block) address = jump_to (slice_index graph.blocks.firsts block.0)
+  goes_on X address = far_piece address
 
-  -- A slot that is run is a visit at the block that the edge leaves. One behind the text is an illegal word.
+  abbrev pub goes_along : Edge → List Item
+  goes_along edge = goes_on edge.to (way_address text graph edge.from edge.kind)
+
+  -- Behind the copy of a slot's word a JMPL's target is looked up; along any other edge control goes on.
+  abbrev pub past_slot : Addr → ℕ → ℕ → Edge → List Item
+  past_slot address number word edge =
+      if same_kind edge.kind kinds.Out then out_piece address number word [] (words_of (translator table 1 2))
+      else plain_piece address number word (goes_along edge)
+
+  -- a transfer in a slot ends the run
+  abbrev pub slot_copy : Addr → ℕ → ℕ → Edge → List Item
+  slot_copy address number word edge =
+      if is_transfer (decode_of word) then couple_piece address number couple_word []
+      else past_slot address number word edge
+
+  -- A slot that is run is a visit at the block that the edge leaves. One behind the text is where the table begins.
   abbrev pub way_by : Edge → Slot → List Item
-  way_by edge slots.Nothing = jump_to (piece_at edge.to)
+  way_by edge slots.Nothing = goes_along edge
   way_by edge (slots.Word slot) =
-      slot_copy (record { 0 = address_of text slot.0 }) edge.from (slice_index text.words slot.0) (piece_at edge.to)
-  way_by edge slots.Off = jump_to outside_piece
+      slot_copy (record { 0 = address_of text slot.0 }) (node_number graph edge.from) (slice_index text.words slot.0) edge
+  way_by edge slots.Off = far_piece table
 
   -- to the next word control falls without a way
   abbrev pub way_along : Edge → List Item
@@ -124,31 +142,48 @@ module _ (text : Words) (graph : Graph) where
 
   -- ---- all pieces
 
+  -- at a landing control goes on to the word's image
+  abbrev pub landing : ℕ → List Item
+  landing word = jump_to word
+
   unfoldable pub piece_list : List (List Item)
   piece_list =
-      map image (below (length text.words)) ++ map way_along (own_edges graph) ++ (it.Word illegal_word ∷ []) ∷ []
+      map image (below (length text.words)) ++ map way_along (own_edges graph)
+      ++ map landing (below (length text.words)) ++ foreign_piece ∷ []
 
 -- the pieces by what they are for: a word has one image, whatever the node
-abbrev pub pieces_in : Words → Graph → Pieces
-pieces_in text graph = record {
-  list = piece_list text graph;
+abbrev pub pieces_in : Words → Graph → ℕ → Pieces
+pieces_in text graph table = record {
+  list = piece_list text graph table;
   image = λ node word. word;
   along = way_piece text graph;
 }
 
 -- ---- what they promise
 
-abbrev pub IsBuilt : Instr → Type 0
-IsBuilt (i.Call disp30) = ⊥
-IsBuilt (i.Jmpl rd rs1 op2) = ⊥
-IsBuilt _ = Unit {0}
+-- the table leads from each word of the text to its landing, and from all other addresses to the foreign piece
+pub record IsTableFor (text : Words) (graph : Graph) (p : Placement) (table : TableAt) : Type 0 where
+  pub whole : IsTable table
+  pub words : (a word : ℕ) → a < 2 ^ 32 → a % 4 ≡ 0 → word_at text a ≡ Some word
+      → looked_up table a ≡ slice_index p.at (landing_number text graph word)
+  pub others : (a : ℕ) → a < 2 ^ 32 → a % 4 ≡ 0 → word_at text a ≡ None
+      → looked_up table a ≡ slice_index p.at (foreign_number text graph)
 
--- the text has no CALL and no JMPL
-abbrev pub HasBranchesOnly : Words → Type 0
-HasBranchesOnly text = (word : ℕ) → word < length text.words → IsBuilt (decode_of (slice_index text.words word))
+-- the place of a slot behind the text, where some edge has one, is where the table begins
+abbrev pub IsOffNoted : Setting → ℕ → Type 0
+IsOffNoted g table =
+    (number : ℕ) (edge : Edge) → slice_get (graph_in g).edges number ≡ Some edge → edge.slot ≡ slots.Off
+    → range_at g.notes table ≡ Some (record {
+        lo = table;
+        hi = table + 4;
+        address = address_of g.text (length g.text.words);
+        node = number_in g edge.from;
+      })
 
--- However they are placed, each image is one step of the original.
+-- However they are placed, each image is one step of the original, at every point outside the pages.
 abbrev pub PiecesMakeImages : Type 0
 PiecesMakeImages =
-    (g : Setting) (f : Frame) → IsText g.text → HasBranchesOnly g.text
-    → MakesImages g (pieces_in g.text (graph_in g)) f
+    (g : Setting) (base : ℕ) (p : Placement) (place : ℕ → ℕ → ℕ) (f : Frame) → IsText g.text
+    → IsPlaced g (pieces_in g.text (graph_in g) f.table.base) base p place f
+    → IsTableFor g.text (graph_in g) p f.table → f.table.base < base → IsOffNoted g f.table.base
+    → Simulates g (IsOpen g) (Here g (pieces_in g.text (graph_in g) f.table.base) base p f) Everything

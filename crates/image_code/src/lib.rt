@@ -1,18 +1,21 @@
 //! The images of words: where a machine stands that visits one, and that each image follows the original's step.
 #![tactic(auto)]
 
+ghost use Rattle.image_code.specs.Calls.{CallsStep, JumpsStep};
 ghost use Rattle.image_code.specs.Cases.{PlainsStep, PlainsVisit};
 ghost use Rattle.image_code.specs.Couple.{CouplesStep};
 ghost use Rattle.image_code.specs.Fit.{PiecesFit, PlacesSay};
 ghost use Rattle.image_code.specs.Idle.{IdlesStep};
 ghost use Rattle.image_code.specs.Imaged.{HeadsVisit, ImagesSimulate};
+ghost use Rattle.image_code.specs.Landings.{JumpSlotsStep};
 ghost use Rattle.image_code.specs.Made.{PiecesMakeImages};
+ghost use Rattle.image_code.specs.Outside.{ForeignStep, OffsStep};
 ghost use Rattle.image_code.specs.Turns.{TurnsStep};
 
 mod making;
 mod parts;
 
-pub use making::{PieceList, pieces};
+pub use making::{Frame, PieceList, pieces};
 
 /// The image of a word that is no transfer, or the copy of a slot's word, is one step of the original.
 pub fn plains_step()
@@ -37,6 +40,31 @@ pub fn turns_step()
 /// So is a nop in the branch's Mark, and then the way to where the walk goes on.
 pub fn idles_step()
     ensures { IdlesStep }
+{}
+
+/// A machine at an address outside the pages visits it as itself, and ends the run as the original does.
+pub fn foreign_step()
+    ensures { ForeignStep }
+{}
+
+/// So does one where the table begins, in a slot behind the text.
+pub fn offs_step()
+    ensures { OffsStep }
+{}
+
+/// The copy of a slot's word and the look-up behind it are the step of a jump's slot: the way on is that of its target.
+pub fn jump_slots_step()
+    ensures { JumpSlotsStep }
+{}
+
+/// The link of a CALL, and then the way to where the walk goes on, are its step.
+pub fn calls_step()
+    ensures { CallsStep }
+{}
+
+/// The image of a JMPL keeps its target in the page and goes on so, or ends the run as the JMPL does.
+pub fn jumps_step()
+    ensures { JumpsStep }
 {}
 
 /// A machine at a piece that begins with the Mark of a point visits the point.

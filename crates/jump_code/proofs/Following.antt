@@ -30,13 +30,13 @@ module _ (x rd rs1 : ℕ) (op2 : Op2) (address : ℕ) (s : State) (h : IsAboutTo
   sum_moved (Reg r) = refl
   sum_moved (Imm n) = refl
 
-  goes : sum_of s rs1 op2 % 4 ≡ 0 → jumped address rd rs1 op2 s ≡ delayed
+  pub goes : sum_of s rs1 op2 % 4 ≡ 0 → jumped address rd rs1 op2 s ≡ delayed
       (with_register (moved address (wrapped (address + 4)) NoSlot s) rd address) (sum_of s rs1 op2)
   goes e =
       jump_acts (moved address (wrapped (address + 4)) NoSlot s) rd rs1 op2 (sum_of s rs1 op2) refl (sum_moved op2)
       (four (sum_of s rs1 op2) e)
 
-  stops : sum_of s rs1 op2 % 4 ≢ 0 → jumped address rd rs1 op2 s ≡ trapped
+  pub stops : sum_of s rs1 op2 % 4 ≢ 0 → jumped address rd rs1 op2 s ≡ trapped
       (moved address (wrapped (address + 4)) NoSlot s) mem_address_not_aligned
   stops ne =
       jump_traps (moved address (wrapped (address + 4)) NoSlot s) rd rs1 op2 refl

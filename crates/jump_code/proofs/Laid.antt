@@ -10,7 +10,7 @@ use Rattle.code_runs.specs.Straight.{StandIn, HasWords}
 use Rattle.layout.specs.declared.items.Item.{Item}
 use Rattle.layout.specs.declared.items.Item.TheVariants as it
 use Rattle.layout.specs.Emitting.{words_of}
-use Rattle.layout.specs.Laid.{Placement, Stands, item_in}
+use Rattle.layout.specs.Laid.{IsLaid, Placement, Stands, item_at, item_in}
 use Rattle.layout.specs.Running.{HasCode}
 use Rattle.layout.proofs.Going.{word_is}
 use Rattle.jump_code.proofs.Fitting.{words_mean, link_fits, jump_fits, long_jump_fits, as_many, Fit}
@@ -102,6 +102,17 @@ module _ (base : ℕ) (p : Placement) (m : Memory) (has : HasCode base p.code m)
             (words_mean (code_of m) (place (6 + length translator)) look_up_last
             (refl, refl, (refl, refl, (refl, refl, tt))) w3.0);
       }
+
+-- words that stand in a piece from its item n on
+pub words_after : (pieces : List (List Item)) (base : ℕ) (p : Placement) (place : ℕ → ℕ → ℕ) → IsLaid pieces base p place
+    → (m : Memory) → HasCode base p.code m → (k n : ℕ) (xs : List Instr) → Fit xs
+    → ((i : ℕ) (x : Item) → slice_get (word_items xs) i ≡ Some x → item_at pieces k (n + i) ≡ Some x)
+    → StandIn (code_of m) (place k n) xs
+words_after pieces base p place laid m has k n xs fit items =
+    words_mean (code_of m) (place k n) xs fit
+    (words_stand base p m has (place k) (words_of xs) [] n
+    (subst (λ (z : List Item). AllStand base p m has (place k) z n) (sym (append-nil (word_items xs)))
+    (all_stand base p m has (place k) (word_items xs) n (λ j x e. laid.items k (n + j) x (items j x e))))).0
 
 pub pieces_are_laid : PiecesAreLaid
 pieces_are_laid pieces base p place laid m has k piece is =

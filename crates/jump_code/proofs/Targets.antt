@@ -129,8 +129,8 @@ module _ (x rd rs1 : ℕ) (op2 : Op2) (address : ℕ) (s : State) (h : IsAboutTo
       go (inr ne) = k.others place apart ne
 
   -- the load of a misaligned target ends the run
-  traps : sum_of s rs1 op2 % 4 ≢ 0 → 8 ≡ count → TrapsThere s x rs1 op2
-  traps odd eight =
+  traps : sum_of s rs1 op2 % 4 ≢ 0 → 6 ≡ count → TrapsThere s x rs1 op2
+  traps odd six =
       let t = sum_of s rs1 op2 in
       let w = tested in
       let k = w.alike in
@@ -149,13 +149,14 @@ module _ (x rd rs1 : ℕ) (op2 : Op2) (address : ℕ) (s : State) (h : IsAboutTo
       let low = c.low in
       record {
         after = trapped w.after mem_address_not_aligned;
-        path = leads_then (IsBetween s 8 IsPageWord) s w.after _ 4 1
-            (subst (λ z. Leads (IsBetween s z IsPageWord) s w.after 4) (sym eight) w.path) (leads_one _ w.after _ one)
+        path = leads_then (IsBetween s 6 IsPageWord) s w.after _ 4 1
+            (subst (λ z. Leads (IsBetween s z IsPageWord) s w.after 4) (sym six) w.path) (leads_one _ w.after _ one)
             (λ _ _. record {
               past = omega arith;
               before = omega arith;
               stores = subst (Stores IsPageWord s.memory) (sym k.memory) w.stores;
             });
+        live = ap (λ (z : State). z.ending) w.path.steps ∙ k.live;
         silent = silent_then s w.after 4 1 w.path.steps w.silent
             (silent_one w.after (says_puts w.after load (λ cond r o e. cc) here));
         ending = refl;
@@ -220,5 +221,5 @@ goes x (suc r) rs1 op2 address s h aligned =
 pub jumps_act : JumpsAct
 jumps_act x rd rs1 op2 address s h =
     let o = another x in
-    let c = beside x rd rs1 op2 address s h 8 o.0 (omega arith) o.1 o.2 o.3 in
-    (goes x rd rs1 op2 address s h, λ odd. traps x rd rs1 op2 address s h 8 o.0 c (omega arith) odd refl)
+    let c = beside x rd rs1 op2 address s h 6 o.0 (omega arith) o.1 o.2 o.3 in
+    (goes x rd rs1 op2 address s h, λ odd. traps x rd rs1 op2 address s h 6 o.0 c (omega arith) odd refl)

@@ -1,5 +1,5 @@
 -- The words that make the image of a JMPL, and what they do.
-use Rattle.std.specs.Prelude.{◌≡◌, ◌≢◌, ℕ, ◌+◌, ◌*◌, ◌-◌, ◌%◌, ◌^◌, ◌<◌, false, List, [], ◌∷◌, ◌++◌, length, Some, pos, slice_index}
+use Rattle.std.specs.Prelude.{◌≡◌, ◌≢◌, ℕ, ◌+◌, ◌*◌, ◌-◌, ◌%◌, ◌^◌, ◌<◌, false, List, [], ◌∷◌, ◌++◌, length, Some, None, pos, slice_index}
 use Rattle.v8_decode.specs.declared.Op2.{Op2}
 use Rattle.v8_decode.specs.declared.Op2.TheVariants.{Reg, Imm}
 use Rattle.v8_decode.specs.declared.AluOp.TheVariants as ops
@@ -11,6 +11,7 @@ use Rattle.v8_memory.specs.Regions.{Memory, code_of}
 use Rattle.v8_windows.specs.Registers.{place_of}
 use Rattle.v8_step.specs.declared.Ending.TheVariants.{Trap}
 use Rattle.v8_step.specs.State.{State, register_of, with_register, sum_of}
+use Rattle.v8_step.specs.Run.{run}
 use Rattle.v8_step.specs.Traps.{mem_address_not_aligned}
 use Rattle.v8_step.specs.Valid.{IsValid}
 use Rattle.code_runs.specs.Leads.{Leads, IsSilent}
@@ -75,11 +76,12 @@ pub record GoesOn (s : State) (x rd rs1 : ℕ) (op2 : Op2) (address count : ℕ)
   pub stores : Stores IsPageWord s.memory (kept_target s x rs1 op2)
   pub target : memory_word (kept_target s x rs1 op2) (page_word 1) ≡ sum_of s rs1 op2
 
--- A misaligned one: the fifth word ends the run, with the trap of a misaligned address. All but register x and words of
--- the page is as it was.
+-- A misaligned one: the fifth of the first six words ends the run, with the trap of a misaligned address. All but
+-- register x and words of the page is as it was.
 pub record TrapsThere (s : State) (x rs1 : ℕ) (op2 : Op2) : Type 0 where
   pub after : State
-  pub path : Leads (IsBetween s 8 IsPageWord) s after 5
+  pub path : Leads (IsBetween s 6 IsPageWord) s after 5
+  pub live : (run s 4).ending ≡ None
   pub silent : IsSilent s 5
   pub ending : after.ending ≡ Some (Trap mem_address_not_aligned)
   pub pc : after.pc ≡ s.pc + 16

@@ -1,0 +1,215 @@
+-- The words of a JMPL, and then the way; or the ending that a misaligned target has.
+use Rattle.std.proofs.Common.{◌≡◌, ◌≢◌, ℕ, zero, suc, ◌+◌, ◌-◌, ◌*◌, ◌%◌, ◌^◌, ◌<◌, ◌≤◌, ◌⊎◌, inl, inr, Option, Some, None, List, [], length, refl, ap, sym, ◌∙◌, subst, arith}
+use Rattle.v8_decode.specs.declared.Instr.{Instr}
+use Rattle.v8_decode.specs.declared.Instr.TheVariants as i
+use Rattle.v8_decode.specs.Words.{decode_of}
+use Rattle.v8_alu.specs.Numbers.{wrapped}
+use Rattle.v8_memory.specs.Regions.{Memory, code_of}
+use Rattle.v8_memory.specs.Spans.{IsSameOutside}
+use Rattle.v8_step.specs.declared.Ending.{Ending}
+use Rattle.v8_step.specs.declared.Slot.{Slot}
+use Rattle.v8_step.specs.declared.Slot.TheVariants.{NoSlot}
+use Rattle.v8_step.specs.State.{State, sum_of}
+use Rattle.v8_step.specs.Step.{act, on_word, puts_on_word}
+use Rattle.v8_step.specs.Run.{run}
+use Rattle.v8_step.specs.Items.{is_transfer}
+use Rattle.v8_step.specs.Valid.{IsValid}
+use Rattle.v8_step.specs.Visits.{pages_of}
+use Rattle.v8_step.proofs.ValidSteps.{run-valid}
+use Rattle.cfg_normal.specs.declared.Node.{Node}
+use Rattle.cfg_walk.specs.Walk.{Point, point_of, node_after}
+use Rattle.code_runs.specs.Page.{page_word}
+use Rattle.code_runs.specs.Points.{moved}
+use Rattle.code_runs.specs.StoredWords.{Stores}
+use Rattle.code_runs.specs.Straight.{StandIn}
+use Rattle.code_runs.proofs.Hops.{equal_or_not}
+use Rattle.code_runs.proofs.Stays.{stores_there}
+use Rattle.layout.specs.Laid.{Placement}
+use Rattle.jump_code.specs.Jumped.{jumped}
+use Rattle.jump_code.specs.Jumps.{IsAboutToJump, jump_image, kept_target}
+use Rattle.jump_code.specs.Links.{link}
+use Rattle.jump_code.specs.PageWords.{IsPageWord}
+use Rattle.jump_code.proofs.Following.{goes, stops, jumps_simulate}
+use Rattle.jump_code.proofs.Laid.{pieces_are_laid}
+use Rattle.image_code.specs.Simulates.{Setting, StepsOn, IsOnWay, at_point, does_at, gone_at, graph_in, number_in, word_of}
+use Rattle.image_code.specs.Images.{Pieces, Frame, Here, IsPlaced, visited_at}
+use Rattle.image_code.specs.Cases.{Everything, LeadsTo}
+use Rattle.image_code.specs.Calls.{IsJump, JumpsStep}
+use Rattle.image_code.proofs.Memories.{same_stored}
+use Rattle.image_code.proofs.Cases.{cells_same, live_before}
+use Rattle.image_code.proofs.Couple.{quiet_transfer}
+use Rattle.image_code.proofs.Through.{AtWords, at_words, own_stored, goes_through}
+
+link_few : (rd address : ℕ) → length (link rd address) ≤ 2
+link_few zero address = omega arith
+link_few (suc rd) address = omega arith
+
+module _ (g : Setting) (l : Pieces) (base : ℕ) (p : Placement) (place : ℕ → ℕ → ℕ) (f : Frame)
+    (h : IsPlaced g l base p place f)
+    (node : Node) (x : Point) (t : State) (here : Here g l base p f node x t) (c : IsJump g l p f node x t) where
+  -- the original after its JMPL
+  abbrev after_jump : State
+  after_jump = jumped c.address.0 c.rd c.rs1 c.op2 t
+
+  abbrev image : List Instr
+  image = jump_image c.scratch c.rd c.rs1 c.op2 c.address.0
+
+  many : 6 ≤ length image
+  many = omega arith
+
+  few : length image ≤ 8
+  few = let n = link_few c.rd c.address.0 in omega arith
+
+  point_is : at_point x t ≡ moved c.address.0 (wrapped (c.address.0 + 4)) NoSlot t
+  point_is =
+      ap (λ (z : Slot). moved x.pc x.npc z t) c.none ∙ ap (λ z. moved x.pc z NoSlot t) c.next
+      ∙ ap (λ z. moved z (wrapped (z + 4)) NoSlot t) (sym c.original)
+
+  does_is : does_at g x t ≡ after_jump
+  does_is =
+      ap (on_word (at_point x t)) c.is_word ∙ ap (act (at_point x t)) c.says
+      ∙ ap (λ (z : State). act z (i.Jmpl c.rd c.rs1 c.op2)) point_is
+
+  ahead : AtWords g node t (place c.piece 1) (length image)
+  ahead = at_words g l base p place f h node x t here c.piece c.within c.here image c.address c.way c.items
+
+  about : IsAboutToJump c.scratch c.rd c.rs1 c.op2 c.address.0 t
+  about =
+      let low = ahead.low in
+      let n = many in
+      record {
+        valid = here.valid;
+        ready = record { live = here.live; npc = ahead.next (omega arith) };
+        low = omega arith;
+        apart = c.apart;
+        words = subst (λ z. StandIn (code_of t.memory) z image) (sym ahead.at)
+            ((pieces_are_laid l.list base p place h.laid t.memory here.memory.code c.piece _ c.items).jump
+            c.scratch c.rd c.rs1 c.op2 c.address (number_in g node) c.way c.apart c.fits c.in_range short refl).words;
+        short = short;
+        page = λ n below. stores_there (page_word n) t.memory
+            (here.memory.ours.words (page_word n) (h.frame.page n (omega (arith, below))));
+      }
+    where
+      short : c.address.0 < 2 ^ 32
+      short = let o = c.original in let low = c.low in omega arith
+
+  memory_is : after_jump.memory ≡ t.memory
+  memory_is = go (equal_or_not (sum_of t c.rs1 c.op2 % 4) 0)
+    where
+      go : (sum_of t c.rs1 c.op2 % 4 ≡ 0) ⊎ (sum_of t c.rs1 c.op2 % 4 ≢ 0)
+          → after_jump.memory ≡ t.memory
+      go (inl e) = ap (λ (z : State). z.memory) (goes c.scratch c.rd c.rs1 c.op2 c.address.0 t about e)
+      go (inr ne) = ap (λ (z : State). z.memory) (stops c.scratch c.rd c.rs1 c.op2 c.address.0 t about ne)
+
+  -- a JMPL goes on to a multiple of 4
+  aligned : after_jump.ending ≡ None → after_jump.npc % 4 ≡ 0
+  aligned live = go (equal_or_not (sum_of t c.rs1 c.op2 % 4) 0)
+    where
+      go : (sum_of t c.rs1 c.op2 % 4 ≡ 0) ⊎ (sum_of t c.rs1 c.op2 % 4 ≢ 0)
+          → after_jump.npc % 4 ≡ 0
+      go (inl e) = ap (λ (z : State). z.npc % 4) (goes c.scratch c.rd c.rs1 c.op2 c.address.0 t about e) ∙ e
+      go (inr ne) =
+          let over = ap (λ (z : State). z.ending) (stops c.scratch c.rd c.rs1 c.op2 c.address.0 t about ne) in
+          absurd (cc)
+
+  -- one that ends the run changes nothing else
+  only_ends : (d : Ending) → after_jump.ending ≡ Some d
+      → after_jump ≡ record (moved c.address.0 (wrapped (c.address.0 + 4)) NoSlot t) { ending = Some d }
+  only_ends d is = go (equal_or_not (sum_of t c.rs1 c.op2 % 4) 0)
+    where
+      go : (sum_of t c.rs1 c.op2 % 4 ≡ 0) ⊎ (sum_of t c.rs1 c.op2 % 4 ≢ 0) → after_jump
+          ≡ record (moved c.address.0 (wrapped (c.address.0 + 4)) NoSlot t) { ending = Some d }
+      go (inl e) =
+          let live = ap (λ (z : State). z.ending) (goes c.scratch c.rd c.rs1 c.op2 c.address.0 t about e)
+          ∙ here.live in
+          absurd (cc)
+      go (inr ne) =
+          let end = stops c.scratch c.rd c.rs1 c.op2 c.address.0 t about ne in
+          end
+          ∙ ap (λ (z : Option Ending). record (moved c.address.0 (wrapped (c.address.0 + 4)) NoSlot t) { ending = z })
+          (sym (ap (λ (z : State). z.ending) end) ∙ is)
+
+  quiet : (descriptor : ℕ) → puts_on_word (at_point x t) (word_of g.text x.pc) descriptor ≡ []
+  quiet descriptor =
+      ap (λ (o : Option ℕ). puts_on_word (at_point x t) o descriptor) c.is_word
+      ∙ quiet_transfer (at_point x t) (decode_of c.word) descriptor (ap is_transfer c.says)
+
+  going : (edges : List ℕ) → after_jump.ending ≡ None
+      → LeadsTo l p c.way (visited_at g l p f (node_after (graph_in g) node edges)
+      (point_of after_jump))
+      → StepsOn g (Here g l base p f) Everything edges node x t after_jump
+  going edges live leads =
+      let on = (jumps_simulate c.scratch c.rd c.rs1 c.op2 c.address.0 t about).0 live in
+      let n = many in
+      goes_through g l base p place f h node x t here c.piece c.within c.here image c.address c.way c.items
+      after_jump (kept_target t c.scratch c.rs1 c.op2) edges (omega arith) few
+      (record {
+        path = on.path;
+        silent = on.silent;
+        stores = subst (λ (z : Memory). Stores IsPageWord z (kept_target t c.scratch c.rs1 c.op2)) memory_is on.stores;
+        live = live;
+        memory = memory_is;
+        quiet = quiet;
+        waits = λ _ _. (on.waits, aligned live);
+      }) leads
+
+  ends : (edges : List ℕ) (d : Ending) → after_jump.ending ≡ Some d
+      → StepsOn g (Here g l base p f) Everything edges node x t after_jump
+  ends edges d over =
+      let end = (jumps_simulate c.scratch c.rd c.rs1 c.op2 c.address.0 t about).1 d over in
+      let traps = end.traps in
+      let same = only_ends d over in
+      let n = many in
+      let pc = traps.pc in
+      let valid : IsValid traps.after = subst IsValid traps.path.steps (run-valid t 5 here.valid) in
+      record {
+        count = 5;
+        after = traps.after;
+        path = record {
+          steps = traps.path.steps;
+          some = omega arith;
+          few = omega arith;
+          quiet = λ j some below. on_way traps.live j some below (traps.path.during j some below).past
+              (traps.path.during j some below).before;
+        };
+        puts = λ descriptor. traps.silent descriptor ∙ sym (quiet descriptor);
+        followed = record {
+          ending = end.same ∙ sym over;
+          window = traps.window ∙ sym (ap (λ (z : State). z.window) same);
+          valid = traps.valid ∙ sym (ap (λ (z : State). z.valid) same);
+          registers = valid.registers.count
+              ∙ sym (ap (λ (z : State). length z.registers) same ∙ here.valid.registers.count);
+          input = traps.input ∙ sym (ap (λ (z : State). z.input) same);
+          memory = subst (λ (z : Memory). IsSameOutside (pages_of g.notes) z traps.after.memory) (sym memory_is)
+              (same_stored g f h.frame base p t.memory traps.after.memory here.memory
+              (own_stored g f h.frame t.memory traps.after.memory traps.stores));
+          items = λ live thing _ _. absurd (cc);
+        };
+        cells = cells_same g l base p place f h edges t after_jump traps.after;
+        here = λ live. absurd (cc);
+        place = λ _. ahead.there traps.after.pc (omega arith) (omega arith);
+      }
+    where
+      on_way : (run t 4).ending ≡ None → (j : ℕ) → 0 < j → j < 5 → t.pc < (run t j).pc → (run t j).pc < t.pc + 4 * 6
+          → IsOnWay g node t (run t j)
+      on_way live j some below past before =
+          let n = many in
+          ahead.on (run t j)
+          (live_before t (4 - j) j (ap (λ z. (run t z).ending) (let e : 4 - j + j ≡ 4 = omega arith in e) ∙ live))
+          past (omega arith)
+
+  steps : (e : Option Ending) → after_jump.ending ≡ e
+      → (after_jump.ending ≡ None → LeadsTo l p c.way (visited_at g l p f
+      (node_after (graph_in g) node (gone_at g node x after_jump)) (point_of after_jump)))
+      → StepsOn g (Here g l base p f) Everything (gone_at g node x after_jump) node x t after_jump
+  steps None e leads = going (gone_at g node x after_jump) e (leads e)
+  steps (Some d) e leads = ends (gone_at g node x after_jump) d e
+
+pub jumps_step : JumpsStep
+jumps_step g l base p place f node x t h here c =
+    let is = does_is g l base p place f h node x t here c in
+    subst (λ (z : State). StepsOn g (Here g l base p f) Everything (gone_at g node x z) node x t z) (sym is)
+    (steps g l base p place f h node x t here c _ refl
+    (subst (λ (z : State). z.ending ≡ None
+    → LeadsTo l p c.way (visited_at g l p f (node_after (graph_in g) node (gone_at g node x z)) (point_of z)))
+    is c.leads))

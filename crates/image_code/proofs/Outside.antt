@@ -1,0 +1,188 @@
+-- Nothing can be fetched outside the code: there the run ends, as the original's does.
+use Rattle.std.proofs.Common.{◌≡◌, ◌≢◌, ℕ, ◌+◌, ◌*◌, inl, inr, Bool, true, false, ◌||◌, Option, Some, None, List, [], ◌∷◌, length, map, refl, ap, sym, ◌∙◌, subst, arith}
+use Rattle.std.specs.Prelude.{if◌then◌else◌, ◌==◌}
+use Rattle.std.specs.List.{list_any}
+use Rattle.std.specs.Option.{option_map, option_or}
+use Rattle.std.proofs.lemmas.Bool.{cases_lt}
+use Rattle.std.proofs.lemmas.Bool.Decides.{nat_tests}
+use Rattle.eel_base.specs.CodeText.{word_at}
+use Rattle.elf32_sparc.specs.Notes.{Notes, NoteRange, NoteSegment, holds, range_at}
+use Rattle.v8_memory.specs.Regions.{fetch_of}
+use Rattle.v8_memory.specs.Spans.{IsApart, IsApartFromAll}
+use Rattle.v8_step.specs.declared.Ending.{Ending}
+use Rattle.v8_step.specs.declared.Slot.{Slot}
+use Rattle.v8_step.specs.declared.Slot.TheVariants.{NoSlot, Taken, Untaken}
+use Rattle.v8_step.specs.State.{State}
+use Rattle.v8_step.specs.Traps.{instruction_access_exception}
+use Rattle.v8_step.specs.Transfers.{trapped}
+use Rattle.v8_step.specs.Step.{step_of, on_word, unless_ended, puts_of, puts_on_word, puts_unless_ended}
+use Rattle.v8_step.specs.Visits.{if_live, in_pages, page_of, pages_of, visited}
+use Rattle.cfg_normal.specs.declared.Node.{Node}
+use Rattle.cfg_walk.specs.Walk.{Point}
+use Rattle.layout.specs.Laid.{Placement}
+use Rattle.image_code.specs.Simulates.{Setting, StepsOn, at_point, does_at, gone_at, number_in, word_of}
+use Rattle.image_code.specs.Images.{Pieces, Frame, Here, IsBeside, IsPlaced, visited_by}
+use Rattle.image_code.specs.Cases.{Everything, visits_it}
+use Rattle.image_code.specs.Outside.{IsForeign, IsOff, ForeignStep, OffsStep}
+use Rattle.image_code.proofs.Memories.{fetch_is}
+use Rattle.image_code.proofs.Cases.{cells_same, outside_refl}
+
+-- ---- an address outside the pages is in none of them
+
+held : (a : ℕ) (segment : NoteSegment) → IsApart (page_of segment) (record { from = a; count = 1 })
+    → holds a (a + 1) segment ≡ false
+held a segment (inl past) = grind (past, arith, nat_tests)
+held a segment (inr before) = grind (before, arith, nat_tests)
+
+held_by : (a : ℕ) (segments : List NoteSegment)
+    → IsApartFromAll (map page_of segments) (record { from = a; count = 1 })
+    → list_any (holds a (a + 1)) segments ≡ false
+held_by a [] apart = refl
+held_by a (segment ∷ segments) apart =
+    ap (λ (b : Bool). b || list_any (holds a (a + 1)) segments) (held a segment apart.0) ∙ held_by a segments apart.1
+
+pub out_of_pages : (notes : Notes) (a : ℕ) → IsApartFromAll (pages_of notes) (record { from = a; count = 1 })
+    → in_pages notes a ≡ false
+out_of_pages notes a apart = held_by a notes.segments apart
+
+-- ---- a step of no word
+
+unfetched_step : (s : State) → s.ending ≡ None → fetch_of s.memory s.pc ≡ None
+    → step_of s ≡ trapped s instruction_access_exception
+unfolding step_of
+unfetched_step s live fetched =
+    ap (λ (e : Option Ending). unless_ended s e (on_word s (fetch_of s.memory s.pc))) live ∙ ap (on_word s) fetched
+
+unfetched_puts : (s : State) (descriptor : ℕ) → s.ending ≡ None → fetch_of s.memory s.pc ≡ None
+    → puts_of s descriptor ≡ []
+unfolding puts_of
+unfetched_puts s descriptor live fetched =
+    ap (λ (e : Option Ending). puts_unless_ended e (puts_on_word s (fetch_of s.memory s.pc) descriptor)) live
+    ∙ ap (λ (o : Option ℕ). puts_on_word s o descriptor) fetched
+
+-- ---- both machines end
+
+module _ (g : Setting) (l : Pieces) (base : ℕ) (p : Placement) (place : ℕ → ℕ → ℕ) (f : Frame)
+    (h : IsPlaced g l base p place f)
+    (node : Node) (x : Point) (t : State) (here : Here g l base p f node x t) (none : word_at g.text x.pc ≡ None)
+    (beside : IsBeside base p.code t.pc) (visits : visits_it g node x t) where
+  no_word : word_of g.text x.pc ≡ None
+  no_word = ap (option_map _) none
+
+  fetched : fetch_of t.memory t.pc ≡ None
+  fetched = fetch_is t.memory t.pc ∙ here.memory.only t.pc beside
+
+  does_is : does_at g x t ≡ trapped (at_point x t) instruction_access_exception
+  does_is = ap (on_word (at_point x t)) no_word
+
+  steps : (edges : List ℕ)
+      → StepsOn g (Here g l base p f) Everything edges node x t (trapped (at_point x t) instruction_access_exception)
+  steps edges = record {
+    count = 1;
+    after = trapped t instruction_access_exception;
+    path = record {
+      steps = unfetched_step t here.live fetched;
+      some = omega arith;
+      few = omega arith;
+      quiet = λ j a b. absurd (omega arith);
+    };
+    puts = λ descriptor. unfetched_puts t descriptor here.live fetched
+        ∙ sym (ap (λ (o : Option ℕ). puts_on_word (at_point x t) o descriptor) no_word);
+    followed = record {
+      ending = refl;
+      window = refl;
+      valid = refl;
+      registers = refl;
+      input = refl;
+      memory = outside_refl (pages_of g.notes) t.memory;
+      items = λ live thing _ _. absurd (cc);
+    };
+    cells = cells_same g l base p place f h edges t (trapped (at_point x t) instruction_access_exception)
+        (trapped t instruction_access_exception);
+    here = λ live. absurd (cc);
+    place = λ _. visits.1;
+  }
+
+  ends : StepsOn g (Here g l base p f) Everything (gone_at g node x (does_at g x t)) node x t (does_at g x t)
+  ends = subst (λ (z : State). StepsOn g (Here g l base p f) Everything (gone_at g node x z) node x t z) (sym does_is)
+      (steps (gone_at g node x (trapped (at_point x t) instruction_access_exception)))
+
+-- ---- outside a slot
+
+module _ (g : Setting) (l : Pieces) (base : ℕ) (p : Placement) (place : ℕ → ℕ → ℕ) (f : Frame)
+    (h : IsPlaced g l base p place f)
+    (node : Node) (x : Point) (t : State) (here : Here g l base p f node x t) (c : IsForeign g node x) where
+  foreign_at : t.pc ≡ x.pc
+  foreign_at = here.at ∙ ap (λ (s : Slot). visited_by g l p f node x (word_at g.text x.pc) s) c.slot
+      ∙ ap (λ (o : Option ℕ). visited_by g l p f node x o NoSlot) c.none
+
+  outside : in_pages g.notes t.pc ≡ false
+  outside = ap (in_pages g.notes) foreign_at ∙ out_of_pages g.notes x.pc c.apart
+
+  foreign_beside : IsBeside base p.code t.pc
+  foreign_beside = elim (cases_lt t.pc base) [
+    | inl below ↦ inl below
+    | inr above ↦ elim (cases_lt t.pc (base + 4 * length p.code)) [
+      | inl within ↦ let inside = h.noted.inside t.pc above within in let none = outside in absurd (cc)
+      | inr past ↦ inr past
+    ]
+  ]
+
+  nowhere : range_at g.notes t.pc ≡ None
+  nowhere = h.noted.outside t.pc outside
+
+  foreign_visits : visits_it g node x t
+  foreign_visits = (
+    ap (λ (e : Option Ending). if_live e (visited (range_at g.notes t.pc) (in_pages g.notes t.pc) t.pc)) here.live
+        ∙ ap (λ (r : Option NoteRange). visited r (in_pages g.notes t.pc) t.pc) nowhere
+        ∙ ap (λ (b : Bool). visited None b t.pc) outside ∙ ap (λ z. Some z) foreign_at,
+    ap (λ (r : Option NoteRange). option_or (option_map (λ (r : NoteRange). r.node) r)
+        (if in_pages g.notes t.pc then None else Some (length g.notes.blocks))) nowhere
+        ∙ ap (λ (b : Bool). if b then None else Some (length g.notes.blocks)) outside
+        ∙ ap (λ z. Some z) (h.noted.blocks ∙ sym (ap (number_in g) c.beyond)),
+  )
+
+pub foreign_step : ForeignStep
+foreign_step g l base p place f node x t h here c =
+    let visits = foreign_visits g l base p place f h node x t here c in (
+      visits,
+      ends g l base p place f h node x t here c.none (foreign_beside g l base p place f h node x t here c) visits,
+    )
+
+-- ---- in a slot behind the text
+
+off_at : (g : Setting) (l : Pieces) (p : Placement) (f : Frame) (node : Node) (x : Point) (o : Option ℕ) (s : Slot)
+    → s ≢ NoSlot → o ≡ None → visited_by g l p f node x o s ≡ f.table.base
+off_at g l p f node x None NoSlot some none = absurd (some refl)
+off_at g l p f node x None Taken some none = refl
+off_at g l p f node x None Untaken some none = refl
+off_at g l p f node x (Some word) s some none = absurd (cc)
+
+module _ (g : Setting) (l : Pieces) (base : ℕ) (p : Placement) (f : Frame)
+    (node : Node) (x : Point) (t : State) (here : Here g l base p f node x t) (c : IsOff g base p f node x) where
+  at : t.pc ≡ f.table.base
+  at = here.at ∙ off_at g l p f node x (word_at g.text x.pc) x.slot c.slot c.none
+
+  range_is : range_at g.notes t.pc ≡ Some c.range
+  range_is = ap (range_at g.notes) at ∙ c.noted
+
+  first : (c.range.lo == t.pc) ≡ true
+  first = let lo : c.range.lo ≡ t.pc = c.lo ∙ sym at in grind (lo, arith, nat_tests)
+
+  off_visits : visits_it g node x t
+  off_visits = (
+    ap (λ (e : Option Ending). if_live e (visited (range_at g.notes t.pc) (in_pages g.notes t.pc) t.pc)) here.live
+        ∙ ap (λ (r : Option NoteRange). visited r (in_pages g.notes t.pc) t.pc) range_is
+        ∙ ap (λ (b : Bool). if b then Some c.range.address else None) first ∙ ap (λ z. Some z) c.address,
+    ap (λ (r : Option NoteRange). option_or (option_map (λ (r : NoteRange). r.node) r)
+        (if in_pages g.notes t.pc then None else Some (length g.notes.blocks))) range_is
+        ∙ ap (λ z. Some z) c.number,
+  )
+
+pub offs_step : OffsStep
+offs_step g l base p place f node x t h here c =
+    let visits = off_visits g l base p f node x t here c in (
+      visits,
+      ends g l base p place f h node x t here c.none
+          (subst (IsBeside base p.code) (sym (at g l base p f node x t here c)) c.beside) visits,
+    )

@@ -1,0 +1,204 @@
+-- From the visit of a transfer whose words stand in one Mark, through them, and on along the way behind them.
+use Rattle.std.proofs.Common.{◌≡◌, ℕ, suc, ◌+◌, ◌*◌, ◌%◌, ◌^◌, ◌<◌, ◌≤◌, ◌⊎◌, inl, inr, true, Some, None, List, [], ◌∷◌, length, refl, ap, sym, ◌∙◌, subst, arith}
+use Rattle.std.specs.Prelude.{◌-◌, slice_get, slice_index}
+use Rattle.eel_base.specs.declared.numbers.Addr.{Addr}
+use Rattle.eel_base.specs.declared.numbers.PieceNo.{PieceNo}
+use Rattle.elf32_sparc.specs.Notes.{NoteRange, node_at}
+use Rattle.v8_decode.specs.declared.Instr.{Instr}
+use Rattle.v8_alu.specs.Numbers.{wrapped}
+use Rattle.v8_memory.specs.Regions.{Memory}
+use Rattle.v8_memory.specs.Spans.{IsSameOutside}
+use Rattle.v8_step.specs.declared.Slot.TheVariants.{Taken}
+use Rattle.v8_step.specs.State.{State}
+use Rattle.v8_step.specs.Step.{puts_on_word}
+use Rattle.v8_step.specs.Valid.{IsValid}
+use Rattle.v8_step.specs.Visits.{pages_of}
+use Rattle.v8_step.proofs.ValidSteps.{run-valid}
+use Rattle.cfg_blocks.specs.declared.EdgeKind.TheVariants as kinds
+use Rattle.cfg_normal.specs.declared.Node.{Node}
+use Rattle.cfg_walk.specs.Walk.{Point, point_of, node_after, instr_at, way_of, same_kind}
+use Rattle.code_runs.specs.Hops.{hopped}
+use Rattle.code_runs.specs.Leads.{Leads, IsSilent}
+use Rattle.code_runs.specs.LongJump.{IsFirstWord}
+use Rattle.code_runs.specs.Ours.{IsAmongWords}
+use Rattle.code_runs.specs.Page.{page_word}
+use Rattle.code_runs.specs.StoredWords.{AllAt, Stores, CanStore, memory_word, store_all, store_word}
+use Rattle.code_runs.specs.TwoRegisters.{IsBetween}
+use Rattle.code_runs.proofs.Hops.{stores_then}
+use Rattle.code_runs.proofs.Leads.{leads_then, leads_weaker, silent_then}
+use Rattle.code_runs.proofs.Stays.{stores_there}
+use Rattle.code_runs.proofs.StoredWords.{still_stored, other_word_stored}
+use Rattle.layout.specs.Laid.{Placement}
+use Rattle.jump_code.specs.Links.{past}
+use Rattle.jump_code.specs.PageWords.{IsPageWord}
+use Rattle.jump_code.specs.Pieces.{marked_piece}
+use Rattle.image_code.specs.Simulates.{Setting, StepsOn, IsOnWay, at_point, graph_in, number_in, word_of}
+use Rattle.image_code.specs.Images.{Pieces, Frame, HasImages, Here, IsFramed, IsPlaced, visited_at}
+use Rattle.image_code.specs.Cases.{Everything, LeadsTo}
+use Rattle.image_code.proofs.Memories.{images_stored, same_stored}
+use Rattle.image_code.proofs.Cases.{Arrives, IsBare, IsFit, arrive, bare_on, can_run, cells_same, first_own, hopped_fit, jump_on, node_is, on_range, on_then, quiet_of, same_at, stores_weaker}
+use Rattle.image_code.proofs.Marked.{StandMarked, stand_marked}
+
+-- the page's words are the editor's
+page_own : (g : Setting) (f : Frame) → IsFramed g f → (z : ℕ) → IsPageWord z → IsAmongWords f.own z
+page_own g f framed z (inl e) = subst (IsAmongWords f.own) (sym e) (framed.page 0 (omega arith))
+page_own g f framed z (inr (inl e)) = subst (IsAmongWords f.own) (sym e) (framed.page 1 (omega arith))
+page_own g f framed z (inr (inr (inl e))) = subst (IsAmongWords f.own) (sym e) (framed.page 2 (omega arith))
+page_own g f framed z (inr (inr (inr (inl e)))) = subst (IsAmongWords f.own) (sym e) (framed.page 3 (omega arith))
+page_own g f framed z (inr (inr (inr (inr e)))) = absurd e
+
+pub own_stored : (g : Setting) (f : Frame) → IsFramed g f → (m n : Memory) → Stores IsPageWord m n
+    → Stores (IsAmongWords f.own) m n
+own_stored g f framed m n stores = stores_weaker IsPageWord (IsAmongWords f.own) m n (page_own g f framed) stores
+
+-- word 1 waits while word 0 is stored
+waits_all : (ws : List (ℕ × ℕ)) (m : Memory) → AllAt IsFirstWord ws → CanStore m (page_word 1)
+    → memory_word (store_all ws m) (page_word 1) ≡ memory_word m (page_word 1)
+waits_all [] m each can = refl
+waits_all (w ∷ ws) m each can =
+    let e = each.0 in
+    waits_all ws (store_word m w.0 w.1) each.1 (still_stored m (page_word 1) w.0 w.1 can)
+    ∙ other_word_stored m (page_word 1) w.0 w.1 can (inr (omega arith))
+
+still_waits : (m n : Memory) → Stores IsFirstWord m n → CanStore m (page_word 1)
+    → memory_word n (page_word 1) ≡ memory_word m (page_word 1)
+still_waits m n stores can =
+    ap (λ (z : Memory). memory_word z (page_word 1)) stores.result ∙ waits_all stores.writes m stores.each can
+
+-- A machine at the first of so many words of a node's Mark: the states between them are on the way.
+pub record AtWords (g : Setting) (node : Node) (t : State) (begin count : ℕ) : Type 0 where
+  pub at : t.pc ≡ begin
+  pub low : t.pc + 4 * count ≤ 2 ^ 31
+  pub next : 0 < count → t.npc ≡ t.pc + 4
+  pub on : (u : State) → u.ending ≡ None → t.pc < u.pc → u.pc < t.pc + 4 * count → IsOnWay g node t u
+  pub there : (a : ℕ) → t.pc ≤ a → a < t.pc + 4 * count → node_at g.notes a ≡ Some (number_in g node)
+
+module _ (g : Setting) (l : Pieces) (base : ℕ) (p : Placement) (place : ℕ → ℕ → ℕ) (f : Frame)
+    (h : IsPlaced g l base p place f)
+    (node : Node) (x : Point) (t : State) (here : Here g l base p f node x t)
+    (k : ℕ) (within : k < length l.list) (visited : visited_at g l p f node x ≡ slice_index p.at k)
+    (xs : List Instr) (address : Addr) (way : PieceNo)
+    (is : slice_get l.list k ≡ Some (marked_piece xs address (number_in g node) way)) where
+  stand : StandMarked l.list base p place k address.0 (number_in g node) way (length xs)
+  stand = stand_marked l.list base p place h.laid k within xs address (number_in g node) way is
+
+  pub at_words : AtWords g node t (place k 1) (length xs)
+  at_words =
+      let at : t.pc ≡ place k 1 = here.at ∙ visited ∙ h.laid.starts k within ∙ sym stand.mark in
+      let begins = stand.begins in
+      let ends = stand.ends in
+      let low = stand.low in
+      let range : NoteRange =
+      record { lo = place k 1; hi = place k (suc (length xs)); address = address.0; node = number_in g node } in
+      record {
+        at = at;
+        low = omega arith;
+        next = λ some. here.npc ∙ (let e : wrapped (t.pc + 4) ≡ t.pc + 4 = omega arith in e);
+        on = λ u live past before. on_range g l base p place f h node t u range live (omega arith) (omega arith)
+            (stand.range u.pc (omega arith) (omega arith)) (omega arith) refl;
+        there = λ a from below. node_is g l base p place f h a (Some range) (omega arith) (omega arith)
+            (stand.range a (omega arith) (omega arith));
+      }
+
+  On : State → Type 0
+  On u = ((t.pc < u.pc) × (u.pc < t.pc + 4 * length xs)) ⊎ IsBare g l base p place f h u
+
+  on_way : (u : State) → u.ending ≡ None → On u → IsOnWay g node t u
+  unfolding On
+  on_way u live (inl z) = at_words.on u live z.0 z.1
+  on_way u live (inr z) = bare_on g l base p place f h node t u live z
+
+  -- the words lead past them, to all of v but its place and memory
+  pub record Through (v : State) (m : Memory) : Type 0 where
+    pub path : Leads (IsBetween t (length xs) IsPageWord) t (past t (length xs) m v) (length xs)
+    pub silent : IsSilent t (length xs)
+    pub stores : Stores IsPageWord t.memory m
+    pub live : v.ending ≡ None
+    pub memory : v.memory ≡ t.memory
+    pub quiet : (descriptor : ℕ) → puts_on_word (at_point x t) (word_of g.text x.pc) descriptor ≡ []
+    pub waits : v.slot ≡ Taken → same_kind (way_of (instr_at g.text (v.pc - 4)) v.slot) kinds.Out ≡ true
+        → (memory_word m (page_word 1) ≡ v.npc) × (v.npc % 4 ≡ 0)
+
+  past_has : (v : State) (m : Memory) → Through v m → HasImages g base p f m
+  past_has v m w =
+      images_stored g f h.frame base p t (past t (length xs) m v) (length xs) w.path.steps
+      (own_stored g f h.frame t.memory m w.stores) here.memory
+
+  past_fit : (v : State) (m : Memory) → Through v m → IsFit g l base p place f h (past t (length xs) m v)
+  past_fit v m w =
+      let valid : IsValid (past t (length xs) m v) = subst IsValid w.path.steps (run-valid t (length xs) here.valid) in
+      let has = past_has v m w in
+      record {
+        valid = valid;
+        has = has;
+        runs = can_run g l base p place f h (past t (length xs) m v) valid w.live refl refl has;
+      }
+
+  -- on along the way
+  on_along : (v : State) (m : Memory) (to : ℕ) → Through v m → LeadsTo l p way to
+      → Arrives g l base p place f h (past t (length xs) m v) to 8
+  on_along v m to w leads =
+      let a = at_words.at in
+      let b = stand.behind in
+      let fit = past_fit v m w in
+      let one = jump_on g l base p place f h k (suc (suc (length xs))) way stand.jump stand.shut
+      (past t (length xs) m v) fit.runs (omega arith) in
+      on_then g l base p place f h (past t (length xs) m v) (slice_index p.at way.0) to 4 4 one
+      (arrive g l base p place f h way (hopped (past t (length xs) m v) (slice_index p.at way.0) one.memory) to
+      (hopped_fit g l base p place f h (past t (length xs) m v) (slice_index p.at way.0) fit
+      (h.laid.aligned way.0).1 one.count one.memory one.path.steps one.stores) refl leads)
+
+  pub goes_through : (v : State) (m : Memory) (edges : List ℕ) → 0 < length xs → length xs ≤ 8 → Through v m
+      → LeadsTo l p way (visited_at g l p f (node_after (graph_in g) node edges) (point_of v))
+      → StepsOn g (Here g l base p f) Everything edges node x t v
+  unfolding On
+  goes_through v m edges some short w leads =
+      let rest = on_along v m (visited_at g l p f (node_after (graph_in g) node edges) (point_of v)) w leads in
+      let few = rest.few in
+      let path = leads_then On t (past t (length xs) m v)
+      (hopped v (visited_at g l p f (node_after (graph_in g) node edges) (point_of v)) rest.memory)
+      (length xs) rest.count
+      (leads_weaker _ On t (past t (length xs) m v) (length xs) (λ u q. inl (q.past, q.before)) w.path)
+      (leads_weaker _ On (past t (length xs) m v) _ rest.count (λ u q. inr q) rest.path)
+      (λ _ more. inr (rest.begins more)) in
+      let stores : Stores (IsAmongWords f.own) t.memory rest.memory =
+      stores_then (IsAmongWords f.own) (IsAmongWords f.own) t.memory m rest.memory (λ z e. e)
+      (own_stored g f h.frame t.memory m w.stores)
+      (first_own g l base p place f h m rest.memory rest.stores) in
+      let still : memory_word rest.memory (page_word 1) ≡ memory_word m (page_word 1) =
+      still_waits m rest.memory rest.stores
+      (stores_there (page_word 1) m ((past_has v m w).ours.words (page_word 1) (h.frame.page 1 (omega arith)))) in
+      record {
+        count = length xs + rest.count;
+        after = hopped v (visited_at g l p f (node_after (graph_in g) node edges) (point_of v)) rest.memory;
+        path = record {
+          steps = path.steps;
+          some = omega arith;
+          few = omega arith;
+          quiet = quiet_of g l base p place f h node t _ (length xs + rest.count) On path w.live on_way;
+        };
+        puts = λ descriptor.
+            silent_then t (past t (length xs) m v) (length xs) rest.count w.path.steps w.silent rest.silent descriptor
+            ∙ sym (w.quiet descriptor);
+        followed = record {
+          ending = refl;
+          window = refl;
+          valid = refl;
+          registers = refl;
+          input = refl;
+          memory = subst (λ (z : Memory). IsSameOutside (pages_of g.notes) z rest.memory) (sym w.memory)
+              (same_stored g f h.frame base p t.memory rest.memory here.memory stores);
+          items = λ _ thing _ _. same_at thing v _ refl refl refl;
+        };
+        cells = cells_same g l base p place f h edges t v _;
+        here = λ _. record {
+          valid = subst IsValid path.steps (run-valid t (length xs + rest.count) here.valid);
+          live = w.live;
+          at = refl;
+          npc = refl;
+          slot = refl;
+          memory = images_stored g f h.frame base p t _ (length xs + rest.count) path.steps stores here.memory;
+          waits = λ a b. let z = w.waits a b in (still ∙ z.0, z.1);
+        };
+        place = λ e. absurd (e w.live);
+      }
