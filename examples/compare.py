@@ -1,6 +1,6 @@
 #!/usr/bin/env python3
-"""Runs the programs of programs.py by ./eel, and those that can be edited beside their edited files too. Then does so
-with random programs, whose edited files must also have just the bytes that written.py makes.
+"""Runs the programs of programs.py by ./eel, each beside its edited file. Then does so with random programs, whose
+edited files must also have just the bytes that written.py makes.
 
     examples/compare.py [COUNT [FIRST]]
 
@@ -15,18 +15,18 @@ import subprocess
 import sys
 import tempfile
 
-from programs import C_PROGRAMS, EDITED, SMALL
-from random_branches import random_branches
+from programs import C_PROGRAMS, SMALL
+from random_programs import random_program
 from written import written
 
 EEL = os.path.join(os.path.dirname(os.path.abspath(__file__)), '..', 'eel')
 
-# How many steps a random program may make, and how many its edited file may make for each of them.
+# How many steps a random program may make, and how many an edited file may make for each step of its original.
 STEPS = 3000
 EACH = 64
 
-# How a run ends that leaves its text: that isn't compared.
-OUTSIDE = 'trap 1'
+# What random programs come to.
+ENDS = {'trap 1': 'left their text', 'trap 7': 'were misaligned', 'couple': 'had a transfer in a slot'}
 
 ENDED = re.compile(rb'(.*)(exit \d+|trap \d+|window|couple|stopped) ?\d*\n', re.DOTALL)
 
@@ -60,14 +60,12 @@ def compare_run(program, words, ending):
 
 
 def compare_program(program):
-    """Runs the file f in just its steps, in one less, and its edited file too if there is one."""
+    """Runs the file f in just its steps, in one less, and its edited file."""
     steps = program.steps
     faults = compare_run(program, ['f', '-n', str(steps)], program.ending)
     faults += compare_run(program, ['f', '-n', str(steps - 1)], f'stopped {steps - 1}')
-    if program in EDITED:
-        faults += compare(f'{program.name}, its edit', eel('edit', 'f', 'g', 'plain'), (0, b'', b''))
-        faults += compare_run(program, ['g'], program.edited_ending())
-    return faults
+    faults += compare(f'{program.name}, its edit', eel('edit', 'f', 'g', 'plain'), (0, b'', b''))
+    return faults + compare_run(program, ['g', '-n', str(EACH * (steps + 1))], program.ending)
 
 
 def run(name, steps):
@@ -86,13 +84,9 @@ def compare_runs(steps):
     """How the file f ends, and whether its edited file g runs otherwise: where f goes on, g has put out as much as f
     by then, and no more than f will."""
     first, edited = run('f', steps), run('g', EACH * (steps + 1))
-    if first[2] == OUTSIDE:
-        return 'left their text', False
     if first[2] != 'stopped':
-        return 'ended', first != edited
+        return ENDS.get(first[2], 'ended otherwise'), first != edited
     later = run('f', EACH * (steps + 1))
-    if later[2] == OUTSIDE:
-        return 'left their text later', not begins(first, edited)
     goes_on = edited[2] == 'stopped' and begins(edited, later)
     return 'went on', not begins(first, edited) or not (goes_on or edited == later)
 
@@ -100,7 +94,7 @@ def compare_runs(steps):
 def compare_random(number):
     """How random program N ends, and whether its edited file isn't as it must be."""
     random.seed(number)
-    file = random_branches()
+    file = random_program()
     put('f', file)
     if eel('edit', 'f', 'g', 'plain') != (0, b'', b'') or get('g') != written(file):
         return 'not edited', True

@@ -55,19 +55,22 @@ class Program:
                 if info & 15 == 2 and self.word_at(value) is not None:
                     yield self.word_at(value), names[name:].split(b'\0')[0][:255]
 
-    def displaced(self, word, field, bits):
-        """The word to which a displacement leads, if the text has it."""
-        displacement = field - (1 << bits) if field >> (bits - 1) else field
-        return self.word_at((self.start + 4 * word + 4 * displacement) % 2**32)
+    def target(self, word):
+        """The address to which a branch or a CALL leads."""
+        bits = 30 if self.words[word] >> 30 == 1 else 22
+        displacement = self.words[word] % (1 << bits)
+        if displacement >> (bits - 1):
+            displacement -= 1 << bits
+        return (self.start + 4 * word + 4 * displacement) % 2**32
 
     def end(self, word):
         """How control leaves a word: a transfer's name, its target, whether it is annulled, its condition."""
         value = self.words[word]
         op, op2, op3, cond = value >> 30, value >> 22 & 7, value >> 19 & 63, value >> 25 & 15
         if op == 1:
-            return 'call', self.displaced(word, value & 0x3fffffff, 30), False, None
+            return 'call', self.word_at(self.target(word)), False, None
         if op == 0 and op2 == 2:
-            target = self.displaced(word, value & 0x3fffff, 22) if cond else None
+            target = self.word_at(self.target(word)) if cond else None
             return 'branch', target, bool(value >> 29 & 1), cond
         if op == 2 and op3 == 0x38:
             return 'jump', None, False, None

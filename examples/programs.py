@@ -35,10 +35,6 @@ class Program:
         segment = struct.pack('>8I', 1, 84 - self.before, start, start, size, size, 5, 0x10000)
         return identity + header + segment + text
 
-    def edited_ending(self):
-        """How its edited file ends, where all that lies outside the text is an illegal word."""
-        return 'trap 2' if self.ending == 'trap 1' else self.ending
-
     def report(self):
         """What program_runs prints of it."""
         line = f'{self.name}: {self.ending} after {self.steps} steps, stopped after {self.steps - 1} steps\n'
@@ -47,7 +43,7 @@ class Program:
         return line.encode() + output + errors
 
 
-# Without a branch, CALL or JMPL: each step carries out the next word.
+# Without a transfer: each step carries out the next word.
 STRAIGHT = [
     Program('three_words', '82102001 90102003 91d02010', 3, 'exit 3'),
     Program('one_nop', '01000000', 2, 'trap 1'),
@@ -131,9 +127,6 @@ PRINTS_ITS_HEADER.output = PRINTS_ITS_HEADER.file()[:52]
 
 SMALL = STRAIGHT + BRANCHING + CALLING + [PRINTS_ITS_HEADER]
 
-BRANCHES = Program('branches', '', 2124, 'exit 1',
-    output=b'-93 -62 -53 -41 0 23 26 31 58 59 84 97\n129 111\n')
-
 C_PROGRAMS = [
     Program('word_count', '', 1472, 'exit 0', output=b'4 17 91\n',
         given=b'The windows overlap:\n\nthe ins of one\tare the outs of the next.\n'
@@ -142,8 +135,6 @@ C_PROGRAMS = [
         given=b'3 4 * p\n2 5 - p d * p\n100 7 / p , .\nc p 8 0 / p\n'),
     Program('queens', '', 54031, 'exit 0', output=b'92 ways, 200 calls\n'),
     Program('sieve', '', 163414146, 'exit 0', output=b'664579\n'),
-    BRANCHES,
+    Program('branches', '', 2124, 'exit 1',
+        output=b'-93 -62 -53 -41 0 23 26 31 58 59 84 97\n129 111\n'),
 ]
-
-# Those that can be edited.
-EDITED = STRAIGHT + BRANCHING + [BRANCHES]

@@ -1,8 +1,9 @@
-"""The file that an edit without snippets writes of a program without CALL and JMPL, made apart from EEL."""
+"""The file that an edit without snippets writes of a program, made apart from EEL."""
 import struct
 from dataclasses import dataclass
 from itertools import accumulate
 
+from beside_qemu import form3, sethi
 from listing import Graph, Program
 
 PAGE = 4096
@@ -10,9 +11,12 @@ EDITOR_PAGE = 0xfffff000
 KINDS = ['fall', 'taken', 'untaken', 'call', 'out', 'land']
 
 NOP = 0x01000000
-ILLEGAL = 0
 COUPLE = 0x10800002  # ba to the word after the next one
 ALWAYS_OR_NEVER = (8, 0)
+
+G0, G1, G2, O7 = 0, 1, 2, 15
+LD, ST = 0, 4
+ADD, AND, SRL, JMPL = 0, 1, 0x26, 0x38
 
 
 def up(number, size):
@@ -23,67 +27,162 @@ def words(*numbers):
     return struct.pack(f'>{len(numbers)}I', *numbers)
 
 
+# ---- words: those of the editor's page have numbers, 0 for jumps, 1 for the target, 2 and 3 for registers
+
+def store(register, number):
+    return form3(3, register, ST, G0, ('i', 4 * number - PAGE))
+
+
+def load(register, number, base=G0):
+    return form3(3, register, LD, base, ('i', 4 * number - PAGE))
+
+
+def operation(op3, register, number, source=None):
+    return form3(2, register, op3, register if source is None else source, ('i', number))
+
+
+def jump(address):
+    """Goes to an address by %g1, which waits in word 0 meanwhile."""
+    return [store(G1, 0), sethi(G1, address), operation(JMPL, G0, address & 0x3ff, G1), load(G1, 0)]
+
+
+def link(register, address):
+    """A register takes the address of a CALL or a JMPL; %g0 takes none."""
+    return [sethi(register, address), operation(ADD, register, address & 0x3ff)] if register else []
+
+
+def jump_image(value, address):
+    """The target of a JMPL goes into word 1, by a register that it doesn't name. A misaligned one traps."""
+    rd, rs1 = value >> 25 & 31, value >> 14 & 31
+    second = ('i', value & 0x1fff) if value >> 13 & 1 else ('r', value & 31)
+    named = (rd, rs1, 0 if second[0] == 'i' else second[1])
+    free = [register for register in (1, 2, 3, 4) if register not in named][0]
+    return [store(free, 2), form3(2, free, ADD, rs1, second), store(free, 1), operation(AND, free, 3),
+            load(free, 0, free), load(free, 2), *link(rd, address)]
+
+
+def look_up(table):
+    """Goes on at what the table has for the target, level by level: %g1 has the entry's place, and %g2 the block."""
+    level = form3(3, G2, LD, G2, ('r', G1))
+    return [store(G1, 2), store(G2, 3), load(G1, 1), store(G1, 1),
+            operation(SRL, G1, 20), operation(AND, G1, 0xffc), sethi(G2, table), level,
+            load(G1, 1), operation(SRL, G1, 10), operation(AND, G1, 0xffc), level,
+            load(G1, 1), operation(AND, G1, 0xffc), form3(3, G1, LD, G2, ('r', G1)),
+            load(G2, 3), operation(JMPL, G0, 0, G1), load(G1, 2)]
+
+
+# Goes to the target itself.
+FOREIGN = [store(G1, 2), load(G1, 1), operation(JMPL, G0, 0, G1), load(G1, 2)]
+
+
+# ---- pieces
+
 @dataclass
 class Piece:
-    """A visit, the words that carry it out, and the piece at which control then goes on."""
+    """A visit, the words that carry it out, those behind them, and the piece at which control then goes on."""
     visit: tuple = None  # the address of a word, and the node
     words: tuple = ()
     branch: tuple = None  # a condition, and the piece to which it leads
+    rest: tuple = ()
     then: int = None
 
     def visit_size(self):
         return 4 * len(self.words) + (24 if self.branch else 0)
 
     def size(self):
-        return self.visit_size() + (0 if self.then is None else 16)
+        return self.visit_size() + 4 * len(self.rest) + (0 if self.then is None else 16)
 
     def code(self, at):
         code = list(self.words)
         if self.branch:
             condition, to = self.branch
             code += [(condition ^ 8) << 25 | 2 << 22 | 6, NOP, *jump(at[to])]
-        return code + ([] if self.then is None else jump(at[self.then]))
+        return [*code, *self.rest, *([] if self.then is None else jump(at[self.then]))]
 
 
-def jump(address):
-    """Goes to an address by %g1, which waits in word 0 of the editor's page."""
-    return [0xc2203000, 0x03000000 | address >> 10, 0x81c06000 | address & 0x3ff, 0xc2003000]
+class Pieces:
+    """An image of each word, the way along each edge but for the landings, a landing at each word, and the foreign
+    piece."""
 
+    def __init__(self, program, graph, table):
+        self.program, self.graph, self.table = program, graph, table
+        own = [edge for edge in graph.edges if edge.kind != 'land']
+        self.ways = {(edge.source, edge.kind): graph.count + number for number, edge in enumerate(own)}
+        self.first_landing = graph.count + len(own)
+        self.list = [self.image(word, block) for block, first in enumerate(graph.firsts)
+                     for word in range(first, graph.last(block) + 1)]
+        self.list += [self.way(edge) for edge in own]
+        self.list += [Piece(then=word) for word in range(graph.count)] + [Piece(words=FOREIGN)]
 
-def pieces(program, graph):
-    """An image of each word, the way along each edge but for the landings, and an illegal word for all outside."""
-    own = [edge for edge in graph.edges if edge.kind != 'land']
-    outside = graph.count + len(own)
-    ways = {(edge.source, edge.kind): graph.count + number for number, edge in enumerate(own)}
+    def address(self, word):
+        return self.program.start + 4 * word
 
-    def visit(word, block):
-        return program.start + 4 * word, block
-
-    def image(word, block):
-        kind, _, _, condition = graph.ends[word]
-        taken, untaken = ways.get((block, 'taken')), ways.get((block, 'untaken'))
+    def image(self, word, block):
+        kind, _, _, condition = self.graph.ends[word]
+        value, visit = self.program.words[word], (self.address(word), block)
+        taken, untaken = self.ways.get((block, 'taken')), self.ways.get((block, 'untaken'))
         if kind == 'branch' and condition in ALWAYS_OR_NEVER:
-            return Piece(visit(word, block), (NOP,), then=taken if condition else untaken)
+            return Piece(visit, (NOP,), then=taken if condition else untaken)
         if kind == 'branch':
-            return Piece(visit(word, block), branch=(condition, taken), then=untaken)
-        return Piece(visit(word, block), (program.words[word],), then=None if word + 1 < graph.count else outside)
+            return Piece(visit, branch=(condition, taken), then=untaken)
+        if kind == 'call':
+            return Piece(visit, link(O7, visit[0]), then=self.ways[block, 'call'])
+        if kind == 'jump':
+            return Piece(visit, jump_image(value, visit[0]), then=self.ways[block, 'out'])
+        return Piece(visit, (value,), rest=() if word + 1 < self.graph.count else jump(self.address(word + 1)))
 
-    def way(edge):
-        to = outside if edge.target is None else graph.firsts[edge.target]
+    def way(self, edge):
         if edge.kind == 'fall':
             return Piece()
-        if edge.slot is None:
-            return Piece(then=to)
-        if edge.slot == graph.count:
-            return Piece(then=outside)
-        if graph.ends[edge.slot][0] != 'fall':
-            return Piece(visit(edge.slot, edge.source), (COUPLE, COUPLE))
-        return Piece(visit(edge.slot, edge.source), (program.words[edge.slot],), then=to)
+        if edge.slot == self.graph.count:
+            return Piece(rest=jump(self.table))
+        visit, copy = None, ()
+        if edge.slot is not None:
+            visit, copy = (self.address(edge.slot), edge.source), (self.program.words[edge.slot],)
+            if self.graph.ends[edge.slot][0] != 'fall':
+                return Piece(visit, (COUPLE, COUPLE))
+        if edge.kind == 'out':
+            return Piece(visit, copy, rest=look_up(self.table))
+        if edge.target is not None:
+            return Piece(visit, copy, then=self.graph.firsts[edge.target])
+        last = self.graph.last(edge.source)
+        return Piece(visit, copy, rest=jump(self.address(last + 2) if edge.kind == 'untaken' else self.program.target(last)))
 
-    images = [image(word, block) for block, first in enumerate(graph.firsts)
-              for word in range(first, graph.last(block) + 1)]
-    return images + [way(edge) for edge in own] + [Piece(words=(ILLEGAL,))]
+    def places(self, at):
+        """Where visits stand. The first is that of a slot behind the text, in the table, if an edge runs one."""
+        end = self.graph.count
+        behind = [words(self.table, self.table + 4, self.address(end), edge.source)
+                  for edge in self.graph.edges if edge.slot == end]
+        return behind[:1] + [words(lo, lo + piece.visit_size(), *piece.visit)
+                             for lo, piece in zip(at, self.list) if piece.visit]
 
+
+# ---- the table
+
+def pages_of(program, size):
+    return range(program.start // size, (program.start + 4 * len(program.words) - 1) // size + 1)
+
+
+def table_size(program):
+    return PAGE * (3 + len(pages_of(program, PAGE << 10)) + len(pages_of(program, PAGE)))
+
+
+def table_words(program, base, landings, foreign):
+    """Blocks of three levels: the first one, those of the second and the third for all that holds no text, and then
+    those that do."""
+    parts, pages = pages_of(program, PAGE << 10), pages_of(program, PAGE)
+    blocks = [base + PAGE * number for number in range(3 + len(parts) + len(pages))]
+    seconds, thirds = dict(zip(parts, blocks[3:])), dict(zip(pages, blocks[3 + len(parts):]))
+    yield from (seconds.get(part, blocks[1]) for part in range(1024))
+    yield from [blocks[2]] * 1024
+    yield from [foreign] * 1024
+    for part in parts:
+        yield from (thirds.get(page, blocks[2]) for page in range(1024 * part, 1024 * part + 1024))
+    for page in pages:
+        yield from (landings.get(address, foreign) for address in range(PAGE * page, PAGE * page + PAGE, 4))
+
+
+# ---- the file
 
 def notes(graph, places, *head):
     """The numbers at the head, blocks, edges without cells, and the places."""
@@ -99,24 +198,30 @@ def written(original):
     program = Program(original)
     graph = Graph(program)
     _, offset, start, _, size, memory, _, align = struct.unpack_from('>8I', original, 52)
-    base = up(start + memory, 0x10000)
-    made = pieces(program, graph)
-    at = list(accumulate((piece.size() for piece in made), initial=base))
-    code = b''.join(words(*piece.code(at)) for piece in made)
-    places = [words(lo, lo + piece.visit_size(), *piece.visit) for lo, piece in zip(at, made) if piece.visit]
-    entry_block = [first <= graph.entry for first in graph.firsts].count(True) - 1
+    table = up(start + memory, 0x10000)
+    base = table + table_size(program)
+    pieces = Pieces(program, graph, table)
+    at = list(accumulate((piece.size() for piece in pieces.list), initial=base))
+    code = b''.join(words(*piece.code(at)) for piece in pieces.list)
+    landings = {pieces.address(word): at[pieces.first_landing + word] for word in range(graph.count)}
+    segments = [(table, 4, words(*table_words(program, table, landings, at[-2]))), (base, 5, code),
+                (EDITOR_PAGE, 6, bytes(PAGE))]
+    noted = [number for vaddr, _, content in segments for number in (vaddr, len(content))]
     delta = max(PAGE, align)
-    code_at = up(delta + len(original), PAGE)
-    page_at = up(code_at + len(code), PAGE)
-    notes_at = page_at + PAGE
-    told = notes(graph, places, delta, len(original), 0, start, graph.count, entry_block, base, 0,
-                 2, base, len(code), EDITOR_PAGE, PAGE)
-    headers = original[:16] + struct.pack('>HHIIIIIHHHHHH', 2, 2, 1, at[graph.entry], 52, 0, 0, 52, 32, 3, 40, 0, 0)
+    entry_block = [first <= graph.entry for first in graph.firsts].count(True) - 1
+    told = notes(graph, pieces.places(at), delta, len(original), 0, start, graph.count, entry_block, table, 0,
+                 len(segments), *noted)
+    headers = original[:16] + struct.pack('>HHIIIIIHHHHHH', 2, 2, 1, at[graph.entry], 52, 0, 0, 52, 32, 4, 40, 0, 0)
     headers += words(1, offset + delta, start, start, size, memory, 4, align)
-    headers += words(1, code_at, base, base, len(code), len(code), 5, PAGE)
-    headers += words(1, page_at, EDITOR_PAGE, EDITOR_PAGE, PAGE, PAGE, 6, PAGE)
-    locator = words(0x45454c4e, 1, notes_at, len(told))
+    parts = [(delta, original)]
+    end = delta + len(original)
+    for vaddr, flags, content in segments:
+        place = up(end, PAGE)
+        headers += words(1, place, vaddr, vaddr, len(content), len(content), flags, PAGE)
+        parts.append((place, content))
+        end = place + len(content)
+    locator = words(0x45454c4e, 1, end, len(told))
     file = b''
-    for where, part in ((0, headers), (4032, locator), (delta, original), (code_at, code), (notes_at, told)):
+    for where, part in ((0, headers), (4032, locator), *parts, (end, told)):
         file += bytes(where - len(file)) + part
     return file
