@@ -1,21 +1,51 @@
 #!/usr/bin/env python3
-"""Runs the programs of programs.py by ./eel, and those that can be edited beside their edited files too.
+"""Runs the programs of programs.py by ./eel, each beside its edited file. Then does so with random programs, whose
+edited files must also have just the bytes that written.py makes.
 
-Prints a line for each answer that isn't what programs.py says.
+    examples/compare.py [COUNT [FIRST]]
+
+COUNT is how many random programs there are: 300 unless said otherwise. Random program number N is the same in each
+run. Prints a line for each answer that differs.
 """
+import collections
 import os
+import random
+import re
 import subprocess
 import sys
 import tempfile
 
 from programs import C_PROGRAMS, SMALL
+from random_programs import random_program
+from written import written
 
 EEL = os.path.join(os.path.dirname(os.path.abspath(__file__)), '..', 'eel')
+
+# How many steps a random program may make, and how many an edited file may make for each step of its original.
+STEPS = 3000
+EACH = 64
+
+# What random programs come to.
+ENDS = {'trap 1': 'left their text', 'trap 7': 'were misaligned', 'couple': 'had a transfer in a slot'}
+
+ENDED = re.compile(rb'(.*)(exit \d+|trap \d+|window|couple|stopped) ?\d*\n', re.DOTALL)
+
+GIVEN = b'a line, and another\nof them\n'
 
 
 def eel(*words, given=b''):
     ran = subprocess.run([EEL, *words], input=given, capture_output=True)
     return ran.returncode, ran.stdout, ran.stderr
+
+
+def put(name, content):
+    with open(name, 'wb') as file:
+        file.write(content)
+
+
+def get(name):
+    with open(name, 'rb') as file:
+        return file.read()
 
 
 def compare(name, got, wanted):
@@ -30,25 +60,74 @@ def compare_run(program, words, ending):
 
 
 def compare_program(program):
-    """Runs the file f in just its steps, in one less, and its edited file too where it can be edited."""
+    """Runs the file f in just its steps, in one less, and its edited file."""
     steps = program.steps
     faults = compare_run(program, ['f', '-n', str(steps)], program.ending)
     faults += compare_run(program, ['f', '-n', str(steps - 1)], f'stopped {steps - 1}')
-    if program.is_built():
-        faults += compare(f'{program.name}, its edit', eel('edit', 'f', 'g', 'plain'), (0, b'', b''))
-        faults += compare_run(program, ['g'], program.edited or program.ending)
+    faults += compare(f'{program.name}, its edit', eel('edit', 'f', 'g', 'plain'), (0, b'', b''))
+    return faults + compare_run(program, ['g', '-n', str(EACH * (steps + 1))], program.ending)
+
+
+def run(name, steps):
+    """A run's output, its errors, and its ending."""
+    _, output, errors = eel('run', name, '-n', str(steps), given=GIVEN)
+    errors, ending = ENDED.fullmatch(errors).groups()
+    return output, errors, ending.decode()
+
+
+def begins(part, whole):
+    """Whether a run has put out the first bytes of what another one has."""
+    return all(after.startswith(before) for before, after in zip(part[:2], whole[:2]))
+
+
+def compare_runs(steps):
+    """How the file f ends, and whether its edited file g runs otherwise: where f goes on, g has put out as much as f
+    by then, and no more than f will."""
+    first, edited = run('f', steps), run('g', EACH * (steps + 1))
+    if first[2] != 'stopped':
+        return ENDS.get(first[2], 'ended otherwise'), first != edited
+    later = run('f', EACH * (steps + 1))
+    goes_on = edited[2] == 'stopped' and begins(edited, later)
+    return 'went on', not begins(first, edited) or not (goes_on or edited == later)
+
+
+def compare_random(number):
+    """How random program N ends, and whether its edited file isn't as it must be."""
+    random.seed(number)
+    file = random_program()
+    put('f', file)
+    if eel('edit', 'f', 'g', 'plain') != (0, b'', b'') or get('g') != written(file):
+        return 'not edited', True
+    if eel('restore', 'g', 'h') != (0, b'', b'') or get('h') != file:
+        return 'not restored', True
+    return compare_runs(STEPS)
+
+
+def compare_all_random(count, first):
+    ends = collections.Counter()
+    faults = 0
+    for number in range(first, first + count):
+        end, differs = compare_random(number)
+        ends[end] += 1
+        faults += differs
+        if differs:
+            print(f'random program {number} differs: {end}')
+    told = ''.join(f', {number} {end}' for end, number in sorted(ends.items()))
+    print(f'{count} random programs{told}; {faults} differ')
     return faults
 
 
 def main():
+    count = int(sys.argv[1]) if len(sys.argv) > 1 else 300
+    first = int(sys.argv[2]) if len(sys.argv) > 2 else 0
     faults = 0
     os.chdir(tempfile.mkdtemp())
     programs = SMALL + C_PROGRAMS
     for program in programs:
-        with open('f', 'wb') as file:
-            file.write(program.file())
+        put('f', program.file())
         faults += compare_program(program)
     print(f'{len(programs)} programs, {faults} answers differ')
+    faults += compare_all_random(count, first)
     return 1 if faults else 0
 
 

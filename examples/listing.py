@@ -10,6 +10,7 @@ import struct
 import subprocess
 import sys
 import tempfile
+from dataclasses import dataclass
 
 EEL = os.path.join(os.path.dirname(os.path.abspath(__file__)), '..', 'eel')
 
@@ -54,72 +55,81 @@ class Program:
                 if info & 15 == 2 and self.word_at(value) is not None:
                     yield self.word_at(value), names[name:].split(b'\0')[0][:255]
 
-    def displaced(self, word, field, bits):
-        """The word to which a displacement leads, if the text has it."""
-        displacement = field - (1 << bits) if field >> (bits - 1) else field
-        return self.word_at((self.start + 4 * word + 4 * displacement) % 2**32)
+    def target(self, word):
+        """The address to which a branch or a CALL leads."""
+        bits = 30 if self.words[word] >> 30 == 1 else 22
+        displacement = self.words[word] % (1 << bits)
+        if displacement >> (bits - 1):
+            displacement -= 1 << bits
+        return (self.start + 4 * word + 4 * displacement) % 2**32
 
     def end(self, word):
         """How control leaves a word: a transfer's name, its target, whether it is annulled, its condition."""
         value = self.words[word]
         op, op2, op3, cond = value >> 30, value >> 22 & 7, value >> 19 & 63, value >> 25 & 15
         if op == 1:
-            return 'call', self.displaced(word, value & 0x3fffffff, 30), False, None
+            return 'call', self.word_at(self.target(word)), False, None
         if op == 0 and op2 == 2:
-            target = self.displaced(word, value & 0x3fffff, 22) if cond else None
+            target = self.word_at(self.target(word)) if cond else None
             return 'branch', target, bool(value >> 29 & 1), cond
         if op == 2 and op3 == 0x38:
             return 'jump', None, False, None
         return 'fall', None, False, None
 
 
+@dataclass
+class Edge:
+    """An edge between blocks by their numbers, where None is all that lies outside."""
+    kind: str
+    source: int | None
+    target: int | None
+    slot: int | None = None  # the word that is run on the edge, which may be the one behind the text
+
+
 class Graph:
-    """The routines of a program as a map from words to names, the first words of its blocks, and its edges."""
+    """The routines of a program with their names, the first words of its blocks, and its edges."""
 
     def __init__(self, program):
         self.count = len(program.words)
         self.ends = [program.end(word) for word in range(self.count)]
-        entry = program.word_at(program.entry)
-        self.routines = {entry: b''}
-        self.routines.update({end[1]: b'' for end in self.ends if end[0] == 'call' and end[1] is not None})
-        self.routines.update(dict(reversed(program.functions)))
-        leaders = {0} | set(self.routines) | {target for _, target, _, _ in self.ends if target is not None}
-        for word, (kind, _, _, _) in enumerate(self.ends):
+        self.entry = program.word_at(program.entry)
+        self.routines = {self.entry: b''}
+        self.routines |= {target: b'' for kind, target, _, _ in self.ends if kind == 'call' and target is not None}
+        self.routines |= dict(reversed(program.functions))
+        self.firsts = sorted({word for word in self.leaders() if word < self.count})
+        self.block_of = {first: number for number, first in enumerate(self.firsts)}
+        self.edges = [edge for number in range(len(self.firsts)) for edge in self.edges_from(number)]
+        self.edges += [Edge('land', None, number) for number in range(len(self.firsts))]
+
+    def leaders(self):
+        yield 0
+        yield from self.routines
+        for word, (kind, target, _, _) in enumerate(self.ends):
+            if target is not None:
+                yield target
             if kind != 'fall':
-                leaders |= {word + 1, word + 2}
-        self.firsts = sorted(word for word in leaders if word < self.count)
-        self.edges = list(self.edges_of_blocks())
+                yield from (word + 1, word + 2)
 
-    def size(self, block):
-        after = self.firsts[block + 1] if block + 1 < len(self.firsts) else self.count
-        return after - self.firsts[block]
+    def last(self, number):
+        """The last word of a block."""
+        return (self.firsts[number + 1] if number + 1 < len(self.firsts) else self.count) - 1
 
-    def edges_of_blocks(self):
-        """Edges as kinds, the words at which their blocks begin, and their slots. What lies outside is the word None;
-        so is no slot, and a slot behind the text is 'off'."""
-        def node(word):
-            return word if word is not None and word < self.count else None
-
-        def slot(word):
-            return word + 1 if word + 1 < self.count else 'off'
-
-        for block, first in enumerate(self.firsts):
-            last = first + self.size(block) - 1
-            kind, target, annul, cond = self.ends[last]
-            if kind == 'fall':
-                yield 'fall', first, node(last + 1), None
-            elif kind == 'call':
-                yield 'call', first, node(target), slot(last)
-            elif kind == 'jump':
-                yield 'out', first, None, slot(last)
-            else:
-                always, never = cond == 8, cond == 0
-                if not never:
-                    yield 'taken', first, node(target), None if annul and always else slot(last)
-                if not always:
-                    yield 'untaken', first, node(last + 2), None if annul else slot(last)
-        for first in self.firsts:
-            yield 'land', None, first, None
+    def edges_from(self, number):
+        last = self.last(number)
+        kind, target, annul, cond = self.ends[last]
+        slot = last + 1
+        if kind == 'fall':
+            yield Edge('fall', number, self.block_of.get(last + 1))
+        elif kind == 'call':
+            yield Edge('call', number, self.block_of.get(target), slot)
+        elif kind == 'jump':
+            yield Edge('out', number, None, slot)
+        else:
+            always, never = cond == 8, cond == 0
+            if not never:
+                yield Edge('taken', number, self.block_of.get(target), None if annul and always else slot)
+            if not always:
+                yield Edge('untaken', number, self.block_of.get(last + 2), None if annul else slot)
 
 
 def listing(file):
@@ -129,20 +139,20 @@ def listing(file):
     def address(word):
         return f'{program.start + 4 * word:08x}'
 
-    def node(word):
-        return 'x' if word is None else address(word)
+    def node(block):
+        return 'x' if block is None else address(graph.firsts[block])
 
     def slot(word):
-        return '-' if word is None else word if word == 'off' else address(word)
+        return '-' if word is None else address(word) if word < graph.count else 'off'
 
     lines = []
     for start in sorted(graph.routines):
         name = bytes(byte if 0x21 <= byte <= 0x7e else 63 for byte in graph.routines[start]).decode() or '-'
         lines.append(f'routine {address(start)} {name}')
     for number, first in enumerate(graph.firsts):
-        lines.append(f'block {number} {address(first)} {graph.size(number)}')
-    for number, (kind, start, end, carried) in enumerate(graph.edges):
-        lines.append(f'edge {number} {kind} {node(start)} {node(end)} {slot(carried)}')
+        lines.append(f'block {number} {address(first)} {graph.last(number) + 1 - first}')
+    for number, edge in enumerate(graph.edges):
+        lines.append(f'edge {number} {edge.kind} {node(edge.source)} {node(edge.target)} {slot(edge.slot)}')
     lines.append(f'routines {len(graph.routines)} blocks {len(graph.firsts)} edges {len(graph.edges)}')
     return '\n'.join(lines) + '\n'
 

@@ -21,7 +21,6 @@ class Program:
     output: bytes = b''
     errors: bytes = b''  # to descriptor 2
     before: int = 0  # how many bytes of the file lie in the segment before the words
-    edited: str = ''  # how its edited file ends, where the program runs out of its text, of which no clause speaks
 
     def file(self):
         """The file of the words at 0x10054, or the one that examples/c/build.sh made."""
@@ -36,13 +35,6 @@ class Program:
         segment = struct.pack('>8I', 1, 84 - self.before, start, start, size, size, 5, 0x10000)
         return identity + header + segment + text
 
-    def is_built(self):
-        """Whether it has no CALL and no JMPL, so that it can be edited."""
-        if not self.words or self.before:
-            return False
-        text = struct.iter_unpack('>I', bytes.fromhex(self.words.replace(' ', '')))
-        return not any(word >> 30 == 1 or word >> 30 == 2 and word >> 19 & 63 == 0x38 for word, in text)
-
     def report(self):
         """What program_runs prints of it."""
         line = f'{self.name}: {self.ending} after {self.steps} steps, stopped after {self.steps - 1} steps\n'
@@ -51,10 +43,10 @@ class Program:
         return line.encode() + output + errors
 
 
-# Without a branch, CALL or JMPL: each step carries out the next word.
+# Without a transfer: each step carries out the next word.
 STRAIGHT = [
     Program('three_words', '82102001 90102003 91d02010', 3, 'exit 3'),
-    Program('one_nop', '01000000', 2, 'trap 1', edited='trap 2'),
+    Program('one_nop', '01000000', 2, 'trap 1'),
     Program('load_from_zero', 'c2002000', 1, 'trap 9'),
     Program('window_overflow',
         '8610000e a0102007 9de3bfa0 9de3bfa0 9de3bfa0 9de3bfa0 9de3bfa0 9de3bfa0 '
@@ -92,21 +84,25 @@ STRAIGHT = [
     Program('overflows_a_tag', '84102001 8710a004', 2, 'trap 10'),
 ]
 
-WITH_TRANSFERS = [
+# Without a CALL or JMPL.
+BRANCHING = [
     Program('taken_branch',
         '80a02000 02800004 80a02001 10800003 90102001 90102002 82102001 91d02010', 6, 'exit 2'),
     Program('annulled_branches',
         '80a02001 22800003 90022001 20800002 90022002 30800002 90022004 80a02000 '
         '22800002 90022008 82102001 91d02010', 9, 'exit 8'),
     Program('branch_over_nop', '80a02000 02800002 01000000 82102001 90102000 91d02010', 6, 'exit 0'),
-    Program('call_and_return', '40000004 01000000 82102001 91d02010 81c3e008 900be0ff', 6, 'exit 84'),
     Program('carry_loop', '84102005 90422000 8480bfff 12bffffe 01000000 82102001 91d02010', 23, 'exit 4'),
+    Program('transfer_in_slot', '10800002 10800002 01000000', 2, 'couple'),
+]
+
+CALLING = [
+    Program('call_and_return', '40000004 01000000 82102001 91d02010 81c3e008 900be0ff', 6, 'exit 84'),
     Program('misaligned_jump', '82102002 81c06000 c223a040', 2, 'trap 7'),
     Program('inner_landings',
         '40000002 01000000 81c3e018 01000000 90022001 90022002 90022004 81c3e028 '
         '01000000 10800002 90022008 82102001 91d02010', 10, 'exit 12'),
     Program('jump_to_zero', '81c02000 01000000', 3, 'trap 1'),
-    Program('transfer_in_slot', '10800002 10800002 01000000', 2, 'couple'),
     Program('exit_three_calls_deep',
         '40000002 01000000 40000002 01000000 40000002 01000000 82102001 90102000 '
         '91d02010', 9, 'exit 0'),
@@ -129,7 +125,7 @@ PRINTS_ITS_HEADER = Program('prints_its_header',
     '13000040 94102034 90102001 82102004 91d02010 90102000 82102001 91d02010', 8, 'exit 0', before=84)
 PRINTS_ITS_HEADER.output = PRINTS_ITS_HEADER.file()[:52]
 
-SMALL = STRAIGHT + WITH_TRANSFERS + [PRINTS_ITS_HEADER]
+SMALL = STRAIGHT + BRANCHING + CALLING + [PRINTS_ITS_HEADER]
 
 C_PROGRAMS = [
     Program('word_count', '', 1472, 'exit 0', output=b'4 17 91\n',
@@ -139,4 +135,6 @@ C_PROGRAMS = [
         given=b'3 4 * p\n2 5 - p d * p\n100 7 / p , .\nc p 8 0 / p\n'),
     Program('queens', '', 54031, 'exit 0', output=b'92 ways, 200 calls\n'),
     Program('sieve', '', 163414146, 'exit 0', output=b'664579\n'),
+    Program('branches', '', 2124, 'exit 1',
+        output=b'-93 -62 -53 -41 0 23 26 31 58 59 84 97\n129 111\n'),
 ]

@@ -1,22 +1,34 @@
 """Sessions that crates/program_runs plays: calls of the editor over files in memory, and what must come of each."""
 import struct
+from dataclasses import replace
 
-from programs import SMALL, STRAIGHT, WITH_TRANSFERS, Program
+import listings
+from programs import C_PROGRAMS, SMALL, Program
 from written import written
 
 BAD_WORDS = b'eel: bad words\n'
 DEVICE_FAULT = b'eel: device fault\n'
 
-THREE_WORDS = SMALL[0]
-ECHOES = next(program for program in STRAIGHT if program.name == 'echoes')
-# Those whose edited files are made apart from EEL: straight code, branches with all kinds of slots, a loop, and a
-# branch in a slot.
-EDITED_APART = ['three_words', 'annulled_branches', 'carry_loop', 'transfer_in_slot']
-NEWLINE_COUNT = next(program for program in WITH_TRANSFERS if program.name == 'newline_count')
-
 # Prints five bytes of its first argument, and exits with the number of arguments, its name among them.
 ARGUMENT = Program('prints_its_argument',
-    'd203a048 82102004 90102001 94102005 91d02010 d003a040 82102001 91d02010', 8, 'exit 3')
+    'd203a048 82102004 90102001 94102005 91d02010 d003a040 82102001 91d02010', 8, 'exit 3', output=b'hello')
+
+# Files that are shown, too, with their endings: transfers out of the text, slots behind it, words that are none.
+SHOWN = {'leaves_at_both_ends': 'trap 1', 'never_and_always': 'trap 1', 'ends_with_a_jump': 'trap 1',
+    'ends_with_a_branch': 'trap 1', 'leads_to_a_slot': 'couple', 'data_words': 'trap 2'}
+
+EDITED = {program.name: program for program in [*SMALL, *C_PROGRAMS, ARGUMENT]}
+EDITED |= {name: Program(name, listings.WORDS[name], 0, ending) for name, ending in SHOWN.items()}
+THREE_WORDS = EDITED['three_words']
+ECHOES = EDITED['echoes']
+
+# The sieve goes to a thousand only.
+EDITED['sieve'] = replace(EDITED['sieve'], output=b'168\n')
+ARGUMENTS = {'sieve': ' -- 1000', ARGUMENT.name: ' -- hello world'}
+
+# Programs whose edited files stand beside them, byte for byte.
+WRITTEN = ['three_words', 'annulled_branches', 'carry_loop', 'transfer_in_slot', 'call_and_return', 'inner_landings',
+    'ends_with_a_branch']
 
 LISTING = (b'routine 00010054 -\nblock 0 00010054 3\nedge 0 fall 00010054 x -\n'
     b'edge 1 land x 00010054 -\nroutines 1 blocks 1 edges 2\n')
@@ -45,26 +57,27 @@ def cramped():
     return bytes(file[:52]) + first + second + bytes(file[84:])
 
 
+def ran(program):
+    """What a run puts out to its streams."""
+    return program.output, program.errors + program.ending.encode() + b'\n'
+
+
 def edits():
-    """Programs whose transfers are branches beside their edited files, which run as they do."""
-    for name in EDITED_APART:
+    """Programs beside their edited files, which run as they do."""
+    for name in WRITTEN:
         yield f'hold {name}.edited', b''
-    for program in SMALL:
-        if not program.is_built():
-            continue
-        name = program.name
-        ran, ran_edited = [(program.output, program.errors + ending.encode() + b'\n')
-            for ending in (program.ending, program.edited or program.ending)]
+    for name, program in EDITED.items():
+        arguments = ARGUMENTS.get(name, '')
         yield f'hold {name}', b''
         if program.given:
             yield f'input {name}.input', b''
         yield eel(f'edit {name} edited plain', 0)
-        if name in EDITED_APART:
+        if name in WRITTEN:
             yield f'same edited {name}.edited', b''
         yield eel('restore edited restored', 0)
         yield f'same restored {name}', b''
-        yield eel(f'run {name}', 0, *ran)
-        yield eel('run edited', 0, *ran_edited)
+        yield eel(f'run {name}{arguments}', 0, *ran(program))
+        yield eel(f'run edited{arguments}', 0, *ran(program))
 
 
 def words():
@@ -122,9 +135,6 @@ def refusals():
     yield eel('edit out other plain', 65, err=b'eel: out: file fault 12\n')
     yield eel('show other', 74, err=DEVICE_FAULT)
     yield eel('run other', 74, err=DEVICE_FAULT)
-    for name, where in [('call_and_return', 0), ('misaligned_jump', 1), ('switch_of_four', 7)]:
-        yield f'hold {name}', b''
-        yield eel(f'edit {name} other plain', 65, err=f'eel: {name}: not built at {0x10054 + 4 * where:08x}\n'.encode())
     yield 'hold cramped', b''
     yield eel('edit cramped other plain', 69, err=b'eel: cramped: room 1050112 needed, 0 had\n')
     yield 'zeros long 67108865', b''
@@ -149,9 +159,8 @@ SESSIONS = {'edits': list(edits()), 'words': list(words()), 'restores': list(res
 
 def files():
     """Scripts, and the files that they name besides the programs."""
-    for program in SMALL:
-        if program.name in EDITED_APART:
-            yield f'{program.name}.edited', written(program.file())
+    for name in WRITTEN:
+        yield f'{name}.edited', written(EDITED[name].file())
     yield 'three_words.broken', broken()
     yield ARGUMENT.name, ARGUMENT.file()
     yield 'cramped', cramped()

@@ -1,16 +1,22 @@
-"""The file that an edit without snippets writes of a program whose transfers are branches, made apart from EEL."""
+"""The file that an edit without snippets writes of a program, made apart from EEL."""
 import struct
-from bisect import bisect
+from dataclasses import dataclass
+from itertools import accumulate
 
+from beside_qemu import form3, sethi
 from listing import Graph, Program
 
 PAGE = 4096
 EDITOR_PAGE = 0xfffff000
-NOP = 0x01000000
-COUPLE = 0x10800002  # `ba` to the word after the next one
-ILLEGAL = 0
-NO_CELL = 0xffffffff
 KINDS = ['fall', 'taken', 'untaken', 'call', 'out', 'land']
+
+NOP = 0x01000000
+COUPLE = 0x10800002  # ba to the word after the next one
+ALWAYS_OR_NEVER = (8, 0)
+
+G0, G1, G2, O7 = 0, 1, 2, 15
+LD, ST = 0, 4
+ADD, AND, SRL, JMPL = 0, 1, 0x26, 0x38
 
 
 def up(number, size):
@@ -21,112 +27,201 @@ def words(*numbers):
     return struct.pack(f'>{len(numbers)}I', *numbers)
 
 
-def long_jump(to):
-    """A jump to an address by %g1, which waits in the editor's page meanwhile."""
-    return [0xc2203000, 0x03000000 | to >> 10, 0x81c06000 | to & 1023, 0xc2003000]
+# ---- words: those of the editor's page have numbers, 0 for jumps, 1 for the target, 2 and 3 for registers
+
+def store(register, number):
+    return form3(3, register, ST, G0, ('i', 4 * number - PAGE))
 
 
-class Code:
-    """The code that a program becomes: pieces of items, one behind the other from the base on, each item in its long
-    form."""
-
-    def __init__(self, program, base):
-        self.program, self.base = program, base
-        self.graph = Graph(program)
-        self.count = len(program.words)
-        self.own_edges = [edge for edge in self.graph.edges if edge[0] != 'land']
-        self.outside = self.count + len(self.own_edges)
-        self.pieces = [self.image(word) for word in range(self.count)]
-        self.pieces += [self.way(*edge) for edge in self.own_edges]
-        self.pieces += [[('word', ILLEGAL)]]
-        self.place()
-
-    def block(self, word):
-        return bisect(self.graph.firsts, word) - 1
-
-    def node(self, word):
-        """The number of the block that begins with a word, or that of all that lies outside."""
-        return len(self.graph.firsts) if word is None else self.block(word)
-
-    def piece(self, word):
-        return self.outside if word is None else word
-
-    def visit(self, word, block, *items):
-        return [('mark', self.program.start + 4 * word, block), *items, ('end',)]
-
-    def way_of(self, word, kind):
-        first = self.graph.firsts[self.block(word)]
-        return self.count + [edge[:2] for edge in self.own_edges].index((kind, first))
-
-    def image(self, word):
-        kind, _, _, cond = self.graph.ends[word]
-        block = self.block(word)
-        if kind == 'fall':
-            rest = [] if word + 1 < self.count else [('jump', self.outside)]
-            return self.visit(word, block, ('word', self.program.words[word])) + rest
-        if cond in (0, 8):
-            way = self.way_of(word, 'taken' if cond else 'untaken')
-            return self.visit(word, block, ('word', NOP)) + [('jump', way)]
-        taken = self.visit(word, block, ('branch', cond, self.way_of(word, 'taken')))
-        return taken + [('jump', self.way_of(word, 'untaken'))]
-
-    def way(self, kind, start, end, slot):
-        if kind == 'fall':
-            return []
-        if slot is None or slot == 'off':
-            return [('jump', self.piece(end) if slot is None else self.outside)]
-        if self.graph.ends[slot][0] != 'fall':
-            return self.visit(slot, self.node(start), ('word', COUPLE), ('word', COUPLE))
-        return self.visit(slot, self.node(start), ('word', self.program.words[slot])) + [('jump', self.piece(end))]
-
-    def place(self):
-        sizes = {'word': 1, 'jump': 4, 'branch': 6, 'mark': 0, 'end': 0}
-        self.at = [self.base]
-        for piece in self.pieces:
-            self.at.append(self.at[-1] + 4 * sum(sizes[item[0]] for item in piece))
-        self.words, self.ranges = [], []
-        for kind, *what in (item for piece in self.pieces for item in piece):
-            here = self.base + 4 * len(self.words)
-            if kind == 'mark':
-                low, visited = here, what
-            elif kind == 'end':
-                self.ranges.append((low, here, *visited))
-            elif kind == 'word':
-                self.words += what
-            elif kind == 'jump':
-                self.words += long_jump(self.at[what[0]])
-            else:
-                cond, to = what
-                self.words += [(cond ^ 8) << 25 | 0x00800006, NOP, *long_jump(self.at[to])]
+def load(register, number, base=G0):
+    return form3(3, register, LD, base, ('i', 4 * number - PAGE))
 
 
-def notes_on(code, original, delta):
-    graph, program = code.graph, code.program
-    edges = [(KINDS.index(kind), code.node(start), code.node(end), NO_CELL) for kind, start, end, _ in graph.edges]
-    return words(delta, len(original), 0, program.start, code.count, code.block(program.word_at(program.entry)),
-        code.base, 0, 2, code.base, 4 * len(code.words), EDITOR_PAGE, PAGE, len(graph.firsts), *graph.firsts,
-        len(edges), *(number for edge in edges for number in edge),
-        len(code.ranges), *(number for row in code.ranges for number in row))
+def operation(op3, register, number, source=None):
+    return form3(2, register, op3, register if source is None else source, ('i', number))
+
+
+def jump(address):
+    """Goes to an address by %g1, which waits in word 0 meanwhile."""
+    return [store(G1, 0), sethi(G1, address), operation(JMPL, G0, address & 0x3ff, G1), load(G1, 0)]
+
+
+def link(register, address):
+    """A register takes the address of a CALL or a JMPL; %g0 takes none."""
+    return [sethi(register, address), operation(ADD, register, address & 0x3ff)] if register else []
+
+
+def jump_image(value, address):
+    """The target of a JMPL goes into word 1, by a register that it doesn't name. A misaligned one traps."""
+    rd, rs1 = value >> 25 & 31, value >> 14 & 31
+    second = ('i', value & 0x1fff) if value >> 13 & 1 else ('r', value & 31)
+    named = (rd, rs1, 0 if second[0] == 'i' else second[1])
+    free = [register for register in (1, 2, 3, 4) if register not in named][0]
+    return [store(free, 2), form3(2, free, ADD, rs1, second), store(free, 1), operation(AND, free, 3),
+            load(free, 0, free), load(free, 2), *link(rd, address)]
+
+
+def look_up(table):
+    """Goes on at what the table has for the target, level by level: %g1 has the entry's place, and %g2 the block."""
+    level = form3(3, G2, LD, G2, ('r', G1))
+    return [store(G1, 2), store(G2, 3), load(G1, 1), store(G1, 1),
+            operation(SRL, G1, 20), operation(AND, G1, 0xffc), sethi(G2, table), level,
+            load(G1, 1), operation(SRL, G1, 10), operation(AND, G1, 0xffc), level,
+            load(G1, 1), operation(AND, G1, 0xffc), form3(3, G1, LD, G2, ('r', G1)),
+            load(G2, 3), operation(JMPL, G0, 0, G1), load(G1, 2)]
+
+
+# Goes to the target itself.
+FOREIGN = [store(G1, 2), load(G1, 1), operation(JMPL, G0, 0, G1), load(G1, 2)]
+
+
+# ---- pieces
+
+@dataclass
+class Piece:
+    """A visit, the words that carry it out, those behind them, and the piece at which control then goes on."""
+    visit: tuple = None  # the address of a word, and the node
+    words: tuple = ()
+    branch: tuple = None  # a condition, and the piece to which it leads
+    rest: tuple = ()
+    then: int = None
+
+    def visit_size(self):
+        return 4 * len(self.words) + (24 if self.branch else 0)
+
+    def size(self):
+        return self.visit_size() + 4 * len(self.rest) + (0 if self.then is None else 16)
+
+    def code(self, at):
+        code = list(self.words)
+        if self.branch:
+            condition, to = self.branch
+            code += [(condition ^ 8) << 25 | 2 << 22 | 6, NOP, *jump(at[to])]
+        return [*code, *self.rest, *([] if self.then is None else jump(at[self.then]))]
+
+
+class Pieces:
+    """An image of each word, the way along each edge but for the landings, a landing at each word, and the foreign
+    piece."""
+
+    def __init__(self, program, graph, table):
+        self.program, self.graph, self.table = program, graph, table
+        own = [edge for edge in graph.edges if edge.kind != 'land']
+        self.ways = {(edge.source, edge.kind): graph.count + number for number, edge in enumerate(own)}
+        self.first_landing = graph.count + len(own)
+        self.list = [self.image(word, block) for block, first in enumerate(graph.firsts)
+                     for word in range(first, graph.last(block) + 1)]
+        self.list += [self.way(edge) for edge in own]
+        self.list += [Piece(then=word) for word in range(graph.count)] + [Piece(words=FOREIGN)]
+
+    def address(self, word):
+        return self.program.start + 4 * word
+
+    def image(self, word, block):
+        kind, _, _, condition = self.graph.ends[word]
+        value, visit = self.program.words[word], (self.address(word), block)
+        taken, untaken = self.ways.get((block, 'taken')), self.ways.get((block, 'untaken'))
+        if kind == 'branch' and condition in ALWAYS_OR_NEVER:
+            return Piece(visit, (NOP,), then=taken if condition else untaken)
+        if kind == 'branch':
+            return Piece(visit, branch=(condition, taken), then=untaken)
+        if kind == 'call':
+            return Piece(visit, link(O7, visit[0]), then=self.ways[block, 'call'])
+        if kind == 'jump':
+            return Piece(visit, jump_image(value, visit[0]), then=self.ways[block, 'out'])
+        return Piece(visit, (value,), rest=() if word + 1 < self.graph.count else jump(self.address(word + 1)))
+
+    def way(self, edge):
+        if edge.kind == 'fall':
+            return Piece()
+        if edge.slot == self.graph.count:
+            return Piece(rest=jump(self.table))
+        visit, copy = None, ()
+        if edge.slot is not None:
+            visit, copy = (self.address(edge.slot), edge.source), (self.program.words[edge.slot],)
+            if self.graph.ends[edge.slot][0] != 'fall':
+                return Piece(visit, (COUPLE, COUPLE))
+        if edge.kind == 'out':
+            return Piece(visit, copy, rest=look_up(self.table))
+        if edge.target is not None:
+            return Piece(visit, copy, then=self.graph.firsts[edge.target])
+        last = self.graph.last(edge.source)
+        return Piece(visit, copy, rest=jump(self.address(last + 2) if edge.kind == 'untaken' else self.program.target(last)))
+
+    def places(self, at):
+        """Where visits stand. The first is that of a slot behind the text, in the table, if an edge runs one."""
+        end = self.graph.count
+        behind = [words(self.table, self.table + 4, self.address(end), edge.source)
+                  for edge in self.graph.edges if edge.slot == end]
+        return behind[:1] + [words(lo, lo + piece.visit_size(), *piece.visit)
+                             for lo, piece in zip(at, self.list) if piece.visit]
+
+
+# ---- the table
+
+def pages_of(program, size):
+    return range(program.start // size, (program.start + 4 * len(program.words) - 1) // size + 1)
+
+
+def table_size(program):
+    return PAGE * (3 + len(pages_of(program, PAGE << 10)) + len(pages_of(program, PAGE)))
+
+
+def table_words(program, base, landings, foreign):
+    """Blocks of three levels: the first one, those of the second and the third for all that holds no text, and then
+    those that do."""
+    parts, pages = pages_of(program, PAGE << 10), pages_of(program, PAGE)
+    blocks = [base + PAGE * number for number in range(3 + len(parts) + len(pages))]
+    seconds, thirds = dict(zip(parts, blocks[3:])), dict(zip(pages, blocks[3 + len(parts):]))
+    yield from (seconds.get(part, blocks[1]) for part in range(1024))
+    yield from [blocks[2]] * 1024
+    yield from [foreign] * 1024
+    for part in parts:
+        yield from (thirds.get(page, blocks[2]) for page in range(1024 * part, 1024 * part + 1024))
+    for page in pages:
+        yield from (landings.get(address, foreign) for address in range(PAGE * page, PAGE * page + PAGE, 4))
+
+
+# ---- the file
+
+def notes(graph, places, *head):
+    """The numbers at the head, blocks, edges without cells, and the places."""
+    outside = len(graph.firsts)
+    nodes = [(outside if edge.source is None else edge.source, outside if edge.target is None else edge.target)
+             for edge in graph.edges]
+    edges = [words(KINDS.index(edge.kind), *node, 0xffffffff) for edge, node in zip(graph.edges, nodes)]
+    return b''.join([words(*head, outside, *graph.firsts, len(edges)), *edges, words(len(places)), *places])
 
 
 def written(original):
     """For a file with one segment, which is its text, and no sections."""
-    _, offset, start, _, size, memory, _, align = struct.unpack_from('>8I', original, 52)
     program = Program(original)
-    code = Code(program, up(start + memory, 0x10000))
-    code_size = 4 * len(code.words)
+    graph = Graph(program)
+    _, offset, start, _, size, memory, _, align = struct.unpack_from('>8I', original, 52)
+    table = up(start + memory, 0x10000)
+    base = table + table_size(program)
+    pieces = Pieces(program, graph, table)
+    at = list(accumulate((piece.size() for piece in pieces.list), initial=base))
+    code = b''.join(words(*piece.code(at)) for piece in pieces.list)
+    landings = {pieces.address(word): at[pieces.first_landing + word] for word in range(graph.count)}
+    segments = [(table, 4, words(*table_words(program, table, landings, at[-2]))), (base, 5, code),
+                (EDITOR_PAGE, 6, bytes(PAGE))]
+    noted = [number for vaddr, _, content in segments for number in (vaddr, len(content))]
     delta = max(PAGE, align)
-    code_at = up(delta + len(original), PAGE)
-    page_at = up(code_at + code_size, PAGE)
-    notes_at = page_at + PAGE
-    notes = notes_on(code, original, delta)
-    entry = code.at[program.word_at(program.entry)]
-    headers = original[:16] + struct.pack('>HHIIIIIHHHHHH', 2, 2, 1, entry, 52, 0, 0, 52, 32, 3, 40, 0, 0)
+    entry_block = [first <= graph.entry for first in graph.firsts].count(True) - 1
+    told = notes(graph, pieces.places(at), delta, len(original), 0, start, graph.count, entry_block, table, 0,
+                 len(segments), *noted)
+    headers = original[:16] + struct.pack('>HHIIIIIHHHHHH', 2, 2, 1, at[graph.entry], 52, 0, 0, 52, 32, 4, 40, 0, 0)
     headers += words(1, offset + delta, start, start, size, memory, 4, align)
-    headers += words(1, code_at, code.base, code.base, code_size, code_size, 5, PAGE)
-    headers += words(1, page_at, EDITOR_PAGE, EDITOR_PAGE, PAGE, PAGE, 6, PAGE)
-    locator = words(0x45454c4e, 1, notes_at, len(notes))
+    parts = [(delta, original)]
+    end = delta + len(original)
+    for vaddr, flags, content in segments:
+        place = up(end, PAGE)
+        headers += words(1, place, vaddr, vaddr, len(content), len(content), flags, PAGE)
+        parts.append((place, content))
+        end = place + len(content)
+    locator = words(0x45454c4e, 1, end, len(told))
     file = b''
-    for at, part in ((0, headers), (4032, locator), (delta, original), (code_at, words(*code.words)), (notes_at, notes)):
-        file += bytes(at - len(file)) + part
+    for where, part in ((0, headers), (4032, locator), *parts, (end, told)):
+        file += bytes(where - len(file)) + part
     return file

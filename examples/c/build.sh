@@ -4,10 +4,20 @@
 set -e
 cd "$(dirname "$0")"
 data=../../crates/program_runs/data
-for program in word_count queens calculator sieve; do
+
+# build PROGRAM SOURCE.. : sources, and options besides
+build() {
+    program=$1
+    shift
     sparc64-linux-gnu-gcc -m32 -mcpu=v8 -msoft-float -nostdlib -ffreestanding -static -fno-pie -no-pie \
         -fno-asynchronous-unwind-tables -fno-stack-protector -O2 -Wall -Wl,--build-id=none -Wl,-z,noexecstack \
-        start.S "$program.c" -o "$data/$program"
+        "$@" -o "$data/$program"
     sparc64-linux-gnu-strip --strip-debug -R .comment -R .note.gnu.build-id "$data/$program"
+}
+
+for program in word_count queens calculator sieve; do
+    build "$program" start.S "$program.c"
 done
+# Its code stands in a segment of its own, without the headers, so that it can be edited.
+build branches branches.c -Wl,-z,separate-code -Wl,-z,max-page-size=0x1000
 python3 ../write_programs.py

@@ -11,7 +11,6 @@ use Rattle.eel.proofs.Meanings.{AnyRose, IsByStatus, IsBad, bad, refusal_is_bad,
 
 refusal_is_not_done : (name : List ℕ) (fault : EditFault) → IsBad (status_of (refusal_of name fault))
 refusal_is_not_done name (faults.File first) = bad 65 (lit≤ tt) (lit≤ tt)
-refusal_is_not_done name (faults.NotBuilt address) = bad 65 (lit≤ tt) (lit≤ tt)
 refusal_is_not_done name (faults.Room needed had) = bad 69 (lit≤ tt) (lit≤ tt)
 refusal_is_not_done name faults.NoMemory = bad 70 (lit≤ tt) (lit≤ tt)
 

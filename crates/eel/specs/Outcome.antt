@@ -2,7 +2,6 @@
 use Rattle.std.specs.Prelude.{◌≡◌, ℕ, List, [], ◌∷◌, ◌++◌, Option, Some, None, codes, decimal}
 use Rattle.std.specs.Borrow.{Bor}
 use Rattle.std.specs.List.{flat_map}
-use Rattle.eel_base.specs.Fields.{hex_of}
 use Rattle.eel_base.specs.Outside.{Rose, appended, TookPart}
 use Rattle.v8_step.specs.declared.Ending.{Ending}
 use Rattle.v8_step.specs.declared.Ending.TheVariants as endings
@@ -18,8 +17,6 @@ pub data Outcome : Type 0 where
   BadWords : Outcome
   -- the file has this fault
   BadFile : (name : List ℕ) (code : ℕ) → Outcome
-  -- the file's text has a word at this address of a form that isn't built yet
-  NotBuilt : (name : List ℕ) (address : ℕ) → Outcome
   -- the file leaves less room than an edit asks for
   NoRoom : (name : List ℕ) (needed had : ℕ) → Outcome
   -- the file has more bytes than `limit`
@@ -36,7 +33,6 @@ status_of Done = 0
 status_of (Stopped ending steps) = 0
 status_of BadWords = 64
 status_of (BadFile name code) = 65
-status_of (NotBuilt name address) = 65
 status_of (NoNotes name) = 65
 status_of (BadNotes name at) = 65
 status_of (TooLong name limit) = 66
@@ -64,7 +60,6 @@ line_of Done = []
 line_of (Stopped ending steps) = ending_text ending steps ++ 10 ∷ []
 line_of BadWords = line (codes "bad words")
 line_of (BadFile name code) = line_about name (codes "file fault " ++ decimal code)
-line_of (NotBuilt name address) = line_about name (codes "not built at " ++ hex_of address)
 line_of (TooLong name limit) = line_about name (codes "longer than " ++ decimal limit ++ codes " bytes")
 line_of (NoRoom name needed had) =
     line_about name (codes "room " ++ decimal needed ++ codes " needed, " ++ decimal had ++ codes " had")
@@ -98,7 +93,6 @@ outcome_seen variants.Done = Done
 outcome_seen (variants.Stopped ending steps) = Stopped ending steps
 outcome_seen variants.BadWords = BadWords
 outcome_seen (variants.BadFile name code) = BadFile name.now code
-outcome_seen (variants.NotBuilt name address) = NotBuilt name.now address.0
 outcome_seen (variants.NoRoom name needed had) = NoRoom name.now needed had
 outcome_seen (variants.TooLong name limit) = TooLong name.now limit
 outcome_seen (variants.NoNotes name) = NoNotes name.now

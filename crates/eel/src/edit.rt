@@ -43,7 +43,6 @@ fn refusal<'a>(name: &'a str, fault: EditFault) -> Outcome<'a>
             name,
             code: fault.code(),
         },
-        EditFault::NotBuilt(address) => Outcome::NotBuilt { name, address },
         EditFault::Room { needed, had } => Outcome::NoRoom { name, needed, had },
         EditFault::NoMemory => Outcome::OutOfMemory,
     }

@@ -3,7 +3,7 @@ ghost use Rattle.std.specs.Prelude.{◌≡◌, ◌≤◌, ◌++◌, ◌∷◌, [
 ghost use Rattle.eel_base.specs.Outside.{Rose, appended, TookPart};
 ghost use Rattle.eel.specs.Outcome.{outcome_seen, status_of, ending_text, line_of, stream, Shows, joined};
 
-use eel_base::{Addr, Failed, Sink, hex8, put_all};
+use eel_base::{Failed, Sink, put_all};
 use itoa::Buffer;
 use v8_step::Ending;
 
@@ -23,11 +23,6 @@ pub enum Outcome<'a> {
     BadFile {
         name: &'a str,
         code: u8,
-    },
-    /// The text of the file `name` has a word of a form that isn't built yet, the first at `address`.
-    NotBuilt {
-        name: &'a str,
-        address: Addr,
     },
     /// The file `name` has more than `limit` bytes.
     TooLong {
@@ -64,10 +59,7 @@ impl Outcome<'_> {
         match self {
             Outcome::Done | Outcome::Stopped { .. } => 0,
             Outcome::BadWords => 64,
-            Outcome::BadFile { .. }
-            | Outcome::NotBuilt { .. }
-            | Outcome::NoNotes { .. }
-            | Outcome::BadNotes { .. } => 65,
+            Outcome::BadFile { .. } | Outcome::NoNotes { .. } | Outcome::BadNotes { .. } => 65,
             Outcome::TooLong { .. } => 66,
             Outcome::NoRoom { .. } => 69,
             Outcome::OutOfMemory => 70,
@@ -105,19 +97,6 @@ fn put_line<E: Sink>(outcome: &Outcome, err: &mut E) -> Result<(), Failed>
             put_pieces(
                 err,
                 &[b"eel: ", name.as_bytes(), b": file fault ", code, b"\n"],
-            )
-        }
-        Outcome::NotBuilt { name, address } => {
-            let digits = hex8(address.0);
-            put_pieces(
-                err,
-                &[
-                    b"eel: ",
-                    name.as_bytes(),
-                    b": not built at ",
-                    &digits,
-                    b"\n",
-                ],
             )
         }
         Outcome::TooLong { name, limit } => {

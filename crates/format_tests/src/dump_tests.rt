@@ -24,6 +24,9 @@ fn written_again(alloc: Global, bytes: &[u8]) -> Result<Vec<u8>, Fail> {
     let Ok(dump) = read_dump(alloc, bytes) else {
         return Err(Fail::from("dump"));
     };
+    if dump.cells.len() >= 1 << 30 {
+        return Err(Fail::from("cells"));
+    }
     write_dump(alloc, &dump).map_err(|_| Fail::from("memory"))
 }
 

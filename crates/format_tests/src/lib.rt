@@ -14,6 +14,8 @@ mod elf32_write_tests;
 #[cfg(test)]
 mod notes_tests;
 #[cfg(test)]
+mod snippet_tests;
+#[cfg(test)]
 mod symbol_tests;
 
 pub use adding::can_write;

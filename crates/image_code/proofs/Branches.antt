@@ -1,5 +1,5 @@
 -- Branches, their ways, and the words of their images.
-use Rattle.std.proofs.Common.{◌≡◌, ◌≢◌, ℕ, ◌<◌, Bool, true, false, Option, Some, None, List, [], ◌∷◌, refl, ap, sym, ◌∙◌}
+use Rattle.std.proofs.Common.{◌≡◌, ◌≢◌, ℕ, ◌<◌, Bool, true, false, Option, Some, None, List, [], ◌∷◌, refl, ap, sym}
 use Rattle.std.specs.Prelude.{nat_lt, pos, slice_index, ℤ}
 use Rattle.std.specs.Option.{option_to_list}
 use Rattle.std.proofs.lemmas.Bool.{cond_both, eqb-true, ltb-true}
@@ -23,14 +23,13 @@ use Rattle.cfg_normal.specs.declared.Node.TheVariants.{Block, X}
 use Rattle.cfg_normal.specs.Graph.{Graph}
 use Rattle.cfg_walk.specs.Walk.{same_kind, same_node, way_of}
 use Rattle.cfg_walk.specs.Numbers.{node_number}
-use Rattle.cfg_walk.specs.Matches.{Begins}
 use Rattle.layout.specs.declared.items.Item.{Item}
 use Rattle.layout.specs.declared.items.Item.TheVariants as it
 use Rattle.layout.specs.Laid.{nop}
 use Rattle.image_code.specs.Images.{along_first}
 use Rattle.image_code.specs.Cases.{plain_piece}
 use Rattle.image_code.specs.Imaged.{TakesWords}
-use Rattle.image_code.specs.Made.{IsBuilt, couple_word, nop_word, first_way, image_by, piece_at, pieces_in, rest_after}
+use Rattle.image_code.specs.Made.{couple_word, nop_word, first_way, image_by, pieces_in, rest_after}
 
 -- ---- words
 
@@ -56,28 +55,14 @@ branched_lives false all false s to e = e
 
 -- ---- ways
 
--- a transfer that is a branch goes one of two ways
-unfoldable pub IsTurned : EdgeKind → Type 0
-IsTurned kinds.Taken = Unit {0}
-IsTurned kinds.Untaken = Unit {0}
-IsTurned _ = ⊥
-
-pub built_turns : (instr : Instr) (slot : Slot) → IsBuilt instr → IsTurned (way_of (Some instr) slot)
-unfolding IsTurned
-built_turns (i.Call disp30) slot h = absurd h
-built_turns (i.Jmpl rd rs1 op2) slot h = absurd h
-built_turns _ Untaken h = tt
-built_turns _ NoSlot h = tt
-built_turns _ Taken h = tt
-
-pub not_out : (k : EdgeKind) → IsTurned k → same_kind k kinds.Out ≡ false
-unfolding IsTurned
-not_out kinds.Taken h = refl
-not_out kinds.Untaken h = refl
-not_out kinds.Fall h = absurd h
-not_out kinds.Call h = absurd h
-not_out kinds.Out h = absurd h
-not_out kinds.Land h = absurd h
+-- the way that a transfer goes is no fall and no landing
+pub way_is_own : (o : Option Instr) (slot : Slot)
+    → (is_fall (way_of o slot) ≡ false) × (same_kind (way_of o slot) kinds.Land ≡ false)
+way_is_own (Some (i.Call disp30)) slot = (refl, refl)
+way_is_own (Some (i.Jmpl rd rs1 op2)) slot = (refl, refl)
+way_is_own _ Untaken = (refl, refl)
+way_is_own _ NoSlot = (refl, refl)
+way_is_own _ Taken = (refl, refl)
 
 pub same_is : (k j : EdgeKind) → same_kind k j ≡ true → k ≡ j
 same_is kinds.Fall kinds.Fall e = refl
@@ -88,41 +73,26 @@ same_is kinds.Out kinds.Out e = refl
 same_is kinds.Land kinds.Land e = refl
 same_is _ _ e = absurd (cc)
 
-pub turned_is : (k : EdgeKind) → IsTurned k → (is_fall k ≡ false) × (same_kind k kinds.Land ≡ false)
-unfolding IsTurned
-turned_is kinds.Taken h = (refl, refl)
-turned_is kinds.Untaken h = (refl, refl)
-turned_is kinds.Fall h = absurd h
-turned_is kinds.Call h = absurd h
-turned_is kinds.Out h = absurd h
-turned_is kinds.Land h = absurd h
-
 pub node_same : (n m : Node) → same_node n m ≡ true → n ≡ m
-node_same (Block one) (Block other) e = let k : one.0 ≡ other.0 = eqb-true _ _ e in ap (λ z. Block (record { 0 = z })) k
+node_same (Block one) (Block other) e =
+    let k : one.0 ≡ other.0 = eqb-true _ _ e in
+    ap (λ z. Block (record { 0 = z })) k
 node_same X X e = refl
 node_same _ _ e = absurd (cc)
 
-pub image_straight : (text : Words) (graph : Graph) (address : Addr) (node : Node) (word : ℕ) (instr : Instr)
-    → is_transfer instr ≡ false
-    → image_by text graph address node word instr ≡ plain_piece address (node_number graph node)
-    (slice_index text.words word) (rest_after text graph word)
-image_straight text graph address node word (i.Branch cond annul disp) e = absurd (cc)
-image_straight text graph address node word (i.Call disp) e = absurd (cc)
-image_straight text graph address node word (i.Jmpl rd rs1 op2) e = absurd (cc)
-image_straight text graph address node word _ e = refl
+pub image_straight : (text : Words) (graph : Graph) (table : ℕ) (address : Addr) (node : Node) (word : ℕ)
+    (instr : Instr) → is_transfer instr ≡ false
+    → image_by text graph table address node word instr ≡ plain_piece address (node_number graph node)
+    (slice_index text.words word) (rest_after text graph table word)
+image_straight text graph table address node word (i.Branch cond annul disp) e = absurd (cc)
+image_straight text graph table address node word (i.Call disp) e = absurd (cc)
+image_straight text graph table address node word (i.Jmpl rd rs1 op2) e = absurd (cc)
+image_straight text graph table address node word _ e = refl
 
-pub first_along : (text : Words) (graph : Graph) (edges : List ℕ)
-    → first_way text graph edges ≡ along_first (pieces_in text graph) edges
-first_along text graph [] = refl
-first_along text graph (edge ∷ edges) = refl
-
--- where a node's block begins with a word, control goes there to the word's image
-pub begins_piece : (text : Words) (graph : Graph) (node : Node) (o : Option ℕ) (word : ℕ) → o ≡ Some word
-    → Begins graph node o → piece_at text graph node ≡ word
-begins_piece text graph (Block k) None word e h = absurd h
-begins_piece text graph (Block k) (Some w) word e h = let q : w ≡ word = cc in h ∙ q
-begins_piece text graph X None word e h = absurd (cc)
-begins_piece text graph X (Some w) word e h = absurd h
+pub first_along : (text : Words) (graph : Graph) (table : ℕ) (edges : List ℕ)
+    → first_way text graph edges ≡ along_first (pieces_in text graph table) edges
+first_along text graph table [] = refl
+first_along text graph table (edge ∷ edges) = refl
 
 pub within_some : (count word other : ℕ) → within count word ≡ Some other → (word < count) × (word ≡ other)
 within_some count word other e = cond_both (nat_lt word count) _ _

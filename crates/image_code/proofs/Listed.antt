@@ -11,10 +11,12 @@ use Rattle.cfg_blocks.specs.declared.EdgeKind.TheVariants as kinds
 use Rattle.cfg_blocks.specs.Blocks.{Blocks, below}
 use Rattle.cfg_blocks.proofs.Below.{get_or-below, length-below}
 use Rattle.cfg_normal.specs.declared.Edge.{Edge}
-use Rattle.cfg_normal.specs.Graph.{Graph, graph_of, edges_in, edges_of, landing_at}
+use Rattle.cfg_normal.specs.Graph.{Graph, graph_of, edges_in, edges_of, landing_at as edge_at_landing}
 use Rattle.cfg_walk.specs.Walk.{same_kind}
 use Rattle.cfg_walk.proofs.Lists.{each, each-map, each_at}
-use Rattle.image_code.specs.Made.{image, own_edges, piece_list, way_along}
+use Rattle.jump_code.specs.Pieces.{foreign_piece}
+use Rattle.layout.specs.declared.items.Item.{Item}
+use Rattle.image_code.specs.Made.{foreign_number, image, landing, landing_number, own_edges, piece_list, way_along}
 
 get_first : {A : Type 0} (xs ys : List A) (n : ℕ) (x : A) → slice_get xs n ≡ Some x → slice_get (xs ++ ys) n ≡ Some x
 get_first [] ys n x e = absurd (cc)
@@ -37,28 +39,71 @@ pub get_below : (n k : ℕ) → k < n → slice_get (below n) k ≡ Some k
 get_below n k l = slice_get-get_or (below n) k 0 (omega (arith, length-below n))
     ∙ ap (λ z. Some z) (get_or-below n k 0 l)
 
-module _ (text : Words) (graph : Graph) where
-  images_end : length (map (image text graph) (below (length text.words))) ≡ length text.words
-  images_end = length-map (below (length text.words)) (image text graph) ∙ length-below (length text.words)
+module _ (text : Words) (graph : Graph) (table : ℕ) where
+  abbrev images : List (List Item)
+  images = map (image text graph table) (below (length text.words))
 
-  pub image_at : (word : ℕ) → word < length text.words → slice_get (piece_list text graph) word ≡ Some
-      (image text graph word)
+  abbrev ways : List (List Item)
+  ways = map (way_along text graph table) (own_edges graph)
+
+  abbrev landings : List (List Item)
+  landings = map (landing text graph table) (below (length text.words))
+
+  images_end : length images ≡ length text.words
+  images_end = length-map (below (length text.words)) (image text graph table) ∙ length-below (length text.words)
+
+  pub ways_end : length (images ++ ways) ≡ length text.words + length (own_edges graph)
+  ways_end =
+      length-append images ways
+      ∙ ap (λ n. n + length ways) images_end
+      ∙ ap (λ n. length text.words + n) (length-map (own_edges graph) (way_along text graph table))
+
+  pub landings_end : length (images ++ ways ++ landings) ≡ foreign_number text graph
+  landings_end =
+      length-append (images ++ ways) landings
+      ∙ ap (λ n. n + length landings) ways_end
+      ∙ ap (λ n. length text.words + length (own_edges graph) + n)
+      (length-map (below (length text.words)) (landing text graph table) ∙ length-below (length text.words))
+
+  pub count_is : length (piece_list text graph table) ≡ foreign_number text graph + 1
+  unfolding piece_list
+  count_is =
+      length-append (images ++ ways ++ landings) (foreign_piece ∷ []) ∙ ap (λ n. n + 1) landings_end
+
+  pub image_at : (word : ℕ) → word < length text.words
+      → slice_get (piece_list text graph table) word ≡ Some (image text graph table word)
   unfolding piece_list
   image_at word l =
-      get_first _ _ word _ (get_first _ _ word _
-      (slice_get-map (image text graph) (below (length text.words)) word
-      ∙ ap (option_map (image text graph)) (get_below (length text.words) word l)))
+      get_first _ _ word _ (get_first _ _ word _ (get_first _ _ word _
+      (slice_get-map (image text graph table) (below (length text.words)) word
+      ∙ ap (option_map (image text graph table)) (get_below (length text.words) word l))))
 
   pub way_at : (number : ℕ) (edge : Edge) → slice_get (own_edges graph) number ≡ Some edge
-      → slice_get (piece_list text graph) (length text.words + number) ≡ Some (way_along text graph edge)
+      → slice_get (piece_list text graph table) (length text.words + number) ≡ Some (way_along text graph table edge)
   unfolding piece_list
   way_at number edge e =
-      get_first _ _ (length text.words + number) _
-      (ap (λ n. slice_get (map (image text graph) (below (length text.words)) ++ map (way_along text graph)
-      (own_edges graph)) (n + number)) (sym images_end)
-      ∙ get_second (map (image text graph) (below (length text.words)))
-      (map (way_along text graph) (own_edges graph)) number
-      ∙ slice_get-map (way_along text graph) (own_edges graph) number ∙ ap (option_map (way_along text graph)) e)
+      get_first _ _ (length text.words + number) _ (get_first _ _ (length text.words + number) _
+      (ap (λ n. slice_get (images ++ ways) (n + number)) (sym images_end)
+      ∙ get_second images ways number
+      ∙ slice_get-map (way_along text graph table) (own_edges graph) number
+      ∙ ap (option_map (way_along text graph table)) e))
+
+  pub landing_at : (word : ℕ) → word < length text.words
+      → slice_get (piece_list text graph table) (landing_number text graph word) ≡ Some (landing text graph table word)
+  unfolding piece_list
+  landing_at word l =
+      get_first _ _ (landing_number text graph word) _
+      (ap (λ n. slice_get (images ++ ways ++ landings) (n + word)) (sym ways_end)
+      ∙ get_second (images ++ ways) landings word
+      ∙ slice_get-map (landing text graph table) (below (length text.words)) word
+      ∙ ap (option_map (landing text graph table)) (get_below (length text.words) word l))
+
+  pub foreign_at : slice_get (piece_list text graph table) (foreign_number text graph) ≡ Some foreign_piece
+  unfolding piece_list
+  foreign_at =
+      let here : foreign_number text graph ≡ length (images ++ ways ++ landings) + 0 = omega (arith, landings_end) in
+      ap (slice_get (images ++ ways ++ landings ++ foreign_piece ∷ [])) here
+      ∙ get_second (images ++ ways ++ landings) (foreign_piece ∷ []) 0
 
 -- an edge that is no landing is among those that have ways
 pub own_at : (b : Blocks) (number : ℕ) (edge : Edge) → slice_get (edges_in b) number ≡ Some edge
@@ -66,8 +111,8 @@ pub own_at : (b : Blocks) (number : ℕ) (edge : Edge) → slice_get (edges_in b
 unfolding edges_in
 own_at b number edge e other =
     let own : List Edge = flat_map (edges_of b) (below (length b.firsts)) in
-    let landings : List Edge = map landing_at (below (length b.firsts)) in
-    let many : length landings ≡ length b.firsts = length-map (below (length b.firsts)) landing_at
+    let landings : List Edge = map edge_at_landing (below (length b.firsts)) in
+    let many : length landings ≡ length b.firsts = length-map (below (length b.firsts)) edge_at_landing
     ∙ length-below (length b.firsts) in
     let all : length (own ++ landings) ≡ length own + length landings = length-append own landings in
     elim (cases_lt number (length own)) [
@@ -78,6 +123,6 @@ own_at b number edge e other =
           sym (get_second own landings (number - length own)) ∙ ap (slice_get (own ++ landings)) past ∙ e in
           let lands : same_kind edge.kind kinds.Land ≡ true =
           each_at (λ (x : Edge). same_kind x.kind kinds.Land ≡ true) landings (number - length own) edge
-          (each-map _ landing_at (below (length b.firsts)) (each _ (below (length b.firsts)) (λ j. refl))) there in
+          (each-map _ edge_at_landing (below (length b.firsts)) (each _ (below (length b.firsts)) (λ j. refl))) there in
           absurd (cc)
     ]

@@ -1,5 +1,5 @@
 -- The graph of a text by numbers: how many edges there are, and which number an edge has.
-use Rattle.std.proofs.Common.{◌≡◌, ℕ, zero, suc, ◌+◌, ◌-◌, ◌*◌, ◌<◌, ◌≤◌, Bool, true, false, not, ◌&&◌, ◌==◌, cond, List, [], ◌∷◌, ◌++◌, length, map, Option, Some, None, length-append, length-take, append_assoc, refl, ap, sym, ◌∙◌, subst, arith, inl, inr}
+use Rattle.std.proofs.Common.{◌≡◌, ℕ, zero, suc, ◌+◌, ◌-◌, ◌*◌, ◌<◌, ◌≤◌, Bool, true, false, not, ◌&&◌, ◌==◌, cond, List, [], ◌∷◌, ◌++◌, length, map, Some, None, length-append, length-take, append_assoc, refl, ap, sym, ◌∙◌, subst, arith, inl, inr}
 use Rattle.std.specs.Prelude.{if◌then◌else◌, slice_index, ℤ}
 use Rattle.std.specs.List.{flat_map, position, position_or_len}
 use Rattle.std.specs.Option.{option_to_list}
@@ -7,7 +7,7 @@ use Rattle.std.proofs.lemmas.Bool.{and_from, cases_lt, cond_both, eq-eqb, le-ltb
 use Rattle.std.proofs.lemmas.Bool.Decides.{nat_tests}
 use Rattle.std.proofs.lemmas.Grind.{flat_map-append}
 use Rattle.std.proofs.lemmas.List.{length-map, append-nil, map-append}
-use Rattle.eel_base.specs.CodeText.{Words, address_of}
+use Rattle.eel_base.specs.CodeText.{Words, address_of, numbered, target_of}
 use Rattle.eel_base.specs.declared.numbers.Addr.{Addr}
 use Rattle.eel_base.specs.declared.numbers.PieceNo.{PieceNo}
 use Rattle.v8_decode.specs.declared.Instr.{Instr}
@@ -17,7 +17,7 @@ use Rattle.cfg_blocks.specs.declared.BlockEnd.{BlockEnd}
 use Rattle.cfg_blocks.specs.declared.BlockEnd.TheVariants as ends
 use Rattle.cfg_blocks.specs.declared.EdgeKind.{EdgeKind}
 use Rattle.cfg_blocks.specs.declared.EdgeKind.TheVariants as kinds
-use Rattle.cfg_blocks.specs.Ends.{Way, always, never, branch_target, end_by, is_transfer, number_of, way, ways_of, within}
+use Rattle.cfg_blocks.specs.Ends.{Way, always, never, branch_target, end_at, end_by, is_transfer, number_of, way, ways_of, within}
 use Rattle.cfg_blocks.specs.Blocks.{Blocks, below, block_end, blocks_of, end_of, holding_of, last_word}
 use Rattle.cfg_blocks.specs.Entries.{ways_from}
 use Rattle.cfg_blocks.proofs.Below.{length-below}
@@ -30,9 +30,11 @@ use Rattle.cfg_walk.proofs.Cut.{IsCut, cut}
 use Rattle.cfg_walk.proofs.Edges.{block}
 use Rattle.cfg_walk.proofs.Holding.{is_held, some_words}
 use Rattle.cfg_walk.proofs.Leaving.{end_is, is_in, node_is, transfer_ends, ways_at}
+use Rattle.jump_code.specs.FreeRegister.{free_register}
+use Rattle.jump_code.specs.Pieces.{call_piece, jump_piece}
 use Rattle.image_code.specs.Cases.{branch_piece, plain_piece}
-use Rattle.image_code.specs.Made.{branch_image, first_way, image, image_by, jump_to, nop_word, own_edges, rest_after, way_out}
-use Rattle.image_code.specs.Parts.{IsGraphOf, begin_of, branch_from, branch_ways, edges_after, edges_before, first_way_of, image_from, jump_if}
+use Rattle.image_code.specs.Made.{branch_image, first_way, image, image_by, jump_to, nop_word, own_edges, way_out}
+use Rattle.image_code.specs.Parts.{IsGraphOf, begin_of, branch_from, branch_ways, edges_after, edges_before, first_way_of, image_from, image_in, rest_of}
 
 -- ---- how many edges there are
 
@@ -209,51 +211,71 @@ module _ (b : Blocks) (k : ℕ) (kind : EdgeKind) where
           ((post ++ more) ++ landings)
       regroup early pre edge post more landings = search (append_assoc)
 
--- ---- the ways of a branch
+-- ---- the ways of a transfer
 
 module _ (text : Words) (graph : Graph) (h : IsGraphOf text graph) (some : 1 ≤ length text.words) (word : ℕ)
-    (l : word < length text.words)
-    (c : ℕ) (annul : Bool) (disp : ℤ) (says : decode_of (slice_index text.words word) ≡ i.Branch c annul disp) where
+    (l : word < length text.words) (end : BlockEnd) (is : end_at text word ≡ end) (t : is_transfer end ≡ true) where
   low : word < graph.blocks.words
   low = omega (arith, words_are text graph h)
 
   abbrev k : ℕ
   k = holding_of graph.blocks word
 
-  ways_here : ways_from graph.blocks k ≡ ways_of graph.blocks.words word
-      (ends.Branch c annul (branch_target text word c disp))
+  within_k : k < length graph.blocks.firsts
+  within_k = (is_in text graph.blocks (cut_of text graph h some) word low).within
+
+  ways_here : ways_from graph.blocks k ≡ ways_of graph.blocks.words word end
   ways_here =
-      let is = end_is text word (i.Branch c annul disp) says in
       ways_at text graph.blocks (cut_of text graph h some) word low
-      (transfer_ends text graph.blocks (cut_of text graph h some) word low (ap is_transfer is))
+      (transfer_ends text graph.blocks (cut_of text graph h some) word low (ap is_transfer is ∙ t))
       ∙ ap (ways_of graph.blocks.words word) is
 
-  -- the one edge of `ba` and `bn`
+  -- where the block has one way
   only_way : (kind : EdgeKind) (w : Way) → w.kind ≡ kind → same_kind kind kind ≡ true
-      → ways_of graph.blocks.words word (ends.Branch c annul (branch_target text word c disp)) ≡ w ∷ []
-      → edge_from graph (block k) kind ≡ edges_before graph.blocks k ∷ []
+      → ways_of graph.blocks.words word end ≡ w ∷ [] → edge_from graph (block k) kind ≡ edges_before graph.blocks k ∷ []
   only_way kind w same itself one =
       ap (λ (g : Graph). edge_from g (block k) kind) (graph_is text graph h)
-      ∙ edge_number graph.blocks k kind (is_in text graph.blocks (cut_of text graph h some) word low).within []
-      (edge_of graph.blocks k w) []
+      ∙ edge_number graph.blocks k kind within_k [] (edge_of graph.blocks k w) []
       (ap (map (edge_of graph.blocks k)) (ways_here ∙ one)) tt refl
       (ap (λ (j : EdgeKind). same_kind j kind) same ∙ itself)
       ∙ ap (λ n. n ∷ []) (let e : edges_before graph.blocks k + 0 ≡ edges_before graph.blocks k = omega arith in e)
 
-  pub always_number : (c == always) ≡ true → edge_from graph (block k) kinds.Taken ≡ edges_before graph.blocks k ∷ []
-  always_number e = only_way kinds.Taken (way kinds.Taken (number_of (branch_target text word c disp))) refl refl
-      (rw e refl)
+  -- and so the piece of its way
+  pub only_piece : (kind : EdgeKind) (w : Way) → w.kind ≡ kind → same_kind kind kind ≡ true
+      → ways_of graph.blocks.words word end ≡ w ∷ [] → (first : ℕ) → first ≡ first_way_of text graph k
+      → way_out text graph (block k) kind ≡ first
+  only_piece kind w same itself one first is_first =
+      ap (first_way text graph) (only_way kind w same itself one) ∙ sym is_first
 
-  pub never_number : (c == always) ≡ false → (c == never) ≡ true
-      → edge_from graph (block k) kinds.Untaken ≡ edges_before graph.blocks k ∷ []
-  never_number e f = only_way kinds.Untaken (way kinds.Untaken (within graph.blocks.words (word + 2))) refl refl
-      (rw (e, f) refl)
+-- ---- the ways of a branch
 
-  two : (c == always) ≡ false → (c == never) ≡ false → edges_of graph.blocks k
-      ≡ edge_of graph.blocks k (way kinds.Taken (number_of (branch_target text word c disp))) ∷ edge_of graph.blocks k
-      (way kinds.Untaken (within graph.blocks.words (word + 2))) ∷ []
+module _ (text : Words) (graph : Graph) (h : IsGraphOf text graph) (some : 1 ≤ length text.words) (word : ℕ)
+    (l : word < length text.words)
+    (c : ℕ) (annul : Bool) (disp : ℤ) (says : decode_of (slice_index text.words word) ≡ i.Branch c annul disp) where
+  abbrev end : BlockEnd
+  end = ends.Branch c annul (branch_target text word c disp)
+
+  ends_so : end_at text word ≡ end
+  ends_so = end_is text word (i.Branch c annul disp) says
+
+  abbrev kb : ℕ
+  kb = holding_of graph.blocks word
+
+  always_piece : (c == always) ≡ true → (first : ℕ) → first ≡ first_way_of text graph kb
+      → way_out text graph (block kb) kinds.Taken ≡ first
+  always_piece e = only_piece text graph h some word l end ends_so refl kinds.Taken
+      (way kinds.Taken (number_of (branch_target text word c disp))) refl refl (rw e refl)
+
+  never_piece : (c == always) ≡ false → (c == never) ≡ true → (first : ℕ) → first ≡ first_way_of text graph kb
+      → way_out text graph (block kb) kinds.Untaken ≡ first
+  never_piece e f = only_piece text graph h some word l end ends_so refl kinds.Untaken
+      (way kinds.Untaken (within graph.blocks.words (word + 2))) refl refl (rw (e, f) refl)
+
+  two : (c == always) ≡ false → (c == never) ≡ false → edges_of graph.blocks kb
+      ≡ edge_of graph.blocks kb (way kinds.Taken (number_of (branch_target text word c disp)))
+      ∷ edge_of graph.blocks kb (way kinds.Untaken (within graph.blocks.words (word + 2))) ∷ []
   two e f =
-      ap (map (edge_of graph.blocks k)) (ways_here
+      ap (map (edge_of graph.blocks kb)) (ways_here text graph h some word l end ends_so refl
       ∙ ap (λ (a : Bool). if a then way kinds.Taken (number_of
       (branch_target text word c disp)) ∷ [] else if c == never then way kinds.Untaken
       (within graph.blocks.words (word + 2)) ∷ [] else
@@ -263,84 +285,75 @@ module _ (text : Words) (graph : Graph) (h : IsGraphOf text graph) (some : 1 ≤
       way kinds.Taken (number_of (branch_target text word c disp)) ∷ way kinds.Untaken
       (within graph.blocks.words (word + 2)) ∷ []) f)
 
-  pub taken_number : (c == always) ≡ false → (c == never) ≡ false
-      → edge_from graph (block k) kinds.Taken ≡ edges_before graph.blocks k ∷ []
+  taken_number : (c == always) ≡ false → (c == never) ≡ false
+      → edge_from graph (block kb) kinds.Taken ≡ edges_before graph.blocks kb ∷ []
   taken_number e f =
-      ap (λ (g : Graph). edge_from g (block k) kinds.Taken) (graph_is text graph h)
-      ∙ edge_number graph.blocks k kinds.Taken (is_in text graph.blocks (cut_of text graph h some) word low).within []
-      (edge_of graph.blocks k (way kinds.Taken (number_of (branch_target text word c disp))))
-      (edge_of graph.blocks k (way kinds.Untaken (within graph.blocks.words (word + 2))) ∷ [])
+      ap (λ (g : Graph). edge_from g (block kb) kinds.Taken) (graph_is text graph h)
+      ∙ edge_number graph.blocks kb kinds.Taken (within_k text graph h some word l end ends_so refl) []
+      (edge_of graph.blocks kb (way kinds.Taken (number_of (branch_target text word c disp))))
+      (edge_of graph.blocks kb (way kinds.Untaken (within graph.blocks.words (word + 2))) ∷ [])
       (two e f) tt refl refl
-      ∙ ap (λ n. n ∷ []) (let z : edges_before graph.blocks k + 0 ≡ edges_before graph.blocks k = omega arith in z)
+      ∙ ap (λ n. n ∷ []) (let z : edges_before graph.blocks kb + 0 ≡ edges_before graph.blocks kb = omega arith in z)
 
-  pub untaken_number : (c == always) ≡ false → (c == never) ≡ false
-      → edge_from graph (block k) kinds.Untaken ≡ (edges_before graph.blocks k + 1) ∷ []
+  untaken_number : (c == always) ≡ false → (c == never) ≡ false
+      → edge_from graph (block kb) kinds.Untaken ≡ (edges_before graph.blocks kb + 1) ∷ []
   untaken_number e f =
-      ap (λ (g : Graph). edge_from g (block k) kinds.Untaken) (graph_is text graph h)
-      ∙ edge_number graph.blocks k kinds.Untaken (is_in text graph.blocks (cut_of text graph h some) word low).within
-      (edge_of graph.blocks k (way kinds.Taken (number_of (branch_target text word c disp))) ∷ [])
-      (edge_of graph.blocks k (way kinds.Untaken (within graph.blocks.words (word + 2)))) []
+      ap (λ (g : Graph). edge_from g (block kb) kinds.Untaken) (graph_is text graph h)
+      ∙ edge_number graph.blocks kb kinds.Untaken (within_k text graph h some word l end ends_so refl)
+      (edge_of graph.blocks kb (way kinds.Taken (number_of (branch_target text word c disp))) ∷ [])
+      (edge_of graph.blocks kb (way kinds.Untaken (within graph.blocks.words (word + 2)))) []
       (two e f) (refl, tt) refl refl
 
-  pub branch_is : (address : Addr) (first : ℕ) → first ≡ first_way_of text graph k
-      → branch_image text graph address (block k) c ≡ branch_from address k c first
-  branch_is address first is =
+  pub branch_is : (table : ℕ) (address : Addr) (first : ℕ) → first ≡ first_way_of text graph kb
+      → branch_image text graph table address (block kb) c ≡ branch_from address kb c first
+  branch_is table address first is =
       by (c == always) refl (c == never) refl
     where
-      none : (kind : EdgeKind) → edge_from graph (block k) kind ≡ edges_before graph.blocks k ∷ []
-          → way_out text graph (block k) kind ≡ first
-      none kind e = ap (first_way text graph) e ∙ sym is
-
       by : (a : Bool) → (c == always) ≡ a → (n : Bool) → (c == never) ≡ n
-          → branch_image text graph address (block k) c ≡ branch_from address k c first
-      by true a n m = rw a (ap (λ z. plain_piece address k nop_word (jump_to text graph z))
-          (none kinds.Taken (always_number a)))
-      by false a true m = rw (a, m) (ap (λ z. plain_piece address k nop_word (jump_to text graph z))
-          (none kinds.Untaken (never_number a m)))
+          → branch_image text graph table address (block kb) c ≡ branch_from address kb c first
+      by true a n m = rw a (ap (λ z. plain_piece address kb nop_word (jump_to z)) (always_piece a first is))
+      by false a true m = rw (a, m) (ap (λ z. plain_piece address kb nop_word (jump_to z)) (never_piece a m first is))
       by false a false m =
-          let second : way_out text graph (block k) kinds.Untaken ≡ first + 1 =
+          let taken : way_out text graph (block kb) kinds.Taken ≡ first =
+          ap (first_way text graph) (taken_number a m) ∙ sym is in
+          let second : way_out text graph (block kb) kinds.Untaken ≡ first + 1 =
           ap (first_way text graph) (untaken_number a m)
-          ∙ (let q : length text.words + (edges_before graph.blocks k + 1) ≡ first + 1 = omega arith in q) in
-          rw (a, m) (ap (λ z. branch_piece address k c z (way_out text graph (block k) kinds.Untaken))
-          (none kinds.Taken (taken_number a m))
-          ∙ ap (branch_piece address k c first) second)
+          ∙ (let q : length text.words + (edges_before graph.blocks kb + 1) ≡ first + 1 = omega arith in q) in
+          rw (a, m) (ap (λ z. branch_piece address kb c z (way_out text graph (block kb) kinds.Untaken)) taken
+          ∙ ap (branch_piece address kb c first) second)
 
 -- ---- the image of a word
 
-pub image_is : (text : Words) (graph : Graph) → IsGraphOf text graph → 1 ≤ length text.words → (word : ℕ)
-    → word < length text.words → (first : ℕ)
-    → first ≡ first_way_of text graph (holding_of graph.blocks word) → (rest : Option PieceNo)
-    → jump_if rest ≡ rest_after text graph word
-    → image_from (record { 0 = address_of text word }) (holding_of graph.blocks word)
-    (slice_index text.words word) first rest (decode_of (slice_index text.words word))
-    ≡ image text graph word
-image_is text graph h some word l first is rest after =
-    by (decode_of (slice_index text.words word)) refl
-    ∙ ap (λ (n : Node). image_by text graph (record { 0 = address_of text word }) n word
-    (decode_of (slice_index text.words word)))
-    (sym (node_is graph.blocks word (let e = words_are text graph h in omega arith)))
-  where
-    by : (instr : Instr) → decode_of (slice_index text.words word) ≡ instr
-        → image_from (record { 0 = address_of text word }) (holding_of graph.blocks word)
-        (slice_index text.words word) first rest instr
-        ≡ image_by text graph (record { 0 = address_of text word }) (block (holding_of graph.blocks word)) word instr
-    by (i.Branch c annul disp) says = sym (branch_is text graph h some word l c annul disp says
-        (record { 0 = address_of text word }) first is)
-    by (i.Call disp) says = refl
-    by (i.Jmpl rd rs1 op2) says = refl
-    by _ says = ap (plain_piece (record { 0 = address_of text word }) (holding_of graph.blocks word)
-        (slice_index text.words word)) after
+module _ (text : Words) (graph : Graph) (table : ℕ) (h : IsGraphOf text graph) (some : 1 ≤ length text.words) (word : ℕ)
+    (l : word < length text.words) (first : PieceNo)
+    (is : first.0 ≡ first_way_of text graph (holding_of graph.blocks word)) where
+  abbrev here : Addr
+  here = record { 0 = address_of text word }
 
--- the ways along the edges of a block lie before the last piece
-pub first_low : (text : Words) (graph : Graph) → IsGraphOf text graph → 1 ≤ length text.words → (word : ℕ)
-    → word < length text.words
-    → first_way_of text graph (holding_of graph.blocks word) ≤ 3 * length text.words
-first_low text graph h some word l =
-    let words = words_are text graph h in
-    let c = cut_of text graph h some in
-    let inside = (is_in text graph.blocks c word (omega arith)).within in
-    let few = c.firsts.few in
-    omega (arith, few_before graph.blocks (holding_of graph.blocks word))
+  abbrev its : ℕ
+  its = holding_of graph.blocks word
+
+  says_is : (instr : Instr) → decode_of (slice_index text.words word) ≡ instr
+      → image_from here its (slice_index text.words word) first (rest_of text word) instr
+      ≡ image_by text graph table here (block its) word instr
+  says_is (i.Branch c annul disp) says =
+      sym (branch_is text graph h some word l c annul disp says table here first.0 is)
+  says_is (i.Call disp) says =
+      let to = numbered (target_of text word disp) in
+      ap (λ z. call_piece here its (record { 0 = z }))
+      (sym (only_piece text graph h some word l (ends.Call to) (end_is text word (i.Call disp) says) refl kinds.Call
+      (way kinds.Call (number_of to)) refl refl refl first.0 is))
+  says_is (i.Jmpl rd rs1 op2) says =
+      ap (λ z. jump_piece (free_register rd rs1 op2) rd rs1 op2 here its (record { 0 = z }))
+      (sym (only_piece text graph h some word l ends.Jump (end_is text word (i.Jmpl rd rs1 op2) says) refl kinds.Out
+      (way kinds.Out None) refl refl refl first.0 is))
+  says_is _ says = refl
+
+  pub image_is : image_in text word its first ≡ image text graph table word
+  image_is =
+      says_is (decode_of (slice_index text.words word)) refl
+      ∙ ap (λ (n : Node). image_by text graph table here n word (decode_of (slice_index text.words word)))
+      (sym (node_is graph.blocks word (let e = words_are text graph h in omega arith)))
 
 -- a word from the first of a block on, and before its end, is held by the block
 pub held_by : (text : Words) (graph : Graph) → IsGraphOf text graph → 1 ≤ length text.words → (k word : ℕ)
@@ -370,6 +383,9 @@ begin_first text graph h some =
     let f = (cut_of text graph h some).firsts in
     ap (λ (b : Bool). if b then slice_index graph.blocks.firsts 0 else graph.blocks.words)
     (lt-ltb 0 (length graph.blocks.firsts) (omega (arith, f.some))) ∙ f.begin
+
+pub begin_at : (b : Blocks) (k : ℕ) → k < length b.firsts → begin_of b k ≡ slice_index b.firsts k
+begin_at b k l = ap (λ (t : Bool). if t then slice_index b.firsts k else b.words) (lt-ltb k (length b.firsts) l)
 
 pub begin_last : (text : Words) (graph : Graph) → IsGraphOf text graph → (k : ℕ) → length graph.blocks.firsts ≤ k
     → begin_of graph.blocks k ≡ length text.words

@@ -191,7 +191,7 @@ module _ (g : Setting) (l : Pieces) (base : ℕ) (p : Placement) (place : ℕ �
       (tail g l base p place f h (l.image node c.number) _ _ _ c.items
       (hopped t (place (l.image node c.number) 2) j.memory) to
       (of_hop_fit (place (l.image node c.number) 2) (omega arith) j) (sym b_closes) (omega arith)
-      (inr (record { 0 = c.untaken }, b_item 3, leads)))
+      (inr (inl (record { 0 = c.untaken }, b_item 3, leads))))
 
   turned : (to most : ℕ) (v : State) → IsMoved (at_point x t) v → Comes to most → most ≤ 64 → (edges : List ℕ)
       → to ≡ visited_at g l p f (node_after (graph_in g) node edges) (point_of v)

@@ -21,8 +21,8 @@ is_mark _ = false
 abbrev pub marks_in : List Item → ℕ
 marks_in items = count_by is_mark items
 
--- They can be placed. There is an image and a landing for each word, not too many Marks for notes, and no more bytes than this, each
--- item in its long form.
+-- They can be placed. There is an image and a landing for each word, not too many Marks for notes, and no more bytes
+-- than this, each item in its long form.
 pub record AreFit (text : Words) (graph : Graph) (list : List (List Item)) : Type 0 where
   pub pieces : ArePieces list
   pub images : length text.words < length list

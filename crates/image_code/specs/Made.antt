@@ -1,6 +1,6 @@
 -- The pieces that are made of a text: an image of each word, the way along each edge but for the landings, a landing at
 -- each word, and last the foreign piece, to which the table leads every address outside the text.
-use Rattle.std.specs.Prelude.{◌≡◌, ℕ, ◌+◌, ◌-◌, ◌%◌, ◌^◌, ◌<◌, ◌≤◌, ◌==◌, nat_lt, if◌then◌else◌, List, [], ◌∷◌, ◌++◌, length, map, take, slice_get, slice_index, Some, None}
+use Rattle.std.specs.Prelude.{◌≡◌, ℕ, ◌+◌, ◌-◌, ◌%◌, ◌^◌, ◌<◌, ◌==◌, nat_lt, if◌then◌else◌, List, [], ◌∷◌, ◌++◌, length, map, take, slice_get, slice_index, Some, None}
 use Rattle.eel_base.specs.CodeText.{Words, IsText, address_of, word_at}
 use Rattle.elf32_sparc.specs.Notes.{range_at}
 use Rattle.eel_base.specs.declared.numbers.Addr.{Addr}

@@ -15,7 +15,7 @@ ghost use Rattle.image_code.specs.Turns.{TurnsStep};
 mod making;
 mod parts;
 
-pub use making::{PieceList, pieces};
+pub use making::{Frame, PieceList, pieces};
 
 /// The image of a word that is no transfer, or the copy of a slot's word, is one step of the original.
 pub fn plains_step()
@@ -77,7 +77,7 @@ pub fn images_simulate()
     ensures { ImagesSimulate }
 {}
 
-/// The pieces of a text whose transfers are branches promise what they should.
+/// However they are placed, the pieces of a text promise what they should.
 pub fn pieces_make_images()
     ensures { PiecesMakeImages }
 {}

@@ -1,48 +1,75 @@
-//! The pieces of a text: one pass over its words, by blocks, and one over the edges.
+//! The pieces of a text: one pass over its words, by blocks, one over the edges, and one over the landings.
 
-ghost use Rattle.std.specs.Prelude.{◌≡◌, ◌+◌, ◌*◌, ◌^◌, ◌<◌, ◌≤◌, ◌++◌, [], length, map, slice_index, All, IfOk, OnOk};
-ghost use Rattle.cfg_blocks.specs.Blocks.{below, holding_of, last_word};
+ghost use Rattle.std.specs.Prelude.{◌≡◌, ◌+◌, ◌*◌, ◌^◌, ◌<◌, ◌≤◌, ◌%◌, ◌++◌, ℕ, [], length, map, slice_index, All, IfOk, OnOk};
+ghost use Rattle.std.specs.Int.{w32, cast_unsigned};
+ghost use Rattle.cfg_blocks.specs.Blocks.{below, last_word as last_word_of};
 ghost use Rattle.eel_base.specs.CodeText.{IsText};
 ghost use Rattle.cfg_normal.specs.Graph.{IsEdgeIn, IsNodeIn, edges_of};
+ghost use Rattle.cfg_walk.specs.Matches.{last_in as last_in_of, target_along, way_address};
 ghost use Rattle.cfg_walk.specs.Numbers.{node_number as node_number_of};
-ghost use Rattle.image_code.specs.Made.{image as image_of, outside_piece, own_edges as own_edges_of, piece_at as piece_at_of, piece_list, rest_after as rest_after_of, way_along};
-ghost use Rattle.image_code.specs.Parts.{IsGraphOf, first_way_of, jump_if};
+ghost use Rattle.image_code.specs.Made.{foreign_number as foreign_number_of, goes_along, image as image_of, jump_to, landing_number, own_edges as own_edges_of, piece_list, slot_copy as slot_copy_of, way_along};
+ghost use Rattle.image_code.specs.Parts.{IsGraphOf, first_way_of, image_in, items_of, rest_of};
+ghost use Rattle.v8_decode.specs.Words.{decode_of};
 
-use crate::parts::{self, Visit, copy, edges_after, illegal, jump};
+use crate::parts::{
+    self, Next, Visit, couple, edges_after, foreign, is_transfer, out, plain, way_to,
+};
 use cfg_blocks::EdgeKind;
 use cfg_normal::{Edge, FlowGraph, Node, Slot};
-use eel_base::{BlockNo, NoMemory, PieceNo, Text, WordNo};
+use eel_base::{Addr, BlockNo, NoMemory, PieceNo, Text, WordNo};
 use layout::Piece;
 use std::alloc::Global;
+use v8_decode::{Instr, decode};
 
-/// The pieces of a text, and the one at which the program begins.
+/// What the pieces use of memory: the cells that snippets count in, and the table that leads from addresses of the
+/// original to new code.
+#[derive(Clone, Copy, Debug)]
+pub struct Frame {
+    pub cells: Addr,
+    pub table: Addr,
+}
+
+/// The pieces of a text: by words those to which the table leads, the one at which the program begins, and the one to
+/// which the table leads every address outside the text.
 #[derive(Drop)]
 pub struct PieceList {
     pub list: Vec<Piece>,
+    pub landing: Vec<PieceNo>,
     pub entry: PieceNo,
+    pub foreign: PieceNo,
 }
 
 /// Makes an image of each word, which falls through to the next word's, the way along each edge but for the landings,
-/// and an illegal word for all that lies outside. A branch decides first, and its slot is run on the way along its edge.
-/// The text has no CALL and no JMPL: their images are illegal words.
+/// a landing at each word, and the foreign piece. A transfer decides first, and its slot is run on the way along its
+/// edge.
 pub fn pieces(
     alloc: Global,
     text: &Text,
     graph: &FlowGraph,
     entry: WordNo,
+    frame: Frame,
 ) -> Result<PieceList, NoMemory>
     requires graph { IsGraphOf text.now graph.now }
     requires entry { entry.0 < length text.now.words }
-    ensures list { IfOk result (λ p. p.list.items ≡ piece_list text.now graph.now) }
+    requires table { frame.table.0 % 4096 ≡ 0 }
+    requires low { frame.table.0 < 2 ^ 31 }
+    ensures list { IfOk result (λ p. p.list.items ≡ piece_list text.now graph.now frame.table.0) }
+    ensures landing { IfOk result (λ p. map (λ (n : PieceNo). n.0) p.landing.items
+        ≡ map (landing_number text.now graph.now) (below (length text.now.words))) }
     ensures entry { IfOk result (λ p. p.entry.0 ≡ entry.0) }
+    ensures foreign { IfOk result (λ p. p.foreign.0 ≡ foreign_number_of text.now graph.now) }
 {
     let mut list = Vec::new(alloc);
     push_images(alloc, &mut list, text, graph)?;
-    push_ways(alloc, &mut list, text, graph)?;
-    list.push(illegal(alloc)?)?;
+    push_ways(alloc, &mut list, text, graph, frame)?;
+    push_landings(alloc, &mut list, text)?;
+    list.push(foreign(alloc)?)?;
+    let landing = landings(alloc, text, graph)?;
     Ok(PieceList {
         list,
+        landing,
         entry: PieceNo(entry.0),
+        foreign: foreign_number(text, graph),
     })
 }
 
@@ -54,15 +81,6 @@ fn own_edges(graph: &FlowGraph) -> &[Edge]
 {
     let edges = graph.edges();
     &edges[..edges.len() - graph.count() as usize]
-}
-
-// The piece of all that lies outside: the last one.
-fn outside(text: &Text, graph: &FlowGraph) -> PieceNo
-    requires graph { IsGraphOf text.now graph.now }
-    ensures piece { result.0 ≡ outside_piece text.now graph.now }
-    ensures small { result.0 ≤ 3 * 2 ^ 20 }
-{
-    PieceNo(text.len() + own_edges(graph).len() as u32)
 }
 
 // ---- images
@@ -77,7 +95,9 @@ fn push_images(
 ) -> Result<(), NoMemory>
     requires graph { IsGraphOf text.now graph.now }
     requires empty { list.now.items ≡ [] }
-    ensures { OnOk result (list.new.items ≡ map (image_of text.now graph.now) (below (length text.now.words))) }
+    ensures text { IsText text.now }
+    ensures images { OnOk result ((table : ℕ)
+        → list.new.items ≡ map (image_of text.now graph.now table) (below (length text.now.words))) }
 {
     let mut way = text.len();
     for block in 0..graph.count() {
@@ -88,6 +108,15 @@ fn push_images(
     Ok(())
 }
 
+// The last word of a block.
+fn last_word(graph: &FlowGraph, block: BlockNo) -> WordNo
+    requires block { block.0 < length graph.now.blocks.firsts }
+    ensures word { result.0 ≡ last_word_of graph.now.blocks.firsts graph.now.blocks.words block.0 }
+    ensures within { result.0 < graph.now.blocks.words }
+{
+    WordNo(graph.first(block).0 + graph.words(block) - 1)
+}
+
 // How many edges leave a block: two where its last word is a branch on a condition.
 fn edges_out(text: &Text, graph: &FlowGraph, block: BlockNo) -> u32
     requires graph { IsGraphOf text.now graph.now }
@@ -95,8 +124,7 @@ fn edges_out(text: &Text, graph: &FlowGraph, block: BlockNo) -> u32
     ensures count { result ≡ length (edges_of graph.now.blocks block.0) }
     ensures few { result ≤ 2 }
 {
-    let last = WordNo(graph.first(block).0 + graph.words(block) - 1);
-    edges_after(text.word(last))
+    edges_after(text.word(last_word(graph, block)))
 }
 
 // Adds the images of a block's words.
@@ -111,13 +139,14 @@ fn push_block(
     requires graph { IsGraphOf text.now graph.now }
     requires block { block.0 < length graph.now.blocks.firsts }
     requires way { way.0 ≡ first_way_of text.now graph.now block.0 }
-    requires before { list.now.items ≡ map (image_of text.now graph.now) (below (slice_index graph.now.blocks.firsts block.0)) }
-    ensures { OnOk result (list.new.items
-        ≡ map (image_of text.now graph.now) (below (last_word graph.now.blocks.firsts graph.now.blocks.words block.0 + 1))) }
+    requires before { (table : ℕ) → list.now.items
+        ≡ map (image_of text.now graph.now table) (below (slice_index graph.now.blocks.firsts block.0)) }
+    ensures { OnOk result ((table : ℕ) → list.new.items ≡ map (image_of text.now graph.now table)
+        (below (last_word_of graph.now.blocks.firsts graph.now.blocks.words block.0 + 1))) }
 {
     let first = graph.first(block).0;
     for word in first..first + graph.words(block) {
-        list.push(image(alloc, text, graph, WordNo(word), block, way)?)?;
+        list.push(image(alloc, text, WordNo(word), block, way)?)?;
     }
     Ok(())
 }
@@ -126,43 +155,32 @@ fn push_block(
 fn image(
     alloc: Global,
     text: &Text,
-    graph: &FlowGraph,
     word: WordNo,
     block: BlockNo,
     way: PieceNo,
 ) -> Result<Piece, NoMemory>
-    requires graph { IsGraphOf text.now graph.now }
     requires word { word.0 < length text.now.words }
-    requires block { block.0 ≡ holding_of graph.now.blocks word.0 }
-    requires way { way.0 ≡ first_way_of text.now graph.now block.0 }
-    ensures { IfOk result (λ p. p ≡ image_of text.now graph.now word.0) }
+    requires way { way.0 + 1 < 2 ^ 32 }
+    ensures { IfOk result (λ p. p ≡ image_in text.now word.0 block.0 way) }
 {
     let visit = Visit {
         address: text.address(word),
         node: block.0,
     };
-    parts::image(
-        alloc,
-        visit,
-        text.word(word),
-        way,
-        rest_after(text, graph, word),
-    )
+    parts::image(alloc, visit, text.word(word), way, next_after(text, word))
 }
 
-// Where control goes after a word that is no transfer: the image of the next word comes next, but the text's last word
-// has none.
-fn rest_after(text: &Text, graph: &FlowGraph, word: WordNo) -> Option<PieceNo>
-    requires graph { IsGraphOf text.now graph.now }
+// Where control goes on after a word that is no transfer: at the image of the next word, or behind the text's last one
+// out of the text.
+fn next_after(text: &Text, word: WordNo) -> Next
     requires word { word.0 < length text.now.words }
-    ensures rest { jump_if result ≡ rest_after_of text.now graph.now word.0 }
-    ensures text { IsText text.now }
+    ensures { items_of result ≡ rest_of text.now word.0 }
 {
     let words = text.len();
     if word.0 + 1 < words {
-        None
+        Next::Behind
     } else {
-        Some(outside(text, graph))
+        Next::Far(text.address(WordNo(words)))
     }
 }
 
@@ -174,54 +192,132 @@ fn push_ways(
     list: &mut Vec<Piece>,
     text: &Text,
     graph: &FlowGraph,
+    frame: Frame,
 ) -> Result<(), NoMemory>
+    requires text { IsText text.now }
     requires graph { IsGraphOf text.now graph.now }
+    requires table { frame.table.0 % 4096 ≡ 0 }
     ensures { OnOk result (list.new.items
-        ≡ list.old.items ++ map (way_along text.now graph.now) (own_edges_of graph.now)) }
+        ≡ list.old.items ++ map (way_along text.now graph.now frame.table.0) (own_edges_of graph.now)) }
 {
     for edge in own_edges(graph) {
-        list.push(way(alloc, text, graph, edge)?)?;
+        list.push(way(alloc, text, graph, frame, edge)?)?;
     }
     Ok(())
 }
 
-// The way along an edge.
-fn way(alloc: Global, text: &Text, graph: &FlowGraph, edge: &Edge) -> Result<Piece, NoMemory>
+// The way along an edge. A slot behind the text has its place where the table begins.
+fn way(
+    alloc: Global,
+    text: &Text,
+    graph: &FlowGraph,
+    frame: Frame,
+    edge: &Edge,
+) -> Result<Piece, NoMemory>
+    requires text { IsText text.now }
     requires graph { IsGraphOf text.now graph.now }
+    requires table { frame.table.0 % 4096 ≡ 0 }
     requires edge { IsEdgeIn graph.now.blocks edge.now }
-    ensures { IfOk result (λ p. p ≡ way_along text.now graph.now edge.now) }
+    ensures { IfOk result (λ p. p ≡ way_along text.now graph.now frame.table.0 edge.now) }
 {
     match (edge.kind, edge.slot) {
-        (EdgeKind::Fall, _) => Ok(Piece {
-            items: Vec::new(alloc),
-        }),
-        (_, Slot::Nothing) => jump(alloc, piece_at(text, graph, edge.to)),
-        (_, Slot::Off) => jump(alloc, outside(text, graph)),
+        (EdgeKind::Fall, _) => way_to(alloc, Next::Behind),
+        (_, Slot::Nothing) => way_to(alloc, next_along(text, graph, edge)),
+        (_, Slot::Off) => way_to(alloc, Next::Far(frame.table)),
         (_, Slot::Word(slot)) => {
             let visit = Visit {
                 address: text.address(slot),
                 node: node_number(graph, edge.from),
             };
-            copy(
-                alloc,
-                visit,
-                text.word(slot),
-                piece_at(text, graph, edge.to),
-            )
+            slot_copy(alloc, text, graph, frame, edge, visit, text.word(slot))
         }
     }
 }
 
-// The piece to which control goes at a node.
-fn piece_at(text: &Text, graph: &FlowGraph, node: Node) -> PieceNo
+// The copy of a slot's word, and what comes behind it. A transfer in a slot ends the run.
+fn slot_copy(
+    alloc: Global,
+    text: &Text,
+    graph: &FlowGraph,
+    frame: Frame,
+    edge: &Edge,
+    visit: Visit,
+    word: u32,
+) -> Result<Piece, NoMemory>
+    requires text { IsText text.now }
+    requires graph { IsGraphOf text.now graph.now }
+    requires table { frame.table.0 % 4096 ≡ 0 }
+    requires edge { IsEdgeIn graph.now.blocks edge.now }
+    ensures { IfOk result (λ p. p
+        ≡ slot_copy_of text.now graph.now frame.table.0 visit.address visit.node word edge.now) }
+{
+    if is_transfer(word) {
+        return couple(alloc, visit);
+    }
+    match edge.kind {
+        EdgeKind::Out => out(alloc, visit, word, frame.table),
+        _ => plain(alloc, visit, word, next_along(text, graph, edge)),
+    }
+}
+
+// Where control goes on along an edge.
+fn next_along(text: &Text, graph: &FlowGraph, edge: &Edge) -> Next
+    requires text { IsText text.now }
+    requires graph { IsGraphOf text.now graph.now }
+    requires edge { IsEdgeIn graph.now.blocks edge.now }
+    ensures { (table : ℕ) → items_of result ≡ goes_along text.now graph.now table edge.now }
+{
+    match edge.to {
+        Node::Block(block) => Next::Piece(PieceNo(graph.first(block).0)),
+        Node::X => Next::Far(address_along(text, graph, edge)),
+    }
+}
+
+// The address to which an edge leads, unless it is that of a JMPL.
+fn address_along(text: &Text, graph: &FlowGraph, edge: &Edge) -> Addr
+    requires text { IsText text.now }
+    requires graph { IsGraphOf text.now graph.now }
+    requires edge { IsEdgeIn graph.now.blocks edge.now }
+    ensures { result.0 ≡ way_address text.now graph.now edge.now.from edge.now.kind }
+{
+    let last = last_in(text, graph, edge.from);
+    target(text, last, edge.kind)
+}
+
+// The last word of a node's block. X has none, and word 0 stands for it.
+fn last_in(text: &Text, graph: &FlowGraph, node: Node) -> WordNo
+    requires text { IsText text.now }
     requires graph { IsGraphOf text.now graph.now }
     requires node { IsNodeIn graph.now.blocks node }
-    ensures { result.0 ≡ piece_at_of text.now graph.now node }
+    ensures word { result.0 ≡ last_in_of graph.now node }
+    ensures within { result.0 < length text.now.words }
 {
     match node {
-        Node::Block(block) => PieceNo(graph.first(block).0),
-        Node::X => outside(text, graph),
+        Node::Block(block) => last_word(graph, block),
+        Node::X => WordNo(0),
     }
+}
+
+// The address to which a word leads along an edge of a kind: that of its target, or the one behind its slot.
+fn target(text: &Text, word: WordNo, kind: EdgeKind) -> Addr
+    requires text { IsText text.now }
+    requires word { word.0 < length text.now.words }
+    ensures { result.0 ≡ target_along text.now word.0 kind (decode_of (slice_index text.now.words word.0)) }
+{
+    let address = text.address(word);
+    match (kind, decode(text.word(word))) {
+        (EdgeKind::Taken, Instr::Branch { disp22, .. }) => displaced(address, disp22),
+        (EdgeKind::Call, Instr::Call { disp30 }) => displaced(address, disp30),
+        _ => Addr(address.0 + 8),
+    }
+}
+
+// The address that lies so many words from one.
+fn displaced(address: Addr, displacement: i32) -> Addr
+    ensures { result.0 ≡ (address.0 + 4 * cast_unsigned w32 displacement) % 2 ^ 32 }
+{
+    let distance = displacement.cast_unsigned().wrapping_mul(4);
+    Addr(address.0.wrapping_add(distance))
 }
 
 // The number of a node: a block's own, and the one after the last block's for all that lies outside.
@@ -232,4 +328,47 @@ fn node_number(graph: &FlowGraph, node: Node) -> u32
         Node::Block(block) => block.0,
         Node::X => graph.count(),
     }
+}
+
+// ---- landings
+
+// Adds the landings at the words.
+fn push_landings(alloc: Global, list: &mut Vec<Piece>, text: &Text) -> Result<(), NoMemory>
+    ensures { OnOk result (list.new.items ≡ list.old.items ++ map jump_to (below (length text.now.words))) }
+{
+    for word in 0..text.len() {
+        list.push(way_to(alloc, Next::Piece(PieceNo(word)))?)?;
+    }
+    Ok(())
+}
+
+// The first landing: the words' images and the ways come before.
+fn first_landing(text: &Text, graph: &FlowGraph) -> u32
+    requires graph { IsGraphOf text.now graph.now }
+    ensures number { result ≡ length text.now.words + length (own_edges_of graph.now) }
+    ensures small { result ≤ 3 * 2 ^ 20 }
+{
+    text.len() + own_edges(graph).len() as u32
+}
+
+// The landings, by words.
+fn landings(alloc: Global, text: &Text, graph: &FlowGraph) -> Result<Vec<PieceNo>, NoMemory>
+    requires graph { IsGraphOf text.now graph.now }
+    ensures { IfOk result (λ v. map (λ (n : PieceNo). n.0) v.items
+        ≡ map (landing_number text.now graph.now) (below (length text.now.words))) }
+{
+    let first = first_landing(text, graph);
+    let mut landings = Vec::with_capacity(alloc, text.len() as usize)?;
+    for word in 0..text.len() {
+        landings.push(PieceNo(first + word))?;
+    }
+    Ok(landings)
+}
+
+// The foreign piece: the last one.
+fn foreign_number(text: &Text, graph: &FlowGraph) -> PieceNo
+    requires graph { IsGraphOf text.now graph.now }
+    ensures { result.0 ≡ foreign_number_of text.now graph.now }
+{
+    PieceNo(first_landing(text, graph) + text.len())
 }

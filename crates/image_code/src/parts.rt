@@ -1,20 +1,27 @@
 //! The forms that pieces have.
 
-ghost use Rattle.std.specs.Prelude.{◌≡◌, ◌<◌, IfOk, ◌∷◌, [], ◌+◌, ◌^◌, ◌≤◌};
+ghost use Rattle.std.specs.Prelude.{◌≡◌, ◌<◌, IfOk, OnOk, IsTrue, [], ◌++◌, ◌+◌, ◌%◌, ◌^◌, ◌≤◌, map};
+ghost use Rattle.addr_translate.specs.Translator.{translator};
 ghost use Rattle.image_code.specs.Cases.{branch_piece, plain_piece};
 ghost use Rattle.image_code.specs.Couple.{couple_piece};
-ghost use Rattle.image_code.specs.Made.{couple_word, illegal_word};
-ghost use Rattle.image_code.specs.Parts.{branch_from, branch_ways as branch_ways_of, copy_of, edges_after as edges_after_of, image_from, jump_if};
+ghost use Rattle.image_code.specs.Made.{couple_word};
+ghost use Rattle.image_code.specs.Parts.{branch_from, branch_ways as branch_ways_of, edges_after as edges_after_of, image_from, items_of};
+ghost use Rattle.jump_code.specs.FreeRegister.{free_register as free_register_of};
+ghost use Rattle.jump_code.specs.Links.{link};
+ghost use Rattle.jump_code.specs.Pieces.{call_piece, foreign_piece, jump_piece, out_piece, word_items};
 ghost use Rattle.v8_decode.specs.Words.{decode_of};
+ghost use Rattle.v8_encode.specs.Encoding.{op2_fits};
+ghost use Rattle.v8_step.specs.Items.{is_transfer as is_transfer_of};
+ghost use Rattle.layout.specs.Emitting.{words_of};
 ghost use Rattle.layout.specs.declared.items.Item.TheVariants as it;
 
 use eel_base::{Addr, NoMemory, PieceNo};
+use jump_code::{
+    call_code, far_code, foreign_code, free_register, link_code, look_up_code, target_code,
+};
 use layout::{Item, Piece};
 use std::alloc::Global;
-use v8_decode::{Cond, Instr, decode};
-
-// An instruction word that is none.
-const ILLEGAL: u32 = 0;
+use v8_decode::{Cond, Instr, Op2, Reg, decode};
 
 const NOP: u32 = 0x0100_0000;
 
@@ -44,14 +51,55 @@ impl Visit {
     }
 }
 
-/// A word in its Mark, and then a Jump if there is one.
-pub fn plain(alloc: Global, visit: Visit, word: u32, to: Option<PieceNo>) -> Result<Piece, NoMemory>
-    ensures { IfOk result (λ p. p ≡ plain_piece visit.address visit.node word (jump_if to)) }
+/// Where control goes on: to the piece that comes next, to another one, or to an address outside the text.
+#[derive(Clone, Copy)]
+pub enum Next {
+    Behind,
+    Piece(PieceNo),
+    Far(Addr),
+}
+
+// ---- items
+
+fn push_words(items: &mut Vec<Item>, words: &[u32]) -> Result<(), NoMemory>
+    ensures { OnOk result (items.new.items ≡ items.old.items ++ map it.Word words.now) }
+{
+    for word in words {
+        items.push(Item::Word(*word))?;
+    }
+    Ok(())
+}
+
+fn push_next(items: &mut Vec<Item>, next: Next) -> Result<(), NoMemory>
+    ensures { OnOk result (items.new.items ≡ items.old.items ++ items_of next) }
+{
+    match next {
+        Next::Behind => {}
+        Next::Piece(piece) => items.push(Item::Jump(piece))?,
+        Next::Far(to) => push_words(items, &far_code(to))?,
+    }
+    Ok(())
+}
+
+// The link of a JMPL; one whose rd is %g0 has none.
+fn push_link(items: &mut Vec<Item>, rd: Reg, address: Addr) -> Result<(), NoMemory>
+    ensures { OnOk result (items.new.items ≡ items.old.items ++ word_items (link rd address.0)) }
+{
+    if rd.number() == 0 {
+        return Ok(());
+    }
+    push_words(items, &link_code(rd, address))?;
+    Ok(())
+}
+
+// ---- pieces
+
+/// A word in its Mark, and then the way to where control goes on.
+pub fn plain(alloc: Global, visit: Visit, word: u32, next: Next) -> Result<Piece, NoMemory>
+    ensures { IfOk result (λ p. p ≡ plain_piece visit.address visit.node word (items_of next)) }
 {
     let mut items = vec![in alloc; visit.mark(), Item::Word(word), Item::EndMark]?;
-    if let Some(piece) = to {
-        items.push(Item::Jump(piece))?;
-    }
+    push_next(&mut items, next)?;
     Ok(Piece { items })
 }
 
@@ -68,21 +116,25 @@ pub fn couple(alloc: Global, visit: Visit) -> Result<Piece, NoMemory>
     Ok(Piece { items })
 }
 
-/// A Jump alone.
-pub fn jump(alloc: Global, to: PieceNo) -> Result<Piece, NoMemory>
-    ensures { IfOk result (λ p. p ≡ it.Jump to ∷ []) }
+/// The way to where control goes on, alone.
+pub fn way_to(alloc: Global, next: Next) -> Result<Piece, NoMemory>
+    ensures { IfOk result (λ p. p ≡ items_of next) }
 {
-    let items = vec![in alloc; Item::Jump(to)]?;
+    let mut items = Vec::new(alloc);
+    push_next(&mut items, next)?;
     Ok(Piece { items })
 }
 
-/// A word that ends the run.
-pub fn illegal(alloc: Global) -> Result<Piece, NoMemory>
-    ensures { IfOk result (λ p. p ≡ it.Word illegal_word ∷ []) }
+/// The piece to which the table leads every address outside the text.
+pub fn foreign(alloc: Global) -> Result<Piece, NoMemory>
+    ensures { IfOk result (λ p. p ≡ foreign_piece) }
 {
-    let items = vec![in alloc; Item::Word(ILLEGAL)]?;
+    let mut items = Vec::new(alloc);
+    push_words(&mut items, &foreign_code())?;
     Ok(Piece { items })
 }
+
+// ---- images
 
 // A branch that goes one way where its condition holds, and another where it doesn't.
 fn turn(
@@ -105,27 +157,61 @@ fn branch(alloc: Global, visit: Visit, cond: Cond, first: PieceNo) -> Result<Pie
     ensures { IfOk result (λ p. p ≡ branch_from visit.address visit.node cond first.0) }
 {
     match cond.number() {
-        ALWAYS | NEVER => plain(alloc, visit, NOP, Some(first)),
+        ALWAYS | NEVER => plain(alloc, visit, NOP, Next::Piece(first)),
         _ => turn(alloc, visit, cond, first, PieceNo(first.0 + 1)),
     }
 }
 
-/// The image of a word in a block whose edges have their ways from the piece `first` on. Control goes on at `rest`, or
-/// falls through.
+// A CALL: its link, and the way along its edge.
+fn call(alloc: Global, visit: Visit, way: PieceNo) -> Result<Piece, NoMemory>
+    ensures { IfOk result (λ p. p ≡ call_piece visit.address visit.node way) }
+{
+    let mut items = vec![in alloc; visit.mark()]?;
+    push_words(&mut items, &call_code(visit.address))?;
+    items.push(Item::EndMark)?;
+    items.push(Item::Jump(way))?;
+    Ok(Piece { items })
+}
+
+// A JMPL: its target, which it keeps, its link, and the way along its edge.
+fn jump(
+    alloc: Global,
+    visit: Visit,
+    rd: Reg,
+    rs1: Reg,
+    op2: Op2,
+    way: PieceNo,
+) -> Result<Piece, NoMemory>
+    requires fits { IsTrue (op2_fits op2) }
+    ensures { IfOk result (λ p. p
+        ≡ jump_piece (free_register_of rd rs1 op2) rd rs1 op2 visit.address visit.node way) }
+{
+    let through = free_register(rd, rs1, &op2);
+    let mut items = vec![in alloc; visit.mark()]?;
+    push_words(&mut items, &target_code(through, rs1, op2))?;
+    push_link(&mut items, rd, visit.address)?;
+    items.push(Item::EndMark)?;
+    items.push(Item::Jump(way))?;
+    Ok(Piece { items })
+}
+
+/// The image of a word in a block whose edges have their ways from the piece `first` on. Where it is no transfer,
+/// control goes on at `next`.
 pub fn image(
     alloc: Global,
     visit: Visit,
     word: u32,
     first: PieceNo,
-    rest: Option<PieceNo>,
+    next: Next,
 ) -> Result<Piece, NoMemory>
     requires low { first.0 + 1 < 2 ^ 32 }
-    ensures { IfOk result (λ p. p ≡ image_from visit.address visit.node word first.0 rest (decode_of word)) }
+    ensures { IfOk result (λ p. p ≡ image_from visit.address visit.node word first (items_of next) (decode_of word)) }
 {
     match decode(word) {
         Instr::Branch { cond, .. } => branch(alloc, visit, cond, first),
-        Instr::Call { .. } | Instr::Jmpl { .. } => plain(alloc, visit, ILLEGAL, None),
-        _ => plain(alloc, visit, word, rest),
+        Instr::Call { .. } => call(alloc, visit, first),
+        Instr::Jmpl { rd, rs1, op2 } => jump(alloc, visit, rd, rs1, op2, first),
+        _ => plain(alloc, visit, word, next),
     }
 }
 
@@ -150,12 +236,23 @@ fn branch_ways(cond: Cond) -> u32
     }
 }
 
-/// The copy of a slot's word, which then goes on at a piece. A transfer in a slot ends the run.
-pub fn copy(alloc: Global, visit: Visit, word: u32, to: PieceNo) -> Result<Piece, NoMemory>
-    ensures { IfOk result (λ p. p ≡ copy_of visit.address visit.node word to.0) }
+/// Whether a word is a transfer.
+pub fn is_transfer(word: u32) -> bool
+    ensures { result ≡ is_transfer_of (decode_of word) }
 {
-    match decode(word) {
-        Instr::Branch { .. } | Instr::Call { .. } | Instr::Jmpl { .. } => couple(alloc, visit),
-        _ => plain(alloc, visit, word, Some(to)),
-    }
+    matches!(
+        decode(word),
+        Instr::Branch { .. } | Instr::Call { .. } | Instr::Jmpl { .. },
+    )
+}
+
+/// The copy of a JMPL's slot, and behind it the look-up of the target.
+pub fn out(alloc: Global, visit: Visit, word: u32, table: Addr) -> Result<Piece, NoMemory>
+    requires table { table.0 % 4096 ≡ 0 }
+    ensures { IfOk result (λ p. p
+        ≡ out_piece visit.address visit.node word [] (words_of (translator table.0 1 2))) }
+{
+    let mut items = vec![in alloc; visit.mark(), Item::Word(word), Item::EndMark]?;
+    push_words(&mut items, &look_up_code(table))?;
+    Ok(Piece { items })
 }

@@ -21,7 +21,8 @@ Fit [] = Unit {0}
 Fit (x ∷ xs) = (is_in_range x ≡ true) × (has_word x ≡ true) × Fit xs
 
 -- their words stand for them
-pub words_mean : (code : List Region) (a : ℕ) (xs : List Instr) → Fit xs → HasWords code a (words_of xs) → StandIn code a xs
+pub words_mean : (code : List Region) (a : ℕ) (xs : List Instr) → Fit xs → HasWords code a (words_of xs)
+    → StandIn code a xs
 words_mean code a [] f h = tt
 words_mean code a (x ∷ xs) f h =
     let says : Says code a x = record { word = word_of x; fetched = h.0; decodes = decode_of-word_of x f.0 f.1 } in
@@ -30,7 +31,8 @@ words_mean code a (x ∷ xs) f h =
 pub decoded : (xs : List Instr) → Fit xs → map decode_of (words_of xs) ≡ xs
 decoded [] f = refl
 decoded (x ∷ xs) f =
-    ap (λ z. z ∷ map decode_of (words_of xs)) (decode_of-word_of x f.0 f.1) ∙ ap (λ (z : List Instr). x ∷ z) (decoded xs f.2)
+    ap (λ z. z ∷ map decode_of (words_of xs)) (decode_of-word_of x f.0 f.1)
+    ∙ ap (λ (z : List Instr). x ∷ z) (decoded xs f.2)
 
 pub lt : (n m : ℕ) → n < m → nat_lt n m ≡ true
 lt n m h = grind (arith, nat_tests)
@@ -65,12 +67,14 @@ pub as_many : (xs : List Instr) → length (words_of xs) ≡ length xs
 as_many [] = refl
 as_many (x ∷ xs) = ap suc (as_many xs)
 
--- what comes after the translator's SETHI
-abbrev after_sethi : ℕ → List Instr
-after_sethi base = drop 7 (look_up base)
+-- the last instructions of a look-up
+abbrev past : ℕ → ℕ → List Instr
+past n base = drop n (look_up base)
 
 pub look_up_fits : (base : ℕ) → base < 2 ^ 32 → Fit (look_up base)
 look_up_fits base short =
     let high = lt (base / 1024) (2 ^ 22) (omega arith) in
-    let more : Fit (after_sethi base) = (refl, refl, (refl, refl, (refl, refl, (refl, refl, (refl, refl, (refl, refl, (refl, refl, (refl, refl, (refl, refl, (refl, refl, (refl, refl, tt))))))))))) in
-    (refl, refl, (refl, refl, (refl, refl, (refl, refl, (refl, refl, (refl, refl, (refl, high, more)))))))
+    let last : Fit (past 14 base) = (refl, refl, (refl, refl, (refl, refl, (refl, refl, tt)))) in
+    let more : Fit (past 10 base) = (refl, refl, (refl, refl, (refl, refl, (refl, refl, last)))) in
+    let rest : Fit (past 7 base) = (refl, refl, (refl, refl, (refl, refl, more))) in
+    (refl, refl, (refl, refl, (refl, refl, (refl, refl, (refl, refl, (refl, refl, (refl, high, rest)))))))

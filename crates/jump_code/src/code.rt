@@ -4,6 +4,7 @@ ghost use Rattle.std.specs.Prelude.{◌≡◌, ◌≢◌, ◌%◌, IsTrue, map};
 ghost use Rattle.v8_decode.specs.Words.{decode_of};
 ghost use Rattle.v8_encode.specs.Encoding.{op2_fits};
 ghost use Rattle.addr_translate.specs.Translator.{Translates, translator};
+ghost use Rattle.code_runs.specs.LongJump.{long_jump};
 ghost use Rattle.layout.specs.Emitting.{words_of};
 ghost use Rattle.jump_code.specs.Jumps.{jump_target};
 ghost use Rattle.jump_code.specs.Leaving.{foreign};
@@ -11,13 +12,15 @@ ghost use Rattle.jump_code.specs.Links.{link};
 ghost use Rattle.jump_code.specs.LookUps.{look_up, look_up_first, look_up_last};
 
 use crate::registers::register;
-use crate::single::{add, add_low, high_part, jump_by_g1, keep, low_bits, take, take_past};
+use crate::single::{
+    add, add_low, high_part, jump_by_g1, jump_past_g1, keep, low_bits, take, take_past,
+};
 use addr_translate::translator_code;
 use eel_base::Addr;
 use v8_decode::{Op2, Reg};
 
-/// The first words of a JMPL: its target goes into word 1 of the editor's page, through a register that it doesn't name,
-/// and is tested.
+/// The first words of a JMPL: its target goes into word 1 of the editor's page, through a register that the JMPL
+/// doesn't name, and is tested.
 pub fn target_code(through: Reg, rs1: Reg, op2: Op2) -> [u32; 6]
     requires fits { IsTrue (op2_fits op2) }
     ensures words { result ≡ words_of (jump_target through rs1 op2) }
@@ -40,6 +43,14 @@ pub fn link_code(rd: Reg, address: Addr) -> [u32; 2]
     ensures decodes { map decode_of result ≡ link rd address.0 }
 {
     [high_part(rd, address.0), add_low(rd, address.0)]
+}
+
+/// The link of a CALL.
+pub fn call_code(address: Addr) -> [u32; 2]
+    ensures words { result ≡ words_of (link 15 address.0) }
+    ensures decodes { map decode_of result ≡ link 15 address.0 }
+{
+    link_code(register(15), address)
 }
 
 // The translator, in %g1 and %g2.
@@ -98,5 +109,18 @@ pub fn foreign_code() -> [u32; 4]
         take(register(1), 1),
         jump_by_g1(),
         take(register(1), 2),
+    ]
+}
+
+/// A long jump to an address that is known.
+pub fn far_code(to: Addr) -> [u32; 4]
+    ensures words { result ≡ words_of (long_jump to.0) }
+    ensures decodes { map decode_of result ≡ long_jump to.0 }
+{
+    [
+        keep(register(1), 0),
+        high_part(register(1), to.0),
+        jump_past_g1(to.0),
+        take(register(1), 0),
     ]
 }

@@ -14,7 +14,7 @@ mod code;
 mod registers;
 mod single;
 
-pub use code::{foreign_code, link_code, look_up_code, target_code};
+pub use code::{call_code, far_code, foreign_code, link_code, look_up_code, target_code};
 pub use registers::free_register;
 
 /// The words of a JMPL write its link and keep its target where that is aligned, and else end the run as the JMPL does.

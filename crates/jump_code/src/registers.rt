@@ -18,8 +18,8 @@ pub fn register(number: u8) -> Reg
 }
 
 // The register that the second operand names; %g0 where it names none.
-fn second_register(op2: Op2) -> u8
-    ensures value { result ≡ second_register_of op2 }
+fn second_register(op2: &Op2) -> u8
+    ensures value { result ≡ second_register_of op2.now }
     ensures range { result < 32 }
 {
     match op2 {
@@ -55,9 +55,9 @@ fn first_free(a: u8, b: u8, c: u8) -> u8
 }
 
 /// The first of %g1 to %g4 that a JMPL with these operands doesn't name.
-pub fn free_register(rd: Reg, rs1: Reg, op2: Op2) -> Reg
-    ensures value { result ≡ free_register_of rd rs1 op2 }
-    ensures apart { IsApart result rd rs1 op2 }
+pub fn free_register(rd: Reg, rs1: Reg, op2: &Op2) -> Reg
+    ensures value { result ≡ free_register_of rd rs1 op2.now }
+    ensures apart { IsApart result rd rs1 op2.now }
 {
     register(first_free(rd.number(), rs1.number(), second_register(op2)))
 }

@@ -139,3 +139,15 @@ pub fn jump_by_g1() -> u32
         op2: Op2::Imm(0),
     })
 }
+
+/// A jump to the low part of an address past where %g1 says.
+pub fn jump_past_g1(address: u32) -> u32
+    ensures word { result ≡ word_in (i.Jmpl 0 1 (o.Imm (pos (address % 1024)))) }
+    ensures decodes { decode_of result ≡ i.Jmpl 0 1 (o.Imm (pos (address % 1024))) }
+{
+    word_of(Instr::Jmpl {
+        rd: register(0),
+        rs1: register(1),
+        op2: Op2::Imm((address % 1024) as i32),
+    })
+}

@@ -6,13 +6,12 @@ use Rattle.edit_core.specs.declared.taking.EditFault.{EditFault}
 use Rattle.edit_core.specs.declared.taking.EditFault.TheVariants as faults
 use Rattle.edit_core.specs.Taken.{CanEdit, EditRefuses}
 use Rattle.edit_core.specs.Faithful.{IsFaithful}
-use Rattle.eel.specs.Outcome.{Outcome, BadFile, NotBuilt, NoRoom, OutOfMemory}
+use Rattle.eel.specs.Outcome.{Outcome, BadFile, NoRoom, OutOfMemory}
 use Rattle.eel.specs.Answers.Shared.{Store, Meaning, WasRead, IsUnread, IsPut, IsUnused, IsQuiet, edit_limit}
 
 -- what a refused edit of a file comes to
 abbrev pub refusal_of : List ℕ → EditFault → Outcome
 refusal_of name (faults.File first) = BadFile name (code_of first)
-refusal_of name (faults.NotBuilt address) = NotBuilt name address.0
 refusal_of name (faults.Room needed had) = NoRoom name needed had
 refusal_of name faults.NoMemory = OutOfMemory
 

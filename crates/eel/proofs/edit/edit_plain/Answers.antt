@@ -5,8 +5,7 @@ use Rattle.eel.proofs.edit.edit_plain.Goals as goal
 pub returns-in-Ok-edit_bytes-clause-edits : goal.returns-in-Ok-edit_bytes-clause-edits
 returns-in-Ok-edit_bytes-clause-edits g c =
     put c.in-Ok.bytes.items c.in-Ok.ensures.read
-    (rw c.deref.ensures.value at c.in-Ok-edit_bytes.ensures.taken)
-    c.in-Ok-edit_bytes.written.items
+    (rw c.deref.ensures.value at c.in-Ok-edit_bytes.ensures.taken) _
     (rw c.deref.ensures.value at c.in-Ok-edit_bytes.ensures.faithful)
     (put-later _ _ _ _ _ _ _ _ c.fetch_file.ensures.kept c.fetch_file.ensures.later
     (rw c.deref-in-Ok-edit_bytes.ensures.value at c.put_file.ensures.put))

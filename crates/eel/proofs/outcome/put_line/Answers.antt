@@ -25,12 +25,6 @@ returns-in-BadFile-clause-all g c = rw c.in-BadFile.is (simp append_assoc (rw (c
 pub returns-in-BadFile-clause-part : goal.returns-in-BadFile-clause-part
 returns-in-BadFile-clause-part g c = rw c.in-BadFile.is (simp append_assoc (rw (c.as_bytes.ensures.value, c.as_bytes-code.ensures.value, c.format.ensures.text) at c.put_pieces-in-BadFile.ensures.part))
 
-pub returns-in-NotBuilt-clause-all : goal.returns-in-NotBuilt-clause-all
-returns-in-NotBuilt-clause-all g c = rw c.in-NotBuilt.is (simp append_assoc (rw (c.as_bytes-in-NotBuilt.ensures.value, c.hex8-digits.ensures) at c.put_pieces-in-NotBuilt.ensures.all))
-
-pub returns-in-NotBuilt-clause-part : goal.returns-in-NotBuilt-clause-part
-returns-in-NotBuilt-clause-part g c = rw c.in-NotBuilt.is (simp append_assoc (rw (c.as_bytes-in-NotBuilt.ensures.value, c.hex8-digits.ensures) at c.put_pieces-in-NotBuilt.ensures.part))
-
 pub returns-in-TooLong-clause-all : goal.returns-in-TooLong-clause-all
 returns-in-TooLong-clause-all g c = rw c.in-TooLong.is (simp append_assoc (rw (c.as_bytes-in-TooLong.ensures.value, c.as_bytes-limit.ensures.value, c.format-in-TooLong.ensures.text) at c.put_pieces-in-TooLong.ensures.all))
 

@@ -1,15 +1,21 @@
-use Rattle.std.proofs.Common.{List, [], ◌∷◌, ◌++◌, map, ap, ◌∙◌}
+use Rattle.std.proofs.Common.{List, [], ◌∷◌, ◌++◌, length, map, ap, ◌∙◌}
+use Rattle.cfg_blocks.specs.Blocks.{below}
 use Rattle.layout.specs.declared.items.Item.{Item}
-use Rattle.layout.specs.declared.items.Item.TheVariants as it
-use Rattle.image_code.specs.Made.{illegal_word, own_edges, piece_list, way_along}
+use Rattle.jump_code.specs.Pieces.{foreign_piece}
+use Rattle.image_code.specs.Made.{jump_to, own_edges, piece_list, way_along}
 use Rattle.image_code.proofs.making.pieces.Goals as goal
 
 pub returns-clause-list : goal.returns-clause-list
 unfolding piece_list
 returns-clause-list c =
+    let text = c.args.text.now in
+    let graph = c.args.graph.now in
+    let table = c.args.frame.table.0 in
     c.in_ok-push.ensures.items
-    ∙ ap (λ (items : List Item). c.push_ways.new.list.items ++ items ∷ []) c.in_ok-illegal.ensures
-    ∙ ap (λ (pieces : List (List Item)). pieces ++ (it.Word illegal_word ∷ []) ∷ [])
+    ∙ ap (λ (items : List Item). c.push_landings.new.list.items ++ items ∷ []) c.in_ok-foreign.ensures
+    ∙ ap (λ (pieces : List (List Item)). pieces ++ foreign_piece ∷ [])
+    (c.in_ok-push_landings.ensures
+    ∙ ap (λ (pieces : List (List Item)). pieces ++ map jump_to (below (length text.words)))
     (c.in_ok-push_ways.ensures
-    ∙ ap (λ (pieces : List (List Item)). pieces ++ map (way_along c.args.text.now c.args.graph.now)
-    (own_edges c.args.graph.now)) c.in_ok-push_images.ensures)
+    ∙ ap (λ (pieces : List (List Item)). pieces ++ map (way_along text graph table) (own_edges graph))
+    (c.in_ok-push_images.ensures.images table)))

@@ -11,6 +11,7 @@ own_edges-edge-items-requires c = landings_within c.args.text.now c.args.graph.n
 pub returns : goal.returns
 returns c =
     c.loop-edge.invariant
-    ∙ ap (λ (edges : List Edge). c.args.list.now.items ++ map (way_along c.args.text.now c.args.graph.now) edges)
+    ∙ ap (λ (edges : List Edge). c.args.list.now.items ++ map (way_along c.args.text.now c.args.graph.now
+    c.args.frame.table.0) edges)
     (take_all c.loop-edge.edge-index c.own_edges-edge-items.result.now c.loop-edge-test.false
     ∙ c.own_edges-edge-items.ensures.edges)

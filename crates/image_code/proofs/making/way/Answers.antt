@@ -1,6 +1,7 @@
 use Rattle.std.proofs.Common.{arith, ◌<◌, length, subst}
 use Rattle.cfg_normal.specs.declared.Slot.{Slot}
 use Rattle.cfg_normal.specs.Graph.{IsSlotIn}
+use Rattle.image_code.proofs.Along.{bare_way}
 use Rattle.image_code.proofs.Numbers.{words_are}
 use Rattle.image_code.proofs.making.way.Goals as goal
 
@@ -15,3 +16,8 @@ address-requires c = omega (arith, inside c)
 
 pub word-requires : goal.word-requires
 word-requires c = inside c.before.before.before
+
+pub returns-in_default-Nothing : goal.returns-in_default-Nothing
+returns-in_default-Nothing c =
+    bare_way c.args.text.now c.args.graph.now c.args.frame.table.0 c.args.edge.now _ _ c.next_along.ensures
+    c.in_default-Nothing.is-1 c.in_default-Nothing.not-Fall-0 search

@@ -1,7 +1,7 @@
 use Rattle.std.proofs.Common.{◌≤◌, ◌*◌, ◌≡◌, length, ap, arith}
 use Rattle.image_code.specs.Made.{own_edges}
 use Rattle.image_code.proofs.Numbers.{landings_within, own_few}
-use Rattle.image_code.proofs.making.outside.Goals as goal
+use Rattle.image_code.proofs.making.first_landing.Goals as goal
 
 few : (c : goal.After-own_edges) → length c.own_edges.result.now ≤ 2 * length c.args.text.now.words
 few c =

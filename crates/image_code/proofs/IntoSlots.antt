@@ -1,0 +1,94 @@
+-- A transfer at a word goes into its slot, where the way of its edge leads.
+use Rattle.std.proofs.Common.{◌≡◌, ◌≢◌, ℕ, ◌+◌, ◌-◌, ◌%◌, ◌^◌, ◌<◌, false, Option, Some, None, List, ap, sym, ◌∙◌, subst, arith}
+use Rattle.std.specs.Prelude.{slice_index}
+use Rattle.std.specs.Option.{option_map}
+use Rattle.std.proofs.lemmas.Bool.{false≢true}
+use Rattle.eel_base.specs.CodeText.{IsText, word_at}
+use Rattle.v8_decode.specs.declared.Instr.{Instr}
+use Rattle.v8_decode.specs.Words.{decode_of}
+use Rattle.v8_step.specs.declared.Slot.{Slot}
+use Rattle.v8_step.specs.declared.Slot.TheVariants.{NoSlot, Taken, Untaken}
+use Rattle.v8_step.specs.State.{State}
+use Rattle.cfg_blocks.specs.declared.EdgeKind.{EdgeKind}
+use Rattle.cfg_blocks.specs.declared.EdgeKind.TheVariants as kinds
+use Rattle.cfg_blocks.specs.Blocks.{Blocks, blocks_of}
+use Rattle.cfg_blocks.proofs.Targets.{word_at-some}
+use Rattle.cfg_normal.specs.declared.Node.{Node}
+use Rattle.cfg_normal.specs.Graph.{node_of}
+use Rattle.cfg_walk.specs.Walk.{Point, instr_at, node_after, point_of, same_kind, way_of}
+use Rattle.cfg_walk.specs.Matches.{MatchesBy}
+use Rattle.cfg_walk.proofs.Points.{Stands, StepsTo}
+use Rattle.addr_translate.specs.Lookup.{IsTable}
+use Rattle.layout.specs.Laid.{Placement}
+use Rattle.image_code.specs.Simulates.{Setting, gone_at, graph_in}
+use Rattle.image_code.specs.Images.{Frame, visited_at}
+use Rattle.image_code.specs.Cases.{LeadsTo}
+use Rattle.image_code.specs.Turns.{IsNoJumpsSlot}
+use Rattle.image_code.specs.Made.{way_out}
+use Rattle.image_code.proofs.EdgePieces.{cut_in}
+use Rattle.image_code.proofs.Visited.{enters, l, nothing_gone, on_its_way}
+
+module _ (g : Setting) (is : IsText g.text) (p : Placement) (f : Frame) (whole : IsTable f.table)
+    (node : Node) (x : Point) (word : ℕ) (at : word_at g.text x.pc ≡ Some word) (none : x.slot ≡ NoSlot)
+    (held : node ≡ node_of (blocks_of g.text g.given) (word_at g.text x.pc)) (npc : x.npc ≡ (x.pc + 4) % 2 ^ 32)
+    (instr : Instr) (says : decode_of (slice_index g.text.words word) ≡ instr) where
+  abbrev b : Blocks
+  b = blocks_of g.text g.given
+
+  pub stands : Stands g.text b node x word instr
+  stands = record {
+    text_is = is;
+    cut = cut_in g is f.table.base;
+    is = word_at-some g.text x.pc word at;
+    npc = npc;
+    decodes = says;
+    held = held;
+  }
+
+  address_low : x.pc + 4 < 2 ^ 32
+  address_low =
+      let w = word_at-some g.text x.pc word at in
+      let l = w.within in
+      let i = w.is in
+      let h = is.below in
+      omega arith
+
+  before : (v : State) → v.pc ≡ x.npc → instr_at g.text (v.pc - 4) ≡ Some instr
+  before v pc =
+      let back : v.pc - 4 ≡ x.pc = (let low = address_low in omega arith) in
+      ap (instr_at g.text) back ∙ ap (option_map (λ w. decode_of (slice_index g.text.words w))) at
+      ∙ ap (λ z. Some z) says
+
+  -- the way of the edge leads to the slot
+  abbrev pub LeadsThere : EdgeKind → State → Type 0
+  LeadsThere kind v =
+      LeadsTo (l g is p f) p (record { 0 = way_out g.text (graph_in g) node kind })
+      (visited_at g (l g is p f) p f (node_after (graph_in g) node (gone_at g node x v)) (point_of v))
+
+  in_slot : (v : State) → v.ending ≡ None → v.pc ≡ x.npc → (now : Slot) → v.slot ≡ now → now ≢ NoSlot
+      → MatchesBy g.text (graph_in g) node (point_of v) now → LeadsThere (way_of (Some instr) now) v
+  in_slot v live pc now slot some m =
+      let not : v.slot ≢ NoSlot = λ n. some (sym slot ∙ n) in
+      subst (λ (edges : List ℕ). LeadsTo (l g is p f) p
+      (record { 0 = way_out g.text (graph_in g) node (way_of (Some instr) now) })
+      (visited_at g (l g is p f) p f (node_after (graph_in g) node edges) (point_of v)))
+      (sym (nothing_gone g is p f node x v none not live))
+      (enters g is p f whole node (point_of v) not (on_its_way g is p f node (point_of v) now slot some m)
+      (way_of (Some instr) now)
+      (ap (λ (o : Option Instr). way_of o v.slot) (before v pc) ∙ ap (way_of (Some instr)) slot))
+
+  pub entered : (v : State) → v.ending ≡ None → v.pc ≡ x.npc → v.slot ≡ Taken
+      → StepsTo g.text (graph_in g) node x (point_of v) NoSlot Taken → LeadsThere (way_of (Some instr) Taken) v
+  entered v live pc slot m = in_slot v live pc Taken slot (λ n. absurd (cc)) m
+
+  pub entered_untaken : (v : State) → v.ending ≡ None → v.pc ≡ x.npc → v.slot ≡ Untaken
+      → StepsTo g.text (graph_in g) node x (point_of v) NoSlot Untaken → LeadsThere (way_of (Some instr) Untaken) v
+  entered_untaken v live pc slot m = in_slot v live pc Untaken slot (λ n. absurd (cc)) m
+
+  -- it is no JMPL's
+  pub no_jump : (v : State) → (v.slot ≡ Taken → v.pc ≡ x.npc) → same_kind (way_of (Some instr) Taken) kinds.Out ≡ false
+      → IsNoJumpsSlot g v
+  no_jump v pc other slot out =
+      let same : way_of (instr_at g.text (v.pc - 4)) v.slot ≡ way_of (Some instr) Taken =
+      ap (λ (o : Option Instr). way_of o v.slot) (before v (pc slot)) ∙ ap (way_of (Some instr)) slot in
+      absurd (false≢true (sym other ∙ ap (λ (k : EdgeKind). same_kind k kinds.Out) (sym same) ∙ out))

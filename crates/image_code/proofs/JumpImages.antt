@@ -1,0 +1,157 @@
+-- The images of CALL and JMPL: the way of the edge leads into the slot.
+use Rattle.std.proofs.Common.{◌≡◌, ℕ, ◌+◌, ◌%◌, ◌^◌, ◌<◌, Some, None, refl, ap, sym, ◌∙◌, arith}
+use Rattle.std.specs.Prelude.{if◌then◌else◌, slice_get, slice_index, ◌==◌, ℤ}
+use Rattle.std.proofs.lemmas.Bool.{cond_both}
+use Rattle.eel_base.specs.CodeText.{IsText, address_of, word_at}
+use Rattle.eel_base.specs.declared.numbers.Addr.{Addr}
+use Rattle.v8_decode.specs.declared.Op2.{Op2}
+use Rattle.v8_decode.specs.declared.Instr.TheVariants as i
+use Rattle.v8_decode.specs.Words.{decode_of}
+use Rattle.v8_step.specs.declared.Slot.{Slot}
+use Rattle.v8_step.specs.declared.Slot.TheVariants.{NoSlot, Taken}
+use Rattle.v8_step.specs.State.{State, sum_of, with_register}
+use Rattle.v8_step.specs.Traps.{mem_address_not_aligned}
+use Rattle.v8_step.specs.Transfers.{call_step, delayed, jump_step, target_of, trapped, unless_couple}
+use Rattle.v8_step.specs.Step.{act, on_word}
+use Rattle.cfg_blocks.specs.declared.EdgeKind.TheVariants as kinds
+use Rattle.cfg_blocks.specs.Blocks.{blocks_of}
+use Rattle.cfg_blocks.proofs.Targets.{word_at-some}
+use Rattle.cfg_normal.specs.declared.Node.{Node}
+use Rattle.cfg_normal.specs.Graph.{node_of}
+use Rattle.cfg_walk.specs.Walk.{Point, point_of}
+use Rattle.cfg_walk.proofs.Transfers.{call_delayed, jump_delayed}
+use Rattle.addr_translate.specs.Lookup.{IsTable}
+use Rattle.jump_code.specs.FreeRegister.{free_register}
+use Rattle.jump_code.specs.Pieces.{call_piece, jump_piece}
+use Rattle.layout.specs.Laid.{Placement}
+use Rattle.image_code.specs.Simulates.{Setting, at_point, does_at, graph_in, number_in}
+use Rattle.image_code.specs.Images.{Frame}
+use Rattle.image_code.specs.Calls.{IsCall, IsJump}
+use Rattle.image_code.specs.Made.{way_out}
+use Rattle.image_code.proofs.Cases.{get_below}
+use Rattle.image_code.proofs.IntoSlots.{LeadsThere, entered, no_jump, stands}
+use Rattle.image_code.proofs.JumpWords.{jmpl_is}
+use Rattle.image_code.proofs.Visited.{image_items, l, visited_word, word_is}
+
+module _ (g : Setting) (is : IsText g.text) (p : Placement) (f : Frame) (whole : IsTable f.table)
+    (node : Node) (x : Point) (word : ℕ) (at : word_at g.text x.pc ≡ Some word) (none : x.slot ≡ NoSlot)
+    (held : node ≡ node_of (blocks_of g.text g.given) (word_at g.text x.pc)) (npc : x.npc ≡ (x.pc + 4) % 2 ^ 32)
+    (t : State) where
+  abbrev address : Addr
+  address = record { 0 = address_of g.text word }
+
+  low : x.pc < 2 ^ 32
+  low =
+      let w = word_at-some g.text x.pc word at in
+      let l = w.within in
+      let i = w.is in
+      let h = is.below in
+      omega arith
+
+  -- ---- a CALL
+
+  module _ (disp : ℤ) (says : decode_of (slice_index g.text.words word) ≡ i.Call disp) where
+    call_acts : does_at g x t ≡ delayed (with_register (at_point x t) 15 x.pc) (target_of (at_point x t) disp)
+    unfolding act call_step
+    call_acts =
+        ap (on_word (at_point x t)) (word_is g is p f x word at) ∙ ap (act (at_point x t)) says
+        ∙ ap (λ (z : Slot). unless_couple z (at_point x t)
+        (delayed (with_register (at_point x t) 15 x.pc) (target_of (at_point x t) disp))) none
+
+    call_items : slice_get (l g is p f).list word ≡ Some (call_piece address (number_in g node)
+        (record { 0 = way_out g.text (graph_in g) node kinds.Call }))
+    call_items = image_items g is p f node x word at held (i.Call disp) says
+
+    call_leads : t.ending ≡ None → (v : State)
+        → v ≡ delayed (with_register (at_point x t) 15 x.pc) (target_of (at_point x t) disp)
+        → LeadsThere g is p f whole node x word at none held npc (i.Call disp) says kinds.Call v
+    call_leads live v e =
+        entered g is p f whole node x word at none held npc (i.Call disp) says v
+        (ap (λ (z : State). z.ending) e ∙ live) (ap (λ (z : State). z.pc) e) (ap (λ (z : State). z.slot) e)
+        (call_delayed disp (point_of v) (stands g is p f whole node x word at none held npc (i.Call disp) says)
+        (ap (λ (z : State). z.pc) e) (ap (λ (z : State). z.npc) e))
+
+    pub call_is : t.ending ≡ None → IsCall g (l g is p f) p f node x t
+    call_is live = record {
+      none = none;
+      piece = word;
+      within = get_below (l g is p f).list word _ call_items;
+      here = visited_word g is p f node x word at none;
+      address = address;
+      original = sym (word_at-some g.text x.pc word at).is;
+      low = low;
+      word = slice_index g.text.words word;
+      is_word = word_is g is p f x word at;
+      disp = disp;
+      says = says;
+      way = record { 0 = way_out g.text (graph_in g) node kinds.Call };
+      items = call_items;
+      leads = call_leads live (does_at g x t) call_acts;
+      never = no_jump g is p f whole node x word at none held npc (i.Call disp) says (does_at g x t)
+          (λ _. ap (λ (z : State). z.pc) call_acts) refl;
+    }
+
+  -- ---- a JMPL
+
+  module _ (rd rs1 : ℕ) (op2 : Op2) (says : decode_of (slice_index g.text.words word) ≡ i.Jmpl rd rs1 op2) where
+    abbrev target : ℕ
+    target = sum_of (at_point x t) rs1 op2
+
+    abbrev jumped : State
+    jumped =
+        if target % 4 == 0 then delayed (with_register (at_point x t) rd x.pc) target
+        else trapped (at_point x t) mem_address_not_aligned
+
+    jump_acts : does_at g x t ≡ jumped
+    unfolding act jump_step
+    jump_acts =
+        ap (on_word (at_point x t)) (word_is g is p f x word at) ∙ ap (act (at_point x t)) says
+        ∙ ap (λ (z : Slot). unless_couple z (at_point x t) jumped) none
+
+    jump_items : slice_get (l g is p f).list word
+        ≡ Some (jump_piece (free_register rd rs1 op2) rd rs1 op2 address (number_in g node)
+        (record { 0 = way_out g.text (graph_in g) node kinds.Out }))
+    jump_items = image_items g is p f node x word at held (i.Jmpl rd rs1 op2) says
+
+    goes : (v : State) → v ≡ jumped → v.ending ≡ None → (v.pc ≡ x.npc) × (v.slot ≡ Taken)
+    goes v e live =
+        let w = cond_both (target % 4 == 0) (delayed (with_register (at_point x t) rd x.pc) target)
+        (trapped (at_point x t) mem_address_not_aligned)
+        (λ (z : State). z.ending ≡ None → (z.pc ≡ x.npc) × (z.slot ≡ Taken)) (λ _ _. (refl, refl)) (λ _ h. absurd (cc))
+        (ap (λ (z : State). z.ending) (sym e) ∙ live) in
+        (ap (λ (z : State). z.pc) e ∙ w.0, ap (λ (z : State). z.slot) e ∙ w.1)
+
+    jump_leads : (v : State) → v ≡ jumped → v.ending ≡ None
+        → LeadsThere g is p f whole node x word at none held npc (i.Jmpl rd rs1 op2) says kinds.Out v
+    jump_leads v e live =
+        let w = goes v e live in
+        entered g is p f whole node x word at none held npc (i.Jmpl rd rs1 op2) says v live w.0 w.1
+        (jump_delayed rd rs1 op2 (point_of v)
+        (stands g is p f whole node x word at none held npc (i.Jmpl rd rs1 op2) says) w.0 w.1)
+
+    pub jump_is : IsJump g (l g is p f) p f node x t
+    jump_is =
+        let k = jmpl_is (slice_index g.text.words word) rd rs1 op2 says in
+        record {
+          none = none;
+          next = npc;
+          piece = word;
+          within = get_below (l g is p f).list word _ jump_items;
+          here = visited_word g is p f node x word at none;
+          address = address;
+          original = sym (word_at-some g.text x.pc word at).is;
+          low = low;
+          word = slice_index g.text.words word;
+          is_word = word_is g is p f x word at;
+          rd = rd;
+          rs1 = rs1;
+          op2 = op2;
+          says = says;
+          scratch = free_register rd rs1 op2;
+          apart = k.apart;
+          fits = k.fits;
+          in_range = k.in_range;
+          way = record { 0 = way_out g.text (graph_in g) node kinds.Out };
+          items = jump_items;
+          leads = jump_leads (does_at g x t) jump_acts;
+        }

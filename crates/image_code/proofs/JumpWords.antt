@@ -1,0 +1,91 @@
+-- What is known of the words that are JMPLs, and the register that one doesn't name.
+use Rattle.std.proofs.Common.{◌≡◌, ◌≢◌, ℕ, ◌<◌, Bool, true, false, not, ◌||◌, ◌==◌, nat_lt, refl, sym, arith}
+use Rattle.std.proofs.lemmas.Bool.{and_parts, cond_both, eqb-false, ltb-true}
+use Rattle.std.proofs.lemmas.Bool.Decides.{nat_tests}
+use Rattle.v8_decode.specs.declared.Op2.{Op2}
+use Rattle.v8_decode.specs.declared.Op2.TheVariants.{Reg, Imm}
+use Rattle.v8_decode.specs.declared.Instr.TheVariants as i
+use Rattle.v8_decode.specs.Ranges.{op2_in_range, operands_in_range}
+use Rattle.v8_decode.specs.Words.{decode_of}
+use Rattle.v8_decode.proofs.Rows.{decoded_range}
+use Rattle.v8_encode.specs.Encoding.{op2_fits}
+use Rattle.jump_code.specs.FreeRegister.{first_free, free_register, is_one_of, second_register}
+use Rattle.jump_code.specs.Jumps.{IsApart, IsNotIn}
+use Rattle.image_code.proofs.Operands.{operand_fits}
+
+-- ---- the first register that is free
+
+record IsFree (number a b c : ℕ) : Type 0 where
+  pub some : 0 < number
+  pub few : number < 5
+  pub first : a ≢ number
+  pub second : b ≢ number
+  pub third : c ≢ number
+
+none_of : (p q r : Bool) → (not (p || q || r)) ≡ true → (p ≡ false) × (q ≡ false) × (r ≡ false)
+none_of false false false e = (refl, refl, refl)
+none_of true q r e = absurd (cc)
+none_of false true r e = absurd (cc)
+none_of false false true e = absurd (cc)
+
+free_if : (number a b c : ℕ) → 0 < number → number < 5 → not (is_one_of number a b c) ≡ true → IsFree number a b c
+free_if number a b c some few e =
+    let n = none_of (a == number) (b == number) (c == number) e in
+    record {
+      some = some;
+      few = few;
+      first = eqb-false a number n.0;
+      second = eqb-false b number n.1;
+      third = eqb-false c number n.2;
+    }
+
+-- where 1 to 3 are all named, 4 isn't
+fourth : (a b c : ℕ) → not (is_one_of 1 a b c) ≡ false → not (is_one_of 2 a b c) ≡ false
+    → not (is_one_of 3 a b c) ≡ false → IsFree 4 a b c
+fourth a b c one two three = record {
+  some = omega arith;
+  few = omega arith;
+  first = λ e. grind (e, one, two, three, arith, nat_tests);
+  second = λ e. grind (e, one, two, three, arith, nat_tests);
+  third = λ e. grind (e, one, two, three, arith, nat_tests);
+}
+
+first_is_free : (a b c : ℕ) → IsFree (first_free a b c) a b c
+first_is_free a b c =
+    cond_both (not (is_one_of 1 a b c)) _ _ (λ (n : ℕ). IsFree n a b c) (free_if 1 a b c (omega arith) (omega arith))
+    (λ one. cond_both (not (is_one_of 2 a b c)) _ _ (λ (n : ℕ). IsFree n a b c)
+    (free_if 2 a b c (omega arith) (omega arith))
+    (λ two. cond_both (not (is_one_of 3 a b c)) _ _ (λ (n : ℕ). IsFree n a b c)
+    (free_if 3 a b c (omega arith) (omega arith)) (λ three. fourth a b c one two three)))
+
+-- ---- a JMPL that a word is
+
+pub record IsJmpl (rd rs1 : ℕ) (op2 : Op2) : Type 0 where
+  pub apart : IsApart (free_register rd rs1 op2) rd rs1 op2
+  pub fits : op2_fits op2 ≡ true
+  pub in_range : op2_in_range op2 ≡ true
+
+not_in : (number : ℕ) (op2 : Op2) → op2_in_range op2 ≡ true → second_register op2 ≢ number → IsNotIn number op2
+not_in number (Reg r) range other = (ltb-true r 32 range, other)
+not_in number (Imm n) range other = tt
+
+pub jmpl_is : (word rd rs1 : ℕ) (op2 : Op2) → decode_of word ≡ i.Jmpl rd rs1 op2 → IsJmpl rd rs1 op2
+jmpl_is word rd rs1 op2 says =
+    let parts = and_parts (nat_lt rd 32) (operands_in_range rs1 op2)
+    (decoded_range (i.Jmpl rd rs1 op2) word (sym says)) in
+    let more = and_parts (nat_lt rs1 32) (op2_in_range op2) parts.1 in
+    let free = first_is_free rd rs1 (second_register op2) in
+    let few = free.few in
+    record {
+      apart = record {
+        some = free.some;
+        below = omega arith;
+        rd_below = ltb-true rd 32 parts.0;
+        rs1_below = ltb-true rs1 32 more.0;
+        rd_not = free.first;
+        rs1_not = free.second;
+        op2_not = not_in (free_register rd rs1 op2) op2 more.1 free.third;
+      };
+      fits = operand_fits word rd rs1 op2 says;
+      in_range = more.1;
+    }

@@ -1,0 +1,65 @@
+-- The second operand of a JMPL that a word is has a word.
+use Rattle.std.proofs.Common.{◌≡◌, ℕ, ◌%◌, Bool, true, false, ◌==◌, [], ◌∷◌, refl, ap, sym, ◌∙◌}
+use Rattle.std.specs.Prelude.{if◌then◌else◌}
+use Rattle.std.proofs.lemmas.Bool.{cond_both}
+use Rattle.v8_decode.specs.declared.Op2.{Op2}
+use Rattle.v8_decode.specs.declared.Instr.{Instr}
+use Rattle.v8_decode.specs.declared.Instr.TheVariants as i
+use Rattle.v8_decode.specs.declared.LoadKind.TheVariants as loads
+use Rattle.v8_decode.specs.declared.StoreKind.TheVariants as stores
+use Rattle.v8_decode.specs.Words.{field, rd_of, op3_of, rs1_of, op2_of, op2_rows, arithmetic_rows, memory_rows, branch_or_sethi, arithmetic, memory, call, load, store, read_state, write_state, even_rd, decode_of}
+use Rattle.v8_decode.proofs.Rows.{Each, row_by_row}
+use Rattle.v8_encode.specs.Encoding.{op2_fits}
+use Rattle.v8_encode.proofs.Fields.{op2_fits-op2_of}
+
+abbrev jump_fits : Instr → Bool
+jump_fits (i.Jmpl rd rs1 op2) = op2_fits op2
+jump_fits _ = true
+
+abbrev Fits : Instr → Type 0
+Fits instr = jump_fits instr ≡ true
+
+read_state_fits : (w : ℕ) → Fits (read_state w)
+read_state_fits w = go (rs1_of w == 0) (rs1_of w == 15) (rd_of w == 0)
+  where
+    go : (a b c : Bool)
+        → Fits (if a then i.ReadY (rd_of w) else (if b then (if c then i.Stbar else i.Illegal) else i.Illegal))
+    go true b c = refl
+    go false true true = refl
+    go false true false = refl
+    go false false c = refl
+
+write_state_fits : (w : ℕ) → Fits (write_state w)
+write_state_fits w = go (rd_of w == 0)
+  where
+    go : (b : Bool) → Fits (if b then i.WriteY (rs1_of w) (op2_of w) else i.Illegal)
+    go true = refl
+    go false = refl
+
+even_fits : (of : ℕ → Instr) (w : ℕ) → Fits (of w) → Fits (even_rd of w)
+even_fits of w h = cond_both (rd_of w % 2 == 0) (of w) i.Illegal Fits (λ _. h) (λ _. refl)
+
+arithmetic_fits : (w : ℕ) → Fits (arithmetic w)
+unfolding arithmetic Each
+arithmetic_fits w =
+    row_by_row Fits (op3_of w) w arithmetic_rows refl (search (read_state_fits, write_state_fits, op2_fits-op2_of))
+
+memory_fits : (w : ℕ) → Fits (memory w)
+unfolding memory Each
+memory_fits w =
+    row_by_row Fits (op3_of w) w memory_rows refl
+    (search (even_fits (load loads.LDD) w refl, even_fits (store stores.STD) w refl))
+
+format2_fits : (w : ℕ) → Fits (branch_or_sethi w)
+unfolding branch_or_sethi Each
+format2_fits w =
+    row_by_row Fits (field w 22 3) w op2_rows refl ((λ _. refl), ((λ _. refl), ((λ _. refl), ((λ _. refl), tt))))
+
+decoded_fits : (w : ℕ) → Fits (decode_of w)
+unfolding decode_of Each
+decoded_fits w =
+    row_by_row Fits (field w 30 2) w ((0, branch_or_sethi) ∷ (1, call) ∷ (2, arithmetic) ∷ (3, memory) ∷ []) refl
+    ((λ _. format2_fits w), ((λ _. refl), ((λ _. arithmetic_fits w), ((λ _. memory_fits w), tt))))
+
+pub operand_fits : (w rd rs1 : ℕ) (op2 : Op2) → decode_of w ≡ i.Jmpl rd rs1 op2 → op2_fits op2 ≡ true
+operand_fits w rd rs1 op2 says = ap jump_fits (sym says) ∙ decoded_fits w

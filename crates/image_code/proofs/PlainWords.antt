@@ -1,0 +1,139 @@
+-- The image of a word that is no transfer goes on to the next word's image, or at the text's end out of the text.
+use Rattle.std.proofs.Common.{◌≡◌, ℕ, suc, ◌+◌, ◌-◌, ◌%◌, ◌^◌, ◌<◌, ◌≤◌, inl, inr, Bool, true, false, Option, Some, None, List, [], drop, length, refl, ap, sym, ◌∙◌, subst, arith}
+use Rattle.std.specs.Prelude.{if◌then◌else◌, nat_lt, slice_get, slice_index}
+use Rattle.std.specs.Option.{option_map}
+use Rattle.std.proofs.lemmas.Bool.{cases_lt, le-ltb, lt-ltb}
+use Rattle.eel_base.specs.CodeText.{IsText, address_of, word_at}
+use Rattle.v8_decode.specs.Words.{decode_of}
+use Rattle.v8_step.specs.declared.Slot.TheVariants.{NoSlot}
+use Rattle.v8_step.specs.State.{State}
+use Rattle.v8_step.specs.Step.{act, on_word}
+use Rattle.v8_step.specs.Items.{is_transfer}
+use Rattle.v8_step.proofs.CopiedMoves.{goes_act}
+use Rattle.cfg_blocks.specs.Blocks.{blocks_of}
+use Rattle.cfg_blocks.specs.Ends.{within}
+use Rattle.cfg_blocks.proofs.Targets.{word_at-some}
+use Rattle.cfg_normal.specs.declared.Node.{Node}
+use Rattle.cfg_normal.specs.Graph.{node_of}
+use Rattle.cfg_walk.specs.Walk.{Point, node_after, point_of}
+use Rattle.cfg_walk.proofs.Addresses.{next_address, next_word}
+use Rattle.jump_code.specs.Pieces.{far_piece}
+use Rattle.layout.specs.declared.items.Item.{Item}
+use Rattle.layout.specs.Laid.{Placement, IsLaid, item_at, item_in, items_in, is_jump, size_of}
+use Rattle.image_code.specs.Simulates.{Setting, at_point, does_at, gone_at, graph_in, number_in}
+use Rattle.image_code.specs.Images.{Frame, visited_at}
+use Rattle.image_code.specs.Cases.{IsFar, IsPlain, LeadsOn, plain_piece}
+use Rattle.image_code.specs.Made.{rest_after}
+use Rattle.image_code.proofs.Branches.{image_straight, within_some}
+use Rattle.image_code.proofs.Cases.{get_below}
+use Rattle.image_code.proofs.Listed.{image_at}
+use Rattle.image_code.proofs.Visited.{image_items, l, visited_none, visited_word, word_is}
+
+last_one : (n count : ℕ) → within count n ≡ None → count ≤ n
+last_one n count e = elim (cases_lt n count) [
+  | inl l ↦
+      let some : within count n ≡ Some n = ap (λ (t : Bool). if t then Some n else None) (lt-ltb _ _ l) in
+      absurd (cc)
+  | inr m ↦ m
+]
+
+module _ (g : Setting) (is : IsText g.text) (p : Placement) (f : Frame) (base : ℕ) (place : ℕ → ℕ → ℕ)
+    (laid : IsLaid (l g is p f).list base p place)
+    (node : Node) (x : Point) (t : State) (word : ℕ) (at : word_at g.text x.pc ≡ Some word) (none : x.slot ≡ NoSlot)
+    (held : node ≡ node_of (blocks_of g.text g.given) (word_at g.text x.pc)) (npc : x.npc ≡ (x.pc + 4) % 2 ^ 32)
+    (straight : is_transfer (decode_of (slice_index g.text.words word)) ≡ false) where
+  abbrev rest : List Item
+  rest = rest_after g.text (graph_in g) f.table.base word
+
+  low : word < length g.text.words
+  low = (word_at-some g.text x.pc word at).within
+
+  found : slice_get (l g is p f).list word ≡ Some (plain_piece (record { 0 = address_of g.text word })
+      (number_in g node) (slice_index g.text.words word) rest)
+  found =
+      image_items g is p f node x word at held (decode_of (slice_index g.text.words word)) refl
+      ∙ ap (λ z. Some z) (image_straight g.text (graph_in g) f.table.base
+      (record { 0 = address_of g.text word }) node word (decode_of (slice_index g.text.words word)) straight)
+
+  with_rest : (b : Bool) → nat_lt (word + 1) (length g.text.words) ≡ b
+      → slice_get (l g is p f).list word ≡ Some (plain_piece (record { 0 = address_of g.text word }) (number_in g node)
+      (slice_index g.text.words word) (if b then [] else far_piece (address_of g.text (length g.text.words))))
+  with_rest b e =
+      found ∙ ap (λ (t : Bool). Some (plain_piece (record { 0 = address_of g.text word }) (number_in g node)
+      (slice_index g.text.words word) (if t then [] else far_piece (address_of g.text (length g.text.words))))) e
+
+  falls : word + 1 < length g.text.words → place word 3 ≡ slice_index p.at (word + 1)
+  falls more =
+      let next : word + 1 ≡ suc word = omega arith in
+      let after : suc word < length (l g is p f).list = get_below (l g is p f).list (suc word) _
+      (image_at g.text (graph_in g) f.table.base (suc word) (omega arith)) in
+      let short : slice_get (l g is p f).list word ≡ Some (plain_piece (record { 0 = address_of g.text word })
+      (number_in g node) (slice_index g.text.words word) []) = with_rest true (lt-ltb _ _ more) in
+      let size : size_of (l g is p f).list word ≡ 3 = ap (λ (v : Option (List Item)). items_in v) short in
+      let closed : is_jump (item_at (l g is p f).list word (size_of (l g is p f).list word - 1)) ≡ false =
+      ap (λ n. is_jump (item_at (l g is p f).list word (n - 1))) size
+      ∙ ap (λ (v : Option (List Item)). is_jump (item_in v 2)) short in
+      ap (place word) (sym size) ∙ laid.falls word after closed ∙ sym (laid.starts (suc word) after)
+      ∙ ap (slice_index p.at) (sym next)
+
+  leaves : length g.text.words ≤ word + 1
+      → option_map (drop 3) (slice_get (l g is p f).list word)
+      ≡ Some (far_piece (address_of g.text (length g.text.words)))
+  leaves last = ap (option_map (drop 3)) (with_rest false (le-ltb _ _ last))
+
+  end_far : IsFar (address_of g.text (length g.text.words))
+  end_far =
+      let a = is.aligned in
+      let h = is.below in
+      (omega arith, omega arith)
+
+  goes : (v : State) → does_at g x t ≡ v → v.ending ≡ None
+      → LeadsOn (l g is p f) p place word 3
+      (visited_at g (l g is p f) p f (node_after (graph_in g) node (gone_at g node x v)) (point_of v))
+  goes v e live = by (word_at g.text v.pc) refl
+    where
+      same : v ≡ act (at_point x t) (decode_of (slice_index g.text.words word))
+      same = sym e ∙ ap (on_word (at_point x t)) (word_is g is p f x word at)
+
+      went : (v.pc ≡ x.npc) × (v.slot ≡ NoSlot)
+      went =
+          let w = goes_act (at_point x t) (decode_of (slice_index g.text.words word)) straight
+          (ap (λ (z : State). z.ending) (sym same) ∙ live) in
+          (ap (λ (z : State). z.pc) same ∙ w.0, ap (λ (z : State). z.slot) same ∙ w.2)
+
+      there : word_at g.text v.pc ≡ within (length g.text.words) (word + 1)
+      there = ap (word_at g.text) (went.0 ∙ npc) ∙ next_word g.text x.pc word is (word_at-some g.text x.pc word at)
+
+      after : Node
+      after = node_after (graph_in g) node (gone_at g node x v)
+
+      by : (o : Option ℕ) → word_at g.text v.pc ≡ o
+          → LeadsOn (l g is p f) p place word 3 (visited_at g (l g is p f) p f after (point_of v))
+      by None none_there =
+          let last = last_one (word + 1) (length g.text.words) (sym there ∙ none_there) in
+          let end : word + 1 ≡ length g.text.words = omega (arith, low) in
+          let pc : v.pc ≡ address_of g.text (length g.text.words) =
+          went.0 ∙ npc ∙ ap (λ (a : ℕ). (a + 4) % 2 ^ 32) (word_at-some g.text x.pc word at).is
+          ∙ next_address g.text word is low ∙ ap (address_of g.text) end in
+          subst (LeadsOn (l g is p f) p place word 3)
+          (sym (visited_none g is p f after (point_of v) none_there went.1 ∙ pc))
+          (inr (inr (end_far, leaves last)))
+      by (Some other) some =
+          let next = within_some (length g.text.words) (word + 1) other (sym there ∙ some) in
+          inl (falls next.0 ∙ ap (slice_index p.at) next.1
+          ∙ sym (visited_word g is p f after (point_of v) other some went.1))
+
+  pub plain_is : IsPlain g (l g is p f) p place f node x t
+  plain_is = record {
+    piece = word;
+    within = get_below (l g is p f).list word _ found;
+    here = visited_word g is p f node x word at none;
+    address = record { 0 = address_of g.text word };
+    original = sym (word_at-some g.text x.pc word at).is;
+    word = slice_index g.text.words word;
+    is_word = word_is g is p f x word at;
+    straight = straight;
+    rest = rest;
+    items = found;
+    leads = λ live. goes (does_at g x t) refl live;
+  }

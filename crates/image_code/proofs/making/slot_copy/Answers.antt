@@ -1,0 +1,8 @@
+use Rattle.std.proofs.Common.{sym, ◌∙◌}
+use Rattle.image_code.proofs.Along.{plain_copy}
+use Rattle.image_code.proofs.making.slot_copy.Goals as goal
+
+pub returns-in_default : goal.returns-in_default
+returns-in_default c =
+    plain_copy c.args.text.now c.args.graph.now c.args.frame.table.0 c.args.edge.now _ _ c.next_along.ensures
+    c.args.visit.address c.args.visit.node c.args.word (sym c.is_transfer.ensures ∙ c.if-is_transfer.false) c.in_default.not-Out search

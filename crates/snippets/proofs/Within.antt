@@ -1,0 +1,122 @@
+-- A script without a bad line keeps its limits.
+use Rattle.std.proofs.Common.{◌≡◌, ℕ, zero, suc, ◌+◌, ◌<◌, ◌≤◌, ◌^◌, ◌==◌, Bool, true, false, if◌then◌else◌, List, [], ◌∷◌, ◌++◌, append-nil, length, take, get_or, Some, None, refl, ap, subst, ◌∙◌, arith}
+use Rattle.std.specs.Prelude.{nat_le}
+use Rattle.std.specs.List.{All}
+use Rattle.std.proofs.lemmas.Bool.{eqb-true, leb-false}
+use Rattle.std.proofs.lemmas.List.{length-append, take_more}
+use Rattle.std.proofs.lemmas.List.Elements.{All-append}
+use Rattle.std.proofs.Math.Seq.{take-length}
+use Rattle.snippets.specs.declared.snippet.Op.{Op}
+use Rattle.snippets.specs.Ops.{cell_of}
+use Rattle.snippets.specs.Grammar.{Said, Nothing, Does, Wrong}
+use Rattle.snippets.specs.Laws.{IsWithin}
+use Rattle.snippets.specs.Scripts.{IsGood, cell_end, edge_end, end_of, fault_of, on_edge, ops_on}
+use Rattle.snippets.proofs.Held.{end-more, ops-more}
+
+below_more : (m n : ℕ) (ops : List Op) → m ≤ n → All (λ op. cell_of op < m) ops → All (λ op. cell_of op < n) ops
+below_more m n ops few below = λ k d within. let here = below k d within in omega arith
+
+below_one : (edge : ℕ) (line : Said) → All (λ op. cell_of op < cell_end line) (on_edge edge line)
+below_one edge Nothing = λ k d within. absurd (omega arith)
+below_one edge (Does other op) = by_test (other == edge)
+  where
+    by_test : (b : Bool) → All (λ o. cell_of o < cell_of op + 1) (if b then op ∷ [] else [])
+    by_test true zero d within = omega arith
+    by_test true (suc k) d within = absurd (omega arith)
+    by_test false k d within = absurd (omega arith)
+below_one edge Wrong = λ k d within. absurd (omega arith)
+
+-- cells are below their number
+cells_below : (edge : ℕ) (said : List Said) → All (λ op. cell_of op < end_of cell_end said) (ops_on edge said)
+cells_below edge [] = λ k d within. absurd (omega arith)
+cells_below edge (line ∷ said) =
+    let all = end_of cell_end (line ∷ said) in
+    let here = below_more (cell_end line) all (on_edge edge line) (omega arith) (below_one edge line) in
+    let rest = below_more (end_of cell_end said) all (ops_on edge said) (omega arith) (cells_below edge said) in
+    All-append (λ op. cell_of op < all) (on_edge edge line) (ops_on edge said) here rest
+
+-- The limits that a bad line would break.
+record Kept (edges : ℕ) (said : List Said) : Type 0 where
+  edges_there : end_of edge_end said ≤ edges
+  cells_few : end_of cell_end said ≤ 2 ^ 22
+  ops_few : (edge : ℕ) → length (ops_on edge said) ≤ 8
+
+-- none of three tests is met
+record Passes (a b c : Bool) : Type 0 where
+  first : a ≡ false
+  second : b ≡ false
+  third : c ≡ false
+
+passes : {A : Type 0} (a b c : Bool) (x y z : A)
+    → (if a then Some x else (if b then Some y else (if c then Some z else None))) ≡ None → Passes a b c
+passes true b c x y z h = absurd (cc h)
+passes false true c x y z h = absurd (cc h)
+passes false false true x y z h = absurd (cc h)
+passes false false false x y z h = record { first = refl; second = refl; third = refl }
+
+one_more : (edge other : ℕ) (op : Op) (before : List Op) → (other ≡ edge → length before < 8) → length before ≤ 8
+    → length (before ++ on_edge edge (Does other op)) ≤ 8
+one_more edge other op before room few = by_test (other == edge) refl
+  where
+    by_test : (b : Bool) → (other == edge) ≡ b → length (before ++ (if b then op ∷ [] else [])) ≤ 8
+    by_test true is =
+        let size = length-append before (op ∷ []) in
+        let free = room (eqb-true other edge is) in
+        omega arith
+    by_test false is = rw (append-nil before) few
+
+kept_more : (edges : ℕ) (before : List Said) (line : Said) → Kept edges before → fault_of edges before line ≡ None
+    → Kept edges (before ++ line ∷ [])
+kept_more edges before Nothing kept none =
+    let edge = end-more edge_end before Nothing in
+    let cell = end-more cell_end before Nothing in
+    let edges_there = kept.edges_there in
+    let cells_few = kept.cells_few in
+    record {
+      edges_there = omega arith;
+      cells_few = omega arith;
+      ops_few = λ e. rw (ops-more e before Nothing ∙ append-nil (ops_on e before)) (kept.ops_few e);
+    }
+kept_more edges before (Does edge op) kept none =
+    let tests =
+    passes (nat_le edges edge) (nat_le (2 ^ 22) (cell_of op)) (nat_le 8 (length (ops_on edge before)))
+    _ _ _ none in
+    let there = leb-false edges edge tests.first in
+    let low = leb-false (2 ^ 22) (cell_of op) tests.second in
+    let room = leb-false 8 (length (ops_on edge before)) tests.third in
+    let edge_is = end-more edge_end before (Does edge op) in
+    let cell_is = end-more cell_end before (Does edge op) in
+    let edges_there = kept.edges_there in
+    let cells_few = kept.cells_few in
+    record {
+      edges_there = omega arith;
+      cells_few = omega arith;
+      ops_few = λ e.
+          rw (ops-more e before (Does edge op))
+          (one_more e edge op (ops_on e before) (λ same. free e same room) (kept.ops_few e));
+    }
+  where
+    free : (e : ℕ) → edge ≡ e → length (ops_on edge before) < 8 → length (ops_on e before) < 8
+    free e same room = subst (λ (n : ℕ). length (ops_on n before) < 8) same room
+kept_more edges before Wrong kept none = absurd (cc none)
+
+kept_so_far : (edges : ℕ) (said : List Said) → IsGood edges said → (k : ℕ) → k ≤ length said
+    → Kept edges (take k said)
+kept_so_far edges said good zero within =
+    record { edges_there = omega arith; cells_few = omega arith; ops_few = λ e. omega arith }
+kept_so_far edges said good (suc k) within =
+    let before = kept_so_far edges said good k (omega arith) in
+    let one : suc k ≡ k + 1 = omega arith in
+    let more : take (suc k) said ≡ take k said ++ get_or said k Nothing ∷ [] =
+    ap (λ (n : ℕ). take n said) one ∙ take_more said k Nothing (omega arith) in
+    rw more (kept_more edges (take k said) (get_or said k Nothing) before (good k (omega arith)))
+
+pub good_within : (edges : ℕ) (said : List Said) → IsGood edges said → IsWithin edges said
+good_within edges said good =
+    let kept = subst (Kept edges) (take-length said) (kept_so_far edges said good (length said) (omega arith)) in
+    record {
+      edges_there = kept.edges_there;
+      cells_few = kept.cells_few;
+      cells_below = λ edge. cells_below edge said;
+      ops_few = kept.ops_few;
+    }

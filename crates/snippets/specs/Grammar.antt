@@ -1,0 +1,62 @@
+-- Scripts, by how they are spelled. A line is one of
+--
+--   edge N add CELL AMOUNT
+--   edge N put CELL VALUE
+--   edge N keep CELL REG
+--   edge N top CELL REG
+--
+-- with one space between words. Numbers are decimal, below 2^32, and have no needless zero in front. REG is %g0 to
+-- %g7, %o0 to %o7, %l0 to %l7 or %i0 to %i7. A line that is empty or begins with `#` says nothing.
+use Rattle.std.specs.Prelude.{◌≡◌, ◌<◌, ℕ, ◌+◌, ◌/◌, ◌%◌, ◌^◌, ◌==◌, List, [], ◌∷◌, slice_index, codes, decimal}
+use Rattle.std.specs.List.{slice_split, join_with_byte}
+use Rattle.snippets.specs.declared.snippet.Op.{Op}
+use Rattle.snippets.specs.declared.snippet.Op.TheVariants.{Add, Put, Keep, Top}
+pub use Rattle.snippets.specs.declared.line.Said.{Said}
+pub use Rattle.snippets.specs.declared.line.Said.TheVariants.{Nothing, Does, Wrong}
+
+-- The lines of a text end with a newline each, which the last one may lack.
+abbrev pub lines_of : List ℕ → List (List ℕ)
+lines_of bytes = slice_split (λ byte. byte == 10) bytes
+
+-- `%`, the register's bank, and its number in the bank
+abbrev pub register_text : ℕ → List ℕ
+register_text reg = 37 ∷ slice_index (codes "goli") (reg / 8) ∷ (48 + reg % 8) ∷ []
+
+abbrev pub op_words : Op → List (List ℕ)
+op_words (Add cell amount) = codes "add" ∷ decimal cell ∷ decimal amount ∷ []
+op_words (Put cell value) = codes "put" ∷ decimal cell ∷ decimal value ∷ []
+op_words (Keep cell reg) = codes "keep" ∷ decimal cell ∷ register_text reg ∷ []
+op_words (Top cell reg) = codes "top" ∷ decimal cell ∷ register_text reg ∷ []
+
+-- the line that does an operation on an edge
+abbrev pub line_text : ℕ → Op → List ℕ
+line_text edge op = join_with_byte 32 (codes "edge" ∷ decimal edge ∷ op_words op)
+
+abbrev pub IsOp : Op → Type 0
+IsOp (Add cell amount) = (cell < 2 ^ 32) × (amount < 2 ^ 32)
+IsOp (Put cell value) = (cell < 2 ^ 32) × (value < 2 ^ 32)
+IsOp (Keep cell reg) = (cell < 2 ^ 32) × (reg < 32)
+IsOp (Top cell reg) = (cell < 2 ^ 32) × (reg < 32)
+
+-- The line is this one.
+pub record IsLine (line : List ℕ) (edge : ℕ) (op : Op) : Type 0 where
+  pub text : line ≡ line_text edge op
+  pub edge_fits : edge < 2 ^ 32
+  pub op_fits : IsOp op
+
+abbrev pub IsSilent : List ℕ → Type 0
+IsSilent [] = Unit {0}
+IsSilent (byte ∷ bytes) = byte ≡ 35
+
+-- What a line says: nothing, an operation on an edge, or what is outside the grammar.
+abbrev pub Says : List ℕ → Said → Type 0
+Says line Nothing = IsSilent line
+Says line (Does edge op) = IsLine line edge op
+Says line Wrong = (¬ IsSilent line) × ((edge : ℕ) (op : Op) → ¬ IsLine line edge op)
+
+-- what each line says, in order
+abbrev pub AllSay : List (List ℕ) → List Said → Type 0
+AllSay [] [] = Unit {0}
+AllSay [] (said ∷ others) = ⊥
+AllSay (line ∷ lines) [] = ⊥
+AllSay (line ∷ lines) (said ∷ others) = Says line said × AllSay lines others

@@ -1,0 +1,7 @@
+pub mod Ops
+pub mod OpLaws
+pub mod Grammar
+pub mod Scripts
+pub mod Parts
+pub mod Laws
+pub mod Examples

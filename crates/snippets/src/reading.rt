@@ -1,0 +1,95 @@
+//! Reading a script.
+ghost use Rattle.std.specs.Prelude.{◌≡◌, ◌≤◌, ◌<◌, ◌+◌, ◌^◌, ◌++◌, ◌∷◌, [], None, max, length, List};
+ghost use Rattle.std.specs.Prelude.{IfErr, MatchBool, OnOk, slice_set, vec_len};
+ghost use Rattle.std.specs.Bool.{OnFalse, OnTrue};
+ghost use Rattle.snippets.specs.declared.line.Said.{Said as Meaning};
+ghost use Rattle.snippets.specs.declared.line.Said.TheVariants.{Does};
+ghost use Rattle.snippets.specs.Ops.{cell_of};
+ghost use Rattle.snippets.specs.Grammar.{AllSay, lines_of};
+ghost use Rattle.snippets.specs.Scripts.{Answers};
+ghost use Rattle.snippets.specs.Parts.{IsCause, cells_after, fault_in, ops_at, padded, said_of, snips_after};
+ghost use Rattle.snippets.specs.Parts.{with_op};
+
+use crate::line::{Said, read_line};
+use crate::script::{Script, ScriptFault};
+use crate::snippet::{Op, Snippet};
+use std::alloc::{AllocError, Global};
+
+/// Cells are below this number.
+const CELL_LIMIT: u32 = 1 << 22;
+
+/// The script that this text is, for a graph of so many edges.
+///
+/// It goes over the text once. The memory that it takes goes with the greatest edge that is named.
+pub fn read_script(alloc: Global, bytes: &[u8], edges: u32) -> Result<Script, ScriptFault>
+    requires { length bytes.now ≤ 2 ^ 24 }
+    ensures { (said : List Meaning) × AllSay (lines_of bytes.now) said × Answers edges said result }
+{
+    let mut script = Script {
+        snips: Vec::new(alloc),
+        cells: 0,
+    };
+    let mut number = 0;
+    for line in bytes.split(|byte| *byte == b'\n') {
+        number += 1;
+        take_line(&mut script, line, number, edges)?;
+    }
+    Ok(script)
+}
+
+/// Does what a line says, the one with this number.
+fn take_line(script: &mut Script, line: &[u8], number: u32, edges: u32) -> Result<(), ScriptFault>
+    ensures good { OnOk result (fault_in edges number script.old.snips.items (said_of line.now) ≡ None) }
+    ensures snips { OnOk result (script.new.snips.items ≡ snips_after (said_of line.now) script.old.snips.items) }
+    ensures cells { OnOk result (script.new.cells ≡ cells_after (said_of line.now) script.old.cells) }
+    ensures fault { IfErr result (λ f. IsCause f (fault_in edges number script.old.snips.items (said_of line.now))) }
+{
+    match read_line(line) {
+        Said::Nothing => {}
+        Said::Does { edge, op } => add(script, edge, op, number, edges)?,
+        Said::Wrong => return Err(ScriptFault::Line(number)),
+    }
+    Ok(())
+}
+
+/// Adds the operation of the line with this number.
+fn add(script: &mut Script, edge: u32, op: Op, number: u32, edges: u32) -> Result<(), ScriptFault>
+    ensures good { OnOk result (fault_in edges number script.old.snips.items (Does edge op) ≡ None) }
+    ensures snips { OnOk result (script.new.snips.items ≡ with_op edge op script.old.snips.items) }
+    ensures cells { OnOk result (script.new.cells ≡ max script.old.cells (cell_of op + 1)) }
+    ensures fault { IfErr result (λ f. IsCause f (fault_in edges number script.old.snips.items (Does edge op))) }
+{
+    if edge >= edges {
+        return Err(ScriptFault::Edge(number));
+    }
+    let cell = op.cell();
+    if cell >= CELL_LIMIT {
+        return Err(ScriptFault::Cell(number));
+    }
+    reach(&mut script.snips, edge as usize + 1)?;
+    if !push_at(&mut script.snips, edge as usize, op) {
+        return Err(ScriptFault::Ops(number));
+    }
+    script.cells = script.cells.max(cell + 1);
+    Ok(())
+}
+
+/// Makes so many snippets at least; those that are new are empty.
+fn reach(snips: &mut Vec<Snippet>, count: usize) -> Result<(), AllocError>
+    ensures { OnOk result (snips.new.items ≡ padded count snips.old.items) }
+{
+    snips.resize(count.max(snips.len()), Snippet::empty())?;
+    Ok(())
+}
+
+/// Adds an operation to the snippet of an edge. Answers false, and changes nothing, where that has eight.
+fn push_at(snips: &mut Vec<Snippet>, edge: usize, op: Op) -> bool
+    requires { edge < vec_len snips.old }
+    ensures room { let ops = ops_at edge snips.old.items in MatchBool result (length ops < 8) (length ops ≡ 8) }
+    ensures added { let ops = ops_at edge snips.old.items in
+        OnTrue result (snips.new.items ≡ slice_set snips.old.items edge (ops ++ op ∷ [])) }
+    ensures same { OnFalse result (snips.new.items ≡ snips.old.items) }
+{
+    let snippet = &mut snips[edge];
+    snippet.push(op)
+}

@@ -1,0 +1,99 @@
+//! Operations, and a few of them in a row.
+ghost use Rattle.std.specs.Prelude.{◌≡◌, ◌++◌, ◌∷◌, [], ◌<◌, ◌≤◌, true, false, length, MatchBool};
+ghost use Rattle.snippets.specs.Ops.{cell_of};
+
+use std::marker::Model;
+use v8_decode::Reg;
+
+/// What is done to a cell, a word of the editor's that begins as 0. A register is read as it is once the edge's delay
+/// slot was run.
+#[derive(Clone, Copy, PartialEq, Eq, Debug, Drop)]
+pub enum Op {
+    /// Adds, modulo 2^32.
+    Add { cell: u32, amount: u32 },
+    /// Sets.
+    Put { cell: u32, value: u32 },
+    /// Stores the register's value.
+    Keep { cell: u32, reg: Reg },
+    /// Stores the register's value where it is greater than the cell, as an unsigned number.
+    Top { cell: u32, reg: Reg },
+}
+
+impl Op {
+    /// The cell that it works on.
+    pub(crate) fn cell(&self) -> u32
+        ensures { result ≡ cell_of self.now }
+    {
+        match self {
+            Op::Add { cell, .. }
+            | Op::Put { cell, .. }
+            | Op::Keep { cell, .. }
+            | Op::Top { cell, .. } => *cell,
+        }
+    }
+}
+
+/// How many operations a snippet has at most.
+const MOST_OPS: usize = 8;
+
+/// At most eight operations, which are done in order.
+#[derive(Clone, Copy, PartialEq, Eq, Debug, Drop)]
+pub struct Snippet {
+    // behind the operations stands FILLER
+    ops: [Op; MOST_OPS],
+    count: usize,
+}
+
+const FILLER: Op = Op::Put { cell: 0, value: 0 };
+
+impl Model for Snippet {
+    ghost use Rattle.std.specs.Prelude.{List};
+    ghost use Rattle.snippets.specs.declared.snippet.Op.{Op};
+
+    ghost Value = { List Op };
+
+    ghost use Rattle.snippets.specs.Ops.{ops_in, IsFilled, inside_of};
+
+    ghost view = { ops_in };
+
+    ghost invariant = { IsFilled };
+
+    ghost inverse = { inside_of };
+
+    ghost use Rattle.snippets.specs.OpLaws.{inside_of-ops};
+
+    ghost inverse_ok = { λ a h. inside_of-ops a h };
+}
+
+impl Snippet {
+    /// No operation.
+    pub fn empty() -> Snippet
+        ensures { result ≡ [] }
+    {
+        Snippet {
+            ops: [FILLER; MOST_OPS],
+            count: 0,
+        }
+    }
+
+    /// Adds an operation behind the others. Answers false, and changes nothing, where there are eight.
+    pub fn push(&mut self, op: Op) -> bool
+        ensures room { MatchBool result (length self.old < 8) (length self.old ≡ 8) }
+        ensures ops { MatchBool result (self.new ≡ self.old ++ op ∷ []) (self.new ≡ self.old) }
+    {
+        if self.count >= MOST_OPS {
+            return false;
+        }
+        self.ops[self.count] = op;
+        self.count += 1;
+        true
+    }
+
+    /// The operations, in order.
+    pub fn ops(&self) -> &[Op]
+        ensures ops { result.now ≡ self.now }
+        ensures few { length self.now ≤ 8 }
+    {
+        &self.ops[..self.count]
+    }
+}
