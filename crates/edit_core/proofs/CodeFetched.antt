@@ -1,5 +1,5 @@
 -- The code of a written file is fetched before its first step.
-use Rattle.std.proofs.Common.{◌≡◌, ℕ, ◌+◌, ◌-◌, ◌*◌, ◌%◌, ◌^◌, ◌<◌, ◌≤◌, ◌⊎◌, inl, inr, Bool, true, false, not, ◌&&◌, ◌||◌, cond, nat_eq, List, [], ◌∷◌, ◌++◌, length, drop, map, replicate, slice_index, slice_get, Some, None, refl, sym, ap, ◌∙◌, subst, arith, All}
+use Rattle.std.proofs.Common.{◌≡◌, ℕ, ◌+◌, ◌-◌, ◌*◌, ◌<◌, ◌≤◌, ◌⊎◌, inl, inr, Bool, true, false, not, ◌&&◌, ◌||◌, cond, nat_eq, List, [], ◌∷◌, ◌++◌, length, drop, map, replicate, slice_index, Some, None, refl, sym, ap, ◌∙◌, arith}
 use Rattle.std.specs.List.{filter, list_any}
 use Rattle.std.specs.Int.Bits.{and_zero_r}
 use Rattle.std.proofs.lemmas.Nat.{and_assoc}
@@ -11,7 +11,6 @@ use Rattle.std.proofs.lemmas.Option.{slice_get_within, get_or_from_slice_get}
 use Rattle.byteorder.specs.Endian.{big_number}
 use Rattle.elf32_sparc.specs.Header.{has_flag}
 use Rattle.elf32_sparc.specs.Mapping.{Mapping, mappings}
-use Rattle.elf32_sparc.specs.Image.{image_of}
 use Rattle.elf32_sparc.proofs.Images.{accepted-program}
 use Rattle.elf32_write.specs.Bytes.{words_bytes}
 use Rattle.elf32_write.specs.Headers.{not_executable}

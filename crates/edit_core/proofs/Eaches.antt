@@ -1,5 +1,5 @@
 -- What holds of each element.
-use Rattle.std.proofs.Common.{◌≡◌, ℕ, zero, suc, ◌<◌, List, [], ◌∷◌, Some, take, refl, arith, All}
+use Rattle.std.proofs.Common.{◌≡◌, ℕ, zero, suc, List, [], ◌∷◌, Some, take, refl, arith, All}
 use Rattle.std.specs.Prelude.{slice_get}
 use Rattle.cfg_walk.proofs.Lists.{Each}
 

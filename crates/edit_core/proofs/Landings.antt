@@ -1,9 +1,8 @@
 -- Where the table leads: to places of pieces that are there.
-use Rattle.std.proofs.Common.{◌≡◌, ℕ, ◌<◌, ◌^◌, List, length, map, get_or, slice_index, refl, ap, sym, ◌∙◌, subst, arith, All}
+use Rattle.std.proofs.Common.{◌≡◌, ℕ, ◌<◌, List, length, map, get_or, slice_index, ap, sym, ◌∙◌, arith, All}
 use Rattle.std.proofs.lemmas.Simd.{map-map}
 use Rattle.std.proofs.lemmas.List.{get_or-map, length-map}
 use Rattle.eel_base.specs.CodeText.{Words}
-use Rattle.eel_base.specs.declared.numbers.Addr.{Addr}
 use Rattle.eel_base.specs.declared.numbers.PieceNo.{PieceNo}
 use Rattle.cfg_blocks.specs.Blocks.{below}
 use Rattle.cfg_blocks.proofs.Below.{get_or-below, length-below}

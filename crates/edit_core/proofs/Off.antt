@@ -1,9 +1,9 @@
 -- The place of a slot behind the text: that of each edge which runs one.
 use Rattle.std.proofs.Common.{◌≡◌, ℕ, zero, suc, ◌+◌, ◌-◌, ◌<◌, ◌≤◌, ◌⊎◌, inl, inr, Bool, true, false, ◌&&◌, cond, nat_le, nat_lt, List, [], ◌∷◌, ◌++◌, length, map, Option, Some, None, refl, ap, sym, ◌∙◌, subst, arith}
-use Rattle.std.specs.Prelude.{slice_get, slice_index}
+use Rattle.std.specs.Prelude.{slice_get}
 use Rattle.std.specs.List.{find}
 use Rattle.std.specs.Option.{option_map, option_or, option_to_list}
-use Rattle.std.proofs.lemmas.Bool.{and_from, cases_lt, cond_both, le-leb, lt-ltb}
+use Rattle.std.proofs.lemmas.Bool.{and_from, cases_lt, le-leb, lt-ltb}
 use Rattle.std.proofs.lemmas.Bool.Decides.{nat_tests}
 use Rattle.std.proofs.lemmas.List.Folds.{find-append}
 use Rattle.eel_base.specs.CodeText.{Words}
@@ -14,10 +14,8 @@ use Rattle.cfg_blocks.specs.Entries.{ways_from}
 use Rattle.cfg_normal.specs.declared.Edge.{Edge}
 use Rattle.cfg_normal.specs.declared.Node.{Node}
 use Rattle.cfg_normal.specs.declared.Node.TheVariants.{Block}
-use Rattle.cfg_normal.specs.declared.Slot.{Slot}
 use Rattle.cfg_normal.specs.declared.Slot.TheVariants as slots
 use Rattle.cfg_normal.specs.Graph.{Graph, edge_of, edges_in, edges_of, landing_at, runs_slot, slot_behind}
-use Rattle.cfg_walk.specs.Numbers.{node_number}
 use Rattle.cfg_walk.proofs.Lists.{Each, each, each-append, each-below, each-flat_map, each-map, each_at}
 use Rattle.layout.specs.Laid.{range_in}
 use Rattle.edit_core.specs.Written.{is_behind, is_off, off_range, off_ranges}
@@ -58,9 +56,9 @@ module _ (b : Blocks) (firsts : AreFirsts b.words b.firsts) where
       → block ≡ length b.firsts - 1
   last_block block l off = elim (cases_lt (suc block) (length b.firsts)) [
     | inl more ↦
-      let next = firsts.within (suc block) more in
-      let above = firsts.ascend block (suc block) (omega arith) more in
-      absurd (grind (arith, nat_tests))
+        let next = firsts.within (suc block) more in
+        let above = firsts.ascend block (suc block) (omega arith) more in
+        absurd (grind (arith, nat_tests))
     | inr past ↦ omega arith
   ]
 

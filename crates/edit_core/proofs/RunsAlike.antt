@@ -1,5 +1,5 @@
 -- What was written of an original has runs like the original's.
-use Rattle.std.proofs.Common.{◌≡◌, ℕ, zero, suc, ◌+◌, ◌-◌, ◌*◌, ◌%◌, ◌^◌, ◌<◌, ◌≤◌, ◌⊎◌, inl, inr, Bool, true, false, ◌&&◌, ◌||◌, cond, nat_le, nat_lt, List, [], ◌∷◌, ◌++◌, length, map, slice_index, Option, Some, None, refl, ap, sym, ◌∙◌, subst, arith}
+use Rattle.std.proofs.Common.{◌≡◌, ℕ, suc, ◌+◌, ◌-◌, ◌*◌, ◌%◌, ◌^◌, ◌<◌, ◌≤◌, ◌⊎◌, inl, inr, Bool, true, false, ◌&&◌, cond, nat_le, nat_lt, List, [], ◌∷◌, ◌++◌, length, map, slice_index, Option, Some, None, refl, ap, sym, ◌∙◌, subst, arith}
 use Rattle.std.specs.List.{list_any}
 use Rattle.std.proofs.lemmas.Bool.{and_from, cases_lt, le-leb, lt-leb, or_left, or_parts, or_right}
 use Rattle.std.proofs.lemmas.Bool.Decides.{nat_tests}
@@ -10,7 +10,7 @@ use Rattle.eel_base.specs.CodeText.{IsText, word_at}
 use Rattle.eel_base.specs.declared.numbers.Addr.{Addr}
 use Rattle.v8_step.specs.State.{State}
 use Rattle.v8_step.specs.declared.Slot.TheVariants.{NoSlot}
-use Rattle.v8_step.specs.Items.{IsItem, IsSameAt, Item, Register, Codes, YRegister}
+use Rattle.v8_step.specs.Items.{IsSameAt, Item, Register, Codes, YRegister}
 use Rattle.v8_step.specs.Needed.{IsUntouched}
 use Rattle.v8_step.specs.TwoRuns.{IsBounded}
 use Rattle.v8_step.specs.Valid.{AreBytes}

@@ -101,16 +101,19 @@ record IsVisit (nodes : ℕ) (address : Addr) (node : ℕ) : Type 0 where
 module _ (nodes : ℕ) (address : Addr) (node : ℕ) (visit : IsVisit nodes address node) where
   marked : (item : Item) (more : List Item) → TakesWords item → NoMarks (item ∷ more)
       → MarksFirst nodes (it.Mark address node ∷ item ∷ more)
-  marked item more takes none = (record {
-    aligned = visit.aligned;
-    low = visit.low;
-    inside = visit.inside;
-    item = item;
-    more = more;
-    is = refl;
-    takes = takes;
-    ends = ends_from_one (item ∷ more);
-  }, none)
+  marked item more takes none = (
+    record {
+      aligned = visit.aligned;
+      low = visit.low;
+      inside = visit.inside;
+      item = item;
+      more = more;
+      is = refl;
+      takes = takes;
+      ends = ends_from_one (item ∷ more);
+    },
+    none,
+  )
 
   plain_marked : (word : ℕ) (rest : List Item) → NoMarks rest → MarksFirst nodes (plain_piece address node word rest)
   plain_marked word rest none = marked (it.Word word) (it.EndMark ∷ rest) tt none

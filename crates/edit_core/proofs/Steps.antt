@@ -13,13 +13,24 @@ use Rattle.addr_translate.specs.Table.{size_of}
 use Rattle.layout.specs.declared.items.Placed.{Placed}
 use Rattle.layout.specs.declared.items.Item.{Item}
 use Rattle.layout.specs.Laid.{IsLaid, long_bytes}
-use Rattle.image_code.specs.Fit.{AreFit}
+use Rattle.image_code.specs.Fit.{AreFit, PiecesFit}
 use Rattle.image_code.specs.Made.{piece_list}
 use Rattle.image_code.specs.Parts.{IsGraphOf}
 use Rattle.image_code.proofs.Numbers.{words_are}
 use Rattle.edit_core.specs.Taken.{CanEdit}
 use Rattle.edit_core.specs.Written.{IsNewCode, IsViewOf, LeadsTo, code_base, given_of, graph_in, pieces_of, placement_in, table_base, text_of}
 use Rattle.edit_core.proofs.Originals.{image_text, image_room}
+
+-- the pieces of what can be edited can be placed
+pub original_fit : PiecesFit → (original : List ℕ) → CanEdit original
+    → AreFit (text_of original) (graph_in original) (pieces_of original)
+original_fit fits original can =
+    fits (text_of original) (graph_in original) (table_base original) (image_text original can.sound)
+    (record { given = given_of original; is = refl })
+    (low (table_base original) (image_of original).room (length (text_of original).words) (image_room original) can.room)
+  where
+    low : (base room words : ℕ) → room ≡ min (2 ^ 30) (0x80000000 - base) → 2 ^ 20 + 512 * words ≤ room → base < 2 ^ 31
+    low base room words same enough = omega arith
 
 module _ (original : List ℕ) (view : View) (is : IsViewOf original view) where
   pub view_text : CanEdit original → IsText view.image.text
@@ -65,10 +76,12 @@ module _ (original : List ℕ) (view : View) (is : IsViewOf original view) where
       bytes = bytes;
     }
 
-    pub entry_inside : AreFit view.image.text view.graph (piece_list view.image.text view.graph view.image.base)
-        → (entry : ℕ) → entry < length view.image.text.words → entry < length placed.at.items
+    pub entry_inside : AreFit (text_of original) (graph_in original) (pieces_of original) → (entry : ℕ)
+        → entry < length view.image.text.words → entry < length placed.at.items
     entry_inside fit entry l =
         let many = fit.images in
+        let pieces = ap length view_pieces in
+        let words = ap (λ (i : Program). length i.text.words) is.0 in
         let count = laid.1.count in
         let same = length-map placed.at.items (λ (a : Addr). a.0) in
         omega arith

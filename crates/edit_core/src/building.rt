@@ -56,7 +56,8 @@ pub(crate) fn new_code(alloc: Global, view: &View) -> Result<NewCode, NoMemory>
 /// Where code stands: right behind the table.
 pub(crate) fn code_base(image: &Image) -> Addr
     requires { image.now.base + size_of image.now.text < 2 ^ 32 }
-    ensures { result.0 ≡ image.now.base + size_of image.now.text }
+    ensures address { result.0 ≡ image.now.base + size_of image.now.text }
+    ensures aligned { result.0 % 4096 ≡ 0 }
 {
     Addr(image.base().0 + table_size(image.text()))
 }

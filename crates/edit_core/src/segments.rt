@@ -25,7 +25,11 @@ pub(crate) const EDITOR_PAGE: Addr = Addr(0xffff_f000);
 pub(crate) const PAGE_SIZE: u32 = 4096;
 
 /// A table of addresses, which can only be read.
-pub(crate) fn table_segment(alloc: Global, base: Addr, table: &Table) -> Result<NewSegment, NoMemory>
+pub(crate) fn table_segment(
+    alloc: Global,
+    base: Addr,
+    table: &Table,
+) -> Result<NewSegment, NoMemory>
     requires { table.now.base ≡ base.0 }
     ensures segment { IfOk result (λ s. segment_seen s ≡ table_at table.now) }
     ensures bytes { OnOk result (AreBytes table.now.bytes) }
