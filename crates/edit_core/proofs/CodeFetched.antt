@@ -56,7 +56,8 @@ none_kept (m ∷ ms) =
 -- ---- the code
 
 -- the bytes of its region are those of the words
-whole_region : (words : List ℕ) → words_bytes words ++ replicate (4 * length words - length (words_bytes words)) 0 ≡ words_bytes words
+whole_region : (words : List ℕ) → words_bytes words ++ replicate (4 * length words - length (words_bytes words)) 0
+    ≡ words_bytes words
 whole_region words =
     let size = length-words_bytes words in
     let none : 4 * length words - length (words_bytes words) ≡ 0 = omega arith in
@@ -74,7 +75,8 @@ module _ (original : List ℕ) (p : Placement) (place : ℕ → ℕ → ℕ) (ta
 
   none_before : list_any (λ m. regions.is_code (region_of m)) before ≡ false
   none_before =
-      list_any-append (λ m. regions.is_code (region_of m)) (map kept (mappings original)) (mapping_added (table_at table) ∷ [])
+      list_any-append (λ m. regions.is_code (region_of m)) (map kept (mappings original))
+      (mapping_added (table_at table) ∷ [])
       ∙ ap (λ (b : Bool). b || false) (none_kept (mappings original))
 
   mapped : mappings file ≡ before ++ mapping_added (code_segment original p) ∷ mapping_added page_segment ∷ []
@@ -97,7 +99,8 @@ module _ (original : List ℕ) (p : Placement) (place : ℕ → ℕ → ℕ) (ta
       → fetch_of (start_memory file texts) (code_base original + 4 * n) ≡ Some (slice_index p.code n)
   fetched n inside =
       let base = (accepted-program original is.taken.sound).base in
-      code_is_fetched file texts (mapping_added (code_segment original p)) first_code (omega (arith, base)) (words_are_bytes p.code)
+      code_is_fetched file texts (mapping_added (code_segment original p)) first_code (omega (arith, base))
+      (words_are_bytes p.code)
       n (omega (arith, inside))
       ∙ ap (λ bytes. Some (big_number 4 (drop (4 * n) bytes))) (whole_region p.code)
       ∙ ap (λ w. Some w) (word_among p.code n inside is.code.words)
@@ -115,6 +118,8 @@ module _ (original : List ℕ) (p : Placement) (place : ℕ → ℕ → ℕ) (ta
       (mapping_added (code_segment original p)) none_before refl
 
   -- and nothing else is
-  pub only_code : (a : ℕ) → IsBeside (code_base original) p.code a → fetch_from (code_of (start_memory file texts)) a ≡ None
+  pub only_code : (a : ℕ) → IsBeside (code_base original) p.code a → fetch_from (code_of (start_memory file texts)) a
+      ≡ None
   only_code a beside =
-      ap (λ code. fetch_from code a) code_is ∙ beside_region (region_of (mapping_added (code_segment original p))) a beside
+      ap (λ code. fetch_from code a) code_is ∙ beside_region (region_of (mapping_added (code_segment original p))) a
+      beside

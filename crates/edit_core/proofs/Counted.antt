@@ -132,7 +132,8 @@ module _ (pieces : List (List Item)) (place : ℕ → ℕ → ℕ) where
       let later = ascending_few r.hi to rs ascend.2 (λ n q e. are (suc n) q e) in
       let m : IsRangeOf pieces place r = are 0 r refl in
       let at = m.lo in
-      let here = some_marked place pieces m.piece 0 m.piece m.item from r.hi (it.Mark m.address r.node) m.mark refl (omega arith)
+      let here = some_marked place pieces m.piece 0 m.piece m.item from r.hi (it.Mark m.address r.node) m.mark refl
+      (omega arith)
       (omega (arith, low, at)) (omega (arith, some, at)) in
       let both = all_split place pieces 0 from r.hi to (omega (arith, low, some)) later.1 in
       (omega (arith, here, both, later.0), omega (arith, low, some, later.1))

@@ -12,7 +12,8 @@ pub each_all : {A : Type 0} (P : A → Type 0) (xs : List A) → All P xs → Ea
 each_all P [] all = tt
 each_all P (x ∷ xs) all = (all zero x (omega arith), each_all P xs (λ k d l. all (suc k) d (omega arith)))
 
-pub each_index : {A : Type 0} (P : A → Type 0) (xs : List A) → ((k : ℕ) (x : A) → slice_get xs k ≡ Some x → P x) → Each P xs
+pub each_index : {A : Type 0} (P : A → Type 0) (xs : List A) → ((k : ℕ) (x : A) → slice_get xs k ≡ Some x → P x)
+    → Each P xs
 each_index P [] h = tt
 each_index P (x ∷ xs) h = (h 0 x refl, each_index P xs (λ k y e. h (suc k) y e))
 

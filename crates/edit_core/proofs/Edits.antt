@@ -69,7 +69,8 @@ record AreThree (end : ℕ) (t s w : AddedSegment) : Type 0 where
   pub bytes : length w.bytes ≡ page_size
   pub page_flags : w.flags < 2 ^ 32
 
-can_write : (original : List ℕ) (t s w : AddedSegment) (notes : List ℕ) → fault original ≡ None → length original ≤ 2 ^ 26
+can_write : (original : List ℕ) (t s w : AddedSegment) (notes : List ℕ) → fault original ≡ None
+    → length original ≤ 2 ^ 26
     → AreThree (highest_end (image_of original).segments) t s w → length notes ≤ 2 ^ 28
     → CanWrite original (t ∷ s ∷ w ∷ []) notes
 can_write original t s w notes sound limit three few =
@@ -102,7 +103,8 @@ are_numbers original t s w entry end three bytes l =
     let some = three.some in
     record {
       bytes = bytes;
-      words = all_three HasWords t s w (omega arith, omega arith, three.table_flags) (omega arith, omega arith, three.flags)
+      words = all_three HasWords t s w (omega arith, omega arith, three.table_flags)
+          (omega arith, omega arith, three.flags)
           (omega arith, omega arith, three.page_flags);
       address = l;
     }
@@ -140,7 +142,8 @@ held_few b word some = let c = count_by-le-length (λ first. nat_le first word) 
 
 -- ---- an edit
 
-module _ (original : List ℕ) (limit : length original ≤ 2 ^ 26) (can : CanEdit original) (p : Placement) (place : ℕ → ℕ → ℕ)
+module _ (original : List ℕ) (limit : length original ≤ 2 ^ 26) (can : CanEdit original) (p : Placement)
+    (place : ℕ → ℕ → ℕ)
     (table : TableAt) (code : IsNewCode original p place table)
     (fit : AreFit (text_of original) (graph_in original) (pieces_of original)) where
   text_is : IsText (text_of original)
@@ -150,7 +153,8 @@ module _ (original : List ℕ) (limit : length original ≤ 2 ^ 26) (can : CanEd
   graph_is = record { given = given_of original; is = refl }
 
   code_some : 0 < length p.code
-  code_some = some_code (text_of original) (graph_in original) (table_base original) text_is graph_is (code_base original) p place code.laid
+  code_some = some_code (text_of original) (graph_in original) (table_base original) text_is graph_is
+      (code_base original) p place code.laid
 
   three : AreThree (highest_end (image_of original).segments) (table_at table) (code_segment original p) page_segment
   three =
@@ -214,7 +218,8 @@ module _ (original : List ℕ) (limit : length original ≤ 2 ^ 26) (can : CanEd
         blocks = refl;
         edge_count =
             let own = own_few (text_of original) (graph_in original) graph_is text_is.some in
-            let taken = length-take (length (graph_in original).edges - length (graph_in original).blocks.firsts) (graph_in original).edges in
+            let taken = length-take (length (graph_in original).edges - length (graph_in original).blocks.firsts)
+            (graph_in original).edges in
             let firsts = cut.firsts.few in
             let words = cut.words in
             let few = text_is.few in
@@ -227,7 +232,8 @@ module _ (original : List ℕ) (limit : length original ≤ 2 ^ 26) (can : CanEd
             let few = fit.marks in
             omega arith;
         ascend = code.laid.ascend;
-        whole = ranges_whole (text_of original) (graph_in original) (table_base original) text_is graph_is (code_base original) p place code.laid;
+        whole = ranges_whole (text_of original) (graph_in original) (table_base original) text_is graph_is
+            (code_base original) p place code.laid;
       }
 
   pub notes_meet_rules : AreNotes (notes_on original p)
@@ -254,7 +260,8 @@ module _ (original : List ℕ) (limit : length original ≤ 2 ^ 26) (can : CanEd
 
     pub small_file : length (edit_file original p table) ≤ 1536 * 2 ^ 20
     small_file =
-        let size = size_is_bounded original (added original p table) (entry_of original p) (notes_bytes (notes_on original p)) can_be_written numbers in
+        let size = size_is_bounded original (added original p table) (entry_of original p)
+        (notes_bytes (notes_on original p)) can_be_written numbers in
         let n = notes_few in
         let t = three.table_few in
         let c = three.few in

@@ -46,9 +46,11 @@ all_two P x y px py zero d l = px
 all_two P x y px py (suc zero) d l = py
 all_two P x y px py (suc (suc k)) d l = absurd (omega arith)
 
-pub word_here : (original : List ℕ) (word : ℕ) → word < length (text_of original).words → word_at (text_of original) (address_of (text_of original) word) ≡ Some word
+pub word_here : (original : List ℕ) (word : ℕ) → word < length (text_of original).words
+    → word_at (text_of original) (address_of (text_of original) word) ≡ Some word
 word_here original word l =
-    word_at-address (text_of original) word ∙ ap (λ (b : Bool). cond b (Some word) None) (lt-ltb word (length (text_of original).words) l)
+    word_at-address (text_of original) word ∙ ap (λ (b : Bool). cond b (Some word) None)
+    (lt-ltb word (length (text_of original).words) l)
 
 module _ (original : List ℕ) (p : Placement) (place : ℕ → ℕ → ℕ) (table : TableAt) (file : List ℕ)
     (is : IsEdit original p place table file) where
@@ -58,7 +60,8 @@ module _ (original : List ℕ) (p : Placement) (place : ℕ → ℕ → ℕ) (ta
   is_graph : IsGraphOf (text_of original) (graph_in original)
   is_graph = record { given = given_of original; is = refl }
 
-  has_pages : AreFit (text_of original) (graph_in original) (pieces_of original) → HasPages original file (notes_on original p)
+  has_pages : AreFit (text_of original) (graph_in original) (pieces_of original)
+      → HasPages original file (notes_on original p)
   has_pages fit =
       let few = fit.bytes in
       let size = is.code.size in
@@ -78,34 +81,43 @@ module _ (original : List ℕ) (p : Placement) (place : ℕ → ℕ → ℕ) (ta
     where
       noted_after : List NoteSegment
       noted_after =
-          record { start = code_base original; length = 4 * length p.code } ∷ record { start = editor_page; length = page_size } ∷ []
+          record { start = code_base original; length = 4 * length p.code }
+          ∷ record { start = editor_page; length = page_size } ∷ []
 
   place_is : PlacesSay → (n : ℕ) (r : NoteRange) → slice_get p.ranges n ≡ Some r → IsPlace original file r
   place_is say n r e word l plain same =
-      let here : word_at (text_of original) r.address ≡ Some word = ap (word_at (text_of original)) same ∙ word_here original word l in
+      let here : word_at (text_of original) r.address ≡ Some word = ap (word_at (text_of original)) same
+      ∙ word_here original word l in
       let at : IsWordAt (code_base original) p.code r.lo (slice_index (text_of original).words word) =
-      say (text_of original) (graph_in original) (table_base original) (code_base original) p place text_is is_graph is.code.laid n r e word here plain in
+      say (text_of original) (graph_in original) (table_base original) (code_base original) p place text_is is_graph
+      is.code.laid n r e word here plain in
       let inside = slice_get_within p.code at.0 (slice_index (text_of original).words word) at.2 in
       let base = is.code.base in
       let size = is.code.leads.size in
       ap (word_mapped file) at.1
-      ∙ code_mapped original file p.code (mapping_added (table_at table)) (mapping_added (code_segment original p)) (mapping_added page_segment ∷ [])
+      ∙ code_mapped original file p.code (mapping_added (table_at table)) (mapping_added (code_segment original p))
+      (mapping_added page_segment ∷ [])
       is.mapped is.code.words base (omega arith) refl refl at.0 inside
       ∙ ap (λ w. Some w) (get_or_from_slice_get p.code at.0 (slice_index (text_of original).words word) 0 at.2)
 
   -- no word of the text stands at its end
-  off_place : (edge : Edge) → IsPlace original file (off_range (text_of original) (graph_in original) (table_base original) edge)
+  off_place : (edge : Edge) → IsPlace original file (off_range (text_of original) (graph_in original)
+      (table_base original) edge)
   off_place edge word l plain same = absurd (omega (arith, same, l))
 
   places_are : PlacesSay → All (IsPlace original file) (notes_on original p).ranges
   places_are say =
-      all_each (IsPlace original file) (off_ranges (text_of original) (graph_in original) (table_base original) ++ p.ranges)
-      (each-append (IsPlace original file) (off_ranges (text_of original) (graph_in original) (table_base original)) p.ranges
-      (off_each (text_of original) (graph_in original) (table_base original) (λ edge. Unit {0}) (Each (IsPlace original file))
+      all_each (IsPlace original file) (off_ranges (text_of original) (graph_in original)
+      (table_base original) ++ p.ranges)
+      (each-append (IsPlace original file) (off_ranges (text_of original) (graph_in original) (table_base original))
+      p.ranges
+      (off_each (text_of original) (graph_in original) (table_base original) (λ edge. Unit {0})
+      (Each (IsPlace original file))
       (each (λ edge. Unit {0}) (graph_in original).edges (λ edge. tt)) tt (λ edge any. (off_place edge, tt)))
       (each_index (IsPlace original file) p.ranges (place_is say)))
 
-pub faithful : EditsRunAlike → PlacesSay → (original : List ℕ) → AreFit (text_of original) (graph_in original) (pieces_of original)
+pub faithful : EditsRunAlike → PlacesSay → (original : List ℕ) → AreFit (text_of original) (graph_in original)
+    (pieces_of original)
     → length original ≤ 2 ^ 26 → AreBytes original → CanEdit original
     → (p : Placement) (place : ℕ → ℕ → ℕ) (table : TableAt) → IsNewCode original p place table
     → IsFaithful original (edit_file original p table)

@@ -18,7 +18,8 @@ pub map_below : {A : Type 0} (f : ℕ → A) (n k : ℕ) (d : A) → k < n → g
 map_below f n k d l =
     get_or-map f (below n) k 0 d (omega (arith, l, length-below n)) ∙ ap f (get_or-below n k 0 l)
 
-module _ (text : Words) (graph : Graph) (list : List (List Item)) (fit : AreFit text graph list) (landing : List PieceNo)
+module _ (text : Words) (graph : Graph) (list : List (List Item)) (fit : AreFit text graph list)
+    (landing : List PieceNo)
     (are : map (λ (n : PieceNo). n.0) landing ≡ map (landing_number text graph) (below (length text.words))) where
   pub landings_count : length landing ≡ length text.words
   landings_count =
@@ -33,7 +34,8 @@ module _ (text : Words) (graph : Graph) (list : List (List Item)) (fit : AreFit 
       ∙ map_below (landing_number text graph) (length text.words) k 0 inside in
       omega (arith, number, same, fit.landings k inside)
 
-  pub landings_are : (p : Placement) → map (λ (n : PieceNo). addr (slice_index p.at n.0)) landing ≡ landings_of text graph p
+  pub landings_are : (p : Placement) → map (λ (n : PieceNo). addr (slice_index p.at n.0)) landing
+      ≡ landings_of text graph p
   landings_are p =
       sym (map-map (λ (k : ℕ). addr (slice_index p.at k)) (λ (n : PieceNo). n.0) landing)
       ∙ ap (map (λ (k : ℕ). addr (slice_index p.at k))) are

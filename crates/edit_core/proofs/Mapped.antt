@@ -24,29 +24,34 @@ passed true c x rest failed = ap (λ z. cond z (Some x) rest) failed
 passed false c x rest failed = refl
 
 -- the greatest end is not below what it began with
-end_from : (hs : List ProgramHeader) (n : ℕ) → n ≤ fold (λ end segment. max end (segment_end segment)) n (map segment_of hs)
+end_from : (hs : List ProgramHeader) (n : ℕ) → n ≤ fold (λ end segment. max end (segment_end segment)) n
+    (map segment_of hs)
 end_from [] n = omega arith
 end_from (h ∷ hs) n = let later = end_from hs (max n (h.p_vaddr + h.p_memsz)) in omega arith
 
 -- no entry below an address covers it
-none_covers : (file : List ℕ) (hs : List ProgramHeader) (n address : ℕ) → fold (λ end segment. max end (segment_end segment)) n (map segment_of hs) ≤ address
+none_covers : (file : List ℕ) (hs : List ProgramHeader) (n address : ℕ)
+    → fold (λ end segment. max end (segment_end segment)) n (map segment_of hs) ≤ address
     → find (covers address) (map kept (map (mapping_of file) hs)) ≡ None
 none_covers file [] n address above = refl
 none_covers file (h ∷ hs) n address above =
     let ends = end_from hs (max n (h.p_vaddr + h.p_memsz)) in
     let below : h.p_vaddr + h.p_memsz < address + 4 = omega arith in
-    passed (nat_le h.p_vaddr address) (nat_le (address + 4) (h.p_vaddr + h.p_memsz)) (kept (mapping_of file h)) (find (covers address) (map kept (map (mapping_of file) hs)))
+    passed (nat_le h.p_vaddr address) (nat_le (address + 4) (h.p_vaddr + h.p_memsz)) (kept (mapping_of file h))
+    (find (covers address) (map kept (map (mapping_of file) hs)))
     (lt-leb (address + 4) (h.p_vaddr + h.p_memsz) below)
     ∙ none_covers file hs (max n (h.p_vaddr + h.p_memsz)) address above
 
-pub original_covers : (original : List ℕ) (address : ℕ) → (image_of original).base ≤ address → find (covers address) (map kept (mappings original)) ≡ None
+pub original_covers : (original : List ℕ) (address : ℕ) → (image_of original).base ≤ address
+    → find (covers address) (map kept (mappings original)) ≡ None
 unfolding mappings image_of
 original_covers original address above =
     let end = base_above original in
     none_covers original (loadable (program_headers original)) 0 address (omega arith)
 
 -- a word among words as bytes
-pub word_among : (words : List ℕ) (word : ℕ) → word < length words → All (λ w. w < 2 ^ 32) words → big_number 4 (drop (4 * word) (words_bytes words)) ≡ slice_index words word
+pub word_among : (words : List ℕ) (word : ℕ) → word < length words → All (λ w. w < 2 ^ 32) words
+    → big_number 4 (drop (4 * word) (words_bytes words)) ≡ slice_index words word
 unfolding words_bytes
 word_among [] word inside all = absurd (omega arith)
 word_among (w ∷ words) zero inside all = big_number-reads_back 4 w (words_bytes words) (all zero w (omega arith))
@@ -68,11 +73,14 @@ code_mapped original file words table code more all fits base behind size first 
     let is_found : find (covers address) (mappings file) ≡ Some code =
     ap (find (covers address)) all
     ∙ find-append (covers address) (map kept (mappings original)) (table ∷ code ∷ more)
-    ∙ ap (λ o. option_or o (find (covers address) (table ∷ code ∷ more))) (original_covers original address (omega arith))
-    ∙ passed (nat_le table.start address) (nat_le (address + 4) (table.start + table.length)) table (find (covers address) (code ∷ more))
+    ∙ ap (λ o. option_or o (find (covers address) (table ∷ code ∷ more)))
+    (original_covers original address (omega arith))
+    ∙ passed (nat_le table.start address) (nat_le (address + 4) (table.start + table.length)) table
+    (find (covers address) (code ∷ more))
     (lt-leb (address + 4) (table.start + table.length) (omega arith))
     ∙ ap (λ (b : Bool). cond b (Some code) (find (covers address) more))
-    (and_from _ _ (le-leb code.start address (omega arith)) (le-leb (address + 4) (code.start + code.length) (omega arith))) in
+    (and_from _ _ (le-leb code.start address (omega arith)) (le-leb (address + 4) (code.start + code.length)
+    (omega arith))) in
     ap (option_map (λ m. big_number 4 (drop (address - m.start) m.first))) is_found
     ∙ ap (λ at. Some (big_number 4 (drop at code.first))) here
     ∙ ap (λ bytes. Some (big_number 4 (drop (4 * n) bytes))) first

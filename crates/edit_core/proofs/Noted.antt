@@ -32,15 +32,19 @@ use Rattle.edit_core.proofs.Ranges.{IsWhole, ends_by, ranges_rule}
 -- ---- blocks
 
 blocks_rule : (words : ℕ) (firsts : List ℕ) (before : Option ℕ)
-    → ((b : ℕ) → before ≡ Some b → 0 < length firsts → b < slice_index firsts 0) → (before ≡ None → 0 < length firsts → slice_index firsts 0 ≡ 0)
-    → IsAscending firsts → ((i : ℕ) → i < length firsts → slice_index firsts i < words) → are_blocks words before firsts ≡ true
+    → ((b : ℕ) → before ≡ Some b → 0 < length firsts → b < slice_index firsts 0)
+    → (before ≡ None → 0 < length firsts → slice_index firsts 0 ≡ 0)
+    → IsAscending firsts → ((i : ℕ) → i < length firsts → slice_index firsts i < words)
+    → are_blocks words before firsts ≡ true
 blocks_rule words [] before f g a w = refl
 blocks_rule words (x ∷ xs) before f g a w =
     and_from _ _ (and_from _ _ (follow before f g) (lt-ltb x words (w 0 (omega arith))))
-    (blocks_rule words xs (Some x) (λ b e l. let same : x ≡ b = cc in let m : x < slice_index xs 0 = a 0 1 (omega arith) (omega arith) in omega arith)
+    (blocks_rule words xs (Some x) (λ b e l. let same : x ≡ b = cc in let m : x < slice_index xs 0 = a 0 1
+    (omega arith) (omega arith) in omega arith)
     (λ e. absurd (cc)) (λ i j l m. a (suc i) (suc j) (omega arith) (omega arith)) (λ i l. w (suc i) (omega arith)))
   where
-    follow : (o : Option ℕ) → ((b : ℕ) → o ≡ Some b → 0 < suc (length xs) → b < x) → (o ≡ None → 0 < suc (length xs) → x ≡ 0) → follows o x ≡ true
+    follow : (o : Option ℕ) → ((b : ℕ) → o ≡ Some b → 0 < suc (length xs) → b < x)
+        → (o ≡ None → 0 < suc (length xs) → x ≡ 0) → follows o x ≡ true
     follow None f g = eq-eqb x 0 (g refl (omega arith))
     follow (Some b) f g = lt-ltb b x (f b refl (omega arith))
 
@@ -54,7 +58,8 @@ kind_few kinds.Call = omega arith
 kind_few kinds.Out = omega arith
 kind_few kinds.Land = omega arith
 
-node_few : (graph : Graph) (node : Node) → IsNodeIn graph.blocks node → node_number graph node ≤ length graph.blocks.firsts
+node_few : (graph : Graph) (node : Node) → IsNodeIn graph.blocks node
+    → node_number graph node ≤ length graph.blocks.firsts
 node_few graph (Block k) l = omega (arith, l)
 node_few graph X l = omega arith
 
@@ -75,9 +80,11 @@ edges_rule graph (e ∷ es) each =
 abbrev Fits : ℕ → Type 0
 Fits word = word < 2 ^ 32
 
-rows_fit : {R : Type 0} (words : R → List ℕ) (rows : List R) → Each (λ row. Each Fits (words row)) rows → Each Fits (flat_map words rows)
+rows_fit : {R : Type 0} (words : R → List ℕ) (rows : List R) → Each (λ row. Each Fits (words row)) rows
+    → Each Fits (flat_map words rows)
 rows_fit words [] each = tt
-rows_fit words (row ∷ rows) each = each-append Fits (words row) (flat_map words rows) each.0 (rows_fit words rows each.1)
+rows_fit words (row ∷ rows) each = each-append Fits (words row) (flat_map words rows) each.0
+    (rows_fit words rows each.1)
 
 edges_fit : (graph : Graph) (es : List Edge) → length graph.blocks.firsts ≤ 2 ^ 20 → Each (IsEdgeIn graph.blocks) es
     → Each (λ edge. Each Fits (edge_words edge)) (map (note_edge graph) es)
@@ -88,7 +95,8 @@ edges_fit graph (e ∷ es) few each =
     let t = node_few graph e.to each.0.to in
     ((omega arith, (omega arith, (omega arith, (omega arith, tt)))), edges_fit graph es few each.1)
 
-ranges_fit : (nodes from to : ℕ) (rs : List NoteRange) → nodes ≤ 2 ^ 20 → to ≤ 2 ^ 31 → Ascend from to rs → Each (IsWhole nodes) rs
+ranges_fit : (nodes from to : ℕ) (rs : List NoteRange) → nodes ≤ 2 ^ 20 → to ≤ 2 ^ 31 → Ascend from to rs
+    → Each (IsWhole nodes) rs
     → Each (λ range. Each Fits (range_words range)) rs
 ranges_fit nodes from to [] few low a each = tt
 ranges_fit nodes from to (r ∷ rs) few low a each =
@@ -157,21 +165,25 @@ module _ (graph : Graph) (size : ℕ) (p : Placement) (n : Notes) (is : IsNoted 
       ) refl
 
   -- the table and the code hold what lies in them
-  table_holds : (lo hi : ℕ) → n.base ≤ lo → hi ≤ n.base + size → list_any (holds lo hi) (segments_noted n.base size p.code) ≡ true
+  table_holds : (lo hi : ℕ) → n.base ≤ lo → hi ≤ n.base + size
+      → list_any (holds lo hi) (segments_noted n.base size p.code) ≡ true
   table_holds lo hi from to = or_left _ _ (and_from _ _ (le-leb n.base lo from) (le-leb hi (n.base + size) to))
 
   code_holds : (lo hi : ℕ) → n.base + size ≤ lo → hi ≤ n.base + size + 4 * length p.code
       → list_any (holds lo hi) (segments_noted n.base size p.code) ≡ true
   code_holds lo hi from to =
-      or_right _ _ (or_left _ _ (and_from _ _ (le-leb (n.base + size) lo from) (le-leb hi (n.base + size + 4 * length p.code) to)))
+      or_right _ _ (or_left _ _ (and_from _ _ (le-leb (n.base + size) lo from)
+      (le-leb hi (n.base + size + 4 * length p.code) to)))
 
   code_rule : (end : ℕ) → end ≤ n.base + size → are_ranges nodes (segments_noted n.base size p.code) end p.ranges ≡ true
   code_rule end l =
-      ranges_rule nodes (segments_noted n.base size p.code) end (n.base + size) (n.base + size + 4 * length p.code) p.ranges
+      ranges_rule nodes (segments_noted n.base size p.code) end (n.base + size) (n.base + size + 4 * length p.code)
+      p.ranges
       is.ascend is.whole l code_holds
 
   off_rule : (edge : Edge) → IsEdgeIn graph.blocks edge
-      → are_ranges nodes (segments_noted n.base size p.code) 0 ((off_range is.text graph n.base edge ∷ []) ++ p.ranges) ≡ true
+      → are_ranges nodes (segments_noted n.base size p.code) 0 ((off_range is.text graph n.base edge ∷ []) ++ p.ranges)
+      ≡ true
   off_rule edge inside =
       let four = is.table.0 in
       let base = is.base in
@@ -206,14 +218,19 @@ module _ (graph : Graph) (size : ℕ) (p : Placement) (n : Notes) (is : IsNoted 
         delta = is.delta_from;
         tool = omega (arith, is.tool);
         start = (ap (λ z. z % 4) is.start ∙ text.aligned, omega (arith, is.start, text.above));
-        words = (omega (arith, is.words, text.some), omega (arith, is.words, text.few), omega (arith, is.words, is.start, text.below));
+        words = (
+          omega (arith, is.words, text.some),
+          omega (arith, is.words, text.few),
+          omega (arith, is.words, is.start, text.below),
+        );
         entry = omega (arith, is.entry, blocks);
         base = (is.base, omega (arith, is.cells));
         cells = omega (arith, is.cells);
         segment_count = let l = ap length is.segments in omega arith;
         segments = rw (is.segments) segments_rule;
         block_count = omega (arith, blocks, f.few, is.graph_words, is.words);
-        blocks = rw (is.blocks, is.words, ← is.graph_words) (blocks_rule graph.blocks.words graph.blocks.firsts None (λ b e l. absurd (cc)) (λ e l. f.begin) f.ascend f.within);
+        blocks = rw (is.blocks, is.words, ← is.graph_words) (blocks_rule graph.blocks.words graph.blocks.firsts None
+            (λ b e l. absurd (cc)) (λ e l. f.begin) f.ascend f.within);
         edge_count = omega (arith, counts, is.edge_count);
         edges = rw (is.edges, is.cells, is.blocks) (edges_rule graph graph.edges is.edges_in);
         range_count = omega (arith, r);
@@ -246,14 +263,25 @@ module _ (graph : Graph) (size : ℕ) (p : Placement) (n : Notes) (is : IsNoted 
             omega (arith, is.tool),
             (
               omega (arith, is.start, text.below),
-              (omega (arith, is.words, text.few), (omega (arith, is.entry, nodes_few), (omega arith, (omega (arith, is.cells), tt)))),
+              (
+                omega (arith, is.words, text.few),
+                (omega (arith, is.entry, nodes_few), (omega arith, (omega (arith, is.cells), tt))),
+              ),
             ),
           ),
         ),
-      )
-      (omega arith, rw (is.segments) (omega arith, (omega arith, (omega arith, (omega arith, (omega arith, (omega arith, tt))))))))
-      (omega (arith, blocks, nodes_few), rw (is.blocks) first_words))
-      (omega (arith, counts, is.edge_count), rw (is.edges) (rows_fit edge_words (map (note_edge graph) graph.edges) (edges_fit graph graph.edges nodes_few is.edges_in))))
+      ) (
+        omega arith,
+        rw (is.segments) (
+          omega arith,
+          (omega arith, (omega arith, (omega arith, (omega arith, (omega arith, tt))))),
+        ),
+      ))
+      (omega (arith, blocks, nodes_few), rw (is.blocks) first_words)) (
+        omega (arith, counts, is.edge_count),
+        rw (is.edges) (rows_fit edge_words (map (note_edge graph) graph.edges)
+            (edges_fit graph graph.edges nodes_few is.edges_in)),
+      ))
       (omega (arith, r), rw (is.ranges) (rows_fit range_words (off_ranges is.text graph n.base ++ p.ranges) all_fit)))
     where
       off_fits : (edge : Edge) → IsEdgeIn graph.blocks edge
@@ -267,8 +295,10 @@ module _ (graph : Graph) (size : ℕ) (p : Placement) (n : Notes) (is : IsNoted 
       all_fit : Each (λ range. Each Fits (range_words range)) (off_ranges is.text graph n.base ++ p.ranges)
       all_fit =
           each-append _ (off_ranges is.text graph n.base) p.ranges
-          (off_each is.text graph n.base (IsEdgeIn graph.blocks) (Each (λ range. Each Fits (range_words range))) is.edges_in tt off_fits)
-          (ranges_fit nodes (n.base + size) (n.base + size + 4 * length p.code) p.ranges nodes_few is.low is.ascend is.whole)
+          (off_each is.text graph n.base (IsEdgeIn graph.blocks) (Each (λ range. Each Fits (range_words range)))
+          is.edges_in tt off_fits)
+          (ranges_fit nodes (n.base + size) (n.base + size + 4 * length p.code) p.ranges nodes_few is.low is.ascend
+          is.whole)
 
       first_words : Each Fits graph.blocks.firsts
       first_words = each_all Fits graph.blocks.firsts (λ k d l.

@@ -28,7 +28,8 @@ record IsFound {A : Type 0} (p : A → Bool) (Q : A → Type 0) (xs : List A) : 
   passes : p found ≡ true
   each : Q found
 
-found_in : {A : Type 0} (p : A → Bool) (Q : A → Type 0) (xs : List A) (k : ℕ) (x : A) → Each Q xs → slice_get xs k ≡ Some x
+found_in : {A : Type 0} (p : A → Bool) (Q : A → Type 0) (xs : List A) (k : ℕ) (x : A) → Each Q xs
+    → slice_get xs k ≡ Some x
     → p x ≡ true → IsFound p Q xs
 found_in p Q [] k x each e is = absurd (cc)
 found_in p Q (y ∷ ys) zero x each e is =
@@ -38,7 +39,12 @@ found_in p Q (y ∷ ys) zero x each e is =
 found_in p Q (y ∷ ys) (suc k) x each e is = by (p y) refl (found_in p Q ys k x each.1 e is)
   where
     by : (b : Bool) → p y ≡ b → IsFound p Q ys → IsFound p Q (y ∷ ys)
-    by true here later = record { found = y; at = ap (λ b. cond b (Some y) (find p ys)) here; passes = here; each = each.0 }
+    by true here later = record {
+      found = y;
+      at = ap (λ b. cond b (Some y) (find p ys)) here;
+      passes = here;
+      each = each.0;
+    }
     by false here later = record {
       found = later.found;
       at = ap (λ b. cond b (Some y) (find p ys)) here ∙ later.at;
@@ -84,27 +90,33 @@ module _ (b : Blocks) (firsts : AreFirsts b.words b.firsts) where
       each-append IsLast _ (map landing_at (below (length b.firsts)))
       (each-flat_map IsLast (edges_of b) (below (length b.firsts))
       (each-below (λ block. Each IsLast (edges_of b block)) (length b.firsts)
-      (λ block l. each-map IsLast (edge_of b block) (ways_from b block) (each _ (ways_from b block) (way_last block l)))))
+      (λ block l. each-map IsLast (edge_of b block) (ways_from b block)
+      (each _ (ways_from b block) (way_last block l)))))
       (each-map IsLast landing_at (below (length b.firsts)) (each _ (below (length b.firsts)) (λ block e. absurd (cc))))
 
 -- ---- their place
 
 module _ (text : Words) (graph : Graph) (table : ℕ) where
   range_is : (e f : Edge) → e.from ≡ f.from → off_range text graph table e ≡ off_range text graph table f
-  range_is e f same = ap (λ (n : Node). off_range text graph table (record { from = n; to = e.to; kind = e.kind; slot = e.slot })) same
+  range_is e f same = ap (λ (n : Node). off_range text graph table
+      (record { from = n; to = e.to; kind = e.kind; slot = e.slot })) same
 
   -- the one place is that of each such edge
-  pub off_is : graph.edges ≡ edges_in graph.blocks → AreFirsts graph.blocks.words graph.blocks.firsts → (number : ℕ) (edge : Edge)
+  pub off_is : graph.edges ≡ edges_in graph.blocks → AreFirsts graph.blocks.words graph.blocks.firsts
+      → (number : ℕ) (edge : Edge)
       → slice_get graph.edges number ≡ Some edge → edge.slot ≡ slots.Off
       → off_ranges text graph table ≡ off_range text graph table edge ∷ []
   off_is edges firsts number edge at off =
-      let all : Each (IsLast graph.blocks firsts) graph.edges = subst (Each (IsLast graph.blocks firsts)) (sym edges) (all_last graph.blocks firsts) in
+      let all : Each (IsLast graph.blocks firsts) graph.edges = subst (Each (IsLast graph.blocks firsts)) (sym edges)
+      (all_last graph.blocks firsts) in
       let here : is_off edge ≡ true = ap is_behind off in
       let one = found_in is_off (IsLast graph.blocks firsts) graph.edges number edge all at here in
       ap (λ o. option_to_list (option_map (off_range text graph table) o)) one.at
-      ∙ ap (λ (r : NoteRange). r ∷ []) (range_is one.found edge (one.each one.passes ∙ sym (own_last all number edge at here)))
+      ∙ ap (λ (r : NoteRange). r ∷ [])
+      (range_is one.found edge (one.each one.passes ∙ sym (own_last all number edge at here)))
     where
-      own_last : Each (IsLast graph.blocks firsts) graph.edges → (k : ℕ) (e : Edge) → slice_get graph.edges k ≡ Some e → is_off e ≡ true
+      own_last : Each (IsLast graph.blocks firsts) graph.edges → (k : ℕ) (e : Edge) → slice_get graph.edges k ≡ Some e
+          → is_off e ≡ true
           → e.from ≡ Block (record { 0 = length graph.blocks.firsts - 1 })
       own_last all k e at here = each_at (IsLast graph.blocks firsts) graph.edges k e all at here
 
@@ -130,7 +142,8 @@ module _ (text : Words) (graph : Graph) (table : ℕ) where
           pick true is e later = let same : x ≡ edge = cc in subst Q same each.0
           pick false is e later = later e
 
-      by : (o : Option Edge) → find is_off graph.edges ≡ o → P (option_to_list (option_map (off_range text graph table) o))
+      by : (o : Option Edge) → find is_off graph.edges ≡ o
+          → P (option_to_list (option_map (off_range text graph table) o))
       by None e = none
       by (Some edge) e = some edge (found graph.edges all edge e)
 
@@ -156,4 +169,5 @@ module _ (text : Words) (graph : Graph) (table : ℕ) where
       → range_in ((off_range text graph table edge ∷ []) ++ ranges) table ≡ Some (off_range text graph table edge)
   off_here edge ranges =
       ap (λ (b : Bool). cond b (Some (off_range text graph table edge)) (range_in ranges table))
-      (and_from (nat_le table table) (nat_lt table (table + 4)) (le-leb table table (omega arith)) (lt-ltb table (table + 4) (omega arith)))
+      (and_from (nat_le table table) (nat_lt table (table + 4)) (le-leb table table (omega arith))
+      (lt-ltb table (table + 4) (omega arith)))

@@ -8,7 +8,8 @@ use Rattle.elf32_sparc.specs.FileFault.{fault}
 use Rattle.elf32_sparc.specs.Image.{text_from, text_of, no_text, segment_of, highest_end, image_of}
 use Rattle.elf32_sparc.proofs.Accepted.{Accepted, IsFit, accepted, has_text, text_is_fit}
 
-text_is : (file : List ℕ) → Accepted file → (found : Option ProgramHeader) → text_header (program_headers file) ≡ found → IsText (option_map_or (text_from file) found no_text)
+text_is : (file : List ℕ) → Accepted file → (found : Option ProgramHeader) → text_header (program_headers file) ≡ found
+    → IsText (option_map_or (text_from file) found no_text)
 text_is file ok None none = absurd (has_text file ok none)
 text_is file ok (Some h) found = let fit : IsFit file h = text_is_fit file h ok found in fit.text
 

@@ -80,9 +80,11 @@ find_regions p (m ∷ ms) = go (p (region_of m)) (find_regions p ms)
     go false later = later
 
 -- where no region has a word, none that is found has it
-found_has_not : (rs : List Region) (a from count : ℕ) → find (covers a 4) rs ≡ None → HasNot a (find (covers from count) rs)
+found_has_not : (rs : List Region) (a from count : ℕ) → find (covers a 4) rs ≡ None
+    → HasNot a (find (covers from count) rs)
 found_has_not [] a from count none = tt
-found_has_not (r ∷ rs) a from count none = go (covers a 4 r) (covers from count r) refl none (found_has_not rs a from count)
+found_has_not (r ∷ rs) a from count none = go (covers a 4 r) (covers from count r) refl none
+    (found_has_not rs a from count)
   where
     go : (word all : Bool) → covers a 4 r ≡ word → cond word (Some r) (find (covers a 4) rs) ≡ None
         → (find (covers a 4) rs ≡ None → HasNot a (find (covers from count) rs))
@@ -94,14 +96,16 @@ found_has_not (r ∷ rs) a from count none = go (covers a 4 r) (covers from coun
 region_whole : (m : Mapping) → (region_of m).size ≤ length (region_of m).bytes
 region_whole m =
     let all = length-append m.first (replicate (m.length - length m.first) 0) in
-    let zeros : length {A = ℕ} (replicate (m.length - length m.first) 0) ≡ m.length - length m.first = length-replicate (m.length - length m.first) 0 in
+    let zeros : length {A = ℕ} (replicate (m.length - length m.first) 0) ≡ m.length - length m.first =
+    length-replicate (m.length - length m.first) 0 in
     omega arith
 
 or_has_not : (a : ℕ) (x y : Option Region) → HasNot a x → HasNot a y → HasNot a (option_or x y)
 or_has_not a None y hx hy = hy
 or_has_not a (Some r) y hx hy = hx
 
-unless_found : (a : ℕ) (found : Bool) (r : Region) (rest : Option Region) → (found ≡ true → covers a 4 r ≡ false) → HasNot a rest
+unless_found : (a : ℕ) (found : Bool) (r : Region) (rest : Option Region) → (found ≡ true → covers a 4 r ≡ false)
+    → HasNot a rest
     → HasNot a (cond found (Some r) rest)
 unless_found a true r rest here later = here refl
 unless_found a false r rest here later = later
@@ -114,7 +118,8 @@ none_covers a r low = go (nat_le r.start a) (lt-leb (a + 4) (r.start + r.size) l
     go false is = refl
 
 -- a region apart from some span has no bytes of it
-inside_region : (r : Region) (from count : ℕ) → covers from count r ≡ true → (r.start ≤ from) × (from + count ≤ r.start + r.size)
+inside_region : (r : Region) (from count : ℕ) → covers from count r ≡ true
+    → (r.start ≤ from) × (from + count ≤ r.start + r.size)
 inside_region r from count is =
     let two = and_parts (nat_le r.start from) (nat_le (from + count) (r.start + r.size)) is in
     (leb-true r.start from two.0, leb-true (from + count) (r.start + r.size) two.1)
@@ -123,7 +128,8 @@ inside_region r from count is =
 
 -- the heap has no byte below its start
 heap_low : (a : ℕ) → a < 2 ^ 31 → covers a 4 empty_heap ≡ false
-heap_low a below = ap (λ (b : Bool). b && nat_le (a + 4) (empty_heap.start + empty_heap.size)) (lt-leb empty_heap.start a below)
+heap_low a below = ap (λ (b : Bool). b && nat_le (a + 4) (empty_heap.start + empty_heap.size))
+    (lt-leb empty_heap.start a below)
 
 module _ (original : List ℕ) (p : Placement) (place : ℕ → ℕ → ℕ) (table : TableAt) (file : List ℕ)
     (is : IsEdit original p place table file) (texts : List (List ℕ)) where
@@ -139,16 +145,19 @@ module _ (original : List ℕ) (p : Placement) (place : ℕ → ℕ → ℕ) (ta
   abbrev kept_regions : List Region
   kept_regions = map region_of (map kept (mappings original))
 
-  regions_are : (start_memory file texts).regions ≡ kept_regions ++ table_region ∷ code_region ∷ page_region ∷ stack_region texts ∷ []
+  regions_are : (start_memory file texts).regions ≡ kept_regions ++ table_region ∷ code_region ∷ page_region
+      ∷ stack_region texts ∷ []
   regions_are =
       ap (λ ms. map region_of ms ++ stack_region texts ∷ []) is.mapped
       ∙ ap (λ rs. rs ++ stack_region texts ∷ [])
-      (map-append region_of (map kept (mappings original)) (mapping_added (table_at table) ∷ mapping_added (code_segment original p) ∷ mapping_added page_segment ∷ []))
+      (map-append region_of (map kept (mappings original)) (mapping_added (table_at table) ∷ mapping_added
+      (code_segment original p) ∷ mapping_added page_segment ∷ []))
       ∙ append_assoc kept_regions (table_region ∷ code_region ∷ page_region ∷ []) (stack_region texts ∷ [])
 
   found_in : (q : Region → Bool) → find q (start_memory file texts).regions
       ≡ option_or (find q kept_regions) (find q (table_region ∷ code_region ∷ page_region ∷ stack_region texts ∷ []))
-  found_in q = ap (find q) regions_are ∙ find-append q kept_regions (table_region ∷ code_region ∷ page_region ∷ stack_region texts ∷ [])
+  found_in q = ap (find q) regions_are ∙ find-append q kept_regions
+      (table_region ∷ code_region ∷ page_region ∷ stack_region texts ∷ [])
 
   -- nothing that is kept has words above the original
   kept_none : (a : ℕ) → table_base original ≤ a → find (covers a 4) kept_regions ≡ None
@@ -158,9 +167,6 @@ module _ (original : List ℕ) (p : Placement) (place : ℕ → ℕ → ℕ) (ta
 
   -- ---- the table
 
-  abbrev table_end : ℕ
-  table_end = table.base + length table.bytes
-
   table_below : table.base + length table.bytes ≤ 2 ^ 31
   table_below = is.code.leads.whole.below
 
@@ -169,9 +175,11 @@ module _ (original : List ℕ) (p : Placement) (place : ℕ → ℕ → ℕ) (ta
     table_found =
         let base = is.code.base in
         found_in (covers a 4)
-        ∙ ap (λ found. option_or found (find (covers a 4) (table_region ∷ code_region ∷ page_region ∷ stack_region texts ∷ [])))
+        ∙ ap (λ found. option_or found (find (covers a 4)
+        (table_region ∷ code_region ∷ page_region ∷ stack_region texts ∷ [])))
         (kept_none a (omega (arith, base, from)))
-        ∙ ap (λ (b : Bool). cond b (Some table_region) (find (covers a 4) (code_region ∷ page_region ∷ stack_region texts ∷ [])))
+        ∙ ap (λ (b : Bool). cond b (Some table_region)
+        (find (covers a 4) (code_region ∷ page_region ∷ stack_region texts ∷ [])))
         (and_from _ _ (le-leb table.base a from) (le-leb (a + 4) (table.base + length table.bytes) to))
 
     table_at_all : region_at (start_memory file texts) a 4 ≡ Some table_region
@@ -231,9 +239,12 @@ module _ (original : List ℕ) (p : Placement) (place : ℕ → ℕ → ℕ) (ta
     page_found : find (covers a 4) (start_memory file texts).regions ≡ Some page_region
     page_found =
         found_in (covers a 4)
-        ∙ ap (λ found. option_or found (find (covers a 4) (table_region ∷ code_region ∷ page_region ∷ stack_region texts ∷ []))) none_kept
-        ∙ ap (λ (b : Bool). cond b (Some table_region) (find (covers a 4) (code_region ∷ page_region ∷ stack_region texts ∷ []))) table_low
-        ∙ ap (λ (b : Bool). cond b (Some code_region) (find (covers a 4) (page_region ∷ stack_region texts ∷ []))) code_low
+        ∙ ap (λ found. option_or found (find (covers a 4)
+        (table_region ∷ code_region ∷ page_region ∷ stack_region texts ∷ []))) none_kept
+        ∙ ap (λ (b : Bool). cond b (Some table_region)
+        (find (covers a 4) (code_region ∷ page_region ∷ stack_region texts ∷ []))) table_low
+        ∙ ap (λ (b : Bool). cond b (Some code_region) (find (covers a 4) (page_region ∷ stack_region texts ∷ [])))
+        code_low
         ∙ ap (λ (b : Bool). cond b (Some page_region) (find (covers a 4) (stack_region texts ∷ []))) page_covers
 
     word_at_page : HasWordAt a true (start_memory file texts)
@@ -248,7 +259,8 @@ module _ (original : List ℕ) (p : Placement) (place : ℕ → ℕ → ℕ) (ta
       whole = region_whole (mapping_added page_segment);
     }
 
-    apart_from_page : (from count : ℕ) → 0 < count → IsApartFromAll (pages_of (notes_on original p)) (record { from = from; count = count })
+    apart_from_page : (from count : ℕ) → 0 < count → IsApartFromAll (pages_of (notes_on original p))
+        (record { from = from; count = count })
         → covers from count page_region ≡ true → ⊥
     apart_from_page from count some apart found = go apart.1.1.0 (inside_region page_region from count found)
       where
@@ -257,14 +269,16 @@ module _ (original : List ℕ) (p : Placement) (place : ℕ → ℕ → ℕ) (ta
         go (inl after) inside = let b = inside.1 in omega (arith, after, b, some)
         go (inr before) inside = let b = inside.0 in omega (arith, before, b, some)
 
-    alone_at_page : (from count : ℕ) → 0 < count → IsApartFromAll (pages_of (notes_on original p)) (record { from = from; count = count })
+    alone_at_page : (from count : ℕ) → 0 < count → IsApartFromAll (pages_of (notes_on original p))
+        (record { from = from; count = count })
         → HasNot a (find (covers from count) (start_memory file texts).regions)
     alone_at_page from count some apart =
         subst (HasNot a) (sym (found_in (covers from count)))
         (or_has_not a (find (covers from count) kept_regions) _ (found_has_not kept_regions a from count none_kept)
         (unless_found a (covers from count table_region) table_region _ (λ found. table_low)
         (unless_found a (covers from count code_region) code_region _ (λ found. code_low)
-        (unless_found a (covers from count page_region) page_region _ (λ found. absurd (apart_from_page from count some apart found))
+        (unless_found a (covers from count page_region) page_region _
+        (λ found. absurd (apart_from_page from count some apart found))
         (unless_found a (covers from count (stack_region texts)) (stack_region texts) None (λ found. stack_low) tt)))))
 
   pub owned : IsOurs (pages_of (notes_on original p)) own_words (start_memory file texts)

@@ -27,22 +27,26 @@ pub ends_by : (from to : ℕ) (rs : List NoteRange) → Ascend from to rs → fr
 ends_by from to [] a = a
 ends_by from to (r ∷ rs) a = let e = ends_by r.hi to rs a.2 in let f = a.0 in let l = a.1 in omega arith
 
-begins_by : (from to : ℕ) (rs : List NoteRange) → Ascend from to rs → (n : ℕ) (r : NoteRange) → slice_get rs n ≡ Some r → from ≤ r.lo
+begins_by : (from to : ℕ) (rs : List NoteRange) → Ascend from to rs → (n : ℕ) (r : NoteRange) → slice_get rs n ≡ Some r
+    → from ≤ r.lo
 begins_by from to [] a n r e = absurd (cc)
 begins_by from to (x ∷ rs) a zero r e = let same : x ≡ r = cc in subst (λ (z : NoteRange). from ≤ z.lo) same a.0
 begins_by from to (x ∷ rs) a (suc n) r e =
     let later = begins_by x.hi to rs a.2 n r e in let f = a.0 in let l = a.1 in omega arith
 
 -- a range is found by its first address
-found : (from to : ℕ) (rs : List NoteRange) → Ascend from to rs → (n : ℕ) (r : NoteRange) → slice_get rs n ≡ Some r → range_in rs r.lo ≡ Some r
+found : (from to : ℕ) (rs : List NoteRange) → Ascend from to rs → (n : ℕ) (r : NoteRange) → slice_get rs n ≡ Some r
+    → range_in rs r.lo ≡ Some r
 found from to [] a n r e = absurd (cc)
 found from to (x ∷ rs) a zero r e =
     let same : x ≡ r = cc in
     subst (λ (z : NoteRange). range_in (x ∷ rs) z.lo ≡ Some z) same
-    (ap (λ (b : Bool). cond b (Some x) (range_in rs x.lo)) (and_from (nat_le x.lo x.lo) (nat_lt x.lo x.hi) (le-leb x.lo x.lo (omega arith)) (lt-ltb x.lo x.hi a.1)))
+    (ap (λ (b : Bool). cond b (Some x) (range_in rs x.lo)) (and_from (nat_le x.lo x.lo) (nat_lt x.lo x.hi)
+    (le-leb x.lo x.lo (omega arith)) (lt-ltb x.lo x.hi a.1)))
 found from to (x ∷ rs) a (suc n) r e =
     let later : x.hi ≤ r.lo = begins_by x.hi to rs a.2 n r e in
-    passed (nat_le x.lo r.lo) (nat_lt r.lo x.hi) x (range_in rs r.lo) (le-ltb r.lo x.hi later) ∙ found x.hi to rs a.2 n r e
+    passed (nat_le x.lo r.lo) (nat_lt r.lo x.hi) x (range_in rs r.lo) (le-ltb r.lo x.hi later)
+    ∙ found x.hi to rs a.2 n r e
   where
     passed : (b c : Bool) (x : NoteRange) (rest : Option NoteRange) → c ≡ false → cond (b && c) (Some x) rest ≡ rest
     passed true c x rest failed = ap (λ z. cond z (Some x) rest) failed
@@ -68,13 +72,24 @@ ranges_rule nodes segments end from to (r ∷ rs) a w e held =
     let l = a.1 in
     let past : r.hi ≤ to = ends_by r.hi to rs a.2 in
     and_from _ _
-    (rw (eq-eqb _ _ w.0.lo, eq-eqb _ _ w.0.hi, eq-eqb _ _ w.0.address, lt-ltb r.lo r.hi l, le-leb end r.lo (omega arith), held r.lo r.hi f past, le-leb r.node nodes w.0.node) refl)
-    (ranges_rule nodes segments r.hi r.hi to rs a.2 w.1 (omega arith) (λ lo hi from_hi to_end. held lo hi (omega arith) to_end))
+    (rw (
+      eq-eqb _ _ w.0.lo,
+      eq-eqb _ _ w.0.hi,
+      eq-eqb _ _ w.0.address,
+      lt-ltb r.lo r.hi l,
+      le-leb end r.lo
+          (omega arith),
+      held r.lo r.hi f past,
+      le-leb r.node nodes w.0.node,
+    ) refl)
+    (ranges_rule nodes segments r.hi r.hi to rs a.2 w.1 (omega arith)
+    (λ lo hi from_hi to_end. held lo hi (omega arith) to_end))
 
 -- ---- the ranges of laid pieces
 
 -- only the first item of a piece is a Mark
-none_marked : (items : List Item) → NoMarks items → (n : ℕ) (address : Addr) (node : ℕ) → slice_get items n ≡ Some (it.Mark address node) → ⊥
+none_marked : (items : List Item) → NoMarks items → (n : ℕ) (address : Addr) (node : ℕ)
+    → slice_get items n ≡ Some (it.Mark address node) → ⊥
 none_marked [] h n address node e = absurd (cc)
 none_marked (it.Mark a m ∷ items) h n address node e = h
 none_marked (it.Word w ∷ items) h zero address node e = absurd (cc)
@@ -98,12 +113,21 @@ marked_first nodes [] h n address node e = absurd (cc)
 marked_first nodes (it.Mark a m ∷ items) h zero address node e =
     let same : a ≡ address = cc in
     let also : m ≡ node = cc in
-    record { rest = items; is = rw (same, also) refl; first = refl; mark = subst (λ z. IsMark nodes z node items) same (subst (λ z. IsMark nodes a z items) also h.0) }
+    record {
+      rest = items;
+      is = rw (same, also) refl;
+      first = refl;
+      mark = subst (λ z. IsMark nodes z node items) same
+          (subst (λ z. IsMark nodes a z items) also h.0);
+    }
 marked_first nodes (it.Mark a m ∷ items) h (suc n) address node e = absurd (none_marked items h.1 n address node e)
 marked_first nodes (it.Word w ∷ items) h n address node e = absurd (none_marked (it.Word w ∷ items) h n address node e)
-marked_first nodes (it.Jump to ∷ items) h n address node e = absurd (none_marked (it.Jump to ∷ items) h n address node e)
-marked_first nodes (it.Branch c to ∷ items) h n address node e = absurd (none_marked (it.Branch c to ∷ items) h n address node e)
-marked_first nodes (it.EndMark ∷ items) h n address node e = absurd (none_marked (it.EndMark ∷ items) h n address node e)
+marked_first nodes (it.Jump to ∷ items) h n address node e =
+    absurd (none_marked (it.Jump to ∷ items) h n address node e)
+marked_first nodes (it.Branch c to ∷ items) h n address node e =
+    absurd (none_marked (it.Branch c to ∷ items) h n address node e)
+marked_first nodes (it.EndMark ∷ items) h n address node e =
+    absurd (none_marked (it.EndMark ∷ items) h n address node e)
 
 -- an item that takes words ends behind where it begins
 covers : (base : ℕ) (p : Placement) (x : Item) (a b : ℕ) → TakesWords x → Stands base p x a b → a < b
@@ -117,7 +141,8 @@ covers base p (it.Jump to) a b t s = absurd t
 covers base p (it.Mark x m) a b t s = absurd t
 covers base p it.EndMark a b t s = absurd t
 
-module _ (text : Words) (graph : Graph) (table : ℕ) (is : IsText text) (h : IsGraphOf text graph) (base : ℕ) (p : Placement)
+module _ (text : Words) (graph : Graph) (table : ℕ) (is : IsText text) (h : IsGraphOf text graph) (base : ℕ)
+    (p : Placement)
     (place : ℕ → ℕ → ℕ) (laid : IsLaid (piece_list text graph table) base p place) where
   abbrev pieces : List (List Item)
   pieces = piece_list text graph table
@@ -130,17 +155,22 @@ module _ (text : Words) (graph : Graph) (table : ℕ) (is : IsText text) (h : Is
   some_piece k n x None e i = absurd (cc)
   some_piece k n x (Some items) e i = (items, e, i)
 
-  whole_here : (r : NoteRange) (k : ℕ) (address : Addr) (rest : List Item) → slice_get pieces k ≡ Some (it.Mark address r.node ∷ rest)
-      → IsMark count address r.node rest → r.address ≡ address.0 → r.lo ≡ place k 1 → range_in p.ranges r.lo ≡ Some r → IsWhole count r
+  whole_here : (r : NoteRange) (k : ℕ) (address : Addr) (rest : List Item)
+      → slice_get pieces k ≡ Some (it.Mark address r.node ∷ rest)
+      → IsMark count address r.node rest → r.address ≡ address.0 → r.lo ≡ place k 1 → range_in p.ranges r.lo ≡ Some r
+      → IsWhole count r
   whole_here r k address rest piece m says lo is_found =
       let inside : k < length pieces = slice_get_within pieces k _ piece in
-      let item : item_at pieces k 1 ≡ Some m.item = ap (λ o. item_in o 1) piece ∙ ap (λ (xs : List Item). slice_get xs 0) m.is in
+      let item : item_at pieces k 1 ≡ Some m.item = ap (λ o. item_in o 1) piece
+      ∙ ap (λ (xs : List Item). slice_get xs 0) m.is in
       let stands = laid.items k 1 m.item item in
       let wide : place k 1 < place k 2 = covers base p m.item (place k 1) (place k 2) m.takes stands in
       let there = laid.ranges k 1 r.lo m.item item (omega (arith, lo)) (omega (arith, lo, wide)) in
       let opening : range_of (place k) (open_in (slice_get pieces k) 1)
-      ≡ Some (record { lo = place k 1; hi = place k (end_from rest 1); address = address.0; node = r.node }) = ap (λ o. range_of (place k) (open_in o 1)) piece ∙ opens rest m in
-      let same : r ≡ record { lo = place k 1; hi = place k (end_from rest 1); address = address.0; node = r.node } = some_same (sym is_found ∙ there ∙ opening) in
+      ≡ Some (record { lo = place k 1; hi = place k (end_from rest 1); address = address.0; node = r.node }) =
+      ap (λ o. range_of (place k) (open_in o 1)) piece ∙ opens rest m in
+      let same : r ≡ record { lo = place k 1; hi = place k (end_from rest 1); address = address.0; node = r.node } =
+      some_same (sym is_found ∙ there ∙ opening) in
       let size : items_in (slice_get pieces k) ≡ suc (length rest) = ap items_in piece in
       let first = laid.within k 1 inside (omega (arith, size)) in
       let last = laid.within k (end_from rest 1) inside (omega (arith, size, m.ends)) in
@@ -165,10 +195,12 @@ module _ (text : Words) (graph : Graph) (table : ℕ) (is : IsText text) (h : Is
   whole_at n r e =
       let m : IsRangeOf pieces place r = laid.marks n r e in
       let piece = some_piece m.piece m.item (it.Mark m.address r.node) (slice_get pieces m.piece) refl m.mark in
-      let marks : MarksFirst count piece.0 = each_at _ pieces m.piece piece.0 (all_marked text graph table is h) piece.1 in
+      let marks : MarksFirst count piece.0 = each_at _ pieces m.piece piece.0 (all_marked text graph table is h)
+      piece.1 in
       let head = marked_first count piece.0 marks m.item m.address r.node piece.2 in
       whole_here r m.piece m.address head.rest (piece.1 ∙ ap (λ (xs : List Item). Some xs) head.is) head.mark m.says
-      (m.lo ∙ ap (λ z. place m.piece (suc z)) head.first) (found base (base + 4 * length p.code) p.ranges laid.ascend n r e)
+      (m.lo ∙ ap (λ z. place m.piece (suc z)) head.first)
+      (found base (base + 4 * length p.code) p.ranges laid.ascend n r e)
 
   pub ranges_whole : Each (IsWhole count) p.ranges
   ranges_whole = each_index _ p.ranges whole_at
@@ -182,7 +214,8 @@ module _ (text : Words) (graph : Graph) (table : ℕ) (is : IsText text) (h : Is
   last_piece : (k : ℕ) × (word : ℕ) × (item_at pieces k 0 ≡ Some (it.Word word))
   unfolding piece_list
   last_piece =
-      let xs = map (image text graph table) (below (length text.words)) ++ map (way_along text graph table) (own_edges graph)
+      let xs = map (image text graph table) (below (length text.words)) ++ map (way_along text graph table)
+      (own_edges graph)
       ++ map (landing text graph table) (below (length text.words)) in
       (length xs, _, ap (λ o. item_in o 0) (last_is xs foreign_piece))
 

@@ -152,7 +152,8 @@ module _ (original : List ℕ) (p : Placement) where
   are_noted ascend = record {
     inside = in_code;
     ranges = λ a from to.
-        ranges_beside (text_of original) (graph_in original) (table_base original) p.ranges a (inr (omega (arith, from)));
+        ranges_beside (text_of original) (graph_in original) (table_base original) p.ranges a
+        (inr (omega (arith, from)));
     outside = outside ascend;
     blocks = refl;
   }
@@ -160,7 +161,8 @@ module _ (original : List ℕ) (p : Placement) where
   -- the place of a slot behind the text
   off_noted : IsText (text_of original) → IsOffNoted (setting original p) (table_base original)
   off_noted text number edge at off =
-      let cut = cut_of (text_of original) (graph_in original) (record { given = given_of original; is = refl }) text.some in
+      let cut = cut_of (text_of original) (graph_in original) (record { given = given_of original; is = refl })
+      text.some in
       ap (λ offs. range_in (offs ++ p.ranges) (table_base original))
       (off_is (text_of original) (graph_in original) (table_base original) refl cut.firsts number edge at off)
       ∙ off_here (text_of original) (graph_in original) (table_base original) edge p.ranges
@@ -172,7 +174,8 @@ module _ (original : List ℕ) (p : Placement) where
         ≡ slice_index p.at (landing_number (text_of original) (graph_in original) word)
     landings_at word l =
         ap (λ (ns : List ℕ). slice_index ns word)
-        (map-map (λ (a : Addr). a.0) (λ (k : ℕ). addr (slice_index p.at (landing_number (text_of original) (graph_in original) k)))
+        (map-map (λ (a : Addr). a.0) (λ (k : ℕ). addr
+        (slice_index p.at (landing_number (text_of original) (graph_in original) k)))
         (below (length (text_of original).words)))
         ∙ map_below (λ k. slice_index p.at (landing_number (text_of original) (graph_in original) k))
         (length (text_of original).words) word 0 l
@@ -183,13 +186,16 @@ module _ (original : List ℕ) (p : Placement) where
     found_at a low aligned o e =
         let same : a - a % 4 ≡ a = omega (arith, aligned) in
         leads.finds a low
-        ∙ ap (λ z. target_of (landings_of (text_of original) (graph_in original) p) (foreign_of (text_of original) (graph_in original) p) (word_at (text_of original) z)) same
-        ∙ ap (target_of (landings_of (text_of original) (graph_in original) p) (foreign_of (text_of original) (graph_in original) p)) e
+        ∙ ap (λ z. target_of (landings_of (text_of original) (graph_in original) p)
+        (foreign_of (text_of original) (graph_in original) p) (word_at (text_of original) z)) same
+        ∙ ap (target_of (landings_of (text_of original) (graph_in original) p)
+        (foreign_of (text_of original) (graph_in original) p)) e
 
     table_for : IsTableFor (text_of original) (graph_in original) p table
     table_for = record {
       whole = leads.whole;
-      words = λ a word low aligned e. found_at a low aligned (Some word) e ∙ landings_at word (word_at-some (text_of original) a word e).within;
+      words = λ a word low aligned e. found_at a low aligned (Some word) e
+          ∙ landings_at word (word_at-some (text_of original) a word e).within;
       others = λ a low aligned e. found_at a low aligned None e;
     }
 
@@ -200,7 +206,8 @@ module _ (original : List ℕ) (p : Placement) (place : ℕ → ℕ → ℕ) (ta
     laid = subst (λ (a : ℕ). IsLaid (piece_list (text_of original) (graph_in original) a) (code_base original) p place)
         (sym is.code.base) is.code.laid;
     noted = are_noted original p is.code.laid.ascend;
-    frame = is_framed original p table (setting original p) refl is.code.base is.code.leads.size is.code.leads.whole.below;
+    frame = is_framed original p table (setting original p) refl is.code.base is.code.leads.size
+        is.code.leads.whole.below;
     counts = counts_nothing original p;
   }
 
@@ -221,7 +228,8 @@ module _ (original : List ℕ) (p : Placement) (place : ℕ → ℕ → ℕ) (ta
       make (setting original p) (code_base original) p place (frame table) text_is placed
       (table_for original p table is.code.leads) (omega (arith, base)) off_noted_here
 
-  module _ (make : PiecesMakeImages) (args : List (List ℕ)) (input : List ℕ) (given : AreArguments args) (read : AreBytes input) where
+  module _ (make : PiecesMakeImages) (args : List (List ℕ)) (input : List ℕ) (given : AreArguments args)
+      (read : AreBytes input) where
     abbrev s0 : State
     s0 = start_of original args input
 
@@ -246,7 +254,8 @@ module _ (original : List ℕ) (p : Placement) (place : ℕ → ℕ → ℕ) (ta
       valid = file_valid original p place table file is args input given read;
       live = refl;
       at = is.entered
-          ∙ ap (λ found. visited_by (setting original p) (pieces original table) p (frame table) node (point_of s0) found NoSlot)
+          ∙ ap (λ found. visited_by (setting original p) (pieces original table) p (frame table) node
+          (point_of s0) found NoSlot)
           (sym entry_here);
       npc = refl;
       slot = refl;
@@ -286,7 +295,8 @@ module _ (original : List ℕ) (p : Placement) (place : ℕ → ℕ → ℕ) (ta
     }
 
     rests : Rests (setting original p) entry (IsOpen (setting original p))
-        (Here (setting original p) (pieces original table) (code_base original) p (frame table)) Everything EveryItem s0 t0
+        (Here (setting original p) (pieces original table) (code_base original) p (frame table)) Everything EveryItem
+        s0 t0
     rests = record {
       text = text_is;
       first_valid = original_valid original p place table file is args input given read;
@@ -303,7 +313,8 @@ module _ (original : List ℕ) (p : Placement) (place : ℕ → ℕ → ℕ) (ta
 
     answers : (n : ℕ) → IsUntouched (pages_of (notes_on original p)) s0 n → Answered (setting original p) entry s0 t0 n
     answers n untouched =
-        edits_answer (setting original p) (pieces original table) (code_base original) p (frame table) entry s0 t0 n rests untouched
+        edits_answer (setting original p) (pieces original table) (code_base original) p
+        (frame table) entry s0 t0 n rests untouched
 
     bounded : (n : ℕ) → IsUntouched (pages_of (notes_on original p)) s0 (suc n)
         → IsBounded (notes_on original p) s0 t0 n step_limit

@@ -156,20 +156,24 @@ module _ (text : Words) (graph : Graph) (table : ℕ) (is : IsText text) (h : Is
     inside = number_few node inside;
   }
 
-  image_by_marked : (word : ℕ) (node : Node) → IsVisit nodes (record { 0 = address_of text word }) (node_number graph node)
-      → (instr : Instr) → MarksFirst nodes (image_by text graph table (record { 0 = address_of text word }) node word instr)
+  image_by_marked : (word : ℕ) (node : Node) → IsVisit nodes (record { 0 = address_of text word })
+      (node_number graph node)
+      → (instr : Instr) → MarksFirst nodes (image_by text graph table (record { 0 = address_of text word }) node word
+      instr)
   image_by_marked word node visit (i.Branch c annul disp) =
       cond_both (c == always) _ _ (MarksFirst nodes) (λ _. plain_marked nodes _ _ visit _ _ tt)
       (λ _. cond_both (c == never) _ _ (MarksFirst nodes) (λ _. plain_marked nodes _ _ visit _ _ tt)
       (λ _. branch_marked nodes _ _ visit c _ _))
   image_by_marked word node visit (i.Call disp) =
-      words_marked nodes _ _ visit (link 15 (address_of text word)) (record { 0 = way_out text graph node kinds.Call }) (omega arith)
+      words_marked nodes _ _ visit (link 15 (address_of text word)) (record { 0 = way_out text graph node kinds.Call })
+      (omega arith)
   image_by_marked word node visit (i.Jmpl rd rs1 op2) =
       words_marked nodes _ _ visit (jump_image (free_register rd rs1 op2) rd rs1 op2 (address_of text word))
       (record { 0 = way_out text graph node kinds.Out }) (omega arith)
   image_by_marked word node visit instr =
       plain_marked nodes _ _ visit _ (rest_after text graph table word)
-      (cond_both (nat_lt (word + 1) (length text.words)) _ _ NoMarks (λ _. tt) (λ _. far_unmarked (address_of text (length text.words))))
+      (cond_both (nat_lt (word + 1) (length text.words)) _ _ NoMarks (λ _. tt)
+      (λ _. far_unmarked (address_of text (length text.words))))
 
   image_marked : (word : ℕ) → word < length text.words → MarksFirst nodes (image text graph table word)
   image_marked word l =
@@ -187,18 +191,21 @@ module _ (text : Words) (graph : Graph) (table : ℕ) (is : IsText text) (h : Is
       let visit = visit_at word l edge.from inside.from in
       cond_both (is_transfer (decode_of (slice_index text.words word))) _ _ (MarksFirst nodes)
       (λ _. couple_marked nodes _ _ visit _)
-      (λ _. cond_both (same_kind edge.kind kinds.Out) _ _ (MarksFirst nodes) (λ _. out_marked nodes _ _ visit _ (words_of (translator table 1 2)))
+      (λ _. cond_both (same_kind edge.kind kinds.Out) _ _ (MarksFirst nodes)
+      (λ _. out_marked nodes _ _ visit _ (words_of (translator table 1 2)))
       (λ _. plain_marked nodes _ _ visit _ _ (goes_unmarked edge.to _)))
 
   way_by_marked : (edge : Edge) → IsEdgeIn graph.blocks edge → (slot : Slot) → edge.slot ≡ slot
       → MarksFirst nodes (way_by text graph table edge slot)
   way_by_marked edge inside slots.Nothing e =
-      unmarked nodes (goes_along text graph table edge) (goes_unmarked edge.to (way_address text graph edge.from edge.kind))
+      unmarked nodes (goes_along text graph table edge)
+      (goes_unmarked edge.to (way_address text graph edge.from edge.kind))
   way_by_marked edge inside slots.Off e = unmarked nodes (far_piece table) (far_unmarked table)
   way_by_marked edge inside (slots.Word slot) e = slot_marked edge inside slot.0 (in_slot edge.slot e inside.slot)
     where
       in_slot : (s : Slot) → s ≡ slots.Word slot → IsSlotIn graph.blocks s → slot.0 < length text.words
-      in_slot s e l = let m : slot.0 < graph.blocks.words = subst (IsSlotIn graph.blocks) e l in omega (arith, m, words_are text graph h)
+      in_slot s e l = let m : slot.0 < graph.blocks.words =
+          subst (IsSlotIn graph.blocks) e l in omega (arith, m, words_are text graph h)
 
   way_marked : (edge : Edge) → IsEdgeIn graph.blocks edge → MarksFirst nodes (way_along text graph table edge)
   way_marked edge inside =
@@ -227,9 +234,11 @@ module _ (text : Words) (graph : Graph) (table : ℕ) (is : IsText text) (h : Is
       (each-append _ images ways
       (each-map _ (image text graph table) (below (length text.words)) (each-below _ (length text.words) image_marked))
       (each-map _ (way_along text graph table) (own_edges graph) (each_then (own_edges graph) each_own)))
-      (each-map _ (landing text graph table) (below (length text.words)) (each _ (below (length text.words)) (λ word. tt))))
+      (each-map _ (landing text graph table) (below (length text.words))
+      (each _ (below (length text.words)) (λ word. tt))))
       (unmarked nodes foreign_piece (words_only (words_of foreign)), tt)
     where
-      each_then : (es : List Edge) → Each (IsEdgeIn graph.blocks) es → Each (λ edge. MarksFirst nodes (way_along text graph table edge)) es
+      each_then : (es : List Edge) → Each (IsEdgeIn graph.blocks) es
+          → Each (λ edge. MarksFirst nodes (way_along text graph table edge)) es
       each_then [] each = tt
       each_then (e ∷ es) each = (way_marked e each.0, each_then es each.1)

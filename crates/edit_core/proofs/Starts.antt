@@ -63,12 +63,16 @@ module _ (original : List ℕ) (p : Placement) (place : ℕ → ℕ → ℕ) (ta
   pages_are : map span_of (map mapping_added (added original p table)) ≡ pages_of (notes_on original p)
   pages_are =
       let size = is.code.leads.size in
-      ap (λ (a : ℕ). span a (length table.bytes) ∷ span (code_base original) (4 * length p.code) ∷ span editor_page page_size ∷ []) is.code.base
-      ∙ ap (λ (n : ℕ). span (table_base original) n ∷ span (code_base original) (4 * length p.code) ∷ span editor_page page_size ∷ []) size
+      ap (λ (a : ℕ). span a (length table.bytes) ∷ span (code_base original) (4 * length p.code) ∷ span editor_page
+      page_size ∷ []) is.code.base
+      ∙ ap (λ (n : ℕ). span (table_base original) n ∷ span (code_base original) (4 * length p.code) ∷ span editor_page
+      page_size ∷ []) size
 
-  pub memory_alike : (texts : List (List ℕ)) → IsSameOutside (pages_of (notes_on original p)) (start_memory original texts) (start_memory file texts)
+  pub memory_alike : (texts : List (List ℕ)) → IsSameOutside (pages_of (notes_on original p))
+      (start_memory original texts) (start_memory file texts)
   memory_alike texts =
-      subst (λ (pages : List Span). IsSameOutside pages (start_memory original texts) (start_memory file texts)) pages_are
+      subst (λ (pages : List Span). IsSameOutside pages (start_memory original texts) (start_memory file texts))
+      pages_are
       (starts_alike original file (map kept (mappings original)) (map mapping_added (added original p table)) is.mapped
       (all_kept (mappings original)) texts)
 

@@ -27,7 +27,8 @@ pub original_fit : PiecesFit → (original : List ℕ) → CanEdit original
 original_fit fits original can =
     fits (text_of original) (graph_in original) (table_base original) (image_text original can.sound)
     (record { given = given_of original; is = refl })
-    (low (table_base original) (image_of original).room (length (text_of original).words) (image_room original) can.room)
+    (low (table_base original) (image_of original).room (length (text_of original).words)
+    (image_room original) can.room)
   where
     low : (base room words : ℕ) → room ≡ min (2 ^ 30) (0x80000000 - base) → 2 ^ 20 + 512 * words ≤ room → base < 2 ^ 31
     low base room words same enough = omega arith
@@ -37,10 +38,13 @@ module _ (original : List ℕ) (view : View) (is : IsViewOf original view) where
   view_text can = subst (λ (i : Program). IsText i.text) (sym is.0) (image_text original can.sound)
 
   pub view_graph : IsGraphOf view.image.text view.graph
-  view_graph = subst (λ (i : Program). IsGraphOf i.text view.graph) (sym is.0) (subst (IsGraphOf (text_of original)) (sym is.1) (record { given = given_of original; is = refl }))
+  view_graph = subst (λ (i : Program). IsGraphOf i.text view.graph) (sym is.0)
+      (subst (IsGraphOf (text_of original)) (sym is.1) (record { given = given_of original; is = refl }))
 
   pub view_low : CanEdit original → view.image.base + view.image.room ≤ 2 ^ 31
-  view_low can = subst (λ (i : Program). i.base + i.room ≤ 2 ^ 31) (sym is.0) (low (image_of original).base (image_of original).room (image_room original) (accepted-program original can.sound).below)
+  view_low can = subst (λ (i : Program). i.base + i.room ≤ 2 ^ 31) (sym is.0)
+      (low (image_of original).base (image_of original).room (image_room original)
+      (accepted-program original can.sound).below)
     where
       low : (base room : ℕ) → room ≡ min (2 ^ 30) (0x80000000 - base) → base ≤ 0x80000000 → base + room ≤ 2 ^ 31
       low base room same below = omega arith
@@ -62,29 +66,28 @@ module _ (original : List ℕ) (view : View) (is : IsViewOf original view) where
       × IsLaid (piece_list view.image.text view.graph view.image.base) (view.image.base + size_of view.image.text)
       (placement_in placed) place)
       (size : 4 * length placed.code.items ≡ long_bytes (piece_list view.image.text view.graph view.image.base))
-      (base : table.base ≡ view.image.base) (leads : LeadsTo view.image.text view.graph (placement_in placed) table) where
-    pub code_is : All (λ word. word < 2 ^ 32) placed.code.items → AreBytes table.bytes
-        → IsNewCode original (placement_in placed) laid.0 table
-    code_is words bytes = record {
-      laid = subst (λ (a : ℕ). IsLaid (pieces_of original) a (placement_in placed) laid.0) view_base
-          (subst (λ (xs : List (List Item)). IsLaid xs (view.image.base + size_of view.image.text) (placement_in placed) laid.0) view_pieces laid.1);
-      size = size ∙ ap long_bytes view_pieces;
-      words = words;
-      base = base ∙ ap (λ (i : Program). i.base) is.0;
-      leads = subst (λ (i : Program). LeadsTo i.text (graph_in original) (placement_in placed) table) is.0
-          (subst (λ (g : Graph). LeadsTo view.image.text g (placement_in placed) table) is.1 leads);
-      bytes = bytes;
-    }
+      (base : table.base ≡ view.image.base) (leads : LeadsTo view.image.text view.graph (placement_in placed) table)
+    where
+      pub code_is : All (λ word. word < 2 ^ 32) placed.code.items → AreBytes table.bytes
+          → IsNewCode original (placement_in placed) laid.0 table
+      code_is words bytes = record {
+        laid = subst (λ (a : ℕ). IsLaid (pieces_of original) a (placement_in placed) laid.0) view_base
+            (subst (λ (xs : List (List Item)). IsLaid xs (view.image.base + size_of view.image.text)
+            (placement_in placed) laid.0) view_pieces laid.1);
+        size = size ∙ ap long_bytes view_pieces;
+        words = words;
+        base = base ∙ ap (λ (i : Program). i.base) is.0;
+        leads = subst (λ (i : Program). LeadsTo i.text (graph_in original) (placement_in placed) table) is.0
+            (subst (λ (g : Graph). LeadsTo view.image.text g (placement_in placed) table) is.1 leads);
+        bytes = bytes;
+      }
 
-    pub entry_inside : AreFit (text_of original) (graph_in original) (pieces_of original) → (entry : ℕ)
-        → entry < length view.image.text.words → entry < length placed.at.items
-    entry_inside fit entry l =
-        let many = fit.images in
-        let pieces = ap length view_pieces in
-        let words = ap (λ (i : Program). length i.text.words) is.0 in
-        let count = laid.1.count in
-        let same = length-map placed.at.items (λ (a : Addr). a.0) in
-        omega arith
-
-    pub code_low : view.image.base + size_of view.image.text + 4 * length placed.code.items ≤ 2 ^ 31
-    code_low = laid.1.low
+      pub entry_inside : AreFit (text_of original) (graph_in original) (pieces_of original) → (entry : ℕ)
+          → entry < length view.image.text.words → entry < length placed.at.items
+      entry_inside fit entry l =
+          let many = fit.images in
+          let pieces = ap length view_pieces in
+          let words = ap (λ (i : Program). length i.text.words) is.0 in
+          let count = laid.1.count in
+          let same = length-map placed.at.items (λ (a : Addr). a.0) in
+          omega arith

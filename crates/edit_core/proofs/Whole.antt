@@ -26,4 +26,13 @@ edits_answer g l base p f entry s0 t0 last r u =
     let k : Follows g entry s0 t0 last = follows g entry (IsOpen g)
     (Here g l base p f) Everything EveryItem s0 t0 r last u (λ k below live. u.outside k below) in
     let all = runs_follow g.notes s0 t0 64 (limits_in g entry s0) k.moments last k.followed in
-    record { moments = k.moments; answers = all.0; soon = all.1; bounded = all.2; cells = k.cells; early = k.early; told = k.told; between = k.between }
+    record {
+      moments = k.moments;
+      answers = all.0;
+      soon = all.1;
+      bounded = all.2;
+      cells = k.cells;
+      early = k.early;
+      told = k.told;
+      between = k.between;
+    }

@@ -79,7 +79,8 @@ abbrev pub addr : ℕ → Addr
 addr a = record { 0 = a }
 
 abbrev pub landings_of : Words → Graph → Placement → List Addr
-landings_of text graph p = map (λ word. addr (slice_index p.at (landing_number text graph word))) (below (length text.words))
+landings_of text graph p =
+    map (λ word. addr (slice_index p.at (landing_number text graph word))) (below (length text.words))
 
 abbrev pub foreign_of : Words → Graph → Placement → Addr
 foreign_of text graph p = addr (slice_index p.at (foreign_number text graph))
@@ -155,7 +156,8 @@ pub record IsNewCode (original : List ℕ) (p : Placement) (place : ℕ → ℕ 
   pub bytes : AreBytes table.bytes
 
 -- What a written file is: all that those who map it, read its notes or run it need to know.
-pub record IsEdit (original : List ℕ) (p : Placement) (place : ℕ → ℕ → ℕ) (table : TableAt) (file : List ℕ) : Type 0 where
+pub record IsEdit (original : List ℕ) (p : Placement) (place : ℕ → ℕ → ℕ) (table : TableAt)
+    (file : List ℕ) : Type 0 where
   -- of the original
   pub taken : CanEdit original
   pub limit : length original ≤ 2 ^ 26

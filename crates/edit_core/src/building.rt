@@ -36,7 +36,8 @@ pub(crate) fn new_code(alloc: Global, view: &View) -> Result<NewCode, NoMemory>
     ensures size { IfOk result (λ new. 4 * length new.placed.code.items
         ≡ long_bytes (piece_list view.now.image.text view.now.graph view.now.image.base)) }
     ensures base { IfOk result (λ new. new.table.base ≡ view.now.image.base) }
-    ensures leads { IfOk result (λ new. LeadsTo view.now.image.text view.now.graph (placement_in new.placed) new.table) }
+    ensures leads { IfOk result (λ new.
+        LeadsTo view.now.image.text view.now.graph (placement_in new.placed) new.table) }
 {
     let image = &view.image;
     let text = image.text();
@@ -84,7 +85,8 @@ fn laid(alloc: Global, list: &[Piece], image: &Image) -> Result<Placed, NoMemory
 // Where pieces were placed.
 fn places_of(alloc: Global, at: &[Addr], pieces: &[PieceNo]) -> Result<Vec<Addr>, NoMemory>
     requires { All (λ piece. piece.0 < length at.now) pieces.now }
-    ensures { IfOk result (λ v. v.items ≡ map (λ piece. addr (slice_index (map (λ a. a.0) at.now) piece.0)) pieces.now) }
+    ensures { IfOk result (λ v. v.items
+        ≡ map (λ piece. addr (slice_index (map (λ a. a.0) at.now) piece.0)) pieces.now) }
 {
     let mut places = Vec::new(alloc);
     for piece in pieces {

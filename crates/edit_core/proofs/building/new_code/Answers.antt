@@ -10,34 +10,51 @@ use Rattle.edit_core.proofs.building.new_code.Goals as goal
 
 pub laid-requires-clause-pieces : goal.laid-requires-clause-pieces
 laid-requires-clause-pieces c =
-    let fit = pieces_fit c.args.view.now.image.text c.args.view.now.graph c.args.view.now.image.base c.requires.text c.requires.graph (omega (arith, c.requires.room, c.requires.low)) in
+    let fit = pieces_fit c.args.view.now.image.text c.args.view.now.graph c.args.view.now.image.base c.requires.text
+    c.requires.graph (omega (arith, c.requires.room, c.requires.low)) in
     rw (c.deref.ensures.value, c.in_ok-pieces.ensures.list, c.text-text.ensures, c.base-base.ensures.address) fit.pieces
 
 pub laid-requires-clause-bytes : goal.laid-requires-clause-bytes
 laid-requires-clause-bytes c =
-    let fit = pieces_fit c.args.view.now.image.text c.args.view.now.graph c.args.view.now.image.base c.requires.text c.requires.graph (omega (arith, c.requires.room, c.requires.low)) in
+    let fit = pieces_fit c.args.view.now.image.text c.args.view.now.graph c.args.view.now.image.base c.requires.text
+    c.requires.graph (omega (arith, c.requires.room, c.requires.low)) in
     rw (c.deref.ensures.value, c.in_ok-pieces.ensures.list, c.text-text.ensures, c.base-base.ensures.address) fit.bytes
 
 pub places_of-requires : goal.places_of-requires
 places_of-requires c =
-    let fit = pieces_fit c.args.view.now.image.text c.args.view.now.graph c.args.view.now.image.base c.requires.text c.requires.graph (omega (arith, c.requires.room, c.requires.low)) in
-    let count = sym (length-map c.in_ok-placed.placed.at.items (λ (a : Addr). a.0)) ∙ c.in_ok-placed.ensures.laid.1.count in
+    let fit = pieces_fit c.args.view.now.image.text c.args.view.now.graph c.args.view.now.image.base c.requires.text
+    c.requires.graph (omega (arith, c.requires.room, c.requires.low)) in
+    let count = sym (length-map c.in_ok-placed.placed.at.items (λ (a : Addr). a.0))
+    ∙ c.in_ok-placed.ensures.laid.1.count in
     rw (c.deref-3.ensures.value, c.deref-2.ensures.value)
     (landings_inside c.args.view.now.image.text c.args.view.now.graph _ fit c.in_ok-pieces.pieces.landing.items
     (rw (← c.text-text.ensures) c.in_ok-pieces.ensures.landing) (length c.in_ok-placed.placed.at.items)
-    (rw (← c.base-base.ensures.address, ← c.text-text.ensures, ← c.in_ok-pieces.ensures.list, ← c.deref.ensures.value) count))
+    (rw (← c.base-base.ensures.address, ← c.text-text.ensures, ← c.in_ok-pieces.ensures.list, ← c.deref.ensures.value)
+    count))
 
 pub place_of-foreign-requires : goal.place_of-foreign-requires
 place_of-foreign-requires c =
-    let fit = pieces_fit c.args.view.now.image.text c.args.view.now.graph c.args.view.now.image.base c.requires.text c.requires.graph (omega (arith, c.requires.room, c.requires.low)) in
-    let count = sym (length-map c.in_ok-placed.placed.at.items (λ (a : Addr). a.0)) ∙ c.in_ok-placed.ensures.laid.1.count in
-    rw (c.deref-4.ensures.value, count, c.deref.ensures.value, c.in_ok-pieces.ensures.list, c.in_ok-pieces.ensures.foreign, c.text-text.ensures, c.base-base.ensures.address) fit.foreign
+    let fit = pieces_fit c.args.view.now.image.text c.args.view.now.graph c.args.view.now.image.base c.requires.text
+    c.requires.graph (omega (arith, c.requires.room, c.requires.low)) in
+    let count = sym (length-map c.in_ok-placed.placed.at.items (λ (a : Addr). a.0))
+    ∙ c.in_ok-placed.ensures.laid.1.count in
+    rw (
+      c.deref-4.ensures.value,
+      count,
+      c.deref.ensures.value,
+      c.in_ok-pieces.ensures.list,
+      c.in_ok-pieces.ensures.foreign,
+      c.text-text.ensures,
+      c.base-base.ensures.address,
+    ) fit.foreign
 
 pub build-requires-clause-targets : goal.build-requires-clause-targets
 build-requires-clause-targets c =
-    let fit = pieces_fit c.args.view.now.image.text c.args.view.now.graph c.args.view.now.image.base c.requires.text c.requires.graph (omega (arith, c.requires.room, c.requires.low)) in
+    let fit = pieces_fit c.args.view.now.image.text c.args.view.now.graph c.args.view.now.image.base c.requires.text
+    c.requires.graph (omega (arith, c.requires.room, c.requires.low)) in
     ap length (c.deref-5.ensures.value ∙ c.in_ok-targets.ensures)
-    ∙ length-map c.deref-3.result.now (λ (n : PieceNo). addr (slice_index (map (λ (a : Addr). a.0) c.deref-2.result.now) n.0))
+    ∙ length-map c.deref-3.result.now
+    (λ (n : PieceNo). addr (slice_index (map (λ (a : Addr). a.0) c.deref-2.result.now) n.0))
     ∙ ap length c.deref-3.ensures.value
     ∙ landings_count c.args.view.now.image.text c.args.view.now.graph _ fit c.in_ok-pieces.pieces.landing.items
     (rw (← c.text-text.ensures) c.in_ok-pieces.ensures.landing)
@@ -45,12 +62,15 @@ build-requires-clause-targets c =
 
 pub returns-clause-leads : goal.returns-clause-leads
 returns-clause-leads c =
-    let fit = pieces_fit c.args.view.now.image.text c.args.view.now.graph c.args.view.now.image.base c.requires.text c.requires.graph (omega (arith, c.requires.room, c.requires.low)) in
+    let fit = pieces_fit c.args.view.now.image.text c.args.view.now.graph c.args.view.now.image.base c.requires.text
+    c.requires.graph (omega (arith, c.requires.room, c.requires.low)) in
     let p = placement_in c.in_ok-placed.placed in
-    let targets : c.deref-5.result.now ≡ landings_of c.args.view.now.image.text c.args.view.now.graph (placement_in c.in_ok-placed.placed) = c.deref-5.ensures.value ∙ c.in_ok-targets.ensures
+    let targets : c.deref-5.result.now ≡ landings_of c.args.view.now.image.text c.args.view.now.graph
+    (placement_in c.in_ok-placed.placed) = c.deref-5.ensures.value ∙ c.in_ok-targets.ensures
     ∙ rw (c.deref-2.ensures.value, c.deref-3.ensures.value)
     (landings_are c.args.view.now.image.text c.args.view.now.graph _ fit c.in_ok-pieces.pieces.landing.items
     (rw (← c.text-text.ensures) c.in_ok-pieces.ensures.landing) p) in
-    let foreign : c.place_of-foreign.result ≡ foreign_of c.args.view.now.image.text c.args.view.now.graph (placement_in c.in_ok-placed.placed) = c.place_of-foreign.ensures
+    let foreign : c.place_of-foreign.result ≡ foreign_of c.args.view.now.image.text c.args.view.now.graph
+    (placement_in c.in_ok-placed.placed) = c.place_of-foreign.ensures
     ∙ rw (c.deref-4.ensures.value, c.in_ok-pieces.ensures.foreign, c.text-text.ensures) refl in
     rw (← targets, ← foreign, ← c.text-text.ensures) c.in_ok-table.ensures.table

@@ -40,9 +40,12 @@ pub returns-clause-faithful : goal.returns-clause-faithful
 returns-clause-faithful c =
     let written = c.in_ok-file.ensures in
     let can = can_edit c.args.bytes.now c.in_ok-view.view c.in_ok-view.ensures.view c.in_ok-view.ensures.fault
-    (rw (← c.text-text.ensures, ← c.bound-needed.ensures, ← c.room.ensures, ← c.from-had.ensures) c.if-had-needed.false) in
+    (rw (← c.text-text.ensures, ← c.bound-needed.ensures, ← c.room.ensures, ← c.from-had.ensures)
+    c.if-had-needed.false) in
     subst (IsFaithful c.args.bytes.now) (sym written.is)
-    (faithful (edits_run_alike pieces_make_images) places_say c.args.bytes.now (original_fit pieces_fit c.args.bytes.now can)
+    (faithful (edits_run_alike pieces_make_images) places_say c.args.bytes.now
+    (original_fit pieces_fit c.args.bytes.now can)
     c.requires
-    (λ k d below. let same = get_or_default_zero c.args.bytes.now k d below in let fits = c.type_inv.bytes k in omega arith)
+    (λ k d below. let same = get_or_default_zero c.args.bytes.now k d below in let fits =
+    c.type_inv.bytes k in omega arith)
     can written.p written.place written.table written.code)

@@ -21,7 +21,8 @@ image_of-entry-requires c =
     let new = c.in_ok-placed.field-0 in
     rw c.deref.ensures.value (entry_inside c.args.bytes.now c.args.view.now c.requires.view new.placed new.table
     c.in_ok-placed.ensures.laid c.in_ok-placed.ensures.size c.in_ok-placed.ensures.base c.in_ok-placed.ensures.leads
-    (original_fit pieces_fit c.args.bytes.now c.requires.taken) c.entry.result.0 (rw c.entry.ensures.word c.entry.ensures.inside))
+    (original_fit pieces_fit c.args.bytes.now c.requires.taken) c.entry.result.0
+    (rw c.entry.ensures.word c.entry.ensures.inside))
 
 pub write_notes-requires : goal.write_notes-requires
 write_notes-requires c =
