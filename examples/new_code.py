@@ -1,0 +1,175 @@
+"""The code that an edit without snippets makes of a text, and the table that leads to it, made apart from EEL."""
+import struct
+from dataclasses import dataclass
+
+from beside_qemu import form3, sethi
+
+PAGE = 4096
+
+NOP = 0x01000000
+COUPLE = 0x10800002  # ba to the word after the next one
+ALWAYS_OR_NEVER = (8, 0)
+
+G0, G1, G2, O7 = 0, 1, 2, 15
+LD, ST = 0, 4
+ADD, AND, SRL, JMPL = 0, 1, 0x26, 0x38
+
+
+def words(*numbers):
+    return struct.pack(f'>{len(numbers)}I', *numbers)
+
+
+# ---- words: those of the editor's page have numbers, 0 for jumps, 1 for the target, 2 and 3 for registers
+
+def store(register, number):
+    return form3(3, register, ST, G0, ('i', 4 * number - PAGE))
+
+
+def load(register, number, base=G0):
+    return form3(3, register, LD, base, ('i', 4 * number - PAGE))
+
+
+def operation(op3, register, number, source=None):
+    return form3(2, register, op3, register if source is None else source, ('i', number))
+
+
+def jump(address):
+    """Goes to an address by %g1, which waits in word 0 meanwhile."""
+    return [store(G1, 0), sethi(G1, address), operation(JMPL, G0, address & 0x3ff, G1), load(G1, 0)]
+
+
+def link(register, address):
+    """A register takes the address of a CALL or a JMPL; %g0 takes none."""
+    return [sethi(register, address), operation(ADD, register, address & 0x3ff)] if register else []
+
+
+def jump_image(value, address):
+    """The target of a JMPL goes into word 1, by a register that it doesn't name. A misaligned one traps."""
+    rd, rs1 = value >> 25 & 31, value >> 14 & 31
+    second = ('i', value & 0x1fff) if value >> 13 & 1 else ('r', value & 31)
+    named = (rd, rs1, 0 if second[0] == 'i' else second[1])
+    free = [register for register in (1, 2, 3, 4) if register not in named][0]
+    return [store(free, 2), form3(2, free, ADD, rs1, second), store(free, 1), operation(AND, free, 3),
+            load(free, 0, free), load(free, 2), *link(rd, address)]
+
+
+def look_up(table):
+    """Goes on at what the table has for the target, level by level: %g1 has the entry's place, and %g2 the block."""
+    level = form3(3, G2, LD, G2, ('r', G1))
+    return [store(G1, 2), store(G2, 3), load(G1, 1), store(G1, 1),
+            operation(SRL, G1, 20), operation(AND, G1, 0xffc), sethi(G2, table), level,
+            load(G1, 1), operation(SRL, G1, 10), operation(AND, G1, 0xffc), level,
+            load(G1, 1), operation(AND, G1, 0xffc), form3(3, G1, LD, G2, ('r', G1)),
+            load(G2, 3), operation(JMPL, G0, 0, G1), load(G1, 2)]
+
+
+# Goes to the target itself.
+FOREIGN = [store(G1, 2), load(G1, 1), operation(JMPL, G0, 0, G1), load(G1, 2)]
+
+
+# ---- pieces
+
+@dataclass
+class Piece:
+    """A visit, the words that carry it out, those behind them, and the piece at which control then goes on."""
+    visit: tuple = None  # the address of a word, and the node
+    words: tuple = ()
+    branch: tuple = None  # a condition, and the piece to which it leads
+    rest: tuple = ()
+    then: int = None
+
+    def visit_size(self):
+        return 4 * len(self.words) + (24 if self.branch else 0)
+
+    def size(self):
+        return self.visit_size() + 4 * len(self.rest) + (0 if self.then is None else 16)
+
+    def code(self, at):
+        code = list(self.words)
+        if self.branch:
+            condition, to = self.branch
+            code += [(condition ^ 8) << 25 | 2 << 22 | 6, NOP, *jump(at[to])]
+        return [*code, *self.rest, *([] if self.then is None else jump(at[self.then]))]
+
+
+class Pieces:
+    """An image of each word, the way along each edge but for the landings, a landing at each word, and the foreign
+    piece."""
+
+    def __init__(self, program, graph, table):
+        self.program, self.graph, self.table = program, graph, table
+        own = [edge for edge in graph.edges if edge.kind != 'land']
+        self.ways = {(edge.source, edge.kind): graph.count + number for number, edge in enumerate(own)}
+        self.first_landing = graph.count + len(own)
+        self.list = [self.image(word, block) for block, first in enumerate(graph.firsts)
+                     for word in range(first, graph.last(block) + 1)]
+        self.list += [self.way(edge) for edge in own]
+        self.list += [Piece(then=word) for word in range(graph.count)] + [Piece(words=FOREIGN)]
+
+    def address(self, word):
+        return self.program.start + 4 * word
+
+    def image(self, word, block):
+        kind, _, _, condition = self.graph.ends[word]
+        value, visit = self.program.words[word], (self.address(word), block)
+        taken, untaken = self.ways.get((block, 'taken')), self.ways.get((block, 'untaken'))
+        if kind == 'branch' and condition in ALWAYS_OR_NEVER:
+            return Piece(visit, (NOP,), then=taken if condition else untaken)
+        if kind == 'branch':
+            return Piece(visit, branch=(condition, taken), then=untaken)
+        if kind == 'call':
+            return Piece(visit, link(O7, visit[0]), then=self.ways[block, 'call'])
+        if kind == 'jump':
+            return Piece(visit, jump_image(value, visit[0]), then=self.ways[block, 'out'])
+        return Piece(visit, (value,), rest=() if word + 1 < self.graph.count else jump(self.address(word + 1)))
+
+    def way(self, edge):
+        if edge.kind == 'fall':
+            return Piece()
+        if edge.slot == self.graph.count:
+            return Piece(rest=jump(self.table))
+        visit, copy = None, ()
+        if edge.slot is not None:
+            visit, copy = (self.address(edge.slot), edge.source), (self.program.words[edge.slot],)
+            if self.graph.ends[edge.slot][0] != 'fall':
+                return Piece(visit, (COUPLE, COUPLE))
+        if edge.kind == 'out':
+            return Piece(visit, copy, rest=look_up(self.table))
+        if edge.target is not None:
+            return Piece(visit, copy, then=self.graph.firsts[edge.target])
+        last = self.graph.last(edge.source)
+        to = self.address(last + 2) if edge.kind == 'untaken' else self.program.target(last)
+        return Piece(visit, copy, rest=jump(to))
+
+    def places(self, at):
+        """Where visits stand. The first is that of a slot behind the text, in the table, if an edge runs one."""
+        end = self.graph.count
+        behind = [words(self.table, self.table + 4, self.address(end), edge.source)
+                  for edge in self.graph.edges if edge.slot == end]
+        return behind[:1] + [words(lo, lo + piece.visit_size(), *piece.visit)
+                             for lo, piece in zip(at, self.list) if piece.visit]
+
+
+# ---- the table
+
+def pages_of(program, size):
+    return range(program.start // size, (program.start + 4 * len(program.words) - 1) // size + 1)
+
+
+def table_size(program):
+    return PAGE * (3 + len(pages_of(program, PAGE << 10)) + len(pages_of(program, PAGE)))
+
+
+def table_words(program, base, landings, foreign):
+    """Blocks of three levels: the first one, those of the second and the third for all that holds no text, and then
+    those that do."""
+    parts, pages = pages_of(program, PAGE << 10), pages_of(program, PAGE)
+    blocks = [base + PAGE * number for number in range(3 + len(parts) + len(pages))]
+    seconds, thirds = dict(zip(parts, blocks[3:])), dict(zip(pages, blocks[3 + len(parts):]))
+    yield from (seconds.get(part, blocks[1]) for part in range(1024))
+    yield from [blocks[2]] * 1024
+    yield from [foreign] * 1024
+    for part in parts:
+        yield from (thirds.get(page, blocks[2]) for page in range(1024 * part, 1024 * part + 1024))
+    for page in pages:
+        yield from (landings.get(address, foreign) for address in range(PAGE * page, PAGE * page + PAGE, 4))
