@@ -312,10 +312,14 @@ module _ (g : Setting) (l : Pieces) (base : ℕ) (p : Placement) (place : ℕ �
       let three = h.laid.items k (n + 2) _ (items 2 _ refl) in
       let four = h.laid.items k (n + 3) _ (items 3 _ refl) in
       let s0 : place k (n + 0) ≡ place k n = (let e : n + 0 ≡ n = omega arith in ap (place k) e) in
-      let s1 : place k (n + 1) ≡ place k (n + 0) + 4 = (let e : suc (n + 0) ≡ n + 1 = omega arith in ap (place k) (sym e) ∙ one.0) in
-      let s2 : place k (n + 2) ≡ place k (n + 1) + 4 = (let e : suc (n + 1) ≡ n + 2 = omega arith in ap (place k) (sym e) ∙ two.0) in
-      let s3 : place k (n + 3) ≡ place k (n + 2) + 4 = (let e : suc (n + 2) ≡ n + 3 = omega arith in ap (place k) (sym e) ∙ three.0) in
-      let s4 : place k (n + 4) ≡ place k (n + 3) + 4 = (let e : suc (n + 3) ≡ n + 4 = omega arith in ap (place k) (sym e) ∙ four.0) in
+      let s1 : place k (n + 1) ≡ place k (n + 0) + 4 =
+      (let e : suc (n + 0) ≡ n + 1 = omega arith in ap (place k) (sym e) ∙ one.0) in
+      let s2 : place k (n + 2) ≡ place k (n + 1) + 4 =
+      (let e : suc (n + 1) ≡ n + 2 = omega arith in ap (place k) (sym e) ∙ two.0) in
+      let s3 : place k (n + 3) ≡ place k (n + 2) + 4 =
+      (let e : suc (n + 2) ≡ n + 3 = omega arith in ap (place k) (sym e) ∙ three.0) in
+      let s4 : place k (n + 4) ≡ place k (n + 3) + 4 =
+      (let e : suc (n + 3) ≡ n + 4 = omega arith in ap (place k) (sym e) ∙ four.0) in
       let begins = (h.laid.within k n within (omega arith)).begins in
       let ends = (h.laid.within k (n + 4) within (omega arith)).ends in
       let low = h.laid.low in
@@ -325,17 +329,23 @@ module _ (g : Setting) (l : Pieces) (base : ℕ) (p : Placement) (place : ℕ �
       (subst (λ q. StandIn (code_of a.memory) q (long_jump to)) (sym at) stand) far.0 far.1 in
       let none : (i b : ℕ) (x : Item) → i < 4 → slice_get (far_piece to) i ≡ Some x → place k (n + i) ≤ b
       → b < place k (n + i) + 4 → place k (suc (n + i)) ≡ place k (n + i) + 4 → range_in p.ranges b ≡ None =
-      λ i b x l e from below next. h.laid.ranges k (n + i) b x (items i x e) from (omega arith) ∙ ap (range_of (place k)) (closed i l) in
+      λ i b x l e from below next. h.laid.ranges k (n + i) b x (items i x e) from (omega arith)
+      ∙ ap (range_of (place k)) (closed i l) in
       let bare : (u : State) → a.pc ≤ u.pc → u.pc < a.pc + 16 → IsBare u =
-      λ u from to'. (omega arith, omega arith, by_item (place k (n + 0)) (place k (n + 1)) (place k (n + 2)) (place k (n + 3)) u.pc
-      (omega arith) (omega arith) s1 s2 s3
-      (λ f b. none 0 u.pc _ (omega arith) refl f b one.0) (λ f b. none 1 u.pc _ (omega arith) refl f b two.0)
-      (λ f b. none 2 u.pc _ (omega arith) refl f b three.0) (λ f b. none 3 u.pc _ (omega arith) refl f b four.0)) in
+      λ u from to'. (
+        omega arith,
+        omega arith,
+        by_item (place k (n + 0)) (place k (n + 1)) (place k (n + 2)) (place k (n + 3)) u.pc
+            (omega arith) (omega arith) s1 s2 s3
+            (λ f b. none 0 u.pc _ (omega arith) refl f b one.0) (λ f b. none 1 u.pc _ (omega arith) refl f b two.0)
+            (λ f b. none 2 u.pc _ (omega arith) refl f b three.0) (λ f b. none 3 u.pc _ (omega arith) refl f b four.0),
+      ) in
       record {
         count = 4;
         memory = store_word a.memory (page_word 0) (register_of a 1);
         few = omega arith;
-        path = leads_weaker _ _ a _ 4 (λ u q. let b = q.past in let c = q.before in bare u (omega arith) (omega arith)) hops.path;
+        path = leads_weaker _ _ a _ 4
+            (λ u q. let b = q.past in let c = q.before in bare u (omega arith) (omega arith)) hops.path;
         silent = hops.silent;
         stores = hops.stores;
         begins = λ q. bare a (omega arith) (omega arith);
@@ -481,14 +491,17 @@ module _ (g : Setting) (l : Pieces) (base : ℕ) (p : Placement) (place : ℕ �
     in_range =
         let a = stands.at in
         let w = stands.next in
-        h.laid.ranges c.piece 1 t.pc (it.Word c.word) (ap (λ (v : Option (List Item)). item_in v 1) c.items) (omega arith) (omega arith)
+        h.laid.ranges c.piece 1 t.pc (it.Word c.word) (ap (λ (v : Option (List Item)). item_in v 1) c.items)
+        (omega arith) (omega arith)
         ∙ ap (λ (v : Option (List Item)). range_of (place c.piece) (open_in v 1)) c.items
 
     visits : visits_it g node x t
     visits =
         let i0 = stands.inside.0 in
         let i1 = stands.inside.1 in
-        at_range node x t (record { lo = place c.piece 1; hi = place c.piece 2; address = c.address.0; node = number_in g node }) here.live i0 (omega arith) in_range (sym stands.at) refl c.original
+        at_range node x t
+        (record { lo = place c.piece 1; hi = place c.piece 2; address = c.address.0; node = number_in g node })
+        here.live i0 (omega arith) in_range (sym stands.at) refl c.original
 
     same : moved x.pc x.npc x.slot (act t (decode_of c.word)) ≡ moved x.pc x.npc x.slot
         (act (at_point x t) (decode_of c.word))

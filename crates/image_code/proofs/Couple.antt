@@ -197,7 +197,8 @@ module _ (g : Setting) (l : Pieces) (base : ℕ) (p : Placement) (place : ℕ �
         let i0 = inside.0 in
         let i1 = inside.1 in
         node_is g l base p place f h t.npc
-        (Some (record { lo = place c.piece 1; hi = place c.piece 3; address = c.address.0; node = number_in g node })) (omega arith) (omega arith) (in_range t.npc (omega arith) (omega arith));
+        (Some (record { lo = place c.piece 1; hi = place c.piece 3; address = c.address.0; node = number_in g node }))
+        (omega arith) (omega arith) (in_range t.npc (omega arith) (omega arith));
   }
 
 pub couples_step : CouplesStep

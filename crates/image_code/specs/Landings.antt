@@ -26,7 +26,8 @@ use Rattle.image_code.specs.Cases.{Everything, LeadsTo, next_visit}
 -- piece.
 abbrev pub Lands : Setting → Pieces → Placement → Frame → ℕ → ℕ → Type 0
 Lands g l p f target visit =
-    ((piece : PieceNo) × (piece.0 < length l.list) × (looked_up f.table target ≡ slice_index p.at piece.0) × LeadsTo l p piece visit)
+    ((piece : PieceNo) × (piece.0 < length l.list) × (looked_up f.table target ≡ slice_index p.at piece.0)
+    × LeadsTo l p piece visit)
     ⊎ ((piece : PieceNo) × (piece.0 < length l.list) × (looked_up f.table target ≡ slice_index p.at piece.0)
     × (slice_get l.list piece.0 ≡ Some foreign_piece) × (word_at g.text target ≡ None))
 

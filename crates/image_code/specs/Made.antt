@@ -174,11 +174,11 @@ abbrev pub IsOffNoted : Setting → ℕ → Type 0
 IsOffNoted g table =
     (number : ℕ) (edge : Edge) → slice_get (graph_in g).edges number ≡ Some edge → edge.slot ≡ slots.Off
     → range_at g.notes table ≡ Some (record {
-        lo = table;
-        hi = table + 4;
-        address = address_of g.text (length g.text.words);
-        node = number_in g edge.from;
-      })
+      lo = table;
+      hi = table + 4;
+      address = address_of g.text (length g.text.words);
+      node = number_in g edge.from;
+    })
 
 -- However they are placed, each image is one step of the original, at every point outside the pages.
 abbrev pub PiecesMakeImages : Type 0
