@@ -1,11 +1,12 @@
 #!/usr/bin/env python3
 """Runs random programs by ./eel and by qemu-sparc, and says for which the two differ.
 
-    examples/beside_qemu.py COUNT [FIRST]
+    examples/beside_qemu.py [--edited] COUNT [FIRST]
 
 Each program fills its registers, carries out some sixty random instructions (arithmetic, branches with and without
 annulled slots, CALLs, loads and stores, windows up to a dozen deep), and puts out all registers of the current
-window, the codes, Y, and its data. Random file number N is the same in each run.
+window, the codes, Y, and its data. Random file number N is the same in each run. With --edited, ./eel also edits each
+program and runs the edited file, which must put out and come to the same.
 """
 import os
 import random
@@ -166,10 +167,29 @@ def program():
     return (header + b''.join(segments) + text).ljust(place, b'\0') + data
 
 
+def eel_run(name):
+    ran = subprocess.run([EEL, 'run', name], capture_output=True)
+    return ran.stdout, ran.stderr
+
+
+def qemu_run(name):
+    """What qemu-sparc puts out, and the ending line that belongs to its status."""
+    ran = subprocess.run(['qemu-sparc', name], capture_output=True)
+    return ran.stdout, b'exit %d\n' % ran.returncode
+
+
+def edited_run(name):
+    """What the edited file of a program comes to, or None where it can't be edited."""
+    edit = subprocess.run([EEL, 'edit', name, f'{name}.edited', 'plain'], capture_output=True)
+    return None if edit.returncode or edit.stderr else eel_run(f'{name}.edited')
+
+
 def main():
-    count = int(sys.argv[1])
-    first = int(sys.argv[2]) if len(sys.argv) > 2 else 0
-    differ = 0
+    edited = sys.argv[1] == '--edited'
+    count, *rest = [int(word) for word in sys.argv[1 + edited:]]
+    first = rest[0] if rest else 0
+    others = {'qemu-sparc': qemu_run} | ({'its edited file': edited_run} if edited else {})
+    differ = dict.fromkeys(others, 0)
     with tempfile.TemporaryDirectory() as folder:
         name = os.path.join(folder, 'program')
         for seed in range(first, first + count):
@@ -177,13 +197,14 @@ def main():
             with open(name, 'wb') as target:
                 target.write(program())
             os.chmod(name, 0o755)
-            ours = subprocess.run([EEL, 'run', name], capture_output=True)
-            theirs = subprocess.run(['qemu-sparc', name], capture_output=True)
-            if ours.stdout != theirs.stdout or ours.stderr != b'exit %d\n' % theirs.returncode:
-                print(f'program {seed} differs: {ours.stderr.decode().strip()}, and {theirs.returncode}')
-                differ += 1
-    print(f'{count} programs, {differ} differ')
-    return 1 if differ else 0
+            ours = eel_run(name)
+            for other, run in others.items():
+                theirs = run(name)
+                if theirs != ours:
+                    print(f'program {seed} differs from {other}: {ours[1]}, and {theirs and theirs[1]}')
+                    differ[other] += 1
+    print(f'{count} programs', *[f'{number} differ from {other}' for other, number in differ.items()], sep=', ')
+    return 1 if any(differ.values()) else 0
 
 
 if __name__ == '__main__':

@@ -1,6 +1,6 @@
 #!/usr/bin/env python3
-"""Runs the programs of programs.py by ./eel, each beside its edited file. Then does so with random programs, whose
-edited files must also have just the bytes that written.py makes.
+"""Runs the programs of programs.py by ./eel, each beside its edited file, and then random programs. Each edited file
+must have just the bytes that written.py makes, and its original again where it is restored.
 
     examples/compare.py [COUNT [FIRST]]
 
@@ -59,12 +59,21 @@ def compare_run(program, words, ending):
     return compare(f'{program.name}, {words}', eel('run', *words, given=program.given), wanted)
 
 
+def edit_fault(file):
+    """Edits the file f, which has these bytes, as g, and says what is wrong with that, if anything."""
+    if eel('edit', 'f', 'g', 'plain') != (0, b'', b'') or get('g') != written(file):
+        return 'not edited'
+    if eel('restore', 'g', 'h') != (0, b'', b'') or get('h') != file:
+        return 'not restored'
+    return None
+
+
 def compare_program(program):
     """Runs the file f in just its steps, in one less, and its edited file."""
     steps = program.steps
     faults = compare_run(program, ['f', '-n', str(steps)], program.ending)
     faults += compare_run(program, ['f', '-n', str(steps - 1)], f'stopped {steps - 1}')
-    faults += compare(f'{program.name}, its edit', eel('edit', 'f', 'g', 'plain'), (0, b'', b''))
+    faults += compare(f'{program.name}, its edit', edit_fault(program.file()), None)
     return faults + compare_run(program, ['g', '-n', str(EACH * (steps + 1))], program.ending)
 
 
@@ -96,11 +105,8 @@ def compare_random(number):
     random.seed(number)
     file = random_program()
     put('f', file)
-    if eel('edit', 'f', 'g', 'plain') != (0, b'', b'') or get('g') != written(file):
-        return 'not edited', True
-    if eel('restore', 'g', 'h') != (0, b'', b'') or get('h') != file:
-        return 'not restored', True
-    return compare_runs(STEPS)
+    fault = edit_fault(file)
+    return (fault, True) if fault else compare_runs(STEPS)
 
 
 def compare_all_random(count, first):

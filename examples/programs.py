@@ -127,6 +127,21 @@ PRINTS_ITS_HEADER.output = PRINTS_ITS_HEADER.file()[:52]
 
 SMALL = STRAIGHT + BRANCHING + CALLING + [PRINTS_ITS_HEADER]
 
+# Parentheses twelve deep, a chain of nine fractions, what is no number, and a fault.
+FRACTIONS = b'''1/2+1/3
+2*(3-10/4)-7
+((((((((((((1/2))))))))))))*6
+1+1/(1+1/(1+1/(1+1/(1+1/(1+1/(1+1/(1+1/(1+1/2))))))))
+100/(5-10/2)
+(0-3)/9*(4/(0-8))
+4x2
+7-(8
+'''
+FRACTIONS_WORKED_OUT = b'5/6\n-6\n3\n144/89\nno number\n1/6\na fault at byte 137\n-1\n'
+
+SAMPLES_SUMMED_UP = (b'900 2024 -55, off by 7 at most\n343b2490 c9741860\nd8726b4a 8240\n'
+                     b'-2583 -2571 2589, 12817b38\n0 -141 2589, 869590c6\n0 186 -141, 3f47acd1\n')
+
 C_PROGRAMS = [
     Program('word_count', '', 1472, 'exit 0', output=b'4 17 91\n',
         given=b'The windows overlap:\n\nthe ins of one\tare the outs of the next.\n'
@@ -137,4 +152,20 @@ C_PROGRAMS = [
     Program('sieve', '', 163414146, 'exit 0', output=b'664579\n'),
     Program('branches', '', 2124, 'exit 1',
         output=b'-93 -62 -53 -41 0 23 26 31 58 59 84 97\n129 111\n'),
+    Program('fractions', '', 11450, 'exit 1', given=FRACTIONS, output=FRACTIONS_WORKED_OUT),
+    Program('fractions_unoptimised', '', 32772, 'exit 1', given=FRACTIONS, output=FRACTIONS_WORKED_OUT),
+    Program('fractions_by_clang', '', 11393, 'exit 1', given=FRACTIONS, output=FRACTIONS_WORKED_OUT),
+    Program('interpreter', '', 127083, 'exit 0',
+        output=b'89 -7 2 3 5 7 11 13 17 19 23 29 31 37 41 43 47 53 59 -11 \n'
+               b'1 949 0 624 143 279 286 136 1 119 1 600 156 600 287 287 663 195 20\n'),
+    Program('long_numbers', '', 11387, 'exit 0',
+        output=b'2432902008176640000 is 20!\n'
+               b'12200160415121876738 is the 93rd Fibonacci number\n'
+               b'12157665459056928801 is 3 to the 40th\n'
+               b'-558545864083284007 is -7 to the 21st\n'
+               b'-8365308680057137561 is the least of 20 numbers\n'
+               b'471899279385846262 is minus the sum of their eighths\n'
+               b'8683317618811886495518194401280000000 is 33!\n'),
+    Program('samples', '', 55300, 'exit 99', output=SAMPLES_SUMMED_UP),
+    Program('samples_unoptimised', '', 160122, 'exit 99', output=SAMPLES_SUMMED_UP),
 ]

@@ -28,7 +28,7 @@ ARGUMENTS = {'sieve': ' -- 1000', ARGUMENT.name: ' -- hello world'}
 
 # Programs whose edited files stand beside them, byte for byte.
 WRITTEN = ['three_words', 'annulled_branches', 'carry_loop', 'transfer_in_slot', 'call_and_return', 'inner_landings',
-    'ends_with_a_branch']
+    'ends_with_a_branch', 'branches', 'fractions']
 
 LISTING = (b'routine 00010054 -\nblock 0 00010054 3\nedge 0 fall 00010054 x -\n'
     b'edge 1 land x 00010054 -\nroutines 1 blocks 1 edges 2\n')

@@ -22,35 +22,64 @@ def notes(graph, places, *head):
     return b''.join([words(*head, outside, *graph.firsts, len(edges)), *edges, words(len(places)), *places])
 
 
+def carried(header, delta):
+    """A program header of the original, whose bytes stand further on; the text is no longer executable."""
+    kind, offset, start, physical, size, memory, flags, align = header
+    if kind == 1 and flags & 3 == 1:
+        flags &= ~1
+    return words(kind, (offset + delta) % 2**32, start, physical, size, memory, flags, align)
+
+
+def section_table(original, delta):
+    """The table of the original, whose sections stand further on; and how many they are, and which has their names."""
+    at, = struct.unpack_from('>I', original, 32)
+    size, count, names = struct.unpack_from('>3H', original, 46)
+    if not at or size != 40 or not count or at + 40 * count > len(original):
+        return b'', 0, 0
+    table = b''
+    for number in range(count):
+        name, kind, flags, address, offset, *rest = struct.unpack_from('>10I', original, at + 40 * number)
+        table += words(name, kind, flags, address, (offset + delta) % 2**32 if kind else offset, *rest)
+    return table, count, names
+
+
 def written(original):
-    """For a file with one segment, which is its text, and no sections."""
+    """For a file that can be edited."""
     program = Program(original)
     graph = Graph(program)
-    _, offset, start, _, size, memory, _, align = struct.unpack_from('>8I', original, 52)
-    table = up(start + memory, 0x10000)
+    at, = struct.unpack_from('>I', original, 28)
+    count, = struct.unpack_from('>H', original, 44)
+    segments = [struct.unpack_from('>8I', original, at + 32 * number) for number in range(count)]
+    loaded = [header for header in segments if header[0] == 1 and header[5]]
+    table = up(max(header[2] + header[5] for header in loaded), 0x10000)
     base = table + table_size(program)
     pieces = Pieces(program, graph, table)
     at = list(accumulate((piece.size() for piece in pieces.list), initial=base))
     code = b''.join(words(*piece.code(at)) for piece in pieces.list)
     landings = {pieces.address(word): at[pieces.first_landing + word] for word in range(graph.count)}
-    segments = [(table, 4, words(*table_words(program, table, landings, at[-2]))), (base, 5, code),
-                (EDITOR_PAGE, 6, bytes(PAGE))]
-    noted = [number for vaddr, _, content in segments for number in (vaddr, len(content))]
-    delta = max(PAGE, align)
+    added = [(table, 4, words(*table_words(program, table, landings, at[-2]))), (base, 5, code),
+             (EDITOR_PAGE, 6, bytes(PAGE))]
+    noted = [number for vaddr, _, content in added for number in (vaddr, len(content))]
+    delta = max(PAGE, *(header[7] for header in loaded))
     entry_block = [first <= graph.entry for first in graph.firsts].count(True) - 1
-    told = notes(graph, pieces.places(at), delta, len(original), 0, start, graph.count, entry_block, table, 0,
-                 len(segments), *noted)
-    headers = original[:16] + struct.pack('>HHIIIIIHHHHHH', 2, 2, 1, at[graph.entry], 52, 0, 0, 52, 32, 4, 40, 0, 0)
-    headers += words(1, offset + delta, start, start, size, memory, 4, align)
+    told = notes(graph, pieces.places(at), delta, len(original), 0, program.start, graph.count, entry_block, table, 0,
+                 len(added), *noted)
+    headers = [carried(header, delta) for header in segments
+               if header[0] != 6 and (header[0] != 1 or header[5])]
     parts = [(delta, original)]
     end = delta + len(original)
-    for vaddr, flags, content in segments:
+    for vaddr, flags, content in added:
         place = up(end, PAGE)
-        headers += words(1, place, vaddr, vaddr, len(content), len(content), flags, PAGE)
+        headers.append(words(1, place, vaddr, vaddr, len(content), len(content), flags, PAGE))
         parts.append((place, content))
         end = place + len(content)
-    locator = words(0x45454c4e, 1, end, len(told))
+    notes_at = up(end, 4)
+    sections, section_count, names = section_table(original, delta)
+    head = original[:16] + struct.pack('>HHIIII', 2, 2, 1, at[graph.entry], 52,
+                                       notes_at + len(told) if sections else 0)
+    head += original[36:40] + struct.pack('>6H', 52, 32, len(headers), 40, section_count, names)
+    locator = words(0x45454c4e, 1, notes_at, len(told))
     file = b''
-    for where, part in ((0, headers), (4032, locator), *parts, (end, told)):
+    for where, part in ((0, b''.join([head, *headers])), (4032, locator), *parts, (notes_at, told + sections)):
         file += bytes(where - len(file)) + part
     return file

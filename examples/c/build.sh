@@ -1,6 +1,6 @@
 #!/bin/sh
 # Builds the programs beside this script into crates/program_runs/data, and writes what that crate must print:
-# gcc-sparc64-linux-gnu of Debian compiles them for SPARC V8.
+# gcc-sparc64-linux-gnu of Debian compiles them for SPARC V8, and clang of Debian one of them.
 set -e
 cd "$(dirname "$0")"
 data=../../crates/program_runs/data
@@ -15,9 +15,16 @@ build() {
     sparc64-linux-gnu-strip --strip-debug -R .comment -R .note.gnu.build-id "$data/$program"
 }
 
-for program in word_count queens calculator sieve; do
+for program in word_count queens calculator sieve fractions interpreter long_numbers samples; do
     build "$program" start.S "$program.c"
 done
-# Its code stands in a segment of its own, without the headers, so that it can be edited.
+for program in fractions samples; do
+    build "${program}_unoptimised" start.S "$program.c" -O0
+done
+clang --target=sparc-linux-gnu -mcpu=v8 -msoft-float -fintegrated-as -ffreestanding -fno-pic \
+    -fno-asynchronous-unwind-tables -O2 -Wall -c fractions.c -o fractions_by_clang.o
+build fractions_by_clang start.S fractions_by_clang.o
+rm fractions_by_clang.o
+# Its code stands in a segment of its own, without the headers.
 build branches branches.c -Wl,-z,separate-code -Wl,-z,max-page-size=0x1000
 python3 ../write_programs.py
