@@ -1,5 +1,6 @@
 pub mod Ops
 pub mod OpLaws
+pub mod Cells
 pub mod Grammar
 pub mod Scripts
 pub mod Parts

@@ -1,0 +1,2 @@
+//! Registers to work in.
+#![tactic(auto)]

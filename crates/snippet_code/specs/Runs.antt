@@ -1,0 +1,88 @@
+-- What it is for words to do just a snippet.
+use Rattle.std.specs.Prelude.{◌≡◌, ℕ, ◌+◌, ◌*◌, ◌^◌, ◌<◌, ◌≤◌, ◌⊎◌, Bool, true, false, List, [], ◌∷◌, length, map, None}
+use Rattle.std.specs.List.{range_with_len}
+use Rattle.v8_alu.specs.Numbers.{wrapped}
+use Rattle.v8_decode.specs.declared.Part.{Part}
+use Rattle.v8_memory.specs.Regions.{Memory, code_of}
+use Rattle.v8_step.specs.declared.Slot.TheVariants.{NoSlot}
+use Rattle.v8_step.specs.State.{State, register_of}
+use Rattle.v8_step.specs.Valid.{IsValid}
+use Rattle.v8_step.specs.Items.{Item, IsAmong, IsSameAt}
+use Rattle.code_runs.specs.Hops.{hopped}
+use Rattle.code_runs.specs.Leads.{Leads, IsSilent}
+use Rattle.code_runs.specs.Page.{page_word}
+use Rattle.code_runs.specs.StoredWords.{memory_word, Stores, CanStore}
+use Rattle.code_runs.specs.Straight.{IsReady, HasWords}
+use Rattle.code_runs.specs.TwoRegisters.{IsBetween}
+use Rattle.snippets.specs.declared.snippet.Op.{Op}
+use Rattle.snippets.specs.Cells.{update}
+use Rattle.snippets.specs.Ops.{cell_of}
+use Rattle.snippet_code.specs.Counted.{count_stores}
+
+-- ---- cells in memory
+
+-- the address of a cell, where the first one stands at `base`
+abbrev pub cell_at : ℕ → ℕ → ℕ
+cell_at base cell = base + 4 * cell
+
+-- so many words of memory from an address on
+abbrev pub words_at : ℕ → ℕ → Memory → List ℕ
+words_at base count m = map (λ k. memory_word m (cell_at base k)) (range_with_len 0 count)
+
+-- a cell on which an operation works
+abbrev pub IsCellOf : List Op → ℕ → Type 0
+IsCellOf [] k = ⊥
+IsCellOf (op ∷ ops) k = (k ≡ cell_of op) ⊎ IsCellOf ops k
+
+-- The words of the editor's page in which registers are kept meanwhile: five from word 2 on.
+abbrev pub kept_word : ℕ → ℕ
+kept_word n = page_word (n + 2)
+
+-- where a snippet's words may store: in its cells, and in those words of the page
+abbrev pub MayStore : ℕ → List Op → ℕ → Type 0
+MayStore base ops a =
+    ((k : ℕ) × (IsCellOf ops k) × (a ≡ cell_at base k)) ⊎ ((n : ℕ) × (n < 5) × (a ≡ kept_word n))
+
+-- ---- states
+
+-- The words come next, and the snippet's cells and the page's words may be loaded and stored.
+pub record IsAboutToRun (words : List ℕ) (base : ℕ) (ops : List Op) (s : State) : Type 0 where
+  pub valid : IsValid s
+  pub ready : IsReady s
+  pub slot : s.slot ≡ NoSlot
+  pub low : s.pc + 4 * length words < 2 ^ 32 - 4
+  pub stand : HasWords (code_of s.memory) s.pc words
+  pub cell : (k : ℕ) → IsCellOf ops k → CanStore s.memory (cell_at base k)
+  pub page : (n : ℕ) → n < 5 → CanStore s.memory (kept_word n)
+
+-- Past the last word, in no more steps than words, silently: the cells are updated, only registers, codes or Y that are
+-- dead may have changed, and no more than `most` stores were counted.
+pub record RunsPast (counted : ℕ → Bool) (base : ℕ) (dead : List Part) (ops : List Op) (count most : ℕ)
+    (s : State) : Type 0 where
+  pub after : State
+  pub steps : ℕ
+  pub few : steps ≤ count
+  pub path : Leads (IsBetween s count (MayStore base ops)) s after steps
+  pub silent : IsSilent s steps
+  pub stored : count_stores counted s steps ≤ most
+  pub pc : after.pc ≡ s.pc + 4 * count
+  pub npc : after.npc ≡ s.pc + 4 * count + 4
+  pub slot : after.slot ≡ NoSlot
+  pub live : after.ending ≡ None
+  pub window : after.window ≡ s.window
+  pub windows : after.valid ≡ s.valid
+  pub input : after.input ≡ s.input
+  pub registers : length after.registers ≡ 136
+  pub items : (item : Item) → (IsAmong item s.window dead → ⊥) → IsSameAt item s after
+  -- where nothing is dead, all is as it was but the place and memory
+  pub all : dead ≡ [] → after ≡ hopped s (s.pc + 4 * count) after.memory
+  pub cells : (n : ℕ) → ((k : ℕ) → IsCellOf ops k → k < n) → cell_at base n ≤ 2 ^ 31
+      → words_at base n after.memory ≡ update (register_of s) ops (words_at base n s.memory)
+  pub stores : Stores (MayStore base ops) s.memory after.memory
+  pub code : code_of after.memory ≡ code_of s.memory
+
+-- On every such state, whatever stores are counted that aren't into the snippet's cells.
+abbrev pub DoesJust : List ℕ → ℕ → List Part → ℕ → List Op → Type 0
+DoesJust words base dead most ops =
+    (counted : ℕ → Bool) → ((k : ℕ) → IsCellOf ops k → counted (cell_at base k) ≡ false)
+    → (s : State) → IsAboutToRun words base ops s → RunsPast counted base dead ops (length words) most s
