@@ -36,21 +36,39 @@ next_visit g l p f node x t =
 abbrev pub IsFar : ℕ → Type 0
 IsFar to = (to < 2 ^ 32) × (to % 4 ≡ 0)
 
--- Control that comes to a piece goes on to an address: the piece stands there, or is a Jump alone to one that does, or a
--- long jump to the address itself.
-abbrev pub LeadsTo : Pieces → Placement → PieceNo → ℕ → Type 0
-LeadsTo l p piece to =
-    (slice_index p.at piece.0 ≡ to)
-    ⊎ (((z : PieceNo) × (slice_get l.list piece.0 ≡ Some (it.Jump z ∷ [])) × (slice_index p.at z.0 ≡ to))
-    ⊎ (IsFar to × (slice_get l.list piece.0 ≡ Some (far_piece to))))
+-- the words of the snippets on some edges, in order
+abbrev pub words_on : Pieces → List ℕ → List Item
+words_on l edges = map it.Word (flat_map l.codes edges)
 
--- After its item n, a piece goes on to an address: it ends and the next piece begins there, or a Jump leads there, or a
--- long jump is all that is left.
-abbrev pub LeadsOn : Pieces → Placement → (ℕ → ℕ → ℕ) → ℕ → ℕ → ℕ → Type 0
-LeadsOn l p place k n to =
-    (place k n ≡ to)
-    ⊎ (((z : PieceNo) × (item_at l.list k n ≡ Some (it.Jump z)) × LeadsTo l p z to)
-    ⊎ (IsFar to × (option_map (drop n) (slice_get l.list k) ≡ Some (far_piece to))))
+-- Control that comes to a piece goes on to an address, through the snippets of some edges: the piece stands there, or what
+-- is behind the snippets' words is a Jump to a piece that does, or a long jump to the address itself.
+abbrev pub LeadsTo : Pieces → Placement → PieceNo → List ℕ → ℕ → Type 0
+LeadsTo l p piece edges to =
+    ((edges ≡ []) × (slice_index p.at piece.0 ≡ to))
+    ⊎ (((z : PieceNo) × (slice_get l.list piece.0 ≡ Some (words_on l edges ++ it.Jump z ∷ []))
+    × (slice_index p.at z.0 ≡ to))
+    ⊎ (IsFar to × (slice_get l.list piece.0 ≡ Some (words_on l edges ++ far_piece to))))
+
+-- the rest of a piece from its item n on
+abbrev pub rest_from : Pieces → ℕ → ℕ → Option (List Item)
+rest_from l k n = option_map (drop n) (slice_get l.list k)
+
+-- A Jump behind the snippets of the first of some edges leads to a piece that goes on through those of the others.
+pub record JumpsOn (l : Pieces) (p : Placement) (k n : ℕ) (edges : List ℕ) (to : ℕ) : Type 0 where
+  pub first : List ℕ
+  pub others : List ℕ
+  pub all : edges ≡ first ++ others
+  pub piece : PieceNo
+  pub rest : rest_from l k n ≡ Some (words_on l first ++ it.Jump piece ∷ [])
+  pub leads : LeadsTo l p piece others to
+
+-- From its item n on, a piece goes on to an address, through the snippets of some edges: it ends behind them and the next
+-- piece begins there, or a Jump leads on, or a long jump is all that is left.
+abbrev pub LeadsOn : Pieces → Placement → (ℕ → ℕ → ℕ) → ℕ → ℕ → List ℕ → ℕ → Type 0
+LeadsOn l p place k n edges to =
+    ((rest_from l k n ≡ Some (words_on l edges)) × (place k (n + length (flat_map l.codes edges)) ≡ to))
+    ⊎ (JumpsOn l p k n edges to
+    ⊎ (IsFar to × (rest_from l k n ≡ Some (words_on l edges ++ far_piece to))))
 
 -- ---- a plain word, or the copy of a slot's word
 
@@ -71,7 +89,7 @@ pub record IsPlain (g : Setting) (l : Pieces) (p : Placement) (place : ℕ → �
   pub rest : List Item
   pub items : slice_get l.list piece ≡ Some (plain_piece address (number_in g node) word rest)
   -- where the walk goes on, there the piece leads
-  pub leads : (does_at g x t).ending ≡ None → LeadsOn l p place piece 3 (next_visit g l p f node x t)
+  pub leads : (does_at g x t).ending ≡ None → LeadsOn l p place piece 3 (gone_at g node x (does_at g x t)) (next_visit g l p f node x t)
 
 abbrev pub PlainsVisit : Type 0
 PlainsVisit =

@@ -32,7 +32,7 @@ pub record IsIdle (g : Setting) (l : Pieces) (p : Placement) (place : ℕ → �
   pub idle : decode_of word ≡ nop
   pub rest : List Item
   pub items : slice_get l.list piece ≡ Some (plain_piece address (number_in g node) word rest)
-  pub leads : LeadsOn l p place piece 3 (next_visit g l p f node x t)
+  pub leads : LeadsOn l p place piece 3 (gone_at g node x (does_at g x t)) (next_visit g l p f node x t)
   pub never : IsNoJumpsSlot g (does_at g x t)
 
 abbrev pub IdlesStep : Type 0

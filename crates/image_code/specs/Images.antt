@@ -1,5 +1,5 @@
 -- Where a machine stands that visits a point of the original, and what it has.
-use Rattle.std.specs.Prelude.{◌≡◌, ℕ, ◌+◌, ◌-◌, ◌*◌, ◌%◌, ◌<◌, ◌≤◌, ◌⊎◌, true, false, List, [], ◌∷◌, length, Option, Some, None, slice_index}
+use Rattle.std.specs.Prelude.{◌≡◌, ℕ, ◌+◌, ◌-◌, ◌*◌, ◌%◌, ◌^◌, ◌<◌, ◌≤◌, ◌⊎◌, true, false, List, [], ◌∷◌, length, Option, Some, None, slice_index}
 use Rattle.eel_base.specs.CodeText.{word_at}
 use Rattle.elf32_sparc.specs.Notes.{range_at}
 use Rattle.v8_alu.specs.Numbers.{wrapped}
@@ -19,7 +19,8 @@ use Rattle.addr_translate.specs.Lookup.{TableAt, table_word}
 use Rattle.layout.specs.declared.items.Item.{Item}
 use Rattle.layout.specs.Laid.{Placement, IsLaid, range_in}
 use Rattle.layout.specs.Running.{HasCode}
-use Rattle.image_code.specs.Simulates.{Setting, graph_in, updates}
+use Rattle.snippet_code.specs.Runs.{DoesJust, IsCellOf, cell_at}
+use Rattle.image_code.specs.Simulates.{Setting, graph_in, snippet_on}
 
 -- ---- pieces by what they are for
 
@@ -28,6 +29,8 @@ pub record Pieces : Type 0 where
   -- the image of a word at a node, and the way along an edge, by its number
   pub image : Node → ℕ → ℕ
   pub along : ℕ → ℕ
+  -- the words of the snippet on an edge
+  pub codes : ℕ → List ℕ
 
 -- the table that leads from addresses of the original to new code, and which words the editor's code may store
 pub record Frame : Type 0 where
@@ -98,18 +101,24 @@ pub record AreNoted (g : Setting) (base : ℕ) (p : Placement) : Type 0 where
 -- the words of the editor's page that its code stores, and the table, which they leave alone
 pub record IsFramed (g : Setting) (f : Frame) : Type 0 where
   pub own : AreOwn (pages_of g.notes) f.own
-  pub page : (n : ℕ) → n < 4 → IsAmongWords f.own (page_word n)
+  pub page : (n : ℕ) → n < 7 → IsAmongWords f.own (page_word n)
   pub table : (a : ℕ) → f.table.base ≤ a → a + 4 ≤ f.table.base + length f.table.bytes → IsIn (pages_of g.notes) a
   pub apart : (a : ℕ) → IsAmongWords f.own a → (a + 4 ≤ f.table.base) ⊎ (f.table.base + length f.table.bytes ≤ a)
 
--- an edit without snippets: no cells
-pub record CountsNothing (g : Setting) : Type 0 where
-  pub none : (t : State) → g.cells_of t ≡ []
-  pub still : (edges cells : List ℕ) (s : State) → updates g.store edges cells s ≡ cells
+-- The cells stand below the heap, among the words that the editor's code may store, and the words of each snippet do just
+-- the snippet, whatever stores are counted. Without dead registers, a snippet has at most 22 words an operation.
+pub record HasCells (g : Setting) (l : Pieces) (f : Frame) : Type 0 where
+  pub aligned : g.notes.base % 4 ≡ 0
+  pub low : cell_at g.notes.base g.notes.cells ≤ 2 ^ 31
+  pub own : (cell : ℕ) → cell < g.notes.cells → IsAmongWords f.own (cell_at g.notes.base cell)
+  pub named : (edge cell : ℕ) → IsCellOf (snippet_on g.snips edge) cell → cell < g.notes.cells
+  pub spills : ℕ → ℕ
+  pub does : (edge : ℕ) → DoesJust (l.codes edge) g.notes.base [] (spills edge) (snippet_on g.snips edge)
+  pub short : (edge : ℕ) → length (l.codes edge) ≤ 22 * length (snippet_on g.snips edge)
 
 -- what is given of a placement, to each image
 pub record IsPlaced (g : Setting) (l : Pieces) (base : ℕ) (p : Placement) (place : ℕ → ℕ → ℕ) (f : Frame) : Type 0 where
   pub laid : IsLaid l.list base p place
   pub noted : AreNoted g base p
   pub frame : IsFramed g f
-  pub counts : CountsNothing g
+  pub cells : HasCells g l f

@@ -20,16 +20,17 @@ use Rattle.jump_code.specs.Pieces.{foreign_piece, out_piece}
 use Rattle.layout.specs.Laid.{Placement}
 use Rattle.image_code.specs.Simulates.{Setting, StepsOn, at_point, does_at, gone_at, number_in, word_of}
 use Rattle.image_code.specs.Images.{Pieces, Frame, Here, IsPlaced, visited_at}
-use Rattle.image_code.specs.Cases.{Everything, LeadsTo, next_visit}
+use Rattle.image_code.specs.Cases.{Everything, LeadsTo, next_visit, words_on}
 
--- What the table has for a target: the piece of a landing, which leads to the next visit, or outside the text the foreign
--- piece.
-abbrev pub Lands : Setting → Pieces → Placement → Frame → ℕ → ℕ → Type 0
-Lands g l p f target visit =
+-- What the table has for a target: the piece of a landing, which leads to the next visit through the snippets of some
+-- edges, or outside the text the foreign piece.
+abbrev pub Lands : Setting → Pieces → Placement → Frame → List ℕ → ℕ → ℕ → Type 0
+Lands g l p f edges target visit =
     ((piece : PieceNo) × (piece.0 < length l.list) × (looked_up f.table target ≡ slice_index p.at piece.0)
-    × LeadsTo l p piece visit)
-    ⊎ ((piece : PieceNo) × (piece.0 < length l.list) × (looked_up f.table target ≡ slice_index p.at piece.0)
-    × (slice_get l.list piece.0 ≡ Some foreign_piece) × (word_at g.text target ≡ None))
+    × LeadsTo l p piece edges visit)
+    ⊎ ((edges ≡ []) × ((piece : PieceNo) × (piece.0 < length l.list)
+    × (looked_up f.table target ≡ slice_index p.at piece.0)
+    × (slice_get l.list piece.0 ≡ Some foreign_piece) × (word_at g.text target ≡ None)))
 
 pub record IsJumpsSlot (g : Setting) (l : Pieces) (p : Placement) (f : Frame)
     (node : Node) (x : Point) (t : State) : Type 0 where
@@ -47,9 +48,14 @@ pub record IsJumpsSlot (g : Setting) (l : Pieces) (p : Placement) (f : Frame)
   pub twelve : length translator ≡ 12
   pub translates : Translates translator f.table.base 1 2
   pub table : IsTable f.table
-  pub items : slice_get l.list piece ≡ Some (out_piece address (number_in g node) word [] translator)
+  -- the jump's edge, whose snippet runs before the look-up, and then the landing's, whose runs there
+  pub edge : ℕ
+  pub landing : List ℕ
+  pub completes : (does_at g x t).ending ≡ None → gone_at g node x (does_at g x t) ≡ edge ∷ landing
+  pub items : slice_get l.list piece
+      ≡ Some (out_piece address (number_in g node) word (words_on l (edge ∷ [])) translator)
   -- where the walk goes on, there the table leads
-  pub lands : (does_at g x t).ending ≡ None → Lands g l p f x.npc (next_visit g l p f node x t)
+  pub lands : (does_at g x t).ending ≡ None → Lands g l p f landing x.npc (next_visit g l p f node x t)
 
 abbrev pub JumpSlotsStep : Type 0
 JumpSlotsStep =

@@ -1,6 +1,7 @@
 -- The pieces that are made of a text: an image of each word, the way along each edge but for the landings, a landing at
 -- each word, and last the foreign piece, to which the table leads every address outside the text.
-use Rattle.std.specs.Prelude.{◌≡◌, ℕ, ◌+◌, ◌-◌, ◌%◌, ◌^◌, ◌<◌, ◌==◌, nat_lt, if◌then◌else◌, List, [], ◌∷◌, ◌++◌, length, map, take, slice_get, slice_index, Some, None}
+use Rattle.std.specs.Prelude.{◌≡◌, ℕ, suc, ◌+◌, ◌-◌, ◌%◌, ◌^◌, ◌<◌, ◌==◌, nat_lt, if◌then◌else◌, List, [], ◌∷◌, ◌++◌, length, map, take, slice_get, slice_index, Some, None}
+use Rattle.std.specs.List.{flat_map}
 use Rattle.eel_base.specs.CodeText.{Words, IsText, address_of, word_at}
 use Rattle.elf32_sparc.specs.Notes.{range_at}
 use Rattle.eel_base.specs.declared.numbers.Addr.{Addr}
@@ -19,7 +20,7 @@ use Rattle.cfg_normal.specs.declared.Node.TheVariants.{Block, X}
 use Rattle.cfg_normal.specs.declared.Slot.{Slot}
 use Rattle.cfg_normal.specs.declared.Slot.TheVariants as slots
 use Rattle.cfg_normal.specs.Graph.{Graph, node_of}
-use Rattle.cfg_walk.specs.Walk.{edge_from, same_kind}
+use Rattle.cfg_walk.specs.Walk.{edge_from, landing_at, left_by, same_kind}
 use Rattle.cfg_walk.specs.Matches.{way_address}
 use Rattle.cfg_walk.specs.Numbers.{node_number}
 use Rattle.addr_translate.specs.Lookup.{TableAt, IsTable, looked_up}
@@ -74,12 +75,20 @@ module _ (text : Words) (graph : Graph) where
   abbrev pub way_out : Node → EdgeKind → ℕ
   way_out node kind = first_way (edge_from graph node kind)
 
-module _ (text : Words) (graph : Graph) (table : ℕ) where
+-- `codes` has the words of the snippet on each edge
+module _ (text : Words) (graph : Graph) (table : ℕ) (codes : ℕ → List ℕ) where
+  abbrev pub snippet_items : List ℕ → List Item
+  snippet_items edges = map it.Word (flat_map codes edges)
+
   -- ---- images of words
 
   -- A word goes on to the image of the next one, which comes next; behind the text's last word control leaves the text.
-  abbrev pub rest_after : ℕ → List Item
-  rest_after word = if nat_lt (word + 1) (length text.words) then [] else far_piece (address_of text (length text.words))
+  abbrev pub next_to : ℕ → List Item
+  next_to word = if nat_lt (word + 1) (length text.words) then [] else far_piece (address_of text (length text.words))
+
+  -- behind the last word of a block comes the snippet of the edge to the next word
+  abbrev pub rest_after : Node → ℕ → Instr → List Item
+  rest_after node word instr = snippet_items (left_by graph node word instr) ++ next_to word
 
   -- `ba` and `bn` go one way
   abbrev pub branch_image : Addr → Node → ℕ → List Item
@@ -98,8 +107,8 @@ module _ (text : Words) (graph : Graph) (table : ℕ) where
   image_by address node word (i.Jmpl rd rs1 op2) =
       jump_piece (free_register rd rs1 op2) rd rs1 op2 address (node_number graph node)
       (record { 0 = way_out text graph node kinds.Out })
-  image_by address node word _ =
-      plain_piece address (node_number graph node) (slice_index text.words word) (rest_after word)
+  image_by address node word instr =
+      plain_piece address (node_number graph node) (slice_index text.words word) (rest_after node word instr)
 
   -- the image of a word, at its address, for the block that holds it
   abbrev pub image : ℕ → List Item
@@ -114,49 +123,59 @@ module _ (text : Words) (graph : Graph) (table : ℕ) where
   goes_on (Block block) address = jump_to (slice_index graph.blocks.firsts block.0)
   goes_on X address = far_piece address
 
-  abbrev pub goes_along : Edge → List Item
-  goes_along edge = goes_on edge.to (way_address text graph edge.from edge.kind)
+  -- along an edge, by its number: its snippet, and on
+  abbrev pub goes_along : ℕ → Edge → List Item
+  goes_along number edge =
+      snippet_items (number ∷ []) ++ goes_on edge.to (way_address text graph edge.from edge.kind)
 
-  -- Behind the copy of a slot's word a JMPL's target is looked up; along any other edge control goes on.
-  abbrev pub past_slot : Addr → ℕ → ℕ → Edge → List Item
-  past_slot address number word edge =
-      if same_kind edge.kind kinds.Out then out_piece address number word [] (words_of (translator table 1 2))
-      else plain_piece address number word (goes_along edge)
+  -- Behind the copy of a slot's word, and the snippet, a JMPL's target is looked up; along any other edge control goes on.
+  abbrev pub past_slot : Addr → ℕ → ℕ → ℕ → Edge → List Item
+  past_slot address node word number edge =
+      if same_kind edge.kind kinds.Out
+      then out_piece address node word (snippet_items (number ∷ [])) (words_of (translator table 1 2))
+      else plain_piece address node word (goes_along number edge)
 
   -- a transfer in a slot ends the run
-  abbrev pub slot_copy : Addr → ℕ → ℕ → Edge → List Item
-  slot_copy address number word edge =
-      if is_transfer (decode_of word) then couple_piece address number couple_word []
-      else past_slot address number word edge
+  abbrev pub slot_copy : Addr → ℕ → ℕ → ℕ → Edge → List Item
+  slot_copy address node word number edge =
+      if is_transfer (decode_of word) then couple_piece address node couple_word []
+      else past_slot address node word number edge
 
   -- A slot that is run is a visit at the block that the edge leaves. One behind the text is where the table begins.
-  abbrev pub way_by : Edge → Slot → List Item
-  way_by edge slots.Nothing = goes_along edge
-  way_by edge (slots.Word slot) =
-      slot_copy (record { 0 = address_of text slot.0 }) (node_number graph edge.from) (slice_index text.words slot.0) edge
-  way_by edge slots.Off = far_piece table
+  abbrev pub way_by : ℕ → Edge → Slot → List Item
+  way_by number edge slots.Nothing = goes_along number edge
+  way_by number edge (slots.Word slot) =
+      slot_copy (record { 0 = address_of text slot.0 }) (node_number graph edge.from) (slice_index text.words slot.0)
+      number edge
+  way_by number edge slots.Off = far_piece table
 
   -- to the next word control falls without a way
-  abbrev pub way_along : Edge → List Item
-  way_along edge = if is_fall edge.kind then [] else way_by edge edge.slot
+  abbrev pub way_along : ℕ → Edge → List Item
+  way_along number edge = if is_fall edge.kind then [] else way_by number edge edge.slot
 
   -- ---- all pieces
 
-  -- at a landing control goes on to the word's image
+  -- the ways along some edges, the first of which has this number
+  abbrev pub ways_from : ℕ → List Edge → List (List Item)
+  ways_from number [] = []
+  ways_from number (edge ∷ edges) = way_along number edge ∷ ways_from (suc number) edges
+
+  -- at a landing the snippet of its block's landing edge runs, and control goes on to the word's image
   abbrev pub landing : ℕ → List Item
-  landing word = jump_to word
+  landing word = snippet_items (landing_at graph (node_of graph.blocks (Some word))) ++ jump_to word
 
   unfoldable pub piece_list : List (List Item)
   piece_list =
-      map image (below (length text.words)) ++ map way_along (own_edges graph)
+      map image (below (length text.words)) ++ ways_from 0 (own_edges graph)
       ++ map landing (below (length text.words)) ++ foreign_piece ∷ []
 
 -- the pieces by what they are for: a word has one image, whatever the node
-abbrev pub pieces_in : Words → Graph → ℕ → Pieces
-pieces_in text graph table = record {
-  list = piece_list text graph table;
+abbrev pub pieces_in : Words → Graph → ℕ → (ℕ → List ℕ) → Pieces
+pieces_in text graph table codes = record {
+  list = piece_list text graph table codes;
   image = λ node word. word;
   along = way_piece text graph;
+  codes = codes;
 }
 
 -- ---- what they promise
@@ -183,7 +202,7 @@ IsOffNoted g table =
 -- However they are placed, each image is one step of the original, at every point outside the pages.
 abbrev pub PiecesMakeImages : Type 0
 PiecesMakeImages =
-    (g : Setting) (base : ℕ) (p : Placement) (place : ℕ → ℕ → ℕ) (f : Frame) → IsText g.text
-    → IsPlaced g (pieces_in g.text (graph_in g) f.table.base) base p place f
+    (g : Setting) (codes : ℕ → List ℕ) (base : ℕ) (p : Placement) (place : ℕ → ℕ → ℕ) (f : Frame) → IsText g.text
+    → IsPlaced g (pieces_in g.text (graph_in g) f.table.base codes) base p place f
     → IsTableFor g.text (graph_in g) p f.table → f.table.base < base → IsOffNoted g f.table.base
-    → Simulates g (IsOpen g) (Here g (pieces_in g.text (graph_in g) f.table.base) base p f) Everything
+    → Simulates g (IsOpen g) (Here g (pieces_in g.text (graph_in g) f.table.base codes) base p f) Everything

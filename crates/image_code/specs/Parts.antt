@@ -1,5 +1,5 @@
 -- What the parts of making pieces make, by the numbers that they are given.
-use Rattle.std.specs.Prelude.{◌≡◌, ℕ, ◌+◌, ◌==◌, if◌then◌else◌, nat_lt, slice_index, List, [], ◌∷◌, length}
+use Rattle.std.specs.Prelude.{◌≡◌, ℕ, ◌+◌, ◌==◌, if◌then◌else◌, nat_lt, slice_index, List, [], ◌∷◌, ◌++◌, length, map}
 use Rattle.std.specs.List.{flat_map}
 use Rattle.eel_base.specs.CodeText.{Words, address_of}
 use Rattle.eel_base.specs.declared.numbers.Addr.{Addr}
@@ -66,13 +66,14 @@ image_from address node word first rest (i.Jmpl rd rs1 op2) =
     jump_piece (free_register rd rs1 op2) rd rs1 op2 address node first
 image_from address node word first rest _ = plain_piece address node word rest
 
--- how control goes on after a word that is no transfer
-abbrev pub rest_of : Words → ℕ → List Item
-rest_of text word =
-    if nat_lt (word + 1) (length text.words) then [] else far_piece (address_of text (length text.words))
+-- how control goes on after a word that is no transfer, with a snippet's words before
+abbrev pub rest_of : Words → ℕ → List ℕ → List Item
+rest_of text word code =
+    map it.Word code
+    ++ (if nat_lt (word + 1) (length text.words) then [] else far_piece (address_of text (length text.words)))
 
--- the image of a word of the text
-abbrev pub image_in : Words → ℕ → ℕ → PieceNo → List Item
-image_in text word node first =
-    image_from (record { 0 = address_of text word }) node (slice_index text.words word) first (rest_of text word)
+-- the image of a word of the text, behind which a snippet's words may stand
+abbrev pub image_in : Words → ℕ → ℕ → PieceNo → List ℕ → List Item
+image_in text word node first code =
+    image_from (record { 0 = address_of text word }) node (slice_index text.words word) first (rest_of text word code)
     (decode_of (slice_index text.words word))

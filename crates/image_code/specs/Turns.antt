@@ -39,7 +39,7 @@ pub record IsTurn (g : Setting) (l : Pieces) (p : Placement) (f : Frame)
   pub untaken : ℕ
   pub items : slice_get l.list (l.image node number) ≡ Some (branch_piece address (number_in g node) cond taken untaken)
   pub leads : LeadsTo l p (record { 0 = if holds_of cond t.codes then taken else untaken })
-      (next_visit g l p f node x t)
+      (gone_at g node x (does_at g x t)) (next_visit g l p f node x t)
   pub never : IsNoJumpsSlot g (does_at g x t)
 
 abbrev pub TurnsStep : Type 0
