@@ -1,5 +1,5 @@
 -- What it is for words to do just a snippet.
-use Rattle.std.specs.Prelude.{◌≡◌, ℕ, ◌+◌, ◌*◌, ◌^◌, ◌<◌, ◌≤◌, ◌⊎◌, Bool, true, false, List, [], ◌∷◌, length, map, None}
+use Rattle.std.specs.Prelude.{◌≡◌, ℕ, ◌+◌, ◌*◌, ◌-◌, ◌^◌, ◌<◌, ◌≤◌, ◌⊎◌, Bool, true, false, List, [], ◌∷◌, length, map, None}
 use Rattle.std.specs.List.{range_with_len}
 use Rattle.v8_alu.specs.Numbers.{wrapped}
 use Rattle.v8_decode.specs.declared.Part.{Part}
