@@ -84,7 +84,7 @@ behind_unmarked : (xs ys : List Item) → AreUnmarked (xs ++ ys) → AreUnmarked
 behind_unmarked [] ys are = are
 behind_unmarked (x ∷ xs) ys are = behind_unmarked xs ys are.1
 
-length_words : (ws : List ℕ) → length (map it.Word ws) ≡ length ws
+pub length_words : (ws : List ℕ) → length (map it.Word ws) ≡ length ws
 length_words [] = refl
 length_words (w ∷ ws) = let e = length_words ws in omega (arith, e)
 
@@ -325,7 +325,7 @@ module _ (g : Setting) (l : Pieces) (base : ℕ) (p : Placement) (place : ℕ �
       }
 
   -- where words end, inside the code
-  stood_low : (k n : ℕ) (ws : List ℕ) (xs : List Item) → Rest l k n (map it.Word ws ++ xs)
+  pub stood_low : (k n : ℕ) (ws : List ℕ) (xs : List Item) → Rest l k n (map it.Word ws ++ xs)
       → place k (n + length ws) ≤ 2 ^ 31
   stood_low k n ws xs r =
       let size = r.size in
@@ -406,7 +406,7 @@ module _ (g : Setting) (l : Pieces) (base : ℕ) (p : Placement) (place : ℕ �
       (on_then (edge ∷ edges) (edge ∷ []) edges refl a mid _ 0 0 one other)
 
   -- and then whatever comes behind them
-  snippets_then : (edges : List ℕ) (k n : ℕ) (xs : List Item) → Rest l k n (words_on l edges ++ xs) → (a : State)
+  pub snippets_then : (edges : List ℕ) (k n : ℕ) (xs : List Item) → Rest l k n (words_on l edges ++ xs) → (a : State)
       → IsFit a → a.pc ≡ place k n → (others : List ℕ) (to more : ℕ)
       → ((b : State) → IsFit b → b.pc ≡ place k (n + length (flat_map l.codes edges))
       → Rest l k (n + length (flat_map l.codes edges)) xs → Arrives others b to more)
@@ -462,7 +462,7 @@ module _ (g : Setting) (l : Pieces) (base : ℕ) (p : Placement) (place : ℕ �
       jump_on k n z (ap (item_at l.list k) e ∙ r.items 0) (ap (open_in (slice_get l.list k)) e ∙ r.shut 0) a fit at
 
   -- nothing comes after the edges' snippets
-  for_all : (edges : List ℕ) (a : State) (to most : ℕ) → Arrives (edges ++ []) a to most → Arrives edges a to most
+  pub for_all : (edges : List ℕ) (a : State) (to most : ℕ) → Arrives (edges ++ []) a to most → Arrives edges a to most
   for_all edges a to most way = subst (λ z. Arrives z a to most) (append-nil edges) way
 
   pub arrive : (z : PieceNo) (edges : List ℕ) (a : State) (to : ℕ) → IsFit a → a.pc ≡ slice_index p.at z.0
@@ -483,7 +483,7 @@ module _ (g : Setting) (l : Pieces) (base : ℕ) (p : Placement) (place : ℕ �
 
   -- ---- from item 3 of a piece on
 
-  weaker_arrives : (edges : List ℕ) (a : State) (to few most : ℕ) → few ≤ most → Arrives edges a to few
+  pub weaker_arrives : (edges : List ℕ) (a : State) (to few most : ℕ) → few ≤ most → Arrives edges a to few
       → Arrives edges a to most
   weaker_arrives edges a to few most less one =
       let short = one.few in

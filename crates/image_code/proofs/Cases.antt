@@ -16,7 +16,7 @@ use Rattle.v8_step.specs.declared.Slot.TheVariants.{NoSlot}
 use Rattle.v8_step.specs.State.{State, register_of}
 use Rattle.v8_step.specs.Step.{act, step_of, on_word, puts_by, puts_on_word}
 use Rattle.v8_step.specs.Run.{run, run_puts}
-use Rattle.v8_step.specs.Items.{Item as Thing, Register, Codes, YRegister, IsSameAt}
+use Rattle.v8_step.specs.Items.{is_transfer, Item as Thing, Register, Codes, YRegister, IsSameAt}
 use Rattle.v8_step.specs.Judged.{judged_by}
 use Rattle.v8_step.specs.Valid.{IsValid}
 use Rattle.v8_step.specs.Visits.{visit_of, visited, if_live, in_pages, pages_of}
@@ -54,12 +54,40 @@ use Rattle.layout.specs.Running.{CanRun}
 use Rattle.layout.proofs.Going.{stays, jumps_hop, words_stand}
 use Rattle.image_code.specs.Simulates.{updates, Setting, cells_in, StepsOn, IsOnWay, IsFollowedBy, at_point, does_at, gone_at, graph_in, number_in, word_of}
 use Rattle.image_code.specs.Images.{Pieces, Frame, HasImages, Here, IsPlaced, visited_at}
-use Rattle.image_code.specs.Cases.{Everything, visits_it, IsFar, LeadsTo, LeadsOn, plain_piece, IsPlain, PlainsVisit, PlainsStep}
+use Rattle.image_code.specs.Cases.{Everything, next_visit, visits_it, IsFar, LeadsTo, LeadsOn, plain_piece, IsPlain, PlainsVisit, PlainsStep}
 use Rattle.image_code.proofs.Ended.{stops_act}
 use Rattle.image_code.proofs.Memories.{fetch_is, images_stay, images_stored, same_stored}
 pub use Rattle.image_code.proofs.Between.{at_range, can_run, ended_none, first_own, get_below, item_below, item_size, live_before, node_is, on_none, on_range, open_rest, outside_refl, quiet_of, same_at, stores_weaker}
-pub use Rattle.image_code.proofs.Arrives.{Arrives, IsBare, IsFit, arrive, bare_on, far_on, hopped_fit, jump_on, on_then, tail}
+pub use Rattle.image_code.proofs.Arrives.{Arrives, IsBare, IsFit, arrive, bare_on, far_on, hopped_fit, jump_on, on_then, tail, weaker_arrives}
 use Rattle.image_code.proofs.Cells.{cells_stay, updates_same}
+
+-- The piece of a point begins with its word, which is no transfer, in a Mark.
+pub record IsMarkedWord (g : Setting) (l : Pieces) (p : Placement) (f : Frame) (node : Node) (x : Point) : Type 0 where
+  pub piece : ℕ
+  pub within : piece < length l.list
+  pub here : visited_at g l p f node x ≡ slice_index p.at piece
+  pub address : Addr
+  pub original : address.0 ≡ x.pc
+  pub word : ℕ
+  pub is_word : word_of g.text x.pc ≡ Some word
+  pub straight : is_transfer (decode_of word) ≡ false
+  pub rest : List Item
+  pub items : slice_get l.list piece ≡ Some (plain_piece address (number_in g node) word rest)
+
+abbrev marked : (g : Setting) (l : Pieces) (p : Placement) (place : ℕ → ℕ → ℕ) (f : Frame) (node : Node) (x : Point) (t : State)
+    → IsPlain g l p place f node x t → IsMarkedWord g l p f node x
+marked g l p place f node x t c = record {
+  piece = c.piece;
+  within = c.within;
+  here = c.here;
+  address = c.address;
+  original = c.original;
+  word = c.word;
+  is_word = c.is_word;
+  straight = c.straight;
+  rest = c.rest;
+  items = c.items;
+}
 
 module _ (g : Setting) (l : Pieces) (base : ℕ) (p : Placement) (place : ℕ → ℕ → ℕ) (f : Frame)
     (h : IsPlaced g l base p place f) where
@@ -109,10 +137,10 @@ module _ (g : Setting) (l : Pieces) (base : ℕ) (p : Placement) (place : ℕ �
         one = step_is t word here.live fetched;
       }
 
-  -- ---- plain words
+  -- ---- words that are no transfers
 
   module _ (node : Node) (x : Point) (t : State) (here : Here g l base p f node x t)
-      (c : IsPlain g l p place f node x t) where
+      (c : IsMarkedWord g l p f node x) where
     stands : StandsAt t c.piece c.word c.rest
     stands = stands_at node x t here c.piece c.within c.here c.address (number_in g node) c.word c.rest c.items
 
@@ -189,10 +217,11 @@ module _ (g : Setting) (l : Pieces) (base : ℕ) (p : Placement) (place : ℕ �
     goes : (edges : List ℕ) → (act (at_point x t) (decode_of c.word)).ending ≡ None
         → AllApart (pages_of g.notes) (judged_by (at_point x t) (decode_of c.word))
         → AllApart (pages_of g.notes) (judged_by t (decode_of c.word))
-        → LeadsOn l p place c.piece 3 edges (visited_at g l p f (node_after (graph_in g) node edges)
-        (point_of (act (at_point x t) (decode_of c.word))))
+        → (IsFit g l base p place f h (act t (decode_of c.word)) → (act t (decode_of c.word)).pc ≡ place c.piece 3
+        → Arrives g l base p place f h edges (act t (decode_of c.word)) (visited_at g l p f
+        (node_after (graph_in g) node edges) (point_of (act (at_point x t) (decode_of c.word)))) 24)
         → StepsOn g (Here g l base p f) Everything edges node x t (act (at_point x t) (decode_of c.word))
-    goes edges live apart' apart leads =
+    goes edges live apart' apart onward =
         let a : State = act t (decode_of c.word) in
         let alive : (act t (decode_of c.word)).ending ≡ None = ap (λ (z : State). z.ending) same ∙ live in
         let went = goes_act t (decode_of c.word) c.straight alive in
@@ -217,10 +246,9 @@ module _ (g : Setting) (l : Pieces) (base : ℕ) (p : Placement) (place : ℕ �
           has = has;
           runs = can_run g l base p place f h (act t (decode_of c.word)) valid alive onpc went.2 has;
         } in
-        let rest = tail g l base p place f h c.piece c.rest c.address (number_in g node) (it.Word c.word) c.items edges
-        (act t (decode_of c.word)) to fit pc leads in
-        let way = leads_then (IsBare g l base p place f h) t (act t (decode_of c.word)) _ 1 rest.count (leads_one _ t _ stands.one) rest.path
-        (λ _ some. rest.begins some) in
+        let rest = onward fit pc in
+        let way = leads_then (IsBare g l base p place f h) t (act t (decode_of c.word)) _ 1 rest.count
+        (leads_one _ t _ stands.one) rest.path (λ _ some. rest.begins some) in
         let few = rest.few in
         let stores = rest.stores in
         record {
@@ -259,7 +287,8 @@ module _ (g : Setting) (l : Pieces) (base : ℕ) (p : Placement) (place : ℕ �
         }
 
 pub plains_visit : PlainsVisit
-plains_visit g l base p place f node x t h here c = visits g l base p place f h node x t here c
+plains_visit g l base p place f node x t h here c =
+    visits g l base p place f h node x t here (marked g l p place f node x t c)
 
 -- an instruction judges the same bytes wherever it stands
 pub judged_moved : (notes : Notes) (x : Point) (t : State) (instr : Instr)
@@ -276,27 +305,48 @@ judged_moved notes x t instr apart = judged_alike notes instr (at_point x t) t (
   memory = outside_refl (pages_of notes) t.memory;
 }) apart
 
-pub plains_step : PlainsStep
-plains_step g l base p place f node x t h here c apart =
+-- The word ends the run as the original's does, or control goes on from item 3 of its piece.
+pub marked_step : (g : Setting) (l : Pieces) (base : ℕ) (p : Placement) (place : ℕ → ℕ → ℕ) (f : Frame)
+    (node : Node) (x : Point) (t : State) (h : IsPlaced g l base p place f) → Here g l base p f node x t
+    → (c : IsMarkedWord g l p f node x) → AllApart (pages_of g.notes) (judged_by (at_point x t) (decode_of c.word))
+    → ((does_at g x t).ending ≡ None → IsFit g l base p place f h (act t (decode_of c.word))
+    → (act t (decode_of c.word)).pc ≡ place c.piece 3
+    → Arrives g l base p place f h (gone_at g node x (does_at g x t)) (act t (decode_of c.word))
+    (next_visit g l p f node x t) 24)
+    → StepsOn g (Here g l base p f) Everything (gone_at g node x (does_at g x t)) node x t (does_at g x t)
+marked_step g l base p place f node x t h here c apart onward =
     let is : does_at g x t ≡ act (at_point x t) (decode_of c.word) = ap (on_word (at_point x t)) c.is_word in
     subst (λ (z : State). StepsOn g (Here g l base p f) Everything (gone_at g node x z) node x t z) (sym is)
     (by (act (at_point x t) (decode_of c.word)).ending refl
-    (subst (λ (z : State). z.ending ≡ None → LeadsOn l p place c.piece 3 (gone_at g node x z)
-    (visited_at g l p f (node_after (graph_in g) node (gone_at g node x z)) (point_of z))) is c.leads))
+    (subst (λ (z : State). z.ending ≡ None → Onward (gone_at g node x z)
+    (visited_at g l p f (node_after (graph_in g) node (gone_at g node x z)) (point_of z))) is onward))
   where
+    Onward : List ℕ → ℕ → Type 0
+    Onward edges to =
+        IsFit g l base p place f h (act t (decode_of c.word)) → (act t (decode_of c.word)).pc ≡ place c.piece 3
+        → Arrives g l base p place f h edges (act t (decode_of c.word)) to 24
+
     by : (e : Option Ending) → (act (at_point x t) (decode_of c.word)).ending ≡ e
         → ((act (at_point x t) (decode_of c.word)).ending ≡ None
-        → LeadsOn l p place c.piece 3 (gone_at g node x (act (at_point x t) (decode_of c.word))) (visited_at g l p f
+        → Onward (gone_at g node x (act (at_point x t) (decode_of c.word))) (visited_at g l p f
         (node_after (graph_in g) node (gone_at g node x (act (at_point x t) (decode_of c.word))))
         (point_of (act (at_point x t) (decode_of c.word)))))
         → StepsOn g (Here g l base p f) Everything (gone_at g node x (act (at_point x t) (decode_of c.word))) node x t
         (act (at_point x t) (decode_of c.word))
-    by None e leads = goes g l base p place f h node x t here c _ e apart
-        (judged_moved g.notes x t (decode_of c.word) apart) (leads e)
-    by (Some d) e leads =
+    by None e onward = goes g l base p place f h node x t here c _ e apart
+        (judged_moved g.notes x t (decode_of c.word) apart) (onward e)
+    by (Some d) e onward =
         subst (λ z. StepsOn g (Here g l base p f) Everything z node x t (act (at_point x t) (decode_of c.word)))
         (sym (ended_none g node x (act (at_point x t) (decode_of c.word)) d e))
         (ends g l base p place f h node x t here c d e (judged_moved g.notes x t (decode_of c.word) apart))
+
+pub plains_step : PlainsStep
+plains_step g l base p place f node x t h here c apart =
+    marked_step g l base p place f node x t h here (marked g l p place f node x t c) apart (λ live fit pc.
+    weaker_arrives g l base p place f h (gone_at g node x (does_at g x t)) (act t (decode_of c.word))
+    (next_visit g l p f node x t) 8 24 (omega arith)
+    (tail g l base p place f h c.piece c.rest c.address (number_in g node) (it.Word c.word) c.items
+    (gone_at g node x (does_at g x t)) (act t (decode_of c.word)) (next_visit g l p f node x t) fit pc (c.leads live)))
 
 -- ---- branches
 
