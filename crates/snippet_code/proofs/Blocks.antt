@@ -1,21 +1,18 @@
 -- Code in picked registers, word by word.
-use Rattle.std.proofs.Common.{◌≡◌, ◌≢◌, ℕ, zero, suc, ◌+◌, ◌-◌, ◌*◌, ◌%◌, ◌^◌, ◌<◌, ◌≤◌, ◌⊎◌, inl, inr, Bool, true, false, Ok, Some, None, Option, List, [], ◌∷◌, ◌++◌, length, refl, ap, sym, ◌∙◌, subst, arith}
+use Rattle.std.proofs.Common.{◌≡◌, ◌≢◌, ℕ, zero, suc, ◌+◌, ◌*◌, ◌%◌, ◌^◌, ◌<◌, ◌≤◌, ◌⊎◌, inl, inr, Bool, true, false, Ok, Some, None, List, refl, ap, sym, ◌∙◌, subst, arith}
 use Rattle.std.specs.Prelude.{if◌then◌else◌, ◌==◌, slice_index, pos}
 use Rattle.std.proofs.lemmas.Bool.Decides.{nat_tests}
 use Rattle.v8_decode.specs.declared.Op2.{Op2}
-use Rattle.v8_decode.specs.declared.Op2.TheVariants as o
 use Rattle.v8_decode.specs.declared.AluOp.{AluOp}
-use Rattle.v8_decode.specs.declared.AluOp.TheVariants as ops
 use Rattle.v8_decode.specs.declared.Instr.{Instr}
 use Rattle.v8_decode.specs.declared.Instr.TheVariants as i
 use Rattle.v8_decode.specs.declared.LoadKind.TheVariants as loads
 use Rattle.v8_decode.specs.declared.StoreKind.TheVariants as stores
-use Rattle.v8_decode.specs.Words.{decode_of}
 use Rattle.v8_alu.specs.declared.Codes.{Codes}
 use Rattle.v8_alu.specs.Alu.{alu_of}
 use Rattle.v8_alu.specs.Numbers.{wrapped}
-use Rattle.v8_memory.specs.Regions.{Memory, Region, code_of, fetch_of, fetch_from}
-use Rattle.v8_windows.specs.Registers.{place_of, register_set, windows}
+use Rattle.v8_memory.specs.Regions.{Region, code_of, fetch_of, fetch_from}
+use Rattle.v8_windows.specs.Registers.{place_of}
 use Rattle.v8_windows.proofs.Places.{register_in-set, register_in-other, length-register_set}
 use Rattle.v8_step.specs.declared.Slot.TheVariants.{NoSlot}
 use Rattle.v8_step.specs.State.{State, register_of, with_register, operand_of, sum_of}
@@ -25,8 +22,7 @@ use Rattle.v8_step.specs.Transfers.{next, delayed, branched, branch_step, unless
 use Rattle.v8_step.specs.Step.{act, step_of, alu_step}
 use Rattle.v8_step.specs.Run.{run}
 use Rattle.v8_step.proofs.Quiet.{IsPlain}
-use Rattle.code_runs.specs.StoredWords.{memory_word, store_word, Stores, CanLoad, CanStore}
-use Rattle.code_runs.specs.Leads.{Leads, IsSilent}
+use Rattle.code_runs.specs.StoredWords.{memory_word, store_word}
 use Rattle.code_runs.specs.Straight.{Says}
 use Rattle.code_runs.specs.TwoRegisters.{IsBetween, Gives}
 use Rattle.code_runs.proofs.StoredWords.{code-store_word, word_stored, other_word_stored, still_stored, can_load, memory_word-range}

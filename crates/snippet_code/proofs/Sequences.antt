@@ -1,21 +1,12 @@
 -- Operations one after the other, and the registers that are saved before them and loaded after them.
-use Rattle.std.proofs.Common.{◌≡◌, ◌≢◌, ℕ, zero, suc, ◌+◌, ◌-◌, ◌*◌, ◌/◌, ◌%◌, ◌^◌, ◌<◌, ◌≤◌, ◌⊎◌, inl, inr, max, Bool, true, false, Ok, Some, List, [], ◌∷◌, ◌++◌, length, refl, ap, sym, ◌∙◌, subst, arith, length-append}
-use Rattle.std.specs.Prelude.{if◌then◌else◌, ◌==◌, nat_lt, pos, negsuc}
-use Rattle.std.specs.Int.{w32, cast_unsigned}
-use Rattle.std.proofs.lemmas.Bool.Decides.{nat_tests}
-use Rattle.v8_decode.specs.declared.Op2.{Op2}
-use Rattle.v8_decode.specs.declared.Op2.TheVariants as o
-use Rattle.v8_decode.specs.declared.AluOp.{AluOp}
-use Rattle.v8_decode.specs.declared.AluOp.TheVariants as ops
+use Rattle.std.proofs.Common.{◌≡◌, ◌≢◌, ℕ, zero, suc, ◌+◌, ◌*◌, ◌<◌, ◌≤◌, ◌⊎◌, inl, inr, Bool, true, false, Some, List, [], ◌∷◌, ◌++◌, length, refl, ap, sym, ◌∙◌, subst, arith, length-append}
+use Rattle.std.specs.Prelude.{if◌then◌else◌}
 use Rattle.v8_decode.specs.declared.Instr.{Instr}
 use Rattle.v8_decode.specs.declared.Instr.TheVariants as i
 use Rattle.v8_decode.specs.declared.LoadKind.TheVariants as loads
-use Rattle.v8_decode.specs.declared.StoreKind.TheVariants as stores
 use Rattle.v8_alu.specs.declared.Codes.{Codes}
-use Rattle.v8_alu.specs.Alu.{alu_of}
-use Rattle.v8_alu.specs.Numbers.{wrapped, complement}
 use Rattle.v8_memory.specs.Regions.{Region, code_of}
-use Rattle.v8_step.specs.State.{State, register_of, operand_of, sum_of}
+use Rattle.v8_step.specs.State.{State, register_of, sum_of}
 use Rattle.v8_step.proofs.ValidStates.{register_of-range}
 use Rattle.code_runs.specs.Straight.{Says, StandIn}
 use Rattle.code_runs.proofs.Hops.{equal_or_not}
@@ -23,13 +14,13 @@ use Rattle.snippets.specs.declared.snippet.Op.{Op}
 use Rattle.snippets.specs.declared.snippet.Op.TheVariants.{Add, Put, Keep, Top}
 use Rattle.snippet_code.specs.Cells.{cell_at, kept_word}
 use Rattle.code_runs.specs.Page.{of_page}
-use Rattle.snippet_code.specs.Words.{op_words, op_registers, all_words, numbered, save, restore, is_small, small, low, high, load_low, store_low, of_two, with_number}
-use Rattle.snippet_code.proofs.Working.{HasBlock, IsAlike, Reaches, Works, put}
+use Rattle.snippet_code.specs.Words.{op_words, all_words, numbered, save, restore, low, high}
+use Rattle.snippet_code.proofs.Working.{HasBlock, Works, put}
 use Rattle.snippet_code.specs.Counted.{one_if}
-use Rattle.snippet_code.proofs.Working.{update_one, update_all, IsFit, Does, AreFit, AreFrom, HavePage, saved, AreSaved}
-use Rattle.snippet_code.proofs.Operations.{at, as_many, Doing, add_works, put_works, keep_works}
+use Rattle.snippet_code.proofs.Working.{update_one, update_all, Does, AreFit, AreFrom, HavePage, saved, AreSaved}
+use Rattle.snippet_code.proofs.Operations.{as_many, Doing, add_works, put_works, keep_works}
 use Rattle.snippet_code.proofs.Greater.{top_works}
-use Rattle.snippet_code.proofs.Blocks.{put_same, put_other, unpicked_is, sethi, alu, Sums, ld, st, compares, branches}
+use Rattle.snippet_code.proofs.Blocks.{put_same, put_other, ld, st}
 
 
 -- ---- words of two lists

@@ -8,7 +8,7 @@ use Rattle.snippets.specs.Cells.{named_by}
 use Rattle.snippets.specs.Grammar.{IsOp}
 use Rattle.snippets.specs.Ops.{cell_of}
 use Rattle.snippet_code.specs.Cells.{cell_at}
-use Rattle.snippet_code.specs.Words.{snippet_words, code_of_snippet, cost_of, spills_of}
+use Rattle.snippet_code.specs.Words.{snippet_words, cost_of, spills_of}
 use Rattle.snippet_code.specs.Runs.{DoesJust}
 
 -- its cells end at or below the middle of memory

@@ -2,7 +2,12 @@
 //! are put back as they were.
 #![tactic(auto)]
 
-ghost use Rattle.snippet_code.specs.Laws.{CostsHold};
+ghost use Rattle.snippet_code.specs.Laws.{CostsHold, SnippetsRun};
+
+/// Words that say a snippet's instructions do just the snippet, from every state that is about to run them.
+pub fn snippets_run()
+    ensures { SnippetsRun }
+{}
 
 /// The words of a snippet are no more than it costs, and at most 22 for each operation.
 pub fn costs_hold()
