@@ -37,7 +37,7 @@ put values (suc r) v = slice_set values (suc r) v
 -- an immediate is a constant
 abbrev pub operand_in : List Value → Op2 → Value
 operand_in values (o.Reg r) = value_in values r
-operand_in values (o.Imm n) = Const (cast_unsigned w32 n)
+operand_in values (o.Imm n) = Const (cast_unsigned w32 n % 2 ^ 32)
 
 -- ---- ADD, OR, SLL and LD (The SPARC Architecture Manual, Version 8, B.13, B.11, B.12 and B.1)
 
