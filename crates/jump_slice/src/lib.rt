@@ -3,7 +3,9 @@
 
 mod compares;
 mod follow;
+mod laws;
 mod slices;
 
 pub use cfg_blocks::Switch;
+pub use laws::{switches_hold, text_is_held};
 pub use slices::{slice, switches};
