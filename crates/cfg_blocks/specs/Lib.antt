@@ -3,3 +3,5 @@ pub mod Blocks
 pub mod Ends
 pub mod Marks
 pub mod Entries
+pub mod Switches
+pub mod Values

@@ -12,8 +12,10 @@ mod ends;
 mod entries;
 mod leaders;
 mod list;
+mod switches;
 
 pub use list::{BlockList, blocks};
+pub use switches::{Approach, Compare, Switch, Value};
 
 /// What an edge of the flow graph stands for: a word that control leaves without a transfer, a branch that
 /// is taken or not, a CALL, a jump out of the text's known words, or a landing from outside.

@@ -1,0 +1,15 @@
+pub mod Meaning
+pub mod Sums
+pub mod Held
+pub mod Acts
+pub mod Steps
+pub mod Follows
+pub mod Compared
+pub mod Parts
+pub mod Coming
+pub mod Into
+pub mod Arriving
+pub mod Blocks
+pub mod Outside
+pub mod Whole
+pub mod Starts

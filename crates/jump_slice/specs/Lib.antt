@@ -1,0 +1,5 @@
+pub mod Known
+pub mod Switches
+pub mod Held
+pub mod Runs
+pub mod Examples
