@@ -1,0 +1,2 @@
+-- The laws of the generated file.
+use Rattle.std.specs.Prelude.{ℕ}
