@@ -1,1 +1,3 @@
 mod Made
+mod Headers
+mod Faults

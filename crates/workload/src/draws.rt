@@ -21,10 +21,7 @@ impl Draws {
         ensures number { result ≡ drawn self.old.state }
         ensures state { self.new.state ≡ stirred self.old.state }
     {
-        self.state = self
-            .state
-            .wrapping_mul(1_103_515_245)
-            .wrapping_add(12_345);
+        self.state = self.state.wrapping_mul(1_103_515_245).wrapping_add(12_345);
         self.state >> 16
     }
 
