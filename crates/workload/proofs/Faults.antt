@@ -34,7 +34,7 @@ module _ (ws : List ℕ) (some : 1 ≤ length ws) (few : length ws ≤ 2 ^ 20) (
       (short, (magic, (refl, (refl, (version, (type, (machine, (sizes, (table, tt)))))))))
 
 module _ (size : ℕ) (some : 4 ≤ size) (few : size ≤ 2 ^ 22) where
-  loads : loadable (text_entry size ∷ []) ≡ text_entry size ∷ []
+  pub loads : loadable (text_entry size ∷ []) ≡ text_entry size ∷ []
   loads = rw (lt-ltb 0 size (omega arith)) refl
 
   is_the_text : is_text (text_entry size) ≡ true

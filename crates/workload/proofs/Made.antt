@@ -55,11 +55,11 @@ length-flat_map-each f n each (x ∷ xs) =
     let more : n * (length xs + 1) ≡ n * length xs + n = omega arith in
     omega (arith, here, rest, both, more)
 
-length-routines : (count x : ℕ) → length (routines_from count x) ≡ count
+pub length-routines : (count x : ℕ) → length (routines_from count x) ≡ count
 length-routines zero x = refl
 length-routines (suc count) x = ap suc (length-routines count (stirred (stirred x)))
 
-length-caller : (count : ℕ) → length (caller_code count) ≡ 2 * count + 2
+pub length-caller : (count : ℕ) → length (caller_code count) ≡ 2 * count + 2
 length-caller count =
     let calls = length-flat_map-each (call_of count) 2 (λ i. refl) (range_with_len 0 count) in
     let range = length-range_with_len 0 count in
