@@ -125,3 +125,9 @@ has_no_fault number count some few =
     let ws = map word_of (code_of (routines_from count number) count) in
     let words : length ws ≡ 9 * count + 2 = word_count number count in
     (no_fault ws (omega arith) (omega arith), no_load_fault ws (omega arith) (omega arith))
+
+pub generated_size : (number count : ℕ) → length (generated number count) ≡ 84 + 4 * (9 * count + 2)
+unfolding generated
+generated_size number count =
+    length-file (map word_of (code_of (routines_from count number) count))
+    ∙ ap (λ n. 84 + 4 * n) (word_count number count)

@@ -47,6 +47,17 @@ small_sums (r ∷ rs) d =
     let more : 1024 * suc (length rs) ≡ 1024 + 1024 * length rs = omega arith in
     omega (arith, here, rest, both, more)
 
+few_steps : (rs : List Routine) → AreDrawn rs → sum_by routine_steps rs ≤ 67 * length rs
+few_steps [] d = omega arith
+few_steps (r ∷ rs) d =
+    let turns = d.0.turns in
+    let few = d.0.few in
+    let here : routine_steps r ≤ 67 = omega arith in
+    let rest = few_steps rs d.1 in
+    let both = sum_by-cons routine_steps r rs in
+    let more : 67 * suc (length rs) ≡ 67 + 67 * length rs = omega arith in
+    omega (arith, here, rest, both, more)
+
 clear : Codes
 clear = record { n = false; z = false; v = false; c = false }
 
@@ -85,7 +96,10 @@ generated_runs_end number count some few =
     let sum = total number count in
     let k = step_count number count in
     let e = ends number count some few in
+    let steps = few_steps (routines_from count number) (are_drawn count number) in
+    let size = length-routines count number in
     record {
+      few = omega (arith, steps, size);
       goes_on = goes_on count s sum k e;
       exits = exits_at count s sum k e;
       in_text = in_text count s sum k e;

@@ -47,11 +47,12 @@ pub record IsTextWord (count pc : ℕ) : Type 0 where
   pub above : 0x10054 ≤ pc
   pub below : pc < 0x10054 + 4 * (9 * count + 2)
 
--- The run goes on for exactly so many steps, and exits with the low byte of what %o0 holds. It stays at words of the
--- text, judges no byte of memory, and so touches no pages apart from the text.
+-- The run goes on for exactly so many steps, at most 69 for each routine and two, and exits with the low byte of what
+-- %o0 holds. It stays at words of the text, judges no byte of memory, and so touches no pages apart from the text.
 pub record RunsToItsExit (number count : ℕ) : Type 0 where
   pub goes_on : (n : ℕ) → n < step_count number count → (run (first number count) n).ending ≡ None
   pub exits : (run (first number count) (step_count number count)).ending ≡ Some (Exit (total number count % 256))
+  pub few : step_count number count ≤ 69 * count + 2
   pub in_text : (n : ℕ) → IsTextWord count (run (first number count) n).pc
   pub judges_none : (n : ℕ)
       → judged_in (run (first number count) n) (instr_at (run (first number count) n)) ≡ []

@@ -1,5 +1,5 @@
 //! The file.
-ghost use Rattle.std.specs.Prelude.{◌≡◌, ◌+◌, ◌*◌, ◌^◌, ◌<◌, ◌≤◌, ◌++◌, map, IfOk, OnOk};
+ghost use Rattle.std.specs.Prelude.{◌≡◌, ◌+◌, ◌*◌, ◌^◌, ◌<◌, ◌≤◌, ◌++◌, length, map, IfOk, OnOk};
 ghost use Rattle.std.specs.Int.{w32, to_be_bytes};
 ghost use Rattle.std.specs.List.{flat_map};
 ghost use Rattle.v8_encode.specs.Encoding.{word_of};
@@ -19,7 +19,8 @@ const WORD_SIZE: u32 = 4;
 pub fn make(alloc: Global, number: u32, routines: u32) -> Result<Vec<u8>, NoMemory>
     requires some { 1 ≤ routines }
     requires few { routines ≤ 100000 }
-    ensures { IfOk result (λ file. file.items ≡ generated number routines) }
+    ensures file { IfOk result (λ file. file.items ≡ generated number routines) }
+    ensures size { IfOk result (λ file. length file.items ≡ 84 + 4 * (9 * routines + 2)) }
 {
     let words = 9 * routines + 2;
     let size = HEADERS_SIZE + WORD_SIZE * words;

@@ -119,13 +119,6 @@ pub(crate) fn routine_words(routine: Routine) -> [u32; 7]
         rs1: register(15),
         op2: Op2::Imm(8),
     });
-    [
-        move_word(2, routine.turns),
-        add,
-        subtract,
-        branch,
-        nop(),
-        ret,
-        nop(),
-    ]
+    let count = move_word(2, routine.turns);
+    [count, add, subtract, branch, nop(), ret, nop()]
 }
