@@ -20,3 +20,5 @@ mod v8_process_tests;
 mod v8_runner_tests;
 #[cfg(test)]
 mod v8_step_tests;
+#[cfg(test)]
+mod workload_tests;

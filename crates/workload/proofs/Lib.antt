@@ -1,0 +1,10 @@
+mod Made
+mod Headers
+mod Faults
+mod Steps
+mod Way
+mod Turns
+mod Calls
+mod Ends
+mod Standing
+mod Runs

@@ -1,0 +1,23 @@
+//! A program that is made from a number, of as many routines as are wanted: a file to try the editor on.
+//!
+//! The definitions stand in specs/, with the law of its run.
+#![tactic(auto)]
+
+ghost use Rattle.workload.specs.Laws.{GeneratedRunsEnd, HasNoFault};
+
+mod draws;
+mod making;
+mod words;
+
+pub use making::make;
+
+/// Nothing keeps a file that is made from being edited, or from being run.
+pub fn generated_has_no_fault()
+    ensures { HasNoFault }
+{}
+
+/// The run of a file that is made exits, after so many steps as its routines have turns, with what they add. It stays in
+/// the text, and judges no byte of memory.
+pub fn generated_runs_end()
+    ensures { GeneratedRunsEnd }
+{}
