@@ -1,14 +1,9 @@
--- The nodes of a flow graph by numbers.
-use Rattle.std.specs.Prelude.{◌≡◌, ℕ, length}
+-- The nodes of a flow graph are told apart by their numbers.
+use Rattle.std.specs.Prelude.{◌≡◌}
 use Rattle.cfg_blocks.specs.Blocks.{Blocks}
 use Rattle.cfg_normal.specs.declared.Node.{Node}
-use Rattle.cfg_normal.specs.declared.Node.TheVariants.{Block, X}
-use Rattle.cfg_normal.specs.Graph.{Graph, IsNodeIn, graph_of}
-
--- a block has its own number, and X the one after the last block's
-abbrev pub node_number : Graph → Node → ℕ
-node_number graph (Block block) = block.0
-node_number graph X = length graph.blocks.firsts
+use Rattle.cfg_normal.specs.Graph.{IsNodeIn, graph_of}
+use Rattle.cfg_normal.specs.Numbers.{node_number}
 
 -- no two nodes have the same number
 abbrev pub NodesAreApart : Type 0

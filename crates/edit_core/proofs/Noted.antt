@@ -20,7 +20,7 @@ use Rattle.cfg_normal.specs.declared.Edge.{Edge}
 use Rattle.cfg_normal.specs.declared.Node.{Node}
 use Rattle.cfg_normal.specs.declared.Node.TheVariants.{Block, X}
 use Rattle.cfg_normal.specs.Graph.{Graph, IsEdgeIn, IsNodeIn}
-use Rattle.cfg_walk.specs.Numbers.{node_number}
+use Rattle.cfg_normal.specs.Numbers.{node_number}
 use Rattle.cfg_walk.proofs.Lists.{Each, each-append}
 use Rattle.layout.specs.Laid.{Ascend, Placement}
 use Rattle.edit_core.specs.Faithful.{editor_page, kind_number, note_edge}

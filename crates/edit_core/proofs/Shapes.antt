@@ -23,7 +23,7 @@ use Rattle.cfg_normal.specs.Graph.{Graph, IsEdgeIn, IsNodeIn, IsSlotIn, edges_in
 use Rattle.cfg_normal.proofs.Edges.{edges_in-in, node_of-in}
 use Rattle.cfg_walk.specs.Walk.{same_kind}
 use Rattle.cfg_walk.specs.Matches.{way_address}
-use Rattle.cfg_walk.specs.Numbers.{node_number}
+use Rattle.cfg_normal.specs.Numbers.{node_number}
 use Rattle.cfg_walk.proofs.Lists.{Each, each, each-append, each-below, each-map}
 use Rattle.code_runs.specs.LongJump.{long_jump}
 use Rattle.addr_translate.specs.Translator.{translator}

@@ -22,7 +22,7 @@ use Rattle.cfg_normal.specs.declared.Slot.TheVariants as slots
 use Rattle.cfg_normal.specs.Graph.{Graph, graph_of}
 use Rattle.cfg_view.specs.View.{given_in}
 use Rattle.cfg_view.specs.declared.View.{View}
-use Rattle.cfg_walk.specs.Numbers.{node_number}
+use Rattle.cfg_normal.specs.Numbers.{node_number}
 use Rattle.addr_translate.specs.Lookup.{TableAt}
 use Rattle.addr_translate.specs.Table.{IsTableOf, size_of}
 use Rattle.layout.specs.declared.items.Item.{Item}

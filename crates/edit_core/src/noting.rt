@@ -3,7 +3,7 @@ ghost use Rattle.std.specs.Prelude.{◌≡◌, ◌+◌, ◌*◌, ◌^◌, ◌<�
 ghost use Rattle.std.specs.List.{find};
 ghost use Rattle.eel_base.specs.CodeText.{IsText};
 ghost use Rattle.notes.specs.Seen.{notes_seen, edge_seen, range_seen, segment_seen};
-ghost use Rattle.cfg_walk.specs.Numbers.{node_number as node_number_of};
+ghost use Rattle.cfg_normal.specs.Numbers.{node_number as node_number_of};
 ghost use Rattle.addr_translate.specs.Table.{size_of};
 ghost use Rattle.edit_core.specs.Faithful.{kind_number as kind_number_of, note_edge as note_edge_of};
 ghost use Rattle.edit_core.specs.Written.{is_off as is_off_of, notes_on, off_range as off_range_of, off_ranges, segments_noted, placement_in, IsViewOf};

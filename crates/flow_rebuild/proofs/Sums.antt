@@ -16,7 +16,7 @@ use Rattle.flows.specs.Trees.{on}
 use Rattle.flows.specs.declared.Link.{Link}
 use Rattle.flows.proofs.Bools.{eqb_swap, or_no, or_parts_false, true_or_false}
 use Rattle.flow_rebuild.specs.Excess.{excess_below}
-use Rattle.flow_rebuild.specs.Values.{int_at, abs_sum, added, passed}
+use Rattle.flow_rebuild.specs.Values.{int_at, abs_sum, added, passed, carries}
 use Rattle.flow_tree.specs.Tree.{edges_in}
 use Rattle.flow_tree.specs.declared.Join.{Join}
 use Rattle.flow_tree.proofs.Steps.{on_more}
@@ -102,6 +102,10 @@ abs_neg : (z : ℤ) → nat_abs (neg_ℤ z) ≡ nat_abs z
 abs_neg (pos zero) = refl
 abs_neg (pos (suc n)) = refl
 abs_neg (negsuc n) = refl
+
+-- what a link carries is as great as what it takes away
+pub abs_carries : (l : Link) (v : ℕ) (z : ℤ) → nat_abs (carries l v z) ≡ nat_abs z
+abs_carries l v z = cond_both (l.to == v) (neg_ℤ z) z (λ c. nat_abs c ≡ nat_abs z) (λ h. abs_neg z) (λ h. refl)
 
 pub abs_passed : (xs ys : List ℤ) (l : Link) (z : ℤ) → ys ≡ passed xs l z → l.to < length xs → l.from < length xs → abs_sum ys ≤ abs_sum xs + 2 * nat_abs z
 abs_passed xs ys l z e a b =

@@ -103,7 +103,7 @@ fn excesses(
     ensures excess { IfOk result (λ x.
         (u : ℕ) → u < nodes →
         int_at x.items u ≡ excess (graph_of nodes links.now) start end (int_at values.now) u) }
-    ensures small { IfOk result (λ x. abs_sum x.items < 2 ^ 126) }
+    ensures small { IfOk result (λ x. abs_sum x.items ≤ 2 * abs_sum values.now + 2) }
 {
     let mut excess = supply(alloc, nodes, start, end)?;
     for (e, link) in links.iter().enumerate() {
@@ -118,6 +118,7 @@ fn cleared(alloc: Global, values: &[i128], joins: &[Join]) -> Result<Vec<i128>, 
     requires small { All (λ z. nat_abs z < 2 ^ 64) values.now }
     ensures len { IfOk result (λ x. length x.items ≡ length values.now) }
     ensures small { IfOk result (λ x. All (λ z. nat_abs z < 2 ^ 64) x.items) }
+    ensures less { IfOk result (λ x. abs_sum x.items ≤ abs_sum values.now) }
     ensures kept { IfOk result (λ x.
         (e : ℕ) → on (edges_in joins.now) e ≡ false → int_at x.items e ≡ int_at values.now e) }
     ensures unset { IfOk result (λ x.
@@ -160,6 +161,7 @@ pub fn rebuild(
         let g = graph_of (length tree.now.reached.items) links.now in
         let counted = rest (on (edges_of tree.now)) in
         IsTheFlow g counted start end (int_at values.now) (int_at x.items)) }
+    ensures small { IfOk result (λ x. All (λ z. nat_abs z ≤ 2 * abs_sum values.now + 2) x.items) }
 {
     let mut flow = cleared(alloc, values, &tree.joins)?;
     let mut excess = excesses(alloc, tree.reached.len(), links, &flow, start, end)?;

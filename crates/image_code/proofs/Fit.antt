@@ -30,7 +30,7 @@ use Rattle.cfg_normal.specs.Graph.{Graph, IsEdgeIn, IsNodeIn, edges_in, graph_of
 use Rattle.cfg_normal.proofs.Edges.{edges_in-in}
 use Rattle.cfg_walk.specs.Walk.{same_kind, same_node}
 use Rattle.cfg_walk.specs.Matches.{way_address}
-use Rattle.cfg_walk.specs.Numbers.{node_number}
+use Rattle.cfg_normal.specs.Numbers.{node_number}
 use Rattle.cfg_walk.proofs.Addresses.{word_at-address}
 use Rattle.cfg_walk.proofs.Lists.{Each, each_at, each-append, each-below, each-map}
 use Rattle.addr_translate.specs.Translator.{translator}

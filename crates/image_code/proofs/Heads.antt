@@ -22,7 +22,7 @@ use Rattle.cfg_normal.specs.declared.Node.{Node}
 use Rattle.cfg_normal.specs.declared.Slot.TheVariants as carried
 use Rattle.cfg_normal.specs.Graph.{Graph, node_of}
 use Rattle.cfg_walk.specs.Walk.{Point, instr_at, same_kind}
-use Rattle.cfg_walk.specs.Numbers.{node_number}
+use Rattle.cfg_normal.specs.Numbers.{node_number}
 use Rattle.cfg_walk.specs.Matches.{IsOnItsWay, Matches, MatchesBy}
 use Rattle.code_runs.specs.Page.{of_page}
 use Rattle.jump_code.specs.FreeRegister.{free_register}

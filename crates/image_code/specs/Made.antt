@@ -22,7 +22,7 @@ use Rattle.cfg_normal.specs.declared.Slot.TheVariants as slots
 use Rattle.cfg_normal.specs.Graph.{Graph, node_of}
 use Rattle.cfg_walk.specs.Walk.{edge_from, landing_at, left_by, same_kind}
 use Rattle.cfg_walk.specs.Matches.{way_address}
-use Rattle.cfg_walk.specs.Numbers.{node_number}
+use Rattle.cfg_normal.specs.Numbers.{node_number}
 use Rattle.addr_translate.specs.Lookup.{TableAt, IsTable, looked_up}
 use Rattle.addr_translate.specs.Translator.{translator}
 use Rattle.jump_code.specs.FreeRegister.{free_register}

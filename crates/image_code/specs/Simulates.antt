@@ -16,7 +16,7 @@ use Rattle.cfg_normal.specs.declared.Node.{Node}
 use Rattle.cfg_normal.specs.Graph.{Graph, graph_of}
 use Rattle.cfg_walk.specs.Walk.{Point, point_of, goes_on_at, gone, node_after, gone_in}
 use Rattle.cfg_walk.specs.Matches.{Matches}
-use Rattle.cfg_walk.specs.Numbers.{node_number}
+use Rattle.cfg_normal.specs.Numbers.{node_number}
 use Rattle.snippets.specs.declared.snippet.Op.{Op}
 use Rattle.snippets.specs.Cells.{update}
 use Rattle.snippet_code.specs.Runs.{words_at}

@@ -6,7 +6,7 @@ ghost use Rattle.cfg_blocks.specs.Blocks.{below, last_word as last_word_of};
 ghost use Rattle.eel_base.specs.CodeText.{IsText};
 ghost use Rattle.cfg_normal.specs.Graph.{IsEdgeIn, IsNodeIn, edges_of};
 ghost use Rattle.cfg_walk.specs.Matches.{last_in as last_in_of, target_along, way_address};
-ghost use Rattle.cfg_walk.specs.Numbers.{node_number as node_number_of};
+ghost use Rattle.cfg_normal.specs.Numbers.{node_number as node_number_of};
 ghost use Rattle.image_code.specs.Made.{foreign_number as foreign_number_of, goes_along, image as image_of, jump_to, landing_number, own_edges as own_edges_of, piece_list, slot_copy as slot_copy_of, way_along};
 ghost use Rattle.image_code.specs.Parts.{IsGraphOf, first_way_of, image_in, items_of, rest_of};
 ghost use Rattle.v8_decode.specs.Words.{decode_of};

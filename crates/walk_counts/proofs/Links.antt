@@ -5,7 +5,7 @@ use Rattle.cfg_normal.specs.declared.Node.{Node}
 use Rattle.cfg_normal.specs.declared.Node.TheVariants.{Block, X}
 use Rattle.cfg_normal.specs.Graph.{IsEdgeIn, IsNodeIn, graph_of, edges_in}
 use Rattle.cfg_normal.proofs.Edges.{edges_in-in}
-use Rattle.cfg_walk.specs.Numbers.{node_number}
+use Rattle.cfg_normal.specs.Numbers.{node_number}
 use Rattle.walk_counts.specs.Counts.{LinksAreAGraph, edge_at}
 
 pub number_inside : (b : Blocks) (node : Node) → IsNodeIn b node

@@ -14,7 +14,7 @@ use Rattle.cfg_normal.specs.declared.Slot.TheVariants.{Nothing}
 use Rattle.cfg_normal.specs.Graph.{Graph, graph_of, node_of}
 use Rattle.cfg_walk.specs.Walk.{walk, end_of_walk}
 use Rattle.cfg_walk.specs.Matches.{OfEachRun}
-use Rattle.cfg_walk.specs.Numbers.{node_number}
+use Rattle.cfg_normal.specs.Numbers.{node_number}
 use Rattle.walk_counts.specs.Files.{OfEachFile}
 
 -- ---- the plain graph

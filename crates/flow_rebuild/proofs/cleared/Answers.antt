@@ -2,13 +2,17 @@ use Rattle.std.proofs.Common.{rules, ◌<◌, ◌^◌, length, arith, get_or}
 use Rattle.std.specs.Prelude.{ℤ, pos, nat_abs}
 use Rattle.std.proofs.lemmas.List.Elements.{All-set}
 use Rattle.flow_tree.specs.declared.Join.{Join}
-use Rattle.flow_rebuild.proofs.Sums.{cleared_more, cleared_on}
+use Rattle.flow_rebuild.proofs.Sums.{abs_set, cleared_more, cleared_on}
 use Rattle.flow_rebuild.proofs.cleared.Goals as goal
 
 pub loop-join-preserved : goal.loop-join-preserved
 loop-join-preserved c = record {
   len = search rules;
   small = All-set (λ (z : ℤ). nat_abs z < 2 ^ 64) c.loop-join.cleared.items _ (pos 0) (omega arith) c.loop-join.invariant.small;
+  less =
+      let a = abs_set c.loop-join.cleared.items (get_or c.args.joins.now c.loop-join.join-index none).edge (pos 0) there in
+      let b = c.loop-join.invariant.less in
+      omega (arith, a, b);
   kept = cleared_more c.args.values.now c.loop-join.cleared.items c.args.joins.now c.loop-join.join-index none c.loop-join-test.true there c.loop-join.invariant.kept;
   unset = cleared_on c.loop-join.cleared.items c.args.joins.now c.loop-join.join-index none c.loop-join-test.true there c.loop-join.invariant.unset;
 }

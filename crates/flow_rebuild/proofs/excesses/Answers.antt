@@ -43,3 +43,9 @@ loop-e-preserved c = record {
 
     there : c.pass.new.excess.items ≡ passed c.loop-e.excess.items (link_at c.args.links.now c.loop-e.e) (int_at c.args.values.now c.loop-e.e)
     there = c.pass.ensures ∙ ap (λ (z : ℤ). passed c.loop-e.excess.items (link_at c.args.links.now c.loop-e.e) z) back
+
+pub returns-clause-small : goal.returns-clause-small
+returns-clause-small c =
+    let s = c.loop-e.invariant.small in
+    let t = abs_take c.args.values.now c.loop-e.e in
+    omega (arith, s, t)

@@ -1,17 +1,18 @@
-use Rattle.std.proofs.Common.{rules, ◌≡◌, ℕ, ◌<◌, List, length, sym, subst, arith, ap, ◌∙◌, true, false}
-use Rattle.std.specs.Prelude.{ℤ, pos}
+use Rattle.std.proofs.Common.{rules, ◌≡◌, ◌≤◌, ◌+◌, ◌*◌, ℕ, ◌<◌, List, length, sym, subst, arith, ap, ◌∙◌, true, false}
+use Rattle.std.specs.Prelude.{ℤ, pos, nat_abs}
 use Rattle.std.proofs.lemmas.List.{get_or-set_other}
 use Rattle.std.specs.List.{All}
+use Rattle.std.proofs.lemmas.List.Elements.{All-from_get_or, All-set}
 use Rattle.std.specs.Slice.Iter.{iter_rest}
-use Rattle.flows.specs.Links.{graph_of}
+use Rattle.flows.specs.Links.{graph_of, link_at}
 use Rattle.flows.specs.Trees.{on}
 use Rattle.flows.proofs.Bools.{true_or_false}
 use Rattle.flow_rebuild.specs.Excess.{excess}
-use Rattle.flow_rebuild.specs.Values.{abs_sum, int_at}
+use Rattle.flow_rebuild.specs.Values.{abs_sum, carries, int_at}
 use Rattle.flow_tree.specs.Tree.{edges_in, edges_of}
 use Rattle.flow_tree.specs.declared.Join.{Join}
 use Rattle.flow_rebuild.proofs.Peel.{last_peeled, peel_step, on_longer, the_flow, none_left, on_last, node_inside, reached_below, edge_inside, start_peeled, peel_small, peeled_as}
-use Rattle.flow_rebuild.proofs.Sums.{abs_bound}
+use Rattle.flow_rebuild.proofs.Sums.{abs_bound, abs_carries, small_at}
 use Rattle.flow_tree.proofs.Check.{linked_nodes}
 use Rattle.flow_rebuild.proofs.rebuild.Goals as goal
 
@@ -40,6 +41,12 @@ settle-requires-clause-from c = let k = linked_nodes c.args.tree.now.reached.ite
 pub settle-requires-clause-to : goal.settle-requires-clause-to
 settle-requires-clause-to c = let k = linked_nodes c.args.tree.now.reached.items c.args.links.now c.requires.ends c.in-Some.join.now.edge (record { from = 0; to = 0 }) (edge_inside (length c.args.tree.now.reached.items) c.args.links.now c.args.tree.now.root c.args.start c.args.end (iter_rest c.next.new.self.iter) c.in-Some.join.now c.loop-join.flow.items c.loop-join.excess.items (linked_nodes c.args.tree.now.reached.items c.args.links.now c.requires.ends) (last_peeled _ _ _ _ _ _ (iter_rest c.next.new.self.iter) c.in-Some.join.now _ _ c.in-Some.ensures.steps c.loop-join.invariant.peeled)) in let l = c.loop-join.invariant.peeled.excess_len in omega (arith, k.1, l)
 
+pub settle-requires-clause-small : goal.settle-requires-clause-small
+settle-requires-clause-small c =
+    let k = abs_bound c.args.values.now (search rules) c.requires.small in
+    let m = c.loop-join.invariant.small in
+    omega (arith, k, m)
+
 pub loop-join-preserved : goal.loop-join-preserved
 loop-join-preserved c = record {
   peeled = peeled_as _ _ _ _ _ _ _ _ _ _ c.settle.ensures.values c.settle.ensures.excess (peel_step (length c.args.tree.now.reached.items) c.args.links.now c.args.tree.now.root c.args.start c.args.end (iter_rest c.next.new.self.iter) c.in-Some.join.now c.loop-join.flow.items c.loop-join.excess.items (linked_nodes c.args.tree.now.reached.items c.args.links.now c.requires.ends) (last_peeled _ _ _ _ _ _ (iter_rest c.next.new.self.iter) c.in-Some.join.now _ _ c.in-Some.ensures.steps c.loop-join.invariant.peeled));
@@ -48,6 +55,17 @@ loop-join-preserved c = record {
       let l = ap abs_sum c.settle.ensures.excess in
       let m = c.loop-join.invariant.small in
       omega (arith, k, l, m);
+  values =
+      let limit = 2 * abs_sum c.args.values.now + 2 in
+      let edge = c.in-Some.join.now.edge in
+      let node = c.in-Some.join.now.node in
+      let moved = int_at c.loop-join.excess.items node in
+      let k = small_at c.loop-join.excess.items node in
+      let l = abs_carries (link_at c.args.links.now edge) node moved in
+      let m = c.loop-join.invariant.small in
+      subst (All (λ (z : ℤ). nat_abs z ≤ limit)) (sym c.settle.ensures.values)
+      (All-set (λ (z : ℤ). nat_abs z ≤ limit) c.loop-join.flow.items edge
+      (carries (link_at c.args.links.now edge) node moved) (omega (arith, k, l, m)) c.loop-join.invariant.values);
   inside = λ e o. c.loop-join.invariant.inside e (on_longer (iter_rest c.next.new.self.iter) c.in-Some.join.now (iter_rest c.loop-join.join-iterator.iter) e c.in-Some.ensures.steps o);
   agrees = λ e o. ap (λ xs. int_at xs e) c.settle.ensures.values
       ∙ get_or-set_other c.loop-join.flow.items c.in-Some.join.now.edge e _ (pos 0)
@@ -62,7 +80,16 @@ loop-join-init c = record {
       (c.in_ok-flow.ensures.len ∙ c.requires.values) c.in_ok-excess.ensures.len
       (λ e o. c.in_ok-flow.ensures.unset e (subst (λ (js : List Join). on (edges_in js) e ≡ true) (sym c.deref.ensures.value) o))
       (λ u l. c.in_ok-excess.ensures.excess u l ∙ ap (λ (xs : List ℤ). excess (graph_of c.len.result c.args.links.now) c.args.start c.args.end (int_at xs) u) c.deref-2.ensures.value);
-  small = c.in_ok-excess.ensures.small;
+  small =
+      let k = c.in_ok-excess.ensures.small in
+      let l : abs_sum c.deref-2.result.now ≡ abs_sum c.in_ok-flow.flow.items = ap abs_sum c.deref-2.ensures.value in
+      let m = c.in_ok-flow.ensures.less in
+      omega (arith, k, l, m);
+  values = All-from_get_or (λ (z : ℤ). nat_abs z ≤ 2 * abs_sum c.args.values.now + 2) c.in_ok-flow.flow.items (pos 0)
+      (λ e l.
+      let k = small_at c.in_ok-flow.flow.items e in
+      let m = c.in_ok-flow.ensures.less in
+      omega (arith, k, m));
   inside = λ e o. subst (λ (js : List Join). on (edges_in js) e ≡ true) left o;
   agrees = λ e o. c.in_ok-flow.ensures.kept e (subst (λ (js : List Join). on (edges_in js) e ≡ false) (sym c.deref.ensures.value) o);
 }

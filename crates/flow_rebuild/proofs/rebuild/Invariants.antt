@@ -1,4 +1,6 @@
-use Rattle.std.proofs.Common.{◌≡◌, ◌<◌, ◌^◌, ℕ, true, false, length}
+use Rattle.std.proofs.Common.{◌≡◌, ◌≤◌, ◌+◌, ◌*◌, ℕ, true, false, length}
+use Rattle.std.specs.Prelude.{nat_abs}
+use Rattle.std.specs.List.{All}
 use Rattle.std.specs.Slice.Iter.{iter_rest}
 use Rattle.flows.specs.Trees.{on}
 use Rattle.flow_rebuild.specs.Values.{abs_sum, int_at}
@@ -9,7 +11,8 @@ use Rattle.flow_rebuild.proofs.rebuild.Given as goal
 abbrev pub invariant-loop-join : goal.invariant-loop-join
 invariant-loop-join l = record {
   peeled : IsPeeled (length l.tree.reached.items) l.links l.tree.root l.start l.end (iter_rest l.join-iterator.iter) l.flow.items l.excess.items;
-  small : abs_sum l.excess.items < 2 ^ 126;
+  small : abs_sum l.excess.items ≤ 2 * abs_sum l.values + 2;
+  values : All (λ z. nat_abs z ≤ 2 * abs_sum l.values + 2) l.flow.items;
   inside : (e : ℕ) → on (edges_in (iter_rest l.join-iterator.iter)) e ≡ true → on (edges_of l.tree) e ≡ true;
   agrees : (e : ℕ) → on (edges_of l.tree) e ≡ false → int_at l.flow.items e ≡ int_at l.values e;
 }

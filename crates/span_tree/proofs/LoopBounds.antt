@@ -1,0 +1,202 @@
+-- One loop more, and what the sums of beginnings and ends say.
+use Rattle.std.proofs.Common.{◌≡◌, ℕ, zero, suc, ◌+◌, ◌-◌, ◌<◌, ◌≤◌, ◌⊎◌, inl, inr, Bool, true, false, ◌&&◌, cond, List, [], ◌∷◌, ◌++◌, length, map, set, slice_index, add-one, refl, ap, sym, ◌∙◌, subst, arith}
+use Rattle.std.specs.Prelude.{Some, None, nat_le}
+use Rattle.std.specs.List.{All}
+use Rattle.std.proofs.lemmas.Bool.{cases_eq, cases_lt, le-leb}
+use Rattle.std.proofs.lemmas.Bool.Decides.{leb_tells}
+use Rattle.std.proofs.lemmas.List.{get_or-map, get_or-set_other, get_or-set_same, length-map, length-set, map-append}
+use Rattle.std.proofs.lemmas.List.Elements.{All-get_or, All-set, All-weaker}
+use Rattle.eel_base.specs.declared.numbers.WordNo.{WordNo}
+use Rattle.flows.specs.Flows.{count_below}
+use Rattle.cfg_blocks.specs.Blocks.{Blocks, below, end_of, last_word}
+use Rattle.cfg_blocks.proofs.Below.{get_or-below, length-below}
+use Rattle.span_tree.specs.Bounds.{AreBounds, sum_below}
+use Rattle.span_tree.specs.Weights.{branch_target, is_between, is_in_loop, loops_at}
+
+abbrev pub raised : List ℕ → ℕ → List ℕ
+raised xs i = set xs i (slice_index xs i + 1)
+
+sum_before : (n : ℕ) (xs : List ℕ) (i : ℕ) → n ≤ i → sum_below n (raised xs i) ≡ sum_below n xs
+sum_before zero xs i h = refl
+sum_before (suc n) xs i h =
+    omega (
+      arith,
+      sum_before n xs i (omega (arith, h)),
+      get_or-set_other xs i n (slice_index xs i + 1) 0 (λ e. omega (arith, h, e)),
+    )
+
+sum_after : (n : ℕ) (xs : List ℕ) (i : ℕ) → i < length xs → i < n → sum_below n (raised xs i) ≡ sum_below n xs + 1
+sum_after zero xs i l h = absurd (omega (arith, h))
+sum_after (suc n) xs i l h = by (cases_eq n i) (sum_after n xs i l)
+  where
+    by : (n ≡ i) ⊎ (n ≡ i → ⊥) → (i < n → sum_below n (raised xs i) ≡ sum_below n xs + 1)
+        → sum_below (suc n) (raised xs i) ≡ sum_below (suc n) xs + 1
+    by (inl e) rec =
+        let before = sum_before n xs i (omega (arith, e)) in
+        let here : slice_index (raised xs i) n ≡ slice_index xs i + 1 =
+        ap (slice_index (raised xs i)) e ∙ get_or-set_same xs i (slice_index xs i + 1) 0 l in
+        let was : slice_index xs n ≡ slice_index xs i = ap (slice_index xs) e in
+        omega (arith, before, here, was)
+    by (inr e) rec =
+        let before = rec (omega (arith, h, e)) in
+        let other = get_or-set_other xs i n (slice_index xs i + 1) 0 e in
+        omega (arith, before, other)
+
+pub counted_few : (n : ℕ) (s : ℕ → Bool) → count_below n s ≤ n
+counted_few zero s = omega arith
+counted_few (suc n) s = by (s n) (counted_few n s)
+  where
+    by : (b : Bool) → count_below n s ≤ n → count_below n s + cond b 1 0 ≤ suc n
+    by true h = omega (arith, h)
+    by false h = omega (arith, h)
+
+le_no : (a b : ℕ) → b < a → nat_le a b ≡ false
+le_no a b h = by (leb_tells a b)
+  where
+    by : ((nat_le a b ≡ true) × (a ≤ b)) ⊎ ((nat_le a b ≡ false) × (b < a)) → nat_le a b ≡ false
+    by (inl t) = absurd (omega (arith, h, t.1))
+    by (inr f) = f.0
+
+abbrev one : Bool → ℕ
+one c = cond c 1 0
+
+and_false : (c : Bool) → (c && false) ≡ false
+and_false true = refl
+and_false false = refl
+
+-- ---- a block without a loop
+
+module _ (b : Blocks) (k : ℕ) (begins ends : List ℕ) (h : AreBounds b k begins ends) where
+  abbrev last : ℕ
+  last = last_word b.firsts b.words k
+
+  more : (xs : List ℕ) → All (λ n. n ≤ k) xs → All (λ n. n ≤ suc k) xs
+  more xs few = All-weaker (λ n. n ≤ k) (λ n. n ≤ suc k) (λ n l. omega (arith, l)) xs few
+
+  none : ((word : ℕ) → is_in_loop b word k ≡ false) → AreBounds b (suc k) begins ends
+  none never = record {
+    begins_len = h.begins_len;
+    ends_len = h.ends_len;
+    begins_few = more begins h.begins_few;
+    ends_few = more ends h.ends_few;
+    about = λ word.
+        let now : one (is_in_loop b word k) ≡ 0 = ap one (never word) in
+        omega (arith, h.about word, now);
+    begun = h.begun;
+  }
+
+  pub no_branch : branch_target (end_of b k) ≡ None → AreBounds b (suc k) begins ends
+  no_branch e = none (λ word. ap (is_between last word) e)
+
+  between_no : (t word : ℕ) → last < t → (nat_le t word && nat_le word last) ≡ false
+  between_no t word l = by (cases_lt word t)
+    where
+      by : (word < t) ⊎ (t ≤ word) → (nat_le t word && nat_le word last) ≡ false
+      by (inl m) = ap (λ (c : Bool). c && nat_le word last) (le_no t word m)
+      by (inr m) = ap (λ (c : Bool). nat_le t word && c) (le_no word last (omega (arith, l, m))) ∙ and_false (nat_le t word)
+
+  pub forward : (t : WordNo) → branch_target (end_of b k) ≡ Some t → last < t.0 → AreBounds b (suc k) begins ends
+  forward t e l = none (λ word. ap (is_between last word) e ∙ between_no t.0 word l)
+
+  -- ---- a block with a loop
+
+  raised_few : (xs : List ℕ) (i : ℕ) → i < length xs → All (λ n. n ≤ k) xs → All (λ n. n ≤ suc k) (raised xs i)
+  raised_few xs i l few =
+      let here = All-get_or (λ n. n ≤ k) xs i 0 l few in
+      All-set (λ n. n ≤ suc k) xs i (slice_index xs i + 1) (omega (arith, here)) (more xs few)
+
+  pub backward : (t : WordNo) → branch_target (end_of b k) ≡ Some t → t.0 ≤ last → last < b.words
+      → AreBounds b (suc k) (raised begins t.0) (raised ends last)
+  backward t e l within = record {
+    begins_len = length-set begins t.0 _ ∙ h.begins_len;
+    ends_len = length-set ends last _ ∙ h.ends_len;
+    begins_few = raised_few begins t.0 first h.begins_few;
+    ends_few = raised_few ends last ended h.ends_few;
+    about = λ word. about word (cases_lt word t.0) (cases_lt last word);
+    begun = λ n. begun n (cases_lt last n) (cases_lt t.0 n);
+  }
+    where
+      first : t.0 < length begins
+      first = omega (arith, l, within, h.begins_len)
+
+      ended : last < length ends
+      ended = omega (arith, within, h.ends_len)
+
+      is : (word : ℕ) (c : Bool) → (nat_le t.0 word && nat_le word last) ≡ c → one (is_in_loop b word k) ≡ one c
+      is word c eq = ap one (ap (is_between last word) e ∙ eq)
+
+      about : (word : ℕ) → (word < t.0) ⊎ (t.0 ≤ word) → (last < word) ⊎ (word ≤ last)
+          → sum_below (suc word) (raised begins t.0)
+          ≡ sum_below word (raised ends last) + count_below (suc k) (is_in_loop b word)
+      about word (inl m) over =
+          let now = is word false (ap (λ (c : Bool). c && nat_le word last) (le_no t.0 word m)) in
+          let before = sum_before (suc word) begins t.0 (omega (arith, m)) in
+          let after = sum_before word ends last (omega (arith, m, l)) in
+          omega (arith, now, before, after, h.about word)
+      about word (inr m) (inl over) =
+          let now = is word false (ap (λ (c : Bool). nat_le t.0 word && c) (le_no word last over) ∙ and_false (nat_le t.0 word)) in
+          let before = sum_after (suc word) begins t.0 first (omega (arith, m)) in
+          let after = sum_after word ends last ended over in
+          omega (arith, now, before, after, h.about word)
+      about word (inr m) (inr over) =
+          let now = is word true (ap (λ (c : Bool). c && nat_le word last) (le-leb t.0 word m) ∙ le-leb word last over) in
+          let before = sum_after (suc word) begins t.0 first (omega (arith, m)) in
+          let after = sum_before word ends last over in
+          omega (arith, now, before, after, h.about word)
+
+      begun : (n : ℕ) → (last < n) ⊎ (n ≤ last) → (t.0 < n) ⊎ (n ≤ t.0)
+          → sum_below n (raised ends last) ≤ sum_below n (raised begins t.0)
+      begun n (inl o) m =
+          let before = sum_after n begins t.0 first (omega (arith, o, l)) in
+          let after = sum_after n ends last ended o in
+          omega (arith, before, after, h.begun n)
+      begun n (inr o) (inl m) =
+          let before = sum_after n begins t.0 first m in
+          let after = sum_before n ends last o in
+          omega (arith, before, after, h.begun n)
+      begun n (inr o) (inr m) =
+          let before = sum_before n begins t.0 m in
+          let after = sum_before n ends last o in
+          omega (arith, before, after, h.begun n)
+
+  -- as the code meets these facts
+  pub put : (t : WordNo) (at : ℕ) (begun ended : List ℕ) → begun ≡ raised begins t.0 → ended ≡ raised ends at → at ≡ last
+      → branch_target (end_of b k) ≡ Some t → t.0 ≤ at → at < b.words → AreBounds b (k + 1) begun ended
+  put t at begun ended first second is e l within = rw add-one (
+      subst (λ (xs : List ℕ). AreBounds b (suc k) xs ended) (sym first)
+      (subst (AreBounds b (suc k) (raised begins t.0)) (sym (second ∙ ap (raised ends) is))
+      (backward t e (omega (arith, l, is)) (omega (arith, within, is)))))
+
+-- ---- the list for all words
+
+pub loops_length : (b : Blocks) (loops : List ℕ) → loops ≡ map (loops_at b) (below b.words) → length loops ≡ b.words
+loops_length b loops e = ap length e ∙ length-map (below b.words) (loops_at b) ∙ length-below b.words
+
+pub loops_read : (b : Blocks) (loops : List ℕ) (word : ℕ) → loops ≡ map (loops_at b) (below b.words) → word < b.words
+    → slice_index loops word ≡ loops_at b word
+loops_read b loops word e l =
+    ap (λ (xs : List ℕ). slice_index xs word) e
+    ∙ get_or-map (loops_at b) (below b.words) word 0 0 (omega (arith, l, length-below b.words))
+    ∙ ap (loops_at b) (get_or-below b.words word 0 l)
+
+-- a turn of the loop over the words: what is about one, and what stays about the next
+module _ (b : Blocks) (begins ends : List ℕ) (h : AreBounds b (length b.firsts) begins ends) (about word : ℕ)
+    (before : about + sum_below word ends ≡ sum_below word begins) where
+  pub about_is : about + slice_index begins word ≡ loops_at b word
+  about_is = omega (arith, before, h.about word)
+
+  pub about_few : about + slice_index begins word ≤ length b.firsts
+  about_few = omega (arith, about_is, counted_few (length b.firsts) (is_in_loop b word))
+
+  pub ends_fewer : slice_index ends word ≤ about + slice_index begins word
+  ends_fewer = omega (arith, before, h.begun (suc word))
+
+  pub about_next_as : (begun ended : ℕ) → begun ≡ slice_index begins word → ended ≡ slice_index ends word
+      → about + begun - ended + sum_below (word + 1) ends ≡ sum_below (word + 1) begins
+  about_next_as begun ended is was = rw add-one (omega (arith, before, ends_fewer, is, was))
+
+pub loops_more : (b : Blocks) (loops : List ℕ) (word n : ℕ) → loops ≡ map (loops_at b) (below word) → n ≡ loops_at b word
+    → loops ++ n ∷ [] ≡ map (loops_at b) (below (word + 1))
+loops_more b loops word n e is = rw add-one (
+    ap (λ (xs : List ℕ). xs ++ n ∷ []) e ∙ ap (λ (n : ℕ). map (loops_at b) (below word) ++ n ∷ []) is
+    ∙ sym (map-append (loops_at b) (below word) (word ∷ [])))

@@ -1,0 +1,6 @@
+use Rattle.std.proofs.Common.{◌≡◌, map, take}
+use Rattle.span_tree.specs.Links.{link_of}
+use Rattle.span_tree.proofs.spanning.links.Given as goal
+
+abbrev pub invariant-loop-edge : goal.invariant-loop-edge
+invariant-loop-edge l = l.links.items ≡ map (link_of l.graph) (take l.edge-index l.edges)

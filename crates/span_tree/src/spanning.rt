@@ -1,0 +1,126 @@
+//! The spanning tree, and the cells of the edges off it.
+ghost use Rattle.std.specs.Prelude.{◌≡◌, ◌^◌, ◌<◌, length, map, IfOk, IfSome};
+ghost use Rattle.cfg_normal.specs.Graph.{Graph, IsGraph};
+ghost use Rattle.cfg_normal.specs.Numbers.{node_number};
+ghost use Rattle.flows.specs.Flows.{IsLeast, rest};
+ghost use Rattle.flows.specs.Links.{marked, weight_in};
+ghost use Rattle.flows.specs.Trees.{IsSpanningTree};
+ghost use Rattle.span_tree.specs.Cells.{cell_at, cell_count, cell_of, has_cell, AreNumbered};
+ghost use Rattle.span_tree.specs.Links.{all_nodes, link_of, links_of};
+
+use cfg_normal::{FlowGraph, Node};
+use eel_base::{EdgeNo, NoMemory};
+use flow_tree::counted;
+use flows::Link;
+use std::alloc::Global;
+use std::marker::Model;
+
+/// A spanning tree of a flow graph, by the cells of the edges off it.
+#[derive(Drop)]
+pub struct SpanTree {
+    cells: Vec<Option<u32>>,
+    count: u32,
+}
+
+impl Model for SpanTree {
+    ghost use Rattle.std.specs.Prelude.{◌≡◌, ℕ, List, Option};
+    ghost use Rattle.span_tree.specs.Cells.{cell_count, AreNumbered};
+
+    ghost Value = { List (Option ℕ) };
+
+    ghost view = { λ t. t.cells.items };
+
+    ghost invariant = { λ t. AreNumbered t.cells.items × (t.count ≡ cell_count t.cells.items) };
+}
+
+impl SpanTree {
+    /// The cell of the edge `e`, or `None` where that is on the tree, or past the last edge.
+    pub fn cell(&self, e: EdgeNo) -> Option<u32>
+        ensures cell { result ≡ cell_at self.now e.0 }
+        ensures within { IfSome result (λ cell. cell < cell_count self.now) }
+    {
+        self.cells.get(e.0 as usize).copied().flatten()
+    }
+
+    /// How many cells there are: one for each edge off the tree, which have 0, 1, 2 and so on in edge order.
+    pub fn cells(&self) -> u32
+        ensures count { result ≡ cell_count self.now }
+        ensures numbered { AreNumbered self.now }
+    {
+        self.count
+    }
+}
+
+/// A spanning tree of all nodes, grown heaviest first from the node that stands for all outside the text. The counts of
+/// the edges off it determine all counts, and no set of edges whose counts do weighs less.
+///
+/// It takes time n log n in the number of edges.
+pub fn tree(alloc: Global, graph: &FlowGraph, weights: &[u64]) -> Result<SpanTree, NoMemory>
+    requires { length weights.now ≡ length graph.now.edges }
+    ensures len { IfOk result (λ tree. length tree ≡ length graph.now.edges) }
+    ensures numbered { IfOk result AreNumbered }
+    ensures spans { IfOk result (λ tree. IsSpanningTree (links_of graph.now) all_nodes (rest (has_cell tree))) }
+    ensures least { IfOk result (λ tree. IsLeast (links_of graph.now) (weight_in weights.now) (has_cell tree)) }
+{
+    let counted = counted_edges(alloc, graph, weights)?;
+    number(alloc, &counted)
+}
+
+/// Which edges are off the tree.
+fn counted_edges(alloc: Global, graph: &FlowGraph, weights: &[u64]) -> Result<Vec<bool>, NoMemory>
+    requires { length weights.now ≡ length graph.now.edges }
+    ensures len { IfOk result (λ counted. length counted.items ≡ length graph.now.edges) }
+    ensures few { IfOk result (λ counted. length counted.items < 2 ^ 32) }
+    ensures spans { IfOk result (λ counted.
+        IsSpanningTree (links_of graph.now) all_nodes (rest (marked counted.items))) }
+    ensures least { IfOk result (λ counted.
+        IsLeast (links_of graph.now) (weight_in weights.now) (marked counted.items)) }
+{
+    let links = links(alloc, graph)?;
+    let outside = graph.count() as usize;
+    let counted = counted(alloc, outside + 1, &links, weights, outside)?;
+    Ok(counted)
+}
+
+/// The edges by the numbers of their nodes.
+fn links(alloc: Global, graph: &FlowGraph) -> Result<Vec<Link>, NoMemory>
+    ensures links { IfOk result (λ links. links.items ≡ map (link_of graph.now) graph.now.edges) }
+    ensures graph { IsGraph graph.now }
+{
+    let outside = graph.count();
+    let edges = graph.edges();
+    let mut links = Vec::with_capacity(alloc, edges.len())?;
+    for edge in edges {
+        links.push(Link {
+            from: node_number(edge.from, outside),
+            to: node_number(edge.to, outside),
+        })?;
+    }
+    Ok(links)
+}
+
+/// The number of a node, where that of the outside is the number of blocks.
+fn node_number(node: Node, outside: u32) -> usize
+    ensures { (graph : Graph) → length graph.blocks.firsts ≡ outside → result ≡ node_number graph node }
+{
+    match node {
+        Node::Block(block) => block.0 as usize,
+        Node::X => outside as usize,
+    }
+}
+
+/// Gives each counted edge its cell.
+fn number(alloc: Global, counted: &[bool]) -> Result<SpanTree, NoMemory>
+    requires { length counted.now < 2 ^ 32 }
+    ensures len { IfOk result (λ tree. length tree ≡ length counted.now) }
+    ensures same { IfOk result (λ tree. has_cell tree ≡ marked counted.now) }
+    ensures numbered { IfOk result AreNumbered }
+{
+    let mut cells = Vec::with_capacity(alloc, counted.len())?;
+    let mut count: u32 = 0;
+    for is_counted in counted {
+        cells.push(is_counted.then_some(count))?;
+        count += u32::from(*is_counted);
+    }
+    Ok(SpanTree { cells, count })
+}

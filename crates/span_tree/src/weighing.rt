@@ -1,0 +1,43 @@
+//! The weights of edges.
+ghost use Rattle.std.specs.Prelude.{◌≡◌, map, IfOk};
+ghost use Rattle.cfg_blocks.specs.Blocks.{below};
+ghost use Rattle.cfg_normal.specs.Graph.{graph_of, IsNodeIn};
+ghost use Rattle.span_tree.specs.Weights.{loops_at, weight_from, weights_of};
+
+use crate::loops::{last_of, loops_at_words};
+use cfg_blocks::BlockList;
+use cfg_normal::{FlowGraph, Node};
+use eel_base::NoMemory;
+use std::alloc::Global;
+
+/// Of the loops about an edge so many count.
+const MOST_LOOPS: u64 = 1000;
+
+/// The weight of each edge, in order. It takes time linear in the words of the text and the edges.
+pub fn weights(alloc: Global, blocks: &BlockList, graph: &FlowGraph) -> Result<Vec<u64>, NoMemory>
+    requires { graph.now ≡ graph_of blocks.now.blocks }
+    ensures { IfOk result (λ weights. weights.items ≡ weights_of blocks.now.blocks graph.now.edges) }
+{
+    let loops = loops_at_words(alloc, blocks)?;
+    let edges = graph.edges();
+    let mut weights = Vec::with_capacity(alloc, edges.len())?;
+    for edge in edges {
+        weights.push(weight(blocks, &loops, edge.from))?;
+    }
+    Ok(weights)
+}
+
+/// The weight of an edge that leaves a node, where `loops` has for each word in how many loops it stands.
+fn weight(blocks: &BlockList, loops: &[u32], from: Node) -> u64
+    requires loops { loops.now ≡ map (loops_at blocks.now.blocks) (below blocks.now.blocks.words) }
+    requires from { IsNodeIn blocks.now.blocks from }
+    ensures { result ≡ weight_from blocks.now.blocks from }
+{
+    match from {
+        Node::Block(block) => {
+            let about = loops[last_of(blocks, block) as usize];
+            1 + 8 * u64::from(about).min(MOST_LOOPS)
+        }
+        Node::X => 1,
+    }
+}
