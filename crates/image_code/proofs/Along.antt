@@ -38,7 +38,7 @@ no_out kinds.Land n = refl
 
 -- What is made is what it should be, where it goes on as the edge does, whatever the table.
 module _ (text : Words) (graph : Graph) (table : ℕ) (edge : Edge) (made : Result (List Item) NoMemory) (next : Next)
-    (goes : (table : ℕ) → items_of next ≡ goes_along text graph table edge) where
+    (goes : (table : ℕ) → items_of next ≡ goes_along text graph codes edge) where
   pub bare_way : edge.slot ≡ slots.Nothing → (edge.kind ≡ kinds.Fall → ⊥) → IfOk made (λ p. p ≡ items_of next)
       → IfOk made (λ p. p ≡ way_along text graph table edge)
   bare_way slot other is =
@@ -55,4 +55,4 @@ module _ (text : Words) (graph : Graph) (table : ℕ) (edge : Edge) (made : Resu
       ap (λ (b : Bool). if b then couple_piece address number couple_word []
       else past_slot text graph table address number word edge) straight
       ∙ ap (λ (b : Bool). if b then out_piece address number word [] (words_of (translator table 1 2))
-      else plain_piece address number word (goes_along text graph table edge)) (no_out edge.kind other))) is
+      else plain_piece address number word (goes_along text graph codes edge)) (no_out edge.kind other))) is

@@ -1,6 +1,7 @@
 -- The images of branches: each way leads into a slot, to a word's image, or out of the text.
-use Rattle.std.proofs.Common.{◌≡◌, ℕ, ◌+◌, ◌%◌, ◌^◌, ◌<◌, inl, inr, Bool, true, false, not, Option, Some, None, List, [], length, refl, ap, sym, ◌∙◌, subst, arith}
+use Rattle.std.proofs.Common.{◌≡◌, ℕ, ◌+◌, ◌%◌, ◌^◌, ◌<◌, inl, inr, Bool, true, false, not, Option, Some, None, List, [], ◌∷◌, ◌++◌, drop, length, refl, ap, sym, ◌∙◌, subst, arith}
 use Rattle.std.specs.Prelude.{if◌then◌else◌, ◌&&◌, ◌||◌, slice_get, slice_index, ◌==◌, ℤ}
+use Rattle.std.specs.Option.{option_map}
 use Rattle.eel_base.specs.CodeText.{IsText, address_of, word_at, numbered, target_of}
 use Rattle.eel_base.specs.declared.numbers.Addr.{Addr}
 use Rattle.v8_decode.specs.declared.Instr.{Instr}
@@ -24,11 +25,11 @@ use Rattle.cfg_blocks.proofs.Targets.{word_at-some}
 use Rattle.cfg_normal.specs.declared.Node.{Node}
 use Rattle.cfg_normal.specs.declared.Slot.TheVariants as carried
 use Rattle.cfg_normal.specs.Graph.{node_of, edge_of, runs_slot, slot_behind, slot_on}
-use Rattle.cfg_walk.specs.Walk.{Point, node_after, point_of, same_kind}
+use Rattle.cfg_walk.specs.Walk.{Point, edge_from, node_after, point_of, same_kind}
 use Rattle.cfg_walk.specs.Matches.{target_along}
 use Rattle.cfg_walk.proofs.Addresses.{second_address}
 use Rattle.cfg_walk.proofs.Cut.{IsCut}
-use Rattle.cfg_walk.proofs.Edges.{block}
+use Rattle.cfg_walk.proofs.Edges.{IsEdge, block}
 use Rattle.cfg_walk.proofs.Holding.{first_held}
 use Rattle.cfg_walk.proofs.Leaving.{end_is, is_in, node_is, transfer_ends, way_found}
 use Rattle.cfg_walk.proofs.Points.{Stands, jumps_along, jumps_to, passes}
@@ -38,10 +39,10 @@ use Rattle.cfg_walk.proofs.Ways.{IsOne, always_holds, never_holds, not_always, n
 use Rattle.addr_translate.specs.Lookup.{IsTable}
 use Rattle.jump_code.specs.Pieces.{far_piece}
 use Rattle.layout.specs.declared.items.Item.{Item}
-use Rattle.layout.specs.Laid.{Placement, item_in}
+use Rattle.layout.specs.Laid.{Placement}
 use Rattle.image_code.specs.Simulates.{Setting, at_point, does_at, gone_at, graph_in, number_in}
 use Rattle.image_code.specs.Images.{Frame, visited_at}
-use Rattle.image_code.specs.Cases.{LeadsTo, branch_piece, next_visit, plain_piece}
+use Rattle.image_code.specs.Cases.{LeadsTo, branch_piece, next_visit, plain_piece, words_on}
 use Rattle.image_code.specs.Imaged.{IsCase, turn, idle}
 use Rattle.image_code.specs.Turns.{IsNoJumpsSlot}
 use Rattle.image_code.specs.Made.{first_way, goes_on, jump_to, nop_word, way_by, way_out}
@@ -50,7 +51,7 @@ use Rattle.image_code.proofs.Branches.{nop_says, small}
 use Rattle.image_code.proofs.Cases.{get_below}
 use Rattle.image_code.proofs.IntoSlots.{LeadsThere, entered, entered_untaken, no_jump, stands}
 use Rattle.image_code.proofs.Listed.{own_at, way_at}
-use Rattle.image_code.proofs.Visited.{image_items, l, visited_none, visited_word, word_is}
+use Rattle.image_code.proofs.Visited.{image_items, l, left_gone, visited_none, visited_word, word_is}
 
 -- a branch comes to a taken transfer's slot only at the next instruction
 slot_next : (flag all annul : Bool) (s : State) (to : ℕ) → s.slot ≡ NoSlot
@@ -62,7 +63,7 @@ slot_next true false false s to none e = refl
 slot_next false all true s to none e = let q : NoSlot ≡ Taken = sym none ∙ e in absurd (cc)
 slot_next false all false s to none e = refl
 
-module _ (g : Setting) (is : IsText g.text) (p : Placement) (f : Frame) (whole : IsTable f.table)
+module _ (g : Setting) (codes : ℕ → List ℕ) (is : IsText g.text) (p : Placement) (f : Frame) (whole : IsTable f.table)
     (node : Node) (x : Point) (word : ℕ) (at : word_at g.text x.pc ≡ Some word) (none : x.slot ≡ NoSlot)
     (held : node ≡ node_of (blocks_of g.text g.given) (word_at g.text x.pc)) (npc : x.npc ≡ (x.pc + 4) % 2 ^ 32)
     (cond : ℕ) (annul : Bool) (disp : ℤ)
@@ -77,7 +78,7 @@ module _ (g : Setting) (is : IsText g.text) (p : Placement) (f : Frame) (whole :
   cut = cut_in g is f.table.base
 
   here : Stands g.text b node x word branch
-  here = stands g is p f whole node x word at none held npc branch says
+  here = stands g codes is p f whole node x word at none held npc branch says
 
   end : end_at g.text word ≡ ends.Branch cond annul (branch_target g.text word cond disp)
   end = end_is g.text word branch says
@@ -102,65 +103,89 @@ module _ (g : Setting) (is : IsText g.text) (p : Placement) (f : Frame) (whole :
     abbrev goal_address : ℕ
     goal_address = target_along g.text word w.kind branch
 
-    bare_items : slice_get (l g is p f).list (way_out g.text (graph_in g) node w.kind)
-        ≡ Some (goes_on g.text (graph_in g) f.table.base (node_of b w.to) goal_address)
+    abbrev k : ℕ
+    k = holding_of b word
+
+    last : word ≡ last_word b.firsts b.words k
+    last = transfer_ends g.text b cut word low transfer
+
+    found : IsEdge (graph_in g) (edge_from (graph_in g) (block k) w.kind) (edge_of b k w)
+    found = way_found g.text b cut word low w last one
+
+    abbrev its_code : List Item
+    its_code = words_on (l g codes is p f) (found.number ∷ [])
+
+    bare_items : slice_get (l g codes is p f).list (way_out g.text (graph_in g) node w.kind)
+        ≡ Some (its_code ++ goes_on g.text (graph_in g) (node_of b w.to) goal_address)
     bare_items =
-        let k : ℕ = holding_of b word in
-        let last : word ≡ last_word b.firsts b.words k = transfer_ends g.text b cut word low transfer in
-        let found = way_found g.text b cut word low w last one in
         let ended : end_of b k ≡ end_at g.text word =
         cut.ends k (is_in g.text b cut word low).within ∙ ap (end_at g.text) (sym last) in
         let number : way_out g.text (graph_in g) node w.kind ≡ length g.text.words + found.number =
         ap (λ (n : Node). way_out g.text (graph_in g) n w.kind) node_home
         ∙ ap (first_way g.text (graph_in g)) found.only in
-        ap (slice_get (l g is p f).list) number
-        ∙ way_at g.text (graph_in g) f.table.base found.number (edge_of b k w)
+        ap (slice_get (l g codes is p f).list) number
+        ∙ way_at g.text (graph_in g) f.table.base codes found.number (edge_of b k w)
         (own_at b found.number (edge_of b k w) found.is land)
-        ∙ ap (λ (t : Bool). Some (if t then [] else way_by g.text (graph_in g) f.table.base (edge_of b k w)
+        ∙ ap (λ (t : Bool). Some (if t then [] else way_by g.text (graph_in g) f.table.base codes found.number (edge_of b k w)
         (slot_on b k w.kind))) fall
-        ∙ ap (λ (r : Bool). Some (way_by g.text (graph_in g) f.table.base (edge_of b k w)
+        ∙ ap (λ (r : Bool). Some (way_by g.text (graph_in g) f.table.base codes found.number (edge_of b k w)
         (if r then slot_behind b.words (last_word b.firsts b.words k) else carried.Nothing)))
         (ap (λ (d : BlockEnd). runs_slot d w.kind) ended ∙ bare)
-        ∙ ap (λ (n : ℕ). Some (goes_on g.text (graph_in g) f.table.base (node_of b w.to)
+        ∙ ap (λ (n : ℕ). Some (its_code ++ goes_on g.text (graph_in g) (node_of b w.to)
         (target_along g.text n w.kind (decode_of (slice_index g.text.words n))))) (sym last)
-        ∙ ap (λ (d : Instr). Some (goes_on g.text (graph_in g) f.table.base (node_of b w.to)
+        ∙ ap (λ (d : Instr). Some (its_code ++ goes_on g.text (graph_in g) (node_of b w.to)
         (target_along g.text word w.kind d))) says
 
     bare_in : LeadsIfThere b w.to → (to : ℕ) → w.to ≡ Some to
-        → slice_get (l g is p f).list (way_out g.text (graph_in g) node w.kind) ≡ Some (jump_to to)
+        → slice_get (l g codes is p f).list (way_out g.text (graph_in g) node w.kind) ≡ Some (its_code ++ jump_to to)
     bare_in leads to e =
         let target = leads to e in
         bare_items
-        ∙ ap (λ (o : Option ℕ). Some (goes_on g.text (graph_in g) f.table.base (node_of b o) goal_address)) e
-        ∙ ap (λ (n : Node). Some (goes_on g.text (graph_in g) f.table.base n goal_address)) (node_is b to target.0)
-        ∙ ap (λ (n : ℕ). Some (jump_to n)) (first_held b.words b.firsts cut.firsts to target.1)
+        ∙ ap (λ (o : Option ℕ). Some (its_code ++ goes_on g.text (graph_in g) (node_of b o) goal_address)) e
+        ∙ ap (λ (n : Node). Some (its_code ++ goes_on g.text (graph_in g) n goal_address)) (node_is b to target.0)
+        ∙ ap (λ (n : ℕ). Some (its_code ++ jump_to n)) (first_held b.words b.firsts cut.firsts to target.1)
 
     bare_out : w.to ≡ None
-        → slice_get (l g is p f).list (way_out g.text (graph_in g) node w.kind) ≡ Some (far_piece goal_address)
+        → slice_get (l g codes is p f).list (way_out g.text (graph_in g) node w.kind)
+        ≡ Some (its_code ++ far_piece goal_address)
     bare_out e =
         bare_items
-        ∙ ap (λ (o : Option ℕ). Some (goes_on g.text (graph_in g) f.table.base (node_of b o) goal_address)) e
+        ∙ ap (λ (o : Option ℕ). Some (its_code ++ goes_on g.text (graph_in g) (node_of b o) goal_address)) e
 
     -- past a slot that is annulled
-    past : (v : State) → v.slot ≡ NoSlot → word_at g.text v.pc ≡ w.to → LeadsIfThere b w.to → v.pc ≡ goal_address
-        → LeadsThere g is p f whole node x word at none held npc branch says w.kind v
-    past v slot to leads pc = by (word_at g.text v.pc) refl
+    past : (if cond == always then kinds.Taken else kinds.Untaken) ≡ w.kind → (v : State) → v.ending ≡ None
+        → v.slot ≡ NoSlot → word_at g.text v.pc ≡ w.to → LeadsIfThere b w.to → v.pc ≡ goal_address
+        → LeadsThere g codes is p f whole node x word at none held npc branch says w.kind v
+    past kind_is v live slot to leads pc = by (word_at g.text v.pc) refl
       where
         after : Node
         after = node_after (graph_in g) node (gone_at g node x v)
 
+        completes : gone_at g node x v ≡ found.number ∷ []
+        completes =
+            left_gone g codes is p f node x v none slot live word at branch says
+            ∙ ap (edge_from (graph_in g) node) kind_is
+            ∙ ap (λ (n : Node). edge_from (graph_in g) n w.kind) node_home ∙ found.only
+
+        with_code : (rest : List Item)
+            → slice_get (l g codes is p f).list (way_out g.text (graph_in g) node w.kind) ≡ Some (its_code ++ rest)
+            → slice_get (l g codes is p f).list (way_out g.text (graph_in g) node w.kind)
+            ≡ Some (words_on (l g codes is p f) (gone_at g node x v) ++ rest)
+        with_code rest e =
+            e ∙ ap (λ (edges : List ℕ). Some (words_on (l g codes is p f) edges ++ rest)) (sym completes)
+
         by : (o : Option ℕ) → word_at g.text v.pc ≡ o
-            → LeadsTo (l g is p f) p (record { 0 = way_out g.text (graph_in g) node w.kind })
-            (visited_at g (l g is p f) p f after (point_of v))
+            → LeadsTo (l g codes is p f) p (record { 0 = way_out g.text (graph_in g) node w.kind })
+            (gone_at g node x v) (visited_at g (l g codes is p f) p f after (point_of v))
         by None e =
-            subst (LeadsTo (l g is p f) p (record { 0 = way_out g.text (graph_in g) node w.kind }))
-            (sym (visited_none g is p f after (point_of v) e slot ∙ pc))
-            (inr (inr (along_far g.text word w.kind branch is inside, bare_out (sym to ∙ e))))
+            subst (LeadsTo (l g codes is p f) p (record { 0 = way_out g.text (graph_in g) node w.kind })
+            (gone_at g node x v)) (sym (visited_none g codes is p f after (point_of v) e slot ∙ pc))
+            (inr (inr (along_far g.text word w.kind branch is inside, with_code _ (bare_out (sym to ∙ e)))))
         by (Some other) e =
             inr (inl (
               record { 0 = other },
-              bare_in leads other (sym to ∙ e),
-              sym (visited_word g is p f after (point_of v) other e slot),
+              with_code _ (bare_in leads other (sym to ∙ e)),
+              sym (visited_word g codes is p f after (point_of v) other e slot),
             ))
 
   -- ---- each way that the branch goes
@@ -170,23 +195,23 @@ module _ (g : Setting) (is : IsText g.text) (p : Placement) (f : Frame) (whole :
     to = target_from (at_point x t) disp
 
     abbrev Goes : EdgeKind → State → Type 0
-    Goes kind v = LeadsThere g is p f whole node x word at none held npc branch says kind v
+    Goes kind v = LeadsThere g codes is p f whole node x word at none held npc branch says kind v
 
     into_taken : holds_of cond t.codes ≡ true → (not annul || not (cond == always)) ≡ true → (v : State)
         → v.ending ≡ None → v.pc ≡ x.npc → v.npc ≡ to → v.slot ≡ Taken → Goes kinds.Taken v
     into_taken holds runs v live pc next slot =
-        entered g is p f whole node x word at none held npc branch says v live pc slot
+        entered g codes is p f whole node x word at none held npc branch says v live pc slot
         (taken_delayed cond annul disp t.codes here (point_of v) holds runs pc next)
 
     into_untaken : holds_of cond t.codes ≡ false → annul ≡ false → (v : State)
         → v.ending ≡ None → v.pc ≡ x.npc → v.npc ≡ wrapped (x.npc + 4) → v.slot ≡ Untaken → Goes kinds.Untaken v
     into_untaken holds kept v live pc next slot =
-        entered_untaken g is p f whole node x word at none held npc branch says v live pc slot
+        entered_untaken g codes is p f whole node x word at none held npc branch says v live pc slot
         (untaken_delayed cond annul disp t.codes here (point_of v) holds kept pc next)
 
     past_taken : holds_of cond t.codes ≡ true → annul ≡ true → (cond == always) ≡ true → (v : State)
-        → v.slot ≡ NoSlot → v.pc ≡ to → Goes kinds.Taken v
-    past_taken holds ann all v slot pc =
+        → v.ending ≡ None → v.slot ≡ NoSlot → v.pc ≡ to → Goes kinds.Taken v
+    past_taken holds ann all v live slot pc =
         let target = branch_target g.text word cond disp in
         let some : (cond == never) ≡ false = not_never cond t.codes holds in
         let one = subst (λ (e : BlockEnd). IsOne (way kinds.Taken
@@ -197,12 +222,13 @@ module _ (g : Setting) (is : IsText g.text) (p : Placement) (f : Frame) (whole :
         ∙ ap (λ (a : Bool). not a || (true && not (cond == always))) ann ∙ ap not all in
         let there = jumps_to here (point_of v) transfer target disp v.pc (ap target_in end)
         (ap (λ (n : Bool). if n then None else numbered (target_of g.text word disp)) some) pc in
-        past (way kinds.Taken (number_of (branch_target g.text word cond disp))) one bare refl refl v slot
+        past (way kinds.Taken (number_of (branch_target g.text word cond disp))) one bare refl refl
+        (ap (λ (z : Bool). if z then kinds.Taken else kinds.Untaken) all) v live slot
         there.0 there.1 (jumps_along here (point_of v) transfer disp v.pc pc)
 
-    past_untaken : holds_of cond t.codes ≡ false → annul ≡ true → (v : State) → v.slot ≡ NoSlot
+    past_untaken : holds_of cond t.codes ≡ false → annul ≡ true → (v : State) → v.ending ≡ None → v.slot ≡ NoSlot
         → v.pc ≡ wrapped (x.pc + 8) → Goes kinds.Untaken v
-    past_untaken holds ann v slot pc =
+    past_untaken holds ann v live slot pc =
         let one = subst (λ (e : BlockEnd). IsOne (way kinds.Untaken (within b.words (word + 2)))
         (ways_of b.words word e)) (sym end)
         (untaken_is_one b.words word cond annul (branch_target g.text word cond disp)
@@ -211,7 +237,8 @@ module _ (g : Setting) (is : IsText g.text) (p : Placement) (f : Frame) (whole :
         ap (λ (e : BlockEnd). runs_slot e kinds.Untaken) end ∙ ap (λ (a : Bool). not a || false) ann in
         let there = passes here (record { pc = x.pc; npc = (x.npc + 4) % 2 ^ 32; slot = NoSlot }) transfer refl in
         let far : v.pc ≡ (x.npc + 4) % 2 ^ 32 = omega arith in
-        past (way kinds.Untaken (within b.words (word + 2))) one bare refl refl v slot
+        past (way kinds.Untaken (within b.words (word + 2))) one bare refl refl
+        (ap (λ (z : Bool). if z then kinds.Taken else kinds.Untaken) (not_always cond t.codes holds)) v live slot
         (ap (word_at g.text) far ∙ there.0) there.1
         (pc ∙ ap (λ (a : ℕ). (a + 8) % 2 ^ 32) (word_at-some g.text x.pc word at).is
         ∙ second_address g.text word is inside)
@@ -220,7 +247,7 @@ module _ (g : Setting) (is : IsText g.text) (p : Placement) (f : Frame) (whole :
         → t.ending ≡ None → (v : State) → v ≡ branched flag all ann (at_point x t) to
         → Goes (if flag then kinds.Taken else kinds.Untaken) v
     goes true true true holds all annulled live v e =
-        past_taken holds annulled all v (ap (λ (z : State). z.slot) e ∙ none) (ap (λ (z : State). z.pc) e)
+        past_taken holds annulled all v (ap (λ (z : State). z.ending) e ∙ live) (ap (λ (z : State). z.slot) e ∙ none) (ap (λ (z : State). z.pc) e)
     goes true true false holds all kept live v e =
         into_taken holds (ap (λ (a : Bool). not a || not (cond == always)) kept) v
         (ap (λ (z : State). z.ending) e ∙ live) (ap (λ (z : State). z.pc) e) (ap (λ (z : State). z.npc) e)
@@ -234,7 +261,7 @@ module _ (g : Setting) (is : IsText g.text) (p : Placement) (f : Frame) (whole :
         (ap (λ (z : State). z.ending) e ∙ live) (ap (λ (z : State). z.pc) e) (ap (λ (z : State). z.npc) e)
         (ap (λ (z : State). z.slot) e)
     goes false all true holds _ annulled live v e =
-        past_untaken holds annulled v (ap (λ (z : State). z.slot) e ∙ none) (ap (λ (z : State). z.pc) e)
+        past_untaken holds annulled v (ap (λ (z : State). z.ending) e ∙ live) (ap (λ (z : State). z.slot) e ∙ none) (ap (λ (z : State). z.pc) e)
     goes false all false holds _ kept live v e =
         into_untaken holds kept v (ap (λ (z : State). z.ending) e ∙ live) (ap (λ (z : State). z.pc) e)
         (ap (λ (z : State). z.npc) e) (ap (λ (z : State). z.slot) e)
@@ -244,7 +271,7 @@ module _ (g : Setting) (is : IsText g.text) (p : Placement) (f : Frame) (whole :
     acts : does_at g x t ≡ branched (holds_of cond t.codes) (cond == always) annul (at_point x t) to
     unfolding act branch_step
     acts =
-        ap (on_word (at_point x t)) (word_is g is p f x word at) ∙ ap (act (at_point x t)) says
+        ap (on_word (at_point x t)) (word_is g codes is p f x word at) ∙ ap (act (at_point x t)) says
         ∙ ap (λ (z : Slot). unless_couple z (at_point x t)
         (branched (holds_of cond t.codes) (cond == 8) annul (at_point x t) to)) none
 
@@ -256,7 +283,7 @@ module _ (g : Setting) (is : IsText g.text) (p : Placement) (f : Frame) (whole :
 
     no_jumps_slot : IsNoJumpsSlot g (does_at g x t)
     no_jumps_slot =
-        no_jump g is p f whole node x word at none held npc branch says (does_at g x t)
+        no_jump g codes is p f whole node x word at none held npc branch says (does_at g x t)
         (λ slot. ap (λ (z : State). z.pc) acts
         ∙ slot_next (holds_of cond t.codes) (cond == always) annul (at_point x t) to none
         (sym (ap (λ (z : State). z.slot) acts) ∙ slot)) refl
@@ -279,54 +306,57 @@ module _ (g : Setting) (is : IsText g.text) (p : Placement) (f : Frame) (whole :
         branch_piece address (number_in g node) cond taken untaken
 
     made : (always_is never_is : Bool) → (cond == always) ≡ always_is → (cond == never) ≡ never_is
-        → slice_get (l g is p f).list word ≡ Some (image_if always_is never_is)
+        → slice_get (l g codes is p f).list word ≡ Some (image_if always_is never_is)
     made always_is never_is a n =
-        image_items g is p f node x word at held branch says
+        image_items g codes is p f node x word at held branch says
         ∙ ap (λ (z : Bool). Some (image_if z (cond == never))) a ∙ ap (λ (z : Bool). Some (image_if always_is z)) n
 
     module _ (base : ℕ) (place : ℕ → ℕ → ℕ) where
       one_way : (kind : EdgeKind)
-          → slice_get (l g is p f).list word ≡ Some (plain_piece address (number_in g node) nop_word
+          → slice_get (l g codes is p f).list word ≡ Some (plain_piece address (number_in g node) nop_word
           (jump_to (way_out g.text (graph_in g) node kind)))
-          → Goes kind (does_at g x t) → IsCase g (l g is p f) base p place f node x t
+          → Goes kind (does_at g x t) → IsCase g (l g codes is p f) base p place f node x t
       one_way kind found leads_there = idle (record {
         none = none;
         piece = word;
-        within = get_below (l g is p f).list word _ found;
-        here = visited_word g is p f node x word at none;
+        within = get_below (l g codes is p f).list word _ found;
+        here = visited_word g codes is p f node x word at none;
         address = address;
         original = sym (word_at-some g.text x.pc word at).is;
         cond = cond;
         annul = annul;
         disp = disp;
         original_word = slice_index g.text.words word;
-        is_word = word_is g is p f x word at;
+        is_word = word_is g codes is p f x word at;
         says = says;
         word = nop_word;
         idle = nop_says;
         rest = jump_to (way_out g.text (graph_in g) node kind);
         items = found;
-        leads = inr (inl (
-          record { 0 = way_out g.text (graph_in g) node kind },
-          ap (λ (v : Option (List Item)). item_in v 3) found,
-          leads_there,
-        ));
+        leads = inr (inl (record {
+          first = [];
+          others = gone_at g node x (does_at g x t);
+          all = refl;
+          piece = record { 0 = way_out g.text (graph_in g) node kind };
+          rest = ap (option_map (drop 3)) found;
+          leads = leads_there;
+        }));
         never = no_jumps_slot;
       })
 
       either : t.ending ≡ None → (flag : Bool) → holds_of cond t.codes ≡ flag
-          → LeadsTo (l g is p f) p (record { 0 = if holds_of cond t.codes then taken else untaken })
-          (next_visit g (l g is p f) p f node x t)
+          → LeadsTo (l g codes is p f) p (record { 0 = if holds_of cond t.codes then taken else untaken })
+          (gone_at g node x (does_at g x t)) (next_visit g (l g codes is p f) p f node x t)
       either live true e =
-          subst (λ (h : Bool). LeadsTo (l g is p f) p (record { 0 = if h then taken else untaken })
-          (next_visit g (l g is p f) p f node x t)) (sym e) (leads live true e)
+          subst (λ (h : Bool). LeadsTo (l g codes is p f) p (record { 0 = if h then taken else untaken })
+          (gone_at g node x (does_at g x t)) (next_visit g (l g codes is p f) p f node x t)) (sym e) (leads live true e)
       either live false e =
-          subst (λ (h : Bool). LeadsTo (l g is p f) p (record { 0 = if h then taken else untaken })
-          (next_visit g (l g is p f) p f node x t)) (sym e) (leads live false e)
+          subst (λ (h : Bool). LeadsTo (l g codes is p f) p (record { 0 = if h then taken else untaken })
+          (gone_at g node x (does_at g x t)) (next_visit g (l g codes is p f) p f node x t)) (sym e) (leads live false e)
 
       two_ways : t.ending ≡ None
-          → slice_get (l g is p f).list word ≡ Some (branch_piece address (number_in g node) cond taken untaken)
-          → IsCase g (l g is p f) base p place f node x t
+          → slice_get (l g codes is p f).list word ≡ Some (branch_piece address (number_in g node) cond taken untaken)
+          → IsCase g (l g codes is p f) base p place f node x t
       two_ways live found = turn (record {
         none = none;
         number = word;
@@ -336,11 +366,11 @@ module _ (g : Setting) (is : IsText g.text) (p : Placement) (f : Frame) (whole :
         annul = annul;
         disp = disp;
         word = slice_index g.text.words word;
-        is_word = word_is g is p f x word at;
+        is_word = word_is g codes is p f x word at;
         says = says;
         address = address;
         original = sym (word_at-some g.text x.pc word at).is;
-        within = get_below (l g is p f).list word _ found;
+        within = get_below (l g codes is p f).list word _ found;
         taken = taken;
         untaken = untaken;
         items = found;
@@ -349,12 +379,12 @@ module _ (g : Setting) (is : IsText g.text) (p : Placement) (f : Frame) (whole :
       })
 
       by_cond : t.ending ≡ None → (a : Bool) → (cond == always) ≡ a → (n : Bool) → (cond == never) ≡ n
-          → IsCase g (l g is p f) base p place f node x t
+          → IsCase g (l g codes is p f) base p place f node x t
       by_cond live true a n m =
           one_way kinds.Taken (made true n a m) (leads live true (always_holds cond t.codes a))
       by_cond live false a true m =
           one_way kinds.Untaken (made false true a m) (leads live false (never_holds cond t.codes m))
       by_cond live false a false m = two_ways live (made false false a m)
 
-      pub branch_case : t.ending ≡ None → IsCase g (l g is p f) base p place f node x t
+      pub branch_case : t.ending ≡ None → IsCase g (l g codes is p f) base p place f node x t
       branch_case live = by_cond live (cond == always) refl (cond == never) refl

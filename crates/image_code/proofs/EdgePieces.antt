@@ -1,5 +1,5 @@
 -- The edges of a text's graph, and the pieces of the ways along them.
-use Rattle.std.proofs.Common.{◌≡◌, ℕ, ◌+◌, ◌*◌, ◌%◌, ◌^◌, ◌<◌, Bool, true, false, Some, [], ◌∷◌, length, ap, sym, ◌∙◌, subst, arith}
+use Rattle.std.proofs.Common.{◌≡◌, ℕ, ◌+◌, ◌*◌, ◌%◌, ◌^◌, ◌<◌, Bool, true, false, Some, List, [], ◌∷◌, length, ap, sym, ◌∙◌, subst, arith}
 use Rattle.std.specs.Prelude.{if◌then◌else◌, ◌&&◌, slice_get}
 use Rattle.std.specs.Int.{w32, cast_unsigned}
 use Rattle.std.specs.List.{position}
@@ -81,16 +81,16 @@ module _ (g : Setting) (is : IsText g.text) (table : ℕ) where
       }
 
   -- the piece of its way
-  pub items_along : (node : Node) (way : EdgeKind) (number : ℕ) (edge : Edge) → IsAlong node way number edge
+  pub items_along : (codes : ℕ → List ℕ) (node : Node) (way : EdgeKind) (number : ℕ) (edge : Edge) → IsAlong node way number edge
       → is_fall way ≡ false → same_kind way kinds.Land ≡ false → (to : Carried) → edge.slot ≡ to
-      → slice_get (piece_list g.text (graph_in g) table) (length g.text.words + number)
-      ≡ Some (way_by g.text (graph_in g) table edge to)
-  items_along node way number edge k fall land to e =
-      way_at g.text (graph_in g) table number edge
+      → slice_get (piece_list g.text (graph_in g) table codes) (length g.text.words + number)
+      ≡ Some (way_by g.text (graph_in g) table codes number edge to)
+  items_along codes node way number edge k fall land to e =
+      way_at g.text (graph_in g) table codes number edge
       (own_at b number edge k.found (ap (λ (j : EdgeKind). same_kind j kinds.Land) k.same ∙ land))
-      ∙ ap (λ (t : Bool). Some (if t then [] else way_by g.text (graph_in g) table edge edge.slot))
+      ∙ ap (λ (t : Bool). Some (if t then [] else way_by g.text (graph_in g) table codes number edge edge.slot))
       (ap is_fall k.same ∙ fall)
-      ∙ ap (λ (s : Carried). Some (way_by g.text (graph_in g) table edge s)) e
+      ∙ ap (λ (s : Carried). Some (way_by g.text (graph_in g) table codes number edge s)) e
 
   -- the slot that an edge carries stands in the text, or behind its end
   pub slot_in : (number : ℕ) (edge : Edge) → slice_get (edges_in b) number ≡ Some edge → IsSlotIn b edge.slot

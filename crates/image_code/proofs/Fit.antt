@@ -346,7 +346,7 @@ module _ (text : Words) (graph : Graph) (table : ℕ) (is : IsText text) (h : Is
   here word = node_of graph.blocks (Some word)
 
   image_by_small : (word : ℕ) → (instr : Instr) → decode_of (slice_index text.words word) ≡ instr
-      → Small (image_by text graph table (record { 0 = address_of text word }) (here word) word instr)
+      → Small (image_by text graph codes (record { 0 = address_of text word }) (here word) word instr)
   image_by_small word (i.Branch c annul disp) e =
       let t : is_transfer (decode_of (slice_index text.words word)) ≡ true = ap is_transfer e in
       let taken = way_below (here word) kinds.Taken refl in
@@ -368,16 +368,16 @@ module _ (text : Words) (graph : Graph) (table : ℕ) (is : IsText text) (h : Is
       (λ _. small_falling text _ _ _ _ (word_says text word _))
       (λ _. small_leaving text _ _ _ _ _ (word_says text word _))
 
-  image_small : (word : ℕ) → word < length text.words → Small (image text graph table word)
+  image_small : (word : ℕ) → word < length text.words → Small (image text graph codes word)
   image_small word l = image_by_small word (decode_of (slice_index text.words word)) refl
 
-  goes_small : (node : Node) (address : ℕ) → IsNodeIn graph.blocks node → Small (goes_on text graph table node address)
+  goes_small : (node : Node) (address : ℕ) → IsNodeIn graph.blocks node → Small (goes_on text graph node address)
   goes_small (Block k) address l = small_jump text _ _ (block_below k l)
   goes_small X address l = small_far text _ address
 
   going_small : (node : Node) (address number word : ℕ) → IsNodeIn graph.blocks node
       → Small (plain_piece (record { 0 = address_of text word }) number (slice_index text.words word)
-      (goes_on text graph table node address))
+      (goes_on text graph node address))
   going_small (Block k) address number word l = small_jumping text _ _ _ _ _ (block_below k l) (word_says text word _)
   going_small X address number word l = small_leaving text _ _ _ _ address (word_says text word _)
 
@@ -396,20 +396,20 @@ module _ (text : Words) (graph : Graph) (table : ℕ) (is : IsText text) (h : Is
   way_small edge inside =
       cond_both (is_fall edge.kind) _ _ Small (λ _. small_empty text _) (λ _. way_by_small edge inside edge.slot)
 
-  landing_small : (word : ℕ) → word < length text.words → Small (landing text graph table word)
+  landing_small : (word : ℕ) → word < length text.words → Small (landing text graph codes word)
   landing_small word l = small_jump text _ word (omega (arith, count_is text graph table))
 
   all_small : Each Small pieces
   unfolding piece_list
   all_small =
       let n = length text.words in
-      let images : Each Small (map (image text graph table) (below n)) =
-      each-map _ (image text graph table) (below n) (each-below _ n image_small) in
+      let images : Each Small (map (image text graph codes) (below n)) =
+      each-map _ (image text graph codes) (below n) (each-below _ n image_small) in
       let ways : Each Small (map (way_along text graph table) (own_edges graph)) =
       each-map _ (way_along text graph table) (own_edges graph)
       (each_index _ (own_edges graph) (λ number edge e. way_small edge (edge_in text graph is h number edge e))) in
-      let landings : Each Small (map (landing text graph table) (below n)) =
-      each-map _ (landing text graph table) (below n) (each-below _ n landing_small) in
+      let landings : Each Small (map (landing text graph codes) (below n)) =
+      each-map _ (landing text graph codes) (below n) (each-below _ n landing_small) in
       each-append _ _ (foreign_piece ∷ []) (each-append _ _ _ (each-append _ _ _ images ways) landings)
       (small_foreign text _, tt)
 

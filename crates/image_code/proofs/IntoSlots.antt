@@ -28,7 +28,7 @@ use Rattle.image_code.specs.Made.{way_out}
 use Rattle.image_code.proofs.EdgePieces.{cut_in}
 use Rattle.image_code.proofs.Visited.{enters, l, nothing_gone, on_its_way}
 
-module _ (g : Setting) (is : IsText g.text) (p : Placement) (f : Frame) (whole : IsTable f.table)
+module _ (g : Setting) (codes : ℕ → List ℕ) (is : IsText g.text) (p : Placement) (f : Frame) (whole : IsTable f.table)
     (node : Node) (x : Point) (word : ℕ) (at : word_at g.text x.pc ≡ Some word) (none : x.slot ≡ NoSlot)
     (held : node ≡ node_of (blocks_of g.text g.given) (word_at g.text x.pc)) (npc : x.npc ≡ (x.pc + 4) % 2 ^ 32)
     (instr : Instr) (says : decode_of (slice_index g.text.words word) ≡ instr) where
@@ -62,18 +62,18 @@ module _ (g : Setting) (is : IsText g.text) (p : Placement) (f : Frame) (whole :
   -- the way of the edge leads to the slot
   abbrev pub LeadsThere : EdgeKind → State → Type 0
   LeadsThere kind v =
-      LeadsTo (l g is p f) p (record { 0 = way_out g.text (graph_in g) node kind })
-      (visited_at g (l g is p f) p f (node_after (graph_in g) node (gone_at g node x v)) (point_of v))
+      LeadsTo (l g codes is p f) p (record { 0 = way_out g.text (graph_in g) node kind }) (gone_at g node x v)
+      (visited_at g (l g codes is p f) p f (node_after (graph_in g) node (gone_at g node x v)) (point_of v))
 
   in_slot : (v : State) → v.ending ≡ None → v.pc ≡ x.npc → (now : Slot) → v.slot ≡ now → now ≢ NoSlot
       → MatchesBy g.text (graph_in g) node (point_of v) now → LeadsThere (way_of (Some instr) now) v
   in_slot v live pc now slot some m =
       let not : v.slot ≢ NoSlot = λ n. some (sym slot ∙ n) in
-      subst (λ (edges : List ℕ). LeadsTo (l g is p f) p
-      (record { 0 = way_out g.text (graph_in g) node (way_of (Some instr) now) })
-      (visited_at g (l g is p f) p f (node_after (graph_in g) node edges) (point_of v)))
-      (sym (nothing_gone g is p f node x v none not live))
-      (enters g is p f whole node (point_of v) not (on_its_way g is p f node (point_of v) now slot some m)
+      subst (λ (edges : List ℕ). LeadsTo (l g codes is p f) p
+      (record { 0 = way_out g.text (graph_in g) node (way_of (Some instr) now) }) edges
+      (visited_at g (l g codes is p f) p f (node_after (graph_in g) node edges) (point_of v)))
+      (sym (nothing_gone g codes is p f node x v none not live))
+      (enters g codes is p f whole node (point_of v) not (on_its_way g codes is p f node (point_of v) now slot some m)
       (way_of (Some instr) now)
       (ap (λ (o : Option Instr). way_of o v.slot) (before v pc) ∙ ap (way_of (Some instr)) slot))
 

@@ -33,7 +33,7 @@ use Rattle.image_code.proofs.IntoSlots.{LeadsThere, entered, no_jump, stands}
 use Rattle.image_code.proofs.JumpWords.{jmpl_is}
 use Rattle.image_code.proofs.Visited.{image_items, l, visited_word, word_is}
 
-module _ (g : Setting) (is : IsText g.text) (p : Placement) (f : Frame) (whole : IsTable f.table)
+module _ (g : Setting) (codes : ℕ → List ℕ) (is : IsText g.text) (p : Placement) (f : Frame) (whole : IsTable f.table)
     (node : Node) (x : Point) (word : ℕ) (at : word_at g.text x.pc ≡ Some word) (none : x.slot ≡ NoSlot)
     (held : node ≡ node_of (blocks_of g.text g.given) (word_at g.text x.pc)) (npc : x.npc ≡ (x.pc + 4) % 2 ^ 32)
     (t : State) where
@@ -54,40 +54,40 @@ module _ (g : Setting) (is : IsText g.text) (p : Placement) (f : Frame) (whole :
     call_acts : does_at g x t ≡ delayed (with_register (at_point x t) 15 x.pc) (target_of (at_point x t) disp)
     unfolding act call_step
     call_acts =
-        ap (on_word (at_point x t)) (word_is g is p f x word at) ∙ ap (act (at_point x t)) says
+        ap (on_word (at_point x t)) (word_is g codes is p f x word at) ∙ ap (act (at_point x t)) says
         ∙ ap (λ (z : Slot). unless_couple z (at_point x t)
         (delayed (with_register (at_point x t) 15 x.pc) (target_of (at_point x t) disp))) none
 
-    call_items : slice_get (l g is p f).list word ≡ Some (call_piece address (number_in g node)
+    call_items : slice_get (l g codes is p f).list word ≡ Some (call_piece address (number_in g node)
         (record { 0 = way_out g.text (graph_in g) node kinds.Call }))
-    call_items = image_items g is p f node x word at held (i.Call disp) says
+    call_items = image_items g codes is p f node x word at held (i.Call disp) says
 
     call_leads : t.ending ≡ None → (v : State)
         → v ≡ delayed (with_register (at_point x t) 15 x.pc) (target_of (at_point x t) disp)
-        → LeadsThere g is p f whole node x word at none held npc (i.Call disp) says kinds.Call v
+        → LeadsThere g codes is p f whole node x word at none held npc (i.Call disp) says kinds.Call v
     call_leads live v e =
-        entered g is p f whole node x word at none held npc (i.Call disp) says v
+        entered g codes is p f whole node x word at none held npc (i.Call disp) says v
         (ap (λ (z : State). z.ending) e ∙ live) (ap (λ (z : State). z.pc) e) (ap (λ (z : State). z.slot) e)
-        (call_delayed disp (point_of v) (stands g is p f whole node x word at none held npc (i.Call disp) says)
+        (call_delayed disp (point_of v) (stands g codes is p f whole node x word at none held npc (i.Call disp) says)
         (ap (λ (z : State). z.pc) e) (ap (λ (z : State). z.npc) e))
 
-    pub call_is : t.ending ≡ None → IsCall g (l g is p f) p f node x t
+    pub call_is : t.ending ≡ None → IsCall g (l g codes is p f) p f node x t
     call_is live = record {
       none = none;
       piece = word;
-      within = get_below (l g is p f).list word _ call_items;
-      here = visited_word g is p f node x word at none;
+      within = get_below (l g codes is p f).list word _ call_items;
+      here = visited_word g codes is p f node x word at none;
       address = address;
       original = sym (word_at-some g.text x.pc word at).is;
       low = low;
       word = slice_index g.text.words word;
-      is_word = word_is g is p f x word at;
+      is_word = word_is g codes is p f x word at;
       disp = disp;
       says = says;
       way = record { 0 = way_out g.text (graph_in g) node kinds.Call };
       items = call_items;
       leads = call_leads live (does_at g x t) call_acts;
-      never = no_jump g is p f whole node x word at none held npc (i.Call disp) says (does_at g x t)
+      never = no_jump g codes is p f whole node x word at none held npc (i.Call disp) says (does_at g x t)
           (λ _. ap (λ (z : State). z.pc) call_acts) refl;
     }
 
@@ -105,13 +105,13 @@ module _ (g : Setting) (is : IsText g.text) (p : Placement) (f : Frame) (whole :
     jump_acts : does_at g x t ≡ jumped
     unfolding act jump_step
     jump_acts =
-        ap (on_word (at_point x t)) (word_is g is p f x word at) ∙ ap (act (at_point x t)) says
+        ap (on_word (at_point x t)) (word_is g codes is p f x word at) ∙ ap (act (at_point x t)) says
         ∙ ap (λ (z : Slot). unless_couple z (at_point x t) jumped) none
 
-    jump_items : slice_get (l g is p f).list word
+    jump_items : slice_get (l g codes is p f).list word
         ≡ Some (jump_piece (free_register rd rs1 op2) rd rs1 op2 address (number_in g node)
         (record { 0 = way_out g.text (graph_in g) node kinds.Out }))
-    jump_items = image_items g is p f node x word at held (i.Jmpl rd rs1 op2) says
+    jump_items = image_items g codes is p f node x word at held (i.Jmpl rd rs1 op2) says
 
     goes : (v : State) → v ≡ jumped → v.ending ≡ None → (v.pc ≡ x.npc) × (v.slot ≡ Taken)
     goes v e live =
@@ -122,27 +122,27 @@ module _ (g : Setting) (is : IsText g.text) (p : Placement) (f : Frame) (whole :
         (ap (λ (z : State). z.pc) e ∙ w.0, ap (λ (z : State). z.slot) e ∙ w.1)
 
     jump_leads : (v : State) → v ≡ jumped → v.ending ≡ None
-        → LeadsThere g is p f whole node x word at none held npc (i.Jmpl rd rs1 op2) says kinds.Out v
+        → LeadsThere g codes is p f whole node x word at none held npc (i.Jmpl rd rs1 op2) says kinds.Out v
     jump_leads v e live =
         let w = goes v e live in
-        entered g is p f whole node x word at none held npc (i.Jmpl rd rs1 op2) says v live w.0 w.1
+        entered g codes is p f whole node x word at none held npc (i.Jmpl rd rs1 op2) says v live w.0 w.1
         (jump_delayed rd rs1 op2 (point_of v)
-        (stands g is p f whole node x word at none held npc (i.Jmpl rd rs1 op2) says) w.0 w.1)
+        (stands g codes is p f whole node x word at none held npc (i.Jmpl rd rs1 op2) says) w.0 w.1)
 
-    pub jump_is : IsJump g (l g is p f) p f node x t
+    pub jump_is : IsJump g (l g codes is p f) p f node x t
     jump_is =
         let k = jmpl_is (slice_index g.text.words word) rd rs1 op2 says in
         record {
           none = none;
           next = npc;
           piece = word;
-          within = get_below (l g is p f).list word _ jump_items;
-          here = visited_word g is p f node x word at none;
+          within = get_below (l g codes is p f).list word _ jump_items;
+          here = visited_word g codes is p f node x word at none;
           address = address;
           original = sym (word_at-some g.text x.pc word at).is;
           low = low;
           word = slice_index g.text.words word;
-          is_word = word_is g is p f x word at;
+          is_word = word_is g codes is p f x word at;
           rd = rd;
           rs1 = rs1;
           op2 = op2;

@@ -16,7 +16,7 @@ use Rattle.cfg_walk.specs.Walk.{same_kind}
 use Rattle.cfg_walk.proofs.Lists.{each, each-map, each_at}
 use Rattle.jump_code.specs.Pieces.{foreign_piece}
 use Rattle.layout.specs.declared.items.Item.{Item}
-use Rattle.image_code.specs.Made.{foreign_number, image, landing, landing_number, own_edges, piece_list, way_along}
+use Rattle.image_code.specs.Made.{foreign_number, image, landing, landing_number, own_edges, piece_list, way_along, ways_from}
 
 get_first : {A : Type 0} (xs ys : List A) (n : ℕ) (x : A) → slice_get xs n ≡ Some x → slice_get (xs ++ ys) n ≡ Some x
 get_first [] ys n x e = absurd (cc)
@@ -39,66 +39,88 @@ pub get_below : (n k : ℕ) → k < n → slice_get (below n) k ≡ Some k
 get_below n k l = slice_get-get_or (below n) k 0 (omega (arith, length-below n))
     ∙ ap (λ z. Some z) (get_or-below n k 0 l)
 
-module _ (text : Words) (graph : Graph) (table : ℕ) where
+-- the ways along some edges, by the edges' numbers
+ways_count : (text : Words) (graph : Graph) (table : ℕ) (codes : ℕ → List ℕ) (number : ℕ) (edges : List Edge)
+    → length (ways_from text graph table codes number edges) ≡ length edges
+ways_count text graph table codes number [] = refl
+ways_count text graph table codes number (edge ∷ edges) =
+    ap suc (ways_count text graph table codes (suc number) edges)
+
+way_among : (text : Words) (graph : Graph) (table : ℕ) (codes : ℕ → List ℕ) (number k : ℕ) (edges : List Edge)
+    (edge : Edge) → slice_get edges k ≡ Some edge
+    → slice_get (ways_from text graph table codes number edges) k
+    ≡ Some (way_along text graph table codes (number + k) edge)
+way_among text graph table codes number k [] edge e = absurd (cc)
+way_among text graph table codes number zero (other ∷ edges) edge e =
+    let same : other ≡ edge = cc in
+    let here : number ≡ number + 0 = omega arith in
+    ap (λ (x : Edge). Some (way_along text graph table codes number x)) same
+    ∙ ap (λ (n : ℕ). Some (way_along text graph table codes n edge)) here
+way_among text graph table codes number (suc k) (other ∷ edges) edge e =
+    let next : suc number + k ≡ number + suc k = omega arith in
+    way_among text graph table codes (suc number) k edges edge e
+    ∙ ap (λ (n : ℕ). Some (way_along text graph table codes n edge)) next
+
+module _ (text : Words) (graph : Graph) (table : ℕ) (codes : ℕ → List ℕ) where
   abbrev images : List (List Item)
-  images = map (image text graph table) (below (length text.words))
+  images = map (image text graph codes) (below (length text.words))
 
   abbrev ways : List (List Item)
-  ways = map (way_along text graph table) (own_edges graph)
+  ways = ways_from text graph table codes 0 (own_edges graph)
 
   abbrev landings : List (List Item)
-  landings = map (landing text graph table) (below (length text.words))
+  landings = map (landing text graph codes) (below (length text.words))
 
   images_end : length images ≡ length text.words
-  images_end = length-map (below (length text.words)) (image text graph table) ∙ length-below (length text.words)
+  images_end = length-map (below (length text.words)) (image text graph codes) ∙ length-below (length text.words)
 
   pub ways_end : length (images ++ ways) ≡ length text.words + length (own_edges graph)
   ways_end =
       length-append images ways
       ∙ ap (λ n. n + length ways) images_end
-      ∙ ap (λ n. length text.words + n) (length-map (own_edges graph) (way_along text graph table))
+      ∙ ap (λ n. length text.words + n) (ways_count text graph table codes 0 (own_edges graph))
 
   pub landings_end : length (images ++ ways ++ landings) ≡ foreign_number text graph
   landings_end =
       length-append (images ++ ways) landings
       ∙ ap (λ n. n + length landings) ways_end
       ∙ ap (λ n. length text.words + length (own_edges graph) + n)
-      (length-map (below (length text.words)) (landing text graph table) ∙ length-below (length text.words))
+      (length-map (below (length text.words)) (landing text graph codes) ∙ length-below (length text.words))
 
-  pub count_is : length (piece_list text graph table) ≡ foreign_number text graph + 1
+  pub count_is : length (piece_list text graph table codes) ≡ foreign_number text graph + 1
   unfolding piece_list
   count_is =
       length-append (images ++ ways ++ landings) (foreign_piece ∷ []) ∙ ap (λ n. n + 1) landings_end
 
   pub image_at : (word : ℕ) → word < length text.words
-      → slice_get (piece_list text graph table) word ≡ Some (image text graph table word)
+      → slice_get (piece_list text graph table codes) word ≡ Some (image text graph codes word)
   unfolding piece_list
   image_at word l =
       get_first _ _ word _ (get_first _ _ word _ (get_first _ _ word _
-      (slice_get-map (image text graph table) (below (length text.words)) word
-      ∙ ap (option_map (image text graph table)) (get_below (length text.words) word l))))
+      (slice_get-map (image text graph codes) (below (length text.words)) word
+      ∙ ap (option_map (image text graph codes)) (get_below (length text.words) word l))))
 
   pub way_at : (number : ℕ) (edge : Edge) → slice_get (own_edges graph) number ≡ Some edge
-      → slice_get (piece_list text graph table) (length text.words + number) ≡ Some (way_along text graph table edge)
+      → slice_get (piece_list text graph table codes) (length text.words + number) ≡ Some (way_along text graph table codes number edge)
   unfolding piece_list
   way_at number edge e =
       get_first _ _ (length text.words + number) _ (get_first _ _ (length text.words + number) _
       (ap (λ n. slice_get (images ++ ways) (n + number)) (sym images_end)
       ∙ get_second images ways number
-      ∙ slice_get-map (way_along text graph table) (own_edges graph) number
-      ∙ ap (option_map (way_along text graph table)) e))
+      ∙ way_among text graph table codes 0 number (own_edges graph) edge e
+      ∙ (let e : 0 + number ≡ number = omega arith in ap (λ n. Some (way_along text graph table codes n edge)) e)))
 
   pub landing_at : (word : ℕ) → word < length text.words
-      → slice_get (piece_list text graph table) (landing_number text graph word) ≡ Some (landing text graph table word)
+      → slice_get (piece_list text graph table codes) (landing_number text graph word) ≡ Some (landing text graph codes word)
   unfolding piece_list
   landing_at word l =
       get_first _ _ (landing_number text graph word) _
       (ap (λ n. slice_get (images ++ ways ++ landings) (n + word)) (sym ways_end)
       ∙ get_second (images ++ ways) landings word
-      ∙ slice_get-map (landing text graph table) (below (length text.words)) word
-      ∙ ap (option_map (landing text graph table)) (get_below (length text.words) word l))
+      ∙ slice_get-map (landing text graph codes) (below (length text.words)) word
+      ∙ ap (option_map (landing text graph codes)) (get_below (length text.words) word l))
 
-  pub foreign_at : slice_get (piece_list text graph table) (foreign_number text graph) ≡ Some foreign_piece
+  pub foreign_at : slice_get (piece_list text graph table codes) (foreign_number text graph) ≡ Some foreign_piece
   unfolding piece_list
   foreign_at =
       let here : foreign_number text graph ≡ length (images ++ ways ++ landings) + 0 = omega (arith, landings_end) in

@@ -31,49 +31,49 @@ use Rattle.image_code.proofs.PlainWords.{plain_is}
 use Rattle.image_code.proofs.SlotCopies.{copy_case}
 use Rattle.image_code.proofs.Visited.{l, on_its_way, way_in}
 
-module _ (g : Setting) (is : IsText g.text) (p : Placement) (f : Frame) (base : ℕ) (place : ℕ → ℕ → ℕ)
-    (laid : IsLaid (l g is p f).list base p place) (tables : IsTableFor g.text (graph_in g) p f.table)
+module _ (g : Setting) (codes : ℕ → List ℕ) (is : IsText g.text) (p : Placement) (f : Frame) (base : ℕ) (place : ℕ → ℕ → ℕ)
+    (laid : IsLaid (l g codes is p f).list base p place) (tables : IsTableFor g.text (graph_in g) p f.table)
     (below : f.table.base < base) (noted : IsOffNoted g f.table.base) where
   -- at a word, outside a slot
   by_instr : (node : Node) (x : Point) (t : State) (word : ℕ) → word_at g.text x.pc ≡ Some word → x.slot ≡ NoSlot
       → node ≡ node_of (blocks_of g.text g.given) (word_at g.text x.pc) → x.npc ≡ (x.pc + 4) % 2 ^ 32 → t.ending ≡ None
       → (instr : Instr) → decode_of (slice_index g.text.words word) ≡ instr
-      → IsCase g (l g is p f) base p place f node x t
+      → IsCase g (l g codes is p f) base p place f node x t
   by_instr node x t word at none held npc live (i.Branch cond annul disp) says =
-      branch_case g is p f tables.whole node x word at none held npc cond annul disp says t base place live
+      branch_case g codes is p f tables.whole node x word at none held npc cond annul disp says t base place live
   by_instr node x t word at none held npc live (i.Call disp) says =
-      call (call_is g is p f tables.whole node x word at none held npc t disp says live)
+      call (call_is g codes is p f tables.whole node x word at none held npc t disp says live)
   by_instr node x t word at none held npc live (i.Jmpl rd rs1 op2) says =
-      jump (jump_is g is p f tables.whole node x word at none held npc t rd rs1 op2 says)
+      jump (jump_is g codes is p f tables.whole node x word at none held npc t rd rs1 op2 says)
   by_instr node x t word at none held npc live instr says =
-      plain (plain_is g is p f base place laid node x t word at none held npc (ap is_transfer says))
+      plain (plain_is g codes is p f base place laid node x t word at none held npc (ap is_transfer says))
 
   case : (node : Node) (x : Point) (t : State) → Matches g.text (graph_in g) node x → IsOpen g x
-      → Here g (l g is p f) base p f node x t → IsCase g (l g is p f) base p place f node x t
+      → Here g (l g codes is p f) base p f node x t → IsCase g (l g codes is p f) base p place f node x t
   case node x t m open_there here = by x.slot refl m (word_at g.text x.pc) refl
     where
-      in_slot : x.slot ≢ NoSlot → IsOnItsWay g.text (graph_in g) node x (way_in g is p f x) → (o : Option ℕ)
-          → word_at g.text x.pc ≡ o → IsCase g (l g is p f) base p place f node x t
-      in_slot not way None e = off (off_is g is p f base below noted node x not e way)
-      in_slot not way (Some slot) e = copy_case g is p f base place tables node x t here slot e not way
+      in_slot : x.slot ≢ NoSlot → IsOnItsWay g.text (graph_in g) node x (way_in g codes is p f x) → (o : Option ℕ)
+          → word_at g.text x.pc ≡ o → IsCase g (l g codes is p f) base p place f node x t
+      in_slot not way None e = off (off_is g codes is p f base below noted node x not e way)
+      in_slot not way (Some slot) e = copy_case g codes is p f base place tables node x t here slot e not way
 
       by : (s : Slot) → x.slot ≡ s → MatchesBy g.text (graph_in g) node x s → (o : Option ℕ) → word_at g.text x.pc ≡ o
-          → IsCase g (l g is p f) base p place f node x t
-      by NoSlot none m None e = foreign (foreign_is g is p f node x none e m.0 open_there)
+          → IsCase g (l g codes is p f) base p place f node x t
+      by NoSlot none m None e = foreign (foreign_is g codes is p f node x none e m.0 open_there)
       by NoSlot none m (Some word) e =
           by_instr node x t word e none m.0 m.1 here.live (decode_of (slice_index g.text.words word)) refl
       by Taken some m o e =
           let not : x.slot ≢ NoSlot = λ n. let q : Taken ≡ NoSlot = sym some ∙ n in absurd (cc) in
-          in_slot not (on_its_way g is p f node x Taken some (λ q. absurd (cc)) m) o e
+          in_slot not (on_its_way g codes is p f node x Taken some (λ q. absurd (cc)) m) o e
       by Untaken some m o e =
           let not : x.slot ≢ NoSlot = λ n. let q : Untaken ≡ NoSlot = sym some ∙ n in absurd (cc) in
-          in_slot not (on_its_way g is p f node x Untaken some (λ q. absurd (cc)) m) o e
+          in_slot not (on_its_way g codes is p f node x Untaken some (λ q. absurd (cc)) m) o e
 
 pub pieces_make_images : PiecesMakeImages
-pieces_make_images g base p place f is placed tables below noted =
-    simulate calls_step jumps_step jump_slots_step g (pieces_in g.text (graph_in g) f.table.base) base p place f placed
+pieces_make_images g codes base p place f is placed tables below noted =
+    simulate calls_step jumps_step jump_slots_step g (pieces_in g.text (graph_in g) f.table.base codes) base p place f placed
     (record {
-      visits = visits g is p f base below noted;
+      visits = visits g codes is p f base below noted;
       cases = λ node x t m open_there here _.
-          case g is p f base place placed.laid tables below noted node x t m open_there here;
+          case g codes is p f base place placed.laid tables below noted node x t m open_there here;
     })

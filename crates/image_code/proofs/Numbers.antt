@@ -305,12 +305,12 @@ module _ (text : Words) (graph : Graph) (h : IsGraphOf text graph) (some : 1 ≤
       (two e f) (refl, tt) refl refl
 
   pub branch_is : (table : ℕ) (address : Addr) (first : ℕ) → first ≡ first_way_of text graph kb
-      → branch_image text graph table address (block kb) c ≡ branch_from address kb c first
+      → branch_image text graph address (block kb) c ≡ branch_from address kb c first
   branch_is table address first is =
       by (c == always) refl (c == never) refl
     where
       by : (a : Bool) → (c == always) ≡ a → (n : Bool) → (c == never) ≡ n
-          → branch_image text graph table address (block kb) c ≡ branch_from address kb c first
+          → branch_image text graph address (block kb) c ≡ branch_from address kb c first
       by true a n m = rw a (ap (λ z. plain_piece address kb nop_word (jump_to z)) (always_piece a first is))
       by false a true m = rw (a, m) (ap (λ z. plain_piece address kb nop_word (jump_to z)) (never_piece a m first is))
       by false a false m =
@@ -335,7 +335,7 @@ module _ (text : Words) (graph : Graph) (table : ℕ) (h : IsGraphOf text graph)
 
   says_is : (instr : Instr) → decode_of (slice_index text.words word) ≡ instr
       → image_from here its (slice_index text.words word) first (rest_of text word) instr
-      ≡ image_by text graph table here (block its) word instr
+      ≡ image_by text graph codes here (block its) word instr
   says_is (i.Branch c annul disp) says =
       sym (branch_is text graph h some word l c annul disp says table here first.0 is)
   says_is (i.Call disp) says =
@@ -349,10 +349,10 @@ module _ (text : Words) (graph : Graph) (table : ℕ) (h : IsGraphOf text graph)
       (way kinds.Out None) refl refl refl first.0 is))
   says_is _ says = refl
 
-  pub image_is : image_in text word its first ≡ image text graph table word
+  pub image_is : image_in text word its first ≡ image text graph codes word
   image_is =
       says_is (decode_of (slice_index text.words word)) refl
-      ∙ ap (λ (n : Node). image_by text graph table here n word (decode_of (slice_index text.words word)))
+      ∙ ap (λ (n : Node). image_by text graph codes here n word (decode_of (slice_index text.words word)))
       (sym (node_is graph.blocks word (let e = words_are text graph h in omega arith)))
 
 -- a word from the first of a block on, and before its end, is held by the block

@@ -1,8 +1,10 @@
 -- The image of a word that is no transfer goes on to the next word's image, or at the text's end out of the text.
-use Rattle.std.proofs.Common.{◌≡◌, ℕ, suc, ◌+◌, ◌-◌, ◌%◌, ◌^◌, ◌<◌, ◌≤◌, inl, inr, Bool, true, false, Option, Some, None, List, [], drop, length, refl, ap, sym, ◌∙◌, subst, arith}
+use Rattle.std.proofs.Common.{◌≡◌, ℕ, suc, ◌+◌, ◌-◌, ◌%◌, ◌^◌, ◌<◌, ◌≤◌, inl, inr, Bool, true, false, Option, Some, None, List, [], ◌∷◌, ◌++◌, append-nil, drop, length, map, refl, ap, sym, ◌∙◌, subst, arith}
 use Rattle.std.specs.Prelude.{if◌then◌else◌, nat_lt, slice_get, slice_index}
+use Rattle.std.specs.List.{flat_map}
 use Rattle.std.specs.Option.{option_map}
 use Rattle.std.proofs.lemmas.Bool.{cases_lt, le-ltb, lt-ltb}
+use Rattle.std.proofs.lemmas.List.{length-map}
 use Rattle.eel_base.specs.CodeText.{IsText, address_of, word_at}
 use Rattle.v8_decode.specs.Words.{decode_of}
 use Rattle.v8_step.specs.declared.Slot.TheVariants.{NoSlot}
@@ -15,19 +17,20 @@ use Rattle.cfg_blocks.specs.Ends.{within}
 use Rattle.cfg_blocks.proofs.Targets.{word_at-some}
 use Rattle.cfg_normal.specs.declared.Node.{Node}
 use Rattle.cfg_normal.specs.Graph.{node_of}
-use Rattle.cfg_walk.specs.Walk.{Point, node_after, point_of}
+use Rattle.cfg_walk.specs.Walk.{Point, left_by, node_after, point_of}
 use Rattle.cfg_walk.proofs.Addresses.{next_address, next_word}
 use Rattle.jump_code.specs.Pieces.{far_piece}
 use Rattle.layout.specs.declared.items.Item.{Item}
+use Rattle.layout.specs.declared.items.Item.TheVariants as it
 use Rattle.layout.specs.Laid.{Placement, IsLaid, item_at, item_in, items_in, is_jump, size_of}
 use Rattle.image_code.specs.Simulates.{Setting, at_point, does_at, gone_at, graph_in, number_in}
 use Rattle.image_code.specs.Images.{Frame, visited_at}
-use Rattle.image_code.specs.Cases.{IsFar, IsPlain, LeadsOn, plain_piece}
+use Rattle.image_code.specs.Cases.{IsFar, IsPlain, LeadsOn, plain_piece, words_on}
 use Rattle.image_code.specs.Made.{rest_after}
 use Rattle.image_code.proofs.Branches.{image_straight, within_some}
 use Rattle.image_code.proofs.Cases.{get_below}
 use Rattle.image_code.proofs.Listed.{image_at}
-use Rattle.image_code.proofs.Visited.{image_items, l, visited_none, visited_word, word_is}
+use Rattle.image_code.proofs.Visited.{image_items, l, left_gone, visited_none, visited_word, word_is}
 
 last_one : (n count : ℕ) → within count n ≡ None → count ≤ n
 last_one n count e = elim (cases_lt n count) [
@@ -37,48 +40,74 @@ last_one n count e = elim (cases_lt n count) [
   | inr m ↦ m
 ]
 
-module _ (g : Setting) (is : IsText g.text) (p : Placement) (f : Frame) (base : ℕ) (place : ℕ → ℕ → ℕ)
-    (laid : IsLaid (l g is p f).list base p place)
+-- behind an item that is no Jump, the last of some words is none
+ends_without_jump : (x : Item) (ws : List ℕ) → is_jump (Some x) ≡ false
+    → is_jump (slice_get (x ∷ map it.Word ws) (length ws)) ≡ false
+ends_without_jump x [] h = h
+ends_without_jump x (w ∷ ws) h = ends_without_jump (it.Word w) ws refl
+
+module _ (g : Setting) (codes : ℕ → List ℕ) (is : IsText g.text) (p : Placement) (f : Frame) (base : ℕ) (place : ℕ → ℕ → ℕ)
+    (laid : IsLaid (l g codes is p f).list base p place)
     (node : Node) (x : Point) (t : State) (word : ℕ) (at : word_at g.text x.pc ≡ Some word) (none : x.slot ≡ NoSlot)
     (held : node ≡ node_of (blocks_of g.text g.given) (word_at g.text x.pc)) (npc : x.npc ≡ (x.pc + 4) % 2 ^ 32)
     (straight : is_transfer (decode_of (slice_index g.text.words word)) ≡ false) where
   abbrev rest : List Item
-  rest = rest_after g.text (graph_in g) f.table.base word
+  rest = rest_after g.text (graph_in g) codes node word (decode_of (slice_index g.text.words word))
+
+  -- the edge to the next word, at the end of a block, and its snippet
+  abbrev edges : List ℕ
+  edges = left_by (graph_in g) node word (decode_of (slice_index g.text.words word))
+
+  abbrev code : List Item
+  code = words_on (l g codes is p f) edges
 
   low : word < length g.text.words
   low = (word_at-some g.text x.pc word at).within
 
-  found : slice_get (l g is p f).list word ≡ Some (plain_piece (record { 0 = address_of g.text word })
+  found : slice_get (l g codes is p f).list word ≡ Some (plain_piece (record { 0 = address_of g.text word })
       (number_in g node) (slice_index g.text.words word) rest)
   found =
-      image_items g is p f node x word at held (decode_of (slice_index g.text.words word)) refl
-      ∙ ap (λ z. Some z) (image_straight g.text (graph_in g) f.table.base
+      image_items g codes is p f node x word at held (decode_of (slice_index g.text.words word)) refl
+      ∙ ap (λ z. Some z) (image_straight g.text (graph_in g) codes
       (record { 0 = address_of g.text word }) node word (decode_of (slice_index g.text.words word)) straight)
 
   with_rest : (b : Bool) → nat_lt (word + 1) (length g.text.words) ≡ b
-      → slice_get (l g is p f).list word ≡ Some (plain_piece (record { 0 = address_of g.text word }) (number_in g node)
-      (slice_index g.text.words word) (if b then [] else far_piece (address_of g.text (length g.text.words))))
+      → slice_get (l g codes is p f).list word ≡ Some (plain_piece (record { 0 = address_of g.text word }) (number_in g node)
+      (slice_index g.text.words word) (code ++ (if b then [] else far_piece (address_of g.text (length g.text.words)))))
   with_rest b e =
       found ∙ ap (λ (t : Bool). Some (plain_piece (record { 0 = address_of g.text word }) (number_in g node)
-      (slice_index g.text.words word) (if t then [] else far_piece (address_of g.text (length g.text.words))))) e
+      (slice_index g.text.words word)
+      (code ++ (if t then [] else far_piece (address_of g.text (length g.text.words)))))) e
 
-  falls : word + 1 < length g.text.words → place word 3 ≡ slice_index p.at (word + 1)
+  ends : word + 1 < length g.text.words → slice_get (l g codes is p f).list word
+      ≡ Some (plain_piece (record { 0 = address_of g.text word }) (number_in g node) (slice_index g.text.words word) code)
+  ends more =
+      with_rest true (lt-ltb _ _ more)
+      ∙ ap (λ (r : List Item). Some (plain_piece (record { 0 = address_of g.text word }) (number_in g node)
+      (slice_index g.text.words word) r)) (append-nil code)
+
+  falls : word + 1 < length g.text.words
+      → place word (3 + length (flat_map codes edges)) ≡ slice_index p.at (word + 1)
   falls more =
       let next : word + 1 ≡ suc word = omega arith in
-      let after : suc word < length (l g is p f).list = get_below (l g is p f).list (suc word) _
-      (image_at g.text (graph_in g) f.table.base (suc word) (omega arith)) in
-      let short : slice_get (l g is p f).list word ≡ Some (plain_piece (record { 0 = address_of g.text word })
-      (number_in g node) (slice_index g.text.words word) []) = with_rest true (lt-ltb _ _ more) in
-      let size : size_of (l g is p f).list word ≡ 3 = ap (λ (v : Option (List Item)). items_in v) short in
-      let closed : is_jump (item_at (l g is p f).list word (size_of (l g is p f).list word - 1)) ≡ false =
-      ap (λ n. is_jump (item_at (l g is p f).list word (n - 1))) size
-      ∙ ap (λ (v : Option (List Item)). is_jump (item_in v 2)) short in
+      let after : suc word < length (l g codes is p f).list = get_below (l g codes is p f).list (suc word) _
+      (image_at g.text (graph_in g) f.table.base codes (suc word) (omega arith)) in
+      let many : length code ≡ length (flat_map codes edges) = length-map (flat_map codes edges) it.Word in
+      let size : size_of (l g codes is p f).list word ≡ 3 + length (flat_map codes edges) =
+      ap (λ (v : Option (List Item)). items_in v) (ends more)
+      ∙ (let e : suc (suc (suc (length code))) ≡ 3 + length (flat_map codes edges) = omega arith in e) in
+      let last : 3 + length (flat_map codes edges) - 1 ≡ suc (suc (length (flat_map codes edges))) = omega arith in
+      let closed : is_jump (item_at (l g codes is p f).list word (size_of (l g codes is p f).list word - 1)) ≡ false =
+      ap (λ n. is_jump (item_at (l g codes is p f).list word (n - 1))) size
+      ∙ ap (λ n. is_jump (item_at (l g codes is p f).list word n)) last
+      ∙ ap (λ (v : Option (List Item)). is_jump (item_in v (suc (suc (length (flat_map codes edges)))))) (ends more)
+      ∙ ends_without_jump it.EndMark (flat_map codes edges) refl in
       ap (place word) (sym size) ∙ laid.falls word after closed ∙ sym (laid.starts (suc word) after)
       ∙ ap (slice_index p.at) (sym next)
 
   leaves : length g.text.words ≤ word + 1
-      → option_map (drop 3) (slice_get (l g is p f).list word)
-      ≡ Some (far_piece (address_of g.text (length g.text.words)))
+      → option_map (drop 3) (slice_get (l g codes is p f).list word)
+      ≡ Some (code ++ far_piece (address_of g.text (length g.text.words)))
   leaves last = ap (option_map (drop 3)) (with_rest false (le-ltb _ _ last))
 
   end_far : IsFar (address_of g.text (length g.text.words))
@@ -88,12 +117,15 @@ module _ (g : Setting) (is : IsText g.text) (p : Placement) (f : Frame) (base : 
       (omega arith, omega arith)
 
   goes : (v : State) → does_at g x t ≡ v → v.ending ≡ None
-      → LeadsOn (l g is p f) p place word 3
-      (visited_at g (l g is p f) p f (node_after (graph_in g) node (gone_at g node x v)) (point_of v))
-  goes v e live = by (word_at g.text v.pc) refl
+      → LeadsOn (l g codes is p f) p place word 3 (gone_at g node x v)
+      (visited_at g (l g codes is p f) p f (node_after (graph_in g) node (gone_at g node x v)) (point_of v))
+  goes v e live =
+      subst (λ (gone : List ℕ). LeadsOn (l g codes is p f) p place word 3 gone
+      (visited_at g (l g codes is p f) p f (node_after (graph_in g) node (gone_at g node x v)) (point_of v)))
+      (sym completes) (by (word_at g.text v.pc) refl)
     where
       same : v ≡ act (at_point x t) (decode_of (slice_index g.text.words word))
-      same = sym e ∙ ap (on_word (at_point x t)) (word_is g is p f x word at)
+      same = sym e ∙ ap (on_word (at_point x t)) (word_is g codes is p f x word at)
 
       went : (v.pc ≡ x.npc) × (v.slot ≡ NoSlot)
       went =
@@ -107,31 +139,35 @@ module _ (g : Setting) (is : IsText g.text) (p : Placement) (f : Frame) (base : 
       after : Node
       after = node_after (graph_in g) node (gone_at g node x v)
 
+      completes : gone_at g node x v ≡ edges
+      completes =
+          left_gone g codes is p f node x v none went.1 live word at (decode_of (slice_index g.text.words word)) refl
+
       by : (o : Option ℕ) → word_at g.text v.pc ≡ o
-          → LeadsOn (l g is p f) p place word 3 (visited_at g (l g is p f) p f after (point_of v))
+          → LeadsOn (l g codes is p f) p place word 3 edges (visited_at g (l g codes is p f) p f after (point_of v))
       by None none_there =
           let last = last_one (word + 1) (length g.text.words) (sym there ∙ none_there) in
           let end : word + 1 ≡ length g.text.words = omega (arith, low) in
           let pc : v.pc ≡ address_of g.text (length g.text.words) =
           went.0 ∙ npc ∙ ap (λ (a : ℕ). (a + 4) % 2 ^ 32) (word_at-some g.text x.pc word at).is
           ∙ next_address g.text word is low ∙ ap (address_of g.text) end in
-          subst (LeadsOn (l g is p f) p place word 3)
-          (sym (visited_none g is p f after (point_of v) none_there went.1 ∙ pc))
+          subst (LeadsOn (l g codes is p f) p place word 3 edges)
+          (sym (visited_none g codes is p f after (point_of v) none_there went.1 ∙ pc))
           (inr (inr (end_far, leaves last)))
       by (Some other) some =
           let next = within_some (length g.text.words) (word + 1) other (sym there ∙ some) in
-          inl (falls next.0 ∙ ap (slice_index p.at) next.1
-          ∙ sym (visited_word g is p f after (point_of v) other some went.1))
+          inl (ap (option_map (drop 3)) (ends next.0), falls next.0 ∙ ap (slice_index p.at) next.1
+          ∙ sym (visited_word g codes is p f after (point_of v) other some went.1))
 
-  pub plain_is : IsPlain g (l g is p f) p place f node x t
+  pub plain_is : IsPlain g (l g codes is p f) p place f node x t
   plain_is = record {
     piece = word;
-    within = get_below (l g is p f).list word _ found;
-    here = visited_word g is p f node x word at none;
+    within = get_below (l g codes is p f).list word _ found;
+    here = visited_word g codes is p f node x word at none;
     address = record { 0 = address_of g.text word };
     original = sym (word_at-some g.text x.pc word at).is;
     word = slice_index g.text.words word;
-    is_word = word_is g is p f x word at;
+    is_word = word_is g codes is p f x word at;
     straight = straight;
     rest = rest;
     items = found;

@@ -1,6 +1,6 @@
 -- The copies of slots' words: a transfer ends the run, behind a JMPL its target is looked up, and else the copy goes
 -- on to where the edge leads.
-use Rattle.std.proofs.Common.{◌≡◌, ◌≢◌, ℕ, ◌+◌, ◌/◌, ◌%◌, ◌^◌, ◌<◌, inl, inr, Bool, true, false, Option, Some, None, List, [], drop, length, refl, ap, sym, ◌∙◌, subst, arith}
+use Rattle.std.proofs.Common.{◌≡◌, ◌≢◌, ℕ, ◌+◌, ◌/◌, ◌%◌, ◌^◌, ◌<◌, inl, inr, Bool, true, false, Option, Some, None, List, [], ◌∷◌, ◌++◌, drop, length, refl, ap, sym, ◌∙◌, subst, arith}
 use Rattle.std.specs.Prelude.{if◌then◌else◌, pos, slice_get, slice_index}
 use Rattle.std.specs.Option.{option_map}
 use Rattle.eel_base.specs.CodeText.{Words, IsText, address_of, word_at}
@@ -16,8 +16,8 @@ use Rattle.cfg_blocks.specs.declared.EdgeKind.TheVariants as kinds
 use Rattle.cfg_blocks.proofs.Targets.{word_at-some}
 use Rattle.cfg_normal.specs.declared.Node.{Node}
 use Rattle.cfg_normal.specs.declared.Node.TheVariants.{Block, X}
-use Rattle.cfg_normal.specs.Graph.{Graph}
-use Rattle.cfg_walk.specs.Walk.{Point, node_after, point_of, same_kind}
+use Rattle.cfg_normal.specs.Graph.{Graph, node_of}
+use Rattle.cfg_walk.specs.Walk.{Point, landed, landing_at as edge_landing, node_after, point_of, same_kind}
 use Rattle.cfg_walk.specs.Matches.{Begins, IsOnItsWay, last_in, way_address}
 use Rattle.code_runs.specs.Page.{page_word}
 use Rattle.code_runs.proofs.StoredWords.{memory_word-range}
@@ -27,20 +27,20 @@ use Rattle.jump_code.specs.Pieces.{far_piece, out_piece}
 use Rattle.jump_code.proofs.Fitting.{Fit, decoded, lt}
 use Rattle.layout.specs.Emitting.{words_of}
 use Rattle.layout.specs.declared.items.Item.{Item}
-use Rattle.layout.specs.Laid.{Placement, item_in}
+use Rattle.layout.specs.Laid.{Placement}
 use Rattle.image_code.specs.Simulates.{Setting, at_point, does_at, gone_at, graph_in, number_in}
 use Rattle.image_code.specs.Images.{Frame, Here, visited_at}
-use Rattle.image_code.specs.Cases.{IsFar, LeadsOn, plain_piece}
+use Rattle.image_code.specs.Cases.{IsFar, LeadsOn, plain_piece, words_on}
 use Rattle.image_code.specs.Couple.{couple_piece}
 use Rattle.image_code.specs.Landings.{Lands}
-use Rattle.image_code.specs.Imaged.{IsCase, plain, couple, landing}
+use Rattle.image_code.specs.Imaged.{IsCase, plain, couple, landing as jumps_slot}
 use Rattle.image_code.specs.Made.{IsTableFor, couple_word, foreign_number, goes_along, goes_on, jump_to, landing_number, past_slot}
 use Rattle.image_code.proofs.EdgePieces.{along_far}
-use Rattle.image_code.proofs.Branches.{couple_says}
+use Rattle.image_code.proofs.Branches.{couple_says, same_is}
 use Rattle.image_code.proofs.Cases.{get_below}
 use Rattle.image_code.proofs.Heads.{copy_items, copy_visited}
 use Rattle.image_code.proofs.Listed.{foreign_at, landing_at}
-use Rattle.image_code.proofs.Visited.{edge_is, l, visited_none, visited_word, way_in, word_is}
+use Rattle.image_code.proofs.Visited.{edge_is, l, slot_gone, visited_none, visited_word, way_in, word_is}
 
 -- ---- the translator's words
 
@@ -58,25 +58,46 @@ words_translate base short =
 
 -- ---- where control goes on at a node
 
-goes_begins : (text : Words) (graph : Graph) (table : ℕ) (node : Node) (address : ℕ) (o : Option ℕ)
-    → Begins graph node o → (word : ℕ) → o ≡ Some word → goes_on text graph table node address ≡ jump_to word
-goes_begins text graph table (Block k) address None h word e = absurd h
-goes_begins text graph table (Block k) address (Some w) h word e = let q : w ≡ word = cc in ap jump_to (h ∙ q)
-goes_begins text graph table X address None h word e = absurd (cc)
-goes_begins text graph table X address (Some w) h word e = absurd h
+goes_begins : (text : Words) (graph : Graph) (node : Node) (address : ℕ) (o : Option ℕ)
+    → Begins graph node o → (word : ℕ) → o ≡ Some word → goes_on text graph node address ≡ jump_to word
+goes_begins text graph (Block k) address None h word e = absurd h
+goes_begins text graph (Block k) address (Some w) h word e = let q : w ≡ word = cc in ap jump_to (h ∙ q)
+goes_begins text graph X address None h word e = absurd (cc)
+goes_begins text graph X address (Some w) h word e = absurd h
 
-goes_out : (text : Words) (graph : Graph) (table : ℕ) (node : Node) (address : ℕ) (o : Option ℕ)
-    → Begins graph node o → o ≡ None → goes_on text graph table node address ≡ far_piece address
-goes_out text graph table (Block k) address None h e = absurd h
-goes_out text graph table (Block k) address (Some w) h e = absurd (cc)
-goes_out text graph table X address None h e = refl
-goes_out text graph table X address (Some w) h e = absurd h
+goes_out : (text : Words) (graph : Graph) (node : Node) (address : ℕ) (o : Option ℕ)
+    → Begins graph node o → o ≡ None → goes_on text graph node address ≡ far_piece address
+goes_out text graph (Block k) address None h e = absurd h
+goes_out text graph (Block k) address (Some w) h e = absurd (cc)
+goes_out text graph X address None h e = refl
+goes_out text graph X address (Some w) h e = absurd h
 
-module _ (g : Setting) (is : IsText g.text) (p : Placement) (f : Frame) (base : ℕ) (place : ℕ → ℕ → ℕ)
+-- ---- landings
+
+not_landed : (text : Words) (graph : Graph) (kind : EdgeKind) (address : ℕ) → same_kind kind kinds.Out ≡ false
+    → landed text graph kind address ≡ []
+not_landed text graph kinds.Out address e = absurd (cc)
+not_landed text graph kinds.Fall address e = refl
+not_landed text graph kinds.Taken address e = refl
+not_landed text graph kinds.Untaken address e = refl
+not_landed text graph kinds.Call address e = refl
+not_landed text graph kinds.Land address e = refl
+
+-- at a word that of its block, and outside the text none
+abbrev landing_of : Graph → Option ℕ → List ℕ
+landing_of graph None = []
+landing_of graph (Some word) = edge_landing graph (node_of graph.blocks (Some word))
+
+landed_out : (text : Words) (graph : Graph) (address : ℕ) (o : Option ℕ) → word_at text address ≡ o
+    → landed text graph kinds.Out address ≡ landing_of graph o
+landed_out text graph address None e = rw e refl
+landed_out text graph address (Some word) e = rw e refl
+
+module _ (g : Setting) (codes : ℕ → List ℕ) (is : IsText g.text) (p : Placement) (f : Frame) (base : ℕ) (place : ℕ → ℕ → ℕ)
     (tables : IsTableFor g.text (graph_in g) p f.table)
-    (node : Node) (x : Point) (t : State) (here : Here g (l g is p f) base p f node x t)
+    (node : Node) (x : Point) (t : State) (here : Here g (l g codes is p f) base p f node x t)
     (slot : ℕ) (at : word_at g.text x.pc ≡ Some slot) (not : x.slot ≢ NoSlot)
-    (way : IsOnItsWay g.text (graph_in g) node x (way_in g is p f x)) where
+    (way : IsOnItsWay g.text (graph_in g) node x (way_in g codes is p f x)) where
   abbrev piece : ℕ
   piece = length g.text.words + way.number
 
@@ -88,55 +109,66 @@ module _ (g : Setting) (is : IsText g.text) (p : Placement) (f : Frame) (base : 
 
   -- where the machine is after the step
   abbrev Visit : State → ℕ
-  Visit v = visited_at g (l g is p f) p f (node_after (graph_in g) node (gone_at g node x v)) (point_of v)
+  Visit v = visited_at g (l g codes is p f) p f (node_after (graph_in g) node (gone_at g node x v)) (point_of v)
 
   abbrev copy_by : Bool → List Item
   copy_by transfer =
       if transfer then couple_piece address (number_in g node) couple_word []
-      else past_slot g.text (graph_in g) f.table.base address (number_in g node) word way.edge
+      else past_slot g.text (graph_in g) f.table.base codes address (number_in g node) word way.number way.edge
 
-  made : (b : Bool) → is_transfer (decode_of word) ≡ b → slice_get (l g is p f).list piece ≡ Some (copy_by b)
-  made b e = copy_items g is p f node x slot at way ∙ ap (λ (z : Bool). Some (copy_by z)) e
+  -- the snippet of the edge
+  abbrev code : List Item
+  code = words_on (l g codes is p f) (way.number ∷ [])
+
+  made : (b : Bool) → is_transfer (decode_of word) ≡ b → slice_get (l g codes is p f).list piece ≡ Some (copy_by b)
+  made b e = copy_items g codes is p f node x slot at way ∙ ap (λ (z : Bool). Some (copy_by z)) e
 
   -- ---- a word that is no transfer
 
   module _ (straight : is_transfer (decode_of word) ≡ false) where
     abbrev past_by : Bool → List Item
     past_by out =
-        if out then out_piece address (number_in g node) word [] (words_of (translator f.table.base 1 2))
-        else plain_piece address (number_in g node) word (goes_along g.text (graph_in g) f.table.base way.edge)
+        if out then out_piece address (number_in g node) word code (words_of (translator f.table.base 1 2))
+        else plain_piece address (number_in g node) word (goes_along g.text (graph_in g) codes way.number way.edge)
 
-    past : (b : Bool) → same_kind (way_in g is p f x) kinds.Out ≡ b
-        → slice_get (l g is p f).list piece ≡ Some (past_by b)
+    past : (b : Bool) → same_kind (way_in g codes is p f x) kinds.Out ≡ b
+        → slice_get (l g codes is p f).list piece ≡ Some (past_by b)
     past b e =
         made false straight
         ∙ ap (λ (z : Bool). Some (past_by z))
-        (ap (λ (k : EdgeKind). same_kind k kinds.Out) (edge_is g is p f node x (way_in g is p f x) way).same ∙ e)
+        (ap (λ (k : EdgeKind). same_kind k kinds.Out) (edge_is g codes is p f node x (way_in g codes is p f x) way).same ∙ e)
 
     went : (v : State) → does_at g x t ≡ v → v.ending ≡ None → (v.pc ≡ x.npc) × (v.slot ≡ NoSlot)
     went v e live =
         let same : v ≡ act (at_point x t) (decode_of word) =
-        sym e ∙ ap (on_word (at_point x t)) (word_is g is p f x slot at) in
+        sym e ∙ ap (on_word (at_point x t)) (word_is g codes is p f x slot at) in
         let w = goes_act (at_point x t) (decode_of word) straight (ap (λ (z : State). z.ending) (sym same) ∙ live) in
         (ap (λ (z : State). z.pc) same ∙ w.0, ap (λ (z : State). z.slot) same ∙ w.2)
 
+    gone_along : (v : State) → v.slot ≡ NoSlot → v.ending ≡ None
+        → gone_at g node x v ≡ way.number ∷ landed g.text (graph_in g) (way_in g codes is p f x) v.pc
+    gone_along v after live =
+        slot_gone g codes is p f node x v not after live
+        ∙ ap (λ (edges : List ℕ). edges ++ landed g.text (graph_in g) (way_in g codes is p f x) v.pc) way.only
+
     -- ---- no JMPL's slot: the edge leads on
 
-    module _ (other : same_kind (way_in g is p f x) kinds.Out ≡ false) where
-      goes_there : goes_along g.text (graph_in g) f.table.base way.edge
-          ≡ goes_on g.text (graph_in g) f.table.base way.edge.to x.npc
+    module _ (other : same_kind (way_in g codes is p f x) kinds.Out ≡ false) where
+      goes_there : goes_along g.text (graph_in g) codes way.number way.edge
+          ≡ code ++ goes_on g.text (graph_in g) way.edge.to x.npc
       goes_there =
-          let k = edge_is g is p f node x (way_in g is p f x) way in
-          ap (λ (n : Node). goes_on g.text (graph_in g) f.table.base way.edge.to
+          let k = edge_is g codes is p f node x (way_in g codes is p f x) way in
+          ap (λ (n : Node). code ++ goes_on g.text (graph_in g) way.edge.to
           (way_address g.text (graph_in g) n way.edge.kind)) k.leaves
-          ∙ ap (λ (k : EdgeKind). goes_on g.text (graph_in g) f.table.base way.edge.to
+          ∙ ap (λ (k : EdgeKind). code ++ goes_on g.text (graph_in g) way.edge.to
           (way_address g.text (graph_in g) node k)) k.same
-          ∙ ap (goes_on g.text (graph_in g) f.table.base way.edge.to) (sym (way.goes other))
+          ∙ ap (λ (a : ℕ). code ++ goes_on g.text (graph_in g) way.edge.to a) (sym (way.goes other))
 
-      items : (rest : List Item) → goes_on g.text (graph_in g) f.table.base way.edge.to x.npc ≡ rest
-          → slice_get (l g is p f).list piece ≡ Some (plain_piece address (number_in g node) word rest)
+      items : (rest : List Item) → goes_on g.text (graph_in g) way.edge.to x.npc ≡ rest
+          → slice_get (l g codes is p f).list piece ≡ Some (plain_piece address (number_in g node) word (code ++ rest))
       items rest e = past false other
-          ∙ ap (λ (r : List Item). Some (plain_piece address (number_in g node) word r)) (goes_there ∙ e)
+          ∙ ap (λ (r : List Item). Some (plain_piece address (number_in g node) word r)) goes_there
+          ∙ ap (λ (r : List Item). Some (plain_piece address (number_in g node) word (code ++ r))) e
 
       npc_far : IsFar x.npc
       npc_far =
@@ -146,11 +178,14 @@ module _ (g : Setting) (is : IsText g.text) (p : Placement) (f : Frame) (base : 
           let before = way.pc in
           let low : last_in (graph_in g) node < length g.text.words = omega arith in
           subst IsFar (sym (way.goes other))
-          (along_far g.text (last_in (graph_in g) node) (way_in g is p f x)
+          (along_far g.text (last_in (graph_in g) node) (way_in g codes is p f x)
           (decode_of (slice_index g.text.words (last_in (graph_in g) node))) is low)
 
-      goes : (v : State) → does_at g x t ≡ v → v.ending ≡ None → LeadsOn (l g is p f) p place piece 3 (Visit v)
-      goes v e live = by (word_at g.text x.npc) refl
+      goes : (v : State) → does_at g x t ≡ v → v.ending ≡ None
+          → LeadsOn (l g codes is p f) p place piece 3 (gone_at g node x v) (Visit v)
+      goes v e live =
+          subst (λ (gone : List ℕ). LeadsOn (l g codes is p f) p place piece 3 gone (Visit v)) (sym completes)
+          (by (word_at g.text x.npc) refl)
         where
           after : Node
           after = node_after (graph_in g) node (gone_at g node x v)
@@ -158,50 +193,74 @@ module _ (g : Setting) (is : IsText g.text) (p : Placement) (f : Frame) (base : 
           w : (v.pc ≡ x.npc) × (v.slot ≡ NoSlot)
           w = went v e live
 
+          completes : gone_at g node x v ≡ way.number ∷ []
+          completes =
+              gone_along v w.1 live
+              ∙ ap (λ (edges : List ℕ). way.number ∷ edges) (not_landed g.text (graph_in g) (way_in g codes is p f x) v.pc other)
+
           by : (o : Option ℕ) → word_at g.text x.npc ≡ o
-              → LeadsOn (l g is p f) p place piece 3 (visited_at g (l g is p f) p f after (point_of v))
+              → LeadsOn (l g codes is p f) p place piece 3 (way.number ∷ []) (visited_at g (l g codes is p f) p f after (point_of v))
           by None none =
-              subst (LeadsOn (l g is p f) p place piece 3)
-              (sym (visited_none g is p f after (point_of v) (ap (word_at g.text) w.0 ∙ none) w.1 ∙ w.0))
+              subst (LeadsOn (l g codes is p f) p place piece 3 (way.number ∷ []))
+              (sym (visited_none g codes is p f after (point_of v) (ap (word_at g.text) w.0 ∙ none) w.1 ∙ w.0))
               (inr (inr (
                 npc_far,
                 ap (option_map (drop 3)) (items (far_piece x.npc)
-                    (goes_out g.text (graph_in g) f.table.base way.edge.to x.npc (word_at g.text x.npc)
+                    (goes_out g.text (graph_in g) way.edge.to x.npc (word_at g.text x.npc)
                     (way.leads other).0 none)),
               )))
           by (Some to) some =
-              inr (inl (
-                record { 0 = to },
-                ap (λ (v : Option (List Item)). item_in v 3) (items (jump_to to)
-                    (goes_begins g.text (graph_in g) f.table.base way.edge.to x.npc (word_at g.text x.npc)
-                    (way.leads other).0 to some)),
-                inl (sym (visited_word g is p f after (point_of v) to (ap (word_at g.text) w.0 ∙ some) w.1)),
-              ))
+              inr (inl (record {
+                first = way.number ∷ [];
+                others = [];
+                all = refl;
+                piece = record { 0 = to };
+                rest = ap (option_map (drop 3)) (items (jump_to to)
+                    (goes_begins g.text (graph_in g) way.edge.to x.npc (word_at g.text x.npc)
+                    (way.leads other).0 to some));
+                leads = inl (
+                  refl,
+                  sym (visited_word g codes is p f after (point_of v) to (ap (word_at g.text) w.0 ∙ some) w.1),
+                );
+              }))
 
-      plain_case : IsCase g (l g is p f) base p place f node x t
+      plain_case : IsCase g (l g codes is p f) base p place f node x t
       plain_case = plain (record {
         piece = piece;
-        within = get_below (l g is p f).list piece _ (items _ refl);
-        here = copy_visited g is p f node x slot at way not;
+        within = get_below (l g codes is p f).list piece _ (items _ refl);
+        here = copy_visited g codes is p f node x slot at way not;
         address = address;
         original = sym (word_at-some g.text x.pc slot at).is;
         word = word;
-        is_word = word_is g is p f x slot at;
+        is_word = word_is g codes is p f x slot at;
         straight = straight;
-        rest = goes_on g.text (graph_in g) f.table.base way.edge.to x.npc;
+        rest = code ++ goes_on g.text (graph_in g) way.edge.to x.npc;
         items = items _ refl;
         leads = λ live. goes (does_at g x t) refl live;
       })
 
     -- ---- a JMPL's slot: the table leads on
 
-    module _ (out : same_kind (way_in g is p f x) kinds.Out ≡ true) where
+    module _ (out : same_kind (way_in g codes is p f x) kinds.Out ≡ true) where
       waits : (x.npc < 2 ^ 32) × (x.npc % 4 ≡ 0)
       waits =
           let w = here.waits (way.jumps out) out in
           (subst (λ (z : ℕ). z < 2 ^ 32) w.0 (memory_word-range t.memory (page_word 1) here.valid.memory), w.1)
 
-      lands : (v : State) → does_at g x t ≡ v → v.ending ≡ None → Lands g (l g is p f) p f x.npc (Visit v)
+      -- the landing of the block to which the jump leads
+      abbrev lands_on : List ℕ
+      lands_on = landed g.text (graph_in g) kinds.Out x.npc
+
+      completes : (v : State) → does_at g x t ≡ v → v.ending ≡ None → gone_at g node x v ≡ way.number ∷ lands_on
+      completes v e live =
+          let w = went v e live in
+          gone_along v w.1 live
+          ∙ ap (λ (a : ℕ). way.number ∷ landed g.text (graph_in g) (way_in g codes is p f x) a) w.0
+          ∙ ap (λ (k : EdgeKind). way.number ∷ landed g.text (graph_in g) k x.npc)
+          (same_is (way_in g codes is p f x) kinds.Out out)
+
+      lands : (v : State) → does_at g x t ≡ v → v.ending ≡ None
+          → Lands g (l g codes is p f) p f lands_on x.npc (Visit v)
       lands v e live = by (word_at g.text x.npc) refl
         where
           after : Node
@@ -211,66 +270,71 @@ module _ (g : Setting) (is : IsText g.text) (p : Placement) (f : Frame) (base : 
           w = went v e live
 
           by : (o : Option ℕ) → word_at g.text x.npc ≡ o
-              → Lands g (l g is p f) p f x.npc (visited_at g (l g is p f) p f after (point_of v))
+              → Lands g (l g codes is p f) p f (landed g.text (graph_in g) kinds.Out x.npc) x.npc (visited_at g (l g codes is p f) p f after (point_of v))
           by None none =
               inr (
+                landed_out g.text (graph_in g) x.npc None none,
                 record { 0 = foreign_number g.text (graph_in g) },
-                get_below (l g is p f).list _ _ (foreign_at g.text (graph_in g) f.table.base),
+                get_below (l g codes is p f).list _ _ (foreign_at g.text (graph_in g) f.table.base codes),
                 tables.others x.npc waits.0 waits.1 none,
-                foreign_at g.text (graph_in g) f.table.base,
+                foreign_at g.text (graph_in g) f.table.base codes,
                 none,
               )
           by (Some to) some =
-              let there = landing_at g.text (graph_in g) f.table.base to (word_at-some g.text x.npc to some).within in
+              let there = landing_at g.text (graph_in g) f.table.base codes to (word_at-some g.text x.npc to some).within in
               inl (
                 record { 0 = landing_number g.text (graph_in g) to },
-                get_below (l g is p f).list _ _ there,
+                get_below (l g codes is p f).list _ _ there,
                 tables.words x.npc to waits.0 waits.1 some,
                 inr (inl (
                   record { 0 = to },
-                  there,
-                  sym (visited_word g is p f after (point_of v) to (ap (word_at g.text) w.0 ∙ some) w.1),
+                  there ∙ ap (λ (edges : List ℕ). Some (words_on (l g codes is p f) edges ++ jump_to to))
+                      (sym (landed_out g.text (graph_in g) x.npc (Some to) some)),
+                  sym (visited_word g codes is p f after (point_of v) to (ap (word_at g.text) w.0 ∙ some) w.1),
                 )),
               )
 
       short : f.table.base < 2 ^ 32
       short = let h = tables.whole.below in omega arith
 
-      jump_case : IsCase g (l g is p f) base p place f node x t
-      jump_case = landing (record {
+      jump_case : IsCase g (l g codes is p f) base p place f node x t
+      jump_case = jumps_slot (record {
         slot = way.jumps out;
         out = out;
         piece = piece;
-        within = get_below (l g is p f).list piece _ (past true out);
-        here = copy_visited g is p f node x slot at way not;
+        within = get_below (l g codes is p f).list piece _ (past true out);
+        here = copy_visited g codes is p f node x slot at way not;
         address = address;
         original = sym (word_at-some g.text x.pc slot at).is;
         word = word;
-        is_word = word_is g is p f x slot at;
+        is_word = word_is g codes is p f x slot at;
         straight = straight;
         translator = words_of (translator f.table.base 1 2);
         twelve = refl;
         translates = words_translate f.table.base short;
         table = tables.whole;
+        edge = way.number;
+        landing = lands_on;
+        completes = λ live. completes (does_at g x t) refl live;
         items = past true out;
         lands = λ live. lands (does_at g x t) refl live;
       })
 
-    straight_case : (b : Bool) → same_kind (way_in g is p f x) kinds.Out ≡ b
-        → IsCase g (l g is p f) base p place f node x t
+    straight_case : (b : Bool) → same_kind (way_in g codes is p f x) kinds.Out ≡ b
+        → IsCase g (l g codes is p f) base p place f node x t
     straight_case true e = jump_case e
     straight_case false e = plain_case e
 
-  by_word : (b : Bool) → is_transfer (decode_of word) ≡ b → IsCase g (l g is p f) base p place f node x t
+  by_word : (b : Bool) → is_transfer (decode_of word) ≡ b → IsCase g (l g codes is p f) base p place f node x t
   by_word true e = couple (record {
     slot = not;
     piece = piece;
-    within = get_below (l g is p f).list piece _ (made true e);
-    here = copy_visited g is p f node x slot at way not;
+    within = get_below (l g codes is p f).list piece _ (made true e);
+    here = copy_visited g codes is p f node x slot at way not;
     address = address;
     original = sym (word_at-some g.text x.pc slot at).is;
     word = word;
-    is_word = word_is g is p f x slot at;
+    is_word = word_is g codes is p f x slot at;
     transfer = e;
     ba = couple_word;
     disp = pos 2;
@@ -278,7 +342,7 @@ module _ (g : Setting) (is : IsText g.text) (p : Placement) (f : Frame) (base : 
     rest = [];
     items = made true e;
   })
-  by_word false e = straight_case e (same_kind (way_in g is p f x) kinds.Out) refl
+  by_word false e = straight_case e (same_kind (way_in g codes is p f x) kinds.Out) refl
 
-  pub copy_case : IsCase g (l g is p f) base p place f node x t
+  pub copy_case : IsCase g (l g codes is p f) base p place f node x t
   copy_case = by_word (is_transfer (decode_of word)) refl

@@ -1,5 +1,5 @@
 -- Where the points of a text are visited, and what stands there.
-use Rattle.std.proofs.Common.{◌≡◌, ◌≢◌, ℕ, ◌+◌, ◌-◌, ◌<◌, inl, inr, Bool, false, Option, Some, None, [], length, refl, ap, sym, ◌∙◌, subst, arith}
+use Rattle.std.proofs.Common.{◌≡◌, ◌≢◌, ℕ, ◌+◌, ◌-◌, ◌<◌, inl, inr, Bool, false, Option, Some, None, List, [], length, refl, ap, sym, ◌∙◌, subst, arith}
 use Rattle.std.specs.Prelude.{if◌then◌else◌, slice_get, slice_index}
 use Rattle.std.specs.Option.{option_map}
 use Rattle.std.proofs.lemmas.Bool.{lt-ltb}
@@ -19,7 +19,7 @@ use Rattle.cfg_normal.specs.declared.Node.{Node}
 use Rattle.cfg_normal.specs.declared.Slot.{Slot as Carried}
 use Rattle.cfg_normal.specs.declared.Slot.TheVariants as carried
 use Rattle.cfg_normal.specs.Graph.{IsSlotIn, node_of}
-use Rattle.cfg_walk.specs.Walk.{Point, completed, edge_from, gone, instr_at, point_of, same_kind, unless_ended, way_of}
+use Rattle.cfg_walk.specs.Walk.{Point, completed, edge_from, gone, instr_at, left_at, left_by, point_of, same_kind, slot_left, unless_ended, way_of}
 use Rattle.cfg_walk.specs.Matches.{IsCarried, IsOnItsWay, MatchesBy}
 use Rattle.cfg_walk.proofs.Addresses.{word_at-address}
 use Rattle.addr_translate.specs.Lookup.{IsTable}
@@ -32,12 +32,12 @@ use Rattle.image_code.proofs.EdgePieces.{IsAlong, along, cut_in, items_along, sl
 use Rattle.image_code.proofs.Branches.{first_along, way_is_own, within_is}
 use Rattle.image_code.proofs.Listed.{image_at}
 
-module _ (g : Setting) (is : IsText g.text) (p : Placement) (f : Frame) where
+module _ (g : Setting) (codes : ℕ → List ℕ) (is : IsText g.text) (p : Placement) (f : Frame) where
   abbrev b : Blocks
   b = blocks_of g.text g.given
 
   abbrev pub l : Pieces
-  l = pieces_in g.text (graph_in g) f.table.base
+  l = pieces_in g.text (graph_in g) f.table.base codes
 
   -- ---- where a machine stands that visits a point
 
@@ -80,14 +80,14 @@ module _ (g : Setting) (is : IsText g.text) (p : Placement) (f : Frame) where
 
   pub image_items : (node : Node) (x : Point) (word : ℕ) → word_at g.text x.pc ≡ Some word
       → node ≡ node_of b (word_at g.text x.pc) → (instr : Instr) → decode_of (slice_index g.text.words word) ≡ instr
-      → slice_get l.list word ≡ Some (image_by g.text (graph_in g) f.table.base
+      → slice_get l.list word ≡ Some (image_by g.text (graph_in g) codes
       (record { 0 = address_of g.text word }) node word instr)
   image_items node x word at held instr e =
-      image_at g.text (graph_in g) f.table.base word (word_at-some g.text x.pc word at).within
-      ∙ ap (λ (n : Node). Some (image_by g.text (graph_in g) f.table.base (record { 0 = address_of g.text word }) n
+      image_at g.text (graph_in g) f.table.base codes word (word_at-some g.text x.pc word at).within
+      ∙ ap (λ (n : Node). Some (image_by g.text (graph_in g) codes (record { 0 = address_of g.text word }) n
       word (decode_of (slice_index g.text.words word))))
       (sym (held ∙ ap (node_of b) at))
-      ∙ ap (λ (d : Instr). Some (image_by g.text (graph_in g) f.table.base
+      ∙ ap (λ (d : Instr). Some (image_by g.text (graph_in g) codes
       (record { 0 = address_of g.text word }) node word d)) e
 
   -- ---- in a slot
@@ -162,7 +162,7 @@ module _ (g : Setting) (is : IsText g.text) (p : Placement) (f : Frame) where
   -- the way of the edge on which a slot is run leads to where that is visited
   pub enters : IsTable f.table → (node : Node) (x : Point) → x.slot ≢ NoSlot
       → IsOnItsWay g.text (graph_in g) node x (way_in x) → (kind : EdgeKind) → way_in x ≡ kind
-      → LeadsTo l p (record { 0 = way_out g.text (graph_in g) node kind }) (visited_at g l p f node x)
+      → LeadsTo l p (record { 0 = way_out g.text (graph_in g) node kind }) [] (visited_at g l p f node x)
   enters whole node x slot way kind same = by (word_at g.text x.pc) refl
     where
       own : (is_fall (way_in x) ≡ false) × (same_kind (way_in x) kinds.Land ≡ false)
@@ -174,23 +174,23 @@ module _ (g : Setting) (is : IsText g.text) (p : Placement) (f : Frame) where
           ∙ ap (first_way g.text (graph_in g)) way.only
 
       by : (o : Option ℕ) → word_at g.text x.pc ≡ o
-          → LeadsTo l p (record { 0 = way_out g.text (graph_in g) node kind }) (visited_at g l p f node x)
+          → LeadsTo l p (record { 0 = way_out g.text (graph_in g) node kind }) [] (visited_at g l p f node x)
       by (Some word) e =
-          inl (ap (slice_index p.at)
+          inl (refl, ap (slice_index p.at)
           (ap (λ (k : EdgeKind). way_out g.text (graph_in g) node k) (sym same)
-          ∙ first_along g.text (graph_in g) f.table.base (edge_from (graph_in g) node (way_in x)))
+          ∙ first_along g.text (graph_in g) f.table.base codes (edge_from (graph_in g) node (way_in x)))
           ∙ sym (visited_slot node x word e slot))
       by None e =
-          subst (LeadsTo l p (record { 0 = way_out g.text (graph_in g) node kind })) (sym (visited_off node x e slot))
+          subst (LeadsTo l p (record { 0 = way_out g.text (graph_in g) node kind }) []) (sym (visited_off node x e slot))
           (inr (inr (
             table_far whole,
             ap (slice_get l.list) number
-                ∙ items_along g is f.table.base node (way_in x) way.number way.edge
+                ∙ items_along g is f.table.base codes node (way_in x) way.number way.edge
                 (edge_is node x (way_in x) way) own.0 own.1 carried.Off
                 (off node x (way_in x) way e),
           )))
 
-  -- ---- the edges of a step into a slot: none
+  -- ---- the edges of a step: into a slot none
 
   pub nothing_gone : (node : Node) (x : Point) (v : State) → x.slot ≡ NoSlot → v.slot ≢ NoSlot → v.ending ≡ None
       → gone_at g node x v ≡ []
@@ -202,3 +202,28 @@ module _ (g : Setting) (is : IsText g.text) (p : Placement) (f : Frame) where
       still NoSlot n = absurd (n refl)
       still Taken n = refl
       still Untaken n = refl
+
+  -- a step from one word to another, outside slots, completes the edge that it leaves along
+  pub left_gone : (node : Node) (x : Point) (v : State) → x.slot ≡ NoSlot → v.slot ≡ NoSlot → v.ending ≡ None
+      → (word : ℕ) → word_at g.text x.pc ≡ Some word → (instr : Instr)
+      → decode_of (slice_index g.text.words word) ≡ instr
+      → gone_at g node x v ≡ left_by (graph_in g) node word instr
+  left_gone node x v none after live word at instr says =
+      ap (λ (e : Option Ending). gone g.text (graph_in g) node x (unless_ended e (point_of v))) live
+      ∙ ap (λ (s : Slot). completed g.text (graph_in g) node x (point_of v) s v.slot) none
+      ∙ ap (completed g.text (graph_in g) node x (point_of v) NoSlot) after
+      ∙ ap (left_at g.text (graph_in g) node) at
+      ∙ ap (left_by (graph_in g) node word) says
+
+  -- one from a slot completes the edge of the transfer before, and after a jump a landing
+  pub slot_gone : (node : Node) (x : Point) (v : State) → x.slot ≢ NoSlot → v.slot ≡ NoSlot → v.ending ≡ None
+      → gone_at g node x v ≡ slot_left g.text (graph_in g) node (way_in x) v.pc
+  slot_gone node x v slot after live =
+      ap (λ (e : Option Ending). gone g.text (graph_in g) node x (unless_ended e (point_of v))) live
+      ∙ ap (completed g.text (graph_in g) node x (point_of v) x.slot) after ∙ by x.slot slot
+    where
+      by : (s : Slot) → s ≢ NoSlot → completed g.text (graph_in g) node x (point_of v) s NoSlot
+          ≡ slot_left g.text (graph_in g) node (way_of (instr_at g.text (x.pc - 4)) s) v.pc
+      by NoSlot n = absurd (n refl)
+      by Taken n = refl
+      by Untaken n = refl

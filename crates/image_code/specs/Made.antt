@@ -54,6 +54,11 @@ own_edges graph = take (length graph.edges - length graph.blocks.firsts) graph.e
 abbrev pub jump_to : ℕ → List Item
 jump_to piece = it.Jump (record { 0 = piece }) ∷ []
 
+-- A word goes on to the image of the next one, which comes next; behind the text's last word control leaves the text.
+abbrev pub next_to : Words → ℕ → List Item
+next_to text word =
+    if nat_lt (word + 1) (length text.words) then [] else far_piece (address_of text (length text.words))
+
 -- ---- the numbers of pieces: first come the images of the words, by words, then the ways along edges, by edges, then the
 -- landings, by words, and last the foreign piece
 
@@ -75,33 +80,36 @@ module _ (text : Words) (graph : Graph) where
   abbrev pub way_out : Node → EdgeKind → ℕ
   way_out node kind = first_way (edge_from graph node kind)
 
--- `codes` has the words of the snippet on each edge
-module _ (text : Words) (graph : Graph) (table : ℕ) (codes : ℕ → List ℕ) where
-  abbrev pub snippet_items : List ℕ → List Item
-  snippet_items edges = map it.Word (flat_map codes edges)
-
-  -- ---- images of words
-
-  -- A word goes on to the image of the next one, which comes next; behind the text's last word control leaves the text.
-  abbrev pub next_to : ℕ → List Item
-  next_to word = if nat_lt (word + 1) (length text.words) then [] else far_piece (address_of text (length text.words))
-
-  -- behind the last word of a block comes the snippet of the edge to the next word
-  abbrev pub rest_after : Node → ℕ → Instr → List Item
-  rest_after node word instr = snippet_items (left_by graph node word instr) ++ next_to word
-
   -- `ba` and `bn` go one way
   abbrev pub branch_image : Addr → Node → ℕ → List Item
   branch_image address node cond =
       let number = node_number graph node in
-      let taken = way_out text graph node kinds.Taken in
-      let untaken = way_out text graph node kinds.Untaken in
+      let taken = way_out node kinds.Taken in
+      let untaken = way_out node kinds.Untaken in
       if cond == always then plain_piece address number nop_word (jump_to taken) else
       if cond == never then plain_piece address number nop_word (jump_to untaken) else
       branch_piece address number cond taken untaken
 
+  -- at a node control goes on to the block's first word, outside the text to the original's address
+  abbrev pub goes_on : Node → ℕ → List Item
+  goes_on (Block block) address = jump_to (slice_index graph.blocks.firsts block.0)
+  goes_on X address = far_piece address
+
+-- Below, `codes` has the words of the snippet on each edge.
+
+-- the snippets of some edges, in order
+abbrev pub snippet_items : (ℕ → List ℕ) → List ℕ → List Item
+snippet_items codes edges = map it.Word (flat_map codes edges)
+
+module _ (text : Words) (graph : Graph) (codes : ℕ → List ℕ) where
+  -- ---- images of words
+
+  -- behind the last word of a block comes the snippet of the edge to the next word
+  abbrev pub rest_after : Node → ℕ → Instr → List Item
+  rest_after node word instr = snippet_items codes (left_by graph node word instr) ++ next_to text word
+
   abbrev pub image_by : Addr → Node → ℕ → Instr → List Item
-  image_by address node word (i.Branch cond annul disp22) = branch_image address node cond
+  image_by address node word (i.Branch cond annul disp22) = branch_image text graph address node cond
   image_by address node word (i.Call disp30) =
       call_piece address (node_number graph node) (record { 0 = way_out text graph node kinds.Call })
   image_by address node word (i.Jmpl rd rs1 op2) =
@@ -116,24 +124,27 @@ module _ (text : Words) (graph : Graph) (table : ℕ) (codes : ℕ → List ℕ)
       image_by (record { 0 = address_of text word }) (node_of graph.blocks (Some word)) word
       (decode_of (slice_index text.words word))
 
-  -- ---- ways along edges
+  -- ---- landings
 
-  -- where control goes at a node: to the image of its block's first word, and outside the text to the address itself
-  abbrev pub goes_on : Node → ℕ → List Item
-  goes_on (Block block) address = jump_to (slice_index graph.blocks.firsts block.0)
-  goes_on X address = far_piece address
+  -- at a landing the snippet of its block's landing edge runs, and control goes on to the word's image
+  abbrev pub landing : ℕ → List Item
+  landing word =
+      snippet_items codes (landing_at graph (node_of graph.blocks (Some word))) ++ jump_to word
+
+  -- ---- ways along edges
 
   -- along an edge, by its number: its snippet, and on
   abbrev pub goes_along : ℕ → Edge → List Item
   goes_along number edge =
-      snippet_items (number ∷ []) ++ goes_on edge.to (way_address text graph edge.from edge.kind)
+      snippet_items codes (number ∷ []) ++ goes_on text graph edge.to (way_address text graph edge.from edge.kind)
 
+module _ (text : Words) (graph : Graph) (table : ℕ) (codes : ℕ → List ℕ) where
   -- Behind the copy of a slot's word, and the snippet, a JMPL's target is looked up; along any other edge control goes on.
   abbrev pub past_slot : Addr → ℕ → ℕ → ℕ → Edge → List Item
   past_slot address node word number edge =
       if same_kind edge.kind kinds.Out
-      then out_piece address node word (snippet_items (number ∷ [])) (words_of (translator table 1 2))
-      else plain_piece address node word (goes_along number edge)
+      then out_piece address node word (snippet_items codes (number ∷ [])) (words_of (translator table 1 2))
+      else plain_piece address node word (goes_along text graph codes number edge)
 
   -- a transfer in a slot ends the run
   abbrev pub slot_copy : Addr → ℕ → ℕ → ℕ → Edge → List Item
@@ -143,7 +154,7 @@ module _ (text : Words) (graph : Graph) (table : ℕ) (codes : ℕ → List ℕ)
 
   -- A slot that is run is a visit at the block that the edge leaves. One behind the text is where the table begins.
   abbrev pub way_by : ℕ → Edge → Slot → List Item
-  way_by number edge slots.Nothing = goes_along number edge
+  way_by number edge slots.Nothing = goes_along text graph codes number edge
   way_by number edge (slots.Word slot) =
       slot_copy (record { 0 = address_of text slot.0 }) (node_number graph edge.from) (slice_index text.words slot.0)
       number edge
@@ -153,21 +164,17 @@ module _ (text : Words) (graph : Graph) (table : ℕ) (codes : ℕ → List ℕ)
   abbrev pub way_along : ℕ → Edge → List Item
   way_along number edge = if is_fall edge.kind then [] else way_by number edge edge.slot
 
-  -- ---- all pieces
-
   -- the ways along some edges, the first of which has this number
   abbrev pub ways_from : ℕ → List Edge → List (List Item)
   ways_from number [] = []
   ways_from number (edge ∷ edges) = way_along number edge ∷ ways_from (suc number) edges
 
-  -- at a landing the snippet of its block's landing edge runs, and control goes on to the word's image
-  abbrev pub landing : ℕ → List Item
-  landing word = snippet_items (landing_at graph (node_of graph.blocks (Some word))) ++ jump_to word
+  -- ---- all pieces
 
   unfoldable pub piece_list : List (List Item)
   piece_list =
-      map image (below (length text.words)) ++ ways_from 0 (own_edges graph)
-      ++ map landing (below (length text.words)) ++ foreign_piece ∷ []
+      map (image text graph codes) (below (length text.words)) ++ ways_from 0 (own_edges graph)
+      ++ map (landing text graph codes) (below (length text.words)) ++ foreign_piece ∷ []
 
 -- the pieces by what they are for: a word has one image, whatever the node
 abbrev pub pieces_in : Words → Graph → ℕ → (ℕ → List ℕ) → Pieces

@@ -1,5 +1,5 @@
 -- What the parts of making pieces make, by the numbers that they are given.
-use Rattle.std.specs.Prelude.{◌≡◌, ℕ, ◌+◌, ◌==◌, if◌then◌else◌, nat_lt, slice_index, List, [], ◌∷◌, ◌++◌, length, map}
+use Rattle.std.specs.Prelude.{◌≡◌, ℕ, ◌+◌, ◌%◌, ◌^◌, ◌≤◌, ◌==◌, if◌then◌else◌, nat_lt, slice_index, List, [], ◌∷◌, ◌++◌, length, map}
 use Rattle.std.specs.List.{flat_map}
 use Rattle.eel_base.specs.CodeText.{Words, address_of}
 use Rattle.eel_base.specs.declared.numbers.Addr.{Addr}
@@ -9,6 +9,7 @@ use Rattle.v8_decode.specs.declared.Instr.TheVariants as i
 use Rattle.v8_decode.specs.Words.{decode_of}
 use Rattle.cfg_blocks.specs.Ends.{always, never}
 use Rattle.cfg_blocks.specs.Blocks.{Blocks, below, blocks_of}
+use Rattle.cfg_normal.specs.declared.Edge.{Edge}
 use Rattle.cfg_normal.specs.Graph.{Graph, edges_of, graph_of}
 use Rattle.layout.specs.declared.items.Item.{Item}
 use Rattle.layout.specs.declared.items.Item.TheVariants as it
@@ -16,13 +17,27 @@ use Rattle.jump_code.specs.FreeRegister.{free_register}
 use Rattle.jump_code.specs.Pieces.{call_piece, far_piece, jump_piece}
 use Rattle.image_code.specs.declared.parts.Next.{Next}
 use Rattle.image_code.specs.declared.parts.Next.TheVariants as next
+use Rattle.snippets.specs.declared.snippet.Op.{Op}
+use Rattle.snippets.specs.Cells.{named_by}
+use Rattle.snippet_code.specs.Runs.{IsCellOf, cell_at}
+use Rattle.snippet_code.specs.Code.{code_of_snippet}
+use Rattle.image_code.specs.Simulates.{snippet_on}
 use Rattle.image_code.specs.Cases.{plain_piece, branch_piece}
-use Rattle.image_code.specs.Made.{jump_to, nop_word, way_piece}
+use Rattle.image_code.specs.Made.{jump_to, next_to, nop_word, slot_copy, way_along, way_piece}
 
 -- it is the graph of the text, whatever words lead besides
 pub record IsGraphOf (text : Words) (graph : Graph) : Type 0 where
   pub given : List ℕ
   pub is : graph ≡ graph_of (blocks_of text given)
+
+-- the words of the snippet on an edge, on the cells at `base`: as `expand` makes them where nothing is dead
+abbrev pub codes_of : ℕ → List (List Op) → ℕ → List ℕ
+codes_of base snips edge = code_of_snippet base [] (named_by (snippet_on snips edge)) (snippet_on snips edge)
+
+-- the cells that the snippets name end at or below the system's half, and the first one is aligned
+pub record HaveCells (base : ℕ) (snips : List (List Op)) : Type 0 where
+  pub aligned : base % 4 ≡ 0
+  pub low : (edge cell : ℕ) → IsCellOf (snippet_on snips edge) cell → cell_at base cell + 4 ≤ 2 ^ 31
 
 -- the way to where control goes on
 abbrev pub items_of : Next → List Item
@@ -68,12 +83,23 @@ image_from address node word first rest _ = plain_piece address node word rest
 
 -- how control goes on after a word that is no transfer, with a snippet's words before
 abbrev pub rest_of : Words → ℕ → List ℕ → List Item
-rest_of text word code =
-    map it.Word code
-    ++ (if nat_lt (word + 1) (length text.words) then [] else far_piece (address_of text (length text.words)))
+rest_of text word code = map it.Word code ++ next_to text word
 
 -- the image of a word of the text, behind which a snippet's words may stand
 abbrev pub image_in : Words → ℕ → ℕ → PieceNo → List ℕ → List Item
 image_in text word node first code =
     image_from (record { 0 = address_of text word }) node (slice_index text.words word) first (rest_of text word code)
     (decode_of (slice_index text.words word))
+
+-- the way along an edge whose snippet has these words
+abbrev pub way_with : Words → Graph → ℕ → List ℕ → Edge → List Item
+way_with text graph table code edge = way_along text graph table (λ number. code) 0 edge
+
+-- and the copy of the slot's word on it
+abbrev pub copy_with : Words → Graph → ℕ → List ℕ → Addr → ℕ → ℕ → Edge → List Item
+copy_with text graph table code address node word edge =
+    slot_copy text graph table (λ number. code) address node word 0 edge
+
+-- a landing at a word, where the snippet has these words
+abbrev pub landing_with : List ℕ → ℕ → List Item
+landing_with code word = map it.Word code ++ jump_to word

@@ -41,28 +41,32 @@ pub struct PieceList {
 
 /// Makes an image of each word, which falls through to the next word's, the way along each edge but for the landings,
 /// a landing at each word, and the foreign piece. A transfer decides first, and its slot is run on the way along its
-/// edge.
+/// edge. The snippet of an edge is run once the slot was.
 pub fn pieces(
     alloc: Global,
     text: &Text,
     graph: &FlowGraph,
     entry: WordNo,
+    snips: &[Snippet],
     frame: Frame,
 ) -> Result<PieceList, NoMemory>
     requires graph { IsGraphOf text.now graph.now }
     requires entry { entry.0 < length text.now.words }
+    requires snips { length snips.now ≡ length graph.now.edges }
+    requires cells { HaveCells frame.cells.0 snips.now }
     requires table { frame.table.0 % 4096 ≡ 0 }
     requires low { frame.table.0 < 2 ^ 31 }
-    ensures list { IfOk result (λ p. p.list.items ≡ piece_list text.now graph.now frame.table.0) }
+    ensures list { IfOk result (λ p. p.list.items
+        ≡ piece_list text.now graph.now frame.table.0 (codes_of frame.cells.0 snips.now)) }
     ensures landing { IfOk result (λ p. map (λ (n : PieceNo). n.0) p.landing.items
         ≡ map (landing_number text.now graph.now) (below (length text.now.words))) }
     ensures entry { IfOk result (λ p. p.entry.0 ≡ entry.0) }
     ensures foreign { IfOk result (λ p. p.foreign.0 ≡ foreign_number_of text.now graph.now) }
 {
     let mut list = Vec::new(alloc);
-    push_images(alloc, &mut list, text, graph)?;
-    push_ways(alloc, &mut list, text, graph, frame)?;
-    push_landings(alloc, &mut list, text)?;
+    push_images(alloc, &mut list, text, graph, snips, frame.cells)?;
+    push_ways(alloc, &mut list, text, graph, snips, frame)?;
+    push_landings(alloc, &mut list, text, graph, snips, frame.cells)?;
     list.push(foreign(alloc)?)?;
     let landing = landings(alloc, text, graph)?;
     Ok(PieceList {
@@ -71,6 +75,21 @@ pub fn pieces(
         entry: PieceNo(entry.0),
         foreign: foreign_number(text, graph),
     })
+}
+
+// The code of the snippet on an edge, where all registers may be alive.
+fn code_on(
+    alloc: Global,
+    snips: &[Snippet],
+    cells: Addr,
+    edge: usize,
+) -> Result<Vec<u32>, NoMemory>
+    requires edge { edge < length snips.now }
+    requires cells { HaveCells cells.0 snips.now }
+    ensures { IfOk result (λ code. code.items ≡ codes_of cells.0 snips.now edge) }
+{
+    let snippet = &snips[edge];
+    expand(alloc, snippet, cells, RegSet::empty(), snippet.names())
 }
 
 // The edges but for the landings, which come last, one at each block.
@@ -92,18 +111,22 @@ fn push_images(
     list: &mut Vec<Piece>,
     text: &Text,
     graph: &FlowGraph,
+    snips: &[Snippet],
+    cells: Addr,
 ) -> Result<(), NoMemory>
     requires graph { IsGraphOf text.now graph.now }
     requires empty { list.now.items ≡ [] }
+    requires snips { length snips.now ≡ length graph.now.edges }
+    requires cells { HaveCells cells.0 snips.now }
     ensures text { IsText text.now }
-    ensures images { OnOk result ((table : ℕ)
-        → list.new.items ≡ map (image_of text.now graph.now table) (below (length text.now.words))) }
+    ensures images { OnOk result (list.new.items
+        ≡ map (image_of text.now graph.now (codes_of cells.0 snips.now)) (below (length text.now.words))) }
 {
-    let mut way = text.len();
+    let mut edge = 0;
     for block in 0..graph.count() {
         let block = BlockNo(block);
-        push_block(alloc, list, text, graph, block, PieceNo(way))?;
-        way += edges_out(text, graph, block);
+        push_block(alloc, list, text, graph, snips, cells, block, edge)?;
+        edge += edges_out(text, graph, block);
     }
     Ok(())
 }
@@ -127,54 +150,67 @@ fn edges_out(text: &Text, graph: &FlowGraph, block: BlockNo) -> u32
     edges_after(text.word(last_word(graph, block)))
 }
 
-// Adds the images of a block's words.
+// Adds the images of a block's words. The first edge that leaves the block has this number: where the last word is no
+// transfer, it is the one to the next word, and its snippet is run behind that.
 fn push_block(
     alloc: Global,
     list: &mut Vec<Piece>,
     text: &Text,
     graph: &FlowGraph,
+    snips: &[Snippet],
+    cells: Addr,
     block: BlockNo,
-    way: PieceNo,
+    edge: u32,
 ) -> Result<(), NoMemory>
     requires graph { IsGraphOf text.now graph.now }
+    requires snips { length snips.now ≡ length graph.now.edges }
+    requires cells { HaveCells cells.0 snips.now }
     requires block { block.0 < length graph.now.blocks.firsts }
-    requires way { way.0 ≡ first_way_of text.now graph.now block.0 }
-    requires before { (table : ℕ) → list.now.items
-        ≡ map (image_of text.now graph.now table) (below (slice_index graph.now.blocks.firsts block.0)) }
-    ensures { OnOk result ((table : ℕ) → list.new.items ≡ map (image_of text.now graph.now table)
+    requires edge { edge ≡ edges_before graph.now.blocks block.0 }
+    requires before { list.now.items
+        ≡ map (image_of text.now graph.now (codes_of cells.0 snips.now))
+        (below (slice_index graph.now.blocks.firsts block.0)) }
+    ensures { OnOk result (list.new.items
+        ≡ map (image_of text.now graph.now (codes_of cells.0 snips.now))
         (below (last_word_of graph.now.blocks.firsts graph.now.blocks.words block.0 + 1))) }
 {
-    let first = graph.first(block).0;
-    for word in first..first + graph.words(block) {
-        list.push(image(alloc, text, WordNo(word), block, way)?)?;
+    let way = PieceNo(text.len() + edge);
+    let last = last_word(graph, block);
+    for word in graph.first(block).0..last.0 {
+        list.push(image(alloc, text, WordNo(word), block, way, &[])?)?;
     }
+    let code = code_on(alloc, snips, cells, edge as usize)?;
+    list.push(image(alloc, text, last, block, way, &code)?)?;
     Ok(())
 }
 
-// The image of a word of a block, whose edges have their ways from the piece `way` on.
+// The image of a word of a block, whose edges have their ways from the piece `way` on. Where it is no transfer, the code
+// of a snippet comes behind it.
 fn image(
     alloc: Global,
     text: &Text,
     word: WordNo,
     block: BlockNo,
     way: PieceNo,
+    code: &[u32],
 ) -> Result<Piece, NoMemory>
     requires word { word.0 < length text.now.words }
     requires way { way.0 + 1 < 2 ^ 32 }
-    ensures { IfOk result (λ p. p ≡ image_in text.now word.0 block.0 way) }
+    ensures { IfOk result (λ p. p ≡ image_in text.now word.0 block.0 way code.now) }
 {
     let visit = Visit {
         address: text.address(word),
         node: block.0,
     };
-    parts::image(alloc, visit, text.word(word), way, next_after(text, word))
+    let next = next_after(text, word);
+    parts::image(alloc, visit, text.word(word), way, code, next)
 }
 
 // Where control goes on after a word that is no transfer: at the image of the next word, or behind the text's last one
 // out of the text.
 fn next_after(text: &Text, word: WordNo) -> Next
     requires word { word.0 < length text.now.words }
-    ensures { items_of result ≡ rest_of text.now word.0 }
+    ensures { items_of result ≡ next_to_of text.now word.0 }
 {
     let words = text.len();
     if word.0 + 1 < words {
@@ -192,44 +228,49 @@ fn push_ways(
     list: &mut Vec<Piece>,
     text: &Text,
     graph: &FlowGraph,
+    snips: &[Snippet],
     frame: Frame,
 ) -> Result<(), NoMemory>
     requires text { IsText text.now }
     requires graph { IsGraphOf text.now graph.now }
+    requires snips { length snips.now ≡ length graph.now.edges }
+    requires cells { HaveCells frame.cells.0 snips.now }
     requires table { frame.table.0 % 4096 ≡ 0 }
-    ensures { OnOk result (list.new.items
-        ≡ list.old.items ++ map (way_along text.now graph.now frame.table.0) (own_edges_of graph.now)) }
+    ensures { OnOk result (list.new.items ≡ list.old.items
+        ++ ways_from text.now graph.now frame.table.0 (codes_of frame.cells.0 snips.now) 0 (own_edges_of graph.now)) }
 {
-    for edge in own_edges(graph) {
-        list.push(way(alloc, text, graph, frame, edge)?)?;
+    for (number, edge) in own_edges(graph).iter().enumerate() {
+        let code = code_on(alloc, snips, frame.cells, number)?;
+        list.push(way(alloc, text, graph, frame.table, edge, &code)?)?;
     }
     Ok(())
 }
 
-// The way along an edge. A slot behind the text has its place where the table begins.
+// The way along an edge, with the code of its snippet. A slot behind the text has its place where the table begins.
 fn way(
     alloc: Global,
     text: &Text,
     graph: &FlowGraph,
-    frame: Frame,
+    table: Addr,
     edge: &Edge,
+    code: &[u32],
 ) -> Result<Piece, NoMemory>
     requires text { IsText text.now }
     requires graph { IsGraphOf text.now graph.now }
-    requires table { frame.table.0 % 4096 ≡ 0 }
+    requires table { table.0 % 4096 ≡ 0 }
     requires edge { IsEdgeIn graph.now.blocks edge.now }
-    ensures { IfOk result (λ p. p ≡ way_along text.now graph.now frame.table.0 edge.now) }
+    ensures { IfOk result (λ p. p ≡ way_with text.now graph.now table.0 code.now edge.now) }
 {
     match (edge.kind, edge.slot) {
-        (EdgeKind::Fall, _) => way_to(alloc, Next::Behind),
-        (_, Slot::Nothing) => way_to(alloc, next_along(text, graph, edge)),
-        (_, Slot::Off) => way_to(alloc, Next::Far(frame.table)),
+        (EdgeKind::Fall, _) => way_to(alloc, &[], Next::Behind),
+        (_, Slot::Nothing) => way_to(alloc, code, next_along(text, graph, edge)),
+        (_, Slot::Off) => way_to(alloc, &[], Next::Far(table)),
         (_, Slot::Word(slot)) => {
             let visit = Visit {
                 address: text.address(slot),
                 node: node_number(graph, edge.from),
             };
-            slot_copy(alloc, text, graph, frame, edge, visit, text.word(slot))
+            slot_copy(alloc, text, graph, table, edge, code, visit, text.word(slot))
         }
     }
 }
@@ -239,24 +280,25 @@ fn slot_copy(
     alloc: Global,
     text: &Text,
     graph: &FlowGraph,
-    frame: Frame,
+    table: Addr,
     edge: &Edge,
+    code: &[u32],
     visit: Visit,
     word: u32,
 ) -> Result<Piece, NoMemory>
     requires text { IsText text.now }
     requires graph { IsGraphOf text.now graph.now }
-    requires table { frame.table.0 % 4096 ≡ 0 }
+    requires table { table.0 % 4096 ≡ 0 }
     requires edge { IsEdgeIn graph.now.blocks edge.now }
     ensures { IfOk result (λ p. p
-        ≡ slot_copy_of text.now graph.now frame.table.0 visit.address visit.node word edge.now) }
+        ≡ copy_with text.now graph.now table.0 code.now visit.address visit.node word edge.now) }
 {
     if is_transfer(word) {
         return couple(alloc, visit);
     }
     match edge.kind {
-        EdgeKind::Out => out(alloc, visit, word, frame.table),
-        _ => plain(alloc, visit, word, next_along(text, graph, edge)),
+        EdgeKind::Out => out(alloc, visit, word, code, table),
+        _ => plain(alloc, visit, word, code, next_along(text, graph, edge)),
     }
 }
 
@@ -265,7 +307,8 @@ fn next_along(text: &Text, graph: &FlowGraph, edge: &Edge) -> Next
     requires text { IsText text.now }
     requires graph { IsGraphOf text.now graph.now }
     requires edge { IsEdgeIn graph.now.blocks edge.now }
-    ensures { (table : ℕ) → items_of result ≡ goes_along text.now graph.now table edge.now }
+    ensures { items_of result ≡ goes_on text.now graph.now edge.now.to
+        (way_address text.now graph.now edge.now.from edge.now.kind) }
 {
     match edge.to {
         Node::Block(block) => Next::Piece(PieceNo(graph.first(block).0)),
@@ -333,11 +376,43 @@ fn node_number(graph: &FlowGraph, node: Node) -> u32
 // ---- landings
 
 // Adds the landings at the words.
-fn push_landings(alloc: Global, list: &mut Vec<Piece>, text: &Text) -> Result<(), NoMemory>
-    ensures { OnOk result (list.new.items ≡ list.old.items ++ map jump_to (below (length text.now.words))) }
+fn push_landings(
+    alloc: Global,
+    list: &mut Vec<Piece>,
+    text: &Text,
+    graph: &FlowGraph,
+    snips: &[Snippet],
+    cells: Addr,
+) -> Result<(), NoMemory>
+    requires graph { IsGraphOf text.now graph.now }
+    requires snips { length snips.now ≡ length graph.now.edges }
+    requires cells { HaveCells cells.0 snips.now }
+    ensures { OnOk result (list.new.items ≡ list.old.items
+        ++ map (landing_of text.now graph.now (codes_of cells.0 snips.now)) (below (length text.now.words))) }
 {
-    for word in 0..text.len() {
-        list.push(way_to(alloc, Next::Piece(PieceNo(word)))?)?;
+    let first = own_edges(graph).len();
+    for block in 0..graph.count() {
+        let code = code_on(alloc, snips, cells, first + block as usize)?;
+        push_block_landings(alloc, list, graph, BlockNo(block), &code)?;
+    }
+    Ok(())
+}
+
+// Adds the landings at a block's words, where the snippet of the edge to the block has this code.
+fn push_block_landings(
+    alloc: Global,
+    list: &mut Vec<Piece>,
+    graph: &FlowGraph,
+    block: BlockNo,
+    code: &[u32],
+) -> Result<(), NoMemory>
+    requires block { block.0 < length graph.now.blocks.firsts }
+    ensures { OnOk result (list.new.items ≡ list.old.items
+        ++ map (landing_with code.now) (words_of_block graph.now.blocks block.0)) }
+{
+    let first = graph.first(block).0;
+    for word in first..first + graph.words(block) {
+        list.push(way_to(alloc, code, Next::Piece(PieceNo(word)))?)?;
     }
     Ok(())
 }

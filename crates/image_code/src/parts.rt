@@ -94,11 +94,19 @@ fn push_link(items: &mut Vec<Item>, rd: Reg, address: Addr) -> Result<(), NoMemo
 
 // ---- pieces
 
-/// A word in its Mark, and then the way to where control goes on.
-pub fn plain(alloc: Global, visit: Visit, word: u32, next: Next) -> Result<Piece, NoMemory>
-    ensures { IfOk result (λ p. p ≡ plain_piece visit.address visit.node word (items_of next)) }
+/// A word in its Mark, the code of a snippet, and then the way to where control goes on.
+pub fn plain(
+    alloc: Global,
+    visit: Visit,
+    word: u32,
+    code: &[u32],
+    next: Next,
+) -> Result<Piece, NoMemory>
+    ensures { IfOk result (λ p. p
+        ≡ plain_piece visit.address visit.node word (map it.Word code.now ++ items_of next)) }
 {
     let mut items = vec![in alloc; visit.mark(), Item::Word(word), Item::EndMark]?;
+    push_words(&mut items, code)?;
     push_next(&mut items, next)?;
     Ok(Piece { items })
 }
@@ -116,11 +124,12 @@ pub fn couple(alloc: Global, visit: Visit) -> Result<Piece, NoMemory>
     Ok(Piece { items })
 }
 
-/// The way to where control goes on, alone.
-pub fn way_to(alloc: Global, next: Next) -> Result<Piece, NoMemory>
-    ensures { IfOk result (λ p. p ≡ items_of next) }
+/// The code of a snippet, and then the way to where control goes on.
+pub fn way_to(alloc: Global, code: &[u32], next: Next) -> Result<Piece, NoMemory>
+    ensures { IfOk result (λ p. p ≡ map it.Word code.now ++ items_of next) }
 {
     let mut items = Vec::new(alloc);
+    push_words(&mut items, code)?;
     push_next(&mut items, next)?;
     Ok(Piece { items })
 }
@@ -157,7 +166,7 @@ fn branch(alloc: Global, visit: Visit, cond: Cond, first: PieceNo) -> Result<Pie
     ensures { IfOk result (λ p. p ≡ branch_from visit.address visit.node cond first.0) }
 {
     match cond.number() {
-        ALWAYS | NEVER => plain(alloc, visit, NOP, Next::Piece(first)),
+        ALWAYS | NEVER => plain(alloc, visit, NOP, &[], Next::Piece(first)),
         _ => turn(alloc, visit, cond, first, PieceNo(first.0 + 1)),
     }
 }
@@ -196,22 +205,24 @@ fn jump(
 }
 
 /// The image of a word in a block whose edges have their ways from the piece `first` on. Where it is no transfer,
-/// control goes on at `next`.
+/// control goes on at `next`, behind the code of a snippet.
 pub fn image(
     alloc: Global,
     visit: Visit,
     word: u32,
     first: PieceNo,
+    code: &[u32],
     next: Next,
 ) -> Result<Piece, NoMemory>
     requires low { first.0 + 1 < 2 ^ 32 }
-    ensures { IfOk result (λ p. p ≡ image_from visit.address visit.node word first (items_of next) (decode_of word)) }
+    ensures { IfOk result (λ p. p ≡ image_from visit.address visit.node word first
+        (map it.Word code.now ++ items_of next) (decode_of word)) }
 {
     match decode(word) {
         Instr::Branch { cond, .. } => branch(alloc, visit, cond, first),
         Instr::Call { .. } => call(alloc, visit, first),
         Instr::Jmpl { rd, rs1, op2 } => jump(alloc, visit, rd, rs1, op2, first),
-        _ => plain(alloc, visit, word, next),
+        _ => plain(alloc, visit, word, code, next),
     }
 }
 
@@ -246,13 +257,20 @@ pub fn is_transfer(word: u32) -> bool
     )
 }
 
-/// The copy of a JMPL's slot, and behind it the look-up of the target.
-pub fn out(alloc: Global, visit: Visit, word: u32, table: Addr) -> Result<Piece, NoMemory>
+/// The copy of a JMPL's slot, the code of a snippet, and behind it the look-up of the target.
+pub fn out(
+    alloc: Global,
+    visit: Visit,
+    word: u32,
+    code: &[u32],
+    table: Addr,
+) -> Result<Piece, NoMemory>
     requires table { table.0 % 4096 ≡ 0 }
     ensures { IfOk result (λ p. p
-        ≡ out_piece visit.address visit.node word [] (words_of (translator table.0 1 2))) }
+        ≡ out_piece visit.address visit.node word (map it.Word code.now) (words_of (translator table.0 1 2))) }
 {
     let mut items = vec![in alloc; visit.mark(), Item::Word(word), Item::EndMark]?;
+    push_words(&mut items, code)?;
     push_words(&mut items, &look_up_code(table))?;
     Ok(Piece { items })
 }

@@ -1,2 +1,5 @@
+pub mod Cells
+pub mod Words
 pub mod Counted
 pub mod Runs
+pub mod Laws

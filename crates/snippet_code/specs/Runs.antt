@@ -1,5 +1,5 @@
 -- What it is for words to do just a snippet.
-use Rattle.std.specs.Prelude.{◌≡◌, ℕ, ◌+◌, ◌*◌, ◌^◌, ◌<◌, ◌≤◌, ◌⊎◌, Bool, true, false, List, [], ◌∷◌, length, map, None}
+use Rattle.std.specs.Prelude.{◌≡◌, ℕ, ◌+◌, ◌-◌, ◌*◌, ◌^◌, ◌<◌, ◌≤◌, ◌⊎◌, Bool, true, false, List, [], ◌∷◌, length, map, None}
 use Rattle.std.specs.List.{range_with_len}
 use Rattle.v8_alu.specs.Numbers.{wrapped}
 use Rattle.v8_decode.specs.declared.Part.{Part}
@@ -17,26 +17,8 @@ use Rattle.code_runs.specs.TwoRegisters.{IsBetween}
 use Rattle.snippets.specs.declared.snippet.Op.{Op}
 use Rattle.snippets.specs.Cells.{update}
 use Rattle.snippets.specs.Ops.{cell_of}
+pub use Rattle.snippet_code.specs.Cells.{cell_at, words_at, IsCellOf, kept_word}
 use Rattle.snippet_code.specs.Counted.{count_stores}
-
--- ---- cells in memory
-
--- the address of a cell, where the first one stands at `base`
-abbrev pub cell_at : ℕ → ℕ → ℕ
-cell_at base cell = base + 4 * cell
-
--- so many words of memory from an address on
-abbrev pub words_at : ℕ → ℕ → Memory → List ℕ
-words_at base count m = map (λ k. memory_word m (cell_at base k)) (range_with_len 0 count)
-
--- a cell on which an operation works
-abbrev pub IsCellOf : List Op → ℕ → Type 0
-IsCellOf [] k = ⊥
-IsCellOf (op ∷ ops) k = (k ≡ cell_of op) ⊎ IsCellOf ops k
-
--- The words of the editor's page in which registers are kept meanwhile: five from word 2 on.
-abbrev pub kept_word : ℕ → ℕ
-kept_word n = page_word (n + 2)
 
 -- where a snippet's words may store: in its cells, and in those words of the page
 abbrev pub MayStore : ℕ → List Op → ℕ → Type 0

@@ -1,2 +1,10 @@
-//! The code of snippets.
+//! The code of snippets: words that do just a snippet's operations on cells in memory, in registers that are dead or
+//! are put back as they were.
 #![tactic(auto)]
+
+ghost use Rattle.snippet_code.specs.Laws.{CostsHold};
+
+/// The words of a snippet are no more than it costs, and at most 22 for each operation.
+pub fn costs_hold()
+    ensures { CostsHold }
+{}

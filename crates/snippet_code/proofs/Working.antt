@@ -1,0 +1,140 @@
+-- What is kept of code that works in a few picked registers and in some words of memory, where branches only lead
+-- forward.
+use Rattle.std.proofs.Common.{◌≡◌, ◌≢◌, ℕ, zero, suc, ◌+◌, ◌*◌, ◌-◌, ◌%◌, ◌^◌, ◌<◌, ◌≤◌, ◌==◌, Bool, false, List, [], ◌∷◌, length, None}
+use Rattle.std.specs.Prelude.{slice_index, if◌then◌else◌}
+use Rattle.v8_alu.specs.declared.Codes.{Codes}
+use Rattle.v8_memory.specs.Regions.{code_of}
+use Rattle.v8_windows.specs.Registers.{place_of}
+use Rattle.v8_step.specs.declared.Slot.TheVariants.{NoSlot}
+use Rattle.v8_step.specs.State.{State, register_of}
+use Rattle.v8_step.specs.Valid.{IsValid}
+use Rattle.code_runs.specs.Leads.{Leads, IsSilent}
+use Rattle.code_runs.specs.StoredWords.{memory_word, Stores, CanStore}
+use Rattle.code_runs.specs.Straight.{IsReady}
+use Rattle.code_runs.specs.TwoRegisters.{IsBetween}
+use Rattle.snippets.specs.declared.snippet.Op.{Op}
+use Rattle.snippets.specs.declared.snippet.Op.TheVariants.{Add, Put, Keep, Top}
+use Rattle.snippets.specs.Cells.{value_after}
+use Rattle.snippets.specs.Grammar.{IsOp}
+use Rattle.snippets.specs.Ops.{cell_of}
+use Rattle.snippet_code.specs.Cells.{cell_at, kept_word}
+use Rattle.snippet_code.specs.Counted.{count_stores}
+use Rattle.snippet_code.specs.Words.{op_registers}
+
+-- ---- blocks
+
+-- a function with another value at one place
+abbrev pub put : ℕ → ℕ → (ℕ → ℕ) → ℕ → ℕ
+put k v f j = if j == k then v else f j
+
+-- `count` words of code that begin where s stands, `want` registers r 0, r 1, .., and words that may be stored
+pub record HasBlock (s : State) (count : ℕ) (May : ℕ → Type 0) (r : ℕ → ℕ) (want : ℕ) : Type 0 where
+  pub valid : IsValid s
+  pub ready : IsReady s
+  pub slot : s.slot ≡ NoSlot
+  pub low : s.pc + 4 * count < 2 ^ 32 - 4
+  pub some : (k : ℕ) → k < want → 0 < r k
+  pub below : (k : ℕ) → k < want → r k < 32
+  pub differ : (j k : ℕ) → j < want → k < want → j ≢ k → r j ≢ r k
+  pub aligned : (a : ℕ) → May a → a % 4 ≡ 0
+  pub can : (a : ℕ) → May a → CanStore s.memory a
+
+-- u is s but for the picked registers, which hold f, the codes, and these words of memory, which hold g
+pub record IsAlike (s : State) (May : ℕ → Type 0) (r : ℕ → ℕ) (want : ℕ) (g : ℕ → ℕ) (codes : Codes) (f : ℕ → ℕ)
+    (u : State) : Type 0 where
+  pub live : u.ending ≡ None
+  pub window : u.window ≡ s.window
+  pub valid : u.valid ≡ s.valid
+  pub input : u.input ≡ s.input
+  pub y_register : u.y ≡ s.y
+  pub codes_are : u.codes ≡ codes
+  pub registers : length u.registers ≡ 136
+  pub picked : (k : ℕ) → k < want → register_of u (r k) ≡ f k
+  pub others : (p : ℕ) → ((k : ℕ) → k < want → p ≢ place_of s.window (r k))
+      → slice_index u.registers p ≡ slice_index s.registers p
+  pub can : (a : ℕ) → May a → CanStore u.memory a
+  pub words : (a : ℕ) → May a → memory_word u.memory a ≡ g a
+  pub range : (a : ℕ) → May a → g a < 2 ^ 32
+  pub stores : Stores May s.memory u.memory
+  pub code : code_of u.memory ≡ code_of s.memory
+
+-- Where n words lead, in no more steps than words, of which at most t are stores that are counted.
+pub record Reaches (s : State) (count : ℕ) (May : ℕ → Type 0) (counted : ℕ → Bool) (r : ℕ → ℕ) (want n t : ℕ)
+    (g : ℕ → ℕ) (codes : Codes) (f : ℕ → ℕ) : Type 0 where
+  pub after : State
+  pub steps : ℕ
+  pub few : steps ≤ n
+  pub path : Leads (IsBetween s count May) s after steps
+  pub silent : IsSilent s steps
+  pub stored : count_stores counted s steps ≤ t
+  pub pc : after.pc ≡ s.pc + 4 * n
+  pub npc : after.npc ≡ s.pc + 4 * n + 4
+  pub alike : IsAlike s May r want g codes f after
+
+-- and the machine is in no slot there
+pub record Works (s : State) (count : ℕ) (May : ℕ → Type 0) (counted : ℕ → Bool) (r : ℕ → ℕ) (want n t : ℕ)
+    (g : ℕ → ℕ) (codes : Codes) (f : ℕ → ℕ) : Type 0 where
+  pub reach : Reaches s count May counted r want n t g codes f
+  pub slot : reach.after.slot ≡ NoSlot
+
+-- Works, with some values in the picked registers, and with the codes as they were unless they are dead
+pub record Does (s : State) (count : ℕ) (May : ℕ → Type 0) (counted : ℕ → Bool) (r : ℕ → ℕ) (want : ℕ) (d : Bool)
+    (n t : ℕ) (g : ℕ → ℕ) : Type 0 where
+  pub codes : Codes
+  pub picked : ℕ → ℕ
+  pub works : Works s count May counted r want n t g codes picked
+  pub kept : d ≡ false → codes ≡ s.codes
+
+-- ---- operations
+
+-- Words after an operation, where `at` gives the address of a cell.
+abbrev pub update_one : (ℕ → ℕ) → (ℕ → ℕ) → Op → (ℕ → ℕ) → ℕ → ℕ
+update_one at regs op g = put (at (cell_of op)) (value_after regs op (g (at (cell_of op)))) g
+
+abbrev pub update_all : (ℕ → ℕ) → (ℕ → ℕ) → List Op → (ℕ → ℕ) → ℕ → ℕ
+update_all at regs [] g = g
+update_all at regs (op ∷ rest) g = update_all at regs rest (update_one at regs op g)
+
+-- the register that it reads, if it reads one
+abbrev pub IsRead : Op → ℕ → Type 0
+IsRead (Keep cell reg) q = q ≡ reg
+IsRead (Top cell reg) q = q ≡ reg
+IsRead _ q = ⊥
+
+-- what it needs: its cell is a word that may be stored and isn't counted, and its register isn't picked
+pub record IsFit (May : ℕ → Type 0) (counted : ℕ → Bool) (r : ℕ → ℕ) (want base : ℕ) (d : Bool) (op : Op)
+    : Type 0 where
+  pub cell : May (cell_at base (cell_of op))
+  pub free : counted (cell_at base (cell_of op)) ≡ false
+  pub below : cell_at base (cell_of op) + 4 ≤ 2 ^ 31
+  pub unpicked : (q k : ℕ) → IsRead op q → k < want → q ≢ r k
+  pub enough : op_registers d op ≤ want
+  pub numbers : IsOp op
+
+abbrev pub AreFit : (May : ℕ → Type 0) (counted : ℕ → Bool) (r : ℕ → ℕ) (want base : ℕ) (d : Bool) (ops : List Op)
+    → Type 0
+AreFit May counted r want base d [] = Unit {0}
+AreFit May counted r want base d (op ∷ rest) =
+    IsFit May counted r want base d op × AreFit May counted r want base d rest
+
+-- ---- what is spilled
+
+-- these registers are the picked ones from number k on
+abbrev pub AreFrom : (ℕ → ℕ) → ℕ → ℕ → List ℕ → Type 0
+AreFrom r want k [] = Unit {0}
+AreFrom r want k (q ∷ qs) = (k < want) × (q ≡ r k) × AreFrom r want (suc k) qs
+
+-- their words of the page may be stored
+abbrev pub HavePage : (ℕ → Type 0) → ℕ → List ℕ → Type 0
+HavePage May m [] = Unit {0}
+HavePage May m (q ∷ qs) = (m < 5) × May (kept_word m) × HavePage May (suc m) qs
+
+-- words after they were saved
+abbrev pub saved : (ℕ → ℕ) → ℕ → List ℕ → (ℕ → ℕ) → ℕ → ℕ
+saved regs m [] g = g
+saved regs m (q ∷ qs) g = saved regs (suc m) qs (put (kept_word m) (regs q) g)
+
+-- they are saved there
+abbrev pub AreSaved : (ℕ → ℕ) → ℕ → List ℕ → (ℕ → ℕ) → Type 0
+AreSaved regs m [] g = Unit {0}
+AreSaved regs m (q ∷ qs) g = (g (kept_word m) ≡ regs q) × AreSaved regs (suc m) qs g
