@@ -67,7 +67,7 @@ module _ (g : Setting) (l : Pieces) (base : ℕ) (p : Placement) (place : ℕ �
       short = let o = c.original in let low = c.low in omega arith
 
   steps : (edges : List ℕ)
-      → LeadsTo l p c.way (visited_at g l p f (node_after (graph_in g) node edges) (point_of (called x c.disp t)))
+      → LeadsTo l p c.way edges (visited_at g l p f (node_after (graph_in g) node edges) (point_of (called x c.disp t)))
       → IsNoJumpsSlot g (called x c.disp t)
       → StepsOn g (Here g l base p f) Everything edges node x t (called x c.disp t)
   steps edges leads never =
@@ -91,6 +91,6 @@ calls_step g l base p place f node x t h here c =
     let is = does_is g l base p place f h node x t here c in
     subst (λ (z : State). StepsOn g (Here g l base p f) Everything (gone_at g node x z) node x t z) (sym is)
     (steps g l base p place f h node x t here c (gone_at g node x (called x c.disp t))
-    (subst (λ (z : State). LeadsTo l p c.way
+    (subst (λ (z : State). LeadsTo l p c.way (gone_at g node x z)
     (visited_at g l p f (node_after (graph_in g) node (gone_at g node x z)) (point_of z))) is c.leads)
     (subst (IsNoJumpsSlot g) is c.never))

@@ -29,7 +29,7 @@ use Rattle.image_code.specs.Images.{Pieces, Frame, Here, IsPlaced}
 use Rattle.image_code.specs.Cases.{Everything}
 use Rattle.image_code.specs.Couple.{couple_piece, IsCouple, CouplesStep}
 use Rattle.image_code.proofs.Memories.{fetch_is}
-use Rattle.image_code.proofs.Cases.{on_range, node_is, cells_same, outside_refl, no_puts}
+use Rattle.image_code.proofs.Cases.{ended_none, on_range, node_is, outside_refl, no_puts}
 
 couple_acts : (s : State) (x : Instr) → is_transfer x ≡ true → s.slot ≢ NoSlot → act s x ≡ ended s Couple
 unfolding act
@@ -146,7 +146,7 @@ module _ (g : Setting) (l : Pieces) (base : ℕ) (p : Placement) (place : ℕ �
       let i1 = inside.1 in
       on_range g l base p place f h node t mid
       (record { lo = place c.piece 1; hi = place c.piece 3; address = c.address.0; node = number_in g node })
-      here.live (omega arith) (omega arith) (in_range t.npc (omega arith) (omega arith)) (omega arith) refl
+      here.live (omega arith) (omega arith) (in_range t.npc (omega arith) (omega arith)) (omega arith) refl refl
 
   does_is : does_at g x t ≡ ended (at_point x t) Couple
   does_is = ap (on_word (at_point x t)) c.is_word ∙ couple_acts (at_point x t) (decode_of c.word) c.transfer c.slot
@@ -162,9 +162,9 @@ module _ (g : Setting) (l : Pieces) (base : ℕ) (p : Placement) (place : ℕ �
       ap (λ (z : State). puts_of t descriptor ++ puts_of z descriptor) one
       ∙ ap (λ z. z ++ puts_of (record t { pc = t.npc; npc = target_of t c.disp; slot = Taken }) descriptor) a ∙ b
 
-  steps : (edges : List ℕ) → StepsOn g (Here g l base p f) Everything edges node x t (ended (at_point x t) Couple)
+  steps : StepsOn g (Here g l base p f) Everything [] node x t (ended (at_point x t) Couple)
   unfolding mid
-  steps edges = record {
+  steps = record {
     count = 2;
     after = ended (record t { pc = t.npc; npc = target_of t c.disp; slot = Taken }) Couple;
     path = record {
@@ -186,8 +186,7 @@ module _ (g : Setting) (l : Pieces) (base : ℕ) (p : Placement) (place : ℕ �
       memory = outside_refl (pages_of g.notes) t.memory;
       items = λ live thing _ _. absurd (cc);
     };
-    cells = cells_same g l base p place f h edges t (ended (at_point x t) Couple)
-        (ended (record t { pc = t.npc; npc = target_of t c.disp; slot = Taken }) Couple);
+    cells = refl;
     here = λ live. absurd (cc);
     place = λ _.
         let n = npc in
@@ -205,4 +204,5 @@ pub couples_step : CouplesStep
 couples_step g l base p place f node x t h here c =
     subst (λ (z : State). StepsOn g (Here g l base p f) Everything (gone_at g node x z) node x t z)
     (sym (does_is g l base p place f h node x t here c))
-    (steps g l base p place f h node x t here c (gone_at g node x (ended (at_point x t) Couple)))
+    (subst (λ z. StepsOn g (Here g l base p f) Everything z node x t (ended (at_point x t) Couple))
+    (sym (ended_none g node x (ended (at_point x t) Couple) Couple refl)) (steps g l base p place f h node x t here c))

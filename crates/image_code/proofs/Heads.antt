@@ -41,9 +41,9 @@ use Rattle.image_code.proofs.Visited.{edge_is, image_items, l, off, off_address,
 
 -- ---- what pieces begin with
 
-module _ (text : Words) (graph : Graph) (table : ℕ) where
+module _ (text : Words) (graph : Graph) (codes : ℕ → List ℕ) where
   image_head : (address : Addr) (node : Node) (word : ℕ) (instr : Instr)
-      → HeadOf address (node_number graph node) (image_by text graph table address node word instr)
+      → HeadOf address (node_number graph node) (image_by text graph codes address node word instr)
   image_head address node word (i.Branch cond annul disp) =
       cond_both (cond == always) _ _ (HeadOf address (node_number graph node))
       (λ _. record { item = it.Word nop_word; takes = tt; rest = _; is = refl })
@@ -74,41 +74,41 @@ module _ (text : Words) (graph : Graph) (table : ℕ) where
     is = refl;
   }
 
-  copy_head : (address : Addr) (number word : ℕ) (edge : Edge)
-      → HeadOf address number (slot_copy text graph table address number word edge)
-  copy_head address number word edge =
-      cond_both (is_transfer (decode_of word)) _ _ (HeadOf address number)
+  copy_head : (table : ℕ) (address : Addr) (node word number : ℕ) (edge : Edge)
+      → HeadOf address node (slot_copy text graph table codes address node word number edge)
+  copy_head table address node word number edge =
+      cond_both (is_transfer (decode_of word)) _ _ (HeadOf address node)
       (λ _. record { item = it.Word couple_word; takes = tt; rest = _; is = refl })
-      (λ _. cond_both (same_kind edge.kind kinds.Out) _ _ (HeadOf address number)
+      (λ _. cond_both (same_kind edge.kind kinds.Out) _ _ (HeadOf address node)
       (λ _. record { item = it.Word word; takes = tt; rest = _; is = refl })
       (λ _. record { item = it.Word word; takes = tt; rest = _; is = refl }))
 
-module _ (g : Setting) (is : IsText g.text) (p : Placement) (f : Frame) where
+module _ (g : Setting) (codes : ℕ → List ℕ) (is : IsText g.text) (p : Placement) (f : Frame) where
   abbrev b : Blocks
   b = blocks_of g.text g.given
 
   -- ---- the copy of a slot's word
 
   module _ (node : Node) (x : Point) (slot : ℕ) (at : word_at g.text x.pc ≡ Some slot)
-      (way : IsOnItsWay g.text (graph_in g) node x (way_in g is p f x)) where
-    own : (is_fall (way_in g is p f x) ≡ false) × (same_kind (way_in g is p f x) kinds.Land ≡ false)
+      (way : IsOnItsWay g.text (graph_in g) node x (way_in g codes is p f x)) where
+    own : (is_fall (way_in g codes is p f x) ≡ false) × (same_kind (way_in g codes is p f x) kinds.Land ≡ false)
     own = way_is_own (instr_at g.text (x.pc - 4)) x.slot
 
-    pub copy_items : slice_get (l g is p f).list (length g.text.words + way.number)
-        ≡ Some (slot_copy g.text (graph_in g) f.table.base (record { 0 = address_of g.text slot }) (number_in g node)
-        (slice_index g.text.words slot) way.edge)
+    pub copy_items : slice_get (l g codes is p f).list (length g.text.words + way.number)
+        ≡ Some (slot_copy g.text (graph_in g) f.table.base codes (record { 0 = address_of g.text slot })
+        (number_in g node) (slice_index g.text.words slot) way.number way.edge)
     copy_items =
-        let k = edge_is g is p f node x (way_in g is p f x) way in
-        items_along g is f.table.base node (way_in g is p f x) way.number way.edge k own.0 own.1
-        (carried.Word (record { 0 = slot })) (on g is p f node x (way_in g is p f x) way slot at)
-        ∙ ap (λ (n : Node). Some (slot_copy g.text (graph_in g) f.table.base (record { 0 = address_of g.text slot })
-        (number_in g n) (slice_index g.text.words slot) way.edge)) k.leaves
+        let k = edge_is g codes is p f node x (way_in g codes is p f x) way in
+        items_along g is f.table.base codes node (way_in g codes is p f x) way.number way.edge k own.0 own.1
+        (carried.Word (record { 0 = slot })) (on g codes is p f node x (way_in g codes is p f x) way slot at)
+        ∙ ap (λ (n : Node). Some (slot_copy g.text (graph_in g) f.table.base codes
+        (record { 0 = address_of g.text slot }) (number_in g n) (slice_index g.text.words slot) way.number way.edge)) k.leaves
 
     pub copy_visited : x.slot ≢ NoSlot
-        → visited_at g (l g is p f) p f node x ≡ slice_index p.at (length g.text.words + way.number)
+        → visited_at g (l g codes is p f) p f node x ≡ slice_index p.at (length g.text.words + way.number)
     copy_visited not =
-        visited_slot g is p f node x slot at not
-        ∙ ap (λ (ns : List ℕ). slice_index p.at (along_first (l g is p f) ns)) way.only
+        visited_slot g codes is p f node x slot at not
+        ∙ ap (λ (ns : List ℕ). slice_index p.at (along_first (l g codes is p f) ns)) way.only
 
   -- ---- outside the text
 
@@ -122,7 +122,7 @@ module _ (g : Setting) (is : IsText g.text) (p : Placement) (f : Frame) where
   }
 
   pub off_is : (base : ℕ) → f.table.base < base → IsOffNoted g f.table.base → (node : Node) (x : Point)
-      → x.slot ≢ NoSlot → word_at g.text x.pc ≡ None → IsOnItsWay g.text (graph_in g) node x (way_in g is p f x)
+      → x.slot ≢ NoSlot → word_at g.text x.pc ≡ None → IsOnItsWay g.text (graph_in g) node x (way_in g codes is p f x)
       → IsOff g base p f node x
   off_is base below noted node x slot none way = record {
     slot = slot;
@@ -133,22 +133,22 @@ module _ (g : Setting) (is : IsText g.text) (p : Placement) (f : Frame) where
       address = address_of g.text (length g.text.words);
       node = number_in g way.edge.from;
     };
-    noted = noted way.number way.edge way.is (off g is p f node x (way_in g is p f x) way none);
+    noted = noted way.number way.edge way.is (off g codes is p f node x (way_in g codes is p f x) way none);
     lo = refl;
-    address = sym (off_address g is p f node x (way_in g is p f x) way none);
-    number = ap (number_in g) (edge_is g is p f node x (way_in g is p f x) way).leaves;
+    address = sym (off_address g codes is p f node x (way_in g codes is p f x) way none);
+    number = ap (number_in g) (edge_is g codes is p f node x (way_in g codes is p f x) way).leaves;
     beside = inl below;
   }
 
   -- ---- all points
 
   head_of : (node : Node) (x : Point) (piece : ℕ) (xs : List Item) (address : Addr)
-      → visited_at g (l g is p f) p f node x ≡ slice_index p.at piece → address.0 ≡ x.pc
-      → slice_get (l g is p f).list piece ≡ Some xs → HeadOf address (number_in g node) xs
-      → IsHead g (l g is p f) p f node x
+      → visited_at g (l g codes is p f) p f node x ≡ slice_index p.at piece → address.0 ≡ x.pc
+      → slice_get (l g codes is p f).list piece ≡ Some xs → HeadOf address (number_in g node) xs
+      → IsHead g (l g codes is p f) p f node x
   head_of node x piece xs address at original found begins = record {
     piece = piece;
-    within = get_below (l g is p f).list piece xs found;
+    within = get_below (l g codes is p f).list piece xs found;
     here = at;
     address = address;
     original = original;
@@ -159,31 +159,31 @@ module _ (g : Setting) (is : IsText g.text) (p : Placement) (f : Frame) where
   }
 
   pub visits : (base : ℕ) → f.table.base < base → IsOffNoted g f.table.base → (node : Node) (x : Point)
-      → Matches g.text (graph_in g) node x → IsOpen g x → IsVisited g (l g is p f) base p f node x
+      → Matches g.text (graph_in g) node x → IsOpen g x → IsVisited g (l g codes is p f) base p f node x
   visits base below noted node x m open_there = by x.slot refl m (word_at g.text x.pc) refl
     where
-      in_slot : x.slot ≢ NoSlot → IsOnItsWay g.text (graph_in g) node x (way_in g is p f x) → (o : Option ℕ)
-          → word_at g.text x.pc ≡ o → IsVisited g (l g is p f) base p f node x
+      in_slot : x.slot ≢ NoSlot → IsOnItsWay g.text (graph_in g) node x (way_in g codes is p f x) → (o : Option ℕ)
+          → word_at g.text x.pc ≡ o → IsVisited g (l g codes is p f) base p f node x
       in_slot not way None e = beyond (off_is base below noted node x not e way)
       in_slot not way (Some slot) e =
           head (head_of node x (length g.text.words + way.number) _ (record { 0 = address_of g.text slot })
           (copy_visited node x slot e way not) (sym (word_at-some g.text x.pc slot e).is)
           (copy_items node x slot e way)
-          (copy_head g.text (graph_in g) f.table.base (record { 0 = address_of g.text slot }) (number_in g node)
-          (slice_index g.text.words slot) way.edge))
+          (copy_head g.text (graph_in g) codes f.table.base (record { 0 = address_of g.text slot }) (number_in g node)
+          (slice_index g.text.words slot) way.number way.edge))
 
       by : (s : Slot) → x.slot ≡ s → MatchesBy g.text (graph_in g) node x s → (o : Option ℕ) → word_at g.text x.pc ≡ o
-          → IsVisited g (l g is p f) base p f node x
+          → IsVisited g (l g codes is p f) base p f node x
       by NoSlot none m None e = outside (foreign_is node x none e m.0 open_there)
       by NoSlot none m (Some word) e =
           head (head_of node x word _ (record { 0 = address_of g.text word })
-          (visited_word g is p f node x word e none) (sym (word_at-some g.text x.pc word e).is)
-          (image_items g is p f node x word e m.0 (decode_of (slice_index g.text.words word)) refl)
-          (image_head g.text (graph_in g) f.table.base (record { 0 = address_of g.text word }) node word
+          (visited_word g codes is p f node x word e none) (sym (word_at-some g.text x.pc word e).is)
+          (image_items g codes is p f node x word e m.0 (decode_of (slice_index g.text.words word)) refl)
+          (image_head g.text (graph_in g) codes (record { 0 = address_of g.text word }) node word
           (decode_of (slice_index g.text.words word))))
       by Taken some m o e =
           let not : x.slot ≢ NoSlot = λ n. let q : Taken ≡ NoSlot = sym some ∙ n in absurd (cc) in
-          in_slot not (on_its_way g is p f node x Taken some (λ q. absurd (cc)) m) o e
+          in_slot not (on_its_way g codes is p f node x Taken some (λ q. absurd (cc)) m) o e
       by Untaken some m o e =
           let not : x.slot ≢ NoSlot = λ n. let q : Untaken ≡ NoSlot = sym some ∙ n in absurd (cc) in
-          in_slot not (on_its_way g is p f node x Untaken some (λ q. absurd (cc)) m) o e
+          in_slot not (on_its_way g codes is p f node x Untaken some (λ q. absurd (cc)) m) o e

@@ -5,7 +5,7 @@ use Rattle.v8_alu.specs.Numbers.{wrapped}
 use Rattle.v8_memory.specs.Regions.{Memory}
 use Rattle.v8_memory.specs.Spans.{IsSameOutside}
 use Rattle.v8_step.specs.declared.Slot.TheVariants.{NoSlot}
-use Rattle.v8_step.specs.State.{State}
+use Rattle.v8_step.specs.State.{State, register_of}
 use Rattle.v8_step.specs.Step.{act, step_of, puts_by, puts_on_word}
 use Rattle.v8_step.specs.Run.{run_puts}
 use Rattle.v8_step.specs.Valid.{IsValid}
@@ -19,13 +19,14 @@ use Rattle.code_runs.specs.Hops.{hopped}
 use Rattle.code_runs.proofs.Leads.{leads_one, leads_then, puts_add}
 use Rattle.layout.specs.declared.items.Item.TheVariants as it
 use Rattle.layout.specs.Laid.{nop, Placement}
-use Rattle.image_code.specs.Simulates.{Setting, StepsOn, at_point, does_at, gone_at, graph_in, number_in}
+use Rattle.image_code.specs.Simulates.{Setting, StepsOn, at_point, cells_in, does_at, gone_at, graph_in, number_in}
 use Rattle.image_code.specs.Images.{Pieces, Frame, Here, IsPlaced, visited_at}
 use Rattle.image_code.specs.Cases.{Everything}
 use Rattle.image_code.specs.Idle.{IsIdle, IdlesStep}
 use Rattle.image_code.proofs.BranchMoves.{branch_moves}
 use Rattle.image_code.proofs.Memories.{fetch_is, images_stored, same_stored}
-use Rattle.image_code.proofs.Cases.{StandsAt, stands_at, can_run, first_own, tail, quiet_of, bare_on, IsBare, IsFit, cells_same, same_at, no_puts}
+use Rattle.image_code.proofs.Cases.{StandsAt, stands_at, can_run, tail, quiet_of, bare_on, IsBare, IsFit, same_at, no_puts}
+use Rattle.image_code.proofs.Cells.{updates_same}
 
 module _ (g : Setting) (l : Pieces) (base : ℕ) (p : Placement) (place : ℕ → ℕ → ℕ) (f : Frame)
     (h : IsPlaced g l base p place f)
@@ -86,21 +87,22 @@ module _ (g : Setting) (l : Pieces) (base : ℕ) (p : Placement) (place : ℕ �
           slot = NoSlot;
         }) valid here.live on refl here.memory;
       } in
-      let rest = tail g l base p place f h c.piece c.rest (it.Mark c.address (number_in g node))
-      (it.Word c.word) c.items
-      (record t { pc = t.npc; npc = wrapped (t.npc + 4); slot = NoSlot }) to fit pc (omega arith) c.leads in
+      let edges = gone_at g node x (does_at g x t) in
+      let rest = tail g l base p place f h c.piece c.rest c.address (number_in g node) (it.Word c.word) c.items
+      (gone_at g node x (does_at g x t)) (record t { pc = t.npc; npc = wrapped (t.npc + 4); slot = NoSlot }) to fit pc
+      c.leads in
       let way = leads_then (IsBare g l base p place f h) t
       (record t { pc = t.npc; npc = wrapped (t.npc + 4); slot = NoSlot }) (hopped t to rest.memory) 1 rest.count
       (leads_one _ t _ idle_step) rest.path (λ _ some. rest.begins some) in
       let few = rest.few in
-      let stores = first_own g l base p place f h t.memory rest.memory rest.stores in
+      let stores = rest.stores in
       record {
         count = 1 + rest.count;
         after = hopped t to rest.memory;
         path = record {
           steps = way.steps;
           some = omega arith;
-          few = omega arith;
+          few = omega (arith, few);
           quiet = λ j p1 p2. quiet_of g l base p place f h node t _ (1 + rest.count)
               (IsBare g l base p place f h) way here.live (bare_on g l base p place f h node t) j p1 p2;
         };
@@ -124,7 +126,10 @@ module _ (g : Setting) (l : Pieces) (base : ℕ) (p : Placement) (place : ℕ �
           items = λ _ thing _ _. same_at thing v (hopped t to rest.memory) (ap (λ (z : State). z.registers) same)
               (ap (λ (z : State). z.codes) same) (ap (λ (z : State). z.y) same);
         };
-        cells = cells_same g l base p place f h (gone_at g node x (does_at g x t)) t v (hopped t to rest.memory);
+        cells = rest.cells
+            ∙ updates_same g.snips (gone_at g node x (does_at g x t)) (cells_in g t)
+            (record t { pc = t.npc; npc = wrapped (t.npc + 4); slot = NoSlot }) (does_at g x t)
+            (sym (ap (λ (z : State). register_of z) same));
         here = λ _. record {
           valid = subst IsValid way.steps (run-valid t (1 + rest.count) here.valid);
           live = here.live;

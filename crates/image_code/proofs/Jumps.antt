@@ -21,6 +21,7 @@ use Rattle.cfg_walk.specs.Walk.{Point, point_of, node_after}
 use Rattle.code_runs.specs.Page.{page_word}
 use Rattle.code_runs.specs.Points.{moved}
 use Rattle.code_runs.specs.StoredWords.{Stores}
+use Rattle.code_runs.specs.TwoRegisters.{IsBetween}
 use Rattle.code_runs.specs.Straight.{StandIn}
 use Rattle.code_runs.proofs.Hops.{equal_or_not}
 use Rattle.code_runs.proofs.Stays.{stores_there}
@@ -36,9 +37,9 @@ use Rattle.image_code.specs.Images.{Pieces, Frame, Here, IsPlaced, visited_at}
 use Rattle.image_code.specs.Cases.{Everything, LeadsTo}
 use Rattle.image_code.specs.Calls.{IsJump, JumpsStep}
 use Rattle.image_code.proofs.Memories.{same_stored}
-use Rattle.image_code.proofs.Cases.{cells_same, live_before}
+use Rattle.image_code.proofs.Cases.{ended_none, live_before}
 use Rattle.image_code.proofs.Couple.{quiet_transfer}
-use Rattle.image_code.proofs.Through.{AtWords, at_words, own_stored, goes_through}
+use Rattle.image_code.proofs.Through.{AtWords, at_words, own_stored, goes_through, page_cells}
 
 link_few : (rd address : ℕ) → length (link rd address) ≤ 2
 link_few zero address = omega arith
@@ -135,7 +136,7 @@ module _ (g : Setting) (l : Pieces) (base : ℕ) (p : Placement) (place : ℕ �
       ∙ quiet_transfer (at_point x t) (decode_of c.word) descriptor (ap is_transfer c.says)
 
   going : (edges : List ℕ) → after_jump.ending ≡ None
-      → LeadsTo l p c.way (visited_at g l p f (node_after (graph_in g) node edges)
+      → LeadsTo l p c.way edges (visited_at g l p f (node_after (graph_in g) node edges)
       (point_of after_jump))
       → StepsOn g (Here g l base p f) Everything edges node x t after_jump
   going edges live leads =
@@ -153,9 +154,8 @@ module _ (g : Setting) (l : Pieces) (base : ℕ) (p : Placement) (place : ℕ �
         waits = λ _ _. (on.waits, aligned live);
       }) leads
 
-  ends : (edges : List ℕ) (d : Ending) → after_jump.ending ≡ Some d
-      → StepsOn g (Here g l base p f) Everything edges node x t after_jump
-  ends edges d over =
+  ends : (d : Ending) → after_jump.ending ≡ Some d → StepsOn g (Here g l base p f) Everything [] node x t after_jump
+  ends d over =
       let end = (jumps_simulate c.scratch c.rd c.rs1 c.op2 c.address.0 t about).1 d over in
       let traps = end.traps in
       let same = only_ends d over in
@@ -169,8 +169,7 @@ module _ (g : Setting) (l : Pieces) (base : ℕ) (p : Placement) (place : ℕ �
           steps = traps.path.steps;
           some = omega arith;
           few = omega arith;
-          quiet = λ j some below. on_way traps.live j some below (traps.path.during j some below).past
-              (traps.path.during j some below).before;
+          quiet = λ j some below. on_way traps.live j some below (traps.path.during j some below);
         };
         puts = λ descriptor. traps.silent descriptor ∙ sym (quiet descriptor);
         followed = record {
@@ -185,25 +184,29 @@ module _ (g : Setting) (l : Pieces) (base : ℕ) (p : Placement) (place : ℕ �
               (own_stored g f h.frame t.memory traps.after.memory traps.stores));
           items = λ live thing _ _. absurd (cc);
         };
-        cells = cells_same g l base p place f h edges t after_jump traps.after;
+        cells = page_cells g l base p place f h node x t here c.piece c.within c.here image c.address c.way c.items
+            traps.after.memory traps.stores;
         here = λ live. absurd (cc);
         place = λ _. ahead.there traps.after.pc (omega arith) (omega arith);
       }
     where
-      on_way : (run t 4).ending ≡ None → (j : ℕ) → 0 < j → j < 5 → t.pc < (run t j).pc → (run t j).pc < t.pc + 4 * 6
+      on_way : (run t 4).ending ≡ None → (j : ℕ) → 0 < j → j < 5 → IsBetween t 6 IsPageWord (run t j)
           → IsOnWay g node t (run t j)
-      on_way live j some below past before =
+      on_way live j some below between =
           let n = many in
+          let before = between.before in
           ahead.on (run t j)
           (live_before t (4 - j) j (ap (λ z. (run t z).ending) (let e : 4 - j + j ≡ 4 = omega arith in e) ∙ live))
-          past (omega arith)
+          between.past (omega arith) between.stores
 
   steps : (e : Option Ending) → after_jump.ending ≡ e
-      → (after_jump.ending ≡ None → LeadsTo l p c.way (visited_at g l p f
+      → (after_jump.ending ≡ None → LeadsTo l p c.way (gone_at g node x after_jump) (visited_at g l p f
       (node_after (graph_in g) node (gone_at g node x after_jump)) (point_of after_jump)))
       → StepsOn g (Here g l base p f) Everything (gone_at g node x after_jump) node x t after_jump
   steps None e leads = going (gone_at g node x after_jump) e (leads e)
-  steps (Some d) e leads = ends (gone_at g node x after_jump) d e
+  steps (Some d) e leads =
+      subst (λ z. StepsOn g (Here g l base p f) Everything z node x t after_jump)
+      (sym (ended_none g node x after_jump d e)) (ends d e)
 
 pub jumps_step : JumpsStep
 jumps_step g l base p place f node x t h here c =
@@ -211,5 +214,5 @@ jumps_step g l base p place f node x t h here c =
     subst (λ (z : State). StepsOn g (Here g l base p f) Everything (gone_at g node x z) node x t z) (sym is)
     (steps g l base p place f h node x t here c _ refl
     (subst (λ (z : State). z.ending ≡ None
-    → LeadsTo l p c.way (visited_at g l p f (node_after (graph_in g) node (gone_at g node x z)) (point_of z)))
-    is c.leads))
+    → LeadsTo l p c.way (gone_at g node x z)
+    (visited_at g l p f (node_after (graph_in g) node (gone_at g node x z)) (point_of z))) is c.leads))

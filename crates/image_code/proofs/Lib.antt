@@ -1,6 +1,9 @@
 pub mod Memories
 pub mod Branches
 pub mod Ended
+pub mod Between
+pub mod Cells
+pub mod Arrives
 pub mod Cases
 pub mod Couple
 pub mod BranchMoves

@@ -25,7 +25,7 @@ use Rattle.image_code.specs.Images.{Pieces, Frame, Here, IsBeside, IsPlaced, vis
 use Rattle.image_code.specs.Cases.{Everything, visits_it}
 use Rattle.image_code.specs.Outside.{IsForeign, IsOff, ForeignStep, OffsStep}
 use Rattle.image_code.proofs.Memories.{fetch_is}
-use Rattle.image_code.proofs.Cases.{cells_same, outside_refl}
+use Rattle.image_code.proofs.Cases.{ended_none, outside_refl}
 
 -- ---- an address outside the pages is in none of them
 
@@ -75,9 +75,8 @@ module _ (g : Setting) (l : Pieces) (base : ℕ) (p : Placement) (place : ℕ �
   does_is : does_at g x t ≡ trapped (at_point x t) instruction_access_exception
   does_is = ap (on_word (at_point x t)) no_word
 
-  steps : (edges : List ℕ)
-      → StepsOn g (Here g l base p f) Everything edges node x t (trapped (at_point x t) instruction_access_exception)
-  steps edges = record {
+  steps : StepsOn g (Here g l base p f) Everything [] node x t (trapped (at_point x t) instruction_access_exception)
+  steps = record {
     count = 1;
     after = trapped t instruction_access_exception;
     path = record {
@@ -97,15 +96,15 @@ module _ (g : Setting) (l : Pieces) (base : ℕ) (p : Placement) (place : ℕ �
       memory = outside_refl (pages_of g.notes) t.memory;
       items = λ live thing _ _. absurd (cc);
     };
-    cells = cells_same g l base p place f h edges t (trapped (at_point x t) instruction_access_exception)
-        (trapped t instruction_access_exception);
+    cells = refl;
     here = λ live. absurd (cc);
     place = λ _. visits.1;
   }
 
   ends : StepsOn g (Here g l base p f) Everything (gone_at g node x (does_at g x t)) node x t (does_at g x t)
   ends = subst (λ (z : State). StepsOn g (Here g l base p f) Everything (gone_at g node x z) node x t z) (sym does_is)
-      (steps (gone_at g node x (trapped (at_point x t) instruction_access_exception)))
+      (subst (λ z. StepsOn g (Here g l base p f) Everything z node x t (trapped (at_point x t) instruction_access_exception))
+      (sym (ended_none g node x (trapped (at_point x t) instruction_access_exception) _ refl)) steps)
 
 -- ---- outside a slot
 

@@ -19,24 +19,23 @@ use Rattle.cfg_normal.specs.declared.Node.{Node}
 use Rattle.cfg_walk.specs.Walk.{Point, point_of, node_after, instr_at, way_of, same_kind}
 use Rattle.code_runs.specs.Hops.{hopped}
 use Rattle.code_runs.specs.Leads.{Leads, IsSilent}
-use Rattle.code_runs.specs.LongJump.{IsFirstWord}
 use Rattle.code_runs.specs.Ours.{IsAmongWords}
 use Rattle.code_runs.specs.Page.{page_word}
-use Rattle.code_runs.specs.StoredWords.{AllAt, Stores, CanStore, memory_word, store_all, store_word}
+use Rattle.code_runs.specs.StoredWords.{Stores, memory_word}
 use Rattle.code_runs.specs.TwoRegisters.{IsBetween}
 use Rattle.code_runs.proofs.Hops.{stores_then}
 use Rattle.code_runs.proofs.Leads.{leads_then, leads_weaker, silent_then}
-use Rattle.code_runs.proofs.Stays.{stores_there}
-use Rattle.code_runs.proofs.StoredWords.{still_stored, other_word_stored}
 use Rattle.layout.specs.Laid.{Placement}
 use Rattle.jump_code.specs.Links.{past}
 use Rattle.jump_code.specs.PageWords.{IsPageWord}
 use Rattle.jump_code.specs.Pieces.{marked_piece}
-use Rattle.image_code.specs.Simulates.{Setting, StepsOn, IsOnWay, at_point, graph_in, number_in, word_of}
+use Rattle.image_code.specs.Simulates.{Setting, StepsOn, IsOnWay, cells_in, updates, at_point, graph_in, number_in, word_of}
 use Rattle.image_code.specs.Images.{Pieces, Frame, HasImages, Here, IsFramed, IsPlaced, visited_at}
 use Rattle.image_code.specs.Cases.{Everything, LeadsTo}
+use Rattle.snippet_code.specs.Runs.{words_at}
+use Rattle.image_code.proofs.Cells.{cells_above, page_above, updates_same}
 use Rattle.image_code.proofs.Memories.{images_stored, same_stored}
-use Rattle.image_code.proofs.Cases.{Arrives, IsBare, IsFit, arrive, bare_on, can_run, cells_same, first_own, hopped_fit, jump_on, node_is, on_range, on_then, quiet_of, same_at, stores_weaker}
+use Rattle.image_code.proofs.Cases.{Arrives, IsBare, IsFit, arrive, bare_on, can_run, hopped_fit, jump_on, node_is, on_range, on_then, quiet_of, same_at, stores_weaker}
 use Rattle.image_code.proofs.Marked.{StandMarked, stand_marked}
 
 -- the page's words are the editor's
@@ -51,26 +50,13 @@ pub own_stored : (g : Setting) (f : Frame) → IsFramed g f → (m n : Memory) �
     → Stores (IsAmongWords f.own) m n
 own_stored g f framed m n stores = stores_weaker IsPageWord (IsAmongWords f.own) m n (page_own g f framed) stores
 
--- word 1 waits while word 0 is stored
-waits_all : (ws : List (ℕ × ℕ)) (m : Memory) → AllAt IsFirstWord ws → CanStore m (page_word 1)
-    → memory_word (store_all ws m) (page_word 1) ≡ memory_word m (page_word 1)
-waits_all [] m each can = refl
-waits_all (w ∷ ws) m each can =
-    let e = each.0 in
-    waits_all ws (store_word m w.0 w.1) each.1 (still_stored m (page_word 1) w.0 w.1 can)
-    ∙ other_word_stored m (page_word 1) w.0 w.1 can (inr (omega arith))
-
-still_waits : (m n : Memory) → Stores IsFirstWord m n → CanStore m (page_word 1)
-    → memory_word n (page_word 1) ≡ memory_word m (page_word 1)
-still_waits m n stores can =
-    ap (λ (z : Memory). memory_word z (page_word 1)) stores.result ∙ waits_all stores.writes m stores.each can
-
 -- A machine at the first of so many words of a node's Mark: the states between them are on the way.
 pub record AtWords (g : Setting) (node : Node) (t : State) (begin count : ℕ) : Type 0 where
   pub at : t.pc ≡ begin
   pub low : t.pc + 4 * count ≤ 2 ^ 31
   pub next : 0 < count → t.npc ≡ t.pc + 4
-  pub on : (u : State) → u.ending ≡ None → t.pc < u.pc → u.pc < t.pc + 4 * count → IsOnWay g node t u
+  pub on : (u : State) → u.ending ≡ None → t.pc < u.pc → u.pc < t.pc + 4 * count → Stores IsPageWord t.memory u.memory
+      → IsOnWay g node t u
   pub there : (a : ℕ) → t.pc ≤ a → a < t.pc + 4 * count → node_at g.notes a ≡ Some (number_in g node)
 
 module _ (g : Setting) (l : Pieces) (base : ℕ) (p : Placement) (place : ℕ → ℕ → ℕ) (f : Frame)
@@ -79,6 +65,10 @@ module _ (g : Setting) (l : Pieces) (base : ℕ) (p : Placement) (place : ℕ �
     (k : ℕ) (within : k < length l.list) (visited : visited_at g l p f node x ≡ slice_index p.at k)
     (xs : List Instr) (address : Addr) (way : PieceNo)
     (is : slice_get l.list k ≡ Some (marked_piece xs address (number_in g node) way)) where
+  -- stores in the page's words leave the cells
+  pub page_cells : (m : Memory) → Stores IsPageWord t.memory m → words_at g.notes.base g.notes.cells m ≡ cells_in g t
+  page_cells m stores = cells_above g l f h.frame h.cells IsPageWord page_above t.memory m here.memory.ours stores
+
   stand : StandMarked l.list base p place k address.0 (number_in g node) way (length xs)
   stand = stand_marked l.list base p place h.laid k within xs address (number_in g node) way is
 
@@ -94,18 +84,18 @@ module _ (g : Setting) (l : Pieces) (base : ℕ) (p : Placement) (place : ℕ �
         at = at;
         low = omega arith;
         next = λ some. here.npc ∙ (let e : wrapped (t.pc + 4) ≡ t.pc + 4 = omega arith in e);
-        on = λ u live past before. on_range g l base p place f h node t u range live (omega arith) (omega arith)
-            (stand.range u.pc (omega arith) (omega arith)) (omega arith) refl;
+        on = λ u live past before stores. on_range g l base p place f h node t u range live (omega arith) (omega arith)
+            (stand.range u.pc (omega arith) (omega arith)) (omega arith) refl (page_cells u.memory stores);
         there = λ a from below. node_is g l base p place f h a (Some range) (omega arith) (omega arith)
             (stand.range a (omega arith) (omega arith));
       }
 
   On : State → Type 0
-  On u = ((t.pc < u.pc) × (u.pc < t.pc + 4 * length xs)) ⊎ IsBare g l base p place f h u
+  On u = IsBetween t (length xs) IsPageWord u ⊎ IsBare g l base p place f h u
 
   on_way : (u : State) → u.ending ≡ None → On u → IsOnWay g node t u
   unfolding On
-  on_way u live (inl z) = at_words.on u live z.0 z.1
+  on_way u live (inl z) = at_words.on u live z.past z.before z.stores
   on_way u live (inr z) = bare_on g l base p place f h node t u live z
 
   -- the words lead past them, to all of v but its place and memory
@@ -135,46 +125,43 @@ module _ (g : Setting) (l : Pieces) (base : ℕ) (p : Placement) (place : ℕ �
       }
 
   -- on along the way
-  on_along : (v : State) (m : Memory) (to : ℕ) → Through v m → LeadsTo l p way to
-      → Arrives g l base p place f h (past t (length xs) m v) to 8
-  on_along v m to w leads =
+  on_along : (v : State) (m : Memory) (edges : List ℕ) (to : ℕ) → Through v m → LeadsTo l p way edges to
+      → Arrives g l base p place f h edges (past t (length xs) m v) to 8
+  on_along v m edges to w leads =
       let a = at_words.at in
       let b = stand.behind in
       let fit = past_fit v m w in
       let one = jump_on g l base p place f h k (suc (suc (length xs))) way stand.jump stand.shut
-      (past t (length xs) m v) fit.runs (omega arith) in
-      on_then g l base p place f h (past t (length xs) m v) (slice_index p.at way.0) to 4 4 one
-      (arrive g l base p place f h way (hopped (past t (length xs) m v) (slice_index p.at way.0) one.memory) to
+      (past t (length xs) m v) fit (omega arith) in
+      on_then g l base p place f h edges [] edges refl (past t (length xs) m v) (slice_index p.at way.0) to 4 4 one
+      (arrive g l base p place f h way edges (hopped (past t (length xs) m v) (slice_index p.at way.0) one.memory) to
       (hopped_fit g l base p place f h (past t (length xs) m v) (slice_index p.at way.0) fit
       (h.laid.aligned way.0).1 one.count one.memory one.path.steps one.stores) refl leads)
 
   pub goes_through : (v : State) (m : Memory) (edges : List ℕ) → 0 < length xs → length xs ≤ 8 → Through v m
-      → LeadsTo l p way (visited_at g l p f (node_after (graph_in g) node edges) (point_of v))
+      → LeadsTo l p way edges (visited_at g l p f (node_after (graph_in g) node edges) (point_of v))
       → StepsOn g (Here g l base p f) Everything edges node x t v
   unfolding On
   goes_through v m edges some short w leads =
-      let rest = on_along v m (visited_at g l p f (node_after (graph_in g) node edges) (point_of v)) w leads in
+      let rest = on_along v m edges (visited_at g l p f (node_after (graph_in g) node edges) (point_of v)) w leads in
       let few = rest.few in
       let path = leads_then On t (past t (length xs) m v)
       (hopped v (visited_at g l p f (node_after (graph_in g) node edges) (point_of v)) rest.memory)
       (length xs) rest.count
-      (leads_weaker _ On t (past t (length xs) m v) (length xs) (λ u q. inl (q.past, q.before)) w.path)
+      (leads_weaker _ On t (past t (length xs) m v) (length xs) (λ u q. inl q) w.path)
       (leads_weaker _ On (past t (length xs) m v) _ rest.count (λ u q. inr q) rest.path)
       (λ _ more. inr (rest.begins more)) in
       let stores : Stores (IsAmongWords f.own) t.memory rest.memory =
       stores_then (IsAmongWords f.own) (IsAmongWords f.own) t.memory m rest.memory (λ z e. e)
-      (own_stored g f h.frame t.memory m w.stores)
-      (first_own g l base p place f h m rest.memory rest.stores) in
-      let still : memory_word rest.memory (page_word 1) ≡ memory_word m (page_word 1) =
-      still_waits m rest.memory rest.stores
-      (stores_there (page_word 1) m ((past_has v m w).ours.words (page_word 1) (h.frame.page 1 (omega arith)))) in
+      (own_stored g f h.frame t.memory m w.stores) rest.stores in
+      let still : memory_word rest.memory (page_word 1) ≡ memory_word m (page_word 1) = rest.waits in
       record {
         count = length xs + rest.count;
         after = hopped v (visited_at g l p f (node_after (graph_in g) node edges) (point_of v)) rest.memory;
         path = record {
           steps = path.steps;
           some = omega arith;
-          few = omega arith;
+          few = omega (arith, few, short);
           quiet = quiet_of g l base p place f h node t _ (length xs + rest.count) On path w.live on_way;
         };
         puts = λ descriptor.
@@ -190,7 +177,9 @@ module _ (g : Setting) (l : Pieces) (base : ℕ) (p : Placement) (place : ℕ �
               (same_stored g f h.frame base p t.memory rest.memory here.memory stores);
           items = λ _ thing _ _. same_at thing v _ refl refl refl;
         };
-        cells = cells_same g l base p place f h edges t v _;
+        cells = rest.cells
+            ∙ updates_same g.snips edges (words_at g.notes.base g.notes.cells m) (past t (length xs) m v) v refl
+            ∙ ap (λ z. updates g.snips edges z v) (page_cells m w.stores);
         here = λ _. record {
           valid = subst IsValid path.steps (run-valid t (length xs + rest.count) here.valid);
           live = w.live;

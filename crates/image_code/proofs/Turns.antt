@@ -1,6 +1,7 @@
 -- The image of a branch is one step, whatever its annul bit.
-use Rattle.std.proofs.Common.{◌≡◌, ℕ, ◌+◌, ◌-◌, ◌*◌, ◌^◌, ◌<◌, ◌≤◌, ◌⊎◌, inl, inr, Bool, true, false, Option, Some, None, List, length, refl, ap, sym, ◌∙◌, subst, arith}
+use Rattle.std.proofs.Common.{◌≡◌, ℕ, ◌+◌, ◌-◌, ◌*◌, ◌^◌, ◌<◌, ◌≤◌, ◌⊎◌, inl, inr, Bool, true, false, Option, Some, None, List, [], ◌∷◌, drop, length, refl, ap, sym, ◌∙◌, subst, arith}
 use Rattle.std.specs.Prelude.{if◌then◌else◌, slice_get, slice_index}
+use Rattle.std.specs.Option.{option_map}
 use Rattle.v8_decode.specs.declared.Instr.{Instr}
 use Rattle.v8_alu.specs.Conditions.{holds_of}
 use Rattle.v8_alu.specs.Numbers.{wrapped}
@@ -8,7 +9,7 @@ use Rattle.v8_memory.specs.Regions.{Memory}
 use Rattle.v8_memory.specs.Spans.{IsSameOutside}
 use Rattle.v8_step.specs.declared.Slot.{Slot}
 use Rattle.v8_step.specs.declared.Slot.TheVariants.{Taken}
-use Rattle.v8_step.specs.State.{State}
+use Rattle.v8_step.specs.State.{State, register_of}
 use Rattle.v8_step.specs.Step.{puts_by, puts_on_word}
 use Rattle.v8_step.specs.Valid.{IsValid}
 use Rattle.v8_step.specs.Visits.{pages_of}
@@ -23,18 +24,22 @@ use Rattle.code_runs.specs.Hops.{hopped}
 use Rattle.code_runs.proofs.Leads.{leads_then, leads_weaker, silent_then}
 use Rattle.code_runs.proofs.Hops.{stores_then}
 use Rattle.code_runs.specs.LongJump.{IsFirstWord}
+use Rattle.code_runs.specs.Ours.{IsAmongWords}
+use Rattle.snippet_code.specs.Runs.{words_at}
 use Rattle.layout.specs.declared.items.Item.{Item}
 use Rattle.layout.specs.declared.items.Item.TheVariants as it
 use Rattle.layout.specs.Laid.{Placement, item_at, item_in, items_in, size_of, open_in, range_in, range_of}
 use Rattle.layout.specs.Running.{CanRun, Goes}
 use Rattle.layout.proofs.Going.{branches_hop}
-use Rattle.image_code.specs.Simulates.{Setting, StepsOn, IsOnWay, at_point, does_at, gone_at, graph_in, number_in}
+use Rattle.image_code.specs.Simulates.{Setting, StepsOn, IsOnWay, at_point, cells_in, does_at, gone_at, graph_in, number_in, operations_on, updates}
 use Rattle.image_code.specs.Images.{Pieces, Frame, Here, IsPlaced, visited_at, visited_by}
 use Rattle.image_code.specs.Cases.{Everything, LeadsTo, branch_piece}
 use Rattle.image_code.specs.Turns.{IsTurn, TurnsStep}
 use Rattle.image_code.proofs.BranchMoves.{IsMoved, branch_moves}
 use Rattle.image_code.proofs.Memories.{images_stored, same_stored}
-use Rattle.image_code.proofs.Cases.{can_run, first_own, tail, arrive, quiet_of, bare_on, IsBare, IsFit, hopped_fit, Arrives, on_range, cells_same, same_at, no_puts}
+use Rattle.image_code.proofs.Arrives.{first_kept}
+use Rattle.image_code.proofs.Cases.{can_run, tail, arrive, quiet_of, bare_on, IsBare, IsFit, hopped_fit, Arrives, on_range, same_at, no_puts}
+use Rattle.image_code.proofs.Cells.{updates_same}
 
 module _ (g : Setting) (l : Pieces) (base : ℕ) (p : Placement) (place : ℕ → ℕ → ℕ) (f : Frame)
     (h : IsPlaced g l base p place f)
@@ -103,7 +108,12 @@ module _ (g : Setting) (l : Pieces) (base : ℕ) (p : Placement) (place : ℕ �
 
   -- on the way: in the branch's place, or on Jumps after it
   IsOn : State → Type 0
-  IsOn u = ((t.pc < u.pc) × (u.pc < place (l.image node c.number) 2)) ⊎ IsBare g l base p place f h u
+  IsOn u =
+      ((t.pc < u.pc) × (u.pc < place (l.image node c.number) 2) × Stores IsFirstWord t.memory u.memory)
+      ⊎ IsBare g l base p place f h u
+
+  here_fit : IsFit g l base p place f h t
+  here_fit = record { valid = here.valid; has = here.memory; runs = b_ready }
 
   on_way : (u : State) → u.ending ≡ None → IsOn u → IsOnWay g node t u
   unfolding IsOn
@@ -121,18 +131,20 @@ module _ (g : Setting) (l : Pieces) (base : ℕ) (p : Placement) (place : ℕ �
         node = number_in g node;
       })
       live (omega arith) (omega arith) (b_range u.pc (omega arith) z1) (omega arith) refl
+      (first_kept g l base p place f h t u.memory here_fit z.2).1.1
   on_way u live (inr z) = bare_on g l base p place f h node t u live z
 
-  record Comes (to most : ℕ) : Type 0 where
+  record Comes (edges : List ℕ) (to most : ℕ) : Type 0 where
     pub count : ℕ
     pub memory : Memory
     pub some : 0 < count
-    pub few : count ≤ most
+    pub few : count ≤ most + 22 * operations_on g.snips edges
     pub path : Leads IsOn t (hopped t to memory) count
     pub silent : IsSilent t count
-    pub stores : Stores IsFirstWord t.memory memory
+    pub stores : Stores (IsAmongWords f.own) t.memory memory
+    pub cells : words_at g.notes.base g.notes.cells memory ≡ updates g.snips edges (cells_in g t) t
 
-  of_hop : (to : ℕ) → Goes t to (place (l.image node c.number) 2) 2 6 → Comes to 6
+  of_hop : (to : ℕ) → Goes t to (place (l.image node c.number) 2) 2 6 → Comes [] to 6
   unfolding IsOn
   of_hop to j =
       let some = j.some in
@@ -144,22 +156,24 @@ module _ (g : Setting) (l : Pieces) (base : ℕ) (p : Placement) (place : ℕ �
         some = omega arith;
         few = omega arith;
         path = leads_weaker _ _ t _ j.count (λ u q. let b = q.past in let d = q.before in inl
-            (omega arith, omega arith)) j.hops.path;
+            (omega arith, omega arith, q.stores)) j.hops.path;
         silent = j.hops.silent;
-        stores = j.hops.stores;
+        stores = (first_kept g l base p place f h t j.memory here_fit j.hops.stores).0;
+        cells = (first_kept g l base p place f h t j.memory here_fit j.hops.stores).1.1;
       }
 
   of_hop_fit : (to : ℕ) → to ≤ 2 ^ 31 → (j : Goes t to (place (l.image node c.number) 2) 2 6)
       → IsFit g l base p place f h (hopped t to j.memory)
   of_hop_fit to low j =
-      hopped_fit g l base p place f h t to
-      (record { valid = here.valid; has = here.memory; runs = b_ready }) low j.count j.memory j.hops.path.steps j.hops.stores
+      hopped_fit g l base p place f h t to here_fit low j.count j.memory j.hops.path.steps
+      (first_kept g l base p place f h t j.memory here_fit j.hops.stores).0
 
   -- on from where the branch leads
-  then_on : (mid to most : ℕ) (j : Goes t mid (place (l.image node c.number) 2) 2 6)
-      → Arrives g l base p place f h (hopped t mid j.memory) to most → Comes to (6 + most)
+  then_on : (edges : List ℕ) (mid to most : ℕ) (j : Goes t mid (place (l.image node c.number) 2) 2 6)
+      → Arrives g l base p place f h edges (hopped t mid j.memory) to most → Comes edges to (6 + most)
   unfolding IsOn of_hop
-  then_on mid to most k rest =
+  then_on edges mid to most k rest =
+      let kept = first_kept g l base p place f h t k.memory here_fit k.hops.stores in
       let some = k.some in
       let few = k.few in
       let rfew = rest.few in
@@ -172,34 +186,46 @@ module _ (g : Setting) (l : Pieces) (base : ℕ) (p : Placement) (place : ℕ �
             (leads_weaker _ _ (hopped t mid k.memory) _ rest.count (λ u q. inr q) rest.path)
             (λ _ pos. inr (rest.begins pos));
         silent = silent_then t (hopped t mid k.memory) k.count rest.count k.hops.path.steps k.hops.silent rest.silent;
-        stores = stores_then IsFirstWord IsFirstWord t.memory k.memory rest.memory (λ z e. e) k.hops.stores rest.stores;
+        stores = stores_then (IsAmongWords f.own) (IsAmongWords f.own) t.memory k.memory rest.memory (λ z e. e) kept.0
+            rest.stores;
+        cells = rest.cells
+            ∙ updates_same g.snips edges (words_at g.notes.base g.notes.cells k.memory) (hopped t mid k.memory) t refl
+            ∙ ap (λ z. updates g.snips edges z t) kept.1.1;
       }
 
-  takes : (to : ℕ) → Goes t (slice_index p.at c.taken) (place (l.image node c.number) 2) 2 6
-      → LeadsTo l p (record { 0 = c.taken }) to → Comes to 10
-  takes to j leads =
-      then_on (slice_index p.at c.taken) to 4 j
-      (arrive g l base p place f h (record { 0 = c.taken }) (hopped t (slice_index p.at c.taken) j.memory) to
+  takes : (edges : List ℕ) (to : ℕ) → Goes t (slice_index p.at c.taken) (place (l.image node c.number) 2) 2 6
+      → LeadsTo l p (record { 0 = c.taken }) edges to → Comes edges to 10
+  takes edges to j leads =
+      then_on edges (slice_index p.at c.taken) to 4 j
+      (arrive g l base p place f h (record { 0 = c.taken }) edges (hopped t (slice_index p.at c.taken) j.memory) to
       (of_hop_fit (slice_index p.at c.taken) (h.laid.aligned c.taken).1 j) refl leads)
 
-  passes : (to : ℕ) → Goes t (place (l.image node c.number) 2) (place (l.image node c.number) 2) 2 6
-      → LeadsTo l p (record { 0 = c.untaken }) to → Comes to 14
-  passes to j leads =
+  passes : (edges : List ℕ) (to : ℕ) → Goes t (place (l.image node c.number) 2) (place (l.image node c.number) 2) 2 6
+      → LeadsTo l p (record { 0 = c.untaken }) edges to → Comes edges to 14
+  passes edges to j leads =
       let low = h.laid.low in
       let n2 = b_inside.2 in
-      then_on (place (l.image node c.number) 2) to 8 j
-      (tail g l base p place f h (l.image node c.number) _ _ _ c.items
+      then_on edges (place (l.image node c.number) 2) to 8 j
+      (tail g l base p place f h (l.image node c.number) (it.Jump (record { 0 = c.untaken }) ∷ []) c.address
+      (number_in g node) (it.Branch c.cond (record { 0 = c.taken })) c.items edges
       (hopped t (place (l.image node c.number) 2) j.memory) to
-      (of_hop_fit (place (l.image node c.number) 2) (omega arith) j) (sym b_closes) (omega arith)
-      (inr (inl (record { 0 = c.untaken }, b_item 3, leads))))
+      (of_hop_fit (place (l.image node c.number) 2) (omega arith) j) (sym b_closes)
+      (inr (inl (record {
+        first = [];
+        others = edges;
+        all = refl;
+        piece = record { 0 = c.untaken };
+        rest = ap (option_map (drop 3)) c.items;
+        leads = leads;
+      }))))
 
-  turned : (to most : ℕ) (v : State) → IsMoved (at_point x t) v → Comes to most → most ≤ 64 → (edges : List ℕ)
+  turned : (edges : List ℕ) (to most : ℕ) (v : State) → IsMoved (at_point x t) v → Comes edges to most → most ≤ 64
       → to ≡ visited_at g l p f (node_after (graph_in g) node edges) (point_of v)
       → (v.slot ≡ Taken → same_kind (way_of (instr_at g.text (v.pc - 4)) v.slot) kinds.Out ≡ true → ⊥)
       → StepsOn g (Here g l base p f) Everything edges node x t v
-  turned to most v m j bound edges is never =
+  turned edges to most v m j bound is never =
       let few = j.few in
-      let stores = first_own g l base p place f h t.memory j.memory j.stores in
+      let stores = j.stores in
       let w : State = moved m.pc m.npc m.slot t in
       let same : v ≡ moved m.pc m.npc m.slot t = m.is in
       record {
@@ -208,7 +234,7 @@ module _ (g : Setting) (l : Pieces) (base : ℕ) (p : Placement) (place : ℕ �
         path = record {
           steps = j.path.steps;
           some = j.some;
-          few = omega arith;
+          few = omega (arith, few, bound);
           quiet = quiet_of g l base p place f h node t _ j.count IsOn j.path here.live on_way;
         };
         puts = λ descriptor. j.silent descriptor
@@ -226,7 +252,8 @@ module _ (g : Setting) (l : Pieces) (base : ℕ) (p : Placement) (place : ℕ �
           items = λ _ thing _ _. same_at thing v (hopped t to j.memory) (ap (λ (z : State). z.registers) same)
               (ap (λ (z : State). z.codes) same) (ap (λ (z : State). z.y) same);
         };
-        cells = cells_same g l base p place f h edges t v (hopped t to j.memory);
+        cells = j.cells
+            ∙ updates_same g.snips edges (cells_in g t) t v (sym (ap (λ (z : State). register_of z) same));
         here = λ _. record {
           valid = subst IsValid j.path.steps (run-valid t j.count here.valid);
           live = here.live;
@@ -246,17 +273,19 @@ module _ (g : Setting) (l : Pieces) (base : ℕ) (p : Placement) (place : ℕ �
       (point_of (does_at g x t)) in
       let way = subst (λ (b : Bool). Goes t (if b then slice_index p.at c.taken else place (l.image node c.number) 2)
       (place (l.image node c.number) 2) 2 6) e hop in
-      turned to 10 (does_at g x t) (branch_moves g x t c.none c.word c.is_word c.cond c.annul c.disp c.says)
-      (takes to way (subst (λ (b : Bool). LeadsTo l p (record { 0 = if b then c.taken else c.untaken }) to) e c.leads))
-      (omega arith) (gone_at g node x (does_at g x t)) refl c.never
+      turned (gone_at g node x (does_at g x t)) to 10 (does_at g x t) (branch_moves g x t c.none c.word c.is_word c.cond c.annul c.disp c.says)
+      (takes (gone_at g node x (does_at g x t)) to way (subst (λ (b : Bool).
+      LeadsTo l p (record { 0 = if b then c.taken else c.untaken }) (gone_at g node x (does_at g x t)) to) e c.leads))
+      (omega arith) refl c.never
   b_step false e =
       let to = visited_at g l p f (node_after (graph_in g) node (gone_at g node x (does_at g x t)))
       (point_of (does_at g x t)) in
       let way = subst (λ (b : Bool). Goes t (if b then slice_index p.at c.taken else place (l.image node c.number) 2)
       (place (l.image node c.number) 2) 2 6) e hop in
-      turned to 14 (does_at g x t) (branch_moves g x t c.none c.word c.is_word c.cond c.annul c.disp c.says)
-      (passes to way (subst (λ (b : Bool). LeadsTo l p (record { 0 = if b then c.taken else c.untaken }) to) e c.leads))
-      (omega arith) (gone_at g node x (does_at g x t)) refl c.never
+      turned (gone_at g node x (does_at g x t)) to 14 (does_at g x t) (branch_moves g x t c.none c.word c.is_word c.cond c.annul c.disp c.says)
+      (passes (gone_at g node x (does_at g x t)) to way (subst (λ (b : Bool).
+      LeadsTo l p (record { 0 = if b then c.taken else c.untaken }) (gone_at g node x (does_at g x t)) to) e c.leads))
+      (omega arith) refl c.never
 
 pub turns_step : TurnsStep
 turns_step g l base p place f node x t h here c = b_step g l base p place f h node x t here c

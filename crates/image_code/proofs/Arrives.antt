@@ -1,0 +1,536 @@
+-- Ways through words in no place: the snippets of some edges, Jumps and long jumps.
+use Rattle.std.proofs.Common.{◌≡◌, ℕ, zero, suc, ◌+◌, ◌*◌, ◌^◌, ◌<◌, ◌≤◌, inl, inr, Option, Some, None, List, [], ◌∷◌, ◌++◌, drop, length, map, append-nil, refl, ap, sym, ◌∙◌, subst, arith}
+use Rattle.std.specs.Prelude.{slice_get, slice_index, false}
+use Rattle.std.specs.List.{flat_map}
+use Rattle.std.specs.Option.{option_map}
+use Rattle.std.proofs.lemmas.Bool.{cases_lt}
+use Rattle.std.proofs.lemmas.List.{length-append, map-append, append_assoc}
+use Rattle.std.proofs.lemmas.List.Concat.{flat_map-cons}
+use Rattle.eel_base.specs.declared.numbers.PieceNo.{PieceNo}
+use Rattle.v8_alu.specs.Numbers.{wrapped}
+use Rattle.v8_memory.specs.Regions.{Memory, code_of, fetch_from}
+use Rattle.v8_step.specs.State.{State, register_of}
+use Rattle.v8_step.specs.Run.{run}
+use Rattle.v8_step.specs.Valid.{IsValid}
+use Rattle.v8_step.specs.Visits.{pages_of}
+use Rattle.v8_step.proofs.ValidSteps.{run-valid}
+use Rattle.cfg_normal.specs.declared.Node.{Node}
+use Rattle.code_runs.specs.Hops.{hopped}
+use Rattle.code_runs.specs.Leads.{Leads, IsSilent}
+use Rattle.code_runs.specs.LongJump.{IsFirstWord, long_jump}
+use Rattle.code_runs.specs.Ours.{IsAmongWords}
+use Rattle.code_runs.specs.Page.{page_word}
+use Rattle.code_runs.specs.StoredWords.{CanStore, Stores, memory_word, store_word}
+use Rattle.code_runs.specs.Straight.{HasWords, StandIn}
+use Rattle.code_runs.proofs.Hops.{stores_then}
+use Rattle.code_runs.proofs.Leads.{leads_none, leads_then, leads_weaker, silent_none, silent_then}
+use Rattle.code_runs.proofs.LongJump.{long_jumps_hop}
+use Rattle.code_runs.proofs.Stays.{stores_there}
+use Rattle.code_runs.proofs.TwoRegisters.{stores_none}
+use Rattle.snippet_code.specs.Runs.{IsAboutToRun, IsCellOf, MayStore, RunsPast, cell_at, kept_word, words_at}
+use Rattle.jump_code.specs.Pieces.{far_piece}
+use Rattle.jump_code.proofs.Fitting.{long_jump_fits}
+use Rattle.jump_code.proofs.Laid.{words_after}
+use Rattle.layout.specs.Emitting.{words_of}
+use Rattle.layout.specs.declared.items.Item.{Item}
+use Rattle.layout.specs.declared.items.Item.TheVariants as it
+use Rattle.layout.specs.Laid.{Placement, item_at, item_in, items_in, size_of, open_in, open_from, range_in, range_of, IsWordAt}
+use Rattle.layout.specs.Running.{CanRun, HasCode}
+use Rattle.layout.proofs.Going.{stays, jumps_hop}
+use Rattle.image_code.specs.Simulates.{Setting, IsOnWay, cells_in, operations_on, snippet_on, updates}
+use Rattle.image_code.specs.Images.{Pieces, Frame, HasImages, IsPlaced}
+use Rattle.image_code.specs.Cases.{IsFar, JumpsOn, LeadsTo, LeadsOn, rest_from, words_on}
+use Rattle.image_code.proofs.Between.{can_run, get_below, item_below, item_size, on_none, stores_weaker}
+use Rattle.image_code.proofs.Cells.{cells_above, cell_stored, first_above, may_beside, may_own, operations_then, updates_same, updates_then, word_kept}
+use Rattle.image_code.proofs.Memories.{images_stored}
+
+-- ---- items without a Mark
+
+abbrev IsUnmarked : Item → Type 0
+IsUnmarked (it.Mark address node) = ⊥
+IsUnmarked it.EndMark = ⊥
+IsUnmarked _ = Unit {0}
+
+abbrev pub AreUnmarked : List Item → Type 0
+AreUnmarked [] = Unit {0}
+AreUnmarked (x ∷ xs) = IsUnmarked x × AreUnmarked xs
+
+pub words_unmarked : (ws : List ℕ) (xs : List Item) → AreUnmarked xs → AreUnmarked (map it.Word ws ++ xs)
+words_unmarked [] xs are = are
+words_unmarked (w ∷ ws) xs are = (tt, words_unmarked ws xs are)
+
+pub unmarked_open : (xs : List Item) (n k : ℕ) → AreUnmarked xs → open_from xs n k None ≡ None
+unmarked_open [] n k are = refl
+unmarked_open (x ∷ xs) n zero are = refl
+unmarked_open (it.Word w ∷ xs) n (suc k) are = unmarked_open xs (suc n) k are.1
+unmarked_open (it.Jump z ∷ xs) n (suc k) are = unmarked_open xs (suc n) k are.1
+unmarked_open (it.Branch c z ∷ xs) n (suc k) are = unmarked_open xs (suc n) k are.1
+unmarked_open (it.Mark a b ∷ xs) n (suc k) are = absurd are.0
+unmarked_open (it.EndMark ∷ xs) n (suc k) are = absurd are.0
+
+pub get_word : (ws : List ℕ) (j w : ℕ) (xs : List Item) → slice_get ws j ≡ Some w
+    → slice_get (map it.Word ws ++ xs) j ≡ Some (it.Word w)
+get_word [] j w xs e = absurd (cc)
+get_word (v ∷ vs) zero w xs e = cc
+get_word (v ∷ vs) (suc j) w xs e = get_word vs j w xs e
+
+get_behind : (xs ys : List Item) (j : ℕ) → slice_get (xs ++ ys) (length xs + j) ≡ slice_get ys j
+get_behind [] ys j = (let e : 0 + j ≡ j = omega arith in ap (slice_get ys) e)
+get_behind (x ∷ xs) ys j =
+    (let e : suc (length xs) + j ≡ suc (length xs + j) = omega arith in ap (slice_get (x ∷ (xs ++ ys))) e)
+    ∙ get_behind xs ys j
+
+behind_unmarked : (xs ys : List Item) → AreUnmarked (xs ++ ys) → AreUnmarked ys
+behind_unmarked [] ys are = are
+behind_unmarked (x ∷ xs) ys are = behind_unmarked xs ys are.1
+
+pub length_words : (ws : List ℕ) → length (map it.Word ws) ≡ length ws
+length_words [] = refl
+length_words (w ∷ ws) = let e = length_words ws in omega (arith, e)
+
+-- From its item n on, a piece is these items, none of them a Mark or the end of one.
+pub record Rest (l : Pieces) (k n : ℕ) (xs : List Item) : Type 0 where
+  pub within : k < length l.list
+  pub size : size_of l.list k ≡ n + length xs
+  pub items : (j : ℕ) → item_at l.list k (n + j) ≡ slice_get xs j
+  pub shut : (j : ℕ) → open_in (slice_get l.list k) (n + j) ≡ None
+  pub unmarked : AreUnmarked xs
+
+pub rest_whole : (l : Pieces) (k : ℕ) (xs : List Item) → AreUnmarked xs → slice_get l.list k ≡ Some xs → Rest l k 0 xs
+rest_whole l k xs are is = record {
+  within = get_below l.list k xs is;
+  size = ap (λ (v : Option (List Item)). items_in v) is ∙ (let e : length xs ≡ 0 + length xs = omega arith in e);
+  items = λ j.
+      let e : 0 + j ≡ j = omega arith in
+      ap (item_at l.list k) e ∙ ap (λ (v : Option (List Item)). item_in v j) is;
+  shut = λ j.
+      let e : 0 + j ≡ j = omega arith in
+      ap (open_in (slice_get l.list k)) e ∙ ap (λ (v : Option (List Item)). open_in v j) is ∙ unmarked_open xs 0 j are;
+  unmarked = are;
+}
+
+-- behind a Mark with one item
+pub rest_marked : (l : Pieces) (k : ℕ) (address : _) (node : ℕ) (y : Item) (xs : List Item) → AreUnmarked xs
+    → slice_get l.list k ≡ Some (it.Mark address node ∷ y ∷ it.EndMark ∷ xs) → Rest l k 3 xs
+rest_marked l k address node y xs are is = record {
+  within = get_below l.list k _ is;
+  size = ap (λ (v : Option (List Item)). items_in v) is
+      ∙ (let e : suc (suc (suc (length xs))) ≡ 3 + length xs = omega arith in e);
+  items = λ j.
+      let e : 3 + j ≡ suc (suc (suc j)) = omega arith in
+      ap (item_at l.list k) e ∙ ap (λ (v : Option (List Item)). item_in v (suc (suc (suc j)))) is;
+  shut = λ j.
+      let e : 3 + j ≡ suc (suc (suc j)) = omega arith in
+      ap (open_in (slice_get l.list k)) e
+      ∙ ap (λ (v : Option (List Item)). open_in v (suc (suc (suc j)))) is ∙ unmarked_open xs 3 j are;
+  unmarked = are;
+}
+
+pub rest_behind : (l : Pieces) (k n : ℕ) (xs ys : List Item) → Rest l k n (xs ++ ys) → Rest l k (n + length xs) ys
+rest_behind l k n xs ys r =
+    let size = r.size in
+    let both = length-append xs ys in
+    record {
+      within = r.within;
+      size = omega (arith, size, both);
+      items = λ j.
+          let e : n + length xs + j ≡ n + (length xs + j) = omega arith in
+          ap (item_at l.list k) e ∙ r.items (length xs + j) ∙ get_behind xs ys j;
+      shut = λ j.
+          let e : n + length xs + j ≡ n + (length xs + j) = omega arith in
+          ap (open_in (slice_get l.list k)) e ∙ r.shut (length xs + j);
+      unmarked = behind_unmarked xs ys r.unmarked;
+    }
+
+pub far_unmarked : (to : ℕ) → AreUnmarked (far_piece to)
+far_unmarked to = (tt, (tt, (tt, (tt, tt))))
+
+module _ (g : Setting) (l : Pieces) (base : ℕ) (p : Placement) (place : ℕ → ℕ → ℕ) (f : Frame)
+    (h : IsPlaced g l base p place f) where
+  -- in the code, and in no place
+  abbrev pub IsBare : State → Type 0
+  IsBare u = (base ≤ u.pc) × (u.pc < base + 4 * length p.code) × (range_in p.ranges u.pc ≡ None)
+
+  pub bare_on : (node : Node) (t u : State) → u.ending ≡ None → IsBare u → IsOnWay g node t u
+  bare_on node t u live bare = on_none g l base p place f h node t u live bare.0 bare.1 bare.2
+
+  -- A way through such words and the snippets of some edges: all stays as it was but words of the editor's, and in them the
+  -- cells are updated, and the target that waits in word 1 of the page stays.
+  pub record Arrives (edges : List ℕ) (a : State) (to most : ℕ) : Type 0 where
+    pub count : ℕ
+    pub memory : Memory
+    pub few : count ≤ most + 22 * operations_on g.snips edges
+    pub path : Leads IsBare a (hopped a to memory) count
+    pub silent : IsSilent a count
+    pub stores : Stores (IsAmongWords f.own) a.memory memory
+    pub waits : memory_word memory (page_word 1) ≡ memory_word a.memory (page_word 1)
+    pub cells : words_at g.notes.base g.notes.cells memory ≡ updates g.snips edges (cells_in g a) a
+    pub begins : 0 < count → IsBare a
+
+  -- what it takes to run on
+  pub record IsFit (a : State) : Type 0 where
+    pub valid : IsValid a
+    pub has : HasImages g base p f a.memory
+    pub runs : CanRun base p.code a
+
+  pub hopped_fit : (a : State) (to : ℕ) → IsFit a → to ≤ 2 ^ 31 → (count : ℕ) (m : Memory)
+      → run a count ≡ hopped a to m → Stores (IsAmongWords f.own) a.memory m → IsFit (hopped a to m)
+  hopped_fit a to k low count m steps stores =
+      let valid : IsValid (hopped a to m) = subst IsValid steps (run-valid a count k.valid) in
+      let has : HasImages g base p f m =
+      images_stored g f h.frame base p a (hopped a to m) count steps stores k.has in
+      let npc : wrapped (to + 4) ≡ to + 4 = omega arith in
+      record {
+        valid = valid;
+        has = has;
+        runs = can_run g l base p place f h (hopped a to m) valid k.runs.ready.live npc refl has;
+      }
+
+  -- word 1 of the page can be stored in
+  pub second_there : (a : State) → IsFit a → CanStore a.memory (page_word 1)
+  second_there a fit =
+      stores_there (page_word 1) a.memory (fit.has.ours.words (page_word 1) (h.frame.page 1 (omega arith)))
+
+  -- stores in word 0 of the page
+  pub first_kept : (a : State) (m : Memory) → IsFit a → Stores IsFirstWord a.memory m
+      → Stores (IsAmongWords f.own) a.memory m
+      × ((memory_word m (page_word 1) ≡ memory_word a.memory (page_word 1))
+      × (words_at g.notes.base g.notes.cells m ≡ cells_in g a))
+  first_kept a m fit stores = (
+    stores_weaker IsFirstWord (IsAmongWords f.own) a.memory m
+        (λ z e. subst (IsAmongWords f.own) (sym e) h.frame.own.first) stores,
+    (
+      word_kept IsFirstWord (page_word 1) (λ z e. inr (omega (arith, e))) a.memory m stores (second_there a fit),
+      cells_above g l f h.frame h.cells IsFirstWord first_above a.memory m fit.has.ours stores,
+    ),
+  )
+
+  pub stays_here : (a : State) (to most : ℕ) → CanRun base p.code a → a.pc ≡ to → a.pc ≤ 2 ^ 31 → Arrives [] a to most
+  stays_here a to most w e low = record {
+    count = 0;
+    memory = a.memory;
+    few = omega arith;
+    path = subst (λ (q : State). Leads IsBare a q 0) (sym (stays a to e w.ready.npc w.slot (omega arith)))
+        (leads_none _ a);
+    silent = silent_none a;
+    stores = stores_none (IsAmongWords f.own) a.memory;
+    waits = refl;
+    cells = refl;
+    begins = λ q. absurd (omega arith);
+  }
+
+  -- an item outside each Mark
+  pub bare_item : (k n : ℕ) (x : Item) → item_at l.list k n ≡ Some x → open_in (slice_get l.list k) n ≡ None → (u : State)
+      → place k n ≤ u.pc → u.pc < place k (suc n) → IsBare u
+  bare_item k n x item closed u low high =
+      let size = item_size l.list k n x item in
+      let here = item_below l.list k n x item in
+      let ends = (h.laid.within k (suc n) here (omega arith)).ends in
+      let starts = (h.laid.within k n here (omega arith)).begins in (
+        omega arith,
+        omega arith,
+        h.laid.ranges k n u.pc x item low high ∙ ap (range_of (place k)) closed,
+      )
+
+  -- a Jump outside each Mark
+  pub jump_on : (k n : ℕ) (z : PieceNo) → item_at l.list k n ≡ Some (it.Jump z) → open_in (slice_get l.list k) n ≡ None
+      → (a : State) → IsFit a → a.pc ≡ place k n → Arrives [] a (slice_index p.at z.0) 4
+  jump_on k n z item closed a fit at =
+      let j = jumps_hop l.list base p place h.laid k n z item a fit.runs at in
+      let ins = j.inside in
+      let none = bare_item k n (it.Jump z) item closed in
+      let kept = first_kept a j.memory fit j.hops.stores in
+      let few = j.few in
+      record {
+        count = j.count;
+        memory = j.memory;
+        few = omega (arith, few);
+        path = leads_weaker _ _ a _ j.count (λ u q. let b = q.past in let c = q.before in none u (omega arith)
+            (omega arith)) j.hops.path;
+        silent = j.hops.silent;
+        stores = kept.0;
+        waits = kept.1.0;
+        cells = kept.1.1;
+        begins = λ q. none a (omega arith) (omega arith);
+      }
+
+  -- a way after another one
+  pub on_then : (edges first others : List ℕ) → edges ≡ first ++ others → (a : State) (mid to few more : ℕ)
+      (one : Arrives first a mid few) → Arrives others (hopped a mid one.memory) to more
+      → Arrives edges a to (few + more)
+  on_then edges first others all a mid to few more one other =
+      let f1 = one.few in
+      let m1 = other.few in
+      let sum : operations_on g.snips edges ≡ operations_on g.snips first + operations_on g.snips others =
+      ap (operations_on g.snips) all ∙ operations_then g.snips first others in
+      let b : State = hopped a mid one.memory in
+      record {
+        count = one.count + other.count;
+        memory = other.memory;
+        few = omega (arith, f1, m1, sum);
+        path = leads_then IsBare a b _ one.count other.count one.path other.path (λ _ some. other.begins some);
+        silent = silent_then a b one.count other.count one.path.steps one.silent other.silent;
+        stores = stores_then (IsAmongWords f.own) (IsAmongWords f.own) a.memory one.memory other.memory
+            (λ z e. e) one.stores other.stores;
+        waits = other.waits ∙ one.waits;
+        cells = other.cells ∙ updates_same g.snips others (words_at g.notes.base g.notes.cells one.memory) b a refl
+            ∙ ap (λ z. updates g.snips others z a) one.cells ∙ sym (updates_then g.snips first others (cells_in g a) a)
+            ∙ ap (λ z. updates g.snips z (cells_in g a) a) (sym all);
+        begins = λ some. elim (cases_lt 0 one.count) [
+          | inl more ↦ one.begins more
+          | inr none ↦
+              let still : one.count ≡ 0 = omega arith in
+              subst IsBare (sym one.path.steps ∙ ap (run a) still) (other.begins (omega arith))
+        ];
+      }
+
+  -- ---- words
+
+  -- words from item n on: where they stand, and that all they take is in no place
+  pub record Stood (m : Memory) (k n : ℕ) (ws : List ℕ) : Type 0 where
+    pub words : HasWords (code_of m) (place k n) ws
+    pub end : place k (n + length ws) ≡ place k n + 4 * length ws
+    pub bare : (u : State) → place k n ≤ u.pc → u.pc < place k n + 4 * length ws → IsBare u
+
+  word_fetched : (m : Memory) → HasCode base p.code m → (a w : ℕ) → IsWordAt base p.code a w
+      → fetch_from (code_of m) a ≡ Some w
+  word_fetched m has a w (n, at, found) = ap (fetch_from (code_of m)) at ∙ has n w found
+
+  pub stood : (m : Memory) → HasCode base p.code m → (k n : ℕ) (ws : List ℕ) (xs : List Item)
+      → Rest l k n (map it.Word ws ++ xs) → Stood m k n ws
+  stood m has k n [] xs r =
+      let e : n + 0 ≡ n = omega arith in
+      let same = ap (place k) e in
+      record { words = tt; end = omega (arith, same); bare = λ u from to. absurd (omega (arith, from, to)) }
+  stood m has k n (w ∷ ws) xs r =
+      let e : n + 0 ≡ n = omega arith in
+      let item : item_at l.list k n ≡ Some (it.Word w) = ap (item_at l.list k) (sym e) ∙ r.items 0 in
+      let shut : open_in (slice_get l.list k) n ≡ None = ap (open_in (slice_get l.list k)) (sym e) ∙ r.shut 0 in
+      let at = h.laid.items k n (it.Word w) item in
+      let next : place k (suc n) ≡ place k n + 4 = at.0 in
+      let one : n + 1 ≡ suc n = omega arith in
+      let more = stood m has k (suc n) ws xs
+      (subst (λ z. Rest l k z (map it.Word ws ++ xs)) one
+      (rest_behind l k n (it.Word w ∷ []) (map it.Word ws ++ xs) r)) in
+      let all : n + suc (length ws) ≡ suc n + length ws = omega arith in
+      let end = ap (place k) all in
+      let after = more.end in
+      record {
+        words = (word_fetched m has (place k n) w at.1, subst (λ z. HasWords (code_of m) z ws) next more.words);
+        end = omega (arith, end, after, next);
+        bare = λ u from to. elim (cases_lt u.pc (place k (suc n))) [
+          | inl before ↦ bare_item k n (it.Word w) item shut u from before
+          | inr behind ↦ more.bare u behind (omega (arith, to, next))
+        ];
+      }
+
+  -- where words end, inside the code
+  pub stood_low : (k n : ℕ) (ws : List ℕ) (xs : List Item) → Rest l k n (map it.Word ws ++ xs)
+      → place k (n + length ws) ≤ 2 ^ 31
+  stood_low k n ws xs r =
+      let size = r.size in
+      let both = length-append (map it.Word ws) xs in
+      let words = length_words ws in
+      let ends = (h.laid.within k (n + length ws) r.within (omega (arith, size, both, words))).ends in
+      let low = h.laid.low in
+      omega (arith, ends, low)
+
+  -- ---- the snippets of some edges
+
+  snippet_runs : (edge k n : ℕ) (xs : List Item) → Rest l k n (map it.Word (l.codes edge) ++ xs) → (a : State) → IsFit a
+      → a.pc ≡ place k n → Arrives (edge ∷ []) a (place k (n + length (l.codes edge))) 0
+  snippet_runs edge k n xs r a fit at =
+      let words = l.codes edge in
+      let there = stood a.memory fit.has.code k n words xs r in
+      let end = there.end in
+      let low = stood_low k n words xs r in
+      let short = h.cells.short edge in
+      let about : IsAboutToRun words g.notes.base (snippet_on g.snips edge) a = record {
+        valid = fit.valid;
+        ready = fit.runs.ready;
+        slot = fit.runs.slot;
+        low = omega (arith, at, end, low);
+        stand = subst (λ z. HasWords (code_of a.memory) z words) (sym at) there.words;
+        cell = λ cell named. cell_stored g l f h.frame h.cells a.memory fit.has.ours cell (h.cells.named edge cell named);
+        page = λ i few. stores_there (kept_word i) a.memory (fit.has.ours.words (kept_word i) (h.frame.page (i + 2)
+            (omega (arith, few))));
+      } in
+      let past : RunsPast (λ _. false) g.notes.base [] (snippet_on g.snips edge) (length words) (h.cells.spills edge) a =
+      h.cells.does edge (λ _. false) (λ _ _. refl) a about in
+      let few = past.few in
+      let to : a.pc + 4 * length words ≡ place k (n + length words) = omega (arith, at, end) in
+      record {
+        count = past.steps;
+        memory = past.after.memory;
+        few = omega (arith, few, short);
+        path = subst (λ (q : State). Leads IsBare a q past.steps)
+            (past.all refl ∙ ap (λ z. hopped a z past.after.memory) to)
+            (leads_weaker _ IsBare a past.after past.steps
+            (λ u q. let b = q.past in let c = q.before in there.bare u (omega (arith, at, b)) (omega (arith, at, c)))
+            past.path);
+        silent = past.silent;
+        stores = stores_weaker (MayStore g.notes.base (snippet_on g.snips edge)) (IsAmongWords f.own) a.memory
+            past.after.memory (may_own g l f h.frame h.cells edge) past.stores;
+        waits = word_kept (MayStore g.notes.base (snippet_on g.snips edge)) (page_word 1)
+            (may_beside g l f h.frame h.cells edge) a.memory past.after.memory past.stores (second_there a fit);
+        cells = past.cells g.notes.cells (h.cells.named edge) h.cells.low;
+        begins = λ some. there.bare a (omega (arith, at)) (omega (arith, at, some, few));
+      }
+
+  pub snippets_run : (edges : List ℕ) (k n : ℕ) (xs : List Item) → Rest l k n (words_on l edges ++ xs) → (a : State)
+      → IsFit a → a.pc ≡ place k n → Arrives edges a (place k (n + length (flat_map l.codes edges))) 0
+  snippets_run [] k n xs r a fit at =
+      let e : n + 0 ≡ n = omega arith in
+      let low = stood_low k n [] xs r in
+      let same = ap (place k) e in
+      stays_here a (place k (n + 0)) 0 fit.runs (at ∙ sym same) (omega (arith, at, same, low))
+  snippets_run (edge ∷ edges) k n xs r a fit at =
+      let first = l.codes edge in
+      let both : flat_map l.codes (edge ∷ edges) ≡ first ++ flat_map l.codes edges = flat_map-cons l.codes edge edges in
+      let shape : words_on l (edge ∷ edges) ++ xs ≡ map it.Word first ++ (words_on l edges ++ xs) =
+      ap (λ z. map it.Word z ++ xs) both ∙ ap (λ z. z ++ xs) (map-append it.Word first (flat_map l.codes edges))
+      ∙ append_assoc (map it.Word first) (words_on l edges) xs in
+      let r2 : Rest l k n (map it.Word first ++ (words_on l edges ++ xs)) = subst (Rest l k n) shape r in
+      let size = length_words first in
+      let r3 : Rest l k (n + length first) (words_on l edges ++ xs) =
+      subst (λ z. Rest l k (n + z) (words_on l edges ++ xs)) size
+      (rest_behind l k n (map it.Word first) (words_on l edges ++ xs) r2) in
+      let one = snippet_runs edge k n (words_on l edges ++ xs) r2 a fit at in
+      let low = stood_low k n first (words_on l edges ++ xs) r2 in
+      let mid = place k (n + length first) in
+      let fit2 : IsFit (hopped a mid one.memory) = hopped_fit a mid fit low one.count one.memory one.path.steps one.stores in
+      let other = snippets_run edges k (n + length first) xs r3 (hopped a mid one.memory) fit2 refl in
+      let sum : n + length first + length (flat_map l.codes edges) ≡ n + length (flat_map l.codes (edge ∷ edges)) =
+      (let q = ap length both ∙ length-append first (flat_map l.codes edges) in omega (arith, q)) in
+      subst (λ z. Arrives (edge ∷ edges) a z 0) (ap (place k) sum)
+      (on_then (edge ∷ edges) (edge ∷ []) edges refl a mid _ 0 0 one other)
+
+  -- and then whatever comes behind them
+  pub snippets_then : (edges : List ℕ) (k n : ℕ) (xs : List Item) → Rest l k n (words_on l edges ++ xs) → (a : State)
+      → IsFit a → a.pc ≡ place k n → (others : List ℕ) (to more : ℕ)
+      → ((b : State) → IsFit b → b.pc ≡ place k (n + length (flat_map l.codes edges))
+      → Rest l k (n + length (flat_map l.codes edges)) xs → Arrives others b to more)
+      → Arrives (edges ++ others) a to more
+  snippets_then edges k n xs r a fit at others to more behind =
+      let one = snippets_run edges k n xs r a fit at in
+      let mid = place k (n + length (flat_map l.codes edges)) in
+      let low = stood_low k n (flat_map l.codes edges) xs r in
+      let r2 : Rest l k (n + length (flat_map l.codes edges)) xs =
+      subst (λ z. Rest l k (n + z) xs) (length_words (flat_map l.codes edges)) (rest_behind l k n (words_on l edges) xs r) in
+      let fit2 : IsFit (hopped a mid one.memory) = hopped_fit a mid fit low one.count one.memory one.path.steps one.stores in
+      let none : 0 + more ≡ more = omega arith in
+      subst (λ z. Arrives (edges ++ others) a to z) none
+      (on_then (edges ++ others) edges others refl a mid to 0 more one (behind (hopped a mid one.memory) fit2 refl r2))
+
+  -- ---- long jumps
+
+  -- a long jump to an address, outside each Mark
+  pub far_on : (k n to : ℕ) → IsFar to → Rest l k n (far_piece to) → (a : State) → IsFit a → a.pc ≡ place k n
+      → Arrives [] a to 4
+  far_on k n to far r a fit at =
+      let there = stood a.memory fit.has.code k n (words_of (long_jump to)) [] (subst (Rest l k n) (sym (append-nil (far_piece to))) r) in
+      let end = there.end in
+      let low = stood_low k n (words_of (long_jump to)) [] (subst (Rest l k n) (sym (append-nil (far_piece to))) r) in
+      let stand : StandIn (code_of a.memory) (place k n) (long_jump to) =
+      words_after l.list base p place h.laid a.memory fit.has.code k n (long_jump to) (long_jump_fits to far.0)
+      (λ i x e. r.items i ∙ e) in
+      let hops = long_jumps_hop to a fit.valid fit.runs.ready (omega (arith, at, end, low)) fit.runs.page
+      (subst (λ q. StandIn (code_of a.memory) q (long_jump to)) (sym at) stand) far.0 far.1 in
+      let kept = first_kept a (store_word a.memory (page_word 0) (register_of a 1)) fit hops.stores in
+      record {
+        count = 4;
+        memory = store_word a.memory (page_word 0) (register_of a 1);
+        few = omega arith;
+        path = leads_weaker _ _ a _ 4 (λ u q. let b = q.past in let c = q.before in there.bare u (omega (arith, at, b))
+            (omega (arith, at, c))) hops.path;
+        silent = hops.silent;
+        stores = kept.0;
+        waits = kept.1.0;
+        cells = kept.1.1;
+        begins = λ q. there.bare a (omega (arith, at)) (omega (arith, at));
+      }
+
+  -- ---- from the beginning of a piece
+
+  jump_unmarked : (edges : List ℕ) (z : PieceNo) → AreUnmarked (words_on l edges ++ it.Jump z ∷ [])
+  jump_unmarked edges z = words_unmarked (flat_map l.codes edges) (it.Jump z ∷ []) (tt, tt)
+
+  last_jump : (k n : ℕ) (z : PieceNo) → Rest l k n (it.Jump z ∷ []) → (a : State) → IsFit a → a.pc ≡ place k n
+      → Arrives [] a (slice_index p.at z.0) 4
+  last_jump k n z r a fit at =
+      let e : n ≡ n + 0 = omega arith in
+      jump_on k n z (ap (item_at l.list k) e ∙ r.items 0) (ap (open_in (slice_get l.list k)) e ∙ r.shut 0) a fit at
+
+  -- nothing comes after the edges' snippets
+  pub for_all : (edges : List ℕ) (a : State) (to most : ℕ) → Arrives (edges ++ []) a to most → Arrives edges a to most
+  for_all edges a to most way = subst (λ z. Arrives z a to most) (append-nil edges) way
+
+  pub arrive : (z : PieceNo) (edges : List ℕ) (a : State) (to : ℕ) → IsFit a → a.pc ≡ slice_index p.at z.0
+      → LeadsTo l p z edges to → Arrives edges a to 4
+  arrive z edges a to fit at (inl (none, e)) =
+      let low = (h.laid.aligned z.0).1 in
+      subst (λ q. Arrives q a to 4) (sym none) (stays_here a to 4 fit.runs (at ∙ e) (omega (arith, at, low)))
+  arrive z edges a to fit at (inr (inl (y, is, e))) =
+      let r = rest_whole l z.0 (words_on l edges ++ it.Jump y ∷ []) (jump_unmarked edges y) is in
+      for_all edges a to 4 (snippets_then edges z.0 0 (it.Jump y ∷ []) r a fit (at ∙ h.laid.starts z.0 r.within) [] to 4
+      (λ b fit2 there r2. subst (λ q. Arrives [] b q 4) e
+      (last_jump z.0 (0 + length (flat_map l.codes edges)) y r2 b fit2 there)))
+  arrive z edges a to fit at (inr (inr (far, is))) =
+      let r = rest_whole l z.0 (words_on l edges ++ far_piece to)
+      (words_unmarked (flat_map l.codes edges) (far_piece to) (far_unmarked to)) is in
+      for_all edges a to 4 (snippets_then edges z.0 0 (far_piece to) r a fit (at ∙ h.laid.starts z.0 r.within) [] to 4
+      (λ b fit2 there r2. far_on z.0 (0 + length (flat_map l.codes edges)) to far r2 b fit2 there))
+
+  -- ---- from item 3 of a piece on
+
+  pub weaker_arrives : (edges : List ℕ) (a : State) (to few most : ℕ) → few ≤ most → Arrives edges a to few
+      → Arrives edges a to most
+  weaker_arrives edges a to few most less one =
+      let short = one.few in
+      record {
+        count = one.count;
+        memory = one.memory;
+        few = omega (arith, less, short);
+        path = one.path;
+        silent = one.silent;
+        stores = one.stores;
+        waits = one.waits;
+        cells = one.cells;
+        begins = one.begins;
+      }
+
+  pub tail : (k : ℕ) (rest : List Item) (address : _) (number : ℕ) (y : Item)
+      → slice_get l.list k ≡ Some (it.Mark address number ∷ y ∷ it.EndMark ∷ rest) → (edges : List ℕ) (a : State) (to : ℕ)
+      → IsFit a → a.pc ≡ place k 3 → LeadsOn l p place k 3 edges to → Arrives edges a to 8
+  tail k rest address number y is edges a to fit at leads = by leads
+    where
+      some_rest : (xs : List Item) → rest_from l k 3 ≡ Some xs → rest ≡ xs
+      some_rest xs e = let q : Some rest ≡ Some xs = sym (ap (option_map (drop 3)) is) ∙ e in cc
+
+      with_rest : (xs : List Item) → AreUnmarked xs → rest_from l k 3 ≡ Some xs → Rest l k 3 xs
+      with_rest xs are e =
+          rest_marked l k address number y xs are
+          (is ∙ ap (λ z. Some (it.Mark address number ∷ y ∷ it.EndMark ∷ z)) (some_rest xs e))
+
+      by : LeadsOn l p place k 3 edges to → Arrives edges a to 8
+      by (inl (e, stands)) =
+          let shape : words_on l edges ≡ words_on l edges ++ [] = sym (append-nil (words_on l edges)) in
+          let r = with_rest (words_on l edges ++ []) (words_unmarked (flat_map l.codes edges) [] tt)
+          (e ∙ ap (λ z. Some z) shape) in
+          subst (λ q. Arrives edges a q 8) stands
+          (weaker_arrives edges a _ 0 8 (omega arith) (snippets_run edges k 3 [] r a fit at))
+      by (inr (inl j)) =
+          let r = with_rest (words_on l j.first ++ it.Jump j.piece ∷ []) (jump_unmarked j.first j.piece) j.rest in
+          subst (λ q. Arrives q a to 8) (sym j.all)
+          (snippets_then j.first k 3 (it.Jump j.piece ∷ []) r a fit at j.others to 8 (λ b fit2 there r2.
+          let one = last_jump k (3 + length (flat_map l.codes j.first)) j.piece r2 b fit2 there in
+          on_then j.others [] j.others refl b (slice_index p.at j.piece.0) to 4 4 one
+          (arrive j.piece j.others (hopped b (slice_index p.at j.piece.0) one.memory) to
+          (hopped_fit b (slice_index p.at j.piece.0) fit2 (h.laid.aligned j.piece.0).1 one.count one.memory
+          one.path.steps one.stores) refl j.leads)))
+      by (inr (inr (far, e))) =
+          let r = with_rest (words_on l edges ++ far_piece to)
+          (words_unmarked (flat_map l.codes edges) (far_piece to) (far_unmarked to)) e in
+          for_all edges a to 8 (snippets_then edges k 3 (far_piece to) r a fit at [] to 8 (λ b fit2 there r2.
+          weaker_arrives [] b to 4 8 (omega arith)
+          (far_on k (3 + length (flat_map l.codes edges)) to far r2 b fit2 there)))

@@ -1,0 +1,203 @@
+-- Small things, and what the notes say of states between two visits.
+use Rattle.std.proofs.Common.{◌≡◌, ℕ, zero, suc, ◌+◌, ◌-◌, ◌*◌, ◌^◌, ◌<◌, ◌≤◌, inl, inr, Bool, true, false, Option, Some, None, List, [], ◌∷◌, ◌++◌, drop, length, append-nil, refl, ap, sym, ◌∙◌, subst, arith}
+use Rattle.std.specs.Prelude.{if◌then◌else◌, slice_get, slice_index, ◌==◌, ℤ}
+use Rattle.std.specs.Option.{option_map, option_or}
+use Rattle.std.proofs.lemmas.Bool.{cases_lt}
+use Rattle.std.proofs.lemmas.Bool.Decides.{nat_tests}
+use Rattle.elf32_sparc.specs.Notes.{Notes, NoteRange, range_at, node_at}
+use Rattle.v8_decode.specs.declared.Instr.{Instr}
+use Rattle.v8_decode.specs.declared.Instr.TheVariants as i
+use Rattle.v8_decode.specs.Words.{decode_of}
+use Rattle.v8_alu.specs.Numbers.{wrapped}
+use Rattle.v8_memory.specs.Regions.{Memory, Region, code_of, fetch_from}
+use Rattle.v8_memory.specs.Spans.{Span, AllApart, IsSameOutside, IsSameRegion}
+use Rattle.v8_step.specs.declared.Ending.{Ending}
+use Rattle.v8_step.specs.declared.Slot.TheVariants.{NoSlot}
+use Rattle.v8_step.specs.State.{State, register_of}
+use Rattle.v8_step.specs.Step.{act, step_of, on_word, puts_by, puts_on_word}
+use Rattle.v8_step.specs.Run.{run, run_puts}
+use Rattle.v8_step.specs.Items.{Item as Thing, Register, Codes, YRegister, IsSameAt}
+use Rattle.v8_step.specs.Judged.{judged_by}
+use Rattle.v8_step.specs.Valid.{IsValid}
+use Rattle.v8_step.specs.Visits.{visit_of, visited, if_live, in_pages, pages_of}
+use Rattle.v8_step.proofs.Alike.{live_puts}
+use Rattle.v8_step.proofs.JudgedAlike.{judged_alike}
+use Rattle.v8_step.proofs.CopiedMoves.{goes_act}
+use Rattle.v8_step.proofs.ValidSteps.{run-valid}
+use Rattle.cfg_walk.proofs.Walks as walks
+use Rattle.cfg_walk.specs.Walk.{Point, gone, point_of, unless_ended}
+use Rattle.cfg_normal.specs.declared.Node.{Node}
+use Rattle.code_runs.specs.StoredWords.{AllAt, Stores, store_word}
+use Rattle.code_runs.specs.Leads.{Leads, IsSilent}
+use Rattle.code_runs.specs.Points.{moved}
+use Rattle.code_runs.specs.Hops.{hopped}
+use Rattle.code_runs.specs.Ours.{IsAmongWords}
+use Rattle.code_runs.proofs.Acts.{step_is}
+use Rattle.code_runs.proofs.Leads.{leads_none, leads_one, leads_then, leads_weaker, silent_none, silent_then, puts_add}
+use Rattle.code_runs.proofs.Hops.{stores_then}
+use Rattle.code_runs.proofs.Points.{acts_anywhere}
+use Rattle.code_runs.proofs.TwoRegisters.{stores_none}
+use Rattle.code_runs.proofs.Stays.{stores_there}
+use Rattle.code_runs.specs.LongJump.{IsFirstWord, long_jump}
+use Rattle.code_runs.specs.Straight.{StandIn}
+use Rattle.code_runs.proofs.LongJump.{long_jumps_hop}
+use Rattle.jump_code.specs.Pieces.{far_piece}
+use Rattle.jump_code.proofs.Fitting.{long_jump_fits}
+use Rattle.code_runs.specs.Page.{page_word}
+use Rattle.eel_base.specs.declared.numbers.Addr.{Addr}
+use Rattle.eel_base.specs.declared.numbers.PieceNo.{PieceNo}
+use Rattle.layout.specs.declared.items.Item.{Item}
+use Rattle.layout.specs.declared.items.Item.TheVariants as it
+use Rattle.layout.specs.Laid.{Placement, item_at, item_in, items_in, size_of, open_in, open_from, range_in, range_of, IsWordAt}
+use Rattle.layout.specs.Running.{CanRun}
+use Rattle.layout.proofs.Going.{stays, jumps_hop, words_stand}
+use Rattle.image_code.specs.Simulates.{Setting, cells_in, StepsOn, IsOnWay, IsFollowedBy, at_point, does_at, gone_at, graph_in, number_in, word_of}
+use Rattle.image_code.specs.Images.{Pieces, Frame, HasImages, Here, IsPlaced, visited_at}
+use Rattle.image_code.specs.Cases.{Everything, visits_it, IsFar, LeadsTo, LeadsOn, plain_piece, IsPlain, PlainsVisit, PlainsStep}
+use Rattle.image_code.proofs.Ended.{stops_act}
+use Rattle.image_code.proofs.Memories.{fetch_is, images_stay, images_stored, same_stored}
+
+-- ---- small things
+
+pub live_before : (s : State) (k j : ℕ) → (run s (k + j)).ending ≡ None → (run s j).ending ≡ None
+live_before s zero j e = (let f : j ≡ zero + j = omega arith in ap (λ z. (run s z).ending) f) ∙ e
+live_before s (suc k) j e =
+    live_before s k j (walks.live_before (run s (k + j))
+    ((let f : suc (k + j) ≡ suc k + j = omega arith in ap (λ z. (run s z).ending) f) ∙ e))
+
+each_weaker : (May Might : ℕ → Type 0) → ((z : ℕ) → May z → Might z) → (ws : List (ℕ × ℕ)) → AllAt May ws
+    → AllAt Might ws
+each_weaker May Might f [] h = tt
+each_weaker May Might f (w ∷ ws) h = (f w.0 h.0, each_weaker May Might f ws h.1)
+
+pub stores_weaker : (May Might : ℕ → Type 0) (m n : Memory) → ((z : ℕ) → May z → Might z) → Stores May m n
+    → Stores Might m n
+stores_weaker May Might m n f h = record { writes = h.writes; each = each_weaker May Might f h.writes h.each; result = h.result }
+
+region_refl : (o : Option Region) → IsSameRegion o o
+region_refl None = tt
+region_refl (Some r) = refl
+
+pub outside_refl : (pages : List Span) (m : Memory) → IsSameOutside pages m m
+outside_refl pages m = record { heap = refl; outside = λ a c some apart. region_refl _ }
+
+pub same_at : (item : Thing) (s t : State) → s.registers ≡ t.registers → s.codes ≡ t.codes → s.y ≡ t.y
+    → IsSameAt item s t
+same_at (Register n) s t a b c = ap (λ z. slice_index z n) a
+same_at Codes s t a b c = b
+same_at YRegister s t a b c = c
+
+pub open_rest : (rest : List Item) → open_from rest 3 0 None ≡ None
+open_rest [] = refl
+open_rest (x ∷ xs) = refl
+
+pub get_below : {A : Type 0} (xs : List A) (n : ℕ) (x : A) → slice_get xs n ≡ Some x → n < length xs
+get_below [] n x e = absurd (cc)
+get_below (y ∷ ys) zero x e = omega arith
+get_below (y ∷ ys) (suc n) x e = let f = get_below ys n x e in omega arith
+
+pub item_size : (pieces : List (List Item)) (k n : ℕ) (x : Item) → item_at pieces k n ≡ Some x
+    → suc n ≤ size_of pieces k
+item_size pieces k n x e = go (slice_get pieces k) e
+  where
+    go : (o : Option (List Item)) → item_in o n ≡ Some x → suc n ≤ items_in o
+    go None e = absurd (cc)
+    go (Some items) e = let f = get_below items n x e in omega arith
+
+pub item_below : (pieces : List (List Item)) (k n : ℕ) (x : Item) → item_at pieces k n ≡ Some x → k < length pieces
+item_below pieces k n x e = go (slice_get pieces k) refl e
+  where
+    go : (o : Option (List Item)) → slice_get pieces k ≡ o → item_in o n ≡ Some x → k < length pieces
+    go None f e = absurd (cc)
+    go (Some items) f e = get_below pieces k items f
+
+module _ (g : Setting) (l : Pieces) (base : ℕ) (p : Placement) (place : ℕ → ℕ → ℕ) (f : Frame)
+    (h : IsPlaced g l base p place f) where
+  -- ---- what the notes say
+
+  pub node_is : (a : ℕ) (o : Option NoteRange) → base ≤ a → a < base + 4 * length p.code → range_in p.ranges a ≡ o
+      → node_at g.notes a ≡ option_or (option_map (λ (r : NoteRange). r.node) o) None
+  node_is a o low high r =
+      ap (λ (z : Option NoteRange). option_or (option_map (λ (r : NoteRange). r.node) z)
+      (if in_pages g.notes a then None else Some (length g.notes.blocks))) (h.noted.ranges a low high ∙ r)
+      ∙ ap (λ (b : Bool). option_or (option_map (λ (r : NoteRange). r.node) o)
+      (if b then None else Some (length g.notes.blocks))) (h.noted.inside a low high)
+
+  visit_is : (u : State) (o : Option NoteRange) → u.ending ≡ None → base ≤ u.pc → u.pc < base + 4 * length p.code
+      → range_in p.ranges u.pc ≡ o
+      → visit_of g.notes u ≡ visited o true u.pc
+  visit_is u o live low high r =
+      ap (λ (e : Option Ending). if_live e (visited (range_at g.notes u.pc) (in_pages g.notes u.pc) u.pc)) live
+      ∙ ap (λ (z : Option NoteRange). visited z (in_pages g.notes u.pc) u.pc) (h.noted.ranges u.pc low high ∙ r)
+      ∙ ap (λ (b : Bool). visited o b u.pc) (h.noted.inside u.pc low high)
+
+  -- between places
+  pub on_none : (node : Node) (t u : State) → u.ending ≡ None → base ≤ u.pc → u.pc < base + 4 * length p.code
+      → range_in p.ranges u.pc ≡ None → IsOnWay g node t u
+  on_none node t u live low high r =
+      let n : node_at g.notes u.pc ≡ None = node_is u.pc None low high r in
+      record { live = live; visit = visit_is u None live low high r; place = λ q e. absurd (cc) }
+
+  -- in a place of the node, past its first address
+  pub on_range : (node : Node) (t u : State) (r : NoteRange) → u.ending ≡ None → base ≤ u.pc
+      → u.pc < base + 4 * length p.code
+      → range_in p.ranges u.pc ≡ Some r → r.lo < u.pc → r.node ≡ number_in g node → cells_in g u ≡ cells_in g t
+      → IsOnWay g node t u
+  on_range node t u r live low high is past same cells =
+      let n : node_at g.notes u.pc ≡ Some r.node = node_is u.pc (Some r) low high is in
+      record {
+        live = live;
+        visit = visit_is u (Some r) live low high is ∙ ap (λ (b : Bool). if b then Some r.address else None)
+            (not_first r.lo u.pc past);
+        place = λ q e. (let k : q ≡ r.node = some_same q r.node (sym e ∙ n) in k ∙ same, cells);
+      }
+    where
+      not_first : (a b : ℕ) → a < b → (a == b) ≡ false
+      not_first a b l = grind (arith, nat_tests)
+
+      some_same : (a b : ℕ) → Some a ≡ Some b → a ≡ b
+      some_same a b e = cc
+
+  -- at the first address of a place
+  pub at_range : (node : Node) (x : Point) (t : State) (r : NoteRange) → t.ending ≡ None → base ≤ t.pc
+      → t.pc < base + 4 * length p.code
+      → range_in p.ranges t.pc ≡ Some r → r.lo ≡ t.pc → r.node ≡ number_in g node → r.address ≡ x.pc
+      → visits_it g node x t
+  at_range node x t r live low high is lo same address = (
+    visit_is t (Some r) live low high is ∙ ap (λ (b : Bool). if b then Some r.address else None) (first r.lo t.pc lo)
+        ∙ ap (λ z. Some z) address,
+    node_is t.pc (Some r) low high is ∙ ap (λ z. Some z) same,
+  )
+    where
+      first : (a b : ℕ) → a ≡ b → (a == b) ≡ true
+      first a b e = grind (arith, nat_tests)
+
+  pub quiet_of : (node : Node) (t after : State) (count : ℕ) (P : State → Type 0) → Leads P t after count
+      → after.ending ≡ None
+      → ((u : State) → u.ending ≡ None → P u → IsOnWay g node t u) → (j : ℕ) → 0 < j → j < count
+      → IsOnWay g node t (run t j)
+  quiet_of node t after count P way live on j a b =
+      let e : (run t (count - j + j)).ending ≡ None = (let q : count - j + j ≡ count = omega arith in ap
+      (λ z. (run t z).ending) q) ∙ ap (λ (z : State). z.ending) way.steps ∙ live in
+      on (run t j) (live_before t (count - j) j e) (way.during j a b)
+
+  pub can_run : (t : State) → IsValid t → t.ending ≡ None → t.npc ≡ t.pc + 4 → t.slot ≡ NoSlot
+      → HasImages g base p f t.memory → CanRun base p.code t
+  can_run t valid live npc slot has = record {
+    valid = valid;
+    ready = record { live = live; npc = npc };
+    slot = slot;
+    page = stores_there (page_word 0) t.memory (has.ours.words (page_word 0) h.frame.own.first);
+    code = has.code;
+  }
+
+  -- word 0 of the page is one of the editor's
+  pub first_own : (m n : Memory) → Stores IsFirstWord m n → Stores (IsAmongWords f.own) m n
+  first_own m n stores =
+      stores_weaker IsFirstWord (IsAmongWords f.own) m n (λ z e. subst (IsAmongWords f.own) (sym e) h.frame.own.first) stores
+
+-- a step that ends the run completes no edge
+pub ended_none : (g : Setting) (node : Node) (x : Point) (v : State) (d : Ending) → v.ending ≡ Some d
+    → gone_at g node x v ≡ []
+ended_none g node x v d e =
+    ap (λ (z : Option Ending). gone g.text (graph_in g) node x (unless_ended z (point_of v))) e

@@ -1,0 +1,127 @@
+-- The cells in memory: what leaves them as they are, and what the snippets of some edges make of them.
+use Rattle.std.proofs.Common.{◌≡◌, ℕ, ◌+◌, ◌*◌, ◌^◌, ◌<◌, ◌≤◌, ◌⊎◌, inl, inr, true, List, [], ◌∷◌, ◌++◌, length, map, refl, ap, sym, ◌∙◌, subst, arith}
+use Rattle.std.specs.List.{range_with_len}
+use Rattle.std.proofs.Math.Seq.{ext_get_or}
+use Rattle.std.proofs.lemmas.List.FromFn.{get_or-map-range_with_len, length-map-range_with_len}
+use Rattle.v8_decode.specs.declared.Instr.{Instr}
+use Rattle.v8_memory.specs.Regions.{Memory}
+use Rattle.v8_memory.specs.Spans.{AllApart}
+use Rattle.v8_step.specs.State.{State, register_of}
+use Rattle.v8_step.specs.Step.{act}
+use Rattle.v8_step.specs.Judged.{judged_by}
+use Rattle.v8_step.specs.Visits.{pages_of}
+use Rattle.code_runs.specs.LongJump.{IsFirstWord}
+use Rattle.code_runs.specs.Ours.{IsAmongWords, IsOurs}
+use Rattle.code_runs.specs.Page.{page_word}
+use Rattle.code_runs.specs.StoredWords.{AllAt, CanStore, Stores, memory_word, store_all, store_word}
+use Rattle.code_runs.proofs.StoredWords.{other_word_stored, still_stored}
+use Rattle.code_runs.proofs.Stays.{stores_there, words_stay}
+use Rattle.snippets.specs.declared.snippet.Op.{Op}
+use Rattle.snippets.specs.Cells.{update}
+use Rattle.snippet_code.specs.Runs.{MayStore, cell_at, words_at}
+use Rattle.jump_code.specs.PageWords.{IsPageWord}
+use Rattle.image_code.specs.Simulates.{Setting, cells_in, operations_on, snippet_on, updates}
+use Rattle.image_code.specs.Images.{Frame, HasCells, IsFramed, Pieces}
+
+-- ---- a word that nothing is stored in
+
+each_beside : (May : ℕ → Type 0) (a : ℕ) → ((z : ℕ) → May z → (a + 4 ≤ z) ⊎ (z + 4 ≤ a)) → (ws : List (ℕ × ℕ))
+    (m : Memory) → AllAt May ws → CanStore m a → memory_word (store_all ws m) a ≡ memory_word m a
+each_beside May a apart [] m each can = refl
+each_beside May a apart (w ∷ ws) m each can =
+    each_beside May a apart ws (store_word m w.0 w.1) each.1 (still_stored m a w.0 w.1 can)
+    ∙ other_word_stored m a w.0 w.1 can (apart w.0 each.0)
+
+pub word_kept : (May : ℕ → Type 0) (a : ℕ) → ((z : ℕ) → May z → (a + 4 ≤ z) ⊎ (z + 4 ≤ a)) → (m n : Memory)
+    → Stores May m n → CanStore m a → memory_word n a ≡ memory_word m a
+word_kept May a apart m n stores can =
+    ap (λ (z : Memory). memory_word z a) stores.result ∙ each_beside May a apart stores.writes m stores.each can
+
+-- lists of words that agree
+pub words_same : (base count : ℕ) (m n : Memory)
+    → ((cell : ℕ) → cell < count → memory_word n (cell_at base cell) ≡ memory_word m (cell_at base cell))
+    → words_at base count n ≡ words_at base count m
+words_same base count m n same =
+    let one : (m : Memory) → length (words_at base count m) ≡ count =
+    λ m. length-map-range_with_len (λ k. memory_word m (cell_at base k)) 0 count in
+    let two = one m in
+    ext_get_or 0 (words_at base count n) (words_at base count m) (one n ∙ sym (one m)) (λ i low.
+    let all : length (words_at base count n) ≡ count = one n in
+    let within : i < count = omega (arith, low, all) in
+    let next : 0 + i ≡ i = omega arith in
+    get_or-map-range_with_len (λ k. memory_word n (cell_at base k)) 0 count i i 0 within next ∙ same i within
+    ∙ sym (get_or-map-range_with_len (λ k. memory_word m (cell_at base k)) 0 count i i 0 within next))
+
+-- ---- what the snippets of some edges make of cells
+
+pub updates_same : (snips : List (List Op)) (edges cells : List ℕ) (s t : State) → register_of s ≡ register_of t
+    → updates snips edges cells s ≡ updates snips edges cells t
+updates_same snips [] cells s t same = refl
+updates_same snips (edge ∷ edges) cells s t same =
+    updates_same snips edges (update (register_of s) (snippet_on snips edge) cells) s t same
+    ∙ ap (λ (f : ℕ → ℕ). updates snips edges (update f (snippet_on snips edge) cells) t) same
+
+pub updates_then : (snips : List (List Op)) (first others cells : List ℕ) (s : State)
+    → updates snips (first ++ others) cells s ≡ updates snips others (updates snips first cells s) s
+updates_then snips [] others cells s = refl
+updates_then snips (edge ∷ edges) others cells s =
+    updates_then snips edges others (update (register_of s) (snippet_on snips edge) cells) s
+
+pub operations_then : (snips : List (List Op)) (first others : List ℕ)
+    → operations_on snips (first ++ others) ≡ operations_on snips first + operations_on snips others
+operations_then snips [] others = omega arith
+operations_then snips (edge ∷ edges) others =
+    let more = operations_then snips edges others in
+    omega (arith, more)
+
+module _ (g : Setting) (l : Pieces) (f : Frame) (framed : IsFramed g f) (has : HasCells g l f) where
+  cell_low : (cell : ℕ) → cell < g.notes.cells → cell_at g.notes.base cell + 4 ≤ 2 ^ 31
+  cell_low cell within = let low = has.low in omega (arith, low, within)
+
+  pub cell_stored : (m : Memory) → IsOurs (pages_of g.notes) f.own m → (cell : ℕ) → cell < g.notes.cells
+      → CanStore m (cell_at g.notes.base cell)
+  cell_stored m ours cell within =
+      stores_there (cell_at g.notes.base cell) m (ours.words (cell_at g.notes.base cell) (has.own cell within))
+
+  -- stores above the cells
+  pub cells_above : (May : ℕ → Type 0) → ((z : ℕ) → May z → 2 ^ 31 ≤ z) → (m n : Memory)
+      → IsOurs (pages_of g.notes) f.own m → Stores May m n
+      → words_at g.notes.base g.notes.cells n ≡ words_at g.notes.base g.notes.cells m
+  cells_above May above m n ours stores =
+      words_same g.notes.base g.notes.cells m n (λ cell within.
+      let low = cell_low cell within in
+      word_kept May (cell_at g.notes.base cell) (λ z may. let high = above z may in inl (omega (arith, low, high))) m n stores
+      (cell_stored m ours cell within))
+
+  -- an instruction that judges no byte of the pages
+  pub cells_stay : (s : State) (x : Instr) → AllApart (pages_of g.notes) (judged_by s x)
+      → IsOurs (pages_of g.notes) f.own s.memory → cells_in g (act s x) ≡ cells_in g s
+  cells_stay s x apart ours =
+      words_same g.notes.base g.notes.cells s.memory (act s x).memory (λ cell within.
+      let own = has.own cell within in
+      (words_stay (pages_of g.notes) (cell_at g.notes.base cell) true s x
+      (framed.own.within (cell_at g.notes.base cell) own) apart (ours.words (cell_at g.notes.base cell) own)).1)
+
+  -- where a snippet's words may store, the editor may
+  pub may_own : (edge z : ℕ) → MayStore g.notes.base (snippet_on g.snips edge) z → IsAmongWords f.own z
+  may_own edge z (inl (cell, named, is)) =
+      subst (IsAmongWords f.own) (sym is) (has.own cell (has.named edge cell named))
+  may_own edge z (inr (n, few, is)) = subst (IsAmongWords f.own) (sym is) (framed.page (n + 2) (omega (arith, few)))
+
+  -- and they leave word 1 of the page
+  pub may_beside : (edge z : ℕ) → MayStore g.notes.base (snippet_on g.snips edge) z
+      → (page_word 1 + 4 ≤ z) ⊎ (z + 4 ≤ page_word 1)
+  may_beside edge z (inl (cell, named, is)) =
+      let low = cell_low cell (has.named edge cell named) in
+      inr (omega (arith, low, is))
+  may_beside edge z (inr (n, few, is)) = inl (omega (arith, few, is))
+
+pub first_above : (z : ℕ) → IsFirstWord z → 2 ^ 31 ≤ z
+first_above z e = omega (arith, e)
+
+pub page_above : (z : ℕ) → IsPageWord z → 2 ^ 31 ≤ z
+page_above z (inl e) = omega (arith, e)
+page_above z (inr (inl e)) = omega (arith, e)
+page_above z (inr (inr (inl e))) = omega (arith, e)
+page_above z (inr (inr (inr (inl e)))) = omega (arith, e)
+page_above z (inr (inr (inr (inr e)))) = absurd e
