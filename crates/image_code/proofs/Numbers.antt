@@ -1,7 +1,7 @@
 -- The graph of a text by numbers: how many edges there are, and which number an edge has.
 use Rattle.std.proofs.Common.{◌≡◌, ℕ, zero, suc, ◌+◌, ◌-◌, ◌*◌, ◌<◌, ◌≤◌, Bool, true, false, not, ◌&&◌, ◌==◌, cond, List, [], ◌∷◌, ◌++◌, length, map, Some, None, length-append, length-take, append_assoc, refl, ap, sym, ◌∙◌, subst, arith, inl, inr}
 use Rattle.std.specs.Prelude.{if◌then◌else◌, slice_index, ℤ}
-use Rattle.std.specs.List.{flat_map, position, position_or_len}
+use Rattle.std.specs.List.{flat_map, position, position_or_len, range_with_len}
 use Rattle.std.specs.Option.{option_to_list}
 use Rattle.std.proofs.lemmas.Bool.{and_from, cases_lt, cond_both, eq-eqb, le-ltb, lt-ltb}
 use Rattle.std.proofs.lemmas.Bool.Decides.{nat_tests}
@@ -19,17 +19,17 @@ use Rattle.cfg_blocks.specs.declared.BlockEnd.TheVariants as ends
 use Rattle.cfg_blocks.specs.declared.EdgeKind.{EdgeKind}
 use Rattle.cfg_blocks.specs.declared.EdgeKind.TheVariants as kinds
 use Rattle.cfg_blocks.specs.Ends.{Way, always, never, branch_target, end_at, end_by, is_transfer, number_of, way, ways_of, within}
-use Rattle.cfg_blocks.specs.Blocks.{Blocks, below, block_end, blocks_of, end_of, holding_of, last_word}
+use Rattle.cfg_blocks.specs.Blocks.{Blocks, below, block_end, blocks_of, end_of, holding_of, last_word, size_of}
 use Rattle.cfg_blocks.specs.Entries.{ways_from}
 use Rattle.cfg_blocks.proofs.Below.{length-below}
 use Rattle.cfg_normal.specs.declared.Edge.{Edge}
 use Rattle.cfg_normal.specs.declared.Node.{Node}
-use Rattle.cfg_normal.specs.Graph.{Graph, graph_of, edge_of, edges_in, edges_of, landing_at}
+use Rattle.cfg_normal.specs.Graph.{Graph, graph_of, edge_of, edges_in, edges_of, landing_at, node_of}
 use Rattle.cfg_walk.specs.Walk.{edge_from, ends_block, landing_at as landing_from, left_by, same_kind, same_node}
 use Rattle.cfg_walk.proofs.Lists.{Each, each-append, each-below, each-flat_map, each-map, each, each-then}
 use Rattle.cfg_walk.proofs.Cut.{IsCut, cut}
 use Rattle.cfg_walk.proofs.Edges.{block}
-use Rattle.cfg_walk.proofs.Holding.{is_held, some_words}
+use Rattle.cfg_walk.proofs.Holding.{ends_within, is_held, some_words}
 use Rattle.cfg_walk.proofs.Leaving.{end_is, is_in, node_is, straight_end, transfer_ends, ways_at}
 use Rattle.cfg_walk.proofs.Ways.{IsOwn, ways_are_own}
 use Rattle.layout.specs.declared.items.Item.{Item}
@@ -37,8 +37,8 @@ use Rattle.layout.specs.declared.items.Item.TheVariants as it
 use Rattle.jump_code.specs.FreeRegister.{free_register}
 use Rattle.jump_code.specs.Pieces.{call_piece, jump_piece}
 use Rattle.image_code.specs.Cases.{branch_piece, plain_piece}
-use Rattle.image_code.specs.Made.{branch_image, first_way, image, image_by, jump_to, next_to, nop_word, own_edges, way_out}
-use Rattle.image_code.specs.Parts.{IsGraphOf, begin_of, branch_from, branch_ways, edges_after, edges_before, first_way_of, image_from, image_in, rest_of}
+use Rattle.image_code.specs.Made.{branch_image, first_way, image, image_by, jump_to, landing, next_to, nop_word, own_edges, way_out}
+use Rattle.image_code.specs.Parts.{IsGraphOf, begin_of, branch_from, branch_ways, edges_after, edges_before, first_way_of, image_from, image_in, landing_with, rest_of}
 
 -- ---- how many edges there are
 
@@ -570,3 +570,48 @@ module _ (text : Words) (graph : Graph) (codes : ℕ → List ℕ) (h : IsGraphO
       ∙ ap (flat_map codes) (sym (left_last text graph h some k l instr
       (ap (λ (n : ℕ). decode_of (slice_index text.words n)) (sym last) ∙ says) straight))
       ∙ ap (λ (n : ℕ). flat_map codes (left_by graph (block k) n instr)) (sym last)) made
+
+-- one function up to a number, and from there on another that is the same
+maps_joined : {A : Type 0} (f g : ℕ → A) (a n : ℕ) → ((k : ℕ) → a ≤ k → k < a + n → g k ≡ f k)
+    → map f (below a) ++ map g (range_with_len a n) ≡ map f (below (a + n))
+maps_joined f g a zero same =
+    let e : a ≡ a + 0 = omega arith in
+    append-nil (map f (below a)) ∙ ap (λ k. map f (below k)) e
+maps_joined f g a (suc n) same =
+    let e : a + 1 + n ≡ a + suc n = omega arith in
+    sym (append_assoc (map f (below a)) (g a ∷ []) (map g (range_with_len (a + 1) n)))
+    ∙ ap (λ x. (map f (below a) ++ x ∷ []) ++ map g (range_with_len (a + 1) n)) (same a (omega arith) (omega arith))
+    ∙ ap (λ xs. xs ++ map g (range_with_len (a + 1) n)) (sym (image_more f a))
+    ∙ maps_joined f g (a + 1) n (λ k l m. same k (omega arith) (omega arith))
+    ∙ ap (λ k. map f (below k)) e
+
+-- a block's landings
+pub landings_pushed : (text : Words) (graph : Graph) (codes : ℕ → List ℕ) → IsGraphOf text graph
+    → 1 ≤ length text.words → (k : ℕ) → k < length graph.blocks.firsts → (code : List ℕ)
+    → code ≡ codes (length (own_edges graph) + k)
+    → map (landing text graph codes) (below (begin_of graph.blocks k))
+    ++ map (landing_with code) (range_with_len (slice_index graph.blocks.firsts k) (size_of graph.blocks k))
+    ≡ map (landing text graph codes) (below (begin_of graph.blocks (k + 1)))
+landings_pushed text graph codes h some k l code is =
+    let room = some_words graph.blocks.words graph.blocks.firsts (cut_of text graph h some).firsts k l in
+    let end : slice_index graph.blocks.firsts k + size_of graph.blocks k ≡ begin_of graph.blocks (k + 1) =
+    omega (arith, begin_after text graph h some k l) in
+    ap (λ (n : ℕ). map (landing text graph codes) (below n) ++ map (landing_with code)
+    (range_with_len (slice_index graph.blocks.firsts k) (size_of graph.blocks k))) (begin_at graph.blocks k l)
+    ∙ maps_joined (landing text graph codes) (landing_with code) (slice_index graph.blocks.firsts k)
+    (size_of graph.blocks k) here
+    ∙ ap (λ (n : ℕ). map (landing text graph codes) (below n)) end
+  where
+    here : (word : ℕ) → slice_index graph.blocks.firsts k ≤ word
+        → word < slice_index graph.blocks.firsts k + size_of graph.blocks k
+        → landing_with code word ≡ landing text graph codes word
+    here word above under =
+        let room = some_words graph.blocks.words graph.blocks.firsts (cut_of text graph h some).firsts k l in
+        let inside = ends_within graph.blocks.words graph.blocks.firsts (cut_of text graph h some).firsts k l in
+        let held : k ≡ holding_of graph.blocks word = held_by text graph h some k word l above (omega arith) in
+        let home : node_of graph.blocks (Some word) ≡ block k =
+        node_is graph.blocks word (omega arith) ∙ ap block (sym held) in
+        ap (λ (ws : List ℕ). map it.Word ws ++ jump_to word) (is
+        ∙ sym (append-nil (codes (length (own_edges graph) + k)))
+        ∙ ap (flat_map codes) (sym (landing_edge text graph h k l))
+        ∙ ap (λ (n : Node). flat_map codes (landing_from graph n)) (sym home))

@@ -274,11 +274,13 @@ module _ (g : Setting) (codes : ℕ → List ℕ) (is : IsText g.text) (p : Plac
           by None none =
               inr (
                 landed_out g.text (graph_in g) x.npc None none,
-                record { 0 = foreign_number g.text (graph_in g) },
-                slice_get_within (l g codes is p f).list _ _ (foreign_at g.text (graph_in g) f.table.base codes),
-                tables.others x.npc waits.0 waits.1 none,
-                foreign_at g.text (graph_in g) f.table.base codes,
-                none,
+                (
+                  record { 0 = foreign_number g.text (graph_in g) },
+                  slice_get_within (l g codes is p f).list _ _ (foreign_at g.text (graph_in g) f.table.base codes),
+                  tables.others x.npc waits.0 waits.1 none,
+                  foreign_at g.text (graph_in g) f.table.base codes,
+                  none,
+                ),
               )
           by (Some to) some =
               let there = landing_at g.text (graph_in g) f.table.base codes to (word_at-some g.text x.npc to some).within in
