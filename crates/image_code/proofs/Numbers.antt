@@ -7,6 +7,7 @@ use Rattle.std.proofs.lemmas.Bool.{and_from, cases_lt, cond_both, eq-eqb, le-ltb
 use Rattle.std.proofs.lemmas.Bool.Decides.{nat_tests}
 use Rattle.std.proofs.lemmas.Grind.{flat_map-append}
 use Rattle.std.proofs.lemmas.List.{length-map, append-nil, map-append}
+use Rattle.std.proofs.lemmas.List.FromFn.{map-range_with_len_more}
 use Rattle.eel_base.specs.CodeText.{Words, address_of, numbered, target_of}
 use Rattle.eel_base.specs.declared.numbers.Addr.{Addr}
 use Rattle.eel_base.specs.declared.numbers.PieceNo.{PieceNo}
@@ -615,3 +616,18 @@ landings_pushed text graph codes h some k l code is =
         ∙ sym (append-nil (codes (length (own_edges graph) + k)))
         ∙ ap (flat_map codes) (sym (landing_edge text graph h k l))
         ∙ ap (λ (n : Node). flat_map codes (landing_from graph n)) (sym home))
+
+-- one landing more
+pub landing_pushed : (code : List ℕ) (first word : ℕ) (before list new : List (List Item)) (piece : List Item)
+    → first ≤ word → new ≡ list ++ piece ∷ [] → piece ≡ landing_with code word
+    → list ≡ before ++ map (landing_with code) (range_with_len first (word - first))
+    → new ≡ before ++ map (landing_with code) (range_with_len first (word + 1 - first))
+landing_pushed code first word before list new piece above pushed made held =
+    let here : first + (word - first) ≡ word = omega arith in
+    let next : word - first + 1 ≡ word + 1 - first = omega arith in
+    pushed ∙ ap (λ (items : List Item). list ++ items ∷ []) made
+    ∙ ap (λ (pieces : List (List Item)). pieces ++ landing_with code word ∷ []) held
+    ∙ append_assoc before (map (landing_with code) (range_with_len first (word - first))) (landing_with code word ∷ [])
+    ∙ ap (λ (pieces : List (List Item)). before ++ pieces)
+    (sym (map-range_with_len_more (landing_with code) first (word - first) word here)
+    ∙ ap (λ (n : ℕ). map (landing_with code) (range_with_len first n)) next)

@@ -398,6 +398,7 @@ fn push_landings(
     snips: &[Snippet],
     cells: Addr,
 ) -> Result<(), NoMemory>
+    requires text { IsText text.now }
     requires graph { IsGraphOf text.now graph.now }
     requires snips { length snips.now ≡ length graph.now.edges }
     requires aligned { cells.0 % 4 ≡ 0 }
