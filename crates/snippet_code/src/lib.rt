@@ -4,6 +4,12 @@
 
 ghost use Rattle.snippet_code.specs.Laws.{CostsHold, SnippetsRun};
 
+mod expanding;
+mod operations;
+mod single;
+
+pub use expanding::expand;
+
 /// Words that say a snippet's instructions do just the snippet, from every state that is about to run them.
 pub fn snippets_run()
     ensures { SnippetsRun }
