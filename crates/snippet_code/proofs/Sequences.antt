@@ -18,7 +18,7 @@ use Rattle.snippet_code.specs.Words.{op_words, all_words, numbered, save, restor
 use Rattle.snippet_code.proofs.Working.{HasBlock, Works, put}
 use Rattle.snippet_code.specs.Counted.{one_if}
 use Rattle.snippet_code.proofs.Working.{update_one, update_all, Does, AreFit, AreFrom, HavePage, saved, AreSaved}
-use Rattle.snippet_code.proofs.Operations.{as_many, Doing, add_works, put_works, keep_works}
+use Rattle.snippet_code.proofs.OneOperation.{as_many, Doing, add_works, put_works, keep_works}
 use Rattle.snippet_code.proofs.Greater.{top_works}
 use Rattle.snippet_code.proofs.Blocks.{put_same, put_other, ld, st}
 

@@ -35,7 +35,7 @@ use Rattle.snippet_code.specs.Runs.{MayStore, IsAboutToRun, RunsPast}
 use Rattle.snippet_code.specs.Laws.{EndLow, SnippetsRun}
 use Rattle.snippet_code.proofs.Working.{HasBlock, Works, Does, put, update_all, IsRead, AreFit, AreFrom, HavePage, saved, AreSaved}
 use Rattle.snippet_code.proofs.Blocks.{put_same, put_other, works_none}
-use Rattle.snippet_code.proofs.Operations.{as_many}
+use Rattle.snippet_code.proofs.OneOperation.{as_many}
 use Rattle.snippet_code.proofs.Sequences.{stand_then, stand_at, all_work, saves, restores}
 use Rattle.snippet_code.proofs.Listed.{listed_same, listed_all, all_away, cell_or_not}
 use Rattle.snippet_code.proofs.Unmoved.{IsApart, word_unmoved}

@@ -8,7 +8,7 @@ use Rattle.snippets.specs.Cells.{named_by}
 use Rattle.snippets.specs.Grammar.{IsOp}
 use Rattle.snippets.specs.Ops.{cell_of}
 use Rattle.snippet_code.specs.Cells.{cell_at}
-use Rattle.snippet_code.specs.Words.{snippet_words, cost_of, spills_of}
+use Rattle.snippet_code.specs.Words.{snippet_words, code_of_snippet, cost_of, spills_of}
 use Rattle.snippet_code.specs.Runs.{DoesJust}
 
 -- its cells end at or below the middle of memory
@@ -27,6 +27,12 @@ abbrev pub SnippetsRun : Type 0
 SnippetsRun = (base : ℕ) (dead : List Part) (ops : List Op) (words : List ℕ) → CanExpand base ops
     → map decode_of words ≡ snippet_words base dead (named_by ops) ops
     → DoesJust words base dead (spills_of dead (named_by ops) ops) ops
+
+-- The words of a snippet do it.
+abbrev pub SnippetCodeRuns : Type 0
+SnippetCodeRuns = (base : ℕ) (dead : List Part) (ops : List Op) → CanExpand base ops
+    → (map decode_of (code_of_snippet base dead (named_by ops) ops) ≡ snippet_words base dead (named_by ops) ops)
+    × DoesJust (code_of_snippet base dead (named_by ops) ops) base dead (spills_of dead (named_by ops) ops) ops
 
 -- They are no more than the snippet costs, and at most 22 for each operation.
 abbrev pub CostsHold : Type 0
