@@ -1,5 +1,5 @@
 -- The graph of a text by numbers: how many edges there are, and which number an edge has.
-use Rattle.std.proofs.Common.{◌≡◌, ℕ, zero, suc, ◌+◌, ◌-◌, ◌*◌, ◌<◌, ◌≤◌, Bool, true, false, not, ◌&&◌, ◌==◌, cond, List, [], ◌∷◌, ◌++◌, length, map, Some, None, length-append, length-take, append_assoc, refl, ap, sym, ◌∙◌, subst, arith, inl, inr}
+use Rattle.std.proofs.Common.{◌≡◌, ℕ, zero, suc, ◌+◌, ◌-◌, ◌*◌, ◌<◌, ◌≤◌, Bool, true, false, not, ◌&&◌, ◌==◌, cond, List, [], ◌∷◌, ◌++◌, length, map, take, Some, None, length-append, length-take, append_assoc, refl, ap, sym, ◌∙◌, subst, arith, inl, inr}
 use Rattle.std.specs.Prelude.{if◌then◌else◌, slice_index, ℤ}
 use Rattle.std.specs.List.{flat_map, position, position_or_len, range_with_len}
 use Rattle.std.specs.Option.{option_to_list}
@@ -155,6 +155,10 @@ module _ (text : Words) (graph : Graph) (h : IsGraphOf text graph) where
       (end_says some k l)
       ∙ ways_after graph.blocks.words (last_word graph.blocks.firsts graph.blocks.words k)
       (decode_of (slice_index text.words (last_word graph.blocks.firsts graph.blocks.words k)))
+
+take_first : {A : Type 0} (xs ys : List A) → take (length xs) (xs ++ ys) ≡ xs
+take_first [] ys = refl
+take_first (x ∷ xs) ys = ap (λ zs. x ∷ zs) (take_first xs ys)
 
 -- ---- the number of an edge
 
@@ -345,7 +349,7 @@ module _ (text : Words) (graph : Graph) (h : IsGraphOf text graph) (some : 1 ≤
 
 -- ---- the edge to the next word, and the landing
 
-plain_left : (graph : Graph) (node : Node) (word : ℕ) (instr : Instr) → transfers instr ≡ false
+pub plain_left : (graph : Graph) (node : Node) (word : ℕ) (instr : Instr) → transfers instr ≡ false
     → left_by graph node word instr ≡ (if ends_block graph node word then edge_from graph node kinds.Fall else [])
 plain_left graph node word (i.Branch c annul disp) e = absurd (cc)
 plain_left graph node word (i.Call disp) e = absurd (cc)
@@ -365,21 +369,27 @@ module _ (text : Words) (graph : Graph) (h : IsGraphOf text graph) (some : 1 ≤
       plain_left graph (block k) word instr straight
       ∙ ap (λ (t : Bool). if t then edge_from graph (block k) kinds.Fall else []) apart
 
-  -- and that of the block's first edge behind its last word
-  pub left_last : (instr : Instr) → decode_of (slice_index text.words its_last) ≡ instr → transfers instr ≡ false
-      → left_by graph (block k) its_last instr ≡ edges_before graph.blocks k ∷ []
-  left_last instr says straight =
-      let end : end_of graph.blocks k ≡ ends.Fall =
-      end_says text graph h some k l ∙ ap (end_by text its_last) says ∙ straight_end text its_last instr straight in
-      let edges : edges_of graph.blocks k
-      ≡ edge_of graph.blocks k (way kinds.Fall (within graph.blocks.words (its_last + 1))) ∷ [] =
-      ap (λ (e : BlockEnd). map (edge_of graph.blocks k) (ways_of graph.blocks.words its_last e)) end in
-      plain_left graph (block k) its_last instr straight
-      ∙ ap (λ (t : Bool). if t then edge_from graph (block k) kinds.Fall else []) (eq-eqb its_last its_last refl)
-      ∙ ap (λ (g : Graph). edge_from g (block k) kinds.Fall) (graph_is text graph h)
-      ∙ edge_number graph.blocks k kinds.Fall l [] (edge_of graph.blocks k (way kinds.Fall
-      (within graph.blocks.words (its_last + 1)))) [] edges tt refl refl
-      ∙ ap (λ n. n ∷ []) (let e : edges_before graph.blocks k + 0 ≡ edges_before graph.blocks k = omega arith in e)
+  module _ (instr : Instr) (says : decode_of (slice_index text.words its_last) ≡ instr)
+      (straight : transfers instr ≡ false) where
+    abbrev to_next : Edge
+    to_next = edge_of graph.blocks k (way kinds.Fall (within graph.blocks.words (its_last + 1)))
+
+    -- a block that ends with no transfer has one edge
+    pub only_fall : edges_of graph.blocks k ≡ to_next ∷ []
+    only_fall =
+        let end : end_of graph.blocks k ≡ ends.Fall =
+        end_says text graph h some k l ∙ ap (end_by text its_last) says
+        ∙ straight_end text its_last instr straight in
+        ap (λ (e : BlockEnd). map (edge_of graph.blocks k) (ways_of graph.blocks.words its_last e)) end
+
+    -- whose code comes behind its last word
+    pub left_last : left_by graph (block k) its_last instr ≡ edges_before graph.blocks k ∷ []
+    left_last =
+        plain_left graph (block k) its_last instr straight
+        ∙ ap (λ (t : Bool). if t then edge_from graph (block k) kinds.Fall else []) (eq-eqb its_last its_last refl)
+        ∙ ap (λ (g : Graph). edge_from g (block k) kinds.Fall) (graph_is text graph h)
+        ∙ edge_number graph.blocks k kinds.Fall l [] to_next [] only_fall tt refl refl
+        ∙ ap (λ n. n ∷ []) (let e : edges_before graph.blocks k + 0 ≡ edges_before graph.blocks k = omega arith in e)
 
 module _ (b : Blocks) (k : ℕ) where
   lands : Edge → Bool
@@ -534,6 +544,47 @@ first_last text graph h some k l =
     let room = some_words graph.blocks.words graph.blocks.firsts (cut_of text graph h some).firsts k l in
     omega arith
 
+-- the graph's own edges, before the landings
+pub own_are : (text : Words) (graph : Graph) → IsGraphOf text graph
+    → own_edges graph ≡ flat_map (edges_of graph.blocks) (below (length graph.blocks.firsts))
+unfolding edges_in
+own_are text graph h =
+    let many : length graph.edges - length graph.blocks.firsts
+    ≡ length (flat_map (edges_of graph.blocks) (below (length graph.blocks.firsts))) =
+    omega (
+      arith,
+      ap length (edges_are text graph h),
+      length-append (flat_map (edges_of graph.blocks) (below (length graph.blocks.firsts)))
+          (map landing_at (below (length graph.blocks.firsts))),
+      length-map (below (length graph.blocks.firsts)) landing_at,
+      length-below (length graph.blocks.firsts),
+    ) in
+    ap (λ (k : ℕ). take k graph.edges) many
+    ∙ ap (take (length (flat_map (edges_of graph.blocks) (below (length graph.blocks.firsts))))) (edges_are text graph h)
+    ∙ take_first (flat_map (edges_of graph.blocks) (below (length graph.blocks.firsts)))
+    (map landing_at (below (length graph.blocks.firsts)))
+
+pub all_are : (text : Words) (graph : Graph) → IsGraphOf text graph
+    → graph.edges ≡ own_edges graph ++ map landing_at (below (length graph.blocks.firsts))
+unfolding edges_in
+all_are text graph h =
+    edges_are text graph h
+    ∙ ap (λ (es : List Edge). es ++ map landing_at (below (length graph.blocks.firsts))) (sym (own_are text graph h))
+
+pub own_no_landings : (text : Words) (graph : Graph) → IsGraphOf text graph
+    → Each (λ edge. same_kind edge.kind kinds.Land ≡ false) (own_edges graph)
+own_no_landings text graph h =
+    subst (Each (λ edge. same_kind edge.kind kinds.Land ≡ false)) (sym (own_are text graph h))
+    (each-flat_map _ (edges_of graph.blocks) (below (length graph.blocks.firsts))
+    (each _ (below (length graph.blocks.firsts)) none))
+  where
+    none : (k : ℕ) → Each (λ edge. same_kind edge.kind kinds.Land ≡ false) (edges_of graph.blocks k)
+    none k =
+        each-map (λ edge. same_kind edge.kind kinds.Land ≡ false) (edge_of graph.blocks k) (ways_from graph.blocks k)
+        (each-then IsOwn (λ (w : Way). same_kind w.kind kinds.Land ≡ false) (ways_from graph.blocks k)
+        (λ w own. own.0) (ways_are_own graph.blocks.words
+        (last_word graph.blocks.firsts graph.blocks.words k) (end_of graph.blocks k)))
+
 -- ---- images and landings, as they are added
 
 module _ (text : Words) (graph : Graph) (codes : ℕ → List ℕ) (h : IsGraphOf text graph) (some : 1 ≤ length text.words)
@@ -572,6 +623,14 @@ module _ (text : Words) (graph : Graph) (codes : ℕ → List ℕ) (h : IsGraphO
       (ap (λ (n : ℕ). decode_of (slice_index text.words n)) (sym last) ∙ says) straight))
       ∙ ap (λ (n : ℕ). flat_map codes (left_by graph (block k) n instr)) (sym last)) made
 
+-- the node of a block's words
+pub block_home : (text : Words) (graph : Graph) → IsGraphOf text graph → 1 ≤ length text.words → (k word : ℕ)
+    → k < length graph.blocks.firsts → slice_index graph.blocks.firsts k ≤ word
+    → word < block_end graph.blocks.firsts graph.blocks.words k → node_of graph.blocks (Some word) ≡ block k
+block_home text graph h some k word l above under =
+    let inside = ends_within graph.blocks.words graph.blocks.firsts (cut_of text graph h some).firsts k l in
+    node_is graph.blocks word (omega arith) ∙ ap block (sym (held_by text graph h some k word l above under))
+
 -- one function up to a number, and from there on another that is the same
 maps_joined : {A : Type 0} (f g : ℕ → A) (a n : ℕ) → ((k : ℕ) → a ≤ k → k < a + n → g k ≡ f k)
     → map f (below a) ++ map g (range_with_len a n) ≡ map f (below (a + n))
@@ -608,10 +667,8 @@ landings_pushed text graph codes h some k l code is =
         → landing_with code word ≡ landing text graph codes word
     here word above under =
         let room = some_words graph.blocks.words graph.blocks.firsts (cut_of text graph h some).firsts k l in
-        let inside = ends_within graph.blocks.words graph.blocks.firsts (cut_of text graph h some).firsts k l in
-        let held : k ≡ holding_of graph.blocks word = held_by text graph h some k word l above (omega arith) in
         let home : node_of graph.blocks (Some word) ≡ block k =
-        node_is graph.blocks word (omega arith) ∙ ap block (sym held) in
+        block_home text graph h some k word l above (omega arith) in
         ap (λ (ws : List ℕ). map it.Word ws ++ jump_to word) (is
         ∙ sym (append-nil (codes (length (own_edges graph) + k)))
         ∙ ap (flat_map codes) (sym (landing_edge text graph h k l))

@@ -1,7 +1,6 @@
 -- The words of a snippet decode to its instructions.
-use Rattle.std.proofs.Common.{◌≡◌, ◌≢◌, ℕ, zero, suc, ◌+◌, ◌-◌, ◌*◌, ◌/◌, ◌%◌, ◌^◌, ◌<◌, ◌≤◌, ◌⊎◌, inl, inr, max, Bool, true, false, ◌==◌, List, [], ◌∷◌, ◌++◌, length, map, drop, refl, ap, sym, ◌∙◌, subst, arith, All}
+use Rattle.std.proofs.Common.{◌≡◌, ℕ, zero, suc, ◌+◌, ◌-◌, ◌^◌, ◌<◌, ◌≤◌, max, Bool, true, false, ◌==◌, List, [], ◌∷◌, ◌++◌, length, map, refl, ap, ◌∙◌, arith, All}
 use Rattle.std.specs.Prelude.{if◌then◌else◌, nat_lt, slice_index, pos, negsuc}
-use Rattle.std.specs.List.{flat_map}
 use Rattle.std.proofs.lemmas.Bool.Decides.{nat_tests}
 use Rattle.std.proofs.lemmas.List.Elements.{All-head, All-tail}
 use Rattle.v8_decode.specs.Words.{decode_of}
@@ -17,7 +16,7 @@ use Rattle.snippets.specs.declared.snippet.Op.TheVariants.{Add, Put, Keep, Top}
 use Rattle.snippets.specs.Grammar.{IsOp}
 use Rattle.snippets.specs.Ops.{cell_of}
 use Rattle.snippet_code.specs.Cells.{cell_at}
-use Rattle.snippet_code.specs.Words.{high, low, load_low, store_low, of_two, with_number, add_low, compare, next_if_greater, is_small, small, add_words, put_words, keep_words, top_words, op_words, op_registers, registers_for, all_words, numbered, save, restore}
+use Rattle.snippet_code.specs.Words.{high, low, load_low, store_low, of_two, with_number, add_low, compare, next_if_greater, is_small, small, add_words, put_words, top_words, op_words, op_registers, registers_for, all_words, numbered, save, restore}
 use Rattle.snippet_code.specs.Laws.{EndLow}
 
 -- an instruction that a word has
@@ -105,62 +104,112 @@ module _ (r : ℕ → ℕ) (want : ℕ) (below : (k : ℕ) → k < want → r k 
   add_have a amount true e h l room =
       let r0 = below 0 (omega arith) in
       let r1 = below 1 (omega arith) in
-      rw e (high_has a (r 0) h r0,
-      (load_has a (r 0) (r 1) r0 r1,
-      (amount_has amount (r 1) (r 1) e l r1 r1,
-      (store_has a (r 0) (r 1) r0 r1, tt))))
+      rw e (
+        high_has a (r 0) h r0,
+        (
+          load_has a (r 0) (r 1) r0 r1,
+          (
+            amount_has amount (r 1) (r 1) e l r1 r1,
+            (store_has a (r 0) (r 1) r0 r1, tt),
+          ),
+        ),
+      )
   add_have a amount false e h l room =
       let r0 = below 0 (omega arith) in
       let r1 = below 1 (omega arith) in
       let r2 = below 2 (omega arith) in
-      rw e (high_has a (r 0) h r0,
-      (load_has a (r 0) (r 1) r0 r1,
-      (high_has amount (r 2) l r2,
-      (add_low_has amount (r 2) r2,
-      (two_has ops.ADD (r 1) (r 2) (r 1) refl r1 r2 r1,
-      (store_has a (r 0) (r 1) r0 r1, tt))))))
+      rw e (
+        high_has a (r 0) h r0,
+        (
+          load_has a (r 0) (r 1) r0 r1,
+          (
+            high_has amount (r 2) l r2,
+            (
+              add_low_has amount (r 2) r2,
+              (
+                two_has ops.ADD (r 1) (r 2) (r 1) refl r1 r2 r1,
+                (store_has a (r 0) (r 1) r0 r1, tt),
+              ),
+            ),
+          ),
+        ),
+      )
 
   put_have : (a value : ℕ) (b : Bool) → (value == 0) ≡ b → a < 2 ^ 32 → value < 2 ^ 32
       → (if b then 1 else 2) ≤ want → HaveWords (put_words a r value)
   put_have a value true e h l room =
       let r0 = below 0 (omega arith) in
-      rw e (high_has a (r 0) h r0,
-      (store_has a (r 0) 0 r0 (omega arith), tt))
+      rw e (
+        high_has a (r 0) h r0,
+        (store_has a (r 0) 0 r0 (omega arith), tt),
+      )
   put_have a value false e h l room =
       let r0 = below 0 (omega arith) in
       let r1 = below 1 (omega arith) in
-      rw e (high_has a (r 0) h r0,
-      (high_has value (r 1) l r1,
-      (add_low_has value (r 1) r1,
-      (store_has a (r 0) (r 1) r0 r1, tt))))
+      rw e (
+        high_has a (r 0) h r0,
+        (
+          high_has value (r 1) l r1,
+          (
+            add_low_has value (r 1) r1,
+            (store_has a (r 0) (r 1) r0 r1, tt),
+          ),
+        ),
+      )
 
   top_have : (a reg : ℕ) (d : Bool) → a < 2 ^ 32 → reg < 32 → (if d then 2 else 5) ≤ want
       → HaveWords (top_words a d r reg)
   top_have a reg true h l room =
       let r0 = below 0 (omega arith) in
-      let r1 = below 1 (omega arith) in
-      (high_has a (r 0) h r0,
-      (load_has a (r 0) (r 1) r0 r1,
-      (compare_has reg (r 1) l r1,
-      (branch_has,
-      (store_has a (r 0) reg r0 l, tt)))))
+      let r1 = below 1 (omega arith) in (
+        high_has a (r 0) h r0,
+        (
+          load_has a (r 0) (r 1) r0 r1,
+          (
+            compare_has reg (r 1) l r1,
+            (
+              branch_has,
+              (store_has a (r 0) reg r0 l, tt),
+            ),
+          ),
+        ),
+      )
   top_have a reg false h l room =
       let r0 = below 0 (omega arith) in
       let r1 = below 1 (omega arith) in
       let r2 = below 2 (omega arith) in
       let r3 = below 3 (omega arith) in
-      let r4 = below 4 (omega arith) in
-      (high_has a (r 0) h r0,
-      (load_has a (r 0) (r 1) r0 r1,
-      (two_has ops.SUB (r 1) reg (r 2) refl r1 l r2,
-      (two_has ops.ORN reg (r 1) (r 3) refl l r1 r3,
-      (two_has ops.AND (r 3) (r 2) (r 3) refl r3 r2 r3,
-      (two_has ops.ANDN reg (r 1) (r 4) refl l r1 r4,
-      (two_has ops.OR (r 3) (r 4) (r 3) refl r3 r4 r3,
-      (shift_has (r 3) (r 3) r3 r3,
-      (two_has ops.AND (r 3) (r 2) (r 3) refl r3 r2 r3,
-      (two_has ops.SUB (r 1) (r 3) (r 1) refl r1 r3 r1,
-      (store_has a (r 0) (r 1) r0 r1, tt)))))))))))
+      let r4 = below 4 (omega arith) in (
+        high_has a (r 0) h r0,
+        (
+          load_has a (r 0) (r 1) r0 r1,
+          (
+            two_has ops.SUB (r 1) reg (r 2) refl r1 l r2,
+            (
+              two_has ops.ORN reg (r 1) (r 3) refl l r1 r3,
+              (
+                two_has ops.AND (r 3) (r 2) (r 3) refl r3 r2 r3,
+                (
+                  two_has ops.ANDN reg (r 1) (r 4) refl l r1 r4,
+                  (
+                    two_has ops.OR (r 3) (r 4) (r 3) refl r3 r4 r3,
+                    (
+                      shift_has (r 3) (r 3) r3 r3,
+                      (
+                        two_has ops.AND (r 3) (r 2) (r 3) refl r3 r2 r3,
+                        (
+                          two_has ops.SUB (r 1) (r 3) (r 1) refl r1 r3 r1,
+                          (store_has a (r 0) (r 1) r0 r1, tt),
+                        ),
+                      ),
+                    ),
+                  ),
+                ),
+              ),
+            ),
+          ),
+        ),
+      )
 
   op_have : (base : ℕ) (d : Bool) (op : Op) → IsOp op → cell_at base (cell_of op) + 4 ≤ 2 ^ 31
       → op_registers d op ≤ want → HaveWords (op_words base d r op)
@@ -169,9 +218,10 @@ module _ (r : ℕ → ℕ) (want : ℕ) (below : (k : ℕ) → k < want → r k 
   op_have base d (Put cell value) is h room =
       put_have (cell_at base cell) value (value == 0) refl (omega arith) is.1 room
   op_have base d (Keep cell reg) is h room =
-      let r0 = below 0 (omega arith) in
-      (high_has (cell_at base cell) (r 0) (omega arith) r0,
-      (store_has (cell_at base cell) (r 0) reg r0 is.1, tt))
+      let r0 = below 0 (omega arith) in (
+        high_has (cell_at base cell) (r 0) (omega arith) r0,
+        (store_has (cell_at base cell) (r 0) reg r0 is.1, tt),
+      )
   op_have base d (Top cell reg) is h room = top_have (cell_at base cell) reg d (omega arith) is.1 room
 
   pub all_have : (base : ℕ) (d : Bool) (os : List Op) → All IsOp os → EndLow base os → registers_for d os ≤ want

@@ -21,7 +21,6 @@ use Rattle.snippet_code.proofs.Working.{HasBlock, Works, put}
 use Rattle.snippet_code.proofs.Working.{update_one, Does}
 use Rattle.snippet_code.proofs.OneOperation.{sum_low, high_is, gives, free_store, at, works_words, as_many, Doing}
 use Rattle.snippet_code.proofs.Blocks.{put_same, put_other, unpicked_is, sethi, alu, ld, st, compares, branches}
-
 use Rattle.v8_alu.specs.Conditions.{holds_of}
 use Rattle.snippet_code.proofs.TopValue.{top_of}
 use Rattle.snippet_code.proofs.TopValue as laws

@@ -1,13 +1,14 @@
 -- Words are added for one operation after the other, and for one register after the other.
-use Rattle.std.proofs.Common.{◌≡◌, ℕ, zero, suc, ◌+◌, ◌*◌, ◌^◌, ◌<◌, ◌≤◌, max, Bool, List, [], ◌∷◌, ◌++◌, length, map, take, get_or, refl, ap, sym, ◌∙◌, subst, arith, append_assoc, append-nil}
+use Rattle.std.proofs.Common.{◌≡◌, ℕ, zero, suc, ◌+◌, ◌^◌, ◌<◌, ◌≤◌, Bool, List, [], ◌∷◌, ◌++◌, length, map, take, get_or, ap, sym, ◌∙◌, subst, arith, append_assoc, append-nil}
 use Rattle.std.specs.Prelude.{slice_index}
-use Rattle.std.specs.List.{flat_map, All}
+use Rattle.std.specs.List.{All}
 use Rattle.std.proofs.lemmas.List.{take_more, map-append}
 use Rattle.std.proofs.lemmas.Grind.{flat_map-append}
-use Rattle.std.proofs.lemmas.List.Elements.{All-get_or}
+use Rattle.std.proofs.lemmas.List.Elements.{All-get_or, All-push}
 use Rattle.v8_decode.specs.declared.Instr.{Instr}
 use Rattle.v8_encode.specs.Encoding.{word_of}
 use Rattle.snippets.specs.declared.snippet.Op.{Op}
+use Rattle.snippets.specs.Grammar.{IsOp}
 use Rattle.snippets.specs.Ops.{cell_of}
 use Rattle.snippet_code.specs.Cells.{cell_at}
 use Rattle.snippet_code.specs.Words.{op_registers, registers_for, op_words, all_words, numbered}
@@ -71,3 +72,9 @@ reg_more f regs i reg before now after below is e g =
     (ap (λ z. take i (numbered f 0 regs) ++ f i z ∷ []) is
     ∙ ap (λ k. take i (numbered f 0 regs) ++ f k (slice_index regs i) ∷ []) (let z : i ≡ 0 + i = omega arith in z)
     ∙ sym (numbered_more f 0 regs i below))
+
+pub are_more : (ops : List Op) (i : ℕ) (op : Op) → i < length ops → op ≡ get_or ops i op → All IsOp (take i ops)
+    → IsOp op → All IsOp (take (i + 1) ops)
+are_more ops i op below is before here =
+    subst (All IsOp) (sym (take_more ops i op below))
+    (All-push IsOp (take i ops) (get_or ops i op) before (subst IsOp is here))

@@ -22,7 +22,6 @@ use Rattle.snippet_code.proofs.OneOperation.{as_many, Doing, add_works, put_work
 use Rattle.snippet_code.proofs.Greater.{top_works}
 use Rattle.snippet_code.proofs.Blocks.{put_same, put_other, ld, st}
 
-
 -- ---- words of two lists
 pub stand_then : (code : List Region) (a : ℕ) (xs ys : List Instr) → StandIn code a (xs ++ ys) → StandIn code a xs × StandIn code (a + 4 * length xs) ys
 stand_then code a [] ys h = (tt, subst (λ z. StandIn code z ys) (let e : a ≡ a + 4 * 0 = omega arith in e) h)
@@ -95,10 +94,12 @@ module _ {s : State} {count : ℕ} {May : ℕ → Type 0} {counted : ℕ → Boo
   restores k m (q ∷ qs) {n} {t} {g} {codes} {f} w picked page held room stand =
       let here : Says (code_of s.memory) (s.pc + 4 * n) (i.Load loads.LD (r k) 0 (of_page (m + 2))) = subst (λ z. Says (code_of s.memory) (s.pc + 4 * n) (i.Load loads.LD z 0 (of_page (m + 2)))) picked.1 stand.0 in
       let one = ld c k 0 (of_page (m + 2)) (kept_word m) w (omega arith) picked.0 here (λ u h. page_sum u m page.0) page.1 in
-      let more = restores (suc k) (suc m) qs one picked.2 page.2 held.1 (omega arith) (stand_at (code_of s.memory) (s.pc + 4 * n + 4) (s.pc + 4 * suc n) (numbered restore (suc m) qs) stand.1 (omega arith)) in
-      (more.0, as_many (let e : suc n + length qs ≡ n + suc (length qs) = omega arith in e) more.1,
-      λ j h. more.2 j (omega arith) ∙ put_other k (g (kept_word m)) f j (λ e. (omega arith)),
-      λ j h l. go more.0 more.2 more.3 j h l (equal_or_not j k))
+      let more = restores (suc k) (suc m) qs one picked.2 page.2 held.1 (omega arith) (stand_at (code_of s.memory) (s.pc + 4 * n + 4) (s.pc + 4 * suc n) (numbered restore (suc m) qs) stand.1 (omega arith)) in (
+        more.0,
+        as_many (let e : suc n + length qs ≡ n + suc (length qs) = omega arith in e) more.1,
+        λ j h. more.2 j (omega arith) ∙ put_other k (g (kept_word m)) f j (λ e. (omega arith)),
+        λ j h l. go more.0 more.2 more.3 j h l (equal_or_not j k),
+      )
     where
       go : (f' : ℕ → ℕ) → ((j : ℕ) → j < suc k → f' j ≡ put k (g (kept_word m)) f j) → ((j : ℕ) → suc k ≤ j → j < suc k + length qs → f' j ≡ register_of s (r j))
           → (j : ℕ) → k ≤ j → j < k + suc (length qs) → (j ≡ k) ⊎ (j ≢ k) → f' j ≡ register_of s (r j)

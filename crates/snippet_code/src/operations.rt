@@ -3,6 +3,8 @@
 ghost use Rattle.std.specs.Prelude.{◌≡◌, ◌==◌, ◌+◌, ◌*◌, ◌++◌, ◌^◌, ◌<◌, ◌≤◌, if◌then◌else◌, Some, None, false, true, length, map, max, slice_index};
 ghost use Rattle.std.specs.Prelude.{OnOk};
 ghost use Rattle.v8_encode.specs.Encoding.{word_of};
+ghost use Rattle.std.specs.List.{All};
+ghost use Rattle.snippets.specs.Grammar.{IsOp};
 ghost use Rattle.snippets.specs.Ops.{cell_of};
 ghost use Rattle.snippet_code.specs.Cells.{cell_at};
 ghost use Rattle.snippet_code.specs.Laws.{EndLow};
@@ -106,7 +108,12 @@ fn keep(words: &mut Vec<u32>, address: u32, regs: &[Reg], reg: Reg) -> Result<()
 }
 
 // A register is stored where it is greater, and the codes change.
-fn top_by_codes(words: &mut Vec<u32>, address: u32, regs: &[Reg], reg: Reg) -> Result<(), AllocError>
+fn top_by_codes(
+    words: &mut Vec<u32>,
+    address: u32,
+    regs: &[Reg],
+    reg: Reg,
+) -> Result<(), AllocError>
     requires room { 2 ≤ length regs.now }
     ensures { OnOk result (words.new.items ≡ words.old.items
         ++ map word_of (code.top_words address true (slice_index regs.now) reg)) }
@@ -121,7 +128,12 @@ fn top_by_codes(words: &mut Vec<u32>, address: u32, regs: &[Reg], reg: Reg) -> R
 }
 
 // A register is stored where it is greater, without the codes: by the borrow of the difference.
-fn top_by_borrow(words: &mut Vec<u32>, address: u32, regs: &[Reg], reg: Reg) -> Result<(), AllocError>
+fn top_by_borrow(
+    words: &mut Vec<u32>,
+    address: u32,
+    regs: &[Reg],
+    reg: Reg,
+) -> Result<(), AllocError>
     requires room { 5 ≤ length regs.now }
     ensures { OnOk result (words.new.items ≡ words.old.items
         ++ map word_of (code.top_words address false (slice_index regs.now) reg)) }
@@ -178,14 +190,19 @@ fn push_op(
 ) -> Result<(), AllocError>
     requires room { code.op_registers codes_dead op.now ≤ length regs.now }
     requires low { cell_at cells.0 (cell_of op.now) + 4 ≤ 2 ^ 31 }
-    ensures { OnOk result (words.new.items ≡ words.old.items
+    ensures code { OnOk result (words.new.items ≡ words.old.items
         ++ map word_of (code.op_words cells.0 codes_dead (slice_index regs.now) op.now)) }
+    ensures op { IsOp op.now }
 {
     match op {
         Op::Add { cell, amount } => add(words, cell_address(cells, *cell), regs, *amount),
         Op::Put { cell, value } => put(words, cell_address(cells, *cell), regs, *value),
-        Op::Keep { cell, reg } => keep(words, cell_address(cells, *cell), regs, *reg),
+        Op::Keep { cell, reg } => {
+            prove!(reg.number() < 32);
+            keep(words, cell_address(cells, *cell), regs, *reg)
+        }
         Op::Top { cell, reg } => {
+            prove!(reg.number() < 32);
             top(words, cell_address(cells, *cell), codes_dead, regs, *reg)
         }
     }
@@ -201,8 +218,9 @@ pub fn push_ops(
 ) -> Result<(), AllocError>
     requires room { code.registers_for codes_dead ops.now ≤ length regs.now }
     requires low { EndLow cells.0 ops.now }
-    ensures { OnOk result (words.new.items ≡ words.old.items
+    ensures code { OnOk result (words.new.items ≡ words.old.items
         ++ map word_of (code.all_words cells.0 codes_dead (slice_index regs.now) ops.now)) }
+    ensures ops { OnOk result (All IsOp ops.now) }
 {
     for op in ops {
         push_op(words, cells, codes_dead, regs, op)?;
