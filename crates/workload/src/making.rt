@@ -15,6 +15,9 @@ const HEADERS_SIZE: u32 = 84;
 
 const WORD_SIZE: u32 = 4;
 
+/// Where the segment stands in memory, and its first word, at which the program is entered.
+const ENTRY: u32 = 0x0001_0054;
+
 /// The file of a program of so many routines, which are made from the number.
 pub fn make(alloc: Global, number: u32, routines: u32) -> Result<Vec<u8>, NoMemory>
     requires some { 1 ≤ routines }
@@ -44,7 +47,7 @@ fn put_headers(out: &mut Vec<u8>, size: u32) -> Result<(), NoMemory>
             0,
             0x0002_0002,
             1,
-            0x0001_0054,
+            ENTRY,
             52,
             0,
             0,
@@ -53,8 +56,8 @@ fn put_headers(out: &mut Vec<u8>, size: u32) -> Result<(), NoMemory>
             0,
             1,
             84,
-            0x0001_0054,
-            0x0001_0054,
+            ENTRY,
+            ENTRY,
             size,
             size,
             5,
