@@ -16,8 +16,8 @@ pub fn generated_has_no_fault()
     ensures { HasNoFault }
 {}
 
-/// The run of a file that is made exits, after so many steps as its routines have turns, with what they add. It stays in
-/// the text, and judges no byte of memory.
+/// The run of a file that is made exits, with what its routines add, after so many steps as they have turns. It stays
+/// in the text, and judges no byte of memory.
 pub fn generated_runs_end()
     ensures { GeneratedRunsEnd }
 {}
