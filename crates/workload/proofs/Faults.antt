@@ -76,6 +76,9 @@ module _ (size : ℕ) (some : 4 ≤ size) (few : size ≤ 2 ^ 22) where
         entry = rw (is_the_text, lt-ltb 0 (size / 4) (omega arith)) refl;
       }
 
+  pub text_is_first : text_header (text_entry size ∷ []) ≡ Some (text_entry size)
+  text_is_first = rows.text
+
   edit_none : NoneHolds (entry_rows (84 + size) 0x10054 (text_entry size ∷ []))
   unfolding has_dynamic
   edit_none =

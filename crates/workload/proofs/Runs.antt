@@ -20,7 +20,7 @@ use Rattle.workload.proofs.Calls.{IsDrawn, AreDrawn}
 use Rattle.workload.proofs.Standing.{text_stands}
 use Rattle.workload.proofs.Ends.{Ends, whole_run, goes_on, exits_at, in_text, judges_none, untouched}
 
-are_drawn : (count x : ℕ) → AreDrawn (routines_from count x)
+pub are_drawn : (count x : ℕ) → AreDrawn (routines_from count x)
 are_drawn zero x = tt
 are_drawn (suc count) x = (
   record { more = drawn x % 16; turns = omega arith; few = omega arith; small = omega arith },

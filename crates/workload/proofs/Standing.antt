@@ -87,7 +87,7 @@ fit-exit = (
   (record { range = refl; has = refl; small = omega arith }, tt),
 )
 
-fit-code : (rs : List Routine) (count : ℕ) → AreDrawn rs → count ≤ 100000 → AreFit (code_of rs count)
+pub fit-code : (rs : List Routine) (count : ℕ) → AreDrawn rs → count ≤ 100000 → AreFit (code_of rs count)
 fit-code rs count drawn few =
     fit-append (caller_code count) (flat_map routine_code rs)
     (fit-append (flat_map (call_of count) (range_with_len 0 count)) exit_code

@@ -3,7 +3,7 @@
 //! The definitions stand in specs/, with the law of its run.
 #![tactic(auto)]
 
-ghost use Rattle.workload.specs.Laws.{GeneratedRunsEnd, HasNoFault};
+ghost use Rattle.workload.specs.Laws.{GeneratedHoldsItsCode, GeneratedRunsEnd, HasNoFault};
 
 mod draws;
 mod making;
@@ -14,6 +14,11 @@ pub use making::make;
 /// Nothing keeps a file that is made from being edited, or from being run.
 pub fn generated_has_no_fault()
     ensures { HasNoFault }
+{}
+
+/// The text of a file that is made is the program's words, in order.
+pub fn generated_holds_its_code()
+    ensures { GeneratedHoldsItsCode }
 {}
 
 /// The run of a file that is made exits, with what its routines add, after so many steps as they have turns. It stays
