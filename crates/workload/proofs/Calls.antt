@@ -1,9 +1,7 @@
 -- The caller: a call of each routine, and the exit.
-use Rattle.std.proofs.Common.{◌≡◌, ℕ, zero, suc, ◌+◌, ◌-◌, ◌*◌, ◌%◌, ◌^◌, ◌<◌, ◌≤◌, List, [], ◌∷◌, ◌++◌, length, None, pos, refl, ap, sym, ◌∙◌, subst, arith}
-use Rattle.std.specs.Int.{w32, cast_unsigned}
+use Rattle.std.proofs.Common.{◌≡◌, ℕ, suc, ◌+◌, ◌-◌, ◌*◌, ◌%◌, ◌^◌, ◌<◌, ◌≤◌, List, [], ◌∷◌, length, pos, refl, ap, sym, subst, arith}
 use Rattle.std.specs.List.{flat_map, range_with_len, sum_by}
 use Rattle.std.proofs.lemmas.List.Sums.{sum_by-cons}
-use Rattle.v8_decode.specs.declared.Instr.{Instr}
 use Rattle.v8_decode.specs.declared.Instr.TheVariants as i
 use Rattle.v8_memory.specs.Regions.{Memory}
 use Rattle.v8_alu.specs.declared.Codes.{Codes}
@@ -12,9 +10,9 @@ use Rattle.v8_step.specs.State.{State}
 use Rattle.workload.specs.declared.draws.Routine.{Routine}
 use Rattle.workload.specs.Generated.{nop, first_word, call_of, routine_code}
 use Rattle.workload.specs.Laws.{routine_steps, routine_sum}
-use Rattle.workload.proofs.Steps.{Held, at, left, nop_acts, call_acts, count_acts}
-use Rattle.workload.proofs.Way.{Says, Stand, StandBoth, both, moved_to, Way, no_way, one, follows, as_long}
-use Rattle.workload.proofs.Turns.{Body, body_of, holding, turns, returns}
+use Rattle.workload.proofs.Steps.{at, left, nop_acts, call_acts, count_acts}
+use Rattle.workload.proofs.Way.{Stand, both, moved_to, Way, no_way, one, follows, as_long}
+use Rattle.workload.proofs.Turns.{body_of, holding, turns, returns}
 
 -- a routine that was drawn
 pub record IsDrawn (r : Routine) : Type 0 where
@@ -47,25 +45,29 @@ module _ (count : ℕ) (m : Memory) (sp : ℕ) where
       let all : Way count start end (4 * k) =
       subst (λ (n : ℕ). Way count (at m sp a (a + 4) NoSlot (holding n sum o7 codes))
       (at m sp (a + 16) (a + 20) NoSlot (holding 0 (sum + n * r.amount) o7 (left 0))) (4 * n)) (sym is)
-      (turns count m sp a r.amount o7 body (omega arith) drawn.small drawn.more sum codes drawn.few (omega (arith, same, fits))) in
+      (turns count m sp a r.amount o7 body (omega arith) drawn.small drawn.more sum codes drawn.few
+      (omega (arith, same, fits))) in
       as_long count first last (1 + (4 * k + 2)) (4 * k + 3) (omega arith)
       (follows count first start last 1 (4 * k + 2)
       (one count first start _ refl stand.0 refl
       (count_acts m sp t (t + 4) (a + 4) k NoSlot (holding 0 sum o7 codes) (omega arith) (omega (arith, is, few))))
       (follows count start end last (4 * k) 2 all
-      (returns count m sp a r.amount o7 body (omega arith) drawn.small (holding 0 (sum + k * r.amount) o7 (left 0)) (omega arith) aligned)))
+      (returns count m sp a r.amount o7 body (omega arith) drawn.small (holding 0 (sum + k * r.amount) o7 (left 0))
+      (omega arith) aligned)))
 
   -- a call from c to t
   called : (c t distance sum o7 : ℕ) (codes : Codes) → Stand count m c (i.Call (pos distance) ∷ nop ∷ [])
       → c + 4 * distance ≡ t → t < 2 ^ 30
-      → Way count (at m sp c (c + 4) NoSlot (holding 0 sum o7 codes)) (at m sp t (t + 4) NoSlot (holding 0 sum c codes)) 2
+      → Way count (at m sp c (c + 4) NoSlot (holding 0 sum o7 codes))
+      (at m sp t (t + 4) NoSlot (holding 0 sum c codes)) 2
   called c t distance sum o7 codes stand leads low =
       let s = at m sp c (c + 4) NoSlot (holding 0 sum o7 codes) in
       let u = at m sp (c + 4) t Taken (holding 0 sum c codes) in
       let v = at m sp t (t + 4) NoSlot (holding 0 sum c codes) in
       follows count s u v 1 1
       (one count s u _ refl stand.0 refl (call_acts m sp c (c + 4) t distance (holding 0 sum o7 codes) (omega arith)))
-      (one count u v _ refl stand.1.0 refl (nop_acts m sp (c + 4) t (t + 4) Taken (holding 0 sum c codes) (omega arith)))
+      (one count u v _ refl stand.1.0 refl
+      (nop_acts m sp (c + 4) t (t + 4) Taken (holding 0 sum c codes) (omega arith)))
 
   -- the state after some calls
   pub record Comes (s : State) (pc sum k : ℕ) : Type 0 where
@@ -91,7 +93,8 @@ module _ (count : ℕ) (m : Memory) (sp : ℕ) where
       → Comes (at m sp c (c + 4) NoSlot (holding 0 sum o7 codes)) (c + 8 * length rs) (sum + sum_by routine_sum rs)
       (2 * length rs + sum_by routine_steps rs)
   calls [] n c t sum o7 codes drawn within few at_c at_t cs ts fits =
-      comes (at m sp c (c + 4) NoSlot (holding 0 sum o7 codes)) c sum 0 (c + 8 * length {A = Routine} []) (sum + 0) _ o7 codes
+      comes (at m sp c (c + 4) NoSlot (holding 0 sum o7 codes)) c sum 0 (c + 8 * length {A = Routine} [])
+      (sum + 0) _ o7 codes
       (omega arith) (omega arith) (omega arith)
       (no_way count (at m sp c (c + 4) NoSlot (holding 0 sum o7 codes)))
   calls (r ∷ rs) n c t sum o7 codes drawn within few at_c at_t cs ts fits =
@@ -104,17 +107,21 @@ module _ (count : ℕ) (m : Memory) (sp : ℕ) where
       let back = at m sp (c + 8) (c + 8 + 4) NoSlot (holding 0 (sum + routine_sum r) c (left 0)) in
       let rest = calls rs (n + 1) (c + 8) (t + 28) (sum + routine_sum r) c (left 0) drawn.1 (omega (arith, more)) few
       (omega arith) (omega arith)
-      (moved_to count m (c + 4 + 4) (c + 8) (flat_map (call_of count) (range_with_len (n + 1) (length rs))) (omega arith) cs.1.1)
+      (moved_to count m (c + 4 + 4) (c + 8) (flat_map (call_of count) (range_with_len (n + 1) (length rs)))
+      (omega arith) cs.1.1)
       parts.second (omega (arith, all_sums, fits)) in
       let pc = c + 8 + 8 * length rs in
       let after = sum + routine_sum r + sum_by routine_sum rs in
       let last = at m sp pc (pc + 4) NoSlot (holding 0 after rest.o7 rest.codes) in
       let rest_steps = 2 * length rs + sum_by routine_steps rs in
-      comes start pc after (2 + (routine_steps r + rest_steps)) (c + 8 * suc (length rs)) (sum + sum_by routine_sum (r ∷ rs))
+      comes start pc after (2 + (routine_steps r + rest_steps)) (c + 8 * suc (length rs))
+      (sum + sum_by routine_sum (r ∷ rs))
       (2 * suc (length rs) + sum_by routine_steps (r ∷ rs)) rest.o7 rest.codes (omega arith) (omega (arith, all_sums))
       (omega (arith, all_steps))
       (follows count start entered last 2 (routine_steps r + rest_steps)
-      (called c t (first_word count n - 2 * n) sum o7 codes (cs.0, (cs.1.0, tt)) (omega (arith, more)) (omega (arith, more)))
+      (called c t (first_word count n - 2 * n) sum o7 codes (cs.0, (cs.1.0, tt)) (omega (arith, more))
+      (omega (arith, more)))
       (follows count entered back last (routine_steps r) rest_steps
-      (routine t sum c codes r drawn.0 parts.first (omega (arith, more)) (omega (arith, more)) (omega arith) (omega (arith, all_sums, fits)))
+      (routine t sum c codes r drawn.0 parts.first (omega (arith, more)) (omega (arith, more)) (omega arith)
+      (omega (arith, all_sums, fits)))
       rest.way))

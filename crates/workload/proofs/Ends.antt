@@ -1,12 +1,10 @@
 -- The whole run of the program, in a memory that has its text.
-use Rattle.std.proofs.Common.{◌≡◌, ℕ, zero, suc, ◌+◌, ◌-◌, ◌*◌, ◌%◌, ◌^◌, ◌<◌, ◌≤◌, ◌⊎◌, inl, inr, false, List, [], ◌∷◌, ◌++◌, length, length-append, Option, Some, None, refl, ap, sym, ◌∙◌, subst, arith}
+use Rattle.std.proofs.Common.{◌≡◌, ℕ, zero, suc, ◌+◌, ◌-◌, ◌*◌, ◌%◌, ◌^◌, ◌<◌, ◌≤◌, ◌⊎◌, inl, inr, List, [], ◌∷◌, length, length-append, Some, None, refl, ap, sym, ◌∙◌, subst, arith}
 use Rattle.std.specs.List.{flat_map, range_with_len, sum_by}
 use Rattle.std.proofs.lemmas.Bool.{cases_lt}
-use Rattle.v8_decode.specs.declared.Instr.{Instr}
 use Rattle.v8_memory.specs.Regions.{Memory, fetch_of}
 use Rattle.v8_memory.specs.Spans.{Span, IsApart, IsApartFromAll, AllApart}
 use Rattle.v8_alu.specs.declared.Codes.{Codes}
-use Rattle.v8_step.specs.declared.Ending.{Ending}
 use Rattle.v8_step.specs.declared.Ending.TheVariants.{Exit}
 use Rattle.v8_step.specs.declared.Slot.TheVariants.{NoSlot}
 use Rattle.v8_step.specs.State.{State}
@@ -20,9 +18,9 @@ use Rattle.workload.specs.Generated.{first_word, call_of, exit_code, routine_cod
 use Rattle.workload.specs.Laws.{routine_steps, routine_sum, text_span, IsTextWord}
 use Rattle.workload.proofs.Made.{length-caller}
 use Rattle.workload.proofs.Steps.{Held, at, number_acts, exit_acts, exit_judges}
-use Rattle.workload.proofs.Way.{Stand, both, moved_to, IsGood, Way, one, follows, as_long, run_add}
+use Rattle.workload.proofs.Way.{Stand, both, moved_to, Way, one, follows, as_long, run_add}
 use Rattle.workload.proofs.Turns.{holding}
-use Rattle.workload.proofs.Calls.{AreDrawn, Comes, calls}
+use Rattle.workload.proofs.Calls.{AreDrawn, calls}
 
 -- a run that ends, by an exit with the low byte of a sum
 pub record Ends (count : ℕ) (s : State) (sum k : ℕ) : Type 0 where
@@ -45,8 +43,10 @@ module _ (count : ℕ) (m : Memory) (sp : ℕ) where
         ending = refl;
         inside = stand.1.0.inside;
         way = follows count s t u 1 1
-            (one count s t _ refl stand.0 refl (number_acts m sp x (x + 4) (x + 4 + 4) NoSlot (holding 0 sum o7 codes) (omega arith)))
-            (one count t u _ refl stand.1.0 (exit_judges m sp (x + 4) (x + 4 + 4) NoSlot h refl) (exit_acts m sp (x + 4) (x + 4 + 4) NoSlot h refl));
+            (one count s t _ refl stand.0 refl
+            (number_acts m sp x (x + 4) (x + 4 + 4) NoSlot (holding 0 sum o7 codes) (omega arith)))
+            (one count t u _ refl stand.1.0 (exit_judges m sp (x + 4) (x + 4 + 4) NoSlot h refl)
+            (exit_acts m sp (x + 4) (x + 4 + 4) NoSlot h refl));
       }
 
   pub whole_run : (rs : List Routine) (codes : Codes) → AreDrawn rs → length rs ≡ count → count ≤ 100000
@@ -58,10 +58,12 @@ module _ (count : ℕ) (m : Memory) (sp : ℕ) where
       let caller = both count m 0x10054 (flat_map (call_of count) (range_with_len 0 count)) exit_code all.first in
       let long = length-caller count in
       let start = at m sp 0x10054 0x10058 NoSlot (holding 0 0 0 codes) in
-      let first = calls count m sp rs 0 0x10054 (0x10054 + 4 * first_word count 0) 0 0 codes drawn (omega (arith, size)) few
+      let first = calls count m sp rs 0 0x10054 (0x10054 + 4 * first_word count 0) 0 0 codes drawn
+      (omega (arith, size)) few
       (omega arith) (omega arith)
       (subst (λ (n : ℕ). Stand count m 0x10054 (flat_map (call_of count) (range_with_len 0 n))) (sym size) caller.first)
-      (moved_to count m _ (0x10054 + 4 * first_word count 0) (flat_map routine_code rs) (omega (arith, long)) all.second)
+      (moved_to count m _ (0x10054 + 4 * first_word count 0) (flat_map routine_code rs)
+      (omega (arith, long)) all.second)
       (omega arith) in
       let sizes = length-append (flat_map (call_of count) (range_with_len 0 count)) exit_code in
       let x = 0x10054 + 8 * length rs in
@@ -75,7 +77,8 @@ module _ (count : ℕ) (m : Memory) (sp : ℕ) where
         ending = exit.ending ∙ ap (λ n. Some (Exit (n % 256))) same;
         inside = exit.inside;
         way = as_long count start exit.last (steps + 2) (2 * count + 2 + sum_by routine_steps rs) (omega (arith, size))
-            (follows count start (at m sp x (x + 4) NoSlot (holding 0 sum first.o7 first.codes)) exit.last steps 2 first.way exit.way);
+            (follows count start (at m sp x (x + 4) NoSlot
+            (holding 0 sum first.o7 first.codes)) exit.last steps 2 first.way exit.way);
       }
 
 -- ---- what is true of each of its states
@@ -87,7 +90,8 @@ module _ (count : ℕ) (s : State) (sum k : ℕ) (e : Ends count s sum k) where
 
   over : (n : ℕ) → k ≤ n → run s n ≡ e.last
   over n late =
-      (let f : n ≡ (n - k) + k = omega arith in ap (run s) f) ∙ run_add s k (n - k) ∙ ap (λ z. run z (n - k)) e.way.arrives
+      (let f : n ≡ (n - k) + k = omega arith in ap (run s) f) ∙ run_add s k (n - k)
+      ∙ ap (λ z. run z (n - k)) e.way.arrives
       ∙ stays (n - k)
 
   pub goes_on : (n : ℕ) → n < k → (run s n).ending ≡ None

@@ -1,5 +1,5 @@
 -- The generated file has no fault.
-use Rattle.std.proofs.Common.{◌≡◌, ℕ, ◌+◌, ◌*◌, ◌/◌, ◌^◌, ◌<◌, ◌≤◌, Bool, true, false, nat_lt, nat_eq, List, [], ◌∷◌, ◌++◌, length, map, Some, None, refl, ap, ◌∙◌, arith}
+use Rattle.std.proofs.Common.{◌≡◌, ℕ, ◌+◌, ◌*◌, ◌/◌, ◌^◌, ◌≤◌, Bool, true, false, nat_lt, nat_eq, List, [], ◌∷◌, ◌++◌, length, map, Some, None, refl, ap, ◌∙◌, arith}
 use Rattle.std.proofs.lemmas.Bool.{lt-ltb, le-ltb}
 use Rattle.elf32_sparc.specs.declared.fault.FileFault.{FileFault}
 use Rattle.elf32_sparc.specs.Header.{e_entry, program_headers, loadable, text_header, text_count, is_text}
@@ -76,6 +76,9 @@ module _ (size : ℕ) (some : 4 ≤ size) (few : size ≤ 2 ^ 22) where
         entry = rw (is_the_text, lt-ltb 0 (size / 4) (omega arith)) refl;
       }
 
+  pub text_is_first : text_header (text_entry size ∷ []) ≡ Some (text_entry size)
+  text_is_first = rows.text
+
   edit_none : NoneHolds (entry_rows (84 + size) 0x10054 (text_entry size ∷ []))
   unfolding has_dynamic
   edit_none =
@@ -83,8 +86,19 @@ module _ (size : ℕ) (some : 4 ≤ size) (few : size ≤ 2 ^ 22) where
       let some_text : nat_eq (text_count (text_entry size ∷ [])) 0 ≡ false = rw (r.count) refl in
       let one_text : nat_lt 1 (text_count (text_entry size ∷ [])) ≡ false = rw (r.count) refl in
       let memory : nat_lt (128 * 2 ^ 20) (memory_size (text_entry size ∷ [])) ≡ false =
-      rw (r.memory) (le-ltb (128 * 2 ^ 20) size (omega arith)) in
-      (refl, (r.bytes, (r.room, (r.order, (r.align, (some_text, (one_text, (r.shape, (r.large, (r.entry, (memory, tt)))))))))))
+      rw (r.memory) (le-ltb (128 * 2 ^ 20) size (omega arith)) in (
+        refl,
+        (
+          r.bytes,
+          (
+            r.room,
+            (
+              r.order,
+              (r.align, (some_text, (one_text, (r.shape, (r.large, (r.entry, (memory, tt))))))),
+            ),
+          ),
+        ),
+      )
 
   load_none : NoneHolds (load_rows (84 + size) (text_entry size ∷ []))
   load_none =

@@ -1,12 +1,11 @@
 -- The headers of a file that holds some words, and their fields.
 use Rattle.std.proofs.Common.{◌≡◌, ℕ, ◌+◌, ◌*◌, ◌^◌, ◌<◌, ◌≤◌, List, [], ◌∷◌, ◌++◌, length, drop, refl, ap, ◌∙◌, length-append, arith}
 use Rattle.std.specs.Int.{w32, to_be_bytes}
-use Rattle.std.specs.List.{flat_map}
 use Rattle.std.proofs.lemmas.Bool.{le-leb}
 use Rattle.byteorder.specs.Endian.{big_number}
 use Rattle.byteorder.specs.Numbers.{length-bytes_high_first, big_number-reads_back}
 use Rattle.elf32_sparc.specs.declared.header.ProgramHeader.{ProgramHeader}
-use Rattle.elf32_sparc.specs.Header.{half_at, word_at, ei_magic, ei_class, ei_data, ei_version, e_type, e_machine, e_version, e_entry, e_phoff, e_ehsize, e_phentsize, e_phnum, program_header, headers_from, program_headers}
+use Rattle.elf32_sparc.specs.Header.{half_at, word_at, ei_magic, e_type, e_machine, e_version, e_entry, e_phoff, e_ehsize, e_phentsize, e_phnum, program_header, headers_from, program_headers}
 use Rattle.workload.specs.Generated.{bytes_of, header_words, file_of}
 
 pub length-bytes_of : (ws : List ℕ) → length (bytes_of ws) ≡ 4 * length ws

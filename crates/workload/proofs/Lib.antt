@@ -7,4 +7,5 @@ mod Turns
 mod Calls
 mod Ends
 mod Standing
+mod Texts
 mod Runs

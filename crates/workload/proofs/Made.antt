@@ -8,7 +8,7 @@ use Rattle.std.proofs.lemmas.Grind.{flat_map-append}
 use Rattle.v8_decode.specs.declared.Instr.{Instr}
 use Rattle.v8_encode.specs.Encoding.{word_of}
 use Rattle.workload.specs.declared.draws.Routine.{Routine}
-use Rattle.workload.specs.Generated.{stirred, routine_from, routines_from, call_of, exit_code, routine_code, caller_code, code_of, bytes_of, header_words, file_of, generated}
+use Rattle.workload.specs.Generated.{stirred, routine_from, routines_from, call_of, exit_code, routine_code, caller_code, code_of, bytes_of, header_words, generated}
 
 pub bytes_of-append : (xs ys : List ℕ) → bytes_of (xs ++ ys) ≡ bytes_of xs ++ bytes_of ys
 bytes_of-append xs ys = flat_map-append (to_be_bytes w32) xs ys
@@ -30,7 +30,8 @@ moved now next whole words piece rest is added before =
 
 pub one_call : (count routine : ℕ) → routine < count
     → flat_map (call_of count) (range_with_len routine (count - routine)) ++ exit_code
-    ≡ call_of count routine ++ (flat_map (call_of count) (range_with_len (routine + 1) (count - (routine + 1))) ++ exit_code)
+    ≡ call_of count routine ++ (flat_map (call_of count)
+    (range_with_len (routine + 1) (count - (routine + 1))) ++ exit_code)
 one_call count routine below =
     let more : count - routine ≡ suc (count - (routine + 1)) = omega arith in
     ap (λ n. flat_map (call_of count) (range_with_len routine n) ++ exit_code) more

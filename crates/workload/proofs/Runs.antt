@@ -1,5 +1,5 @@
 -- The run of the generated file.
-use Rattle.std.proofs.Common.{◌≡◌, ℕ, zero, suc, ◌+◌, ◌*◌, ◌%◌, ◌^◌, ◌<◌, ◌≤◌, false, List, [], ◌∷◌, length, map, refl, ap, sym, ◌∙◌, subst, mul-le-mul, arith}
+use Rattle.std.proofs.Common.{◌≡◌, ℕ, zero, suc, ◌+◌, ◌*◌, ◌%◌, ◌≤◌, false, List, [], ◌∷◌, length, map, ap, sym, subst, mul-le-mul, arith}
 use Rattle.std.specs.List.{sum_by}
 use Rattle.std.proofs.lemmas.List.Sums.{sum_by-cons}
 use Rattle.v8_encode.specs.Encoding.{word_of}
@@ -10,8 +10,8 @@ use Rattle.v8_step.specs.State.{State}
 use Rattle.v8_step.specs.Run.{first_state}
 use Rattle.v8_process.specs.Start.{start_of, start_memory, first_sp, program_name}
 use Rattle.workload.specs.declared.draws.Routine.{Routine}
-use Rattle.workload.specs.Generated.{stirred, drawn, routine_from, routines_from, code_of, file_of, generated}
-use Rattle.workload.specs.Laws.{first, routine_steps, routine_sum, step_count, total, RunsToItsExit, GeneratedRunsEnd}
+use Rattle.workload.specs.Generated.{stirred, drawn, routines_from, code_of, file_of, generated}
+use Rattle.workload.specs.Laws.{first, routine_steps, routine_sum, step_count, total, GeneratedRunsEnd}
 use Rattle.workload.proofs.Made.{length-routines, word_count}
 use Rattle.workload.proofs.Headers.{header_facts}
 use Rattle.workload.proofs.Steps.{at}
@@ -20,7 +20,7 @@ use Rattle.workload.proofs.Calls.{IsDrawn, AreDrawn}
 use Rattle.workload.proofs.Standing.{text_stands}
 use Rattle.workload.proofs.Ends.{Ends, whole_run, goes_on, exits_at, in_text, judges_none, untouched}
 
-are_drawn : (count x : ℕ) → AreDrawn (routines_from count x)
+pub are_drawn : (count x : ℕ) → AreDrawn (routines_from count x)
 are_drawn zero x = tt
 are_drawn (suc count) x = (
   record { more = drawn x % 16; turns = omega arith; few = omega arith; small = omega arith },

@@ -1,5 +1,5 @@
 -- The text of the file in the memory in which it starts.
-use Rattle.std.proofs.Common.{◌≡◌, ℕ, zero, suc, ◌+◌, ◌-◌, ◌*◌, ◌%◌, ◌^◌, ◌<◌, ◌≤◌, true, false, nat_lt, List, [], ◌∷◌, ◌++◌, length, map, take, drop, replicate, Some, pos, refl, ap, sym, ◌∙◌, subst, arith, append-nil}
+use Rattle.std.proofs.Common.{◌≡◌, ℕ, zero, suc, ◌+◌, ◌-◌, ◌*◌, ◌^◌, ◌<◌, ◌≤◌, true, List, [], ◌∷◌, ◌++◌, length, map, drop, replicate, Some, pos, refl, ap, sym, ◌∙◌, arith, append-nil}
 use Rattle.std.specs.Int.{w32, to_be_bytes}
 use Rattle.std.specs.List.{flat_map, range_with_len}
 use Rattle.std.proofs.lemmas.Bool.{lt-ltb}
@@ -8,25 +8,21 @@ use Rattle.byteorder.specs.Endian.{big_number}
 use Rattle.byteorder.specs.Numbers.{big_number-reads_back}
 use Rattle.v8_decode.specs.declared.Instr.{Instr}
 use Rattle.v8_decode.specs.declared.Instr.TheVariants as i
-use Rattle.v8_decode.specs.Words.{decode_of}
 use Rattle.v8_decode.specs.Ranges.{is_in_range}
 use Rattle.v8_encode.specs.Encoding.{has_word, word_of}
 use Rattle.v8_encode.proofs.Decoded.{decode_of-word_of}
-use Rattle.elf32_sparc.specs.Header.{program_headers, loadable}
+use Rattle.elf32_sparc.specs.Header.{loadable}
 use Rattle.elf32_sparc.specs.Mapping.{Mapping, mapping_of, mappings}
-use Rattle.v8_memory.specs.Regions.{Memory, fetch_of}
-use Rattle.v8_memory.specs.Segments.{region_of}
-use Rattle.v8_step.specs.Valid.{AreBytes}
+use Rattle.v8_memory.specs.Regions.{fetch_of}
 use Rattle.v8_step.proofs.ValidNumbers.{flat_map-bytes, high_first-bytes}
 use Rattle.v8_process.specs.Start.{start_memory}
 use Rattle.v8_process.specs.Fetched.{IsFirstCode}
 use Rattle.v8_process.proofs.Fetched.{code_is_fetched}
 use Rattle.workload.specs.declared.draws.Routine.{Routine}
 use Rattle.workload.specs.Generated.{nop, move, first_word, call_of, exit_code, routine_code, caller_code, code_of, bytes_of, file_of}
-use Rattle.workload.specs.Laws.{IsTextWord}
-use Rattle.workload.proofs.Headers.{HeaderFacts, header_facts, length-bytes_of, text_entry}
+use Rattle.workload.proofs.Headers.{HeaderFacts, header_facts, length-bytes_of}
 use Rattle.workload.proofs.Faults.{loads}
-use Rattle.workload.proofs.Way.{Says, Stand, moved_to}
+use Rattle.workload.proofs.Way.{Stand, moved_to}
 use Rattle.workload.proofs.Calls.{IsDrawn, AreDrawn}
 
 -- ---- each instruction of the program has a word
@@ -86,13 +82,16 @@ fit-calls count n (suc more) within few =
     (fit-call (first_word count n - 2 * n) (omega arith), (fit-nop, fit-calls count (n + 1) more (omega arith) few))
 
 fit-exit : AreFit exit_code
-fit-exit =
-    (record { range = refl; has = refl; small = omega arith }, (record { range = refl; has = refl; small = omega arith }, tt))
+fit-exit = (
+  record { range = refl; has = refl; small = omega arith },
+  (record { range = refl; has = refl; small = omega arith }, tt),
+)
 
-fit-code : (rs : List Routine) (count : ℕ) → AreDrawn rs → count ≤ 100000 → AreFit (code_of rs count)
+pub fit-code : (rs : List Routine) (count : ℕ) → AreDrawn rs → count ≤ 100000 → AreFit (code_of rs count)
 fit-code rs count drawn few =
     fit-append (caller_code count) (flat_map routine_code rs)
-    (fit-append (flat_map (call_of count) (range_with_len 0 count)) exit_code (fit-calls count 0 count (omega arith) few) fit-exit)
+    (fit-append (flat_map (call_of count) (range_with_len 0 count)) exit_code
+    (fit-calls count 0 count (omega arith) few) fit-exit)
     (fit-routines rs drawn)
 
 -- ---- the file's one segment
@@ -142,11 +141,13 @@ module _ (ws : List ℕ) (some : 1 ≤ length ws) (few : length ws ≤ 2 ^ 20) w
           record {
             fetched = fetched texts k (omega (arith, more))
                 ∙ ap (λ bytes. Some (big_number 4 bytes)) is
-                ∙ ap (λ (w : ℕ). Some w) (big_number-reads_back 4 (word_of x) (bytes_of (map word_of code)) fit.0.small);
+                ∙ ap (λ (w : ℕ). Some w) (big_number-reads_back 4 (word_of x)
+                (bytes_of (map word_of code)) fit.0.small);
             decodes = decode_of-word_of x fit.0.range fit.0.has;
             inside = record { aligned = omega arith; above = omega arith; below = omega (arith, more, size) };
           },
-          moved_to count (start_memory (file_of ws) texts) (0x10054 + 4 * suc k) (0x10054 + 4 * k + 4) code (omega arith)
+          moved_to count (start_memory (file_of ws) texts) (0x10054 + 4 * suc k) (0x10054 + 4 * k + 4) code
+              (omega arith)
               (stand_from code (suc k) fit.1 (omega (arith, more)) rest),
         )
 
@@ -157,4 +158,5 @@ pub text_stands : (rs : List Routine) (count : ℕ) (texts : List (List ℕ)) �
 text_stands rs count texts drawn some few size =
     let ws = map word_of (code_of rs count) in
     let long = length-map (code_of rs count) word_of in
-    stand_from ws (omega arith) (omega arith) count size texts (code_of rs count) 0 (fit-code rs count drawn few) (omega arith) refl
+    stand_from ws (omega arith) (omega arith) count size texts (code_of rs count) 0 (fit-code rs count drawn few)
+    (omega arith) refl

@@ -1,5 +1,5 @@
 -- A routine: the turns of its loop, and its return.
-use Rattle.std.proofs.Common.{◌≡◌, ℕ, zero, suc, ◌+◌, ◌*◌, ◌%◌, ◌^◌, ◌<◌, ◌≤◌, true, false, List, [], ◌∷◌, None, pos, negsuc, refl, ap, sym, ◌∙◌, subst, arith}
+use Rattle.std.proofs.Common.{◌≡◌, ℕ, zero, suc, ◌+◌, ◌*◌, ◌%◌, ◌^◌, ◌<◌, true, false, pos, negsuc, refl, subst, arith}
 use Rattle.std.proofs.lemmas.Bool.{ne_eqb}
 use Rattle.v8_decode.specs.declared.Instr.{Instr}
 use Rattle.v8_decode.specs.declared.Instr.TheVariants as i
@@ -7,13 +7,11 @@ use Rattle.v8_decode.specs.declared.Op2.TheVariants.{Imm}
 use Rattle.v8_decode.specs.declared.AluOp.TheVariants as ops
 use Rattle.v8_memory.specs.Regions.{Memory}
 use Rattle.v8_alu.specs.declared.Codes.{Codes}
-use Rattle.v8_step.specs.declared.Slot.{Slot}
 use Rattle.v8_step.specs.declared.Slot.TheVariants.{NoSlot, Taken, Untaken}
-use Rattle.v8_step.specs.State.{State}
 use Rattle.workload.specs.declared.draws.Routine.{Routine}
-use Rattle.workload.specs.Generated.{nop, move, routine_code}
-use Rattle.workload.proofs.Steps.{Held, at, left, nop_acts, count_acts, add_acts, subtract_acts, again_acts, done_acts, return_acts}
-use Rattle.workload.proofs.Way.{Says, Stand, Way, no_way, one, follows, as_long}
+use Rattle.workload.specs.Generated.{nop, routine_code}
+use Rattle.workload.proofs.Steps.{Held, at, left, nop_acts, add_acts, subtract_acts, again_acts, done_acts, return_acts}
+use Rattle.workload.proofs.Way.{Says, Stand, Way, one, follows, as_long}
 
 -- the words of a loop and its return, from the add on
 pub record Body (count : ℕ) (m : Memory) (a amount : ℕ) : Type 0 where
@@ -54,9 +52,11 @@ module _ (count : ℕ) (m : Memory) (sp a amount o7 : ℕ) (body : Body count m 
       let u = at m sp (a + 8) (a + 12) NoSlot (holding n (sum + amount) o7 (left n)) in
       follows count s t u 1 1
       (one count s t _ refl body.add refl
-      (add_acts m sp a (a + 4) (a + 8) amount (sum + amount) NoSlot (holding (suc n) sum o7 codes) (omega arith) (omega arith)))
+      (add_acts m sp a (a + 4) (a + 8) amount (sum + amount) NoSlot (holding (suc n) sum o7 codes) (omega arith)
+      (omega arith)))
       (one count t u _ refl body.subtract refl
-      (subtract_acts m sp (a + 4) (a + 8) (a + 12) n NoSlot (holding (suc n) (sum + amount) o7 codes) (omega arith) refl (omega arith)))
+      (subtract_acts m sp (a + 4) (a + 8) (a + 12) n NoSlot (holding (suc n) (sum + amount) o7 codes)
+      (omega arith) refl (omega arith)))
 
   -- bne and its slot, to the add
   again : (h : Held) → h.codes.z ≡ false
@@ -100,10 +100,12 @@ module _ (count : ℕ) (m : Memory) (sp a amount o7 : ℕ) (body : Body count m 
       let t = at m sp (a + 8) (a + 12) NoSlot (holding (suc n) (sum + amount) o7 (left (suc n))) in
       let u = at m sp a (a + 4) NoSlot (holding (suc n) (sum + amount) o7 (left (suc n))) in
       let v = at m sp (a + 16) (a + 20) NoSlot (holding 0 (sum + amount + suc n * amount) o7 (left 0)) in
-      subst (λ (o0 : ℕ). Way count s (at m sp (a + 16) (a + 20) NoSlot (holding 0 o0 o7 (left 0))) (4 * suc (suc n))) all
+      subst (λ (o0 : ℕ). Way count s (at m sp (a + 16) (a + 20) NoSlot (holding 0 o0 o7 (left 0)))
+      (4 * suc (suc n))) all
       (as_long count s v (2 + (2 + 4 * suc n)) (4 * suc (suc n)) (omega arith)
       (follows count s t v 2 (2 + 4 * suc n) (counted (suc n) sum codes few (omega arith))
-      (follows count t u v 2 (4 * suc n) (again (holding (suc n) (sum + amount) o7 (left (suc n))) (ne_eqb (suc n) 0 (λ (e : suc n ≡ 0). omega arith)))
+      (follows count t u v 2 (4 * suc n)
+      (again (holding (suc n) (sum + amount) o7 (left (suc n))) (ne_eqb (suc n) 0 (λ (e : suc n ≡ 0). omega arith)))
       (turns n (sum + amount) (left (suc n)) (omega arith) (omega arith)))))
 
   -- retl and its slot

@@ -1,11 +1,10 @@
 -- Ways of several steps through words of the text, none of which judges a byte.
-use Rattle.std.proofs.Common.{◌≡◌, ℕ, zero, suc, ◌+◌, ◌-◌, ◌*◌, ◌<◌, ◌≤◌, ◌⊎◌, inl, inr, List, [], ◌∷◌, ◌++◌, length, Option, Some, None, refl, ap, sym, ◌∙◌, subst, arith}
+use Rattle.std.proofs.Common.{◌≡◌, ℕ, zero, suc, ◌+◌, ◌-◌, ◌*◌, ◌<◌, ◌≤◌, ◌⊎◌, inl, inr, List, [], ◌∷◌, ◌++◌, length, Some, None, refl, ap, sym, ◌∙◌, subst, arith}
 use Rattle.std.proofs.lemmas.Bool.{cases_lt}
 use Rattle.v8_decode.specs.declared.Instr.{Instr}
 use Rattle.v8_decode.specs.Words.{decode_of}
 use Rattle.v8_encode.specs.Encoding.{word_of}
 use Rattle.v8_memory.specs.Regions.{Memory, fetch_of}
-use Rattle.v8_step.specs.declared.Ending.{Ending}
 use Rattle.v8_step.specs.State.{State}
 use Rattle.v8_step.specs.Step.{act, step_of}
 use Rattle.v8_step.specs.Run.{run}
@@ -86,12 +85,14 @@ pub one : (count : ℕ) (s t : State) (x : Instr) → s.ending ≡ None → Says
     → act s x ≡ t → Way count s t 1
 one count s t x live says none acts = record {
   arrives = steps s x count live says ∙ acts;
-  during = λ j l. let zero : j ≡ 0 = omega arith in subst (λ (k : ℕ). IsGood count (run s k)) (sym zero) (good count s x live says none);
+  during = λ j l. let zero : j ≡ 0 = omega arith in subst (λ (k : ℕ). IsGood count (run s k)) (sym zero)
+      (good count s x live says none);
 }
 
 pub follows : (count : ℕ) (s t u : State) (k l : ℕ) → Way count s t k → Way count t u l → Way count s u (k + l)
 follows count s t u k l w v = record {
-  arrives = (let e : k + l ≡ l + k = omega arith in ap (run s) e) ∙ run_add s k l ∙ ap (λ z. run z l) w.arrives ∙ v.arrives;
+  arrives = (let e : k + l ≡ l + k = omega arith in ap (run s) e) ∙ run_add s k l ∙ ap (λ z. run z l) w.arrives
+      ∙ v.arrives;
   during = λ j b. go j b (cases_lt j k);
 }
   where
@@ -99,7 +100,8 @@ follows count s t u k l w v = record {
     go j b (inl early) = w.during j early
     go j b (inr late) =
         let e : run s j ≡ run t (j - k) =
-        (let f : j ≡ (j - k) + k = omega arith in ap (run s) f) ∙ run_add s k (j - k) ∙ ap (λ z. run z (j - k)) w.arrives in
+        (let f : j ≡ (j - k) + k = omega arith in ap (run s) f) ∙ run_add s k (j - k)
+        ∙ ap (λ z. run z (j - k)) w.arrives in
         subst (IsGood count) (sym e) (v.during (j - k) (omega arith))
 
 pub as_long : (count : ℕ) (s t : State) (k l : ℕ) → k ≡ l → Way count s t k → Way count s t l

@@ -1,7 +1,9 @@
 -- The laws of the generated file.
-use Rattle.std.specs.Prelude.{◌≡◌, ℕ, ◌+◌, ◌*◌, ◌%◌, ◌<◌, ◌≤◌, List, [], Some, None}
+use Rattle.std.specs.Prelude.{◌≡◌, ℕ, ◌+◌, ◌*◌, ◌%◌, ◌<◌, ◌≤◌, List, [], length, map, Some, None}
 use Rattle.std.specs.List.{sum_by}
 use Rattle.elf32_sparc.specs.FileFault.{fault, load_fault}
+use Rattle.elf32_sparc.specs.Image.{image_of}
+use Rattle.v8_encode.specs.Encoding.{word_of}
 use Rattle.v8_memory.specs.Spans.{Span, IsApartFromAll}
 use Rattle.v8_step.specs.declared.Ending.TheVariants.{Exit}
 use Rattle.v8_step.specs.State.{State}
@@ -9,13 +11,22 @@ use Rattle.v8_step.specs.Run.{run}
 use Rattle.v8_step.specs.Needed.{instr_at, judged_in, IsUntouched}
 use Rattle.v8_process.specs.Start.{start_of}
 use Rattle.workload.specs.declared.draws.Routine.{Routine}
-use Rattle.workload.specs.Generated.{routines_from, generated}
+use Rattle.workload.specs.Generated.{routines_from, code_of, generated}
 
 -- nothing keeps it from being edited, or from being run
 abbrev pub HasNoFault : Type 0
 HasNoFault =
     (number count : ℕ) → 1 ≤ count → count ≤ 100000
     → (fault (generated number count) ≡ None) × (load_fault (generated number count) ≡ None)
+
+-- its text is the program's words, nine for each routine and two
+pub record HoldsItsCode (number count : ℕ) : Type 0 where
+  pub text : (image_of (generated number count)).text
+      ≡ record { start = 0x10054; words = map word_of (code_of (routines_from count number) count) }
+  pub size : length (image_of (generated number count)).text.words ≡ 9 * count + 2
+
+abbrev pub GeneratedHoldsItsCode : Type 0
+GeneratedHoldsItsCode = (number count : ℕ) → 1 ≤ count → count ≤ 100000 → HoldsItsCode number count
 
 -- ---- its run
 

@@ -3,7 +3,7 @@
 //! The definitions stand in specs/, with the law of its run.
 #![tactic(auto)]
 
-ghost use Rattle.workload.specs.Laws.{GeneratedRunsEnd, HasNoFault};
+ghost use Rattle.workload.specs.Laws.{GeneratedHoldsItsCode, GeneratedRunsEnd, HasNoFault};
 
 mod draws;
 mod making;
@@ -16,8 +16,13 @@ pub fn generated_has_no_fault()
     ensures { HasNoFault }
 {}
 
-/// The run of a file that is made exits, after so many steps as its routines have turns, with what they add. It stays in
-/// the text, and judges no byte of memory.
+/// The text of a file that is made is the program's words, in order.
+pub fn generated_holds_its_code()
+    ensures { GeneratedHoldsItsCode }
+{}
+
+/// The run of a file that is made exits, with what its routines add, after so many steps as they have turns. It stays
+/// in the text, and judges no byte of memory.
 pub fn generated_runs_end()
     ensures { GeneratedRunsEnd }
 {}

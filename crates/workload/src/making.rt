@@ -15,6 +15,33 @@ const HEADERS_SIZE: u32 = 84;
 
 const WORD_SIZE: u32 = 4;
 
+/// Where the segment stands in memory, and its first word, at which the program is entered.
+const ENTRY: u32 = 0x0001_0054;
+
+/// The type, the flags and the alignment of the segment.
+const PT_LOAD: u32 = 1;
+
+const READ_EXECUTE: u32 = 5;
+
+const ALIGNMENT: u32 = 0x0001_0000;
+
+/// The header of an executable for SPARC with one program header and no sections.
+const FILE_HEADER: [u32; 13] = [
+    0x7f45_4c46,
+    0x0102_0100,
+    0,
+    0,
+    0x0002_0002,
+    1,
+    ENTRY,
+    52,
+    0,
+    0,
+    0x0034_0020,
+    0x0001_0000,
+    0,
+];
+
 /// The file of a program of so many routines, which are made from the number.
 pub fn make(alloc: Global, number: u32, routines: u32) -> Result<Vec<u8>, NoMemory>
     requires some { 1 ≤ routines }
@@ -32,33 +59,22 @@ pub fn make(alloc: Global, number: u32, routines: u32) -> Result<Vec<u8>, NoMemo
 }
 
 /// Adds the header of the file, and that of its one segment, which holds a text of so many bytes.
+#[tactic(auto, using(std::proofs::lemmas::List::append_assoc))]
 fn put_headers(out: &mut Vec<u8>, size: u32) -> Result<(), NoMemory>
     ensures { OnOk result (out.new.items ≡ out.old.items ++ bytes_of (header_words size)) }
 {
+    put_words(out, &FILE_HEADER)?;
     put_words(
         out,
         &[
-            0x7f45_4c46,
-            0x0102_0100,
-            0,
-            0,
-            0x0002_0002,
-            1,
-            0x0001_0054,
-            52,
-            0,
-            0,
-            0x0034_0020,
-            0x0001_0000,
-            0,
-            1,
-            84,
-            0x0001_0054,
-            0x0001_0054,
+            PT_LOAD,
+            HEADERS_SIZE,
+            ENTRY,
+            ENTRY,
             size,
             size,
-            5,
-            0x0001_0000,
+            READ_EXECUTE,
+            ALIGNMENT,
         ],
     )?;
     Ok(())
