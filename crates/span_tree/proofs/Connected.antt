@@ -7,7 +7,7 @@ use Rattle.std.proofs.lemmas.List.{get_or-append-add, get_or-map as get_or_at, l
 use Rattle.std.proofs.lemmas.List.Elements.{All-map, All-weaker}
 use Rattle.flows.specs.Flows.{NodeSet}
 use Rattle.flows.specs.Links.{IsLinked, graph_of as plain_of}
-use Rattle.flows.specs.Trees.{IsConnected, NoneCrosses}
+use Rattle.flows.specs.Trees.{IsConnected, NoneCrosses, all_nodes}
 use Rattle.flows.specs.declared.Link.{Link}
 use Rattle.cfg_blocks.specs.Blocks.{Blocks, below}
 use Rattle.cfg_blocks.proofs.Below.{get_or-below, length-below}
@@ -16,7 +16,7 @@ use Rattle.cfg_normal.specs.declared.Node.{Node}
 use Rattle.cfg_normal.specs.declared.Node.TheVariants.{Block, X}
 use Rattle.cfg_normal.specs.Graph.{Graph, IsEdgeIn, IsGraph, IsNodeIn, edges_in, edges_of, landing_at}
 use Rattle.cfg_normal.specs.Numbers.{node_number}
-use Rattle.span_tree.specs.Links.{all_nodes, link_of, links_of, no_edge}
+use Rattle.span_tree.specs.Links.{link_of, links_of, no_edge}
 
 -- ---- the list of links
 

@@ -1,6 +1,6 @@
 -- The flow graph as a plain one, where nodes and edges are numbers.
 use Rattle.std.specs.Prelude.{ℕ, ◌+◌, true, length, slice_index_or}
-use Rattle.flows.specs.Flows.{Graph as PlainGraph, NodeSet}
+use Rattle.flows.specs.Flows.{Graph as PlainGraph}
 use Rattle.flows.specs.declared.Link.{Link}
 use Rattle.cfg_blocks.specs.declared.EdgeKind.TheVariants.{Land}
 use Rattle.cfg_normal.specs.declared.Edge.{Edge}
@@ -30,10 +30,6 @@ links_of graph = record {
   from = λ e. node_number graph (edge_at graph e).from;
   to = λ e. node_number graph (edge_at graph e).to;
 }
-
--- every number below that of nodes is one
-abbrev pub all_nodes : NodeSet
-all_nodes = λ v. true
 
 -- the same as a list
 abbrev pub link_of : Graph → Edge → Link

@@ -4,9 +4,9 @@ ghost use Rattle.cfg_normal.specs.Graph.{Graph, IsGraph};
 ghost use Rattle.cfg_normal.specs.Numbers.{node_number};
 ghost use Rattle.flows.specs.Flows.{IsLeast, rest};
 ghost use Rattle.flows.specs.Links.{marked, weight_in};
-ghost use Rattle.flows.specs.Trees.{IsSpanningTree};
+ghost use Rattle.flows.specs.Trees.{IsSpanningTree, all_nodes};
 ghost use Rattle.span_tree.specs.Cells.{cell_at, cell_count, cell_of, has_cell, AreNumbered};
-ghost use Rattle.span_tree.specs.Links.{all_nodes, link_of, links_of};
+ghost use Rattle.span_tree.specs.Links.{link_of, links_of};
 
 use cfg_normal::{FlowGraph, Node};
 use eel_base::{EdgeNo, NoMemory};

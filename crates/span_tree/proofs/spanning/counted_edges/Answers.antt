@@ -1,8 +1,8 @@
 use Rattle.std.proofs.Common.{◌≡◌, ℕ, ◌+◌, ◌∙◌, ap, subst, sym}
 use Rattle.flows.specs.Flows.{Graph, IsLeast, rest}
 use Rattle.flows.specs.Links.{graph_of, marked, weight_in}
-use Rattle.flows.specs.Trees.{IsConnected, IsSpanningTree}
-use Rattle.span_tree.specs.Links.{all_nodes, links_of}
+use Rattle.flows.specs.Trees.{IsConnected, IsSpanningTree, all_nodes}
+use Rattle.span_tree.specs.Links.{links_of}
 use Rattle.span_tree.proofs.Connected.{connected, linked_as, plain_is}
 use Rattle.span_tree.proofs.spanning.counted_edges.Goals as goal
 

@@ -1,0 +1,4 @@
+pub mod Profile
+pub mod Rules
+pub mod TheFlow
+pub mod Values

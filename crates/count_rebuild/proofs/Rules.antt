@@ -1,0 +1,167 @@
+-- What the notes' rules and lists say of their graph.
+use Rattle.std.proofs.Common.{◌≡◌, ℕ, ◌+◌, ◌<◌, ◌≤◌, Bool, true, false, ◌&&◌, ◌||◌, cond, List, [], ◌∷◌, length, map, nat_le, nat_lt, Option, Some, None, refl, ap, sym, ◌∙◌, arith}
+use Rattle.std.specs.Prelude.{IfSome, ℤ, if◌then◌else◌}
+use Rattle.std.specs.List.{All, find, list_any}
+use Rattle.std.specs.Option.{option_map, option_or}
+use Rattle.std.proofs.Math.ListN.{get_or-map}
+use Rattle.std.proofs.lemmas.Bool.{and_parts, cond_both, leb-true}
+use Rattle.std.proofs.lemmas.List.{length-map}
+use Rattle.std.proofs.lemmas.List.Elements.{All-cons, All-head, All-nil, All-tail}
+use Rattle.elf32_sparc.specs.Notes.{NoteEdge, NoteRange, NoteSegment, Notes, holds, node_at, range_at}
+use Rattle.flows.specs.Flows.{EdgeSet, Graph, NodeSet}
+use Rattle.flows.specs.Links.{graph_of, marked}
+use Rattle.flows.specs.Trees.{IsSpanningTree}
+use Rattle.flows.specs.declared.Link.{Link}
+use Rattle.flows.proofs.Weights.{weight_same}
+use Rattle.flow_rebuild.specs.Values.{int_at}
+use Rattle.notes.specs.Rules.{are_edges, are_ranges, is_edge, is_range, with_cell}
+use Rattle.eel_base.specs.declared.range.Range as declared_range
+use Rattle.notes.specs.Seen.{edge_seen, notes_seen, range_seen, segment_seen}
+use Rattle.notes.specs.declared.note.NoteEdge as declared_edge
+use Rattle.notes.specs.declared.note.Notes as declared_notes
+use Rattle.count_rebuild.specs.Counts.{cell_value}
+use Rattle.count_rebuild.specs.Noted.{edge_at, has_cell, is_counted, link_of, no_edge, noted_graph}
+
+-- ---- lists that are made of the edges
+
+map-map : {A B C : Type 0} (f : A → B) (g : B → C) (xs : List A) → map g (map f xs) ≡ map (λ x. g (f x)) xs
+map-map f g [] = refl
+map-map {C = C} f g (x ∷ xs) = ap (λ (ys : List C). g (f x) ∷ ys) (map-map f g xs)
+
+pub links_seen : (edges : List declared_edge.NoteEdge) → map link_of (map edge_seen edges) ≡ map (λ edge. link_of (edge_seen edge)) edges
+links_seen edges = map-map edge_seen link_of edges
+
+noted_is : (notes : Notes) → graph_of (length notes.blocks + 1) (map link_of notes.edges) ≡ noted_graph notes
+noted_is notes = λ i. record {
+  nodes = length notes.blocks + 1;
+  edges = length-map notes.edges link_of i;
+  from = λ e. ap (λ (l : Link). l.from) (get_or-map link_of notes.edges e no_edge) i;
+  to = λ e. ap (λ (l : Link). l.to) (get_or-map link_of notes.edges e no_edge) i;
+}
+
+pub graph_is : (n : declared_notes.Notes) (count : ℕ) (links : List Link) → count ≡ length n.blocks.items + 1
+    → links ≡ map (λ edge. link_of (edge_seen edge)) n.edges.items → graph_of count links ≡ noted_graph (notes_seen n)
+graph_is n count links nodes are =
+    ap (λ (count : ℕ). graph_of count links) nodes
+    ∙ ap (graph_of (length n.blocks.items + 1)) (are ∙ sym (map-map edge_seen link_of n.edges.items))
+    ∙ noted_is (notes_seen n)
+
+pub counted_is : (n : declared_notes.Notes) (counted : List Bool)
+    → counted ≡ map (λ edge. is_counted (edge_seen edge)) n.edges.items → marked counted ≡ has_cell (notes_seen n)
+counted_is n counted are = λ i e. at e i
+  where
+    at : (e : ℕ) → marked counted e ≡ has_cell (notes_seen n) e
+    at e =
+        ap (λ (marks : List Bool). marked marks e) (are ∙ sym (map-map edge_seen is_counted n.edges.items))
+        ∙ get_or-map is_counted (map edge_seen n.edges.items) e no_edge
+
+pub values_are : (n : declared_notes.Notes) (cells : List ℕ) (values : List ℤ)
+    → values ≡ map (λ edge. cell_value cells (edge_seen edge).cell) n.edges.items
+    → int_at values ≡ (λ e. cell_value cells (edge_at (notes_seen n) e).cell)
+values_are n cells values are = λ i e. at e i
+  where
+    held : NoteEdge → ℤ
+    held edge = cell_value cells edge.cell
+
+    at : (e : ℕ) → int_at values e ≡ held (edge_at (notes_seen n) e)
+    at e =
+        ap (λ (values : List ℤ). int_at values e) (are ∙ sym (map-map edge_seen held n.edges.items))
+        ∙ get_or-map held (map edge_seen n.edges.items) e no_edge
+
+-- ---- the same nodes
+
+pub same_nodes : (g : Graph) (p q : NodeSet) (t : EdgeSet) → ((v : ℕ) → v < g.nodes → p v ≡ q v)
+    → IsSpanningTree g p t → IsSpanningTree g q t
+same_nodes g p q t same h = record {
+  joins = λ s none u v lu lv pu pv. h.joins s none u v lu lv (same u lu ∙ pu) (same v lv ∙ pv);
+  size = h.size ∙ weight_same g.nodes (λ e. 1) p q same;
+}
+
+-- ---- the rules
+
+pub edges_inside : (blocks cells : ℕ) (taken : List ℕ) (edges : List NoteEdge)
+    → are_edges blocks cells taken edges ≡ true
+    → All (λ (edge : NoteEdge). (edge.from ≤ blocks) × (edge.to ≤ blocks)) edges
+edges_inside blocks cells taken [] h = All-nil (λ (edge : NoteEdge). (edge.from ≤ blocks) × (edge.to ≤ blocks))
+edges_inside blocks cells taken (edge ∷ edges) h =
+    let parts = and_parts (is_edge blocks cells taken edge) _ h in
+    let ends = and_parts _ _ (and_parts _ _ parts.0).0 in
+    All-cons (λ (edge : NoteEdge). (edge.from ≤ blocks) × (edge.to ≤ blocks)) edge edges
+    (leb-true edge.from blocks (and_parts _ _ ends.0).1, leb-true edge.to blocks ends.1)
+    (edges_inside blocks cells (with_cell edge.cell taken) edges parts.1)
+
+ranges_inside : (blocks : ℕ) (segments : List NoteSegment) (end : ℕ) (ranges : List NoteRange)
+    → are_ranges blocks segments end ranges ≡ true → All (λ (range : NoteRange). range.node ≤ blocks) ranges
+ranges_inside blocks segments end [] h = All-nil (λ (range : NoteRange). range.node ≤ blocks)
+ranges_inside blocks segments end (range ∷ ranges) h =
+    let parts = and_parts (is_range blocks segments end range) _ h in
+    All-cons (λ (range : NoteRange). range.node ≤ blocks) range ranges
+    (leb-true range.node blocks (and_parts _ _ parts.0).1) (ranges_inside blocks segments range.hi ranges parts.1)
+
+-- ---- where an address stands
+
+IfSome-find : {A : Type 0} (P : A → Type 0) (p : A → Bool) (xs : List A) → All P xs → IfSome (find p xs) P
+IfSome-find P p [] h = tt
+IfSome-find P p (x ∷ xs) h =
+    cond_both (p x) (Some x) (find p xs) (λ o. IfSome o P) (λ e. All-head P x xs h)
+    (λ e. IfSome-find P p xs (All-tail P x xs h))
+
+pub node_inside : (notes : Notes) (address : ℕ)
+    → are_ranges (length notes.blocks) notes.segments 0 notes.ranges ≡ true
+    → IfSome (node_at notes address) (λ node. node ≤ length notes.blocks)
+node_inside notes address h =
+    by (range_at notes address) (IfSome-find (λ (range : NoteRange). range.node ≤ length notes.blocks)
+    (λ range. nat_le range.lo address && nat_lt address range.hi) notes.ranges
+    (ranges_inside (length notes.blocks) notes.segments 0 notes.ranges h))
+  where
+    by : (o : Option NoteRange) → IfSome o (λ (range : NoteRange). range.node ≤ length notes.blocks)
+        → IfSome (option_or (option_map (λ (range : NoteRange). range.node) o)
+        (if list_any (holds address (address + 1)) notes.segments then None else Some (length notes.blocks)))
+        (λ node. node ≤ length notes.blocks)
+    by None h =
+        cond_both (list_any (holds address (address + 1)) notes.segments) None (Some (length notes.blocks))
+        (λ o. IfSome o (λ node. node ≤ length notes.blocks)) (λ e. tt) (λ e. omega arith)
+    by (Some range) h = h
+
+find-map : {A B : Type 0} (p : B → Bool) (f : A → B) (xs : List A) → find p (map f xs) ≡ option_map f (find (λ x. p (f x)) xs)
+find-map p f [] = refl
+find-map {A = A} {B = B} p f (x ∷ xs) = by (p (f x)) (find-map p f xs)
+  where
+    by : (c : Bool) → find p (map f xs) ≡ option_map f (find (λ x. p (f x)) xs)
+        → cond c (Some (f x)) (find p (map f xs)) ≡ option_map f (cond c (Some x) (find (λ x. p (f x)) xs))
+    by true h = refl
+    by false h = h
+
+any-map : {A B : Type 0} (p : B → Bool) (f : A → B) (xs : List A) → list_any p (map f xs) ≡ list_any (λ x. p (f x)) xs
+any-map p f [] = refl
+any-map p f (x ∷ xs) = ap (λ (c : Bool). p (f x) || c) (any-map p f xs)
+
+-- as the code finds it
+module _ (n : declared_notes.Notes) (address : ℕ) where
+  abbrev found : Option declared_range.Range
+  found = find (λ range. nat_le range.lo.0 address && nat_lt address range.hi.0) n.ranges.items
+
+  abbrev paged : Bool
+  paged = list_any (λ segment. holds address (address + 1) (segment_seen segment)) n.segments.items
+
+  abbrev node_by : Option declared_range.Range → Bool → Option ℕ
+  node_by o page =
+      option_or (option_map (λ (range : NoteRange). range.node) (option_map range_seen o))
+      (if page then None else Some (length n.blocks.items))
+
+  node_is : node_at (notes_seen n) address ≡ node_by found paged
+  node_is =
+      ap (λ (o : Option NoteRange). option_or (option_map (λ (range : NoteRange). range.node) o)
+      (if list_any (holds address (address + 1)) (map segment_seen n.segments.items) then None
+      else Some (length n.blocks.items)))
+      (find-map (λ range. nat_le range.lo address && nat_lt address range.hi) range_seen n.ranges.items)
+      ∙ ap (node_by found) (any-map (holds address (address + 1)) segment_seen n.segments.items)
+
+  pub at_place : (range : declared_range.Range) → found ≡ Some range → Some range.node ≡ node_at (notes_seen n) address
+  at_place range e = sym (node_is ∙ ap (λ o. node_by o paged) e)
+
+  pub at_page : found ≡ None → paged ≡ true → None ≡ node_at (notes_seen n) address
+  at_page e p = sym (node_is ∙ ap (λ o. node_by o paged) e ∙ ap (node_by None) p)
+
+  pub at_outside : found ≡ None → paged ≡ false → Some (length n.blocks.items) ≡ node_at (notes_seen n) address
+  at_outside e p = sym (node_is ∙ ap (λ o. node_by o paged) e ∙ ap (node_by None) p)

@@ -1,0 +1,4 @@
+pub mod Noted
+pub mod Counts
+pub mod Answers
+pub mod Parts

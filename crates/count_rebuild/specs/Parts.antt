@@ -1,0 +1,35 @@
+-- What the parts of rebuilding answer.
+use Rattle.std.specs.Prelude.{◌≡◌, ℕ, ◌+◌, ◌<◌, true, List, length, map, replicate, ℤ, nat_abs, ⊤, false}
+use Rattle.elf32_sparc.specs.Notes.{Notes}
+use Rattle.flows.specs.Flows.{rest}
+use Rattle.flows.specs.Links.{graph_of}
+use Rattle.flows.specs.Trees.{on}
+use Rattle.flows.specs.declared.Link.{Link}
+use Rattle.flow_tree.specs.Tree.{edges_of, IsGrown}
+use Rattle.flow_tree.specs.declared.Tree.{Tree}
+use Rattle.flow_rebuild.specs.Values.{int_at}
+use Rattle.count_rebuild.specs.declared.fault.CountFault.{CountFault}
+use Rattle.count_rebuild.specs.declared.fault.CountFault.TheVariants as faults
+use Rattle.count_rebuild.specs.Counts.{is_negative, IsFirstNegative}
+use Rattle.count_rebuild.specs.Noted.{has_cell, IsProfile}
+
+-- the tree of all nodes by the edges that aren't counted
+pub record IsTreeOf (notes : Notes) (links : List Link) (tree : Tree) : Type 0 where
+  pub profile : IsProfile notes
+  pub grown : IsGrown (graph_of (length tree.reached.items) links) tree
+  pub reached : tree.reached.items ≡ replicate (length notes.blocks + 1) true
+  pub edges : (e : ℕ) → e < length notes.edges → on (edges_of tree) e ≡ rest (has_cell notes) e
+
+-- the flow as numbers that aren't below 0
+pub record AreWhole (flow : List ℤ) (counts : List ℕ) : Type 0 where
+  pub are : counts ≡ map nat_abs flow
+  pub whole : (e : ℕ) → is_negative (int_at flow e) ≡ false
+
+-- or the first of its values that is
+abbrev pub IsBelow : List ℤ → CountFault → Type 0
+IsBelow flow faults.NoProfile = ⊥
+IsBelow flow (faults.Shape cells wanted) = ⊥
+IsBelow flow (faults.TooLong steps) = ⊥
+IsBelow flow (faults.Between pc) = ⊥
+IsBelow flow (faults.Negative edge value) = IsFirstNegative (length flow) (int_at flow) edge.0 value
+IsBelow flow faults.NoMemory = ⊤
