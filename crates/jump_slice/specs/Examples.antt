@@ -1,56 +1,91 @@
--- The switch of a small program, and broken ones that have none: they compute.
-use Rattle.std.specs.Prelude.{◌≡◌, ℕ, List, [], ◌∷◌, Option, Some, None, slice_set, refl}
+-- The switch of a small program, broken programs that have none, and a run that comes to the jump: they compute.
+use Rattle.std.specs.Prelude.{◌≡◌, ℕ, false, List, [], ◌∷◌, Some, slice_set, refl}
 use Rattle.eel_base.specs.CodeText.{Words}
+use Rattle.elf32_sparc.specs.Header.{half_at, word_at, program_header, program_headers}
+use Rattle.elf32_sparc.specs.Mapping.{mappings}
 use Rattle.v8_decode.specs.Words.{decode_of, branch_or_sethi, arithmetic, memory}
+use Rattle.v8_memory.specs.Regions.{bytes_at, fetch_of, with_bytes}
+use Rattle.v8_alu.specs.Alu.{alu_of}
+use Rattle.v8_alu.specs.Conditions.{holds_of}
+use Rattle.v8_step.specs.Transfers.{branch_step}
+use Rattle.v8_step.specs.Accesses.{load_step}
+use Rattle.v8_step.specs.Step.{act, alu_step, step_of}
+use Rattle.v8_step.specs.Run.{run}
+use Rattle.v8_process.specs.Programs.{file_of, switch_of_four}
+use Rattle.v8_process.specs.Start.{start_of}
+use Rattle.cfg_blocks.specs.declared.EdgeKind.TheVariants.{Untaken}
+use Rattle.cfg_blocks.specs.declared.switches.Compare.{Compare}
+use Rattle.cfg_blocks.specs.declared.switches.Switch.{Switch}
 use Rattle.cfg_blocks.specs.Blocks.{blocks_of, leaders}
 use Rattle.cfg_blocks.specs.Ends.{end_at}
-use Rattle.cfg_blocks.specs.Entries.{entered_of, into_of}
-use Rattle.cfg_blocks.specs.declared.switches.Switch.{Switch}
+use Rattle.cfg_blocks.specs.Entries.{Entered, entered_of, into_of}
 use Rattle.cfg_blocks.specs.Values.{after}
-use Rattle.cfg_blocks.specs.Switches.{before_jump, switch_of}
+use Rattle.cfg_blocks.specs.Switches.{approach_of, before_jump, switch_of}
+use Rattle.jump_slice.specs.Runs.{ComesAlong, IsInto}
+use Rattle.jump_slice.specs.Switches.{switches_of}
 
-abbrev switch_of_four : List ℕ
-switch_of_four =
-    0x90102003 ∷ 0x80a22003 ∷ 0x1880000c ∷ 0x912a2002 ∷ 0x03000040 ∷ 0x82106078 ∷ 0xc2004008 ∷ 0x81c04000
-    ∷ 0x01000000 ∷ 0x0001008c ∷ 0x0001008c ∷ 0x0001008c ∷ 0x00010088 ∷ 0x90102005 ∷ 0x82102001 ∷ 0x91d02010 ∷ []
+abbrev text_in : List ℕ → Words
+text_in words = record { start = 0x10054; words = words }
 
--- the switch of a block of a program that starts at its first word
-abbrev switch_in : List ℕ → ℕ → Option Switch
-switch_in words block =
-    let text : Words = record { start = 0x10054; words = words } in
-    switch_of text (entered_of text (0 ∷ [])) 0 block
-
--- the third block holds the jump: words 4 to 7
-four : switch_in switch_of_four 2 ≡ Some (record { jump = record { 0 = 7 }; compare = record { 0 = 0 }; table = record { 0 = 0x10078 }; count = 4 })
+-- all switches of a program that starts at its first word
+unfoldable switches_in : List ℕ → List Switch
 unfolding decode_of branch_or_sethi arithmetic memory blocks_of leaders end_at entered_of into_of after before_jump switch_of
+switches_in words = switches_of (text_in words) (entered_of (text_in words) (0 ∷ [])) 0
+
+-- the third block, words 4 to 7, holds the jump
+four : switches_in switch_of_four
+    ≡ record { jump = record { 0 = 7 }; compare = record { 0 = 0 }; table = record { 0 = 0x10078 }; count = 4 } ∷ []
+unfolding switches_in
 four = refl
 
 -- a branch at word 15 leads to the jump's block too
-second_way : switch_in (slice_set switch_of_four 15 0x10bffff5) 2 ≡ None
-unfolding decode_of branch_or_sethi arithmetic memory blocks_of leaders end_at entered_of into_of after before_jump switch_of
+second_way : switches_in (slice_set switch_of_four 15 0x10bffff5) ≡ []
+unfolding switches_in
 second_way = refl
 
--- bgu is bleu
-other_branch : switch_in (slice_set switch_of_four 2 0x0880000c) 2 ≡ None
-unfolding decode_of branch_or_sethi arithmetic memory blocks_of leaders end_at entered_of into_of after before_jump switch_of
+-- `bgu` is `bleu`
+other_branch : switches_in (slice_set switch_of_four 2 0x0880000c) ≡ []
+unfolding switches_in
 other_branch = refl
 
--- the shift is by 3, and then by a register
-other_shift : switch_in (slice_set switch_of_four 3 0x912a2003) 2 ≡ None
-unfolding decode_of branch_or_sethi arithmetic memory blocks_of leaders end_at entered_of into_of after before_jump switch_of
+-- the shift is by 3
+other_shift : switches_in (slice_set switch_of_four 3 0x912a2003) ≡ []
+unfolding switches_in
 other_shift = refl
 
 -- the limit is 4, and the word after the table no address of the text
-one_more : switch_in (slice_set switch_of_four 1 0x80a22004) 2 ≡ None
-unfolding decode_of branch_or_sethi arithmetic memory blocks_of leaders end_at entered_of into_of after before_jump switch_of
+one_more : switches_in (slice_set switch_of_four 1 0x80a22004) ≡ []
+unfolding switches_in
 one_more = refl
 
+-- the last word of the table is no address of a word
+odd_entry : switches_in (slice_set switch_of_four 12 0x00010089) ≡ []
+unfolding switches_in
+odd_entry = refl
+
 -- the annulled slot isn't run, so that the index isn't shifted
-annulled : switch_in (slice_set switch_of_four 2 0x3880000c) 2 ≡ None
-unfolding decode_of branch_or_sethi arithmetic memory blocks_of leaders end_at entered_of into_of after before_jump switch_of
+annulled : switches_in (slice_set switch_of_four 2 0x3880000c) ≡ []
+unfolding switches_in
 annulled = refl
 
 -- the comparison writes its own register
-loses_index : switch_in (slice_set switch_of_four 1 0x90a22003) 2 ≡ None
-unfolding decode_of branch_or_sethi arithmetic memory blocks_of leaders end_at entered_of into_of after before_jump switch_of
+loses_index : switches_in (slice_set switch_of_four 1 0x90a22003) ≡ []
+unfolding switches_in
 loses_index = refl
+
+-- ---- a run that comes to the jump
+
+abbrev compare : Compare
+compare = record { word = 1; register = 8; limit = 3 }
+
+abbrev list : Entered
+list = entered_of (text_in switch_of_four) (0 ∷ [])
+
+into : IsInto (text_in switch_of_four) list 2 (record { 0 = 0 }) Untaken 12 false compare
+unfolding decode_of branch_or_sethi arithmetic memory blocks_of leaders end_at entered_of into_of
+into = record { target = Some (record { 0 = 14 }); edge = refl; branch = refl; sets = refl }
+
+comes : ComesAlong (text_in switch_of_four) (approach_of (text_in switch_of_four) list.blocks 2 0 false Untaken compare)
+    12 false Untaken (run (start_of (file_of switch_of_four) [] []) 1)
+unfolding decode_of branch_or_sethi arithmetic memory blocks_of leaders end_at entered_of into_of start_of half_at word_at program_header program_headers mappings step_of act alu_step branch_step load_step alu_of holds_of fetch_of bytes_at with_bytes
+comes = record { compares = refl; goes = refl; live = refl }

@@ -1,5 +1,5 @@
 -- All switches of a text.
-use Rattle.std.specs.Prelude.{ℕ, ◌<◌, List, length}
+use Rattle.std.specs.Prelude.{ℕ, List, length}
 use Rattle.std.specs.List.{flat_map}
 use Rattle.std.specs.Option.{option_to_list}
 use Rattle.eel_base.specs.CodeText.{Words}
@@ -12,7 +12,3 @@ use Rattle.cfg_blocks.specs.Switches.{switch_of}
 abbrev pub switches_of : Words → Entered → ℕ → List Switch
 switches_of text list entry =
     flat_map (λ block. option_to_list (switch_of text list entry block)) (below (length list.blocks.firsts))
-
--- the jump is a word of the text
-abbrev pub JumpsIn : Words → Switch → Type 0
-JumpsIn text switch = switch.jump.0 < length text.words

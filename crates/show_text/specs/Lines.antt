@@ -1,4 +1,4 @@
--- The lines that show a program: its routines, its blocks and its edges, and how many there are of each.
+-- The lines that show a program: its routines, blocks, edges and switches, and how many there are of the first three.
 use Rattle.std.specs.Prelude.{ℕ, ◌&&◌, nat_le, if◌then◌else◌, List, [], ◌∷◌, ◌++◌, length, map, slice_index, codes, decimal}
 use Rattle.std.specs.List.{enumerate_from, flat_map, range_with_len}
 use Rattle.eel_base.specs.CodeText.{Words, address_of}
@@ -7,6 +7,7 @@ use Rattle.routines.specs.declared.Routine.{Routine}
 use Rattle.cfg_blocks.specs.Blocks.{Blocks, size_of}
 use Rattle.cfg_blocks.specs.declared.EdgeKind.{EdgeKind}
 use Rattle.cfg_blocks.specs.declared.EdgeKind.TheVariants as kinds
+use Rattle.cfg_blocks.specs.declared.switches.Switch.{Switch}
 use Rattle.cfg_normal.specs.declared.Edge.{Edge}
 use Rattle.cfg_normal.specs.declared.Node.{Node}
 use Rattle.cfg_normal.specs.declared.Node.TheVariants as nodes
@@ -68,6 +69,11 @@ edge_line text blocks (number, edge) =
     line (codes "edge" ∷ decimal number ∷ kind_text edge.kind ∷ node_text text blocks edge.from
     ∷ node_text text blocks edge.to ∷ slot_text text edge.slot ∷ [])
 
+-- the address of the jump, that of its table, and how many entries that has
+abbrev pub switch_line : Words → Switch → List ℕ
+switch_line text switch =
+    line (codes "switch" ∷ address_text text switch.jump.0 ∷ hex_of switch.table.0 ∷ decimal switch.count ∷ [])
+
 abbrev pub routine_lines : View → List ℕ
 routine_lines view = flat_map (routine_line view.image.text) view.routines
 
@@ -83,5 +89,9 @@ totals_line view =
     line (codes "routines" ∷ decimal (length view.routines) ∷ codes "blocks"
     ∷ decimal (length view.graph.blocks.firsts) ∷ codes "edges" ∷ decimal (length view.graph.edges) ∷ [])
 
-unfoldable pub show_lines : View → List ℕ
-show_lines view = routine_lines view ++ block_lines view ++ edge_lines view ++ totals_line view
+abbrev pub switch_lines : View → List Switch → List ℕ
+switch_lines view switches = flat_map (switch_line view.image.text) switches
+
+unfoldable pub show_lines : View → List Switch → List ℕ
+show_lines view switches =
+    routine_lines view ++ block_lines view ++ edge_lines view ++ switch_lines view switches ++ totals_line view

@@ -1,4 +1,4 @@
-//! What is printed of a program: its routines, blocks and edges, a line each.
+//! What is printed of a program: its routines, blocks, edges and switches, a line each.
 #![tactic(auto)]
 
 mod lines;

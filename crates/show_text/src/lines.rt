@@ -1,10 +1,14 @@
 //! The lines.
 ghost use Rattle.std.specs.Prelude.{◌≡◌, ◌<◌, ◌++◌, ◌∷◌, length, map, IfOk, OnOk};
+ghost use Rattle.std.specs.List.{All};
 ghost use Rattle.cfg_normal.specs.Graph.{IsEdgeIn};
 ghost use Rattle.cfg_view.specs.View.{IsView};
-ghost use Rattle.show_text.specs.Lines.{block_line, block_lines, edge_line, edge_lines, line, routine_line, routine_lines, show_lines, totals_line};
+ghost use Rattle.show_text.specs.Lines.{block_line, block_lines, edge_line, edge_lines, line, routine_line, routine_lines, show_lines, switch_line, switch_lines, totals_line};
 
-use crate::words::{address_text, block_text, kind_text, name_text, node_text, slot_text};
+use crate::words::{
+    address_text, block_text, kind_text, name_text, node_text, slot_text, table_text,
+};
+use cfg_blocks::Switch;
 use cfg_normal::Edge;
 use cfg_view::View;
 use eel_base::{BlockNo, NoMemory};
@@ -12,17 +16,19 @@ use itoa::Buffer;
 use routines::Routine;
 use std::alloc::Global;
 
-/// The lines that show a view of a program: routines, blocks and edges in the order of their numbers, and how
-/// many there are of each.
+/// The lines that show a view of a program and its switches: routines, blocks and edges in the order of their
+/// numbers, the switches in theirs, and how many routines, blocks and edges there are.
 #[tactic(auto, unfolding(crate::specs::Lines::show_lines))]
-pub fn show(alloc: Global, v: &View) -> Result<Vec<u8>, NoMemory>
-    requires { IsView v.now }
-    ensures { IfOk result (λ text. text.items ≡ show_lines v.now) }
+pub fn show(alloc: Global, v: &View, switches: &[Switch]) -> Result<Vec<u8>, NoMemory>
+    requires view { IsView v.now }
+    requires jumps { All (λ switch. switch.jump.0 < length v.now.image.text.words) switches.now }
+    ensures { IfOk result (λ text. text.items ≡ show_lines v.now switches.now) }
 {
     let mut text = Vec::new(alloc);
     put_routines(&mut text, v)?;
     put_blocks(&mut text, v)?;
     put_edges(&mut text, v)?;
+    put_switches(&mut text, v, switches)?;
     put_totals(&mut text, v)?;
     Ok(text)
 }
@@ -116,7 +122,30 @@ fn put_edge(text: &mut Vec<u8>, view: &View, number: usize, edge: &Edge) -> Resu
     Ok(())
 }
 
-/// Adds the line that says how many there are of each.
+fn put_switches(text: &mut Vec<u8>, view: &View, switches: &[Switch]) -> Result<(), NoMemory>
+    requires { All (λ switch. switch.jump.0 < length view.now.image.text.words) switches.now }
+    ensures { OnOk result (text.new.items ≡ text.old.items ++ switch_lines view.now switches.now) }
+{
+    for switch in switches {
+        put_switch(text, view, *switch)?;
+    }
+    Ok(())
+}
+
+fn put_switch(text: &mut Vec<u8>, view: &View, switch: Switch) -> Result<(), NoMemory>
+    requires { switch.jump.0 < length view.now.image.text.words }
+    ensures { OnOk result (text.new.items ≡ text.old.items ++ switch_line view.now.image.text switch) }
+{
+    let mut count = Buffer::new();
+    let mut table = [0; 8];
+    let jump = address_text(view, switch.jump);
+    let table = table_text(switch.table, &mut table);
+    let count = count.format(switch.count).as_bytes();
+    put_line(text, b"switch", &[&jump, table, count])?;
+    Ok(())
+}
+
+/// Adds the line that says how many routines, blocks and edges there are.
 fn put_totals(text: &mut Vec<u8>, view: &View) -> Result<(), NoMemory>
     ensures { OnOk result (text.new.items ≡ text.old.items ++ totals_line view.now) }
 {

@@ -1,5 +1,6 @@
 //! The words of lines.
 ghost use Rattle.std.specs.Prelude.{◌≡◌, ◌<◌, ◌≤◌, length};
+ghost use Rattle.eel_base.specs.Fields.{hex_of};
 ghost use Rattle.cfg_normal.specs.Graph.{IsNodeIn, IsSlotIn};
 ghost use Rattle.cfg_view.specs.View.{IsView};
 ghost use Rattle.show_text.specs.Lines.{address_text, block_text, kind_text, name_text, node_text, printed, slot_text};
@@ -7,7 +8,7 @@ ghost use Rattle.show_text.specs.Lines.{address_text, block_text, kind_text, nam
 use cfg_blocks::EdgeKind;
 use cfg_normal::{Node, Slot};
 use cfg_view::View;
-use eel_base::{BlockNo, WordNo, hex8};
+use eel_base::{Addr, BlockNo, WordNo, hex8};
 
 /// Room for an address.
 pub(crate) type Digits = [u8; 8];
@@ -21,6 +22,14 @@ pub(crate) fn address_text(view: &View, word: WordNo) -> Digits
     ensures { result ≡ address_text view.now.image.text word.0 }
 {
     hex8(view.image.text().address(word).0)
+}
+
+/// The address of a table.
+pub(crate) fn table_text<'a>(table: Addr, digits: &'a mut Digits) -> &'a [u8]
+    ensures { result.now ≡ hex_of table.0 }
+{
+    *digits = hex8(table.0);
+    digits
 }
 
 /// The address of a block's first word.

@@ -1,0 +1,8 @@
+use Rattle.std.proofs.Common.{◌≡◌, ◌++◌, take}
+use Rattle.std.specs.List.{flat_map}
+use Rattle.show_text.specs.Lines.{switch_line}
+use Rattle.show_text.proofs.lines.put_switches.Given as goal
+
+abbrev pub invariant-loop-switch : goal.invariant-loop-switch
+invariant-loop-switch l = l.text.items
+    ≡ l.initial.text.items ++ flat_map (switch_line l.view.image.text) (take l.switch-index l.switches)
