@@ -7,7 +7,7 @@ use Rattle.v8_memory.specs.Spans.{Span, IsApart, IsApartFromAll, AllApart}
 use Rattle.v8_alu.specs.declared.Codes.{Codes}
 use Rattle.v8_step.specs.declared.Ending.TheVariants.{Exit}
 use Rattle.v8_step.specs.declared.Slot.TheVariants.{NoSlot}
-use Rattle.v8_step.specs.State.{State}
+use Rattle.v8_step.specs.State.{State, register_of}
 use Rattle.v8_step.specs.Run.{run}
 use Rattle.v8_step.specs.Step.{step_of}
 use Rattle.v8_step.specs.Transfers.{ended}
@@ -26,6 +26,7 @@ use Rattle.workload.proofs.Calls.{AreDrawn, calls}
 pub record Ends (count : ℕ) (s : State) (sum k : ℕ) : Type 0 where
   pub last : State
   pub ending : last.ending ≡ Some (Exit (sum % 256))
+  pub holds : register_of last 8 ≡ sum
   pub inside : IsTextWord count last.pc
   pub way : Way count s last k
 
@@ -41,6 +42,7 @@ module _ (count : ℕ) (m : Memory) (sp : ℕ) where
       record {
         last = u;
         ending = refl;
+        holds = refl;
         inside = stand.1.0.inside;
         way = follows count s t u 1 1
             (one count s t _ refl stand.0 refl
@@ -75,6 +77,7 @@ module _ (count : ℕ) (m : Memory) (sp : ℕ) where
       record {
         last = exit.last;
         ending = exit.ending ∙ ap (λ n. Some (Exit (n % 256))) same;
+        holds = exit.holds ∙ same;
         inside = exit.inside;
         way = as_long count start exit.last (steps + 2) (2 * count + 2 + sum_by routine_steps rs) (omega (arith, size))
             (follows count start (at m sp x (x + 4) NoSlot
@@ -99,6 +102,9 @@ module _ (count : ℕ) (s : State) (sum k : ℕ) (e : Ends count s sum k) where
 
   pub exits_at : (run s k).ending ≡ Some (Exit (sum % 256))
   exits_at = ap (λ (z : State). z.ending) e.way.arrives ∙ e.ending
+
+  pub holds_at : register_of (run s k) 8 ≡ sum
+  holds_at = ap (λ (z : State). register_of z 8) e.way.arrives ∙ e.holds
 
   pub in_text : (n : ℕ) → IsTextWord count (run s n).pc
   in_text n = by (cases_lt n k)

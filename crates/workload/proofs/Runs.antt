@@ -18,7 +18,7 @@ use Rattle.workload.proofs.Steps.{at}
 use Rattle.workload.proofs.Turns.{holding}
 use Rattle.workload.proofs.Calls.{IsDrawn, AreDrawn}
 use Rattle.workload.proofs.Standing.{text_stands}
-use Rattle.workload.proofs.Ends.{Ends, whole_run, goes_on, exits_at, in_text, judges_none, untouched}
+use Rattle.workload.proofs.Ends.{Ends, whole_run, goes_on, exits_at, holds_at, in_text, judges_none, untouched}
 
 pub are_drawn : (count x : ℕ) → AreDrawn (routines_from count x)
 are_drawn zero x = tt
@@ -101,6 +101,7 @@ generated_runs_end number count some few =
     record {
       few = omega (arith, steps, size);
       goes_on = goes_on count s sum k e;
+      holds = holds_at count s sum k e;
       exits = exits_at count s sum k e;
       in_text = in_text count s sum k e;
       judges_none = judges_none count s sum k e;

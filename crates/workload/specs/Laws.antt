@@ -6,7 +6,7 @@ use Rattle.elf32_sparc.specs.Image.{image_of}
 use Rattle.v8_encode.specs.Encoding.{word_of}
 use Rattle.v8_memory.specs.Spans.{Span, IsApartFromAll}
 use Rattle.v8_step.specs.declared.Ending.TheVariants.{Exit}
-use Rattle.v8_step.specs.State.{State}
+use Rattle.v8_step.specs.State.{State, register_of}
 use Rattle.v8_step.specs.Run.{run}
 use Rattle.v8_step.specs.Needed.{instr_at, judged_in, IsUntouched}
 use Rattle.v8_process.specs.Start.{start_of}
@@ -63,6 +63,7 @@ pub record IsTextWord (count pc : ℕ) : Type 0 where
 pub record RunsToItsExit (number count : ℕ) : Type 0 where
   pub goes_on : (n : ℕ) → n < step_count number count → (run (first number count) n).ending ≡ None
   pub exits : (run (first number count) (step_count number count)).ending ≡ Some (Exit (total number count % 256))
+  pub holds : register_of (run (first number count) (step_count number count)) 8 ≡ total number count
   pub few : step_count number count ≤ 69 * count + 2
   pub in_text : (n : ℕ) → IsTextWord count (run (first number count) n).pc
   pub judges_none : (n : ℕ)
