@@ -4,6 +4,8 @@
 
 mod adding;
 #[cfg(test)]
+mod count_tests;
+#[cfg(test)]
 mod dump_tests;
 #[cfg(test)]
 mod eel_base_tests;

@@ -1,1 +1,2 @@
+pub mod BlockRules
 pub mod Joined

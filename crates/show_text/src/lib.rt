@@ -1,7 +1,9 @@
-//! What is printed of a program: its routines, blocks, edges and switches, a line each.
+//! What is printed of a program: its routines, blocks, edges and switches, a line each, and how often edges were completed.
 #![tactic(auto)]
 
+mod counting;
 mod lines;
 mod words;
 
+pub use counting::counts;
 pub use lines::show;

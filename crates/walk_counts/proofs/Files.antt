@@ -14,7 +14,8 @@ use Rattle.cfg_normal.specs.Graph.{graph_of, node_of}
 use Rattle.cfg_walk.specs.Matches.{BeginsAt}
 use Rattle.walk_counts.specs.Files.{WalksOfFilesMatch}
 use Rattle.cfg_normal.specs.Numbers.{node_number}
-use Rattle.walk_counts.specs.Counts.{CountsAreEnough, ExecutionsOfFilesAreFlows, links_of}
+use Rattle.span_tree.specs.Links.{links_of}
+use Rattle.walk_counts.specs.Counts.{CountsAreEnough, ExecutionsOfFilesAreFlows}
 use Rattle.walk_counts.proofs.Texts.{HasText, text_found, text_from-start}
 use Rattle.walk_counts.proofs.Fetching.{only_text_is_fetched}
 use Rattle.cfg_walk.proofs.Walks.{walks_match}

@@ -6,7 +6,8 @@ use Rattle.cfg_normal.specs.declared.Node.TheVariants.{Block, X}
 use Rattle.cfg_normal.specs.Graph.{IsEdgeIn, IsNodeIn, graph_of, edges_in}
 use Rattle.cfg_normal.proofs.Edges.{edges_in-in}
 use Rattle.cfg_normal.specs.Numbers.{node_number}
-use Rattle.walk_counts.specs.Counts.{LinksAreAGraph, edge_at}
+use Rattle.span_tree.specs.Links.{edge_at}
+use Rattle.walk_counts.specs.Counts.{LinksAreAGraph}
 
 pub number_inside : (b : Blocks) (node : Node) → IsNodeIn b node
     → node_number (graph_of b) node < length b.firsts + 1

@@ -26,7 +26,8 @@ use Rattle.cfg_normal.specs.Graph.{Graph, graph_of, node_of}
 use Rattle.cfg_walk.specs.Walk.{Point, completed, edge_from, end_of_walk, ends_block, gone, landed, landing_at, led_to, left_at, left_by, node_after, point_of, same_kind, same_node, slot_left, unless_ended, walk}
 use Rattle.cfg_walk.specs.Matches.{IsOnItsWay, MatchesBy}
 use Rattle.cfg_normal.specs.Numbers.{node_number}
-use Rattle.walk_counts.specs.Counts.{ExecutionsAreFlows, WalksArePaths, edge_at, links_of}
+use Rattle.span_tree.specs.Links.{edge_at, links_of}
+use Rattle.walk_counts.specs.Counts.{ExecutionsAreFlows, WalksArePaths}
 use Rattle.cfg_walk.proofs.Lists.{each_in}
 use Rattle.cfg_walk.proofs.Edges.{IsEdge, land_from, leads_along, out_to}
 use Rattle.cfg_walk.proofs.Walks.{live_before, walks_match}

@@ -1,37 +1,18 @@
 -- How often a run completes each edge of the flow graph. Its walk is one of a plain graph, where nodes and
 -- edges are numbers, so that the counts are a flow (Ball and Larus, "Optimally Profiling and Tracing Programs",
 -- ACM TOPLAS 16 (4), 1994).
-use Rattle.std.specs.Prelude.{ℕ, ◌+◌, length, slice_index_or, Some, ℤ, pos}
+use Rattle.std.specs.Prelude.{ℕ, Some, ℤ, pos}
 use Rattle.eel_base.specs.CodeText.{Words}
 use Rattle.v8_step.specs.State.{State}
-use Rattle.flows.specs.Flows.{Agree, AgreeOn, Determines, EdgeSet, Graph as PlainGraph, IsGraph, IsFlow}
+use Rattle.flows.specs.Flows.{Agree, AgreeOn, Determines, EdgeSet, IsGraph, IsFlow}
 use Rattle.flows.specs.Walks.{IsWalk, times}
-use Rattle.cfg_blocks.specs.declared.EdgeKind.TheVariants.{Land}
 use Rattle.cfg_blocks.specs.Blocks.{Blocks}
-use Rattle.cfg_normal.specs.declared.Edge.{Edge}
-use Rattle.cfg_normal.specs.declared.Node.TheVariants.{X}
-use Rattle.cfg_normal.specs.declared.Slot.TheVariants.{Nothing}
 use Rattle.cfg_normal.specs.Graph.{Graph, graph_of, node_of}
 use Rattle.cfg_walk.specs.Walk.{walk, end_of_walk}
 use Rattle.cfg_walk.specs.Matches.{OfEachRun}
 use Rattle.cfg_normal.specs.Numbers.{node_number}
+use Rattle.span_tree.specs.Links.{links_of}
 use Rattle.walk_counts.specs.Files.{OfEachFile}
-
--- ---- the plain graph
-
--- the edge of a number; past the last one, from X to X
-abbrev pub edge_at : Graph → ℕ → Edge
-edge_at graph number =
-    slice_index_or graph.edges number (record { from = X; to = X; kind = Land; slot = Nothing })
-
--- nodes and edges by their numbers
-abbrev pub links_of : Graph → PlainGraph
-links_of graph = record {
-  nodes = length graph.blocks.firsts + 1;
-  edges = length graph.edges;
-  from = λ e. node_number graph (edge_at graph e).from;
-  to = λ e. node_number graph (edge_at graph e).to;
-}
 
 -- both ends of each edge are nodes
 abbrev pub LinksAreAGraph : Type 0

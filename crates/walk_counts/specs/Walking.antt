@@ -8,7 +8,8 @@ use Rattle.cfg_blocks.specs.Blocks.{below, blocks_of, leaders}
 use Rattle.cfg_blocks.specs.Ends.{end_at}
 use Rattle.cfg_normal.specs.Graph.{Graph, graph_of, edges_in}
 use Rattle.cfg_walk.specs.Walk.{walk, end_of_walk}
-use Rattle.walk_counts.specs.Counts.{executions, links_of}
+use Rattle.span_tree.specs.Links.{links_of}
+use Rattle.walk_counts.specs.Counts.{executions}
 
 abbrev pub text_with : List ℕ → Words
 text_with words = record { start = 0x10054; words = words }

@@ -1,0 +1,138 @@
+//! Which edges of a small program are counted, and the lines of its counts, worked out by hand.
+use cfg_blocks::blocks;
+use cfg_normal::graph;
+use eel_base::{Addr, EdgeNo, Text, WordNo};
+use notes::{Notes, read_notes};
+use show_text::counts;
+use span_tree::{tree, weights};
+use std::alloc::Global;
+use std::test::Fail;
+
+/// The program carry_loop: its second block branches to itself.
+const CARRY_LOOP: [u32; 7] = [
+    0x84102005, 0x90422000, 0x8480bfff, 0x12bffffe, 0x01000000, 0x82102001, 0x91d02010,
+];
+
+const WEIGHTS: [u64; 9] = [1, 9, 9, 1, 1, 1, 1, 1, 1];
+
+/// Its cells: those off the tree weigh 13.
+const CELLS: [Option<u32>; 9] = [
+    Some(0),
+    Some(1),
+    None,
+    Some(2),
+    Some(3),
+    None,
+    Some(4),
+    None,
+    None,
+];
+
+/// Its notes as words, with the same cells.
+const NOTES: [u32; 54] = [
+    4096,
+    112,
+    1,
+    0x10054,
+    7,
+    0,
+    0x30000,
+    5,
+    1,
+    0x20000,
+    0x1000,
+    4,
+    0,
+    1,
+    4,
+    5,
+    9,
+    0,
+    0,
+    1,
+    0,
+    1,
+    1,
+    1,
+    1,
+    2,
+    1,
+    3,
+    u32::MAX,
+    0,
+    2,
+    3,
+    2,
+    0,
+    3,
+    4,
+    3,
+    5,
+    4,
+    0,
+    u32::MAX,
+    5,
+    4,
+    1,
+    4,
+    5,
+    4,
+    2,
+    u32::MAX,
+    5,
+    4,
+    3,
+    u32::MAX,
+    0,
+];
+
+const COUNTS: [u64; 9] = [1, 4, 1, 0, 0, 0, 0, 0, 0];
+
+const LINES: &str = "edge 0 fall 00010054 00010058 1\n\
+edge 1 taken 00010058 00010058 4\n\
+edge 2 untaken 00010058 00010068 1\n\
+edges 9 counted 5 executions 6\n";
+
+#[test]
+fn five_of_nine_edges_are_counted(rt: HostRuntime) -> Result<(), Fail> {
+    let words = Vec::from_slice(rt.alloc(), &CARRY_LOOP)?;
+    let text = Text::new(Addr(0x10054), words).ok_or("a text")?;
+    if text.len() == 0 {
+        return Err(Fail::from("words"));
+    }
+    let list = blocks(rt.alloc(), &text, &[WordNo(0)], &[]).map_err(|_| Fail::from("memory"))?;
+    let graph = graph(rt.alloc(), &list).map_err(|_| Fail::from("memory"))?;
+    let weights = weights(rt.alloc(), &list, &graph).map_err(|_| Fail::from("memory"))?;
+    assert_eq!(rt; weights.as_slice(), WEIGHTS.as_slice());
+    let tree = tree(rt.alloc(), &graph, &weights).map_err(|_| Fail::from("memory"))?;
+    assert_eq!(rt; tree.cells(), 5);
+    for (e, cell) in CELLS.iter().enumerate() {
+        assert_eq!(rt; tree.cell(EdgeNo(e as u32)), *cell);
+    }
+    Ok(())
+}
+
+/// The notes that these words are.
+fn notes_of(alloc: Global, words: &[u32]) -> Result<Notes, Fail> {
+    let mut file = Vec::new(alloc);
+    file.resize(4032, 0)?;
+    for word in [0x4545_4c4e, 1, 4096, 4 * words.len() as u32] {
+        file.extend_from_slice(&word.to_be_bytes())?;
+    }
+    file.resize(4096, 0)?;
+    for word in words {
+        file.extend_from_slice(&word.to_be_bytes())?;
+    }
+    read_notes(alloc, &file).map_err(|_| Fail::from("notes"))
+}
+
+#[test]
+fn counts_have_their_lines(rt: HostRuntime) -> Result<(), Fail> {
+    let notes = notes_of(rt.alloc(), &NOTES)?;
+    if notes.edges.len() != 9 {
+        return Err(Fail::from("edges"));
+    }
+    let lines = counts(rt.alloc(), &notes, &COUNTS).map_err(|_| Fail::from("memory"))?;
+    assert_eq!(rt; lines.as_slice(), LINES.as_bytes());
+    Ok(())
+}

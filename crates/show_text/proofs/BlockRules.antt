@@ -1,0 +1,14 @@
+-- The first words of blocks in notes are words of the text.
+use Rattle.std.proofs.Common.{◌≡◌, ℕ, ◌<◌, true, List, [], ◌∷◌, Option, Some}
+use Rattle.std.specs.List.{All}
+use Rattle.std.proofs.lemmas.Bool.{and_parts, ltb-true}
+use Rattle.std.proofs.lemmas.List.Elements.{All-cons, All-nil}
+use Rattle.notes.specs.Rules.{are_blocks}
+
+pub blocks_inside : (words : ℕ) (before : Option ℕ) (blocks : List ℕ) → are_blocks words before blocks ≡ true
+    → All (λ first. first < words) blocks
+blocks_inside words before [] h = All-nil (λ (first : ℕ). first < words)
+blocks_inside words before (first ∷ blocks) h =
+    let parts = and_parts _ (are_blocks words (Some first) blocks) h in
+    All-cons (λ (first : ℕ). first < words) first blocks (ltb-true first words (and_parts _ _ parts.0).1)
+    (blocks_inside words (Some first) blocks parts.1)
