@@ -20,10 +20,10 @@ use cfg_blocks::EdgeKind;
 use cfg_normal::{Edge, FlowGraph, Node, Slot};
 use eel_base::{Addr, BlockNo, NoMemory, PieceNo, Text, WordNo};
 use layout::Piece;
-use snippet_code::expand_alive;
+use snippet_code::expand;
 use snippets::Snippet;
 use std::alloc::Global;
-use v8_decode::{Instr, decode};
+use v8_decode::{Instr, RegSet, decode};
 
 /// What the pieces use of memory: the cells that snippets count in, and the table that leads from addresses of the
 /// original to new code.
@@ -83,7 +83,6 @@ pub fn pieces(
 }
 
 // The code of the snippet on an edge, where all registers may be alive.
-#[tactic(auto, unfolding(crate::specs::Parts::codes_of))]
 fn code_on(alloc: Global, snips: &[Snippet], cells: Addr, edge: usize) -> Result<Vec<u32>, NoMemory>
     requires edge { edge < length snips.now }
     requires aligned { cells.0 % 4 ≡ 0 }
@@ -91,7 +90,7 @@ fn code_on(alloc: Global, snips: &[Snippet], cells: Addr, edge: usize) -> Result
     ensures { IfOk result (λ code. code.items ≡ codes_of cells.0 snips.now edge) }
 {
     let snippet = &snips[edge];
-    expand_alive(alloc, snippet, cells)
+    expand(alloc, snippet, cells, RegSet::empty(), snippet.names())
 }
 
 // The edges but for the landings, which come last, one at each block.
