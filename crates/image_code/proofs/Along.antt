@@ -1,28 +1,34 @@
 -- Ways along edges, by their kinds and slots.
-use Rattle.std.proofs.Common.{◌≡◌, ℕ, Bool, false, List, [], refl, ap, sym, ◌∙◌, subst}
+use Rattle.std.proofs.Common.{◌≡◌, ℕ, suc, ◌+◌, ◌<◌, Bool, false, List, [], ◌∷◌, ◌++◌, append-nil, append_assoc, get_or, length, length-take, map, take, refl, ap, sym, ◌∙◌, subst, arith}
 use Rattle.std.specs.Prelude.{if◌then◌else◌, Result}
 use Rattle.std.specs.Result.{IfOk}
+use Rattle.std.proofs.lemmas.List.{take_more}
 use Rattle.eel_base.specs.declared.numbers.NoMemory.{NoMemory}
 use Rattle.eel_base.specs.CodeText.{Words}
 use Rattle.eel_base.specs.declared.numbers.Addr.{Addr}
+use Rattle.eel_base.specs.declared.numbers.WordNo.{WordNo}
 use Rattle.v8_decode.specs.Words.{decode_of}
 use Rattle.v8_step.specs.Items.{is_transfer}
 use Rattle.cfg_blocks.specs.declared.EdgeKind.{EdgeKind}
 use Rattle.cfg_blocks.specs.declared.EdgeKind.TheVariants as kinds
 use Rattle.cfg_blocks.specs.Entries.{is_fall}
 use Rattle.cfg_normal.specs.declared.Edge.{Edge}
+use Rattle.cfg_normal.specs.declared.Slot.{Slot}
 use Rattle.cfg_normal.specs.declared.Slot.TheVariants as slots
-use Rattle.cfg_normal.specs.Graph.{Graph}
+use Rattle.cfg_normal.specs.Graph.{Graph, IsEdgeIn, IsSlotIn}
 use Rattle.cfg_walk.specs.Walk.{same_kind}
+use Rattle.cfg_walk.specs.Matches.{way_address}
 use Rattle.addr_translate.specs.Translator.{translator}
 use Rattle.layout.specs.Emitting.{words_of}
 use Rattle.layout.specs.declared.items.Item.{Item}
+use Rattle.layout.specs.declared.items.Item.TheVariants as it
 use Rattle.jump_code.specs.Pieces.{out_piece}
 use Rattle.image_code.specs.declared.parts.Next.{Next}
 use Rattle.image_code.specs.Cases.{plain_piece}
 use Rattle.image_code.specs.Couple.{couple_piece}
-use Rattle.image_code.specs.Made.{couple_word, goes_along, past_slot, slot_copy, way_along, way_by}
-use Rattle.image_code.specs.Parts.{items_of}
+use Rattle.image_code.specs.Made.{couple_word, goes_along, goes_on, past_slot, snippet_items, way_along, way_by, ways_from}
+use Rattle.image_code.specs.Parts.{IsGraphOf, copy_with, items_of, way_with}
+use Rattle.image_code.proofs.Numbers.{words_are}
 
 no_fall : (kind : EdgeKind) → (kind ≡ kinds.Fall → ⊥) → is_fall kind ≡ false
 no_fall kinds.Fall n = absurd (n refl)
@@ -36,23 +42,115 @@ no_out kinds.Untaken n = refl
 no_out kinds.Call n = refl
 no_out kinds.Land n = refl
 
--- What is made is what it should be, where it goes on as the edge does, whatever the table.
-module _ (text : Words) (graph : Graph) (table : ℕ) (edge : Edge) (made : Result (List Item) NoMemory) (next : Next)
-    (goes : (table : ℕ) → items_of next ≡ goes_along text graph codes edge) where
-  pub bare_way : edge.slot ≡ slots.Nothing → (edge.kind ≡ kinds.Fall → ⊥) → IfOk made (λ p. p ≡ items_of next)
-      → IfOk made (λ p. p ≡ way_along text graph table edge)
-  bare_way slot other is =
-      subst (λ (items : List Item). IfOk made (λ p. p ≡ items)) (goes table ∙ sym (
-      ap (λ (b : Bool). if b then [] else way_by text graph table edge edge.slot) (no_fall edge.kind other)
-      ∙ ap (way_by text graph table edge) slot)) is
+-- What is made is what it should be, where it goes on as the edge does.
+module _ (text : Words) (graph : Graph) (table : ℕ) (edge : Edge) (made : Result (List Item) NoMemory)
+    (code : List ℕ) where
+  abbrev codes : ℕ → List ℕ
+  codes number = code
 
-  pub plain_copy : (address : Addr) (number word : ℕ) → is_transfer (decode_of word) ≡ false
-      → (edge.kind ≡ kinds.Out → ⊥) → IfOk made (λ p. p ≡ plain_piece address number word (items_of next))
-      → IfOk made (λ p. p ≡ slot_copy text graph table address number word edge)
-  plain_copy address number word straight other is =
+  alone : map it.Word code ≡ snippet_items codes (0 ∷ [])
+  alone = ap (map it.Word) (sym (append-nil code))
+
+  pub out_copy : (address : Addr) (number word : ℕ) → is_transfer (decode_of word) ≡ false
+      → edge.kind ≡ kinds.Out
+      → IfOk made (λ p. p ≡ out_piece address number word (map it.Word code) (words_of (translator table 1 2)))
+      → IfOk made (λ p. p ≡ copy_with text graph table code address number word edge)
+  out_copy address number word straight kind is =
       subst (λ (items : List Item). IfOk made (λ p. p ≡ items))
-      (ap (plain_piece address number word) (goes table) ∙ sym (
+      (ap (λ (items : List Item). out_piece address number word items (words_of (translator table 1 2))) alone ∙ sym (
       ap (λ (b : Bool). if b then couple_piece address number couple_word []
-      else past_slot text graph table address number word edge) straight
-      ∙ ap (λ (b : Bool). if b then out_piece address number word [] (words_of (translator table 1 2))
-      else plain_piece address number word (goes_along text graph codes edge)) (no_out edge.kind other))) is
+      else past_slot text graph table codes address number word 0 edge) straight
+      ∙ ap (λ (b : Bool). if b
+      then out_piece address number word (snippet_items codes (0 ∷ [])) (words_of (translator table 1 2))
+      else plain_piece address number word (goes_along text graph codes 0 edge))
+      (ap (λ (k : EdgeKind). same_kind k kinds.Out) kind))) is
+
+  module _ (next : Next)
+      (goes : items_of next ≡ goes_on text graph edge.to (way_address text graph edge.from edge.kind)) where
+    along_is : map it.Word code ++ items_of next ≡ goes_along text graph codes 0 edge
+    along_is =
+        ap (λ (items : List Item). items ++ items_of next) alone
+        ∙ ap (λ (items : List Item). snippet_items codes (0 ∷ []) ++ items) goes
+
+    pub bare_way : edge.slot ≡ slots.Nothing → (edge.kind ≡ kinds.Fall → ⊥)
+        → IfOk made (λ p. p ≡ map it.Word code ++ items_of next)
+        → IfOk made (λ p. p ≡ way_with text graph table code edge)
+    bare_way slot other is =
+        subst (λ (items : List Item). IfOk made (λ p. p ≡ items)) (along_is ∙ sym (
+        ap (λ (b : Bool). if b then [] else way_by text graph table codes 0 edge edge.slot) (no_fall edge.kind other)
+        ∙ ap (way_by text graph table codes 0 edge) slot)) is
+
+    pub plain_copy : (address : Addr) (number word : ℕ) → is_transfer (decode_of word) ≡ false
+        → (edge.kind ≡ kinds.Out → ⊥)
+        → IfOk made (λ p. p ≡ plain_piece address number word (map it.Word code ++ items_of next))
+        → IfOk made (λ p. p ≡ copy_with text graph table code address number word edge)
+    plain_copy address number word straight other is =
+        subst (λ (items : List Item). IfOk made (λ p. p ≡ items))
+        (ap (plain_piece address number word) along_is ∙ sym (
+        ap (λ (b : Bool). if b then couple_piece address number couple_word []
+        else past_slot text graph table codes address number word 0 edge) straight
+        ∙ ap (λ (b : Bool). if b
+        then out_piece address number word (snippet_items codes (0 ∷ [])) (words_of (translator table 1 2))
+        else plain_piece address number word (goes_along text graph codes 0 edge)) (no_out edge.kind other))) is
+
+-- ---- ways by the numbers of their edges
+
+way_by_same : (text : Words) (graph : Graph) (table : ℕ) (codes : ℕ → List ℕ) (number : ℕ) (edge : Edge) (slot : Slot)
+    → way_by text graph table (λ n. codes number) 0 edge slot ≡ way_by text graph table codes number edge slot
+way_by_same text graph table codes number edge slots.Nothing = refl
+way_by_same text graph table codes number edge (slots.Word word) = refl
+way_by_same text graph table codes number edge slots.Off = refl
+
+pub way_same : (text : Words) (graph : Graph) (table : ℕ) (codes : ℕ → List ℕ) (number : ℕ) (edge : Edge)
+    → way_with text graph table (codes number) edge ≡ way_along text graph table codes number edge
+way_same text graph table codes number edge =
+    ap (λ (items : List Item). if is_fall edge.kind then [] else items)
+    (way_by_same text graph table codes number edge edge.slot)
+
+pub ways_more : (text : Words) (graph : Graph) (table : ℕ) (codes : ℕ → List ℕ) (number : ℕ) (edges : List Edge)
+    (edge : Edge) → ways_from text graph table codes number (edges ++ edge ∷ [])
+    ≡ ways_from text graph table codes number edges
+    ++ way_along text graph table codes (number + length edges) edge ∷ []
+ways_more text graph table codes number [] edge =
+    let here : number ≡ number + 0 = omega arith in
+    ap (λ (n : ℕ). way_along text graph table codes n edge ∷ []) here
+ways_more text graph table codes number (first ∷ edges) edge =
+    let next : suc number + length edges ≡ number + suc (length edges) = omega arith in
+    ap (λ (ways : List (List Item)). way_along text graph table codes number first ∷ ways)
+    (ways_more text graph table codes (suc number) edges edge
+    ∙ ap (λ (n : ℕ). ways_from text graph table codes (suc number) edges
+    ++ way_along text graph table codes n edge ∷ []) next)
+
+pub ways_next : (text : Words) (graph : Graph) (table : ℕ) (codes : ℕ → List ℕ) (edges : List Edge) (n : ℕ) (d : Edge)
+    → n < length edges → ways_from text graph table codes 0 (take (n + 1) edges)
+    ≡ ways_from text graph table codes 0 (take n edges)
+    ++ way_with text graph table (codes n) (get_or edges n d) ∷ []
+ways_next text graph table codes edges n d l =
+    let count : 0 + length (take n edges) ≡ n = omega (arith, length-take n edges) in
+    ap (ways_from text graph table codes 0) (take_more edges n d l)
+    ∙ ways_more text graph table codes 0 (take n edges) (get_or edges n d)
+    ∙ ap (λ (k : ℕ). ways_from text graph table codes 0 (take n edges)
+    ++ way_along text graph table codes k (get_or edges n d) ∷ []) count
+    ∙ ap (λ (items : List Item). ways_from text graph table codes 0 (take n edges) ++ items ∷ [])
+    (sym (way_same text graph table codes n (get_or edges n d)))
+
+pub ways_pushed : (text : Words) (graph : Graph) (table : ℕ) (codes : ℕ → List ℕ) (edges : List Edge) (n : ℕ) (d : Edge)
+    (before list new : List (List Item)) (piece : List Item) (code : List ℕ) → n < length edges
+    → new ≡ list ++ piece ∷ [] → piece ≡ way_with text graph table code (get_or edges n d) → code ≡ codes n
+    → list ≡ before ++ ways_from text graph table codes 0 (take n edges)
+    → new ≡ before ++ ways_from text graph table codes 0 (take (n + 1) edges)
+ways_pushed text graph table codes edges n d before list new piece code l pushed made is held =
+    pushed
+    ∙ ap (λ (items : List Item). list ++ items ∷ [])
+    (made ∙ ap (λ (c : List ℕ). way_with text graph table c (get_or edges n d)) is)
+    ∙ ap (λ (pieces : List (List Item)). pieces ++ way_with text graph table (codes n) (get_or edges n d) ∷ []) held
+    ∙ append_assoc before (ways_from text graph table codes 0 (take n edges))
+    (way_with text graph table (codes n) (get_or edges n d) ∷ [])
+    ∙ ap (λ (ways : List (List Item)). before ++ ways) (sym (ways_next text graph table codes edges n d l))
+
+-- a slot that an edge carries stands in the text
+pub slot_within : (text : Words) (graph : Graph) → IsGraphOf text graph → (edge : Edge) → IsEdgeIn graph.blocks edge
+    → (slot : WordNo) → edge.slot ≡ slots.Word slot → slot.0 < length text.words
+slot_within text graph h edge inside slot is =
+    let low : slot.0 < graph.blocks.words = subst (IsSlotIn graph.blocks) is inside.slot in
+    omega (arith, words_are text graph h)

@@ -43,7 +43,6 @@ use Rattle.code_runs.specs.Straight.{StandIn}
 use Rattle.code_runs.proofs.LongJump.{long_jumps_hop}
 use Rattle.jump_code.specs.Pieces.{far_piece}
 use Rattle.jump_code.proofs.Fitting.{long_jump_fits}
-use Rattle.jump_code.proofs.Laid.{words_after}
 use Rattle.code_runs.specs.Page.{page_word}
 use Rattle.eel_base.specs.declared.numbers.Addr.{Addr}
 use Rattle.eel_base.specs.declared.numbers.PieceNo.{PieceNo}

@@ -48,7 +48,7 @@ use Rattle.image_code.specs.Turns.{IsNoJumpsSlot}
 use Rattle.image_code.specs.Made.{first_way, goes_on, jump_to, nop_word, way_by, way_out}
 use Rattle.image_code.proofs.EdgePieces.{along_far, cut_in}
 use Rattle.image_code.proofs.Branches.{nop_says, small}
-use Rattle.image_code.proofs.Cases.{get_below}
+use Rattle.std.proofs.lemmas.Option.{slice_get_within}
 use Rattle.image_code.proofs.IntoSlots.{LeadsThere, entered, entered_untaken, no_jump, stands}
 use Rattle.image_code.proofs.Listed.{own_at, way_at}
 use Rattle.image_code.proofs.Visited.{image_items, l, left_gone, visited_none, visited_word, word_is}
@@ -319,7 +319,7 @@ module _ (g : Setting) (codes : ℕ → List ℕ) (is : IsText g.text) (p : Plac
       one_way kind found leads_there = idle (record {
         none = none;
         piece = word;
-        within = get_below (l g codes is p f).list word _ found;
+        within = slice_get_within (l g codes is p f).list word _ found;
         here = visited_word g codes is p f node x word at none;
         address = address;
         original = sym (word_at-some g.text x.pc word at).is;
@@ -370,7 +370,7 @@ module _ (g : Setting) (codes : ℕ → List ℕ) (is : IsText g.text) (p : Plac
         says = says;
         address = address;
         original = sym (word_at-some g.text x.pc word at).is;
-        within = get_below (l g codes is p f).list word _ found;
+        within = slice_get_within (l g codes is p f).list word _ found;
         taken = taken;
         untaken = untaken;
         items = found;

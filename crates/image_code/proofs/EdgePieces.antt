@@ -25,7 +25,7 @@ use Rattle.image_code.specs.Simulates.{Setting, graph_in}
 use Rattle.image_code.specs.Cases.{IsFar}
 use Rattle.image_code.specs.Made.{piece_list, way_by}
 use Rattle.image_code.proofs.Branches.{node_same, number_of_list, same_is}
-use Rattle.image_code.proofs.Cases.{get_below}
+use Rattle.std.proofs.lemmas.Option.{slice_get_within}
 use Rattle.image_code.proofs.Listed.{own_at, way_at}
 
 -- ---- addresses to which a long jump can lead
@@ -96,4 +96,4 @@ module _ (g : Setting) (is : IsText g.text) (table : ℕ) where
   pub slot_in : (number : ℕ) (edge : Edge) → slice_get (edges_in b) number ≡ Some edge → IsSlotIn b edge.slot
   slot_in number edge found =
       subst (λ (e : Edge). IsSlotIn b e.slot) (get_or_from_slice_get (edges_in b) number edge edge found)
-      (edges_in-in b cut_in.firsts.some number edge (get_below (edges_in b) number edge found)).slot
+      (edges_in-in b cut_in.firsts.some number edge (slice_get_within (edges_in b) number edge found)).slot

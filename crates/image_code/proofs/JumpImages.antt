@@ -1,5 +1,5 @@
 -- The images of CALL and JMPL: the way of the edge leads into the slot.
-use Rattle.std.proofs.Common.{◌≡◌, ℕ, ◌+◌, ◌%◌, ◌^◌, ◌<◌, Some, None, refl, ap, sym, ◌∙◌, arith}
+use Rattle.std.proofs.Common.{◌≡◌, ℕ, ◌+◌, ◌%◌, ◌^◌, ◌<◌, Some, None, List, refl, ap, sym, ◌∙◌, arith}
 use Rattle.std.specs.Prelude.{if◌then◌else◌, slice_get, slice_index, ◌==◌, ℤ}
 use Rattle.std.proofs.lemmas.Bool.{cond_both}
 use Rattle.eel_base.specs.CodeText.{IsText, address_of, word_at}
@@ -28,7 +28,7 @@ use Rattle.image_code.specs.Simulates.{Setting, at_point, does_at, graph_in, num
 use Rattle.image_code.specs.Images.{Frame}
 use Rattle.image_code.specs.Calls.{IsCall, IsJump}
 use Rattle.image_code.specs.Made.{way_out}
-use Rattle.image_code.proofs.Cases.{get_below}
+use Rattle.std.proofs.lemmas.Option.{slice_get_within}
 use Rattle.image_code.proofs.IntoSlots.{LeadsThere, entered, no_jump, stands}
 use Rattle.image_code.proofs.JumpWords.{jmpl_is}
 use Rattle.image_code.proofs.Visited.{image_items, l, visited_word, word_is}
@@ -75,7 +75,7 @@ module _ (g : Setting) (codes : ℕ → List ℕ) (is : IsText g.text) (p : Plac
     call_is live = record {
       none = none;
       piece = word;
-      within = get_below (l g codes is p f).list word _ call_items;
+      within = slice_get_within (l g codes is p f).list word _ call_items;
       here = visited_word g codes is p f node x word at none;
       address = address;
       original = sym (word_at-some g.text x.pc word at).is;
@@ -136,7 +136,7 @@ module _ (g : Setting) (codes : ℕ → List ℕ) (is : IsText g.text) (p : Plac
           none = none;
           next = npc;
           piece = word;
-          within = get_below (l g codes is p f).list word _ jump_items;
+          within = slice_get_within (l g codes is p f).list word _ jump_items;
           here = visited_word g codes is p f node x word at none;
           address = address;
           original = sym (word_at-some g.text x.pc word at).is;

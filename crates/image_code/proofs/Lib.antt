@@ -27,6 +27,7 @@ pub mod JumpImages
 pub mod Listed
 pub mod Made
 pub mod Numbers
+pub mod Sized
 pub mod Fit
 pub mod Landings
 pub mod Operands

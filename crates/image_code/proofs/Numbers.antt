@@ -1,40 +1,45 @@
 -- The graph of a text by numbers: how many edges there are, and which number an edge has.
-use Rattle.std.proofs.Common.{◌≡◌, ℕ, zero, suc, ◌+◌, ◌-◌, ◌*◌, ◌<◌, ◌≤◌, Bool, true, false, not, ◌&&◌, ◌==◌, cond, List, [], ◌∷◌, ◌++◌, length, map, Some, None, length-append, length-take, append_assoc, refl, ap, sym, ◌∙◌, subst, arith, inl, inr}
+use Rattle.std.proofs.Common.{◌≡◌, ℕ, zero, suc, ◌+◌, ◌-◌, ◌*◌, ◌<◌, ◌≤◌, Bool, true, false, not, ◌&&◌, ◌==◌, cond, List, [], ◌∷◌, ◌++◌, length, map, take, Some, None, length-append, length-take, append_assoc, refl, ap, sym, ◌∙◌, subst, arith, inl, inr}
 use Rattle.std.specs.Prelude.{if◌then◌else◌, slice_index, ℤ}
-use Rattle.std.specs.List.{flat_map, position, position_or_len}
+use Rattle.std.specs.List.{flat_map, position, position_or_len, range_with_len}
 use Rattle.std.specs.Option.{option_to_list}
 use Rattle.std.proofs.lemmas.Bool.{and_from, cases_lt, cond_both, eq-eqb, le-ltb, lt-ltb}
 use Rattle.std.proofs.lemmas.Bool.Decides.{nat_tests}
 use Rattle.std.proofs.lemmas.Grind.{flat_map-append}
 use Rattle.std.proofs.lemmas.List.{length-map, append-nil, map-append}
+use Rattle.std.proofs.lemmas.List.FromFn.{map-range_with_len_more}
 use Rattle.eel_base.specs.CodeText.{Words, address_of, numbered, target_of}
 use Rattle.eel_base.specs.declared.numbers.Addr.{Addr}
 use Rattle.eel_base.specs.declared.numbers.PieceNo.{PieceNo}
 use Rattle.v8_decode.specs.declared.Instr.{Instr}
 use Rattle.v8_decode.specs.declared.Instr.TheVariants as i
 use Rattle.v8_decode.specs.Words.{decode_of}
+use Rattle.v8_step.specs.Items.{is_transfer as transfers}
 use Rattle.cfg_blocks.specs.declared.BlockEnd.{BlockEnd}
 use Rattle.cfg_blocks.specs.declared.BlockEnd.TheVariants as ends
 use Rattle.cfg_blocks.specs.declared.EdgeKind.{EdgeKind}
 use Rattle.cfg_blocks.specs.declared.EdgeKind.TheVariants as kinds
 use Rattle.cfg_blocks.specs.Ends.{Way, always, never, branch_target, end_at, end_by, is_transfer, number_of, way, ways_of, within}
-use Rattle.cfg_blocks.specs.Blocks.{Blocks, below, block_end, blocks_of, end_of, holding_of, last_word}
+use Rattle.cfg_blocks.specs.Blocks.{Blocks, below, block_end, blocks_of, end_of, holding_of, last_word, size_of}
 use Rattle.cfg_blocks.specs.Entries.{ways_from}
 use Rattle.cfg_blocks.proofs.Below.{length-below}
 use Rattle.cfg_normal.specs.declared.Edge.{Edge}
 use Rattle.cfg_normal.specs.declared.Node.{Node}
-use Rattle.cfg_normal.specs.Graph.{Graph, graph_of, edge_of, edges_in, edges_of, landing_at}
-use Rattle.cfg_walk.specs.Walk.{edge_from, same_kind, same_node}
+use Rattle.cfg_normal.specs.Graph.{Graph, graph_of, edge_of, edges_in, edges_of, landing_at, node_of}
+use Rattle.cfg_walk.specs.Walk.{edge_from, ends_block, landing_at as landing_from, left_by, same_kind, same_node}
 use Rattle.cfg_walk.proofs.Lists.{Each, each-append, each-below, each-flat_map, each-map, each, each-then}
 use Rattle.cfg_walk.proofs.Cut.{IsCut, cut}
 use Rattle.cfg_walk.proofs.Edges.{block}
-use Rattle.cfg_walk.proofs.Holding.{is_held, some_words}
-use Rattle.cfg_walk.proofs.Leaving.{end_is, is_in, node_is, transfer_ends, ways_at}
+use Rattle.cfg_walk.proofs.Holding.{ends_within, is_held, some_words}
+use Rattle.cfg_walk.proofs.Leaving.{end_is, is_in, node_is, straight_end, transfer_ends, ways_at}
+use Rattle.cfg_walk.proofs.Ways.{IsOwn, ways_are_own}
+use Rattle.layout.specs.declared.items.Item.{Item}
+use Rattle.layout.specs.declared.items.Item.TheVariants as it
 use Rattle.jump_code.specs.FreeRegister.{free_register}
 use Rattle.jump_code.specs.Pieces.{call_piece, jump_piece}
 use Rattle.image_code.specs.Cases.{branch_piece, plain_piece}
-use Rattle.image_code.specs.Made.{branch_image, first_way, image, image_by, jump_to, nop_word, own_edges, way_out}
-use Rattle.image_code.specs.Parts.{IsGraphOf, begin_of, branch_from, branch_ways, edges_after, edges_before, first_way_of, image_from, image_in, rest_of}
+use Rattle.image_code.specs.Made.{branch_image, first_way, image, image_by, jump_to, landing, next_to, nop_word, own_edges, way_out}
+use Rattle.image_code.specs.Parts.{IsGraphOf, begin_of, branch_from, branch_ways, edges_after, edges_before, first_way_of, image_from, image_in, landing_with, rest_of}
 
 -- ---- how many edges there are
 
@@ -74,6 +79,16 @@ all_edges b =
     length-append (flat_map (edges_of b) (below n)) (map landing_at (below n))
     ∙ ap (λ k. length (flat_map (edges_of b) (below n)) + k) (length-map (below n) landing_at ∙ length-below n)
 
+before_grows : (b : Blocks) (k n : ℕ) → k ≤ n → edges_before b k ≤ edges_before b n
+before_grows b k zero l = let e : k ≡ 0 = omega arith in
+    subst (λ (j : ℕ). edges_before b j ≤ edges_before b 0) (sym e) (omega arith)
+before_grows b k (suc n) l = elim (cases_lt n k) [
+  | inl more ↦
+      let e : k ≡ suc n = omega arith in
+      subst (λ (j : ℕ). edges_before b j ≤ edges_before b (suc n)) (sym e) (omega arith)
+  | inr less ↦ omega (arith, before_grows b k n less, next_before b n)
+]
+
 -- ---- what is known of the graph of a text
 
 module _ (text : Words) (graph : Graph) (h : IsGraphOf text graph) where
@@ -93,11 +108,17 @@ module _ (text : Words) (graph : Graph) (h : IsGraphOf text graph) where
   count_of : length graph.edges ≡ edges_before graph.blocks (length graph.blocks.firsts) + length graph.blocks.firsts
   count_of = ap length edges_are ∙ all_edges graph.blocks
 
+  pub edge_below : (k : ℕ) → k < length graph.blocks.firsts → edges_before graph.blocks k < length graph.edges
+  edge_below k l = omega (arith, count_of, before_grows graph.blocks k (length graph.blocks.firsts) (omega arith))
+
   pub landings_within : length graph.blocks.firsts ≤ length graph.edges
   landings_within = omega (arith, count_of)
 
   pub own_count : length (own_edges graph) ≡ edges_before graph.blocks (length graph.blocks.firsts)
   own_count = omega (arith, length-take (length graph.edges - length graph.blocks.firsts) graph.edges, count_of)
+
+  pub landing_below : (k : ℕ) → k < length graph.blocks.firsts → length (own_edges graph) + k < length graph.edges
+  landing_below k l = omega (arith, count_of, own_count)
 
   pub own_few : 1 ≤ length text.words → length (own_edges graph) ≤ 2 * length text.words
   own_few some = omega (
@@ -134,6 +155,10 @@ module _ (text : Words) (graph : Graph) (h : IsGraphOf text graph) where
       (end_says some k l)
       ∙ ways_after graph.blocks.words (last_word graph.blocks.firsts graph.blocks.words k)
       (decode_of (slice_index text.words (last_word graph.blocks.firsts graph.blocks.words k)))
+
+take_first : {A : Type 0} (xs ys : List A) → take (length xs) (xs ++ ys) ≡ xs
+take_first [] ys = refl
+take_first (x ∷ xs) ys = ap (λ zs. x ∷ zs) (take_first xs ys)
 
 -- ---- the number of an edge
 
@@ -304,9 +329,9 @@ module _ (text : Words) (graph : Graph) (h : IsGraphOf text graph) (some : 1 ≤
       (edge_of graph.blocks kb (way kinds.Untaken (within graph.blocks.words (word + 2)))) []
       (two e f) (refl, tt) refl refl
 
-  pub branch_is : (table : ℕ) (address : Addr) (first : ℕ) → first ≡ first_way_of text graph kb
+  pub branch_is : (address : Addr) (first : ℕ) → first ≡ first_way_of text graph kb
       → branch_image text graph address (block kb) c ≡ branch_from address kb c first
-  branch_is table address first is =
+  branch_is address first is =
       by (c == always) refl (c == never) refl
     where
       by : (a : Bool) → (c == always) ≡ a → (n : Bool) → (c == never) ≡ n
@@ -322,11 +347,102 @@ module _ (text : Words) (graph : Graph) (h : IsGraphOf text graph) (some : 1 ≤
           rw (a, m) (ap (λ z. branch_piece address kb c z (way_out text graph (block kb) kinds.Untaken)) taken
           ∙ ap (branch_piece address kb c first) second)
 
+-- ---- the edge to the next word, and the landing
+
+pub plain_left : (graph : Graph) (node : Node) (word : ℕ) (instr : Instr) → transfers instr ≡ false
+    → left_by graph node word instr ≡ (if ends_block graph node word then edge_from graph node kinds.Fall else [])
+plain_left graph node word (i.Branch c annul disp) e = absurd (cc)
+plain_left graph node word (i.Call disp) e = absurd (cc)
+plain_left graph node word (i.Jmpl rd rs1 op2) e = absurd (cc)
+plain_left graph node word _ e = refl
+
+module _ (text : Words) (graph : Graph) (h : IsGraphOf text graph) (some : 1 ≤ length text.words) (k : ℕ)
+    (l : k < length graph.blocks.firsts) where
+  abbrev its_last : ℕ
+  its_last = last_word graph.blocks.firsts graph.blocks.words k
+
+  -- no code comes behind a word inside a block
+  pub left_inside : (word : ℕ) → word < its_last → (instr : Instr) → transfers instr ≡ false
+      → left_by graph (block k) word instr ≡ []
+  left_inside word inner instr straight =
+      let apart : (word == its_last) ≡ false = grind (inner, arith, nat_tests) in
+      plain_left graph (block k) word instr straight
+      ∙ ap (λ (t : Bool). if t then edge_from graph (block k) kinds.Fall else []) apart
+
+  module _ (instr : Instr) (says : decode_of (slice_index text.words its_last) ≡ instr)
+      (straight : transfers instr ≡ false) where
+    abbrev to_next : Edge
+    to_next = edge_of graph.blocks k (way kinds.Fall (within graph.blocks.words (its_last + 1)))
+
+    -- a block that ends with no transfer has one edge
+    pub only_fall : edges_of graph.blocks k ≡ to_next ∷ []
+    only_fall =
+        let end : end_of graph.blocks k ≡ ends.Fall =
+        end_says text graph h some k l ∙ ap (end_by text its_last) says
+        ∙ straight_end text its_last instr straight in
+        ap (λ (e : BlockEnd). map (edge_of graph.blocks k) (ways_of graph.blocks.words its_last e)) end
+
+    -- whose code comes behind its last word
+    pub left_last : left_by graph (block k) its_last instr ≡ edges_before graph.blocks k ∷ []
+    left_last =
+        plain_left graph (block k) its_last instr straight
+        ∙ ap (λ (t : Bool). if t then edge_from graph (block k) kinds.Fall else []) (eq-eqb its_last its_last refl)
+        ∙ ap (λ (g : Graph). edge_from g (block k) kinds.Fall) (graph_is text graph h)
+        ∙ edge_number graph.blocks k kinds.Fall l [] to_next [] only_fall tt refl refl
+        ∙ ap (λ n. n ∷ []) (let e : edges_before graph.blocks k + 0 ≡ edges_before graph.blocks k = omega arith in e)
+
+module _ (b : Blocks) (k : ℕ) where
+  lands : Edge → Bool
+  lands edge = same_node edge.to (block k) && same_kind edge.kind kinds.Land
+
+  own_fail : (j : ℕ) → Each (λ edge. lands edge ≡ false) (edges_of b j)
+  unfolding lands
+  own_fail j =
+      each-map (λ edge. lands edge ≡ false) (edge_of b j) (ways_from b j)
+      (each-then IsOwn (λ (w : Way). lands (edge_of b j w) ≡ false) (ways_from b j)
+      (λ w own. and_false (same_node (edge_of b j w).to (block k)) (same_kind w.kind kinds.Land) own.0)
+      (ways_are_own b.words (last_word b.firsts b.words j) (end_of b j)))
+
+  before_fail : (j : ℕ) → j < k → lands (landing_at j) ≡ false
+  unfolding lands
+  before_fail j less =
+      let apart : (j == k) ≡ false = grind (arith, nat_tests) in ap (λ t. t && true) apart
+
+  pub landing_found : k < length b.firsts
+      → landing_from (graph_of b) (block k) ≡ (edges_before b (length b.firsts) + k) ∷ []
+  unfolding edges_in edges_before lands
+  landing_found l =
+      let n = length b.firsts in
+      let s = split_below n k l in
+      let own = flat_map (edges_of b) (below (length b.firsts)) in
+      let early = map landing_at (below k) in
+      let all : flat_map (edges_of b) (below n) ++ map landing_at (below n)
+      ≡ (own ++ early) ++ landing_at k ∷ map landing_at s.0 =
+      ap (λ (ns : List ℕ). flat_map (edges_of b) (below n) ++ map landing_at ns) s.1
+      ∙ ap (λ (es : List Edge). flat_map (edges_of b) (below n) ++ es) (map-append landing_at (below k) (k ∷ s.0))
+      ∙ sym (append_assoc own early (landing_at k ∷ map landing_at s.0)) in
+      ap (λ (es : List Edge). option_to_list (position lands es)) all
+      ∙ ap option_to_list (position_is lands (own ++ early) (landing_at k) (map landing_at s.0)
+      (each-append _ own early (each-flat_map _ (edges_of b) (below n) (each _ (below n) own_fail))
+      (each-map _ landing_at (below k) (each-below (λ j. lands (landing_at j) ≡ false) k before_fail)))
+      (ap (λ t. t && true) (eq-eqb k k refl)))
+      ∙ ap (λ m. m ∷ []) (length-append own early
+      ∙ ap (λ m. length own + m) (length-map (below k) landing_at ∙ length-below k))
+
+-- the landing at a block
+pub landing_edge : (text : Words) (graph : Graph) → IsGraphOf text graph → (k : ℕ) → k < length graph.blocks.firsts
+    → landing_from graph (block k) ≡ (length (own_edges graph) + k) ∷ []
+landing_edge text graph h k l =
+    ap (λ (g : Graph). landing_from g (block k)) (graph_is text graph h) ∙ landing_found graph.blocks k l
+    ∙ ap (λ n. (n + k) ∷ []) (sym (own_count text graph h))
+
 -- ---- the image of a word
 
-module _ (text : Words) (graph : Graph) (table : ℕ) (h : IsGraphOf text graph) (some : 1 ≤ length text.words) (word : ℕ)
-    (l : word < length text.words) (first : PieceNo)
-    (is : first.0 ≡ first_way_of text graph (holding_of graph.blocks word)) where
+module _ (text : Words) (graph : Graph) (codes : ℕ → List ℕ) (h : IsGraphOf text graph) (some : 1 ≤ length text.words)
+    (word : ℕ) (l : word < length text.words) (first : PieceNo)
+    (is : first.0 ≡ first_way_of text graph (holding_of graph.blocks word)) (code : List ℕ)
+    (behind : (instr : Instr) → decode_of (slice_index text.words word) ≡ instr → transfers instr ≡ false
+    → code ≡ flat_map codes (left_by graph (block (holding_of graph.blocks word)) word instr)) where
   abbrev here : Addr
   here = record { 0 = address_of text word }
 
@@ -334,10 +450,10 @@ module _ (text : Words) (graph : Graph) (table : ℕ) (h : IsGraphOf text graph)
   its = holding_of graph.blocks word
 
   says_is : (instr : Instr) → decode_of (slice_index text.words word) ≡ instr
-      → image_from here its (slice_index text.words word) first (rest_of text word) instr
+      → image_from here its (slice_index text.words word) first (rest_of text word code) instr
       ≡ image_by text graph codes here (block its) word instr
   says_is (i.Branch c annul disp) says =
-      sym (branch_is text graph h some word l c annul disp says table here first.0 is)
+      sym (branch_is text graph h some word l c annul disp says here first.0 is)
   says_is (i.Call disp) says =
       let to = numbered (target_of text word disp) in
       ap (λ z. call_piece here its (record { 0 = z }))
@@ -347,9 +463,11 @@ module _ (text : Words) (graph : Graph) (table : ℕ) (h : IsGraphOf text graph)
       ap (λ z. jump_piece (free_register rd rs1 op2) rd rs1 op2 here its (record { 0 = z }))
       (sym (only_piece text graph h some word l ends.Jump (end_is text word (i.Jmpl rd rs1 op2) says) refl kinds.Out
       (way kinds.Out None) refl refl refl first.0 is))
-  says_is _ says = refl
+  says_is instr says =
+      ap (λ (ws : List ℕ). plain_piece here its (slice_index text.words word) (map it.Word ws ++ next_to text word))
+      (behind instr says refl)
 
-  pub image_is : image_in text word its first ≡ image text graph codes word
+  pub image_is : image_in text word its first code ≡ image text graph codes word
   image_is =
       says_is (decode_of (slice_index text.words word)) refl
       ∙ ap (λ (n : Node). image_by text graph codes here n word (decode_of (slice_index text.words word)))
@@ -417,3 +535,156 @@ image_more f n = let e : n + 1 ≡ suc n = omega arith in ap (λ k. map f (below
 pub way_first : (text : Words) (graph : Graph) → length text.words ≡ first_way_of text graph 0
 unfolding edges_before
 way_first text graph = omega arith
+
+-- a block's first word isn't behind its last one
+pub first_last : (text : Words) (graph : Graph) → IsGraphOf text graph → 1 ≤ length text.words → (k : ℕ)
+    → k < length graph.blocks.firsts
+    → slice_index graph.blocks.firsts k ≤ last_word graph.blocks.firsts graph.blocks.words k
+first_last text graph h some k l =
+    let room = some_words graph.blocks.words graph.blocks.firsts (cut_of text graph h some).firsts k l in
+    omega arith
+
+-- the graph's own edges, before the landings
+pub own_are : (text : Words) (graph : Graph) → IsGraphOf text graph
+    → own_edges graph ≡ flat_map (edges_of graph.blocks) (below (length graph.blocks.firsts))
+unfolding edges_in
+own_are text graph h =
+    let many : length graph.edges - length graph.blocks.firsts
+    ≡ length (flat_map (edges_of graph.blocks) (below (length graph.blocks.firsts))) =
+    omega (
+      arith,
+      ap length (edges_are text graph h),
+      length-append (flat_map (edges_of graph.blocks) (below (length graph.blocks.firsts)))
+          (map landing_at (below (length graph.blocks.firsts))),
+      length-map (below (length graph.blocks.firsts)) landing_at,
+      length-below (length graph.blocks.firsts),
+    ) in
+    ap (λ (k : ℕ). take k graph.edges) many
+    ∙ ap (take (length (flat_map (edges_of graph.blocks) (below (length graph.blocks.firsts))))) (edges_are text graph h)
+    ∙ take_first (flat_map (edges_of graph.blocks) (below (length graph.blocks.firsts)))
+    (map landing_at (below (length graph.blocks.firsts)))
+
+pub all_are : (text : Words) (graph : Graph) → IsGraphOf text graph
+    → graph.edges ≡ own_edges graph ++ map landing_at (below (length graph.blocks.firsts))
+unfolding edges_in
+all_are text graph h =
+    edges_are text graph h
+    ∙ ap (λ (es : List Edge). es ++ map landing_at (below (length graph.blocks.firsts))) (sym (own_are text graph h))
+
+pub own_no_landings : (text : Words) (graph : Graph) → IsGraphOf text graph
+    → Each (λ edge. same_kind edge.kind kinds.Land ≡ false) (own_edges graph)
+own_no_landings text graph h =
+    subst (Each (λ edge. same_kind edge.kind kinds.Land ≡ false)) (sym (own_are text graph h))
+    (each-flat_map _ (edges_of graph.blocks) (below (length graph.blocks.firsts))
+    (each _ (below (length graph.blocks.firsts)) none))
+  where
+    none : (k : ℕ) → Each (λ edge. same_kind edge.kind kinds.Land ≡ false) (edges_of graph.blocks k)
+    none k =
+        each-map (λ edge. same_kind edge.kind kinds.Land ≡ false) (edge_of graph.blocks k) (ways_from graph.blocks k)
+        (each-then IsOwn (λ (w : Way). same_kind w.kind kinds.Land ≡ false) (ways_from graph.blocks k)
+        (λ w own. own.0) (ways_are_own graph.blocks.words
+        (last_word graph.blocks.firsts graph.blocks.words k) (end_of graph.blocks k)))
+
+-- ---- images and landings, as they are added
+
+module _ (text : Words) (graph : Graph) (codes : ℕ → List ℕ) (h : IsGraphOf text graph) (some : 1 ≤ length text.words)
+    (k : ℕ) (l : k < length graph.blocks.firsts) (way : PieceNo) (is_way : way.0 ≡ first_way_of text graph k)
+    (word : ℕ) (low : word < length text.words) (above : slice_index graph.blocks.firsts k ≤ word)
+    (list new : List (List Item)) (piece : List Item) (pushed : new ≡ list ++ piece ∷ [])
+    (before : list ≡ map (image text graph codes) (below word)) where
+  image_pushed : word < block_end graph.blocks.firsts graph.blocks.words k → (code : List ℕ)
+      → ((instr : Instr) → decode_of (slice_index text.words word) ≡ instr → transfers instr ≡ false
+      → code ≡ flat_map codes (left_by graph (block k) word instr))
+      → piece ≡ image_in text word k way code → new ≡ map (image text graph codes) (below (word + 1))
+  image_pushed under code behind made =
+      let held : k ≡ holding_of graph.blocks word = held_by text graph h some k word l above under in
+      pushed
+      ∙ ap (λ (items : List Item). list ++ items ∷ []) (made ∙ ap (λ (j : ℕ). image_in text word j way code) held
+      ∙ image_is text graph codes h some word low way (is_way ∙ ap (first_way_of text graph) held) code
+      (λ instr says straight. behind instr says straight
+      ∙ ap (λ (j : ℕ). flat_map codes (left_by graph (block j) word instr)) held))
+      ∙ ap (λ (pieces : List (List Item)). pieces ++ image text graph codes word ∷ []) before
+      ∙ sym (image_more (image text graph codes) word)
+
+  pub inside_pushed : word < last_word graph.blocks.firsts graph.blocks.words k → piece ≡ image_in text word k way []
+      → new ≡ map (image text graph codes) (below (word + 1))
+  inside_pushed inner made =
+      image_pushed (omega arith) []
+      (λ instr says straight. ap (flat_map codes) (sym (left_inside text graph h some k l word inner instr straight))) made
+
+  pub last_pushed : word ≡ last_word graph.blocks.firsts graph.blocks.words k → (code : List ℕ)
+      → code ≡ codes (edges_before graph.blocks k) → piece ≡ image_in text word k way code
+      → new ≡ map (image text graph codes) (below (word + 1))
+  last_pushed last code is made =
+      let room = some_words graph.blocks.words graph.blocks.firsts (cut_of text graph h some).firsts k l in
+      image_pushed (omega arith) code
+      (λ instr says straight. is ∙ sym (append-nil (codes (edges_before graph.blocks k)))
+      ∙ ap (flat_map codes) (sym (left_last text graph h some k l instr
+      (ap (λ (n : ℕ). decode_of (slice_index text.words n)) (sym last) ∙ says) straight))
+      ∙ ap (λ (n : ℕ). flat_map codes (left_by graph (block k) n instr)) (sym last)) made
+
+-- the node of a block's words
+pub block_home : (text : Words) (graph : Graph) → IsGraphOf text graph → 1 ≤ length text.words → (k word : ℕ)
+    → k < length graph.blocks.firsts → slice_index graph.blocks.firsts k ≤ word
+    → word < block_end graph.blocks.firsts graph.blocks.words k → node_of graph.blocks (Some word) ≡ block k
+block_home text graph h some k word l above under =
+    let inside = ends_within graph.blocks.words graph.blocks.firsts (cut_of text graph h some).firsts k l in
+    node_is graph.blocks word (omega arith) ∙ ap block (sym (held_by text graph h some k word l above under))
+
+-- one function up to a number, and from there on another that is the same
+maps_joined : {A : Type 0} (f g : ℕ → A) (a n : ℕ) → ((k : ℕ) → a ≤ k → k < a + n → g k ≡ f k)
+    → map f (below a) ++ map g (range_with_len a n) ≡ map f (below (a + n))
+maps_joined f g a zero same =
+    let e : a ≡ a + 0 = omega arith in
+    append-nil (map f (below a)) ∙ ap (λ k. map f (below k)) e
+maps_joined f g a (suc n) same =
+    let e : a + 1 + n ≡ a + suc n = omega arith in
+    sym (append_assoc (map f (below a)) (g a ∷ []) (map g (range_with_len (a + 1) n)))
+    ∙ ap (λ x. (map f (below a) ++ x ∷ []) ++ map g (range_with_len (a + 1) n)) (same a (omega arith) (omega arith))
+    ∙ ap (λ xs. xs ++ map g (range_with_len (a + 1) n)) (sym (image_more f a))
+    ∙ maps_joined f g (a + 1) n (λ k l m. same k (omega arith) (omega arith))
+    ∙ ap (λ k. map f (below k)) e
+
+-- a block's landings
+pub landings_pushed : (text : Words) (graph : Graph) (codes : ℕ → List ℕ) → IsGraphOf text graph
+    → 1 ≤ length text.words → (k : ℕ) → k < length graph.blocks.firsts → (code : List ℕ)
+    → code ≡ codes (length (own_edges graph) + k)
+    → map (landing text graph codes) (below (begin_of graph.blocks k))
+    ++ map (landing_with code) (range_with_len (slice_index graph.blocks.firsts k) (size_of graph.blocks k))
+    ≡ map (landing text graph codes) (below (begin_of graph.blocks (k + 1)))
+landings_pushed text graph codes h some k l code is =
+    let room = some_words graph.blocks.words graph.blocks.firsts (cut_of text graph h some).firsts k l in
+    let end : slice_index graph.blocks.firsts k + size_of graph.blocks k ≡ begin_of graph.blocks (k + 1) =
+    omega (arith, begin_after text graph h some k l) in
+    ap (λ (n : ℕ). map (landing text graph codes) (below n) ++ map (landing_with code)
+    (range_with_len (slice_index graph.blocks.firsts k) (size_of graph.blocks k))) (begin_at graph.blocks k l)
+    ∙ maps_joined (landing text graph codes) (landing_with code) (slice_index graph.blocks.firsts k)
+    (size_of graph.blocks k) here
+    ∙ ap (λ (n : ℕ). map (landing text graph codes) (below n)) end
+  where
+    here : (word : ℕ) → slice_index graph.blocks.firsts k ≤ word
+        → word < slice_index graph.blocks.firsts k + size_of graph.blocks k
+        → landing_with code word ≡ landing text graph codes word
+    here word above under =
+        let room = some_words graph.blocks.words graph.blocks.firsts (cut_of text graph h some).firsts k l in
+        let home : node_of graph.blocks (Some word) ≡ block k =
+        block_home text graph h some k word l above (omega arith) in
+        ap (λ (ws : List ℕ). map it.Word ws ++ jump_to word) (is
+        ∙ sym (append-nil (codes (length (own_edges graph) + k)))
+        ∙ ap (flat_map codes) (sym (landing_edge text graph h k l))
+        ∙ ap (λ (n : Node). flat_map codes (landing_from graph n)) (sym home))
+
+-- one landing more
+pub landing_pushed : (code : List ℕ) (first word : ℕ) (before list new : List (List Item)) (piece : List Item)
+    → first ≤ word → new ≡ list ++ piece ∷ [] → piece ≡ landing_with code word
+    → list ≡ before ++ map (landing_with code) (range_with_len first (word - first))
+    → new ≡ before ++ map (landing_with code) (range_with_len first (word + 1 - first))
+landing_pushed code first word before list new piece above pushed made held =
+    let here : first + (word - first) ≡ word = omega arith in
+    let next : word - first + 1 ≡ word + 1 - first = omega arith in
+    pushed ∙ ap (λ (items : List Item). list ++ items ∷ []) made
+    ∙ ap (λ (pieces : List (List Item)). pieces ++ landing_with code word ∷ []) held
+    ∙ append_assoc before (map (landing_with code) (range_with_len first (word - first))) (landing_with code word ∷ [])
+    ∙ ap (λ (pieces : List (List Item)). before ++ pieces)
+    (sym (map-range_with_len_more (landing_with code) first (word - first) word here)
+    ∙ ap (λ (n : ℕ). map (landing_with code) (range_with_len first n)) next)

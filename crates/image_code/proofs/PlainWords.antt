@@ -28,7 +28,7 @@ use Rattle.image_code.specs.Images.{Frame, visited_at}
 use Rattle.image_code.specs.Cases.{IsFar, IsPlain, LeadsOn, plain_piece, words_on}
 use Rattle.image_code.specs.Made.{rest_after}
 use Rattle.image_code.proofs.Branches.{image_straight, within_some}
-use Rattle.image_code.proofs.Cases.{get_below}
+use Rattle.std.proofs.lemmas.Option.{slice_get_within}
 use Rattle.image_code.proofs.Listed.{image_at}
 use Rattle.image_code.proofs.Visited.{image_items, l, left_gone, visited_none, visited_word, word_is}
 
@@ -90,7 +90,7 @@ module _ (g : Setting) (codes : ℕ → List ℕ) (is : IsText g.text) (p : Plac
       → place word (3 + length (flat_map codes edges)) ≡ slice_index p.at (word + 1)
   falls more =
       let next : word + 1 ≡ suc word = omega arith in
-      let after : suc word < length (l g codes is p f).list = get_below (l g codes is p f).list (suc word) _
+      let after : suc word < length (l g codes is p f).list = slice_get_within (l g codes is p f).list (suc word) _
       (image_at g.text (graph_in g) f.table.base codes (suc word) (omega arith)) in
       let many : length code ≡ length (flat_map codes edges) = length-map (flat_map codes edges) it.Word in
       let size : size_of (l g codes is p f).list word ≡ 3 + length (flat_map codes edges) =
@@ -156,13 +156,16 @@ module _ (g : Setting) (codes : ℕ → List ℕ) (is : IsText g.text) (p : Plac
           (inr (inr (end_far, leaves last)))
       by (Some other) some =
           let next = within_some (length g.text.words) (word + 1) other (sym there ∙ some) in
-          inl (ap (option_map (drop 3)) (ends next.0), falls next.0 ∙ ap (slice_index p.at) next.1
-          ∙ sym (visited_word g codes is p f after (point_of v) other some went.1))
+          inl (
+            ap (option_map (drop 3)) (ends next.0),
+            falls next.0 ∙ ap (slice_index p.at) next.1
+                ∙ sym (visited_word g codes is p f after (point_of v) other some went.1),
+          )
 
   pub plain_is : IsPlain g (l g codes is p f) p place f node x t
   plain_is = record {
     piece = word;
-    within = get_below (l g codes is p f).list word _ found;
+    within = slice_get_within (l g codes is p f).list word _ found;
     here = visited_word g codes is p f node x word at none;
     address = record { 0 = address_of g.text word };
     original = sym (word_at-some g.text x.pc word at).is;

@@ -37,7 +37,7 @@ use Rattle.image_code.specs.Imaged.{IsCase, plain, couple, landing as jumps_slot
 use Rattle.image_code.specs.Made.{IsTableFor, couple_word, foreign_number, goes_along, goes_on, jump_to, landing_number, past_slot}
 use Rattle.image_code.proofs.EdgePieces.{along_far}
 use Rattle.image_code.proofs.Branches.{couple_says, same_is}
-use Rattle.image_code.proofs.Cases.{get_below}
+use Rattle.std.proofs.lemmas.Option.{slice_get_within}
 use Rattle.image_code.proofs.Heads.{copy_items, copy_visited}
 use Rattle.image_code.proofs.Listed.{foreign_at, landing_at}
 use Rattle.image_code.proofs.Visited.{edge_is, l, slot_gone, visited_none, visited_word, way_in, word_is}
@@ -227,7 +227,7 @@ module _ (g : Setting) (codes : ℕ → List ℕ) (is : IsText g.text) (p : Plac
       plain_case : IsCase g (l g codes is p f) base p place f node x t
       plain_case = plain (record {
         piece = piece;
-        within = get_below (l g codes is p f).list piece _ (items _ refl);
+        within = slice_get_within (l g codes is p f).list piece _ (items _ refl);
         here = copy_visited g codes is p f node x slot at way not;
         address = address;
         original = sym (word_at-some g.text x.pc slot at).is;
@@ -274,17 +274,19 @@ module _ (g : Setting) (codes : ℕ → List ℕ) (is : IsText g.text) (p : Plac
           by None none =
               inr (
                 landed_out g.text (graph_in g) x.npc None none,
-                record { 0 = foreign_number g.text (graph_in g) },
-                get_below (l g codes is p f).list _ _ (foreign_at g.text (graph_in g) f.table.base codes),
-                tables.others x.npc waits.0 waits.1 none,
-                foreign_at g.text (graph_in g) f.table.base codes,
-                none,
+                (
+                  record { 0 = foreign_number g.text (graph_in g) },
+                  slice_get_within (l g codes is p f).list _ _ (foreign_at g.text (graph_in g) f.table.base codes),
+                  tables.others x.npc waits.0 waits.1 none,
+                  foreign_at g.text (graph_in g) f.table.base codes,
+                  none,
+                ),
               )
           by (Some to) some =
               let there = landing_at g.text (graph_in g) f.table.base codes to (word_at-some g.text x.npc to some).within in
               inl (
                 record { 0 = landing_number g.text (graph_in g) to },
-                get_below (l g codes is p f).list _ _ there,
+                slice_get_within (l g codes is p f).list _ _ there,
                 tables.words x.npc to waits.0 waits.1 some,
                 inr (inl (
                   record { 0 = to },
@@ -302,7 +304,7 @@ module _ (g : Setting) (codes : ℕ → List ℕ) (is : IsText g.text) (p : Plac
         slot = way.jumps out;
         out = out;
         piece = piece;
-        within = get_below (l g codes is p f).list piece _ (past true out);
+        within = slice_get_within (l g codes is p f).list piece _ (past true out);
         here = copy_visited g codes is p f node x slot at way not;
         address = address;
         original = sym (word_at-some g.text x.pc slot at).is;
@@ -329,7 +331,7 @@ module _ (g : Setting) (codes : ℕ → List ℕ) (is : IsText g.text) (p : Plac
   by_word true e = couple (record {
     slot = not;
     piece = piece;
-    within = get_below (l g codes is p f).list piece _ (made true e);
+    within = slice_get_within (l g codes is p f).list piece _ (made true e);
     here = copy_visited g codes is p f node x slot at way not;
     address = address;
     original = sym (word_at-some g.text x.pc slot at).is;

@@ -176,10 +176,13 @@ module _ (g : Setting) (codes : ℕ → List ℕ) (is : IsText g.text) (p : Plac
       by : (o : Option ℕ) → word_at g.text x.pc ≡ o
           → LeadsTo l p (record { 0 = way_out g.text (graph_in g) node kind }) [] (visited_at g l p f node x)
       by (Some word) e =
-          inl (refl, ap (slice_index p.at)
-          (ap (λ (k : EdgeKind). way_out g.text (graph_in g) node k) (sym same)
-          ∙ first_along g.text (graph_in g) f.table.base codes (edge_from (graph_in g) node (way_in x)))
-          ∙ sym (visited_slot node x word e slot))
+          inl (
+            refl,
+            ap (slice_index p.at)
+                (ap (λ (k : EdgeKind). way_out g.text (graph_in g) node k) (sym same)
+                ∙ first_along g.text (graph_in g) f.table.base codes (edge_from (graph_in g) node (way_in x)))
+                ∙ sym (visited_slot node x word e slot),
+          )
       by None e =
           subst (LeadsTo l p (record { 0 = way_out g.text (graph_in g) node kind }) []) (sym (visited_off node x e slot))
           (inr (inr (

@@ -1,5 +1,5 @@
 -- What the parts of making pieces make, by the numbers that they are given.
-use Rattle.std.specs.Prelude.{◌≡◌, ℕ, ◌+◌, ◌%◌, ◌^◌, ◌≤◌, ◌==◌, if◌then◌else◌, nat_lt, slice_index, List, [], ◌∷◌, ◌++◌, length, map}
+use Rattle.std.specs.Prelude.{◌≡◌, ℕ, ◌+◌, ◌==◌, if◌then◌else◌, nat_lt, slice_index, List, [], ◌∷◌, ◌++◌, length, map}
 use Rattle.std.specs.List.{flat_map}
 use Rattle.eel_base.specs.CodeText.{Words, address_of}
 use Rattle.eel_base.specs.declared.numbers.Addr.{Addr}
@@ -19,8 +19,7 @@ use Rattle.image_code.specs.declared.parts.Next.{Next}
 use Rattle.image_code.specs.declared.parts.Next.TheVariants as next
 use Rattle.snippets.specs.declared.snippet.Op.{Op}
 use Rattle.snippets.specs.Cells.{named_by}
-use Rattle.snippet_code.specs.Runs.{IsCellOf, cell_at}
-use Rattle.snippet_code.specs.Code.{code_of_snippet}
+use Rattle.snippet_code.specs.Words.{code_of_snippet}
 use Rattle.image_code.specs.Simulates.{snippet_on}
 use Rattle.image_code.specs.Cases.{plain_piece, branch_piece}
 use Rattle.image_code.specs.Made.{jump_to, next_to, nop_word, slot_copy, way_along, way_piece}
@@ -31,13 +30,8 @@ pub record IsGraphOf (text : Words) (graph : Graph) : Type 0 where
   pub is : graph ≡ graph_of (blocks_of text given)
 
 -- the words of the snippet on an edge, on the cells at `base`: as `expand` makes them where nothing is dead
-abbrev pub codes_of : ℕ → List (List Op) → ℕ → List ℕ
+unfoldable pub codes_of : ℕ → List (List Op) → ℕ → List ℕ
 codes_of base snips edge = code_of_snippet base [] (named_by (snippet_on snips edge)) (snippet_on snips edge)
-
--- the cells that the snippets name end at or below the system's half, and the first one is aligned
-pub record HaveCells (base : ℕ) (snips : List (List Op)) : Type 0 where
-  pub aligned : base % 4 ≡ 0
-  pub low : (edge cell : ℕ) → IsCellOf (snippet_on snips edge) cell → cell_at base cell + 4 ≤ 2 ^ 31
 
 -- the way to where control goes on
 abbrev pub items_of : Next → List Item

@@ -2,13 +2,15 @@
 
 ghost use Rattle.std.specs.Prelude.{◌≡◌, ◌+◌, ◌*◌, ◌^◌, ◌<◌, ◌≤◌, ◌%◌, ◌++◌, ℕ, [], length, map, slice_index, All, IfOk, OnOk};
 ghost use Rattle.std.specs.Int.{w32, cast_unsigned};
-ghost use Rattle.cfg_blocks.specs.Blocks.{below, last_word as last_word_of};
+ghost use Rattle.std.specs.List.{range_with_len};
+ghost use Rattle.cfg_blocks.specs.Blocks.{below, last_word as last_word_of, size_of};
 ghost use Rattle.eel_base.specs.CodeText.{IsText};
 ghost use Rattle.cfg_normal.specs.Graph.{IsEdgeIn, IsNodeIn, edges_of};
 ghost use Rattle.cfg_walk.specs.Matches.{last_in as last_in_of, target_along, way_address};
 ghost use Rattle.cfg_walk.specs.Numbers.{node_number as node_number_of};
-ghost use Rattle.image_code.specs.Made.{foreign_number as foreign_number_of, goes_along, image as image_of, jump_to, landing_number, own_edges as own_edges_of, piece_list, slot_copy as slot_copy_of, way_along};
-ghost use Rattle.image_code.specs.Parts.{IsGraphOf, first_way_of, image_in, items_of, rest_of};
+ghost use Rattle.image_code.specs.Made.{foreign_number as foreign_number_of, goes_on, image as image_of, landing as landing_of, landing_number, next_to, own_edges as own_edges_of, piece_list, ways_from};
+ghost use Rattle.image_code.specs.Parts.{IsGraphOf, codes_of, copy_with, first_way_of, image_in, items_of, landing_with, way_with};
+ghost use Rattle.snippet_code.specs.Laws.{EndLow};
 ghost use Rattle.v8_decode.specs.Words.{decode_of};
 
 use crate::parts::{
@@ -18,8 +20,10 @@ use cfg_blocks::EdgeKind;
 use cfg_normal::{Edge, FlowGraph, Node, Slot};
 use eel_base::{Addr, BlockNo, NoMemory, PieceNo, Text, WordNo};
 use layout::Piece;
+use snippet_code::expand;
+use snippets::Snippet;
 use std::alloc::Global;
-use v8_decode::{Instr, decode};
+use v8_decode::{Instr, RegSet, decode};
 
 /// What the pieces use of memory: the cells that snippets count in, and the table that leads from addresses of the
 /// original to new code.
@@ -53,7 +57,8 @@ pub fn pieces(
     requires graph { IsGraphOf text.now graph.now }
     requires entry { entry.0 < length text.now.words }
     requires snips { length snips.now ≡ length graph.now.edges }
-    requires cells { HaveCells frame.cells.0 snips.now }
+    requires aligned { frame.cells.0 % 4 ≡ 0 }
+    requires cells { All (λ ops. EndLow frame.cells.0 ops) snips.now }
     requires table { frame.table.0 % 4096 ≡ 0 }
     requires low { frame.table.0 < 2 ^ 31 }
     ensures list { IfOk result (λ p. p.list.items
@@ -78,14 +83,10 @@ pub fn pieces(
 }
 
 // The code of the snippet on an edge, where all registers may be alive.
-fn code_on(
-    alloc: Global,
-    snips: &[Snippet],
-    cells: Addr,
-    edge: usize,
-) -> Result<Vec<u32>, NoMemory>
+fn code_on(alloc: Global, snips: &[Snippet], cells: Addr, edge: usize) -> Result<Vec<u32>, NoMemory>
     requires edge { edge < length snips.now }
-    requires cells { HaveCells cells.0 snips.now }
+    requires aligned { cells.0 % 4 ≡ 0 }
+    requires cells { All (λ ops. EndLow cells.0 ops) snips.now }
     ensures { IfOk result (λ code. code.items ≡ codes_of cells.0 snips.now edge) }
 {
     let snippet = &snips[edge];
@@ -117,16 +118,17 @@ fn push_images(
     requires graph { IsGraphOf text.now graph.now }
     requires empty { list.now.items ≡ [] }
     requires snips { length snips.now ≡ length graph.now.edges }
-    requires cells { HaveCells cells.0 snips.now }
+    requires aligned { cells.0 % 4 ≡ 0 }
+    requires cells { All (λ ops. EndLow cells.0 ops) snips.now }
     ensures text { IsText text.now }
     ensures images { OnOk result (list.new.items
         ≡ map (image_of text.now graph.now (codes_of cells.0 snips.now)) (below (length text.now.words))) }
 {
-    let mut edge = 0;
+    let mut way = text.len();
     for block in 0..graph.count() {
         let block = BlockNo(block);
-        push_block(alloc, list, text, graph, snips, cells, block, edge)?;
-        edge += edges_out(text, graph, block);
+        push_block(alloc, list, text, graph, snips, cells, block, PieceNo(way))?;
+        way += edges_out(text, graph, block);
     }
     Ok(())
 }
@@ -150,8 +152,8 @@ fn edges_out(text: &Text, graph: &FlowGraph, block: BlockNo) -> u32
     edges_after(text.word(last_word(graph, block)))
 }
 
-// Adds the images of a block's words. The first edge that leaves the block has this number: where the last word is no
-// transfer, it is the one to the next word, and its snippet is run behind that.
+// Adds the images of a block's words, whose edges have their ways from the piece `way` on. Where the last word is no
+// transfer, the one edge leads to the next word, and its snippet is run behind that.
 fn push_block(
     alloc: Global,
     list: &mut Vec<Piece>,
@@ -160,13 +162,14 @@ fn push_block(
     snips: &[Snippet],
     cells: Addr,
     block: BlockNo,
-    edge: u32,
+    way: PieceNo,
 ) -> Result<(), NoMemory>
     requires graph { IsGraphOf text.now graph.now }
     requires snips { length snips.now ≡ length graph.now.edges }
-    requires cells { HaveCells cells.0 snips.now }
+    requires aligned { cells.0 % 4 ≡ 0 }
+    requires cells { All (λ ops. EndLow cells.0 ops) snips.now }
     requires block { block.0 < length graph.now.blocks.firsts }
-    requires edge { edge ≡ edges_before graph.now.blocks block.0 }
+    requires way { way.0 ≡ first_way_of text.now graph.now block.0 }
     requires before { list.now.items
         ≡ map (image_of text.now graph.now (codes_of cells.0 snips.now))
         (below (slice_index graph.now.blocks.firsts block.0)) }
@@ -174,7 +177,7 @@ fn push_block(
         ≡ map (image_of text.now graph.now (codes_of cells.0 snips.now))
         (below (last_word_of graph.now.blocks.firsts graph.now.blocks.words block.0 + 1))) }
 {
-    let way = PieceNo(text.len() + edge);
+    let edge = way.0 - text.len();
     let last = last_word(graph, block);
     for word in graph.first(block).0..last.0 {
         list.push(image(alloc, text, WordNo(word), block, way, &[])?)?;
@@ -210,7 +213,7 @@ fn image(
 // out of the text.
 fn next_after(text: &Text, word: WordNo) -> Next
     requires word { word.0 < length text.now.words }
-    ensures { items_of result ≡ next_to_of text.now word.0 }
+    ensures { items_of result ≡ next_to text.now word.0 }
 {
     let words = text.len();
     if word.0 + 1 < words {
@@ -234,7 +237,8 @@ fn push_ways(
     requires text { IsText text.now }
     requires graph { IsGraphOf text.now graph.now }
     requires snips { length snips.now ≡ length graph.now.edges }
-    requires cells { HaveCells frame.cells.0 snips.now }
+    requires aligned { frame.cells.0 % 4 ≡ 0 }
+    requires cells { All (λ ops. EndLow frame.cells.0 ops) snips.now }
     requires table { frame.table.0 % 4096 ≡ 0 }
     ensures { OnOk result (list.new.items ≡ list.old.items
         ++ ways_from text.now graph.now frame.table.0 (codes_of frame.cells.0 snips.now) 0 (own_edges_of graph.now)) }
@@ -270,7 +274,16 @@ fn way(
                 address: text.address(slot),
                 node: node_number(graph, edge.from),
             };
-            slot_copy(alloc, text, graph, table, edge, code, visit, text.word(slot))
+            slot_copy(
+                alloc,
+                text,
+                graph,
+                table,
+                edge,
+                code,
+                visit,
+                text.word(slot),
+            )
         }
     }
 }
@@ -384,9 +397,11 @@ fn push_landings(
     snips: &[Snippet],
     cells: Addr,
 ) -> Result<(), NoMemory>
+    requires text { IsText text.now }
     requires graph { IsGraphOf text.now graph.now }
     requires snips { length snips.now ≡ length graph.now.edges }
-    requires cells { HaveCells cells.0 snips.now }
+    requires aligned { cells.0 % 4 ≡ 0 }
+    requires cells { All (λ ops. EndLow cells.0 ops) snips.now }
     ensures { OnOk result (list.new.items ≡ list.old.items
         ++ map (landing_of text.now graph.now (codes_of cells.0 snips.now)) (below (length text.now.words))) }
 {
@@ -408,7 +423,8 @@ fn push_block_landings(
 ) -> Result<(), NoMemory>
     requires block { block.0 < length graph.now.blocks.firsts }
     ensures { OnOk result (list.new.items ≡ list.old.items
-        ++ map (landing_with code.now) (words_of_block graph.now.blocks block.0)) }
+        ++ map (landing_with code.now) (range_with_len (slice_index graph.now.blocks.firsts block.0)
+        (size_of graph.now.blocks block.0))) }
 {
     let first = graph.first(block).0;
     for word in first..first + graph.words(block) {

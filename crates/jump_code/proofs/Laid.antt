@@ -5,7 +5,6 @@ use Rattle.eel_base.specs.declared.numbers.Addr.{Addr}
 use Rattle.eel_base.specs.declared.numbers.PieceNo.{PieceNo}
 use Rattle.v8_decode.specs.declared.Instr.{Instr}
 use Rattle.v8_memory.specs.Regions.{Memory, code_of}
-use Rattle.code_runs.specs.LongJump.{long_jump}
 use Rattle.code_runs.specs.Straight.{StandIn, HasWords}
 use Rattle.layout.specs.declared.items.Item.{Item}
 use Rattle.layout.specs.declared.items.Item.TheVariants as it
@@ -13,12 +12,10 @@ use Rattle.layout.specs.Emitting.{words_of}
 use Rattle.layout.specs.Laid.{IsLaid, Placement, Stands, item_at, item_in}
 use Rattle.layout.specs.Running.{HasCode}
 use Rattle.layout.proofs.Going.{word_is}
-use Rattle.jump_code.proofs.Fitting.{words_mean, link_fits, jump_fits, long_jump_fits, as_many, Fit}
+use Rattle.jump_code.proofs.Fitting.{words_mean, link_fits, jump_fits, as_many, Fit}
 use Rattle.jump_code.specs.Jumps.{jump_image}
-use Rattle.jump_code.specs.Leaving.{foreign}
 use Rattle.jump_code.specs.Links.{link}
-use Rattle.jump_code.specs.LookUps.{look_up_first, look_up_last}
-use Rattle.jump_code.specs.Pieces.{word_items, marked_piece, out_piece, MarkedIsLaid, OutIsLaid, PiecesAreLaid}
+use Rattle.jump_code.specs.Pieces.{word_items, marked_piece, MarkedIsLaid, PiecesAreLaid}
 
 -- ---- items that stand one after the other
 
@@ -60,12 +57,6 @@ module _ (base : ℕ) (p : Placement) (m : Memory) (has : HasCode base p.code m)
         record { end = ap place (sym e) ∙ end ∙ omega arith; after = subst (AllStand rest) e more.1.after },
       )
 
-  -- a piece that is words alone
-  only_words : (xs : List Instr) → Fit xs → AllStand (word_items xs) 0 → StandIn (code_of m) (place 0) xs
-  only_words xs fit h =
-      words_mean (code_of m) (place 0) xs fit
-      (words_stand (words_of xs) [] 0 (subst (λ (z : List Item). AllStand z 0) (sym (append-nil (word_items xs))) h)).0
-
   marked_laid : (xs : List Instr) (address : Addr) (node : ℕ) (way : PieceNo) → Fit xs
       → AllStand (marked_piece xs address node way) 0 → MarkedIsLaid (code_of m) place xs
   marked_laid xs address node way fit h =
@@ -74,33 +65,6 @@ module _ (base : ℕ) (p : Placement) (m : Memory) (has : HasCode base p.code m)
         lo = h.0;
         words = words_mean (code_of m) (place 1) xs fit w.0;
         hi = subst (λ z. place (1 + z) ≡ place 1 + 4 * z) (as_many xs) w.1.end;
-      }
-
-  out_laid : (address : Addr) (node word : ℕ) (translator : List ℕ) → length translator ≡ 12
-      → AllStand (out_piece address node word [] translator) 0 → OutIsLaid (code_of m) place word translator
-  out_laid address node word translator twelve h =
-      let w1 = words_stand (words_of look_up_first) (map it.Word translator ++ word_items look_up_last) 3 h.1.1.1 in
-      let w2 = words_stand translator (word_items look_up_last) 6 w1.1.after in
-      let w3 = words_stand (words_of look_up_last) [] (6 + length translator)
-      (subst (λ (z : List Item). AllStand z (6 + length translator)) (sym (append-nil (word_items look_up_last)))
-      w2.1.after) in
-      let p2 = h.1.0.0 in
-      let p3 = h.1.1.0 in
-      let e1 = w1.1.end in
-      let e2 = w2.1.end in
-      record {
-        lo = h.0;
-        hi = h.1.0.0;
-        slot = word_is base (place 1) word p.code m has h.1.0.1;
-        first = subst (λ z. StandIn (code_of m) z look_up_first)
-            (let e : place 3 ≡ place 1 + 4 = omega arith in e)
-            (words_mean (code_of m) (place 3) look_up_first (refl, refl, (refl, refl, (refl, refl, tt))) w1.0);
-        middle = subst (λ z. HasWords (code_of m) z translator)
-            (let e : place 6 ≡ place 1 + 16 = omega arith in e) w2.0;
-        last = subst (λ z. StandIn (code_of m) z look_up_last)
-            (let e : place (6 + length translator) ≡ place 1 + 64 = omega arith in e)
-            (words_mean (code_of m) (place (6 + length translator)) look_up_last
-            (refl, refl, (refl, refl, (refl, refl, tt))) w3.0);
       }
 
 -- words that stand in a piece from its item n on
@@ -129,11 +93,4 @@ pieces_are_laid pieces base p place laid m has k piece is =
       call = λ address node way short e.
           marked_laid base p m has (place k) (link 15 address.0) address node way
           (link_fits 15 address.0 (omega arith) short) (stands _ e);
-      out = λ address node word translator twelve e.
-          out_laid base p m has (place k) address node word translator twelve (stands _ e);
-      leaving = λ e.
-          only_words base p m has (place k) foreign
-          (refl, refl, (refl, refl, (refl, refl, (refl, refl, tt)))) (stands _ e);
-      far = λ to short e.
-          only_words base p m has (place k) (long_jump to) (long_jump_fits to short) (stands _ e);
     }

@@ -6,6 +6,4 @@ pub mod Laid
 pub mod Leaving
 pub mod Linking
 pub mod LookingUp
-pub mod Owned
-pub mod SlotWays
 pub mod Targets

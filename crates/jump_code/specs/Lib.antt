@@ -6,5 +6,4 @@ pub mod Links
 pub mod LookUps
 pub mod PageWords
 pub mod Pieces
-pub mod Ways
 pub mod Words

@@ -1,12 +1,11 @@
 -- The words of the editor's page that are used on the way of a jump: word 0 by long jumps, word 1 for the target, which
 -- waits there until it is looked up, and words 2 and 3 for registers that are used meanwhile.
-use Rattle.std.specs.Prelude.{ℕ, ◌<◌, true, List, [], ◌∷◌}
+use Rattle.std.specs.Prelude.{ℕ, ◌<◌, List, [], ◌∷◌}
 use Rattle.v8_memory.specs.Regions.{Memory}
-use Rattle.v8_memory.specs.Spans.{Span, IsSameOutside}
 use Rattle.v8_step.specs.State.{State}
-use Rattle.code_runs.specs.Ours.{IsAmongWords, IsIn, HasWordAt, AreOwn, IsOurs}
+use Rattle.code_runs.specs.Ours.{IsAmongWords}
 use Rattle.code_runs.specs.Page.{page_word}
-use Rattle.code_runs.specs.StoredWords.{memory_word, CanStore, Stores}
+use Rattle.code_runs.specs.StoredWords.{memory_word, CanStore}
 
 abbrev pub page_words : List ℕ
 page_words = page_word 0 ∷ page_word 1 ∷ page_word 2 ∷ page_word 3 ∷ []
@@ -21,14 +20,3 @@ HasPage count m = (n : ℕ) → n < count → CanStore m (page_word n)
 -- the address that waits in word 1
 abbrev pub waiting : State → ℕ
 waiting s = memory_word s.memory (page_word 1)
-
--- What the laws of jumps ask of the page, and what they leave of memory, where these words are the editor's.
-pub record HasOurPage (pages : List Span) (own : List ℕ) (m : Memory) : Type 0 where
-  pub page : HasPage 4 m
-  pub there : (n : ℕ) → n < 4 → IsIn pages (page_word n) × HasWordAt (page_word n) true m
-  pub stored : (after : Memory) → Stores IsPageWord m after → IsOurs pages own after × IsSameOutside pages m after
-
-abbrev pub PageWordsAreOurs : Type 0
-PageWordsAreOurs =
-    (pages : List Span) (own : List ℕ) (m : Memory) → AreOwn pages own → IsOurs pages own m
-    → ((a : ℕ) → IsPageWord a → IsAmongWords own a) → HasOurPage pages own m

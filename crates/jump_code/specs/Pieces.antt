@@ -6,9 +6,9 @@ use Rattle.v8_decode.specs.declared.Op2.{Op2}
 use Rattle.v8_decode.specs.declared.Instr.{Instr}
 use Rattle.v8_decode.specs.Ranges.{op2_in_range}
 use Rattle.v8_encode.specs.Encoding.{op2_fits}
-use Rattle.v8_memory.specs.Regions.{Memory, Region, code_of, fetch_from}
+use Rattle.v8_memory.specs.Regions.{Memory, Region, code_of}
 use Rattle.code_runs.specs.LongJump.{long_jump}
-use Rattle.code_runs.specs.Straight.{StandIn, HasWords}
+use Rattle.code_runs.specs.Straight.{StandIn}
 use Rattle.layout.specs.declared.items.Item.{Item}
 use Rattle.layout.specs.declared.items.Item.TheVariants as it
 use Rattle.layout.specs.Emitting.{words_of}
@@ -58,15 +58,6 @@ pub record MarkedIsLaid (code : List Region) (place : ℕ → ℕ) (xs : List In
   pub words : StandIn code (place 1) xs
   pub hi : place (1 + length xs) ≡ place 1 + 4 * length xs
 
--- The slot's word in its Mark, and the look-up right behind it, where there is no snippet.
-pub record OutIsLaid (code : List Region) (place : ℕ → ℕ) (word : ℕ) (translator : List ℕ) : Type 0 where
-  pub lo : place 1 ≡ place 0
-  pub hi : place 2 ≡ place 1 + 4
-  pub slot : fetch_from code (place 1) ≡ Some word
-  pub first : StandIn code (place 1 + 4) look_up_first
-  pub middle : HasWords code (place 1 + 16) translator
-  pub last : StandIn code (place 1 + 64) look_up_last
-
 -- The words of piece k stand where the laws of jumps ask for them, if it is one of these.
 pub record WordsAreLaid (piece : List Item) (code : List Region) (place : ℕ → ℕ) : Type 0 where
   pub jump : (x rd rs1 : ℕ) (op2 : Op2) (address : Addr) (node : ℕ) (way : PieceNo) → IsApart x rd rs1 op2
@@ -75,10 +66,6 @@ pub record WordsAreLaid (piece : List Item) (code : List Region) (place : ℕ �
       → MarkedIsLaid code place (jump_image x rd rs1 op2 address.0)
   pub call : (address : Addr) (node : ℕ) (way : PieceNo) → address.0 < 2 ^ 32 → piece ≡ call_piece address node way
       → MarkedIsLaid code place (link 15 address.0)
-  pub out : (address : Addr) (node word : ℕ) (translator : List ℕ) → length translator ≡ 12
-      → piece ≡ out_piece address node word [] translator → OutIsLaid code place word translator
-  pub leaving : piece ≡ foreign_piece → StandIn code (place 0) foreign
-  pub far : (to : ℕ) → to < 2 ^ 32 → piece ≡ far_piece to → StandIn code (place 0) (long_jump to)
 
 abbrev pub PiecesAreLaid : Type 0
 PiecesAreLaid =

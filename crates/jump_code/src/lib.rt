@@ -6,9 +6,7 @@ ghost use Rattle.jump_code.specs.Jumps.{JumpsAct};
 ghost use Rattle.jump_code.specs.Leaving.{FarGoes, ForeignLeaves};
 ghost use Rattle.jump_code.specs.Links.{CallsAct};
 ghost use Rattle.jump_code.specs.LookUps.{LookUpsHop};
-ghost use Rattle.jump_code.specs.PageWords.{PageWordsAreOurs};
 ghost use Rattle.jump_code.specs.Pieces.{PiecesAreLaid};
-ghost use Rattle.jump_code.specs.Ways.{JumpWays, SlotsAreReady};
 
 mod code;
 mod registers;
@@ -50,22 +48,6 @@ pub fn foreign_leaves()
 /// A long jump goes on at any address that is known.
 pub fn far_goes()
     ensures { FarGoes }
-{}
-
-/// From the copy of a slot's word the machine comes to what the table has for the target, or out of the text.
-pub fn jump_ways()
-    ensures { JumpWays }
-{}
-
-/// What a slot's word leaves of the pages, if it touches none of them, is enough for the look-up.
-pub fn slots_are_ready()
-    ensures { SlotsAreReady }
-{}
-
-/// Where the four words of the page are the editor's, they are what the laws above ask for, and all memory outside the
-/// editor's pages stays.
-pub fn page_words_are_ours()
-    ensures { PageWordsAreOurs }
 {}
 
 /// The words of laid pieces stand where the laws above ask for them.

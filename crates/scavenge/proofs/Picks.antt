@@ -1,13 +1,12 @@
 -- The picked registers are different, and as many as are wanted.
-use Rattle.std.proofs.Common.{◌≡◌, ◌≢◌, ℕ, zero, suc, ◌+◌, ◌-◌, ◌<◌, ◌≤◌, ◌⊎◌, inl, inr, Bool, true, false, not, ◌&&◌, ◌||◌, List, [], ◌∷◌, ◌++◌, length, take, refl, ap, sym, ◌∙◌, subst, arith, length-append, length-take}
-use Rattle.std.specs.Prelude.{if◌then◌else◌, ◌==◌, slice_index, filter}
-use Rattle.std.specs.List.{range_with_len}
+use Rattle.std.proofs.Common.{◌≡◌, ◌≢◌, ℕ, zero, suc, ◌+◌, ◌-◌, ◌<◌, ◌≤◌, ◌⊎◌, inl, inr, Bool, true, false, not, ◌&&◌, ◌||◌, List, [], ◌∷◌, ◌++◌, length, refl, ap, sym, ◌∙◌, subst, arith, length-append, length-take}
+use Rattle.std.specs.Prelude.{if◌then◌else◌, slice_index, filter}
 use Rattle.std.proofs.lemmas.Bool.Decides.{nat_tests}
 use Rattle.std.proofs.lemmas.List.{get_or-take, get_or_append_left, get_or-append-add}
 use Rattle.v8_decode.specs.declared.Part.{Part}
 use Rattle.v8_decode.specs.declared.Part.TheVariants as parts
 use Rattle.v8_decode.specs.Parts.{has, is_same}
-use Rattle.scavenge.specs.Picks.{registers, free_dead, free_live, picked, spills, is_register, register_count, ArePicked}
+use Rattle.scavenge.specs.Picks.{registers, picked, spills, register_count, ArePicked}
 
 split_below : (j k : ℕ) → (j < k) ⊎ (k ≤ j)
 split_below zero zero = inr (omega arith)

@@ -1,6 +1,6 @@
 -- Registers of the current window to work in: dead ones first, so that as few as can be must be spilled. Sections are
 -- those of The SPARC Architecture Manual, Version 8.
-use Rattle.std.specs.Prelude.{◌≡◌, ◌≢◌, ℕ, ◌-◌, ◌<◌, ◌≤◌, Bool, true, false, not, ◌&&◌, List, ◌++◌, length, take, drop, filter, slice_index}
+use Rattle.std.specs.Prelude.{◌≡◌, ◌≢◌, ℕ, ◌-◌, ◌<◌, Bool, true, false, not, ◌&&◌, List, ◌++◌, length, take, drop, filter, slice_index}
 use Rattle.std.specs.List.{range_with_len}
 use Rattle.v8_decode.specs.declared.Part.{Part}
 use Rattle.v8_decode.specs.declared.Part.TheVariants.{Reg, Icc, Y}
@@ -53,7 +53,3 @@ pub record ArePicked (dead avoid : List Part) (want : ℕ) (regs : List ℕ) (sp
   pub unavoided : (k : ℕ) → k < want → has avoid (Reg (slice_index regs k)) ≡ false
   pub dead_first : (k : ℕ) → k < want - spilled → has dead (Reg (slice_index regs k)) ≡ true
   pub few : spilled ≡ spills dead avoid want
-
-abbrev pub PicksHold : Type 0
-PicksHold = (dead avoid : List Part) (want : ℕ) → register_count avoid ≤ 8 → want ≤ 5
-    → ArePicked dead avoid want (picked dead avoid want) (spills dead avoid want)

@@ -3,14 +3,36 @@
 
 ghost use Rattle.std.specs.Prelude.{◌≡◌, ◌≤◌, ◌<◌, ◌&&◌, not, filter, length, take};
 ghost use Rattle.v8_decode.specs.declared.Part.{Part};
-ghost use Rattle.scavenge.specs.Picks.{ArePicked, free_dead, is_free_dead, is_free_live, PicksHold};
+ghost use Rattle.scavenge.specs.Picks.{ArePicked, free_dead, is_free_dead, is_free_live, picked, register_count, spills};
 
 use v8_decode::{Part, Reg, RegSet};
 
-/// Picked registers are different ones.
-pub fn picks_hold()
-    ensures { PicksHold }
-{}
+/// How many registers are picked at most.
+const MOST: usize = 5;
+
+/// Registers to work in: the first `count` of `regs`. The last `spills` of these must be spilled, the others are dead.
+#[derive(Clone, Copy, Debug, Drop)]
+pub struct Picked {
+    pub regs: [Reg; 5],
+    pub count: u8,
+    pub spills: u8,
+}
+
+/// Picks so many registers, none of them %g0 or one to avoid, and none that isn't dead as long as there are dead ones.
+pub fn pick(dead: RegSet, avoid: RegSet, want: u8) -> Picked
+    requires want { want ≤ 5 }
+    requires avoid { register_count avoid ≤ 8 }
+    ensures count { result.count ≡ want }
+    ensures regs { take result.count result.regs ≡ picked dead avoid want }
+    ensures spills { result.spills ≡ spills dead avoid want }
+    ensures picked { ArePicked dead avoid want (take result.count result.regs) result.spills }
+{
+    Picked {
+        regs: regs_of(dead, avoid, want),
+        count: want,
+        spills: want.saturating_sub(count_dead(dead, avoid)),
+    }
+}
 
 // The register with this number.
 fn register(number: u8) -> Reg
@@ -50,3 +72,20 @@ fn count_dead(dead: RegSet, avoid: RegSet) -> u8
         .count() as u8
 }
 
+// The picked registers, before others that stand for none.
+#[tactic(auto, unfolding(crate::specs::Picks::registers))]
+fn regs_of(dead: RegSet, avoid: RegSet, want: u8) -> [Reg; MOST]
+    requires want { want ≤ 5 }
+    requires avoid { register_count avoid ≤ 8 }
+    ensures { take want result ≡ picked dead avoid want }
+{
+    let mut regs = [register(0); MOST];
+    let mut found = 0;
+    let dead_ones = (1..32).filter(|number| is_free_dead(dead, avoid, *number));
+    let live_ones = (1..32).filter(|number| is_free_live(dead, avoid, *number));
+    for number in dead_ones.chain(live_ones).take(usize::from(want)) {
+        regs[found] = register(number);
+        found += 1;
+    }
+    regs
+}

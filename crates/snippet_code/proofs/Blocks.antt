@@ -1,21 +1,18 @@
 -- Code in picked registers, word by word.
-use Rattle.std.proofs.Common.{◌≡◌, ◌≢◌, ℕ, zero, suc, ◌+◌, ◌-◌, ◌*◌, ◌%◌, ◌^◌, ◌<◌, ◌≤◌, ◌⊎◌, inl, inr, Bool, true, false, Ok, Some, None, Option, List, [], ◌∷◌, ◌++◌, length, refl, ap, sym, ◌∙◌, subst, arith}
+use Rattle.std.proofs.Common.{◌≡◌, ◌≢◌, ℕ, zero, suc, ◌+◌, ◌*◌, ◌%◌, ◌^◌, ◌<◌, ◌≤◌, ◌⊎◌, inl, inr, Bool, true, false, Ok, Some, None, List, refl, ap, sym, ◌∙◌, subst, arith}
 use Rattle.std.specs.Prelude.{if◌then◌else◌, ◌==◌, slice_index, pos}
 use Rattle.std.proofs.lemmas.Bool.Decides.{nat_tests}
 use Rattle.v8_decode.specs.declared.Op2.{Op2}
-use Rattle.v8_decode.specs.declared.Op2.TheVariants as o
 use Rattle.v8_decode.specs.declared.AluOp.{AluOp}
-use Rattle.v8_decode.specs.declared.AluOp.TheVariants as ops
 use Rattle.v8_decode.specs.declared.Instr.{Instr}
 use Rattle.v8_decode.specs.declared.Instr.TheVariants as i
 use Rattle.v8_decode.specs.declared.LoadKind.TheVariants as loads
 use Rattle.v8_decode.specs.declared.StoreKind.TheVariants as stores
-use Rattle.v8_decode.specs.Words.{decode_of}
 use Rattle.v8_alu.specs.declared.Codes.{Codes}
 use Rattle.v8_alu.specs.Alu.{alu_of}
 use Rattle.v8_alu.specs.Numbers.{wrapped}
-use Rattle.v8_memory.specs.Regions.{Memory, Region, code_of, fetch_of, fetch_from}
-use Rattle.v8_windows.specs.Registers.{place_of, register_set, windows}
+use Rattle.v8_memory.specs.Regions.{Region, code_of, fetch_of, fetch_from}
+use Rattle.v8_windows.specs.Registers.{place_of}
 use Rattle.v8_windows.proofs.Places.{register_in-set, register_in-other, length-register_set}
 use Rattle.v8_step.specs.declared.Slot.TheVariants.{NoSlot}
 use Rattle.v8_step.specs.State.{State, register_of, with_register, operand_of, sum_of}
@@ -25,8 +22,7 @@ use Rattle.v8_step.specs.Transfers.{next, delayed, branched, branch_step, unless
 use Rattle.v8_step.specs.Step.{act, step_of, alu_step}
 use Rattle.v8_step.specs.Run.{run}
 use Rattle.v8_step.proofs.Quiet.{IsPlain}
-use Rattle.code_runs.specs.StoredWords.{memory_word, store_word, Stores, CanLoad, CanStore}
-use Rattle.code_runs.specs.Leads.{Leads, IsSilent}
+use Rattle.code_runs.specs.StoredWords.{memory_word, store_word}
 use Rattle.code_runs.specs.Straight.{Says}
 use Rattle.code_runs.specs.TwoRegisters.{IsBetween, Gives}
 use Rattle.code_runs.proofs.StoredWords.{code-store_word, word_stored, other_word_stored, still_stored, can_load, memory_word-range}
@@ -167,30 +163,30 @@ module _ {s : State} {count : ℕ} {May : ℕ → Type 0} {counted : ℕ → Boo
   pub works_none : Works s count May counted r want 0 0 (memory_word s.memory) s.codes (λ k. register_of s (r k))
   works_none = record {
     reach = record {
-    after = s;
-    steps = 0;
-    few = omega arith;
-    path = leads_none _ s;
-    silent = silent_none s;
-    stored = omega arith;
-    pc = omega arith;
-    npc = (let e = c.ready.npc in omega arith);
-    alike = record {
-      live = c.ready.live;
-      window = refl;
-      valid = refl;
-      input = refl;
-      y_register = refl;
-      codes_are = refl;
-      registers = c.valid.registers.count;
-      picked = λ k h. refl;
-      others = λ p h. refl;
-      can = c.can;
-      words = λ a h. refl;
-      range = λ a h. memory_word-range s.memory a c.valid.memory;
-      stores = stores_none May s.memory;
-      code = refl;
-    };
+      after = s;
+      steps = 0;
+      few = omega arith;
+      path = leads_none _ s;
+      silent = silent_none s;
+      stored = omega arith;
+      pc = omega arith;
+      npc = (let e = c.ready.npc in omega arith);
+      alike = record {
+        live = c.ready.live;
+        window = refl;
+        valid = refl;
+        input = refl;
+        y_register = refl;
+        codes_are = refl;
+        registers = c.valid.registers.count;
+        picked = λ k h. refl;
+        others = λ p h. refl;
+        can = c.can;
+        words = λ a h. refl;
+        range = λ a h. memory_word-range s.memory a c.valid.memory;
+        stores = stores_none May s.memory;
+        code = refl;
+      };
     };
     slot = c.slot;
   }
@@ -217,31 +213,31 @@ module _ {s : State} {count : ℕ} {May : ℕ → Type 0} {counted : ℕ → Boo
       let joined : count_stores counted s (w.steps + 1) ≡ count_stores counted s w.steps + (0 + stores_in_step counted w.after) = count_add counted s w.after w.steps w.path.steps 1 in
       record {
         reach = record {
-        after = next v;
-        steps = w.steps + 1;
-        few = omega arith;
-        path = leads_then (IsBetween s count May) s w.after (next v) w.steps 1 w.path (leads_one _ w.after (next v) one)
-            (λ some _. record { past = (let x : 0 < w.steps = some in omega arith); before = omega arith; stores = w.alike.stores });
-        silent = silent_then s w.after w.steps 1 w.path.steps w.silent (silent_one w.after (says_puts w.after instr plain here));
-        stored = omega arith;
-        pc = (let z : v.npc ≡ s.pc + 4 * suc n = omega arith in z);
-        npc = (let z : wrapped (v.npc + 4) ≡ s.pc + 4 * suc n + 4 = omega arith in z);
-        alike = record {
-          live = alike.live;
-          window = alike.window;
-          valid = alike.valid;
-          input = alike.input;
-          y_register = alike.y_register;
-          codes_are = alike.codes_are;
-          registers = alike.registers;
-          picked = alike.picked;
-          others = alike.others;
-          can = alike.can;
-          words = alike.words;
-          range = alike.range;
-          stores = alike.stores;
-          code = alike.code;
-        };
+          after = next v;
+          steps = w.steps + 1;
+          few = omega arith;
+          path = leads_then (IsBetween s count May) s w.after (next v) w.steps 1 w.path (leads_one _ w.after (next v) one)
+              (λ some _. record { past = (let x : 0 < w.steps = some in omega arith); before = omega arith; stores = w.alike.stores });
+          silent = silent_then s w.after w.steps 1 w.path.steps w.silent (silent_one w.after (says_puts w.after instr plain here));
+          stored = omega arith;
+          pc = (let z : v.npc ≡ s.pc + 4 * suc n = omega arith in z);
+          npc = (let z : wrapped (v.npc + 4) ≡ s.pc + 4 * suc n + 4 = omega arith in z);
+          alike = record {
+            live = alike.live;
+            window = alike.window;
+            valid = alike.valid;
+            input = alike.input;
+            y_register = alike.y_register;
+            codes_are = alike.codes_are;
+            registers = alike.registers;
+            picked = alike.picked;
+            others = alike.others;
+            can = alike.can;
+            words = alike.words;
+            range = alike.range;
+            stores = alike.stores;
+            code = alike.code;
+          };
         };
         slot = refl;
       }

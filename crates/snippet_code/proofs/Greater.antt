@@ -1,33 +1,26 @@
 -- The greater of a cell and a register: with the codes, where they are dead, and without.
-use Rattle.std.proofs.Common.{◌≡◌, ◌≢◌, ℕ, zero, suc, ◌+◌, ◌-◌, ◌*◌, ◌/◌, ◌%◌, ◌^◌, ◌<◌, ◌≤◌, ◌⊎◌, inl, inr, max, Bool, true, false, not, ◌||◌, Ok, Some, List, [], ◌∷◌, ◌++◌, length, refl, ap, sym, ◌∙◌, subst, arith, bit_and}
-use Rattle.std.specs.Prelude.{if◌then◌else◌, ◌==◌, nat_lt, pos, negsuc}
-use Rattle.std.specs.Int.{w32, cast_unsigned}
+use Rattle.std.proofs.Common.{◌≡◌, ◌≢◌, ℕ, suc, ◌+◌, ◌-◌, ◌*◌, ◌/◌, ◌%◌, ◌^◌, ◌<◌, ◌≤◌, ◌⊎◌, inl, inr, max, Bool, true, false, not, ◌||◌, Ok, [], ◌∷◌, length, refl, ap, sym, ◌∙◌, subst, arith}
+use Rattle.std.specs.Prelude.{if◌then◌else◌, ◌==◌, nat_lt, pos}
 use Rattle.std.proofs.lemmas.Bool.Decides.{nat_tests}
-use Rattle.v8_decode.specs.declared.Op2.{Op2}
 use Rattle.v8_decode.specs.declared.Op2.TheVariants as o
 use Rattle.v8_decode.specs.declared.AluOp.{AluOp}
 use Rattle.v8_decode.specs.declared.AluOp.TheVariants as ops
-use Rattle.v8_decode.specs.declared.Instr.{Instr}
 use Rattle.v8_decode.specs.declared.Instr.TheVariants as i
 use Rattle.v8_alu.specs.declared.Codes.{Codes}
-use Rattle.v8_alu.specs.Alu.{alu_of, codes_of, difference_overflows, difference_out}
-use Rattle.v8_alu.specs.Numbers.{wrapped, complement}
-use Rattle.v8_memory.specs.Regions.{Region, code_of}
-use Rattle.v8_step.specs.State.{State, register_of, operand_of, sum_of}
+use Rattle.v8_alu.specs.Alu.{alu_of, codes_of, difference_overflows}
+use Rattle.v8_alu.specs.Numbers.{wrapped}
+use Rattle.v8_memory.specs.Regions.{code_of}
+use Rattle.v8_step.specs.State.{State, register_of}
 use Rattle.v8_step.proofs.ValidStates.{register_of-range}
-use Rattle.code_runs.specs.Straight.{Says, StandIn}
-use Rattle.code_runs.specs.TwoRegisters.{Gives}
+use Rattle.code_runs.specs.Straight.{StandIn}
 use Rattle.code_runs.proofs.Hops.{equal_or_not}
-use Rattle.snippets.specs.declared.snippet.Op.{Op}
-use Rattle.snippets.specs.declared.snippet.Op.TheVariants.{Add, Put, Keep, Top}
+use Rattle.snippets.specs.declared.snippet.Op.TheVariants.{Top}
 use Rattle.snippet_code.specs.Cells.{cell_at}
-use Rattle.snippet_code.specs.Words.{op_words, op_registers, is_small, small, low, high, load_low, store_low, of_two, with_number}
-use Rattle.snippet_code.proofs.Working.{HasBlock, IsAlike, Reaches, Works, put}
-use Rattle.snippet_code.specs.Counted.{one_if}
-use Rattle.snippet_code.proofs.Working.{update_one, update_all, IsFit, Does}
-use Rattle.snippet_code.proofs.Operations.{sum_low, high_is, gives, add_is, free_store, at, works_words, as_many, Doing, done}
-use Rattle.snippet_code.proofs.Blocks.{put_same, put_other, unpicked_is, sethi, alu, Sums, ld, st, compares, branches}
-
+use Rattle.snippet_code.specs.Words.{op_words, small, high, load_low, store_low, of_two, with_number}
+use Rattle.snippet_code.proofs.Working.{HasBlock, Works, put}
+use Rattle.snippet_code.proofs.Working.{update_one, Does}
+use Rattle.snippet_code.proofs.OneOperation.{sum_low, high_is, gives, free_store, at, works_words, as_many, Doing}
+use Rattle.snippet_code.proofs.Blocks.{put_same, put_other, unpicked_is, sethi, alu, ld, st, compares, branches}
 use Rattle.v8_alu.specs.Conditions.{holds_of}
 use Rattle.snippet_code.proofs.TopValue.{top_of}
 use Rattle.snippet_code.proofs.TopValue as laws

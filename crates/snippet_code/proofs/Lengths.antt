@@ -1,5 +1,5 @@
 -- How many words a snippet has.
-use Rattle.std.proofs.Common.{◌≡◌, ℕ, zero, suc, ◌+◌, ◌-◌, ◌*◌, ◌<◌, ◌≤◌, max, Bool, true, false, cond, ◌==◌, List, [], ◌∷◌, ◌++◌, length, take, drop, refl, ap, sym, ◌∙◌, arith, length-append, length-take, length-drop}
+use Rattle.std.proofs.Common.{◌≡◌, ℕ, suc, ◌-◌, ◌*◌, ◌≤◌, Bool, true, false, cond, ◌==◌, List, [], ◌∷◌, ◌++◌, length, refl, ap, arith, length-append, length-take, length-drop}
 use Rattle.std.specs.Prelude.{if◌then◌else◌, slice_index}
 use Rattle.v8_decode.specs.declared.Part.{Part}
 use Rattle.v8_decode.specs.declared.Part.TheVariants.{Icc}
@@ -8,7 +8,7 @@ use Rattle.v8_decode.specs.declared.Instr.{Instr}
 use Rattle.scavenge.specs.Picks.{picked, spills, spilled, free_dead, free_live}
 use Rattle.snippets.specs.declared.snippet.Op.{Op}
 use Rattle.snippets.specs.declared.snippet.Op.TheVariants.{Add, Put, Keep, Top}
-use Rattle.snippet_code.specs.Words.{op_words, op_cost, op_registers, is_small, all_words, cost_of_all, cost_of, registers_for, numbered, save, restore, snippet_words}
+use Rattle.snippet_code.specs.Words.{op_words, op_cost, op_registers, is_small, all_words, cost_of_all, cost_of, registers_for, numbered, save, restore}
 use Rattle.snippet_code.specs.Laws.{CostsHold}
 
 chosen : (b : Bool) (xs ys : List Instr) (m n : ℕ) → length xs ≤ m → length ys ≤ n

@@ -1,21 +1,12 @@
 -- Operations one after the other, and the registers that are saved before them and loaded after them.
-use Rattle.std.proofs.Common.{◌≡◌, ◌≢◌, ℕ, zero, suc, ◌+◌, ◌-◌, ◌*◌, ◌/◌, ◌%◌, ◌^◌, ◌<◌, ◌≤◌, ◌⊎◌, inl, inr, max, Bool, true, false, Ok, Some, List, [], ◌∷◌, ◌++◌, length, refl, ap, sym, ◌∙◌, subst, arith, length-append}
-use Rattle.std.specs.Prelude.{if◌then◌else◌, ◌==◌, nat_lt, pos, negsuc}
-use Rattle.std.specs.Int.{w32, cast_unsigned}
-use Rattle.std.proofs.lemmas.Bool.Decides.{nat_tests}
-use Rattle.v8_decode.specs.declared.Op2.{Op2}
-use Rattle.v8_decode.specs.declared.Op2.TheVariants as o
-use Rattle.v8_decode.specs.declared.AluOp.{AluOp}
-use Rattle.v8_decode.specs.declared.AluOp.TheVariants as ops
+use Rattle.std.proofs.Common.{◌≡◌, ◌≢◌, ℕ, zero, suc, ◌+◌, ◌*◌, ◌<◌, ◌≤◌, ◌⊎◌, inl, inr, Bool, true, false, Some, List, [], ◌∷◌, ◌++◌, length, refl, ap, sym, ◌∙◌, subst, arith, length-append}
+use Rattle.std.specs.Prelude.{if◌then◌else◌}
 use Rattle.v8_decode.specs.declared.Instr.{Instr}
 use Rattle.v8_decode.specs.declared.Instr.TheVariants as i
 use Rattle.v8_decode.specs.declared.LoadKind.TheVariants as loads
-use Rattle.v8_decode.specs.declared.StoreKind.TheVariants as stores
 use Rattle.v8_alu.specs.declared.Codes.{Codes}
-use Rattle.v8_alu.specs.Alu.{alu_of}
-use Rattle.v8_alu.specs.Numbers.{wrapped, complement}
 use Rattle.v8_memory.specs.Regions.{Region, code_of}
-use Rattle.v8_step.specs.State.{State, register_of, operand_of, sum_of}
+use Rattle.v8_step.specs.State.{State, register_of, sum_of}
 use Rattle.v8_step.proofs.ValidStates.{register_of-range}
 use Rattle.code_runs.specs.Straight.{Says, StandIn}
 use Rattle.code_runs.proofs.Hops.{equal_or_not}
@@ -23,14 +14,13 @@ use Rattle.snippets.specs.declared.snippet.Op.{Op}
 use Rattle.snippets.specs.declared.snippet.Op.TheVariants.{Add, Put, Keep, Top}
 use Rattle.snippet_code.specs.Cells.{cell_at, kept_word}
 use Rattle.code_runs.specs.Page.{of_page}
-use Rattle.snippet_code.specs.Words.{op_words, op_registers, all_words, numbered, save, restore, is_small, small, low, high, load_low, store_low, of_two, with_number}
-use Rattle.snippet_code.proofs.Working.{HasBlock, IsAlike, Reaches, Works, put}
+use Rattle.snippet_code.specs.Words.{op_words, all_words, numbered, save, restore, low, high}
+use Rattle.snippet_code.proofs.Working.{HasBlock, Works, put}
 use Rattle.snippet_code.specs.Counted.{one_if}
-use Rattle.snippet_code.proofs.Working.{update_one, update_all, IsFit, Does, AreFit, AreFrom, HavePage, saved, AreSaved}
-use Rattle.snippet_code.proofs.Operations.{at, as_many, Doing, add_works, put_works, keep_works}
+use Rattle.snippet_code.proofs.Working.{update_one, update_all, Does, AreFit, AreFrom, HavePage, saved, AreSaved}
+use Rattle.snippet_code.proofs.OneOperation.{as_many, Doing, add_works, put_works, keep_works}
 use Rattle.snippet_code.proofs.Greater.{top_works}
-use Rattle.snippet_code.proofs.Blocks.{put_same, put_other, unpicked_is, sethi, alu, Sums, ld, st, compares, branches}
-
+use Rattle.snippet_code.proofs.Blocks.{put_same, put_other, ld, st}
 
 -- ---- words of two lists
 pub stand_then : (code : List Region) (a : ℕ) (xs ys : List Instr) → StandIn code a (xs ++ ys) → StandIn code a xs × StandIn code (a + 4 * length xs) ys
@@ -104,10 +94,12 @@ module _ {s : State} {count : ℕ} {May : ℕ → Type 0} {counted : ℕ → Boo
   restores k m (q ∷ qs) {n} {t} {g} {codes} {f} w picked page held room stand =
       let here : Says (code_of s.memory) (s.pc + 4 * n) (i.Load loads.LD (r k) 0 (of_page (m + 2))) = subst (λ z. Says (code_of s.memory) (s.pc + 4 * n) (i.Load loads.LD z 0 (of_page (m + 2)))) picked.1 stand.0 in
       let one = ld c k 0 (of_page (m + 2)) (kept_word m) w (omega arith) picked.0 here (λ u h. page_sum u m page.0) page.1 in
-      let more = restores (suc k) (suc m) qs one picked.2 page.2 held.1 (omega arith) (stand_at (code_of s.memory) (s.pc + 4 * n + 4) (s.pc + 4 * suc n) (numbered restore (suc m) qs) stand.1 (omega arith)) in
-      (more.0, as_many (let e : suc n + length qs ≡ n + suc (length qs) = omega arith in e) more.1,
-      λ j h. more.2 j (omega arith) ∙ put_other k (g (kept_word m)) f j (λ e. (omega arith)),
-      λ j h l. go more.0 more.2 more.3 j h l (equal_or_not j k))
+      let more = restores (suc k) (suc m) qs one picked.2 page.2 held.1 (omega arith) (stand_at (code_of s.memory) (s.pc + 4 * n + 4) (s.pc + 4 * suc n) (numbered restore (suc m) qs) stand.1 (omega arith)) in (
+        more.0,
+        as_many (let e : suc n + length qs ≡ n + suc (length qs) = omega arith in e) more.1,
+        λ j h. more.2 j (omega arith) ∙ put_other k (g (kept_word m)) f j (λ e. (omega arith)),
+        λ j h l. go more.0 more.2 more.3 j h l (equal_or_not j k),
+      )
     where
       go : (f' : ℕ → ℕ) → ((j : ℕ) → j < suc k → f' j ≡ put k (g (kept_word m)) f j) → ((j : ℕ) → suc k ≤ j → j < suc k + length qs → f' j ≡ register_of s (r j))
           → (j : ℕ) → k ≤ j → j < k + suc (length qs) → (j ≡ k) ⊎ (j ≢ k) → f' j ≡ register_of s (r j)

@@ -1,11 +1,9 @@
 -- The greater of two numbers, by the borrow of their difference.
-use Rattle.std.proofs.Common.{◌≡◌, ℕ, zero, suc, ◌+◌, ◌-◌, ◌*◌, ◌/◌, ◌%◌, ◌^◌, ◌<◌, ◌≤◌, ◌⊎◌, inl, inr, max, min, Bool, true, false, cond, nat_le, bit_and, bit_or, refl, ap, sym, ◌∙◌, arith}
+use Rattle.std.proofs.Common.{◌≡◌, ℕ, ◌+◌, ◌-◌, ◌/◌, ◌%◌, ◌^◌, ◌<◌, ◌≤◌, ◌⊎◌, inl, inr, max, min, Bool, true, false, cond, bit_and, bit_or, refl, ap, sym, ◌∙◌, arith}
 use Rattle.std.specs.Int.{bit_at}
 use Rattle.std.proofs.lemmas.Nat.{and_mask, and_comm, and_le_l, or_lt}
 use Rattle.std.proofs.lemmas.Nat.Bits.{bit_at_and, bit_at_or}
 use Rattle.std.proofs.lemmas.Bool.{cases_lt, le-leb, lt-leb, leb-true, leb-false}
-use Rattle.v8_decode.specs.declared.AluOp.TheVariants as ops
-use Rattle.v8_alu.specs.declared.Codes.{Codes}
 use Rattle.v8_alu.specs.Alu.{alu_of, shifted_right}
 use Rattle.v8_alu.specs.Numbers.{wrapped, complement, is_negative}
 use Rattle.snippet_code.proofs.TopValue.{TopIsGreater, top_of}

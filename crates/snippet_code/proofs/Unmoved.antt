@@ -1,5 +1,5 @@
 -- A word of memory stays where no word is stored over it, whether it may be loaded or not.
-use Rattle.std.proofs.Common.{◌≡◌, ℕ, ◌+◌, ◌-◌, ◌<◌, ◌≤◌, ◌⊎◌, inl, inr, Bool, true, false, ◌&&◌, Option, Some, None, List, [], ◌∷◌, ◌++◌, length, take, drop, refl, ap, sym, ◌∙◌, subst, arith}
+use Rattle.std.proofs.Common.{◌≡◌, ℕ, ◌+◌, ◌-◌, ◌≤◌, ◌⊎◌, inl, inr, Bool, true, false, ◌&&◌, Option, Some, None, List, [], ◌∷◌, ◌++◌, length, take, drop, refl, ap, sym, ◌∙◌, subst, arith}
 use Rattle.std.specs.Prelude.{if◌then◌else◌}
 use Rattle.std.specs.Int.{w32, to_be_bytes, from_be_bytes}
 use Rattle.std.specs.Option.{option_map}
@@ -8,7 +8,7 @@ use Rattle.v8_memory.proofs.Same.{find-written}
 use Rattle.v8_step.specs.Valid.{IsValidMemory}
 use Rattle.code_runs.specs.StoredWords.{word_in, memory_word, store_word, store_all, AllAt, Stores}
 use Rattle.code_runs.proofs.StoredWords.{covers_first, covered, spliced_other, whole_of}
-use Rattle.code_runs.proofs.Stays.{SameShape, shape}
+use Rattle.code_runs.proofs.Stays.{shape}
 
 -- two words that don't meet
 abbrev pub IsApart : ℕ → ℕ → Type 0

@@ -28,6 +28,12 @@ SnippetsRun = (base : ℕ) (dead : List Part) (ops : List Op) (words : List ℕ)
     → map decode_of words ≡ snippet_words base dead (named_by ops) ops
     → DoesJust words base dead (spills_of dead (named_by ops) ops) ops
 
+-- The words of a snippet do it.
+abbrev pub SnippetCodeRuns : Type 0
+SnippetCodeRuns = (base : ℕ) (dead : List Part) (ops : List Op) → CanExpand base ops
+    → (map decode_of (code_of_snippet base dead (named_by ops) ops) ≡ snippet_words base dead (named_by ops) ops)
+    × DoesJust (code_of_snippet base dead (named_by ops) ops) base dead (spills_of dead (named_by ops) ops) ops
+
 -- They are no more than the snippet costs, and at most 22 for each operation.
 abbrev pub CostsHold : Type 0
 CostsHold = (base : ℕ) (dead avoid : List Part) (ops : List Op)

@@ -1,22 +1,18 @@
 -- What it is for words to do just a snippet.
-use Rattle.std.specs.Prelude.{◌≡◌, ℕ, ◌+◌, ◌-◌, ◌*◌, ◌^◌, ◌<◌, ◌≤◌, ◌⊎◌, Bool, true, false, List, [], ◌∷◌, length, map, None}
-use Rattle.std.specs.List.{range_with_len}
-use Rattle.v8_alu.specs.Numbers.{wrapped}
+use Rattle.std.specs.Prelude.{◌≡◌, ℕ, ◌+◌, ◌-◌, ◌*◌, ◌^◌, ◌<◌, ◌≤◌, ◌⊎◌, Bool, false, List, [], length, None}
 use Rattle.v8_decode.specs.declared.Part.{Part}
-use Rattle.v8_memory.specs.Regions.{Memory, code_of}
+use Rattle.v8_memory.specs.Regions.{code_of}
 use Rattle.v8_step.specs.declared.Slot.TheVariants.{NoSlot}
 use Rattle.v8_step.specs.State.{State, register_of}
 use Rattle.v8_step.specs.Valid.{IsValid}
 use Rattle.v8_step.specs.Items.{Item, IsAmong, IsSameAt}
 use Rattle.code_runs.specs.Hops.{hopped}
 use Rattle.code_runs.specs.Leads.{Leads, IsSilent}
-use Rattle.code_runs.specs.Page.{page_word}
-use Rattle.code_runs.specs.StoredWords.{memory_word, Stores, CanStore}
+use Rattle.code_runs.specs.StoredWords.{Stores, CanStore}
 use Rattle.code_runs.specs.Straight.{IsReady, HasWords}
 use Rattle.code_runs.specs.TwoRegisters.{IsBetween}
 use Rattle.snippets.specs.declared.snippet.Op.{Op}
 use Rattle.snippets.specs.Cells.{update}
-use Rattle.snippets.specs.Ops.{cell_of}
 pub use Rattle.snippet_code.specs.Cells.{cell_at, words_at, IsCellOf, kept_word}
 use Rattle.snippet_code.specs.Counted.{count_stores}
 

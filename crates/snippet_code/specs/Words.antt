@@ -1,5 +1,6 @@
 -- The instructions that do a snippet. Sections are those of appendix B of The SPARC Architecture Manual, Version 8.
 use Rattle.std.specs.Prelude.{◌≡◌, ℕ, suc, ◌+◌, ◌-◌, ◌*◌, ◌/◌, ◌%◌, ◌^◌, max, Bool, true, false, ◌||◌, ◌==◌, nat_lt, nat_le, if◌then◌else◌, List, [], ◌∷◌, ◌++◌, length, map, slice_index, ℤ, pos, negsuc, refl}
+use Rattle.std.specs.List.{flat_map}
 use Rattle.v8_decode.specs.declared.AluOp.TheVariants as ops
 use Rattle.v8_decode.specs.declared.Op2.TheVariants as o
 use Rattle.v8_decode.specs.declared.Instr.{Instr}
@@ -39,6 +40,16 @@ of_two op rs1 rs2 rd = i.Alu op false rd rs1 (o.Reg rs2)
 abbrev pub with_number : ops.the_data → ℕ → ℤ → ℕ → Instr
 with_number op rs1 n rd = i.Alu op false rd rs1 (o.Imm n)
 
+abbrev pub add_low : ℕ → ℕ → Instr
+add_low n rd = with_number ops.ADD rd (pos (low n)) rd
+
+-- the codes of a difference, and BGU with annul, over the word in its slot (B.12, B.21)
+abbrev pub compare : ℕ → ℕ → Instr
+compare rs1 rs2 = i.Alu ops.SUB true 0 rs1 (o.Reg rs2)
+
+abbrev pub next_if_greater : Instr
+next_if_greater = i.Branch 12 true (pos 2)
+
 -- amounts that an immediate of 13 bits holds, as they are or as what they are less than 2^32
 abbrev pub is_small : ℕ → Bool
 is_small amount = nat_lt amount 4096 || nat_le (2 ^ 32 - 4096) amount
@@ -52,22 +63,25 @@ add_words a r amount =
     then high a (r 0) ∷ load_low a (r 0) (r 1) ∷ with_number ops.ADD (r 1) (small amount) (r 1)
     ∷ store_low a (r 0) (r 1) ∷ []
     else high a (r 0) ∷ load_low a (r 0) (r 1) ∷ high amount (r 2)
-    ∷ with_number ops.ADD (r 2) (pos (low amount)) (r 2) ∷ of_two ops.ADD (r 1) (r 2) (r 1)
+    ∷ add_low amount (r 2) ∷ of_two ops.ADD (r 1) (r 2) (r 1)
     ∷ store_low a (r 0) (r 1) ∷ []
 
 abbrev pub put_words : ℕ → (ℕ → ℕ) → ℕ → List Instr
 put_words a r value =
     if value == 0
     then high a (r 0) ∷ store_low a (r 0) 0 ∷ []
-    else high a (r 0) ∷ high value (r 1) ∷ with_number ops.ADD (r 1) (pos (low value)) (r 1)
+    else high a (r 0) ∷ high value (r 1) ∷ add_low value (r 1)
     ∷ store_low a (r 0) (r 1) ∷ []
 
--- Where the codes may change: on unsigned greater (BGU, B.21) the store in the slot is done, else it is annulled.
+abbrev pub keep_words : ℕ → (ℕ → ℕ) → ℕ → List Instr
+keep_words a r reg = high a (r 0) ∷ store_low a (r 0) reg ∷ []
+
+-- Where the codes may change: on unsigned greater the store in the branch's slot is done, else it is annulled.
 -- Where they may not: the borrow of cell - register is bit 31 of ~cell & register | (~cell | register) & (cell -
 -- register); as 0 or all ones it takes the difference off the cell or not (Warren, "Hacker's Delight", 2-12 and 2-18).
 abbrev pub top_words : ℕ → Bool → (ℕ → ℕ) → ℕ → List Instr
 top_words a true r reg =
-    high a (r 0) ∷ load_low a (r 0) (r 1) ∷ i.Alu ops.SUB true 0 reg (o.Reg (r 1)) ∷ i.Branch 12 true (pos 2)
+    high a (r 0) ∷ load_low a (r 0) (r 1) ∷ compare reg (r 1) ∷ next_if_greater
     ∷ store_low a (r 0) reg ∷ []
 top_words a false r reg =
     high a (r 0) ∷ load_low a (r 0) (r 1) ∷ of_two ops.SUB (r 1) reg (r 2) ∷ of_two ops.ORN reg (r 1) (r 3)
@@ -79,13 +93,11 @@ top_words a false r reg =
 abbrev pub op_words : ℕ → Bool → (ℕ → ℕ) → Op → List Instr
 op_words base codes_dead r (Add cell amount) = add_words (cell_at base cell) r amount
 op_words base codes_dead r (Put cell value) = put_words (cell_at base cell) r value
-op_words base codes_dead r (Keep cell reg) =
-    high (cell_at base cell) (r 0) ∷ store_low (cell_at base cell) (r 0) reg ∷ []
+op_words base codes_dead r (Keep cell reg) = keep_words (cell_at base cell) r reg
 op_words base codes_dead r (Top cell reg) = top_words (cell_at base cell) codes_dead r reg
 
 abbrev pub all_words : ℕ → Bool → (ℕ → ℕ) → List Op → List Instr
-all_words base codes_dead r [] = []
-all_words base codes_dead r (op ∷ rest) = op_words base codes_dead r op ++ all_words base codes_dead r rest
+all_words base codes_dead r ops = flat_map (op_words base codes_dead r) ops
 
 -- ---- what it costs: how many words, and in how many registers they work
 

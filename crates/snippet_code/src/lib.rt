@@ -2,7 +2,23 @@
 //! are put back as they were.
 #![tactic(auto)]
 
-ghost use Rattle.snippet_code.specs.Laws.{CostsHold};
+ghost use Rattle.snippet_code.specs.Laws.{CostsHold, SnippetCodeRuns, SnippetsRun};
+
+mod expanding;
+mod operations;
+mod single;
+
+pub use expanding::expand;
+
+/// Words that say a snippet's instructions do just the snippet, from every state that is about to run them.
+pub fn snippets_run()
+    ensures { SnippetsRun }
+{}
+
+/// So do the words of a snippet's code, which decode to its instructions.
+pub fn snippet_code_runs()
+    ensures { SnippetCodeRuns }
+{}
 
 /// The words of a snippet are no more than it costs, and at most 22 for each operation.
 pub fn costs_hold()

@@ -6,3 +6,4 @@ pub mod Operations
 pub mod Lines
 pub mod Held
 pub mod Within
+pub mod Names

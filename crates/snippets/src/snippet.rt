@@ -1,9 +1,12 @@
 //! Operations, and a few of them in a row.
 ghost use Rattle.std.specs.Prelude.{◌≡◌, ◌++◌, ◌∷◌, [], ◌<◌, ◌≤◌, true, false, length, MatchBool};
+ghost use Rattle.v8_decode.specs.declared.Part.TheVariants as parts;
+ghost use Rattle.v8_decode.specs.Parts.{set_of};
 ghost use Rattle.snippets.specs.Ops.{cell_of};
+ghost use Rattle.snippets.specs.Cells.{named_by};
 
 use std::marker::Model;
-use v8_decode::Reg;
+use v8_decode::{Part, Reg, RegSet};
 
 /// What is done to a cell, a word of the editor's that begins as 0. A register is read as it is once the edge's delay
 /// slot was run.
@@ -31,6 +34,24 @@ impl Op {
             | Op::Top { cell, .. } => *cell,
         }
     }
+
+    // The register that it reads, if it reads one other than %g0.
+    #[tactic(auto, unfolding(v8_decode::specs::Parts::members, v8_decode::specs::Parts::every_part))]
+    fn names(self) -> RegSet
+        ensures { result ≡ named_by (self ∷ []) }
+    {
+        match self {
+            Op::Add { .. } | Op::Put { .. } => RegSet::empty(),
+            Op::Keep { reg, .. } => only(reg),
+            Op::Top { reg, .. } => only(reg),
+        }
+    }
+}
+
+fn only(reg: Reg) -> RegSet
+    ensures { result ≡ set_of (parts.Reg reg ∷ []) }
+{
+    RegSet::empty().with(Part::Reg(reg))
 }
 
 /// How many operations a snippet has at most.
@@ -96,4 +117,21 @@ impl Snippet {
     {
         &self.ops[..self.count]
     }
+
+    /// The registers that its operations read, without %g0.
+    pub fn names(&self) -> RegSet
+        ensures { result ≡ named_by self.now }
+    {
+        names_of(self.ops())
+    }
+}
+
+fn names_of(ops: &[Op]) -> RegSet
+    ensures { result ≡ named_by ops.now }
+{
+    let mut names = RegSet::empty();
+    for op in ops {
+        names = names.union(op.names());
+    }
+    names
 }

@@ -2,7 +2,8 @@ use Rattle.std.proofs.Common.{List, [], ◌∷◌, ◌++◌, length, map, ap, �
 use Rattle.cfg_blocks.specs.Blocks.{below}
 use Rattle.layout.specs.declared.items.Item.{Item}
 use Rattle.jump_code.specs.Pieces.{foreign_piece}
-use Rattle.image_code.specs.Made.{jump_to, own_edges, piece_list, way_along}
+use Rattle.image_code.specs.Made.{landing, own_edges, piece_list, ways_from}
+use Rattle.image_code.specs.Parts.{codes_of}
 use Rattle.image_code.proofs.making.pieces.Goals as goal
 
 pub returns-clause-list : goal.returns-clause-list
@@ -11,11 +12,12 @@ returns-clause-list c =
     let text = c.args.text.now in
     let graph = c.args.graph.now in
     let table = c.args.frame.table.0 in
+    let codes = codes_of c.args.frame.cells.0 c.args.snips.now in
     c.in_ok-push.ensures.items
     ∙ ap (λ (items : List Item). c.push_landings.new.list.items ++ items ∷ []) c.in_ok-foreign.ensures
     ∙ ap (λ (pieces : List (List Item)). pieces ++ foreign_piece ∷ [])
     (c.in_ok-push_landings.ensures
-    ∙ ap (λ (pieces : List (List Item)). pieces ++ map jump_to (below (length text.words)))
+    ∙ ap (λ (pieces : List (List Item)). pieces ++ map (landing text graph codes) (below (length text.words)))
     (c.in_ok-push_ways.ensures
-    ∙ ap (λ (pieces : List (List Item)). pieces ++ map (way_along text graph table) (own_edges graph))
-    (c.in_ok-push_images.ensures.images table)))
+    ∙ ap (λ (pieces : List (List Item)). pieces ++ ways_from text graph table codes 0 (own_edges graph))
+    c.in_ok-push_images.ensures.images))

@@ -1,7 +1,9 @@
 use Rattle.std.proofs.Common.{◌≡◌, ◌++◌, map}
 use Rattle.cfg_blocks.specs.Blocks.{below}
-use Rattle.image_code.specs.Made.{jump_to}
+use Rattle.image_code.specs.Made.{landing}
+use Rattle.image_code.specs.Parts.{begin_of, codes_of}
 use Rattle.image_code.proofs.making.push_landings.Given as goal
 
-abbrev pub invariant-loop-word : goal.invariant-loop-word
-invariant-loop-word l = l.list.items ≡ l.initial.list.items ++ map jump_to (below l.word)
+abbrev pub invariant-loop-block : goal.invariant-loop-block
+invariant-loop-block l = l.list.items ≡ l.initial.list.items
+    ++ map (landing l.text l.graph (codes_of l.cells.0 l.snips)) (below (begin_of l.graph.blocks l.block))

@@ -1,7 +1,8 @@
-use Rattle.std.proofs.Common.{◌≡◌, ◌++◌, map, take}
-use Rattle.image_code.specs.Made.{way_along}
+use Rattle.std.proofs.Common.{◌≡◌, ◌++◌, take}
+use Rattle.image_code.specs.Made.{ways_from}
+use Rattle.image_code.specs.Parts.{codes_of}
 use Rattle.image_code.proofs.making.push_ways.Given as goal
 
-abbrev pub invariant-loop-edge : goal.invariant-loop-edge
-invariant-loop-edge l = l.list.items ≡ l.initial.list.items ++ map (way_along l.text l.graph l.frame.table.0)
-    (take l.edge-index l.edge-items)
+abbrev pub invariant-loop-number : goal.invariant-loop-number
+invariant-loop-number l = l.list.items ≡ l.initial.list.items
+    ++ ways_from l.text l.graph l.frame.table.0 (codes_of l.frame.cells.0 l.snips) 0 (take l.number l.edge-items)

@@ -1,5 +1,5 @@
 -- The operations of snippets, one by one.
-use Rattle.std.proofs.Common.{◌≡◌, ◌≢◌, ℕ, zero, suc, ◌+◌, ◌-◌, ◌*◌, ◌/◌, ◌%◌, ◌^◌, ◌<◌, ◌≤◌, ◌⊎◌, inl, inr, max, Bool, true, false, Ok, Some, List, [], ◌∷◌, ◌++◌, length, refl, ap, sym, ◌∙◌, subst, arith, bit_and}
+use Rattle.std.proofs.Common.{◌≡◌, ◌≢◌, ℕ, suc, ◌+◌, ◌-◌, ◌*◌, ◌/◌, ◌%◌, ◌^◌, ◌<◌, ◌≤◌, Bool, true, false, Ok, Some, List, [], ◌∷◌, length, refl, ap, sym, ◌∙◌, subst, arith}
 use Rattle.std.specs.Prelude.{if◌then◌else◌, ◌==◌, nat_lt, pos, negsuc}
 use Rattle.std.specs.Int.{w32, cast_unsigned}
 use Rattle.std.proofs.lemmas.Bool.Decides.{nat_tests}
@@ -10,21 +10,20 @@ use Rattle.v8_decode.specs.declared.AluOp.TheVariants as ops
 use Rattle.v8_decode.specs.declared.Instr.{Instr}
 use Rattle.v8_alu.specs.declared.Codes.{Codes}
 use Rattle.v8_alu.specs.Alu.{alu_of}
-use Rattle.v8_alu.specs.Numbers.{wrapped, complement}
+use Rattle.v8_alu.specs.Numbers.{wrapped}
 use Rattle.v8_memory.specs.Regions.{Region, code_of}
 use Rattle.v8_step.specs.State.{State, register_of, operand_of, sum_of}
 use Rattle.v8_step.proofs.ValidStates.{register_of-range}
 use Rattle.code_runs.specs.Straight.{Says, StandIn}
 use Rattle.code_runs.specs.TwoRegisters.{Gives}
-use Rattle.code_runs.proofs.Hops.{equal_or_not}
 use Rattle.snippets.specs.declared.snippet.Op.{Op}
-use Rattle.snippets.specs.declared.snippet.Op.TheVariants.{Add, Put, Keep, Top}
+use Rattle.snippets.specs.declared.snippet.Op.TheVariants.{Add, Put, Keep}
 use Rattle.snippet_code.specs.Cells.{cell_at}
-use Rattle.snippet_code.specs.Words.{add_words, put_words, op_words, op_registers, is_small, small, low, high, load_low, store_low, of_two, with_number}
-use Rattle.snippet_code.proofs.Working.{HasBlock, IsAlike, Reaches, Works, put}
+use Rattle.snippet_code.specs.Words.{op_words, is_small, small, low, high, load_low, store_low, of_two, with_number}
+use Rattle.snippet_code.proofs.Working.{HasBlock, Works, put}
 use Rattle.snippet_code.specs.Counted.{one_if}
-use Rattle.snippet_code.proofs.Working.{update_one, update_all, IsFit, Does}
-use Rattle.snippet_code.proofs.Blocks.{put_same, put_other, unpicked_is, sethi, alu, Sums, ld, st, compares, branches}
+use Rattle.snippet_code.proofs.Working.{update_one, IsFit, Does}
+use Rattle.snippet_code.proofs.Blocks.{unpicked_is, sethi, alu, ld, st}
 
 -- ---- words in two parts
 pub sum_low : (u : State) (q a : ℕ) → register_of u q ≡ 1024 * (a / 1024) → a < 2 ^ 32 → sum_of u q (o.Imm (pos (a % 1024))) ≡ a

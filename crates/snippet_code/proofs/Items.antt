@@ -1,0 +1,96 @@
+-- Items of a state beside picked registers.
+use Rattle.std.proofs.Common.{◌≡◌, ◌≢◌, ℕ, zero, suc, ◌-◌, ◌<◌, ◌≤◌, ◌⊎◌, inl, inr, Bool, true, false, ◌||◌, List, [], ◌∷◌, refl, ap, sym, ◌∙◌, subst, arith}
+use Rattle.std.specs.Prelude.{slice_index}
+use Rattle.std.proofs.lemmas.Bool.Decides.{nat_tests}
+use Rattle.v8_decode.specs.declared.Part.{Part}
+use Rattle.v8_decode.specs.declared.Part.TheVariants as parts
+use Rattle.v8_decode.specs.Parts.{has, is_same}
+use Rattle.v8_alu.specs.declared.Codes.{Codes}
+use Rattle.v8_windows.specs.Registers.{place_of, register_in}
+use Rattle.v8_step.specs.State.{State, register_of}
+use Rattle.v8_step.specs.Items.{Item, Register, Codes as CodesItem, YRegister, IsAmong, IsSameAt, item_of}
+use Rattle.code_runs.proofs.Hops.{equal_or_not}
+use Rattle.code_runs.proofs.Leads.{split_below}
+use Rattle.scavenge.specs.Picks.{ArePicked}
+use Rattle.snippet_code.proofs.Working.{HasBlock, IsAlike}
+
+among : (w : ℕ) (ps : List Part) (q : ℕ) → has ps (parts.Reg q) ≡ true → IsAmong (Register (place_of w q)) w ps
+among w [] q e = absurd (cc)
+among w (p ∷ ps) q e = go p (is_same (parts.Reg q) p) refl e (among w ps q)
+  where
+    go : (z : Part) (b : Bool) → is_same (parts.Reg q) z ≡ b → (b || has ps (parts.Reg q)) ≡ true
+        → (has ps (parts.Reg q) ≡ true → IsAmong (Register (place_of w q)) w ps)
+        → (item_of w z ≡ Register (place_of w q)) ⊎ IsAmong (Register (place_of w q)) w ps
+    go (parts.Reg x) true f k rec = inl (ap (λ n. Register (place_of w n)) (let d : x ≡ q = grind (arith, nat_tests) in d))
+    go parts.Icc true f k rec = absurd (cc)
+    go parts.Y true f k rec = absurd (cc)
+    go z false f k rec = inr (rec k)
+
+codes_among : (w : ℕ) (ps : List Part) → has ps parts.Icc ≡ true → IsAmong CodesItem w ps
+codes_among w [] e = absurd (cc)
+codes_among w (p ∷ ps) e = go p e (codes_among w ps)
+  where
+    go : (z : Part) → (is_same parts.Icc z || has ps parts.Icc) ≡ true → (has ps parts.Icc ≡ true → IsAmong CodesItem w ps)
+        → (item_of w z ≡ CodesItem) ⊎ IsAmong CodesItem w ps
+    go (parts.Reg x) k rec = inr (rec k)
+    go parts.Icc k rec = inl refl
+    go parts.Y k rec = inr (rec k)
+
+-- a place is that of one of the picked registers, or of none
+picked_or_not : (w : ℕ) (r : ℕ → ℕ) (want p : ℕ)
+    → ((k : ℕ) × (k < want) × (p ≡ place_of w (r k))) ⊎ ((k : ℕ) → k < want → p ≢ place_of w (r k))
+picked_or_not w r zero p = inr (λ k h e. absurd (omega arith))
+picked_or_not w r (suc n) p = go (equal_or_not p (place_of w (r n))) (picked_or_not w r n p)
+  where
+    last : (p ≢ place_of w (r n)) → ((k : ℕ) → k < n → p ≢ place_of w (r k)) → (k : ℕ) → k < suc n
+        → (k ≡ n) ⊎ (k ≢ n) → p ≢ place_of w (r k)
+    last ne h k b (inl e) f = ne (f ∙ ap (λ z. place_of w (r z)) e)
+    last ne h k b (inr d) f = h k (omega arith) f
+
+    go : (p ≡ place_of w (r n)) ⊎ (p ≢ place_of w (r n))
+        → ((k : ℕ) × (k < n) × (p ≡ place_of w (r k))) ⊎ ((k : ℕ) → k < n → p ≢ place_of w (r k))
+        → ((k : ℕ) × (k < suc n) × (p ≡ place_of w (r k))) ⊎ ((k : ℕ) → k < suc n → p ≢ place_of w (r k))
+    go (inl e) h = inl (n, omega arith, e)
+    go (inr ne) (inl h) = inl (h.0, (let b = h.1 in omega arith), h.2)
+    go (inr ne) (inr h) = inr (λ k b. last ne h k b (equal_or_not k n))
+
+in_place : (registers : List ℕ) (w q : ℕ) → 0 < q → register_in registers w q ≡ slice_index registers (place_of w q)
+in_place registers w zero some = absurd (omega arith)
+in_place registers w (suc q) some = refl
+
+-- An item that isn't dead stays: a picked register that isn't dead has its value again, and the others kept theirs.
+pub item_stays : {s : State} {count : ℕ} {May : ℕ → Type 0} {want : ℕ} {dead avoid : List Part} {regs : List ℕ}
+    {spilled : ℕ} {g : ℕ → ℕ} {codes : Codes} {f : ℕ → ℕ} (c : HasBlock s count May (slice_index regs) want)
+    (p : ArePicked dead avoid want regs spilled)
+    → ((j : ℕ) → want - spilled ≤ j → j < want → f j ≡ register_of s (slice_index regs j))
+    → (u : State) → IsAlike s May (slice_index regs) want g codes f u
+    → (has dead parts.Icc ≡ false → codes ≡ s.codes)
+    → (y : Item) → (IsAmong y s.window dead → ⊥) → IsSameAt y s u
+item_stays {s} {want = want} {dead = dead} {regs = regs} {spilled = spilled} {f = f} c p back u h kept (Register n) ne =
+    go (picked_or_not s.window (slice_index regs) want n)
+  where
+    r : ℕ → ℕ
+    r = slice_index regs
+
+    same : (k : ℕ) → k < want → (k < want - spilled) ⊎ (want - spilled ≤ k) → n ≡ place_of s.window (slice_index regs k)
+        → slice_index s.registers n ≡ slice_index u.registers n
+    same k b (inl l) e =
+        absurd (ne (subst (λ z. IsAmong (Register z) s.window dead) (sym e)
+        (among s.window dead (slice_index regs k) (p.dead_first k l))))
+    same k b (inr l) e =
+        let g : register_of u (slice_index regs k) ≡ register_of s (slice_index regs k) = h.picked k b ∙ back k l b in
+        ap (slice_index s.registers) e ∙ sym (in_place s.registers s.window (slice_index regs k) (p.some k b)) ∙ sym g
+        ∙ ap (λ w. register_in u.registers w (slice_index regs k)) h.window
+        ∙ in_place u.registers s.window (slice_index regs k) (p.some k b) ∙ ap (slice_index u.registers) (sym e)
+
+    go : ((k : ℕ) × (k < want) × (n ≡ place_of s.window (slice_index regs k)))
+        ⊎ ((k : ℕ) → k < want → n ≢ place_of s.window (slice_index regs k))
+        → slice_index s.registers n ≡ slice_index u.registers n
+    go (inl (k, b, e)) = same k b (split_below k (want - spilled)) e
+    go (inr none) = sym (h.others n none)
+item_stays {s} {dead = dead} c p back u h kept CodesItem ne = go (has dead parts.Icc) refl
+  where
+    go : (b : Bool) → has dead parts.Icc ≡ b → s.codes ≡ u.codes
+    go true e = absurd (ne (codes_among s.window dead e))
+    go false e = sym (h.codes_are ∙ kept e)
+item_stays c p back u h kept YRegister ne = sym h.y_register

@@ -1,0 +1,122 @@
+-- The registers that a snippet names.
+use Rattle.std.proofs.Common.{◌≡◌, ℕ, zero, suc, ◌+◌, ◌<◌, ◌≤◌, ◌⊎◌, inl, inr, Bool, true, false, not, ◌&&◌, ◌||◌, cond, List, [], ◌∷◌, length, refl, ap, ◌∙◌, arith, length-append}
+use Rattle.std.specs.Prelude.{filter, nat_lt}
+use Rattle.std.specs.List.{range_with_len}
+use Rattle.std.proofs.lemmas.Bool.Decides.{nat_tests}
+use Rattle.std.proofs.lemmas.List.Elements.{filter-append}
+use Rattle.v8_decode.specs.declared.Part.{Part}
+use Rattle.v8_decode.specs.declared.Part.TheVariants.{Reg, Icc, Y}
+use Rattle.v8_decode.specs.Parts.{has, is_member, is_same, registers_from, every_part, members, set_of}
+use Rattle.v8_decode.proofs.Members.{has-members, is_same-self}
+use Rattle.scavenge.specs.Picks.{registers, is_register, register_count}
+use Rattle.scavenge.proofs.Picks.{all_off, joined, registers_ascend, registers_count}
+use Rattle.snippets.specs.declared.snippet.Op.{Op}
+use Rattle.snippets.specs.declared.snippet.Op.TheVariants.{Add, Put, Keep, Top}
+use Rattle.snippets.specs.Cells.{read_by, named_by}
+use Rattle.snippet_code.proofs.Working.{IsRead}
+
+abbrev pub IsReadIn : List Op → ℕ → Type 0
+IsReadIn [] q = ⊥
+IsReadIn (op ∷ ops) q = IsRead op q ⊎ IsReadIn ops q
+
+first_has : (reg q : ℕ) (ps : List Part) → q ≡ reg → has (Reg reg ∷ ps) (Reg q) ≡ true
+first_has reg q ps e = ap (λ z. is_same (Reg z) (Reg reg) || has ps (Reg z)) e ∙ ap (λ b. b || has ps (Reg reg)) (is_same-self (Reg reg))
+
+or_true : (b : Bool) → (b || true) ≡ true
+or_true true = refl
+or_true false = refl
+
+has_read : (ops : List Op) (q : ℕ) → IsReadIn ops q → has (read_by ops) (Reg q) ≡ true
+has_read [] q h = absurd h
+has_read (Add cell amount ∷ ops) q (inl h) = absurd h
+has_read (Add cell amount ∷ ops) q (inr h) = has_read ops q h
+has_read (Put cell value ∷ ops) q (inl h) = absurd h
+has_read (Put cell value ∷ ops) q (inr h) = has_read ops q h
+has_read (Keep cell reg ∷ ops) q (inl h) = first_has reg q (read_by ops) h
+has_read (Keep cell reg ∷ ops) q (inr h) = ap (λ b. is_same (Reg q) (Reg reg) || b) (has_read ops q h) ∙ or_true _
+has_read (Top cell reg ∷ ops) q (inl h) = first_has reg q (read_by ops) h
+has_read (Top cell reg ∷ ops) q (inr h) = ap (λ b. is_same (Reg q) (Reg reg) || b) (has_read ops q h) ∙ or_true _
+
+-- a register that is read is named, but for %g0
+pub has_named : (ops : List Op) (q : ℕ) → IsReadIn ops q → 0 < q → q < 32 → has (named_by ops) (Reg q) ≡ true
+has_named ops q h some below =
+    has-members (has (read_by ops)) (Reg q)
+    ∙ ap (λ b. is_member (Reg q) && b) (has_read ops q h)
+    ∙ (let e : ((nat_lt 0 q && nat_lt q 32) && true) ≡ true = grind (arith, nat_tests) in e)
+
+-- ---- no more are named than there are operations
+
+count_from : (f : Part → Bool) (first count : ℕ)
+    → length (filter is_register (filter f (registers_from first count)))
+    ≡ length (filter (λ (r : ℕ). f (Reg r)) (range_with_len first count))
+count_from f first zero = refl
+count_from f first (suc count) =
+    go (f (Reg first)) (count_from f (suc first) count ∙ ap (λ n. length (filter (λ (r : ℕ). f (Reg r)) (range_with_len n count))) (let e : suc first ≡ first + 1 = omega arith in e))
+  where
+    go : (b : Bool) → length (filter is_register (filter f (registers_from (suc first) count)))
+        ≡ length (filter (λ (r : ℕ). f (Reg r)) (range_with_len (first + 1) count))
+        → length (filter is_register (cond b (Reg first ∷ filter f (registers_from (suc first) count))
+        (filter f (registers_from (suc first) count))))
+        ≡ length (cond b (first ∷ filter (λ (r : ℕ). f (Reg r)) (range_with_len (first + 1) count))
+        (filter (λ (r : ℕ). f (Reg r)) (range_with_len (first + 1) count)))
+    go true e = ap suc e
+    go false e = e
+
+rest_none : (f : Part → Bool) → length (filter is_register (filter f (Icc ∷ Y ∷ []))) ≡ 0
+rest_none f = go (f Icc) (f Y)
+  where
+    go : (a b : Bool) → length (filter is_register (cond a (Icc ∷ cond b (Y ∷ []) []) (cond b (Y ∷ []) []))) ≡ 0
+    go true true = refl
+    go true false = refl
+    go false true = refl
+    go false false = refl
+
+members_count : (f : Part → Bool) → register_count (members f) ≡ length (filter (λ (r : ℕ). f (Reg r)) registers)
+unfolding members every_part registers
+members_count f =
+    ap (λ (z : List Part). length (filter is_register z)) (filter-append f (registers_from 1 31) (Icc ∷ Y ∷ []))
+    ∙ ap (λ (z : List Part). length z)
+    (filter-append is_register (filter f (registers_from 1 31)) (filter f (Icc ∷ Y ∷ [])))
+    ∙ omega (
+      arith,
+      length-append (filter is_register (filter f (registers_from 1 31))) (filter is_register (filter f (Icc ∷ Y ∷ []))),
+      rest_none f,
+      count_from f 1 31,
+    )
+
+all_true : (xs : List ℕ) → length (filter (λ r. true) xs) ≡ length xs
+all_true [] = refl
+all_true (x ∷ xs) = ap suc (all_true xs)
+
+and_true : (p : ℕ → Bool) (xs : List ℕ) → filter (λ r. p r && true) xs ≡ filter p xs
+and_true p [] = refl
+and_true p (x ∷ xs) = go (p x) (and_true p xs)
+  where
+    go : (b : Bool) → filter (λ r. p r && true) xs ≡ filter p xs
+        → cond (b && true) (x ∷ filter (λ r. p r && true) xs) (filter (λ r. p r && true) xs)
+        ≡ cond b (x ∷ filter p xs) (filter p xs)
+    go true e = ap (λ (z : List ℕ). x ∷ z) e
+    go false e = e
+
+pub set_few : (ps : List Part) → register_count (set_of ps) ≤ register_count ps
+set_few ps =
+    let a = all_off ps 0 registers registers_ascend in
+    let b = joined (λ (r : ℕ). has ps (Reg r)) (λ r. true) registers in
+    let c = registers_count in
+    omega (
+      arith,
+      members_count (has ps),
+      all_true registers,
+      ap (λ (z : List ℕ). length z) (and_true (λ (r : ℕ). has ps (Reg r)) registers),
+      ap (λ (z : List ℕ). length z) (and_true (λ (r : ℕ). not (has ps (Reg r))) registers),
+    )
+
+read_few : (ops : List Op) → register_count (read_by ops) ≤ length ops
+read_few [] = omega arith
+read_few (Add cell amount ∷ ops) = let h = read_few ops in omega arith
+read_few (Put cell value ∷ ops) = let h = read_few ops in omega arith
+read_few (Keep cell reg ∷ ops) = let h = read_few ops in omega arith
+read_few (Top cell reg ∷ ops) = let h = read_few ops in omega arith
+
+pub named_few : (ops : List Op) → register_count (named_by ops) ≤ length ops
+named_few ops = omega (arith, set_few (read_by ops), read_few ops)

@@ -1,0 +1,80 @@
+-- Words are added for one operation after the other, and for one register after the other.
+use Rattle.std.proofs.Common.{◌≡◌, ℕ, zero, suc, ◌+◌, ◌^◌, ◌<◌, ◌≤◌, Bool, List, [], ◌∷◌, ◌++◌, length, map, take, get_or, ap, sym, ◌∙◌, subst, arith, append_assoc, append-nil}
+use Rattle.std.specs.Prelude.{slice_index}
+use Rattle.std.specs.List.{All}
+use Rattle.std.proofs.lemmas.List.{take_more, map-append}
+use Rattle.std.proofs.lemmas.Grind.{flat_map-append}
+use Rattle.std.proofs.lemmas.List.Elements.{All-get_or, All-push}
+use Rattle.v8_decode.specs.declared.Instr.{Instr}
+use Rattle.v8_encode.specs.Encoding.{word_of}
+use Rattle.snippets.specs.declared.snippet.Op.{Op}
+use Rattle.snippets.specs.Grammar.{IsOp}
+use Rattle.snippets.specs.Ops.{cell_of}
+use Rattle.snippet_code.specs.Cells.{cell_at}
+use Rattle.snippet_code.specs.Words.{op_registers, registers_for, op_words, all_words, numbered}
+use Rattle.snippet_code.specs.Laws.{EndLow}
+
+-- words that were added after others
+more_words : (before : List ℕ) (xs ys : List Instr) (now after : List ℕ) → now ≡ before ++ map word_of xs
+    → after ≡ now ++ map word_of ys → after ≡ before ++ map word_of (xs ++ ys)
+more_words before xs ys now after e f =
+    f ∙ ap (λ (z : List ℕ). z ++ map word_of ys) e ∙ append_assoc before (map word_of xs) (map word_of ys)
+    ∙ ap (λ (z : List ℕ). before ++ z) (sym (map-append word_of xs ys))
+
+-- one operation more
+pub op_more : (base : ℕ) (d : Bool) (r : ℕ → ℕ) (ops : List Op) (i : ℕ) (op : Op) (before now after : List ℕ)
+    → i < length ops → op ≡ get_or ops i op → now ≡ before ++ map word_of (all_words base d r (take i ops))
+    → after ≡ now ++ map word_of (op_words base d r op)
+    → after ≡ before ++ map word_of (all_words base d r (take (i + 1) ops))
+op_more base d r ops i op before now after below is e f =
+    more_words before (all_words base d r (take i ops)) (op_words base d r op) now after e f
+    ∙ ap (λ (z : List Instr). before ++ map word_of z)
+    (ap (λ (z : List Instr). all_words base d r (take i ops) ++ z) (sym (append-nil (op_words base d r op)))
+    ∙ sym (flat_map-append (op_words base d r) (take i ops) (op ∷ []))
+    ∙ ap (λ (z : Op). all_words base d r (take i ops ++ z ∷ [])) is
+    ∙ ap (all_words base d r) (sym (take_more ops i op below)))
+
+-- each works in as many registers as all
+pub op_room : (d : Bool) (ops : List Op) (i : ℕ) (op : Op) → i < length ops → op ≡ get_or ops i op
+    → op_registers d op ≤ registers_for d ops
+op_room d ops i op below is =
+    subst (λ (z : Op). op_registers d z ≤ registers_for d ops) (sym is) (each ops i below)
+  where
+    each : (xs : List Op) (k : ℕ) → k < length xs → op_registers d (get_or xs k op) ≤ registers_for d xs
+    each [] k h = absurd (omega arith)
+    each (x ∷ xs) zero h = omega arith
+    each (x ∷ xs) (suc k) h = let z = each xs k (omega arith) in omega arith
+
+pub op_low : (base : ℕ) (ops : List Op) (i : ℕ) (op : Op) → i < length ops → op ≡ get_or ops i op → EndLow base ops
+    → cell_at base (cell_of op) + 4 ≤ 2 ^ 31
+op_low base ops i op below is low =
+    subst (λ (z : Op). cell_at base (cell_of z) + 4 ≤ 2 ^ 31) (sym is)
+    (All-get_or (λ z. cell_at base (cell_of z) + 4 ≤ 2 ^ 31) ops i op below low)
+
+-- one register more
+numbered_more : (f : ℕ → ℕ → Instr) (n : ℕ) (regs : List ℕ) (i : ℕ) → i < length regs
+    → take (i + 1) (numbered f n regs) ≡ take i (numbered f n regs) ++ f (n + i) (slice_index regs i) ∷ []
+numbered_more f n [] i h = absurd (omega arith)
+numbered_more f n (reg ∷ regs) zero h = ap (λ k. f k reg ∷ []) (let e : n ≡ n + 0 = omega arith in e)
+numbered_more f n (reg ∷ regs) (suc i) h =
+    ap (λ k. take k (numbered f n (reg ∷ regs))) (let e : suc i + 1 ≡ suc (i + 1) = omega arith in e)
+    ∙ ap (λ (z : List Instr). f n reg ∷ z) (numbered_more f (suc n) regs i (omega arith))
+    ∙ ap (λ k. f n reg ∷ (take i (numbered f (suc n) regs) ++ f k (slice_index regs i) ∷ []))
+    (let e : suc n + i ≡ n + suc i = omega arith in e)
+
+pub reg_more : (f : ℕ → ℕ → Instr) (regs : List ℕ) (i reg : ℕ) (before now after : List ℕ) → i < length regs
+    → reg ≡ slice_index regs i → now ≡ before ++ map word_of (take i (numbered f 0 regs))
+    → after ≡ now ++ word_of (f i reg) ∷ []
+    → after ≡ before ++ map word_of (take (i + 1) (numbered f 0 regs))
+reg_more f regs i reg before now after below is e g =
+    more_words before (take i (numbered f 0 regs)) (f i reg ∷ []) now after e g
+    ∙ ap (λ (z : List Instr). before ++ map word_of z)
+    (ap (λ z. take i (numbered f 0 regs) ++ f i z ∷ []) is
+    ∙ ap (λ k. take i (numbered f 0 regs) ++ f k (slice_index regs i) ∷ []) (let z : i ≡ 0 + i = omega arith in z)
+    ∙ sym (numbered_more f 0 regs i below))
+
+pub are_more : (ops : List Op) (i : ℕ) (op : Op) → i < length ops → op ≡ get_or ops i op → All IsOp (take i ops)
+    → IsOp op → All IsOp (take (i + 1) ops)
+are_more ops i op below is before here =
+    subst (All IsOp) (sym (take_more ops i op below))
+    (All-push IsOp (take i ops) (get_or ops i op) before (subst IsOp is here))

@@ -1,0 +1,7 @@
+use Rattle.std.proofs.Common.{arith}
+use Rattle.snippet_code.specs.Words.{restore}
+use Rattle.snippet_code.proofs.WholeCode.{all_numbered}
+use Rattle.snippet_code.proofs.expanding.push_restores.Goals as goal
+
+pub returns : goal.returns
+returns c = all_numbered restore c.args.spilled.now c.loop-n.n _ _ (omega (arith, c.loop-n-test.false)) c.loop-n.invariant

@@ -1,0 +1,13 @@
+use Rattle.std.proofs.Common.{◌≡◌, ◌++◌, map, take, All}
+use Rattle.std.specs.Prelude.{slice_index}
+use Rattle.v8_encode.specs.Encoding.{word_of}
+use Rattle.snippets.specs.Grammar.{IsOp}
+use Rattle.snippet_code.specs.Words.{all_words}
+use Rattle.snippet_code.proofs.operations.push_ops.Given as goal
+
+abbrev pub invariant-loop-op : goal.invariant-loop-op
+invariant-loop-op l = record {
+  code : l.words.items ≡ l.initial.words.items
+      ++ map word_of (all_words l.cells.0 l.codes_dead (slice_index l.regs) (take l.op-index l.ops));
+  ops : All IsOp (take l.op-index l.ops);
+}

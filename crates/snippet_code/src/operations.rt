@@ -1,0 +1,229 @@
+//! The words of operations.
+
+ghost use Rattle.std.specs.Prelude.{◌≡◌, ◌==◌, ◌+◌, ◌*◌, ◌++◌, ◌^◌, ◌<◌, ◌≤◌, if◌then◌else◌, Some, None, false, true, length, map, max, slice_index};
+ghost use Rattle.std.specs.Prelude.{OnOk};
+ghost use Rattle.v8_encode.specs.Encoding.{word_of};
+ghost use Rattle.std.specs.List.{All};
+ghost use Rattle.snippets.specs.Grammar.{IsOp};
+ghost use Rattle.snippets.specs.Ops.{cell_of};
+ghost use Rattle.snippet_code.specs.Cells.{cell_at};
+ghost use Rattle.snippet_code.specs.Laws.{EndLow};
+ghost use Rattle.snippet_code.specs.Words as code;
+
+use crate::single::{
+    add_low, compare, high, load_low, next_if_greater, of_two, store_low, with_number, zero,
+};
+use eel_base::Addr;
+use snippets::Op;
+use std::alloc::AllocError;
+use v8_decode::{AluOp, Reg};
+
+/// In how many registers an operation works.
+pub fn op_registers(codes_dead: bool, op: &Op) -> u8
+    ensures value { result ≡ code.op_registers codes_dead op.now }
+    ensures few { result ≤ 5 }
+{
+    match op {
+        Op::Add { amount, .. } => if small(*amount).is_some() { 2 } else { 3 },
+        Op::Put { value, .. } => if *value == 0 { 1 } else { 2 },
+        Op::Keep { .. } => 1,
+        Op::Top { .. } => if codes_dead { 2 } else { 5 },
+    }
+}
+
+/// In how many registers the operations work.
+pub fn registers_for(codes_dead: bool, ops: &[Op]) -> u8
+    ensures value { result ≡ code.registers_for codes_dead ops.now }
+    ensures few { result ≤ 5 }
+{
+    let mut most = 0;
+    for op in ops {
+        most = most.max(op_registers(codes_dead, op));
+    }
+    most
+}
+
+/// The amount as an immediate, where it fits.
+fn small(amount: u32) -> Option<i32>
+    ensures { result ≡ (if code.is_small amount then Some (code.small amount) else None) }
+{
+    if amount < 4096 {
+        Some(amount as i32)
+    } else if amount >= u32::MAX - 4095 {
+        Some(-1 - (u32::MAX - amount) as i32)
+    } else {
+        None
+    }
+}
+
+// To the cell at an address, an amount is added.
+fn add(words: &mut Vec<u32>, address: u32, regs: &[Reg], amount: u32) -> Result<(), AllocError>
+    requires room { (if code.is_small amount then 2 else 3) ≤ length regs.now }
+    ensures { OnOk result (words.new.items ≡ words.old.items
+        ++ map word_of (code.add_words address (slice_index regs.now) amount)) }
+{
+    match small(amount) {
+        Some(number) => words.extend_from_slice(&[
+            high(address, regs[0]),
+            load_low(address, regs[0], regs[1]),
+            with_number(AluOp::ADD, regs[1], number, regs[1]),
+            store_low(address, regs[0], regs[1]),
+        ]),
+        None => words.extend_from_slice(&[
+            high(address, regs[0]),
+            load_low(address, regs[0], regs[1]),
+            high(amount, regs[2]),
+            add_low(amount, regs[2]),
+            of_two(AluOp::ADD, regs[1], regs[2], regs[1]),
+            store_low(address, regs[0], regs[1]),
+        ]),
+    }
+}
+
+// A cell is set.
+fn put(words: &mut Vec<u32>, address: u32, regs: &[Reg], value: u32) -> Result<(), AllocError>
+    requires room { (if value == 0 then 1 else 2) ≤ length regs.now }
+    ensures { OnOk result (words.new.items ≡ words.old.items
+        ++ map word_of (code.put_words address (slice_index regs.now) value)) }
+{
+    if value == 0 {
+        words.extend_from_slice(&[high(address, regs[0]), store_low(address, regs[0], zero())])
+    } else {
+        words.extend_from_slice(&[
+            high(address, regs[0]),
+            high(value, regs[1]),
+            add_low(value, regs[1]),
+            store_low(address, regs[0], regs[1]),
+        ])
+    }
+}
+
+// A register is stored.
+fn keep(words: &mut Vec<u32>, address: u32, regs: &[Reg], reg: Reg) -> Result<(), AllocError>
+    requires room { 1 ≤ length regs.now }
+    ensures { OnOk result (words.new.items ≡ words.old.items
+        ++ map word_of (code.keep_words address (slice_index regs.now) reg)) }
+{
+    words.extend_from_slice(&[high(address, regs[0]), store_low(address, regs[0], reg)])
+}
+
+// A register is stored where it is greater, and the codes change.
+fn top_by_codes(
+    words: &mut Vec<u32>,
+    address: u32,
+    regs: &[Reg],
+    reg: Reg,
+) -> Result<(), AllocError>
+    requires room { 2 ≤ length regs.now }
+    ensures { OnOk result (words.new.items ≡ words.old.items
+        ++ map word_of (code.top_words address true (slice_index regs.now) reg)) }
+{
+    words.extend_from_slice(&[
+        high(address, regs[0]),
+        load_low(address, regs[0], regs[1]),
+        compare(reg, regs[1]),
+        next_if_greater(),
+        store_low(address, regs[0], reg),
+    ])
+}
+
+// A register is stored where it is greater, without the codes: by the borrow of the difference.
+fn top_by_borrow(
+    words: &mut Vec<u32>,
+    address: u32,
+    regs: &[Reg],
+    reg: Reg,
+) -> Result<(), AllocError>
+    requires room { 5 ≤ length regs.now }
+    ensures { OnOk result (words.new.items ≡ words.old.items
+        ++ map word_of (code.top_words address false (slice_index regs.now) reg)) }
+{
+    words.extend_from_slice(&[
+        high(address, regs[0]),
+        load_low(address, regs[0], regs[1]),
+        of_two(AluOp::SUB, regs[1], reg, regs[2]),
+        of_two(AluOp::ORN, reg, regs[1], regs[3]),
+        of_two(AluOp::AND, regs[3], regs[2], regs[3]),
+        of_two(AluOp::ANDN, reg, regs[1], regs[4]),
+        of_two(AluOp::OR, regs[3], regs[4], regs[3]),
+        with_number(AluOp::SRA, regs[3], 31, regs[3]),
+        of_two(AluOp::AND, regs[3], regs[2], regs[3]),
+        of_two(AluOp::SUB, regs[1], regs[3], regs[1]),
+        store_low(address, regs[0], regs[1]),
+    ])
+}
+
+// A register is stored where it is greater.
+fn top(
+    words: &mut Vec<u32>,
+    address: u32,
+    codes_dead: bool,
+    regs: &[Reg],
+    reg: Reg,
+) -> Result<(), AllocError>
+    requires room { (if codes_dead then 2 else 5) ≤ length regs.now }
+    ensures { OnOk result (words.new.items ≡ words.old.items
+        ++ map word_of (code.top_words address codes_dead (slice_index regs.now) reg)) }
+{
+    if codes_dead {
+        top_by_codes(words, address, regs, reg)
+    } else {
+        top_by_borrow(words, address, regs, reg)
+    }
+}
+
+// The address of a cell, where the first one stands at `cells`.
+fn cell_address(cells: Addr, cell: u32) -> u32
+    requires low { cell_at cells.0 cell + 4 ≤ 2 ^ 31 }
+    ensures { result ≡ cell_at cells.0 cell }
+{
+    cells.0 + 4 * cell
+}
+
+// An operation.
+fn push_op(
+    words: &mut Vec<u32>,
+    cells: Addr,
+    codes_dead: bool,
+    regs: &[Reg],
+    op: &Op,
+) -> Result<(), AllocError>
+    requires room { code.op_registers codes_dead op.now ≤ length regs.now }
+    requires low { cell_at cells.0 (cell_of op.now) + 4 ≤ 2 ^ 31 }
+    ensures code { OnOk result (words.new.items ≡ words.old.items
+        ++ map word_of (code.op_words cells.0 codes_dead (slice_index regs.now) op.now)) }
+    ensures op { IsOp op.now }
+{
+    match op {
+        Op::Add { cell, amount } => add(words, cell_address(cells, *cell), regs, *amount),
+        Op::Put { cell, value } => put(words, cell_address(cells, *cell), regs, *value),
+        Op::Keep { cell, reg } => {
+            prove!(reg.number() < 32);
+            keep(words, cell_address(cells, *cell), regs, *reg)
+        }
+        Op::Top { cell, reg } => {
+            prove!(reg.number() < 32);
+            top(words, cell_address(cells, *cell), codes_dead, regs, *reg)
+        }
+    }
+}
+
+/// The words of operations are added, where the first cell stands at `cells`.
+pub fn push_ops(
+    words: &mut Vec<u32>,
+    cells: Addr,
+    codes_dead: bool,
+    regs: &[Reg],
+    ops: &[Op],
+) -> Result<(), AllocError>
+    requires room { code.registers_for codes_dead ops.now ≤ length regs.now }
+    requires low { EndLow cells.0 ops.now }
+    ensures code { OnOk result (words.new.items ≡ words.old.items
+        ++ map word_of (code.all_words cells.0 codes_dead (slice_index regs.now) ops.now)) }
+    ensures ops { OnOk result (All IsOp ops.now) }
+{
+    for op in ops {
+        push_op(words, cells, codes_dead, regs, op)?;
+    }
+    Ok(())
+}
