@@ -20,11 +20,12 @@ one c = cond c 1 0
 -- numbers that don't pass add nothing
 quiet_sum : (s : ℕ → Bool) (a n : ℕ) → ((w : ℕ) → a ≤ w → w < a + n → s w ≡ false)
     → count_below (a + n) s ≡ count_below a s
-quiet_sum s a zero h = ap (λ (n : ℕ). count_below n s) (omega arith)
+quiet_sum s a zero h = let same : a + 0 ≡ a = omega arith in ap (λ (n : ℕ). count_below n s) same
 quiet_sum s a (suc n) h =
     let before = quiet_sum s a n (λ w l m. h w l (omega (arith, m))) in
     let last : one (s (a + n)) ≡ 0 = ap one (h (a + n) (omega arith) (omega arith)) in
-    let is : count_below (a + suc n) s ≡ count_below (suc (a + n)) s = ap (λ (n : ℕ). count_below n s) (omega arith) in
+    let next : a + suc n ≡ suc (a + n) = omega arith in
+    let is : count_below (a + suc n) s ≡ count_below (suc (a + n)) s = ap (λ (n : ℕ). count_below n s) next in
     omega (arith, before, last, is)
 
 -- from a on only the last number before an end may pass
@@ -36,7 +37,9 @@ last_sum s a (suc last) l h =
     let is : a + n ≡ last = omega (arith, l) in
     let before = quiet_sum s a n (λ w m k. h w m (omega (arith, k, is))) in
     let same : count_below (a + n) s ≡ count_below last s = ap (λ (n : ℕ). count_below n s) is in
-    omega (arith, before, same)
+    let end : suc last - 1 ≡ last = omega arith in
+    let now : one (s (suc last - 1)) ≡ one (s last) = ap (λ (n : ℕ). one (s n)) end in
+    omega (arith, before, same, now)
 
 no_target : (end : BlockEnd) → is_transfer end ≡ false → branch_target end ≡ None
 no_target ends.Fall h = refl
@@ -54,7 +57,7 @@ module _ (text : Words) (b : Blocks) (h : IsCut text b) (word : ℕ) where
     where
       by : (c : Bool) → is_transfer (end_at text w) ≡ c → about w ≡ false
       by true t = absurd (other (is_last b.words b.firsts h.firsts w i inside
-          (λ more. subst (Leads b.firsts) add-one (h.after w t (omega (arith, more))))))
+          (λ more. subst (Leads b.firsts) (add-one w) (h.after w t (omega (arith, more))))))
       by false t = ap (is_between w word) (no_target (end_at text w) t)
 
   abbrev last : ℕ → ℕ
@@ -82,7 +85,8 @@ module _ (text : Words) (b : Blocks) (h : IsCut text b) (word : ℕ) where
       → count_below (length b.firsts) (λ block. about (last block)) ≡ count_below b.words about
   all_sum zero e = absurd (let some = h.firsts.some in omega (arith, e, some))
   all_sum (suc i) e =
-      let end : block_end b.firsts b.words i ≡ b.words = rw (le-ltb _ _ (omega (arith, e))) refl in
+      let past : length b.firsts ≤ suc i = omega (arith, e) in
+      let end : block_end b.firsts b.words i ≡ b.words = rw (le-ltb _ _ past) refl in
       let whole : count_below (block_end b.firsts b.words i) about ≡ count_below b.words about =
       ap (λ (n : ℕ). count_below n about) end in
       let count : count_below (suc i) (λ block. about (last block)) ≡ count_below (length b.firsts) (λ block. about (last block)) =
