@@ -26,7 +26,9 @@ use Rattle.addr_translate.specs.Lookup.{TableAt}
 use Rattle.layout.specs.Laid.{Placement}
 use Rattle.layout.specs.Running.{HasCode}
 use Rattle.image_code.specs.Images.{IsBeside}
-use Rattle.edit_core.specs.Written.{IsEdit, code_base, code_segment, page_segment, table_at}
+use Rattle.tool_kit.specs.Plans.{Plan}
+use Rattle.edit_core.specs.Written.{IsEdit, cells_at, cells_base, code_base, code_segment, if_any, page_segment, table_at}
+use Rattle.edit_core.proofs.Fronts.{any-map, any_fails}
 use Rattle.edit_core.proofs.Edits.{words_are_bytes}
 use Rattle.edit_core.proofs.Mapped.{word_among}
 
@@ -68,24 +70,37 @@ beside_region : (r : Region) (a : ℕ) → (a < r.start) ⊎ (r.start + r.size �
 beside_region r a (inl below) = grind (arith, nat_tests)
 beside_region r a (inr past) = grind (arith, nat_tests)
 
-module _ (original : List ℕ) (p : Placement) (place : ℕ → ℕ → ℕ) (table : TableAt) (file : List ℕ)
-    (is : IsEdit original p place table file) (texts : List (List ℕ)) where
+module _ (original : List ℕ) (plan : Plan) (p : Placement) (place : ℕ → ℕ → ℕ) (table : TableAt) (file : List ℕ)
+    (is : IsEdit original plan p place table file) (texts : List (List ℕ)) where
+  abbrev cells : Mapping
+  cells = mapping_added (cells_at (cells_base original plan) plan.cells)
+
+  abbrev front : List Mapping
+  front = if_any plan.cells cells ++ mapping_added (table_at table) ∷ []
+
   abbrev before : List Mapping
-  before = map kept (mappings original) ++ mapping_added (table_at table) ∷ []
+  before = map kept (mappings original) ++ front
 
   none_before : list_any (λ m. regions.is_code (region_of m)) before ≡ false
   none_before =
-      list_any-append (λ m. regions.is_code (region_of m)) (map kept (mappings original))
-      (mapping_added (table_at table) ∷ [])
-      ∙ ap (λ (b : Bool). b || false) (none_kept (mappings original))
+      list_any-append (λ m. regions.is_code (region_of m)) (map kept (mappings original)) front
+      ∙ ap (λ (b : Bool). b || list_any (λ m. regions.is_code (region_of m)) front) (none_kept (mappings original))
+      ∙ list_any-append (λ m. regions.is_code (region_of m)) (if_any plan.cells cells) (mapping_added (table_at table) ∷ [])
+      ∙ ap (λ (b : Bool). b || false)
+      (any_fails (λ (m : Mapping). regions.is_code (region_of m)) plan.cells cells (λ some. refl))
 
-  mapped : mappings file ≡ before ++ mapping_added (code_segment original p) ∷ mapping_added page_segment ∷ []
+  mapped : mappings file ≡ before ++ mapping_added (code_segment original plan p) ∷ mapping_added page_segment ∷ []
   mapped =
       is.mapped
-      ∙ sym (append_assoc (map kept (mappings original)) (mapping_added (table_at table) ∷ [])
-      (mapping_added (code_segment original p) ∷ mapping_added page_segment ∷ []))
+      ∙ ap (λ (ms : List Mapping). map kept (mappings original) ++ ms)
+      (any-map mapping_added plan.cells (cells_at (cells_base original plan) plan.cells)
+      (table_at table ∷ code_segment original plan p ∷ page_segment ∷ [])
+      ∙ sym (append_assoc (if_any plan.cells cells) (mapping_added (table_at table) ∷ [])
+      (mapping_added (code_segment original plan p) ∷ mapping_added page_segment ∷ [])))
+      ∙ sym (append_assoc (map kept (mappings original)) front
+      (mapping_added (code_segment original plan p) ∷ mapping_added page_segment ∷ []))
 
-  first_code : IsFirstCode file (mapping_added (code_segment original p))
+  first_code : IsFirstCode file (mapping_added (code_segment original plan p))
   first_code = record {
     before = before;
     after = mapping_added page_segment ∷ [];
@@ -96,30 +111,30 @@ module _ (original : List ℕ) (p : Placement) (place : ℕ → ℕ → ℕ) (ta
 
   -- each word of the code is fetched at its place
   fetched : (n : ℕ) → n < length p.code
-      → fetch_of (start_memory file texts) (code_base original + 4 * n) ≡ Some (slice_index p.code n)
+      → fetch_of (start_memory file texts) (code_base original plan + 4 * n) ≡ Some (slice_index p.code n)
   fetched n inside =
       let base = (accepted-program original is.taken.sound).base in
-      code_is_fetched file texts (mapping_added (code_segment original p)) first_code (omega (arith, base))
+      code_is_fetched file texts (mapping_added (code_segment original plan p)) first_code (omega (arith, base))
       (words_are_bytes p.code)
       n (omega (arith, inside))
       ∙ ap (λ bytes. Some (big_number 4 (drop (4 * n) bytes))) (whole_region p.code)
       ∙ ap (λ w. Some w) (word_among p.code n inside is.code.words)
 
-  pub has_code : HasCode (code_base original) p.code (start_memory file texts)
+  pub has_code : HasCode (code_base original plan) p.code (start_memory file texts)
   unfolding fetch_of
   has_code n word at =
       let inside = slice_get_within p.code n word at in
       fetched n inside ∙ ap (λ w. Some w) (get_or_from_slice_get p.code n word 0 at)
 
-  code_is : code_of (start_memory file texts) ≡ region_of (mapping_added (code_segment original p)) ∷ []
+  code_is : code_of (start_memory file texts) ≡ region_of (mapping_added (code_segment original plan p)) ∷ []
   code_is =
       ap (λ (ms : List Mapping). filter regions.is_code (map region_of ms ++ stack_region texts ∷ [])) mapped
       ∙ code-from before (mapping_added page_segment ∷ []) (stack_region texts ∷ [])
-      (mapping_added (code_segment original p)) none_before refl
+      (mapping_added (code_segment original plan p)) none_before refl
 
   -- and nothing else is
-  pub only_code : (a : ℕ) → IsBeside (code_base original) p.code a → fetch_from (code_of (start_memory file texts)) a
+  pub only_code : (a : ℕ) → IsBeside (code_base original plan) p.code a → fetch_from (code_of (start_memory file texts)) a
       ≡ None
   only_code a beside =
-      ap (λ code. fetch_from code a) code_is ∙ beside_region (region_of (mapping_added (code_segment original p))) a
+      ap (λ code. fetch_from code a) code_is ∙ beside_region (region_of (mapping_added (code_segment original plan p))) a
       beside

@@ -1,5 +1,6 @@
 -- What is written is an edit: its notes meet their rules, and the laws of written files give the rest.
-use Rattle.std.proofs.Common.{◌≡◌, ℕ, zero, suc, ◌+◌, ◌-◌, ◌*◌, ◌%◌, ◌^◌, ◌<◌, ◌≤◌, List, [], ◌∷◌, length, length-take, replicate, nat_le, None, inl, inr, refl, ap, ◌∙◌, arith, All}
+use Rattle.std.proofs.Common.{◌≡◌, ℕ, zero, suc, ◌+◌, ◌-◌, ◌*◌, ◌%◌, ◌^◌, ◌<◌, ◌≤◌, List, [], ◌∷◌, ◌++◌, length, length-append, length-take, replicate, nat_le, None, inl, inr, refl, ap, ◌∙◌, arith, All}
+use Rattle.std.specs.List.{sum_by}
 use Rattle.std.proofs.lemmas.List.{length-replicate}
 use Rattle.std.proofs.lemmas.List.Sums.{count_by-le-length}
 use Rattle.std.proofs.lemmas.List.Elements.{All-replicate}
@@ -14,7 +15,7 @@ use Rattle.notes.specs.Written.{notes_bytes, notes_words, words_bytes as note_by
 use Rattle.notes.proofs.ReadsBack.{written_back}
 use Rattle.elf32_write.specs.Bytes.{words_bytes}
 use Rattle.elf32_write.specs.Headers.{AddedSegment}
-use Rattle.elf32_write.specs.Conditions.{CanWrite, AreNumbers, CanLoad, HasWords, IsInReach}
+use Rattle.elf32_write.specs.Conditions.{CanWrite, AreNumbers, Ascend, CanLoad, HasWords, IsInReach}
 use Rattle.elf32_write.specs.Laws.{AreBytes, HoldsOriginal}
 use Rattle.elf32_write.specs.Written.{written}
 use Rattle.elf32_write.proofs.Carried.{segments_are_mapped}
@@ -32,11 +33,19 @@ use Rattle.image_code.specs.Fit.{AreFit}
 use Rattle.image_code.specs.Parts.{IsGraphOf}
 use Rattle.image_code.proofs.Numbers.{cut_of, own_few}
 use Rattle.edit_core.specs.Taken.{CanEdit}
-use Rattle.edit_core.specs.Faithful.{editor_page, page_size}
-use Rattle.edit_core.specs.Written.{IsNewCode, IsEdit, text_of, given_of, graph_in, table_base, code_base, pieces_of, entry_of, table_at, code_segment, page_segment, added, notes_on, edit_file}
+use Rattle.edit_core.specs.Faithful.{editor_page, page_size, tool_number}
+use Rattle.image_code.specs.Parts.{codes_of}
+use Rattle.snippets.specs.Cells.{WorksBelow}
+use Rattle.tool_kit.specs.declared.edge_ref.ToolKind.{ToolKind}
+use Rattle.tool_kit.specs.declared.edge_ref.ToolKind.TheVariants as tools
+use Rattle.tool_kit.specs.Plans.{Plan}
+use Rattle.edit_core.specs.Written.{CanDo, IsNewCode, IsEdit, if_any, cells_at, cells_base, text_of, given_of, graph_in, table_base, code_base, pieces_of, entry_of, table_at, code_segment, page_segment, added, notes_on, edit_file}
+use Rattle.edit_core.proofs.Bounds.{operations_few}
+use Rattle.edit_core.proofs.Fronts.{any_length}
 use Rattle.edit_core.proofs.Counted.{ranges_few}
 use Rattle.edit_core.proofs.Eaches.{each_all}
-use Rattle.edit_core.proofs.Originals.{image_text, base_above}
+use Rattle.edit_core.proofs.Originals.{image_text, image_room, base_above}
+use Rattle.edit_core.proofs.Views.{bound_is}
 use Rattle.edit_core.proofs.Ranges.{ranges_whole, some_code}
 use Rattle.edit_core.proofs.Room.{small_table}
 use Rattle.edit_core.proofs.Noted.{IsNoted, are_notes, are_words, few_bytes}
@@ -62,55 +71,91 @@ record AreThree (end : ℕ) (t s w : AddedSegment) : Type 0 where
   pub filled : length s.bytes ≡ s.memsz
   pub some : 0 < s.memsz
   pub low : s.vaddr + s.memsz ≤ 2 ^ 31
-  pub few : s.memsz ≤ 2 ^ 29
+  pub few : s.memsz ≤ 2 ^ 30
   pub flags : s.flags < 2 ^ 32
   pub page : w.vaddr ≡ editor_page
   pub size : w.memsz ≡ page_size
   pub bytes : length w.bytes ≡ page_size
   pub page_flags : w.flags < 2 ^ 32
 
-can_write : (original : List ℕ) (t s w : AddedSegment) (notes : List ℕ) → fault original ≡ None
-    → length original ≤ 2 ^ 26
-    → AreThree (highest_end (image_of original).segments) t s w → length notes ≤ 2 ^ 28
-    → CanWrite original (t ∷ s ∷ w ∷ []) notes
-can_write original t s w notes sound limit three few =
-    let above = three.above in
-    let table = three.table_filled in
-    let table_few = three.table_few in
-    let behind = three.behind in
-    let filled = three.filled in
-    let low = three.low in
-    let small = three.few in
-    let page = three.page in
-    let size = three.size in
-    let bytes = three.bytes in
-    record {
-      sound = sound;
-      limit = limit;
-      few = omega arith;
-      above = (above, (omega arith, (omega arith, omega arith)));
-      fits = all_three (λ x. length x.bytes ≤ x.memsz) t s w (omega arith) (omega arith) (omega arith);
-      small = omega arith;
-    }
+-- cells that may stand before them, without bytes in the file
+record AreBefore (count end : ℕ) (z t : AddedSegment) : Type 0 where
+  pub front : end ≤ z.vaddr
+  pub behind : z.vaddr + z.memsz ≤ t.vaddr
+  pub whole : z.vaddr % 4096 ≡ 0
+  pub none : length z.bytes ≡ 0
+  pub filled : 0 < count → 0 < z.memsz
+  pub cells_few : z.memsz ≤ 2 ^ 24
+  pub cells_flags : z.flags < 2 ^ 32
 
-are_numbers : (original : List ℕ) (t s w : AddedSegment) (entry end : ℕ) → AreThree end t s w → AreBytes original
-    → entry < 2 ^ 32 → AreNumbers original (t ∷ s ∷ w ∷ []) entry
-are_numbers original t s w entry end three bytes l =
+all_cons : {A : Type 0} (P : A → Type 0) (z : A) (xs : List A) → P z → All P xs → All P (z ∷ xs)
+all_cons P z xs here all zero d l = here
+all_cons P z xs here all (suc k) d l = all k d (omega arith)
+
+pub all_any : {A : Type 0} (P : A → Type 0) (count : ℕ) (z : A) (xs : List A) → (0 < count → P z) → All P xs
+    → All P (if_any count z ++ xs)
+all_any P zero z xs here all = all
+all_any P (suc n) z xs here all = all_cons P z xs (here (omega arith)) all
+
+-- how many bytes they have in the file
+sum_few : (count : ℕ) (z t s w : AddedSegment) (end : ℕ) → AreBefore count end z t → AreThree end t s w
+    → sum_by (λ x. length x.bytes) (if_any count z ++ t ∷ s ∷ w ∷ []) ≤ 2 ^ 23 + 2 ^ 30 + 4096
+sum_few zero z t s w end before three =
+    omega (arith, three.table_filled, three.table_few, three.filled, three.few, three.bytes)
+sum_few (suc k) z t s w end before three =
+    omega (arith, before.none, three.table_filled, three.table_few, three.filled, three.few, three.bytes)
+
+can_write : (original : List ℕ) (count : ℕ) (z t s w : AddedSegment) (notes : List ℕ) → fault original ≡ None
+    → length original ≤ 2 ^ 26
+    → AreBefore count (highest_end (image_of original).segments) z t
+    → AreThree (highest_end (image_of original).segments) t s w → length notes ≤ 2 ^ 28
+    → CanWrite original (if_any count z ++ t ∷ s ∷ w ∷ []) notes
+can_write original count z t s w notes sound limit before three few = record {
+  sound = sound;
+  limit = limit;
+  few = omega (arith, any_length count z, length-append (if_any count z) (t ∷ s ∷ w ∷ []));
+  above = above count;
+  fits = all_any (λ x. length x.bytes ≤ x.memsz) count z (t ∷ s ∷ w ∷ []) (λ some. omega (arith, before.none))
+      (all_three (λ x. length x.bytes ≤ x.memsz) t s w (omega (arith, three.table_filled)) (omega (arith, three.filled))
+      (omega (arith, three.bytes, three.size)));
+  small = let sum = sum_few count z t s w _ before three in omega (arith, sum, limit, few);
+}
+  where
+    above : (n : ℕ) → Ascend (highest_end (image_of original).segments) (if_any n z ++ t ∷ s ∷ w ∷ [])
+    above n =
+        let end = three.above in
+        let behind = three.behind in
+        let low = three.low in
+        let page = three.page in
+        by n (λ from under. (under, (omega arith, (omega arith, omega arith))))
+      where
+        by : (n : ℕ) → ((from : ℕ) → from ≤ t.vaddr → Ascend from (t ∷ s ∷ w ∷ []))
+            → Ascend (highest_end (image_of original).segments) (if_any n z ++ t ∷ s ∷ w ∷ [])
+        by zero rest = rest _ three.above
+        by (suc k) rest = (before.front, rest _ before.behind)
+
+are_numbers : (original : List ℕ) (count : ℕ) (z t s w : AddedSegment) (entry end : ℕ) → AreBefore count end z t
+    → AreThree end t s w → AreBytes original
+    → entry < 2 ^ 32 → AreNumbers original (if_any count z ++ t ∷ s ∷ w ∷ []) entry
+are_numbers original count z t s w entry end before three bytes l =
     let low = three.low in
     let behind = three.behind in
     let page = three.page in
     let size = three.size in
     let some = three.some in
+    let under = before.behind in
     record {
       bytes = bytes;
-      words = all_three HasWords t s w (omega arith, omega arith, three.table_flags)
+      words = all_any HasWords count z (t ∷ s ∷ w ∷ []) (λ _. (omega arith, omega arith, before.cells_flags))
+          (all_three HasWords t s w (omega arith, omega arith, three.table_flags)
           (omega arith, omega arith, three.flags)
-          (omega arith, omega arith, three.page_flags);
+          (omega arith, omega arith, three.page_flags));
       address = l;
     }
 
-can_load : (t s w : AddedSegment) (end : ℕ) → AreThree end t s w → CanLoad (t ∷ s ∷ w ∷ [])
-can_load t s w end three =
+can_load : (count : ℕ) (z t s w : AddedSegment) (end : ℕ) → AreBefore count end z t → AreThree end t s w
+    → CanLoad (if_any count z ++ t ∷ s ∷ w ∷ [])
+can_load count z t s w end before three =
     let page = three.page in
     let size = three.size in
     let few = three.few in
@@ -119,12 +164,20 @@ can_load t s w end three =
     let behind = three.behind in
     let aligned = three.aligned in
     let whole = three.table_whole in
+    let under = before.behind in
     record {
-      pages = all_three (λ x. x.vaddr % 4096 ≡ 0) t s w aligned (omega arith) (ap (λ z. z % 4096) page);
-      filled = all_three (λ x. 0 < x.memsz) t s w three.table_some three.some (omega arith);
-      reached = all_three IsInReach t s w (inl (omega arith)) (inl low) (inr (page, size));
-      memory = omega arith;
+      pages = all_any (λ x. x.vaddr % 4096 ≡ 0) count z (t ∷ s ∷ w ∷ []) (λ _. before.whole)
+          (all_three (λ x. x.vaddr % 4096 ≡ 0) t s w aligned (omega arith) (ap (λ z. z % 4096) page));
+      filled = all_any (λ x. 0 < x.memsz) count z (t ∷ s ∷ w ∷ []) before.filled
+          (all_three (λ x. 0 < x.memsz) t s w three.table_some three.some (omega arith));
+      reached = all_any IsInReach count z (t ∷ s ∷ w ∷ []) (λ _. inl (omega arith))
+          (all_three IsInReach t s w (inl (omega arith)) (inl low) (inr (page, size)));
+      memory = memory count;
     }
+  where
+    memory : (n : ℕ) → sum_by (λ x. x.memsz) (if_any n z ++ t ∷ s ∷ w ∷ []) ≤ 1152 * 2 ^ 20
+    memory zero = omega (arith, three.few, three.table_few, three.size)
+    memory (suc k) = omega (arith, before.cells_few, three.few, three.table_few, three.size)
 
 pub words_are_bytes : (words : List ℕ) → AreBytes (words_bytes words)
 unfolding words_bytes
@@ -142,31 +195,67 @@ held_few b word some = let c = count_by-le-length (λ first. nat_le first word) 
 
 -- ---- an edit
 
-module _ (original : List ℕ) (limit : length original ≤ 2 ^ 26) (can : CanEdit original) (p : Placement)
-    (place : ℕ → ℕ → ℕ)
-    (table : TableAt) (code : IsNewCode original p place table)
-    (fit : AreFit (text_of original) (graph_in original) (pieces_of original)) where
-  text_is : IsText (text_of original)
+tool_few : (kind : ToolKind) → tool_number kind ≤ 2
+tool_few tools.Plain = omega arith
+tool_few tools.Profile = omega arith
+tool_few tools.Script = omega arith
+
+module _ (original : List ℕ) (plan : Plan) (limit : length original ≤ 2 ^ 26) (can : CanEdit original plan)
+    (work : CanDo original plan) (p : Placement) (place : ℕ → ℕ → ℕ) (table : TableAt)
+    (code : IsNewCode original plan p place table)
+    (fit : AreFit (text_of original plan) (graph_in original plan) plan.snips (pieces_of original plan)) where
+  text_is : IsText (text_of original plan)
   text_is = image_text original can.sound
 
-  graph_is : IsGraphOf (text_of original) (graph_in original)
-  graph_is = record { given = given_of original; is = refl }
+  graph_is : IsGraphOf (text_of original plan) (graph_in original plan)
+  graph_is = record { given = given_of original plan; is = refl }
 
   code_some : 0 < length p.code
-  code_some = some_code (text_of original) (graph_in original) (table_base original) text_is graph_is
-      (code_base original) p place code.laid
+  code_some = some_code (text_of original plan) (graph_in original plan) (table_base original plan)
+      (codes_of (cells_base original plan) plan.snips) text_is graph_is
+      (code_base original plan) p place code.laid
 
-  three : AreThree (highest_end (image_of original).segments) (table_at table) (code_segment original p) page_segment
+  abbrev cells : AddedSegment
+  cells = cells_at (cells_base original plan) plan.cells
+
+  -- the code needs no more than the room
+  code_room : 4 * length p.code ≤ (image_of original).room
+  code_room =
+      let long = code.size in
+      let bytes = fit.bytes in
+      let made = operations_few (graph_in original plan) plan.kind plan.cells plan.snips work in
+      let bound = bound_is original plan in
+      let room = can.room in
+      let some = text_is.some in
+      omega arith
+
+  before : AreBefore plan.cells (highest_end (image_of original).segments) cells (table_at table)
+  before =
+      let base = (accepted-program original can.sound).base in
+      let above = base_above original in
+      let few = work.few in
+      let at = code.base in
+      record {
+        front = omega arith;
+        behind = omega arith;
+        whole = omega arith;
+        none = refl;
+        filled = λ some. omega (arith, some);
+        cells_few = omega arith;
+        cells_flags = omega arith;
+      }
+
+  three : AreThree (highest_end (image_of original).segments) (table_at table) (code_segment original plan p) page_segment
   three =
       let base = (accepted-program original can.sound).base in
       let at = code.base in
       let size = code.leads.size in
-      let small = small_table (text_of original) text_is in
+      let small = small_table (text_of original plan) text_is in
       let few = text_is.few in
       let some = code_some in
-      let long = code.size in
-      let bytes = fit.bytes in
       let above = base_above original in
+      let long = code_room in
+      let room = image_room original in
       record {
         above = omega arith;
         aligned = omega arith;
@@ -188,28 +277,29 @@ module _ (original : List ℕ) (limit : length original ≤ 2 ^ 26) (can : CanEd
       }
 
   held : (notes : List ℕ) → length notes ≤ 2 ^ 28
-      → HoldsOriginal original (written original (added original p table) (entry_of original p) notes)
-  held notes few = original_is_held original (added original p table) (entry_of original p) notes
-      (can_write original (table_at table) (code_segment original p) page_segment notes can.sound limit three few)
+      → HoldsOriginal original (written original (added original plan p table) (entry_of original plan p) notes)
+  held notes few = original_is_held original (added original plan p table) (entry_of original plan p) notes
+      (can_write original plan.cells cells (table_at table) (code_segment original plan p) page_segment notes can.sound limit
+      before three few)
 
-  noted : IsNoted (graph_in original) (size_of (text_of original)) p (notes_on original p)
+  noted : IsNoted (graph_in original plan) (size_of (text_of original plan)) p (notes_on original plan p)
   noted =
-      let cut = cut_of (text_of original) (graph_in original) graph_is text_is.some in
+      let cut = cut_of (text_of original plan) (graph_in original plan) graph_is text_is.some in
       let first = held [] (omega arith) in
       let base = (accepted-program original can.sound).base in
       record {
         delta_from = first.from;
         delta_to = first.to;
         length_to = limit;
-        tool = refl;
-        text = text_of original;
+        tool = tool_few plan.kind;
+        text = text_of original plan;
         is_text = text_is;
         start = refl;
         words = refl;
         graph_words = cut.words;
-        entry = held_few (graph_in original).blocks (image_of original).entry cut.firsts.some;
+        entry = held_few (graph_in original plan).blocks (image_of original).entry cut.firsts.some;
         base = omega arith;
-        cells = refl;
+        cells = work.few;
         some = code_some;
         table = (omega arith, omega arith);
         low = code.laid.low;
@@ -217,76 +307,82 @@ module _ (original : List ℕ) (limit : length original ≤ 2 ^ 26) (can : CanEd
         firsts = cut.firsts;
         blocks = refl;
         edge_count =
-            let own = own_few (text_of original) (graph_in original) graph_is text_is.some in
-            let taken = length-take (length (graph_in original).edges - length (graph_in original).blocks.firsts)
-            (graph_in original).edges in
+            let own = own_few (text_of original plan) (graph_in original plan) graph_is text_is.some in
+            let taken = length-take (length (graph_in original plan).edges - length (graph_in original plan).blocks.firsts)
+            (graph_in original plan).edges in
             let firsts = cut.firsts.few in
             let words = cut.words in
             let few = text_is.few in
             omega arith;
-        edges_in = each_all _ (graph_in original).edges (edges_in-in (graph_in original).blocks cut.firsts.some);
+        edges_in = each_all _ (graph_in original plan).edges (edges_in-in (graph_in original plan).blocks cut.firsts.some);
+        kind = plan.kind;
+        snips = plan.snips;
         edges = refl;
+        counters = work.counters;
+        below = each_all (WorksBelow plan.cells) plan.snips (λ k d l. (work.good k d l).below);
         ranges = refl;
         range_count =
-            let marks = ranges_few (pieces_of original) (code_base original) p place code.laid in
+            let marks = ranges_few (pieces_of original plan) (code_base original plan) p place code.laid in
             let few = fit.marks in
             omega arith;
         ascend = code.laid.ascend;
-        whole = ranges_whole (text_of original) (graph_in original) (table_base original) text_is graph_is
-            (code_base original) p place code.laid;
+        whole = ranges_whole (text_of original plan) (graph_in original plan) (table_base original plan)
+            (codes_of (cells_base original plan) plan.snips) text_is graph_is
+            (code_base original plan) p place code.laid;
       }
 
-  pub notes_meet_rules : AreNotes (notes_on original p)
-  notes_meet_rules = are_notes (graph_in original) (size_of (text_of original)) p (notes_on original p) noted
+  pub notes_meet_rules : AreNotes (notes_on original plan p)
+  notes_meet_rules = are_notes (graph_in original plan) (size_of (text_of original plan)) p (notes_on original plan p) noted
 
-  notes_few : length (notes_bytes (notes_on original p)) ≤ 2 ^ 28
-  notes_few = few_bytes (graph_in original) (size_of (text_of original)) p (notes_on original p) noted
+  notes_few : length (notes_bytes (notes_on original plan p)) ≤ 2 ^ 28
+  notes_few = few_bytes (graph_in original plan) (size_of (text_of original plan)) p (notes_on original plan p) noted
 
-  pub can_be_written : CanWrite original (added original p table) (notes_bytes (notes_on original p))
+  pub can_be_written : CanWrite original (added original plan p table) (notes_bytes (notes_on original plan p))
   can_be_written =
-      can_write original (table_at table) (code_segment original p) page_segment _ can.sound limit three notes_few
+      can_write original plan.cells cells (table_at table) (code_segment original plan p) page_segment _ can.sound limit
+      before three notes_few
 
-  pub holds : HoldsOriginal original (edit_file original p table)
-  holds = held (notes_bytes (notes_on original p)) notes_few
+  pub holds : HoldsOriginal original (edit_file original plan p table)
+  holds = held (notes_bytes (notes_on original plan p)) notes_few
 
-  entry_low : entry_of original p < 2 ^ 32
+  entry_low : entry_of original plan p < 2 ^ 32
   entry_low = let a = (code.laid.aligned (image_of original).entry).1 in omega arith
 
   module _ (bytes : AreBytes original) where
-    numbers : AreNumbers original (added original p table) (entry_of original p)
+    numbers : AreNumbers original (added original plan p table) (entry_of original plan p)
     numbers =
-        are_numbers original (table_at table) (code_segment original p) page_segment (entry_of original p) _ three bytes
-        entry_low
+        are_numbers original plan.cells cells (table_at table) (code_segment original plan p) page_segment
+        (entry_of original plan p) _ before three bytes entry_low
 
-    pub small_file : length (edit_file original p table) ≤ 1536 * 2 ^ 20
+    pub small_file : length (edit_file original plan p table) ≤ 1536 * 2 ^ 20
     small_file =
-        let size = size_is_bounded original (added original p table) (entry_of original p)
-        (notes_bytes (notes_on original p)) can_be_written numbers in
+        let size = size_is_bounded original (added original plan p table) (entry_of original plan p)
+        (notes_bytes (notes_on original plan p)) can_be_written numbers in
         let n = notes_few in
-        let t = three.table_few in
-        let c = three.few in
-        let filled = three.filled in
-        let page = three.bytes in
-        omega arith
+        let sum = sum_few plan.cells cells (table_at table) (code_segment original plan p) page_segment _ before three in
+        omega (arith, size, sum)
 
-    pub is_edit : IsEdit original p place table (edit_file original p table)
+    pub is_edit : IsEdit original plan p place table (edit_file original plan p table)
     is_edit =
-        let ns = notes_bytes (notes_on original p) in
-        let loadable = can_load (table_at table) (code_segment original p) page_segment _ three in
+        let ns = notes_bytes (notes_on original plan p) in
+        let loadable = can_load plan.cells cells (table_at table) (code_segment original plan p) page_segment _ before three in
         record {
           taken = can;
           limit = limit;
           given = bytes;
+          workable = work;
           code = code;
-          bytes = file_is_bytes original (added original p table) (entry_of original p) ns bytes
-              (all_three (λ s. AreBytes s.bytes) (table_at table) (code_segment original p) page_segment code.bytes
-              (words_are_bytes p.code) (All-replicate (λ b. b < 256) page_size 0 (omega arith)))
-              (notes_are_bytes (notes_on original p));
-          loads = file_loads original (added original p table) (entry_of original p) ns can_be_written numbers loadable;
-          reads = notes_are_read original (added original p table) (entry_of original p) ns can_be_written
-              ∙ written_back (notes_on original p) (length (edit_file original p table)) notes_meet_rules
-              (are_words (graph_in original) (size_of (text_of original)) p (notes_on original p) noted) holds.inside;
-          mapped = segments_are_mapped original (added original p table) (entry_of original p) ns can_be_written numbers
+          bytes = file_is_bytes original (added original plan p table) (entry_of original plan p) ns bytes
+              (all_any (λ s. AreBytes s.bytes) plan.cells cells (table_at table ∷ code_segment original plan p ∷ page_segment ∷ [])
+              (λ _ k d l. absurd (omega (arith, l)))
+              (all_three (λ s. AreBytes s.bytes) (table_at table) (code_segment original plan p) page_segment code.bytes
+              (words_are_bytes p.code) (All-replicate (λ b. b < 256) page_size 0 (omega arith))))
+              (notes_are_bytes (notes_on original plan p));
+          loads = file_loads original (added original plan p table) (entry_of original plan p) ns can_be_written numbers loadable;
+          reads = notes_are_read original (added original plan p table) (entry_of original plan p) ns can_be_written
+              ∙ written_back (notes_on original plan p) (length (edit_file original plan p table)) notes_meet_rules
+              (are_words (graph_in original plan) (size_of (text_of original plan)) p (notes_on original plan p) noted) holds.inside;
+          mapped = segments_are_mapped original (added original plan p table) (entry_of original plan p) ns can_be_written numbers
               loadable.filled;
-          entered = entry_is_given original (added original p table) (entry_of original p) ns can_be_written numbers;
+          entered = entry_is_given original (added original plan p table) (entry_of original plan p) ns can_be_written numbers;
         }

@@ -25,7 +25,7 @@ use Rattle.cfg_walk.proofs.Walks.{walks_match}
 use Rattle.code_runs.proofs.Leads.{run_add, puts_add, split_below}
 use Rattle.code_runs.specs.PointsAlike.{AreAlikeOn, AreAtOnePoint, instr_of}
 use Rattle.code_runs.proofs.PointsAlike.{points_act_alike}
-use Rattle.image_code.specs.Simulates.{Setting, StepsOn, IsFollowedBy, at_point, does_at, graph_in, number_in, word_of, updates, store_of}
+use Rattle.image_code.specs.Simulates.{Setting, cells_in, StepsOn, IsFollowedBy, at_point, does_at, graph_in, number_in, word_of, updates, store_of}
 use Rattle.edit_core.specs.Runs.{Linked, Closed, AreTogether, Rests, Follows, Tells, StaysInside, instr_in, limits_in}
 
 -- ---- small things
@@ -151,7 +151,7 @@ module _ (g : Setting) (entry : ℕ) (Inside : Point → Type 0) (Here : Node �
 
   store_stays : (n : ℕ) (d : Ending) → (run s0 (suc n)).ending ≡ Some d
       → store_of g entry s0 n ≡ store_of g entry s0 (suc n)
-  store_stays n d e = sym (ap (λ es. updates g.store es (store_of g entry s0 n) (run s0 (suc n))) (gone_none n d e))
+  store_stays n d e = sym (ap (λ es. updates g.snips es (store_of g entry s0 n) (run s0 (suc n))) (gone_none n d e))
 
   pub next_of : (n m : ℕ) → Linked g entry Here K s0 t0 n m
       → AllApart (pages_of g.notes) (judged_in (run s0 n) (instr_at (run s0 n))) → Inside (point_of (run s0 n))
@@ -243,8 +243,8 @@ module _ (g : Setting) (entry : ℕ) (Inside : Point → Type 0) (Here : Node �
         together = record {
           world = world_next n m x;
           puts = puts_next n m h x;
-          cells = ap g.cells_of at ∙ x.on.cells
-              ∙ ap (λ z. updates g.store (gone_in g.text (graph_in g) entry s0 n) z
+          cells = ap (cells_in g) at ∙ x.on.cells
+              ∙ ap (λ z. updates g.snips (gone_in g.text (graph_in g) entry s0 n) z
               (does_at g (point_of (run s0 n)) (run t0 m))) h.together.cells
               ∙ sym (r.keeping.named n (store_of g entry s0 n) v live x.alike.world.window
               (λ item is k. x.alike.items live item is (before n m h item is k)));
@@ -264,8 +264,8 @@ module _ (g : Setting) (entry : ℕ) (Inside : Point → Type 0) (Here : Node �
         together = record {
           world = world_next n m x;
           puts = puts_next n m h x;
-          cells = ap g.cells_of at ∙ x.on.cells
-              ∙ ap (λ es. updates g.store es (g.cells_of (run t0 m)) (does_at g (point_of (run s0 n)) (run t0 m)))
+          cells = ap (cells_in g) at ∙ x.on.cells
+              ∙ ap (λ es. updates g.snips es (cells_in g (run t0 m)) (does_at g (point_of (run s0 n)) (run t0 m)))
               (gone_none n d over)
               ∙ h.together.cells ∙ store_stays n d over;
         };
@@ -362,7 +362,7 @@ module _ (g : Setting) (entry : ℕ) (Inside : Point → Type 0) (Here : Node �
     matches_at n l (past m k) = absurd (omega arith)
 
     cells_at : (n : ℕ) → n ≤ last → (x : Reached g entry Here K s0 t0 last n)
-        → g.cells_of (run t0 (moment_of n x)) ≡ store_of g entry s0 n
+        → cells_in g (run t0 (moment_of n x)) ≡ store_of g entry s0 n
     unfolding moment_of
     cells_at n l (goes m h) = h.together.cells
     cells_at n l (ends m d h) = h.together.cells
@@ -441,7 +441,7 @@ module _ (g : Setting) (entry : ℕ) (Inside : Point → Type 0) (Here : Node �
         let on = x.on.path.quiet (k - m) (omega arith) (omega arith) in
         λ q e.
         let z = on.place q (sym (ap (λ (u : State). node_at g.notes u.pc) at) ∙ e) in
-        (z.0, ap g.cells_of at ∙ z.1 ∙ h.together.cells)
+        (z.0, ap (cells_in g) at ∙ z.1 ∙ h.together.cells)
 
     between_on : (n m k : ℕ) (h : Linked g entry Here K s0 t0 n m) → n < last → (c : (n < last) ⊎ (last ≤ n)) → m ≤ k
         → k < moment_of (suc n) (go_on n m h c) → Tells g entry s0 t0 n k

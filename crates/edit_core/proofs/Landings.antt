@@ -11,6 +11,7 @@ use Rattle.layout.specs.declared.items.Item.{Item}
 use Rattle.layout.specs.Laid.{Placement}
 use Rattle.image_code.specs.Fit.{AreFit}
 use Rattle.image_code.specs.Made.{landing_number}
+use Rattle.snippets.specs.declared.snippet.Op.{Op}
 use Rattle.edit_core.specs.Written.{addr, landings_of}
 
 -- f of each number below n
@@ -18,7 +19,8 @@ pub map_below : {A : Type 0} (f : ℕ → A) (n k : ℕ) (d : A) → k < n → g
 map_below f n k d l =
     get_or-map f (below n) k 0 d (omega (arith, l, length-below n)) ∙ ap f (get_or-below n k 0 l)
 
-module _ (text : Words) (graph : Graph) (list : List (List Item)) (fit : AreFit text graph list)
+module _ (text : Words) (graph : Graph) (snips : List (List Op))
+    (list : List (List Item)) (fit : AreFit text graph snips list)
     (landing : List PieceNo)
     (are : map (λ (n : PieceNo). n.0) landing ≡ map (landing_number text graph) (below (length text.words))) where
   pub landings_count : length landing ≡ length text.words

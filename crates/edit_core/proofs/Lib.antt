@@ -2,6 +2,8 @@ pub mod Induction
 pub mod Whole
 pub mod Views
 pub mod Eaches
+pub mod Fronts
+pub mod Bounds
 pub mod Shapes
 pub mod Counted
 pub mod Ranges

@@ -14,6 +14,8 @@ use Rattle.elf32_sparc.specs.Image.{image_of, segment_of, segment_end}
 use Rattle.elf32_write.specs.Bytes.{words_bytes}
 use Rattle.elf32_write.specs.Laws.{kept}
 use Rattle.edit_core.specs.Faithful.{word_mapped}
+use Rattle.edit_core.specs.Written.{if_any}
+use Rattle.edit_core.proofs.Fronts.{past_any}
 use Rattle.edit_core.proofs.Originals.{base_above}
 
 abbrev covers : ℕ → Mapping → Bool
@@ -61,20 +63,34 @@ word_among (w ∷ words) (suc word) inside all =
     ∙ ap (big_number 4) (drop-append-add (big_bytes 4 w) (words_bytes words) (4 * word))
     ∙ word_among words word (omega arith) (λ k d below. all (suc k) d (omega arith))
 
--- the words of code that is mapped above the original, right behind a table
-pub code_mapped : (original file : List ℕ) (words : List ℕ) (table code : Mapping) (more : List Mapping)
-    → mappings file ≡ map kept (mappings original) ++ table ∷ code ∷ more → All (λ w. w < 2 ^ 32) words
-    → table.start ≡ (image_of original).base → table.start + table.length ≡ code.start → code.length ≡ 4 * length words
+-- cells below an address don't cover it
+pub cells_pass : (count : ℕ) (cells : Mapping) (address : ℕ) → cells.start + cells.length ≤ address
+    → (0 < count → covers address cells ≡ false)
+cells_pass count cells address below some =
+    fails (nat_le cells.start address) (lt-leb (address + 4) (cells.start + cells.length) (omega arith))
+  where
+    fails : (b : Bool) → nat_le (address + 4) (cells.start + cells.length) ≡ false
+        → (b && nat_le (address + 4) (cells.start + cells.length)) ≡ false
+    fails true e = e
+    fails false e = refl
+
+-- the words of code that is mapped above the original and the cells, right behind a table
+pub code_mapped : (original file : List ℕ) (words : List ℕ) (count : ℕ) (cells table code : Mapping) (more : List Mapping)
+    → mappings file ≡ map kept (mappings original) ++ (if_any count cells ++ table ∷ code ∷ more)
+    → All (λ w. w < 2 ^ 32) words
+    → (image_of original).base ≤ table.start → cells.start + cells.length ≤ table.start
+    → table.start + table.length ≡ code.start → code.length ≡ 4 * length words
     → code.first ≡ words_bytes words
     → (n : ℕ) → n < length words → word_mapped file (code.start + 4 * n) ≡ Some (slice_index words n)
-code_mapped original file words table code more all fits base behind size first n inside =
+code_mapped original file words count cells table code more all fits base before behind size first n inside =
     let address : ℕ = code.start + 4 * n in
     let here : address - code.start ≡ 4 * n = omega arith in
     let is_found : find (covers address) (mappings file) ≡ Some code =
     ap (find (covers address)) all
-    ∙ find-append (covers address) (map kept (mappings original)) (table ∷ code ∷ more)
-    ∙ ap (λ o. option_or o (find (covers address) (table ∷ code ∷ more)))
+    ∙ find-append (covers address) (map kept (mappings original)) (if_any count cells ++ table ∷ code ∷ more)
+    ∙ ap (λ o. option_or o (find (covers address) (if_any count cells ++ table ∷ code ∷ more)))
     (original_covers original address (omega arith))
+    ∙ past_any (covers address) count cells (table ∷ code ∷ more) (cells_pass count cells address (omega arith))
     ∙ passed (nat_le table.start address) (nat_le (address + 4) (table.start + table.length)) table
     (find (covers address) (code ∷ more))
     (lt-leb (address + 4) (table.start + table.length) (omega arith))

@@ -1,18 +1,18 @@
 -- The notes on an edit meet their rules.
-use Rattle.std.proofs.Common.{◌≡◌, ℕ, suc, ◌+◌, ◌*◌, ◌%◌, ◌^◌, ◌<◌, ◌≤◌, true, Option, Some, None, List, [], ◌∷◌, ◌++◌, length, length-append, map, refl, ap, ◌∙◌, arith}
+use Rattle.std.proofs.Common.{◌≡◌, ℕ, zero, suc, ◌+◌, ◌*◌, ◌%◌, ◌^◌, ◌<◌, ◌≤◌, ◌==◌, true, false, Option, Some, None, List, [], ◌∷◌, ◌++◌, length, length-append, map, refl, ap, sym, ◌∙◌, subst, arith}
 use Rattle.std.specs.Prelude.{slice_index}
 use Rattle.std.specs.List.{flat_map, list_any}
 use Rattle.std.proofs.lemmas.Grind.{get_or_default_zero}
 use Rattle.std.proofs.lemmas.Bool.{and_from, eq-eqb, le-leb, lt-ltb, or_left, or_right}
-use Rattle.std.proofs.lemmas.List.{length-map}
+use Rattle.std.proofs.lemmas.Bool.Decides.{nat_tests}
 use Rattle.byteorder.specs.Endian.{big_bytes}
 use Rattle.byteorder.specs.Numbers.{length-bytes_high_first}
 use Rattle.elf32_write.proofs.WordsBytes.{length-flat_map}
 use Rattle.eel_base.specs.CodeText.{Words, IsText, address_of}
-use Rattle.elf32_sparc.specs.Notes.{Notes, NoteRange, follows, holds}
-use Rattle.notes.specs.Rules.{AreNotes, are_segments, are_blocks, are_edges, are_ranges}
+use Rattle.elf32_sparc.specs.Notes.{Notes, NoteEdge, NoteRange, NoteSegment, follows, holds}
+use Rattle.notes.specs.Rules.{AreNotes, are_segments, are_blocks, are_edges, are_ranges, is_edge, is_free, with_cell}
 use Rattle.notes.specs.Laws.{AreWords}
-use Rattle.notes.specs.Written.{words_bytes, notes_bytes, notes_words, segment_words, edge_words, range_words}
+use Rattle.notes.specs.Written.{words_bytes, notes_bytes, notes_words, segment_words, edge_words, range_words, cell_word}
 use Rattle.cfg_blocks.specs.declared.EdgeKind.{EdgeKind}
 use Rattle.cfg_blocks.specs.declared.EdgeKind.TheVariants as kinds
 use Rattle.cfg_blocks.specs.Blocks.{AreFirsts, IsAscending}
@@ -23,8 +23,15 @@ use Rattle.cfg_normal.specs.Graph.{Graph, IsEdgeIn, IsNodeIn}
 use Rattle.cfg_normal.specs.Numbers.{node_number}
 use Rattle.cfg_walk.proofs.Lists.{Each, each-append}
 use Rattle.layout.specs.Laid.{Ascend, Placement}
-use Rattle.edit_core.specs.Faithful.{editor_page, kind_number, note_edge}
-use Rattle.edit_core.specs.Written.{off_range, off_ranges, segments_noted}
+use Rattle.snippets.specs.declared.snippet.Op.{Op}
+use Rattle.snippets.specs.declared.snippet.Op.TheVariants.{Add, Put, Keep, Top}
+use Rattle.snippets.specs.Cells.{WorksBelow}
+use Rattle.tool_kit.specs.declared.edge_ref.ToolKind.{ToolKind}
+use Rattle.tool_kit.specs.declared.edge_ref.ToolKind.TheVariants as tools
+use Rattle.tool_kit.specs.Plans.{AreCounters}
+use Rattle.edit_core.specs.Faithful.{cell_noted, editor_page, kind_number, note_edge, note_edges, page_size}
+use Rattle.edit_core.specs.Written.{if_any, off_range, off_ranges, segments_noted, table_after}
+use Rattle.edit_core.proofs.Fronts.{any_length, any_past, each_any}
 use Rattle.edit_core.proofs.Eaches.{all_each, each_all}
 use Rattle.edit_core.proofs.Off.{off_each, off_few}
 use Rattle.edit_core.proofs.Ranges.{IsWhole, ends_by, ranges_rule}
@@ -63,17 +70,85 @@ node_few : (graph : Graph) (node : Node) → IsNodeIn graph.blocks node
 node_few graph (Block k) l = omega (arith, l)
 node_few graph X l = omega arith
 
-edges_rule : (graph : Graph) (es : List Edge) → Each (IsEdgeIn graph.blocks) es
-    → are_edges (length graph.blocks.firsts) 0 [] (map (note_edge graph) es) ≡ true
-edges_rule graph [] each = refl
-edges_rule graph (e ∷ es) each =
+-- an edge's cell, if it has one, is a further one
+is_next : (cells : ℕ) (taken : List ℕ) (cell : ℕ) → cell < cells → Each (λ other. other < cell) taken
+    → is_free cells taken (Some cell) ≡ true
+is_next cells taken cell few above = rw (lt-ltb cell cells few, not_among taken above) refl
+  where
+    not_among : (others : List ℕ) → Each (λ other. other < cell) others
+        → list_any (λ other. other == cell) others ≡ false
+    not_among [] each = refl
+    not_among (other ∷ others) each = rw (not_same other each.0, not_among others each.1) refl
+      where
+        not_same : (other : ℕ) → other < cell → (other == cell) ≡ false
+        not_same other l = grind (arith, nat_tests)
+
+-- the edges' rules but for the cell's
+module _ (graph : Graph) (kind : ToolKind) where
+  ends_rule : (cells : ℕ) (taken : List ℕ) (e : Edge) (ops : List Op) → IsEdgeIn graph.blocks e
+      → is_free cells taken (cell_noted kind ops) ≡ true
+      → is_edge (length graph.blocks.firsts) cells taken (note_edge graph kind e ops) ≡ true
+  ends_rule cells taken e ops inside free =
+      rw (
+        le-leb (kind_number e.kind) 5 (kind_few e.kind),
+        le-leb (node_number graph e.from) (length graph.blocks.firsts) (node_few graph e.from inside.from),
+        le-leb (node_number graph e.to) (length graph.blocks.firsts) (node_few graph e.to inside.to),
+      ) free
+
+-- without a profile no edge has a cell
+uncounted_rule : (graph : Graph) (kind : ToolKind) (cells : ℕ) → ((ops : List Op) → cell_noted kind ops ≡ None)
+    → (es : List Edge) (snips : List (List Op)) → Each (IsEdgeIn graph.blocks) es
+    → are_edges (length graph.blocks.firsts) cells [] (note_edges graph kind es snips) ≡ true
+uncounted_rule graph kind cells none [] snips each = refl
+uncounted_rule graph kind cells none (e ∷ es) [] each = refl
+uncounted_rule graph kind cells none (e ∷ es) (ops ∷ snips) each =
     and_from _ _
-    (rw (
-      le-leb (kind_number e.kind) 5 (kind_few e.kind),
-      le-leb (node_number graph e.from) (length graph.blocks.firsts) (node_few graph e.from each.0.from),
-      le-leb (node_number graph e.to) (length graph.blocks.firsts) (node_few graph e.to each.0.to),
-    ) refl)
-    (edges_rule graph es each.1)
+    (ends_rule graph kind cells [] e ops each.0 (ap (is_free cells []) (none ops)))
+    (ap (λ (o : Option ℕ). are_edges (length graph.blocks.firsts) cells (with_cell o []) (note_edges graph kind es snips))
+    (none ops)
+    ∙ uncounted_rule graph kind cells none es snips each.1)
+
+-- in a profile each cell is the next one
+counted_rule : (graph : Graph) (cells next : ℕ) (taken : List ℕ) → Each (λ other. other < next) taken
+    → (es : List Edge) (snips : List (List Op)) → Each (IsEdgeIn graph.blocks) es → AreCounters next snips
+    → Each (WorksBelow cells) snips
+    → are_edges (length graph.blocks.firsts) cells taken (note_edges graph tools.Profile es snips) ≡ true
+counted_rule graph cells next taken above [] snips each are below = refl
+counted_rule graph cells next taken above (e ∷ es) [] each are below = refl
+counted_rule graph cells next taken above (e ∷ es) ([] ∷ snips) each are below =
+    and_from _ _ (ends_rule graph tools.Profile cells taken e [] each.0 refl)
+    (counted_rule graph cells next taken above es snips each.1 are below.1)
+counted_rule graph cells next taken above (e ∷ es) ((Add cell amount ∷ []) ∷ snips) each are below =
+    let few : cell < cells = below.0 0 (Add cell amount) (omega arith) in
+    let under : Each (λ other. other < cell) taken = each_more taken (λ other l. omega (arith, l, are.0)) above in
+    and_from _ _
+    (ends_rule graph tools.Profile cells taken e (Add cell amount ∷ []) each.0 (is_next cells taken cell few under))
+    (counted_rule graph cells (suc next) (cell ∷ taken)
+    (omega (arith, are.0), each_more taken (λ other l. omega (arith, l)) above) es snips each.1 are.2 below.1)
+  where
+    each_more : {P Q : ℕ → Type 0} (xs : List ℕ) → ((x : ℕ) → P x → Q x) → Each P xs → Each Q xs
+    each_more [] f each = tt
+    each_more (x ∷ xs) f each = (f x each.0, each_more xs f each.1)
+counted_rule graph cells next taken above (e ∷ es) ((Add cell amount ∷ op ∷ ops) ∷ snips) each are below = absurd are
+counted_rule graph cells next taken above (e ∷ es) ((Put cell value ∷ ops) ∷ snips) each are below = absurd are
+counted_rule graph cells next taken above (e ∷ es) ((Keep cell reg ∷ ops) ∷ snips) each are below = absurd are
+counted_rule graph cells next taken above (e ∷ es) ((Top cell reg ∷ ops) ∷ snips) each are below = absurd are
+
+edges_rule : (graph : Graph) (kind : ToolKind) (cells : ℕ) (es : List Edge) (snips : List (List Op))
+    → Each (IsEdgeIn graph.blocks) es → (kind ≡ tools.Profile → AreCounters 0 snips) → Each (WorksBelow cells) snips
+    → are_edges (length graph.blocks.firsts) cells [] (note_edges graph kind es snips) ≡ true
+edges_rule graph tools.Plain cells es snips each are below =
+    uncounted_rule graph tools.Plain cells (λ ops. refl) es snips each
+edges_rule graph tools.Profile cells es snips each are below =
+    counted_rule graph cells 0 [] tt es snips each (are refl) below
+edges_rule graph tools.Script cells es snips each are below =
+    uncounted_rule graph tools.Script cells (λ ops. refl) es snips each
+
+edges_count : (graph : Graph) (kind : ToolKind) (es : List Edge) (snips : List (List Op))
+    → length (note_edges graph kind es snips) ≤ length es
+edges_count graph kind [] snips = omega arith
+edges_count graph kind (e ∷ es) [] = omega arith
+edges_count graph kind (e ∷ es) (ops ∷ snips) = let later = edges_count graph kind es snips in omega arith
 
 -- ---- words
 
@@ -86,14 +161,25 @@ rows_fit words [] each = tt
 rows_fit words (row ∷ rows) each = each-append Fits (words row) (flat_map words rows) each.0
     (rows_fit words rows each.1)
 
-edges_fit : (graph : Graph) (es : List Edge) → length graph.blocks.firsts ≤ 2 ^ 20 → Each (IsEdgeIn graph.blocks) es
-    → Each (λ edge. Each Fits (edge_words edge)) (map (note_edge graph) es)
-edges_fit graph [] few each = tt
-edges_fit graph (e ∷ es) few each =
+cell_fits : (cells : ℕ) (kind : ToolKind) (ops : List Op) → cells ≤ 2 ^ 22 → WorksBelow cells ops
+    → cell_word (cell_noted kind ops) < 2 ^ 32
+cell_fits cells tools.Plain ops few below = omega arith
+cell_fits cells tools.Script ops few below = omega arith
+cell_fits cells tools.Profile [] few below = omega arith
+cell_fits cells tools.Profile (op ∷ ops) few below = let l = below 0 op (omega arith) in omega arith
+
+edges_fit : (graph : Graph) (kind : ToolKind) (cells : ℕ) (es : List Edge) (snips : List (List Op))
+    → length graph.blocks.firsts ≤ 2 ^ 20 → cells ≤ 2 ^ 22 → Each (IsEdgeIn graph.blocks) es
+    → Each (WorksBelow cells) snips
+    → Each (λ edge. Each Fits (edge_words edge)) (note_edges graph kind es snips)
+edges_fit graph kind cells [] snips few cells_few each below = tt
+edges_fit graph kind cells (e ∷ es) [] few cells_few each below = tt
+edges_fit graph kind cells (e ∷ es) (ops ∷ snips) few cells_few each below =
     let k = kind_few e.kind in
     let f = node_few graph e.from each.0.from in
     let t = node_few graph e.to each.0.to in
-    ((omega arith, (omega arith, (omega arith, (omega arith, tt)))), edges_fit graph es few each.1)
+    ((omega arith, (omega arith, (omega arith, (cell_fits cells kind ops cells_few below.0, tt)))),
+    edges_fit graph kind cells es snips few cells_few each.1 below.1)
 
 ranges_fit : (nodes from to : ℕ) (rs : List NoteRange) → nodes ≤ 2 ^ 20 → to ≤ 2 ^ 31 → Ascend from to rs
     → Each (IsWhole nodes) rs
@@ -108,12 +194,12 @@ ranges_fit nodes from to (r ∷ rs) few low a each =
 
 -- ---- all of the notes
 
--- notes without cells, on a table of this size, code right behind it, and the editor's page
+-- notes on cells, a table of this size behind them, code right behind that, and the editor's page
 pub record IsNoted (graph : Graph) (size : ℕ) (p : Placement) (n : Notes) : Type 0 where
   pub delta_from : 4096 ≤ n.delta
   pub delta_to : n.delta ≤ 2 ^ 20
   pub length_to : n.length ≤ 2 ^ 26
-  pub tool : n.tool ≡ 0
+  pub tool : n.tool ≤ 2
   pub text : Words
   pub is_text : IsText text
   pub start : n.start ≡ text.start
@@ -121,90 +207,129 @@ pub record IsNoted (graph : Graph) (size : ℕ) (p : Placement) (n : Notes) : Ty
   pub graph_words : graph.blocks.words ≡ length text.words
   pub entry : n.entry < length graph.blocks.firsts
   pub base : n.base % 4 ≡ 0
-  pub cells : n.cells ≡ 0
+  pub cells : n.cells ≤ 2 ^ 22
   pub some : 0 < length p.code
   pub table : (4 ≤ size) × (size % 4 ≡ 0)
-  pub low : n.base + size + 4 * length p.code ≤ 2 ^ 31
-  pub segments : n.segments ≡ segments_noted n.base size p.code
+  pub low : table_after n.base n.cells + size + 4 * length p.code ≤ 2 ^ 31
+  pub segments : n.segments ≡ segments_noted n.base n.cells size p.code
   pub firsts : AreFirsts graph.blocks.words graph.blocks.firsts
   pub blocks : n.blocks ≡ graph.blocks.firsts
   pub edge_count : length graph.edges ≤ 3 * 2 ^ 20
   pub edges_in : Each (IsEdgeIn graph.blocks) graph.edges
-  pub edges : n.edges ≡ map (note_edge graph) graph.edges
-  pub ranges : n.ranges ≡ off_ranges text graph n.base ++ p.ranges
+  pub kind : ToolKind
+  pub snips : List (List Op)
+  pub edges : n.edges ≡ note_edges graph kind graph.edges snips
+  pub counters : kind ≡ tools.Profile → AreCounters 0 snips
+  pub below : Each (WorksBelow n.cells) snips
+  pub ranges : n.ranges ≡ off_ranges text graph (table_after n.base n.cells) ++ p.ranges
   pub range_count : length p.ranges ≤ 2 ^ 23
-  pub ascend : Ascend (n.base + size) (n.base + size + 4 * length p.code) p.ranges
+  pub ascend : Ascend (table_after n.base n.cells + size) (table_after n.base n.cells + size + 4 * length p.code)
+      p.ranges
   pub whole : Each (IsWhole (length graph.blocks.firsts)) p.ranges
 
 module _ (graph : Graph) (size : ℕ) (p : Placement) (n : Notes) (is : IsNoted graph size p n) where
   abbrev nodes : ℕ
   nodes = length graph.blocks.firsts
 
+  abbrev table : ℕ
+  table = table_after n.base n.cells
+
+  abbrev behind : List NoteSegment
+  behind =
+      record { start = table; length = size } ∷ record { start = table + size; length = 4 * length p.code }
+      ∷ record { start = editor_page; length = page_size } ∷ []
+
   nodes_few : length graph.blocks.firsts ≤ 2 ^ 20
   nodes_few = omega (arith, is.firsts.few, is.graph_words, is.is_text.few)
 
   ranges_few : length n.ranges ≤ 2 ^ 23 + 1
   ranges_few =
-      let count = length-append (off_ranges is.text graph n.base) p.ranges in
-      let few = off_few is.text graph n.base in
+      let count = length-append (off_ranges is.text graph table) p.ranges in
+      let few = off_few is.text graph table in
       omega (arith, ap length is.ranges, count, few, is.range_count)
 
-  segments_rule : are_segments 0 (segments_noted n.base size p.code) ≡ true
-  segments_rule =
+  behind_rule : (end : ℕ) → end ≤ table → are_segments end behind ≡ true
+  behind_rule end under =
       let s = is.some in
       let t = is.table.0 in
       let l = is.low in
       rw (
-        le-leb 0 n.base (omega arith),
+        le-leb end table under,
         lt-ltb 0 size (omega arith),
-        le-leb (n.base + size) (2 ^ 32) (omega arith),
-        le-leb (n.base + size) (n.base + size) (omega arith),
+        le-leb (table + size) (2 ^ 32) (omega arith),
+        le-leb (table + size) (table + size) (omega arith),
         lt-ltb 0 (4 * length p.code) (omega arith),
-        le-leb (n.base + size + 4 * length p.code) (2 ^ 32) (omega arith),
-        le-leb (n.base + size + 4 * length p.code) editor_page (omega arith),
+        le-leb (table + size + 4 * length p.code) (2 ^ 32) (omega arith),
+        le-leb (table + size + 4 * length p.code) editor_page (omega arith),
       ) refl
 
+  segments_rule : are_segments 0 (segments_noted n.base n.cells size p.code) ≡ true
+  segments_rule = by n.cells refl
+    where
+      by : (count : ℕ) → n.cells ≡ count
+          → are_segments 0 (if_any count (record { start = n.base; length = 4 * count }) ++ behind) ≡ true
+      by zero same = behind_rule 0 (omega arith)
+      by (suc k) same =
+          let l = is.low in
+          and_from _ _
+          (rw (
+            le-leb 0 n.base (omega arith),
+            lt-ltb 0 (4 * suc k) (omega arith),
+            le-leb (n.base + 4 * suc k) (2 ^ 32) (omega arith),
+          ) refl)
+          (behind_rule (n.base + 4 * suc k) (omega (arith, same)))
+
   -- the table and the code hold what lies in them
-  table_holds : (lo hi : ℕ) → n.base ≤ lo → hi ≤ n.base + size
-      → list_any (holds lo hi) (segments_noted n.base size p.code) ≡ true
-  table_holds lo hi from to = or_left _ _ (and_from _ _ (le-leb n.base lo from) (le-leb hi (n.base + size) to))
+  table_holds : (lo hi : ℕ) → table ≤ lo → hi ≤ table + size
+      → list_any (holds lo hi) (segments_noted n.base n.cells size p.code) ≡ true
+  table_holds lo hi from to =
+      any_past (holds lo hi) n.cells (record { start = n.base; length = 4 * n.cells }) behind
+      (or_left _ _ (and_from _ _ (le-leb table lo from) (le-leb hi (table + size) to)))
 
-  code_holds : (lo hi : ℕ) → n.base + size ≤ lo → hi ≤ n.base + size + 4 * length p.code
-      → list_any (holds lo hi) (segments_noted n.base size p.code) ≡ true
+  code_holds : (lo hi : ℕ) → table + size ≤ lo → hi ≤ table + size + 4 * length p.code
+      → list_any (holds lo hi) (segments_noted n.base n.cells size p.code) ≡ true
   code_holds lo hi from to =
-      or_right _ _ (or_left _ _ (and_from _ _ (le-leb (n.base + size) lo from)
-      (le-leb hi (n.base + size + 4 * length p.code) to)))
+      any_past (holds lo hi) n.cells (record { start = n.base; length = 4 * n.cells }) behind
+      (or_right _ _ (or_left _ _ (and_from _ _ (le-leb (table + size) lo from)
+      (le-leb hi (table + size + 4 * length p.code) to))))
 
-  code_rule : (end : ℕ) → end ≤ n.base + size → are_ranges nodes (segments_noted n.base size p.code) end p.ranges ≡ true
+  code_rule : (end : ℕ) → end ≤ table + size → are_ranges nodes (segments_noted n.base n.cells size p.code) end p.ranges ≡ true
   code_rule end l =
-      ranges_rule nodes (segments_noted n.base size p.code) end (n.base + size) (n.base + size + 4 * length p.code)
+      ranges_rule nodes (segments_noted n.base n.cells size p.code) end (table + size) (table + size + 4 * length p.code)
       p.ranges
       is.ascend is.whole l code_holds
 
   off_rule : (edge : Edge) → IsEdgeIn graph.blocks edge
-      → are_ranges nodes (segments_noted n.base size p.code) 0 ((off_range is.text graph n.base edge ∷ []) ++ p.ranges)
+      → are_ranges nodes (segments_noted n.base n.cells size p.code) 0 ((off_range is.text graph table edge ∷ []) ++ p.ranges)
       ≡ true
   off_rule edge inside =
       let four = is.table.0 in
-      let base = is.base in
+      let base : table % 4 ≡ 0 = omega (arith, is.base) in
       let text = is.is_text in
       and_from _ _
       (rw (
-        eq-eqb (n.base % 4) 0 base,
-        eq-eqb ((n.base + 4) % 4) 0 (omega arith),
+        eq-eqb (table % 4) 0 base,
+        eq-eqb ((table + 4) % 4) 0 (omega arith),
         eq-eqb (address_of is.text (length is.text.words) % 4) 0 (omega (arith, text.aligned)),
-        lt-ltb n.base (n.base + 4) (omega arith),
-        le-leb 0 n.base (omega arith),
-        table_holds n.base (n.base + 4) (omega arith) (omega arith),
+        lt-ltb table (table + 4) (omega arith),
+        le-leb 0 table (omega arith),
+        table_holds table (table + 4) (omega arith) (omega arith),
         le-leb (node_number graph edge.from) nodes (node_few graph edge.from inside.from),
       ) refl)
-      (code_rule (n.base + 4) (omega arith))
+      (code_rule (table + 4) (omega arith))
 
-  all_rule : are_ranges nodes (segments_noted n.base size p.code) 0 (off_ranges is.text graph n.base ++ p.ranges) ≡ true
+  all_rule : are_ranges nodes (segments_noted n.base n.cells size p.code) 0 (off_ranges is.text graph table ++ p.ranges) ≡ true
   all_rule =
-      off_each is.text graph n.base (IsEdgeIn graph.blocks)
-      (λ offs. are_ranges nodes (segments_noted n.base size p.code) 0 (offs ++ p.ranges) ≡ true) is.edges_in
+      off_each is.text graph table (IsEdgeIn graph.blocks)
+      (λ offs. are_ranges nodes (segments_noted n.base n.cells size p.code) 0 (offs ++ p.ranges) ≡ true) is.edges_in
       (code_rule 0 (omega arith)) off_rule
+
+  pages_count : length n.segments ≤ 4
+  pages_count =
+      let page : NoteSegment = record { start = n.base; length = 4 * n.cells } in
+      let front = any_length n.cells page in
+      let all = length-append (if_any n.cells page) behind in
+      omega (arith, ap length is.segments, front, all)
 
   pub are_notes : AreNotes n
   are_notes =
@@ -213,7 +338,9 @@ module _ (graph : Graph) (size : ℕ) (p : Placement) (n : Notes) (is : IsNoted 
       let low = is.low in
       let r = ranges_few in
       let blocks = ap length is.blocks in
-      let counts = ap length is.edges ∙ length-map graph.edges (note_edge graph) in
+      let counts : length n.edges ≤ length graph.edges =
+      subst (λ (es : List NoteEdge). length es ≤ length graph.edges) (sym is.edges)
+      (edges_count graph is.kind graph.edges is.snips) in
       record {
         delta = is.delta_from;
         tool = omega (arith, is.tool);
@@ -226,13 +353,13 @@ module _ (graph : Graph) (size : ℕ) (p : Placement) (n : Notes) (is : IsNoted 
         entry = omega (arith, is.entry, blocks);
         base = (is.base, omega (arith, is.cells));
         cells = omega (arith, is.cells);
-        segment_count = let l = ap length is.segments in omega arith;
+        segment_count = omega (arith, pages_count);
         segments = rw (is.segments) segments_rule;
         block_count = omega (arith, blocks, f.few, is.graph_words, is.words);
         blocks = rw (is.blocks, is.words, ← is.graph_words) (blocks_rule graph.blocks.words graph.blocks.firsts None
             (λ b e l. absurd (cc)) (λ e l. f.begin) f.ascend f.within);
         edge_count = omega (arith, counts, is.edge_count);
-        edges = rw (is.edges, is.cells, is.blocks) (edges_rule graph graph.edges is.edges_in);
+        edges = rw (is.edges, is.blocks) (edges_rule graph is.kind n.cells graph.edges is.snips is.edges_in is.counters is.below);
         range_count = omega (arith, r);
         ranges = rw (is.segments, is.ranges, is.blocks) all_rule;
       }
@@ -244,8 +371,9 @@ module _ (graph : Graph) (size : ℕ) (p : Placement) (n : Notes) (is : IsNoted 
       let r = ranges_few in
       let f = is.firsts in
       let blocks = ap length is.blocks in
-      let segments = ap length is.segments in
-      let counts = ap length is.edges ∙ length-map graph.edges (note_edge graph) in
+      let counts : length n.edges ≤ length graph.edges =
+      subst (λ (es : List NoteEdge). length es ≤ length graph.edges) (sym is.edges)
+      (edges_count graph is.kind graph.edges is.snips) in
       let numbers : List ℕ = n.delta ∷ n.length ∷ n.tool ∷ n.start ∷ n.words ∷ n.entry ∷ n.base ∷ n.cells ∷ [] in
       let pages : List ℕ = length n.segments ∷ flat_map segment_words n.segments in
       let firsts : List ℕ = length n.blocks ∷ n.blocks in
@@ -271,33 +399,39 @@ module _ (graph : Graph) (size : ℕ) (p : Placement) (n : Notes) (is : IsNoted 
           ),
         ),
       ) (
-        omega arith,
-        rw (is.segments) (
-          omega arith,
-          (omega arith, (omega arith, (omega arith, (omega arith, (omega arith, tt))))),
-        ),
+        omega (arith, pages_count),
+        rw (is.segments) segment_words_fit,
       ))
       (omega (arith, blocks, nodes_few), rw (is.blocks) first_words)) (
         omega (arith, counts, is.edge_count),
-        rw (is.edges) (rows_fit edge_words (map (note_edge graph) graph.edges)
-            (edges_fit graph graph.edges nodes_few is.edges_in)),
+        rw (is.edges) (rows_fit edge_words (note_edges graph is.kind graph.edges is.snips)
+            (edges_fit graph is.kind n.cells graph.edges is.snips nodes_few is.cells is.edges_in is.below)),
       ))
-      (omega (arith, r), rw (is.ranges) (rows_fit range_words (off_ranges is.text graph n.base ++ p.ranges) all_fit)))
+      (omega (arith, r), rw (is.ranges) (rows_fit range_words (off_ranges is.text graph table ++ p.ranges) all_fit)))
     where
+      segment_words_fit : Each Fits (flat_map segment_words (segments_noted n.base n.cells size p.code))
+      segment_words_fit =
+          let low = is.low in
+          rows_fit segment_words (segments_noted n.base n.cells size p.code)
+          (each_any (λ segment. Each Fits (segment_words segment)) n.cells
+          (record { start = n.base; length = 4 * n.cells }) behind
+          (λ some. (omega arith, (omega arith, tt)))
+          ((omega arith, (omega arith, tt)), ((omega arith, (omega arith, tt)), ((omega arith, (omega arith, tt)), tt))))
+
       off_fits : (edge : Edge) → IsEdgeIn graph.blocks edge
-          → Each (λ range. Each Fits (range_words range)) (off_range is.text graph n.base edge ∷ [])
+          → Each (λ range. Each Fits (range_words range)) (off_range is.text graph table edge ∷ [])
       off_fits edge inside =
           let low = is.low in
           let below = is.is_text.below in
           let node = node_few graph edge.from inside.from in
           ((omega arith, (omega arith, (omega arith, (omega (arith, node, nodes_few), tt)))), tt)
 
-      all_fit : Each (λ range. Each Fits (range_words range)) (off_ranges is.text graph n.base ++ p.ranges)
+      all_fit : Each (λ range. Each Fits (range_words range)) (off_ranges is.text graph table ++ p.ranges)
       all_fit =
-          each-append _ (off_ranges is.text graph n.base) p.ranges
-          (off_each is.text graph n.base (IsEdgeIn graph.blocks) (Each (λ range. Each Fits (range_words range)))
+          each-append _ (off_ranges is.text graph table) p.ranges
+          (off_each is.text graph table (IsEdgeIn graph.blocks) (Each (λ range. Each Fits (range_words range)))
           is.edges_in tt off_fits)
-          (ranges_fit nodes (n.base + size) (n.base + size + 4 * length p.code) p.ranges nodes_few is.low is.ascend
+          (ranges_fit nodes (table + size) (table + size + 4 * length p.code) p.ranges nodes_few is.low is.ascend
           is.whole)
 
       first_words : Each Fits graph.blocks.firsts
@@ -313,7 +447,9 @@ module _ (graph : Graph) (size : ℕ) (p : Placement) (n : Notes) (is : IsNoted 
       let text = is.is_text in
       let r = ranges_few in
       let blocks = ap length is.blocks in
-      let counts = ap length is.edges ∙ length-map graph.edges (note_edge graph) in
+      let counts : length n.edges ≤ length graph.edges =
+      subst (λ (es : List NoteEdge). length es ≤ length graph.edges) (sym is.edges)
+      (edges_count graph is.kind graph.edges is.snips) in
       let w = length-flat_map (big_bytes 4) 4 (length-bytes_high_first 4) (notes_words n) in
       let numbers : List ℕ = n.delta ∷ n.length ∷ n.tool ∷ n.start ∷ n.words ∷ n.entry ∷ n.base ∷ n.cells ∷ [] in
       let segments : List ℕ = length n.segments ∷ flat_map segment_words n.segments in
@@ -325,7 +461,7 @@ module _ (graph : Graph) (size : ℕ) (p : Placement) (n : Notes) (is : IsNoted 
       let l3 = length-append (numbers ++ segments ++ firsts) edges in
       let l4 = length-append (numbers ++ segments ++ firsts ++ edges) ranges in
       let s = length-flat_map segment_words 2 (λ x. refl) n.segments in
-      let three = ap length is.segments in
+      let pages = pages_count in
       let e = length-flat_map edge_words 4 (λ x. refl) n.edges in
       let g = length-flat_map range_words 4 (λ x. refl) n.ranges in
       omega (arith, nodes_few, is.edge_count, text.few)

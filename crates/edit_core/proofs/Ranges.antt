@@ -16,7 +16,7 @@ use Rattle.layout.specs.declared.items.Item.TheVariants as it
 use Rattle.layout.specs.Laid.{Ascend, IsLaid, IsRangeOf, Placement, Stands, BranchStands, branch_short, branch_long, item_at, item_in, items_in, range_in, range_of, open_in, end_from}
 use Rattle.jump_code.specs.Pieces.{foreign_piece}
 use Rattle.image_code.specs.Imaged.{TakesWords}
-use Rattle.image_code.specs.Made.{image, landing, own_edges, piece_list, way_along}
+use Rattle.image_code.specs.Made.{image, landing, own_edges, piece_list, ways_from}
 use Rattle.image_code.specs.Parts.{IsGraphOf}
 use Rattle.edit_core.proofs.Eaches.{each_index}
 use Rattle.edit_core.proofs.Shapes.{IsMark, NoMarks, MarksFirst, all_marked}
@@ -141,11 +141,10 @@ covers base p (it.Jump to) a b t s = absurd t
 covers base p (it.Mark x m) a b t s = absurd t
 covers base p it.EndMark a b t s = absurd t
 
-module _ (text : Words) (graph : Graph) (table : ℕ) (is : IsText text) (h : IsGraphOf text graph) (base : ℕ)
-    (p : Placement)
-    (place : ℕ → ℕ → ℕ) (laid : IsLaid (piece_list text graph table) base p place) where
+module _ (text : Words) (graph : Graph) (table : ℕ) (codes : ℕ → List ℕ) (is : IsText text) (h : IsGraphOf text graph)
+    (base : ℕ) (p : Placement) (place : ℕ → ℕ → ℕ) (laid : IsLaid (piece_list text graph table codes) base p place) where
   abbrev pieces : List (List Item)
-  pieces = piece_list text graph table
+  pieces = piece_list text graph table codes
 
   abbrev count : ℕ
   count = length graph.blocks.firsts
@@ -195,7 +194,7 @@ module _ (text : Words) (graph : Graph) (table : ℕ) (is : IsText text) (h : Is
   whole_at n r e =
       let m : IsRangeOf pieces place r = laid.marks n r e in
       let piece = some_piece m.piece m.item (it.Mark m.address r.node) (slice_get pieces m.piece) refl m.mark in
-      let marks : MarksFirst count piece.0 = each_at _ pieces m.piece piece.0 (all_marked text graph table is h)
+      let marks : MarksFirst count piece.0 = each_at _ pieces m.piece piece.0 (all_marked text graph table codes is h)
       piece.1 in
       let head = marked_first count piece.0 marks m.item m.address r.node piece.2 in
       whole_here r m.piece m.address head.rest (piece.1 ∙ ap (λ (xs : List Item). Some xs) head.is) head.mark m.says
@@ -214,9 +213,9 @@ module _ (text : Words) (graph : Graph) (table : ℕ) (is : IsText text) (h : Is
   last_piece : (k : ℕ) × (word : ℕ) × (item_at pieces k 0 ≡ Some (it.Word word))
   unfolding piece_list
   last_piece =
-      let xs = map (image text graph table) (below (length text.words)) ++ map (way_along text graph table)
-      (own_edges graph)
-      ++ map (landing text graph table) (below (length text.words)) in
+      let xs = map (image text graph codes) (below (length text.words))
+      ++ ways_from text graph table codes 0 (own_edges graph)
+      ++ map (landing text graph codes) (below (length text.words)) in
       (length xs, _, ap (λ o. item_in o 0) (last_is xs foreign_piece))
 
   pub some_code : 0 < length p.code

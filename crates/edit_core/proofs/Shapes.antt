@@ -1,6 +1,7 @@
 -- Each piece that is made: if it has a Mark, it begins with it and ends it.
 use Rattle.std.proofs.Common.{◌≡◌, ℕ, suc, ◌+◌, ◌-◌, ◌%◌, ◌^◌, ◌<◌, ◌≤◌, ◌==◌, Some, List, [], ◌∷◌, ◌++◌, length, map, refl, subst, sym, arith}
 use Rattle.std.specs.Prelude.{nat_lt, slice_index}
+use Rattle.std.specs.List.{flat_map}
 use Rattle.std.proofs.lemmas.Bool.{cond_both}
 use Rattle.eel_base.specs.CodeText.{Words, IsText, address_of}
 use Rattle.eel_base.specs.declared.numbers.Addr.{Addr}
@@ -21,7 +22,7 @@ use Rattle.cfg_normal.specs.declared.Slot.{Slot}
 use Rattle.cfg_normal.specs.declared.Slot.TheVariants as slots
 use Rattle.cfg_normal.specs.Graph.{Graph, IsEdgeIn, IsNodeIn, IsSlotIn, edges_in, node_of}
 use Rattle.cfg_normal.proofs.Edges.{edges_in-in, node_of-in}
-use Rattle.cfg_walk.specs.Walk.{same_kind}
+use Rattle.cfg_walk.specs.Walk.{landing_at, left_by, same_kind}
 use Rattle.cfg_walk.specs.Matches.{way_address}
 use Rattle.cfg_normal.specs.Numbers.{node_number}
 use Rattle.cfg_walk.proofs.Lists.{Each, each, each-append, each-below, each-map}
@@ -40,7 +41,7 @@ use Rattle.layout.specs.Laid.{end_from, is_end}
 use Rattle.image_code.specs.Cases.{branch_piece, plain_piece}
 use Rattle.image_code.specs.Couple.{couple_piece}
 use Rattle.image_code.specs.Imaged.{TakesWords}
-use Rattle.image_code.specs.Made.{goes_along, goes_on, image, image_by, landing, own_edges, piece_list, rest_after, way_along, way_by, way_out}
+use Rattle.image_code.specs.Made.{goes_along, goes_on, image, image_by, jump_to, landing, next_to, own_edges, piece_list, rest_after, way_along, way_by, way_out, ways_from}
 use Rattle.image_code.specs.Parts.{IsGraphOf}
 use Rattle.image_code.proofs.Numbers.{cut_of, edges_are, words_are}
 use Rattle.edit_core.proofs.Eaches.{each_all, each_taken}
@@ -131,16 +132,19 @@ module _ (nodes : ℕ) (address : Addr) (node : ℕ) (visit : IsVisit nodes addr
       marked (it.Word (word_of first)) (word_items xs ++ it.EndMark ∷ it.Jump way ∷ []) tt
       (no_marks (words_of xs) (it.EndMark ∷ it.Jump way ∷ []) tt)
 
-  out_marked : (word : ℕ) (translator : List ℕ) → MarksFirst nodes (out_piece address node word [] translator)
-  out_marked word translator =
+  out_marked : (word : ℕ) (snippet translator : List ℕ)
+      → MarksFirst nodes (out_piece address node word (map it.Word snippet) translator)
+  out_marked word snippet translator =
       marked (it.Word word) _ tt
+      (no_marks snippet (word_items look_up_first ++ (map it.Word translator ++ word_items look_up_last))
       (no_marks (words_of look_up_first) (map it.Word translator ++ word_items look_up_last)
-      (no_marks translator (word_items look_up_last) (words_only (words_of look_up_last))))
+      (no_marks translator (word_items look_up_last) (words_only (words_of look_up_last)))))
 
 far_unmarked : (to : ℕ) → NoMarks (far_piece to)
 far_unmarked to = words_only (words_of (long_jump to))
 
-module _ (text : Words) (graph : Graph) (table : ℕ) (is : IsText text) (h : IsGraphOf text graph) where
+module _ (text : Words) (graph : Graph) (table : ℕ) (codes : ℕ → List ℕ) (is : IsText text)
+    (h : IsGraphOf text graph) where
   abbrev nodes : ℕ
   nodes = length graph.blocks.firsts
 
@@ -158,7 +162,7 @@ module _ (text : Words) (graph : Graph) (table : ℕ) (is : IsText text) (h : Is
 
   image_by_marked : (word : ℕ) (node : Node) → IsVisit nodes (record { 0 = address_of text word })
       (node_number graph node)
-      → (instr : Instr) → MarksFirst nodes (image_by text graph table (record { 0 = address_of text word }) node word
+      → (instr : Instr) → MarksFirst nodes (image_by text graph codes (record { 0 = address_of text word }) node word
       instr)
   image_by_marked word node visit (i.Branch c annul disp) =
       cond_both (c == always) _ _ (MarksFirst nodes) (λ _. plain_marked nodes _ _ visit _ _ tt)
@@ -171,45 +175,62 @@ module _ (text : Words) (graph : Graph) (table : ℕ) (is : IsText text) (h : Is
       words_marked nodes _ _ visit (jump_image (free_register rd rs1 op2) rd rs1 op2 (address_of text word))
       (record { 0 = way_out text graph node kinds.Out }) (omega arith)
   image_by_marked word node visit instr =
-      plain_marked nodes _ _ visit _ (rest_after text graph table word)
+      plain_marked nodes _ _ visit _ (rest_after text graph codes node word instr)
+      (no_marks (flat_map codes (left_by graph node word instr)) (next_to text word)
       (cond_both (nat_lt (word + 1) (length text.words)) _ _ NoMarks (λ _. tt)
-      (λ _. far_unmarked (address_of text (length text.words))))
+      (λ _. far_unmarked (address_of text (length text.words)))))
 
-  image_marked : (word : ℕ) → word < length text.words → MarksFirst nodes (image text graph table word)
+  image_marked : (word : ℕ) → word < length text.words → MarksFirst nodes (image text graph codes word)
   image_marked word l =
       image_by_marked word (node_of graph.blocks (Some word))
       (visit_at word l _ (node_of-in graph.blocks (cut_of text graph h is.some).firsts.some (Some word)))
       (decode_of (slice_index text.words word))
 
-  goes_unmarked : (node : Node) (address : ℕ) → NoMarks (goes_on text graph table node address)
+  goes_unmarked : (node : Node) (address : ℕ) → NoMarks (goes_on text graph node address)
   goes_unmarked (Block k) address = tt
   goes_unmarked X address = far_unmarked address
 
-  slot_marked : (edge : Edge) → IsEdgeIn graph.blocks edge → (word : ℕ) → word < length text.words
-      → MarksFirst nodes (way_by text graph table edge (slots.Word (record { 0 = word })))
-  slot_marked edge inside word l =
+  along_unmarked : (number : ℕ) (edge : Edge) → NoMarks (goes_along text graph codes number edge)
+  along_unmarked number edge =
+      no_marks (flat_map codes (number ∷ [])) (goes_on text graph edge.to (way_address text graph edge.from edge.kind))
+      (goes_unmarked edge.to (way_address text graph edge.from edge.kind))
+
+  slot_marked : (number : ℕ) (edge : Edge) → IsEdgeIn graph.blocks edge → (word : ℕ) → word < length text.words
+      → MarksFirst nodes (way_by text graph table codes number edge (slots.Word (record { 0 = word })))
+  slot_marked number edge inside word l =
       let visit = visit_at word l edge.from inside.from in
       cond_both (is_transfer (decode_of (slice_index text.words word))) _ _ (MarksFirst nodes)
       (λ _. couple_marked nodes _ _ visit _)
       (λ _. cond_both (same_kind edge.kind kinds.Out) _ _ (MarksFirst nodes)
-      (λ _. out_marked nodes _ _ visit _ (words_of (translator table 1 2)))
-      (λ _. plain_marked nodes _ _ visit _ _ (goes_unmarked edge.to _)))
+      (λ _. out_marked nodes _ _ visit _ (flat_map codes (number ∷ [])) (words_of (translator table 1 2)))
+      (λ _. plain_marked nodes _ _ visit _ _ (along_unmarked number edge)))
 
-  way_by_marked : (edge : Edge) → IsEdgeIn graph.blocks edge → (slot : Slot) → edge.slot ≡ slot
-      → MarksFirst nodes (way_by text graph table edge slot)
-  way_by_marked edge inside slots.Nothing e =
-      unmarked nodes (goes_along text graph table edge)
-      (goes_unmarked edge.to (way_address text graph edge.from edge.kind))
-  way_by_marked edge inside slots.Off e = unmarked nodes (far_piece table) (far_unmarked table)
-  way_by_marked edge inside (slots.Word slot) e = slot_marked edge inside slot.0 (in_slot edge.slot e inside.slot)
+  way_by_marked : (number : ℕ) (edge : Edge) → IsEdgeIn graph.blocks edge → (slot : Slot) → edge.slot ≡ slot
+      → MarksFirst nodes (way_by text graph table codes number edge slot)
+  way_by_marked number edge inside slots.Nothing e =
+      unmarked nodes (goes_along text graph codes number edge) (along_unmarked number edge)
+  way_by_marked number edge inside slots.Off e = unmarked nodes (far_piece table) (far_unmarked table)
+  way_by_marked number edge inside (slots.Word slot) e = slot_marked number edge inside slot.0 (in_slot edge.slot e inside.slot)
     where
       in_slot : (s : Slot) → s ≡ slots.Word slot → IsSlotIn graph.blocks s → slot.0 < length text.words
       in_slot s e l = let m : slot.0 < graph.blocks.words =
           subst (IsSlotIn graph.blocks) e l in omega (arith, m, words_are text graph h)
 
-  way_marked : (edge : Edge) → IsEdgeIn graph.blocks edge → MarksFirst nodes (way_along text graph table edge)
-  way_marked edge inside =
-      cond_both (is_fall edge.kind) _ _ (MarksFirst nodes) (λ _. tt) (λ _. way_by_marked edge inside edge.slot refl)
+  way_marked : (number : ℕ) (edge : Edge) → IsEdgeIn graph.blocks edge
+      → MarksFirst nodes (way_along text graph table codes number edge)
+  way_marked number edge inside =
+      cond_both (is_fall edge.kind) _ _ (MarksFirst nodes) (λ _. tt)
+      (λ _. way_by_marked number edge inside edge.slot refl)
+
+  ways_marked : (number : ℕ) (edges : List Edge) → Each (IsEdgeIn graph.blocks) edges
+      → Each (MarksFirst nodes) (ways_from text graph table codes number edges)
+  ways_marked number [] each = tt
+  ways_marked number (e ∷ es) each = (way_marked number e each.0, ways_marked (suc number) es each.1)
+
+  landing_marked : (word : ℕ) → MarksFirst nodes (landing text graph codes word)
+  landing_marked word =
+      unmarked nodes (landing text graph codes word)
+      (no_marks (flat_map codes (landing_at graph (node_of graph.blocks (Some word)))) (jump_to word) tt)
 
   each_own : Each (IsEdgeIn graph.blocks) (own_edges graph)
   each_own =
@@ -218,27 +239,22 @@ module _ (text : Words) (graph : Graph) (table : ℕ) (is : IsText text) (h : Is
       (each_all _ (edges_in graph.blocks) (edges_in-in graph.blocks (cut_of text graph h is.some).firsts.some)))
 
   abbrev images : List (List Item)
-  images = map (image text graph table) (below (length text.words))
+  images = map (image text graph codes) (below (length text.words))
 
   abbrev ways : List (List Item)
-  ways = map (way_along text graph table) (own_edges graph)
+  ways = ways_from text graph table codes 0 (own_edges graph)
 
   abbrev landings : List (List Item)
-  landings = map (landing text graph table) (below (length text.words))
+  landings = map (landing text graph codes) (below (length text.words))
 
-  pub all_marked : Each (MarksFirst nodes) (piece_list text graph table)
+  pub all_marked : Each (MarksFirst nodes) (piece_list text graph table codes)
   unfolding piece_list
   all_marked =
       each-append _ (images ++ ways ++ landings) (foreign_piece ∷ [])
       (each-append _ (images ++ ways) landings
       (each-append _ images ways
-      (each-map _ (image text graph table) (below (length text.words)) (each-below _ (length text.words) image_marked))
-      (each-map _ (way_along text graph table) (own_edges graph) (each_then (own_edges graph) each_own)))
-      (each-map _ (landing text graph table) (below (length text.words))
-      (each _ (below (length text.words)) (λ word. tt))))
+      (each-map _ (image text graph codes) (below (length text.words)) (each-below _ (length text.words) image_marked))
+      (ways_marked 0 (own_edges graph) each_own))
+      (each-map _ (landing text graph codes) (below (length text.words))
+      (each _ (below (length text.words)) landing_marked)))
       (unmarked nodes foreign_piece (words_only (words_of foreign)), tt)
-    where
-      each_then : (es : List Edge) → Each (IsEdgeIn graph.blocks) es
-          → Each (λ edge. MarksFirst nodes (way_along text graph table edge)) es
-      each_then [] each = tt
-      each_then (e ∷ es) each = (way_marked e each.0, each_then es each.1)

@@ -1,5 +1,5 @@
 -- An original and its written file start in valid states, which are the same but for the pages and where they stand.
-use Rattle.std.proofs.Common.{◌≡◌, ℕ, ◌*◌, Bool, true, false, cond, nat_eq, List, [], ◌∷◌, length, map, refl, ap, sym, ◌∙◌, subst}
+use Rattle.std.proofs.Common.{◌≡◌, ℕ, ◌*◌, Bool, true, false, cond, nat_eq, List, [], ◌∷◌, ◌++◌, length, map, refl, ap, sym, ◌∙◌, subst}
 use Rattle.std.specs.Prelude.{bit_and}
 use Rattle.std.proofs.lemmas.Nat.{and_assoc}
 use Rattle.elf32_sparc.specs.Header.{has_flag, program_headers}
@@ -21,7 +21,11 @@ use Rattle.v8_process.proofs.Valid.{mappings_have_room, starts_valid}
 use Rattle.addr_translate.specs.Lookup.{TableAt}
 use Rattle.layout.specs.Laid.{Placement}
 use Rattle.edit_core.specs.Faithful.{editor_page, page_size}
-use Rattle.edit_core.specs.Written.{IsEdit, added, code_base, notes_on, table_base}
+use Rattle.addr_translate.specs.Table.{size_of}
+use Rattle.tool_kit.specs.Plans.{Plan}
+use Rattle.edit_core.specs.Written.{IsEdit, added, cells_at, cells_base, code_base, code_segment, if_any, notes_on, page_segment, table_at, table_base, text_of}
+use Rattle.edit_core.proofs.Fronts.{any-map}
+use Rattle.elf32_sparc.specs.Notes.{NoteSegment}
 
 -- ---- valid states
 
@@ -57,23 +61,34 @@ all_kept (m ∷ ms) = (same_kept m, all_kept ms)
 abbrev span : ℕ → ℕ → Span
 span from count = record { from = from; count = count }
 
-module _ (original : List ℕ) (p : Placement) (place : ℕ → ℕ → ℕ) (table : TableAt) (file : List ℕ)
-    (is : IsEdit original p place table file) where
+module _ (original : List ℕ) (plan : Plan) (p : Placement) (place : ℕ → ℕ → ℕ) (table : TableAt) (file : List ℕ)
+    (is : IsEdit original plan p place table file) where
   -- what is added is what the notes say
-  pages_are : map span_of (map mapping_added (added original p table)) ≡ pages_of (notes_on original p)
+  pages_are : map span_of (map mapping_added (added original plan p table)) ≡ pages_of (notes_on original plan p)
   pages_are =
       let size = is.code.leads.size in
-      ap (λ (a : ℕ). span a (length table.bytes) ∷ span (code_base original) (4 * length p.code) ∷ span editor_page
-      page_size ∷ []) is.code.base
-      ∙ ap (λ (n : ℕ). span (table_base original) n ∷ span (code_base original) (4 * length p.code) ∷ span editor_page
-      page_size ∷ []) size
+      ap (map span_of) (any-map mapping_added plan.cells (cells_at (cells_base original plan) plan.cells)
+      (table_at table ∷ code_segment original plan p ∷ page_segment ∷ []))
+      ∙ any-map span_of plan.cells (mapping_added (cells_at (cells_base original plan) plan.cells))
+      (map mapping_added (table_at table ∷ code_segment original plan p ∷ page_segment ∷ []))
+      ∙ ap (λ (spans : List Span). if_any plan.cells (span (cells_base original plan) (4 * plan.cells)) ++ spans)
+      (ap (λ (a : ℕ). span a (length table.bytes) ∷ behind) is.code.base
+      ∙ ap (λ (n : ℕ). span (table_base original plan) n ∷ behind) size)
+      ∙ sym (any-map (λ (s : NoteSegment). span s.start s.length) plan.cells
+      (record { start = cells_base original plan; length = 4 * plan.cells })
+      (record { start = table_base original plan; length = size_of (text_of original plan) }
+      ∷ record { start = code_base original plan; length = 4 * length p.code }
+      ∷ record { start = editor_page; length = page_size } ∷ []))
+    where
+      behind : List Span
+      behind = span (code_base original plan) (4 * length p.code) ∷ span editor_page page_size ∷ []
 
-  pub memory_alike : (texts : List (List ℕ)) → IsSameOutside (pages_of (notes_on original p))
+  pub memory_alike : (texts : List (List ℕ)) → IsSameOutside (pages_of (notes_on original plan p))
       (start_memory original texts) (start_memory file texts)
   memory_alike texts =
       subst (λ (pages : List Span). IsSameOutside pages (start_memory original texts) (start_memory file texts))
       pages_are
-      (starts_alike original file (map kept (mappings original)) (map mapping_added (added original p table)) is.mapped
+      (starts_alike original file (map kept (mappings original)) (map mapping_added (added original plan p table)) is.mapped
       (all_kept (mappings original)) texts)
 
   module _ (args : List (List ℕ)) (input : List ℕ) (given : AreArguments args) (read : AreBytes input) where

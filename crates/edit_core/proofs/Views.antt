@@ -3,25 +3,42 @@ use Rattle.std.proofs.Common.{◌≡◌, ℕ, ◌≤◌, List, [], None, refl, s
 use Rattle.elf32_sparc.specs.FileFault.{fault}
 use Rattle.elf32_sparc.specs.Image.{Program, image_of}
 use Rattle.cfg_blocks.specs.Entries.{entered_of}
+use Rattle.cfg_normal.specs.Graph.{Graph}
 use Rattle.cfg_view.specs.declared.View.{View}
 use Rattle.cfg_view.specs.View.{view_of}
-use Rattle.edit_core.specs.Taken.{CanEdit, bound_of}
-use Rattle.edit_core.specs.Written.{graph_in}
+use Rattle.tool_kit.specs.Plans.{Plan}
+use Rattle.edit_core.specs.Taken.{CanEdit, bound_in, bound_of}
+use Rattle.edit_core.specs.Written.{IsViewOf, graph_in}
 
-pub view_image : (file : List ℕ) → (view_of file []).image ≡ image_of file
+pub view_image : (file marks : List ℕ) → (view_of file marks).image ≡ image_of file
 unfolding view_of
-view_image file = refl
+view_image file marks = refl
 
-pub view_graph : (file : List ℕ) → (view_of file []).graph ≡ graph_in file
+pub view_graph : (file : List ℕ) (plan : Plan) → (view_of file plan.marks).graph ≡ graph_in file plan
 unfolding view_of entered_of
-view_graph file = refl
+view_graph file plan = refl
 
--- what was seen of a file that can be edited
-pub can_edit : (file : List ℕ) (view : View) → view ≡ view_of file [] → None ≡ fault file
-    → bound_of view.image.text ≤ view.image.room → CanEdit file
-can_edit file view is sound room =
-    let image : view.image ≡ image_of file = ap (λ (v : View). v.image) is ∙ view_image file in
-    record {
-      sound = sym sound;
-      room = subst (λ (i : Program). bound_of i.text ≤ i.room) image room;
-    }
+-- what was seen of a file
+module _ (file : List ℕ) (plan : Plan) (view : View) (is : view ≡ view_of file plan.marks) where
+  pub view_is : IsViewOf file plan view
+  view_is = (
+    ap (λ (v : View). v.image) is ∙ view_image file plan.marks,
+    ap (λ (v : View). v.graph) is ∙ view_graph file plan,
+  )
+
+  pub view_bound : bound_of view.image.text view.graph plan ≡ bound_in file plan
+  view_bound =
+      ap (λ (v : View). bound_of v.image.text v.graph plan) is
+      ∙ ap (λ (i : Program). bound_of i.text (view_of file plan.marks).graph plan) (view_image file plan.marks)
+
+  -- it can be edited, where there is room
+  pub can_edit : None ≡ fault file → bound_of view.image.text view.graph plan ≤ view.image.room → CanEdit file plan
+  can_edit sound room = record {
+    sound = sym sound;
+    room = subst (λ (n : ℕ). n ≤ (image_of file).room) view_bound
+        (subst (λ (i : Program). bound_of view.image.text view.graph plan ≤ i.room) view_is.0 room);
+  }
+
+-- the bound of what can be edited, by the graph
+pub bound_is : (file : List ℕ) (plan : Plan) → bound_in file plan ≡ bound_of (image_of file).text (graph_in file plan) plan
+bound_is file plan = ap (λ (g : Graph). bound_of (image_of file).text g plan) (view_graph file plan)

@@ -9,7 +9,7 @@ use Rattle.cfg_blocks.specs.Blocks.{Blocks}
 use Rattle.cfg_normal.specs.declared.Edge.{Edge}
 use Rattle.cfg_normal.specs.Graph.{Graph}
 use Rattle.cfg_view.specs.View.{view_of}
-use Rattle.image_code.specs.Fit.{copies_of, operations_in}
+use Rattle.image_code.specs.Fit.{copies_of}
 use Rattle.snippets.specs.declared.snippet.Op.{Op}
 use Rattle.tool_kit.specs.declared.edge_ref.ToolKind.{ToolKind}
 use Rattle.tool_kit.specs.declared.edge_ref.ToolKind.TheVariants as tools
@@ -19,21 +19,25 @@ use Rattle.edit_core.specs.declared.taking.EditFault.TheVariants as faults
 
 -- ---- how much room an edit asks for
 
--- how often one operation on each of some edges is made
-abbrev pub copies_in : Blocks → List Edge → ℕ
-copies_in b [] = 0
-copies_in b (edge ∷ edges) = copies_of b edge + copies_in b edges
+-- How many operations an edge is taken to have. In a profile it is one, so that they are as many for every choice of
+-- counted edges.
+abbrev pub counted_on : ToolKind → List Op → ℕ
+counted_on tools.Profile ops = 1
+counted_on _ ops = length ops
 
--- The operations, counted as often as they are made. For a profile each edge is taken to have one, so that they are as
--- many for every choice of counted edges.
-abbrev pub operations_by : ToolKind → Graph → List (List Op) → ℕ
-operations_by tools.Profile graph snips = copies_in graph.blocks graph.edges
-operations_by _ graph snips = operations_in graph snips
+-- the operations on some edges, counted as often as they are made
+abbrev pub operations_on : ToolKind → Blocks → List Edge → List (List Op) → ℕ
+operations_on kind b (edge ∷ edges) (ops ∷ snips) =
+    copies_of b edge * counted_on kind ops + operations_on kind b edges snips
+operations_on kind b _ _ = 0
 
 -- in bytes
+abbrev pub bound_by : Words → Graph → ToolKind → ℕ → List (List Op) → ℕ
+bound_by text graph kind cells snips =
+    2 ^ 20 + 512 * length text.words + 4 * cells + 128 * operations_on kind graph.blocks graph.edges snips
+
 abbrev pub bound_of : Words → Graph → Plan → ℕ
-bound_of text graph plan =
-    2 ^ 20 + 512 * length text.words + 4 * plan.cells + 128 * operations_by plan.kind graph plan.snips
+bound_of text graph plan = bound_by text graph plan.kind plan.cells plan.snips
 
 -- of a file, by a plan
 abbrev pub bound_in : List ℕ → Plan → ℕ

@@ -1,6 +1,5 @@
 -- What follows for runs of a written file in which every item is kept.
 use Rattle.std.specs.Prelude.{◌≡◌, ℕ, zero, suc, ◌<◌, ◌≤◌, None}
-use Rattle.std.specs.List.{All}
 use Rattle.elf32_sparc.specs.Notes.{node_at}
 use Rattle.v8_step.specs.State.{State}
 use Rattle.v8_step.specs.Run.{run}
@@ -13,7 +12,6 @@ use Rattle.image_code.specs.Simulates.{Setting, cells_in, store_of}
 use Rattle.image_code.specs.Images.{Pieces, Frame, Here}
 use Rattle.image_code.specs.Cases.{Everything}
 use Rattle.image_code.specs.Outside.{IsOpen}
-use Rattle.tool_kit.specs.Good.{IsGood}
 use Rattle.edit_core.specs.Runs.{Keeping, Rests, Tells, limits_in}
 
 abbrev pub EveryItem : ℕ → Item → Type 0
@@ -21,8 +19,7 @@ EveryItem n item = Unit {0}
 
 -- Where no register is taken as dead, every item is kept.
 abbrev pub KeepsAll : Type 0
-KeepsAll = (g : Setting) (entry cells : ℕ) (s0 : State) → All (IsGood cells) g.snips
-    → Keeping g entry Everything s0 EveryItem
+KeepsAll = (g : Setting) (entry : ℕ) (s0 : State) → Keeping g entry Everything s0 EveryItem
 
 -- The written file answers each step of the original, within its limits. Up to its first visit it stands in no place,
 -- and from then on in none, or in one of the node where the original's walk stands.

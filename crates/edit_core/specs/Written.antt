@@ -1,6 +1,6 @@
 -- What is written of an original: cells, a table of addresses, new code and a page for the editor, as segments, and
 -- notes of them.
-use Rattle.std.specs.Prelude.{◌≡◌, ℕ, ◌+◌, ◌*◌, ◌/◌, ◌^◌, ◌<◌, ◌≤◌, ◌==◌, if◌then◌else◌, Bool, true, false, List, [], ◌∷◌, ◌++◌, length, map, replicate, slice_index, None, Ok, All}
+use Rattle.std.specs.Prelude.{◌≡◌, ℕ, zero, suc, ◌+◌, ◌*◌, ◌/◌, ◌^◌, ◌<◌, ◌≤◌, Bool, true, false, List, [], ◌∷◌, ◌++◌, length, map, replicate, slice_index, None, Ok, All}
 use Rattle.std.specs.List.{find}
 use Rattle.std.specs.Option.{option_map, option_to_list}
 use Rattle.eel_base.specs.CodeText.{Words, address_of}
@@ -30,11 +30,15 @@ use Rattle.layout.specs.declared.items.Placed.{Placed}
 use Rattle.layout.specs.Laid.{Placement, IsLaid, long_bytes, placement_of}
 use Rattle.image_code.specs.Made.{foreign_number, landing_number, piece_list}
 use Rattle.image_code.specs.Parts.{codes_of}
+use Rattle.snippets.specs.declared.snippet.Op.{Op}
 use Rattle.tool_kit.specs.Good.{IsGood}
-use Rattle.tool_kit.specs.Plans.{Plan}
+use Rattle.tool_kit.specs.declared.edge_ref.ToolKind.{ToolKind}
+use Rattle.tool_kit.specs.declared.edge_ref.ToolKind.TheVariants as tools
+use Rattle.tool_kit.specs.Plans.{AreCounters, Plan}
 use Rattle.edit_core.specs.Taken.{CanEdit}
+use Rattle.edit_core.specs.declared.taking.Asked.{Asked}
 use Rattle.edit_core.specs.RunsAlike.{HaveRunsAlike}
-use Rattle.edit_core.specs.Faithful.{AreCounted, editor_page, page_size, note_edges, tool_number}
+use Rattle.edit_core.specs.Faithful.{editor_page, page_size, note_edges, tool_number}
 
 -- a table of addresses as a segment, with the flag PF_R
 abbrev pub table_at : TableAt → AddedSegment
@@ -52,7 +56,8 @@ page_segment = record { vaddr = editor_page; memsz = page_size; flags = 6; bytes
 
 -- the one thing, where there are any
 abbrev pub if_any : {A : Type 0} → ℕ → A → List A
-if_any count one = if count == 0 then [] else one ∷ []
+if_any zero one = []
+if_any (suc count) one = one ∷ []
 
 -- as a segment without bytes in the file, with the flags PF_R and PF_W
 abbrev pub cells_at : ℕ → ℕ → AddedSegment
@@ -62,10 +67,14 @@ cells_at base cells = record { vaddr = base; memsz = 4 * cells; flags = 6; bytes
 abbrev pub cells_size : ℕ → ℕ
 cells_size cells = (4 * cells + 4095) / 4096 * 4096
 
+-- the table stands right behind them
+abbrev pub table_after : ℕ → ℕ → ℕ
+table_after base cells = base + cells_size cells
+
 -- all segments, as notes say them
 abbrev pub segments_noted : ℕ → ℕ → ℕ → List ℕ → List NoteSegment
 segments_noted base cells size code =
-    let table = base + cells_size cells in
+    let table = table_after base cells in
     if_any cells (record { start = base; length = 4 * cells }) ++ record { start = table; length = size }
     ∷ record { start = table + size; length = 4 * length code }
     ∷ record { start = editor_page; length = page_size } ∷ []
@@ -107,6 +116,11 @@ foreign_of text graph p = addr (slice_index p.at (foreign_number text graph))
 abbrev pub LeadsTo : Words → Graph → Placement → TableAt → Type 0
 LeadsTo text graph p table = IsTableOf text (landings_of text graph p) (foreign_of text graph p) table
 
+-- ---- the pieces of new code, with the snippets on the cells at `base`
+
+abbrev pub pieces_by : Words → Graph → ℕ → ℕ → List (List Op) → List (List Item)
+pieces_by text graph base cells snips = piece_list text graph (table_after base cells) (codes_of base snips)
+
 -- ---- of an original, by what a tool asks of it
 
 module _ (original : List ℕ) (plan : Plan) where
@@ -125,16 +139,13 @@ module _ (original : List ℕ) (plan : Plan) where
   cells_base = (image_of original).base
 
   abbrev pub table_base : ℕ
-  table_base = cells_base + cells_size plan.cells
+  table_base = table_after cells_base plan.cells
 
   abbrev pub code_base : ℕ
   code_base = table_base + size_of text_of
 
-  abbrev pub codes : ℕ → List ℕ
-  codes = codes_of cells_base plan.snips
-
   abbrev pub pieces_of : List (List Item)
-  pieces_of = piece_list text_of graph_in table_base codes
+  pieces_of = pieces_by text_of graph_in cells_base plan.cells plan.snips
 
   -- where the program is entered: the image of its entry
   abbrev pub entry_of : Placement → ℕ
@@ -172,12 +183,15 @@ module _ (original : List ℕ) (plan : Plan) where
   abbrev pub edit_file : Placement → TableAt → List ℕ
   edit_file p table = written original (added p table) (entry_of p) (notes_bytes (notes_on p))
 
--- What a tool asks that can be done: a good snippet for each edge, and for a profile counters.
-pub record IsWorkable (original : List ℕ) (plan : Plan) : Type 0 where
-  pub few : plan.cells ≤ 2 ^ 22
-  pub size : length plan.snips ≡ length (graph_in original plan).edges
-  pub good : All (IsGood plan.cells) plan.snips
-  pub counters : AreCounted plan
+-- What can be done on a graph: a good snippet on each edge, and in a profile counters.
+pub record IsWorkable (graph : Graph) (kind : ToolKind) (cells : ℕ) (snips : List (List Op)) : Type 0 where
+  pub few : cells ≤ 2 ^ 22
+  pub size : length snips ≡ length graph.edges
+  pub good : All (IsGood cells) snips
+  pub counters : kind ≡ tools.Profile → AreCounters 0 snips
+
+abbrev pub CanDo : List ℕ → Plan → Type 0
+CanDo original plan = IsWorkable (graph_in original plan) plan.kind plan.cells plan.snips
 
 -- The code was laid behind the table, in the bytes that its long forms take, and the table leads to it.
 pub record IsNewCode (original : List ℕ) (plan : Plan) (p : Placement) (place : ℕ → ℕ → ℕ)
@@ -196,7 +210,7 @@ pub record IsEdit (original : List ℕ) (plan : Plan) (p : Placement) (place : �
   pub taken : CanEdit original plan
   pub limit : length original ≤ 2 ^ 26
   pub given : AreBytes original
-  pub workable : IsWorkable original plan
+  pub workable : CanDo original plan
   -- of its code and its table
   pub code : IsNewCode original plan p place table
   -- of the file
@@ -228,3 +242,7 @@ IsViewOf original plan view = (view.image ≡ image_of original) × (view.graph 
 
 abbrev pub placement_in : Placed → Placement
 placement_in placed = placement_of placed.code.items placed.at.items placed.ranges.items
+
+-- what is asked, with the words that are marked
+abbrev pub plan_of : List ℕ → Asked → Plan
+plan_of marks asked = record { kind = asked.kind; marks = marks; cells = asked.cells; snips = asked.snips.items }

@@ -3,11 +3,12 @@ ghost use Rattle.std.specs.Prelude.{◌≡◌, ◌+◌, ◌*◌, ◌%◌, ◌^�
 ghost use Rattle.addr_translate.specs.Table.{size_of};
 ghost use Rattle.eel_base.specs.CodeText.{IsText};
 ghost use Rattle.layout.specs.Laid.{ArePieces, IsLaid, long_bytes};
-ghost use Rattle.image_code.specs.Made.{piece_list};
 ghost use Rattle.image_code.specs.Parts.{IsGraphOf};
-ghost use Rattle.edit_core.specs.Taken.{bound_of};
-ghost use Rattle.edit_core.specs.Written.{addr, placement_in, LeadsTo};
+ghost use Rattle.edit_core.specs.Taken.{bound_by};
+ghost use Rattle.edit_core.specs.Written.{addr, cells_size as cells_size_of, pieces_by, placement_in, table_after, IsWorkable, LeadsTo};
 
+use crate::segments::PAGE_SIZE;
+use crate::taking::Asked;
 use addr_translate::{Table, build, table_size};
 use cfg_view::View;
 use eel_base::{Addr, NoMemory, PieceNo};
@@ -23,59 +24,80 @@ pub(crate) struct NewCode {
     pub table: Table,
 }
 
-/// The table of a program stands above its segments, and the images of its words right behind that, where there is as
-/// much room as an edit asks for.
-pub(crate) fn new_code(alloc: Global, view: &View) -> Result<NewCode, NoMemory>
+/// The cells stand above a program's segments, the table of the program behind them, and the images of its words right
+/// behind that, where there is as much room as an edit asks for.
+pub(crate) fn new_code(alloc: Global, view: &View, asked: &Asked) -> Result<NewCode, NoMemory>
     requires text { IsText view.now.image.text }
     requires graph { IsGraphOf view.now.image.text view.now.graph }
-    requires room { bound_of view.now.image.text ≤ view.now.image.room }
+    requires asked { IsWorkable view.now.graph asked.now.kind asked.now.cells asked.now.snips.items }
+    requires room { bound_by view.now.image.text view.now.graph asked.now.kind asked.now.cells asked.now.snips.items
+        ≤ view.now.image.room }
+    requires base { view.now.image.base % 4096 ≡ 0 }
     requires low { view.now.image.base + view.now.image.room ≤ 2 ^ 31 }
     ensures laid { IfOk result (λ new. (p : ℕ → ℕ → ℕ)
-        × IsLaid (piece_list view.now.image.text view.now.graph view.now.image.base)
-        (view.now.image.base + size_of view.now.image.text) (placement_in new.placed) p) }
-    ensures size { IfOk result (λ new. 4 * length new.placed.code.items
-        ≡ long_bytes (piece_list view.now.image.text view.now.graph view.now.image.base)) }
-    ensures base { IfOk result (λ new. new.table.base ≡ view.now.image.base) }
+        × IsLaid (pieces_by view.now.image.text view.now.graph view.now.image.base asked.now.cells asked.now.snips.items)
+        (table_after view.now.image.base asked.now.cells + size_of view.now.image.text) (placement_in new.placed) p) }
+    ensures size { IfOk result (λ new. 4 * length new.placed.code.items ≡ long_bytes
+        (pieces_by view.now.image.text view.now.graph view.now.image.base asked.now.cells asked.now.snips.items)) }
+    ensures base { IfOk result (λ new. new.table.base ≡ table_after view.now.image.base asked.now.cells) }
     ensures leads { IfOk result (λ new.
         LeadsTo view.now.image.text view.now.graph (placement_in new.placed) new.table) }
 {
     let image = &view.image;
     let text = image.text();
-    let base = image.base();
+    let table = table_base(image, asked.cells);
     let frame = Frame {
-        cells: base,
-        table: base,
+        cells: image.base(),
+        table,
     };
-    let pieces = pieces(alloc, text, &view.graph, image.entry(), frame)?;
-    let placed = laid(alloc, &pieces.list, image)?;
+    let pieces = pieces(alloc, text, &view.graph, image.entry(), &asked.snips, frame)?;
+    let placed = laid(alloc, &pieces.list, image, asked.cells)?;
     let targets = places_of(alloc, &placed.at, &pieces.landing)?;
     let foreign = place_of(&placed.at, pieces.foreign);
-    let table = build(alloc, text, &targets, foreign, base)?;
+    let table = build(alloc, text, &targets, foreign, table)?;
     Ok(NewCode { placed, table })
 }
 
-/// Where code stands: right behind the table.
-pub(crate) fn code_base(image: &Image) -> Addr
-    requires { image.now.base + size_of image.now.text < 2 ^ 32 }
-    ensures address { result.0 ≡ image.now.base + size_of image.now.text }
-    ensures aligned { result.0 % 4096 ≡ 0 }
+// How much room cells take: whole pages.
+fn cells_size(cells: u32) -> u32
+    requires { cells ≤ 2 ^ 22 }
+    ensures { result ≡ cells_size_of cells }
 {
-    Addr(image.base().0 + table_size(image.text()))
+    (4 * cells + PAGE_SIZE - 1) / PAGE_SIZE * PAGE_SIZE
+}
+
+/// Where the table stands: behind the cells.
+pub(crate) fn table_base(image: &Image, cells: u32) -> Addr
+    requires few { cells ≤ 2 ^ 22 }
+    requires fits { table_after image.now.base cells < 2 ^ 32 }
+    ensures { result.0 ≡ table_after image.now.base cells }
+{
+    Addr(image.base().0 + cells_size(cells))
+}
+
+/// Where code stands: right behind the table.
+pub(crate) fn code_base(image: &Image, cells: u32) -> Addr
+    requires few { cells ≤ 2 ^ 22 }
+    requires fits { table_after image.now.base cells + size_of image.now.text < 2 ^ 32 }
+    ensures address { result.0 ≡ table_after image.now.base cells + size_of image.now.text }
+{
+    Addr(table_base(image, cells).0 + table_size(image.text()))
 }
 
 // Pieces that need no more room than an edit asks for, placed behind the table.
-fn laid(alloc: Global, list: &[Piece], image: &Image) -> Result<Placed, NoMemory>
+fn laid(alloc: Global, list: &[Piece], image: &Image, cells: u32) -> Result<Placed, NoMemory>
     requires pieces { ArePieces list.now }
-    requires bytes { long_bytes list.now ≤ 2 ^ 19 + 500 * length image.now.text.words }
-    requires text { IsText image.now.text }
-    requires room { bound_of image.now.text ≤ image.now.room }
+    requires cells { cells ≤ 2 ^ 22 }
+    requires room { cells_size_of cells + size_of image.now.text + long_bytes list.now ≤ image.now.room }
+    requires base { image.now.base % 4096 ≡ 0 }
     requires low { image.now.base + image.now.room ≤ 2 ^ 31 }
     ensures laid { IfOk result (λ placed. (p : ℕ → ℕ → ℕ)
-        × IsLaid list.now (image.now.base + size_of image.now.text) (placement_in placed) p) }
+        × IsLaid list.now (table_after image.now.base cells + size_of image.now.text) (placement_in placed) p) }
     ensures size { IfOk result (λ placed. 4 * length placed.code.items ≡ long_bytes list.now) }
 {
-    let room = image.room() - table_size(image.text());
-    match place(alloc, list, code_base(image), room) {
+    let code = code_base(image, cells);
+    let room = image.room() - (code.0 - image.base().0);
+    match place(alloc, list, code, room) {
         Ok(placed) => Ok(placed),
         Err(LayoutFault::Room { .. }) => unreachable!(),
         Err(LayoutFault::NoMemory) => Err(NoMemory),

@@ -1,24 +1,25 @@
 //! The edit of a file.
-ghost use Rattle.std.specs.Prelude.{◌≡◌, ◌≤◌, ◌^◌, length, map, slice_index, IfErr, IfOk};
-ghost use Rattle.cfg_blocks.specs.Marks.{numbers};
-ghost use Rattle.cfg_view.specs.View.{view_of};
-ghost use Rattle.tool_kit.specs.declared.edge_ref.ToolKind.TheVariants.{Profile};
-ghost use Rattle.tool_kit.specs.Plans.{AreAnswers, AreCounters, IsPlanOf, Plan};
+ghost use Rattle.std.specs.Prelude.{◌≡◌, ℕ, List, [], ◌∷◌, ◌++◌, ◌+◌, ◌*◌, ◌<◌, ◌≤◌, ◌^◌, length, map, slice_index, All, IfErr, IfOk, OnOk};
+ghost use Rattle.elf32_write.specs.Headers.{segment_seen};
+ghost use Rattle.elf32_write.specs.Laws.{AreBytes};
+ghost use Rattle.addr_translate.specs.Table.{size_of};
+ghost use Rattle.tool_kit.specs.Plans.{Plan};
 ghost use Rattle.edit_core.specs.Taken.{CanEdit, EditRefuses};
-ghost use Rattle.edit_core.specs.Faithful.{IsFaithful, AsksOf, CountsEdges};
-ghost use Rattle.edit_core.specs.Written.{IsViewOf, IsWritten, IsWorkable};
+ghost use Rattle.edit_core.specs.Faithful.{AsksOf, CountsEdges, IsFaithful};
+ghost use Rattle.edit_core.specs.Written.{cells_at, code_at, if_any, page_segment as page_segment_of, plan_of, table_after, table_at};
+ghost use Rattle.edit_core.specs.Written.{CanDo, IsViewOf, IsWritten};
 
-use crate::building::{NewCode, code_base, new_code};
+use crate::building::{NewCode, code_base, new_code, table_base};
 use crate::noting::notes;
 use crate::segments::{cells_segment, code_segment, page_segment, table_segment};
-use crate::taking::{EditFault, bound};
+use crate::taking::{Asked, EditFault, bound};
 use cfg_view::{View, look};
 use eel_base::{Addr, NoMemory, WordNo};
+use elf32_sparc::Image;
 use elf32_write::{NewSegment, write_around};
 use notes::write_notes;
-use snippets::Snippet;
 use std::alloc::Global;
-use tool_kit::{Chooser, Tool, ToolKind, snips};
+use tool_kit::{Chooser, Tool, snips};
 
 /// The edit of a file: what a tool asks is done on each edge that the program completes. A profile's snippets count
 /// edges.
@@ -34,12 +35,69 @@ pub fn edit_bytes<F: Chooser>(
         × CanEdit bytes.now plan × IsFaithful bytes.now plan file.items) }
 {
     let view = look(alloc, bytes, tool.marks())?;
-    let snips = snips(alloc, tool, &view.graph)?;
-    let needed = bound(&view, tool.kind(), tool.cells(), &snips);
+    let asked = Asked {
+        kind: tool.kind(),
+        cells: tool.cells(),
+        snips: snips(alloc, tool, &view.graph)?,
+    };
+    let needed = bound(view.image.text(), &view.graph, &asked);
     let had = u64::from(view.image.room());
     if had < needed {
         return Err(EditFault::Room { needed, had });
     }
-    let file = edited(alloc, bytes, &view, tool.kind(), tool.cells(), &snips)?;
+    let file = edited(alloc, bytes, &view, &asked)?;
     Ok(file)
+}
+
+// The file that is written of a program.
+fn edited(alloc: Global, bytes: &[u8], view: &View, asked: &Asked) -> Result<Vec<u8>, NoMemory>
+    requires limit { length bytes.now ≤ 2 ^ 26 }
+    requires asked { (marks : List ℕ) × IsViewOf bytes.now (plan_of marks asked.now) view.now
+        × CanEdit bytes.now (plan_of marks asked.now) × CanDo bytes.now (plan_of marks asked.now) }
+    ensures { (marks : List ℕ) → IsViewOf bytes.now (plan_of marks asked.now) view.now
+        → IfOk result (λ file. IsWritten bytes.now (plan_of marks asked.now) file.items) }
+{
+    let image = &view.image;
+    let new = new_code(alloc, view, asked)?;
+    let entry = image_of(&new.placed.at, image.entry());
+    let added = added(alloc, image, asked.cells, &new)?;
+    let notes = notes(alloc, bytes, view, asked, new.placed)?;
+    let notes = write_notes(alloc, &notes)?;
+    let file = write_around(alloc, bytes, image, &added, entry, &notes)?;
+    Ok(file)
+}
+
+// The segments of cells, if there are any, of the table and of the code, and the editor's page.
+fn added(
+    alloc: Global,
+    image: &Image,
+    cells: u32,
+    new: &NewCode,
+) -> Result<Vec<NewSegment>, NoMemory>
+    requires few { cells ≤ 2 ^ 22 }
+    requires table { new.now.table.base ≡ table_after image.now.base cells }
+    requires low { table_after image.now.base cells + size_of image.now.text + 4 * length new.now.placed.code.items ≤ 2 ^ 31 }
+    ensures segments { IfOk result (λ v. map segment_seen v.items
+        ≡ if_any cells (cells_at image.now.base cells) ++ table_at new.now.table
+        ∷ code_at (table_after image.now.base cells + size_of image.now.text) new.now.placed.code.items
+        ∷ page_segment_of ∷ []) }
+    ensures table { OnOk result (AreBytes new.now.table.bytes) }
+    ensures code { OnOk result (All (λ word. word < 2 ^ 32) new.now.placed.code.items) }
+{
+    let mut added = Vec::new(alloc);
+    if cells > 0 {
+        added.push(cells_segment(alloc, image.base(), cells))?;
+    }
+    added.push(table_segment(alloc, table_base(image, cells), &new.table)?)?;
+    added.push(code_segment(alloc, code_base(image, cells), &new.placed.code)?)?;
+    added.push(page_segment(alloc)?)?;
+    Ok(added)
+}
+
+// Where the image of a word stands: the pieces of the words come first.
+fn image_of(at: &[Addr], word: WordNo) -> Addr
+    requires { word.0 < length at.now }
+    ensures { result.0 ≡ slice_index (map (λ a. a.0) at.now) word.0 }
+{
+    at[word.0 as usize]
 }

@@ -1,15 +1,16 @@
 //! The notes on an edit.
-ghost use Rattle.std.specs.Prelude.{◌≡◌, ◌+◌, ◌*◌, ◌^◌, ◌<◌, ◌≤◌, ◌++◌, length, map, IfOk};
+ghost use Rattle.std.specs.Prelude.{◌≡◌, ℕ, List, ◌+◌, ◌*◌, ◌^◌, ◌<◌, ◌≤◌, ◌++◌, length, map, IfOk};
 ghost use Rattle.std.specs.List.{find};
 ghost use Rattle.eel_base.specs.CodeText.{IsText};
 ghost use Rattle.notes.specs.Seen.{notes_seen, edge_seen, range_seen, segment_seen};
 ghost use Rattle.cfg_normal.specs.Numbers.{node_number as node_number_of};
 ghost use Rattle.addr_translate.specs.Table.{size_of};
-ghost use Rattle.edit_core.specs.Faithful.{kind_number as kind_number_of, note_edge as note_edge_of};
-ghost use Rattle.edit_core.specs.Written.{is_off as is_off_of, notes_on, off_range as off_range_of, off_ranges, segments_noted, placement_in, IsViewOf};
+ghost use Rattle.edit_core.specs.Faithful.{cell_noted as cell_noted_of, kind_number as kind_number_of, note_edge as note_edge_of, note_edges as note_edges_of, tool_number as tool_number_of};
+ghost use Rattle.edit_core.specs.Written.{is_off as is_off_of, notes_on, off_range as off_range_of, off_ranges, segments_noted, placement_in, plan_of, table_after, IsViewOf};
 
-use crate::building::code_base;
+use crate::building::{code_base, table_base};
 use crate::segments::{EDITOR_PAGE, PAGE_SIZE};
+use crate::taking::Asked;
 use addr_translate::table_size;
 use cfg_blocks::EdgeKind;
 use cfg_normal::{Edge, FlowGraph, Node, Slot};
@@ -19,64 +20,89 @@ use elf32_sparc::Image;
 use elf32_write::delta;
 use layout::Placed;
 use notes::{NoteEdge, NoteSegment, Notes};
+use snippets::Snippet;
 use std::alloc::Global;
-
-// The tool of an edit without snippets.
-const PLAIN: u32 = 0;
+use tool_kit::ToolKind;
 
 /// The notes on new code.
 pub(crate) fn notes(
     alloc: Global,
     bytes: &[u8],
     view: &View,
+    asked: &Asked,
     placed: Placed,
 ) -> Result<Notes, NoMemory>
     requires limit { length bytes.now ≤ 2 ^ 26 }
-    requires view { IsViewOf bytes.now view.now }
     requires words { view.now.graph.blocks.words ≡ length view.now.image.text.words }
     requires text { IsText view.now.image.text }
-    requires low { view.now.image.base + size_of view.now.image.text + 4 * length placed.code.items ≤ 2 ^ 31 }
-    ensures { IfOk result (λ n. notes_seen n ≡ notes_on bytes.now (placement_in placed)) }
+    requires few { asked.now.cells ≤ 2 ^ 22 }
+    requires low { table_after view.now.image.base asked.now.cells + size_of view.now.image.text
+        + 4 * length placed.code.items ≤ 2 ^ 31 }
+    ensures { (marks : List ℕ) → IsViewOf bytes.now (plan_of marks asked.now) view.now
+        → IfOk result (λ n. notes_seen n ≡ notes_on bytes.now (plan_of marks asked.now) (placement_in placed)) }
 {
     let image = &view.image;
     let text = image.text();
     let graph = &view.graph;
+    let table = table_base(image, asked.cells);
     Ok(Notes {
         delta: delta(image),
         length: bytes.len() as u32,
-        tool: PLAIN,
+        tool: tool_number(asked.kind),
         start: text.start().0,
         words: text.len(),
         entry: graph.holding(image.entry()).0,
         base: image.base().0,
-        cells: 0,
-        segments: note_segments(alloc, image, &placed.code)?,
+        cells: asked.cells,
+        segments: note_segments(alloc, image, asked.cells, &placed.code)?,
         blocks: firsts(alloc, graph)?,
-        edges: note_edges(alloc, graph)?,
-        ranges: places(alloc, text, graph, image.base(), &placed.ranges)?,
+        edges: note_edges(alloc, graph, asked)?,
+        ranges: places(alloc, text, graph, table, &placed.ranges)?,
     })
 }
 
-// The segments of the table and of the code, and the editor's page.
-fn note_segments(alloc: Global, image: &Image, code: &[u32]) -> Result<Vec<NoteSegment>, NoMemory>
-    requires { image.now.base + size_of image.now.text + 4 * length code.now ≤ 2 ^ 31 }
-    ensures { IfOk result (λ v. map segment_seen v.items
-        ≡ segments_noted image.now.base (size_of image.now.text) code.now) }
+// The tools by their numbers.
+fn tool_number(kind: ToolKind) -> u32
+    ensures { result ≡ tool_number_of kind }
 {
-    let segments = vec![in alloc;
-        NoteSegment {
+    match kind {
+        ToolKind::Plain => 0,
+        ToolKind::Profile => 1,
+        ToolKind::Script => 2,
+    }
+}
+
+// The segments of cells, if there are any, of the table and of the code, and the editor's page.
+fn note_segments(
+    alloc: Global,
+    image: &Image,
+    cells: u32,
+    code: &[u32],
+) -> Result<Vec<NoteSegment>, NoMemory>
+    requires few { cells ≤ 2 ^ 22 }
+    requires low { table_after image.now.base cells + size_of image.now.text + 4 * length code.now ≤ 2 ^ 31 }
+    ensures { IfOk result (λ v. map segment_seen v.items
+        ≡ segments_noted image.now.base cells (size_of image.now.text) code.now) }
+{
+    let mut segments = Vec::new(alloc);
+    if cells > 0 {
+        segments.push(NoteSegment {
             start: image.base().0,
-            length: table_size(image.text()),
-        },
-        NoteSegment {
-            start: code_base(image).0,
-            length: 4 * code.len() as u32
-        },
-        NoteSegment {
-            start: EDITOR_PAGE.0,
-            length: PAGE_SIZE
-        },
-    ]?;
+            length: 4 * cells,
+        })?;
+    }
+    segments.push(NoteSegment {
+        start: table_base(image, cells).0,
+        length: table_size(image.text()),
+    })?;
+    segments.push(NoteSegment {
+        start: code_base(image, cells).0,
+        length: 4 * code.len() as u32,
+    })?;
+    segments.push(NoteSegment {
+        start: EDITOR_PAGE.0,
+        length: PAGE_SIZE,
+    })?;
     Ok(segments)
 }
 
@@ -140,25 +166,39 @@ fn firsts(alloc: Global, graph: &FlowGraph) -> Result<Vec<u32>, NoMemory>
     Ok(firsts)
 }
 
-fn note_edges(alloc: Global, graph: &FlowGraph) -> Result<Vec<NoteEdge>, NoMemory>
-    ensures { IfOk result (λ v. map edge_seen v.items ≡ map (note_edge_of graph.now) graph.now.edges) }
+fn note_edges(
+    alloc: Global,
+    graph: &FlowGraph,
+    asked: &Asked,
+) -> Result<Vec<NoteEdge>, NoMemory>
+    ensures { IfOk result (λ v. map edge_seen v.items
+        ≡ note_edges_of graph.now asked.now.kind graph.now.edges asked.now.snips.items) }
 {
     let mut edges = Vec::new(alloc);
-    for edge in graph.edges() {
-        edges.push(note_edge(graph, edge))?;
+    for (edge, snippet) in graph.edges().iter().zip(asked.snips.iter()) {
+        edges.push(note_edge(graph, asked.kind, edge, snippet))?;
     }
     Ok(edges)
 }
 
-// An edge without a cell.
-fn note_edge(graph: &FlowGraph, edge: &Edge) -> NoteEdge
-    ensures { edge_seen result ≡ note_edge_of graph.now edge.now }
+fn note_edge(graph: &FlowGraph, kind: ToolKind, edge: &Edge, snippet: &Snippet) -> NoteEdge
+    ensures { edge_seen result ≡ note_edge_of graph.now kind edge.now snippet.now }
 {
     NoteEdge {
         kind: kind_number(edge.kind),
         from: node_number(graph, edge.from),
         to: node_number(graph, edge.to),
-        cell: None,
+        cell: cell_noted(kind, snippet),
+    }
+}
+
+// In a profile the cell of an edge's operation, if it has one.
+fn cell_noted(kind: ToolKind, snippet: &Snippet) -> Option<u32>
+    ensures { result ≡ cell_noted_of kind snippet.now }
+{
+    match kind {
+        ToolKind::Profile => snippet.ops().first().map(|op| op.cell()),
+        ToolKind::Plain | ToolKind::Script => None,
     }
 }
 

@@ -3,7 +3,7 @@ ghost use Rattle.std.specs.Prelude.{◌≡◌, ◌*◌, ◌^◌, ◌<◌, ◌≤
 ghost use Rattle.elf32_write.specs.Bytes.{words_bytes};
 ghost use Rattle.elf32_write.specs.Headers.{segment_seen};
 ghost use Rattle.elf32_write.specs.Laws.{AreBytes};
-ghost use Rattle.edit_core.specs.Written.{code_at, page_segment as page_segment_of, table_at};
+ghost use Rattle.edit_core.specs.Written.{cells_at, code_at, page_segment as page_segment_of, table_at};
 
 use addr_translate::Table;
 use byteorder::{BigEndian, ByteOrder};
@@ -23,6 +23,19 @@ const DATA: SegFlags = SegFlags(6);
 pub(crate) const EDITOR_PAGE: Addr = Addr(0xffff_f000);
 
 pub(crate) const PAGE_SIZE: u32 = 4096;
+
+/// Cells, which begin as zeros, so that they need no bytes.
+pub(crate) fn cells_segment(alloc: Global, base: Addr, cells: u32) -> NewSegment
+    requires { cells ≤ 2 ^ 22 }
+    ensures { segment_seen result ≡ cells_at base.0 cells }
+{
+    NewSegment {
+        vaddr: base,
+        memsz: 4 * cells,
+        flags: DATA,
+        bytes: Vec::new(alloc),
+    }
+}
 
 /// A table of addresses, which can only be read.
 pub(crate) fn table_segment(

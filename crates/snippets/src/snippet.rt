@@ -24,7 +24,7 @@ pub enum Op {
 
 impl Op {
     /// The cell that it works on.
-    pub(crate) fn cell(&self) -> u32
+    pub fn cell(&self) -> u32
         ensures { result ≡ cell_of self.now }
     {
         match self {

@@ -1,0 +1,55 @@
+-- The room that an edit asks for is enough for the operations that are made.
+use Rattle.std.proofs.Common.{◌≡◌, ℕ, zero, suc, ◌+◌, ◌*◌, ◌≤◌, List, [], ◌∷◌, length, get_or, refl, ap, sym, ◌∙◌, subst, arith}
+use Rattle.std.proofs.lemmas.Nat.{mul-le}
+use Rattle.cfg_blocks.specs.Blocks.{Blocks}
+use Rattle.cfg_normal.specs.declared.Edge.{Edge}
+use Rattle.cfg_normal.specs.Graph.{Graph}
+use Rattle.cfg_walk.proofs.Lists.{Each, each}
+use Rattle.image_code.specs.Fit.{copies_of, operations_from, operations_in}
+use Rattle.image_code.specs.Simulates.{snippet_on}
+use Rattle.snippets.specs.declared.snippet.Op.{Op}
+use Rattle.snippets.specs.declared.snippet.Op.TheVariants.{Add, Put, Keep, Top}
+use Rattle.tool_kit.specs.declared.edge_ref.ToolKind.{ToolKind}
+use Rattle.tool_kit.specs.declared.edge_ref.ToolKind.TheVariants as tools
+use Rattle.tool_kit.specs.Plans.{AreCounters}
+use Rattle.edit_core.specs.Taken.{counted_on, operations_on}
+use Rattle.edit_core.specs.Written.{IsWorkable}
+
+-- counters are one operation each at most
+few_counted : (next : ℕ) (snips : List (List Op)) → AreCounters next snips → Each (λ ops. length ops ≤ 1) snips
+few_counted next [] are = tt
+few_counted next ([] ∷ snips) are = (omega arith, few_counted next snips are)
+few_counted next ((Add cell amount ∷ []) ∷ snips) are = (omega arith, few_counted (suc next) snips are.2)
+few_counted next ((Add cell amount ∷ op ∷ ops) ∷ snips) are = absurd are
+few_counted next ((Put cell value ∷ ops) ∷ snips) are = absurd are
+few_counted next ((Keep cell reg ∷ ops) ∷ snips) are = absurd are
+few_counted next ((Top cell reg ∷ ops) ∷ snips) are = absurd are
+
+all_counted : (kind : ToolKind) (snips : List (List Op)) → (kind ≡ tools.Profile → AreCounters 0 snips)
+    → Each (λ ops. length ops ≤ counted_on kind ops) snips
+all_counted tools.Plain snips are = each _ snips (λ ops. omega arith)
+all_counted tools.Profile snips are = few_counted 0 snips (are refl)
+all_counted tools.Script snips are = each _ snips (λ ops. omega arith)
+
+made : (kind : ToolKind) (b : Blocks) (all : List (List Op)) (number : ℕ) (edges : List Edge) (snips : List (List Op))
+    → length snips ≡ length edges → ((k : ℕ) → snippet_on all (number + k) ≡ snippet_on snips k)
+    → Each (λ ops. length ops ≤ counted_on kind ops) snips
+    → operations_from b all number edges ≤ operations_on kind b edges snips
+made kind b all number [] snips size same few = omega arith
+made kind b all number (edge ∷ edges) [] size same few = absurd (omega (arith, size))
+made kind b all number (edge ∷ edges) (ops ∷ snips) size same few =
+    let here : length (snippet_on all number) ≡ length ops =
+    ap (λ (n : ℕ). length (snippet_on all n)) (let e : number ≡ number + 0 = omega arith in e)
+    ∙ ap (λ (x : List Op). length x) (same 0) in
+    let first = mul-le (copies_of b edge) (length (snippet_on all number)) (copies_of b edge) (counted_on kind ops)
+    (omega arith) (omega (arith, here, few.0)) in
+    let later = made kind b all (suc number) edges snips (omega (arith, size))
+    (λ k. ap (snippet_on all) (let e : suc number + k ≡ number + suc k = omega arith in e) ∙ same (suc k)) few.1 in
+    omega (arith, first, later)
+
+pub operations_few : (graph : Graph) (kind : ToolKind) (cells : ℕ) (snips : List (List Op))
+    → IsWorkable graph kind cells snips
+    → operations_in graph snips ≤ operations_on kind graph.blocks graph.edges snips
+operations_few graph kind cells snips is =
+    made kind graph.blocks snips 0 graph.edges snips is.size
+    (λ k. ap (snippet_on snips) (let e : 0 + k ≡ k = omega arith in e)) (all_counted kind snips is.counters)
