@@ -28,15 +28,19 @@ edit_of original plan notes = record {
 abbrev pub first_limit : ℕ
 first_limit = 64
 
+-- Where the original is over after n steps, the written file stands in a place of the node where their walk ended.
+abbrev pub EndsAtNode : Setting → ℕ → State → State → ℕ → ℕ → Type 0
+EndsAtNode g entry s0 t0 n m =
+    (run s0 n).ending ≢ None
+    → node_at g.notes (run t0 m).pc ≡ Some (number_in g (end_of_walk g.text (graph_in g) entry s0 n))
+
 -- There is a first moment at which the written file is where the original is after n steps, by the same trail, and its
--- cells are then what the snippets make of the edges that these steps complete. Where the run is over, it stands in a
--- place of the node where the walk ended.
+-- cells are then what the snippets make of the edges that these steps complete.
 pub record IsAnswered (g : Setting) (entry : ℕ) (s0 t0 : State) (n : ℕ) : Type 0 where
   pub moment : ℕ
   pub first : IsLeast (Answers g.notes s0 t0 n) moment
   pub cells : cells_in g (run t0 moment) ≡ store_of g entry s0 n
-  pub node : (run s0 n).ending ≢ None
-      → node_at g.notes (run t0 moment).pc ≡ Some (number_in g (end_of_walk g.text (graph_in g) entry s0 n))
+  pub node : EndsAtNode g entry s0 t0 n moment
 
 -- Where the original's first n steps touch no page of the notes:
 pub record AreRunsAlike (g : Setting) (entry : ℕ) (s0 t0 : State) : Type 0 where
