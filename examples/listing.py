@@ -12,6 +12,8 @@ import sys
 import tempfile
 from dataclasses import dataclass
 
+from switches import switches
+
 EEL = os.path.join(os.path.dirname(os.path.abspath(__file__)), '..', 'eel')
 
 
@@ -153,6 +155,7 @@ def listing(file):
         lines.append(f'block {number} {address(first)} {graph.last(number) + 1 - first}')
     for number, edge in enumerate(graph.edges):
         lines.append(f'edge {number} {edge.kind} {node(edge.source)} {node(edge.target)} {slot(edge.slot)}')
+    lines += [f'switch {address(jump)} {table:08x} {count}' for jump, table, count in switches(program, graph)]
     lines.append(f'routines {len(graph.routines)} blocks {len(graph.firsts)} edges {len(graph.edges)}')
     return '\n'.join(lines) + '\n'
 
@@ -165,11 +168,33 @@ def random_word(count):
     return random.choice([branch, branch, call, 0x81c7e008, random.getrandbits(32), 0x01000000, 0x01000000])
 
 
+# Words that take the place of others in a switch: a nop, other comparisons, branches, sums, shifts, loads and jumps, a
+# SAVE, and a trap.
+EXCHANGED = [
+    0x01000000, 0x80a22002, 0x80a22005, 0x90a22003, 0x8092200f, 0x0880000c, 0x0880000d, 0x3880000c, 0x08800002, 0x28800002,
+    0x912a2003, 0x932a2002, 0x82006078, 0x82004008, 0x82020001, 0x82120000, 0x82806078, 0xc2004008, 0xc2020001, 0xd0004008,
+    0xc2184008, 0x81c06000, 0x81c04008, 0x81c20000, 0x9de3bfa0, 0x91d02003, 0x10bffff5]
+
+
+def near_switch(start):
+    """A switch of four entries, a few words of which are exchanged."""
+    table = start + 36
+    words = [0x90102003, 0x80a22003, 0x1880000c, 0x912a2002, 0x03000000 | table >> 10, 0x82106000 | table & 0x3ff, 0xc2004008,
+             0x81c04000, 0x01000000, *[start + 56] * 3, start + 52, 0x90102005, 0x82102001, 0x91d02010]
+    for _ in range(random.randrange(4)):
+        words[random.randrange(len(words))] = random.choice([*EXCHANGED, start + 4 * random.randrange(20)])
+    return words
+
+
 def random_file():
     """A program without a fault whose section table can mostly be read, and mostly names functions."""
-    count = random.randrange(1, 40)
     start = 0x10000 + 4 * random.randrange(100)
-    text = struct.pack(f'>{count}I', *[random_word(count) for _ in range(count)])
+    count = random.randrange(1, 40)
+    words = [random_word(count) for _ in range(count)]
+    if random.randrange(3) == 0:
+        words = near_switch(start) + words[:random.randrange(9)]
+        count = len(words)
+    text = struct.pack(f'>{count}I', *words)
     strings = b'\0main\0f\0' + bytes(random.choices(b' A~\x7f\xffa', k=random.randrange(400)))
     symbols = b''.join(
         struct.pack('>IIIBBH', random.randrange(len(strings) + 9), start + random.randrange(-9, 4 * count + 9), 4,

@@ -1,20 +1,22 @@
 //! The command `show`.
 ghost use Rattle.std.specs.Prelude.{◌≡◌, ◌≤◌, IfOk, IfErr};
+ghost use Rattle.cfg_view.specs.View.{IsView};
 ghost use Rattle.eel.specs.Outcome.{Stream, outcome_seen, stream};
 ghost use Rattle.eel.specs.Answers.Files.{IsSound};
 ghost use Rattle.eel.specs.Answers.Shared.{Feed, outside, store};
-ghost use Rattle.eel.specs.Answers.Show.{IsNotShown, Lists, shown_of};
+ghost use Rattle.eel.specs.Answers.Show.{IsNotShown, Lists, lines_of, shown_of};
 
 use crate::edit::EDIT_LIMIT;
 use crate::outcome::Outcome;
 use crate::texts::{fetch_file, print};
-use cfg_view::look;
+use cfg_view::{View, look};
 use eel_base::{Files, NoMemory, Sink};
 use elf32_sparc::ReadFault;
+use jump_slice::switches;
 use show_text::show;
 use std::alloc::Global;
 
-/// Reads the program, and prints its routines, blocks and edges.
+/// Reads the program, and prints its routines, blocks, edges and switches.
 pub fn show_program<'a, F: Files, O: Sink>(
     alloc: Global,
     file: &'a str,
@@ -56,8 +58,18 @@ fn listing<'a>(alloc: Global, name: &'a str, bytes: &[u8]) -> Result<Vec<u8>, Ou
         }
         Err(ReadFault::NoMemory) => return Err(Outcome::OutOfMemory),
     };
-    match show(alloc, &view) {
+    match view_lines(alloc, &view) {
         Ok(lines) => Ok(lines),
         Err(NoMemory) => Err(Outcome::OutOfMemory),
     }
+}
+
+/// The lines that show a view and its switches.
+fn view_lines(alloc: Global, view: &View) -> Result<Vec<u8>, NoMemory>
+    requires { IsView view.now }
+    ensures { IfOk result (λ lines. lines.items ≡ lines_of view.now) }
+{
+    let switches = switches(alloc, &view.blocks, view.image.text(), view.image.entry())?;
+    let lines = show(alloc, view, &switches)?;
+    Ok(lines)
 }

@@ -2,6 +2,7 @@
 use cfg_view::look;
 use eel_base::{Failed, FetchFault, Files, MemSink, NoMemory};
 use elf32_sparc::ReadFault;
+use jump_slice::switches;
 use show_text::show;
 use std::alloc::{AllocError, Global};
 use thiserror::Error;
@@ -109,6 +110,7 @@ impl Job {
     /// The lines that show the program.
     pub fn listing(&self, alloc: Global) -> Result<Vec<u8>, Refusal> {
         let view = look(alloc, &self.program, &[])?;
-        Ok(show(alloc, &view)?)
+        let switches = switches(alloc, &view.blocks, view.image.text(), view.image.entry())?;
+        Ok(show(alloc, &view, &switches)?)
     }
 }

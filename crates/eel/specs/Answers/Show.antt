@@ -1,15 +1,21 @@
--- `show FILE`: the file is read, judged, and its routines, blocks and edges are printed.
+-- `show FILE`: the file is read, judged, and its routines, blocks, edges and switches are printed.
 use Rattle.std.specs.Prelude.{◌≡◌, ℕ, List, []}
 use Rattle.eel_base.specs.Outside.{IsMissing, appended}
+use Rattle.cfg_view.specs.declared.View.{View}
 use Rattle.cfg_view.specs.View.{view_of}
+use Rattle.jump_slice.specs.Switches.{switches_of}
 use Rattle.show_text.specs.Lines.{show_lines}
 use Rattle.eel.specs.Outcome.{Outcome, BadFile, OutOfMemory}
 use Rattle.eel.specs.Answers.Shared.{Outside, Meaning, WasRead, IsUnread, IsPrinted, IsUnused, IsQuiet, edit_limit}
 use Rattle.eel.specs.Answers.Files.{IsSound, IsFaulty}
 
+-- the lines that show a view and its switches
+abbrev pub lines_of : View → List ℕ
+lines_of view = show_lines view (switches_of view.image.text view.blocks view.image.entry)
+
 -- the lines that show a file's program
 abbrev pub shown_of : List ℕ → List ℕ
-shown_of bytes = show_lines (view_of bytes [])
+shown_of bytes = lines_of (view_of bytes [])
 
 -- FILE was read, and isn't shown
 abbrev pub IsNotShown : List ℕ → List ℕ → Outcome → Type 0
