@@ -369,6 +369,7 @@ module _ (original : List ℕ) (plan : Plan) (p : Placement) (place : ℕ → �
           moment = all.moments n;
           first = all.answers n (omega arith);
           cells = all.cells n (omega arith);
+          node = all.over n (omega arith);
         }
 
     runs_alike : AreRunsAlike (setting original plan p) entry s0 t0
