@@ -190,8 +190,8 @@ fn push_block(
     Ok(())
 }
 
-// The image of a word of a block, whose edges have their ways from the piece `way` on. Where it is no transfer, the code
-// of a snippet comes behind it.
+// The image of a word of a block, whose edges have their ways from the piece `way` on. Where it is no transfer, the
+// code of a snippet comes behind it.
 fn image(
     alloc: Global,
     text: &Text,

@@ -56,7 +56,8 @@ loop-block-preserved c =
           (size_of c.args.graph.now.blocks c.loop-block.block)))
           ∙ ap (λ (pieces : List (List Item)). c.args.list.now.items ++ pieces)
           (landings_pushed c.args.text.now c.args.graph.now (codes_of c.args.cells.0 c.args.snips.now) c.requires.graph
-          c.requires.text.some c.loop-block.block (omega (arith, c.loop-block-test.true, c.count-block-end.ensures.count))
+          c.requires.text.some c.loop-block.block
+          (omega (arith, c.loop-block-test.true, c.count-block-end.ensures.count))
           c.deref.result.now (c.deref.ensures.value ∙ c.in_ok-code.ensures.code
           ∙ ap (codes_of c.args.cells.0 c.args.snips.now) same));
     }
