@@ -25,9 +25,11 @@ const PAGE: Addr = Addr(0xffff_f000);
 fn two_registers() -> Result<RegSet, Fail> {
     let first = Reg::new(1).ok_or("a register")?;
     let second = Reg::new(2).ok_or("a register")?;
-    Ok(RegSet::empty()
-        .with(Part::Reg(first))
-        .with(Part::Reg(second)))
+    Ok(
+        RegSet::empty()
+            .with(Part::Reg(first))
+            .with(Part::Reg(second)),
+    )
 }
 
 /// The words of one operation.
@@ -42,17 +44,25 @@ fn words_of(alloc: Global, op: Op, dead: RegSet) -> Result<Vec<u32>, Fail>
     expand(alloc, &snippet, CELLS, dead, names).map_err(|_| Fail::from("memory"))
 }
 
+/// The bytes of at most eight words, the highest byte of each first, and zeros behind them.
+fn bytes_of(words: &[u32]) -> [u8; 32] {
+    let mut bytes = [0; 32];
+    for i in 0..8 {
+        if let Some(word) = words.get(i) {
+            bytes[4 * i..4 * i + 4].copy_from_slice(&word.to_be_bytes());
+        }
+    }
+    bytes
+}
+
 /// What a run of these words makes of the first cell, where it is this at first.
 fn cell_after(alloc: Global, words: &[u32], cell: u32) -> Result<u32, Fail> {
-    let mut code = Vec::new(alloc);
-    for word in words {
-        code.extend_from_slice(&word.to_be_bytes())?;
-    }
+    let code = bytes_of(words);
     let first = cell.to_be_bytes();
     let plans = [
         RegionPlan {
             start: CODE,
-            len: 256,
+            len: 32,
             flags: SegFlags(5),
             first: &code,
         },
