@@ -9,4 +9,6 @@ mod edges_tests;
 #[cfg(test)]
 mod flows_tests;
 #[cfg(test)]
+mod tools_tests;
+#[cfg(test)]
 mod views_tests;

@@ -25,8 +25,7 @@ returns-then-had-needed-clause-refused g c =
     let asked = asks g.F.Chooser.says c.args.tool.now c.args.bytes.now c.marks.result.now c.kind.result c.cells.result
     c.in_ok-snips.field-0.items c.in_ok-view.view c.marks.ensures c.kind.ensures c.cells.ensures.cells
     c.in_ok-view.ensures.view c.in_ok-snips.ensures.answers in
-    let seen = view_is c.args.bytes.now plan c.in_ok-view.view c.in_ok-view.ensures.view in
-    (
+    let seen = view_is c.args.bytes.now plan c.in_ok-view.view c.in_ok-view.ensures.view in (
       plan,
       asked,
       record {
@@ -82,16 +81,15 @@ returns-clause-edited g c =
     c.in_ok-snips.field-0.items c.in_ok-view.view c.marks.ensures c.kind.ensures c.cells.ensures.cells
     c.in_ok-view.ensures.view c.in_ok-snips.ensures.answers
     c.in_ok-snips.ensures.good c.cells.ensures.sound.few c.requires.counters in
-    let written = c.in_ok-file.ensures (numbers c.marks.result.now) seen in
-    (
+    let written = c.in_ok-file.ensures (numbers c.marks.result.now) seen in (
       plan,
       asked,
       can,
       subst (IsFaithful c.args.bytes.now plan) (sym written.is)
-      (faithful (edits_run_alike pieces_make_images) places_say c.args.bytes.now plan
-      (original_fit pieces_fit c.args.bytes.now plan can work)
-      c.requires.limit
-      (λ k d below. let same = get_or_default_zero c.args.bytes.now k d below in let fits =
-      c.type_inv.bytes k in omega arith)
-      can work written.p written.place written.table written.code),
+          (faithful (edits_run_alike pieces_make_images) places_say c.args.bytes.now plan
+          (original_fit pieces_fit c.args.bytes.now plan can work)
+          c.requires.limit
+          (λ k d below. let same = get_or_default_zero c.args.bytes.now k d below in let fits =
+          c.type_inv.bytes k in omega arith)
+          can work written.p written.place written.table written.code),
     )
