@@ -126,8 +126,8 @@ module _ (g : Setting) (codes : ℕ → List ℕ) (is : IsText g.text) (p : Plac
         ap (slice_get (l g codes is p f).list) number
         ∙ way_at g.text (graph_in g) f.table.base codes found.number (edge_of b k w)
         (own_at b found.number (edge_of b k w) found.is land)
-        ∙ ap (λ (t : Bool). Some (if t then [] else way_by g.text (graph_in g) f.table.base codes found.number (edge_of b k w)
-        (slot_on b k w.kind))) fall
+        ∙ ap (λ (t : Bool). Some (if t then [] else way_by g.text (graph_in g) f.table.base codes found.number
+        (edge_of b k w) (slot_on b k w.kind))) fall
         ∙ ap (λ (r : Bool). Some (way_by g.text (graph_in g) f.table.base codes found.number (edge_of b k w)
         (if r then slot_behind b.words (last_word b.firsts b.words k) else carried.Nothing)))
         (ap (λ (d : BlockEnd). runs_slot d w.kind) ended ∙ bare)
@@ -247,7 +247,8 @@ module _ (g : Setting) (codes : ℕ → List ℕ) (is : IsText g.text) (p : Plac
         → t.ending ≡ None → (v : State) → v ≡ branched flag all ann (at_point x t) to
         → Goes (if flag then kinds.Taken else kinds.Untaken) v
     goes true true true holds all annulled live v e =
-        past_taken holds annulled all v (ap (λ (z : State). z.ending) e ∙ live) (ap (λ (z : State). z.slot) e ∙ none) (ap (λ (z : State). z.pc) e)
+        past_taken holds annulled all v (ap (λ (z : State). z.ending) e ∙ live)
+        (ap (λ (z : State). z.slot) e ∙ none) (ap (λ (z : State). z.pc) e)
     goes true true false holds all kept live v e =
         into_taken holds (ap (λ (a : Bool). not a || not (cond == always)) kept) v
         (ap (λ (z : State). z.ending) e ∙ live) (ap (λ (z : State). z.pc) e) (ap (λ (z : State). z.npc) e)
@@ -261,7 +262,8 @@ module _ (g : Setting) (codes : ℕ → List ℕ) (is : IsText g.text) (p : Plac
         (ap (λ (z : State). z.ending) e ∙ live) (ap (λ (z : State). z.pc) e) (ap (λ (z : State). z.npc) e)
         (ap (λ (z : State). z.slot) e)
     goes false all true holds _ annulled live v e =
-        past_untaken holds annulled v (ap (λ (z : State). z.ending) e ∙ live) (ap (λ (z : State). z.slot) e ∙ none) (ap (λ (z : State). z.pc) e)
+        past_untaken holds annulled v (ap (λ (z : State). z.ending) e ∙ live)
+        (ap (λ (z : State). z.slot) e ∙ none) (ap (λ (z : State). z.pc) e)
     goes false all false holds _ kept live v e =
         into_untaken holds kept v (ap (λ (z : State). z.ending) e ∙ live) (ap (λ (z : State). z.pc) e)
         (ap (λ (z : State). z.npc) e) (ap (λ (z : State). z.slot) e)

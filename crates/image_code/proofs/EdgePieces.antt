@@ -81,8 +81,8 @@ module _ (g : Setting) (is : IsText g.text) (table : ℕ) where
       }
 
   -- the piece of its way
-  pub items_along : (codes : ℕ → List ℕ) (node : Node) (way : EdgeKind) (number : ℕ) (edge : Edge) → IsAlong node way number edge
-      → is_fall way ≡ false → same_kind way kinds.Land ≡ false → (to : Carried) → edge.slot ≡ to
+  pub items_along : (codes : ℕ → List ℕ) (node : Node) (way : EdgeKind) (number : ℕ) (edge : Edge)
+      → IsAlong node way number edge → is_fall way ≡ false → same_kind way kinds.Land ≡ false → (to : Carried) → edge.slot ≡ to
       → slice_get (piece_list g.text (graph_in g) table codes) (length g.text.words + number)
       ≡ Some (way_by g.text (graph_in g) table codes number edge to)
   items_along codes node way number edge k fall land to e =

@@ -101,7 +101,8 @@ module _ (text : Words) (graph : Graph) (table : ℕ) (codes : ℕ → List ℕ)
       ∙ ap (option_map (image text graph codes)) (get_below (length text.words) word l))))
 
   pub way_at : (number : ℕ) (edge : Edge) → slice_get (own_edges graph) number ≡ Some edge
-      → slice_get (piece_list text graph table codes) (length text.words + number) ≡ Some (way_along text graph table codes number edge)
+      → slice_get (piece_list text graph table codes) (length text.words + number)
+      ≡ Some (way_along text graph table codes number edge)
   unfolding piece_list
   way_at number edge e =
       get_first _ _ (length text.words + number) _ (get_first _ _ (length text.words + number) _
@@ -111,7 +112,8 @@ module _ (text : Words) (graph : Graph) (table : ℕ) (codes : ℕ → List ℕ)
       ∙ (let e : 0 + number ≡ number = omega arith in ap (λ n. Some (way_along text graph table codes n edge)) e)))
 
   pub landing_at : (word : ℕ) → word < length text.words
-      → slice_get (piece_list text graph table codes) (landing_number text graph word) ≡ Some (landing text graph codes word)
+      → slice_get (piece_list text graph table codes) (landing_number text graph word)
+      ≡ Some (landing text graph codes word)
   unfolding piece_list
   landing_at word l =
       get_first _ _ (landing_number text graph word) _

@@ -31,8 +31,8 @@ use Rattle.image_code.proofs.PlainWords.{plain_is}
 use Rattle.image_code.proofs.SlotCopies.{copy_case}
 use Rattle.image_code.proofs.Visited.{l, on_its_way, way_in}
 
-module _ (g : Setting) (codes : ℕ → List ℕ) (is : IsText g.text) (p : Placement) (f : Frame) (base : ℕ) (place : ℕ → ℕ → ℕ)
-    (laid : IsLaid (l g codes is p f).list base p place) (tables : IsTableFor g.text (graph_in g) p f.table)
+module _ (g : Setting) (codes : ℕ → List ℕ) (is : IsText g.text) (p : Placement) (f : Frame) (base : ℕ)
+    (place : ℕ → ℕ → ℕ) (laid : IsLaid (l g codes is p f).list base p place) (tables : IsTableFor g.text (graph_in g) p f.table)
     (below : f.table.base < base) (noted : IsOffNoted g f.table.base) where
   -- at a word, outside a slot
   by_instr : (node : Node) (x : Point) (t : State) (word : ℕ) → word_at g.text x.pc ≡ Some word → x.slot ≡ NoSlot
@@ -71,7 +71,8 @@ module _ (g : Setting) (codes : ℕ → List ℕ) (is : IsText g.text) (p : Plac
 
 pub pieces_make_images : PiecesMakeImages
 pieces_make_images g codes base p place f is placed tables below noted =
-    simulate calls_step jumps_step jump_slots_step g (pieces_in g.text (graph_in g) f.table.base codes) base p place f placed
+    simulate calls_step jumps_step jump_slots_step g (pieces_in g.text (graph_in g) f.table.base codes) base p
+    place f placed
     (record {
       visits = visits g codes is p f base below noted;
       cases = λ node x t m open_there here _.

@@ -46,8 +46,8 @@ ends_without_jump : (x : Item) (ws : List ℕ) → is_jump (Some x) ≡ false
 ends_without_jump x [] h = h
 ends_without_jump x (w ∷ ws) h = ends_without_jump (it.Word w) ws refl
 
-module _ (g : Setting) (codes : ℕ → List ℕ) (is : IsText g.text) (p : Placement) (f : Frame) (base : ℕ) (place : ℕ → ℕ → ℕ)
-    (laid : IsLaid (l g codes is p f).list base p place)
+module _ (g : Setting) (codes : ℕ → List ℕ) (is : IsText g.text) (p : Placement) (f : Frame) (base : ℕ)
+    (place : ℕ → ℕ → ℕ) (laid : IsLaid (l g codes is p f).list base p place)
     (node : Node) (x : Point) (t : State) (word : ℕ) (at : word_at g.text x.pc ≡ Some word) (none : x.slot ≡ NoSlot)
     (held : node ≡ node_of (blocks_of g.text g.given) (word_at g.text x.pc)) (npc : x.npc ≡ (x.pc + 4) % 2 ^ 32)
     (straight : is_transfer (decode_of (slice_index g.text.words word)) ≡ false) where
@@ -72,15 +72,16 @@ module _ (g : Setting) (codes : ℕ → List ℕ) (is : IsText g.text) (p : Plac
       (record { 0 = address_of g.text word }) node word (decode_of (slice_index g.text.words word)) straight)
 
   with_rest : (b : Bool) → nat_lt (word + 1) (length g.text.words) ≡ b
-      → slice_get (l g codes is p f).list word ≡ Some (plain_piece (record { 0 = address_of g.text word }) (number_in g node)
-      (slice_index g.text.words word) (code ++ (if b then [] else far_piece (address_of g.text (length g.text.words)))))
+      → slice_get (l g codes is p f).list word ≡ Some (plain_piece (record { 0 = address_of g.text word })
+      (number_in g node) (slice_index g.text.words word) (code ++ (if b then [] else far_piece (address_of g.text (length g.text.words)))))
   with_rest b e =
       found ∙ ap (λ (t : Bool). Some (plain_piece (record { 0 = address_of g.text word }) (number_in g node)
       (slice_index g.text.words word)
       (code ++ (if t then [] else far_piece (address_of g.text (length g.text.words)))))) e
 
   ends : word + 1 < length g.text.words → slice_get (l g codes is p f).list word
-      ≡ Some (plain_piece (record { 0 = address_of g.text word }) (number_in g node) (slice_index g.text.words word) code)
+      ≡ Some (plain_piece (record { 0 = address_of g.text word }) (number_in g node)
+      (slice_index g.text.words word) code)
   ends more =
       with_rest true (lt-ltb _ _ more)
       ∙ ap (λ (r : List Item). Some (plain_piece (record { 0 = address_of g.text word }) (number_in g node)

@@ -1,4 +1,5 @@
--- How many of the pieces' words are those of snippets: each edge's once, but a landing's once for each word of its block.
+-- How many of the pieces' words are those of snippets: each edge's once, but a landing's once for each word of its
+-- block.
 use Rattle.std.proofs.Common.{◌≡◌, ℕ, zero, suc, ◌+◌, ◌-◌, ◌*◌, ◌<◌, ◌≤◌, Bool, true, false, Some, List, [], ◌∷◌, ◌++◌, append-nil, length, length-append, map, refl, ap, sym, ◌∙◌, subst, arith}
 use Rattle.std.specs.Prelude.{if◌then◌else◌, slice_index}
 use Rattle.std.specs.List.{flat_map, sum_by}
@@ -324,5 +325,6 @@ module _ (text : Words) (graph : Graph) (codes : ℕ → List ℕ) (h : IsGraphO
       (map landing_at (below (length graph.blocks.firsts)))
       ≡ operations_from graph.blocks snips (length (own_edges graph))
       (map landing_at (below (length graph.blocks.firsts))) =
-      ap (λ (k : ℕ). operations_from graph.blocks snips k (map landing_at (below (length graph.blocks.firsts)))) number in
+      ap (λ (k : ℕ). operations_from graph.blocks snips k (map landing_at (below (length graph.blocks.firsts))))
+      number in
       omega arith

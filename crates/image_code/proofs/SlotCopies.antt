@@ -93,8 +93,8 @@ landed_out : (text : Words) (graph : Graph) (address : ℕ) (o : Option ℕ) →
 landed_out text graph address None e = rw e refl
 landed_out text graph address (Some word) e = rw e refl
 
-module _ (g : Setting) (codes : ℕ → List ℕ) (is : IsText g.text) (p : Placement) (f : Frame) (base : ℕ) (place : ℕ → ℕ → ℕ)
-    (tables : IsTableFor g.text (graph_in g) p f.table)
+module _ (g : Setting) (codes : ℕ → List ℕ) (is : IsText g.text) (p : Placement) (f : Frame) (base : ℕ)
+    (place : ℕ → ℕ → ℕ) (tables : IsTableFor g.text (graph_in g) p f.table)
     (node : Node) (x : Point) (t : State) (here : Here g (l g codes is p f) base p f node x t)
     (slot : ℕ) (at : word_at g.text x.pc ≡ Some slot) (not : x.slot ≢ NoSlot)
     (way : IsOnItsWay g.text (graph_in g) node x (way_in g codes is p f x)) where
@@ -136,7 +136,8 @@ module _ (g : Setting) (codes : ℕ → List ℕ) (is : IsText g.text) (p : Plac
     past b e =
         made false straight
         ∙ ap (λ (z : Bool). Some (past_by z))
-        (ap (λ (k : EdgeKind). same_kind k kinds.Out) (edge_is g codes is p f node x (way_in g codes is p f x) way).same ∙ e)
+        (ap (λ (k : EdgeKind). same_kind k kinds.Out)
+        (edge_is g codes is p f node x (way_in g codes is p f x) way).same ∙ e)
 
     went : (v : State) → does_at g x t ≡ v → v.ending ≡ None → (v.pc ≡ x.npc) × (v.slot ≡ NoSlot)
     went v e live =
@@ -196,10 +197,12 @@ module _ (g : Setting) (codes : ℕ → List ℕ) (is : IsText g.text) (p : Plac
           completes : gone_at g node x v ≡ way.number ∷ []
           completes =
               gone_along v w.1 live
-              ∙ ap (λ (edges : List ℕ). way.number ∷ edges) (not_landed g.text (graph_in g) (way_in g codes is p f x) v.pc other)
+              ∙ ap (λ (edges : List ℕ). way.number ∷ edges)
+              (not_landed g.text (graph_in g) (way_in g codes is p f x) v.pc other)
 
           by : (o : Option ℕ) → word_at g.text x.npc ≡ o
-              → LeadsOn (l g codes is p f) p place piece 3 (way.number ∷ []) (visited_at g (l g codes is p f) p f after (point_of v))
+              → LeadsOn (l g codes is p f) p place piece 3 (way.number ∷ [])
+              (visited_at g (l g codes is p f) p f after (point_of v))
           by None none =
               subst (LeadsOn (l g codes is p f) p place piece 3 (way.number ∷ []))
               (sym (visited_none g codes is p f after (point_of v) (ap (word_at g.text) w.0 ∙ none) w.1 ∙ w.0))
@@ -270,7 +273,8 @@ module _ (g : Setting) (codes : ℕ → List ℕ) (is : IsText g.text) (p : Plac
           w = went v e live
 
           by : (o : Option ℕ) → word_at g.text x.npc ≡ o
-              → Lands g (l g codes is p f) p f (landed g.text (graph_in g) kinds.Out x.npc) x.npc (visited_at g (l g codes is p f) p f after (point_of v))
+              → Lands g (l g codes is p f) p f (landed g.text (graph_in g) kinds.Out x.npc) x.npc
+              (visited_at g (l g codes is p f) p f after (point_of v))
           by None none =
               inr (
                 landed_out g.text (graph_in g) x.npc None none,
@@ -283,7 +287,8 @@ module _ (g : Setting) (codes : ℕ → List ℕ) (is : IsText g.text) (p : Plac
                 ),
               )
           by (Some to) some =
-              let there = landing_at g.text (graph_in g) f.table.base codes to (word_at-some g.text x.npc to some).within in
+              let there = landing_at g.text (graph_in g) f.table.base codes to
+              (word_at-some g.text x.npc to some).within in
               inl (
                 record { 0 = landing_number g.text (graph_in g) to },
                 slice_get_within (l g codes is p f).list _ _ there,

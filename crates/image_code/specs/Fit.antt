@@ -46,7 +46,7 @@ operations_from b snips number (edge ∷ edges) =
 abbrev pub operations_in : Graph → List (List Op) → ℕ
 operations_in graph snips = operations_from graph.blocks snips 0 graph.edges
 
--- The words of each snippet are at most 22 an operation.
+-- At most eight operations on each edge, and 22 words for each of them.
 pub record AreShort (snips : List (List Op)) (codes : ℕ → List ℕ) : Type 0 where
   pub short : (edge : ℕ) → length (codes edge) ≤ 22 * length (snippet_on snips edge)
   pub few : (edge : ℕ) → length (snippet_on snips edge) ≤ 8

@@ -82,7 +82,7 @@ pub fn pieces_make_images()
     ensures { PiecesMakeImages }
 {}
 
-/// The pieces of a text can be placed, in 500 bytes a word at most, and half a MiB.
+/// The pieces of a text can be placed, in 500 bytes a word at most, 128 an operation, and half a MiB.
 pub fn pieces_fit()
     ensures { PiecesFit }
 {}

@@ -44,24 +44,30 @@ filtered p lo (x ∷ xs) h = go (p x) refl (filtered p x xs h.2)
     go true e k = (h.0, h.1, e, k)
     go false e k = passing_more p lo x (filter p xs) (let a = h.0 in omega arith) k
 
-passing_at : (p : ℕ → Bool) (lo : ℕ) (xs : List ℕ) (k : ℕ) → Passing p lo xs → k < length xs → (lo < slice_index xs k) × (slice_index xs k < 32) × (p (slice_index xs k) ≡ true)
+passing_at : (p : ℕ → Bool) (lo : ℕ) (xs : List ℕ) (k : ℕ) → Passing p lo xs → k < length xs
+    → (lo < slice_index xs k) × (slice_index xs k < 32) × (p (slice_index xs k) ≡ true)
 passing_at p lo [] k h l = absurd (omega arith)
 passing_at p lo (x ∷ xs) zero h l = (h.0, h.1, h.2)
-passing_at p lo (x ∷ xs) (suc k) h l = let r = passing_at p x xs k h.3 (omega arith) in (let a = r.0 in let b = h.0 in omega arith, r.1, r.2)
+passing_at p lo (x ∷ xs) (suc k) h l = let r =
+    passing_at p x xs k h.3 (omega arith) in (let a = r.0 in let b = h.0 in omega arith, r.1, r.2)
 
-ascends_at : (p : ℕ → Bool) (lo : ℕ) (xs : List ℕ) (j k : ℕ) → Passing p lo xs → j < k → k < length xs → slice_index xs j < slice_index xs k
+ascends_at : (p : ℕ → Bool) (lo : ℕ) (xs : List ℕ) (j k : ℕ) → Passing p lo xs → j < k → k < length xs
+    → slice_index xs j < slice_index xs k
 ascends_at p lo [] j k h l m = absurd (omega arith)
 ascends_at p lo (x ∷ xs) j zero h l m = absurd (omega arith)
 ascends_at p lo (x ∷ xs) zero (suc k) h l m = (passing_at p x xs k h.3 (omega arith)).0
 ascends_at p lo (x ∷ xs) (suc j) (suc k) h l m = ascends_at p x xs j k h.3 (omega arith) (omega arith)
 
 -- ---- how many there are
-pub joined : (p q : ℕ → Bool) (xs : List ℕ) → length (filter (λ r. p r && q r) xs) + length (filter (λ r. not (p r) && q r) xs) ≡ length (filter q xs)
+pub joined : (p q : ℕ → Bool) (xs : List ℕ)
+    → length (filter (λ r. p r && q r) xs) + length (filter (λ r. not (p r) && q r) xs) ≡ length (filter q xs)
 joined p q [] = refl
 joined p q (x ∷ xs) = go (p x) (q x) (joined p q xs)
   where
-    go : (a b : Bool) → length (filter (λ r. p r && q r) xs) + length (filter (λ r. not (p r) && q r) xs) ≡ length (filter q xs)
-        → length (if a && b then x ∷ filter (λ r. p r && q r) xs else filter (λ r. p r && q r) xs) + length (if not a && b then x ∷ filter (λ r. not (p r) && q r) xs else filter (λ r. not (p r) && q r) xs)
+    go : (a b : Bool)
+        → length (filter (λ r. p r && q r) xs) + length (filter (λ r. not (p r) && q r) xs) ≡ length (filter q xs)
+        → length (if a && b then x ∷ filter (λ r. p r && q r) xs else filter (λ r. p r && q r) xs) + length
+        (if not a && b then x ∷ filter (λ r. not (p r) && q r) xs else filter (λ r. not (p r) && q r) xs)
         ≡ length (if b then x ∷ filter q xs else filter q xs)
     go true true e = omega arith
     go true false e = e
@@ -77,22 +83,30 @@ differs x y (parts.Reg z) l e = grind (arith, nat_tests)
 differs x y parts.Icc l e = refl
 differs x y parts.Y l e = refl
 
-none_off : (q : Part) (f : ℕ → Bool) (x lo : ℕ) (xs : List ℕ) → x ≤ lo → Ascends lo xs → is_same (parts.Reg x) q ≡ true → length (filter (λ r. not (f r)) xs) ≡ length (Off q f xs)
+none_off : (q : Part) (f : ℕ → Bool) (x lo : ℕ) (xs : List ℕ) → x ≤ lo → Ascends lo xs
+    → is_same (parts.Reg x) q ≡ true → length (filter (λ r. not (f r)) xs) ≡ length (Off q f xs)
 none_off q f x lo [] l h e = refl
-none_off q f x lo (y ∷ ys) l h e = go (is_same (parts.Reg y) q) (f y) (differs x y q (let a = h.0 in omega arith) e) (none_off q f x y ys (let a = h.0 in omega arith) h.2 e)
+none_off q f x lo (y ∷ ys) l h e =
+    go (is_same (parts.Reg y) q) (f y) (differs x y q (let a = h.0 in omega arith) e)
+    (none_off q f x y ys (let a = h.0 in omega arith) h.2 e)
   where
     go : (a b : Bool) → a ≡ false → length (filter (λ r. not (f r)) ys) ≡ length (Off q f ys)
-        → length (if not b then y ∷ filter (λ r. not (f r)) ys else filter (λ r. not (f r)) ys) ≡ length (if not (a || b) then y ∷ Off q f ys else Off q f ys)
+        → length (if not b then y ∷ filter (λ r. not (f r)) ys else filter (λ r. not (f r)) ys) ≡ length
+        (if not (a || b) then y ∷ Off q f ys else Off q f ys)
     go true b g k = absurd (cc)
     go false true g k = k
     go false false g k = ap suc k
 
-one_off : (q : Part) (f : ℕ → Bool) (lo : ℕ) (xs : List ℕ) → Ascends lo xs → length (filter (λ r. not (f r)) xs) ≤ length (Off q f xs) + 1
+one_off : (q : Part) (f : ℕ → Bool) (lo : ℕ) (xs : List ℕ) → Ascends lo xs
+    → length (filter (λ r. not (f r)) xs) ≤ length (Off q f xs) + 1
 one_off q f lo [] h = omega arith
-one_off q f lo (y ∷ ys) h = go (is_same (parts.Reg y) q) (f y) refl (one_off q f y ys h.2) (none_off q f y y ys (omega arith) h.2)
+one_off q f lo (y ∷ ys) h =
+    go (is_same (parts.Reg y) q) (f y) refl (one_off q f y ys h.2) (none_off q f y y ys (omega arith) h.2)
   where
-    go : (a b : Bool) → is_same (parts.Reg y) q ≡ a → length (filter (λ r. not (f r)) ys) ≤ length (Off q f ys) + 1 → (is_same (parts.Reg y) q ≡ true → length (filter (λ r. not (f r)) ys) ≡ length (Off q f ys))
-        → length (if not b then y ∷ filter (λ r. not (f r)) ys else filter (λ r. not (f r)) ys) ≤ length (if not (a || b) then y ∷ Off q f ys else Off q f ys) + 1
+    go : (a b : Bool) → is_same (parts.Reg y) q ≡ a → length (filter (λ r. not (f r)) ys) ≤ length (Off q f ys) + 1
+        → (is_same (parts.Reg y) q ≡ true → length (filter (λ r. not (f r)) ys) ≡ length (Off q f ys))
+        → length (if not b then y ∷ filter (λ r. not (f r)) ys else filter (λ r. not (f r)) ys) ≤ length
+        (if not (a || b) then y ∷ Off q f ys else Off q f ys) + 1
     go true true e k m = k
     go true false e k m = let z = m e in omega arith
     go false true e k m = k
@@ -154,42 +168,62 @@ module _ (dead avoid : List Part) (want : ℕ) (few : register_count avoid ≤ 8
       omega arith
 
   -- each is one of the first list, or of the second
-  in_first : (k : ℕ) → k < want → k < length (filter p registers) → slice_index (picked dead avoid want) k ≡ slice_index (filter p registers) k
-  in_first k b l = get_or-take want (filter p registers ++ filter q registers) k 0 b ∙ get_or_append_left (filter p registers) (filter q registers) 0 k l
+  in_first : (k : ℕ) → k < want → k < length (filter p registers)
+      → slice_index (picked dead avoid want) k ≡ slice_index (filter p registers) k
+  in_first k b l =
+      get_or-take want (filter p registers ++ filter q registers) k 0 b
+      ∙ get_or_append_left (filter p registers) (filter q registers) 0 k l
 
-  in_second : (j : ℕ) → length (filter p registers) + j < want → slice_index (picked dead avoid want) (length (filter p registers) + j) ≡ slice_index (filter q registers) j
-  in_second j b = get_or-take want (filter p registers ++ filter q registers) (length (filter p registers) + j) 0 b ∙ get_or-append-add (filter p registers) (filter q registers) j 0
+  in_second : (j : ℕ) → length (filter p registers) + j < want
+      → slice_index (picked dead avoid want) (length (filter p registers) + j) ≡ slice_index (filter q registers) j
+  in_second j b = get_or-take want (filter p registers ++ filter q registers) (length (filter p registers) + j) 0 b
+      ∙ get_or-append-add (filter p registers) (filter q registers) j 0
 
-  firsts : (k : ℕ) → k < length (filter p registers) → (0 < slice_index (filter p registers) k) × (slice_index (filter p registers) k < 32) × (p (slice_index (filter p registers) k) ≡ true)
+  firsts : (k : ℕ) → k < length (filter p registers)
+      → (0 < slice_index (filter p registers) k) × (slice_index (filter p registers) k < 32) ×
+      (p (slice_index (filter p registers) k) ≡ true)
   firsts k l = passing_at p 0 (filter p registers) k (filtered p 0 registers registers_ascend) l
 
-  seconds : (k : ℕ) → k < length (filter q registers) → (0 < slice_index (filter q registers) k) × (slice_index (filter q registers) k < 32) × (q (slice_index (filter q registers) k) ≡ true)
+  seconds : (k : ℕ) → k < length (filter q registers)
+      → (0 < slice_index (filter q registers) k) × (slice_index (filter q registers) k < 32) ×
+      (q (slice_index (filter q registers) k) ≡ true)
   seconds k l = passing_at q 0 (filter q registers) k (filtered q 0 registers registers_ascend) l
 
   -- what holds of both holds of each
-  of_both : (P : ℕ → Type 0) → ((k : ℕ) → k < length (filter p registers) → P (slice_index (filter p registers) k)) → ((k : ℕ) → k < length (filter q registers) → P (slice_index (filter q registers) k))
+  of_both : (P : ℕ → Type 0) → ((k : ℕ) → k < length (filter p registers) → P (slice_index (filter p registers) k))
+      → ((k : ℕ) → k < length (filter q registers) → P (slice_index (filter q registers) k))
       → (k : ℕ) → k < want → P (slice_index (picked dead avoid want) k)
   of_both P f g k b = go (split_below k (length (filter p registers)))
     where
-      go : (k < length (filter p registers)) ⊎ (length (filter p registers) ≤ k) → P (slice_index (picked dead avoid want) k)
+      go : (k < length (filter p registers)) ⊎ (length (filter p registers) ≤ k)
+          → P (slice_index (picked dead avoid want) k)
       go (inl l) = subst P (sym (in_first k b l)) (f k l)
       go (inr l) =
           let e : k ≡ length (filter p registers) + (k - length (filter p registers)) = omega arith in
           let n = enough in
-          subst P (sym (ap (slice_index (picked dead avoid want)) e ∙ in_second (k - length (filter p registers)) (subst (λ z. z < want) e b))) (g (k - length (filter p registers)) (omega arith))
+          subst P (sym
+          (ap (slice_index (picked dead avoid want)) e
+          ∙ in_second (k - length (filter p registers)) (subst (λ z. z < want) e b)))
+          (g (k - length (filter p registers)) (omega arith))
 
-  differ_below : (j k : ℕ) → j < k → k < want → slice_index (picked dead avoid want) j ≢ slice_index (picked dead avoid want) k
-  differ_below j k l b e = go (split_below j (length (filter p registers))) (split_below k (length (filter p registers)))
+  differ_below : (j k : ℕ) → j < k → k < want
+      → slice_index (picked dead avoid want) j ≢ slice_index (picked dead avoid want) k
+  differ_below j k l b e =
+      go (split_below j (length (filter p registers))) (split_below k (length (filter p registers)))
     where
       n : want ≤ length (filter p registers) + length (filter q registers)
       n = enough
 
-      second : (m : ℕ) → m < want → length (filter p registers) ≤ m → slice_index (picked dead avoid want) m ≡ slice_index (filter q registers) (m - length (filter p registers))
+      second : (m : ℕ) → m < want → length (filter p registers) ≤ m
+          → slice_index (picked dead avoid want) m ≡ slice_index (filter q registers)
+          (m - length (filter p registers))
       second m c h =
           let f : m ≡ length (filter p registers) + (m - length (filter p registers)) = omega arith in
-          ap (slice_index (picked dead avoid want)) f ∙ in_second (m - length (filter p registers)) (subst (λ z. z < want) f c)
+          ap (slice_index (picked dead avoid want)) f
+          ∙ in_second (m - length (filter p registers)) (subst (λ z. z < want) f c)
 
-      go : (j < length (filter p registers)) ⊎ (length (filter p registers) ≤ j) → (k < length (filter p registers)) ⊎ (length (filter p registers) ≤ k) → ⊥
+      go : (j < length (filter p registers)) ⊎ (length (filter p registers) ≤ j)
+          → (k < length (filter p registers)) ⊎ (length (filter p registers) ≤ k) → ⊥
       go (inl h) (inl i) =
           let a = ascends_at p 0 (filter p registers) j k (filtered p 0 registers registers_ascend) l i in
           let x = in_first j (omega arith) h in
@@ -197,20 +231,29 @@ module _ (dead avoid : List Part) (want : ℕ) (few : register_count avoid ≤ 8
           omega arith
       go (inl h) (inr i) =
           let all : want ≤ length (filter p registers) + length (filter q registers) = enough in
-          let same : slice_index (filter p registers) j ≡ slice_index (filter q registers) (k - length (filter p registers)) = sym (in_first j (omega arith) h) ∙ e ∙ second k b i in
-          let x : has dead (parts.Reg (slice_index (filter p registers) j)) ≡ true = first_of (has dead (parts.Reg (slice_index (filter p registers) j))) (not (has avoid (parts.Reg (slice_index (filter p registers) j)))) (firsts j h).2 in
+          let same : slice_index (filter p registers) j ≡ slice_index (filter q registers)
+          (k - length (filter p registers)) = sym (in_first j (omega arith) h) ∙ e ∙ second k b i in
+          let x : has dead (parts.Reg (slice_index (filter p registers) j)) ≡ true =
+          first_of (has dead (parts.Reg (slice_index (filter p registers) j)))
+          (not (has avoid (parts.Reg (slice_index (filter p registers) j)))) (firsts j h).2 in
           let y : has dead (parts.Reg (slice_index (filter q registers) (k - length (filter p registers)))) ≡ false =
-          of_not _ (first_of (not (has dead (parts.Reg (slice_index (filter q registers) (k - length (filter p registers)))))) (not (has avoid (parts.Reg (slice_index (filter q registers) (k - length (filter p registers)))))) (seconds (k - length (filter p registers)) (omega arith)).2) in
+          of_not _ (first_of
+          (not (has dead (parts.Reg (slice_index (filter q registers) (k - length (filter p registers))))))
+          (not (has avoid (parts.Reg (slice_index (filter q registers) (k - length (filter p registers))))))
+          (seconds (k - length (filter p registers)) (omega arith)).2) in
           cc
       go (inr h) (inl i) = omega arith
       go (inr h) (inr i) =
           let all : want ≤ length (filter p registers) + length (filter q registers) = enough in
-          let a = ascends_at q 0 (filter q registers) (j - length (filter p registers)) (k - length (filter p registers)) (filtered q 0 registers registers_ascend) (omega arith) (omega arith) in
+          let a = ascends_at q 0 (filter q registers) (j - length (filter p registers))
+          (k - length (filter p registers)) (filtered q 0 registers registers_ascend) (omega arith)
+          (omega arith) in
           let x = second j (omega arith) h in
           let y = second k b i in
           omega arith
 
-  differ_both : (j k : ℕ) → j < want → k < want → j ≢ k → slice_index (picked dead avoid want) j ≢ slice_index (picked dead avoid want) k
+  differ_both : (j k : ℕ) → j < want → k < want → j ≢ k
+      → slice_index (picked dead avoid want) j ≢ slice_index (picked dead avoid want) k
   differ_both j k a b ne = go (split_below j k)
     where
       go : (j < k) ⊎ (k ≤ j) → slice_index (picked dead avoid want) j ≢ slice_index (picked dead avoid want) k

@@ -17,7 +17,8 @@ is_turn dead avoid want n at few low h =
     let p = are_picked dead avoid want few low in
     let inside : at < want = (let a = h.0 in let b = p.count in omega arith) in
     record {
-      below = subst (λ z. z < 32) (sym (h.1 ∙ get_or_default_zero (picked dead avoid want) at n h.0)) (p.below at inside);
+      below = subst (λ z. z < 32) (sym (h.1 ∙ get_or_default_zero (picked dead avoid want) at n h.0))
+          (p.below at inside);
       inside = inside;
     }
 

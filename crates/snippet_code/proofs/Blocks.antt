@@ -55,7 +55,8 @@ says_stores counted s x live says =
     ap (λ z. unless_over z (on_fetched counted s (fetch_from (code_of s.memory) s.pc))) live
     ∙ ap (on_fetched counted s) says.fetched ∙ ap (λ (z : Instr). one_if counted (stores_at s z)) says.decodes
 
-pub count_add : (counted : ℕ → Bool) (s t : State) (k : ℕ) → run s k ≡ t → (l : ℕ) → count_stores counted s (k + l) ≡ count_stores counted s k + count_stores counted t l
+pub count_add : (counted : ℕ → Bool) (s t : State) (k : ℕ) → run s k ≡ t → (l : ℕ)
+    → count_stores counted s (k + l) ≡ count_stores counted s k + count_stores counted t l
 count_add counted s t k e zero = ap (count_stores counted s) (let f : k + 0 ≡ k = omega arith in f) ∙ omega arith
 count_add counted s t k e (suc l) =
     ap (count_stores counted s) (let f : k + suc l ≡ suc (k + l) = omega arith in f)
@@ -64,7 +65,8 @@ count_add counted s t k e (suc l) =
     ((let f : k + l ≡ l + k = omega arith in ap (run s) f) ∙ run_add s k l ∙ ap (λ (z : State). run z l) e)
     ∙ omega arith
 
-apart_case : (a b : ℕ) → (a < b) ⊎ (b ≤ a) → (b < a) ⊎ (a ≤ b) → a ≢ b → a % 4 ≡ 0 → b % 4 ≡ 0 → (a + 4 ≤ b) ⊎ (b + 4 ≤ a)
+apart_case : (a b : ℕ) → (a < b) ⊎ (b ≤ a) → (b < a) ⊎ (a ≤ b) → a ≢ b → a % 4 ≡ 0 → b % 4 ≡ 0
+    → (a + 4 ≤ b) ⊎ (b + 4 ≤ a)
 apart_case a b (inl h) k ne x y = inl (omega arith)
 apart_case a b (inr h) (inl k) ne x y = inr (omega arith)
 apart_case a b (inr h) (inr k) ne x y = absurd (ne (let e : a ≡ b = omega arith in e))
@@ -74,11 +76,14 @@ pub words_apart : (a b : ℕ) → a ≢ b → a % 4 ≡ 0 → b % 4 ≡ 0 → (a
 words_apart a b = apart_case a b (split_below a b) (split_below b a)
 
 -- ---- what operations do
-alu_acts : (u : State) (op : AluOp) (rd rs1 : ℕ) (op2 : Op2) (v : ℕ) → Gives op rs1 op2 v u → act u (i.Alu op false rd rs1 op2) ≡ next (with_register u rd v)
+alu_acts : (u : State) (op : AluOp) (rd rs1 : ℕ) (op2 : Op2) (v : ℕ) → Gives op rs1 op2 v u
+    → act u (i.Alu op false rd rs1 op2) ≡ next (with_register u rd v)
 unfolding act alu_step
 alu_acts u op rd rs1 op2 v e = ap (alu_step u rd) e
 
-codes_acts : (u : State) (op : AluOp) (rs1 : ℕ) (op2 : Op2) (v : ℕ) (codes : Codes) → alu_of op true (register_of u rs1) (operand_of u op2) u.codes u.y ≡ Ok (record { value = v; codes = codes; y = u.y })
+codes_acts : (u : State) (op : AluOp) (rs1 : ℕ) (op2 : Op2) (v : ℕ) (codes : Codes)
+    → alu_of op true (register_of u rs1) (operand_of u op2) u.codes u.y ≡ Ok
+    (record { value = v; codes = codes; y = u.y })
     → act u (i.Alu op true 0 rs1 op2) ≡ next (record u { codes = codes })
 unfolding act alu_step
 codes_acts u op rs1 op2 v codes e = ap (alu_step u 0) e
@@ -87,24 +92,29 @@ branch_acts : (u : State) (cond : ℕ) (b : Bool) → u.slot ≡ NoSlot → (con
     → act u (i.Branch cond true (pos 2)) ≡ branched b false true u (wrapped (u.pc + 8))
 unfolding act branch_step
 branch_acts u cond b slot other e =
-    ap (λ (z : Slot). unless_couple z u (branched (holds_of cond u.codes) (cond == 8) true u (target_of u (pos 2)))) slot
+    ap (λ (z : Slot). unless_couple z u (branched (holds_of cond u.codes) (cond == 8) true u (target_of u (pos 2))))
+    slot
     ∙ ap (λ z. branched (holds_of cond u.codes) z true u (target_of u (pos 2))) other
     ∙ ap (λ z. branched z false true u (target_of u (pos 2))) e
 
 -- a sum is this address wherever a state is so
-abbrev pub Sums : (s : State) (May : ℕ → Type 0) (r : ℕ → ℕ) (want rs1 : ℕ) (op2 : Op2) (a : ℕ) (g : ℕ → ℕ) (codes : Codes) (f : ℕ → ℕ) → Type 0
+abbrev pub Sums : (s : State) (May : ℕ → Type 0) (r : ℕ → ℕ) (want rs1 : ℕ) (op2 : Op2) (a : ℕ) (g : ℕ → ℕ)
+    (codes : Codes) (f : ℕ → ℕ) → Type 0
 Sums s May r want rs1 op2 a g codes f = (u : State) → IsAlike s May r want g codes f u → sum_of u rs1 op2 ≡ a
 
 module _ {s : State} {count : ℕ} {May : ℕ → Type 0} {r : ℕ → ℕ} {want : ℕ} (c : HasBlock s count May r want) where
   -- a register that isn't picked
-  pub unpicked_is : {g : ℕ → ℕ} {codes : Codes} {f : ℕ → ℕ} (u : State) (q : ℕ) → IsAlike s May r want g codes f u → q < 32 → ((k : ℕ) → k < want → q ≢ r k) → register_of u q ≡ register_of s q
+  pub unpicked_is : {g : ℕ → ℕ} {codes : Codes} {f : ℕ → ℕ} (u : State) (q : ℕ) → IsAlike s May r want g codes f u
+      → q < 32 → ((k : ℕ) → k < want → q ≢ r k) → register_of u q ≡ register_of s q
   unpicked_is u zero h low ne = refl
   unpicked_is u (suc q) h low ne =
       ap (λ w. slice_index u.registers (place_of w (suc q))) h.window
-      ∙ h.others (place_of s.window (suc q)) (λ k b. places_differ s.window (suc q) (r k) c.valid.window low (c.below k b) (ne k b))
+      ∙ h.others (place_of s.window (suc q))
+      (λ k b. places_differ s.window (suc q) (r k) c.valid.window low (c.below k b) (ne k b))
 
   -- a picked register written
-  alike_put : {g : ℕ → ℕ} {codes : Codes} {f : ℕ → ℕ} (j v : ℕ) (u : State) → j < want → IsAlike s May r want g codes f u → IsAlike s May r want g codes (put j v f) (with_register u (r j) v)
+  alike_put : {g : ℕ → ℕ} {codes : Codes} {f : ℕ → ℕ} (j v : ℕ) (u : State) → j < want
+      → IsAlike s May r want g codes f u → IsAlike s May r want g codes (put j v f) (with_register u (r j) v)
   alike_put {f = f} j v u b h = record {
     live = h.live;
     window = h.window;
@@ -114,7 +124,8 @@ module _ {s : State} {count : ℕ} {May : ℕ → Type 0} {r : ℕ → ℕ} {wan
     codes_are = h.codes_are;
     registers = length-register_set u.registers u.window (r j) v ∙ h.registers;
     picked = λ k bk. go k bk (equal_or_not k j);
-    others = λ p ne. set_stays u.registers u.window (r j) v p (subst (λ w. p ≢ place_of w (r j)) (sym h.window) (ne j b)) ∙ h.others p ne;
+    others = λ p ne. set_stays u.registers u.window (r j) v p
+        (subst (λ w. p ≢ place_of w (r j)) (sym h.window) (ne j b)) ∙ h.others p ne;
     can = h.can;
     words = h.words;
     range = h.range;
@@ -123,15 +134,20 @@ module _ {s : State} {count : ℕ} {May : ℕ → Type 0} {r : ℕ → ℕ} {wan
   }
     where
       go : (k : ℕ) → k < want → (k ≡ j) ⊎ (k ≢ j) → register_of (with_register u (r j) v) (r k) ≡ put j v f k
-      go k bk (inl e) = ap (λ z. register_of (with_register u (r j) v) (r z)) e ∙ register_in-set u.registers u.window (r j) v h.registers (c.some j b)
+      go k bk (inl e) =
+          ap (λ z. register_of (with_register u (r j) v) (r z)) e
+          ∙ register_in-set u.registers u.window (r j) v h.registers (c.some j b)
           ∙ sym (put_same j v f) ∙ ap (put j v f) (sym e)
       go k bk (inr n) =
           register_in-other u.registers u.window (r j) v u.window (r k)
-          (subst (λ w. place_of w (r j) ≢ place_of w (r k)) (sym h.window) (places_differ s.window (r j) (r k) c.valid.window (c.below j b) (c.below k bk) (c.differ j k b bk (λ e. n (sym e)))))
+          (subst (λ w. place_of w (r j) ≢ place_of w (r k)) (sym h.window)
+          (places_differ s.window (r j) (r k) c.valid.window (c.below j b) (c.below k bk)
+          (c.differ j k b bk (λ e. n (sym e)))))
           ∙ h.picked k bk ∙ sym (put_other j v f k n)
 
   -- a word stored
-  alike_store : {g : ℕ → ℕ} {codes : Codes} {f : ℕ → ℕ} (a v : ℕ) (u : State) → May a → v < 2 ^ 32 → IsAlike s May r want g codes f u
+  alike_store : {g : ℕ → ℕ} {codes : Codes} {f : ℕ → ℕ} (a v : ℕ) (u : State) → May a → v < 2 ^ 32
+      → IsAlike s May r want g codes f u
       → IsAlike s May r want (put a v g) codes f (record u { memory = store_word u.memory a v })
   alike_store {g = g} a v u ok small h = record {
     live = h.live;
@@ -151,14 +167,18 @@ module _ {s : State} {count : ℕ} {May : ℕ → Type 0} {r : ℕ → ℕ} {wan
   }
     where
       word : (b : ℕ) → May b → (b ≡ a) ⊎ (b ≢ a) → memory_word (store_word u.memory a v) b ≡ put a v g b
-      word b m (inl e) = ap (memory_word (store_word u.memory a v)) e ∙ word_stored u.memory a v small (h.can a ok) ∙ sym (put_same a v g) ∙ ap (put a v g) (sym e)
-      word b m (inr n) = other_word_stored u.memory b a v (h.can b m) (words_apart b a n (c.aligned b m) (c.aligned a ok)) ∙ h.words b m ∙ sym (put_other a v g b n)
+      word b m (inl e) = ap (memory_word (store_word u.memory a v)) e ∙ word_stored u.memory a v small (h.can a ok)
+          ∙ sym (put_same a v g) ∙ ap (put a v g) (sym e)
+      word b m (inr n) =
+          other_word_stored u.memory b a v (h.can b m) (words_apart b a n (c.aligned b m) (c.aligned a ok))
+          ∙ h.words b m ∙ sym (put_other a v g b n)
 
       range : (b : ℕ) → May b → (b ≡ a) ⊎ (b ≢ a) → put a v g b < 2 ^ 32
       range b m (inl e) = subst (λ z. z < 2 ^ 32) (sym (ap (put a v g) e ∙ put_same a v g)) small
       range b m (inr n) = subst (λ z. z < 2 ^ 32) (sym (put_other a v g b n)) (h.range b m)
 
-module _ {s : State} {count : ℕ} {May : ℕ → Type 0} {counted : ℕ → Bool} {r : ℕ → ℕ} {want : ℕ} (c : HasBlock s count May r want) where
+module _ {s : State} {count : ℕ} {May : ℕ → Type 0} {counted : ℕ → Bool} {r : ℕ → ℕ} {want : ℕ}
+    (c : HasBlock s count May r want) where
   -- before the first word
   pub works_none : Works s count May counted r want 0 0 (memory_word s.memory) s.codes (λ k. register_of s (r k))
   works_none = record {
@@ -192,15 +212,20 @@ module _ {s : State} {count : ℕ} {May : ℕ → Type 0} {counted : ℕ → Boo
   }
 
   -- the word of the code, where the machine stands
-  says_here : {n t : ℕ} {g : ℕ → ℕ} {codes : Codes} {f : ℕ → ℕ} (instr : Instr) (w : Reaches s count May counted r want n t g codes f) → Says (code_of s.memory) (s.pc + 4 * n) instr
+  says_here : {n t : ℕ} {g : ℕ → ℕ} {codes : Codes} {f : ℕ → ℕ} (instr : Instr)
+      (w : Reaches s count May counted r want n t g codes f) → Says (code_of s.memory) (s.pc + 4 * n) instr
       → Says (code_of w.after.memory) w.after.pc instr
   says_here {n} instr w says =
-      subst (λ (z : List Region). Says z w.after.pc instr) (sym w.alike.code) (subst (λ z. Says (code_of s.memory) z instr) (sym w.pc) says)
+      subst (λ (z : List Region). Says z w.after.pc instr) (sym w.alike.code)
+      (subst (λ z. Says (code_of s.memory) z instr) (sym w.pc) says)
 
   -- one word more, by what it does beside going on
-  pub works_step : {n t : ℕ} {g : ℕ → ℕ} {codes : Codes} {f : ℕ → ℕ} (t' : ℕ) (g' : ℕ → ℕ) (codes' : Codes) (f' : ℕ → ℕ) (instr : Instr) (w : Reaches s count May counted r want n t g codes f)
-      → n < count → IsPlain instr → Says (code_of s.memory) (s.pc + 4 * n) instr → (v : State) → act w.after instr ≡ next v → v.pc ≡ w.after.pc → v.npc ≡ w.after.npc
-      → IsAlike s May r want g' codes' f' v → t + one_if counted (stores_at w.after instr) ≤ t' → Works s count May counted r want (suc n) t' g' codes' f'
+  pub works_step : {n t : ℕ} {g : ℕ → ℕ} {codes : Codes} {f : ℕ → ℕ} (t' : ℕ) (g' : ℕ → ℕ) (codes' : Codes)
+      (f' : ℕ → ℕ) (instr : Instr) (w : Reaches s count May counted r want n t g codes f)
+      → n < count → IsPlain instr → Says (code_of s.memory) (s.pc + 4 * n) instr → (v : State)
+      → act w.after instr ≡ next v → v.pc ≡ w.after.pc → v.npc ≡ w.after.npc
+      → IsAlike s May r want g' codes' f' v → t + one_if counted (stores_at w.after instr) ≤ t'
+      → Works s count May counted r want (suc n) t' g' codes' f'
   works_step {n} {t} t' g' codes' f' instr w below plain says v acts pc npc alike more =
       let low = c.low in
       let p = w.pc in
@@ -209,16 +234,25 @@ module _ {s : State} {count : ℕ} {May : ℕ → Type 0} {counted : ℕ → Boo
       let here = says_here instr w says in
       let one : step_of w.after ≡ next v = says_step w.after instr w.alike.live here ∙ acts in
       let fewer = w.stored in
-      let last : stores_in_step counted w.after ≡ one_if counted (stores_at w.after instr) = says_stores counted w.after instr w.alike.live here in
-      let joined : count_stores counted s (w.steps + 1) ≡ count_stores counted s w.steps + (0 + stores_in_step counted w.after) = count_add counted s w.after w.steps w.path.steps 1 in
+      let last : stores_in_step counted w.after ≡ one_if counted (stores_at w.after instr) =
+      says_stores counted w.after instr w.alike.live here in
+      let joined : count_stores counted s (w.steps + 1) ≡ count_stores counted s w.steps +
+      (0 + stores_in_step counted w.after) = count_add counted s w.after w.steps w.path.steps 1 in
       record {
         reach = record {
           after = next v;
           steps = w.steps + 1;
           few = omega arith;
-          path = leads_then (IsBetween s count May) s w.after (next v) w.steps 1 w.path (leads_one _ w.after (next v) one)
-              (λ some _. record { past = (let x : 0 < w.steps = some in omega arith); before = omega arith; stores = w.alike.stores });
-          silent = silent_then s w.after w.steps 1 w.path.steps w.silent (silent_one w.after (says_puts w.after instr plain here));
+          path = leads_then (IsBetween s count May) s w.after (next v) w.steps 1 w.path
+              (leads_one _ w.after (next v) one)
+              (λ some _. record {
+                past = (let x : 0 < w.steps = some in omega arith);
+                before = omega arith;
+                stores =
+                    w.alike.stores;
+              });
+          silent = silent_then s w.after w.steps 1 w.path.steps w.silent
+              (silent_one w.after (says_puts w.after instr plain here));
           stored = omega arith;
           pc = (let z : v.npc ≡ s.pc + 4 * suc n = omega arith in z);
           npc = (let z : wrapped (v.npc + 4) ≡ s.pc + 4 * suc n + 4 = omega arith in z);
@@ -243,28 +277,41 @@ module _ {s : State} {count : ℕ} {May : ℕ → Type 0} {counted : ℕ → Boo
       }
 
   -- ---- SETHI
-  pub sethi : {n t : ℕ} {g : ℕ → ℕ} {codes : Codes} {f : ℕ → ℕ} (j imm v : ℕ) → Works s count May counted r want n t g codes f → n < count → j < want
-      → Says (code_of s.memory) (s.pc + 4 * n) (i.Sethi (r j) imm) → wrapped (1024 * imm) ≡ v → Works s count May counted r want (suc n) t g codes (put j v f)
+  pub sethi : {n t : ℕ} {g : ℕ → ℕ} {codes : Codes} {f : ℕ → ℕ} (j imm v : ℕ)
+      → Works s count May counted r want n t g codes f → n < count → j < want
+      → Says (code_of s.memory) (s.pc + 4 * n) (i.Sethi (r j) imm) → wrapped (1024 * imm) ≡ v
+      → Works s count May counted r want (suc n) t g codes (put j v f)
   unfolding act
   sethi {t = t} {g = g} {codes = codes} {f = f} j imm v w below b says e =
-      works_step t g codes (put j v f) (i.Sethi (r j) imm) w.reach below (λ cond rs1 op2 z. cc) says (with_register w.reach.after (r j) v) (ap (λ z. next (with_register w.reach.after (r j) z)) e) refl refl
+      works_step t g codes (put j v f) (i.Sethi (r j) imm) w.reach below (λ cond rs1 op2 z. cc) says
+      (with_register w.reach.after (r j) v) (ap (λ z. next (with_register w.reach.after (r j) z)) e) refl refl
       (alike_put c j v w.reach.after b w.reach.alike) (omega arith)
 
   -- ---- operations that leave the codes and Y
-  pub alu : {n t : ℕ} {g : ℕ → ℕ} {codes : Codes} {f : ℕ → ℕ} (j : ℕ) (op : AluOp) (rs1 : ℕ) (op2 : Op2) (v : ℕ) → Works s count May counted r want n t g codes f → n < count → j < want
-      → Says (code_of s.memory) (s.pc + 4 * n) (i.Alu op false (r j) rs1 op2) → ((u : State) → IsAlike s May r want g codes f u → Gives op rs1 op2 v u) → Works s count May counted r want (suc n) t g codes (put j v f)
+  pub alu : {n t : ℕ} {g : ℕ → ℕ} {codes : Codes} {f : ℕ → ℕ} (j : ℕ) (op : AluOp) (rs1 : ℕ) (op2 : Op2) (v : ℕ)
+      → Works s count May counted r want n t g codes f → n < count → j < want
+      → Says (code_of s.memory) (s.pc + 4 * n) (i.Alu op false (r j) rs1 op2)
+      → ((u : State) → IsAlike s May r want g codes f u → Gives op rs1 op2 v u)
+      → Works s count May counted r want (suc n) t g codes (put j v f)
   alu {t = t} {g = g} {codes = codes} {f = f} j op rs1 op2 v w below b says e =
-      works_step t g codes (put j v f) (i.Alu op false (r j) rs1 op2) w.reach below (λ cond q k z. cc) says (with_register w.reach.after (r j) v) (alu_acts w.reach.after op (r j) rs1 op2 v (e w.reach.after w.reach.alike)) refl refl
+      works_step t g codes (put j v f) (i.Alu op false (r j) rs1 op2) w.reach below (λ cond q k z. cc) says
+      (with_register w.reach.after (r j) v)
+      (alu_acts w.reach.after op (r j) rs1 op2 v (e w.reach.after w.reach.alike)) refl refl
       (alike_put c j v w.reach.after b w.reach.alike) (omega arith)
 
   -- ---- an operation that sets the codes alone
-  pub compares : {n t : ℕ} {g : ℕ → ℕ} {codes : Codes} {f : ℕ → ℕ} (op : AluOp) (rs1 : ℕ) (op2 : Op2) (v : ℕ) (codes' : Codes) → Works s count May counted r want n t g codes f → n < count
+  pub compares : {n t : ℕ} {g : ℕ → ℕ} {codes : Codes} {f : ℕ → ℕ} (op : AluOp) (rs1 : ℕ) (op2 : Op2) (v : ℕ)
+      (codes' : Codes) → Works s count May counted r want n t g codes f → n < count
       → Says (code_of s.memory) (s.pc + 4 * n) (i.Alu op true 0 rs1 op2)
-      → ((u : State) → IsAlike s May r want g codes f u → alu_of op true (register_of u rs1) (operand_of u op2) u.codes u.y ≡ Ok (record { value = v; codes = codes'; y = u.y }))
+      → ((u : State) → IsAlike s May r want g codes f u
+      → alu_of op true (register_of u rs1) (operand_of u op2) u.codes u.y ≡ Ok
+      (record { value = v; codes = codes'; y = u.y }))
       → Works s count May counted r want (suc n) t g codes' f
   compares {t = t} {g = g} {codes = codes} {f = f} op rs1 op2 v codes' w below says e =
       let h = w.reach.alike in
-      works_step t g codes' f (i.Alu op true 0 rs1 op2) w.reach below (λ cond q k z. cc) says (record w.reach.after { codes = codes' }) (codes_acts w.reach.after op rs1 op2 v codes' (e w.reach.after w.reach.alike)) refl refl
+      works_step t g codes' f (i.Alu op true 0 rs1 op2) w.reach below (λ cond q k z. cc) says
+      (record w.reach.after { codes = codes' })
+      (codes_acts w.reach.after op rs1 op2 v codes' (e w.reach.after w.reach.alike)) refl refl
       (record {
         live = h.live;
         window = h.window;
@@ -283,26 +330,41 @@ module _ {s : State} {count : ℕ} {May : ℕ → Type 0} {counted : ℕ → Boo
       }) (omega arith)
 
   -- ---- loads and stores
-  pub ld : {n t : ℕ} {g : ℕ → ℕ} {codes : Codes} {f : ℕ → ℕ} (j rs1 : ℕ) (op2 : Op2) (a : ℕ) → Works s count May counted r want n t g codes f → n < count → j < want
-      → Says (code_of s.memory) (s.pc + 4 * n) (i.Load loads.LD (r j) rs1 op2) → Sums s May r want rs1 op2 a g codes f → May a → Works s count May counted r want (suc n) t g codes (put j (g a) f)
+  pub ld : {n t : ℕ} {g : ℕ → ℕ} {codes : Codes} {f : ℕ → ℕ} (j rs1 : ℕ) (op2 : Op2) (a : ℕ)
+      → Works s count May counted r want n t g codes f → n < count → j < want
+      → Says (code_of s.memory) (s.pc + 4 * n) (i.Load loads.LD (r j) rs1 op2)
+      → Sums s May r want rs1 op2 a g codes f → May a
+      → Works s count May counted r want (suc n) t g codes (put j (g a) f)
   ld {t = t} {g = g} {codes = codes} {f = f} j rs1 op2 a w below b says sums ok =
-      works_step t g codes (put j (g a) f) (i.Load loads.LD (r j) rs1 op2) w.reach below (λ cond q k z. cc) says (with_register w.reach.after (r j) (g a))
-      (ld_acts w.reach.after (r j) rs1 op2 a (sums w.reach.after w.reach.alike) (ap (λ z. z == 0) (c.aligned a ok)) (can_load w.reach.after.memory a (w.reach.alike.can a ok))
-      ∙ ap (λ z. next (with_register w.reach.after (r j) z)) (w.reach.alike.words a ok)) refl refl (alike_put c j (g a) w.reach.after b w.reach.alike) (omega arith)
+      works_step t g codes (put j (g a) f) (i.Load loads.LD (r j) rs1 op2) w.reach below (λ cond q k z. cc) says
+      (with_register w.reach.after (r j) (g a))
+      (ld_acts w.reach.after (r j) rs1 op2 a (sums w.reach.after w.reach.alike) (ap (λ z. z == 0) (c.aligned a ok))
+      (can_load w.reach.after.memory a (w.reach.alike.can a ok))
+      ∙ ap (λ z. next (with_register w.reach.after (r j) z)) (w.reach.alike.words a ok)) refl refl
+      (alike_put c j (g a) w.reach.after b w.reach.alike) (omega arith)
 
-  pub st : {n t : ℕ} {g : ℕ → ℕ} {codes : Codes} {f : ℕ → ℕ} (t' rd rs1 : ℕ) (op2 : Op2) (a v : ℕ) → Works s count May counted r want n t g codes f → n < count
-      → Says (code_of s.memory) (s.pc + 4 * n) (i.Store stores.ST rd rs1 op2) → Sums s May r want rs1 op2 a g codes f → May a → ((u : State) → IsAlike s May r want g codes f u → register_of u rd ≡ v) → v < 2 ^ 32
+  pub st : {n t : ℕ} {g : ℕ → ℕ} {codes : Codes} {f : ℕ → ℕ} (t' rd rs1 : ℕ) (op2 : Op2) (a v : ℕ)
+      → Works s count May counted r want n t g codes f → n < count
+      → Says (code_of s.memory) (s.pc + 4 * n) (i.Store stores.ST rd rs1 op2)
+      → Sums s May r want rs1 op2 a g codes f → May a
+      → ((u : State) → IsAlike s May r want g codes f u → register_of u rd ≡ v) → v < 2 ^ 32
       → t + one_if counted (Some a) ≤ t' → Works s count May counted r want (suc n) t' (put a v g) codes f
   st {t = t} {g = g} {codes = codes} {f = f} t' rd rs1 op2 a v w below says sums ok value small more =
-      works_step t' (put a v g) codes f (i.Store stores.ST rd rs1 op2) w.reach below (λ cond q k z. cc) says (record w.reach.after { memory = store_word w.reach.after.memory a v })
-      (st_acts w.reach.after rd rs1 op2 a (sums w.reach.after w.reach.alike) (ap (λ z. z == 0) (c.aligned a ok)) (w.reach.alike.can a ok)
-      ∙ ap (λ z. next (record w.reach.after { memory = store_word w.reach.after.memory a z })) (value w.reach.after w.reach.alike)) refl refl (alike_store c a v w.reach.after ok small w.reach.alike)
+      works_step t' (put a v g) codes f (i.Store stores.ST rd rs1 op2) w.reach below (λ cond q k z. cc) says
+      (record w.reach.after { memory = store_word w.reach.after.memory a v })
+      (st_acts w.reach.after rd rs1 op2 a (sums w.reach.after w.reach.alike) (ap (λ z. z == 0) (c.aligned a ok))
+      (w.reach.alike.can a ok)
+      ∙ ap (λ z. next (record w.reach.after { memory = store_word w.reach.after.memory a z }))
+      (value w.reach.after w.reach.alike)) refl refl (alike_store c a v w.reach.after ok small w.reach.alike)
       (subst (λ z. t + one_if counted (Some z) ≤ t') (sym (sums w.reach.after w.reach.alike)) more)
 
   -- ---- a branch over one store, which is done in its slot where the condition holds
-  pub branches : {n t : ℕ} {g : ℕ → ℕ} {codes : Codes} {f : ℕ → ℕ} (cond rd rs1 : ℕ) (op2 : Op2) (a v : ℕ) (b : Bool) → Works s count May counted r want n t g codes f → n + 2 ≤ count → (cond == 8) ≡ false
-      → holds_of cond codes ≡ b → Says (code_of s.memory) (s.pc + 4 * n) (i.Branch cond true (pos 2)) → Says (code_of s.memory) (s.pc + 4 * suc n) (i.Store stores.ST rd rs1 op2)
-      → Sums s May r want rs1 op2 a g codes f → May a → ((u : State) → IsAlike s May r want g codes f u → register_of u rd ≡ v) → v < 2 ^ 32 → counted a ≡ false
+  pub branches : {n t : ℕ} {g : ℕ → ℕ} {codes : Codes} {f : ℕ → ℕ} (cond rd rs1 : ℕ) (op2 : Op2) (a v : ℕ)
+      (b : Bool) → Works s count May counted r want n t g codes f → n + 2 ≤ count → (cond == 8) ≡ false
+      → holds_of cond codes ≡ b → Says (code_of s.memory) (s.pc + 4 * n) (i.Branch cond true (pos 2))
+      → Says (code_of s.memory) (s.pc + 4 * suc n) (i.Store stores.ST rd rs1 op2)
+      → Sums s May r want rs1 op2 a g codes f → May a
+      → ((u : State) → IsAlike s May r want g codes f u → register_of u rd ≡ v) → v < 2 ^ 32 → counted a ≡ false
       → Works s count May counted r want (suc (suc n)) t (if b then put a v g else g) codes f
   branches {n} {t} {g} {codes} {f} cond rd rs1 op2 a v true w room other holds branch store sums ok value small free =
       let low = c.low in
@@ -314,17 +376,22 @@ module _ {s : State} {count : ℕ} {May : ℕ → Type 0} {counted : ℕ → Boo
       let h = x.alike in
       let here = says_here (i.Branch cond true (pos 2)) x branch in
       let there : step_of u ≡ delayed u (wrapped (u.pc + 8)) =
-      says_step u (i.Branch cond true (pos 2)) h.live here ∙ branch_acts u cond true w.slot other (ap (holds_of cond) h.codes_are ∙ holds) in
+      says_step u (i.Branch cond true (pos 2)) h.live here
+      ∙ branch_acts u cond true w.slot other (ap (holds_of cond) h.codes_are ∙ holds) in
       let fewer = x.stored in
       let last : stores_in_step counted u ≡ 0 = says_stores counted u (i.Branch cond true (pos 2)) h.live here in
-      let joined : count_stores counted s (x.steps + 1) ≡ count_stores counted s x.steps + (0 + stores_in_step counted u) = count_add counted s u x.steps x.path.steps 1 in
+      let joined : count_stores counted s (x.steps + 1) ≡ count_stores counted s x.steps +
+      (0 + stores_in_step counted u) = count_add counted s u x.steps x.path.steps 1 in
       let y : Reaches s count May counted r want (suc n) t g codes f = record {
         after = delayed u (wrapped (u.pc + 8));
         steps = x.steps + 1;
         few = omega arith;
-        path = leads_then (IsBetween s count May) s u (delayed u (wrapped (u.pc + 8))) x.steps 1 x.path (leads_one _ u _ there)
-            (λ some _. record { past = (let z : 0 < x.steps = some in omega arith); before = omega arith; stores = h.stores });
-        silent = silent_then s u x.steps 1 x.path.steps x.silent (silent_one u (says_puts u (i.Branch cond true (pos 2)) (λ k l m z. cc) here));
+        path = leads_then (IsBetween s count May) s u (delayed u (wrapped (u.pc + 8))) x.steps 1 x.path
+            (leads_one _ u _ there)
+            (λ some _. record
+            { past = (let z : 0 < x.steps = some in omega arith); before = omega arith; stores = h.stores });
+        silent = silent_then s u x.steps 1 x.path.steps x.silent
+            (silent_one u (says_puts u (i.Branch cond true (pos 2)) (λ k l m z. cc) here));
         stored = omega arith;
         pc = (let z : u.npc ≡ s.pc + 4 * suc n = omega arith in z);
         npc = (let z : wrapped (u.pc + 8) ≡ s.pc + 4 * suc n + 4 = omega arith in z);
@@ -345,10 +412,13 @@ module _ {s : State} {count : ℕ} {May : ℕ → Type 0} {counted : ℕ → Boo
           code = h.code;
         };
       } in
-      works_step t (put a v g) codes f (i.Store stores.ST rd rs1 op2) y (omega arith) (λ k l m z. cc) store (record y.after { memory = store_word y.after.memory a v })
+      works_step t (put a v g) codes f (i.Store stores.ST rd rs1 op2) y (omega arith) (λ k l m z. cc) store
+      (record y.after { memory = store_word y.after.memory a v })
       (st_acts y.after rd rs1 op2 a (sums y.after y.alike) (ap (λ z. z == 0) (c.aligned a ok)) (y.alike.can a ok)
-      ∙ ap (λ z. next (record y.after { memory = store_word y.after.memory a z })) (value y.after y.alike)) refl refl (alike_store c a v y.after ok small y.alike)
-      (subst (λ z. t + one_if counted (Some z) ≤ t) (sym (sums y.after y.alike)) (subst (λ (z : Bool). t + (if z then 1 else 0) ≤ t) (sym free) (omega arith)))
+      ∙ ap (λ z. next (record y.after { memory = store_word y.after.memory a z })) (value y.after y.alike)) refl
+      refl (alike_store c a v y.after ok small y.alike)
+      (subst (λ z. t + one_if counted (Some z) ≤ t) (sym (sums y.after y.alike))
+      (subst (λ (z : Bool). t + (if z then 1 else 0) ≤ t) (sym free) (omega arith)))
   branches {n} {t} {g} {codes} {f} cond rd rs1 op2 a v false w room other holds branch store sums ok value small free =
       let low = c.low in
       let x = w.reach in
@@ -360,18 +430,22 @@ module _ {s : State} {count : ℕ} {May : ℕ → Type 0} {counted : ℕ → Boo
       let here = says_here (i.Branch cond true (pos 2)) x branch in
       let over : State = record u { pc = wrapped (u.pc + 8); npc = wrapped (u.pc + 12) } in
       let there : step_of u ≡ over =
-      says_step u (i.Branch cond true (pos 2)) h.live here ∙ branch_acts u cond false w.slot other (ap (holds_of cond) h.codes_are ∙ holds) in
+      says_step u (i.Branch cond true (pos 2)) h.live here
+      ∙ branch_acts u cond false w.slot other (ap (holds_of cond) h.codes_are ∙ holds) in
       let fewer = x.stored in
       let last : stores_in_step counted u ≡ 0 = says_stores counted u (i.Branch cond true (pos 2)) h.live here in
-      let joined : count_stores counted s (x.steps + 1) ≡ count_stores counted s x.steps + (0 + stores_in_step counted u) = count_add counted s u x.steps x.path.steps 1 in
+      let joined : count_stores counted s (x.steps + 1) ≡ count_stores counted s x.steps +
+      (0 + stores_in_step counted u) = count_add counted s u x.steps x.path.steps 1 in
       record {
         reach = record {
           after = over;
           steps = x.steps + 1;
           few = omega arith;
           path = leads_then (IsBetween s count May) s u over x.steps 1 x.path (leads_one _ u _ there)
-              (λ some _. record { past = (let z : 0 < x.steps = some in omega arith); before = omega arith; stores = h.stores });
-          silent = silent_then s u x.steps 1 x.path.steps x.silent (silent_one u (says_puts u (i.Branch cond true (pos 2)) (λ k l m z. cc) here));
+              (λ some _. record
+              { past = (let z : 0 < x.steps = some in omega arith); before = omega arith; stores = h.stores });
+          silent = silent_then s u x.steps 1 x.path.steps x.silent
+              (silent_one u (says_puts u (i.Branch cond true (pos 2)) (λ k l m z. cc) here));
           stored = omega arith;
           pc = (let z : wrapped (u.pc + 8) ≡ s.pc + 4 * suc (suc n) = omega arith in z);
           npc = (let z : wrapped (u.pc + 12) ≡ s.pc + 4 * suc (suc n) + 4 = omega arith in z);

@@ -21,7 +21,8 @@ among w (p ∷ ps) q e = go p (is_same (parts.Reg q) p) refl e (among w ps q)
     go : (z : Part) (b : Bool) → is_same (parts.Reg q) z ≡ b → (b || has ps (parts.Reg q)) ≡ true
         → (has ps (parts.Reg q) ≡ true → IsAmong (Register (place_of w q)) w ps)
         → (item_of w z ≡ Register (place_of w q)) ⊎ IsAmong (Register (place_of w q)) w ps
-    go (parts.Reg x) true f k rec = inl (ap (λ n. Register (place_of w n)) (let d : x ≡ q = grind (arith, nat_tests) in d))
+    go (parts.Reg x) true f k rec =
+        inl (ap (λ n. Register (place_of w n)) (let d : x ≡ q = grind (arith, nat_tests) in d))
     go parts.Icc true f k rec = absurd (cc)
     go parts.Y true f k rec = absurd (cc)
     go z false f k rec = inr (rec k)
@@ -30,7 +31,8 @@ codes_among : (w : ℕ) (ps : List Part) → has ps parts.Icc ≡ true → IsAmo
 codes_among w [] e = absurd (cc)
 codes_among w (p ∷ ps) e = go p e (codes_among w ps)
   where
-    go : (z : Part) → (is_same parts.Icc z || has ps parts.Icc) ≡ true → (has ps parts.Icc ≡ true → IsAmong CodesItem w ps)
+    go : (z : Part) → (is_same parts.Icc z || has ps parts.Icc) ≡ true
+        → (has ps parts.Icc ≡ true → IsAmong CodesItem w ps)
         → (item_of w z ≡ CodesItem) ⊎ IsAmong CodesItem w ps
     go (parts.Reg x) k rec = inr (rec k)
     go parts.Icc k rec = inl refl

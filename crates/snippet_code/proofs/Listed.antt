@@ -56,7 +56,8 @@ listed_one : (base n : ℕ) (regs : ℕ → ℕ) (op : Op) (g : ℕ → ℕ) →
     → listed base n (update_one (cell_at base) regs op g) ≡ updated_by regs op (listed base n g)
 listed_one base n regs op g inside =
     listed_put base n g (cell_of op) (value_after regs op (g (cell_at base (cell_of op)))) inside
-    ∙ ap (λ z. set (listed base n g) (cell_of op) (value_after regs op z)) (sym (listed_at base n g (cell_of op) inside))
+    ∙ ap (λ z. set (listed base n g) (cell_of op) (value_after regs op z))
+    (sym (listed_at base n g (cell_of op) inside))
 
 pub listed_all : (base n : ℕ) (regs : ℕ → ℕ) (ops : List Op) (g : ℕ → ℕ) → ((k : ℕ) → IsCellOf ops k → k < n)
     → listed base n (update_all (cell_at base) regs ops g) ≡ update regs ops (listed base n g)

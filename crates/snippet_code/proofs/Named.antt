@@ -20,7 +20,8 @@ IsReadIn [] q = ⊥
 IsReadIn (op ∷ ops) q = IsRead op q ⊎ IsReadIn ops q
 
 first_has : (reg q : ℕ) (ps : List Part) → q ≡ reg → has (Reg reg ∷ ps) (Reg q) ≡ true
-first_has reg q ps e = ap (λ z. is_same (Reg z) (Reg reg) || has ps (Reg z)) e ∙ ap (λ b. b || has ps (Reg reg)) (is_same-self (Reg reg))
+first_has reg q ps e =
+    ap (λ z. is_same (Reg z) (Reg reg) || has ps (Reg z)) e ∙ ap (λ b. b || has ps (Reg reg)) (is_same-self (Reg reg))
 
 or_true : (b : Bool) → (b || true) ≡ true
 or_true true = refl
@@ -51,7 +52,10 @@ count_from : (f : Part → Bool) (first count : ℕ)
     ≡ length (filter (λ (r : ℕ). f (Reg r)) (range_with_len first count))
 count_from f first zero = refl
 count_from f first (suc count) =
-    go (f (Reg first)) (count_from f (suc first) count ∙ ap (λ n. length (filter (λ (r : ℕ). f (Reg r)) (range_with_len n count))) (let e : suc first ≡ first + 1 = omega arith in e))
+    go (f (Reg first))
+    (count_from f (suc first) count
+    ∙ ap (λ n. length (filter (λ (r : ℕ). f (Reg r)) (range_with_len n count)))
+    (let e : suc first ≡ first + 1 = omega arith in e))
   where
     go : (b : Bool) → length (filter is_register (filter f (registers_from (suc first) count)))
         ≡ length (filter (λ (r : ℕ). f (Reg r)) (range_with_len (first + 1) count))
@@ -79,7 +83,8 @@ members_count f =
     (filter-append is_register (filter f (registers_from 1 31)) (filter f (Icc ∷ Y ∷ [])))
     ∙ omega (
       arith,
-      length-append (filter is_register (filter f (registers_from 1 31))) (filter is_register (filter f (Icc ∷ Y ∷ []))),
+      length-append (filter is_register (filter f (registers_from 1 31)))
+          (filter is_register (filter f (Icc ∷ Y ∷ []))),
       rest_none f,
       count_from f 1 31,
     )

@@ -23,11 +23,15 @@ use Rattle.snippet_code.proofs.Greater.{top_works}
 use Rattle.snippet_code.proofs.Blocks.{put_same, put_other, ld, st}
 
 -- ---- words of two lists
-pub stand_then : (code : List Region) (a : ℕ) (xs ys : List Instr) → StandIn code a (xs ++ ys) → StandIn code a xs × StandIn code (a + 4 * length xs) ys
+pub stand_then : (code : List Region) (a : ℕ) (xs ys : List Instr) → StandIn code a (xs ++ ys)
+    → StandIn code a xs × StandIn code (a + 4 * length xs) ys
 stand_then code a [] ys h = (tt, subst (λ z. StandIn code z ys) (let e : a ≡ a + 4 * 0 = omega arith in e) h)
 stand_then code a (x ∷ xs) ys h =
-    let p = stand_then code (a + 4) xs ys h.1 in
-    ((h.0, p.0), subst (λ z. StandIn code z ys) (let e : a + 4 + 4 * length xs ≡ a + 4 * suc (length xs) = omega arith in e) p.1)
+    let p = stand_then code (a + 4) xs ys h.1 in (
+      (h.0, p.0),
+      subst (λ z. StandIn code z ys)
+          (let e : a + 4 + 4 * length xs ≡ a + 4 * suc (length xs) = omega arith in e) p.1,
+    )
 
 pub stand_at : (code : List Region) (a b : ℕ) (xs : List Instr) → StandIn code a xs → a ≡ b → StandIn code b xs
 stand_at code a b xs h e = subst (λ z. StandIn code z xs) e h
@@ -48,19 +52,25 @@ page_sum u (suc (suc (suc zero))) h = refl
 page_sum u (suc (suc (suc (suc zero)))) h = refl
 page_sum u (suc (suc (suc (suc (suc m))))) h = absurd (omega arith)
 
-module _ {s : State} {count : ℕ} {May : ℕ → Type 0} {counted : ℕ → Bool} {r : ℕ → ℕ} {want : ℕ} (c : HasBlock s count May r want) where
+module _ {s : State} {count : ℕ} {May : ℕ → Type 0} {counted : ℕ → Bool} {r : ℕ → ℕ} {want : ℕ}
+    (c : HasBlock s count May r want) where
   -- any operation
-  op_works : {n t : ℕ} {g : ℕ → ℕ} {codes : Codes} {f : ℕ → ℕ} (w : Works s count May counted r want n t g codes f) (cells : ℕ) (d : Bool) (kept : d ≡ false → codes ≡ s.codes) (op : Op)
+  op_works : {n t : ℕ} {g : ℕ → ℕ} {codes : Codes} {f : ℕ → ℕ} (w : Works s count May counted r want n t g codes f)
+      (cells : ℕ) (d : Bool) (kept : d ≡ false → codes ≡ s.codes) (op : Op)
       → Doing c w cells d kept op (op_words cells d r op)
   op_works w cells d kept (Add cell amount) = add_works c w cells d kept cell amount
   op_works w cells d kept (Put cell value) = put_works c w cells d kept cell value
   op_works w cells d kept (Keep cell reg) = keep_works c w cells d kept cell reg
   op_works w cells d kept (Top cell reg) = top_works c w cells d kept cell reg
 
-  pub all_work : (cells : ℕ) (d : Bool) (ops : List Op) {n t : ℕ} {g : ℕ → ℕ} → Does s count May counted r want d n t g → AreFit May counted r want cells d ops
-      → n + length (all_words cells d r ops) ≤ count → StandIn (code_of s.memory) (s.pc + 4 * n) (all_words cells d r ops)
-      → Does s count May counted r want d (n + length (all_words cells d r ops)) t (update_all (cell_at cells) (register_of s) ops g)
-  all_work cells d [] {n} {t} {g} w h room stand = subst (λ z. Does s count May counted r want d z t g) (let e : n ≡ n + 0 = omega arith in e) w
+  pub all_work : (cells : ℕ) (d : Bool) (ops : List Op) {n t : ℕ} {g : ℕ → ℕ}
+      → Does s count May counted r want d n t g → AreFit May counted r want cells d ops
+      → n + length (all_words cells d r ops) ≤ count
+      → StandIn (code_of s.memory) (s.pc + 4 * n) (all_words cells d r ops)
+      → Does s count May counted r want d (n + length (all_words cells d r ops)) t
+      (update_all (cell_at cells) (register_of s) ops g)
+  all_work cells d [] {n} {t} {g} w h room stand =
+      subst (λ z. Does s count May counted r want d z t g) (let e : n ≡ n + 0 = omega arith in e) w
   all_work cells d (op ∷ rest) {n} {t} {g} w h room stand =
       let code = code_of s.memory in
       let xs = op_words cells d r op in
@@ -68,40 +78,72 @@ module _ {s : State} {count : ℕ} {May : ℕ → Type 0} {counted : ℕ → Boo
       let l : length (xs ++ ys) ≡ length xs + length ys = length-append xs ys in
       let two = stand_then code (s.pc + 4 * n) xs ys stand in
       let one = op_works w.works cells d w.kept op h.0 (omega arith) two.0 in
-      let more = all_work cells d rest one h.1 (omega arith) (stand_at code (s.pc + 4 * n + 4 * length xs) (s.pc + 4 * (n + length xs)) ys two.1 (omega arith)) in
-      subst (λ z. Does s count May counted r want d z t (update_all (cell_at cells) (register_of s) rest (update_one (cell_at cells) (register_of s) op g))) (let e : n + length xs + length ys ≡ n + length (xs ++ ys) = omega arith in e) more
+      let more =
+      all_work cells d rest one h.1 (omega arith)
+      (stand_at code (s.pc + 4 * n + 4 * length xs) (s.pc + 4 * (n + length xs)) ys two.1 (omega arith)) in
+      subst (λ z. Does s count May counted r want d z t
+      (update_all (cell_at cells) (register_of s) rest (update_one (cell_at cells) (register_of s) op g)))
+      (let e : n + length xs + length ys ≡ n + length (xs ++ ys) = omega arith in e) more
 
   -- ---- saved before
-  pub saves : (k m : ℕ) (qs : List ℕ) {n t : ℕ} {g : ℕ → ℕ} {codes : Codes} → Works s count May counted r want n t g codes (λ j. register_of s (r j)) → AreFrom r want k qs → HavePage May m qs
+  pub saves : (k m : ℕ) (qs : List ℕ) {n t : ℕ} {g : ℕ → ℕ} {codes : Codes}
+      → Works s count May counted r want n t g codes (λ j. register_of s (r j)) → AreFrom r want k qs
+      → HavePage May m qs
       → n + length (numbered save m qs) ≤ count → StandIn (code_of s.memory) (s.pc + 4 * n) (numbered save m qs)
-      → Works s count May counted r want (n + length qs) (t + length qs) (saved (register_of s) m qs g) codes (λ j. register_of s (r j))
+      → Works s count May counted r want (n + length qs) (t + length qs) (saved (register_of s) m qs g) codes
+      (λ j. register_of s (r j))
   saves k m [] {n} {t} {g} {codes} w picked page room stand =
-      subst (λ z. Works s count May counted r want z (t + 0) g codes (λ j. register_of s (r j))) (let e : n ≡ n + 0 = omega arith in e)
-      (subst (λ z. Works s count May counted r want n z g codes (λ j. register_of s (r j))) (let e : t ≡ t + 0 = omega arith in e) w)
+      subst (λ z. Works s count May counted r want z (t + 0) g codes (λ j. register_of s (r j)))
+      (let e : n ≡ n + 0 = omega arith in e)
+      (subst (λ z. Works s count May counted r want n z g codes (λ j. register_of s (r j)))
+      (let e : t ≡ t + 0 = omega arith in e) w)
   saves k m (q ∷ qs) {n} {t} {g} {codes} w picked page room stand =
-      let one = st c (t + 1) q 0 (of_page (m + 2)) (kept_word m) (register_of s q) w (omega arith) stand.0 (λ u h. page_sum u m page.0) page.1
-      (λ u h. ap (register_of u) picked.1 ∙ h.picked k picked.0 ∙ ap (register_of s) (sym picked.1)) (register_of-range s q c.valid) (one_at_most counted t (kept_word m)) in
-      let more = saves (suc k) (suc m) qs one picked.2 page.2 (omega arith) (stand_at (code_of s.memory) (s.pc + 4 * n + 4) (s.pc + 4 * suc n) (numbered save (suc m) qs) stand.1 (omega arith)) in
-      subst (λ z. Works s count May counted r want z (t + suc (length qs)) (saved (register_of s) (suc m) qs (put (kept_word m) (register_of s q) g)) codes (λ j. register_of s (r j))) (let e : suc n + length qs ≡ n + suc (length qs) = omega arith in e)
-      (subst (λ z. Works s count May counted r want (suc n + length qs) z (saved (register_of s) (suc m) qs (put (kept_word m) (register_of s q) g)) codes (λ j. register_of s (r j))) (let e : t + 1 + length qs ≡ t + suc (length qs) = omega arith in e) more)
+      let one =
+      st c (t + 1) q 0 (of_page (m + 2)) (kept_word m) (register_of s q) w (omega arith) stand.0
+      (λ u h. page_sum u m page.0) page.1
+      (λ u h. ap (register_of u) picked.1 ∙ h.picked k picked.0 ∙ ap (register_of s) (sym picked.1))
+      (register_of-range s q c.valid) (one_at_most counted t (kept_word m)) in
+      let more =
+      saves (suc k) (suc m) qs one picked.2 page.2 (omega arith)
+      (stand_at (code_of s.memory) (s.pc + 4 * n + 4) (s.pc + 4 * suc n) (numbered save (suc m) qs) stand.1
+      (omega arith)) in
+      subst (λ z. Works s count May counted r want z (t + suc (length qs))
+      (saved (register_of s) (suc m) qs (put (kept_word m) (register_of s q) g)) codes
+      (λ j. register_of s (r j))) (let e : suc n + length qs ≡ n + suc (length qs) = omega arith in e)
+      (subst (λ z. Works s count May counted r want (suc n + length qs) z
+      (saved (register_of s) (suc m) qs (put (kept_word m) (register_of s q) g)) codes
+      (λ j. register_of s (r j))) (let e : t + 1 + length qs ≡ t + suc (length qs) = omega arith in e) more)
 
   -- ---- and loaded after
-  pub restores : (k m : ℕ) (qs : List ℕ) {n t : ℕ} {g : ℕ → ℕ} {codes : Codes} {f : ℕ → ℕ} → Works s count May counted r want n t g codes f → AreFrom r want k qs → HavePage May m qs → AreSaved (register_of s) m qs g
+  pub restores : (k m : ℕ) (qs : List ℕ) {n t : ℕ} {g : ℕ → ℕ} {codes : Codes} {f : ℕ → ℕ}
+      → Works s count May counted r want n t g codes f → AreFrom r want k qs → HavePage May m qs
+      → AreSaved (register_of s) m qs g
       → n + length (numbered restore m qs) ≤ count → StandIn (code_of s.memory) (s.pc + 4 * n) (numbered restore m qs)
-      → (f' : ℕ → ℕ) × Works s count May counted r want (n + length qs) t g codes f' × ((j : ℕ) → j < k → f' j ≡ f j) × ((j : ℕ) → k ≤ j → j < k + length qs → f' j ≡ register_of s (r j))
+      → (f' : ℕ → ℕ) × Works s count May counted r want (n + length qs) t g codes f' ×
+      ((j : ℕ) → j < k → f' j ≡ f j) × ((j : ℕ) → k ≤ j → j < k + length qs → f' j ≡ register_of s (r j))
   restores k m [] {n} {t} {g} {codes} {f} w picked page held room stand =
       (f, as_many (let e : n ≡ n + 0 = omega arith in e) w, λ j h. refl, λ j h l. absurd (omega arith))
   restores k m (q ∷ qs) {n} {t} {g} {codes} {f} w picked page held room stand =
-      let here : Says (code_of s.memory) (s.pc + 4 * n) (i.Load loads.LD (r k) 0 (of_page (m + 2))) = subst (λ z. Says (code_of s.memory) (s.pc + 4 * n) (i.Load loads.LD z 0 (of_page (m + 2)))) picked.1 stand.0 in
-      let one = ld c k 0 (of_page (m + 2)) (kept_word m) w (omega arith) picked.0 here (λ u h. page_sum u m page.0) page.1 in
-      let more = restores (suc k) (suc m) qs one picked.2 page.2 held.1 (omega arith) (stand_at (code_of s.memory) (s.pc + 4 * n + 4) (s.pc + 4 * suc n) (numbered restore (suc m) qs) stand.1 (omega arith)) in (
+      let here : Says (code_of s.memory) (s.pc + 4 * n) (i.Load loads.LD (r k) 0 (of_page (m + 2))) =
+      subst (λ z. Says (code_of s.memory) (s.pc + 4 * n) (i.Load loads.LD z 0 (of_page (m + 2)))) picked.1
+      stand.0 in
+      let one =
+      ld c k 0 (of_page (m + 2)) (kept_word m) w (omega arith) picked.0 here (λ u h. page_sum u m page.0) page.1
+      in
+      let more =
+      restores (suc k) (suc m) qs one picked.2 page.2 held.1 (omega arith)
+      (stand_at (code_of s.memory) (s.pc + 4 * n + 4) (s.pc + 4 * suc n) (numbered restore (suc m) qs) stand.1
+      (omega arith)) in (
         more.0,
         as_many (let e : suc n + length qs ≡ n + suc (length qs) = omega arith in e) more.1,
         λ j h. more.2 j (omega arith) ∙ put_other k (g (kept_word m)) f j (λ e. (omega arith)),
         λ j h l. go more.0 more.2 more.3 j h l (equal_or_not j k),
       )
     where
-      go : (f' : ℕ → ℕ) → ((j : ℕ) → j < suc k → f' j ≡ put k (g (kept_word m)) f j) → ((j : ℕ) → suc k ≤ j → j < suc k + length qs → f' j ≡ register_of s (r j))
+      go : (f' : ℕ → ℕ) → ((j : ℕ) → j < suc k → f' j ≡ put k (g (kept_word m)) f j)
+          → ((j : ℕ) → suc k ≤ j → j < suc k + length qs → f' j ≡ register_of s (r j))
           → (j : ℕ) → k ≤ j → j < k + suc (length qs) → (j ≡ k) ⊎ (j ≢ k) → f' j ≡ register_of s (r j)
-      go f' low high j h l (inl e) = ap f' e ∙ low k (omega arith) ∙ put_same k (g (kept_word m)) f ∙ held.0 ∙ ap (register_of s) picked.1 ∙ ap (λ z. register_of s (r z)) (sym e)
+      go f' low high j h l (inl e) =
+          ap f' e ∙ low k (omega arith) ∙ put_same k (g (kept_word m)) f ∙ held.0 ∙ ap (register_of s) picked.1
+          ∙ ap (λ z. register_of s (r z)) (sym e)
       go f' low high j h l (inr ne) = high j (omega arith) (omega arith)

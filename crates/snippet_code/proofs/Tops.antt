@@ -17,12 +17,14 @@ abbrev borrow : ℕ → ℕ → ℕ → ℕ
 borrow c x d = bit_or (bit_and (bit_or x (complement c)) d) (bit_and x (complement c))
 
 borrow_bit : (c x d : ℕ) → c < 2 ^ 32 → x < 2 ^ 32 → d < 2 ^ 32
-    → bit_at (borrow c x d) 31 ≡ max (min (max (x / 2 ^ 31) ((2 ^ 32 - 1 - c) / 2 ^ 31)) (d / 2 ^ 31)) (min (x / 2 ^ 31) ((2 ^ 32 - 1 - c) / 2 ^ 31))
+    → bit_at (borrow c x d) 31 ≡ max (min (max (x / 2 ^ 31) ((2 ^ 32 - 1 - c) / 2 ^ 31)) (d / 2 ^ 31))
+    (min (x / 2 ^ 31) ((2 ^ 32 - 1 - c) / 2 ^ 31))
 borrow_bit c x d lc lx ld =
     let n = complement c in
     let ln : n < 2 ^ 32 = omega arith in
     bit_at_or (bit_and (bit_or x n) d) (bit_and x n) 31
-    ∙ ap (λ p. max p (bit_at (bit_and x n) 31)) (bit_at_and (bit_or x n) d 31 ∙ ap (λ p. min p (bit_at d 31)) (bit_at_or x n 31))
+    ∙ ap (λ p. max p (bit_at (bit_and x n) 31))
+    (bit_at_and (bit_or x n) d 31 ∙ ap (λ p. min p (bit_at d 31)) (bit_at_or x n 31))
     ∙ ap (λ p. max (min (max (bit_at x 31) (bit_at n 31)) (bit_at d 31)) p) (bit_at_and x n 31)
     ∙ ap (λ p. max (min (max p (bit_at n 31)) (bit_at d 31)) (min p (bit_at n 31))) (top_bit x lx)
     ∙ ap (λ p. max (min (max (x / 2 ^ 31) p) (bit_at d 31)) (min (x / 2 ^ 31) p)) (top_bit n ln)
@@ -33,14 +35,16 @@ borrow_below c x d lc lx ld =
     let n = complement c in
     let ln : n < 2 ^ 32 = omega arith in
     or_lt 32 (bit_and (bit_or x n) d) (bit_and x n)
-    (let a : bit_and (bit_or x n) d ≤ bit_or x n = and_le_l _ _ in let b : bit_or x n < 2 ^ 32 = or_lt 32 x n lx ln in omega arith)
+    (let a : bit_and (bit_or x n) d ≤ bit_or x n = and_le_l _ _ in let b : bit_or x n < 2 ^ 32 = or_lt 32 x n lx
+    ln in omega arith)
     (let a : bit_and x n ≤ x = and_le_l _ _ in omega arith)
 
 -- a mask of all ones, or of none
 masked : (r d : ℕ) → r < 2 ^ 32 → d < 2 ^ 32 → bit_and (shifted_right r 31) d ≡ cond (is_negative r) d 0
 masked r d lr ld = by (is_negative r) refl
   where
-    by : (b : Bool) → is_negative r ≡ b → bit_and (cond b (complement (complement r / 2 ^ 31)) (r / 2 ^ 31)) d ≡ cond b d 0
+    by : (b : Bool) → is_negative r ≡ b
+        → bit_and (cond b (complement (complement r / 2 ^ 31)) (r / 2 ^ 31)) d ≡ cond b d 0
     by true e =
         let above : 2 ^ 31 ≤ r = leb-true _ _ e in
         let all : complement (complement r / 2 ^ 31) ≡ 2 ^ 32 - 1 = omega arith in
@@ -86,10 +90,13 @@ top_is_greater codes y c x lc lx = by (cases_lt c x)
     below : difference c x < 2 ^ 32
     below = omega arith
 
-    m : bit_and (shifted_right (borrow c x (difference c x)) 31) (difference c x) ≡ cond (is_negative (borrow c x (difference c x))) (difference c x) 0
+    m : bit_and (shifted_right (borrow c x (difference c x)) 31) (difference c x) ≡ cond
+        (is_negative (borrow c x (difference c x))) (difference c x) 0
     m = masked (borrow c x (difference c x)) (difference c x) (borrow_below c x (difference c x) lc lx below) below
 
-    by : (c < x) ⊎ (x ≤ c) → wrapped (2 ^ 33 + c - (bit_and (shifted_right (borrow c x (difference c x)) 31) (difference c x) + 0)) ≡ max c x
+    by : (c < x) ⊎ (x ≤ c)
+        → wrapped (2 ^ 33 + c - (bit_and (shifted_right (borrow c x (difference c x)) 31) (difference c x) + 0)) ≡
+        max c x
     by (inl l) =
         let e : bit_and (shifted_right (borrow c x (difference c x)) 31) (difference c x) ≡ difference c x =
         m ∙ ap (λ b. cond b (difference c x) 0) (negative_borrow c x lc lx l) in

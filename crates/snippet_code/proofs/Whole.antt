@@ -200,9 +200,11 @@ module _ (counted : ℕ → Bool) (base : ℕ) (dead avoid : List Part) (ops : L
   cells_are regs out u low h own others n inside limit =
       let g0 = memory_word s.memory in
       let g1 = saved regs 0 out g0 in
-      listed_same base n (memory_word u.memory) (update_all (cell_at base) regs ops g1) (λ k below. each k below (cell_or_not ops k))
+      listed_same base n (memory_word u.memory) (update_all (cell_at base) regs ops g1)
+      (λ k below. each k below (cell_or_not ops k))
       ∙ listed_all base n regs ops g1 inside
-      ∙ ap (update regs ops) (listed_same base n g1 g0 (λ k below. saved_below regs 0 out g0 (cell_at base k) (omega arith)))
+      ∙ ap (update regs ops)
+      (listed_same base n g1 g0 (λ k below. saved_below regs 0 out g0 (cell_at base k) (omega arith)))
     where
       each : (k : ℕ) → k < n → IsCellOf ops k ⊎ (IsCellOf ops k → ⊥)
           → memory_word u.memory (cell_at base k)
@@ -261,7 +263,8 @@ module _ (counted : ℕ → Bool) (base : ℕ) (dead avoid : List Part) (ops : L
       let held : AreSaved regs_of 0 out g2 = are_saved regs_of 0 out g0 g2
       (λ a far. all_away base regs_of ops g1 a (λ k m f. let b = cell_low base ops low k m in omega arith)) in
       let w3 = restores c first 0 out d2.works from pages held (omega arith)
-      (stand_at code (s.pc + 4 * length xs + 4 * length ys) (s.pc + 4 * (0 + length out + length ys)) zs two.1 (omega arith)) in
+      (stand_at code (s.pc + 4 * length xs + 4 * length ys) (s.pc + 4 * (0 + length out + length ys)) zs two.1
+      (omega arith)) in
       let w4 = as_many (let z : 0 + length out + length ys + length out ≡ length words = omega arith in z) w3.1 in
       let x = w4.reach in
       let a = x.alike in
@@ -284,7 +287,8 @@ module _ (counted : ℕ → Bool) (base : ℕ) (dead avoid : List Part) (ops : L
         registers = a.registers;
         items = items;
         all = λ none. nothing_dead s x.after (s.pc + 4 * length words) h.valid.registers.count a.registers
-            (subst (λ (z : List Part). (item : Item) → (IsAmong item s.window z → ⊥) → IsSameAt item s x.after) none items)
+            (subst (λ (z : List Part). (item : Item) → (IsAmong item s.window z → ⊥) → IsSameAt item s x.after) none
+            items)
             x.pc x.npc (omega arith) w4.slot a.window a.valid a.input (a.live ∙ sym h.ready.live);
         cells = cells_are regs_of out x.after low h a.words
             (λ k n other below far. word_unmoved (MayStore base ops) s.memory x.after.memory (cell_at base k)

@@ -34,7 +34,8 @@ code_decodes base dead ops can =
     let first = want - spills dead avoid want in
     let size : length out ≡ want - first = omega (arith, length-drop first (picked dead avoid want), p.count) in
     let below = are_below out
-    (λ k b. subst (λ z. z < 32) (sym (get_or-drop first (picked dead avoid want) k 0)) (p.below (first + k) (omega arith))) in
+    (λ k b. subst (λ z. z < 32) (sym (get_or-drop first (picked dead avoid want) k 0))
+    (p.below (first + k) (omega arith))) in
     decoded (snippet_words base dead avoid ops)
     (have-append (numbered save 0 out)
     (all_words base d (slice_index (picked dead avoid want)) ops ++ numbered restore 0 out)

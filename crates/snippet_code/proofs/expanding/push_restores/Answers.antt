@@ -4,4 +4,5 @@ use Rattle.snippet_code.proofs.WholeCode.{all_numbered}
 use Rattle.snippet_code.proofs.expanding.push_restores.Goals as goal
 
 pub returns : goal.returns
-returns c = all_numbered restore c.args.spilled.now c.loop-n.n _ _ (omega (arith, c.loop-n-test.false)) c.loop-n.invariant
+returns c =
+    all_numbered restore c.args.spilled.now c.loop-n.n _ _ (omega (arith, c.loop-n-test.false)) c.loop-n.invariant
