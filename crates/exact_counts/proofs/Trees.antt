@@ -16,7 +16,8 @@ use Rattle.exact_counts.proofs.Noted.{tree_alike}
 
 -- ---- cells in order
 
-one_more : (k : ℕ) (counted : EdgeSet) → count_below (suc k) counted ≡ count_below k counted + cond {A = ℕ} (counted k) 1 0
+one_more : (k : ℕ) (counted : EdgeSet)
+    → count_below (suc k) counted ≡ count_below k counted + cond {A = ℕ} (counted k) 1 0
 one_more k counted = refl
 
 -- from edge k on
@@ -56,7 +57,8 @@ fewer_before counted e (suc n) l is = by (cases_eq e n) (fewer_before counted e 
         let less = before (omega (arith, l, apart)) is in
         omega (arith, less)
 
-works_below : (counted : EdgeSet) (e n : ℕ) → e < n → WorksBelow (count_below n counted) (counter_in (cell_of counted e))
+works_below : (counted : EdgeSet) (e n : ℕ) → e < n
+    → WorksBelow (count_below n counted) (counter_in (cell_of counted e))
 works_below counted e n l = by (counted e) refl
   where
     by : (b : Bool) → counted e ≡ b
