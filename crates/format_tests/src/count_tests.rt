@@ -2,7 +2,7 @@
 use count_rebuild::{CountFault, rebuild};
 use dump_file::Dump;
 use eel_base::{Addr, EdgeNo};
-use notes::{Notes, read_notes};
+use notes::read_notes;
 use std::alloc::Global;
 use std::test::Fail;
 
@@ -105,8 +105,8 @@ const BETWEEN: u32 = 0x20004;
 
 const OUTSIDE: u32 = 0x40000;
 
-/// The notes that these words are, so many bytes.
-fn notes_of(alloc: Global, words: &[u32], length: u32) -> Result<Notes, Fail> {
+/// A file with these words as its notes, so many bytes.
+fn file_of(alloc: Global, words: &[u32], length: u32) -> Result<Vec<u8>, Fail> {
     let mut file = Vec::new(alloc);
     file.resize(4032, 0)?;
     for word in [0x4545_4c4e, 1, 4096, length] {
@@ -116,7 +116,7 @@ fn notes_of(alloc: Global, words: &[u32], length: u32) -> Result<Notes, Fail> {
     for word in words {
         file.extend_from_slice(&word.to_be_bytes())?;
     }
-    read_notes(alloc, &file).map_err(|_| Fail::from("notes"))
+    Ok(file)
 }
 
 /// What is rebuilt by notes of the tool, for a run that stands at an address after so many steps.
@@ -128,7 +128,10 @@ fn rebuilt(
     pc: u32,
     steps: u64,
 ) -> Result<Result<Vec<u64>, CountFault>, Fail> {
-    let notes = notes_of(alloc, words, length)?;
+    let file = file_of(alloc, words, length)?;
+    let Ok(notes) = read_notes(alloc, &file) else {
+        return Err(Fail::from("notes"));
+    };
     if cells.len() > 5 {
         return Err(Fail::from("cells"));
     }

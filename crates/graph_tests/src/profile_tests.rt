@@ -2,7 +2,7 @@
 use cfg_blocks::blocks;
 use cfg_normal::graph;
 use eel_base::{Addr, EdgeNo, Text, WordNo};
-use notes::{Notes, read_notes};
+use notes::read_notes;
 use show_text::counts;
 use span_tree::{tree, weights};
 use std::alloc::Global;
@@ -115,8 +115,8 @@ fn five_of_nine_edges_are_counted(rt: HostRuntime) -> Result<(), Fail> {
     Ok(())
 }
 
-/// The notes that these words are, so many bytes.
-fn notes_of(alloc: Global, words: &[u32], length: u32) -> Result<Notes, Fail> {
+/// A file with these words as its notes, so many bytes.
+fn file_of(alloc: Global, words: &[u32], length: u32) -> Result<Vec<u8>, Fail> {
     let mut file = Vec::new(alloc);
     file.resize(4032, 0)?;
     for word in [0x4545_4c4e, 1, 4096, length] {
@@ -126,12 +126,15 @@ fn notes_of(alloc: Global, words: &[u32], length: u32) -> Result<Notes, Fail> {
     for word in words {
         file.extend_from_slice(&word.to_be_bytes())?;
     }
-    read_notes(alloc, &file).map_err(|_| Fail::from("notes"))
+    Ok(file)
 }
 
 #[test]
 fn counts_have_their_lines(rt: HostRuntime) -> Result<(), Fail> {
-    let notes = notes_of(rt.alloc(), &NOTES, 216)?;
+    let file = file_of(rt.alloc(), &NOTES, 216)?;
+    let Ok(notes) = read_notes(rt.alloc(), &file) else {
+        return Err(Fail::from("notes"));
+    };
     if notes.edges.len() != 9 {
         return Err(Fail::from("edges"));
     }

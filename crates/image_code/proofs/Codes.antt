@@ -1,39 +1,34 @@
 -- The words of snippets do what they should.
-use Rattle.std.proofs.Common.{◌≡◌, ℕ, ◌*◌, ◌%◌, ◌≤◌, List, [], get_or, length, sym, subst, arith, inl, inr}
-use Rattle.std.specs.List.{All}
+use Rattle.std.proofs.Common.{◌≡◌, ℕ, ◌+◌, ◌-◌, ◌*◌, ◌%◌, ◌<◌, ◌≤◌, List, [], length, Result, Ok, Err, refl, sym, subst, arith, inl, inr}
+use Rattle.std.specs.Result.{IfOk}
 use Rattle.std.proofs.Math.ListN.{get_or-eq_default}
 use Rattle.std.proofs.lemmas.Bool.{cases_lt}
 use Rattle.std.proofs.lemmas.List.{length-map}
+use Rattle.eel_base.specs.CodeText.{Words}
 use Rattle.v8_encode.specs.Encoding.{word_of}
+use Rattle.cfg_normal.specs.Graph.{Graph}
 use Rattle.snippets.specs.declared.snippet.Op.{Op}
 use Rattle.snippets.specs.Cells.{named_by}
 use Rattle.snippet_code.specs.Laws.{CanExpand}
-use Rattle.snippet_code.specs.Words.{snippet_words}
+use Rattle.snippet_code.specs.Runs.{DoesJust}
+use Rattle.snippet_code.specs.Words.{snippet_words, spills_of}
 use Rattle.snippet_code.proofs.Lengths.{costs_hold}
 use Rattle.snippet_code.proofs.WholeCode.{snippet_code_runs}
 use Rattle.image_code.specs.Simulates.{snippet_on}
-use Rattle.image_code.specs.Parts.{codes_of}
-use Rattle.image_code.specs.Codes.{CodesRun}
+use Rattle.image_code.specs.Codes.{CodeDoes}
+use Rattle.image_code.specs.Made.{own_edges}
+use Rattle.image_code.specs.Parts.{IsGraphOf, codes_of}
+use Rattle.image_code.proofs.Numbers.{count_of, own_count}
 
-module _ (base : ℕ) (snips : List (List Op)) (aligned : base % 4 ≡ 0) (all : All (CanExpand base) snips) where
-  nothing : CanExpand base []
-  nothing = record {
-    aligned = aligned;
-    few = omega arith;
-    are_ops = λ k d l. absurd (omega arith);
-    low = λ k d l. absurd (omega arith);
-  }
+pub if_both : {A E : Type 0} (P Q R : A → Type 0) (r : Result A E) → ((a : A) → P a → Q a → R a) → IfOk r P → IfOk r Q
+    → IfOk r R
+if_both P Q R (Ok a) both p q = both a p q
+if_both P Q R (Err e) both p q = tt
 
-  -- an edge without a snippet has no operations
-  can : (edge : ℕ) → CanExpand base (snippet_on snips edge)
-  can edge = elim (cases_lt edge (length snips)) [
-    | inl l ↦ all edge [] l
-    | inr m ↦ subst (CanExpand base) (sym (get_or-eq_default snips [] m)) nothing
-  ]
-
-  short : (edge : ℕ) → length (codes_of base snips edge) ≤ 22 * length (snippet_on snips edge)
+module _ (base : ℕ) (snips : List (List Op)) where
+  codes_short : (edge : ℕ) → length (codes_of base snips edge) ≤ 22 * length (snippet_on snips edge)
   unfolding codes_of
-  short edge =
+  codes_short edge =
       let cost = costs_hold base [] (named_by (snippet_on snips edge)) (snippet_on snips edge) in
       omega (
         arith,
@@ -42,12 +37,55 @@ module _ (base : ℕ) (snips : List (List Op)) (aligned : base % 4 ≡ 0) (all :
         length-map (snippet_words base [] (named_by (snippet_on snips edge)) (snippet_on snips edge)) word_of,
       )
 
-pub codes_run : CodesRun
-unfolding codes_of
-codes_run base snips aligned all = record {
-  short = record {
-    short = short base snips aligned all;
-    few = λ edge. (can base snips aligned all edge).few;
-  };
-  does = λ edge. (snippet_code_runs base [] (snippet_on snips edge) (can base snips aligned all edge)).1;
-}
+  pub code_does : (edge : ℕ) (words : List ℕ) → length (snippet_on snips edge) ≤ 8 → words ≡ codes_of base snips edge
+      → DoesJust words base [] (spills_of [] (named_by (snippet_on snips edge)) (snippet_on snips edge))
+      (snippet_on snips edge) → CodeDoes base snips edge
+  code_does edge words few same just = record {
+    few = few;
+    short = codes_short edge;
+    does = subst (λ (ws : List ℕ). DoesJust ws base []
+        (spills_of [] (named_by (snippet_on snips edge)) (snippet_on snips edge)) (snippet_on snips edge)) same just;
+  }
+
+  module _ (aligned : base % 4 ≡ 0) where
+    nothing : CanExpand base []
+    nothing = record {
+      aligned = aligned;
+      few = omega arith;
+      are_ops = λ k d l. absurd (omega arith);
+      low = λ k d l. absurd (omega arith);
+    }
+
+    -- behind the last edge there are no operations
+    beyond : (edge : ℕ) → length snips ≤ edge → CodeDoes base snips edge
+    unfolding codes_of
+    beyond edge past =
+        let can : CanExpand base (snippet_on snips edge) =
+        subst (CanExpand base) (sym (get_or-eq_default snips [] past)) nothing in
+        code_does edge (codes_of base snips edge) can.few refl
+        (snippet_code_runs base [] (snippet_on snips edge) can).1
+
+    -- so those of all edges do, where those of the own ones and of the landings do
+    pub all_do : (text : Words) (graph : Graph) → IsGraphOf text graph → length snips ≡ length graph.edges
+        → ((edge : ℕ) → edge < length (own_edges graph) → CodeDoes base snips edge)
+        → ((block : ℕ) → block < length graph.blocks.firsts → CodeDoes base snips (length (own_edges graph) + block))
+        → (edge : ℕ) → CodeDoes base snips edge
+    all_do text graph h many own landings edge = elim (cases_lt edge (length (own_edges graph))) [
+      | inl l ↦ own edge l
+      | inr m ↦ elim (cases_lt (edge - length (own_edges graph)) (length graph.blocks.firsts)) [
+        | inl l ↦
+            let same : length (own_edges graph) + (edge - length (own_edges graph)) ≡ edge = omega arith in
+            subst (CodeDoes base snips) same (landings (edge - length (own_edges graph)) l)
+        | inr n ↦ beyond edge (omega (arith, count_of text graph h, own_count text graph h))
+      ]
+    ]
+
+  -- one number more
+  pub one_more : (from number : ℕ) → ((edge : ℕ) → edge < number → CodeDoes base snips (from + edge))
+      → CodeDoes base snips (from + number) → (edge : ℕ) → edge < number + 1 → CodeDoes base snips (from + edge)
+  one_more from number before this edge l = elim (cases_lt edge number) [
+    | inl less ↦ before edge less
+    | inr more ↦
+        let same : from + number ≡ from + edge = omega arith in
+        subst (CodeDoes base snips) same this
+  ]

@@ -105,7 +105,7 @@ module _ (text : Words) (graph : Graph) (h : IsGraphOf text graph) where
   pub cut_of : 1 ≤ length text.words → IsCut text graph.blocks
   cut_of some = subst (λ (g : Graph). IsCut text g.blocks) (sym h.is) (cut text h.given some)
 
-  count_of : length graph.edges ≡ edges_before graph.blocks (length graph.blocks.firsts) + length graph.blocks.firsts
+  pub count_of : length graph.edges ≡ edges_before graph.blocks (length graph.blocks.firsts) + length graph.blocks.firsts
   count_of = ap length edges_are ∙ all_edges graph.blocks
 
   pub edge_below : (k : ℕ) → k < length graph.blocks.firsts → edges_before graph.blocks k < length graph.edges

@@ -8,6 +8,7 @@ ghost use Rattle.eel_base.specs.CodeText.{IsText};
 ghost use Rattle.cfg_normal.specs.Graph.{IsEdgeIn, IsNodeIn, edges_of};
 ghost use Rattle.cfg_walk.specs.Matches.{last_in as last_in_of, target_along, way_address};
 ghost use Rattle.cfg_normal.specs.Numbers.{node_number as node_number_of};
+ghost use Rattle.image_code.specs.Codes.{CodeDoes};
 ghost use Rattle.image_code.specs.Made.{foreign_number as foreign_number_of, goes_on, image as image_of, landing as landing_of, landing_number, next_to, own_edges as own_edges_of, piece_list, ways_from};
 ghost use Rattle.image_code.specs.Parts.{IsGraphOf, codes_of, copy_with, first_way_of, image_in, items_of, landing_with, way_with};
 ghost use Rattle.snippet_code.specs.Laws.{EndLow};
@@ -63,6 +64,7 @@ pub fn pieces(
     requires low { frame.table.0 < 2 ^ 31 }
     ensures list { IfOk result (λ p. p.list.items
         ≡ piece_list text.now graph.now frame.table.0 (codes_of frame.cells.0 snips.now)) }
+    ensures codes { IfOk result (λ p. (edge : ℕ) → CodeDoes frame.cells.0 snips.now edge) }
     ensures landing { IfOk result (λ p. map (λ (n : PieceNo). n.0) p.landing.items
         ≡ map (landing_number text.now graph.now) (below (length text.now.words))) }
     ensures entry { IfOk result (λ p. p.entry.0 ≡ entry.0) }
@@ -87,7 +89,8 @@ fn code_on(alloc: Global, snips: &[Snippet], cells: Addr, edge: usize) -> Result
     requires edge { edge < length snips.now }
     requires aligned { cells.0 % 4 ≡ 0 }
     requires cells { All (λ ops. EndLow cells.0 ops) snips.now }
-    ensures { IfOk result (λ code. code.items ≡ codes_of cells.0 snips.now edge) }
+    ensures code { IfOk result (λ code. code.items ≡ codes_of cells.0 snips.now edge) }
+    ensures does { IfOk result (λ code. CodeDoes cells.0 snips.now edge) }
 {
     let snippet = &snips[edge];
     expand(alloc, snippet, cells, RegSet::empty(), snippet.names())
@@ -240,7 +243,9 @@ fn push_ways(
     requires aligned { frame.cells.0 % 4 ≡ 0 }
     requires cells { All (λ ops. EndLow frame.cells.0 ops) snips.now }
     requires table { frame.table.0 % 4096 ≡ 0 }
-    ensures { OnOk result (list.new.items ≡ list.old.items
+    ensures codes { OnOk result ((edge : ℕ) → edge < length (own_edges_of graph.now)
+        → CodeDoes frame.cells.0 snips.now (0 + edge)) }
+    ensures ways { OnOk result (list.new.items ≡ list.old.items
         ++ ways_from text.now graph.now frame.table.0 (codes_of frame.cells.0 snips.now) 0 (own_edges_of graph.now)) }
 {
     for (number, edge) in own_edges(graph).iter().enumerate() {
@@ -402,7 +407,9 @@ fn push_landings(
     requires snips { length snips.now ≡ length graph.now.edges }
     requires aligned { cells.0 % 4 ≡ 0 }
     requires cells { All (λ ops. EndLow cells.0 ops) snips.now }
-    ensures { OnOk result (list.new.items ≡ list.old.items
+    ensures codes { OnOk result ((block : ℕ) → block < length graph.now.blocks.firsts
+        → CodeDoes cells.0 snips.now (length (own_edges_of graph.now) + block)) }
+    ensures landings { OnOk result (list.new.items ≡ list.old.items
         ++ map (landing_of text.now graph.now (codes_of cells.0 snips.now)) (below (length text.now.words))) }
 {
     let first = own_edges(graph).len();

@@ -33,10 +33,12 @@ pub fn expand(
     requires aligned { cells.0 % 4 ≡ 0 }
     requires low { EndLow cells.0 s.now }
     requires avoid { avoid ≡ named_by s.now }
+    ensures few { length s.now ≤ 8 }
     ensures code { IfOk result (λ words. words.items ≡ code.code_of_snippet cells.0 dead avoid s.now) }
     ensures words { IfOk result (λ words. map decode_of words.items ≡ code.snippet_words cells.0 dead avoid s.now) }
     ensures just { IfOk result (λ words. DoesJust words.items cells.0 dead (code.spills_of dead avoid s.now) s.now) }
     ensures cost { IfOk result (λ words. length words.items ≤ code.cost_of dead avoid s.now) }
+    ensures ops { OnOk result (All IsOp s.now) }
 {
     Ok(code_of(alloc, s.ops(), cells, dead, avoid)?)
 }

@@ -1,5 +1,6 @@
 -- The weight of each edge of a flow graph: a guess of how often a run completes it, by the loops about it, as in
--- Ball and Larus, "Optimally Profiling and Tracing Programs", ACM TOPLAS 16 (4), 1994, section 4.
+-- Ball and Larus, "Optimally Profiling and Tracing Programs", ACM TOPLAS 16 (4), 1994: an edge in a loop is
+-- completed more often.
 use Rattle.std.specs.Prelude.{ℕ, ◌+◌, ◌*◌, Bool, false, ◌&&◌, nat_le, min, List, length, map, Option, Some, None}
 use Rattle.eel_base.specs.declared.numbers.WordNo.{WordNo}
 use Rattle.flows.specs.Flows.{count_below}
@@ -17,8 +18,8 @@ branch_target (ends.Branch cond annul target) = target
 branch_target (ends.Call target) = None
 branch_target ends.Jump = None
 
--- The word stands in the loop from a branch's target to the branch, which is the word `last`. A branch to a word above it
--- has no such words.
+-- The word stands in the loop from a branch's target to the branch, which is the word `last`. A branch on to a
+-- later word has no such words.
 abbrev pub is_between : ℕ → ℕ → Option WordNo → Bool
 is_between last word None = false
 is_between last word (Some target) = nat_le target.0 word && nat_le word last

@@ -3,3 +3,4 @@ pub mod Fetching
 pub mod Links
 pub mod Paths
 pub mod Files
+pub mod Loops

@@ -1,3 +1,4 @@
 pub mod Files
 pub mod Counts
 pub mod Walking
+pub mod Loops

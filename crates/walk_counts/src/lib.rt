@@ -3,6 +3,7 @@
 #![tactic(auto)]
 
 ghost use Rattle.walk_counts.specs.Counts.{CountsAreEnough, ExecutionsAreFlows, ExecutionsOfFilesAreFlows, LinksAreAGraph, WalksArePaths};
+ghost use Rattle.walk_counts.specs.Loops.{LoopsAreOfTexts};
 ghost use Rattle.walk_counts.specs.Files.{OnlyTextIsFetched, WalksOfFilesMatch};
 
 /// Where a file without a fault starts, a word can be fetched just where the file's text has it: neither a
@@ -45,4 +46,10 @@ pub fn executions_of_files_are_flows()
 /// them, with where its walk ends, tells how often it completes each edge.
 pub fn counts_are_enough()
     ensures { CountsAreEnough }
+{}
+
+/// In how many loops a word stands is told alike from the blocks, by which edges are weighed, and from the words of the
+/// text: each branch is the last word of its block, whatever words lead besides.
+pub fn loops_are_of_texts()
+    ensures { LoopsAreOfTexts }
 {}

@@ -78,7 +78,7 @@ returns c =
     (c.loop-word.invariant ∙ ap (λ (n : ℕ). map (image_of c.args.text.now c.args.graph.now
     (codes_of c.args.cells.0 c.args.snips.now)) (below n)) end)
     c.last_word-last.ensures.word c.deref.result.now
-    (c.deref.ensures.value ∙ c.in_ok-code.ensures ∙ ap (codes_of c.args.cells.0 c.args.snips.now) edge)
+    (c.deref.ensures.value ∙ c.in_ok-code.ensures.code ∙ ap (codes_of c.args.cells.0 c.args.snips.now) edge)
     c.in_ok-image-2.ensures
     ∙ ap (λ (n : ℕ). map (image_of c.args.text.now c.args.graph.now (codes_of c.args.cells.0 c.args.snips.now))
     (below (n + 1))) c.last_word-last.ensures.word

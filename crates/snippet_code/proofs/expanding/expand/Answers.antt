@@ -21,3 +21,6 @@ returns-clause-cost c =
     (is_code c.args.cells.0 c.args.dead c.args.avoid c.args.s.now _ c.requires.aligned c.requires.low c.requires.avoid
     c.ops.ensures.few (rw c.ops.ensures.ops at c.in_ok-code_of.ensures.ops)
     (rw c.ops.ensures.ops at c.in_ok-code_of.ensures.code)).cost
+
+pub returns-clause-ops : goal.returns-clause-ops
+returns-clause-ops c = rw c.ops.ensures.ops at c.in_ok-code_of.ensures.ops
