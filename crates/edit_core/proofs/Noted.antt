@@ -177,9 +177,10 @@ edges_fit graph kind cells (e ∷ es) [] few cells_few each below = tt
 edges_fit graph kind cells (e ∷ es) (ops ∷ snips) few cells_few each below =
     let k = kind_few e.kind in
     let f = node_few graph e.from each.0.from in
-    let t = node_few graph e.to each.0.to in
-    ((omega arith, (omega arith, (omega arith, (cell_fits cells kind ops cells_few below.0, tt)))),
-    edges_fit graph kind cells es snips few cells_few each.1 below.1)
+    let t = node_few graph e.to each.0.to in (
+      (omega arith, (omega arith, (omega arith, (cell_fits cells kind ops cells_few below.0, tt)))),
+      edges_fit graph kind cells es snips few cells_few each.1 below.1,
+    )
 
 ranges_fit : (nodes from to : ℕ) (rs : List NoteRange) → nodes ≤ 2 ^ 20 → to ≤ 2 ^ 31 → Ascend from to rs
     → Each (IsWhole nodes) rs

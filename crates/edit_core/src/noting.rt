@@ -166,11 +166,7 @@ fn firsts(alloc: Global, graph: &FlowGraph) -> Result<Vec<u32>, NoMemory>
     Ok(firsts)
 }
 
-fn note_edges(
-    alloc: Global,
-    graph: &FlowGraph,
-    asked: &Asked,
-) -> Result<Vec<NoteEdge>, NoMemory>
+fn note_edges(alloc: Global, graph: &FlowGraph, asked: &Asked) -> Result<Vec<NoteEdge>, NoMemory>
     ensures { IfOk result (λ v. map edge_seen v.items
         ≡ note_edges_of graph.now asked.now.kind graph.now.edges asked.now.snips.items) }
 {

@@ -8,7 +8,7 @@ use std::test::Fail;
 const NOP: u32 = 0x0100_0000;
 
 /// The graph of these words at 0x10054, where the first word is given and one more.
-fn graph_of(alloc: Global, words: &[u32], start: u32) -> Result<FlowGraph, Fail> {
+pub(crate) fn graph_of(alloc: Global, words: &[u32], start: u32) -> Result<FlowGraph, Fail> {
     let words = Vec::from_slice(alloc, words)?;
     let text = Text::new(Addr(0x10054), words).ok_or("a text")?;
     if start >= text.len() {

@@ -13,4 +13,6 @@ mod profile_tests;
 #[cfg(test)]
 mod switches_tests;
 #[cfg(test)]
+mod tools_tests;
+#[cfg(test)]
 mod views_tests;

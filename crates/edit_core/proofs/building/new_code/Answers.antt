@@ -14,8 +14,14 @@ laid-requires-clause-pieces c =
     let fit = new_fit pieces_fit c.args.view.now.image.text c.args.view.now.graph c.args.view.now.image.base
     c.args.view.now.image.room c.args.asked.now.kind c.args.asked.now.cells c.args.asked.now.snips.items c.requires.text
     c.requires.graph c.requires.asked c.requires.room c.requires.low in
-    rw (c.deref-2.ensures.value, c.in_ok-pieces.ensures.list, c.deref.ensures.value, c.text-text.ensures,
-    c.table_base-table.ensures, c.base.ensures.address)
+    rw (
+      c.deref-2.ensures.value,
+      c.in_ok-pieces.ensures.list,
+      c.deref.ensures.value,
+      c.text-text.ensures,
+      c.table_base-table.ensures,
+      c.base.ensures.address,
+    )
     fit.pieces
 
 pub laid-requires-clause-room : goal.laid-requires-clause-room
@@ -23,8 +29,14 @@ laid-requires-clause-room c =
     let room = new_room pieces_fit c.args.view.now.image.text c.args.view.now.graph c.args.view.now.image.base
     c.args.view.now.image.room c.args.asked.now.kind c.args.asked.now.cells c.args.asked.now.snips.items c.requires.text
     c.requires.graph c.requires.asked c.requires.room c.requires.low in
-    rw (c.deref-2.ensures.value, c.in_ok-pieces.ensures.list, c.deref.ensures.value, c.text-text.ensures,
-    c.table_base-table.ensures, c.base.ensures.address)
+    rw (
+      c.deref-2.ensures.value,
+      c.in_ok-pieces.ensures.list,
+      c.deref.ensures.value,
+      c.text-text.ensures,
+      c.table_base-table.ensures,
+      c.base.ensures.address,
+    )
     room
 
 pub places_of-requires : goal.places_of-requires

@@ -1,0 +1,43 @@
+//! A tool at a closure: its answers for the edges of a small program.
+ghost use Rattle.tool_kit.specs.Sound.{IsSound};
+
+use crate::edges_tests::graph_of;
+use cfg_normal::FlowGraph;
+use eel_base::WordNo;
+use snippets::Snippet;
+use std::alloc::Global;
+use std::test::Fail;
+use tool_kit::{Chooser, EdgeRef, Tool, ToolKind, snips};
+
+const NOP: u32 = 0x0100_0000;
+
+/// How many operations a callback asks for, and on how many edges.
+fn asked<F: Chooser>(
+    alloc: Global,
+    choose: F,
+    cells: u32,
+    graph: &FlowGraph,
+) -> Result<(usize, usize), Fail>
+    requires { IsSound F.may F.says cells choose }
+{
+    let marks = Vec::from_slice(alloc, &[WordNo(1)])?;
+    let tool = Tool::new(choose, cells, marks, ToolKind::Script);
+    let snips = snips(alloc, &tool, graph).map_err(|_| Fail::from("memory"))?;
+    let mut operations = 0usize;
+    for snippet in &snips {
+        operations = operations.saturating_add(snippet.ops().len());
+    }
+    if tool.marks().len() != 1 || tool.cells() != cells || tool.kind() != ToolKind::Script {
+        return Err(Fail::from("a tool"));
+    }
+    Ok((operations, snips.len()))
+}
+
+#[test]
+fn a_closure_answers_for_each_edge(rt: HostRuntime) -> Result<(), Fail> {
+    let graph = graph_of(rt.alloc(), &[NOP, NOP], 1)?;
+    let (operations, edges) = asked(rt.alloc(), |_: EdgeRef| Snippet::empty(), 0, &graph)?;
+    assert_eq!(rt; operations, 0);
+    assert_eq!(rt; edges, 4);
+    Ok(())
+}
