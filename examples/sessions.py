@@ -3,6 +3,7 @@ import struct
 from dataclasses import replace
 
 import listings
+from plain_count import count
 from programs import C_PROGRAMS, SMALL, Program
 from written import written
 
@@ -86,7 +87,7 @@ def words():
     yield 'hold prints_its_argument', b''
     yield 'hold newline_count', b''
     yield 'input newline_count.input', b''
-    for line in ['', 'help', 'edit three_words out', 'edit three_words out profile', 'show',
+    for line in ['', 'help', 'edit three_words out', 'show',
             'restore', 'restore three_words', 'restore three_words out out',
             'show three_words three_words', 'run', 'run three_words -q', 'run three_words -n',
             'run three_words -n 0x1', 'run three_words -n 18446744073709551616',
@@ -154,7 +155,52 @@ def refusals():
     yield eel('edit other out plain', 74, err=b'eel:')
 
 
-SESSIONS = {'edits': list(edits()), 'words': list(words()), 'restores': list(restores()), 'refusals': list(refusals())}
+def profiles():
+    """Programs with counters: what is rebuilt of the dumps of their runs is a plain count of the originals' runs."""
+    for name, program in EDITED.items():
+        arguments = ARGUMENTS.get(name, '')
+        lines, _, _ = count(program.file(), [word.encode() for word in arguments.split()[1:]], program.given)
+        yield f'hold {name}', b''
+        if program.given:
+            yield f'input {name}.input', b''
+        yield eel(f'edit {name} profiled profile', 0)
+        yield eel(f'run profiled -d dump{arguments}', 0, *ran(program))
+        yield eel('counts profiled dump', 0, lines.encode())
+
+
+def dump(pc, steps, cells):
+    """What a run that hasn't ended has come to."""
+    return struct.pack(f'>4sIIIIQI{len(cells)}I', b'EELD', 1, 0, 0, pc, steps, len(cells), *cells)
+
+
+# Dumps that no run of three_words with counters makes: its counted edge is the one that leaves its block.
+DUMPS = {'left_without_entry': dump(0, 3, [0]), 'long_run': dump(0, 1 << 32, [1]), 'two_cells': dump(0, 3, [1, 1]),
+    'in_no_place': dump(0xfffff000, 3, [1]), 'cut_dump': dump(0, 3, [1])[:31]}
+
+
+def uncounted():
+    """Files and dumps that have no counts."""
+    yield 'hold three_words', b''
+    for name in DUMPS:
+        yield f'hold {name}', b''
+    yield eel('edit three_words plain plain', 0)
+    yield eel('edit three_words profiled profile', 0)
+    yield eel('counts profiled missing', 74, err=DEVICE_FAULT)
+    yield eel('counts three_words cut_dump', 65, err=b'eel: three_words: no notes\n')
+    yield eel('counts plain cut_dump', 65, err=b'eel: cut_dump: bad dump at 28\n')
+    yield eel('counts plain two_cells', 65, err=b'eel: plain: no profile\n')
+    yield eel('counts profiled two_cells', 65, err=b'eel: two_cells: 2 cells, 1 wanted\n')
+    yield eel('counts profiled long_run', 65, err=b'eel: long_run: 4294967296 steps\n')
+    yield eel('counts profiled in_no_place', 65, err=b'eel: in_no_place: pc fffff000 between places\n')
+    yield eel('counts profiled left_without_entry', 65, err=b'eel: left_without_entry: edge 1 would be -1\n')
+    yield eel('run profiled -n 0 -d dump', 0, err=b'stopped 0\n')
+    yield eel('counts profiled dump', 0, b'edges 2 counted 1 executions 0\n')
+    yield eel('counts profiled', 64, err=BAD_WORDS)
+    yield eel('counts profiled dump dump', 64, err=BAD_WORDS)
+
+
+SESSIONS = {'edits': list(edits()), 'words': list(words()), 'restores': list(restores()), 'refusals': list(refusals()),
+    'profiles': list(profiles()), 'uncounted': list(uncounted())}
 
 
 def files():
@@ -164,6 +210,7 @@ def files():
     yield 'three_words.broken', broken()
     yield ARGUMENT.name, ARGUMENT.file()
     yield 'cramped', cramped()
+    yield from DUMPS.items()
     for name, lines in SESSIONS.items():
         yield name, ''.join(f'{line}\n' for line, _ in lines).encode()
 
