@@ -105,11 +105,11 @@ const BETWEEN: u32 = 0x20004;
 
 const OUTSIDE: u32 = 0x40000;
 
-/// The notes that these words are.
-fn notes_of(alloc: Global, words: &[u32]) -> Result<Notes, Fail> {
+/// The notes that these words are, so many bytes.
+fn notes_of(alloc: Global, words: &[u32], length: u32) -> Result<Notes, Fail> {
     let mut file = Vec::new(alloc);
     file.resize(4032, 0)?;
-    for word in [0x4545_4c4e, 1, 4096, 4 * words.len() as u32] {
+    for word in [0x4545_4c4e, 1, 4096, length] {
         file.extend_from_slice(&word.to_be_bytes())?;
     }
     file.resize(4096, 0)?;
@@ -123,11 +123,12 @@ fn notes_of(alloc: Global, words: &[u32]) -> Result<Notes, Fail> {
 fn rebuilt(
     alloc: Global,
     words: &[u32],
+    length: u32,
     cells: &[u32],
     pc: u32,
     steps: u64,
 ) -> Result<Result<Vec<u64>, CountFault>, Fail> {
-    let notes = notes_of(alloc, words)?;
+    let notes = notes_of(alloc, words, length)?;
     if cells.len() > 5 {
         return Err(Fail::from("cells"));
     }
@@ -142,12 +143,12 @@ fn rebuilt(
 
 /// The fault; nothing where counts are rebuilt.
 fn fault(alloc: Global, cells: &[u32], pc: u32, steps: u64) -> Result<Option<CountFault>, Fail> {
-    Ok(rebuilt(alloc, &ONE_BLOCK, cells, pc, steps)?.err())
+    Ok(rebuilt(alloc, &ONE_BLOCK, 108, cells, pc, steps)?.err())
 }
 
 #[test]
 fn five_cells_give_all_counts_of_a_loop(rt: HostRuntime) -> Result<(), Fail> {
-    let counts = rebuilt(rt.alloc(), &CARRY_LOOP, &[1, 4, 0, 0, 0], 0x20000, 40)?;
+    let counts = rebuilt(rt.alloc(), &CARRY_LOOP, 232, &[1, 4, 0, 0, 0], 0x20000, 40)?;
     let counts = counts.map_err(|_| Fail::from("counts"))?;
     assert_eq!(rt; counts.as_slice(), [1, 4, 1, 0, 0, 0, 0, 0, 0].as_slice());
     Ok(())

@@ -104,6 +104,9 @@ fn five_of_nine_edges_are_counted(rt: HostRuntime) -> Result<(), Fail> {
     let graph = graph(rt.alloc(), &list).map_err(|_| Fail::from("memory"))?;
     let weights = weights(rt.alloc(), &list, &graph).map_err(|_| Fail::from("memory"))?;
     assert_eq!(rt; weights.as_slice(), WEIGHTS.as_slice());
+    if weights.len() != graph.edges().len() {
+        return Err(Fail::from("weights"));
+    }
     let tree = tree(rt.alloc(), &graph, &weights).map_err(|_| Fail::from("memory"))?;
     assert_eq!(rt; tree.cells(), 5);
     for (e, cell) in CELLS.iter().enumerate() {
@@ -112,11 +115,11 @@ fn five_of_nine_edges_are_counted(rt: HostRuntime) -> Result<(), Fail> {
     Ok(())
 }
 
-/// The notes that these words are.
-fn notes_of(alloc: Global, words: &[u32]) -> Result<Notes, Fail> {
+/// The notes that these words are, so many bytes.
+fn notes_of(alloc: Global, words: &[u32], length: u32) -> Result<Notes, Fail> {
     let mut file = Vec::new(alloc);
     file.resize(4032, 0)?;
-    for word in [0x4545_4c4e, 1, 4096, 4 * words.len() as u32] {
+    for word in [0x4545_4c4e, 1, 4096, length] {
         file.extend_from_slice(&word.to_be_bytes())?;
     }
     file.resize(4096, 0)?;
@@ -128,7 +131,7 @@ fn notes_of(alloc: Global, words: &[u32]) -> Result<Notes, Fail> {
 
 #[test]
 fn counts_have_their_lines(rt: HostRuntime) -> Result<(), Fail> {
-    let notes = notes_of(rt.alloc(), &NOTES)?;
+    let notes = notes_of(rt.alloc(), &NOTES, 216)?;
     if notes.edges.len() != 9 {
         return Err(Fail::from("edges"));
     }

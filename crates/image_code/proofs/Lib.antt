@@ -28,6 +28,7 @@ pub mod Listed
 pub mod Made
 pub mod Numbers
 pub mod Sized
+pub mod Codes
 pub mod Fit
 pub mod Landings
 pub mod Operands

@@ -1,6 +1,6 @@
 -- The pieces that are made can be placed, in so many bytes, and wherever they are placed the word of each place is the
 -- original's.
-use Rattle.std.specs.Prelude.{◌≡◌, ℕ, suc, ◌+◌, ◌-◌, ◌*◌, ◌^◌, ◌<◌, ◌≤◌, All, Bool, true, false, if◌then◌else◌, List, [], ◌∷◌, length, Some, slice_get, slice_index}
+use Rattle.std.specs.Prelude.{◌≡◌, ℕ, suc, ◌+◌, ◌-◌, ◌*◌, ◌^◌, ◌<◌, ◌≤◌, Bool, true, false, if◌then◌else◌, List, [], ◌∷◌, length, Some, slice_get, slice_index}
 use Rattle.std.specs.List.{count_by, sum_by}
 use Rattle.eel_base.specs.CodeText.{Words, IsText, word_at}
 use Rattle.elf32_sparc.specs.Notes.{NoteRange}
@@ -46,9 +46,8 @@ operations_from b snips number (edge ∷ edges) =
 abbrev pub operations_in : Graph → List (List Op) → ℕ
 operations_in graph snips = operations_from graph.blocks snips 0 graph.edges
 
--- The words of each snippet are words, at most 22 an operation.
+-- At most eight operations on each edge, and 22 words for each of them.
 pub record AreShort (snips : List (List Op)) (codes : ℕ → List ℕ) : Type 0 where
-  pub words : (edge : ℕ) → All (λ word. word < 2 ^ 32) (codes edge)
   pub short : (edge : ℕ) → length (codes edge) ≤ 22 * length (snippet_on snips edge)
   pub few : (edge : ℕ) → length (snippet_on snips edge) ≤ 8
 

@@ -9,6 +9,7 @@ pub mod Imaged
 pub mod Made
 pub mod Parts
 pub mod Fit
+pub mod Codes
 pub mod Calls
 pub mod Landings
 pub mod Outside

@@ -3,6 +3,7 @@
 
 ghost use Rattle.image_code.specs.Calls.{CallsStep, JumpsStep};
 ghost use Rattle.image_code.specs.Cases.{PlainsStep, PlainsVisit};
+ghost use Rattle.image_code.specs.Codes.{CodesRun};
 ghost use Rattle.image_code.specs.Couple.{CouplesStep};
 ghost use Rattle.image_code.specs.Fit.{PiecesFit, PlacesSay};
 ghost use Rattle.image_code.specs.Idle.{IdlesStep};
@@ -82,7 +83,12 @@ pub fn pieces_make_images()
     ensures { PiecesMakeImages }
 {}
 
-/// The pieces of a text can be placed, in 500 bytes a word at most, and half a MiB.
+/// The words of the snippets on edges do just what these say, in at most 22 words for each operation.
+pub fn codes_run()
+    ensures { CodesRun }
+{}
+
+/// The pieces of a text can be placed, in 500 bytes a word at most, 128 an operation, and half a MiB.
 pub fn pieces_fit()
     ensures { PiecesFit }
 {}

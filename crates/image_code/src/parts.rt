@@ -94,6 +94,15 @@ fn push_link(items: &mut Vec<Item>, rd: Reg, address: Addr) -> Result<(), NoMemo
 
 // ---- pieces
 
+// A word in its Mark, and the code of a snippet behind it.
+fn marked(alloc: Global, visit: Visit, word: u32, snippet: &[u32]) -> Result<Vec<Item>, NoMemory>
+    ensures { IfOk result (λ v. v.items ≡ plain_piece visit.address visit.node word (map it.Word snippet.now)) }
+{
+    let mut items = vec![in alloc; visit.mark(), Item::Word(word), Item::EndMark]?;
+    push_words(&mut items, snippet)?;
+    Ok(items)
+}
+
 /// A word in its Mark, the code of a snippet, and then the way to where control goes on.
 pub fn plain(
     alloc: Global,
@@ -105,8 +114,7 @@ pub fn plain(
     ensures { IfOk result (λ p. p
         ≡ plain_piece visit.address visit.node word (map it.Word code.now ++ items_of next)) }
 {
-    let mut items = vec![in alloc; visit.mark(), Item::Word(word), Item::EndMark]?;
-    push_words(&mut items, code)?;
+    let mut items = marked(alloc, visit, word, code)?;
     push_next(&mut items, next)?;
     Ok(Piece { items })
 }
@@ -269,8 +277,7 @@ pub fn out(
     ensures { IfOk result (λ p. p
         ≡ out_piece visit.address visit.node word (map it.Word code.now) (words_of (translator table.0 1 2))) }
 {
-    let mut items = vec![in alloc; visit.mark(), Item::Word(word), Item::EndMark]?;
-    push_words(&mut items, code)?;
+    let mut items = marked(alloc, visit, word, code)?;
     push_words(&mut items, &look_up_code(table))?;
     Ok(Piece { items })
 }

@@ -7,9 +7,6 @@ ghost use Rattle.scavenge.specs.Picks.{ArePicked, free_dead, is_free_dead, is_fr
 
 use v8_decode::{Part, Reg, RegSet};
 
-/// How many registers are picked at most.
-const MOST: usize = 5;
-
 /// Registers to work in: the first `count` of `regs`. The last `spills` of these must be spilled, the others are dead.
 #[derive(Clone, Copy, Debug, Drop)]
 pub struct Picked {
@@ -74,12 +71,12 @@ fn count_dead(dead: RegSet, avoid: RegSet) -> u8
 
 // The picked registers, before others that stand for none.
 #[tactic(auto, unfolding(crate::specs::Picks::registers))]
-fn regs_of(dead: RegSet, avoid: RegSet, want: u8) -> [Reg; MOST]
+fn regs_of(dead: RegSet, avoid: RegSet, want: u8) -> [Reg; 5]
     requires want { want ≤ 5 }
     requires avoid { register_count avoid ≤ 8 }
     ensures { take want result ≡ picked dead avoid want }
 {
-    let mut regs = [register(0); MOST];
+    let mut regs = [register(0); 5];
     let mut found = 0;
     let dead_ones = (1..32).filter(|number| is_free_dead(dead, avoid, *number));
     let live_ones = (1..32).filter(|number| is_free_live(dead, avoid, *number));

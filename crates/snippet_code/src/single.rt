@@ -68,18 +68,27 @@ pub fn store_low(address: u32, base: Reg, rd: Reg) -> u32
     })
 }
 
+// An operation, which sets the codes or leaves them.
+fn operation(op: AluOp, cc: bool, rd: Reg, rs1: Reg, op2: Op2) -> u32
+    requires form { IsTrue (has_form op cc) }
+    requires fits { IsTrue (op2_fits op2) }
+    ensures { result ≡ word_in (i.Alu op cc rd rs1 op2) }
+{
+    word_of(Instr::Alu {
+        op,
+        cc,
+        rd,
+        rs1,
+        op2,
+    })
+}
+
 /// An operation on two registers.
 pub fn of_two(op: AluOp, rs1: Reg, rs2: Reg, rd: Reg) -> u32
     requires form { IsTrue (has_form op false) }
     ensures { result ≡ word_in (words.of_two op rs1 rs2 rd) }
 {
-    word_of(Instr::Alu {
-        op,
-        cc: false,
-        rd,
-        rs1,
-        op2: Op2::Reg(rs2),
-    })
+    operation(op, false, rd, rs1, Op2::Reg(rs2))
 }
 
 /// An operation on a register and a number.
@@ -88,33 +97,21 @@ pub fn with_number(op: AluOp, rs1: Reg, number: i32, rd: Reg) -> u32
     requires fits { IsTrue (fits_signed 13 number) }
     ensures { result ≡ word_in (words.with_number op rs1 number rd) }
 {
-    word_of(Instr::Alu {
-        op,
-        cc: false,
-        rd,
-        rs1,
-        op2: Op2::Imm(number),
-    })
+    operation(op, false, rd, rs1, Op2::Imm(number))
 }
 
 /// Adds the low bits of a number.
 pub fn add_low(number: u32, rd: Reg) -> u32
     ensures { result ≡ word_in (words.add_low number rd) }
 {
-    with_number(AluOp::ADD, rd, (number % 1024) as i32, rd)
+    operation(AluOp::ADD, false, rd, rd, Op2::Imm((number % 1024) as i32))
 }
 
 /// Compares two registers.
 pub fn compare(rs1: Reg, rs2: Reg) -> u32
     ensures { result ≡ word_in (words.compare rs1 rs2) }
 {
-    word_of(Instr::Alu {
-        op: AluOp::SUB,
-        cc: true,
-        rd: zero(),
-        rs1,
-        op2: Op2::Reg(rs2),
-    })
+    operation(AluOp::SUB, true, zero(), rs1, Op2::Reg(rs2))
 }
 
 // Greater, of numbers without a sign.
