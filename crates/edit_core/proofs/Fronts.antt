@@ -2,7 +2,7 @@
 use Rattle.std.proofs.Common.{◌≡◌, ℕ, zero, suc, ◌<◌, ◌≤◌, Bool, true, false, ◌||◌, cond, List, [], ◌∷◌, ◌++◌, length, map, Option, Some, None, refl, ap, ◌∙◌, arith}
 use Rattle.std.specs.List.{find, list_any}
 use Rattle.std.specs.Option.{option_or}
-use Rattle.std.proofs.lemmas.Bool.{or_left, or_right}
+use Rattle.std.proofs.lemmas.Bool.{or_left, or_parts, or_right}
 use Rattle.std.proofs.lemmas.List.Folds.{find-append}
 use Rattle.cfg_walk.proofs.Lists.{Each}
 use Rattle.edit_core.specs.Written.{if_any}
@@ -69,3 +69,10 @@ module _ {A : Type 0} (q : A → Bool) (count : ℕ) (x : A) where
       by : (n : ℕ) → 0 < n → list_any q (if_any n x ++ xs) ≡ true
       by zero some = absurd (omega (arith, some))
       by (suc n) some = or_left (q x) (list_any q xs) here
+
+  pub past_fails : (xs : List A) → list_any q (if_any count x ++ xs) ≡ false → list_any q xs ≡ false
+  past_fails xs = by count
+    where
+      by : (n : ℕ) → list_any q (if_any n x ++ xs) ≡ false → list_any q xs ≡ false
+      by zero none = none
+      by (suc n) none = let both = or_parts (q x) (list_any q xs) none in both.1

@@ -26,6 +26,7 @@ use Rattle.code_runs.proofs.Leads.{run_add, puts_add, split_below}
 use Rattle.code_runs.specs.PointsAlike.{AreAlikeOn, AreAtOnePoint, instr_of}
 use Rattle.code_runs.proofs.PointsAlike.{points_act_alike}
 use Rattle.image_code.specs.Simulates.{Setting, cells_in, StepsOn, IsFollowedBy, at_point, does_at, graph_in, number_in, word_of, updates, store_of}
+use Rattle.edit_core.specs.RunsAlike.{EndsAtNode}
 use Rattle.edit_core.specs.Runs.{Linked, Closed, AreTogether, Rests, Follows, Tells, StaysInside, instr_in, limits_in}
 
 -- ---- small things
@@ -423,6 +424,13 @@ module _ (g : Setting) (entry : ℕ) (Inside : Point → Type 0) (Here : Node �
     told_at n l (ends m d h) = λ q e. (some_same q _ (sym e ∙ h.node), h.together.cells)
     told_at n l (past m k) = absurd (omega arith)
 
+    over_at : (n : ℕ) → n ≤ last → (x : Reached g entry Here K s0 t0 last n)
+        → EndsAtNode g entry s0 t0 n (moment_of n x)
+    unfolding moment_of
+    over_at n l (goes m h) = λ over. absurd (over h.live)
+    over_at n l (ends m d h) = λ over. h.node
+    over_at n l (past m k) = absurd (omega arith)
+
     -- at a visit, or past it
     told_from : (n m k : ℕ) → n ≤ last → (h : Linked g entry Here K s0 t0 n m)
         (x : IsNext g entry Here Kept s0 t0 n m) → m ≤ k → k < x.on.count + m
@@ -475,4 +483,5 @@ module _ (g : Setting) (entry : ℕ) (Inside : Point → Type 0) (Here : Node �
       early = λ m l. (r.early m l).2;
       told = λ n l. told_at n l (reached n);
       between = λ n m l a b. between_at n m l (reached n) a b;
+      over = λ n l. over_at n l (reached n);
     }

@@ -4,6 +4,7 @@ pub mod Views
 pub mod Eaches
 pub mod Fronts
 pub mod Bounds
+pub mod Snippets
 pub mod Shapes
 pub mod Counted
 pub mod Ranges

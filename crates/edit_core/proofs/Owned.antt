@@ -1,10 +1,11 @@
 -- The words of the table, of the cells and of the editor's page, in the memory with which a written file starts.
-use Rattle.std.proofs.Common.{◌≡◌, ℕ, zero, suc, ◌+◌, ◌-◌, ◌*◌, ◌^◌, ◌<◌, ◌≤◌, ◌⊎◌, inl, inr, Bool, true, false, ◌&&◌, cond, nat_le, List, [], ◌∷◌, ◌++◌, length, length-append, map, replicate, Option, Some, None, refl, ap, sym, ◌∙◌, subst, arith}
+use Rattle.std.proofs.Common.{◌≡◌, ℕ, zero, suc, ◌+◌, ◌-◌, ◌*◌, ◌^◌, ◌<◌, ◌≤◌, ◌⊎◌, inl, inr, Bool, true, false, ◌&&◌, cond, nat_le, List, [], ◌∷◌, ◌++◌, length, length-append, map, replicate, take, drop, Option, Some, None, refl, ap, sym, ◌∙◌, subst, arith}
 use Rattle.std.specs.List.{find, range_with_len}
 use Rattle.std.specs.Option.{option_map, option_or}
 use Rattle.std.proofs.lemmas.Bool.{and_from, and_parts, cases_lt, le-leb, leb-true, lt-leb}
 use Rattle.std.proofs.lemmas.Bool.Decides.{nat_tests}
-use Rattle.std.proofs.lemmas.List.{append-nil, append_assoc, length-replicate, map-append}
+use Rattle.std.specs.Int.{from_be_bytes, w32}
+use Rattle.std.proofs.lemmas.List.{append-nil, append_assoc, drop-replicate, take-replicate, length-replicate, map-append}
 use Rattle.std.proofs.lemmas.List.Folds.{find-append}
 use Rattle.elf32_sparc.specs.Mapping.{Mapping, mappings}
 use Rattle.elf32_sparc.proofs.Images.{accepted-program}
@@ -16,7 +17,7 @@ use Rattle.v8_memory.specs.Spans.{IsApart, IsApartFromAll, Span}
 use Rattle.v8_process.specs.Start.{start_memory, stack_region}
 use Rattle.code_runs.specs.Ours.{AreOwn, HasNot, HasWordAt, IsAmongWords, IsIn, IsOurs}
 use Rattle.code_runs.specs.Page.{page_word}
-use Rattle.code_runs.specs.StoredWords.{memory_word}
+use Rattle.code_runs.specs.StoredWords.{memory_word, word_in}
 use Rattle.elf32_sparc.specs.Notes.{Notes, NoteSegment}
 use Rattle.addr_translate.specs.Lookup.{TableAt}
 use Rattle.addr_translate.specs.Table.{size_of}
@@ -60,10 +61,10 @@ of_page a (inr (inr (inr (inr (inr (inr (inl is))))))) = record { from = omega (
 of_page a (inr (inr (inr (inr (inr (inr (inr none))))))) = absurd none
 
 -- a cell, by its address
-record IsOfCells (base cells a : ℕ) : Type 0 where
-  from : base ≤ a
-  to : a + 4 ≤ base + 4 * cells
-  some : 0 < cells
+pub record IsOfCells (base cells a : ℕ) : Type 0 where
+  pub from : base ≤ a
+  pub to : a + 4 ≤ base + 4 * cells
+  pub some : 0 < cells
 
 of_cells : (base from count a : ℕ) → IsAmongWords (map (cell_at base) (range_with_len from count)) a
     → IsOfCells base (from + count) a
@@ -71,7 +72,7 @@ of_cells base from zero a among = absurd among
 of_cells base from (suc n) a (inl is) =
     record { from = omega (arith, is); to = omega (arith, is); some = omega arith }
 of_cells base from (suc n) a (inr among) =
-    let later = of_cells base (suc from) n a among in
+    let later = of_cells base (from + 1) n a among in
     record { from = later.from; to = omega (arith, later.to); some = omega arith }
 
 among_words : (n : ℕ) → n < 7 → IsAmongWords own_page (page_word n)
@@ -88,7 +89,7 @@ among_cells : (base from count cell : ℕ) → from ≤ cell → cell < from + c
     → IsAmongWords (map (cell_at base) (range_with_len from count)) (cell_at base cell)
 among_cells base from zero cell above below = absurd (omega (arith, above, below))
 among_cells base from (suc n) cell above below = elim (cases_lt from cell) [
-  | inl later ↦ inr (among_cells base (suc from) n cell (omega (arith, later)) (omega (arith, below)))
+  | inl later ↦ inr (among_cells base (from + 1) n cell (omega (arith, later)) (omega (arith, below)))
   | inr here ↦ inl (ap (cell_at base) (let e : cell ≡ from = omega (arith, here, above) in e))
 ]
 
@@ -116,7 +117,8 @@ IsEither base cells a = IsOfPage a ⊎ IsOfCells base cells a
 own_either : (base cells a : ℕ) → IsAmongWords (own_words base cells) a → IsEither base cells a
 own_either base cells a among = elim (among_either own_page (own_cells base cells) a among) [
   | inl here ↦ inl (of_page a here)
-  | inr there ↦ inr (of_cells base 0 cells a there)
+  | inr there ↦ inr (subst (λ (n : ℕ). IsOfCells base n a) (let e : 0 + cells ≡ cells = omega arith in e)
+      (of_cells base 0 cells a there))
 ]
 
 pub cell_is_own : (base cells cell : ℕ) → cell < cells → IsAmongWords (own_words base cells) (cell_at base cell)
@@ -569,10 +571,23 @@ module _ (original : List ℕ) (plan : Plan) (p : Placement) (place : ℕ → �
 
   -- ---- they begin as zeros
 
-  cells_bytes : cells_region.bytes ≡ replicate (4 * plan.cells) 0
-  cells_bytes = refl
-
   pub cell_zero : (cell : ℕ) → cell < plan.cells
       → memory_word (start_memory file texts) (cell_at (cells_base original plan) cell) ≡ 0
   unfolding memory_word
-  cell_zero cell l = ?
+  cell_zero cell l =
+      let a = cell_at (cells_base original plan) cell in
+      let of : IsOfCells (cells_base original plan) plan.cells a =
+      record { from = omega arith; to = omega (arith, l); some = omega (arith, l) } in
+      let at = cell_at (cells_base original plan) cell - cells_base original plan in
+      ap (word_in a) (all_found a of)
+      ∙ ap (λ (n : ℕ). from_be_bytes w32 (take 4 (drop at (replicate n 0))))
+      (let e : 4 * plan.cells - 0 ≡ 4 * plan.cells = omega arith in e)
+      ∙ ap (λ (z : List ℕ). from_be_bytes w32 (take 4 z)) (drop-replicate at (4 * plan.cells) 0)
+      ∙ ap (from_be_bytes w32) (take-replicate 4 (4 * plan.cells - at) 0 (omega (arith, l)))
+    where
+      all_found : (a : ℕ) → IsOfCells (cells_base original plan) plan.cells a
+          → region_at (start_memory file texts) a 4 ≡ Some cells_region
+      all_found a of =
+          ap (λ (b : Bool). cond b (Some empty_heap) (find (covers a 4) (start_memory file texts).regions))
+          (heap_low a (omega (arith, cells_under a of, table_below)))
+          ∙ cell_found a of

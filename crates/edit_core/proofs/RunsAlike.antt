@@ -1,8 +1,11 @@
 -- What was written of an original has runs like the original's.
-use Rattle.std.proofs.Common.{◌≡◌, ℕ, suc, ◌+◌, ◌-◌, ◌*◌, ◌%◌, ◌^◌, ◌<◌, ◌≤◌, ◌⊎◌, inl, inr, Bool, true, false, ◌&&◌, cond, nat_le, nat_lt, List, [], ◌∷◌, ◌++◌, length, map, slice_index, Option, Some, None, refl, ap, sym, ◌∙◌, subst, arith}
+use Rattle.std.proofs.Common.{◌≡◌, ℕ, suc, ◌+◌, ◌-◌, ◌*◌, ◌%◌, ◌^◌, ◌<◌, ◌≤◌, ◌⊎◌, inl, inr, Bool, true, false, ◌&&◌, cond, nat_le, nat_lt, List, [], ◌∷◌, ◌++◌, length, map, replicate, slice_index, Option, Some, None, refl, ap, sym, ◌∙◌, subst, arith}
 use Rattle.std.specs.List.{list_any}
 use Rattle.std.proofs.lemmas.Bool.{and_from, cases_lt, le-leb, lt-leb, or_left, or_parts, or_right}
 use Rattle.std.proofs.lemmas.Bool.Decides.{nat_tests}
+use Rattle.std.proofs.Math.Seq.{ext_get_or}
+use Rattle.std.proofs.lemmas.List.{get_or-replicate, length-replicate}
+use Rattle.std.proofs.lemmas.List.FromFn.{get_or-map-range_with_len, length-map-range_with_len}
 use Rattle.std.proofs.lemmas.Simd.{map-map}
 use Rattle.elf32_sparc.specs.Notes.{NoteRange, NoteSegment, holds, range_at}
 use Rattle.elf32_sparc.specs.Image.{image_of}
@@ -12,7 +15,6 @@ use Rattle.v8_step.specs.State.{State}
 use Rattle.v8_step.specs.declared.Slot.TheVariants.{NoSlot}
 use Rattle.v8_step.specs.Items.{IsSameAt, Item, Register, Codes, YRegister}
 use Rattle.v8_step.specs.Needed.{IsUntouched}
-use Rattle.v8_step.specs.TwoRuns.{IsBounded}
 use Rattle.v8_step.specs.Valid.{AreBytes}
 use Rattle.v8_step.specs.Visits.{in_pages, pages_of}
 use Rattle.v8_process.specs.Arguments.{AreArguments}
@@ -27,54 +29,47 @@ use Rattle.walk_counts.proofs.Files.{begins, entry_is}
 use Rattle.addr_translate.specs.Lookup.{TableAt, looked_up}
 use Rattle.addr_translate.specs.Table.{size_of, target_of}
 use Rattle.layout.specs.Laid.{Ascend, IsLaid, Placement, range_in}
-use Rattle.image_code.specs.Simulates.{Setting, Simulates, Store, operations_on, updates}
-use Rattle.image_code.specs.Images.{AreNoted, CountsNothing, Here, IsPlaced, Pieces, visited_by}
+use Rattle.code_runs.specs.StoredWords.{memory_word}
+use Rattle.snippets.specs.Cells.{named_by}
+use Rattle.snippet_code.specs.Cells.{cell_at, words_at}
+use Rattle.snippet_code.specs.Words.{spills_of}
+use Rattle.tool_kit.specs.Plans.{Plan}
+use Rattle.image_code.specs.Simulates.{Setting, Simulates, snippet_on}
+use Rattle.image_code.specs.Images.{AreNoted, Frame, HasCells, Here, IsPlaced, Pieces, visited_by}
+use Rattle.image_code.specs.Parts.{codes_of}
 use Rattle.image_code.specs.Cases.{Everything}
 use Rattle.image_code.specs.Made.{IsOffNoted, IsTableFor, PiecesMakeImages, landing_number, piece_list, pieces_in}
 use Rattle.image_code.specs.Outside.{IsOpen}
 use Rattle.image_code.proofs.Numbers.{cut_of}
 use Rattle.edit_core.specs.Faithful.{editor_page, page_size}
 use Rattle.edit_core.specs.Runs.{Linked, Rests}
-use Rattle.edit_core.specs.RunsAlike.{AreRunsAlike, step_limit}
+use Rattle.edit_core.specs.RunsAlike.{AreRunsAlike, IsAnswered, edit_of}
 use Rattle.edit_core.specs.Whole.{Answered, EveryItem}
-use Rattle.edit_core.specs.Written.{EditsRunAlike, IsEdit, LeadsTo, addr, code_base, foreign_of, given_of, graph_in, landings_of, notes_on, table_base, text_of}
+use Rattle.edit_core.specs.Written.{EditsRunAlike, IsEdit, LeadsTo, addr, cells_base, code_base, foreign_of, given_of, graph_in, landings_of, notes_on, table_base, text_of}
 use Rattle.edit_core.proofs.CodeFetched.{has_code, only_code}
 use Rattle.edit_core.proofs.Faithful.{word_here}
 use Rattle.edit_core.proofs.Landings.{map_below}
 use Rattle.edit_core.proofs.Off.{off_here, off_is, ranges_beside}
-use Rattle.edit_core.proofs.Originals.{image_text}
-use Rattle.edit_core.proofs.Owned.{frame, has_table, is_framed, owned}
+use Rattle.edit_core.proofs.Fronts.{any_past, past_fails}
+use Rattle.edit_core.proofs.Originals.{image_room, image_text}
+use Rattle.edit_core.proofs.Snippets.{cells_in_range, code_short, good_on, snippet_does}
+use Rattle.elf32_sparc.proofs.Images.{accepted-program}
+use Rattle.edit_core.proofs.Owned.{cell_is_own, cell_zero, frame, has_table, is_framed, owned}
 use Rattle.edit_core.proofs.Ranges.{ends_by}
 use Rattle.edit_core.proofs.Starts.{file_valid, memory_alike, original_valid}
 use Rattle.edit_core.proofs.Whole.{all_is_kept, edits_answer}
 
--- ---- an edit without snippets
+-- ---- an edit
 
-abbrev no_store : Store
-no_store = record { first = []; update = λ edge cells s. cells; operations = λ edge. 0 }
+abbrev setting : List ℕ → Plan → Placement → Setting
+setting original plan p = edit_of original plan (notes_on original plan p)
 
-abbrev setting : List ℕ → Placement → Setting
-setting original p = record {
-  text = text_of original;
-  given = given_of original;
-  store = no_store;
-  notes = notes_on original p;
-  cells_of = λ t. [];
-}
+abbrev pieces : List ℕ → Plan → TableAt → Pieces
+pieces original plan table =
+    pieces_in (text_of original plan) (graph_in original plan) table.base (codes_of (cells_base original plan) plan.snips)
 
-abbrev pieces : List ℕ → TableAt → Pieces
-pieces original table = pieces_in (text_of original) (graph_in original) table.base
-
-still : (edges cells : List ℕ) (s : State) → updates no_store edges cells s ≡ cells
-still [] cells s = refl
-still (edge ∷ edges) cells s = still edges cells s
-
-no_operations : (edges : List ℕ) → operations_on no_store edges ≡ 0
-no_operations [] = refl
-no_operations (edge ∷ edges) = let later = no_operations edges in omega (arith, later)
-
-counts_nothing : (original : List ℕ) (p : Placement) → CountsNothing (setting original p)
-counts_nothing original p = record { none = λ t. refl; still = still }
+abbrev its_frame : List ℕ → Plan → TableAt → Frame
+its_frame original plan table = frame (cells_base original plan) plan.cells table
 
 -- ranges lie in the code's page
 none_below : (from to a : ℕ) (rs : List NoteRange) → Ascend from to rs → a < from → range_in rs a ≡ None
@@ -112,121 +107,156 @@ none_beside base p a ascend (inl below) = none_below base (base + 4 * length p.c
 none_beside base p a ascend (inr past) = none_past base (base + 4 * length p.code) a p.ranges ascend past
 
 -- what the notes say of the code, behind the table
-module _ (original : List ℕ) (p : Placement) where
+module _ (original : List ℕ) (plan : Plan) (p : Placement) where
   abbrev size : ℕ
-  size = size_of (text_of original)
+  size = size_of (text_of original plan)
 
   abbrev code_end : ℕ
-  code_end = code_base original + 4 * length p.code
+  code_end = code_base original plan + 4 * length p.code
+
+  abbrev cells_page : NoteSegment
+  cells_page = record { start = cells_base original plan; length = 4 * plan.cells }
 
   abbrev table_page : NoteSegment
-  table_page = record { start = table_base original; length = size }
+  table_page = record { start = table_base original plan; length = size }
 
   abbrev code_page : NoteSegment
-  code_page = record { start = code_base original; length = 4 * length p.code }
+  code_page = record { start = code_base original plan; length = 4 * length p.code }
 
   abbrev own_page : NoteSegment
   own_page = record { start = editor_page; length = page_size }
 
-  in_code : (a : ℕ) → code_base original ≤ a → a < code_end → in_pages (notes_on original p) a ≡ true
+  in_code : (a : ℕ) → code_base original plan ≤ a → a < code_end → in_pages (notes_on original plan p) a ≡ true
   in_code a from to =
-      or_right (holds a (a + 1) table_page) (list_any (holds a (a + 1)) (code_page ∷ own_page ∷ []))
+      any_past (holds a (a + 1)) plan.cells cells_page (table_page ∷ code_page ∷ own_page ∷ [])
+      (or_right (holds a (a + 1) table_page) (list_any (holds a (a + 1)) (code_page ∷ own_page ∷ []))
       (or_left (holds a (a + 1) code_page) (list_any (holds a (a + 1)) (own_page ∷ []))
-      (and_from _ _ (le-leb (code_base original) a from) (le-leb (a + 1) code_end (omega (arith, to)))))
+      (and_from _ _ (le-leb (code_base original plan) a from) (le-leb (a + 1) code_end (omega (arith, to))))))
 
-  outside : Ascend (code_base original) code_end p.ranges → (a : ℕ) → in_pages (notes_on original p) a ≡ false
-      → range_at (notes_on original p) a ≡ None
+  outside : Ascend (code_base original plan) code_end p.ranges → (a : ℕ)
+      → in_pages (notes_on original plan p) a ≡ false
+      → range_at (notes_on original plan p) a ≡ None
   outside ascend a out =
-      let first = or_parts (holds a (a + 1) table_page) (list_any (holds a (a + 1)) (code_page ∷ own_page ∷ [])) out in
+      let behind = past_fails (holds a (a + 1)) plan.cells cells_page (table_page ∷ code_page ∷ own_page ∷ []) out in
+      let first = or_parts (holds a (a + 1) table_page) (list_any (holds a (a + 1)) (code_page ∷ own_page ∷ [])) behind in
       let second = or_parts (holds a (a + 1) code_page) (list_any (holds a (a + 1)) (own_page ∷ [])) first.1 in
-      ranges_beside (text_of original) (graph_in original) (table_base original) p.ranges a
+      ranges_beside (text_of original plan) (graph_in original plan) (table_base original plan) p.ranges a
       (off_table (beside_page table_page a first.0))
-      ∙ none_beside (code_base original) p a ascend (beside_page code_page a second.0)
+      ∙ none_beside (code_base original plan) p a ascend (beside_page code_page a second.0)
     where
-      off_table : (a < table_base original) ⊎ (table_base original + size ≤ a)
-          → (a < table_base original) ⊎ (table_base original + 4 ≤ a)
+      off_table : (a < table_base original plan) ⊎ (table_base original plan + size ≤ a)
+          → (a < table_base original plan) ⊎ (table_base original plan + 4 ≤ a)
       off_table (inl below) = inl below
       off_table (inr past) = inr (omega (arith, past))
 
-  are_noted : Ascend (code_base original) code_end p.ranges → AreNoted (setting original p) (code_base original) p
+  are_noted : Ascend (code_base original plan) code_end p.ranges → AreNoted (setting original plan p) (code_base original plan) p
   are_noted ascend = record {
     inside = in_code;
     ranges = λ a from to.
-        ranges_beside (text_of original) (graph_in original) (table_base original) p.ranges a
+        ranges_beside (text_of original plan) (graph_in original plan) (table_base original plan) p.ranges a
         (inr (omega (arith, from)));
     outside = outside ascend;
     blocks = refl;
   }
 
   -- the place of a slot behind the text
-  off_noted : IsText (text_of original) → IsOffNoted (setting original p) (table_base original)
+  off_noted : IsText (text_of original plan) → IsOffNoted (setting original plan p) (table_base original plan)
   off_noted text number edge at off =
-      let cut = cut_of (text_of original) (graph_in original) (record { given = given_of original; is = refl })
+      let cut = cut_of (text_of original plan) (graph_in original plan) (record { given = given_of original plan; is = refl })
       text.some in
-      ap (λ offs. range_in (offs ++ p.ranges) (table_base original))
-      (off_is (text_of original) (graph_in original) (table_base original) refl cut.firsts number edge at off)
-      ∙ off_here (text_of original) (graph_in original) (table_base original) edge p.ranges
+      ap (λ offs. range_in (offs ++ p.ranges) (table_base original plan))
+      (off_is (text_of original plan) (graph_in original plan) (table_base original plan) refl cut.firsts number edge at off)
+      ∙ off_here (text_of original plan) (graph_in original plan) (table_base original plan) edge p.ranges
 
   -- where the table leads
-  module _ (table : TableAt) (leads : LeadsTo (text_of original) (graph_in original) p table) where
-    landings_at : (word : ℕ) → word < length (text_of original).words
-        → slice_index (map (λ (a : Addr). a.0) (landings_of (text_of original) (graph_in original) p)) word
-        ≡ slice_index p.at (landing_number (text_of original) (graph_in original) word)
+  module _ (table : TableAt) (leads : LeadsTo (text_of original plan) (graph_in original plan) p table) where
+    landings_at : (word : ℕ) → word < length (text_of original plan).words
+        → slice_index (map (λ (a : Addr). a.0) (landings_of (text_of original plan) (graph_in original plan) p)) word
+        ≡ slice_index p.at (landing_number (text_of original plan) (graph_in original plan) word)
     landings_at word l =
         ap (λ (ns : List ℕ). slice_index ns word)
         (map-map (λ (a : Addr). a.0) (λ (k : ℕ). addr
-        (slice_index p.at (landing_number (text_of original) (graph_in original) k)))
-        (below (length (text_of original).words)))
-        ∙ map_below (λ k. slice_index p.at (landing_number (text_of original) (graph_in original) k))
-        (length (text_of original).words) word 0 l
+        (slice_index p.at (landing_number (text_of original plan) (graph_in original plan) k)))
+        (below (length (text_of original plan).words)))
+        ∙ map_below (λ k. slice_index p.at (landing_number (text_of original plan) (graph_in original plan) k))
+        (length (text_of original plan).words) word 0 l
 
-    found_at : (a : ℕ) → a < 2 ^ 32 → a % 4 ≡ 0 → (o : Option ℕ) → word_at (text_of original) a ≡ o
-        → looked_up table a ≡ target_of (landings_of (text_of original) (graph_in original) p)
-        (foreign_of (text_of original) (graph_in original) p) o
+    found_at : (a : ℕ) → a < 2 ^ 32 → a % 4 ≡ 0 → (o : Option ℕ) → word_at (text_of original plan) a ≡ o
+        → looked_up table a ≡ target_of (landings_of (text_of original plan) (graph_in original plan) p)
+        (foreign_of (text_of original plan) (graph_in original plan) p) o
     found_at a low aligned o e =
         let same : a - a % 4 ≡ a = omega (arith, aligned) in
         leads.finds a low
-        ∙ ap (λ z. target_of (landings_of (text_of original) (graph_in original) p)
-        (foreign_of (text_of original) (graph_in original) p) (word_at (text_of original) z)) same
-        ∙ ap (target_of (landings_of (text_of original) (graph_in original) p)
-        (foreign_of (text_of original) (graph_in original) p)) e
+        ∙ ap (λ z. target_of (landings_of (text_of original plan) (graph_in original plan) p)
+        (foreign_of (text_of original plan) (graph_in original plan) p) (word_at (text_of original plan) z)) same
+        ∙ ap (target_of (landings_of (text_of original plan) (graph_in original plan) p)
+        (foreign_of (text_of original plan) (graph_in original plan) p)) e
 
-    table_for : IsTableFor (text_of original) (graph_in original) p table
+    table_for : IsTableFor (text_of original plan) (graph_in original plan) p table
     table_for = record {
       whole = leads.whole;
       words = λ a word low aligned e. found_at a low aligned (Some word) e
-          ∙ landings_at word (word_at-some (text_of original) a word e).within;
+          ∙ landings_at word (word_at-some (text_of original plan) a word e).within;
       others = λ a low aligned e. found_at a low aligned None e;
     }
 
-module _ (original : List ℕ) (p : Placement) (place : ℕ → ℕ → ℕ) (table : TableAt) (file : List ℕ)
-    (is : IsEdit original p place table file) where
-  placed : IsPlaced (setting original p) (pieces original table) (code_base original) p place (frame table)
+module _ (original : List ℕ) (plan : Plan) (p : Placement) (place : ℕ → ℕ → ℕ) (table : TableAt) (file : List ℕ)
+    (is : IsEdit original plan p place table file) where
+  room_low : cells_base original plan + (image_of original).room ≤ 2 ^ 31
+  room_low =
+      let room = image_room original in
+      let below = (accepted-program original is.taken.sound).below in
+      omega arith
+
+  base_aligned : cells_base original plan % 4096 ≡ 0
+  base_aligned = let base = (accepted-program original is.taken.sound).base in omega arith
+
+  cells_end_low : cell_at (cells_base original plan) plan.cells ≤ 2 ^ 31
+  cells_end_low = let base = is.code.base in omega (arith, base, is.code.leads.whole.below)
+
+  cells_are : HasCells (setting original plan p) (pieces original plan table) (its_frame original plan table)
+  cells_are = record {
+    aligned = omega (arith, base_aligned);
+    low = cells_end_low;
+    own = λ cell l. cell_is_own (cells_base original plan) plan.cells cell l;
+    named = λ edge cell is_one.
+        cells_in_range plan.cells (snippet_on plan.snips edge) (good_on plan.cells plan.snips is.workable.good edge) cell
+        is_one;
+    spills = λ edge. spills_of [] (named_by (snippet_on plan.snips edge)) (snippet_on plan.snips edge);
+    does = snippet_does (cells_base original plan) plan.cells (omega (arith, base_aligned)) cells_end_low plan.snips
+        is.workable.good;
+    short = code_short (cells_base original plan) plan.snips;
+  }
+
+  placed : IsPlaced (setting original plan p) (pieces original plan table) (code_base original plan) p place
+      (its_frame original plan table)
   placed = record {
-    laid = subst (λ (a : ℕ). IsLaid (piece_list (text_of original) (graph_in original) a) (code_base original) p place)
+    laid = subst (λ (a : ℕ). IsLaid (piece_list (text_of original plan) (graph_in original plan) a
+        (codes_of (cells_base original plan) plan.snips)) (code_base original plan) p place)
         (sym is.code.base) is.code.laid;
-    noted = are_noted original p is.code.laid.ascend;
-    frame = is_framed original p table (setting original p) refl is.code.base is.code.leads.size
+    noted = are_noted original plan p is.code.laid.ascend;
+    frame = is_framed original plan p table (setting original plan p) refl is.code.base is.code.leads.size
         is.code.leads.whole.below;
-    counts = counts_nothing original p;
+    cells = cells_are;
   }
 
   abbrev entry : ℕ
   entry = (image_of original).entry
 
-  text_is : IsText (text_of original)
+  text_is : IsText (text_of original plan)
   text_is = image_text original is.taken.sound
 
-  off_noted_here : IsOffNoted (setting original p) table.base
-  off_noted_here = subst (IsOffNoted (setting original p)) (sym is.code.base) (off_noted original p text_is)
+  off_noted_here : IsOffNoted (setting original plan p) table.base
+  off_noted_here = subst (IsOffNoted (setting original plan p)) (sym is.code.base) (off_noted original plan p text_is)
 
   simulates : PiecesMakeImages
-      → Simulates (setting original p) (IsOpen (setting original p))
-      (Here (setting original p) (pieces original table) (code_base original) p (frame table)) Everything
+      → Simulates (setting original plan p) (IsOpen (setting original plan p))
+      (Here (setting original plan p) (pieces original plan table) (code_base original plan) p (its_frame original plan table)) Everything
   simulates make =
       let base = is.code.base in
-      make (setting original p) (code_base original) p place (frame table) text_is placed
-      (table_for original p table is.code.leads) (omega (arith, base)) off_noted_here
+      make (setting original plan p) (codes_of (cells_base original plan) plan.snips) (code_base original plan) p place
+      (its_frame original plan table) text_is placed
+      (table_for original plan p table is.code.leads) (omega (arith, base)) off_noted_here
 
   module _ (make : PiecesMakeImages) (args : List (List ℕ)) (input : List ℕ) (given : AreArguments args)
       (read : AreBytes input) where
@@ -236,34 +266,34 @@ module _ (original : List ℕ) (p : Placement) (place : ℕ → ℕ → ℕ) (ta
     abbrev t0 : State
     t0 = start_of file args input
 
-    fetches : FetchesOnly (text_of original) s0
+    fetches : FetchesOnly (text_of original plan) s0
     unfolding image_of
     fetches = only_text_is_fetched original args input is.taken.sound is.given
 
-    begins_at : BeginsAt (text_of original) entry s0
+    begins_at : BeginsAt (text_of original plan) entry s0
     unfolding image_of
     begins_at = begins original args input (entry_is original is.taken.sound)
 
-    entry_here : word_at (text_of original) s0.pc ≡ Some entry
-    entry_here = ap (word_at (text_of original)) begins_at.pc ∙ word_here original entry begins_at.within
+    entry_here : word_at (text_of original plan) s0.pc ≡ Some entry
+    entry_here = ap (word_at (text_of original plan)) begins_at.pc ∙ word_here original plan entry begins_at.within
 
     here : (node : Node)
-        → Here (setting original p) (pieces original table) (code_base original) p (frame table) node (point_of s0) t0
+        → Here (setting original plan p) (pieces original plan table) (code_base original plan) p (its_frame original plan table) node (point_of s0) t0
     unfolding start_of
     here node = record {
-      valid = file_valid original p place table file is args input given read;
+      valid = file_valid original plan p place table file is args input given read;
       live = refl;
       at = is.entered
-          ∙ ap (λ found. visited_by (setting original p) (pieces original table) p (frame table) node
+          ∙ ap (λ found. visited_by (setting original plan p) (pieces original plan table) p (its_frame original plan table) node
           (point_of s0) found NoSlot)
           (sym entry_here);
       npc = refl;
       slot = refl;
       memory = record {
-        code = has_code original p place table file is (program_name ∷ args);
-        only = only_code original p place table file is (program_name ∷ args);
-        ours = owned original p place table file is (program_name ∷ args);
-        table = has_table original p place table file is (program_name ∷ args);
+        code = has_code original plan p place table file is (program_name ∷ args);
+        only = only_code original plan p place table file is (program_name ∷ args);
+        ours = owned original plan p place table file is (program_name ∷ args);
+        table = has_table original plan p place table file is (program_name ∷ args);
       };
       waits = λ taken way. absurd (cc);
     }
@@ -274,8 +304,23 @@ module _ (original : List ℕ) (p : Placement) (place : ℕ → ℕ → ℕ) (ta
     same_items Codes = refl
     same_items YRegister = refl
 
-    linked : Linked (setting original p) entry
-        (Here (setting original p) (pieces original table) (code_base original) p (frame table)) EveryItem s0 t0 0 0
+    -- the cells begin as zeros
+    cells_begin : words_at (cells_base original plan) plan.cells t0.memory ≡ replicate plan.cells 0
+    unfolding start_of
+    cells_begin =
+        let words = words_at (cells_base original plan) plan.cells t0.memory in
+        let zeros : length {A = ℕ} (replicate plan.cells 0) ≡ plan.cells = length-replicate plan.cells 0 in
+        let size : length words ≡ plan.cells =
+        length-map-range_with_len (λ k. memory_word t0.memory (cell_at (cells_base original plan) k)) 0 plan.cells in
+        ext_get_or 0 words (replicate plan.cells 0) (size ∙ sym zeros) (λ i low.
+        let within : i < plan.cells = omega (arith, low, size) in
+        get_or-map-range_with_len (λ k. memory_word t0.memory (cell_at (cells_base original plan) k)) 0 plan.cells i i 0
+        within (let e : 0 + i ≡ i = omega arith in e)
+        ∙ cell_zero original plan p place table file is (program_name ∷ args) i within
+        ∙ sym (get_or-replicate plan.cells i 0 0 within))
+
+    linked : Linked (setting original plan p) entry
+        (Here (setting original plan p) (pieces original plan table) (code_base original plan) p (its_frame original plan table)) EveryItem s0 t0 0 0
     unfolding start_of
     linked = record {
       live = refl;
@@ -286,50 +331,54 @@ module _ (original : List ℕ) (p : Placement) (place : ℕ → ℕ → ℕ) (ta
           window = refl;
           valid = refl;
           input = refl;
-          memory = memory_alike original p place table file is (program_name ∷ args);
+          memory = memory_alike original plan p place table file is (program_name ∷ args);
           registers = refl;
         };
         puts = λ descriptor. refl;
-        cells = refl;
+        cells = cells_begin;
       };
     }
 
-    rests : Rests (setting original p) entry (IsOpen (setting original p))
-        (Here (setting original p) (pieces original table) (code_base original) p (frame table)) Everything EveryItem
+    rests : Rests (setting original plan p) entry (IsOpen (setting original plan p))
+        (Here (setting original plan p) (pieces original plan table) (code_base original plan) p (its_frame original plan table)) Everything EveryItem
         s0 t0
     rests = record {
       text = text_is;
-      first_valid = original_valid original p place table file is args input given read;
-      second_valid = file_valid original p place table file is args input given read;
+      first_valid = original_valid original plan p place table file is args input given read;
+      second_valid = file_valid original plan p place table file is args input given read;
       fetches = fetches;
       begins = begins_at;
       simulates = simulates make;
-      keeping = all_is_kept (setting original p) entry s0 (counts_nothing original p);
+      keeping = all_is_kept (setting original plan p) entry s0;
       begin = 0;
       soon = omega arith;
       first = linked;
       early = λ j below. absurd (omega (arith, below));
     }
 
-    answers : (n : ℕ) → IsUntouched (pages_of (notes_on original p)) s0 n → Answered (setting original p) entry s0 t0 n
+    answers : (n : ℕ) → IsUntouched (pages_of (notes_on original plan p)) s0 n → Answered (setting original plan p) entry s0 t0 n
     answers n untouched =
-        edits_answer (setting original p) (pieces original table) (code_base original) p
-        (frame table) entry s0 t0 n rests untouched
+        edits_answer (setting original plan p) (pieces original plan table) (code_base original plan) p
+        (its_frame original plan table) entry s0 t0 n rests untouched
 
-    bounded : (n : ℕ) → IsUntouched (pages_of (notes_on original p)) s0 (suc n)
-        → IsBounded (notes_on original p) s0 t0 n step_limit
-    bounded n untouched m k first next =
-        let most = (answers (suc n) untouched).bounded n (omega arith) m k first next in
-        let none = no_operations (gone_in (text_of original) (graph_in original) entry s0 n) in
-        omega (arith, most, none)
+    answered : (n : ℕ) → IsUntouched (pages_of (notes_on original plan p)) s0 n
+        → IsAnswered (setting original plan p) entry s0 t0 n
+    answered n untouched =
+        let all = answers n untouched in
+        record {
+          moment = all.moments n;
+          first = all.answers n (omega arith);
+          cells = all.cells n (omega arith);
+          node = all.over n (omega arith);
+        }
 
-    runs_alike : AreRunsAlike (notes_on original p) s0 t0
+    runs_alike : AreRunsAlike (setting original plan p) entry s0 t0
     runs_alike = record {
-      answered = λ n untouched. let all = answers n untouched in (all.moments n, all.answers n (omega arith));
+      answered = answered;
       soon = λ untouched m least. (answers 0 untouched).soon m least;
-      bounded = bounded;
+      bounded = λ n untouched. (answers (suc n) untouched).bounded n (omega arith);
     }
 
 pub edits_run_alike : PiecesMakeImages → EditsRunAlike
-edits_run_alike make original p place table file is args input given read =
-    runs_alike original p place table file is make args input given read
+edits_run_alike make original plan p place table file is args input given read =
+    runs_alike original plan p place table file is make args input given read

@@ -13,21 +13,16 @@ use Rattle.addr_translate.specs.Table.{size_of}
 use Rattle.layout.specs.declared.items.Placed.{Placed}
 use Rattle.layout.specs.declared.items.Item.{Item}
 use Rattle.layout.specs.Laid.{IsLaid, long_bytes}
-use Rattle.image_code.specs.Fit.{AreFit, AreShort, PiecesFit}
+use Rattle.image_code.specs.Fit.{AreFit, PiecesFit}
 use Rattle.image_code.specs.Parts.{IsGraphOf, codes_of}
 use Rattle.image_code.proofs.Numbers.{words_are}
 use Rattle.snippets.specs.declared.snippet.Op.{Op}
-use Rattle.tool_kit.specs.Good.{IsGood}
 use Rattle.tool_kit.specs.Plans.{Plan}
 use Rattle.edit_core.specs.Taken.{CanEdit, bound_of}
 use Rattle.edit_core.specs.Written.{CanDo, IsNewCode, IsViewOf, IsWorkable, LeadsTo, cells_base, code_base, given_of, graph_in, pieces_by, pieces_of, placement_in, table_after, table_base, text_of}
+use Rattle.edit_core.proofs.Snippets.{short_codes}
 use Rattle.edit_core.proofs.Views.{bound_is}
 use Rattle.edit_core.proofs.Originals.{image_text, image_room}
-
--- the words of good snippets are few
-pub short_codes : (base cells : ℕ) (snips : List (List Op)) → All (IsGood cells) snips
-    → AreShort snips (codes_of base snips)
-short_codes base cells snips good = {! record { words = ?; short = ?; few = ? } !}
 
 -- the pieces of what can be edited can be placed
 pub original_fit : PiecesFit → (original : List ℕ) (plan : Plan) → CanEdit original plan → CanDo original plan

@@ -81,4 +81,5 @@ edits_answer g l base p f entry s0 t0 last r u =
       early = k.early;
       told = k.told;
       between = k.between;
+      over = k.over;
     }

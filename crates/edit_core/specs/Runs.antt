@@ -16,6 +16,7 @@ use Rattle.cfg_normal.specs.declared.Node.{Node}
 use Rattle.code_runs.specs.PointsAlike.{instr_of}
 use Rattle.cfg_walk.specs.Walk.{Point, point_of, end_of_walk, gone_in}
 use Rattle.cfg_walk.specs.Matches.{FetchesOnly, BeginsAt}
+use Rattle.edit_core.specs.RunsAlike.{EndsAtNode}
 use Rattle.image_code.specs.Simulates.{Setting, Simulates, cells_in, graph_in, number_in, word_of, updates, store_of, limit_on}
 
 -- ---- the items that are kept equal, step by step
@@ -107,3 +108,5 @@ pub record Follows (g : Setting) (entry : ℕ) (s0 t0 : State) (last : ℕ) : Ty
   pub early : (m : ℕ) → m < moments zero → node_at g.notes (run t0 m).pc ≡ None
   pub told : (n : ℕ) → n ≤ last → Tells g entry s0 t0 n (moments n)
   pub between : (n m : ℕ) → n < last → moments n ≤ m → m < moments (suc n) → Tells g entry s0 t0 n m
+  -- at the end in one
+  pub over : (n : ℕ) → n ≤ last → EndsAtNode g entry s0 t0 n (moments n)

@@ -1,7 +1,7 @@
 -- What a run of a written file has to do with the run of its original, with the same arguments and input.
-use Rattle.std.specs.Prelude.{◌≡◌, ℕ, suc, ◌≤◌, List}
+use Rattle.std.specs.Prelude.{◌≡◌, ◌≢◌, ℕ, suc, ◌≤◌, List, Some, None}
 use Rattle.elf32_sparc.specs.Image.{image_of}
-use Rattle.elf32_sparc.specs.Notes.{Notes}
+use Rattle.elf32_sparc.specs.Notes.{Notes, node_at}
 use Rattle.v8_step.specs.State.{State}
 use Rattle.v8_step.specs.Run.{run}
 use Rattle.v8_step.specs.Needed.{IsUntouched}
@@ -11,8 +11,8 @@ use Rattle.v8_step.specs.Visits.{pages_of}
 use Rattle.v8_process.specs.Arguments.{AreArguments}
 use Rattle.v8_process.specs.Start.{start_of}
 use Rattle.cfg_view.specs.View.{given_in}
-use Rattle.cfg_walk.specs.Walk.{gone_in}
-use Rattle.image_code.specs.Simulates.{Setting, cells_in, graph_in, limit_on, store_of}
+use Rattle.cfg_walk.specs.Walk.{end_of_walk, gone_in}
+use Rattle.image_code.specs.Simulates.{Setting, cells_in, graph_in, limit_on, number_in, store_of}
 use Rattle.tool_kit.specs.Plans.{Plan}
 
 -- an edit of an original by a plan, with these notes
@@ -28,12 +28,19 @@ edit_of original plan notes = record {
 abbrev pub first_limit : ℕ
 first_limit = 64
 
+-- Where the original is over after n steps, the written file stands in a place of the node where their walk ended.
+abbrev pub EndsAtNode : Setting → ℕ → State → State → ℕ → ℕ → Type 0
+EndsAtNode g entry s0 t0 n m =
+    (run s0 n).ending ≢ None
+    → node_at g.notes (run t0 m).pc ≡ Some (number_in g (end_of_walk g.text (graph_in g) entry s0 n))
+
 -- There is a first moment at which the written file is where the original is after n steps, by the same trail, and its
 -- cells are then what the snippets make of the edges that these steps complete.
 pub record IsAnswered (g : Setting) (entry : ℕ) (s0 t0 : State) (n : ℕ) : Type 0 where
   pub moment : ℕ
   pub first : IsLeast (Answers g.notes s0 t0 n) moment
   pub cells : cells_in g (run t0 moment) ≡ store_of g entry s0 n
+  pub node : EndsAtNode g entry s0 t0 n moment
 
 -- Where the original's first n steps touch no page of the notes:
 pub record AreRunsAlike (g : Setting) (entry : ℕ) (s0 t0 : State) : Type 0 where

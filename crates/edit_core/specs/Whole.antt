@@ -13,6 +13,7 @@ use Rattle.image_code.specs.Images.{Pieces, Frame, Here}
 use Rattle.image_code.specs.Cases.{Everything}
 use Rattle.image_code.specs.Outside.{IsOpen}
 use Rattle.edit_core.specs.Runs.{Keeping, Rests, Tells, limits_in}
+use Rattle.edit_core.specs.RunsAlike.{EndsAtNode}
 
 abbrev pub EveryItem : ℕ → Item → Type 0
 EveryItem n item = Unit {0}
@@ -32,6 +33,7 @@ pub record Answered (g : Setting) (entry : ℕ) (s0 t0 : State) (last : ℕ) : T
   pub early : (m : ℕ) → m < moments zero → node_at g.notes (run t0 m).pc ≡ None
   pub told : (n : ℕ) → n ≤ last → Tells g entry s0 t0 n (moments n)
   pub between : (n m : ℕ) → n < last → moments n ≤ m → m < moments (suc n) → Tells g entry s0 t0 n m
+  pub over : (n : ℕ) → n ≤ last → EndsAtNode g entry s0 t0 n (moments n)
 
 abbrev pub EditsAnswer : Type 0
 EditsAnswer =

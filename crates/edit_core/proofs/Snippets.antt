@@ -1,0 +1,78 @@
+-- The code of good snippets.
+use Rattle.std.proofs.Common.{◌≡◌, ℕ, suc, ◌+◌, ◌*◌, ◌%◌, ◌^◌, ◌<◌, ◌≤◌, ◌⊎◌, inl, inr, List, [], ◌∷◌, length, map, get_or, refl, sym, subst, ◌∙◌, arith, All}
+use Rattle.std.proofs.lemmas.Bool.{cases_lt}
+use Rattle.std.proofs.lemmas.List.{get_or_past, length-map}
+use Rattle.v8_decode.specs.declared.Instr.{Instr}
+use Rattle.v8_encode.specs.Encoding.{word_of}
+use Rattle.snippets.specs.declared.snippet.Op.{Op}
+use Rattle.snippets.specs.Cells.{named_by}
+use Rattle.snippets.specs.Ops.{cell_of}
+use Rattle.snippet_code.specs.Cells.{IsCellOf, cell_at}
+use Rattle.snippet_code.specs.Laws.{CanExpand, EndLow, SnippetCodeRuns}
+use Rattle.snippet_code.specs.Runs.{DoesJust}
+use Rattle.snippet_code.specs.Words.{cost_of, snippet_words, spills_of}
+use Rattle.snippet_code.proofs.Lengths.{costs_hold}
+use Rattle.snippet_code.proofs.WholeCode.{snippet_code_runs}
+use Rattle.image_code.specs.Fit.{AreShort}
+use Rattle.image_code.specs.Parts.{codes_of}
+use Rattle.image_code.specs.Simulates.{snippet_on}
+use Rattle.tool_kit.specs.Good.{IsGood}
+
+-- no operation is good
+none_good : (cells : ℕ) → IsGood cells []
+none_good cells = record {
+  few = omega arith;
+  are_ops = λ k d l. absurd (omega (arith, l));
+  below = λ k d l. absurd (omega (arith, l));
+}
+
+-- the snippet on each edge is good, by whatever number
+pub good_on : (cells : ℕ) (snips : List (List Op)) → All (IsGood cells) snips → (edge : ℕ)
+    → IsGood cells (snippet_on snips edge)
+good_on cells snips good edge = elim (cases_lt edge (length snips)) [
+  | inl within ↦ good edge [] within
+  | inr past ↦ subst (IsGood cells) (sym (get_or_past snips edge [] past)) (none_good cells)
+]
+
+-- and works on cells that there are
+pub cells_in_range : (cells : ℕ) (ops : List Op) → IsGood cells ops → (cell : ℕ) → IsCellOf ops cell → cell < cells
+cells_in_range cells ops good cell is = by ops good.below cell is
+  where
+    by : (ops : List Op) → All (λ op. cell_of op < cells) ops → (cell : ℕ) → IsCellOf ops cell → cell < cells
+    by [] below cell is = absurd is
+    by (op ∷ ops) below cell (inl same) = let l : cell_of op < cells = below 0 op (omega arith) in omega (arith, same, l)
+    by (op ∷ ops) below cell (inr is) = by ops (λ k d l. below (suc k) d (omega (arith, l))) cell is
+
+module _ (base cells : ℕ) (aligned : base % 4 ≡ 0) (low : cell_at base cells ≤ 2 ^ 31) where
+  pub ends_low : (ops : List Op) → IsGood cells ops → EndLow base ops
+  ends_low ops good = λ k d l. let below = good.below k d l in omega (arith, below, low)
+
+  can_expand : (ops : List Op) → IsGood cells ops → CanExpand base ops
+  can_expand ops good =
+      record { aligned = aligned; few = good.few; are_ops = good.are_ops; low = ends_low ops good }
+
+  -- its words do just the snippet
+  pub snippet_does : (snips : List (List Op)) → All (IsGood cells) snips → (edge : ℕ)
+      → DoesJust (codes_of base snips edge) base []
+      (spills_of [] (named_by (snippet_on snips edge)) (snippet_on snips edge)) (snippet_on snips edge)
+  unfolding codes_of
+  snippet_does snips good edge =
+      (snippet_code_runs base [] (snippet_on snips edge)
+      (can_expand (snippet_on snips edge) (good_on cells snips good edge))).1
+
+-- they are few
+pub code_short : (base : ℕ) (snips : List (List Op)) (edge : ℕ)
+    → length (codes_of base snips edge) ≤ 22 * length (snippet_on snips edge)
+unfolding codes_of
+code_short base snips edge =
+    let ops = snippet_on snips edge in
+    let words = snippet_words base [] (named_by ops) ops in
+    let most = costs_hold base [] (named_by ops) ops in
+    omega (arith, length-map words word_of, most.0, most.1)
+
+pub short_codes : (base cells : ℕ) (snips : List (List Op)) → All (IsGood cells) snips
+    → AreShort snips (codes_of base snips)
+short_codes base cells snips good = record {
+  short = code_short base snips;
+  few = λ edge. let is = good_on cells snips good edge in is.few;
+}

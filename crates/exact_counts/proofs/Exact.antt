@@ -1,0 +1,132 @@
+-- What is rebuilt from the dump of a run that has ended is how often the original's run completes each edge.
+use Rattle.std.proofs.Common.{◌≡◌, ℕ, ◌-◌, ◌<◌, Bool, cond, List, length, None, refl, ap, sym, ◌∙◌, subst, arith}
+use Rattle.std.specs.Prelude.{pos}
+use Rattle.std.specs.List.{All}
+use Rattle.std.proofs.lemmas.Bool.{lt-ltb}
+use Rattle.elf32_sparc.specs.FileFault.{fault}
+use Rattle.elf32_sparc.specs.Image.{image_of}
+use Rattle.elf32_sparc.specs.Notes.{Notes}
+use Rattle.v8_step.specs.State.{State}
+use Rattle.v8_step.specs.Valid.{AreBytes}
+use Rattle.v8_process.specs.Start.{start_of}
+use Rattle.flows.specs.Flows.{IsFlow, rest}
+use Rattle.flows.specs.Trees.{IsSpanningTree, all_nodes}
+use Rattle.snippets.specs.Cells.{WorksBelow}
+use Rattle.cfg_blocks.specs.Blocks.{blocks_of, holding_of}
+use Rattle.cfg_blocks.specs.Entries.{entered_of}
+use Rattle.cfg_normal.specs.declared.Node.TheVariants.{Block, X}
+use Rattle.cfg_normal.specs.Graph.{Graph}
+use Rattle.cfg_normal.specs.Numbers.{node_number}
+use Rattle.tool_kit.specs.declared.edge_ref.ToolKind.{ToolKind}
+use Rattle.tool_kit.specs.Plans.{Plan}
+use Rattle.cfg_view.specs.View.{given_in, view_of}
+use Rattle.span_tree.specs.Links.{links_of}
+use Rattle.walk_counts.specs.Counts.{executions, first_node}
+use Rattle.walk_counts.proofs.Files.{begins, entry_is, executions_of_files_are_flows}
+use Rattle.image_code.specs.Simulates.{Setting, graph_in}
+use Rattle.edit_core.specs.RunsAlike.{edit_of}
+use Rattle.edit_core.specs.Faithful.{HasGraph, note_edges, tool_number}
+use Rattle.count_rebuild.specs.Noted.{noted_graph}
+use Rattle.exact_counts.specs.Profiles.{CountsOffTree, counted_by, original_graph}
+use Rattle.exact_counts.specs.Stops.{EndsWithStep, visits_by}
+use Rattle.exact_counts.specs.Laws.{CountsAreExact}
+use Rattle.exact_counts.proofs.Ends.{ended_runs_tell}
+use Rattle.exact_counts.proofs.Noted.{AreNotesOf, flow_alike, graphs_alike, tree_noted}
+use Rattle.exact_counts.proofs.Rebuilt.{StandsBehind, counts_tell, made_in, node_in, refused_not}
+
+module _ (original : List ℕ) (plan : Plan) (notes : Notes) where
+  abbrev g : Setting
+  g = edit_of original plan notes
+
+  -- the original's graph is that of the edit
+  view_graph : original_graph original plan ≡ graph_in g
+  unfolding view_of entered_of
+  view_graph = refl
+
+  notes_of_graph : CountsOffTree (original_graph original plan) plan → HasGraph original plan notes
+      → AreNotesOf (graph_in g) plan.snips notes
+  notes_of_graph counts has = record {
+    blocks = subst (λ (graph : Graph). notes.blocks ≡ graph.blocks.firsts) view_graph has.blocks;
+    edges = subst (λ (graph : Graph). notes.edges ≡ note_edges graph plan.kind graph.edges plan.snips) view_graph
+        has.edges
+        ∙ ap (λ (kind : ToolKind). note_edges (graph_in g) kind (graph_in g).edges plan.snips) counts.kind;
+    size = subst (λ (graph : Graph). length plan.snips ≡ length graph.edges) view_graph counts.size;
+  }
+
+  -- ---- the flow of the original's run, over the graph of the notes
+
+  module _ (args : List (List ℕ)) (input : List ℕ) (sound : fault original ≡ None) (bytes : AreBytes original)
+      (n : ℕ) where
+    abbrev entry : ℕ
+    entry = (image_of original).entry
+
+    abbrev s0 : State
+    s0 = start_of original args input
+
+    own_flow : IsFlow (links_of (graph_in g)) (first_node g.text (graph_in g) entry s0 n) (node_in g entry s0 n)
+        (λ e. pos (made_in g entry s0 n e))
+    unfolding image_of
+    own_flow =
+        executions_of_files_are_flows original args input (given_in (image_of original) plan.marks) n sound bytes
+
+    entry_within : entry < length g.text.words
+    unfolding image_of
+    entry_within = (begins original args input (entry_is original sound)).within
+
+    entry_node : first_node g.text (graph_in g) entry s0 n ≡ holding_of (graph_in g).blocks entry
+    unfolding blocks_of
+    entry_node =
+        ap (λ (b : Bool). node_number (graph_in g)
+        (cond b (Block (record { 0 = holding_of (graph_in g).blocks entry })) X))
+        (lt-ltb entry (length g.text.words) entry_within)
+
+    noted_flow : AreNotesOf (graph_in g) plan.snips notes → HasGraph original plan notes
+        → IsFlow (noted_graph notes) notes.entry (node_in g entry s0 n) (λ e. pos (made_in g entry s0 n e))
+    noted_flow are has =
+        let from : notes.entry ≡ holding_of (graph_in g).blocks entry =
+        subst (λ (graph : Graph). notes.entry ≡ holding_of graph.blocks entry) view_graph has.entry in
+        flow_alike (links_of (graph_in g)) (noted_graph notes) (graphs_alike (graph_in g) plan.snips notes are)
+        notes.entry (node_in g entry s0 n) (λ e. pos (made_in g entry s0 n e))
+        (subst (λ (a : ℕ). IsFlow (links_of (graph_in g)) a (node_in g entry s0 n)
+        (λ e. pos (made_in g entry s0 n e))) (entry_node ∙ sym from) own_flow)
+
+begins_live : (file : List ℕ) (args : List (List ℕ)) (input : List ℕ) → (start_of file args input).ending ≡ None
+unfolding start_of
+begins_live file args input = refl
+
+pub counts_are_exact : CountsAreExact
+counts_are_exact original plan file notes args input m is given read over short =
+    let counts = is.counters in
+    let g : Setting = edit_of original plan notes in
+    let entry : ℕ = (image_of original).entry in
+    let s0 : State = start_of original args input in
+    let t0 : State = start_of file args input in
+    let v : ℕ = visits_by notes t0 m in
+    let n : ℕ = v - 1 in
+    let tells : EndsWithStep g entry s0 t0 m v =
+    ended_runs_tell g entry s0 t0 m (begins_live original args input) (is.runs args input given read) over in
+    let are : AreNotesOf (graph_in g) plan.snips notes = notes_of_graph original plan notes counts is.graph in
+    let few = tells.few in
+    let behind : StandsBehind g entry s0 t0 m n = record {
+      profile = record {
+        tool = is.graph.tool ∙ ap tool_number counts.kind;
+        tree = tree_noted (graph_in g) plan.snips notes are
+            (subst (λ (graph : Graph). IsSpanningTree (links_of graph) all_nodes (rest (counted_by plan.snips)))
+            (view_graph original plan notes) counts.tree);
+      };
+      counters = counts.counters;
+      below = subst (λ (cells : ℕ). All (WorksBelow cells) plan.snips) (sym is.graph.cells) counts.below;
+      are = are;
+      short = short;
+      few = omega (arith, few, short);
+      flow = noted_flow original plan notes args input is.sound is.bytes n are is.graph;
+      cells = tells.cells;
+      node = tells.node;
+    } in
+    record {
+      refused = refused_not g entry s0 t0 m n behind;
+      counts = λ given h e l.
+          counts_tell g entry s0 t0 m n behind given h e l
+          ∙ ap (λ (graph : Graph). executions (image_of original).text graph entry s0 n e)
+          (sym (view_graph original plan notes));
+    }

@@ -1,0 +1,6 @@
+pub mod Few
+pub mod Counters
+pub mod Ends
+pub mod Noted
+pub mod Rebuilt
+pub mod Exact

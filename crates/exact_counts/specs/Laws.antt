@@ -1,0 +1,54 @@
+-- Counts are exact: what is rebuilt from the dump of a written file's run that has ended is how often the original's
+-- run completes each edge.
+use Rattle.std.specs.Prelude.{◌≡◌, ℕ, ◌-◌, ◌%◌, ◌^◌, ◌<◌, ◌≤◌, List, [], ◌∷◌, length, get_or, slice_index}
+use Rattle.std.specs.List.{All}
+use Rattle.eel_base.specs.CodeText.{Words}
+use Rattle.elf32_sparc.specs.Image.{image_of}
+use Rattle.elf32_sparc.specs.Notes.{Notes}
+use Rattle.v8_step.specs.State.{State}
+use Rattle.v8_step.specs.Valid.{AreBytes}
+use Rattle.v8_process.specs.Arguments.{AreArguments}
+use Rattle.v8_process.specs.Start.{start_of}
+use Rattle.cfg_normal.specs.Graph.{Graph}
+use Rattle.snippets.specs.declared.snippet.Op.TheVariants.{Add}
+use Rattle.snippets.specs.Cells.{WorksBelow}
+use Rattle.tool_kit.specs.Plans.{AreCounters, Plan}
+use Rattle.walk_counts.specs.Counts.{executions}
+use Rattle.dump_file.specs.Dump.{Dump}
+use Rattle.image_code.specs.Simulates.{Setting, graph_in, snippet_on, store_of}
+use Rattle.count_rebuild.specs.declared.fault.CountFault.{CountFault}
+use Rattle.count_rebuild.specs.declared.fault.CountFault.TheVariants as faults
+use Rattle.count_rebuild.specs.Answers.{AreCounts, IsRefused}
+use Rattle.exact_counts.specs.Profiles.{IsProfiled, original_graph}
+use Rattle.exact_counts.specs.Stops.{IsOver, dump_at, visits_by}
+
+-- no edge is completed twice in one step
+abbrev pub ExecutionsAreFew : Type 0
+ExecutionsAreFew =
+    (text : Words) (graph : Graph) (entry : ℕ) (s0 : State) (n e : ℕ) → executions text graph entry s0 n e ≤ n
+
+-- the cell of an edge's counter holds how often the run completed the edge, in 32 bits
+abbrev pub CellsCount : Type 0
+CellsCount =
+    (g : Setting) (entry : ℕ) (s0 : State) (n e cell : ℕ)
+    → AreCounters 0 g.snips → All (WorksBelow g.notes.cells) g.snips → snippet_on g.snips e ≡ Add cell 1 ∷ []
+    → get_or (store_of g entry s0 n) cell 0 ≡ executions g.text (graph_in g) entry s0 n e % 2 ^ 32
+
+-- Rebuilding refuses the dump for want of memory alone. What it answers is how often the first n steps of the
+-- original's run complete each edge.
+pub record IsExact (original : List ℕ) (plan : Plan) (notes : Notes) (s0 : State) (dump : Dump) (n : ℕ) : Type 0 where
+  pub refused : (fault : CountFault) → IsRefused notes dump fault → fault ≡ faults.NoMemory
+  pub counts : (counts : List ℕ) → AreCounts notes dump counts → (e : ℕ) → e < length notes.edges
+      → slice_index counts e
+      ≡ executions (image_of original).text (original_graph original plan) (image_of original).entry s0 n e
+
+-- So it is after a run below 2^32 steps that has ended, where the original touches no page: for all arguments and every
+-- input. The original's run ends with step v, which completes no edge.
+abbrev pub CountsAreExact : Type 0
+CountsAreExact =
+    (original : List ℕ) (plan : Plan) (file : List ℕ) (notes : Notes) (args : List (List ℕ)) (input : List ℕ) (m : ℕ)
+    → IsProfiled original plan file notes → AreArguments args → AreBytes input
+    → let s0 = start_of original args input in
+    let t0 = start_of file args input in
+    IsOver notes s0 t0 m → m < 2 ^ 32
+    → IsExact original plan notes s0 (dump_at notes t0 m) (visits_by notes t0 m - 1)

@@ -1,0 +1,3 @@
+pub mod Profiles
+pub mod Stops
+pub mod Laws

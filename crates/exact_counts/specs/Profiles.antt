@@ -1,0 +1,48 @@
+-- A profile of an original: counters on some edges of its flow graph, and a written file that has them.
+use Rattle.std.specs.Prelude.{◌≡◌, ℕ, Bool, true, false, List, [], ◌∷◌, length, None}
+use Rattle.std.specs.List.{All}
+use Rattle.elf32_sparc.specs.FileFault.{fault}
+use Rattle.elf32_sparc.specs.Notes.{Notes}
+use Rattle.v8_step.specs.Valid.{AreBytes}
+use Rattle.flows.specs.Flows.{EdgeSet, rest}
+use Rattle.flows.specs.Trees.{IsSpanningTree, all_nodes}
+use Rattle.snippets.specs.declared.snippet.Op.{Op}
+use Rattle.snippets.specs.Cells.{WorksBelow}
+use Rattle.cfg_normal.specs.Graph.{Graph}
+use Rattle.tool_kit.specs.declared.edge_ref.ToolKind.TheVariants as tools
+use Rattle.tool_kit.specs.Plans.{AreCounters, Plan}
+use Rattle.cfg_view.specs.View.{view_of}
+use Rattle.span_tree.specs.Links.{links_of}
+use Rattle.image_code.specs.Simulates.{snippet_on}
+use Rattle.edit_core.specs.RunsAlike.{HaveRunsAlike}
+use Rattle.edit_core.specs.Faithful.{HasGraph}
+
+abbrev pub is_counter : List Op → Bool
+is_counter [] = false
+is_counter (op ∷ ops) = true
+
+-- the edges that have a counter
+abbrev pub counted_by : List (List Op) → EdgeSet
+counted_by snips = λ e. is_counter (snippet_on snips e)
+
+-- Counters in cells of their own. The edges without one are a spanning tree of the blocks and of what lies outside, so
+-- that the counts of the others determine all (Ball and Larus, "Optimally Profiling and Tracing Programs", ACM TOPLAS
+-- 16 (4), 1994, section 3).
+pub record CountsOffTree (graph : Graph) (plan : Plan) : Type 0 where
+  pub kind : plan.kind ≡ tools.Profile
+  pub size : length plan.snips ≡ length graph.edges
+  pub counters : AreCounters 0 plan.snips
+  pub below : All (WorksBelow plan.cells) plan.snips
+  pub tree : IsSpanningTree (links_of graph) all_nodes (rest (counted_by plan.snips))
+
+-- the flow graph of an original, where the words that are marked lead besides
+abbrev pub original_graph : List ℕ → Plan → Graph
+original_graph original plan = (view_of original plan.marks).graph
+
+-- a profile of an original without a fault, written to a file with these notes
+pub record IsProfiled (original : List ℕ) (plan : Plan) (file : List ℕ) (notes : Notes) : Type 0 where
+  pub sound : fault original ≡ None
+  pub bytes : AreBytes original
+  pub counters : CountsOffTree (original_graph original plan) plan
+  pub graph : HasGraph original plan notes
+  pub runs : HaveRunsAlike original plan file notes

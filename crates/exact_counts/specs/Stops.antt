@@ -1,0 +1,42 @@
+-- What a written file's run tells where it has ended.
+use Rattle.std.specs.Prelude.{◌≡◌, ◌≢◌, ℕ, suc, ◌-◌, ◌<◌, ◌≤◌, length, Some, None}
+use Rattle.elf32_sparc.specs.Notes.{Notes, node_at}
+use Rattle.v8_step.specs.State.{State}
+use Rattle.v8_step.specs.Run.{run}
+use Rattle.v8_step.specs.Needed.{IsUntouched}
+use Rattle.v8_step.specs.Visits.{pages_of, trail_of}
+use Rattle.cfg_walk.specs.Walk.{end_of_walk}
+use Rattle.snippet_code.specs.Cells.{words_at}
+use Rattle.dump_file.specs.Dump.{Dump}
+use Rattle.image_code.specs.Simulates.{Setting, cells_in, graph_in, number_in, store_of}
+use Rattle.edit_core.specs.RunsAlike.{AreRunsAlike}
+
+-- how many of the first m + 1 states are visits
+abbrev pub visits_by : Notes → State → ℕ → ℕ
+visits_by notes t0 m = length (trail_of notes t0 (suc m))
+
+-- the dump of the m-th state: how it ended and where it stands, the steps, and the words at the cells' base
+abbrev pub dump_at : Notes → State → ℕ → Dump
+dump_at notes t0 m =
+    let t = run t0 m in
+    record { ending = t.ending; pc = t.pc; steps = m; cells = words_at notes.base notes.cells t.memory }
+
+-- At its m-th state the run has ended, and the original touches no page within as many steps as there were visits.
+pub record IsOver (notes : Notes) (s0 t0 : State) (m : ℕ) : Type 0 where
+  pub ended : (run t0 m).ending ≢ None
+  pub untouched : IsUntouched (pages_of notes) s0 (visits_by notes t0 m)
+
+-- The original ends likewise, with step v. The cells are what the snippets make of the edges that the steps before
+-- complete, and the run stands in a place of the node where these lead.
+pub record EndsWithStep (g : Setting) (entry : ℕ) (s0 t0 : State) (m v : ℕ) : Type 0 where
+  pub some : 0 < v
+  pub few : v ≤ m
+  pub before : (n : ℕ) → n < v → (run s0 n).ending ≡ None
+  pub ending : (run s0 v).ending ≡ (run t0 m).ending
+  pub cells : cells_in g (run t0 m) ≡ store_of g entry s0 (v - 1)
+  pub node : node_at g.notes (run t0 m).pc ≡ Some (number_in g (end_of_walk g.text (graph_in g) entry s0 (v - 1)))
+
+abbrev pub EndedRunsTell : Type 0
+EndedRunsTell =
+    (g : Setting) (entry : ℕ) (s0 t0 : State) (m : ℕ) → s0.ending ≡ None → AreRunsAlike g entry s0 t0
+    → IsOver g.notes s0 t0 m → EndsWithStep g entry s0 t0 m (visits_by g.notes t0 m)

@@ -1,0 +1,28 @@
+//! What a profile counts is what runs: the counts that are rebuilt from the dump of a written file's run are how often
+//! the original's run completes each edge. There is no code here, but definitions and laws.
+#![tactic(auto)]
+
+ghost use Rattle.exact_counts.specs.Laws.{CellsCount, CountsAreExact, ExecutionsAreFew};
+ghost use Rattle.exact_counts.specs.Stops.{EndedRunsTell};
+
+/// No step completes an edge twice, so that an edge is completed at most once a step.
+pub fn executions_are_few()
+    ensures { ExecutionsAreFew }
+{}
+
+/// The cell of an edge's counter holds how often the edge was completed, in 32 bits.
+pub fn cells_count()
+    ensures { CellsCount }
+{}
+
+/// A written file's run that has ended tells how its original's ends: after as many steps as it made visits. Its cells
+/// are those of the steps before the last one, and it stands in a place of the node where these lead.
+pub fn ended_runs_tell()
+    ensures { EndedRunsTell }
+{}
+
+/// The counts that are rebuilt from the dump of a profile's run that has ended, after fewer than 2^32 steps and without
+/// a touch of the editor's pages by the original, are exact. No refusal comes but for want of memory.
+pub fn counts_are_exact()
+    ensures { CountsAreExact }
+{}
