@@ -1,12 +1,15 @@
 -- The edges of a graph lie between its nodes, and their slots in its text.
-use Rattle.std.proofs.Common.{◌≡◌, ℕ, suc, ◌+◌, ◌<◌, ◌≤◌, nat_le, nat_lt, List, [], ◌∷◌, length, map, Option, Some, None, arith}
+use Rattle.std.proofs.Common.{◌≡◌, ℕ, suc, ◌+◌, ◌*◌, ◌<◌, ◌≤◌, ◌==◌, nat_le, nat_lt, List, [], ◌∷◌, length, map, Option, Some, None, arith, length-append}
 use Rattle.std.specs.List.{All, flat_map}
+use Rattle.std.proofs.lemmas.List.{length-map}
 use Rattle.std.proofs.lemmas.List.Elements.{All-append, All-map}
 use Rattle.std.proofs.lemmas.List.Sums.{count_by-le-length}
 use Rattle.std.proofs.lemmas.Bool.{cond_both}
 use Rattle.std.proofs.lemmas.Bool.Decides.{nat_tests}
 use Rattle.cfg_blocks.specs.Blocks.{Blocks, below, end_of, holding_of, last_word}
-use Rattle.cfg_blocks.specs.Ends.{Way}
+use Rattle.cfg_blocks.specs.Ends.{Way, always, never, ways_of}
+use Rattle.cfg_blocks.specs.declared.BlockEnd.{BlockEnd}
+use Rattle.cfg_blocks.specs.declared.BlockEnd.TheVariants as ends
 use Rattle.cfg_blocks.specs.Entries.{Entered, IsBlockList, ways_from}
 use Rattle.cfg_blocks.specs.declared.EdgeKind.{EdgeKind}
 use Rattle.cfg_blocks.proofs.Below.{get_or-below, length-below}
@@ -66,6 +69,35 @@ edges_in-in b some =
     (All-below (λ block. IsEdgeIn b (landing_at block)) count
     (λ block h. record { from = tt; to = h; slot = tt })))
 
+-- ---- how many edges there are
+
+two_ways : (count word : ℕ) (end : BlockEnd) → length (ways_of count word end) ≤ 2
+two_ways count word ends.Fall = omega arith
+two_ways count word (ends.Branch cond annul target) =
+    cond_both (cond == always) _ _ (λ (ways : List Way). length ways ≤ 2) (λ _. omega arith)
+    (λ _. cond_both (cond == never) _ _ (λ (ways : List Way). length ways ≤ 2) (λ _. omega arith) (λ _. omega arith))
+two_ways count word (ends.Call target) = omega arith
+two_ways count word ends.Jump = omega arith
+
+few_left : (b : Blocks) (blocks : List ℕ) → length (flat_map (edges_of b) blocks) ≤ 2 * length blocks
+few_left b [] = omega arith
+few_left b (block ∷ blocks) =
+    let here = two_ways b.words (last_word b.firsts b.words block) (end_of b block) in
+    let own = length-map (ways_from b block) (edge_of b block) in
+    let both = length-append (edges_of b block) (flat_map (edges_of b) blocks) in
+    let later = few_left b blocks in
+    omega arith
+
+few_edges : (b : Blocks) → length (edges_in b) ≤ 3 * length b.firsts
+unfolding edges_in
+few_edges b =
+    let all = below (length b.firsts) in
+    let left = few_left b all in
+    let landings = length-map all landing_at in
+    let both = length-append (flat_map (edges_of b) all) (map landing_at all) in
+    let count = length-below (length b.firsts) in
+    omega arith
+
 -- a list of blocks and its edges are a graph
 pub is_graph : (list : Entered) (edges : List Edge) → IsBlockList list → edges ≡ edges_in list.blocks
     → IsGraph (record { blocks = list.blocks; edges = edges })
@@ -74,4 +106,5 @@ is_graph list edges blocks all =
       firsts = blocks.firsts;
       few = blocks.few;
       edges = rw all (edges_in-in list.blocks blocks.firsts.some);
+      count = rw all (few_edges list.blocks);
     }

@@ -1,5 +1,5 @@
 -- The flow graph of a text: its blocks as nodes, and X for all that lies outside.
-use Rattle.std.specs.Prelude.{ℕ, ◌+◌, ◌^◌, ◌<◌, ◌≤◌, Bool, true, false, not, ◌||◌, ◌&&◌, ◌==◌, nat_lt, if◌then◌else◌, List, ◌++◌, length, map, Option, Some, None}
+use Rattle.std.specs.Prelude.{ℕ, ◌+◌, ◌*◌, ◌^◌, ◌<◌, ◌≤◌, Bool, true, false, not, ◌||◌, ◌&&◌, ◌==◌, nat_lt, if◌then◌else◌, List, ◌++◌, length, map, Option, Some, None}
 use Rattle.std.specs.List.{flat_map, All}
 use Rattle.cfg_blocks.specs.declared.BlockEnd.{BlockEnd}
 use Rattle.cfg_blocks.specs.declared.BlockEnd.TheVariants as ends
@@ -98,3 +98,5 @@ pub record IsGraph (g : Graph) : Type 0 where
   pub firsts : AreFirsts g.blocks.words g.blocks.firsts
   pub few : g.blocks.words ≤ 2 ^ 20
   pub edges : All (IsEdgeIn g.blocks) g.edges
+  -- two ways out of a block at most, and a landing at each
+  pub count : length g.edges ≤ 3 * length g.blocks.firsts

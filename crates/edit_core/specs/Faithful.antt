@@ -1,10 +1,11 @@
 -- What ties a written file to its original: the parts of a faithful edit.
-use Rattle.std.specs.Prelude.{◌≡◌, ℕ, ◌+◌, ◌-◌, ◌*◌, ◌^◌, ◌<◌, ◌≤◌, false, ◌&&◌, nat_le, List, [], ◌∷◌, ◌++◌, length, take, drop, map, slice_index, Option, Some, None, Ok, All}
-use Rattle.std.specs.List.{find}
+use Rattle.std.specs.Prelude.{◌≡◌, ℕ, ◌+◌, ◌-◌, ◌*◌, ◌^◌, ◌<◌, ◌≤◌, Bool, true, false, ◌&&◌, nat_le, List, [], ◌∷◌, ◌++◌, length, take, drop, map, slice_index, Option, Some, None, Ok, All}
+use Rattle.std.specs.List.{find, list_any}
 use Rattle.std.specs.Option.{option_map}
 use Rattle.byteorder.specs.Endian.{big_number}
 use Rattle.eel_base.specs.CodeText.{address_of}
 use Rattle.elf32_sparc.specs.FileFault.{load_fault}
+use Rattle.elf32_sparc.specs.Header.{has_flag}
 use Rattle.elf32_sparc.specs.Mapping.{Mapping, mappings}
 use Rattle.elf32_sparc.specs.Image.{image_of}
 use Rattle.elf32_sparc.specs.Notes.{Notes, NoteEdge, NoteSegment, NoteRange, notes_of}
@@ -18,7 +19,12 @@ use Rattle.cfg_normal.specs.declared.Edge.{Edge}
 use Rattle.cfg_normal.specs.Graph.{Graph}
 use Rattle.cfg_view.specs.View.{view_of}
 use Rattle.cfg_walk.specs.Numbers.{node_number}
-use Rattle.edit_core.specs.Taken.{bound_of}
+use Rattle.snippets.specs.declared.snippet.Op.{Op}
+use Rattle.snippets.specs.Ops.{cell_of}
+use Rattle.tool_kit.specs.declared.edge_ref.ToolKind.{ToolKind}
+use Rattle.tool_kit.specs.declared.edge_ref.ToolKind.TheVariants as tools
+use Rattle.tool_kit.specs.Plans.{AreCounters, Plan}
+use Rattle.edit_core.specs.Taken.{bound_in}
 use Rattle.edit_core.specs.RunsAlike.{HaveRunsAlike}
 
 -- Whole: the written file can be run, its notes read, and it holds the original whole at their delta.
@@ -29,7 +35,7 @@ pub record IsWhole (original file : List ℕ) (notes : Notes) : Type 0 where
   pub holds : take notes.length (drop notes.delta file) ≡ original
   pub small : length file ≤ 1536 * 2 ^ 20
 
--- Graph: the notes have the graph of the original.
+-- Graph: the notes have the graph of the original, the tool and its cells.
 
 -- the kinds by their numbers
 abbrev pub kind_number : EdgeKind → ℕ
@@ -40,27 +46,43 @@ kind_number kinds.Call = 3
 kind_number kinds.Out = 4
 kind_number kinds.Land = 5
 
--- an edge between nodes by their numbers, without a cell
-abbrev pub note_edge : Graph → Edge → NoteEdge
-note_edge graph edge = record {
+-- the tools by their numbers
+abbrev pub tool_number : ToolKind → ℕ
+tool_number tools.Plain = 0
+tool_number tools.Profile = 1
+tool_number tools.Script = 2
+
+-- In a profile an edge has the cell of its operation, if it has one; for other tools no edge has a cell.
+abbrev pub cell_noted : ToolKind → List Op → Option ℕ
+cell_noted tools.Profile (op ∷ ops) = Some (cell_of op)
+cell_noted _ _ = None
+
+-- an edge between nodes by their numbers, with the operations on it
+abbrev pub note_edge : Graph → ToolKind → Edge → List Op → NoteEdge
+note_edge graph kind edge ops = record {
   kind = kind_number edge.kind;
   from = node_number graph edge.from;
   to = node_number graph edge.to;
-  cell = None;
+  cell = cell_noted kind ops;
 }
 
-pub record HasGraph (original : List ℕ) (notes : Notes) : Type 0 where
+abbrev pub note_edges : Graph → ToolKind → List Edge → List (List Op) → List NoteEdge
+note_edges graph kind (edge ∷ edges) (ops ∷ snips) =
+    note_edge graph kind edge ops ∷ note_edges graph kind edges snips
+note_edges graph kind _ _ = []
+
+pub record HasGraph (original : List ℕ) (plan : Plan) (notes : Notes) : Type 0 where
   pub start : notes.start ≡ (image_of original).text.start
   pub words : notes.words ≡ length (image_of original).text.words
-  pub entry : notes.entry ≡ holding_of (view_of original []).graph.blocks (image_of original).entry
-  pub blocks : notes.blocks ≡ (view_of original []).graph.blocks.firsts
-  pub edges : notes.edges ≡ map (note_edge (view_of original []).graph) (view_of original []).graph.edges
-  -- without snippets, there are no cells
-  pub tool : notes.tool ≡ 0
-  pub cells : notes.cells ≡ 0
+  pub entry : notes.entry ≡ holding_of (view_of original plan.marks).graph.blocks (image_of original).entry
+  pub blocks : notes.blocks ≡ (view_of original plan.marks).graph.blocks.firsts
+  pub edges : let graph = (view_of original plan.marks).graph in
+      notes.edges ≡ note_edges graph plan.kind graph.edges plan.snips
+  pub tool : notes.tool ≡ tool_number plan.kind
+  pub cells : notes.cells ≡ plan.cells
 
 -- Pages: what is mapped is what the original maps, its text no longer executable, and then the pages of the notes. The
--- last of them is the editor's, and all others lie in the room.
+-- last of them is the editor's, and all others lie in the room. One of them has the cells, if there are any.
 
 abbrev pub editor_page : ℕ
 editor_page = 0xfffff000
@@ -72,21 +94,27 @@ abbrev pub note_of : Mapping → NoteSegment
 note_of m = record { start = m.start; length = m.length }
 
 -- a page lies from the base to at most the bound above it
-abbrev pub IsInRoom : List ℕ → Mapping → Type 0
-IsInRoom original m =
+abbrev pub IsInRoom : List ℕ → Plan → Mapping → Type 0
+IsInRoom original plan m =
     let base = (image_of original).base in
-    (base ≤ m.start) × (m.start + m.length ≤ base + bound_of (image_of original).text)
+    (base ≤ m.start) × (m.start + m.length ≤ base + bound_in original plan)
 
 abbrev pub IsEditorPage : Mapping → Type 0
 IsEditorPage m = (m.start ≡ editor_page) × (m.length ≡ page_size)
 
-pub record HasPages (original file : List ℕ) (notes : Notes) : Type 0 where
+-- cells lie in it, with leave to be read (PF_R)
+abbrev pub holds_cells : ℕ → ℕ → Mapping → Bool
+holds_cells base cells m =
+    nat_le m.start base && nat_le (base + 4 * cells) (m.start + m.length) && has_flag 4 m.flags
+
+pub record HasPages (original : List ℕ) (plan : Plan) (file : List ℕ) (notes : Notes) : Type 0 where
   pub room : List Mapping
   pub editor : Mapping
   pub mapped : mappings file ≡ map kept (mappings original) ++ (room ++ editor ∷ [])
   pub noted : map note_of (room ++ editor ∷ []) ≡ notes.segments
-  pub inside : All (IsInRoom original) room
+  pub inside : All (IsInRoom original plan) room
   pub own : IsEditorPage editor
+  pub cells : 0 < notes.cells → list_any (holds_cells notes.base notes.cells) room ≡ true
 
 -- Places: where the notes say that a word of the text stands that is no transfer, it does.
 
@@ -103,10 +131,15 @@ IsPlace original file range =
     → range.address ≡ address_of text word
     → word_mapped file range.lo ≡ Some (slice_index text.words word)
 
-pub record IsFaithful (original file : List ℕ) : Type 0 where
+-- Counters: the snippets of a profile count edges, by the cells that they have in the notes.
+abbrev pub AreCounted : Plan → Type 0
+AreCounted plan = plan.kind ≡ tools.Profile → AreCounters 0 plan.snips
+
+pub record IsFaithful (original : List ℕ) (plan : Plan) (file : List ℕ) : Type 0 where
   pub notes : Notes
   pub whole : IsWhole original file notes
-  pub graph : HasGraph original notes
-  pub pages : HasPages original file notes
+  pub graph : HasGraph original plan notes
+  pub pages : HasPages original plan file notes
   pub places : All (IsPlace original file) notes.ranges
-  pub runs : HaveRunsAlike original file notes
+  pub runs : HaveRunsAlike original plan file notes
+  pub counters : AreCounted plan

@@ -16,7 +16,7 @@ use Rattle.cfg_normal.specs.declared.Node.{Node}
 use Rattle.code_runs.specs.PointsAlike.{instr_of}
 use Rattle.cfg_walk.specs.Walk.{Point, point_of, end_of_walk, gone_in}
 use Rattle.cfg_walk.specs.Matches.{FetchesOnly, BeginsAt}
-use Rattle.image_code.specs.Simulates.{Setting, Simulates, graph_in, number_in, word_of, updates, store_of, limit_on}
+use Rattle.image_code.specs.Simulates.{Setting, Simulates, cells_in, graph_in, number_in, word_of, updates, store_of, limit_on}
 
 -- ---- the items that are kept equal, step by step
 
@@ -39,8 +39,8 @@ pub record Keeping (g : Setting) (entry : ℕ) (Kept : List ℕ → ℕ → Item
       → (run s0 (suc n)).window ≡ v.window
       → ((item : Item) → IsItem item → (WritesIn (instr_in g s0 n) (run s0 n).window item ⊎ K n item)
       → IsSameAt item (run s0 (suc n)) v)
-      → updates g.store (gone_in g.text (graph_in g) entry s0 n) cells (run s0 (suc n))
-      ≡ updates g.store (gone_in g.text (graph_in g) entry s0 n) cells v
+      → updates g.snips (gone_in g.text (graph_in g) entry s0 n) cells (run s0 (suc n))
+      ≡ updates g.snips (gone_in g.text (graph_in g) entry s0 n) cells v
 
 -- ---- the two runs
 
@@ -48,7 +48,7 @@ pub record Keeping (g : Setting) (entry : ℕ) (Kept : List ℕ → ℕ → Item
 pub record AreTogether (g : Setting) (entry : ℕ) (s0 t0 : State) (n m : ℕ) : Type 0 where
   pub world : IsSameWorld (pages_of g.notes) (run s0 n) (run t0 m)
   pub puts : (descriptor : ℕ) → run_puts s0 n descriptor ≡ run_puts t0 m descriptor
-  pub cells : g.cells_of (run t0 m) ≡ store_of g entry s0 n
+  pub cells : cells_in g (run t0 m) ≡ store_of g entry s0 n
 
 -- the original while it runs, and the written file at its visit
 pub record Linked (g : Setting) (entry : ℕ) (Here : Node → Point → State → Type 0) (K : ℕ → Item → Type 0)
@@ -96,13 +96,13 @@ StaysInside Inside s0 n = (k : ℕ) → k ≤ n → (run s0 k).ending ≡ None �
 abbrev pub Tells : Setting → ℕ → State → State → ℕ → ℕ → Type 0
 Tells g entry s0 t0 n m =
     (r : ℕ) → node_at g.notes (run t0 m).pc ≡ Some r
-    → (r ≡ number_in g (end_of_walk g.text (graph_in g) entry s0 n)) × (g.cells_of (run t0 m) ≡ store_of g entry s0 n)
+    → (r ≡ number_in g (end_of_walk g.text (graph_in g) entry s0 n)) × (cells_in g (run t0 m) ≡ store_of g entry s0 n)
 
 -- what follows
 pub record Follows (g : Setting) (entry : ℕ) (s0 t0 : State) (last : ℕ) : Type 0 where
   pub moments : ℕ → ℕ
   pub followed : IsFollowed g.notes s0 t0 64 (limits_in g entry s0) moments last
-  pub cells : (n : ℕ) → n ≤ last → g.cells_of (run t0 (moments n)) ≡ store_of g entry s0 n
+  pub cells : (n : ℕ) → n ≤ last → cells_in g (run t0 (moments n)) ≡ store_of g entry s0 n
   -- before the first visit in no place, at each visit and at the end as it tells, and between two as the first of them
   pub early : (m : ℕ) → m < moments zero → node_at g.notes (run t0 m).pc ≡ None
   pub told : (n : ℕ) → n ≤ last → Tells g entry s0 t0 n (moments n)

@@ -1,34 +1,63 @@
--- Which files are edited without snippets, and why others are not.
-use Rattle.std.specs.Prelude.{◌≡◌, ℕ, ◌+◌, ◌*◌, ◌^◌, ◌<◌, ◌≤◌, List, length, Some, None}
+-- Which files are edited, and why others are not.
+use Rattle.std.specs.Prelude.{◌≡◌, ℕ, ◌+◌, ◌*◌, ◌^◌, ◌<◌, ◌≤◌, List, [], ◌∷◌, length, Some, None}
 use Rattle.eel_base.specs.CodeText.{Words}
 use Rattle.elf32_sparc.specs.FileFault.{fault}
 use Rattle.elf32_sparc.specs.Image.{image_of}
 use Rattle.elf32_sparc.specs.declared.fault.ReadFault.{ReadFault}
 use Rattle.elf32_sparc.specs.declared.fault.ReadFault.TheVariants as reads
+use Rattle.cfg_blocks.specs.Blocks.{Blocks}
+use Rattle.cfg_normal.specs.declared.Edge.{Edge}
+use Rattle.cfg_normal.specs.Graph.{Graph}
+use Rattle.cfg_view.specs.View.{view_of}
+use Rattle.image_code.specs.Fit.{copies_of, operations_in}
+use Rattle.snippets.specs.declared.snippet.Op.{Op}
+use Rattle.tool_kit.specs.declared.edge_ref.ToolKind.{ToolKind}
+use Rattle.tool_kit.specs.declared.edge_ref.ToolKind.TheVariants as tools
+use Rattle.tool_kit.specs.Plans.{Plan}
 use Rattle.edit_core.specs.declared.taking.EditFault.{EditFault}
 use Rattle.edit_core.specs.declared.taking.EditFault.TheVariants as faults
 
--- how much room an edit asks for, in bytes
-abbrev pub bound_of : Words → ℕ
-bound_of text = 2 ^ 20 + 512 * length text.words
+-- ---- how much room an edit asks for
+
+-- how often one operation on each of some edges is made
+abbrev pub copies_in : Blocks → List Edge → ℕ
+copies_in b [] = 0
+copies_in b (edge ∷ edges) = copies_of b edge + copies_in b edges
+
+-- The operations, counted as often as they are made. For a profile each edge is taken to have one, so that they are as
+-- many for every choice of counted edges.
+abbrev pub operations_by : ToolKind → Graph → List (List Op) → ℕ
+operations_by tools.Profile graph snips = copies_in graph.blocks graph.edges
+operations_by _ graph snips = operations_in graph snips
+
+-- in bytes
+abbrev pub bound_of : Words → Graph → Plan → ℕ
+bound_of text graph plan =
+    2 ^ 20 + 512 * length text.words + 4 * plan.cells + 128 * operations_by plan.kind graph plan.snips
+
+-- of a file, by a plan
+abbrev pub bound_in : List ℕ → Plan → ℕ
+bound_in bytes plan = bound_of (image_of bytes).text (view_of bytes plan.marks).graph plan
+
+-- ---- which files are edited
 
 -- a file without a fault, and room for its edit
-pub record CanEdit (bytes : List ℕ) : Type 0 where
+pub record CanEdit (bytes : List ℕ) (plan : Plan) : Type 0 where
   pub sound : fault bytes ≡ None
-  pub room : bound_of (image_of bytes).text ≤ (image_of bytes).room
+  pub room : bound_in bytes plan ≤ (image_of bytes).room
 
 -- too little room for its edit
-pub record IsCramped (needed had : ℕ) (bytes : List ℕ) : Type 0 where
+pub record IsCramped (needed had : ℕ) (bytes : List ℕ) (plan : Plan) : Type 0 where
   pub sound : fault bytes ≡ None
-  pub needed_is : needed ≡ bound_of (image_of bytes).text
+  pub needed_is : needed ≡ bound_in bytes plan
   pub had_is : had ≡ (image_of bytes).room
   pub less : had < needed
 
--- why an edit of some bytes is refused
-abbrev pub EditRefuses : List ℕ → EditFault → Type 0
-EditRefuses bytes (faults.File first) = fault bytes ≡ Some first
-EditRefuses bytes (faults.Room needed had) = IsCramped needed had bytes
-EditRefuses bytes faults.NoMemory = Unit {0}
+-- why an edit of some bytes is refused, by a tool of which `IsPlan` says what it asks of them
+abbrev pub EditRefuses : List ℕ → (Plan → Type 0) → EditFault → Type 0
+EditRefuses bytes IsPlan (faults.File first) = fault bytes ≡ Some first
+EditRefuses bytes IsPlan (faults.Room needed had) = (plan : Plan) × IsPlan plan × IsCramped needed had bytes plan
+EditRefuses bytes IsPlan faults.NoMemory = Unit {0}
 
 -- a fault of a reader as one of the edit
 abbrev pub BecomesEditFault : ReadFault → EditFault → Type 0

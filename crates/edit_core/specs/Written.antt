@@ -1,6 +1,6 @@
--- What is written of an original: a table of addresses, its new code and a page for the editor, as segments, and notes
--- of them.
-use Rattle.std.specs.Prelude.{◌≡◌, ℕ, ◌+◌, ◌*◌, ◌^◌, ◌<◌, ◌≤◌, Bool, true, false, List, [], ◌∷◌, ◌++◌, length, map, replicate, slice_index, None, Ok, All}
+-- What is written of an original: cells, a table of addresses, new code and a page for the editor, as segments, and
+-- notes of them.
+use Rattle.std.specs.Prelude.{◌≡◌, ℕ, ◌+◌, ◌*◌, ◌/◌, ◌^◌, ◌<◌, ◌≤◌, ◌==◌, if◌then◌else◌, Bool, true, false, List, [], ◌∷◌, ◌++◌, length, map, replicate, slice_index, None, Ok, All}
 use Rattle.std.specs.List.{find}
 use Rattle.std.specs.Option.{option_map, option_to_list}
 use Rattle.eel_base.specs.CodeText.{Words, address_of}
@@ -29,9 +29,13 @@ use Rattle.layout.specs.declared.items.Item.{Item}
 use Rattle.layout.specs.declared.items.Placed.{Placed}
 use Rattle.layout.specs.Laid.{Placement, IsLaid, long_bytes, placement_of}
 use Rattle.image_code.specs.Made.{foreign_number, landing_number, piece_list}
+use Rattle.image_code.specs.Parts.{codes_of}
+use Rattle.snippets.specs.Cells.{WorksBelow}
+use Rattle.snippets.specs.Grammar.{IsOp}
+use Rattle.tool_kit.specs.Plans.{Plan}
 use Rattle.edit_core.specs.Taken.{CanEdit}
 use Rattle.edit_core.specs.RunsAlike.{HaveRunsAlike}
-use Rattle.edit_core.specs.Faithful.{editor_page, page_size, note_edge}
+use Rattle.edit_core.specs.Faithful.{AreCounted, editor_page, page_size, note_edges, tool_number}
 
 -- a table of addresses as a segment, with the flag PF_R
 abbrev pub table_at : TableAt → AddedSegment
@@ -45,10 +49,26 @@ code_at base code = record { vaddr = base; memsz = 4 * length code; flags = 5; b
 abbrev pub page_segment : AddedSegment
 page_segment = record { vaddr = editor_page; memsz = page_size; flags = 6; bytes = replicate page_size 0 }
 
--- all three, as notes say them
-abbrev pub segments_noted : ℕ → ℕ → List ℕ → List NoteSegment
-segments_noted base size code =
-    record { start = base; length = size } ∷ record { start = base + size; length = 4 * length code }
+-- ---- cells: words that can be loaded and stored, which begin as zeros
+
+-- the one thing, where there are any
+abbrev pub if_any : {A : Type 0} → ℕ → A → List A
+if_any count one = if count == 0 then [] else one ∷ []
+
+-- as a segment without bytes in the file, with the flags PF_R and PF_W
+abbrev pub cells_at : ℕ → ℕ → AddedSegment
+cells_at base cells = record { vaddr = base; memsz = 4 * cells; flags = 6; bytes = [] }
+
+-- how much room they take, in whole pages
+abbrev pub cells_size : ℕ → ℕ
+cells_size cells = (4 * cells + 4095) / 4096 * 4096
+
+-- all segments, as notes say them
+abbrev pub segments_noted : ℕ → ℕ → ℕ → List ℕ → List NoteSegment
+segments_noted base cells size code =
+    let table = base + cells_size cells in
+    if_any cells (record { start = base; length = 4 * cells }) ++ record { start = table; length = size }
+    ∷ record { start = table + size; length = 4 * length code }
     ∷ record { start = editor_page; length = page_size } ∷ []
 
 -- ---- slots behind the text
@@ -88,28 +108,34 @@ foreign_of text graph p = addr (slice_index p.at (foreign_number text graph))
 abbrev pub LeadsTo : Words → Graph → Placement → TableAt → Type 0
 LeadsTo text graph p table = IsTableOf text (landings_of text graph p) (foreign_of text graph p) table
 
--- ---- of an original
+-- ---- of an original, by what a tool asks of it
 
-module _ (original : List ℕ) where
+module _ (original : List ℕ) (plan : Plan) where
   abbrev pub text_of : Words
   text_of = (image_of original).text
 
-  -- the words that lead besides those of the text's own transfers: where routines start
+  -- the words that lead besides those of the text's own transfers: where routines start, and those that are marked
   abbrev pub given_of : List ℕ
-  given_of = given_in (image_of original) []
+  given_of = given_in (image_of original) plan.marks
 
   abbrev pub graph_in : Graph
   graph_in = graph_of (blocks_of text_of given_of)
 
-  -- where the table stands, and the code right behind it
+  -- where the cells stand, the table behind them, and the code right behind that
+  abbrev pub cells_base : ℕ
+  cells_base = (image_of original).base
+
   abbrev pub table_base : ℕ
-  table_base = (image_of original).base
+  table_base = cells_base + cells_size plan.cells
 
   abbrev pub code_base : ℕ
   code_base = table_base + size_of text_of
 
+  abbrev pub codes : ℕ → List ℕ
+  codes = codes_of cells_base plan.snips
+
   abbrev pub pieces_of : List (List Item)
-  pieces_of = piece_list text_of graph_in table_base
+  pieces_of = piece_list text_of graph_in table_base codes
 
   -- where the program is entered: the image of its entry
   abbrev pub entry_of : Placement → ℕ
@@ -121,7 +147,8 @@ module _ (original : List ℕ) where
   code_segment p = code_at code_base p.code
 
   abbrev pub added : Placement → TableAt → List AddedSegment
-  added p table = table_at table ∷ code_segment p ∷ page_segment ∷ []
+  added p table =
+      if_any plan.cells (cells_at cells_base plan.cells) ++ table_at table ∷ code_segment p ∷ page_segment ∷ []
 
   -- ---- the notes
 
@@ -129,15 +156,15 @@ module _ (original : List ℕ) where
   notes_on p = record {
     delta = delta_in original;
     length = length original;
-    tool = 0;
+    tool = tool_number plan.kind;
     start = text_of.start;
     words = length text_of.words;
     entry = holding_of graph_in.blocks (image_of original).entry;
-    base = table_base;
-    cells = 0;
-    segments = segments_noted table_base (size_of text_of) p.code;
+    base = cells_base;
+    cells = plan.cells;
+    segments = segments_noted cells_base plan.cells (size_of text_of) p.code;
     blocks = graph_in.blocks.firsts;
-    edges = map (note_edge graph_in) graph_in.edges;
+    edges = note_edges graph_in plan.kind graph_in.edges plan.snips;
     ranges = off_ranges text_of graph_in table_base ++ p.ranges;
   }
 
@@ -146,50 +173,62 @@ module _ (original : List ℕ) where
   abbrev pub edit_file : Placement → TableAt → List ℕ
   edit_file p table = written original (added p table) (entry_of p) (notes_bytes (notes_on p))
 
+-- What a tool asks that can be done: a snippet for each edge, whose operations have numbers of their sizes and work on
+-- cells that there are, and for a profile counters.
+pub record IsWorkable (original : List ℕ) (plan : Plan) : Type 0 where
+  pub few : plan.cells ≤ 2 ^ 22
+  pub size : length plan.snips ≡ length (graph_in original plan).edges
+  pub short : All (λ ops. length ops ≤ 8) plan.snips
+  pub are_ops : All (λ ops. All IsOp ops) plan.snips
+  pub below : All (WorksBelow plan.cells) plan.snips
+  pub counters : AreCounted plan
+
 -- The code was laid behind the table, in the bytes that its long forms take, and the table leads to it.
-pub record IsNewCode (original : List ℕ) (p : Placement) (place : ℕ → ℕ → ℕ) (table : TableAt) : Type 0 where
-  pub laid : IsLaid (pieces_of original) (code_base original) p place
-  pub size : 4 * length p.code ≡ long_bytes (pieces_of original)
+pub record IsNewCode (original : List ℕ) (plan : Plan) (p : Placement) (place : ℕ → ℕ → ℕ)
+    (table : TableAt) : Type 0 where
+  pub laid : IsLaid (pieces_of original plan) (code_base original plan) p place
+  pub size : 4 * length p.code ≡ long_bytes (pieces_of original plan)
   pub words : All (λ word. word < 2 ^ 32) p.code
-  pub base : table.base ≡ table_base original
-  pub leads : LeadsTo (text_of original) (graph_in original) p table
+  pub base : table.base ≡ table_base original plan
+  pub leads : LeadsTo (text_of original plan) (graph_in original plan) p table
   pub bytes : AreBytes table.bytes
 
 -- What a written file is: all that those who map it, read its notes or run it need to know.
-pub record IsEdit (original : List ℕ) (p : Placement) (place : ℕ → ℕ → ℕ) (table : TableAt)
+pub record IsEdit (original : List ℕ) (plan : Plan) (p : Placement) (place : ℕ → ℕ → ℕ) (table : TableAt)
     (file : List ℕ) : Type 0 where
-  -- of the original
-  pub taken : CanEdit original
+  -- of the original, and what is asked of it
+  pub taken : CanEdit original plan
   pub limit : length original ≤ 2 ^ 26
   pub given : AreBytes original
+  pub workable : IsWorkable original plan
   -- of its code and its table
-  pub code : IsNewCode original p place table
+  pub code : IsNewCode original plan p place table
   -- of the file
   pub bytes : AreBytes file
   pub loads : load_fault file ≡ None
-  pub reads : notes_of file ≡ Ok (notes_on original p)
-  pub mapped : mappings file ≡ map kept (mappings original) ++ map mapping_added (added original p table)
-  pub entered : e_entry file ≡ entry_of original p
+  pub reads : notes_of file ≡ Ok (notes_on original plan p)
+  pub mapped : mappings file ≡ map kept (mappings original) ++ map mapping_added (added original plan p table)
+  pub entered : e_entry file ≡ entry_of original plan p
 
 -- a file that was written of an original with new code
-pub record IsWritten (original file : List ℕ) : Type 0 where
+pub record IsWritten (original : List ℕ) (plan : Plan) (file : List ℕ) : Type 0 where
   pub p : Placement
   pub place : ℕ → ℕ → ℕ
   pub table : TableAt
-  pub code : IsNewCode original p place table
-  pub is : file ≡ edit_file original p table
+  pub code : IsNewCode original plan p place table
+  pub is : file ≡ edit_file original plan p table
 
 -- Whatever meets this has runs like those of its original.
 abbrev pub EditsRunAlike : Type 0
 EditsRunAlike =
-    (original : List ℕ) (p : Placement) (place : ℕ → ℕ → ℕ) (table : TableAt) (file : List ℕ)
-    → IsEdit original p place table file → HaveRunsAlike original file (notes_on original p)
+    (original : List ℕ) (plan : Plan) (p : Placement) (place : ℕ → ℕ → ℕ) (table : TableAt) (file : List ℕ)
+    → IsEdit original plan p place table file → HaveRunsAlike original plan file (notes_on original plan p)
 
 -- ---- as the program keeps it
 
 -- the view of the original
-abbrev pub IsViewOf : List ℕ → View → Type 0
-IsViewOf original view = (view.image ≡ image_of original) × (view.graph ≡ graph_in original)
+abbrev pub IsViewOf : List ℕ → Plan → View → Type 0
+IsViewOf original plan view = (view.image ≡ image_of original) × (view.graph ≡ graph_in original plan)
 
 abbrev pub placement_in : Placed → Placement
 placement_in placed = placement_of placed.code.items placed.at.items placed.ranges.items

@@ -1,0 +1,21 @@
+//! Edges with their numbers, and what tools are for.
+use cfg_normal::Edge;
+use eel_base::EdgeNo;
+
+/// An edge, with its number in the graph.
+#[derive(Clone, Copy, Debug, PartialEq, Eq, Drop)]
+pub struct EdgeRef {
+    pub no: EdgeNo,
+    pub edge: Edge,
+}
+
+/// What a tool is for.
+#[derive(Clone, Copy, Debug, PartialEq, Eq)]
+pub enum ToolKind {
+    /// Nothing is asked.
+    Plain,
+    /// Edges are counted.
+    Profile,
+    /// A script says what is done.
+    Script,
+}
