@@ -15,6 +15,7 @@ use Rattle.v8_step.specs.Items.{is_transfer}
 use Rattle.cfg_blocks.specs.declared.EdgeKind.{EdgeKind}
 use Rattle.cfg_blocks.specs.declared.EdgeKind.TheVariants as kinds
 use Rattle.cfg_blocks.specs.Blocks.{holding_of}
+use Rattle.cfg_blocks.specs.Marks.{numbers}
 use Rattle.cfg_normal.specs.declared.Edge.{Edge}
 use Rattle.cfg_normal.specs.Graph.{Graph}
 use Rattle.cfg_view.specs.View.{view_of}
@@ -23,7 +24,9 @@ use Rattle.snippets.specs.declared.snippet.Op.{Op}
 use Rattle.snippets.specs.Ops.{cell_of}
 use Rattle.tool_kit.specs.declared.edge_ref.ToolKind.{ToolKind}
 use Rattle.tool_kit.specs.declared.edge_ref.ToolKind.TheVariants as tools
-use Rattle.tool_kit.specs.Plans.{AreCounters, Plan}
+use Rattle.tool_kit.specs.declared.edge_ref.EdgeRef.{EdgeRef}
+use Rattle.tool_kit.specs.Kept.{Kept}
+use Rattle.tool_kit.specs.Plans.{AreCounters, IsPlanOf, Plan}
 use Rattle.edit_core.specs.Taken.{bound_in}
 use Rattle.edit_core.specs.RunsAlike.{HaveRunsAlike}
 
@@ -143,3 +146,14 @@ pub record IsFaithful (original : List ℕ) (plan : Plan) (file : List ℕ) : Ty
   pub places : All (IsPlace original file) notes.ranges
   pub runs : HaveRunsAlike original plan file notes
   pub counters : AreCounted plan
+
+-- ---- by a tool: `says` tells what its callback may answer
+
+module _ {F : Type 0} (says : F → EdgeRef → List Op → Type 0) (tool : Kept F) (original : List ℕ) where
+  -- what the tool asks of the original's graph
+  abbrev pub AsksOf : Plan → Type 0
+  AsksOf plan = IsPlanOf says tool (view_of original (numbers tool.marks)).graph.edges plan
+
+  -- a profile asks for counters
+  abbrev pub CountsEdges : Type 0
+  CountsEdges = (plan : Plan) → AsksOf plan → AreCounted plan

@@ -13,7 +13,7 @@ use Rattle.image_code.specs.Simulates.{Setting, cells_in, store_of}
 use Rattle.image_code.specs.Images.{Pieces, Frame, Here}
 use Rattle.image_code.specs.Cases.{Everything}
 use Rattle.image_code.specs.Outside.{IsOpen}
-use Rattle.snippets.specs.Grammar.{IsOp}
+use Rattle.tool_kit.specs.Good.{IsGood}
 use Rattle.edit_core.specs.Runs.{Keeping, Rests, Tells, limits_in}
 
 abbrev pub EveryItem : ℕ → Item → Type 0
@@ -21,7 +21,7 @@ EveryItem n item = Unit {0}
 
 -- Where no register is taken as dead, every item is kept.
 abbrev pub KeepsAll : Type 0
-KeepsAll = (g : Setting) (entry : ℕ) (s0 : State) → All (λ ops. All IsOp ops) g.snips
+KeepsAll = (g : Setting) (entry cells : ℕ) (s0 : State) → All (IsGood cells) g.snips
     → Keeping g entry Everything s0 EveryItem
 
 -- The written file answers each step of the original, within its limits. Up to its first visit it stands in no place,

@@ -30,8 +30,7 @@ use Rattle.layout.specs.declared.items.Placed.{Placed}
 use Rattle.layout.specs.Laid.{Placement, IsLaid, long_bytes, placement_of}
 use Rattle.image_code.specs.Made.{foreign_number, landing_number, piece_list}
 use Rattle.image_code.specs.Parts.{codes_of}
-use Rattle.snippets.specs.Cells.{WorksBelow}
-use Rattle.snippets.specs.Grammar.{IsOp}
+use Rattle.tool_kit.specs.Good.{IsGood}
 use Rattle.tool_kit.specs.Plans.{Plan}
 use Rattle.edit_core.specs.Taken.{CanEdit}
 use Rattle.edit_core.specs.RunsAlike.{HaveRunsAlike}
@@ -173,14 +172,11 @@ module _ (original : List ℕ) (plan : Plan) where
   abbrev pub edit_file : Placement → TableAt → List ℕ
   edit_file p table = written original (added p table) (entry_of p) (notes_bytes (notes_on p))
 
--- What a tool asks that can be done: a snippet for each edge, whose operations have numbers of their sizes and work on
--- cells that there are, and for a profile counters.
+-- What a tool asks that can be done: a good snippet for each edge, and for a profile counters.
 pub record IsWorkable (original : List ℕ) (plan : Plan) : Type 0 where
   pub few : plan.cells ≤ 2 ^ 22
   pub size : length plan.snips ≡ length (graph_in original plan).edges
-  pub short : All (λ ops. length ops ≤ 8) plan.snips
-  pub are_ops : All (λ ops. All IsOp ops) plan.snips
-  pub below : All (WorksBelow plan.cells) plan.snips
+  pub good : All (IsGood plan.cells) plan.snips
   pub counters : AreCounted plan
 
 -- The code was laid behind the table, in the bytes that its long forms take, and the table leads to it.

@@ -13,7 +13,7 @@ mod taking;
 pub use editing::edit_bytes;
 pub use taking::EditFault;
 
-/// Without snippets every item is kept.
+/// Where no register is taken as dead, every item is kept.
 pub fn all_is_kept()
     ensures { KeepsAll }
 {}

@@ -8,17 +8,17 @@ use Rattle.std.proofs.Math.Seq.{get_or-append_seam}
 use Rattle.std.proofs.lemmas.Option.{get_or_from_slice_get, slice_get_within}
 use Rattle.cfg_normal.specs.declared.Edge.{Edge}
 use Rattle.snippets.specs.declared.snippet.Op.{Op}
-use Rattle.snippets.specs.Cells.{WorksBelow}
+use Rattle.tool_kit.specs.Good.{IsGood}
 use Rattle.tool_kit.specs.Plans.{AreAnswers, numbered}
 use Rattle.tool_kit.specs.declared.edge_ref.EdgeRef.{EdgeRef}
 
--- The snippets are answers for so many edges, and work on cells below a number.
+-- The snippets are answers for so many edges, and good ones.
 pub record AreFirst {F : Type 0} (says : F → EdgeRef → List Op → Type 0) (choose : F) (cells : ℕ) (edges : List Edge)
     (count : ℕ) (snips : List (List Op)) : Type 0 where
   pub size : length snips ≡ count
   pub each : (k : ℕ) → k < count → (edge : Edge)
       → says choose (numbered k (get_or edges k edge)) (get_or snips k [])
-  pub below : (k : ℕ) → k < count → WorksBelow cells (get_or snips k [])
+  pub good : (k : ℕ) → k < count → IsGood cells (get_or snips k [])
 
 -- what holds of each item so far, and of one more
 one_more : (P : ℕ → List Op → Type 0) (snips : List (List Op)) (ops : List Op) (count : ℕ) → length snips ≡ count
@@ -41,12 +41,12 @@ module _ {F : Type 0} (says : F → EdgeRef → List Op → Type 0) (choose : F)
   pub first_more : (count : ℕ) (snips : List (List Op)) (next : EdgeRef) (ops : List Op)
       → AreFirst says choose cells edges count snips
       → ((edge : Edge) → next ≡ numbered count (get_or edges count edge)) → says choose next ops
-      → WorksBelow cells ops → AreFirst says choose cells edges (count + 1) (snips ++ ops ∷ [])
-  first_more count snips next ops are is answers works = record {
+      → IsGood cells ops → AreFirst says choose cells edges (count + 1) (snips ++ ops ∷ [])
+  first_more count snips next ops are is answers good_one = record {
     size = omega (arith, length-append snips (ops ∷ []), are.size);
     each = one_more (λ k (xs : List Op). (edge : Edge) → says choose (numbered k (get_or edges k edge)) xs) snips ops
         count are.size are.each (λ edge. subst (λ (x : EdgeRef). says choose x ops) (is edge) answers);
-    below = one_more (λ k (xs : List Op). WorksBelow cells xs) snips ops count are.size are.below works;
+    good = one_more (λ k (xs : List Op). IsGood cells xs) snips ops count are.size are.good good_one;
   }
 
   module _ (count : ℕ) (snips : List (List Op)) (are : AreFirst says choose cells edges count snips)
@@ -60,6 +60,6 @@ module _ {F : Type 0} (says : F → EdgeRef → List Op → Type 0) (choose : F)
           (are.each k (omega (arith, whole, slice_get_within edges k edge e)) edge);
     }
 
-    pub all_below : All (WorksBelow cells) snips
-    all_below = λ k ops l.
-        subst (WorksBelow cells) (get_or_default snips k [] ops l) (are.below k (omega (arith, l, are.size)))
+    pub all_good : All (IsGood cells) snips
+    all_good = λ k ops l.
+        subst (IsGood cells) (get_or_default snips k [] ops l) (are.good k (omega (arith, l, are.size)))

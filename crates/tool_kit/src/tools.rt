@@ -1,7 +1,8 @@
 //! Tools.
 ghost use Rattle.std.specs.Prelude.{◌≡◌, ◌<◌, ◌^◌, get_or, length, IfOk};
 ghost use Rattle.std.specs.List.{All};
-ghost use Rattle.snippets.specs.Cells.{WorksBelow};
+ghost use Rattle.snippets.specs.Grammar.{IsOp};
+ghost use Rattle.tool_kit.specs.Good.{IsGood};
 ghost use Rattle.tool_kit.specs.Plans.{AreAnswers, numbered};
 ghost use Rattle.tool_kit.specs.Sound.{IsSound};
 
@@ -9,7 +10,7 @@ use crate::choosing::Chooser;
 use crate::edge_ref::{EdgeRef, ToolKind};
 use cfg_normal::{Edge, FlowGraph};
 use eel_base::{EdgeNo, NoMemory, WordNo};
-use snippets::Snippet;
+use snippets::{Op, Snippet};
 use std::alloc::Global;
 use std::marker::Model;
 
@@ -77,9 +78,11 @@ impl<F: Chooser> Tool<F> {
     fn answer(&self, edge: EdgeRef) -> Snippet
         requires { edge.no.0 < 2 ^ 24 }
         ensures says { F.says self.now.choose edge result }
-        ensures below { WorksBelow self.now.cells result }
+        ensures good { IsGood self.now.cells result }
     {
-        self.choose.choose(edge)
+        let snippet = self.choose.choose(edge);
+        all_known(snippet.ops());
+        snippet
     }
 }
 
@@ -90,7 +93,7 @@ pub fn snips<F: Chooser>(
     g: &FlowGraph,
 ) -> Result<Vec<Snippet>, NoMemory>
     ensures answers { IfOk result (λ v. AreAnswers F.says t.now.choose g.now.edges v.items) }
-    ensures below { IfOk result (λ v. All (WorksBelow t.now.cells) v.items) }
+    ensures good { IfOk result (λ v. All (IsGood t.now.cells) v.items) }
 {
     let edges = g.edges();
     let mut snips = Vec::new(alloc);
@@ -110,5 +113,22 @@ fn edge_at(edges: &[Edge], number: usize) -> EdgeRef
     EdgeRef {
         no: EdgeNo(number as u32),
         edge: edges[number],
+    }
+}
+
+// The numbers of an operation have their sizes.
+fn known(op: Op)
+    ensures { IsOp op }
+{
+    match op {
+        Op::Add { .. } | Op::Put { .. } | Op::Keep { .. } | Op::Top { .. } => {}
+    }
+}
+
+fn all_known(ops: &[Op])
+    ensures { All IsOp ops.now }
+{
+    for op in ops {
+        known(*op);
     }
 }
