@@ -1,8 +1,12 @@
 pub mod Answered
+pub mod Cells
+pub mod Dumping
 pub mod Editing
 pub mod Later
 pub mod Lines
 pub mod Meanings
 pub mod Restoring
 pub mod Running
+pub mod Scripting
 pub mod Showing
+pub mod Tools

@@ -5,6 +5,8 @@ use Rattle.std.specs.List.{flat_map}
 use Rattle.eel_base.specs.Outside.{Rose, appended, TookPart}
 use Rattle.v8_step.specs.declared.Ending.{Ending}
 use Rattle.v8_step.specs.declared.Ending.TheVariants as endings
+use Rattle.eel.specs.declared.outcome.LineCause.{LineCause}
+use Rattle.eel.specs.declared.outcome.LineCause.TheVariants as causes
 use Rattle.eel.specs.declared.outcome.Outcome as declared
 use Rattle.eel.specs.declared.outcome.Outcome.TheVariants as variants
 
@@ -17,6 +19,8 @@ pub data Outcome : Type 0 where
   BadWords : Outcome
   -- the file has this fault
   BadFile : (name : List ℕ) (code : ℕ) → Outcome
+  -- the line of the script with this number is bad
+  BadLine : (name : List ℕ) (number : ℕ) (cause : LineCause) → Outcome
   -- the file leaves less room than an edit asks for
   NoRoom : (name : List ℕ) (needed had : ℕ) → Outcome
   -- the file has more bytes than `limit`
@@ -33,6 +37,7 @@ status_of Done = 0
 status_of (Stopped ending steps) = 0
 status_of BadWords = 64
 status_of (BadFile name code) = 65
+status_of (BadLine name number cause) = 65
 status_of (NoNotes name) = 65
 status_of (BadNotes name at) = 65
 status_of (TooLong name limit) = 66
@@ -54,12 +59,21 @@ ending_text (Some (endings.Trap number)) steps = codes "trap " ++ decimal number
 ending_text (Some endings.Window) steps = codes "window"
 ending_text (Some endings.Couple) steps = codes "couple"
 
+-- what is bad about a line of a script
+abbrev pub cause_text : LineCause → List ℕ
+cause_text causes.Grammar = codes "grammar"
+cause_text causes.Edge = codes "edge"
+cause_text causes.Cell = codes "cell"
+cause_text causes.Operations = codes "operations"
+
 -- the line that says it; an edit and a listing that are done say nothing
 abbrev pub line_of : Outcome → List ℕ
 line_of Done = []
 line_of (Stopped ending steps) = ending_text ending steps ++ 10 ∷ []
 line_of BadWords = line (codes "bad words")
 line_of (BadFile name code) = line_about name (codes "file fault " ++ decimal code)
+line_of (BadLine name number cause) =
+    line_about name (codes "line " ++ decimal number ++ codes ": " ++ cause_text cause)
 line_of (TooLong name limit) = line_about name (codes "longer than " ++ decimal limit ++ codes " bytes")
 line_of (NoRoom name needed had) =
     line_about name (codes "room " ++ decimal needed ++ codes " needed, " ++ decimal had ++ codes " had")
@@ -93,6 +107,7 @@ outcome_seen variants.Done = Done
 outcome_seen (variants.Stopped ending steps) = Stopped ending steps
 outcome_seen variants.BadWords = BadWords
 outcome_seen (variants.BadFile name code) = BadFile name.now code
+outcome_seen (variants.BadLine name number cause) = BadLine name.now number cause
 outcome_seen (variants.NoRoom name needed had) = NoRoom name.now needed had
 outcome_seen (variants.TooLong name limit) = TooLong name.now limit
 outcome_seen (variants.NoNotes name) = NoNotes name.now

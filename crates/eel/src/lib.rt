@@ -3,6 +3,7 @@
 #![tactic(auto)]
 
 mod command;
+mod dumps;
 mod edit;
 mod listing;
 mod outcome;

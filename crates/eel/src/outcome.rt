@@ -1,7 +1,7 @@
 //! What came of a command, and how the program shows it.
 ghost use Rattle.std.specs.Prelude.{◌≡◌, ◌≤◌, ◌++◌, ◌∷◌, [], OnOk, OnErr};
 ghost use Rattle.eel_base.specs.Outside.{Rose, appended, TookPart};
-ghost use Rattle.eel.specs.Outcome.{outcome_seen, status_of, ending_text, line_of, stream, Shows, joined};
+ghost use Rattle.eel.specs.Outcome.{BadLine, cause_text as cause_text_of, outcome_seen, status_of, ending_text, line_of, stream, Shows, joined};
 
 use eel_base::{Failed, Sink, put_all};
 use itoa::Buffer;
@@ -29,6 +29,12 @@ pub enum Outcome<'a> {
         name: &'a str,
         limit: u64,
     },
+    /// The line of the script `name` with this number, counted from 1, is bad.
+    BadLine {
+        name: &'a str,
+        number: u32,
+        cause: LineCause,
+    },
     /// The edit of the file `name` asks for `needed` bytes of room, and there are `had`.
     NoRoom {
         name: &'a str,
@@ -48,6 +54,19 @@ pub enum Outcome<'a> {
     DeviceFault,
 }
 
+/// What is bad about a line of a script.
+#[derive(Clone, Copy)]
+pub enum LineCause {
+    /// It is outside the grammar.
+    Grammar,
+    /// It names an edge that isn't there.
+    Edge,
+    /// Its cell is too great.
+    Cell,
+    /// Its edge has no place for another operation.
+    Operations,
+}
+
 /// The status after a device failed, and where a line can't be written.
 const DEVICE_FAULT: u8 = 74;
 
@@ -59,7 +78,10 @@ impl Outcome<'_> {
         match self {
             Outcome::Done | Outcome::Stopped { .. } => 0,
             Outcome::BadWords => 64,
-            Outcome::BadFile { .. } | Outcome::NoNotes { .. } | Outcome::BadNotes { .. } => 65,
+            Outcome::BadFile { .. }
+            | Outcome::BadLine { .. }
+            | Outcome::NoNotes { .. }
+            | Outcome::BadNotes { .. } => 65,
             Outcome::TooLong { .. } => 66,
             Outcome::NoRoom { .. } => 69,
             Outcome::OutOfMemory => 70,
@@ -99,6 +121,11 @@ fn put_line<E: Sink>(outcome: &Outcome, err: &mut E) -> Result<(), Failed>
                 &[b"eel: ", name.as_bytes(), b": file fault ", code, b"\n"],
             )
         }
+        Outcome::BadLine {
+            name,
+            number,
+            cause,
+        } => put_bad_line(name, *number, *cause, err),
         Outcome::TooLong { name, limit } => {
             let mut digits = Buffer::new();
             let limit = digits.format(*limit).as_bytes();
@@ -144,6 +171,47 @@ fn put_line<E: Sink>(outcome: &Outcome, err: &mut E) -> Result<(), Failed>
         }
         Outcome::OutOfMemory => put_pieces(err, &[b"eel: out of memory\n"]),
         Outcome::DeviceFault => put_pieces(err, &[b"eel: device fault\n"]),
+    }
+}
+
+/// Writes that a line of the script `name` is bad.
+fn put_bad_line<E: Sink>(
+    name: &str,
+    number: u32,
+    cause: LineCause,
+    err: &mut E,
+) -> Result<(), Failed>
+    ensures all { OnOk result (E.taken err.new ≡ appended (E.taken err.old) (line_of (BadLine name.now number cause))) }
+    ensures part { OnErr result (TookPart (E.taken err.old) (E.taken err.new) (line_of (BadLine name.now number cause))) }
+    ensures failed { OnErr result (Rose (E.faults err.old) (E.faults err.new)) }
+    ensures later { E.faults err.old ≤ E.faults err.new }
+{
+    let mut digits = Buffer::new();
+    let number = digits.format(number).as_bytes();
+    let cause = cause_text(cause);
+    put_pieces(
+        err,
+        &[
+            b"eel: ",
+            name.as_bytes(),
+            b": line ",
+            number,
+            b": ",
+            cause,
+            b"\n",
+        ],
+    )
+}
+
+/// What is bad about a line, as it is told.
+fn cause_text<'a>(cause: LineCause) -> &'a [u8]
+    ensures { result.now ≡ cause_text_of cause }
+{
+    match cause {
+        LineCause::Grammar => b"grammar",
+        LineCause::Edge => b"edge",
+        LineCause::Cell => b"cell",
+        LineCause::Operations => b"operations",
     }
 }
 

@@ -4,7 +4,7 @@ use Rattle.eel_base.specs.Outside.{IsMissing, appended}
 use Rattle.cfg_view.specs.View.{view_of}
 use Rattle.show_text.specs.Lines.{show_lines}
 use Rattle.eel.specs.Outcome.{Outcome, BadFile, OutOfMemory}
-use Rattle.eel.specs.Answers.Shared.{Outside, Meaning, WasRead, IsUnread, IsPrinted, IsUnused, IsQuiet, edit_limit}
+use Rattle.eel.specs.Answers.Shared.{Outside, Meaning, WasRead, IsUnread, IsPrinted, IsUnused, IsQuiet, IsSilent, edit_limit}
 use Rattle.eel.specs.Answers.Files.{IsSound, IsFaulty}
 
 -- the lines that show a file's program
@@ -44,5 +44,6 @@ show_means file = record {
   follows = λ old new outcome.
       Lists file old new outcome × (new.files.held ≡ old.files.held) × IsUnused old new;
   does = λ old new. IsListed file old new × (new.files.held ≡ old.files.held) × IsUnused old new;
+  wants = IsSilent;
   lacks = λ files. IsMissing files.held file;
 }
