@@ -1,10 +1,11 @@
 """Sessions that crates/program_runs plays: calls of the editor over files in memory, and what must come of each."""
+import os
 import struct
 from dataclasses import replace
 
 import listings
-from plain_count import count
-from programs import C_PROGRAMS, SMALL, Program
+import plain_count
+from programs import C_PROGRAMS, RUNS, SMALL, Program
 from written import written
 
 BAD_WORDS = b'eel: bad words\n'
@@ -91,7 +92,9 @@ def words():
             'restore', 'restore three_words', 'restore three_words out out',
             'show three_words three_words', 'run', 'run three_words -q', 'run three_words -n',
             'run three_words -n 0x1', 'run three_words -n 18446744073709551616',
-            'run three_words -n 1 -n 2', 'run three_words x']:
+            'run three_words -n 1 -n 2', 'run three_words x', 'edit three_words out script',
+            'edit three_words out script three_words out', 'run three_words -d', 'run three_words -d out -d out',
+            'run three_words -d out -n', 'run three_words -n 1 -d out -n 1', 'run three_words -d out x']:
         yield eel(line, 64, err=BAD_WORDS)
     yield eel('run three_words -n 2', 0, err=b'stopped 2\n')
     yield eel('run three_words -n 18446744073709551615', 0, err=b'exit 3\n')
@@ -123,6 +126,78 @@ def restores():
     yield 'hold three_words.edited', b''
     yield eel('restore three_words.edited three_words.edited', 0)
     yield 'same three_words.edited three_words', b''
+
+
+CARRY_LOOP = EDITED['carry_loop']
+THREE_LINES = b'edge 1 add 0 3\nedge 1 top 1 %g2\nedge 2 keep 2 %o0\n'
+
+
+def bad_line(line, cause):
+    return f'eel: carry_loop.bad: line {line}: {cause}\n'.encode()
+
+
+# Scripts with a bad line, and what is said of them.
+BAD_LINES = {
+    b'edge 9 add 0 1': bad_line(1, 'edge'),
+    b'edge 1  add 0 1\n': bad_line(1, 'grammar'),
+    b'# cells\n\nedge 1 add 4194304 1\n': bad_line(3, 'cell'),
+    b'edge 1 add 0 1\n' * 9: bad_line(9, 'operations'),
+}
+
+
+def counting(program):
+    """A script that counts every edge, each in the cell with its number."""
+    edges = len(plain_count.Counts(program).counts)
+    return ''.join(f'edge {number} add {number} 1\n' for number in range(edges)).encode()
+
+
+def words_of(numbers):
+    return struct.pack(f'>{len(numbers)}I', *numbers)
+
+
+# The programs of which every edge is counted. The sieve is left out, whose run is long.
+COUNTED = [name for name in EDITED if name != 'sieve']
+
+
+def scripts():
+    """Programs edited by scripts: the cells are what a plain count of the original's edges says."""
+    yield 'hold carry_loop', b''
+    yield 'hold carry_loop.script', b''
+    yield 'hold carry_loop.cells', b''
+    yield eel('edit carry_loop edited script carry_loop.script', 0)
+    yield eel('run edited -d dump', 0, err=b'exit 4\n')
+    yield 'cells dump carry_loop.cells', b''
+    yield eel('run edited -n 1 -d early', 0, err=b'stopped 1\n')
+    yield eel('run edited -d again -n 1', 0, err=b'stopped 1\n')
+    yield 'same early again', b''
+    yield eel('run edited -d -- -- x', 0, err=b'exit 4\n')
+    yield 'same -- dump', b''
+    yield eel('run carry_loop -d dump', 65, err=b'eel: carry_loop: no notes\n')
+    yield eel('edit carry_loop edited script missing', 74, err=DEVICE_FAULT)
+    yield eel('edit carry_loop edited script carry_loop', 65, err=b'eel: carry_loop: line 1: grammar\n')
+    yield 'zeros long 16777217', b''
+    yield eel('edit carry_loop edited script long', 66, err=b'eel: long: longer than 16777216 bytes\n')
+    for number, line in enumerate(BAD_LINES.values()):
+        yield f'hold carry_loop.bad{number}', b''
+        yield eel(f'edit carry_loop edited script carry_loop.bad{number}', 65,
+            err=line.replace(b'carry_loop.bad', f'carry_loop.bad{number}'.encode()))
+    for name in COUNTED:
+        program = EDITED[name]
+        arguments = ARGUMENTS.get(name, '')
+        yield f'hold {name}', b''
+        yield f'hold {name}.counting', b''
+        yield f'hold {name}.counts', b''
+        if program.given:
+            yield f'input {name}.input', b''
+        yield eel(f'edit {name} edited script {name}.counting', 0)
+        yield eel(f'run edited -d dump{arguments}', 0, *ran(program))
+        yield f'cells dump {name}.counts', b''
+    # the sixth call of the files puts the second dump
+    yield 'fail 5', b''
+    yield 'hold three_words', b''
+    yield eel('edit three_words edited plain', 0)
+    yield eel('run edited -d dump', 0, err=b'exit 3\n')
+    yield eel('run edited -d dump', 74, err=DEVICE_FAULT)
 
 
 def refusals():
@@ -159,7 +234,7 @@ def profiles():
     """Programs with counters: what is rebuilt of the dumps of their runs is a plain count of the originals' runs."""
     for name, program in EDITED.items():
         arguments = ARGUMENTS.get(name, '')
-        lines, _, _ = count(program.file(), [word.encode() for word in arguments.split()[1:]], program.given)
+        lines, _, _ = plain_count.count(program.file(), [word.encode() for word in arguments.split()[1:]], program.given)
         yield f'hold {name}', b''
         if program.given:
             yield f'input {name}.input', b''
@@ -199,14 +274,32 @@ def uncounted():
     yield eel('counts profiled dump dump', 64, err=BAD_WORDS)
 
 
-SESSIONS = {'edits': list(edits()), 'words': list(words()), 'restores': list(restores()), 'refusals': list(refusals()),
-    'profiles': list(profiles()), 'uncounted': list(uncounted())}
+SESSIONS = {'edits': list(edits()), 'scripts': list(scripts()), 'words': list(words()), 'restores': list(restores()),
+    'refusals': list(refusals()), 'profiles': list(profiles()), 'uncounted': list(uncounted())}
+
+
+def program_file(name):
+    """The file of a program: those that a compiler made stand in program_runs."""
+    if EDITED[name].words:
+        return EDITED[name].file()
+    with open(os.path.join(RUNS, 'data', name), 'rb') as opened:
+        return opened.read()
 
 
 def files():
     """Scripts, and the files that they name besides the programs."""
     for name in WRITTEN:
         yield f'{name}.edited', written(EDITED[name].file())
+    yield 'carry_loop.script', THREE_LINES
+    yield 'carry_loop.cells', words_of([12, 4, 4])
+    for number, script in enumerate(BAD_LINES):
+        yield f'carry_loop.bad{number}', script
+    for name in COUNTED:
+        file = program_file(name)
+        yield f'{name}.counting', counting(file)
+        arguments = ARGUMENTS.get(name, '').split()[1:]
+        counts = plain_count.edge_counts(file, [word.encode() for word in arguments], EDITED[name].given)
+        yield f'{name}.counts', words_of(counts)
     yield 'three_words.broken', broken()
     yield ARGUMENT.name, ARGUMENT.file()
     yield 'cramped', cramped()

@@ -1,9 +1,9 @@
 //! What came of a command, and how the program shows it.
 ghost use Rattle.std.specs.Prelude.{◌≡◌, ◌≤◌, ◌++◌, ◌∷◌, [], OnOk, OnErr};
 ghost use Rattle.eel_base.specs.Outside.{Rose, appended, TookPart};
-ghost use Rattle.eel.specs.Outcome.{outcome_seen, status_of, ending_text, line_of, stream, Shows, joined};
+ghost use Rattle.eel.specs.Outcome.{BadLine, cause_text as cause_text_of, outcome_seen, status_of, ending_text, line_of, stream, Shows, joined, count_cause_text, line_about};
 
-use eel_base::{Failed, Sink, put_all};
+use eel_base::{Addr, EdgeNo, Failed, Sink, hex8, put_all};
 use itoa::Buffer;
 use v8_step::Ending;
 
@@ -29,6 +29,12 @@ pub enum Outcome<'a> {
         name: &'a str,
         limit: u64,
     },
+    /// The line of the script `name` with this number, counted from 1, is bad.
+    BadLine {
+        name: &'a str,
+        number: u32,
+        cause: LineCause,
+    },
     /// The edit of the file `name` asks for `needed` bytes of room, and there are `had`.
     NoRoom {
         name: &'a str,
@@ -44,8 +50,54 @@ pub enum Outcome<'a> {
         name: &'a str,
         at: u32,
     },
+    /// The dump `name` breaks a rule, first with its number at the offset `at`.
+    BadDump {
+        name: &'a str,
+        at: u32,
+    },
+    /// The notes of the file `name` are not those of a profile.
+    NoProfile {
+        name: &'a str,
+    },
+    /// No counts can be rebuilt of the dump `name`.
+    NoCounts {
+        name: &'a str,
+        cause: CountCause,
+    },
     OutOfMemory,
     DeviceFault,
+}
+
+/// What is bad about a line of a script.
+#[derive(Clone, Copy)]
+pub enum LineCause {
+    /// It is outside the grammar.
+    Grammar,
+    /// It names an edge that isn't there.
+    Edge,
+    /// Its cell is too great.
+    Cell,
+    /// Its edge has no place for another operation.
+    Operations,
+}
+
+/// Why no counts can be rebuilt of a dump.
+#[derive(Clone, Copy)]
+pub enum CountCause {
+    /// It has so many cells, and the notes want another number.
+    Shape {
+        cells: u32,
+        wanted: u32,
+    },
+    /// The run made so many steps, that a cell may have begun at 0 again.
+    Steps(u64),
+    /// The run stands at this address, in new code that is no instruction's place.
+    Between(Addr),
+    /// This edge would have been completed a number of times below 0.
+    Negative {
+        edge: EdgeNo,
+        value: i64,
+    },
 }
 
 /// The status after a device failed, and where a line can't be written.
@@ -59,7 +111,13 @@ impl Outcome<'_> {
         match self {
             Outcome::Done | Outcome::Stopped { .. } => 0,
             Outcome::BadWords => 64,
-            Outcome::BadFile { .. } | Outcome::NoNotes { .. } | Outcome::BadNotes { .. } => 65,
+            Outcome::BadFile { .. }
+            | Outcome::BadLine { .. }
+            | Outcome::NoNotes { .. }
+            | Outcome::BadNotes { .. }
+            | Outcome::BadDump { .. }
+            | Outcome::NoProfile { .. }
+            | Outcome::NoCounts { .. } => 65,
             Outcome::TooLong { .. } => 66,
             Outcome::NoRoom { .. } => 69,
             Outcome::OutOfMemory => 70,
@@ -99,6 +157,11 @@ fn put_line<E: Sink>(outcome: &Outcome, err: &mut E) -> Result<(), Failed>
                 &[b"eel: ", name.as_bytes(), b": file fault ", code, b"\n"],
             )
         }
+        Outcome::BadLine {
+            name,
+            number,
+            cause,
+        } => put_bad_line(name, *number, *cause, err),
         Outcome::TooLong { name, limit } => {
             let mut digits = Buffer::new();
             let limit = digits.format(*limit).as_bytes();
@@ -142,8 +205,101 @@ fn put_line<E: Sink>(outcome: &Outcome, err: &mut E) -> Result<(), Failed>
                 &[b"eel: ", name.as_bytes(), b": bad notes at ", at, b"\n"],
             )
         }
+        Outcome::BadDump { name, at } => {
+            let mut digits = Buffer::new();
+            let at = digits.format(*at).as_bytes();
+            put_pieces(
+                err,
+                &[b"eel: ", name.as_bytes(), b": bad dump at ", at, b"\n"],
+            )
+        }
+        Outcome::NoProfile { name } => {
+            put_pieces(err, &[b"eel: ", name.as_bytes(), b": no profile\n"])
+        }
+        Outcome::NoCounts { name, cause } => put_no_counts(name.as_bytes(), *cause, err),
         Outcome::OutOfMemory => put_pieces(err, &[b"eel: out of memory\n"]),
         Outcome::DeviceFault => put_pieces(err, &[b"eel: device fault\n"]),
+    }
+}
+
+/// Writes that a line of the script `name` is bad.
+fn put_bad_line<E: Sink>(
+    name: &str,
+    number: u32,
+    cause: LineCause,
+    err: &mut E,
+) -> Result<(), Failed>
+    ensures all { OnOk result (E.taken err.new ≡ appended (E.taken err.old) (line_of (BadLine name.now number cause))) }
+    ensures part { OnErr result (TookPart (E.taken err.old) (E.taken err.new) (line_of (BadLine name.now number cause))) }
+    ensures failed { OnErr result (Rose (E.faults err.old) (E.faults err.new)) }
+    ensures later { E.faults err.old ≤ E.faults err.new }
+{
+    let mut digits = Buffer::new();
+    let number = digits.format(number).as_bytes();
+    let cause = cause_text(cause);
+    put_pieces(
+        err,
+        &[
+            b"eel: ",
+            name.as_bytes(),
+            b": line ",
+            number,
+            b": ",
+            cause,
+            b"\n",
+        ],
+    )
+}
+
+/// What is bad about a line, as it is told.
+fn cause_text<'a>(cause: LineCause) -> &'a [u8]
+    ensures { result.now ≡ cause_text_of cause }
+{
+    match cause {
+        LineCause::Grammar => b"grammar",
+        LineCause::Edge => b"edge",
+        LineCause::Cell => b"cell",
+        LineCause::Operations => b"operations",
+    }
+}
+
+/// Writes why the dump `name` has no counts.
+fn put_no_counts<E: Sink>(name: &[u8], cause: CountCause, err: &mut E) -> Result<(), Failed>
+    ensures all { OnOk result (E.taken err.new ≡ appended (E.taken err.old) (line_about name.now (count_cause_text cause))) }
+    ensures part { OnErr result (TookPart (E.taken err.old) (E.taken err.new) (line_about name.now (count_cause_text cause))) }
+    ensures failed { OnErr result (Rose (E.faults err.old) (E.faults err.new)) }
+    ensures later { E.faults err.old ≤ E.faults err.new }
+{
+    let mut one = Buffer::new();
+    let mut other = Buffer::new();
+    match cause {
+        CountCause::Shape { cells, wanted } => {
+            let cells = one.format(cells).as_bytes();
+            let wanted = other.format(wanted).as_bytes();
+            put_pieces(
+                err,
+                &[b"eel: ", name, b": ", cells, b" cells, ", wanted, b" wanted\n"],
+            )
+        }
+        CountCause::Steps(steps) => {
+            let steps = one.format(steps).as_bytes();
+            put_pieces(err, &[b"eel: ", name, b": ", steps, b" steps\n"])
+        }
+        CountCause::Between(pc) => {
+            let pc = hex8(pc.0);
+            put_pieces(
+                err,
+                &[b"eel: ", name, b": pc ", &pc, b" between places\n"],
+            )
+        }
+        CountCause::Negative { edge, value } => {
+            let edge = one.format(edge.0).as_bytes();
+            let value = other.format(value).as_bytes();
+            put_pieces(
+                err,
+                &[b"eel: ", name, b": edge ", edge, b" would be ", value, b"\n"],
+            )
+        }
     }
 }
 

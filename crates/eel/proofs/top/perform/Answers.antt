@@ -9,6 +9,14 @@ pub returns-in-Run-clause-follows : goal.returns-in-Run-clause-follows
 returns-in-Run-clause-follows g c =
     rw (← c.in-Run.ensures.command) (c.run_program.ensures.runs, c.run_program.ensures.kept)
 
+pub returns-in-EditProfile-clause-follows : goal.returns-in-EditProfile-clause-follows
+returns-in-EditProfile-clause-follows g c =
+    rw (← c.in-EditProfile.ensures.command) (c.edit_for_counts.ensures.profiles, refl, (refl, refl))
+
+pub returns-in-Counts-clause-follows : goal.returns-in-Counts-clause-follows
+returns-in-Counts-clause-follows g c =
+    rw (← c.in-Counts.ensures.command) (c.count_edges.ensures.counts _ _, c.count_edges.ensures.kept, refl)
+
 pub returns-in-Restore-clause-follows : goal.returns-in-Restore-clause-follows
 returns-in-Restore-clause-follows g c =
     rw (← c.in-Restore.ensures.command) (c.restore_original.ensures.restores, refl, (refl, refl))
