@@ -10,6 +10,7 @@ use Rattle.count_rebuild.specs.declared.fault.CountFault.TheVariants as faults
 use Rattle.eel.specs.Outcome.{Outcome, NoNotes, BadNotes, BadDump, NoProfile, NoCounts, OutOfMemory, Stream, status_of, line_of}
 use Rattle.eel.specs.Answers.Shared.{Outside, with_err, written_limit}
 use Rattle.eel.specs.Answers.Counts.{AreRead, Counts, unread, undumped, refused, printed, IsUncounted, IsUndumped, IsUnnoted, WereCounted, counts_means, dump_limit, uncounted_of}
+use Rattle.eel.proofs.ExactProfiles.{are_exact}
 use Rattle.eel.proofs.Later.{appended-nil}
 use Rattle.eel.proofs.Meanings.{AnyRose, IsByStatus, IsBad, bad, refusal_is_bad, wanting_is_bad, unread_not_done, unread_failed, printed_done, printed_not_refused, printed_failed}
 
@@ -69,6 +70,7 @@ module _ (written dump : List ℕ) where
         dump_read = dump_read;
         lines = lines;
         tell = tell;
+        exact = are_exact file tell.notes tell.dump tell.counts tell.read.noted tell.are;
         out = out;
         err = took ∙ ap (appended err.taken) line ∙ appended-nil err.taken ∙ same;
       }

@@ -4,6 +4,7 @@ pub mod Cells
 pub mod Counted
 pub mod Dumping
 pub mod Editing
+pub mod ExactProfiles
 pub mod Later
 pub mod Lines
 pub mod Meanings

@@ -1,7 +1,8 @@
 //! What came of a command, and how the program shows it.
 ghost use Rattle.std.specs.Prelude.{◌≡◌, ◌≤◌, ◌++◌, ◌∷◌, [], OnOk, OnErr};
 ghost use Rattle.eel_base.specs.Outside.{Rose, appended, TookPart};
-ghost use Rattle.eel.specs.Outcome.{BadLine, cause_text as cause_text_of, outcome_seen, status_of, ending_text, line_of, stream, Shows, joined, count_cause_text, line_about};
+ghost use Rattle.eel.specs.Outcome.{BadLine, cause_text as cause_text_of, outcome_seen, status_of, ending_text, line_of, stream, Shows, joined, NoCounts};
+ghost use Rattle.eel.specs.declared.outcome.CountCause.TheVariants as count_causes;
 
 use eel_base::{Addr, EdgeNo, Failed, Sink, hex8, put_all};
 use itoa::Buffer;
@@ -216,7 +217,7 @@ fn put_line<E: Sink>(outcome: &Outcome, err: &mut E) -> Result<(), Failed>
         Outcome::NoProfile { name } => {
             put_pieces(err, &[b"eel: ", name.as_bytes(), b": no profile\n"])
         }
-        Outcome::NoCounts { name, cause } => put_no_counts(name.as_bytes(), *cause, err),
+        Outcome::NoCounts { name, cause } => put_no_counts(name, *cause, err),
         Outcome::OutOfMemory => put_pieces(err, &[b"eel: out of memory\n"]),
         Outcome::DeviceFault => put_pieces(err, &[b"eel: device fault\n"]),
     }
@@ -264,43 +265,103 @@ fn cause_text<'a>(cause: LineCause) -> &'a [u8]
 }
 
 /// Writes why the dump `name` has no counts.
-fn put_no_counts<E: Sink>(name: &[u8], cause: CountCause, err: &mut E) -> Result<(), Failed>
-    ensures all { OnOk result (E.taken err.new ≡ appended (E.taken err.old) (line_about name.now (count_cause_text cause))) }
-    ensures part { OnErr result (TookPart (E.taken err.old) (E.taken err.new) (line_about name.now (count_cause_text cause))) }
+fn put_no_counts<E: Sink>(name: &str, cause: CountCause, err: &mut E) -> Result<(), Failed>
+    ensures all { OnOk result (E.taken err.new ≡ appended (E.taken err.old) (line_of (NoCounts name.now cause))) }
+    ensures part { OnErr result (TookPart (E.taken err.old) (E.taken err.new) (line_of (NoCounts name.now cause))) }
     ensures failed { OnErr result (Rose (E.faults err.old) (E.faults err.new)) }
     ensures later { E.faults err.old ≤ E.faults err.new }
 {
-    let mut one = Buffer::new();
-    let mut other = Buffer::new();
     match cause {
-        CountCause::Shape { cells, wanted } => {
-            let cells = one.format(cells).as_bytes();
-            let wanted = other.format(wanted).as_bytes();
-            put_pieces(
-                err,
-                &[b"eel: ", name, b": ", cells, b" cells, ", wanted, b" wanted\n"],
-            )
-        }
-        CountCause::Steps(steps) => {
-            let steps = one.format(steps).as_bytes();
-            put_pieces(err, &[b"eel: ", name, b": ", steps, b" steps\n"])
-        }
-        CountCause::Between(pc) => {
-            let pc = hex8(pc.0);
-            put_pieces(
-                err,
-                &[b"eel: ", name, b": pc ", &pc, b" between places\n"],
-            )
-        }
-        CountCause::Negative { edge, value } => {
-            let edge = one.format(edge.0).as_bytes();
-            let value = other.format(value).as_bytes();
-            put_pieces(
-                err,
-                &[b"eel: ", name, b": edge ", edge, b" would be ", value, b"\n"],
-            )
-        }
+        CountCause::Shape { cells, wanted } => put_shape(name, cells, wanted, err),
+        CountCause::Steps(steps) => put_steps(name, steps, err),
+        CountCause::Between(pc) => put_between(name, pc, err),
+        CountCause::Negative { edge, value } => put_negative(name, edge, value, err),
     }
+}
+
+/// Writes that it has so many cells, and another number is wanted.
+fn put_shape<E: Sink>(name: &str, cells: u32, wanted: u32, err: &mut E) -> Result<(), Failed>
+    ensures all { OnOk result (E.taken err.new ≡ appended (E.taken err.old) (line_of (NoCounts name.now (count_causes.Shape cells wanted)))) }
+    ensures part { OnErr result (TookPart (E.taken err.old) (E.taken err.new) (line_of (NoCounts name.now (count_causes.Shape cells wanted)))) }
+    ensures failed { OnErr result (Rose (E.faults err.old) (E.faults err.new)) }
+    ensures later { E.faults err.old ≤ E.faults err.new }
+{
+    let mut cell_digits = Buffer::new();
+    let mut wanted_digits = Buffer::new();
+    let cells = cell_digits.format(cells).as_bytes();
+    let wanted = wanted_digits.format(wanted).as_bytes();
+    put_pieces(
+        err,
+        &[
+            b"eel: ",
+            name.as_bytes(),
+            b": ",
+            cells,
+            b" cells, ",
+            wanted,
+            b" wanted\n",
+        ],
+    )
+}
+
+/// Writes that the run made so many steps.
+fn put_steps<E: Sink>(name: &str, steps: u64, err: &mut E) -> Result<(), Failed>
+    ensures all { OnOk result (E.taken err.new ≡ appended (E.taken err.old) (line_of (NoCounts name.now (count_causes.Steps steps)))) }
+    ensures part { OnErr result (TookPart (E.taken err.old) (E.taken err.new) (line_of (NoCounts name.now (count_causes.Steps steps)))) }
+    ensures failed { OnErr result (Rose (E.faults err.old) (E.faults err.new)) }
+    ensures later { E.faults err.old ≤ E.faults err.new }
+{
+    let mut digits = Buffer::new();
+    let steps = digits.format(steps).as_bytes();
+    put_pieces(
+        err,
+        &[b"eel: ", name.as_bytes(), b": ", steps, b" steps\n"],
+    )
+}
+
+/// Writes that the run stands between places.
+fn put_between<E: Sink>(name: &str, pc: Addr, err: &mut E) -> Result<(), Failed>
+    ensures all { OnOk result (E.taken err.new ≡ appended (E.taken err.old) (line_of (NoCounts name.now (count_causes.Between pc)))) }
+    ensures part { OnErr result (TookPart (E.taken err.old) (E.taken err.new) (line_of (NoCounts name.now (count_causes.Between pc)))) }
+    ensures failed { OnErr result (Rose (E.faults err.old) (E.faults err.new)) }
+    ensures later { E.faults err.old ≤ E.faults err.new }
+{
+    let pc = hex8(pc.0);
+    put_pieces(
+        err,
+        &[
+            b"eel: ",
+            name.as_bytes(),
+            b": pc ",
+            &pc,
+            b" between places\n",
+        ],
+    )
+}
+
+/// Writes that the edge would have this count.
+fn put_negative<E: Sink>(name: &str, edge: EdgeNo, value: i64, err: &mut E) -> Result<(), Failed>
+    ensures all { OnOk result (E.taken err.new ≡ appended (E.taken err.old) (line_of (NoCounts name.now (count_causes.Negative edge value)))) }
+    ensures part { OnErr result (TookPart (E.taken err.old) (E.taken err.new) (line_of (NoCounts name.now (count_causes.Negative edge value)))) }
+    ensures failed { OnErr result (Rose (E.faults err.old) (E.faults err.new)) }
+    ensures later { E.faults err.old ≤ E.faults err.new }
+{
+    let mut edge_digits = Buffer::new();
+    let mut value_digits = Buffer::new();
+    let edge = edge_digits.format(edge.0).as_bytes();
+    let value = value_digits.format(value).as_bytes();
+    put_pieces(
+        err,
+        &[
+            b"eel: ",
+            name.as_bytes(),
+            b": edge ",
+            edge,
+            b" would be ",
+            value,
+            b"\n",
+        ],
+    )
 }
 
 /// Writes how a run ended, or that it was stopped after so many steps.

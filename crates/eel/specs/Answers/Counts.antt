@@ -1,19 +1,26 @@
 -- `counts WRITTEN DUMP`: the file WRITTEN and the dump DUMP are read, the notes of the one and then the other are judged,
 -- and how often each edge was completed is rebuilt and printed.
-use Rattle.std.specs.Prelude.{◌≡◌, ℕ, ◌*◌, ◌^◌, ◌⊎◌, List, Ok, Err}
+use Rattle.std.specs.Prelude.{◌≡◌, ℕ, ◌-◌, ◌*◌, ◌^◌, ◌<◌, ◌⊎◌, List, length, slice_index, Ok, Err}
 use Rattle.eel_base.specs.Outside.{IsMissing, appended}
+use Rattle.elf32_sparc.specs.Image.{image_of}
 use Rattle.elf32_sparc.specs.Notes.{Notes, Absent, Bad, notes_of}
+use Rattle.v8_step.specs.Valid.{AreBytes}
+use Rattle.v8_process.specs.Arguments.{AreArguments}
+use Rattle.v8_process.specs.Start.{start_of}
+use Rattle.walk_counts.specs.Counts.{executions}
 use Rattle.dump_file.specs.Dump.{Dump}
 use Rattle.dump_file.specs.Reading.{read_dump}
 use Rattle.count_rebuild.specs.Answers.{AreCounts, IsBetween, IsImpossible, IsLong, IsMisshapen}
 use Rattle.count_rebuild.specs.Noted.{IsProfile}
 use Rattle.count_rebuild.specs.declared.fault.CountFault.{CountFault}
 use Rattle.count_rebuild.specs.declared.fault.CountFault.TheVariants as faults
+use Rattle.exact_counts.specs.Stops.{IsOver, dump_at, visits_by}
 use Rattle.show_text.specs.CountLines.{count_lines}
 use Rattle.eel.specs.declared.outcome.CountCause.{CountCause}
 use Rattle.eel.specs.declared.outcome.CountCause.TheVariants as causes
 use Rattle.eel.specs.Outcome.{Outcome, NoNotes, BadNotes, BadDump, NoProfile, NoCounts, OutOfMemory}
 use Rattle.eel.specs.Answers.Shared.{Outside, Meaning, WasRead, IsUnread, IsPrinted, IsUnused, IsQuiet, IsSilent, written_limit}
+use Rattle.eel.specs.Answers.Profile.{IsProfileOf, graph_in}
 
 -- how long a dump may be
 abbrev pub dump_limit : ℕ
@@ -81,6 +88,25 @@ pub record TellCounts (file bytes lines : List ℕ) : Type 0 where
   pub are : AreCounts notes dump counts
   pub tell : lines ≡ count_lines notes counts
 
+-- ---- what the counts of a profile are
+
+-- Where the file is an original's profile, and the dump is what a run of it has come to that has ended, after fewer than
+-- 2^32 steps and without a touch of the added pages by the original, the counts are how often the original's run completes
+-- each edge: for all arguments and every input. The original's run ends with step v, which completes no edge.
+abbrev pub AreExact : List ℕ → Notes → Dump → List ℕ → Type 0
+AreExact file notes dump counts =
+    (original : List ℕ) (args : List (List ℕ)) (input : List ℕ) (m : ℕ) → AreBytes original
+    → IsProfileOf original file → AreArguments args → AreBytes input
+    → let s0 = start_of original args input in
+    let t0 = start_of file args input in
+    let v = visits_by notes t0 m in
+    IsOver notes s0 t0 m → m < 2 ^ 32 → dump ≡ dump_at notes t0 m
+    → (e : ℕ) → e < length notes.edges
+    → slice_index counts e
+    ≡ executions (image_of original).text (graph_in original) (image_of original).entry s0 (v - 1) e
+
+-- ---- the command
+
 -- How counting goes, step by step, and what comes of it.
 pub data Counts (written dump : List ℕ) (old new : Outside) (outcome : Outcome) : Type 0 where
   -- WRITTEN gave no bytes
@@ -110,6 +136,7 @@ pub record WereCounted (written dump : List ℕ) (old new : Outside) : Type 0 wh
   pub dump_read : WasRead old.files dump dump_limit bytes
   pub lines : List ℕ
   pub tell : TellCounts file bytes lines
+  pub exact : AreExact file tell.notes tell.dump tell.counts
   pub out : new.out.taken ≡ appended old.out.taken lines
   pub err : new.err.taken ≡ old.err.taken
 
