@@ -56,7 +56,8 @@ class Drawing:
         yield f'    label={quoted(name)}; color=gray;'
         for number in blocks:
             words = self.graph.last(number) + 1 - self.graph.firsts[number]
-            yield f'    {self.node(number)} [label={quoted(f"{self.address(self.graph.firsts[number])}, {words} word{"s" * (words > 1)}")}];'
+            label = f'{self.address(self.graph.firsts[number])}, {words} {"word" if words == 1 else "words"}'
+            yield f'    {self.node(number)} [label={quoted(label)}];'
         yield '  }'
 
     def heat(self, count):
