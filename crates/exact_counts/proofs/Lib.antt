@@ -4,3 +4,4 @@ pub mod Ends
 pub mod Noted
 pub mod Rebuilt
 pub mod Exact
+pub mod Trees

@@ -1,5 +1,5 @@
 -- A profile of an original: counters on some edges of its flow graph, and a written file that has them.
-use Rattle.std.specs.Prelude.{◌≡◌, ℕ, Bool, true, false, List, [], ◌∷◌, length, None}
+use Rattle.std.specs.Prelude.{◌≡◌, ℕ, ◌<◌, Bool, true, false, List, [], ◌∷◌, length, Option, Some, None}
 use Rattle.std.specs.List.{All}
 use Rattle.elf32_sparc.specs.FileFault.{fault}
 use Rattle.elf32_sparc.specs.Notes.{Notes}
@@ -7,11 +7,13 @@ use Rattle.v8_step.specs.Valid.{AreBytes}
 use Rattle.flows.specs.Flows.{EdgeSet, rest}
 use Rattle.flows.specs.Trees.{IsSpanningTree, all_nodes}
 use Rattle.snippets.specs.declared.snippet.Op.{Op}
+use Rattle.snippets.specs.declared.snippet.Op.TheVariants.{Add}
 use Rattle.snippets.specs.Cells.{WorksBelow}
 use Rattle.cfg_normal.specs.Graph.{Graph}
 use Rattle.tool_kit.specs.declared.edge_ref.ToolKind.TheVariants as tools
 use Rattle.tool_kit.specs.Plans.{AreCounters, Plan}
 use Rattle.cfg_view.specs.View.{view_of}
+use Rattle.span_tree.specs.Cells.{AreNumbered, cell_at, cell_count, has_cell}
 use Rattle.span_tree.specs.Links.{links_of}
 use Rattle.image_code.specs.Simulates.{snippet_on}
 use Rattle.edit_core.specs.RunsAlike.{HaveRunsAlike}
@@ -34,6 +36,25 @@ pub record CountsOffTree (graph : Graph) (plan : Plan) : Type 0 where
   pub counters : AreCounters 0 plan.snips
   pub below : All (WorksBelow plan.cells) plan.snips
   pub tree : IsSpanningTree (links_of graph) all_nodes (rest (counted_by plan.snips))
+
+-- a counter in an edge's cell, where it has one
+abbrev pub counter_in : Option ℕ → List Op
+counter_in None = []
+counter_in (Some cell) = Add cell 1 ∷ []
+
+-- Counters in the cells of a spanning tree, by the list of which edges have one.
+pub record CountsInCells (graph : Graph) (plan : Plan) (cells : List (Option ℕ)) : Type 0 where
+  pub kind : plan.kind ≡ tools.Profile
+  pub count : plan.cells ≡ cell_count cells
+  pub size : length plan.snips ≡ length graph.edges
+  pub len : length cells ≡ length graph.edges
+  pub numbered : AreNumbered cells
+  pub tree : IsSpanningTree (links_of graph) all_nodes (rest (has_cell cells))
+  pub snips : (e : ℕ) → e < length graph.edges → snippet_on plan.snips e ≡ counter_in (cell_at cells e)
+
+abbrev pub TreesMakeProfiles : Type 0
+TreesMakeProfiles =
+    (graph : Graph) (plan : Plan) (cells : List (Option ℕ)) → CountsInCells graph plan cells → CountsOffTree graph plan
 
 -- the flow graph of an original, where the words that are marked lead besides
 abbrev pub original_graph : List ℕ → Plan → Graph

@@ -3,7 +3,13 @@
 #![tactic(auto)]
 
 ghost use Rattle.exact_counts.specs.Laws.{CellsCount, CountsAreExact, ExecutionsAreFew};
+ghost use Rattle.exact_counts.specs.Profiles.{TreesMakeProfiles};
 ghost use Rattle.exact_counts.specs.Stops.{EndedRunsTell};
+
+/// The cells of a spanning tree make a profile: a counter in the cell of each edge that has one, and none on the tree.
+pub fn trees_make_profiles()
+    ensures { TreesMakeProfiles }
+{}
 
 /// No step completes an edge twice, so that an edge is completed at most once a step.
 pub fn executions_are_few()
