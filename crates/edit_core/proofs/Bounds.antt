@@ -53,3 +53,15 @@ pub operations_few : (graph : Graph) (kind : ToolKind) (cells : ℕ) (snips : Li
 operations_few graph kind cells snips is =
     made kind graph.blocks snips 0 graph.edges snips is.size
     (λ k. ap (snippet_on snips) (let e : 0 + k ≡ k = omega arith in e)) (all_counted kind snips is.counters)
+
+-- where no edge or no snippet is left
+pub none_first : (kind : ToolKind) (b : Blocks) (edges : List Edge) (snips : List (List Op)) → length edges ≡ 0
+    → operations_on kind b edges snips ≡ 0
+none_first kind b [] snips none = refl
+none_first kind b (edge ∷ edges) snips none = absurd (omega (arith, none))
+
+pub none_second : (kind : ToolKind) (b : Blocks) (edges : List Edge) (snips : List (List Op)) → length snips ≡ 0
+    → operations_on kind b edges snips ≡ 0
+none_second kind b [] snips none = refl
+none_second kind b (edge ∷ edges) [] none = refl
+none_second kind b (edge ∷ edges) (ops ∷ snips) none = absurd (omega (arith, none))

@@ -1,6 +1,7 @@
 pub mod Induction
 pub mod Whole
 pub mod Views
+pub mod Tools
 pub mod Eaches
 pub mod Fronts
 pub mod Bounds

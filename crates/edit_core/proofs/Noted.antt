@@ -465,3 +465,15 @@ module _ (graph : Graph) (size : ℕ) (p : Placement) (n : Notes) (is : IsNoted 
       let e = length-flat_map edge_words 4 (λ x. refl) n.edges in
       let g = length-flat_map range_words 4 (λ x. refl) n.ranges in
       omega (arith, nodes_few, is.edge_count, text.few)
+
+-- where no edge or no snippet is left
+pub none_first : (graph : Graph) (kind : ToolKind) (edges : List Edge) (snips : List (List Op)) → length edges ≡ 0
+    → note_edges graph kind edges snips ≡ []
+none_first graph kind [] snips none = refl
+none_first graph kind (edge ∷ edges) snips none = absurd (omega (arith, none))
+
+pub none_second : (graph : Graph) (kind : ToolKind) (edges : List Edge) (snips : List (List Op)) → length snips ≡ 0
+    → note_edges graph kind edges snips ≡ []
+none_second graph kind [] snips none = refl
+none_second graph kind (edge ∷ edges) [] none = refl
+none_second graph kind (edge ∷ edges) (ops ∷ snips) none = absurd (omega (arith, none))

@@ -1,7 +1,7 @@
 -- What the parts of an edit give it.
 use Rattle.std.proofs.Common.{◌≡◌, ℕ, ◌+◌, ◌-◌, ◌*◌, ◌%◌, ◌^◌, ◌<◌, ◌≤◌, min, List, length, refl, ap, sym, ◌∙◌, subst, arith, All}
 use Rattle.std.proofs.lemmas.List.{length-map}
-use Rattle.eel_base.specs.CodeText.{IsText}
+use Rattle.eel_base.specs.CodeText.{IsText, Words}
 use Rattle.eel_base.specs.declared.numbers.Addr.{Addr}
 use Rattle.elf32_sparc.specs.Image.{Program, image_of}
 use Rattle.elf32_sparc.proofs.Images.{accepted-program}
@@ -17,9 +17,12 @@ use Rattle.image_code.specs.Fit.{AreFit, PiecesFit}
 use Rattle.image_code.specs.Parts.{IsGraphOf, codes_of}
 use Rattle.image_code.proofs.Numbers.{words_are}
 use Rattle.snippets.specs.declared.snippet.Op.{Op}
+use Rattle.tool_kit.specs.declared.edge_ref.ToolKind.{ToolKind}
 use Rattle.tool_kit.specs.Plans.{Plan}
-use Rattle.edit_core.specs.Taken.{CanEdit, bound_of}
-use Rattle.edit_core.specs.Written.{CanDo, IsNewCode, IsViewOf, IsWorkable, LeadsTo, cells_base, code_base, given_of, graph_in, pieces_by, pieces_of, placement_in, table_after, table_base, text_of}
+use Rattle.edit_core.specs.Taken.{CanEdit, bound_by, bound_of}
+use Rattle.edit_core.specs.Written.{CanDo, IsNewCode, IsViewOf, IsWorkable, LeadsTo, cells_base, cells_size, code_base, given_of, graph_in, pieces_by, pieces_of, placement_in, table_after, table_base, text_of}
+use Rattle.edit_core.proofs.Bounds.{operations_few}
+use Rattle.edit_core.proofs.Room.{small_table}
 use Rattle.edit_core.proofs.Snippets.{short_codes}
 use Rattle.edit_core.proofs.Views.{bound_is}
 use Rattle.edit_core.proofs.Originals.{image_text, image_room}
@@ -38,6 +41,24 @@ original_fit fits original plan can work =
     under : (base room cells words more : ℕ) → room ≡ min (2 ^ 30) (0x80000000 - base) → cells ≤ 2 ^ 22
         → 2 ^ 20 + 512 * words + 4 * cells + 128 * more ≤ room → table_after base cells < 2 ^ 31
     under base room cells words more same few enough = omega arith
+
+-- the pieces that are made of a view can be placed in its room
+module _ (fits : PiecesFit) (text : Words) (graph : Graph) (base room : ℕ) (kind : ToolKind) (cells : ℕ)
+    (snips : List (List Op)) (is : IsText text) (h : IsGraphOf text graph) (work : IsWorkable graph kind cells snips)
+    (enough : bound_by text graph kind cells snips ≤ room) (low : base + room ≤ 2 ^ 31) where
+  pub new_fit : AreFit text graph snips (pieces_by text graph base cells snips)
+  new_fit =
+      let few = work.few in
+      fits text graph (table_after base cells) snips (codes_of base snips) is h (omega arith)
+      (short_codes base cells snips work.good)
+
+  pub new_room : cells_size cells + size_of text + long_bytes (pieces_by text graph base cells snips) ≤ room
+  new_room =
+      let fit = new_fit in
+      let bytes = fit.bytes in
+      let made = operations_few graph kind cells snips work in
+      let small = small_table text is in
+      omega arith
 
 module _ (original : List ℕ) (plan : Plan) (view : View) (is : IsViewOf original plan view) where
   pub view_text : CanEdit original plan → IsText view.image.text

@@ -40,7 +40,8 @@ pub fn edit_bytes<F: Chooser>(
         cells: tool.cells(),
         snips: snips(alloc, tool, &view.graph)?,
     };
-    let needed = bound(view.image.text(), &view.graph, &asked);
+    let text = view.image.text();
+    let needed = bound(text, &view.graph, asked.kind, asked.cells, &asked.snips);
     let had = u64::from(view.image.room());
     if had < needed {
         return Err(EditFault::Room { needed, had });

@@ -54,11 +54,17 @@ pub(crate) struct Asked {
 }
 
 /// How many bytes of room an edit asks for.
-pub(crate) fn bound(text: &Text, graph: &FlowGraph, asked: &Asked) -> u64
-    ensures { result ≡ bound_by text.now graph.now asked.now.kind asked.now.cells asked.now.snips.items }
+pub(crate) fn bound(
+    text: &Text,
+    graph: &FlowGraph,
+    kind: ToolKind,
+    cells: u32,
+    snips: &[Snippet],
+) -> u64
+    ensures { result ≡ bound_by text.now graph.now kind cells snips.now }
 {
-    let operations = operations(graph, asked.kind, &asked.snips);
-    (1 << 20) + 512 * u64::from(text.len()) + 4 * u64::from(asked.cells) + 128 * operations
+    let operations = operations(graph, kind, snips);
+    (1 << 20) + 512 * u64::from(text.len()) + 4 * u64::from(cells) + 128 * operations
 }
 
 // How many operations are made.

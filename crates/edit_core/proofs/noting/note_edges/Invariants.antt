@@ -1,7 +1,10 @@
-use Rattle.std.proofs.Common.{◌≡◌, map, take}
+use Rattle.std.proofs.Common.{◌≡◌, ◌++◌, map}
 use Rattle.notes.specs.Seen.{edge_seen}
-use Rattle.edit_core.specs.Faithful.{note_edge as note_edge_of}
+use Rattle.edit_core.specs.Faithful.{note_edges as note_edges_of}
 use Rattle.edit_core.proofs.noting.note_edges.Given as goal
 
+-- those so far, and what is left
 abbrev pub invariant-loop-edge : goal.invariant-loop-edge
-invariant-loop-edge l = map edge_seen l.edges.items ≡ map (note_edge_of l.graph) (take l.edge-index l.edge-items)
+invariant-loop-edge l =
+    map edge_seen l.edges.items ++ note_edges_of l.graph l.asked.kind l.edge-iterator.a.rest.now l.edge-iterator.b.rest.now
+    ≡ note_edges_of l.graph l.asked.kind l.graph.edges l.asked.snips.items
