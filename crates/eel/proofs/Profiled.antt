@@ -35,15 +35,14 @@ counters_from next (None ∷ cells) numbered = counters_from next cells (λ e.
     numbered (suc e) ∙ ap (λ n. cond (has_cell cells e) (Some n) None) same)
 counters_from next (Some cell ∷ cells) numbered =
     let is : Some cell ≡ Some (next + 0) = numbered 0 in
-    let first : cell ≡ next + 0 = ap (λ c. unwrap_or c 0) is in
-    (
+    let first : cell ≡ next + 0 = ap (λ c. unwrap_or c 0) is in (
       omega (arith, first),
       refl,
       counters_from (suc next) cells (λ e.
-      let count = count_from (Some cell) cells e in
-      let more : next + count_below (suc e) (has_cell (Some cell ∷ cells)) ≡ suc next + count_below e (has_cell cells) =
-      omega (arith, count) in
-      numbered (suc e) ∙ ap (λ n. cond (has_cell cells e) (Some n) None) more),
+          let count = count_from (Some cell) cells e in
+          let more : next + count_below (suc e) (has_cell (Some cell ∷ cells)) ≡ suc next + count_below e (has_cell cells) =
+          omega (arith, count) in
+          numbered (suc e) ∙ ap (λ n. cond (has_cell cells e) (Some n) None) more),
     )
 
 pub are_counters : (cells : List (Option ℕ)) → AreNumbered cells → AreCounters 0 (map counter_of cells)

@@ -12,7 +12,6 @@ ghost use Rattle.eel.specs.Answers.Counts.{Counts, IsUncounted, TellCounts, unco
 
 use crate::outcome::{CountCause, Outcome};
 use crate::run::WRITTEN_LIMIT;
-
 use crate::texts::{fetch_file, print};
 use count_rebuild::{CountFault, rebuild};
 use dump_file::{Dump, DumpFault, read_dump};

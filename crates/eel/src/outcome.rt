@@ -86,19 +86,13 @@ pub enum LineCause {
 #[derive(Clone, Copy)]
 pub enum CountCause {
     /// It has so many cells, and the notes want another number.
-    Shape {
-        cells: u32,
-        wanted: u32,
-    },
+    Shape { cells: u32, wanted: u32 },
     /// The run made so many steps, that a cell may have begun at 0 again.
     Steps(u64),
     /// The run stands at this address, in new code that is no instruction's place.
     Between(Addr),
     /// This edge would have been completed a number of times below 0.
-    Negative {
-        edge: EdgeNo,
-        value: i64,
-    },
+    Negative { edge: EdgeNo, value: i64 },
 }
 
 /// The status after a device failed, and where a line can't be written.
@@ -313,10 +307,7 @@ fn put_steps<E: Sink>(name: &str, steps: u64, err: &mut E) -> Result<(), Failed>
 {
     let mut digits = Buffer::new();
     let steps = digits.format(steps).as_bytes();
-    put_pieces(
-        err,
-        &[b"eel: ", name.as_bytes(), b": ", steps, b" steps\n"],
-    )
+    put_pieces(err, &[b"eel: ", name.as_bytes(), b": ", steps, b" steps\n"])
 }
 
 /// Writes that the run stands between places.
