@@ -10,6 +10,8 @@ use Rattle.v8_step.specs.Valid.{AreBytes}
 use Rattle.flows.specs.Flows.{EdgeSet, rest}
 use Rattle.flows.specs.Trees.{IsSpanningTree, all_nodes}
 use Rattle.snippets.specs.declared.snippet.Op.{Op}
+use Rattle.snippets.specs.declared.snippet.Op.TheVariants.{Add}
+use Rattle.snippets.specs.Ops.{cell_of}
 use Rattle.snippets.specs.Cells.{WorksBelow}
 use Rattle.cfg_normal.specs.Graph.{Graph}
 use Rattle.span_tree.specs.Cells.{AreNumbered, cell_at, cell_count, has_cell}
@@ -35,9 +37,13 @@ counted_where : (cells : List (Option ℕ)) → counted_by (map counter_of cells
 counted_where cells = λ i e. counter_where cells e i
 
 -- counters work on the cells that there are
+abbrev works : ℕ → Op → Type 0
+works count op = cell_of op < count
+
 counter_below : (count : ℕ) (cell : Option ℕ) → IfSome cell (λ c. c < count) → WorksBelow count (counter_of cell)
-counter_below count None below = All-nil _
-counter_below count (Some cell) below = All-cons _ _ _ below (All-nil _)
+counter_below count None below = All-nil (works count)
+counter_below count (Some cell) below =
+    All-cons (works count) (Add cell 1) [] below (All-nil (works count))
 
 counters_below : (count : ℕ) (cells : List (Option ℕ)) → ((e : ℕ) → IfSome (cell_at cells e) (λ c. c < count))
     → All (WorksBelow count) (map counter_of cells)
@@ -57,7 +63,7 @@ off_tree graph cells are = record {
 }
 
 -- a file has one list of notes
-notes_in : (notes : Notes) → Result Notes NoNotes → Notes
+abbrev notes_in : Notes → Result Notes NoNotes → Notes
 notes_in notes (Ok read) = read
 notes_in notes (Err why) = notes
 

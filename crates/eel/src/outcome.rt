@@ -1,7 +1,7 @@
 //! What came of a command, and how the program shows it.
-ghost use Rattle.std.specs.Prelude.{◌≡◌, ◌≤◌, ◌++◌, ◌∷◌, [], OnOk, OnErr};
+ghost use Rattle.std.specs.Prelude.{◌≡◌, ◌≤◌, ◌++◌, ◌∷◌, [], codes, OnOk, OnErr};
 ghost use Rattle.eel_base.specs.Outside.{Rose, appended, TookPart};
-ghost use Rattle.eel.specs.Outcome.{BadLine, cause_text as cause_text_of, outcome_seen, status_of, ending_text, line_of, stream, Shows, joined, NoCounts};
+ghost use Rattle.eel.specs.Outcome.{BadLine, cause_text as cause_text_of, outcome_seen, status_of, ending_text, line_of, stream, Shows, joined, NoCounts, line_about};
 ghost use Rattle.eel.specs.declared.outcome.CountCause.TheVariants as count_causes;
 
 use eel_base::{Addr, EdgeNo, Failed, Sink, hex8, put_all};
@@ -317,14 +317,25 @@ fn put_between<E: Sink>(name: &str, pc: Addr, err: &mut E) -> Result<(), Failed>
     ensures failed { OnErr result (Rose (E.faults err.old) (E.faults err.new)) }
     ensures later { E.faults err.old ≤ E.faults err.new }
 {
-    let pc = hex8(pc.0);
+    put_place(name, &hex8(pc.0), err)
+}
+
+/// The same, of an address by its digits.
+fn put_place<E: Sink>(name: &str, digits: &[u8], err: &mut E) -> Result<(), Failed>
+    ensures all { OnOk result (E.taken err.new ≡ appended (E.taken err.old)
+        (line_about name.now (codes "pc " ++ digits.now ++ codes " between places"))) }
+    ensures part { OnErr result (TookPart (E.taken err.old) (E.taken err.new)
+        (line_about name.now (codes "pc " ++ digits.now ++ codes " between places"))) }
+    ensures failed { OnErr result (Rose (E.faults err.old) (E.faults err.new)) }
+    ensures later { E.faults err.old ≤ E.faults err.new }
+{
     put_pieces(
         err,
         &[
             b"eel: ",
             name.as_bytes(),
             b": pc ",
-            &pc,
+            digits,
             b" between places\n",
         ],
     )
