@@ -76,10 +76,10 @@ all_asked says choose edges snips ops known are =
     ext_get_or [] snips (map ops (range_with_len 0 (length edges)))
     (are.size ∙ sym (length-map-range_with_len ops 0 (length edges)))
     (λ k within.
-        let low : k < length edges = subst (λ (n : ℕ). k < n) are.size within in
-        let there = read_within edges k low in
-        known k there.0 (get_or snips k []) (are.each k there.0 there.1)
-        ∙ sym (get_or-map-range_with_len ops 0 (length edges) k k [] low (omega arith)))
+    let low : k < length edges = subst (λ (n : ℕ). k < n) are.size within in
+    let there = read_within edges k low in
+    known k there.0 (get_or snips k []) (are.each k there.0 there.1)
+    ∙ sym (get_or-map-range_with_len ops 0 (length edges) k k [] low (omega arith)))
 
 -- ---- what an edit with such a tool is
 
@@ -93,8 +93,8 @@ module _ {F : Type 0} (says : F → EdgeRef → List Op → Type 0) (tool : Kept
   plan_is : (plan : Plan) → AsksOf says tool bytes plan → plan ≡ plan_with kind [] cells (asked ops bytes)
   plan_is plan asks =
       let answers =
-          subst (λ marks. AreAnswers says tool.choose (view_of bytes (numbers marks)).graph.edges plan.snips)
-          none_marked asks.snips in
+      subst (λ marks. AreAnswers says tool.choose (view_of bytes (numbers marks)).graph.edges plan.snips)
+      none_marked asks.snips in
       let snips_are = all_asked says tool.choose (view_of bytes []).graph.edges plan.snips ops known answers in
       ap (λ k. plan_with k plan.marks plan.cells plan.snips) (asks.kind ∙ kind_is)
       ∙ ap (λ m. plan_with kind m plan.cells plan.snips) (asks.marks ∙ ap numbers none_marked)

@@ -139,11 +139,7 @@ fn parse_unlimited<'a>(file: &'a str, words: &'a [&'a str]) -> Command<'a>
 }
 
 /// What follows a limit.
-fn parse_after_limit<'a>(
-    file: &'a str,
-    limit: Option<u64>,
-    words: &'a [&'a str],
-) -> Command<'a>
+fn parse_after_limit<'a>(file: &'a str, limit: Option<u64>, words: &'a [&'a str]) -> Command<'a>
     ensures command { command_seen result ≡ after_limit file.now limit (texts words.now) }
     ensures few { HasArguments (command_seen result) }
 {
