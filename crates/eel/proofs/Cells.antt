@@ -225,11 +225,11 @@ module _ (file : List ℕ) (base count : ℕ) where
         → (a + 4 ≤ heap_start) ⊎ (heap_start + heap_room ≤ a)
     away_from_heap h has inside = elim (and_cases (leaves_room h) (not (is_last_page h)) inside) [
       | inl low ↦ inl (
-        let parts = or_parts (nat_lt h.p_vaddr 0x1000) (nat_lt 0x80000000 (end_of h)) low in
-        let end = ltb-false 0x80000000 (end_of h) parts.1 in
-        let last = has.to in
-        omega (arith, end, last, to)
-      )
+          let parts = or_parts (nat_lt h.p_vaddr 0x1000) (nat_lt 0x80000000 (end_of h)) low in
+          let end = ltb-false 0x80000000 (end_of h) parts.1 in
+          let last = has.to in
+          omega (arith, end, last, to)
+          )
       | inr page ↦ inr (last_page (is_last_page h) refl page)
     ]
       where
@@ -322,7 +322,7 @@ unfolding bytes_at memory_word
 word_loaded m a result aligned can loads =
     let bytes : load_of m 4 a ≡ Ok (part_of can.region a 4) =
     ap (λ (b : Bool). if b then allowed (bytes_at m a 4) else Err Misaligned) (eq-eqb (a % 4) 0 aligned)
-        ∙ ap (λ (r : Option Region). allowed (read_region a 4 r)) can.at
-        ∙ ap (λ (b : Bool). allowed (if_allowed b (part_of can.region a 4))) can.readable in
+    ∙ ap (λ (r : Option Region). allowed (read_region a 4 r)) can.at
+    ∙ ap (λ (b : Bool). allowed (if_allowed b (part_of can.region a 4))) can.readable in
     subst (λ (read : Result (List ℕ) MemFault). Loads (from_be_bytes w32) read result) bytes loads
     ∙ sym (ap (λ (r : Option Region). Ok (word_in a r)) can.at)

@@ -1,11 +1,12 @@
 -- An edit by a script, by its status.
 use Rattle.std.proofs.Common.{◌≡◌, ℕ, ◌⊎◌, inl, inr, List, [], length, refl, ap, subst, ◌∙◌, lit≤}
 use Rattle.eel_base.specs.Outside.{IsMissing, Rose, appended}
+use Rattle.snippets.specs.declared.script.Script.{Script}
 use Rattle.snippets.specs.declared.script.ScriptFault.{ScriptFault}
 use Rattle.snippets.specs.declared.script.ScriptFault.TheVariants as script_faults
 use Rattle.tool_kit.specs.Plans.{Plan}
 use Rattle.snippets.specs.Grammar.{AllSay, lines_of}
-use Rattle.snippets.specs.Scripts.{IsFault}
+use Rattle.snippets.specs.Scripts.{IsFault, IsGood, snips_of}
 use Rattle.edit_core.specs.declared.taking.EditFault.{EditFault}
 use Rattle.edit_core.specs.declared.taking.EditFault.TheVariants as faults
 use Rattle.edit_core.specs.Taken.{EditRefuses, IsCramped}
@@ -13,7 +14,7 @@ use Rattle.eel.specs.Outcome.{Outcome, BadFile, BadLine, NoRoom, OutOfMemory, st
 use Rattle.eel.specs.Answers.Files.{IsNotSound, IsSound}
 use Rattle.eel.specs.Answers.Shared.{Store, Outside, edit_limit}
 use Rattle.eel.specs.Answers.Edit.{edges_in, refusal_of}
-use Rattle.eel.specs.Answers.Script.{Scripts, unread, unscripted, refused, put, HasBadLine, IsBadScript, IsNotScripted, IsScriptEdited, IsScripted, script_limit, script_means, script_refusal_of}
+use Rattle.eel.specs.Answers.Script.{Scripts, unread, unscripted, refused, put, HasBadLine, IsBadScript, IsNotScripted, IsReadAs, IsScriptEdited, IsScripted, script_limit, script_means, script_plan, script_refusal_of}
 use Rattle.eel.proofs.Later.{appended-nil}
 use Rattle.eel.proofs.Meanings.{AnyRose, IsByStatus, IsBad, bad, refusal_is_bad, wanting_is_bad, unread_not_done, unread_failed, put_done, put_refused, put_failed}
 
@@ -51,6 +52,17 @@ edit_refused input bytes script lines plan (faults.File first) scripted is = (re
 edit_refused input bytes script lines plan (faults.Room needed had) scripted (other, same, cramped) =
     (plan, refl, scripted, subst (IsCramped needed had bytes) same cramped)
 edit_refused input bytes script lines plan faults.NoMemory scripted is = tt
+
+-- what the lines of a script that was read ask for
+pub script_asks : (bytes lines : List ℕ) (edges : ℕ) (script : Script) → edges ≡ length (edges_in bytes)
+    → IsReadAs edges lines script → IsScripted bytes lines (script_plan bytes script.snips.items script.cells)
+script_asks bytes lines edges script are (said, say, is) = (
+  said,
+  say,
+  subst (λ (n : ℕ). IsGood n said) are is.good,
+  ap (λ snips. script_plan bytes snips script.cells) is.snips
+      ∙ ap (λ (n : ℕ). script_plan bytes (snips_of said) n) is.cells,
+)
 
 -- ---- the command, by its status
 

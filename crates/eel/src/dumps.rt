@@ -114,7 +114,9 @@ fn are_mapped(alloc: Global, bytes: &[u8], base: u32, count: u32) -> Result<bool
 fn any_has_cells(segments: &[Segment], base: u32, count: u32) -> bool
     ensures { result ≡ list_any (has_cells_of base count) segments.now }
 {
-    segments.iter().any(|segment| has_cells(segment, base, count))
+    segments
+        .iter()
+        .any(|segment| has_cells(segment, base, count))
 }
 
 fn has_cells(segment: &Segment, base: u32, count: u32) -> bool
@@ -194,12 +196,7 @@ fn put_dump<F: Files>(
 }
 
 /// The bytes of the dump of a machine after so many steps.
-fn dump_of(
-    alloc: Global,
-    machine: &Machine,
-    notes: &Notes,
-    steps: u64,
-) -> Result<Vec<u8>, NoMemory>
+fn dump_of(alloc: Global, machine: &Machine, notes: &Notes, steps: u64) -> Result<Vec<u8>, NoMemory>
     requires rules { AreNotes (notes_seen notes.now) }
     requires cells { AreLoadable (notes_seen notes.now) machine.now.memory }
     ensures { IfOk result (λ bytes. bytes.items ≡ dump_bytes (dump_of_state (notes_seen notes.now) machine.now steps)) }
@@ -219,12 +216,7 @@ fn dump_of(
 
 /// So many words of memory, from an address on.
 #[tactic(auto, using(crate::proofs::Cells::words_more))]
-fn read_cells(
-    alloc: Global,
-    memory: &Memory,
-    base: u32,
-    count: u32,
-) -> Result<Vec<u32>, NoMemory>
+fn read_cells(alloc: Global, memory: &Memory, base: u32, count: u32) -> Result<Vec<u32>, NoMemory>
     requires aligned { base % 4 ≡ 0 }
     requires end { base + 4 * count ≤ 2 ^ 32 }
     requires few { count ≤ 2 ^ 22 }

@@ -40,7 +40,7 @@ pub fn edit_plain<'a, F: Files>(
         Err(outcome) => return outcome,
     };
     match without_snippets(alloc, &bytes) {
-        Ok(written) => put_file(files, output, &written),
+        Ok(edited) => put_file(files, output, &edited),
         Err(fault) => refusal(input, fault),
     }
 }

@@ -19,7 +19,7 @@ use eel_base::{Files, NoMemory};
 use snippets::{Op, Snippet};
 use span_tree::{SpanTree, tree, weights};
 use std::alloc::Global;
-use tool_kit::{EdgeRef, ToolKind};
+use tool_kit::{Chooser, EdgeRef, ToolKind};
 
 /// Reads `input`, edits it with counters on the edges off a spanning tree, and writes `output`.
 pub fn edit_for_counts<'a, F: Files>(
@@ -77,10 +77,32 @@ fn with_counters(alloc: Global, bytes: &[u8], tree: &SpanTree) -> Result<Vec<u8>
     edit_with(
         alloc,
         bytes,
-        move |edge: EdgeRef| counter_on(tree, edge),
+        Counters { tree },
         tree.cells(),
         ToolKind::Profile,
     )
+}
+
+/// Each edge that has a cell is counted.
+#[derive(Clone, Copy, Drop)]
+struct Counters<'a> {
+    tree: &'a SpanTree,
+}
+
+impl Chooser for Counters<'_> {
+    ghost use Rattle.std.specs.Prelude.{◌≡◌};
+    ghost use Rattle.snippets.specs.Cells.{WorksBelow};
+    ghost use Rattle.span_tree.specs.Cells.{cell_at, cell_count};
+    ghost use Rattle.eel.specs.Answers.Profile.{counter_of};
+
+    ghost may = { λ counters edge. Unit {0} };
+
+    ghost says = { λ counters edge ops. (ops ≡ counter_of (cell_at counters.tree.now edge.no.0))
+        × WorksBelow (cell_count counters.tree.now) ops };
+
+    fn choose(&self, edge: EdgeRef) -> Snippet {
+        counter_on(self.tree, edge)
+    }
 }
 
 /// What is done on an edge: its cell is raised, where it has one.
