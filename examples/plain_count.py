@@ -452,17 +452,28 @@ class Counts:
         return '\n'.join(lines) + '\n'
 
 
-def count(file, args=(), given=b'', limit=100_000_000):
-    """The lines of a run, its ending, and its steps."""
+def walk(file, args, given, limit):
+    """What a run completes of the edges, its ending, and its steps."""
     machine, counts = Machine(file, args, given), Counts(file)
     for steps in range(limit):
         pc, before = machine.pc, machine.slot
         try:
             machine.step()
         except Ended as ended:
-            return counts.lines(), str(ended), steps + 1
+            return counts, str(ended), steps + 1
         counts.stepped(pc, before, machine.slot, machine.pc)
-    return counts.lines(), f'stopped {limit}', limit
+    return counts, f'stopped {limit}', limit
+
+
+def count(file, args=(), given=b'', limit=100_000_000):
+    """The lines of a run, its ending, and its steps."""
+    counts, ending, steps = walk(file, args, given, limit)
+    return counts.lines(), ending, steps
+
+
+def edge_counts(file, args=(), given=b'', limit=100_000_000):
+    """How often a run completes each edge."""
+    return walk(file, args, given, limit)[0].counts
 
 
 def print_differing():

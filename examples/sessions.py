@@ -1,9 +1,11 @@
 """Sessions that crates/program_runs plays: calls of the editor over files in memory, and what must come of each."""
+import os
 import struct
 from dataclasses import replace
 
 import listings
-from programs import C_PROGRAMS, SMALL, Program
+import plain_count
+from programs import C_PROGRAMS, RUNS, SMALL, Program
 from written import written
 
 BAD_WORDS = b'eel: bad words\n'
@@ -86,11 +88,13 @@ def words():
     yield 'hold prints_its_argument', b''
     yield 'hold newline_count', b''
     yield 'input newline_count.input', b''
-    for line in ['', 'help', 'edit three_words out', 'edit three_words out profile', 'show',
+    for line in ['', 'help', 'edit three_words out', 'show',
             'restore', 'restore three_words', 'restore three_words out out',
             'show three_words three_words', 'run', 'run three_words -q', 'run three_words -n',
             'run three_words -n 0x1', 'run three_words -n 18446744073709551616',
-            'run three_words -n 1 -n 2', 'run three_words x']:
+            'run three_words -n 1 -n 2', 'run three_words x', 'edit three_words out script',
+            'edit three_words out script three_words out', 'run three_words -d', 'run three_words -d out -d out',
+            'run three_words -d out -n', 'run three_words -n 1 -d out -n 1', 'run three_words -d out x']:
         yield eel(line, 64, err=BAD_WORDS)
     yield eel('run three_words -n 2', 0, err=b'stopped 2\n')
     yield eel('run three_words -n 18446744073709551615', 0, err=b'exit 3\n')
@@ -124,6 +128,78 @@ def restores():
     yield 'same three_words.edited three_words', b''
 
 
+CARRY_LOOP = EDITED['carry_loop']
+THREE_LINES = b'edge 1 add 0 3\nedge 1 top 1 %g2\nedge 2 keep 2 %o0\n'
+
+
+def bad_line(line, cause):
+    return f'eel: carry_loop.bad: line {line}: {cause}\n'.encode()
+
+
+# Scripts with a bad line, and what is said of them.
+BAD_LINES = {
+    b'edge 9 add 0 1': bad_line(1, 'edge'),
+    b'edge 1  add 0 1\n': bad_line(1, 'grammar'),
+    b'# cells\n\nedge 1 add 4194304 1\n': bad_line(3, 'cell'),
+    b'edge 1 add 0 1\n' * 9: bad_line(9, 'operations'),
+}
+
+
+def counting(program):
+    """A script that counts every edge, each in the cell with its number."""
+    edges = len(plain_count.Counts(program).counts)
+    return ''.join(f'edge {number} add {number} 1\n' for number in range(edges)).encode()
+
+
+def words_of(numbers):
+    return struct.pack(f'>{len(numbers)}I', *numbers)
+
+
+# The programs of which every edge is counted. The sieve is left out, whose run is long.
+COUNTED = [name for name in EDITED if name != 'sieve']
+
+
+def scripts():
+    """Programs edited by scripts: the cells are what a plain count of the original's edges says."""
+    yield 'hold carry_loop', b''
+    yield 'hold carry_loop.script', b''
+    yield 'hold carry_loop.cells', b''
+    yield eel('edit carry_loop edited script carry_loop.script', 0)
+    yield eel('run edited -d dump', 0, err=b'exit 4\n')
+    yield 'cells dump carry_loop.cells', b''
+    yield eel('run edited -n 1 -d early', 0, err=b'stopped 1\n')
+    yield eel('run edited -d again -n 1', 0, err=b'stopped 1\n')
+    yield 'same early again', b''
+    yield eel('run edited -d -- -- x', 0, err=b'exit 4\n')
+    yield 'same -- dump', b''
+    yield eel('run carry_loop -d dump', 65, err=b'eel: carry_loop: no notes\n')
+    yield eel('edit carry_loop edited script missing', 74, err=DEVICE_FAULT)
+    yield eel('edit carry_loop edited script carry_loop', 65, err=b'eel: carry_loop: line 1: grammar\n')
+    yield 'zeros long 16777217', b''
+    yield eel('edit carry_loop edited script long', 66, err=b'eel: long: longer than 16777216 bytes\n')
+    for number, line in enumerate(BAD_LINES.values()):
+        yield f'hold carry_loop.bad{number}', b''
+        yield eel(f'edit carry_loop edited script carry_loop.bad{number}', 65,
+            err=line.replace(b'carry_loop.bad', f'carry_loop.bad{number}'.encode()))
+    for name in COUNTED:
+        program = EDITED[name]
+        arguments = ARGUMENTS.get(name, '')
+        yield f'hold {name}', b''
+        yield f'hold {name}.counting', b''
+        yield f'hold {name}.counts', b''
+        if program.given:
+            yield f'input {name}.input', b''
+        yield eel(f'edit {name} edited script {name}.counting', 0)
+        yield eel(f'run edited -d dump{arguments}', 0, *ran(program))
+        yield f'cells dump {name}.counts', b''
+    # the sixth call of the files puts the second dump
+    yield 'fail 5', b''
+    yield 'hold three_words', b''
+    yield eel('edit three_words edited plain', 0)
+    yield eel('run edited -d dump', 0, err=b'exit 3\n')
+    yield eel('run edited -d dump', 74, err=DEVICE_FAULT)
+
+
 def refusals():
     """Files that are refused, and files and streams that fail."""
     yield 'fail 1 5', b''
@@ -154,16 +230,80 @@ def refusals():
     yield eel('edit other out plain', 74, err=b'eel:')
 
 
-SESSIONS = {'edits': list(edits()), 'words': list(words()), 'restores': list(restores()), 'refusals': list(refusals())}
+def profiles():
+    """Programs with counters: what is rebuilt of the dumps of their runs is a plain count of the originals' runs."""
+    for name, program in EDITED.items():
+        arguments = ARGUMENTS.get(name, '')
+        lines, _, _ = plain_count.count(program.file(), [word.encode() for word in arguments.split()[1:]], program.given)
+        yield f'hold {name}', b''
+        if program.given:
+            yield f'input {name}.input', b''
+        yield eel(f'edit {name} profiled profile', 0)
+        yield eel(f'run profiled -d dump{arguments}', 0, *ran(program))
+        yield eel('counts profiled dump', 0, lines.encode())
+
+
+def dump(pc, steps, cells):
+    """What a run that hasn't ended has come to."""
+    return struct.pack(f'>4sIIIIQI{len(cells)}I', b'EELD', 1, 0, 0, pc, steps, len(cells), *cells)
+
+
+# Dumps that no run of three_words with counters makes: its counted edge is the one that leaves its block.
+DUMPS = {'left_without_entry': dump(0, 3, [0]), 'long_run': dump(0, 1 << 32, [1]), 'two_cells': dump(0, 3, [1, 1]),
+    'in_no_place': dump(0xfffff000, 3, [1]), 'cut_dump': dump(0, 3, [1])[:31]}
+
+
+def uncounted():
+    """Files and dumps that have no counts."""
+    yield 'hold three_words', b''
+    for name in DUMPS:
+        yield f'hold {name}', b''
+    yield eel('edit three_words plain plain', 0)
+    yield eel('edit three_words profiled profile', 0)
+    yield eel('counts profiled missing', 74, err=DEVICE_FAULT)
+    yield eel('counts three_words cut_dump', 65, err=b'eel: three_words: no notes\n')
+    yield eel('counts plain cut_dump', 65, err=b'eel: cut_dump: bad dump at 28\n')
+    yield eel('counts plain two_cells', 65, err=b'eel: plain: no profile\n')
+    yield eel('counts profiled two_cells', 65, err=b'eel: two_cells: 2 cells, 1 wanted\n')
+    yield eel('counts profiled long_run', 65, err=b'eel: long_run: 4294967296 steps\n')
+    yield eel('counts profiled in_no_place', 65, err=b'eel: in_no_place: pc fffff000 between places\n')
+    yield eel('counts profiled left_without_entry', 65, err=b'eel: left_without_entry: edge 1 would be -1\n')
+    yield eel('run profiled -n 0 -d dump', 0, err=b'stopped 0\n')
+    yield eel('counts profiled dump', 0, b'edges 2 counted 1 executions 0\n')
+    yield eel('counts profiled', 64, err=BAD_WORDS)
+    yield eel('counts profiled dump dump', 64, err=BAD_WORDS)
+
+
+SESSIONS = {'edits': list(edits()), 'scripts': list(scripts()), 'words': list(words()), 'restores': list(restores()),
+    'refusals': list(refusals()), 'profiles': list(profiles()), 'uncounted': list(uncounted())}
+
+
+def program_file(name):
+    """The file of a program: those that a compiler made stand in program_runs."""
+    if EDITED[name].words:
+        return EDITED[name].file()
+    with open(os.path.join(RUNS, 'data', name), 'rb') as opened:
+        return opened.read()
 
 
 def files():
     """Scripts, and the files that they name besides the programs."""
     for name in WRITTEN:
         yield f'{name}.edited', written(EDITED[name].file())
+    yield 'carry_loop.script', THREE_LINES
+    yield 'carry_loop.cells', words_of([12, 4, 4])
+    for number, script in enumerate(BAD_LINES):
+        yield f'carry_loop.bad{number}', script
+    for name in COUNTED:
+        file = program_file(name)
+        yield f'{name}.counting', counting(file)
+        arguments = ARGUMENTS.get(name, '').split()[1:]
+        counts = plain_count.edge_counts(file, [word.encode() for word in arguments], EDITED[name].given)
+        yield f'{name}.counts', words_of(counts)
     yield 'three_words.broken', broken()
     yield ARGUMENT.name, ARGUMENT.file()
     yield 'cramped', cramped()
+    yield from DUMPS.items()
     for name, lines in SESSIONS.items():
         yield name, ''.join(f'{line}\n' for line, _ in lines).encode()
 

@@ -1,30 +1,40 @@
 -- What there is after a call, by its status.
-use Rattle.std.proofs.Common.{◌≡◌, ℕ, inl, inr, ap, subst, arith}
-use Rattle.eel.specs.Command.{Command, EditPlain, Run, Show, Restore, Unknown}
+use Rattle.std.proofs.Common.{◌≡◌, ℕ, inl, inr, Some, None, ap, subst, arith}
+use Rattle.eel.specs.Command.{Command, EditPlain, EditScript, Run, Show, Restore, EditProfile, Counts, Unknown}
 use Rattle.eel.specs.Outcome.{Shows, shown, failed, status_of}
-use Rattle.eel.specs.Answers.{Ran, IsDone, IsRefusal, IsUnchanged, HasFailed, meaning_of, unknown_means}
+use Rattle.eel.specs.Answers.{Ran, IsDone, IsRefusal, IsUnchanged, HasFailed, WasWanting, meaning_of, unknown_means}
 use Rattle.eel.specs.Answers.Shared.{Outside, with_err}
 use Rattle.eel.proofs.Later.{rose-before, rose-after}
-use Rattle.eel.proofs.Meanings.{IsByStatus, AnyRose, refusal_is_bad}
+use Rattle.eel.proofs.Meanings.{IsByStatus, AnyRose, refusal_is_bad, wanting_is_bad}
 use Rattle.eel.proofs.Editing.{edit_by_status}
+use Rattle.eel.proofs.Scripting.{script_by_status}
 use Rattle.eel.proofs.Running.{run_by_status}
+use Rattle.eel.proofs.Dumping.{dump_by_status}
 use Rattle.eel.proofs.Showing.{show_by_status}
 use Rattle.eel.proofs.Restoring.{restore_by_status}
+use Rattle.eel.proofs.ProfileEdits.{profile_by_status}
+use Rattle.eel.proofs.Counted.{counts_by_status}
 
 unknown_by_status : IsByStatus unknown_means
 unknown_by_status = record {
   done = λ old new err outcome follows zero took.
       let at : status_of outcome ≡ 64 = ap status_of follows.0 in absurd (omega (arith, zero, at));
   refused = λ old new outcome follows refusal. record { files = follows.1; out = ap (λ s. s.taken) follows.3.0 };
+  wanting = λ old new outcome follows wants.
+      let at : status_of outcome ≡ 64 = ap status_of follows.0 in absurd (omega (arith, wants, at));
   failed = λ old new outcome follows fails.
       let at : status_of outcome ≡ 64 = ap status_of follows.0 in absurd (omega (arith, fails, at));
 }
 
 by_status : (command : Command) → IsByStatus (meaning_of command)
 by_status (EditPlain input output) = edit_by_status input output
-by_status (Run file limit args) = run_by_status file limit args
+by_status (EditScript input output script) = script_by_status input output script
+by_status (Run file limit None args) = run_by_status file limit args
+by_status (Run file limit (Some dump) args) = dump_by_status file limit dump args
 by_status (Show file) = show_by_status file
 by_status (Restore written output) = restore_by_status written output
+by_status (EditProfile input output) = profile_by_status input output
+by_status (Counts written dump) = counts_by_status written dump
 by_status Unknown = unknown_by_status
 
 pub done_shown : (command : Command) (old new : Outside) (status : ℕ) → Ran command old new status
@@ -44,6 +54,16 @@ refused_shown command old new status r refusal = at r.shown
         let kept = (by_status command).refused old (with_err new r.err) r.outcome r.follows (subst IsRefusal is refusal) in
         record { files = kept.files; out = kept.out }
     at (failed is took rose) = absurd ((refusal_is_bad status refusal).not_failed is)
+
+pub wanting_shown : (command : Command) (old new : Outside) (status : ℕ) → Ran command old new status
+    → status ≡ 70 → WasWanting command old new
+wanting_shown command old new status r wants = at r.shown
+  where
+    at : Shows r.outcome status r.err new.err → WasWanting command old new
+    at (shown is took) =
+        let kept = (by_status command).wanting old (with_err new r.err) r.outcome r.follows (omega (arith, is, wants)) in
+        record { files = kept.0; out = kept.1 }
+    at (failed is took rose) = absurd (omega (arith, is, wants))
 
 pub failed_shown : (command : Command) (old new : Outside) (status : ℕ) → Ran command old new status
     → status ≡ 74 → HasFailed command old new

@@ -1,9 +1,9 @@
 -- What was so from a later moment on is so from an earlier one, between which only faults were counted; and
 -- taking nothing.
-use Rattle.std.proofs.Common.{◌≡◌, ℕ, ◌≤◌, List, [], Option, Some, None, refl, ap, ◌∙◌, subst, append-nil, arith}
-use Rattle.eel_base.specs.Outside.{Holding, stored, SameBut, Rose, appended}
-use Rattle.eel.specs.Outcome.{Outcome, Done, OutOfMemory, DeviceFault}
-use Rattle.eel.specs.Answers.Shared.{Store, store, IsPut}
+use Rattle.std.proofs.Common.{◌≡◌, ℕ, ◌≤◌, List, [], Option, Some, None, inl, inr, refl, ap, sym, ◌∙◌, subst, append-nil, arith}
+use Rattle.eel_base.specs.Outside.{AreUnder, Holding, IsLonger, IsMissing, stored, SameBut, Rose, appended}
+use Rattle.eel.specs.Outcome.{Outcome, Done, TooLong, OutOfMemory, DeviceFault}
+use Rattle.eel.specs.Answers.Shared.{Store, store, IsPut, IsUnread, WasRead}
 
 pub appended-nil : (old : Option (List ℕ)) → appended old [] ≡ old
 appended-nil None = refl
@@ -23,3 +23,23 @@ put-later old mid faults more new name bytes OutOfMemory same later is = is ∙ 
 put-later old mid faults more new name bytes DeviceFault same later (rose, but) =
     (rose-before faults more new.faults later rose, subst (λ held. SameBut name held new.held) same but)
 put-later old mid faults more new name bytes _ same later is = absurd is
+
+pub read-later : (old mid : Option Holding) (faults more : ℕ) (name : List ℕ) (limit : ℕ) (bytes : List ℕ)
+    → mid ≡ old → WasRead (store mid more) name limit bytes → WasRead (store old faults) name limit bytes
+read-later old mid faults more name limit bytes same read = record {
+  under = subst (λ held. AreUnder held name bytes) same read.under;
+  within = read.within;
+}
+
+pub unread-later : (old mid : Option Holding) (faults more : ℕ) (new : Store) (name : List ℕ) (limit : ℕ)
+    (outcome : Outcome) → mid ≡ old → faults ≤ more → IsUnread (store mid more) new name limit outcome
+    → IsUnread (store old faults) new name limit outcome
+unread-later old mid faults more new name limit (TooLong named most) same later (is, all, long) =
+    (is, all, subst (λ held. IsLonger held name limit) same long)
+unread-later old mid faults more new name limit OutOfMemory same later held =
+    λ lacks. held (subst (λ here. IsMissing here name) (sym same) lacks)
+unread-later old mid faults more new name limit DeviceFault same later (inl lacks) =
+    inl (subst (λ held. IsMissing held name) same lacks)
+unread-later old mid faults more new name limit DeviceFault same later (inr rose) =
+    inr (rose-before faults more new.faults later rose)
+unread-later old mid faults more new name limit _ same later is = absurd is

@@ -1,8 +1,17 @@
 pub mod Answered
+pub mod BothRead
+pub mod Cells
+pub mod Counted
+pub mod Dumping
 pub mod Editing
+pub mod ExactProfiles
 pub mod Later
 pub mod Lines
 pub mod Meanings
+pub mod ProfileEdits
+pub mod Profiled
 pub mod Restoring
 pub mod Running
+pub mod Scripting
 pub mod Showing
+pub mod Tools

@@ -16,6 +16,8 @@ pub record IsByStatus (m : Meaning) : Type 0 where
       → status_of outcome ≡ 0 → new.err.taken ≡ appended err.taken (line_of outcome) → m.does old new
   pub refused : (old new : Outside) (outcome : Outcome) → m.follows old new outcome → IsRefusal (status_of outcome)
       → IsUnchanged old new
+  pub wanting : (old new : Outside) (outcome : Outcome) → m.follows old new outcome → status_of outcome ≡ 70
+      → (new.files.held ≡ old.files.held) × m.wants old new
   pub failed : (old new : Outside) (outcome : Outcome) → m.follows old new outcome → status_of outcome ≡ 74
       → AnyRose old new (m.lacks old.files)
 
@@ -31,8 +33,16 @@ pub refusal_is_bad : (status : ℕ) → IsRefusal status → IsBad status
 refusal_is_bad status (inl is) = bad status (omega arith) (omega arith)
 refusal_is_bad status (inr (inl is)) = bad status (omega arith) (omega arith)
 refusal_is_bad status (inr (inr (inl is))) = bad status (omega arith) (omega arith)
-refusal_is_bad status (inr (inr (inr (inl is)))) = bad status (omega arith) (omega arith)
-refusal_is_bad status (inr (inr (inr (inr is)))) = bad status (omega arith) (omega arith)
+refusal_is_bad status (inr (inr (inr is))) = bad status (omega arith) (omega arith)
+
+pub refusal_not_wanting : (status : ℕ) → IsRefusal status → status ≡ 70 → ⊥
+refusal_not_wanting status (inl is) wants = absurd (omega (arith, is, wants))
+refusal_not_wanting status (inr (inl is)) wants = absurd (omega (arith, is, wants))
+refusal_not_wanting status (inr (inr (inl is))) wants = absurd (omega (arith, is, wants))
+refusal_not_wanting status (inr (inr (inr is))) wants = absurd (omega (arith, is, wants))
+
+pub wanting_is_bad : (status : ℕ) → status ≡ 70 → IsBad status
+wanting_is_bad status is = bad status (omega arith) (omega arith)
 
 -- ---- reading
 

@@ -5,7 +5,7 @@ use Rattle.eel.specs.Outcome.{Outcome, NoNotes, BadNotes, OutOfMemory, status_of
 use Rattle.eel.specs.Answers.Shared.{Store, Outside, written_limit}
 use Rattle.eel.specs.Answers.Restore.{Restores, unread, refused, put, IsRestored, IsNotRestored, restore_means}
 use Rattle.eel.proofs.Later.{appended-nil}
-use Rattle.eel.proofs.Meanings.{AnyRose, IsByStatus, IsBad, bad, refusal_is_bad, unread_not_done, unread_failed, put_done, put_refused, put_failed}
+use Rattle.eel.proofs.Meanings.{AnyRose, IsByStatus, IsBad, bad, refusal_is_bad, wanting_is_bad, unread_not_done, unread_failed, put_done, put_refused, put_failed}
 
 not_restored : (name file : List ℕ) (outcome : Outcome) → IsNotRestored name file outcome → IsBad (status_of outcome)
 not_restored name file (NoNotes named) is = bad 65 (lit≤ tt) (lit≤ tt)
@@ -49,5 +49,9 @@ restore_by_status written output = record {
     files = unchanged written output old.files new.files outcome follows.0 (refusal_is_bad _ refusal);
     out = ap (λ s. s.taken) follows.2.0;
   };
+  wanting = λ old new outcome follows wants. (
+    unchanged written output old.files new.files outcome follows.0 (wanting_is_bad _ wants),
+    ap (λ s. s.taken) follows.2.0,
+  );
   failed = λ old new outcome follows fails. failed written output old new outcome follows.0 fails;
 }

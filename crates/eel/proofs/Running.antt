@@ -17,7 +17,7 @@ use Rattle.eel.specs.Outcome.{Outcome, Stopped, BadFile, TooLong, OutOfMemory, D
 use Rattle.eel.specs.Answers.Shared.{Feed, Outside, with_err, written_limit}
 use Rattle.eel.specs.Answers.Run.{Runs, unread, unfed, refused, ran, HasRun, IsRun, IsNotRun, IsUnfed, WasRun, run_means, stopped_of}
 use Rattle.eel.proofs.Later.{appended-nil}
-use Rattle.eel.proofs.Meanings.{AnyRose, IsByStatus, IsBad, bad, refusal_is_bad, unread_not_done, unread_failed}
+use Rattle.eel.proofs.Meanings.{AnyRose, IsByStatus, IsBad, bad, refusal_is_bad, wanting_is_bad, unread_not_done, unread_failed}
 
 -- a part of b after all of a is a part of both
 took-rest : (old new : Option (List ℕ)) (a b : List ℕ) → TookPart (appended old a) new b → TookPart old new (a ++ b)
@@ -70,18 +70,18 @@ run_comes s0 s limit steps SinkFault old_out new_out old_err new_err is (within,
 
 -- ---- the command, by its status
 
-not_run : (name bytes : List ℕ) (outcome : Outcome) → IsNotRun name bytes outcome → IsBad (status_of outcome)
+pub not_run : (name bytes : List ℕ) (outcome : Outcome) → IsNotRun name bytes outcome → IsBad (status_of outcome)
 not_run name bytes (BadFile named code) is = bad 65 (lit≤ tt) (lit≤ tt)
 not_run name bytes OutOfMemory is = bad 70 (lit≤ tt) (lit≤ tt)
 not_run name bytes _ is = absurd is
 
-unfed_not_done : (old new : Feed) (outcome : Outcome) → IsUnfed old new outcome → status_of outcome ≡ 0 → ⊥
+pub unfed_not_done : (old new : Feed) (outcome : Outcome) → IsUnfed old new outcome → status_of outcome ≡ 0 → ⊥
 unfed_not_done old new (TooLong name limit) is zero = cc
 unfed_not_done old new OutOfMemory is zero = cc
 unfed_not_done old new DeviceFault is zero = cc
 unfed_not_done old new _ is zero = is
 
-unfed_failed : (old new : Feed) (outcome : Outcome) → IsUnfed old new outcome → status_of outcome ≡ 74
+pub unfed_failed : (old new : Feed) (outcome : Outcome) → IsUnfed old new outcome → status_of outcome ≡ 74
     → Rose old.faults new.faults
 unfed_failed old new (TooLong name limit) is fails = absurd (omega arith)
 unfed_failed old new OutOfMemory is fails = absurd (omega arith)
@@ -167,5 +167,7 @@ run_by_status file limit args = record {
   done = λ old new err outcome follows zero took. (done file limit args old new err outcome follows.0 zero took, follows.1);
   refused = λ old new outcome follows refusal.
       record { files = follows.1; out = silent file limit args old new outcome follows.0 (refusal_is_bad _ refusal) };
+  wanting = λ old new outcome follows wants.
+      (follows.1, silent file limit args old new outcome follows.0 (wanting_is_bad _ wants));
   failed = λ old new outcome follows fails. failed file limit args old new outcome follows.0 fails;
 }

@@ -5,7 +5,7 @@ use Rattle.eel.specs.Outcome.{Outcome, BadFile, OutOfMemory, Stream, status_of, 
 use Rattle.eel.specs.Answers.Shared.{Outside, with_err, edit_limit}
 use Rattle.eel.specs.Answers.Show.{Lists, unread, refused, printed, IsListed, IsNotShown, shown_of, show_means}
 use Rattle.eel.proofs.Later.{appended-nil}
-use Rattle.eel.proofs.Meanings.{AnyRose, IsByStatus, IsBad, bad, refusal_is_bad, unread_not_done, unread_failed, printed_done, printed_not_refused, printed_failed}
+use Rattle.eel.proofs.Meanings.{AnyRose, IsByStatus, IsBad, bad, refusal_is_bad, wanting_is_bad, unread_not_done, unread_failed, printed_done, printed_not_refused, printed_failed}
 
 not_shown : (name bytes : List ℕ) (outcome : Outcome) → IsNotShown name bytes outcome → IsBad (status_of outcome)
 not_shown name bytes (BadFile named code) is = bad 65 (lit≤ tt) (lit≤ tt)
@@ -44,5 +44,7 @@ show_by_status file = record {
   done = λ old new err outcome follows zero took. (done file old new err outcome follows.0 zero took, follows.1, follows.2);
   refused = λ old new outcome follows refusal.
       record { files = follows.1; out = silent file old new outcome follows.0 (refusal_is_bad _ refusal) };
+  wanting = λ old new outcome follows wants.
+      (follows.1, silent file old new outcome follows.0 (wanting_is_bad _ wants));
   failed = λ old new outcome follows fails. failed file old new outcome follows.0 fails;
 }

@@ -2,19 +2,28 @@
 pub mod Shared
 pub mod Files
 pub mod Edit
+pub mod Script
+pub mod Tool
+pub mod Profile
 pub mod Run
+pub mod Dump
 pub mod Show
 pub mod Restore
-use Rattle.std.specs.Prelude.{◌≡◌, ℕ, ◌≤◌, ◌⊎◌}
+pub mod Counts
+use Rattle.std.specs.Prelude.{◌≡◌, ℕ, ◌≤◌, ◌⊎◌, Some, None}
 use Rattle.eel_base.specs.Outside.{Rose}
 use Rattle.eel.specs.Command.{Command}
 use Rattle.eel.specs.Command as words
 use Rattle.eel.specs.Outcome.{Outcome, BadWords, Stream, Shows}
-use Rattle.eel.specs.Answers.Shared.{Outside, Meaning, with_err, IsUnused, IsQuiet}
+use Rattle.eel.specs.Answers.Shared.{Outside, Meaning, with_err, IsUnused, IsQuiet, IsSilent}
 use Rattle.eel.specs.Answers.Edit.{edit_means}
+use Rattle.eel.specs.Answers.Script.{script_means}
 use Rattle.eel.specs.Answers.Run.{run_means}
+use Rattle.eel.specs.Answers.Dump.{dump_means}
 use Rattle.eel.specs.Answers.Show.{show_means}
 use Rattle.eel.specs.Answers.Restore.{restore_means}
+use Rattle.eel.specs.Answers.Profile.{profile_means}
+use Rattle.eel.specs.Answers.Counts.{counts_means}
 
 -- words outside the grammar
 abbrev pub unknown_means : Meaning
@@ -22,14 +31,19 @@ unknown_means = record {
   follows = λ old new outcome.
       (outcome ≡ BadWords) × (new.files.held ≡ old.files.held) × IsUnused old new × IsQuiet old new;
   does = λ old new. ⊥;
+  wants = IsSilent;
   lacks = λ files. ⊥;
 }
 
 abbrev pub meaning_of : Command → Meaning
 meaning_of (words.EditPlain input output) = edit_means input output
-meaning_of (words.Run file limit args) = run_means file limit args
+meaning_of (words.EditScript input output script) = script_means input output script
+meaning_of (words.Run file limit None args) = run_means file limit args
+meaning_of (words.Run file limit (Some dump) args) = dump_means file limit dump args
 meaning_of (words.Show file) = show_means file
 meaning_of (words.Restore written output) = restore_means written output
+meaning_of (words.EditProfile input output) = profile_means input output
+meaning_of (words.Counts written dump) = counts_means written dump
 meaning_of words.Unknown = unknown_means
 
 -- A call of the program: some outcome follows from the command, and then its line is written to the error stream.
@@ -48,13 +62,18 @@ pub record Ran (command : Command) (old new : Outside) (status : ℕ) : Type 0 w
 abbrev pub IsDone : Command → Outside → Outside → Type 0
 IsDone command old new = (meaning_of command).does old new
 
--- Statuses 64, 65, 66, 69 and 70: no file has changed, and nothing is put out.
+-- Statuses 64, 65, 66 and 69: no file has changed, and nothing is put out.
 abbrev pub IsRefusal : ℕ → Type 0
-IsRefusal status = (status ≡ 64) ⊎ (status ≡ 65) ⊎ (status ≡ 66) ⊎ (status ≡ 69) ⊎ (status ≡ 70)
+IsRefusal status = (status ≡ 64) ⊎ (status ≡ 65) ⊎ (status ≡ 66) ⊎ (status ≡ 69)
 
 pub record IsUnchanged (old new : Outside) : Type 0 where
   pub files : new.files.held ≡ old.files.held
-  pub out : new.out.taken ≡ old.out.taken
+  pub out : IsSilent old new
+
+-- Status 70: no file has changed, and what is put out is as the command says.
+pub record WasWanting (command : Command) (old new : Outside) : Type 0 where
+  pub files : new.files.held ≡ old.files.held
+  pub out : (meaning_of command).wants old new
 
 -- Status 74: a count of faults rose, or the name that is read isn't held.
 abbrev pub HasFailed : Command → Outside → Outside → Type 0

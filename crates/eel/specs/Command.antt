@@ -1,5 +1,6 @@
 -- The grammar of the program's words.
 use Rattle.std.specs.Prelude.{ℕ, ◌+◌, ◌-◌, ◌*◌, ◌^◌, ◌&&◌, nat_le, nat_lt, Bool, if◌then◌else◌, List, [], ◌∷◌, length, codes, Option, Some, None}
+use Rattle.std.specs.Borrow.{Bor}
 use Rattle.std.specs.List.{fold, list_all}
 use Rattle.std.specs.Str.{bytes_eq}
 pub use Rattle.v8_process.specs.Arguments.{texts}
@@ -11,19 +12,29 @@ use Rattle.eel.specs.declared.command.Command.TheVariants as variants
 pub data Command : Type 0 where
   -- edit INPUT OUTPUT plain
   EditPlain : (input output : List ℕ) → Command
-  -- run FILE [-n LIMIT] [-- ARG..]
-  Run : (file : List ℕ) (limit : ℕ) (args : List (List ℕ)) → Command
+  -- edit INPUT OUTPUT script SCRIPT
+  EditScript : (input output script : List ℕ) → Command
+  -- edit INPUT OUTPUT profile
+  EditProfile : (input output : List ℕ) → Command
+  -- run FILE [-n LIMIT] [-d DUMP] [-- ARG..], the two options in either order
+  Run : (file : List ℕ) (limit : ℕ) (dump : Option (List ℕ)) (args : List (List ℕ)) → Command
   -- show FILE
   Show : (file : List ℕ) → Command
   -- restore WRITTEN OUTPUT
   Restore : (written output : List ℕ) → Command
+  -- counts WRITTEN DUMP
+  Counts : (written dump : List ℕ) → Command
   -- words outside the grammar
   Unknown : Command
 
 -- ---- edit
 
 abbrev pub edit_of : List (List ℕ) → Command
-edit_of (input ∷ output ∷ tool ∷ []) = if bytes_eq tool (codes "plain") then EditPlain input output else Unknown
+edit_of (input ∷ output ∷ tool ∷ []) =
+    if bytes_eq tool (codes "plain") then EditPlain input output else
+    if bytes_eq tool (codes "profile") then EditProfile input output else Unknown
+edit_of (input ∷ output ∷ tool ∷ script ∷ []) =
+    if bytes_eq tool (codes "script") then EditScript input output script else Unknown
 edit_of _ = Unknown
 
 -- ---- run
@@ -49,24 +60,47 @@ limit_of text =
 abbrev pub are_few : List (List ℕ) → Bool
 are_few args = nat_le (length args) 1000 && nat_le (length (strings args)) (2 ^ 16)
 
-abbrev pub run_with : List ℕ → ℕ → List (List ℕ) → Command
-run_with file limit args = if are_few args then Run file limit args else Unknown
+abbrev pub run_with : List ℕ → ℕ → Option (List ℕ) → List (List ℕ) → Command
+run_with file limit dump args = if are_few args then Run file limit dump args else Unknown
 
--- what may follow the limit
-abbrev pub arguments_of : List ℕ → ℕ → List (List ℕ) → Command
-arguments_of file limit [] = Run file limit []
-arguments_of file limit (mark ∷ args) = if bytes_eq mark (codes "--") then run_with file limit args else Unknown
+-- what may follow the options
+abbrev pub arguments_of : List ℕ → ℕ → Option (List ℕ) → List (List ℕ) → Command
+arguments_of file limit dump [] = Run file limit dump []
+arguments_of file limit dump (mark ∷ args) =
+    if bytes_eq mark (codes "--") then run_with file limit dump args else Unknown
 
-abbrev pub limited : List ℕ → Option ℕ → List (List ℕ) → Command
-limited file None words = Unknown
-limited file (Some limit) words = arguments_of file limit words
+-- with a limit, if it is one
+abbrev pub limited : List ℕ → Option ℕ → Option (List ℕ) → List (List ℕ) → Command
+limited file None dump words = Unknown
+limited file (Some limit) dump words = arguments_of file limit dump words
+
+-- what may follow a dump
+abbrev pub after_dump : List ℕ → List ℕ → List (List ℕ) → Command
+after_dump file dump (option ∷ limit ∷ words) =
+    if bytes_eq option (codes "-n") then limited file (limit_of limit) (Some dump) words
+    else arguments_of file default_limit (Some dump) (option ∷ limit ∷ words)
+after_dump file dump words = arguments_of file default_limit (Some dump) words
+
+-- what may follow a limit
+abbrev pub after_limit : List ℕ → Option ℕ → List (List ℕ) → Command
+after_limit file limit (option ∷ dump ∷ words) =
+    if bytes_eq option (codes "-d") then limited file limit (Some dump) words
+    else limited file limit None (option ∷ dump ∷ words)
+after_limit file limit words = limited file limit None words
+
+-- what may follow the file, where that is no limit
+abbrev pub unlimited : List ℕ → List (List ℕ) → Command
+unlimited file (option ∷ dump ∷ words) =
+    if bytes_eq option (codes "-d") then after_dump file dump words
+    else arguments_of file default_limit None (option ∷ dump ∷ words)
+unlimited file words = arguments_of file default_limit None words
 
 -- what may follow the file
 abbrev pub options_of : List ℕ → List (List ℕ) → Command
 options_of file (option ∷ limit ∷ words) =
-    if bytes_eq option (codes "-n") then limited file (limit_of limit) words
-    else arguments_of file default_limit (option ∷ limit ∷ words)
-options_of file words = arguments_of file default_limit words
+    if bytes_eq option (codes "-n") then after_limit file (limit_of limit) words
+    else unlimited file (option ∷ limit ∷ words)
+options_of file words = unlimited file words
 
 abbrev pub run_of : List (List ℕ) → Command
 run_of [] = Unknown
@@ -84,6 +118,12 @@ abbrev pub restore_of : List (List ℕ) → Command
 restore_of (written ∷ output ∷ []) = Restore written output
 restore_of _ = Unknown
 
+-- ---- counts
+
+abbrev pub counts_of : List (List ℕ) → Command
+counts_of (written ∷ dump ∷ []) = Counts written dump
+counts_of _ = Unknown
+
 -- ---- what the words ask for
 
 abbrev pub command_of : List (List ℕ) → Command
@@ -92,17 +132,26 @@ command_of (verb ∷ words) =
     if bytes_eq verb (codes "edit") then edit_of words else
     if bytes_eq verb (codes "run") then run_of words else
     if bytes_eq verb (codes "show") then show_of words else
-    if bytes_eq verb (codes "restore") then restore_of words else Unknown
+    if bytes_eq verb (codes "restore") then restore_of words else
+    if bytes_eq verb (codes "counts") then counts_of words else Unknown
 
 -- the arguments of a run, where the command is one, are ones that a program can be given
 abbrev pub HasArguments : Command → Type 0
-HasArguments (Run file limit args) = AreArguments args
+HasArguments (Run file limit dump args) = AreArguments args
 HasArguments _ = Unit {0}
+
+-- a name, if there is one
+abbrev pub name_seen : Option (Bor (List ℕ)) → Option (List ℕ)
+name_seen None = None
+name_seen (Some name) = Some name.now
 
 -- the command that the program keeps
 abbrev pub command_seen : declared.Command → Command
 command_seen (variants.EditPlain input output) = EditPlain input.now output.now
-command_seen (variants.Run file limit args) = Run file.now limit (texts args.now)
+command_seen (variants.EditScript input output script) = EditScript input.now output.now script.now
+command_seen (variants.Run file limit dump args) = Run file.now limit (name_seen dump) (texts args.now)
 command_seen (variants.Show file) = Show file.now
 command_seen (variants.Restore written output) = Restore written.now output.now
+command_seen (variants.EditProfile input output) = EditProfile input.now output.now
+command_seen (variants.Counts written dump) = Counts written.now dump.now
 command_seen variants.Unknown = Unknown

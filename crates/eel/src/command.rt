@@ -5,7 +5,7 @@ ghost use Rattle.std.specs.List.{All, list_all};
 ghost use Rattle.v8_step.specs.Valid.{AreBytes};
 ghost use Rattle.v8_process.specs.Arguments.{AreArguments};
 ghost use Rattle.v8_process.specs.Start.{strings};
-ghost use Rattle.eel.specs.Command.{HasArguments, command_of, command_seen, edit_of, run_of, options_of, arguments_of, are_few, is_digit, limit_of, restore_of, show_of, texts};
+ghost use Rattle.eel.specs.Command.{HasArguments, command_of, command_seen, edit_of, run_of, options_of, after_limit, after_dump, limited, arguments_of, are_few, is_digit, limit_of, name_seen, restore_of, counts_of, show_of, texts, unlimited};
 
 /// What the words ask for.
 #[derive(Clone, Copy)]
@@ -15,10 +15,23 @@ pub enum Command<'a> {
         input: &'a str,
         output: &'a str,
     },
-    /// `run FILE [-n LIMIT] [-- ARG..]`: run the program `file` with these arguments, for `limit` steps at most.
+    /// `edit INPUT OUTPUT script SCRIPT`: write it with what the lines of the file `script` say.
+    EditScript {
+        input: &'a str,
+        output: &'a str,
+        script: &'a str,
+    },
+    /// `edit INPUT OUTPUT profile`: write it with counters on the edges off a spanning tree.
+    EditProfile {
+        input: &'a str,
+        output: &'a str,
+    },
+    /// `run FILE [-n LIMIT] [-d DUMP] [-- ARG..]`: run the program `file` with these arguments, for `limit` steps at
+    /// most, and write what it has come to as the file `dump`, where one is named.
     Run {
         file: &'a str,
         limit: u64,
+        dump: Option<&'a str>,
         args: &'a [&'a str],
     },
     /// `show FILE`: print the routines, blocks and edges of the program `file`.
@@ -29,6 +42,12 @@ pub enum Command<'a> {
     Restore {
         written: &'a str,
         output: &'a str,
+    },
+    /// `counts WRITTEN DUMP`: print how often each edge was completed by the run of the file `written` that came to the
+    /// dump `dump`.
+    Counts {
+        written: &'a str,
+        dump: &'a str,
     },
     /// The words are outside the grammar.
     Unknown,
@@ -56,6 +75,7 @@ pub fn parse<'a>(words: &'a [&'a str]) -> Command<'a>
         [verb, words @ ..] if *verb == "run" => parse_run(words),
         [verb, words @ ..] if *verb == "show" => parse_show(words),
         [verb, words @ ..] if *verb == "restore" => parse_restore(words),
+        [verb, words @ ..] if *verb == "counts" => parse_counts(words),
         _ => Command::Unknown,
     }
 }
@@ -66,6 +86,12 @@ fn parse_edit<'a>(words: &'a [&'a str]) -> Command<'a>
 {
     match words {
         [input, output, tool] if *tool == "plain" => Command::EditPlain { input, output },
+        [input, output, tool] if *tool == "profile" => Command::EditProfile { input, output },
+        [input, output, tool, script] if *tool == "script" => Command::EditScript {
+            input,
+            output,
+            script,
+        },
         _ => Command::Unknown,
     }
 }
@@ -90,7 +116,17 @@ fn parse_restore<'a>(words: &'a [&'a str]) -> Command<'a>
     }
 }
 
-/// What follows the word `run`: the file, a limit that `-n` names, and arguments after `--`.
+/// What follows the word `counts`.
+fn parse_counts<'a>(words: &'a [&'a str]) -> Command<'a>
+    ensures { command_seen result ≡ counts_of (texts words.now) }
+{
+    match words {
+        [written, dump] => Command::Counts { written, dump },
+        _ => Command::Unknown,
+    }
+}
+
+/// What follows the word `run`: the file, a limit after `-n`, a dump after `-d`, and arguments after `--`.
 fn parse_run<'a>(words: &'a [&'a str]) -> Command<'a>
     ensures command { command_seen result ≡ run_of (texts words.now) }
     ensures few { HasArguments (command_seen result) }
@@ -107,26 +143,89 @@ fn parse_options<'a>(file: &'a str, words: &'a [&'a str]) -> Command<'a>
     ensures few { HasArguments (command_seen result) }
 {
     match words {
-        [option, limit, words @ ..] if *option == "-n" => match parse_limit(limit) {
-            Some(limit) => parse_arguments(file, limit, words),
-            None => Command::Unknown,
-        },
-        _ => parse_arguments(file, DEFAULT_LIMIT, words),
+        [option, limit, words @ ..] if *option == "-n" => {
+            parse_after_limit(file, parse_limit(limit), words)
+        }
+        _ => parse_unlimited(file, words),
+    }
+}
+
+/// What follows the file, where that is no limit.
+fn parse_unlimited<'a>(file: &'a str, words: &'a [&'a str]) -> Command<'a>
+    ensures command { command_seen result ≡ unlimited file.now (texts words.now) }
+    ensures few { HasArguments (command_seen result) }
+{
+    match words {
+        [option, dump, words @ ..] if *option == "-d" => parse_after_dump(file, dump, words),
+        _ => parse_arguments(file, DEFAULT_LIMIT, None, words),
+    }
+}
+
+/// What follows a limit.
+fn parse_after_limit<'a>(file: &'a str, limit: Option<u64>, words: &'a [&'a str]) -> Command<'a>
+    ensures command { command_seen result ≡ after_limit file.now limit (texts words.now) }
+    ensures few { HasArguments (command_seen result) }
+{
+    match words {
+        [option, dump, words @ ..] if *option == "-d" => {
+            parse_limited(file, limit, Some(dump), words)
+        }
+        _ => parse_limited(file, limit, None, words),
+    }
+}
+
+/// What follows a dump.
+fn parse_after_dump<'a>(file: &'a str, dump: &'a str, words: &'a [&'a str]) -> Command<'a>
+    ensures command { command_seen result ≡ after_dump file.now dump.now (texts words.now) }
+    ensures few { HasArguments (command_seen result) }
+{
+    match words {
+        [option, limit, words @ ..] if *option == "-n" => {
+            parse_limited(file, parse_limit(limit), Some(dump), words)
+        }
+        _ => parse_arguments(file, DEFAULT_LIMIT, Some(dump), words),
+    }
+}
+
+/// What follows the options, with a limit, if it is one.
+fn parse_limited<'a>(
+    file: &'a str,
+    limit: Option<u64>,
+    dump: Option<&'a str>,
+    words: &'a [&'a str],
+) -> Command<'a>
+    ensures command { command_seen result ≡ limited file.now limit (name_seen dump.entry) (texts words.now) }
+    ensures few { HasArguments (command_seen result) }
+{
+    match limit {
+        Some(limit) => parse_arguments(file, limit, dump, words),
+        None => Command::Unknown,
     }
 }
 
 /// What follows the options.
-fn parse_arguments<'a>(file: &'a str, limit: u64, words: &'a [&'a str]) -> Command<'a>
-    ensures command { command_seen result ≡ arguments_of file.now limit (texts words.now) }
+fn parse_arguments<'a>(
+    file: &'a str,
+    limit: u64,
+    dump: Option<&'a str>,
+    words: &'a [&'a str],
+) -> Command<'a>
+    ensures command { command_seen result ≡ arguments_of file.now limit (name_seen dump.entry) (texts words.now) }
     ensures few { HasArguments (command_seen result) }
 {
     match words {
         [] => Command::Run {
             file,
             limit,
+            dump,
             args: words,
         },
-        [mark, args @ ..] if *mark == "--" && are_few(args) => Command::Run { file, limit, args },
+        [mark, args @ ..] if *mark == "--" && are_few(args) => Command::Run {
+            file,
+            limit,
+            dump,
+            args,
+        },
         _ => Command::Unknown,
     }
 }

@@ -1,17 +1,28 @@
 //! The command `edit`.
-ghost use Rattle.std.specs.Prelude.{◌≡◌, ◌≤◌};
+ghost use Rattle.std.specs.Prelude.{◌≡◌, ◌≤◌, ◌^◌, IfErr, IfOk, OnOk, length};
+ghost use Rattle.edit_core.specs.Taken.{EditRefuses};
+ghost use Rattle.tool_kit.specs.Plans.{Plan};
 ghost use Rattle.eel.specs.Outcome.{outcome_seen};
+ghost use Rattle.eel.specs.Answers.Files.{IsNotSound, IsSound};
 ghost use Rattle.eel.specs.Answers.Shared.{store};
-ghost use Rattle.eel.specs.Answers.Edit.{Edits, refusal_of};
+ghost use Rattle.eel.specs.Answers.Edit.{Edits, IsEditOf, edges_in, plain_plan, refusal_of};
+ghost use Rattle.eel.specs.Answers.Script.{HasCells, IsBadScript, IsNotScripted, IsReadAs, IsScripted, Scripts, script_plan, script_refusal_of};
 
-use crate::outcome::Outcome;
+use crate::outcome::{LineCause, Outcome};
 use crate::texts::{fetch_file, put_file};
+use cfg_view::look;
 use edit_core::{EditFault, edit_bytes};
 use eel_base::Files;
+use elf32_sparc::ReadFault;
+use snippets::{Script, ScriptFault, Snippet, read_script};
 use std::alloc::Global;
+use tool_kit::{Chooser, EdgeRef, Tool, ToolKind};
 
 /// How many bytes a file may have that is edited or shown.
 pub const EDIT_LIMIT: u64 = 64 << 20;
+
+/// How many bytes a script may have.
+const SCRIPT_LIMIT: u64 = 16 << 20;
 
 /// Reads `input`, edits it without snippets, and writes `output`.
 pub fn edit_plain<'a, F: Files>(
@@ -28,14 +39,68 @@ pub fn edit_plain<'a, F: Files>(
         Ok(bytes) => bytes,
         Err(outcome) => return outcome,
     };
-    match edit_bytes(alloc, &bytes) {
-        Ok(written) => put_file(files, output, &written),
+    match without_snippets(alloc, &bytes) {
+        Ok(edited) => put_file(files, output, &edited),
         Err(fault) => refusal(input, fault),
     }
 }
 
+/// Reads `input` and `script`, edits the one as the other says, and writes `output`.
+pub fn edit_by_script<'a, F: Files>(
+    alloc: Global,
+    files: &mut F,
+    input: &'a str,
+    output: &str,
+    script: &'a str,
+) -> Outcome<'a>
+    ensures scripts { Scripts input.now output.now script.now (store (F.held files.old) (F.faults files.old))
+        (store (F.held files.new) (F.faults files.new)) (outcome_seen result) }
+    ensures later { F.faults files.old ≤ F.faults files.new }
+{
+    let bytes = match fetch_file(alloc, files, input, EDIT_LIMIT) {
+        Ok(bytes) => bytes,
+        Err(outcome) => return outcome,
+    };
+    let lines = match fetch_file(alloc, files, script, SCRIPT_LIMIT) {
+        Ok(lines) => lines,
+        Err(outcome) => return outcome,
+    };
+    match scripted(alloc, input, &bytes, script, &lines) {
+        Ok(written) => put_file(files, output, &written),
+        Err(outcome) => outcome,
+    }
+}
+
+// ---- without snippets
+
+/// The edit of a file with nothing on any edge.
+fn without_snippets(alloc: Global, bytes: &[u8]) -> Result<Vec<u8>, EditFault>
+    requires { length bytes.now ≤ 2 ^ 26 }
+    ensures edited { IfOk result (λ file. IsEditOf bytes.now (plain_plan bytes.now) file.items) }
+    ensures refused { IfErr result (EditRefuses bytes.now (λ plan. plan ≡ plain_plan bytes.now)) }
+{
+    let tool = Tool::new(Nothing, 0, Vec::new(alloc), ToolKind::Plain);
+    edit_bytes(alloc, bytes, &tool)
+}
+
+/// Nothing is done on any edge.
+#[derive(Clone, Copy, Drop)]
+struct Nothing;
+
+impl Chooser for Nothing {
+    ghost use Rattle.std.specs.Prelude.{◌≡◌, []};
+
+    ghost may = { λ nothing edge. Unit {0} };
+
+    ghost says = { λ nothing edge ops. ops ≡ [] };
+
+    fn choose(&self, _edge: EdgeRef) -> Snippet {
+        Snippet::empty()
+    }
+}
+
 /// What a refused edit of the file `name` comes to.
-fn refusal<'a>(name: &'a str, fault: EditFault) -> Outcome<'a>
+pub fn refusal<'a>(name: &'a str, fault: EditFault) -> Outcome<'a>
     ensures { outcome_seen result ≡ refusal_of name.now fault }
 {
     match fault {
@@ -45,5 +110,125 @@ fn refusal<'a>(name: &'a str, fault: EditFault) -> Outcome<'a>
         },
         EditFault::Room { needed, had } => Outcome::NoRoom { name, needed, had },
         EditFault::NoMemory => Outcome::OutOfMemory,
+    }
+}
+
+// ---- by a script
+
+/// The edit of the file `input` as the lines of the file `script` say.
+fn scripted<'a>(
+    alloc: Global,
+    input: &'a str,
+    bytes: &[u8],
+    script: &'a str,
+    lines: &[u8],
+) -> Result<Vec<u8>, Outcome<'a>>
+    requires bytes { length bytes.now ≤ 2 ^ 26 }
+    requires lines { length lines.now ≤ 2 ^ 24 }
+    ensures edited { IfOk result (λ file. (plan : Plan) × IsScripted bytes.now lines.now plan
+        × IsEditOf bytes.now plan file.items) }
+    ensures refused { IfErr result (λ outcome.
+        IsNotScripted input.now bytes.now script.now lines.now (outcome_seen outcome)) }
+{
+    let edges = match edge_count(alloc, input, bytes) {
+        Ok(edges) => edges,
+        Err(outcome) => return Err(outcome),
+    };
+    let script = match script_in(alloc, script, lines, edges) {
+        Ok(script) => script,
+        Err(outcome) => return Err(outcome),
+    };
+    match with_snippets(alloc, bytes, &script) {
+        Ok(written) => Ok(written),
+        Err(fault) => Err(refusal(input, fault)),
+    }
+}
+
+/// How many edges the graph of the file `name` has.
+fn edge_count<'a>(alloc: Global, name: &'a str, bytes: &[u8]) -> Result<u32, Outcome<'a>>
+    ensures count { IfOk result (λ count. count ≡ length (edges_in bytes.now)) }
+    ensures sound { OnOk result (IsSound bytes.now) }
+    ensures refused { IfErr result (λ outcome. IsNotSound name.now bytes.now (outcome_seen outcome)) }
+{
+    match look(alloc, bytes, &[]) {
+        Ok(view) => Ok(view.graph.edges().len() as u32),
+        Err(ReadFault::File(fault)) => Err(Outcome::BadFile {
+            name,
+            code: fault.code(),
+        }),
+        Err(ReadFault::NoMemory) => Err(Outcome::OutOfMemory),
+    }
+}
+
+/// The script that the lines of the file `name` are, for a graph of so many edges.
+fn script_in<'a>(
+    alloc: Global,
+    name: &'a str,
+    lines: &[u8],
+    edges: u32,
+) -> Result<Script, Outcome<'a>>
+    requires { length lines.now ≤ 2 ^ 24 }
+    ensures script { IfOk result (λ script. IsReadAs edges lines.now script) }
+    ensures cells { IfOk result (λ script. HasCells script) }
+    ensures refused { IfErr result (λ outcome. IsBadScript edges name.now lines.now (outcome_seen outcome)) }
+{
+    match read_script(alloc, lines, edges) {
+        Ok(script) => Ok(script),
+        Err(fault) => Err(script_refusal(name, fault)),
+    }
+}
+
+/// What a refused script of the file `name` comes to.
+fn script_refusal<'a>(name: &'a str, fault: ScriptFault) -> Outcome<'a>
+    ensures { outcome_seen result ≡ script_refusal_of name.now fault }
+{
+    let (number, cause) = match fault {
+        ScriptFault::Line(number) => (number, LineCause::Grammar),
+        ScriptFault::Edge(number) => (number, LineCause::Edge),
+        ScriptFault::Cell(number) => (number, LineCause::Cell),
+        ScriptFault::Ops(number) => (number, LineCause::Operations),
+        ScriptFault::NoMemory => return Outcome::OutOfMemory,
+    };
+    Outcome::BadLine {
+        name,
+        number,
+        cause,
+    }
+}
+
+/// The edit of a file with a script's snippets on its edges.
+fn with_snippets(alloc: Global, bytes: &[u8], script: &Script) -> Result<Vec<u8>, EditFault>
+    requires bytes { length bytes.now ≤ 2 ^ 26 }
+    requires cells { HasCells script.now }
+    ensures edited { let plan = script_plan bytes.now script.now.snips.items script.now.cells in
+        IfOk result (λ file. IsEditOf bytes.now plan file.items) }
+    ensures refused { let plan = script_plan bytes.now script.now.snips.items script.now.cells in
+        IfErr result (EditRefuses bytes.now (λ other. other ≡ plan)) }
+{
+    let named = Named {
+        snips: &script.snips,
+    };
+    let tool = Tool::new(named, script.cells, Vec::new(alloc), ToolKind::Script);
+    edit_bytes(alloc, bytes, &tool)
+}
+
+/// What a script names on each edge. Those past the last have nothing on them.
+#[derive(Clone, Copy, Drop)]
+struct Named<'a> {
+    snips: &'a [Snippet],
+}
+
+impl Chooser for Named<'_> {
+    ghost use Rattle.std.specs.Prelude.{◌≡◌, get_or, []};
+
+    ghost may = { λ named edge. Unit {0} };
+
+    ghost says = { λ named edge ops. ops ≡ get_or named.snips.now edge.no.0 [] };
+
+    fn choose(&self, edge: EdgeRef) -> Snippet {
+        match self.snips.get(edge.no.0 as usize) {
+            Some(snippet) => *snippet,
+            None => Snippet::empty(),
+        }
     }
 }

@@ -3,12 +3,16 @@
 #![tactic(auto)]
 
 mod command;
+mod counting;
+mod dumps;
 mod edit;
 mod listing;
 mod outcome;
+mod profiling;
 mod restore;
 mod run;
 mod texts;
+mod tooling;
 mod top;
 
 pub use outcome::{Outcome, show};

@@ -1,9 +1,10 @@
 //! What came of a command, and how the program shows it.
-ghost use Rattle.std.specs.Prelude.{◌≡◌, ◌≤◌, ◌++◌, ◌∷◌, [], OnOk, OnErr};
+ghost use Rattle.std.specs.Prelude.{◌≡◌, ◌≤◌, ◌++◌, ◌∷◌, [], codes, OnOk, OnErr};
 ghost use Rattle.eel_base.specs.Outside.{Rose, appended, TookPart};
-ghost use Rattle.eel.specs.Outcome.{outcome_seen, status_of, ending_text, line_of, stream, Shows, joined};
+ghost use Rattle.eel.specs.Outcome.{BadLine, cause_text as cause_text_of, outcome_seen, status_of, ending_text, line_of, stream, Shows, joined, NoCounts, line_about};
+ghost use Rattle.eel.specs.declared.outcome.CountCause.TheVariants as count_causes;
 
-use eel_base::{Failed, Sink, put_all};
+use eel_base::{Addr, EdgeNo, Failed, Sink, hex8, put_all};
 use itoa::Buffer;
 use v8_step::Ending;
 
@@ -29,6 +30,12 @@ pub enum Outcome<'a> {
         name: &'a str,
         limit: u64,
     },
+    /// The line of the script `name` with this number, counted from 1, is bad.
+    BadLine {
+        name: &'a str,
+        number: u32,
+        cause: LineCause,
+    },
     /// The edit of the file `name` asks for `needed` bytes of room, and there are `had`.
     NoRoom {
         name: &'a str,
@@ -44,8 +51,48 @@ pub enum Outcome<'a> {
         name: &'a str,
         at: u32,
     },
+    /// The dump `name` breaks a rule, first with its number at the offset `at`.
+    BadDump {
+        name: &'a str,
+        at: u32,
+    },
+    /// The notes of the file `name` are not those of a profile.
+    NoProfile {
+        name: &'a str,
+    },
+    /// No counts can be rebuilt of the dump `name`.
+    NoCounts {
+        name: &'a str,
+        cause: CountCause,
+    },
     OutOfMemory,
     DeviceFault,
+}
+
+/// What is bad about a line of a script.
+#[derive(Clone, Copy)]
+pub enum LineCause {
+    /// It is outside the grammar.
+    Grammar,
+    /// It names an edge that isn't there.
+    Edge,
+    /// Its cell is too great.
+    Cell,
+    /// Its edge has no place for another operation.
+    Operations,
+}
+
+/// Why no counts can be rebuilt of a dump.
+#[derive(Clone, Copy)]
+pub enum CountCause {
+    /// It has so many cells, and the notes want another number.
+    Shape { cells: u32, wanted: u32 },
+    /// The run made so many steps, that a cell may have begun at 0 again.
+    Steps(u64),
+    /// The run stands at this address, in new code that is no instruction's place.
+    Between(Addr),
+    /// This edge would have been completed a number of times below 0.
+    Negative { edge: EdgeNo, value: i64 },
 }
 
 /// The status after a device failed, and where a line can't be written.
@@ -59,7 +106,13 @@ impl Outcome<'_> {
         match self {
             Outcome::Done | Outcome::Stopped { .. } => 0,
             Outcome::BadWords => 64,
-            Outcome::BadFile { .. } | Outcome::NoNotes { .. } | Outcome::BadNotes { .. } => 65,
+            Outcome::BadFile { .. }
+            | Outcome::BadLine { .. }
+            | Outcome::NoNotes { .. }
+            | Outcome::BadNotes { .. }
+            | Outcome::BadDump { .. }
+            | Outcome::NoProfile { .. }
+            | Outcome::NoCounts { .. } => 65,
             Outcome::TooLong { .. } => 66,
             Outcome::NoRoom { .. } => 69,
             Outcome::OutOfMemory => 70,
@@ -99,6 +152,11 @@ fn put_line<E: Sink>(outcome: &Outcome, err: &mut E) -> Result<(), Failed>
                 &[b"eel: ", name.as_bytes(), b": file fault ", code, b"\n"],
             )
         }
+        Outcome::BadLine {
+            name,
+            number,
+            cause,
+        } => put_bad_line(name, *number, *cause, err),
         Outcome::TooLong { name, limit } => {
             let mut digits = Buffer::new();
             let limit = digits.format(*limit).as_bytes();
@@ -142,9 +200,170 @@ fn put_line<E: Sink>(outcome: &Outcome, err: &mut E) -> Result<(), Failed>
                 &[b"eel: ", name.as_bytes(), b": bad notes at ", at, b"\n"],
             )
         }
+        Outcome::BadDump { name, at } => {
+            let mut digits = Buffer::new();
+            let at = digits.format(*at).as_bytes();
+            put_pieces(
+                err,
+                &[b"eel: ", name.as_bytes(), b": bad dump at ", at, b"\n"],
+            )
+        }
+        Outcome::NoProfile { name } => {
+            put_pieces(err, &[b"eel: ", name.as_bytes(), b": no profile\n"])
+        }
+        Outcome::NoCounts { name, cause } => put_no_counts(name, *cause, err),
         Outcome::OutOfMemory => put_pieces(err, &[b"eel: out of memory\n"]),
         Outcome::DeviceFault => put_pieces(err, &[b"eel: device fault\n"]),
     }
+}
+
+/// Writes that a line of the script `name` is bad.
+fn put_bad_line<E: Sink>(
+    name: &str,
+    number: u32,
+    cause: LineCause,
+    err: &mut E,
+) -> Result<(), Failed>
+    ensures all { OnOk result (E.taken err.new ≡ appended (E.taken err.old) (line_of (BadLine name.now number cause))) }
+    ensures part { OnErr result (TookPart (E.taken err.old) (E.taken err.new) (line_of (BadLine name.now number cause))) }
+    ensures failed { OnErr result (Rose (E.faults err.old) (E.faults err.new)) }
+    ensures later { E.faults err.old ≤ E.faults err.new }
+{
+    let mut digits = Buffer::new();
+    let number = digits.format(number).as_bytes();
+    let cause = cause_text(cause);
+    put_pieces(
+        err,
+        &[
+            b"eel: ",
+            name.as_bytes(),
+            b": line ",
+            number,
+            b": ",
+            cause,
+            b"\n",
+        ],
+    )
+}
+
+/// What is bad about a line, as it is told.
+fn cause_text<'a>(cause: LineCause) -> &'a [u8]
+    ensures { result.now ≡ cause_text_of cause }
+{
+    match cause {
+        LineCause::Grammar => b"grammar",
+        LineCause::Edge => b"edge",
+        LineCause::Cell => b"cell",
+        LineCause::Operations => b"operations",
+    }
+}
+
+/// Writes why the dump `name` has no counts.
+fn put_no_counts<E: Sink>(name: &str, cause: CountCause, err: &mut E) -> Result<(), Failed>
+    ensures all { OnOk result (E.taken err.new ≡ appended (E.taken err.old) (line_of (NoCounts name.now cause))) }
+    ensures part { OnErr result (TookPart (E.taken err.old) (E.taken err.new) (line_of (NoCounts name.now cause))) }
+    ensures failed { OnErr result (Rose (E.faults err.old) (E.faults err.new)) }
+    ensures later { E.faults err.old ≤ E.faults err.new }
+{
+    match cause {
+        CountCause::Shape { cells, wanted } => put_shape(name, cells, wanted, err),
+        CountCause::Steps(steps) => put_steps(name, steps, err),
+        CountCause::Between(pc) => put_between(name, pc, err),
+        CountCause::Negative { edge, value } => put_negative(name, edge, value, err),
+    }
+}
+
+/// Writes that it has so many cells, and another number is wanted.
+fn put_shape<E: Sink>(name: &str, cells: u32, wanted: u32, err: &mut E) -> Result<(), Failed>
+    ensures all { OnOk result (E.taken err.new ≡ appended (E.taken err.old) (line_of (NoCounts name.now (count_causes.Shape cells wanted)))) }
+    ensures part { OnErr result (TookPart (E.taken err.old) (E.taken err.new) (line_of (NoCounts name.now (count_causes.Shape cells wanted)))) }
+    ensures failed { OnErr result (Rose (E.faults err.old) (E.faults err.new)) }
+    ensures later { E.faults err.old ≤ E.faults err.new }
+{
+    let mut cell_digits = Buffer::new();
+    let mut wanted_digits = Buffer::new();
+    let cells = cell_digits.format(cells).as_bytes();
+    let wanted = wanted_digits.format(wanted).as_bytes();
+    put_pieces(
+        err,
+        &[
+            b"eel: ",
+            name.as_bytes(),
+            b": ",
+            cells,
+            b" cells, ",
+            wanted,
+            b" wanted\n",
+        ],
+    )
+}
+
+/// Writes that the run made so many steps.
+fn put_steps<E: Sink>(name: &str, steps: u64, err: &mut E) -> Result<(), Failed>
+    ensures all { OnOk result (E.taken err.new ≡ appended (E.taken err.old) (line_of (NoCounts name.now (count_causes.Steps steps)))) }
+    ensures part { OnErr result (TookPart (E.taken err.old) (E.taken err.new) (line_of (NoCounts name.now (count_causes.Steps steps)))) }
+    ensures failed { OnErr result (Rose (E.faults err.old) (E.faults err.new)) }
+    ensures later { E.faults err.old ≤ E.faults err.new }
+{
+    let mut digits = Buffer::new();
+    let steps = digits.format(steps).as_bytes();
+    put_pieces(err, &[b"eel: ", name.as_bytes(), b": ", steps, b" steps\n"])
+}
+
+/// Writes that the run stands between places.
+fn put_between<E: Sink>(name: &str, pc: Addr, err: &mut E) -> Result<(), Failed>
+    ensures all { OnOk result (E.taken err.new ≡ appended (E.taken err.old) (line_of (NoCounts name.now (count_causes.Between pc)))) }
+    ensures part { OnErr result (TookPart (E.taken err.old) (E.taken err.new) (line_of (NoCounts name.now (count_causes.Between pc)))) }
+    ensures failed { OnErr result (Rose (E.faults err.old) (E.faults err.new)) }
+    ensures later { E.faults err.old ≤ E.faults err.new }
+{
+    put_place(name, &hex8(pc.0), err)
+}
+
+/// The same, of an address by its digits.
+fn put_place<E: Sink>(name: &str, digits: &[u8], err: &mut E) -> Result<(), Failed>
+    ensures all { OnOk result (E.taken err.new ≡ appended (E.taken err.old)
+        (line_about name.now (codes "pc " ++ digits.now ++ codes " between places"))) }
+    ensures part { OnErr result (TookPart (E.taken err.old) (E.taken err.new)
+        (line_about name.now (codes "pc " ++ digits.now ++ codes " between places"))) }
+    ensures failed { OnErr result (Rose (E.faults err.old) (E.faults err.new)) }
+    ensures later { E.faults err.old ≤ E.faults err.new }
+{
+    put_pieces(
+        err,
+        &[
+            b"eel: ",
+            name.as_bytes(),
+            b": pc ",
+            digits,
+            b" between places\n",
+        ],
+    )
+}
+
+/// Writes that the edge would have this count.
+fn put_negative<E: Sink>(name: &str, edge: EdgeNo, value: i64, err: &mut E) -> Result<(), Failed>
+    ensures all { OnOk result (E.taken err.new ≡ appended (E.taken err.old) (line_of (NoCounts name.now (count_causes.Negative edge value)))) }
+    ensures part { OnErr result (TookPart (E.taken err.old) (E.taken err.new) (line_of (NoCounts name.now (count_causes.Negative edge value)))) }
+    ensures failed { OnErr result (Rose (E.faults err.old) (E.faults err.new)) }
+    ensures later { E.faults err.old ≤ E.faults err.new }
+{
+    let mut edge_digits = Buffer::new();
+    let mut value_digits = Buffer::new();
+    let edge = edge_digits.format(edge.0).as_bytes();
+    let value = value_digits.format(value).as_bytes();
+    put_pieces(
+        err,
+        &[
+            b"eel: ",
+            name.as_bytes(),
+            b": edge ",
+            edge,
+            b" would be ",
+            value,
+            b"\n",
+        ],
+    )
 }
 
 /// Writes how a run ended, or that it was stopped after so many steps.

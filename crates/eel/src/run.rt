@@ -64,7 +64,7 @@ pub fn run_program<'a, F: Files, I: Source, O: Sink, E: Sink>(
 }
 
 /// The machine that is about to run the program.
-fn start<'a>(
+pub fn start<'a>(
     alloc: Global,
     job: Job<'a>,
     bytes: &[u8],
@@ -105,7 +105,7 @@ fn run_machine<O: Sink, E: Sink>(
 }
 
 /// What the end of a run comes to.
-fn outcome_of(end: RunEnd) -> Outcome<'static>
+pub fn outcome_of(end: RunEnd) -> Outcome<'static>
     ensures { outcome_seen result ≡ stopped_of end.stop end.steps }
 {
     match end.stop {

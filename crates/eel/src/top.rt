@@ -3,12 +3,15 @@ ghost use Rattle.std.specs.Prelude.{◌≡◌, ◌≤◌};
 ghost use Rattle.eel.specs.Command.{command_of, texts};
 ghost use Rattle.eel.specs.Outcome.{outcome_seen, stream};
 ghost use Rattle.eel.specs.Answers.Shared.{outside, store, feed};
-ghost use Rattle.eel.specs.Answers.{HasFailed, IsDone, IsRefusal, IsUnchanged, Ran, meaning_of};
+ghost use Rattle.eel.specs.Answers.{HasFailed, IsDone, IsRefusal, IsUnchanged, Ran, WasWanting, meaning_of};
 
 use crate::command::{Command, parse};
-use crate::edit::edit_plain;
+use crate::counting::count_edges;
+use crate::dumps::run_for_dump;
+use crate::edit::{edit_by_script, edit_plain};
 use crate::listing::show_program;
 use crate::outcome::{Outcome, show};
+use crate::profiling::edit_for_counts;
 use crate::restore::restore_original;
 use crate::run::{Job, run_program};
 use eel_base::{Files, Sink, Source};
@@ -39,6 +42,13 @@ pub fn eel<F: Files, I: Source, O: Sink, E: Sink>(
 
     // A refusal changes no file and puts nothing out.
     ensures refused { IsRefusal result → IsUnchanged
+        (outside (store (F.held files.old) (F.faults files.old)) (feed (I.left input.old) (I.faults input.old))
+        (stream (O.taken out.old) (O.faults out.old)) (stream (E.taken err.old) (E.faults err.old)))
+        (outside (store (F.held files.new) (F.faults files.new)) (feed (I.left input.new) (I.faults input.new))
+        (stream (O.taken out.new) (O.faults out.new)) (stream (E.taken err.new) (E.faults err.new))) }
+
+    // Nor does want of memory change a file. It puts nothing out, or comes once a program has run.
+    ensures wanting { result ≡ 70 → WasWanting (command_of (texts words.now))
         (outside (store (F.held files.old) (F.faults files.old)) (feed (I.left input.old) (I.faults input.old))
         (stream (O.taken out.old) (O.faults out.old)) (stream (E.taken err.old) (E.faults err.old)))
         (outside (store (F.held files.new) (F.faults files.new)) (feed (I.left input.new) (I.faults input.new))
@@ -77,11 +87,35 @@ fn perform<'a, F: Files, I: Source, O: Sink, E: Sink>(
 {
     match parse(words) {
         Command::EditPlain { input, output } => edit_plain(alloc, files, input, output),
-        Command::Run { file, limit, args } => {
-            run_program(alloc, Job { file, limit, args }, files, input, out, err)
-        }
+        Command::EditScript {
+            input,
+            output,
+            script,
+        } => edit_by_script(alloc, files, input, output, script),
+        Command::Run {
+            file,
+            limit,
+            dump: None,
+            args,
+        } => run_program(alloc, Job { file, limit, args }, files, input, out, err),
+        Command::Run {
+            file,
+            limit,
+            dump: Some(dump),
+            args,
+        } => run_for_dump(
+            alloc,
+            Job { file, limit, args },
+            dump,
+            files,
+            input,
+            out,
+            err,
+        ),
         Command::Show { file } => show_program(alloc, file, files, out),
         Command::Restore { written, output } => restore_original(alloc, files, written, output),
+        Command::EditProfile { input, output } => edit_for_counts(alloc, files, input, output),
+        Command::Counts { written, dump } => count_edges(alloc, files, written, dump, out),
         Command::Unknown => Outcome::BadWords,
     }
 }

@@ -42,8 +42,8 @@ impl Session {
     /// Does what a line of a script says. A line that begins with `eel` is a call, and has an answer. The others:
     /// `hold NAME` holds this file of the script's folder, `zeros NAME COUNT` so many zeros, `input NAME READ ..`
     /// makes the file the input, of which these reads are to fail, `room OUT ERR` says how much the streams take,
-    /// `fail CALL ..` begins anew with no file, where these calls of the files are to fail, and `same NAME NAME`
-    /// is refused where the two files differ.
+    /// `fail CALL ..` begins anew with no file, where these calls of the files are to fail, `same NAME NAME` is refused
+    /// where the two files differ, and `cells DUMP NAME` where the dump's cells are other words than the file's.
     pub fn act(
         &mut self,
         alloc: Global,
@@ -79,6 +79,12 @@ impl Session {
                 }
                 Ok(None)
             }
+            [verb, dump, words] if *verb == "cells" => {
+                if self.files.get(dump).and_then(cells) != self.files.get(words) {
+                    return Err(Refusal::Different);
+                }
+                Ok(None)
+            }
             [verb, calls @ ..] if *verb == "fail" => {
                 self.files = MemFiles::new(alloc, numbers(alloc, calls)?);
                 Ok(None)
@@ -105,6 +111,11 @@ impl Session {
         );
         Ok(Answer { status, out, err })
     }
+}
+
+/// The bytes of a dump's cells.
+fn cells(dump: &[u8]) -> Option<&[u8]> {
+    dump.get(32..)
 }
 
 fn number(word: &str) -> Result<usize, Refusal> {

@@ -1,8 +1,8 @@
-//! Callbacks that choose snippets.
+//! What chooses snippets.
 use crate::edge_ref::EdgeRef;
 use snippets::Snippet;
 
-/// What answers a snippet for an edge, as each `Fn(EdgeRef) -> Snippet` does.
+/// What answers a snippet for an edge.
 pub trait Chooser: Drop {
     ghost use Rattle.std.specs.Prelude.{List};
     ghost use Rattle.snippets.specs.declared.snippet.Op.{Op};
@@ -18,14 +18,4 @@ pub trait Chooser: Drop {
     fn choose(&self, edge: EdgeRef) -> Snippet
         requires { may self.now edge }
         ensures { says self.now edge result };
-}
-
-impl<F: Fn(EdgeRef) -> Snippet> Chooser for F {
-    ghost may = { λ f edge. F.pre f edge };
-
-    ghost says = { λ f edge ops. F.post f edge ops };
-
-    fn choose(&self, edge: EdgeRef) -> Snippet {
-        self(edge)
-    }
 }

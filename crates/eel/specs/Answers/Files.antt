@@ -2,6 +2,7 @@
 use Rattle.std.specs.Prelude.{◌≡◌, ℕ, List, Some, None}
 use Rattle.elf32_sparc.specs.declared.fault.FileFault.{FileFault}
 use Rattle.elf32_sparc.specs.FileFault.{fault, load_fault, code_of}
+use Rattle.eel.specs.Outcome.{Outcome, BadFile, OutOfMemory}
 
 -- a file without a fault
 abbrev pub IsSound : List ℕ → Type 0
@@ -14,3 +15,9 @@ IsFaulty code bytes = (first : FileFault) × (fault bytes ≡ Some first) × (co
 -- one that can't be run
 abbrev pub IsNotLoaded : ℕ → List ℕ → Type 0
 IsNotLoaded code bytes = (first : FileFault) × (load_fault bytes ≡ Some first) × (code ≡ code_of first)
+
+-- a file isn't looked at further, and this comes of it
+abbrev pub IsNotSound : List ℕ → List ℕ → Outcome → Type 0
+IsNotSound name bytes (BadFile named code) = (named ≡ name) × IsFaulty code bytes
+IsNotSound name bytes OutOfMemory = Unit {0}
+IsNotSound name bytes _ = ⊥

@@ -4,7 +4,7 @@ use Rattle.std.specs.Prelude.{◌≡◌, ℕ, List, take, drop, Ok, Err}
 use Rattle.eel_base.specs.Outside.{IsMissing, stored}
 use Rattle.elf32_sparc.specs.Notes.{Notes, Absent, Bad, notes_of}
 use Rattle.eel.specs.Outcome.{Outcome, NoNotes, BadNotes, OutOfMemory}
-use Rattle.eel.specs.Answers.Shared.{Store, Meaning, WasRead, IsUnread, IsPut, IsUnused, IsQuiet, written_limit}
+use Rattle.eel.specs.Answers.Shared.{Store, Meaning, WasRead, IsUnread, IsPut, IsUnused, IsQuiet, IsSilent, written_limit}
 
 -- the file's notes read, and the original stands where they say
 abbrev pub HasOriginal : List ℕ → List ℕ → Type 0
@@ -45,5 +45,6 @@ restore_means written output = record {
   follows = λ old new outcome.
       Restores written output old.files new.files outcome × IsUnused old new × IsQuiet old new;
   does = λ old new. IsRestored written output old.files new.files × IsUnused old new × IsQuiet old new;
+  wants = IsSilent;
   lacks = λ files. IsMissing files.held written;
 }

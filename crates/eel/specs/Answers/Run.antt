@@ -1,6 +1,6 @@
 -- `run FILE [-n LIMIT] [-- ARG..]`: the file is read, then the whole input, the file is judged and loaded, and
 -- its program runs. What it puts out goes to the output and to the error stream.
-use Rattle.std.specs.Prelude.{◌≡◌, ℕ, suc, ◌*◌, ◌^◌, ◌≤◌, ◌<◌, ◌⊎◌, List, [], length, codes, Option, Some, None}
+use Rattle.std.specs.Prelude.{◌≡◌, ℕ, suc, ◌*◌, ◌^◌, ◌≤◌, ◌<◌, ◌⊎◌, List, [], length, codes, Bool, true, false, Option, Some, None}
 use Rattle.eel_base.specs.Outside.{IsMissing, Rose, preceded, IsAtEnd, GaveSome, appended, TookPart}
 use Rattle.elf32_sparc.specs.FileFault.{load_fault}
 use Rattle.v8_step.specs.declared.Ending.{Ending}
@@ -11,7 +11,7 @@ use Rattle.v8_runner.specs.Runs.{AreMade}
 use Rattle.v8_runner.specs.declared.Stop.{Stop}
 use Rattle.v8_runner.specs.declared.Stop.TheVariants as stops
 use Rattle.eel.specs.Outcome.{Outcome, Stopped, BadFile, TooLong, OutOfMemory, DeviceFault, Stream, line_of}
-use Rattle.eel.specs.Answers.Shared.{Feed, Outside, Meaning, WasRead, IsUnread, IsUnused, IsQuiet, written_limit}
+use Rattle.eel.specs.Answers.Shared.{Feed, Outside, Meaning, WasRead, IsUnread, IsUnused, IsQuiet, IsSilent, written_limit}
 use Rattle.eel.specs.Answers.Files.{IsNotLoaded}
 
 -- ---- the input
@@ -109,6 +109,7 @@ abbrev pub run_means : List ℕ → ℕ → List (List ℕ) → Meaning
 run_means file limit args = record {
   follows = λ old new outcome. Runs file limit args old new outcome × (new.files.held ≡ old.files.held);
   does = λ old new. WasRun file limit args old new × (new.files.held ≡ old.files.held);
+  wants = IsSilent;
   lacks = λ files. IsMissing files.held file;
 }
 
@@ -117,3 +118,8 @@ abbrev pub stopped_of : Stop → ℕ → Outcome
 stopped_of stops.Limit steps = Stopped None steps
 stopped_of (stops.Ended ending) steps = Stopped (Some ending) steps
 stopped_of stops.SinkFault steps = DeviceFault
+
+-- the run was broken off
+abbrev pub was_broken : Stop → Bool
+was_broken stops.SinkFault = true
+was_broken _ = false

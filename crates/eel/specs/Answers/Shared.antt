@@ -78,6 +78,10 @@ IsUnused old new = new.input ≡ old.input
 abbrev pub IsQuiet : Outside → Outside → Type 0
 IsQuiet old new = (new.out ≡ old.out) × (new.err.taken ≡ old.err.taken)
 
+-- the output has taken nothing
+abbrev pub IsSilent : Outside → Outside → Type 0
+IsSilent old new = new.out.taken ≡ old.out.taken
+
 -- ---- what is said of a command
 
 pub record Meaning : Type 1 where
@@ -85,5 +89,7 @@ pub record Meaning : Type 1 where
   pub follows : Outside → Outside → Outcome → Type 0
   -- what is there once it is done, with its line
   pub does : Outside → Outside → Type 0
-  -- that the name which it reads is known not to be held
+  -- what the output has taken where memory was wanting
+  pub wants : Outside → Outside → Type 0
+  -- that a name which it reads is known not to be held
   pub lacks : Store → Type 0

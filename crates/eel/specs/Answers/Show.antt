@@ -6,7 +6,7 @@ use Rattle.cfg_view.specs.View.{view_of}
 use Rattle.jump_slice.specs.Switches.{switches_of}
 use Rattle.show_text.specs.Lines.{show_lines}
 use Rattle.eel.specs.Outcome.{Outcome, BadFile, OutOfMemory}
-use Rattle.eel.specs.Answers.Shared.{Outside, Meaning, WasRead, IsUnread, IsPrinted, IsUnused, IsQuiet, edit_limit}
+use Rattle.eel.specs.Answers.Shared.{Outside, Meaning, WasRead, IsUnread, IsPrinted, IsUnused, IsQuiet, IsSilent, edit_limit}
 use Rattle.eel.specs.Answers.Files.{IsSound, IsFaulty}
 
 -- the lines that show a view and its switches
@@ -50,5 +50,6 @@ show_means file = record {
   follows = λ old new outcome.
       Lists file old new outcome × (new.files.held ≡ old.files.held) × IsUnused old new;
   does = λ old new. IsListed file old new × (new.files.held ≡ old.files.held) × IsUnused old new;
+  wants = IsSilent;
   lacks = λ files. IsMissing files.held file;
 }

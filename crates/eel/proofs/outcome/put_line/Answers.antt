@@ -48,3 +48,15 @@ returns-in-BadNotes-clause-all g c = rw c.in-BadNotes.is (simp append_assoc (rw 
 
 pub returns-in-BadNotes-clause-part : goal.returns-in-BadNotes-clause-part
 returns-in-BadNotes-clause-part g c = rw c.in-BadNotes.is (simp append_assoc (rw (c.as_bytes-in-BadNotes.ensures.value, c.as_bytes-at.ensures.value, c.format-in-BadNotes.ensures.text) at c.put_pieces-in-BadNotes.ensures.part))
+
+pub returns-in-BadDump-clause-all : goal.returns-in-BadDump-clause-all
+returns-in-BadDump-clause-all g c = rw c.in-BadDump.is (simp append_assoc (rw (c.as_bytes-in-BadDump.ensures.value, c.as_bytes-at-in-BadDump.ensures.value, c.format-in-BadDump.ensures.text) at c.put_pieces-in-BadDump.ensures.all))
+
+pub returns-in-BadDump-clause-part : goal.returns-in-BadDump-clause-part
+returns-in-BadDump-clause-part g c = rw c.in-BadDump.is (simp append_assoc (rw (c.as_bytes-in-BadDump.ensures.value, c.as_bytes-at-in-BadDump.ensures.value, c.format-in-BadDump.ensures.text) at c.put_pieces-in-BadDump.ensures.part))
+
+pub returns-in-NoProfile-clause-all : goal.returns-in-NoProfile-clause-all
+returns-in-NoProfile-clause-all g c = rw c.in-NoProfile.is (simp append_assoc (rw (c.as_bytes-in-NoProfile.ensures.value) at c.put_pieces-in-NoProfile.ensures.all))
+
+pub returns-in-NoProfile-clause-part : goal.returns-in-NoProfile-clause-part
+returns-in-NoProfile-clause-part g c = rw c.in-NoProfile.is (simp append_assoc (rw (c.as_bytes-in-NoProfile.ensures.value) at c.put_pieces-in-NoProfile.ensures.part))

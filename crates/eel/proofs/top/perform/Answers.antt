@@ -5,9 +5,23 @@ pub returns-in-EditPlain-clause-follows : goal.returns-in-EditPlain-clause-follo
 returns-in-EditPlain-clause-follows g c =
     rw (← c.in-EditPlain.ensures.command) (c.edit_plain.ensures.edits, refl, (refl, refl))
 
+pub returns-in-EditScript-clause-follows : goal.returns-in-EditScript-clause-follows
+returns-in-EditScript-clause-follows g c =
+    rw (← c.in-EditScript.ensures.command) (c.edit_by_script.ensures.scripts, refl, (refl, refl))
+
 pub returns-in-Run-clause-follows : goal.returns-in-Run-clause-follows
 returns-in-Run-clause-follows g c =
     rw (← c.in-Run.ensures.command) (c.run_program.ensures.runs, c.run_program.ensures.kept)
+
+pub returns-in-Run-2-clause-follows : goal.returns-in-Run-2-clause-follows
+returns-in-Run-2-clause-follows g c = rw (← c.in-Run-2.ensures.command) c.run_for_dump.ensures.dumps
+pub returns-in-EditProfile-clause-follows : goal.returns-in-EditProfile-clause-follows
+returns-in-EditProfile-clause-follows g c =
+    rw (← c.in-EditProfile.ensures.command) (c.edit_for_counts.ensures.profiles, refl, (refl, refl))
+
+pub returns-in-Counts-clause-follows : goal.returns-in-Counts-clause-follows
+returns-in-Counts-clause-follows g c =
+    rw (← c.in-Counts.ensures.command) (c.count_edges.ensures.counts _ _, c.count_edges.ensures.kept, refl)
 
 pub returns-in-Restore-clause-follows : goal.returns-in-Restore-clause-follows
 returns-in-Restore-clause-follows g c =

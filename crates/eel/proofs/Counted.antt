@@ -1,0 +1,109 @@
+-- Counts, by the status.
+use Rattle.std.proofs.Common.{◌≡◌, ℕ, ◌⊎◌, inl, inr, List, Ok, refl, ap, ◌∙◌, lit≤}
+use Rattle.eel_base.specs.Outside.{IsMissing, appended}
+use Rattle.elf32_sparc.specs.Notes.{Notes, notes_of}
+use Rattle.dump_file.specs.Dump.{Dump}
+use Rattle.dump_file.specs.Reading.{read_dump}
+use Rattle.count_rebuild.specs.Answers.{IsRefused}
+use Rattle.count_rebuild.specs.declared.fault.CountFault.{CountFault}
+use Rattle.count_rebuild.specs.declared.fault.CountFault.TheVariants as faults
+use Rattle.eel.specs.Outcome.{Outcome, NoNotes, BadNotes, BadDump, NoProfile, NoCounts, OutOfMemory, Stream, status_of, line_of}
+use Rattle.eel.specs.Answers.Shared.{Outside, with_err, written_limit}
+use Rattle.eel.specs.Answers.Counts.{AreRead, Counts, unread, undumped, refused, printed, IsUncounted, IsUndumped, IsUnnoted, WereCounted, counts_means, dump_limit, uncounted_of}
+use Rattle.eel.proofs.ExactProfiles.{are_exact}
+use Rattle.eel.proofs.Later.{appended-nil}
+use Rattle.eel.proofs.Meanings.{AnyRose, IsByStatus, IsBad, bad, refusal_is_bad, wanting_is_bad, unread_not_done, unread_failed, printed_done, printed_not_refused, printed_failed}
+
+-- ---- what is refused says why
+
+module _ (written file name bytes : List ℕ) where
+  -- WRITTEN has no notes
+  pub notes_refused : (outcome : Outcome) → IsUnnoted written file outcome → IsUncounted written file name bytes outcome
+  notes_refused (NoNotes named) is = is
+  notes_refused (BadNotes named at) is = is
+  notes_refused OutOfMemory is = tt
+  notes_refused _ is = absurd is
+
+  -- DUMP is no dump
+  pub dump_refused : (notes : Notes) (outcome : Outcome) → notes_of file ≡ Ok notes → IsUndumped name bytes outcome
+      → IsUncounted written file name bytes outcome
+  dump_refused notes (BadDump named at) noted is = (notes, is.0, noted, is.1)
+  dump_refused notes OutOfMemory noted is = tt
+  dump_refused notes _ noted is = absurd is
+
+  -- they have no counts
+  pub counts_refused : (notes : Notes) (dump : Dump) (fault : CountFault) → AreRead file bytes notes dump
+      → IsRefused notes dump fault → IsUncounted written file name bytes (uncounted_of written name fault)
+  counts_refused notes dump faults.NoProfile read is = (notes, dump, refl, read, is)
+  counts_refused notes dump (faults.Shape cells wanted) read is = (notes, dump, refl, read, is)
+  counts_refused notes dump (faults.TooLong steps) read is = (notes, dump, refl, read, is)
+  counts_refused notes dump (faults.Between pc) read is = (notes, dump, refl, read, is)
+  counts_refused notes dump (faults.Negative edge value) read is = (notes, dump, refl, read, is)
+  counts_refused notes dump faults.NoMemory read is = tt
+
+  not_counted : (outcome : Outcome) → IsUncounted written file name bytes outcome → IsBad (status_of outcome)
+  not_counted (NoNotes named) is = bad 65 (lit≤ tt) (lit≤ tt)
+  not_counted (BadNotes named at) is = bad 65 (lit≤ tt) (lit≤ tt)
+  not_counted (BadDump named at) is = bad 65 (lit≤ tt) (lit≤ tt)
+  not_counted (NoProfile named) is = bad 65 (lit≤ tt) (lit≤ tt)
+  not_counted (NoCounts named cause) is = bad 65 (lit≤ tt) (lit≤ tt)
+  not_counted OutOfMemory is = bad 70 (lit≤ tt) (lit≤ tt)
+  not_counted _ is = absurd is
+
+-- ---- the command, by its status
+
+module _ (written dump : List ℕ) where
+  done : (old new : Outside) (err : Stream) (outcome : Outcome) → Counts written dump old (with_err new err) outcome
+      → status_of outcome ≡ 0 → new.err.taken ≡ appended err.taken (line_of outcome) → WereCounted written dump old new
+  done old new err outcome (unread is quiet) zero took =
+      absurd (unread_not_done old.files new.files written written_limit outcome is zero)
+  done old new err outcome (undumped file read is quiet) zero took =
+      absurd (unread_not_done old.files new.files dump dump_limit outcome is zero)
+  done old new err outcome (refused file read bytes dump_read is quiet) zero took =
+      absurd ((not_counted written file dump bytes outcome is).not_done zero)
+  done old new err outcome (printed file read bytes dump_read lines tell is same) zero took =
+      let (line, out) = printed_done old.out new.out lines outcome is zero in
+      record {
+        file = file;
+        read = read;
+        bytes = bytes;
+        dump_read = dump_read;
+        lines = lines;
+        tell = tell;
+        exact = are_exact file tell.notes tell.dump tell.counts tell.read.noted tell.are;
+        out = out;
+        err = took ∙ ap (appended err.taken) line ∙ appended-nil err.taken ∙ same;
+      }
+
+  silent : (old new : Outside) (outcome : Outcome) → Counts written dump old new outcome
+      → IsBad (status_of outcome) → new.out.taken ≡ old.out.taken
+  silent old new outcome (unread is quiet) other = ap (λ s. s.taken) quiet.0
+  silent old new outcome (undumped file read is quiet) other = ap (λ s. s.taken) quiet.0
+  silent old new outcome (refused file read bytes dump_read is quiet) other = ap (λ s. s.taken) quiet.0
+  silent old new outcome (printed file read bytes dump_read lines tell is same) other =
+      absurd (printed_not_refused old.out new.out lines outcome is other)
+
+  abbrev Lacks : Outside → Type 0
+  Lacks old = IsMissing old.files.held written ⊎ IsMissing old.files.held dump
+
+  failed : (old new : Outside) (outcome : Outcome) → Counts written dump old new outcome
+      → status_of outcome ≡ 74 → AnyRose old new (Lacks old)
+  failed old new outcome (unread is quiet) fails =
+      elim (unread_failed old.files new.files written written_limit outcome is fails) [ inl lacks ↦ inr (inr (inr (inr (inl lacks)))) | inr rose ↦ inl rose ]
+  failed old new outcome (undumped file read is quiet) fails =
+      elim (unread_failed old.files new.files dump dump_limit outcome is fails) [ inl lacks ↦ inr (inr (inr (inr (inr lacks)))) | inr rose ↦ inl rose ]
+  failed old new outcome (refused file read bytes dump_read is quiet) fails =
+      absurd ((not_counted written file dump bytes outcome is).not_failed fails)
+  failed old new outcome (printed file read bytes dump_read lines tell is same) fails =
+      inr (inr (inl (printed_failed old.out new.out lines outcome is fails)))
+
+  pub counts_by_status : IsByStatus (counts_means written dump)
+  counts_by_status = record {
+    done = λ old new err outcome follows zero took.
+        (done old new err outcome follows.0 zero took, follows.1, follows.2);
+    refused = λ old new outcome follows refusal.
+        record { files = follows.1; out = silent old new outcome follows.0 (refusal_is_bad _ refusal) };
+    wanting = λ old new outcome follows wants.
+        (follows.1, silent old new outcome follows.0 (wanting_is_bad _ wants));
+    failed = λ old new outcome follows fails. failed old new outcome follows.0 fails;
+  }

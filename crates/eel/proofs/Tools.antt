@@ -1,0 +1,122 @@
+-- What the tools of the words ask for is what their callbacks answer.
+use Rattle.std.proofs.Common.{◌≡◌, ℕ, zero, suc, ◌+◌, ◌^◌, ◌<◌, ◌≤◌, Bool, true, false, nat_lt, List, [], ◌∷◌, length, map, Some, Result, Ok, Err, refl, ap, sym, subst, ◌∙◌, arith}
+use Rattle.std.specs.Prelude.{IfErr, IfOk, get_or, slice_get}
+use Rattle.std.specs.List.{All, range_with_len}
+use Rattle.std.proofs.lemmas.Bool.{ltb-true, ltb-false}
+use Rattle.std.proofs.lemmas.List.{ext_get_or}
+use Rattle.std.proofs.lemmas.List.FromFn.{get_or-map-range_with_len, length-map-range_with_len}
+use Rattle.snippets.specs.declared.snippet.Op.{Op}
+use Rattle.snippets.specs.declared.script.Script.{Script}
+use Rattle.snippets.specs.Ops.{cell_of}
+use Rattle.snippets.specs.Cells.{WorksBelow}
+use Rattle.snippets.specs.Scripts.{IsScript, cell_end, edge_end, end_of, ops_on, snips_of}
+use Rattle.snippets.proofs.Within.{good_within}
+use Rattle.cfg_normal.specs.declared.Edge.{Edge}
+use Rattle.tool_kit.specs.declared.edge_ref.EdgeRef.{EdgeRef}
+use Rattle.tool_kit.specs.declared.edge_ref.ToolKind.{ToolKind}
+use Rattle.tool_kit.specs.Kept.{Kept}
+use Rattle.tool_kit.specs.Plans.{AreAnswers, Plan, numbered}
+use Rattle.cfg_blocks.specs.Marks.{numbers}
+use Rattle.cfg_view.specs.View.{view_of}
+use Rattle.edit_core.specs.declared.taking.EditFault.{EditFault}
+use Rattle.edit_core.specs.declared.taking.EditFault.TheVariants as faults
+use Rattle.edit_core.specs.Taken.{CanEdit, EditRefuses}
+use Rattle.edit_core.specs.Faithful.{AsksOf, IsFaithful}
+use Rattle.eel.specs.Answers.Edit.{IsEditOf, asked}
+use Rattle.eel.specs.Answers.Script.{HasCells}
+
+get-past : (snips : List (List Op)) (k : ℕ) → length snips ≤ k → get_or snips k [] ≡ []
+get-past [] k past = refl
+get-past (snip ∷ snips) zero past = absurd (omega arith)
+get-past (snip ∷ snips) (suc k) past = get-past snips k (omega arith)
+
+none_below : (cells : ℕ) → WorksBelow cells []
+none_below cells = λ k d within. absurd (omega arith)
+
+-- a list that is made for each number up to some has only what each of them has, or nothing
+made_below : (cells : ℕ) (ops : ℕ → List Op) (count : ℕ) → ((edge : ℕ) → WorksBelow cells (ops edge)) → (edge : ℕ)
+    → WorksBelow cells (get_or (map ops (range_with_len 0 count)) edge [])
+made_below cells ops count each edge = by_test (nat_lt edge count) refl
+  where
+    by_test : (b : Bool) → nat_lt edge count ≡ b → WorksBelow cells (get_or (map ops (range_with_len 0 count)) edge [])
+    by_test true is =
+        let within = ltb-true edge count is in
+        subst (WorksBelow cells) (sym (get_or-map-range_with_len ops 0 count edge edge [] within (omega arith))) (each edge)
+    by_test false is =
+        let past = ltb-false edge count is in
+        let long = length-map-range_with_len ops 0 count in
+        subst (WorksBelow cells) (sym (get-past (map ops (range_with_len 0 count)) edge (omega (arith, past, long))))
+        (none_below cells)
+
+-- a good script has few cells, and works on them
+pub script_has_cells : (edges : ℕ) (said : _) (script : Script) → IsScript edges said script → HasCells script
+script_has_cells edges said script is =
+    let within = good_within edges said is.good in
+    record {
+      few = subst (λ (n : ℕ). n ≤ 2 ^ 22) (sym is.cells) within.cells_few;
+      below = λ edge.
+          subst (λ (n : ℕ). WorksBelow n (get_or script.snips.items edge [])) (sym is.cells)
+          (subst (λ (xs : List (List Op)). WorksBelow (end_of cell_end said) (get_or xs edge [])) (sym is.snips)
+          (made_below (end_of cell_end said) (λ e. ops_on e said) (end_of edge_end said) within.cells_below edge));
+    }
+
+-- ---- answers that are known
+
+read_within : (edges : List Edge) (k : ℕ) → k < length edges → (edge : Edge) × (slice_get edges k ≡ Some edge)
+read_within [] k within = absurd (omega arith)
+read_within (edge ∷ edges) zero within = (edge, refl)
+read_within (edge ∷ edges) (suc k) within = read_within edges k (omega (arith, within))
+
+-- Where the answer for each number is known, so is the whole list.
+pub all_asked : {F : Type 0} (says : F → EdgeRef → List Op → Type 0) (choose : F) (edges : List Edge)
+    (snips : List (List Op)) (ops : ℕ → List Op)
+    → ((k : ℕ) (edge : Edge) (answer : List Op) → says choose (numbered k edge) answer → answer ≡ ops k)
+    → AreAnswers says choose edges snips → snips ≡ map ops (range_with_len 0 (length edges))
+all_asked says choose edges snips ops known are =
+    ext_get_or [] snips (map ops (range_with_len 0 (length edges)))
+    (are.size ∙ sym (length-map-range_with_len ops 0 (length edges)))
+    (λ k within.
+    let low : k < length edges = subst (λ (n : ℕ). k < n) are.size within in
+    let there = read_within edges k low in
+    known k there.0 (get_or snips k []) (are.each k there.0 there.1)
+    ∙ sym (get_or-map-range_with_len ops 0 (length edges) k k [] low (omega arith)))
+
+-- ---- what an edit with such a tool is
+
+abbrev plan_with : ToolKind → List ℕ → ℕ → List (List Op) → Plan
+plan_with kind marks cells snips = record { kind = kind; marks = marks; cells = cells; snips = snips }
+
+module _ {F : Type 0} (says : F → EdgeRef → List Op → Type 0) (tool : Kept F) (bytes : List ℕ) (kind : ToolKind)
+    (cells : ℕ) (ops : ℕ → List Op) (kind_is : tool.kind ≡ kind) (none_marked : tool.marks ≡ [])
+    (cells_are : tool.cells ≡ cells)
+    (known : (k : ℕ) (edge : Edge) (answer : List Op) → says tool.choose (numbered k edge) answer → answer ≡ ops k) where
+  plan_is : (plan : Plan) → AsksOf says tool bytes plan → plan ≡ plan_with kind [] cells (asked ops bytes)
+  plan_is plan asks =
+      let answers =
+      subst (λ marks. AreAnswers says tool.choose (view_of bytes (numbers marks)).graph.edges plan.snips)
+      none_marked asks.snips in
+      let snips_are = all_asked says tool.choose (view_of bytes []).graph.edges plan.snips ops known answers in
+      ap (λ k. plan_with k plan.marks plan.cells plan.snips) (asks.kind ∙ kind_is)
+      ∙ ap (λ m. plan_with kind m plan.cells plan.snips) (asks.marks ∙ ap numbers none_marked)
+      ∙ ap (λ n. plan_with kind [] n plan.snips) (asks.cells ∙ cells_are)
+      ∙ ap (plan_with kind [] cells) snips_are
+
+  pub edits_made : {A E : Type 0} (items : A → List ℕ) (result : Result A E)
+      → IfOk result (λ file. (plan : Plan) × AsksOf says tool bytes plan × CanEdit bytes plan
+      × IsFaithful bytes plan (items file))
+      → IfOk result (λ file. IsEditOf bytes (plan_with kind [] cells (asked ops bytes)) (items file))
+  edits_made items (Ok file) (plan, asks, can, faithful) =
+      subst (λ p. IsEditOf bytes p (items file)) (plan_is plan asks) (record { taken = can; faithful = faithful })
+  edits_made items (Err fault) is = is
+
+  refusal_is : (fault : EditFault) → EditRefuses bytes (AsksOf says tool bytes) fault
+      → EditRefuses bytes (λ plan. plan ≡ plan_with kind [] cells (asked ops bytes)) fault
+  refusal_is (faults.File first) is = is
+  refusal_is (faults.Room needed had) (plan, asks, cramped) = (plan, plan_is plan asks, cramped)
+  refusal_is faults.NoMemory is = is
+
+  pub edits_refused : {A : Type 0} (result : Result A EditFault)
+      → IfErr result (EditRefuses bytes (AsksOf says tool bytes))
+      → IfErr result (EditRefuses bytes (λ plan. plan ≡ plan_with kind [] cells (asked ops bytes)))
+  edits_refused (Ok file) is = is
+  edits_refused (Err fault) is = refusal_is fault is

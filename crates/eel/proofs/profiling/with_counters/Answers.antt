@@ -1,0 +1,22 @@
+use Rattle.std.proofs.Common.{sym, subst}
+use Rattle.std.proofs.lemmas.Result.{IfOk-weaker}
+use Rattle.tool_kit.specs.Plans.{AreCounters, Plan}
+use Rattle.eel.specs.Answers.Edit.{IsEditOf}
+use Rattle.eel.specs.Answers.Profile.{profile_plan}
+use Rattle.eel.proofs.Profiled.{are_counters, plan_is}
+use Rattle.eel.proofs.profiling.with_counters.Goals as goal
+
+pub edit_with-requires-clause-counters : goal.edit_with-requires-clause-counters
+edit_with-requires-clause-counters c = λ plan asks profile.
+    let same = plan_is _ _ c.args.tree.now _ c.requires.cells.size (λ edge ops said. said.0) c.cells.result plan
+    c.cells.ensures.count asks in
+    subst (λ (p : Plan). AreCounters 0 p.snips) (sym same) (are_counters c.args.tree.now c.requires.cells.numbered)
+
+pub returns-clause-edited : goal.returns-clause-edited
+returns-clause-edited c = IfOk-weaker c.edit_with.result _ (λ file. IsEditOf c.args.bytes.now (profile_plan c.args.tree.now) file.items)
+    (λ file made.
+    let (plan, asks, edited) = made in
+    let same = plan_is _ _ c.args.tree.now _ c.requires.cells.size (λ edge ops said. said.0) c.cells.result plan
+    c.cells.ensures.count asks in
+    subst (λ (p : Plan). IsEditOf c.args.bytes.now p file.items) same edited)
+    c.edit_with.ensures.edited

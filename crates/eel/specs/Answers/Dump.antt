@@ -1,0 +1,150 @@
+-- `run FILE -d DUMP [-n LIMIT] [-- ARG..]`: the same as without a dump, and before the ending line what the run has
+-- come to is written as DUMP.
+use Rattle.std.specs.Prelude.{◌≡◌, ℕ, ◌<◌, ◌⊎◌, true, false, List, [], Option, None, Ok, Err}
+use Rattle.std.specs.List.{list_any}
+use Rattle.eel_base.specs.Outside.{IsMissing, appended, stored}
+use Rattle.elf32_sparc.specs.FileFault.{load_fault}
+use Rattle.elf32_sparc.specs.Mapping.{mappings}
+use Rattle.elf32_sparc.specs.Notes.{Notes, Absent, Bad, notes_of}
+use Rattle.v8_step.specs.declared.Ending.{Ending}
+use Rattle.v8_step.specs.State.{State}
+use Rattle.v8_step.specs.Run.{run, run_puts}
+use Rattle.v8_process.specs.Start.{start_of}
+use Rattle.v8_runner.specs.Runs.{AreMade}
+use Rattle.dump_file.specs.Dump.{Dump}
+use Rattle.dump_file.specs.Written.{dump_bytes}
+use Rattle.snippet_code.specs.Cells.{words_at}
+use Rattle.edit_core.specs.Faithful.{holds_cells}
+use Rattle.eel.specs.Outcome.{Outcome, Stopped, NoNotes, BadNotes, OutOfMemory, DeviceFault, Done, line_of}
+use Rattle.eel.specs.Answers.Shared.{Outside, Store, Meaning, WasRead, IsUnread, IsPut, IsUnused, IsQuiet, IsSilent, written_limit}
+use Rattle.eel.specs.Answers.Run.{HasRun, IsNotRun, IsUnfed, StopsAt, WasBroken, WasFed}
+
+-- ---- the notes
+
+-- the cells of the notes, if there are any, lie in one loaded segment with leave to be read (PF_R)
+abbrev pub AreMapped : List ℕ → Notes → Type 0
+AreMapped bytes notes = 0 < notes.cells → list_any (holds_cells notes.base notes.cells) (mappings bytes) ≡ true
+
+-- the file has these notes, and their cells are mapped
+pub record IsNoted (bytes : List ℕ) (notes : Notes) : Type 0 where
+  pub reads : notes_of bytes ≡ Ok notes
+  pub mapped : AreMapped bytes notes
+
+-- the notes break a rule first at this offset: the word at 24 is the address of the cells
+abbrev pub AreBadAt : ℕ → List ℕ → Type 0
+AreBadAt at bytes =
+    (notes_of bytes ≡ Err (Bad at))
+    ⊎ ((notes : Notes) × (at ≡ 24) × (notes_of bytes ≡ Ok notes) × (0 < notes.cells)
+    × (list_any (holds_cells notes.base notes.cells) (mappings bytes) ≡ false))
+
+-- FILE can be loaded, and has no notes whose cells can be told
+abbrev pub IsNotNoted : List ℕ → List ℕ → Outcome → Type 0
+IsNotNoted name bytes (NoNotes named) = (named ≡ name) × (notes_of bytes ≡ Err Absent)
+IsNotNoted name bytes (BadNotes named at) = (named ≡ name) × AreBadAt at bytes
+IsNotNoted name bytes OutOfMemory = Unit {0}
+IsNotNoted name bytes _ = ⊥
+
+-- ---- the dump
+
+-- what a run has come to after so many steps: its ending, where it stands, the steps, and the words at the cells' base
+abbrev pub dump_of : Notes → State → ℕ → Dump
+dump_of notes s steps = record {
+  ending = s.ending;
+  pc = s.pc;
+  steps = steps;
+  cells = words_at notes.base notes.cells s.memory;
+}
+
+abbrev pub dump_after : Notes → State → ℕ → List ℕ
+dump_after notes s0 steps = dump_bytes (dump_of notes (run s0 steps) steps)
+
+-- The dump was to be put once the run had come to `ended`, and this comes of it.
+abbrev pub IsPutAfter : Store → Store → List ℕ → List ℕ → Outcome → Outcome → Type 0
+IsPutAfter old new dump bytes ended outcome =
+    ((outcome ≡ ended) × IsPut old new dump bytes Done)
+    ⊎ ((outcome ≡ OutOfMemory) × IsPut old new dump bytes OutOfMemory)
+    ⊎ ((outcome ≡ DeviceFault) × IsPut old new dump bytes DeviceFault)
+
+-- the run was not broken off; it has no line yet
+pub record HasStopped (s0 : State) (limit : ℕ) (old new : Outside) : Type 0 where
+  pub ending : Option Ending
+  pub steps : ℕ
+  pub ran : HasRun s0 limit ending steps [] old.out new.out old.err new.err
+
+-- the dump was to be put, and that failed
+pub record WasUnput (notes : Notes) (s0 : State) (limit : ℕ) (dump : List ℕ) (old new : Outside) : Type 0 where
+  pub run : HasStopped s0 limit old new
+  pub put : IsPut old.files new.files dump (dump_after notes s0 run.steps) DeviceFault
+
+-- It was run, and this comes of it: the dump is put once the run has stopped, and want of memory leaves no trace of it.
+abbrev pub IsDumped : Notes → State → ℕ → List ℕ → Outside → Outside → Outcome → Type 0
+IsDumped notes s0 limit dump old new (Stopped ending steps) =
+    HasRun s0 limit ending steps [] old.out new.out old.err new.err
+    × IsPut old.files new.files dump (dump_after notes s0 steps) Done
+IsDumped notes s0 limit dump old new OutOfMemory =
+    HasStopped s0 limit old new × (new.files.held ≡ old.files.held)
+IsDumped notes s0 limit dump old new DeviceFault =
+    (WasBroken s0 limit old.out new.out old.err new.err × (new.files.held ≡ old.files.held))
+    ⊎ WasUnput notes s0 limit dump old new
+IsDumped notes s0 limit dump old new _ = ⊥
+
+-- How a run with a dump goes, step by step, and what comes of it.
+pub data Dumps (file : List ℕ) (limit : ℕ) (dump : List ℕ) (args : List (List ℕ)) (old new : Outside) (outcome : Outcome) : Type 0 where
+  -- FILE gave no bytes
+  unread : IsUnread old.files new.files file written_limit outcome → IsUnused old new → IsQuiet old new
+      → new.files.held ≡ old.files.held
+      → Dumps file limit dump args old new outcome
+  -- FILE was read, and not all of the input
+  unfed : (bytes : List ℕ) → WasRead old.files file written_limit bytes
+      → IsUnfed old.input new.input outcome → IsQuiet old new → new.files.held ≡ old.files.held
+      → Dumps file limit dump args old new outcome
+  -- both were read, and the program isn't run
+  refused : (bytes : List ℕ) → WasRead old.files file written_limit bytes
+      → (input : List ℕ) → WasFed old.input new.input input
+      → IsNotRun file bytes outcome → IsQuiet old new → new.files.held ≡ old.files.held
+      → Dumps file limit dump args old new outcome
+  -- it could be run, and has no notes that can be dumped by
+  unnoted : (bytes : List ℕ) → WasRead old.files file written_limit bytes
+      → (input : List ℕ) → WasFed old.input new.input input
+      → load_fault bytes ≡ None → IsNotNoted file bytes outcome → IsQuiet old new
+      → new.files.held ≡ old.files.held
+      → Dumps file limit dump args old new outcome
+  -- it was run
+  ran : (bytes : List ℕ) → WasRead old.files file written_limit bytes
+      → (input : List ℕ) → WasFed old.input new.input input
+      → load_fault bytes ≡ None → (notes : Notes) → IsNoted bytes notes
+      → IsDumped notes (start_of bytes args input) limit dump old new outcome
+      → Dumps file limit dump args old new outcome
+
+-- The run is done, and DUMP is written: the ending line follows what it put out to the error stream.
+pub record WasDumped (file : List ℕ) (limit : ℕ) (dump : List ℕ) (args : List (List ℕ)) (old new : Outside) : Type 0 where
+  pub bytes : List ℕ
+  pub read : WasRead old.files file written_limit bytes
+  pub loads : load_fault bytes ≡ None
+  pub notes : Notes
+  pub noted : IsNoted bytes notes
+  pub input : List ℕ
+  pub fed : WasFed old.input new.input input
+  pub ending : Option Ending
+  pub steps : ℕ
+  pub ran : HasRun (start_of bytes args input) limit ending steps (line_of (Stopped ending steps)) old.out new.out old.err new.err
+  pub held : new.files.held ≡ stored old.files.held dump (dump_after notes (start_of bytes args input) steps)
+
+-- Memory was wanting for the dump, and the output has taken all that the run put out.
+pub record HasPutAll (file : List ℕ) (limit : ℕ) (args : List (List ℕ)) (old new : Outside) : Type 0 where
+  pub bytes : List ℕ
+  pub read : WasRead old.files file written_limit bytes
+  pub input : List ℕ
+  pub fed : WasFed old.input new.input input
+  pub steps : ℕ
+  pub made : AreMade (start_of bytes args input) steps
+  pub stops : StopsAt (start_of bytes args input) limit steps
+  pub out : new.out.taken ≡ appended old.out.taken (run_puts (start_of bytes args input) steps 1)
+
+abbrev pub dump_means : List ℕ → ℕ → List ℕ → List (List ℕ) → Meaning
+dump_means file limit dump args = record {
+  follows = λ old new outcome. Dumps file limit dump args old new outcome;
+  does = λ old new. WasDumped file limit dump args old new;
+  wants = λ old new. IsSilent old new ⊎ HasPutAll file limit args old new;
+  lacks = λ files. IsMissing files.held file;
+}

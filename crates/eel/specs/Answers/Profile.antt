@@ -1,0 +1,105 @@
+-- `edit IN OUT profile`: the file IN is read, judged, edited with counters on the edges off a spanning tree, and written as
+-- OUT.
+use Rattle.std.specs.Prelude.{◌≡◌, ℕ, List, [], ◌∷◌, length, map, Option, Some, None}
+use Rattle.eel_base.specs.Outside.{IsMissing, stored}
+use Rattle.flows.specs.Flows.{IsLeast, rest}
+use Rattle.flows.specs.Links.{weight_in}
+use Rattle.flows.specs.Trees.{IsSpanningTree, all_nodes}
+use Rattle.cfg_normal.specs.Graph.{Graph}
+use Rattle.cfg_view.specs.View.{view_of}
+use Rattle.span_tree.specs.Cells.{AreNumbered, cell_count, has_cell}
+use Rattle.span_tree.specs.Links.{links_of}
+use Rattle.span_tree.specs.Weights.{weights_of}
+use Rattle.snippets.specs.declared.snippet.Op.{Op}
+use Rattle.snippets.specs.declared.snippet.Op.TheVariants.{Add}
+use Rattle.tool_kit.specs.declared.edge_ref.ToolKind.TheVariants as tools
+use Rattle.tool_kit.specs.Plans.{Plan}
+use Rattle.edit_core.specs.declared.taking.EditFault.{EditFault}
+use Rattle.edit_core.specs.declared.taking.EditFault.TheVariants as faults
+use Rattle.elf32_sparc.specs.FileFault.{fault}
+use Rattle.edit_core.specs.Taken.{IsCramped}
+use Rattle.eel.specs.Outcome.{Outcome, BadFile, NoRoom, OutOfMemory}
+use Rattle.eel.specs.Answers.Files.{IsFaulty}
+use Rattle.eel.specs.Answers.Shared.{Store, Meaning, WasRead, IsUnread, IsPut, IsUnused, IsQuiet, IsSilent, edit_limit}
+use Rattle.eel.specs.Answers.Edit.{IsEditOf}
+
+-- ---- which edges are counted
+
+-- The cells of the edges of a graph: those that have one have 0, 1, 2 and so on in edge order, and the others are a
+-- spanning tree of all nodes. So the counts of those that have one determine all counts, and no set of edges whose counts
+-- do weighs less.
+pub record AreCells (graph : Graph) (cells : List (Option ℕ)) : Type 0 where
+  pub size : length cells ≡ length graph.edges
+  pub numbered : AreNumbered cells
+  pub spans : IsSpanningTree (links_of graph) all_nodes (rest (has_cell cells))
+  pub least : IsLeast (links_of graph) (weight_in (weights_of graph.blocks graph.edges)) (has_cell cells)
+
+abbrev pub graph_in : List ℕ → Graph
+graph_in bytes = (view_of bytes []).graph
+
+-- ---- what the tool asks for
+
+-- it adds 1 to the cell of the edge, where that has one
+abbrev pub counter_of : Option ℕ → List Op
+counter_of None = []
+counter_of (Some cell) = Add cell 1 ∷ []
+
+abbrev pub profile_plan : List (Option ℕ) → Plan
+profile_plan cells =
+    record { kind = tools.Profile; marks = []; cells = cell_count cells; snips = map counter_of cells }
+
+-- ---- refusals
+
+-- why a profile of some bytes is refused
+abbrev pub ProfileRefuses : List ℕ → EditFault → Type 0
+ProfileRefuses bytes (faults.File first) = fault bytes ≡ Some first
+ProfileRefuses bytes (faults.Room needed had) =
+    (cells : List (Option ℕ)) × AreCells (graph_in bytes) cells × IsCramped needed had bytes (profile_plan cells)
+ProfileRefuses bytes faults.NoMemory = Unit {0}
+
+-- IN was read, and no profile is made of it
+abbrev pub IsNotProfiled : List ℕ → List ℕ → Outcome → Type 0
+IsNotProfiled name bytes (BadFile named code) = (named ≡ name) × IsFaulty code bytes
+IsNotProfiled name bytes (NoRoom named needed had) =
+    (cells : List (Option ℕ)) × (named ≡ name) × AreCells (graph_in bytes) cells × IsCramped needed had bytes (profile_plan cells)
+IsNotProfiled name bytes OutOfMemory = Unit {0}
+IsNotProfiled name bytes _ = ⊥
+
+-- ---- the edit
+
+-- a file that was made of another, with counters on the edges off a tree
+pub record IsProfileOf (bytes file : List ℕ) : Type 0 where
+  pub cells : List (Option ℕ)
+  pub are : AreCells (graph_in bytes) cells
+  pub made : IsEditOf bytes (profile_plan cells) file
+
+-- How an edit with counters goes, step by step, and what comes of it.
+pub data Profiles (input output : List ℕ) (old new : Store) (outcome : Outcome) : Type 0 where
+  -- IN gave no bytes
+  unread : IsUnread old new input edit_limit outcome → new.held ≡ old.held
+      → Profiles input output old new outcome
+  -- IN was read, and isn't edited
+  refused : (bytes : List ℕ) → WasRead old input edit_limit bytes
+      → IsNotProfiled input bytes outcome → new.held ≡ old.held
+      → Profiles input output old new outcome
+  -- a file with counters was made of it, and was to be put as OUT
+  put : (bytes : List ℕ) → WasRead old input edit_limit bytes
+      → (file : List ℕ) → IsProfileOf bytes file → IsPut old new output file outcome
+      → Profiles input output old new outcome
+
+-- the edit is done
+pub record IsProfiled (input output : List ℕ) (old new : Store) : Type 0 where
+  pub bytes : List ℕ
+  pub read : WasRead old input edit_limit bytes
+  pub file : List ℕ
+  pub made : IsProfileOf bytes file
+  pub held : new.held ≡ stored old.held output file
+
+abbrev pub profile_means : List ℕ → List ℕ → Meaning
+profile_means input output = record {
+  follows = λ old new outcome.
+      Profiles input output old.files new.files outcome × IsUnused old new × IsQuiet old new;
+  does = λ old new. IsProfiled input output old.files new.files × IsUnused old new × IsQuiet old new;
+  wants = IsSilent;
+  lacks = λ files. IsMissing files.held input;
+}

@@ -1,0 +1,134 @@
+-- `edit IN OUT script S`: the file IN and the script S are read, both are judged, and IN is edited as the lines of S
+-- say and written as OUT.
+use Rattle.std.specs.Prelude.{◌≡◌, ◌≤◌, ℕ, ◌*◌, ◌^◌, ◌⊎◌, List, [], get_or, length}
+use Rattle.eel_base.specs.Outside.{IsMissing, stored}
+use Rattle.snippets.specs.declared.snippet.Op.{Op}
+use Rattle.snippets.specs.declared.script.Script.{Script}
+use Rattle.snippets.specs.declared.script.ScriptFault.{ScriptFault}
+use Rattle.snippets.specs.declared.script.ScriptFault.TheVariants as script_faults
+use Rattle.snippets.specs.Grammar.{AllSay, lines_of}
+use Rattle.snippets.specs.Scripts.{IsFirstFault, IsGood, IsScript, cell_end, end_of, snips_of}
+use Rattle.snippets.specs.Cells.{WorksBelow}
+use Rattle.tool_kit.specs.declared.edge_ref.ToolKind.TheVariants as tools
+use Rattle.tool_kit.specs.Plans.{Plan}
+use Rattle.edit_core.specs.Taken.{IsCramped}
+use Rattle.eel.specs.declared.outcome.LineCause.{LineCause}
+use Rattle.eel.specs.declared.outcome.LineCause.TheVariants as causes
+use Rattle.eel.specs.Outcome.{Outcome, BadFile, BadLine, NoRoom, OutOfMemory}
+use Rattle.eel.specs.Answers.Files.{IsFaulty, IsSound}
+use Rattle.eel.specs.Answers.Shared.{Store, Meaning, WasRead, IsUnread, IsPut, IsUnused, IsQuiet, IsSilent, edit_limit}
+use Rattle.eel.specs.Answers.Edit.{IsEditOf, asked, edges_in}
+
+-- how long a script may be
+abbrev pub script_limit : ℕ
+script_limit = 16 * 2 ^ 20
+
+-- ---- what the tool asks for
+
+-- `script S` asks for the snippet of each edge, and for nothing past the last one that has any.
+abbrev pub script_plan : List ℕ → List (List Op) → ℕ → Plan
+script_plan bytes snips cells = record {
+  kind = tools.Script;
+  marks = [];
+  cells = cells;
+  snips = asked (λ edge. get_or snips edge []) bytes;
+}
+
+-- The lines of S say so, none of which is bad for the graph of the file: the operations that they name on each edge,
+-- in their order. There is one cell more than the greatest that they name, or none.
+abbrev pub IsScripted : List ℕ → List ℕ → Plan → Type 0
+IsScripted bytes lines plan =
+    (said : _) × AllSay (lines_of lines) said × IsGood (length (edges_in bytes)) said
+    × (plan ≡ script_plan bytes (snips_of said) (end_of cell_end said))
+
+-- what the program keeps of a script that was read for a graph of so many edges
+abbrev pub IsReadAs : ℕ → List ℕ → Script → Type 0
+IsReadAs edges lines script = (said : _) × AllSay (lines_of lines) said × IsScript edges said script
+
+-- its cells are few, and each snippet works on them
+pub record HasCells (script : Script) : Type 0 where
+  pub few : script.cells ≤ 2 ^ 22
+  pub below : (edge : ℕ) → WorksBelow script.cells (get_or script.snips.items edge [])
+
+-- ---- refusals
+
+-- what a refused script comes to
+abbrev pub script_refusal_of : List ℕ → ScriptFault → Outcome
+script_refusal_of name (script_faults.Line number) = BadLine name number causes.Grammar
+script_refusal_of name (script_faults.Edge number) = BadLine name number causes.Edge
+script_refusal_of name (script_faults.Cell number) = BadLine name number causes.Cell
+script_refusal_of name (script_faults.Ops number) = BadLine name number causes.Operations
+script_refusal_of name script_faults.NoMemory = OutOfMemory
+
+-- the fault of a line with this number
+abbrev pub line_fault : ℕ → LineCause → ScriptFault
+line_fault number causes.Grammar = script_faults.Line number
+line_fault number causes.Edge = script_faults.Edge number
+line_fault number causes.Cell = script_faults.Cell number
+line_fault number causes.Operations = script_faults.Ops number
+
+-- the first bad line of a script, for a graph of so many edges
+abbrev pub HasBadLine : ℕ → List ℕ → ℕ → LineCause → Type 0
+HasBadLine edges lines number cause =
+    (said : _) × AllSay (lines_of lines) said × IsFirstFault edges said (line_fault number cause)
+
+-- a script was read for a graph of so many edges, and is refused
+abbrev pub IsBadScript : ℕ → List ℕ → List ℕ → Outcome → Type 0
+IsBadScript edges name lines (BadLine named number cause) = (named ≡ name) × HasBadLine edges lines number cause
+IsBadScript edges name lines OutOfMemory = Unit {0}
+IsBadScript edges name lines _ = ⊥
+
+-- IN and S were read, and the edit is refused: IN is judged, then the lines of S, and then the room.
+abbrev pub IsNotScripted : List ℕ → List ℕ → List ℕ → List ℕ → Outcome → Type 0
+IsNotScripted input bytes script lines (BadFile named code) = (named ≡ input) × IsFaulty code bytes
+IsNotScripted input bytes script lines (BadLine named number cause) =
+    (named ≡ script) × IsSound bytes × HasBadLine (length (edges_in bytes)) lines number cause
+IsNotScripted input bytes script lines (NoRoom named needed had) =
+    (plan : Plan) × (named ≡ input) × IsScripted bytes lines plan × IsCramped needed had bytes plan
+IsNotScripted input bytes script lines OutOfMemory = Unit {0}
+IsNotScripted input bytes script lines _ = ⊥
+
+-- ---- the edit
+
+-- How an edit by a script goes.
+pub data Scripts (input output script : List ℕ) (old new : Store) (outcome : Outcome) : Type 0 where
+  -- IN gave no bytes
+  unread : IsUnread old new input edit_limit outcome → new.held ≡ old.held
+      → Scripts input output script old new outcome
+  -- IN was read, and S gave no bytes
+  unscripted : (bytes : List ℕ) → WasRead old input edit_limit bytes
+      → IsUnread old new script script_limit outcome → new.held ≡ old.held
+      → Scripts input output script old new outcome
+  -- both were read, and IN isn't edited
+  refused : (bytes : List ℕ) → WasRead old input edit_limit bytes
+      → (lines : List ℕ) → WasRead old script script_limit lines
+      → IsNotScripted input bytes script lines outcome → new.held ≡ old.held
+      → Scripts input output script old new outcome
+  -- a file was made of IN that does what the lines say, and was to be put as OUT
+  put : (bytes : List ℕ) → WasRead old input edit_limit bytes
+      → (lines : List ℕ) → WasRead old script script_limit lines
+      → (plan : Plan) → IsScripted bytes lines plan
+      → (file : List ℕ) → IsEditOf bytes plan file → IsPut old new output file outcome
+      → Scripts input output script old new outcome
+
+-- the edit by a script is done
+pub record IsScriptEdited (input output script : List ℕ) (old new : Store) : Type 0 where
+  pub bytes : List ℕ
+  pub read : WasRead old input edit_limit bytes
+  pub lines : List ℕ
+  pub script_read : WasRead old script script_limit lines
+  pub plan : Plan
+  pub scripted : IsScripted bytes lines plan
+  pub file : List ℕ
+  pub made : IsEditOf bytes plan file
+  pub held : new.held ≡ stored old.held output file
+
+abbrev pub script_means : List ℕ → List ℕ → List ℕ → Meaning
+script_means input output script = record {
+  follows = λ old new outcome.
+      Scripts input output script old.files new.files outcome × IsUnused old new × IsQuiet old new;
+  does = λ old new.
+      IsScriptEdited input output script old.files new.files × IsUnused old new × IsQuiet old new;
+  wants = IsSilent;
+  lacks = λ files. IsMissing files.held input ⊎ IsMissing files.held script;
+}

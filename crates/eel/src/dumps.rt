@@ -1,0 +1,244 @@
+//! The command `run` with a dump.
+ghost use Rattle.std.specs.Prelude.{◌≡◌, ◌≤◌, ◌<◌, ◌+◌, ◌*◌, ◌%◌, ◌^◌, ℕ, IfOk, IfErr, vec_len};
+ghost use Rattle.std.specs.List.{list_any};
+ghost use Rattle.elf32_sparc.specs.Mapping.{mappings};
+ghost use Rattle.notes.specs.Rules.{AreNotes};
+ghost use Rattle.notes.specs.Seen.{notes_seen};
+ghost use Rattle.v8_process.specs.Arguments.{AreArguments};
+ghost use Rattle.snippet_code.specs.Cells.{cell_at, words_at};
+ghost use Rattle.code_runs.specs.StoredWords.{CanLoad, memory_word};
+ghost use Rattle.dump_file.specs.Written.{dump_bytes};
+ghost use Rattle.eel.specs.Command.{texts};
+ghost use Rattle.eel.specs.Outcome.{outcome_seen, stream};
+ghost use Rattle.eel.specs.Answers.Shared.{Feed, feed, outside, store};
+ghost use Rattle.edit_core.specs.Faithful.{holds_cells};
+ghost use Rattle.eel.specs.Answers.Run.{was_broken as was_broken_of};
+ghost use Rattle.eel.specs.Answers.Dump.{Dumps, IsDumped, IsNotNoted, IsNoted, IsPutAfter, dump_of as dump_of_state};
+ghost use Rattle.eel.specs.Cells.{AreLoadable, KeepCells, has_cells as has_cells_of};
+
+use crate::outcome::Outcome;
+use crate::run::{Job, WRITTEN_LIMIT, outcome_of, start};
+use crate::texts::{fetch_file, read_input};
+use bitflags::Flags;
+use dump_file::{Dump, write_dump};
+use eel_base::{Addr, Files, NoMemory, PutFault, Sink, Source};
+use elf32_sparc::{SegFlags, Segment, read_segments};
+use notes::{Notes, NotesFault, read_notes};
+use std::alloc::Global;
+use v8_memory::Memory;
+use v8_runner::{Stop, run};
+use v8_step::Machine;
+
+/// The offset of the cells' address in notes.
+const BASE_AT: u32 = 24;
+
+/// Reads the program and all of its input, runs it, and writes what the run has come to as the file `dump`.
+pub fn run_for_dump<'a, F: Files, I: Source, O: Sink, E: Sink>(
+    alloc: Global,
+    job: Job<'a>,
+    dump: &str,
+    files: &mut F,
+    input: &mut I,
+    out: &mut O,
+    err: &mut E,
+) -> Outcome<'a>
+    requires few { AreArguments (texts job.args.now) }
+    ensures dumps { Dumps job.entry.file.now job.entry.limit dump.now (texts job.entry.args.now)
+        (outside (store (F.held files.old) (F.faults files.old)) (feed (I.left input.old) (I.faults input.old))
+        (stream (O.taken out.old) (O.faults out.old)) (stream (E.taken err.old) (E.faults err.old)))
+        (outside (store (F.held files.new) (F.faults files.new)) (feed (I.left input.new) (I.faults input.new))
+        (stream (O.taken out.new) (O.faults out.new)) (stream (E.taken err.new) (E.faults err.new)))
+        (outcome_seen result) }
+    ensures files_faults { F.faults files.old ≤ F.faults files.new }
+    ensures input_faults { I.faults input.old ≤ I.faults input.new }
+    ensures out_faults { O.faults out.old ≤ O.faults out.new }
+    ensures err_faults { E.faults err.old ≤ E.faults err.new }
+{
+    let bytes = match fetch_file(alloc, files, job.file, WRITTEN_LIMIT) {
+        Ok(bytes) => bytes,
+        Err(outcome) => return outcome,
+    };
+    let given = match read_input(alloc, input) {
+        Ok(given) => given,
+        Err(outcome) => return outcome,
+    };
+    let machine = match start(alloc, job, &bytes, given) {
+        Ok(machine) => machine,
+        Err(outcome) => return outcome,
+    };
+    let notes = match noted(alloc, job.file, &bytes) {
+        Ok(notes) => notes,
+        Err(outcome) => return outcome,
+    };
+    let dumping = Dumping {
+        limit: job.limit,
+        notes: &notes,
+        name: dump,
+    };
+    dump_machine(alloc, machine, dumping, files, out, err)
+}
+
+// ---- the notes
+
+/// The notes of the file `name`, whose cells lie in a segment that may be read.
+fn noted<'a>(alloc: Global, name: &'a str, bytes: &[u8]) -> Result<Notes, Outcome<'a>>
+    ensures noted { IfOk result (λ notes. IsNoted bytes.now (notes_seen notes)) }
+    ensures rules { IfOk result (λ notes. AreNotes (notes_seen notes)) }
+    ensures refused { IfErr result (λ outcome. IsNotNoted name.now bytes.now (outcome_seen outcome)) }
+{
+    let notes = match read_notes(alloc, bytes) {
+        Ok(notes) => notes,
+        Err(NotesFault::Absent) => return Err(Outcome::NoNotes { name }),
+        Err(NotesFault::Bad(at)) => return Err(Outcome::BadNotes { name, at }),
+        Err(NotesFault::NoMemory) => return Err(Outcome::OutOfMemory),
+    };
+    if notes.cells == 0 {
+        return Ok(notes);
+    }
+    match are_mapped(alloc, bytes, notes.base, notes.cells) {
+        Ok(true) => Ok(notes),
+        Ok(false) => Err(Outcome::BadNotes { name, at: BASE_AT }),
+        Err(NoMemory) => Err(Outcome::OutOfMemory),
+    }
+}
+
+/// The cells lie in one segment that may be read.
+#[tactic(auto, using(crate::proofs::Cells::segments_mapped))]
+fn are_mapped(alloc: Global, bytes: &[u8], base: u32, count: u32) -> Result<bool, NoMemory>
+    ensures { IfOk result (λ mapped. mapped ≡ list_any (holds_cells base count) (mappings bytes.now)) }
+{
+    let segments = read_segments(alloc, bytes)?;
+    Ok(any_has_cells(&segments, base, count))
+}
+
+fn any_has_cells(segments: &[Segment], base: u32, count: u32) -> bool
+    ensures { result ≡ list_any (has_cells_of base count) segments.now }
+{
+    segments
+        .iter()
+        .any(|segment| has_cells(segment, base, count))
+}
+
+fn has_cells(segment: &Segment, base: u32, count: u32) -> bool
+    ensures { result ≡ has_cells_of base count segment.now }
+{
+    let end = u64::from(base) + 4 * u64::from(count);
+    segment.vaddr.0 <= base
+        && end <= u64::from(segment.vaddr.0) + u64::from(segment.memsz)
+        && segment.flags.contains(SegFlags::PF_R)
+}
+
+// ---- the run
+
+/// After how many steps at most a run is dumped, by which notes, and under which name.
+#[derive(Clone, Copy)]
+struct Dumping<'a> {
+    limit: u64,
+    notes: &'a Notes,
+    name: &'a str,
+}
+
+/// Runs the machine, and puts what it has come to as a file.
+fn dump_machine<F: Files, O: Sink, E: Sink>(
+    alloc: Global,
+    mut machine: Machine,
+    dumping: Dumping,
+    files: &mut F,
+    out: &mut O,
+    err: &mut E,
+) -> Outcome<'static>
+    requires rules { AreNotes (notes_seen dumping.notes.now) }
+    requires cells { KeepCells (notes_seen dumping.notes.now) machine }
+    ensures dumped { (input : Feed) → IsDumped (notes_seen dumping.entry.notes.now) machine dumping.entry.limit dumping.entry.name.now
+        (outside (store (F.held files.old) (F.faults files.old)) input
+        (stream (O.taken out.old) (O.faults out.old)) (stream (E.taken err.old) (E.faults err.old)))
+        (outside (store (F.held files.new) (F.faults files.new)) input
+        (stream (O.taken out.new) (O.faults out.new)) (stream (E.taken err.new) (E.faults err.new)))
+        (outcome_seen result) }
+    ensures files_faults { F.faults files.old ≤ F.faults files.new }
+    ensures out_faults { O.faults out.old ≤ O.faults out.new }
+    ensures err_faults { E.faults err.old ≤ E.faults err.new }
+{
+    let end = run(&mut machine, dumping.limit, out, err);
+    if was_broken(end.stop) {
+        return Outcome::DeviceFault;
+    }
+    let bytes = match dump_of(alloc, &machine, dumping.notes, end.steps) {
+        Ok(bytes) => bytes,
+        Err(NoMemory) => return Outcome::OutOfMemory,
+    };
+    put_dump(files, dumping.name, &bytes, outcome_of(end))
+}
+
+/// The run was broken off.
+fn was_broken(stop: Stop) -> bool
+    ensures { result ≡ was_broken_of stop }
+{
+    matches!(stop, Stop::SinkFault)
+}
+
+/// Puts the bytes as the file `name`, and where that is done answers what the run has come to.
+fn put_dump<F: Files>(
+    files: &mut F,
+    name: &str,
+    bytes: &[u8],
+    ended: Outcome<'static>,
+) -> Outcome<'static>
+    ensures put { IsPutAfter (store (F.held files.old) (F.faults files.old))
+        (store (F.held files.new) (F.faults files.new)) name.now bytes.now (outcome_seen ended.entry) (outcome_seen result) }
+    ensures later { F.faults files.old ≤ F.faults files.new }
+{
+    match files.put(name, bytes) {
+        Ok(()) => ended,
+        Err(PutFault::NoMemory) => Outcome::OutOfMemory,
+        Err(PutFault::Failed) => Outcome::DeviceFault,
+    }
+}
+
+/// The bytes of the dump of a machine after so many steps.
+fn dump_of(alloc: Global, machine: &Machine, notes: &Notes, steps: u64) -> Result<Vec<u8>, NoMemory>
+    requires rules { AreNotes (notes_seen notes.now) }
+    requires cells { AreLoadable (notes_seen notes.now) machine.now.memory }
+    ensures { IfOk result (λ bytes. bytes.items ≡ dump_bytes (dump_of_state (notes_seen notes.now) machine.now steps)) }
+{
+    let cells = read_cells(alloc, machine.memory(), notes.base, notes.cells)?;
+    let bytes = write_dump(
+        alloc,
+        &Dump {
+            ending: machine.ending(),
+            pc: machine.pc(),
+            steps,
+            cells,
+        },
+    )?;
+    Ok(bytes)
+}
+
+/// So many words of memory, from an address on.
+#[tactic(auto, using(crate::proofs::Cells::words_more))]
+fn read_cells(alloc: Global, memory: &Memory, base: u32, count: u32) -> Result<Vec<u32>, NoMemory>
+    requires aligned { base % 4 ≡ 0 }
+    requires end { base + 4 * count ≤ 2 ^ 32 }
+    requires few { count ≤ 2 ^ 22 }
+    requires loadable { (k : ℕ) → k < count → CanLoad memory.now (cell_at base k) }
+    ensures cells { IfOk result (λ cells. cells.items ≡ words_at base count memory.now) }
+    ensures few { IfOk result (λ cells. vec_len cells < 2 ^ 30) }
+{
+    let mut cells = Vec::new(alloc);
+    for cell in 0..count {
+        cells.push(load_word(memory, Addr(base + 4 * cell)))?;
+    }
+    Ok(cells)
+}
+
+/// The word at an address that may be read.
+fn load_word(memory: &Memory, address: Addr) -> u32
+    requires aligned { address.0 % 4 ≡ 0 }
+    requires loadable { CanLoad memory.now address.0 }
+    ensures { result ≡ memory_word memory.now address.0 }
+{
+    match memory.load32(address) {
+        Ok(word) => word,
+        Err(_) => unreachable!(),
+    }
+}

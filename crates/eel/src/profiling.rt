@@ -1,0 +1,118 @@
+//! The command `edit` with counters.
+ghost use Rattle.std.specs.Prelude.{◌≡◌, ◌≤◌, ◌^◌, IfErr, IfOk, length};
+ghost use Rattle.snippets.specs.Cells.{WorksBelow};
+ghost use Rattle.cfg_view.specs.View.{IsView};
+ghost use Rattle.edit_core.specs.Taken.{EditRefuses};
+ghost use Rattle.span_tree.specs.Cells.{cell_at, cell_count};
+ghost use Rattle.eel.specs.Outcome.{outcome_seen};
+ghost use Rattle.eel.specs.Answers.Shared.{store};
+ghost use Rattle.eel.specs.Answers.Edit.{IsEditOf};
+ghost use Rattle.eel.specs.Answers.Profile.{AreCells, IsProfileOf, ProfileRefuses, Profiles, counter_of, graph_in, profile_plan};
+
+use crate::edit::{EDIT_LIMIT, refusal};
+use crate::outcome::Outcome;
+use crate::texts::{fetch_file, put_file};
+use crate::tooling::edit_with;
+use cfg_view::{View, look};
+use edit_core::EditFault;
+use eel_base::{Files, NoMemory};
+use snippets::{Op, Snippet};
+use span_tree::{SpanTree, tree, weights};
+use std::alloc::Global;
+use tool_kit::{Chooser, EdgeRef, ToolKind};
+
+/// Reads `input`, edits it with counters on the edges off a spanning tree, and writes `output`.
+pub fn edit_for_counts<'a, F: Files>(
+    alloc: Global,
+    files: &mut F,
+    input: &'a str,
+    output: &str,
+) -> Outcome<'a>
+    ensures profiles { Profiles input.now output.now (store (F.held files.old) (F.faults files.old))
+        (store (F.held files.new) (F.faults files.new)) (outcome_seen result) }
+    ensures later { F.faults files.old ≤ F.faults files.new }
+{
+    let bytes = match fetch_file(alloc, files, input, EDIT_LIMIT) {
+        Ok(bytes) => bytes,
+        Err(outcome) => return outcome,
+    };
+    match profiled(alloc, &bytes) {
+        Ok(written) => put_file(files, output, &written),
+        Err(fault) => refusal(input, fault),
+    }
+}
+
+/// The edit of a file with counters on the edges off a spanning tree of its graph.
+fn profiled(alloc: Global, bytes: &[u8]) -> Result<Vec<u8>, EditFault>
+    requires { length bytes.now ≤ 2 ^ 26 }
+    ensures profile { IfOk result (λ file. IsProfileOf bytes.now file.items) }
+    ensures refused { IfErr result (ProfileRefuses bytes.now) }
+{
+    let view = look(alloc, bytes, &[])?;
+    let tree = heaviest_tree(alloc, &view)?;
+    with_counters(alloc, bytes, &tree)
+}
+
+/// A spanning tree of the graph, grown heaviest first.
+fn heaviest_tree(alloc: Global, view: &View) -> Result<SpanTree, NoMemory>
+    requires { IsView view.now }
+    ensures cells { IfOk result (AreCells view.now.graph) }
+    ensures few { IfOk result (λ cells. cell_count cells ≤ 2 ^ 22) }
+{
+    let weights = weights(alloc, &view.blocks, &view.graph)?;
+    let tree = tree(alloc, &view.graph, &weights)?;
+    // Each edge has one cell at most, and a graph has few edges.
+    let _edges = view.graph.edges();
+    Ok(tree)
+}
+
+/// The edit of a file with a counter on each edge that has a cell.
+fn with_counters(alloc: Global, bytes: &[u8], tree: &SpanTree) -> Result<Vec<u8>, EditFault>
+    requires bytes { length bytes.now ≤ 2 ^ 26 }
+    requires cells { AreCells (graph_in bytes.now) tree.now }
+    requires few { cell_count tree.now ≤ 2 ^ 22 }
+    ensures edited { IfOk result (λ file. IsEditOf bytes.now (profile_plan tree.now) file.items) }
+    ensures refused { IfErr result (EditRefuses bytes.now (λ plan. plan ≡ profile_plan tree.now)) }
+{
+    edit_with(
+        alloc,
+        bytes,
+        Counters { tree },
+        tree.cells(),
+        ToolKind::Profile,
+    )
+}
+
+/// Each edge that has a cell is counted.
+#[derive(Clone, Copy, Drop)]
+struct Counters<'a> {
+    tree: &'a SpanTree,
+}
+
+impl Chooser for Counters<'_> {
+    ghost use Rattle.std.specs.Prelude.{◌≡◌};
+    ghost use Rattle.snippets.specs.Cells.{WorksBelow};
+    ghost use Rattle.span_tree.specs.Cells.{cell_at, cell_count};
+    ghost use Rattle.eel.specs.Answers.Profile.{counter_of};
+
+    ghost may = { λ counters edge. Unit {0} };
+
+    ghost says = { λ counters edge ops. (ops ≡ counter_of (cell_at counters.tree.now edge.no.0))
+        × WorksBelow (cell_count counters.tree.now) ops };
+
+    fn choose(&self, edge: EdgeRef) -> Snippet {
+        counter_on(self.tree, edge)
+    }
+}
+
+/// What is done on an edge: its cell is raised, where it has one.
+fn counter_on(tree: &SpanTree, edge: EdgeRef) -> Snippet
+    ensures counter { result ≡ counter_of (cell_at tree.now edge.no.0) }
+    ensures below { WorksBelow (cell_count tree.now) result }
+{
+    let mut snippet = Snippet::empty();
+    if let Some(cell) = tree.cell(edge.no) {
+        snippet.push(Op::Add { cell, amount: 1 });
+    }
+    snippet
+}
