@@ -1,5 +1,4 @@
 pub mod Answered
-pub mod BothRead
 pub mod Cells
 pub mod Counted
 pub mod Dumping

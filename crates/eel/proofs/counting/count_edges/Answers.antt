@@ -1,18 +1,20 @@
 use Rattle.std.proofs.Common.{refl}
 use Rattle.eel.specs.Answers.Counts.{undumped, refused, printed}
-use Rattle.eel.proofs.BothRead.{read-before, unread-before}
+use Rattle.eel.specs.Answers.Shared.{store}
+use Rattle.eel.proofs.Later.{read-later, unread-later}
 use Rattle.eel.proofs.counting.count_edges.Goals as goal
 
 pub returns-in-Err-fetch_file-clause-counts : goal.returns-in-Err-fetch_file-clause-counts
 returns-in-Err-fetch_file-clause-counts g c = λ feed err.
     undumped c.in-Ok.file.items c.in-Ok.ensures.read
-    (unread-before _ _ _ _ _ _ c.fetch_file.ensures.kept _ _ c.fetch_file.ensures.later c.in-Err-fetch_file.ensures.unread)
-    (refl, refl)
+    (unread-later _ _ _ _
+    (store (g.F.Files.held c.fetch_file-2.new.files) (g.F.Files.faults c.fetch_file-2.new.files)) _ _ _
+    c.fetch_file.ensures.kept c.fetch_file.ensures.later c.in-Err-fetch_file.ensures.unread) (refl, refl)
 
 pub returns-in-Ok-count_lines-clause-counts : goal.returns-in-Ok-count_lines-clause-counts
 returns-in-Ok-count_lines-clause-counts g c = λ feed err.
     printed c.in-Ok.file.items c.in-Ok.ensures.read c.in-Ok-fetch_file.bytes.items
-    (read-before _ _ _ _ _ _ c.fetch_file.ensures.kept _ c.in-Ok-fetch_file.ensures.read)
+    (read-later _ _ _ _ _ _ _ c.fetch_file.ensures.kept c.in-Ok-fetch_file.ensures.read)
     c.in-Ok-count_lines.lines.items
     (rw (c.deref.ensures.value, c.deref-2.ensures.value) at c.in-Ok-count_lines.ensures.lines)
     (rw c.deref-in-Ok-count_lines.ensures.value at c.print.ensures.printed) refl
@@ -20,5 +22,5 @@ returns-in-Ok-count_lines-clause-counts g c = λ feed err.
 pub returns-clause-counts : goal.returns-clause-counts
 returns-clause-counts g c = λ feed err.
     refused c.in-Ok.file.items c.in-Ok.ensures.read c.in-Ok-fetch_file.bytes.items
-    (read-before _ _ _ _ _ _ c.fetch_file.ensures.kept _ c.in-Ok-fetch_file.ensures.read)
+    (read-later _ _ _ _ _ _ _ c.fetch_file.ensures.kept c.in-Ok-fetch_file.ensures.read)
     (rw (c.deref.ensures.value, c.deref-2.ensures.value) at c.in-Err-count_lines.ensures.refused) (refl, refl)
