@@ -1,54 +1,21 @@
 -- Counts, by the status.
-use Rattle.std.proofs.Common.{◌≡◌, ℕ, ◌⊎◌, inl, inr, List, Ok, refl, ap, ◌∙◌, lit≤}
+use Rattle.std.proofs.Common.{◌≡◌, ℕ, ◌⊎◌, inl, inr, List, ap, ◌∙◌, lit≤}
 use Rattle.eel_base.specs.Outside.{IsMissing, appended}
-use Rattle.elf32_sparc.specs.Notes.{Notes, notes_of}
-use Rattle.dump_file.specs.Dump.{Dump}
-use Rattle.dump_file.specs.Reading.{read_dump}
-use Rattle.count_rebuild.specs.Answers.{IsRefused}
-use Rattle.count_rebuild.specs.declared.fault.CountFault.{CountFault}
-use Rattle.count_rebuild.specs.declared.fault.CountFault.TheVariants as faults
 use Rattle.eel.specs.Outcome.{Outcome, NoNotes, BadNotes, BadDump, NoProfile, NoCounts, OutOfMemory, Stream, status_of, line_of}
 use Rattle.eel.specs.Answers.Shared.{Outside, with_err, written_limit}
-use Rattle.eel.specs.Answers.Counts.{AreRead, Counts, unread, undumped, refused, printed, IsUncounted, IsUndumped, IsUnnoted, WereCounted, counts_means, dump_limit, uncounted_of}
+use Rattle.eel.specs.Answers.Counts.{Counts, unread, undumped, refused, printed, IsUncounted, WereCounted, counts_means, dump_limit}
 use Rattle.eel.proofs.ExactProfiles.{are_exact}
 use Rattle.eel.proofs.Later.{appended-nil}
 use Rattle.eel.proofs.Meanings.{AnyRose, IsByStatus, IsBad, bad, refusal_is_bad, wanting_is_bad, unread_not_done, unread_failed, printed_done, printed_not_refused, printed_failed}
 
--- ---- what is refused says why
-
-module _ (written file name bytes : List ℕ) where
-  -- WRITTEN has no notes
-  pub notes_refused : (outcome : Outcome) → IsUnnoted written file outcome → IsUncounted written file name bytes outcome
-  notes_refused (NoNotes named) is = is
-  notes_refused (BadNotes named at) is = is
-  notes_refused OutOfMemory is = tt
-  notes_refused _ is = absurd is
-
-  -- DUMP is no dump
-  pub dump_refused : (notes : Notes) (outcome : Outcome) → notes_of file ≡ Ok notes → IsUndumped name bytes outcome
-      → IsUncounted written file name bytes outcome
-  dump_refused notes (BadDump named at) noted is = (notes, is.0, noted, is.1)
-  dump_refused notes OutOfMemory noted is = tt
-  dump_refused notes _ noted is = absurd is
-
-  -- they have no counts
-  pub counts_refused : (notes : Notes) (dump : Dump) (fault : CountFault) → AreRead file bytes notes dump
-      → IsRefused notes dump fault → IsUncounted written file name bytes (uncounted_of written name fault)
-  counts_refused notes dump faults.NoProfile read is = (notes, dump, refl, read, is)
-  counts_refused notes dump (faults.Shape cells wanted) read is = (notes, dump, refl, read, is)
-  counts_refused notes dump (faults.TooLong steps) read is = (notes, dump, refl, read, is)
-  counts_refused notes dump (faults.Between pc) read is = (notes, dump, refl, read, is)
-  counts_refused notes dump (faults.Negative edge value) read is = (notes, dump, refl, read, is)
-  counts_refused notes dump faults.NoMemory read is = tt
-
-  not_counted : (outcome : Outcome) → IsUncounted written file name bytes outcome → IsBad (status_of outcome)
-  not_counted (NoNotes named) is = bad 65 (lit≤ tt) (lit≤ tt)
-  not_counted (BadNotes named at) is = bad 65 (lit≤ tt) (lit≤ tt)
-  not_counted (BadDump named at) is = bad 65 (lit≤ tt) (lit≤ tt)
-  not_counted (NoProfile named) is = bad 65 (lit≤ tt) (lit≤ tt)
-  not_counted (NoCounts named cause) is = bad 65 (lit≤ tt) (lit≤ tt)
-  not_counted OutOfMemory is = bad 70 (lit≤ tt) (lit≤ tt)
-  not_counted _ is = absurd is
+not_counted : (written file name bytes : List ℕ) (outcome : Outcome) → IsUncounted written file name bytes outcome → IsBad (status_of outcome)
+not_counted written file name bytes (NoNotes named) is = bad 65 (lit≤ tt) (lit≤ tt)
+not_counted written file name bytes (BadNotes named at) is = bad 65 (lit≤ tt) (lit≤ tt)
+not_counted written file name bytes (BadDump named at) is = bad 65 (lit≤ tt) (lit≤ tt)
+not_counted written file name bytes (NoProfile named) is = bad 65 (lit≤ tt) (lit≤ tt)
+not_counted written file name bytes (NoCounts named cause) is = bad 65 (lit≤ tt) (lit≤ tt)
+not_counted written file name bytes OutOfMemory is = bad 70 (lit≤ tt) (lit≤ tt)
+not_counted written file name bytes _ is = absurd is
 
 -- ---- the command, by its status
 
