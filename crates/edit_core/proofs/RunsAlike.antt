@@ -23,7 +23,7 @@ use Rattle.cfg_blocks.specs.Blocks.{below}
 use Rattle.cfg_blocks.proofs.Targets.{word_at-some}
 use Rattle.cfg_normal.specs.declared.Node.{Node}
 use Rattle.cfg_walk.specs.Matches.{FetchesOnly, BeginsAt}
-use Rattle.cfg_walk.specs.Walk.{gone_in, point_of}
+use Rattle.cfg_walk.specs.Walk.{point_of}
 use Rattle.walk_counts.proofs.Fetching.{only_text_is_fetched}
 use Rattle.walk_counts.proofs.Files.{begins, entry_is}
 use Rattle.addr_translate.specs.Lookup.{TableAt, looked_up}

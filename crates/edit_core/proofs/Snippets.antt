@@ -1,16 +1,15 @@
 -- The code of good snippets.
-use Rattle.std.proofs.Common.{◌≡◌, ℕ, suc, ◌+◌, ◌*◌, ◌%◌, ◌^◌, ◌<◌, ◌≤◌, ◌⊎◌, inl, inr, List, [], ◌∷◌, length, map, get_or, refl, sym, subst, ◌∙◌, arith, All}
+use Rattle.std.proofs.Common.{◌≡◌, ℕ, suc, ◌*◌, ◌%◌, ◌^◌, ◌<◌, ◌≤◌, inl, inr, List, [], ◌∷◌, length, sym, subst, arith, All}
 use Rattle.std.proofs.lemmas.Bool.{cases_lt}
 use Rattle.std.proofs.lemmas.List.{get_or_past, length-map}
-use Rattle.v8_decode.specs.declared.Instr.{Instr}
 use Rattle.v8_encode.specs.Encoding.{word_of}
 use Rattle.snippets.specs.declared.snippet.Op.{Op}
 use Rattle.snippets.specs.Cells.{named_by}
 use Rattle.snippets.specs.Ops.{cell_of}
 use Rattle.snippet_code.specs.Cells.{IsCellOf, cell_at}
-use Rattle.snippet_code.specs.Laws.{CanExpand, EndLow, SnippetCodeRuns}
+use Rattle.snippet_code.specs.Laws.{CanExpand, EndLow}
 use Rattle.snippet_code.specs.Runs.{DoesJust}
-use Rattle.snippet_code.specs.Words.{cost_of, snippet_words, spills_of}
+use Rattle.snippet_code.specs.Words.{snippet_words, spills_of}
 use Rattle.snippet_code.proofs.Lengths.{costs_hold}
 use Rattle.snippet_code.proofs.WholeCode.{snippet_code_runs}
 use Rattle.image_code.specs.Fit.{AreShort}

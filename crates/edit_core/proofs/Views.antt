@@ -1,5 +1,5 @@
 -- What the view of a file has.
-use Rattle.std.proofs.Common.{◌≡◌, ℕ, ◌≤◌, List, [], None, refl, sym, ap, ◌∙◌, subst}
+use Rattle.std.proofs.Common.{◌≡◌, ℕ, ◌≤◌, List, None, refl, sym, ap, ◌∙◌, subst}
 use Rattle.elf32_sparc.specs.FileFault.{fault}
 use Rattle.elf32_sparc.specs.Image.{Program, image_of}
 use Rattle.cfg_blocks.specs.Entries.{entered_of}

@@ -1,4 +1,4 @@
-use Rattle.std.proofs.Common.{◌⊎◌, ◌≡◌, ◌++◌, List, inl, inr, map, append-nil, ap, sym, ◌∙◌}
+use Rattle.std.proofs.Common.{◌++◌, List, inl, inr, map, append-nil, ap, sym, ◌∙◌}
 use Rattle.elf32_sparc.specs.Notes.{NoteEdge}
 use Rattle.notes.specs.Seen.{edge_seen}
 use Rattle.edit_core.proofs.Noted.{none_first, none_second}

@@ -1,5 +1,4 @@
 use Rattle.std.proofs.Common.{◌≡◌, ℕ, ◌+◌, ◌*◌, ◌^◌, ◌≤◌, length}
-use Rattle.cfg_normal.specs.Graph.{IsGraph}
 use Rattle.edit_core.specs.Taken.{operations_on}
 use Rattle.edit_core.proofs.taking.operations.Given as goal
 

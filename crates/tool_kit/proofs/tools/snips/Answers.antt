@@ -1,4 +1,4 @@
-use Rattle.std.proofs.Common.{length, arith}
+use Rattle.std.proofs.Common.{arith}
 use Rattle.tool_kit.proofs.Answered.{all_answers, all_good, first_more}
 use Rattle.tool_kit.proofs.tools.snips.Goals as goal
 
