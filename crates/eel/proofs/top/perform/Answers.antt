@@ -15,6 +15,7 @@ returns-in-Run-clause-follows g c =
 
 pub returns-in-Run-2-clause-follows : goal.returns-in-Run-2-clause-follows
 returns-in-Run-2-clause-follows g c = rw (← c.in-Run-2.ensures.command) c.run_for_dump.ensures.dumps
+
 pub returns-in-EditProfile-clause-follows : goal.returns-in-EditProfile-clause-follows
 returns-in-EditProfile-clause-follows g c =
     rw (← c.in-EditProfile.ensures.command) (c.edit_for_counts.ensures.profiles, refl, (refl, refl))
