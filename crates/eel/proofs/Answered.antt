@@ -5,7 +5,7 @@ use Rattle.eel.specs.Outcome.{Shows, shown, failed, status_of}
 use Rattle.eel.specs.Answers.{Ran, IsDone, IsRefusal, IsUnchanged, HasFailed, WasWanting, meaning_of, unknown_means}
 use Rattle.eel.specs.Answers.Shared.{Outside, with_err}
 use Rattle.eel.proofs.Later.{rose-before, rose-after}
-use Rattle.eel.proofs.Meanings.{IsByStatus, AnyRose, refusal_is_bad, wanting_is_bad}
+use Rattle.eel.proofs.Meanings.{IsByStatus, AnyRose, refusal_is_bad}
 use Rattle.eel.proofs.Editing.{edit_by_status}
 use Rattle.eel.proofs.Scripting.{script_by_status}
 use Rattle.eel.proofs.Running.{run_by_status}

@@ -10,7 +10,7 @@ use Rattle.v8_runner.specs.declared.Stop.TheVariants.{Limit, Ended, SinkFault}
 use Rattle.eel.specs.Outcome.{Outcome, Done, Stopped, NoNotes, BadNotes, OutOfMemory, DeviceFault, Stream, status_of, line_of}
 use Rattle.eel.specs.Answers.Shared.{Feed, Outside, Store, WasRead, outside, store, with_err, written_limit}
 use Rattle.eel.specs.Answers.Run.{HasRun, IsRun, WasBroken, WasFed, stopped_of, was_broken}
-use Rattle.eel.specs.Answers.Dump.{Dumps, unread, unfed, refused, unnoted, ran, HasPutAll, HasStopped, IsDumped, IsNotNoted, IsPutAfter, WasDumped, WasUnput, dump_after, dump_means}
+use Rattle.eel.specs.Answers.Dump.{Dumps, unread, unfed, refused, unnoted, ran, HasPutAll, HasStopped, IsDumped, IsNotNoted, IsPutAfter, WasDumped, dump_after, dump_means}
 use Rattle.eel.proofs.Later.{appended-nil, put-later}
 use Rattle.eel.proofs.Meanings.{AnyRose, IsByStatus, IsBad, bad, refusal_is_bad, refusal_not_wanting, wanting_is_bad, unread_not_done, unread_failed}
 use Rattle.eel.proofs.Running.{not_run, unfed_failed, unfed_not_done}

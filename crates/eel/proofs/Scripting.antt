@@ -1,6 +1,6 @@
 -- An edit by a script, by its status.
 use Rattle.std.proofs.Common.{◌≡◌, ℕ, ◌⊎◌, inl, inr, List, [], length, refl, ap, subst, ◌∙◌, lit≤}
-use Rattle.eel_base.specs.Outside.{IsMissing, Rose, appended}
+use Rattle.eel_base.specs.Outside.{IsMissing, appended}
 use Rattle.snippets.specs.declared.script.Script.{Script}
 use Rattle.snippets.specs.declared.script.ScriptFault.{ScriptFault}
 use Rattle.snippets.specs.declared.script.ScriptFault.TheVariants as script_faults
