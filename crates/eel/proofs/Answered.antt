@@ -5,7 +5,7 @@ use Rattle.eel.specs.Outcome.{Shows, shown, failed, status_of}
 use Rattle.eel.specs.Answers.{Ran, IsDone, IsRefusal, IsUnchanged, HasFailed, WasWanting, meaning_of, unknown_means}
 use Rattle.eel.specs.Answers.Shared.{Outside, with_err}
 use Rattle.eel.proofs.Later.{rose-before, rose-after}
-use Rattle.eel.proofs.Meanings.{IsByStatus, AnyRose, refusal_is_bad, wanting_is_bad}
+use Rattle.eel.proofs.Meanings.{IsByStatus, AnyRose, refusal_is_bad}
 use Rattle.eel.proofs.Editing.{edit_by_status}
 use Rattle.eel.proofs.Scripting.{script_by_status}
 use Rattle.eel.proofs.Running.{run_by_status}
@@ -20,7 +20,7 @@ unknown_by_status = record {
   done = λ old new err outcome follows zero took.
       let at : status_of outcome ≡ 64 = ap status_of follows.0 in absurd (omega (arith, zero, at));
   refused = λ old new outcome follows refusal. record { files = follows.1; out = ap (λ s. s.taken) follows.3.0 };
-  wanting = λ old new outcome follows wants.
+  wanting = λ old new err outcome follows wants.
       let at : status_of outcome ≡ 64 = ap status_of follows.0 in absurd (omega (arith, wants, at));
   failed = λ old new outcome follows fails.
       let at : status_of outcome ≡ 64 = ap status_of follows.0 in absurd (omega (arith, fails, at));
@@ -61,7 +61,7 @@ wanting_shown command old new status r wants = at r.shown
   where
     at : Shows r.outcome status r.err new.err → WasWanting command old new
     at (shown is took) =
-        let kept = (by_status command).wanting old (with_err new r.err) r.outcome r.follows (omega (arith, is, wants)) in
+        let kept = (by_status command).wanting old new r.err r.outcome r.follows (omega (arith, is, wants)) in
         record { files = kept.0; out = kept.1 }
     at (failed is took rose) = absurd (omega (arith, is, wants))
 

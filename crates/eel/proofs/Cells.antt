@@ -1,22 +1,22 @@
 -- Cells in one loaded segment with leave to be read can be read at each moment of a run.
-use Rattle.std.proofs.Common.{◌≡◌, ℕ, zero, suc, ◌+◌, ◌*◌, ◌<◌, ◌≤◌, ◌⊎◌, inl, inr, Bool, true, false, ◌&&◌, ◌||◌, not, ◌==◌, nat_le, nat_lt, cond, List, [], ◌∷◌, ◌++◌, map, length, Option, Some, None, Result, Ok, Err, ◌%◌, if◌then◌else◌, refl, ap, sym, ◌∙◌, subst, arith}
+use Rattle.std.proofs.Common.{◌≡◌, ℕ, zero, suc, ◌+◌, ◌*◌, ◌≤◌, ◌⊎◌, inl, inr, Bool, true, false, ◌&&◌, ◌||◌, not, nat_le, nat_lt, cond, List, [], ◌∷◌, ◌++◌, map, Option, Some, None, Result, Ok, Err, ◌%◌, if◌then◌else◌, refl, ap, sym, ◌∙◌, subst, arith}
 use Rattle.std.specs.Int.{from_be_bytes, w32}
 use Rattle.std.specs.List.{find, list_any}
 use Rattle.std.specs.Option.{option_map}
-use Rattle.std.proofs.lemmas.Bool.{and_cases, and_from, and_parts, eq-eqb, eqb-true, le-leb, leb-false, leb-true, ltb-false, or_parts}
+use Rattle.std.proofs.lemmas.Bool.{and_cases, and_from, and_parts, eq-eqb, eqb-true, le-leb, leb-true, ltb-false, or_parts}
 use Rattle.std.proofs.lemmas.Bool.Decides.{nat_tests}
 use Rattle.std.proofs.lemmas.List.FromFn.{map-range_with_len_more}
 use Rattle.elf32_sparc.specs.declared.header.ProgramHeader.{ProgramHeader}
 use Rattle.elf32_sparc.specs.declared.program.Segment.{Segment}
 use Rattle.elf32_sparc.specs.Header.{end_of, has_flag, loadable, program_headers}
 use Rattle.elf32_sparc.specs.FileFault.{descends_from, has_disorder, has_memory_outside_a_run, is_last_page, leaves_room, load_fault}
-use Rattle.elf32_sparc.specs.Mapping.{Mapping, mapping_of, mappings}
+use Rattle.elf32_sparc.specs.Mapping.{mapping_of, mappings}
 use Rattle.elf32_sparc.specs.Image.{segment_of}
 use Rattle.elf32_sparc.specs.Notes.{Notes}
 use Rattle.elf32_sparc.proofs.Loadable.{loadable_file}
 use Rattle.v8_decode.specs.declared.Instr.{Instr}
 use Rattle.v8_decode.specs.Words.{decode_of}
-use Rattle.v8_memory.specs.Regions.{Memory, Region, all_written, covers, fetch_of, if_allowed, is_heap_end, bytes_at, part_of, read_region, region_at, with_heap_end, written}
+use Rattle.v8_memory.specs.Regions.{Memory, Region, all_written, covers, fetch_of, if_allowed, is_heap_end, bytes_at, part_of, read_region, with_heap_end, written}
 use Rattle.v8_memory.specs.declared.fault.MemFault.{MemFault}
 use Rattle.v8_memory.specs.declared.fault.MemFault.TheVariants.{Misaligned}
 use Rattle.v8_memory.specs.Calls.{Loads, allowed, load_of}
@@ -35,7 +35,7 @@ use Rattle.code_runs.proofs.Stays.{shape}
 use Rattle.snippet_code.specs.Cells.{cell_at, words_at}
 use Rattle.edit_core.specs.Faithful.{holds_cells}
 use Rattle.eel.specs.Answers.Dump.{AreMapped}
-use Rattle.eel.specs.Cells.{AreLoadable, KeepCells, has_cells}
+use Rattle.eel.specs.Cells.{KeepCells, has_cells}
 
 -- ---- a word that may be read, away from all addresses that the heap can take
 

@@ -70,7 +70,7 @@ module _ (written dump : List ℕ) where
         (done old new err outcome follows.0 zero took, follows.1, follows.2);
     refused = λ old new outcome follows refusal.
         record { files = follows.1; out = silent old new outcome follows.0 (refusal_is_bad _ refusal) };
-    wanting = λ old new outcome follows wants.
-        (follows.1, silent old new outcome follows.0 (wanting_is_bad _ wants));
+    wanting = λ old new err outcome follows wants.
+        (follows.1, silent old (with_err new err) outcome follows.0 (wanting_is_bad _ wants));
     failed = λ old new outcome follows fails. failed old new outcome follows.0 fails;
   }

@@ -10,7 +10,7 @@ use Rattle.v8_runner.specs.declared.Stop.TheVariants.{Limit, Ended, SinkFault}
 use Rattle.eel.specs.Outcome.{Outcome, Done, Stopped, NoNotes, BadNotes, OutOfMemory, DeviceFault, Stream, status_of, line_of}
 use Rattle.eel.specs.Answers.Shared.{Feed, Outside, Store, WasRead, outside, store, with_err, written_limit}
 use Rattle.eel.specs.Answers.Run.{HasRun, IsRun, WasBroken, WasFed, stopped_of, was_broken}
-use Rattle.eel.specs.Answers.Dump.{Dumps, unread, unfed, refused, unnoted, ran, HasPutAll, HasStopped, IsDumped, IsNotNoted, IsPutAfter, WasDumped, WasUnput, dump_after, dump_means}
+use Rattle.eel.specs.Answers.Dump.{Dumps, unread, unfed, refused, unnoted, ran, HasPutAll, HasStopped, IsDumped, IsNotNoted, IsPutAfter, WasDumped, dump_after, dump_means}
 use Rattle.eel.proofs.Later.{appended-nil, put-later}
 use Rattle.eel.proofs.Meanings.{AnyRose, IsByStatus, IsBad, bad, refusal_is_bad, refusal_not_wanting, wanting_is_bad, unread_not_done, unread_failed}
 use Rattle.eel.proofs.Running.{not_run, unfed_failed, unfed_not_done}
@@ -227,9 +227,24 @@ module _ (file : List ℕ) (limit : ℕ) (dump : List ℕ) (args : List (List �
       → new.out.taken ≡ old.out.taken
   silent old new outcome left not = elim left.out [ inl same ↦ same | inr (put, wants) ↦ absurd (not wants) ]
 
-  quiet_or_all : (old new : Outside) (outcome : Outcome) → Leaves old new outcome
+  -- the error stream takes a line after that
+  same_put : (old new : Outside) (err : Stream) → HasPutAll file limit args old (with_err new err)
+      → HasPutAll file limit args old new
+  same_put old new err put = record {
+    bytes = put.bytes;
+    read = put.read;
+    input = put.input;
+    fed = put.fed;
+    steps = put.steps;
+    made = put.made;
+    stops = put.stops;
+    out = put.out;
+  }
+
+  quiet_or_all : (old new : Outside) (err : Stream) (outcome : Outcome) → Leaves old (with_err new err) outcome
       → (new.out.taken ≡ old.out.taken) ⊎ HasPutAll file limit args old new
-  quiet_or_all old new outcome left = elim left.out [ inl same ↦ inl same | inr (put, wants) ↦ inr put ]
+  quiet_or_all old new err outcome left =
+      elim left.out [ inl same ↦ inl same | inr (put, wants) ↦ inr (same_put old new err put) ]
 
   pub dump_by_status : IsByStatus (dump_means file limit dump args)
   dump_by_status = record {
@@ -237,8 +252,8 @@ module _ (file : List ℕ) (limit : ℕ) (dump : List ℕ) (args : List (List �
     refused = λ old new outcome follows refusal.
         let left = leaves old new outcome follows (refusal_is_bad _ refusal) in
         record { files = left.held; out = silent old new outcome left (refusal_not_wanting _ refusal) };
-    wanting = λ old new outcome follows wants.
-        let left = leaves old new outcome follows (wanting_is_bad _ wants) in
-        (left.held, quiet_or_all old new outcome left);
+    wanting = λ old new err outcome follows wants.
+        let left = leaves old (with_err new err) outcome follows (wanting_is_bad _ wants) in
+        (left.held, quiet_or_all old new err outcome left);
     failed = λ old new outcome follows fails. failed old new outcome follows fails;
   }

@@ -62,7 +62,7 @@ edit_by_status input output = record {
     files = unchanged input output old.files new.files outcome follows.0 (refusal_is_bad _ refusal);
     out = ap (λ s. s.taken) follows.2.0;
   };
-  wanting = λ old new outcome follows wants. (
+  wanting = λ old new err outcome follows wants. (
     unchanged input output old.files new.files outcome follows.0 (wanting_is_bad _ wants),
     ap (λ s. s.taken) follows.2.0,
   );

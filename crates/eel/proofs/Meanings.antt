@@ -16,8 +16,8 @@ pub record IsByStatus (m : Meaning) : Type 0 where
       → status_of outcome ≡ 0 → new.err.taken ≡ appended err.taken (line_of outcome) → m.does old new
   pub refused : (old new : Outside) (outcome : Outcome) → m.follows old new outcome → IsRefusal (status_of outcome)
       → IsUnchanged old new
-  pub wanting : (old new : Outside) (outcome : Outcome) → m.follows old new outcome → status_of outcome ≡ 70
-      → (new.files.held ≡ old.files.held) × m.wants old new
+  pub wanting : (old new : Outside) (err : Stream) (outcome : Outcome) → m.follows old (with_err new err) outcome
+      → status_of outcome ≡ 70 → (new.files.held ≡ old.files.held) × m.wants old new
   pub failed : (old new : Outside) (outcome : Outcome) → m.follows old new outcome → status_of outcome ≡ 74
       → AnyRose old new (m.lacks old.files)
 

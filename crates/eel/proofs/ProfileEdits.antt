@@ -56,7 +56,7 @@ module _ (input output : List ℕ) where
       files = unchanged old.files new.files outcome follows.0 (refusal_is_bad _ refusal);
       out = ap (λ s. s.taken) follows.2.0;
     };
-    wanting = λ old new outcome follows wants.
+    wanting = λ old new err outcome follows wants.
         (unchanged old.files new.files outcome follows.0 (wanting_is_bad _ wants), ap (λ s. s.taken) follows.2.0);
     failed = λ old new outcome follows fails. failed old new outcome follows.0 fails;
   }

@@ -49,7 +49,7 @@ restore_by_status written output = record {
     files = unchanged written output old.files new.files outcome follows.0 (refusal_is_bad _ refusal);
     out = ap (λ s. s.taken) follows.2.0;
   };
-  wanting = λ old new outcome follows wants. (
+  wanting = λ old new err outcome follows wants. (
     unchanged written output old.files new.files outcome follows.0 (wanting_is_bad _ wants),
     ap (λ s. s.taken) follows.2.0,
   );

@@ -167,7 +167,7 @@ run_by_status file limit args = record {
   done = λ old new err outcome follows zero took. (done file limit args old new err outcome follows.0 zero took, follows.1);
   refused = λ old new outcome follows refusal.
       record { files = follows.1; out = silent file limit args old new outcome follows.0 (refusal_is_bad _ refusal) };
-  wanting = λ old new outcome follows wants.
-      (follows.1, silent file limit args old new outcome follows.0 (wanting_is_bad _ wants));
+  wanting = λ old new err outcome follows wants.
+      (follows.1, silent file limit args old (with_err new err) outcome follows.0 (wanting_is_bad _ wants));
   failed = λ old new outcome follows fails. failed file limit args old new outcome follows.0 fails;
 }

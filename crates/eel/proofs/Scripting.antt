@@ -1,6 +1,6 @@
 -- An edit by a script, by its status.
 use Rattle.std.proofs.Common.{◌≡◌, ℕ, ◌⊎◌, inl, inr, List, [], length, refl, ap, subst, ◌∙◌, lit≤}
-use Rattle.eel_base.specs.Outside.{IsMissing, Rose, appended}
+use Rattle.eel_base.specs.Outside.{IsMissing, appended}
 use Rattle.snippets.specs.declared.script.Script.{Script}
 use Rattle.snippets.specs.declared.script.ScriptFault.{ScriptFault}
 use Rattle.snippets.specs.declared.script.ScriptFault.TheVariants as script_faults
@@ -129,7 +129,7 @@ module _ (input output script : List ℕ) where
       files = unchanged old.files new.files outcome follows.0 (refusal_is_bad _ refusal);
       out = ap (λ s. s.taken) follows.2.0;
     };
-    wanting = λ old new outcome follows wants.
+    wanting = λ old new err outcome follows wants.
         (unchanged old.files new.files outcome follows.0 (wanting_is_bad _ wants), ap (λ s. s.taken) follows.2.0);
     failed = λ old new outcome follows fails. failed old new outcome follows.0 fails;
   }

@@ -44,7 +44,7 @@ show_by_status file = record {
   done = λ old new err outcome follows zero took. (done file old new err outcome follows.0 zero took, follows.1, follows.2);
   refused = λ old new outcome follows refusal.
       record { files = follows.1; out = silent file old new outcome follows.0 (refusal_is_bad _ refusal) };
-  wanting = λ old new outcome follows wants.
-      (follows.1, silent file old new outcome follows.0 (wanting_is_bad _ wants));
+  wanting = λ old new err outcome follows wants.
+      (follows.1, silent file old (with_err new err) outcome follows.0 (wanting_is_bad _ wants));
   failed = λ old new outcome follows fails. failed file old new outcome follows.0 fails;
 }

@@ -1,15 +1,14 @@
 -- What the tools of the words ask for is what their callbacks answer.
-use Rattle.std.proofs.Common.{◌≡◌, ℕ, zero, suc, ◌+◌, ◌^◌, ◌<◌, ◌≤◌, Bool, true, false, nat_lt, List, [], ◌∷◌, length, map, Some, Result, Ok, Err, refl, ap, sym, subst, ◌∙◌, arith}
+use Rattle.std.proofs.Common.{◌≡◌, ℕ, zero, suc, ◌^◌, ◌<◌, ◌≤◌, Bool, true, false, nat_lt, List, [], ◌∷◌, length, map, Some, Result, Ok, Err, refl, ap, sym, subst, ◌∙◌, arith}
 use Rattle.std.specs.Prelude.{IfErr, IfOk, get_or, slice_get}
-use Rattle.std.specs.List.{All, range_with_len}
+use Rattle.std.specs.List.{range_with_len}
 use Rattle.std.proofs.lemmas.Bool.{ltb-true, ltb-false}
 use Rattle.std.proofs.lemmas.List.{ext_get_or}
 use Rattle.std.proofs.lemmas.List.FromFn.{get_or-map-range_with_len, length-map-range_with_len}
 use Rattle.snippets.specs.declared.snippet.Op.{Op}
 use Rattle.snippets.specs.declared.script.Script.{Script}
-use Rattle.snippets.specs.Ops.{cell_of}
 use Rattle.snippets.specs.Cells.{WorksBelow}
-use Rattle.snippets.specs.Scripts.{IsScript, cell_end, edge_end, end_of, ops_on, snips_of}
+use Rattle.snippets.specs.Scripts.{IsScript, cell_end, edge_end, end_of, ops_on}
 use Rattle.snippets.proofs.Within.{good_within}
 use Rattle.cfg_normal.specs.declared.Edge.{Edge}
 use Rattle.tool_kit.specs.declared.edge_ref.EdgeRef.{EdgeRef}

@@ -64,7 +64,7 @@ abbrev pub run_with : List ℕ → ℕ → Option (List ℕ) → List (List ℕ)
 run_with file limit dump args = if are_few args then Run file limit dump args else Unknown
 
 -- what may follow the options
-abbrev pub arguments_of : List ℕ → ℕ → Option (List ℕ) → List (List ℕ) → Command
+unfoldable pub arguments_of : List ℕ → ℕ → Option (List ℕ) → List (List ℕ) → Command
 arguments_of file limit dump [] = Run file limit dump []
 arguments_of file limit dump (mark ∷ args) =
     if bytes_eq mark (codes "--") then run_with file limit dump args else Unknown
@@ -89,7 +89,7 @@ after_limit file limit (option ∷ dump ∷ words) =
 after_limit file limit words = limited file limit None words
 
 -- what may follow the file, where that is no limit
-abbrev pub unlimited : List ℕ → List (List ℕ) → Command
+unfoldable pub unlimited : List ℕ → List (List ℕ) → Command
 unlimited file (option ∷ dump ∷ words) =
     if bytes_eq option (codes "-d") then after_dump file dump words
     else arguments_of file default_limit None (option ∷ dump ∷ words)

@@ -151,6 +151,7 @@ fn parse_options<'a>(file: &'a str, words: &'a [&'a str]) -> Command<'a>
 }
 
 /// What follows the file, where that is no limit.
+#[tactic(auto, unfolding(crate::specs::Command::unlimited))]
 fn parse_unlimited<'a>(file: &'a str, words: &'a [&'a str]) -> Command<'a>
     ensures command { command_seen result ≡ unlimited file.now (texts words.now) }
     ensures few { HasArguments (command_seen result) }
@@ -204,6 +205,7 @@ fn parse_limited<'a>(
 }
 
 /// What follows the options.
+#[tactic(auto, unfolding(crate::specs::Command::arguments_of))]
 fn parse_arguments<'a>(
     file: &'a str,
     limit: u64,

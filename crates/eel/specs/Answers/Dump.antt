@@ -89,7 +89,8 @@ IsDumped notes s0 limit dump old new DeviceFault =
 IsDumped notes s0 limit dump old new _ = ⊥
 
 -- How a run with a dump goes, step by step, and what comes of it.
-pub data Dumps (file : List ℕ) (limit : ℕ) (dump : List ℕ) (args : List (List ℕ)) (old new : Outside) (outcome : Outcome) : Type 0 where
+pub data Dumps (file : List ℕ) (limit : ℕ) (dump : List ℕ) (args : List (List ℕ)) (old new : Outside)
+    (outcome : Outcome) : Type 0 where
   -- FILE gave no bytes
   unread : IsUnread old.files new.files file written_limit outcome → IsUnused old new → IsQuiet old new
       → new.files.held ≡ old.files.held
@@ -117,7 +118,8 @@ pub data Dumps (file : List ℕ) (limit : ℕ) (dump : List ℕ) (args : List (L
       → Dumps file limit dump args old new outcome
 
 -- The run is done, and DUMP is written: the ending line follows what it put out to the error stream.
-pub record WasDumped (file : List ℕ) (limit : ℕ) (dump : List ℕ) (args : List (List ℕ)) (old new : Outside) : Type 0 where
+pub record WasDumped (file : List ℕ) (limit : ℕ) (dump : List ℕ) (args : List (List ℕ))
+    (old new : Outside) : Type 0 where
   pub bytes : List ℕ
   pub read : WasRead old.files file written_limit bytes
   pub loads : load_fault bytes ≡ None

@@ -1,4 +1,4 @@
-use Rattle.std.proofs.Common.{◌≡◌, ◌≤◌, vec_len}
+use Rattle.std.proofs.Common.{◌≡◌, vec_len}
 use Rattle.snippet_code.specs.Cells.{words_at}
 use Rattle.eel.proofs.dumps.read_cells.Given as goal
 

@@ -1,4 +1,3 @@
-use Rattle.std.proofs.Common.{subst}
 use Rattle.eel.proofs.Tools.{script_has_cells}
 use Rattle.eel.proofs.edit.script_in.Goals as goal
 

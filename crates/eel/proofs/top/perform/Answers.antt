@@ -9,12 +9,14 @@ pub returns-in-EditScript-clause-follows : goal.returns-in-EditScript-clause-fol
 returns-in-EditScript-clause-follows g c =
     rw (← c.in-EditScript.ensures.command) (c.edit_by_script.ensures.scripts, refl, (refl, refl))
 
-pub returns-in-Run-clause-follows : goal.returns-in-Run-clause-follows
-returns-in-Run-clause-follows g c =
-    rw (← c.in-Run.ensures.command) (c.run_program.ensures.runs, c.run_program.ensures.kept)
+pub returns-in-Run-default-default-None-default-clause-follows : goal.returns-in-Run-default-default-None-default-clause-follows
+returns-in-Run-default-default-None-default-clause-follows g c =
+    rw (← c.in-Run-default-default-None-default.ensures.command, c.in-Run-default-default-None-default.dump-is)
+    (c.run_program.ensures.runs, c.run_program.ensures.kept)
 
-pub returns-in-Run-2-clause-follows : goal.returns-in-Run-2-clause-follows
-returns-in-Run-2-clause-follows g c = rw (← c.in-Run-2.ensures.command) c.run_for_dump.ensures.dumps
+pub returns-in-Run-default-default-Some-default-clause-follows : goal.returns-in-Run-default-default-Some-default-clause-follows
+returns-in-Run-default-default-Some-default-clause-follows g c = rw (← c.in-Run-default-default-Some-default.ensures.command, c.in-Run-default-default-Some-default.dump-is)
+    c.run_for_dump.ensures.dumps
 
 pub returns-in-EditProfile-clause-follows : goal.returns-in-EditProfile-clause-follows
 returns-in-EditProfile-clause-follows g c =
