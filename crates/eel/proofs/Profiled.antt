@@ -11,6 +11,9 @@ use Rattle.span_tree.specs.Links.{no_edge}
 use Rattle.tool_kit.specs.declared.edge_ref.EdgeRef.{EdgeRef}
 use Rattle.tool_kit.specs.declared.edge_ref.ToolKind.TheVariants as tools
 use Rattle.tool_kit.specs.Plans.{AreAnswers, AreCounters, IsPlanOf, Plan, numbered as with_number}
+use Rattle.edit_core.specs.declared.taking.EditFault.{EditFault}
+use Rattle.edit_core.specs.declared.taking.EditFault.TheVariants as faults
+use Rattle.edit_core.specs.Taken.{EditRefuses}
 use Rattle.eel.specs.Answers.Tool.{kept_by}
 use Rattle.eel.specs.Answers.Profile.{counter_of, profile_plan}
 
@@ -77,3 +80,10 @@ module _ {F : Type 0} (says : F → EdgeRef → List Op → Type 0) (choose : F)
     cells = (is.cells ∙ same) i;
     snips = snippets_are plan.snips is.snips i;
   }
+
+-- a refusal by a plan is one by each plan that it is the same as
+pub refused_as : (bytes : List ℕ) (IsPlan IsOther : Plan → Type 0) (fault : EditFault)
+    → ((plan : Plan) → IsPlan plan → IsOther plan) → EditRefuses bytes IsPlan fault → EditRefuses bytes IsOther fault
+refused_as bytes IsPlan IsOther (faults.File first) same is = is
+refused_as bytes IsPlan IsOther (faults.Room needed had) same (plan, asks, cramped) = (plan, same plan asks, cramped)
+refused_as bytes IsPlan IsOther faults.NoMemory same is = tt

@@ -29,10 +29,14 @@ pub data Command : Type 0 where
 
 -- ---- edit
 
-abbrev pub edit_of : List (List ℕ) → Command
-edit_of (input ∷ output ∷ tool ∷ []) =
+-- a tool that takes no file
+abbrev pub tool_of : List ℕ → List ℕ → List ℕ → Command
+tool_of input output tool =
     if bytes_eq tool (codes "plain") then EditPlain input output else
     if bytes_eq tool (codes "profile") then EditProfile input output else Unknown
+
+abbrev pub edit_of : List (List ℕ) → Command
+edit_of (input ∷ output ∷ tool ∷ []) = tool_of input output tool
 edit_of (input ∷ output ∷ tool ∷ script ∷ []) =
     if bytes_eq tool (codes "script") then EditScript input output script else Unknown
 edit_of _ = Unknown

@@ -5,7 +5,7 @@ ghost use Rattle.std.specs.List.{All, list_all};
 ghost use Rattle.v8_step.specs.Valid.{AreBytes};
 ghost use Rattle.v8_process.specs.Arguments.{AreArguments};
 ghost use Rattle.v8_process.specs.Start.{strings};
-ghost use Rattle.eel.specs.Command.{HasArguments, command_of, command_seen, edit_of, run_of, options_of, after_limit, after_dump, limited, arguments_of, are_few, is_digit, limit_of, name_seen, restore_of, counts_of, show_of, texts, unlimited};
+ghost use Rattle.eel.specs.Command.{HasArguments, command_of, command_seen, edit_of, tool_of, run_of, options_of, after_limit, after_dump, limited, arguments_of, are_few, is_digit, limit_of, name_seen, restore_of, counts_of, show_of, texts, unlimited};
 
 /// What the words ask for.
 #[derive(Clone, Copy)]
@@ -85,8 +85,7 @@ fn parse_edit<'a>(words: &'a [&'a str]) -> Command<'a>
     ensures { command_seen result ≡ edit_of (texts words.now) }
 {
     match words {
-        [input, output, tool] if *tool == "plain" => Command::EditPlain { input, output },
-        [input, output, tool] if *tool == "profile" => Command::EditProfile { input, output },
+        [input, output, tool] => parse_tool(input, output, tool),
         [input, output, tool, script] if *tool == "script" => Command::EditScript {
             input,
             output,
@@ -94,6 +93,19 @@ fn parse_edit<'a>(words: &'a [&'a str]) -> Command<'a>
         },
         _ => Command::Unknown,
     }
+}
+
+/// An edit by a tool that takes no file.
+fn parse_tool<'a>(input: &'a str, output: &'a str, tool: &str) -> Command<'a>
+    ensures { command_seen result ≡ tool_of input.now output.now tool.now }
+{
+    if tool == "plain" {
+        return Command::EditPlain { input, output };
+    }
+    if tool == "profile" {
+        return Command::EditProfile { input, output };
+    }
+    Command::Unknown
 }
 
 /// What follows the word `show`.

@@ -1,4 +1,4 @@
-//! A tool at a closure: its answers for the edges of a small program.
+//! A tool: its answers for the edges of a small program.
 ghost use Rattle.tool_kit.specs.Sound.{IsSound};
 
 use crate::edges_tests::graph_of;
@@ -33,10 +33,26 @@ fn asked<F: Chooser>(
     Ok((operations, snips.len()))
 }
 
+/// Nothing is done on any edge.
+#[derive(Clone, Copy, Drop)]
+struct Nothing;
+
+impl Chooser for Nothing {
+    ghost use Rattle.std.specs.Prelude.{◌≡◌, []};
+
+    ghost may = { λ nothing edge. Unit {0} };
+
+    ghost says = { λ nothing edge ops. ops ≡ [] };
+
+    fn choose(&self, _edge: EdgeRef) -> Snippet {
+        Snippet::empty()
+    }
+}
+
 #[test]
-fn a_closure_answers_for_each_edge(rt: HostRuntime) -> Result<(), Fail> {
+fn each_edge_has_an_answer(rt: HostRuntime) -> Result<(), Fail> {
     let graph = graph_of(rt.alloc(), &[NOP, NOP], 1)?;
-    let (operations, edges) = asked(rt.alloc(), |_: EdgeRef| Snippet::empty(), 0, &graph)?;
+    let (operations, edges) = asked(rt.alloc(), Nothing, 0, &graph)?;
     assert_eq!(rt; operations, 0);
     assert_eq!(rt; edges, 4);
     Ok(())

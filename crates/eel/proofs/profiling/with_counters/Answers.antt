@@ -1,9 +1,10 @@
-use Rattle.std.proofs.Common.{sym, subst}
-use Rattle.std.proofs.lemmas.Result.{IfOk-weaker}
+use Rattle.std.proofs.Common.{◌≡◌, sym, subst}
+use Rattle.std.proofs.lemmas.Result.{IfErr-weaker, IfOk-weaker}
 use Rattle.tool_kit.specs.Plans.{AreCounters, Plan}
+use Rattle.edit_core.specs.Taken.{EditRefuses}
 use Rattle.eel.specs.Answers.Edit.{IsEditOf}
 use Rattle.eel.specs.Answers.Profile.{profile_plan}
-use Rattle.eel.proofs.Profiled.{are_counters, plan_is}
+use Rattle.eel.proofs.Profiled.{are_counters, plan_is, refused_as}
 use Rattle.eel.proofs.profiling.with_counters.Goals as goal
 
 pub edit_with-requires-clause-counters : goal.edit_with-requires-clause-counters
@@ -20,3 +21,10 @@ returns-clause-edited c = IfOk-weaker c.edit_with.result _ (λ file. IsEditOf c.
     c.cells.ensures.count asks in
     subst (λ (p : Plan). IsEditOf c.args.bytes.now p file.items) same edited)
     c.edit_with.ensures.edited
+
+pub returns-clause-refused : goal.returns-clause-refused
+returns-clause-refused c = IfErr-weaker c.edit_with.result _ (EditRefuses c.args.bytes.now (λ plan. plan ≡ profile_plan c.args.tree.now))
+    (λ fault refused. refused_as c.args.bytes.now _ (λ plan. plan ≡ profile_plan c.args.tree.now) fault
+    (λ plan asks. plan_is _ _ c.args.tree.now _ c.requires.cells.size (λ edge ops said. said.0) c.cells.result plan
+    c.cells.ensures.count asks) refused)
+    c.edit_with.ensures.refused
