@@ -1,11 +1,12 @@
 #!/usr/bin/env python3
 """Draws the flow graph of a program, for Graphviz.
 
-    examples/graph.py FILE [COUNTS] | dot -Tsvg > graph.svg
+    examples/graph.py FILE [COUNTS] [--routine ADDRESS] | dot -Tsvg > graph.svg
 
 Each routine is a cluster of its blocks. Landings aren't drawn, but for those that were completed, and edges out of the
 program lead to `x`. With COUNTS, the lines that `eel counts` prints of a run, each edge has its count, and is the
-heavier the more often it was completed; edges that weren't are grey.
+heavier the more often it was completed; edges that weren't are grey. With an address, in hexadecimal, the routine that
+begins there is drawn alone, with the edges into it and out of it that were completed.
 """
 import bisect
 import math
@@ -30,8 +31,8 @@ def quoted(text):
 
 
 class Drawing:
-    def __init__(self, program, counts):
-        self.program, self.counts = program, counts
+    def __init__(self, program, counts, routine):
+        self.program, self.counts, self.routine = program, counts, routine
         self.graph = Graph(program)
         self.most = max(counts.values(), default=0) if counts else 0
 
@@ -48,7 +49,8 @@ class Drawing:
         for number, first in enumerate(self.graph.firsts):
             at = bisect.bisect(starts, first) - 1
             blocks[starts[max(at, 0)]].append(number)
-        return blocks.items()
+        return [(start, own) for start, own in blocks.items()
+                if self.routine is None or self.address(start) == self.routine]
 
     def cluster(self, start, blocks):
         name = self.graph.routines[start].decode('ascii', 'replace') or self.address(start)
@@ -73,28 +75,36 @@ class Drawing:
         looks = self.heat(count) + f'; label={quoted(f"{edge.kind} {count}")}' if count else 'color=lightgray'
         return f'  {self.node(edge.source)} -> {self.node(edge.target)} [{style}{looks}];'
 
-    def is_drawn(self, number, edge):
-        return edge.kind != 'land' or bool(self.counts and self.counts.get(number))
+    def is_drawn(self, number, edge, drawn):
+        """Landings are drawn that were completed; of one routine, all edges within it, and others that were completed."""
+        completed = bool(self.counts and self.counts.get(number))
+        ends = sum(end in drawn for end in (edge.source, edge.target))
+        return completed and ends > 0 if edge.kind == 'land' or ends < 2 and self.routine else ends > 0
 
     def lines(self):
         yield 'digraph program {'
         yield '  node [shape=box, fontname=monospace]; edge [fontname=monospace, fontsize=10];'
+        drawn = set()
         for start, blocks in self.clusters():
+            drawn.update(blocks)
             yield from self.cluster(start, blocks)
         for number, edge in enumerate(self.graph.edges):
-            if self.is_drawn(number, edge):
+            if self.is_drawn(number, edge, drawn):
                 yield self.edge(number, edge)
         yield '}'
 
 
 def main(words):
+    routine = None
+    if len(words) > 2 and words[-2] == '--routine':
+        *words, _, routine = words
     if len(words) not in (1, 2):
         print(__doc__, file=sys.stderr)
         return 64
     with open(words[0], 'rb') as opened:
         program = Program(opened.read())
     counts = read_counts(words[1]) if len(words) == 2 else None
-    print('\n'.join(Drawing(program, counts).lines()))
+    print('\n'.join(Drawing(program, counts, routine).lines()))
     return 0
 
 
