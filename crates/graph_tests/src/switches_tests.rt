@@ -46,7 +46,7 @@ fn one_block_has_a_switch(rt: HostRuntime) -> Result<(), Fail> {
     expect(
         &rt,
         rt.alloc(),
-        0,
+        21,
         0x90102003,
         b"switch 00010070 00010078 4",
     )
