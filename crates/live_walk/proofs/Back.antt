@@ -34,7 +34,7 @@ use Rattle.cfg_walk.proofs.Cut.{cut}
 use Rattle.cfg_walk.proofs.Walks.{live_before, walks_match}
 use Rattle.liveness.specs.Live.{Point, At, Along, After, edge_at, reads_at, writes_at, slot_reads, slot_writes, IsLive, IsLiveOn, instr_of}
 use Rattle.live_walk.specs.Law.{NeededIsLive, NamedIsLive}
-use Rattle.live_walk.proofs.Windows.{window_stays}
+use Rattle.v8_step.proofs.WindowStays.{window_stays}
 use Rattle.live_walk.proofs.Parts.{read_by_word, unwritten, reads_every, same_part}
 use Rattle.live_walk.proofs.Trips.{Trip, step_back, left_on, names_now}
 use Rattle.live_walk.proofs.Edges.{IsPointBy}

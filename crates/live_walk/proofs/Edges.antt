@@ -25,9 +25,10 @@ use Rattle.cfg_walk.specs.Walk.{Point as RunPoint, edge_from, landed, landing_at
 use Rattle.cfg_walk.specs.Matches.{Begins, IsOnItsWay}
 use Rattle.cfg_blocks.proofs.Targets.{word_at-some}
 use Rattle.cfg_walk.proofs.Cut.{IsCut}
-use Rattle.cfg_walk.proofs.Edges.{IsEdge, block, leads_along, landing_found, out_to}
+use Rattle.cfg_walk.proofs.Edges.{IsEdge, block, number_of_list, leads_along, landing_found, out_to}
 use Rattle.cfg_walk.proofs.Holding.{Leads, in_held, first_held, ends_within}
 use Rattle.cfg_walk.proofs.Leaving.{here, is_in, node_is, transfer_ends, way_found}
+use Rattle.cfg_walk.proofs.Points.{within_some}
 use Rattle.cfg_walk.proofs.Slots.{LeadsIfThere, out_of_slot}
 use Rattle.cfg_walk.proofs.Ways.{IsOne}
 use Rattle.liveness.specs.Live.{edge_at, Holds, IsFirst, IsLast, GoesOnAt, is_call_or_jump, is_outside, is_unknown, Point, At, Along, Behind, After, Goes}
@@ -53,10 +54,6 @@ same_nodes (Block a) X e = absurd (false≢true e)
 same_nodes X (Block b) e = absurd (false≢true e)
 same_nodes X X e = refl
 
-number_of_list : (o : Option ℕ) (number : ℕ) → option_to_list o ≡ number ∷ [] → o ≡ Some number
-number_of_list None number e = absurd (cc)
-number_of_list (Some n) number e = cc
-
 abbrev no_edge : Edge
 no_edge = record { from = X; to = X; kind = kinds.Land; slot = carried.Nothing }
 
@@ -65,9 +62,6 @@ pub edge_from_is : (graph : Graph) (node : Node) (kind : EdgeKind) (e : ℕ) →
 edge_from_is graph node kind e h =
     let passes = position-Some (λ (x : Edge). same_node x.from node && same_kind x.kind kind) graph.edges e no_edge (number_of_list _ e h) in
     (passes.0, same_nodes _ node (and_parts _ _ passes.1).0)
-
-pub within_some : (count word other : ℕ) → within count word ≡ Some other → (word < count) × (word ≡ other)
-within_some count word other e = (grind (arith, nat_tests), grind (arith, nat_tests))
 
 module _ (text : Words) (b : Blocks) (c : IsCut text b) (named : ℕ → List Part) where
   abbrev graph : Graph

@@ -37,14 +37,15 @@ use Rattle.cfg_blocks.proofs.Targets.{word_at-some}
 use Rattle.cfg_walk.proofs.Addresses.{word_at-address, next_word, second_word}
 use Rattle.cfg_walk.proofs.Cut.{IsCut}
 use Rattle.cfg_walk.proofs.Edges.{block}
-use Rattle.cfg_walk.proofs.Leaving.{end_is, node_is, straight_end, transfer_ends}
-use Rattle.cfg_walk.proofs.Points.{Stands, jumps_to}
+use Rattle.cfg_walk.proofs.Leaving.{end_is, node_is, straight_end, straight_left, transfer_ends}
+use Rattle.cfg_walk.proofs.Points.{Stands, jumps_to, within_some}
+use Rattle.cfg_walk.proofs.States.{couples}
 use Rattle.cfg_walk.proofs.Slots.{LeadsIfThere}
 use Rattle.cfg_walk.proofs.Holding.{Leads, in_held, ends_within}
 use Rattle.cfg_walk.proofs.Ways.{IsOne, fall_is_one, taken_is_one, untaken_is_one, not_never, not_always}
 use Rattle.liveness.specs.Live.{Point, At, Along}
 use Rattle.live_walk.proofs.Trips.{Trip}
-use Rattle.live_walk.proofs.Edges.{IsPointBy, edge_trip, block_trip, into_trip, out_trip, within_some}
+use Rattle.live_walk.proofs.Edges.{IsPointBy, edge_trip, block_trip, into_trip, out_trip}
 
 abbrev pub IsPoint : Words → Graph → Node → State → Point → Type 0
 IsPoint text graph node s q = IsPointBy text graph node (point_of s) s.slot q
@@ -68,36 +69,11 @@ went s live after = by (fetch_of s.memory s.pc) refl
         let trap : (on_word s None).ending ≡ None = ap (λ (t : State). t.ending) (sym ended) ∙ after in
         absurd (cc)
 
--- ---- a transfer in a slot ends the run
-
-coupled : (x : Slot) (s t : State) → x ≢ NoSlot → (unless_couple x s t).ending ≡ Some Couple
-coupled NoSlot s t h = absurd (h refl)
-coupled Taken s t h = refl
-coupled Untaken s t h = refl
-
-couples : (x : Slot) (s : State) (instr : Instr) → x ≢ NoSlot → s.slot ≡ x → is_transfer instr ≡ true
-    → (act s instr).ending ≡ Some Couple
-unfolding act
-couples x s (i.Branch cond annul disp22) h e t =
-    ap (λ y. (unless_couple y s (branch_step s cond annul disp22)).ending) e ∙ coupled x s _ h
-couples x s (i.Call disp30) h e t =
-    ap (λ y. (unless_couple y s (call_step s disp30)).ending) e ∙ coupled x s _ h
-couples x s (i.Jmpl rd rs1 op2) h e t =
-    ap (λ y. (unless_couple y s (jump_step s rd (sum_of s rs1 op2))).ending) e ∙ coupled x s _ h
-couples x s _ h e t = absurd (cc)
-
 transfer_end : (text : Words) (word : ℕ) (instr : Instr) → is_transfer instr ≡ true → transfers (end_by text word instr) ≡ true
 transfer_end text word (i.Branch cond annul disp22) h = refl
 transfer_end text word (i.Call disp30) h = refl
 transfer_end text word (i.Jmpl rd rs1 op2) h = refl
 transfer_end text word _ h = absurd (cc)
-
-straight_left : (graph : Graph) (node : Node) (word : ℕ) (instr : Instr) → is_transfer instr ≡ false
-    → left_by graph node word instr ≡ (if ends_block graph node word then edge_from graph node kinds.Fall else [])
-straight_left graph node word (i.Branch cond annul disp22) e = absurd (cc)
-straight_left graph node word (i.Call disp30) e = absurd (cc)
-straight_left graph node word (i.Jmpl rd rs1 op2) e = absurd (cc)
-straight_left graph node word _ e = refl
 
 -- after a block's last word the next block begins
 next_leads : (b : Blocks) → {text : Words} → IsCut text b → (word : ℕ) → word < b.words → word ≡ last_word b.firsts b.words (holding_of b word) → word + 1 < b.words
