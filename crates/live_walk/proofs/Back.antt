@@ -42,11 +42,14 @@ use Rattle.live_walk.proofs.Steps.{IsPoint, trip, went}
 
 -- what a state reads, by its word
 pub reads_here : (s : State) (item : Item) → Reads s item
-    → (s.ending ≡ None) × (word : ℕ) × (fetch_of s.memory s.pc ≡ Some word) × ((reads_all (decode_of word) ≡ true) ⊎ IsAmong item s.window (reads_of (decode_of word)))
+    → (s.ending ≡ None) × (word : ℕ) × (fetch_of s.memory s.pc ≡ Some word)
+    × ((reads_all (decode_of word) ≡ true) ⊎ IsAmong item s.window (reads_of (decode_of word)))
 reads_here s item h = by s.ending refl (fetch_of s.memory s.pc) refl h
   where
-    by : (x : Option Ending) → s.ending ≡ x → (o : Option ℕ) → fetch_of s.memory s.pc ≡ o → ReadsIn (decoded x o) s.window item
-        → (s.ending ≡ None) × (word : ℕ) × (fetch_of s.memory s.pc ≡ Some word) × ((reads_all (decode_of word) ≡ true) ⊎ IsAmong item s.window (reads_of (decode_of word)))
+    by : (x : Option Ending) → s.ending ≡ x → (o : Option ℕ) → fetch_of s.memory s.pc ≡ o
+        → ReadsIn (decoded x o) s.window item
+        → (s.ending ≡ None) × (word : ℕ) × (fetch_of s.memory s.pc ≡ Some word)
+        × ((reads_all (decode_of word) ≡ true) ⊎ IsAmong item s.window (reads_of (decode_of word)))
     by None e (Some word) f h = (e, word, f, h)
     by None e None f h = absurd h
     by (Some ending) e o f h = absurd h
@@ -88,7 +91,8 @@ module _ (text : Words) (given : List ℕ) (entry : ℕ) (s0 : State) (named : �
       at_word : (w : ℕ) × (word_at text (at k).pc ≡ Some w) × (slice_index text.words w ≡ word)
       at_word = go (word_at text (at k).pc) refl
         where
-          go : (o : Option ℕ) → word_at text (at k).pc ≡ o → (w : ℕ) × (word_at text (at k).pc ≡ Some w) × (slice_index text.words w ≡ word)
+          go : (o : Option ℕ) → word_at text (at k).pc ≡ o → (w : ℕ) × (word_at text (at k).pc ≡ Some w)
+              × (slice_index text.words w ≡ word)
           go None e =
               let none : option_map (λ w. slice_index text.words w) None ≡ Some word =
               ap (option_map (λ w. slice_index text.words w)) (sym e) ∙ found in
@@ -111,13 +115,15 @@ module _ (text : Words) (given : List ℕ) (entry : ℕ) (s0 : State) (named : �
           absurd (omega (arith, there.within, there.is, h))
 
       on_way : (x : Slot) → (at k).slot ≡ x → (way : EdgeKind) → IsOnItsWay text graph (node_at k) (point_of (at k)) way
-          → ((e : ℕ) → edge_from graph (node_at k) way ≡ e ∷ [] → IsPointBy text graph (node_at k) (point_of (at k)) x (Along e)) → Standing k word
+          → ((e : ℕ) → edge_from graph (node_at k) way ≡ e ∷ [] → IsPointBy text graph (node_at k) (point_of (at k)) x
+          (Along e)) → Standing k word
       on_way x e way h point =
           let carries = carried_word h.edge.slot h.carries in
           let is_edge : edge_at graph h.number ≡ h.edge = get_or_from_slice_get graph.edges h.number h.edge _ h.is in
           record {
             point = Along h.number;
-            is_point = subst (λ (y : Slot). IsPointBy text graph (node_at k) (point_of (at k)) y (Along h.number)) (sym e) (point h.number h.only);
+            is_point = subst (λ (y : Slot). IsPointBy text graph (node_at k) (point_of (at k)) y (Along h.number))
+                (sym e) (point h.number h.only);
             reads = ap (λ (d : Edge). slot_reads text d.slot) is_edge ∙ carries.0;
             writes = ap (λ (d : Edge). slot_writes text d.slot) is_edge ∙ carries.1;
           }
@@ -125,7 +131,9 @@ module _ (text : Words) (given : List ℕ) (entry : ℕ) (s0 : State) (named : �
       by : (x : Slot) → (at k).slot ≡ x → MatchesBy text graph (node_at k) (point_of (at k)) x → Standing k word
       by NoSlot e m = record {
         point = At (node_at k) at_word.0;
-        is_point = subst (λ (y : Slot). IsPointBy text graph (node_at k) (point_of (at k)) y (At (node_at k) at_word.0)) (sym e) (at_word.0, at_word.1, refl);
+        is_point =
+            subst (λ (y : Slot). IsPointBy text graph (node_at k) (point_of (at k)) y (At (node_at k) at_word.0))
+            (sym e) (at_word.0, at_word.1, refl);
         reads = ap (λ n. read_set (decode_of n)) at_word.2;
         writes = ap (λ n. write_set (decode_of n)) at_word.2;
       }
@@ -154,34 +162,44 @@ module _ (text : Words) (given : List ℕ) (entry : ℕ) (s0 : State) (named : �
       → ¬ Writes (at k) (item_of (at k).window p) → has (write_set (decode_of word)) p ≡ false
   not_written k word live fetched p h =
       unwritten (at k).window (decode_of word) p
-      (λ a. h (subst (λ (o : Option Ending). WritesIn (decoded o (fetch_of (at k).memory (at k).pc)) (at k).window (item_of (at k).window p)) (sym live)
+      (λ a. h
+      (subst (λ (o : Option Ending). WritesIn (decoded o (fetch_of (at k).memory (at k).pc)) (at k).window
+      (item_of (at k).window p)) (sym live)
       (subst (λ (o : Option ℕ). WritesIn (decoded None o) (at k).window (item_of (at k).window p)) (sym fetched) a)))
 
-  window_after : (k word : ℕ) → (at k).ending ≡ None → fetch_of (at k).memory (at k).pc ≡ Some word → reads_all (decode_of word) ≡ false
+  window_after : (k word : ℕ) → (at k).ending ≡ None → fetch_of (at k).memory (at k).pc ≡ Some word
+      → reads_all (decode_of word) ≡ false
       → (at (suc k)).window ≡ (at k).window
   window_after k word live fetched none =
       ap (λ (t : State). t.window) (live_step (at k) word live fetched) ∙ window_stays (at k) (decode_of word) none
 
-  abbrev trip_at : (k : ℕ) → (at k).ending ≡ None → (at (suc k)).ending ≡ None → (q : Point) → IsPoint text graph (node_at k) (at k) q
-      → Trip text graph named q (IsPoint text graph (node_after graph (node_at k) (gone_in text graph entry s0 k)) (at (suc k))) (gone_in text graph entry s0 k)
+  abbrev trip_at : (k : ℕ) → (at k).ending ≡ None → (at (suc k)).ending ≡ None → (q : Point)
+      → IsPoint text graph (node_at k) (at k) q
+      → Trip text graph named q
+      (IsPoint text graph (node_after graph (node_at k) (gone_in text graph entry s0 k)) (at (suc k)))
+      (gone_in text graph entry s0 k)
   trip_at k live after q p =
-      trip text is (blocks_of text given) (cut text given is.some) named (node_at k) (at k) live (fetches_at k) (matches_at k live) after q p
+      trip text is (blocks_of text given) (cut text given is.some) named (node_at k) (at k) live (fetches_at k)
+      (matches_at k live) after q p
 
   -- what reads all makes it live; else the window stays
   live_if : (k : ℕ) (p : Part) → is_member p ≡ true → (live : (at k).ending ≡ None) (after : (at (suc k)).ending ≡ None)
-      → ((word : ℕ) (st : Standing k word) → fetch_of (at k).memory (at k).pc ≡ Some word → (at (suc k)).window ≡ (at k).window → Lives st.point p)
+      → ((word : ℕ) (st : Standing k word) → fetch_of (at k).memory (at k).pc ≡ Some word → (at (suc k)).window
+      ≡ (at k).window → Lives st.point p)
       → LivesAt k p
   live_if k p m live after rest =
       let f = fetched_at k live after in
       let st = standing k f.0 live f.1 in
       (st.point, st.is_point, by f.0 f.1 st (reads_all (decode_of f.0)) refl)
     where
-      by : (word : ℕ) → fetch_of (at k).memory (at k).pc ≡ Some word → (st : Standing k word) → (b : Bool) → reads_all (decode_of word) ≡ b → Lives st.point p
+      by : (word : ℕ) → fetch_of (at k).memory (at k).pc ≡ Some word → (st : Standing k word) → (b : Bool)
+          → reads_all (decode_of word) ≡ b → Lives st.point p
       by word f st true e = ([], ap (λ s. has s p) st.reads ∙ reads_every (decode_of word) p m e)
       by word f st false e = rest word st f (window_after k word live f e)
 
   back_one : (k : ℕ) (p : Part) → is_member p ≡ true → (at k).ending ≡ None → (at (suc k)).ending ≡ None
-      → ¬ Writes (at k) (item_of (at k).window p) → ((at (suc k)).window ≡ (at k).window → LivesAt (suc k) p) → LivesAt k p
+      → ¬ Writes (at k) (item_of (at k).window p) → ((at (suc k)).window ≡ (at k).window → LivesAt (suc k) p)
+      → LivesAt k p
   unfolding end_of_walk
   back_one k p m live after un next = live_if k p m live after (λ word st f same.
       let l = next same in
@@ -200,7 +218,8 @@ module _ (text : Words) (given : List ℕ) (entry : ℕ) (s0 : State) (named : �
         (
           [],
           ap (λ s. has s p) st.reads ∙ read_by_word (at k).window r.1 p m
-              (subst (λ (x : Item). (reads_all (decode_of r.1) ≡ true) ⊎ IsAmong x (at k).window (reads_of (decode_of r.1))) is_item r.3),
+              (subst (λ (x : Item). (reads_all (decode_of r.1) ≡ true)
+              ⊎ IsAmong x (at k).window (reads_of (decode_of r.1))) is_item r.3),
         ),
       )
   back (suc d) k p m j e item reads un is_item =
@@ -209,7 +228,8 @@ module _ (text : Words) (given : List ℕ) (entry : ℕ) (s0 : State) (named : �
       let f : k + suc d ≡ suc k + d = omega arith in
       back_one k p m (live_below k (suc d) l) (live_below (suc k) d (ap (λ i. (at i).ending) (sym f) ∙ l))
       (subst (λ (x : Item). ¬ Writes (at k) x) is_item (un k (omega arith) (omega arith)))
-      (λ same. back d (suc k) p m j (sym f ∙ e) item reads (λ i a b. un i (omega arith) b) (is_item ∙ ap (λ w. item_of w p) (sym same)))
+      (λ same. back d (suc k) p m j (sym f ∙ e) item reads (λ i a b. un i (omega arith) b)
+      (is_item ∙ ap (λ w. item_of w p) (sym same)))
 
   -- a step that completes edges goes on
   pub goes_live : (k f : ℕ) → Contains (gone_in text graph entry s0 k) f → (at (suc k)).ending ≡ None
@@ -219,7 +239,8 @@ module _ (text : Words) (given : List ℕ) (entry : ℕ) (s0 : State) (named : �
       by None e = refl
       by (Some ending) e =
           let none : gone_in text graph entry s0 k ≡ [] =
-          ap (λ (o : Option Ending). gone text graph (node_at k) (point_of (at k)) (unless_ended o (point_of (at (suc k))))) e in
+          ap (λ (o : Option Ending). gone text graph (node_at k) (point_of (at k))
+          (unless_ended o (point_of (at (suc k))))) e in
           let empty = subst (λ (es : List ℕ). Contains es f) none c in
           let low = empty.1 in
           absurd (omega arith)
@@ -227,7 +248,8 @@ module _ (text : Words) (given : List ℕ) (entry : ℕ) (s0 : State) (named : �
   goes_last : (k e : ℕ) (front : List ℕ) → gone_in text graph entry s0 k ≡ front ++ e ∷ [] → (at (suc k)).ending ≡ None
   goes_last k e front h = goes_live k e (subst (λ (es : List ℕ). Contains es e) (sym h) (Contains-push front e))
 
-  behind_last : (k e : ℕ) (front : List ℕ) (p : Part) → is_member p ≡ true → gone_in text graph entry s0 k ≡ front ++ e ∷ [] → LivesAt (suc k) p
+  behind_last : (k e : ℕ) (front : List ℕ) (p : Part) → is_member p ≡ true → gone_in text graph entry s0 k
+      ≡ front ++ e ∷ [] → LivesAt (suc k) p
       → IsLiveOn text graph named e p
   unfolding end_of_walk
   behind_last k e front p m h l =
@@ -239,7 +261,8 @@ module _ (text : Words) (given : List ℕ) (entry : ℕ) (s0 : State) (named : �
 
   -- ---- from an edge whose snippet names it back
 
-  back_named : (d k : ℕ) (p : Part) → is_member p ≡ true → (j f : ℕ) (q : Part) → k + d ≡ j → Contains (gone_in text graph entry s0 j) f
+  back_named : (d k : ℕ) (p : Part) → is_member p ≡ true → (j f : ℕ) (q : Part) → k + d ≡ j
+      → Contains (gone_in text graph entry s0 j) f
       → is_member q ≡ true → has (named f) q ≡ true → (item : Item) → item_of (at (suc j)).window q ≡ item
       → ((i : ℕ) → k ≤ i → i ≤ j → ¬ Writes (at i) item) → item ≡ item_of (at k).window p → LivesAt k p
   back_named zero k p m j f q e c mq h item is_named un is_item =
@@ -248,23 +271,28 @@ module _ (text : Words) (given : List ℕ) (entry : ℕ) (s0 : State) (named : �
       let after = goes_live k f here in
       let live = live_before (at k) after in
       live_if k p m live after (λ word st g same.
-      let w = not_written k word live g p (subst (λ (x : Item). ¬ Writes (at k) x) is_item (un k (omega arith) (omega arith))) in
+      let w =
+      not_written k word live g p
+      (subst (λ (x : Item). ¬ Writes (at k) x) is_item (un k (omega arith) (omega arith))) in
       let part : q ≡ p = same_part (at k).window q p mq m
       (ap (λ v. item_of v q) (sym same) ∙ ap (λ i. item_of (at (suc i)).window q) (sym s) ∙ is_named ∙ is_item) in
-      names_now text graph named p m st.point _ _ (trip_at k live after st.point st.is_point) (ap (λ s. has s p) st.writes ∙ w) f here
+      names_now text graph named p m st.point _ _ (trip_at k live after st.point st.is_point)
+      (ap (λ s. has s p) st.writes ∙ w) f here
       (ap (has (named f)) (sym part) ∙ h))
   back_named (suc d) k p m j f q e c mq h item is_named un is_item =
       let l : (at (k + suc d)).ending ≡ None = ap (λ i. (at i).ending) e ∙ live_before (at j) (goes_live j f c) in
       let g : k + suc d ≡ suc k + d = omega arith in
       back_one k p m (live_below k (suc d) l) (live_below (suc k) d (ap (λ i. (at i).ending) (sym g) ∙ l))
       (subst (λ (x : Item). ¬ Writes (at k) x) is_item (un k (omega arith) (omega arith)))
-      (λ same. back_named d (suc k) p m j f q (sym g ∙ e) c mq h item is_named (λ i a b. un i (omega arith) b) (is_item ∙ ap (λ w. item_of w p) (sym same)))
+      (λ same. back_named d (suc k) p m j f q (sym g ∙ e) c mq h item is_named (λ i a b. un i (omega arith) b)
+      (is_item ∙ ap (λ w. item_of w p) (sym same)))
 
 pub needed_is_live : NeededIsLive
 needed_is_live text given entry s0 named is fetches begins n e front p m left needed =
     let later = needed.later in
     behind_last text given entry s0 named is fetches begins n e front p m left
-    (back text given entry s0 named is fetches begins (needed.reader - suc n) (suc n) p m needed.reader (omega arith) _ needed.reads needed.kept refl)
+    (back text given entry s0 named is fetches begins (needed.reader - suc n) (suc n) p m needed.reader
+    (omega arith) _ needed.reads needed.kept refl)
 
 pub named_is_live : NamedIsLive
 named_is_live text given entry s0 named is fetches begins n e front p m left k f q low c mq h same none =

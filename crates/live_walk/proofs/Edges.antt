@@ -40,7 +40,8 @@ IsPointBy text graph node point NoSlot q = (w : ℕ) × (word_at text point.pc �
 IsPointBy text graph node point in_slot q =
     (e : ℕ) × (edge_from graph node (way_of (instr_at text (point.pc - 4)) in_slot) ≡ e ∷ []) × (q ≡ Along e)
 
-goes_on_first : (graph : Graph) (kind : EdgeKind) (node : Node) (w : ℕ) → Holds graph node w → IsFirst graph node w → GoesOnAt graph kind node w
+goes_on_first : (graph : Graph) (kind : EdgeKind) (node : Node) (w : ℕ) → Holds graph node w → IsFirst graph node w
+    → GoesOnAt graph kind node w
 goes_on_first graph kinds.Land node w h f = h
 goes_on_first graph kinds.Fall node w h f = (h, f)
 goes_on_first graph kinds.Taken node w h f = (h, f)
@@ -60,7 +61,8 @@ no_edge = record { from = X; to = X; kind = kinds.Land; slot = carried.Nothing }
 pub edge_from_is : (graph : Graph) (node : Node) (kind : EdgeKind) (e : ℕ) → edge_from graph node kind ≡ e ∷ []
     → (e < length graph.edges) × ((edge_at graph e).from ≡ node)
 edge_from_is graph node kind e h =
-    let passes = position-Some (λ (x : Edge). same_node x.from node && same_kind x.kind kind) graph.edges e no_edge (number_of_list _ e h) in
+    let passes = position-Some (λ (x : Edge). same_node x.from node && same_kind x.kind kind) graph.edges e no_edge
+    (number_of_list _ e h) in
     (passes.0, same_nodes _ node (and_parts _ _ passes.1).0)
 
 module _ (text : Words) (b : Blocks) (c : IsCut text b) (named : ℕ → List Part) where
@@ -73,7 +75,8 @@ module _ (text : Words) (b : Blocks) (c : IsCut text b) (named : ℕ → List Pa
       subst (λ (n : Node). Holds graph n v) (sym (node_is b v l)) (i.within, i.above, i.below)
 
   first_at : (v : ℕ) → v < b.words → Leads b.firsts v → IsFirst graph (node_of b (Some v)) v
-  first_at v l leads = subst (λ (n : Node). IsFirst graph n v) (sym (node_is b v l)) (sym (first_held b.words b.firsts c.firsts v leads))
+  first_at v l leads =
+      subst (λ (n : Node). IsFirst graph n v) (sym (node_is b v l)) (sym (first_held b.words b.firsts c.firsts v leads))
 
   module _ (word : ℕ) (l : word < b.words) where
     abbrev home : Node
@@ -85,7 +88,8 @@ module _ (text : Words) (b : Blocks) (c : IsCut text b) (named : ℕ → List Pa
         → (es : List ℕ) → es ≡ edge_from graph home w.kind → word_at text after.pc ≡ w.to → LeadsIfThere b w.to
         → Trip text graph named (At home word) (IsPointBy text graph (node_after graph home es) after NoSlot) es
     edge_trip after last w one quiet es eq to leads =
-        over found.number (eq ∙ found.only) (left home word refl (fi.0, fi.1, last) none) (λ r n. inr (goes r n.0 n.1 n.2))
+        over found.number (eq ∙ found.only) (left home word refl (fi.0, fi.1, last) none)
+        (λ r n. inr (goes r n.0 n.1 n.2))
       where
         found : IsEdge graph (edge_from graph home w.kind) (edge_of b (holding_of b word) w)
         found = way_found text b c word l w last one
@@ -102,13 +106,16 @@ module _ (text : Words) (b : Blocks) (c : IsCut text b) (named : ℕ → List Pa
         none : (edge_at graph found.number).slot ≡ carried.Nothing
         none =
             ap (λ (d : Edge). d.slot) is_edge
-            ∙ ap (λ (x : Bool). if x then slot_behind b.words (last_word b.firsts b.words (holding_of b word)) else carried.Nothing)
+            ∙ ap
+            (λ (x : Bool). if x then slot_behind b.words
+            (last_word b.firsts b.words (holding_of b word)) else carried.Nothing)
             (ap (λ (e : BlockEnd). runs_slot e w.kind) end ∙ quiet)
 
         node' : Node
         node' = node_after graph home es
 
-        goes : (r : Point) (v : ℕ) → word_at text after.pc ≡ Some v → r ≡ At node' v → Goes text graph named (After found.number) r
+        goes : (r : Point) (v : ℕ) → word_at text after.pc ≡ Some v → r ≡ At node' v
+            → Goes text graph named (After found.number) r
         goes r v at is =
             let there : w.to ≡ Some v = sym to ∙ at in
             let low = leads v there in
@@ -127,7 +134,8 @@ module _ (text : Words) (b : Blocks) (c : IsCut text b) (named : ℕ → List Pa
         → Trip text graph named (At home word) (IsPointBy text graph (node_after graph home es) after NoSlot) es
     block_trip after inner es eq to = inside eq (λ r n. goes r n.0 n.1 n.2)
       where
-        goes : (r : Point) (v : ℕ) → word_at text after.pc ≡ Some v → r ≡ At (node_after graph home es) v → Goes text graph named (At home word) r
+        goes : (r : Point) (v : ℕ) → word_at text after.pc ≡ Some v → r ≡ At (node_after graph home es) v
+            → Goes text graph named (At home word) r
         goes r v at is =
             let there = within_some b.words (word + 1) v (sym to ∙ at) in
             let same : v ≡ suc word = let s = there.1 in omega arith in
@@ -138,12 +146,14 @@ module _ (text : Words) (b : Blocks) (c : IsCut text b) (named : ℕ → List Pa
             (ap (node_after graph home) eq, same, (i.within, above, below))
 
     -- a step into a slot
-    pub into_trip : (Next : Point → Type 0) → word ≡ last_word b.firsts b.words (holding_of b word) → (es : List ℕ) → es ≡ []
+    pub into_trip : (Next : Point → Type 0) → word ≡ last_word b.firsts b.words (holding_of b word) → (es : List ℕ)
+        → es ≡ []
         → (way : EdgeKind) → ((r : Point) → Next r → (e : ℕ) × (edge_from graph home way ≡ e ∷ []) × (r ≡ Along e))
         → Trip text graph named (At home word) Next es
     into_trip Next last es eq way next = inside eq (λ r n. goes r (next r n))
       where
-        goes : (r : Point) → (e : ℕ) × (edge_from graph home way ≡ e ∷ []) × (r ≡ Along e) → Goes text graph named (At home word) r
+        goes : (r : Point) → (e : ℕ) × (edge_from graph home way ≡ e ∷ []) × (r ≡ Along e)
+            → Goes text graph named (At home word) r
         goes r (e, from, is) =
             let fi = edge_from_is graph home way e from in
             subst (λ (x : Point). Goes text graph named (At home word) x) (sym is) (fi.0, fi.1, last)
@@ -167,15 +177,18 @@ module _ (text : Words) (b : Blocks) (c : IsCut text b) (named : ℕ → List Pa
         is_edge : edge_at graph h.number ≡ h.edge
         is_edge = get_or_from_slice_get graph.edges h.number _ no_edge h.is
 
-        goes : (r : Point) (v : ℕ) → word_at text after.pc ≡ Some v → r ≡ At (node_after graph node es) v → Goes text graph named (After h.number) r
+        goes : (r : Point) (v : ℕ) → word_at text after.pc ≡ Some v → r ≡ At (node_after graph node es) v
+            → Goes text graph named (After h.number) r
         goes r v at is =
             let there : word_at text before.npc ≡ Some v = ap (word_at text) (sym pc) ∙ at in
             let low : v < b.words = let i = word_at-some text before.npc v there in omega (arith, i.within, c.words) in
             let to = h.leads no_jump in
             let arrives : node_after graph node es ≡ h.edge.to =
-            ap (node_after graph node) (eq ∙ append-nil _) ∙ leads_along graph node _ h.edge (record { number = h.number; only = h.only; is = h.is }) in
+            ap (node_after graph node) (eq ∙ append-nil _)
+            ∙ leads_along graph node _ h.edge (record { number = h.number; only = h.only; is = h.is }) in
             let node_v : node_of b (Some v) ≡ h.edge.to = sym (to.1 ∙ ap (node_of b) there) in
-            let begins : Begins graph h.edge.to (Some v) = subst (λ (o : Option ℕ). Begins graph h.edge.to o) there to.0 in
+            let begins : Begins graph h.edge.to (Some v) =
+            subst (λ (o : Option ℕ). Begins graph h.edge.to o) there to.0 in
             subst (λ (x : Point). Goes text graph named (After h.number) x) (sym is) (
               ap (λ (d : Edge). d.to) is_edge ∙ sym arrives,
               subst (λ (n : Node). GoesOnAt graph (edge_at graph h.number).kind n v) (sym arrives)
@@ -185,7 +198,8 @@ module _ (text : Words) (b : Blocks) (c : IsCut text b) (named : ℕ → List Pa
 
     -- a jump, and then the landing where the text has the word
     jump_trip : (h : IsOnItsWay text graph node before kinds.Out) → (o : Option ℕ) → word_at text before.npc ≡ o
-        → Trip text graph named (Along h.number) (Next (slot_left text graph node kinds.Out before.npc)) (slot_left text graph node kinds.Out before.npc)
+        → Trip text graph named (Along h.number) (Next (slot_left text graph node kinds.Out before.npc))
+        (slot_left text graph node kinds.Out before.npc)
     jump_trip h o e = by o e
       where
         is_edge : edge_at graph h.number ≡ h.edge
@@ -194,35 +208,45 @@ module _ (text : Words) (b : Blocks) (c : IsCut text b) (named : ℕ → List Pa
         unknown : is_unknown (edge_at graph h.number) ≡ true
         unknown =
             or_right (is_call_or_jump (edge_at graph h.number).kind) _
-            (ap is_outside (ap (λ (d : Edge). d.to) is_edge ∙ out_to b node h.edge (record { number = h.number; only = h.only; is = h.is })))
+            (ap is_outside
+            (ap (λ (d : Edge). d.to) is_edge
+            ∙ out_to b node h.edge (record { number = h.number; only = h.only; is = h.is })))
 
         by : (o : Option ℕ) → word_at text before.npc ≡ o
-            → Trip text graph named (Along h.number) (Next (slot_left text graph node kinds.Out before.npc)) (slot_left text graph node kinds.Out before.npc)
+            → Trip text graph named (Along h.number) (Next (slot_left text graph node kinds.Out before.npc))
+            (slot_left text graph node kinds.Out before.npc)
         by None e =
             let none : landed text graph kinds.Out before.npc ≡ [] = rw e refl in
-            over h.number (ap (λ ns. edge_from graph node kinds.Out ++ ns) none ∙ append-nil _ ∙ h.only) (slot refl) (λ r n. inl unknown)
+            over h.number (ap (λ ns. edge_from graph node kinds.Out ++ ns) none ∙ append-nil _ ∙ h.only) (slot refl)
+            (λ r n. inl unknown)
         by (Some v) e =
             let low : v < b.words = let i = word_at-some text before.npc v e in omega (arith, i.within, c.words) in
             let k : ℕ = holding_of b v in
             let lands = landing_found b k (in_held b.words b.firsts c.firsts v low).within in
             let some : landed text graph kinds.Out before.npc ≡ landing_at graph (node_of b (Some v)) = rw e refl in
-            let at_block : landing_at graph (node_of b (Some v)) ≡ landing_at graph (block k) = ap (landing_at graph) (node_is b v low) in
+            let at_block : landing_at graph (node_of b (Some v)) ≡ landing_at graph (block k) =
+            ap (landing_at graph) (node_is b v low) in
             let all : slot_left text graph node kinds.Out before.npc ≡ h.number ∷ lands.number ∷ [] =
-            ap (λ ns. edge_from graph node kinds.Out ++ ns) (some ∙ at_block ∙ lands.only) ∙ ap (λ ns. ns ++ lands.number ∷ []) h.only in
-            let is_landing : edge_at graph lands.number ≡ landing k = get_or_from_slice_get graph.edges lands.number _ no_edge lands.is in
+            ap (λ ns. edge_from graph node kinds.Out ++ ns) (some ∙ at_block ∙ lands.only)
+            ∙ ap (λ ns. ns ++ lands.number ∷ []) h.only in
+            let is_landing : edge_at graph lands.number ≡ landing k =
+            get_or_from_slice_get graph.edges lands.number _ no_edge lands.is in
             let arrives : node_after graph node (slot_left text graph node kinds.Out before.npc) ≡ block k =
             out_of_slot text b c node before kinds.Out h ∙ ap (node_of b) e ∙ node_is b v low in
             jumped h.number lands.number all (slot refl) unknown
             (λ r n. goes lands.number is_landing arrives low r n.0 n.1 n.2)
           where
-            goes : (f : ℕ) → edge_at graph f ≡ landing (holding_of b v) → node_after graph node (slot_left text graph node kinds.Out before.npc) ≡ block (holding_of b v)
+            goes : (f : ℕ) → edge_at graph f ≡ landing (holding_of b v)
+                → node_after graph node (slot_left text graph node kinds.Out before.npc) ≡ block (holding_of b v)
                 → v < b.words → (r : Point) (u : ℕ) → word_at text after.pc ≡ Some u
-                → r ≡ At (node_after graph node (slot_left text graph node kinds.Out before.npc)) u → Goes text graph named (After f) r
+                → r ≡ At (node_after graph node (slot_left text graph node kinds.Out before.npc)) u
+                → Goes text graph named (After f) r
             goes f is_landing arrives low r u at is =
                 let same : Some u ≡ Some v = sym at ∙ ap (word_at text) pc ∙ e in
                 let u_is : v ≡ u = cc in
                 let i = in_held b.words b.firsts c.firsts v low in
-                let held : Holds graph (block (holding_of b v)) u = subst (λ (n : ℕ). Holds graph (block (holding_of b v)) n) u_is (i.within, i.above, i.below) in
+                let held : Holds graph (block (holding_of b v)) u =
+                subst (λ (n : ℕ). Holds graph (block (holding_of b v)) n) u_is (i.within, i.above, i.below) in
                 subst (λ (x : Point). Goes text graph named (After f) x) (sym is) (
                   ap (λ (d : Edge). d.to) is_landing ∙ sym arrives,
                   subst (λ (n : Node). GoesOnAt graph (edge_at graph f).kind n u) (sym arrives)
@@ -230,7 +254,8 @@ module _ (text : Words) (b : Blocks) (c : IsCut text b) (named : ℕ → List Pa
                 )
 
     pub out_trip : (way : EdgeKind) → (h : IsOnItsWay text graph node before way)
-        → Trip text graph named (Along h.number) (Next (slot_left text graph node way before.npc)) (slot_left text graph node way before.npc)
+        → Trip text graph named (Along h.number) (Next (slot_left text graph node way before.npc))
+        (slot_left text graph node way before.npc)
     out_trip kinds.Out h = jump_trip h (word_at text before.npc) refl
     out_trip kinds.Fall h = along_trip kinds.Fall refl h _ refl
     out_trip kinds.Taken h = along_trip kinds.Taken refl h _ refl

@@ -88,7 +88,8 @@ module _ (text : Words) (given : List ℕ) (entry : ℕ) (s0 : State) (named : �
   Written n item = WritesIn (instr_after text s0 n) (run s0 n).window item
 
   -- a live state carries out what the text has there
-  carried : (n : ℕ) → (at n).ending ≡ None → instr_after text s0 n ≡ decoded (at n).ending (fetch_of (at n).memory (at n).pc)
+  carried : (n : ℕ) → (at n).ending ≡ None → instr_after text s0 n
+      ≡ decoded (at n).ending (fetch_of (at n).memory (at n).pc)
   carried n live =
       ap instr_of (sym (code_stays.1 s0 n (at n).pc ∙ fetches (at n).pc))
       ∙ decoded_live (at n).ending (fetch_of (at n).memory (at n).pc) live

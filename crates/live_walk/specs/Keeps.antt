@@ -20,9 +20,11 @@ use Rattle.liveness.specs.Live.{IsLiveOn}
 
 -- ---- the items that are kept after n steps
 
--- The snippet of an edge names the item which a step from then on completes, in the window that this step leaves, and no
+-- The snippet of an edge names the item which a step from then on completes, in the window that this step leaves, and
+-- no
 -- step up to and with that one writes it.
-pub record IsNamedLater (text : Words) (graph : Graph) (named : ℕ → List Part) (entry : ℕ) (s0 : State) (n : ℕ) (item : Item)
+pub record IsNamedLater (text : Words) (graph : Graph) (named : ℕ → List Part) (entry : ℕ) (s0 : State) (n : ℕ)
+    (item : Item)
     : Type 0 where
   pub step : ℕ
   pub later : n ≤ step
