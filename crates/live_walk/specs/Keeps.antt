@@ -20,12 +20,10 @@ use Rattle.liveness.specs.Live.{IsLiveOn}
 
 -- ---- the items that are kept after n steps
 
--- The snippet of an edge names the item which a step from then on completes, in the window that this step leaves, and
--- no
--- step up to and with that one writes it.
-pub record IsNamedLater (text : Words) (graph : Graph) (named : ℕ → List Part) (entry : ℕ) (s0 : State) (n : ℕ)
-    (item : Item)
-    : Type 0 where
+-- A step from then on completes an edge whose snippet names the item, in the window that the step leaves, and no step
+-- up to and with that one writes it.
+pub record IsNamedLater (text : Words) (graph : Graph) (named : ℕ → List Part) (entry : ℕ) (s0 : State)
+    (n : ℕ) (item : Item) : Type 0 where
   pub step : ℕ
   pub later : n ≤ step
   pub edge : ℕ
@@ -39,7 +37,7 @@ pub record IsNamedLater (text : Words) (graph : Graph) (named : ℕ → List Par
 abbrev pub IsKeptAt : Words → Graph → (ℕ → List Part) → ℕ → State → ℕ → Item → Type 0
 IsKeptAt text graph named entry s0 n item = IsNeeded s0 n item ⊎ IsNamedLater text graph named entry s0 n item
 
--- Behind some edges, what the parts name is lost that aren't live on the last of them.
+-- Behind some edges all is kept but what the parts name that aren't live on the last of them.
 abbrev pub IsKeptBehind : Words → Graph → (ℕ → List Part) → List ℕ → ℕ → Item → Type 0
 IsKeptBehind text graph named edges window item =
     (front : List ℕ) (e : ℕ) → edges ≡ front ++ e ∷ []
