@@ -7,3 +7,4 @@ pub mod Lines
 pub mod Held
 pub mod Within
 pub mod Names
+pub mod Decide

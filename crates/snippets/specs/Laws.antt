@@ -1,8 +1,12 @@
--- What holds of all lines, and of all scripts.
-use Rattle.std.specs.Prelude.{◌≡◌, ◌<◌, ◌≤◌, ℕ, ◌^◌, List, length}
+-- What holds of all lines, of all scripts, and of all snippets.
+use Rattle.std.specs.Prelude.{◌≡◌, ◌<◌, ◌≤◌, ℕ, ◌^◌, true, List, length}
 use Rattle.std.specs.List.{All}
+use Rattle.v8_decode.specs.declared.Part.TheVariants.{Reg}
+use Rattle.v8_decode.specs.Parts.{has}
+use Rattle.snippets.specs.declared.snippet.Op.{Op}
+use Rattle.snippets.specs.Cells.{named_by, update}
 use Rattle.snippets.specs.Ops.{cell_of}
-use Rattle.snippets.specs.Grammar.{AllSay, Said}
+use Rattle.snippets.specs.Grammar.{AllSay, IsOp, Said}
 use Rattle.snippets.specs.Scripts.{IsGood, cell_end, edge_end, end_of, ops_on}
 
 -- Lines say something, and nothing else.
@@ -19,3 +23,9 @@ pub record IsWithin (edges : ℕ) (said : List Said) : Type 0 where
 
 abbrev pub GoodScriptsAreWithin : Type 0
 GoodScriptsAreWithin = (edges : ℕ) (said : List Said) → IsGood edges said → IsWithin edges said
+
+-- What a snippet makes of the cells depends on the registers alone that it names, and on %g0.
+abbrev pub NamedRegistersDecide : Type 0
+NamedRegistersDecide =
+    (f h : ℕ → ℕ) (ops : List Op) (cells : List ℕ) → All IsOp ops → f 0 ≡ h 0
+    → ((r : ℕ) → has (named_by ops) (Reg r) ≡ true → f r ≡ h r) → update f ops cells ≡ update h ops cells

@@ -4,7 +4,7 @@
 //! and an operation on a cell, as `edge 1 add 0 3`. `specs/Grammar.antt` has the spelling.
 #![tactic(auto)]
 
-ghost use Rattle.snippets.specs.Laws.{GoodScriptsAreWithin, LinesSayOneThing};
+ghost use Rattle.snippets.specs.Laws.{GoodScriptsAreWithin, LinesSayOneThing, NamedRegistersDecide};
 
 mod line;
 mod reading;
@@ -24,4 +24,9 @@ pub fn lines_say_one_thing()
 /// most eight operations on each edge.
 pub fn good_scripts_are_within()
     ensures { GoodScriptsAreWithin }
+{}
+
+/// What a snippet makes of the cells depends on the registers alone that it names, and on %g0.
+pub fn named_registers_decide()
+    ensures { NamedRegistersDecide }
 {}
