@@ -1,5 +1,5 @@
 -- Back along a run, from the step that reads an item.
-use Rattle.std.proofs.Common.{◌≡◌, ◌≢◌, ℕ, zero, suc, ◌+◌, ◌-◌, ◌<◌, ◌≤◌, ◌⊎◌, inl, inr, Bool, true, false, List, [], ◌∷◌, ◌++◌, length, slice_index, Option, Some, None, refl, ap, sym, ◌∙◌, subst, arith}
+use Rattle.std.proofs.Common.{◌≡◌, ℕ, zero, suc, ◌+◌, ◌-◌, ◌<◌, ◌≤◌, ◌⊎◌, Bool, true, false, List, [], ◌∷◌, ◌++◌, slice_index, Option, Some, None, refl, ap, sym, ◌∙◌, subst, arith}
 use Rattle.std.specs.List.{Contains}
 use Rattle.std.specs.Option.{option_map}
 use Rattle.std.proofs.lemmas.Option.{get_or_from_slice_get}
@@ -7,17 +7,16 @@ use Rattle.std.proofs.lemmas.List.Elements.{Contains-push}
 use Rattle.eel_base.specs.CodeText.{Words, IsText, word_at}
 use Rattle.v8_decode.specs.declared.Part.{Part}
 use Rattle.v8_decode.specs.Parts.{has, is_member}
-use Rattle.v8_decode.specs.Effects.{reads_all, reads_of, writes_of, read_set, write_set}
+use Rattle.v8_decode.specs.Effects.{reads_all, reads_of, read_set, write_set}
 use Rattle.v8_decode.specs.Words.{decode_of}
 use Rattle.v8_memory.specs.Regions.{fetch_of}
 use Rattle.v8_step.specs.declared.Ending.{Ending}
 use Rattle.v8_step.specs.declared.Slot.{Slot}
 use Rattle.v8_step.specs.declared.Slot.TheVariants.{NoSlot, Taken, Untaken}
 use Rattle.v8_step.specs.State.{State}
-use Rattle.v8_step.specs.Step.{act, on_word, step_of, unless_ended as step_unless}
 use Rattle.v8_step.specs.Run.{run}
-use Rattle.v8_step.specs.Items.{Item, IsItem, item_of, IsAmong}
-use Rattle.v8_step.specs.Needed.{IsNeeded, Reads, Writes, decoded, instr_at as next_instr, ReadsIn, WritesIn}
+use Rattle.v8_step.specs.Items.{Item, item_of, IsAmong}
+use Rattle.v8_step.specs.Needed.{Reads, Writes, decoded, ReadsIn, WritesIn}
 use Rattle.v8_step.proofs.Alike.{live_step}
 use Rattle.v8_step.proofs.Executable.{code_stays}
 use Rattle.cfg_blocks.specs.Blocks.{blocks_of}
@@ -27,12 +26,12 @@ use Rattle.cfg_normal.specs.declared.Edge.{Edge}
 use Rattle.cfg_normal.specs.declared.Node.{Node}
 use Rattle.cfg_normal.specs.declared.Slot.{Slot as Carried}
 use Rattle.cfg_normal.specs.declared.Slot.TheVariants as carried
-use Rattle.cfg_walk.specs.Walk.{point_of, gone, gone_in, end_of_walk, edge_from, instr_at, node_after, unless_ended, way_of}
+use Rattle.cfg_walk.specs.Walk.{point_of, gone, gone_in, end_of_walk, edge_from, node_after, unless_ended}
 use Rattle.cfg_walk.specs.Matches.{FetchesOnly, BeginsAt, Matches, MatchesBy, IsOnItsWay, IsCarried}
 use Rattle.cfg_blocks.proofs.Targets.{word_at-some}
 use Rattle.cfg_walk.proofs.Cut.{cut}
 use Rattle.cfg_walk.proofs.Walks.{live_before, walks_match}
-use Rattle.liveness.specs.Live.{Point, At, Along, After, edge_at, reads_at, writes_at, slot_reads, slot_writes, IsLive, IsLiveOn, instr_of}
+use Rattle.liveness.specs.Live.{Point, At, Along, edge_at, reads_at, writes_at, slot_reads, slot_writes, IsLive, IsLiveOn}
 use Rattle.live_walk.specs.Law.{NeededIsLive, NamedIsLive}
 use Rattle.v8_step.proofs.WindowStays.{window_stays}
 use Rattle.live_walk.proofs.Parts.{read_by_word, unwritten, reads_every, same_part}

@@ -1,13 +1,10 @@
 -- Trips over the edges of a graph that was made from a text.
-use Rattle.std.proofs.Common.{◌≡◌, ◌≢◌, ℕ, zero, suc, ◌+◌, ◌-◌, ◌<◌, ◌≤◌, ◌⊎◌, inl, inr, Bool, true, false, ◌&&◌, ◌||◌, ◌==◌, List, [], ◌∷◌, ◌++◌, length, slice_index, Option, Some, None, refl, ap, sym, ◌∙◌, subst, arith, append-nil}
+use Rattle.std.proofs.Common.{◌≡◌, ℕ, suc, ◌+◌, ◌-◌, ◌<◌, ◌≤◌, inl, inr, Bool, true, false, ◌&&◌, List, [], ◌∷◌, ◌++◌, length, slice_index, Option, Some, None, refl, ap, sym, ◌∙◌, subst, arith, append-nil}
 use Rattle.std.specs.Prelude.{if◌then◌else◌}
-use Rattle.std.specs.List.{position, slice_get}
-use Rattle.std.specs.Option.{option_to_list}
 use Rattle.std.proofs.lemmas.Bool.{and_parts, eqb-true, false≢true, or_right}
-use Rattle.std.proofs.lemmas.Bool.Decides.{nat_tests}
 use Rattle.std.proofs.lemmas.List.Quantifiers.{position-Some}
 use Rattle.std.proofs.lemmas.Option.{get_or_from_slice_get}
-use Rattle.eel_base.specs.CodeText.{Words, IsText, word_at}
+use Rattle.eel_base.specs.CodeText.{Words, word_at}
 use Rattle.v8_decode.specs.declared.Part.{Part}
 use Rattle.v8_step.specs.declared.Slot.{Slot}
 use Rattle.v8_step.specs.declared.Slot.TheVariants.{NoSlot}
@@ -15,24 +12,24 @@ use Rattle.cfg_blocks.specs.declared.BlockEnd.{BlockEnd}
 use Rattle.cfg_blocks.specs.declared.EdgeKind.{EdgeKind}
 use Rattle.cfg_blocks.specs.declared.EdgeKind.TheVariants as kinds
 use Rattle.cfg_blocks.specs.Blocks.{Blocks, block_end, holding_of, last_word, end_of}
-use Rattle.cfg_blocks.specs.Ends.{Way, within, end_at, is_transfer, ways_of}
+use Rattle.cfg_blocks.specs.Ends.{Way, within, end_at, ways_of}
 use Rattle.cfg_normal.specs.Graph.{Graph, graph_of, node_of, edge_of, runs_slot, slot_behind, landing_at as landing}
 use Rattle.cfg_normal.specs.declared.Edge.{Edge}
 use Rattle.cfg_normal.specs.declared.Node.{Node}
 use Rattle.cfg_normal.specs.declared.Node.TheVariants.{Block, X}
 use Rattle.cfg_normal.specs.declared.Slot.TheVariants as carried
-use Rattle.cfg_walk.specs.Walk.{Point as RunPoint, edge_from, landed, landing_at, node_after, led_to, same_kind, same_node, slot_left, instr_at, way_of}
+use Rattle.cfg_walk.specs.Walk.{Point as RunPoint, edge_from, landed, landing_at, node_after, same_kind, same_node, slot_left, instr_at, way_of}
 use Rattle.cfg_walk.specs.Matches.{Begins, IsOnItsWay}
 use Rattle.cfg_blocks.proofs.Targets.{word_at-some}
 use Rattle.cfg_walk.proofs.Cut.{IsCut}
 use Rattle.cfg_walk.proofs.Edges.{IsEdge, block, number_of_list, leads_along, landing_found, out_to}
-use Rattle.cfg_walk.proofs.Holding.{Leads, in_held, first_held, ends_within}
-use Rattle.cfg_walk.proofs.Leaving.{here, is_in, node_is, transfer_ends, way_found}
+use Rattle.cfg_walk.proofs.Holding.{Leads, in_held, first_held}
+use Rattle.cfg_walk.proofs.Leaving.{is_in, node_is, way_found}
 use Rattle.cfg_walk.proofs.Points.{within_some}
 use Rattle.cfg_walk.proofs.Slots.{LeadsIfThere, out_of_slot}
 use Rattle.cfg_walk.proofs.Ways.{IsOne}
-use Rattle.liveness.specs.Live.{edge_at, Holds, IsFirst, IsLast, GoesOnAt, is_call_or_jump, is_outside, is_unknown, Point, At, Along, Behind, After, Goes}
-use Rattle.live_walk.proofs.Trips.{Trip, To, slot, left, inside, over, jumped}
+use Rattle.liveness.specs.Live.{edge_at, Holds, IsFirst, GoesOnAt, is_call_or_jump, is_outside, is_unknown, Point, At, Along, After, Goes}
+use Rattle.live_walk.proofs.Trips.{Trip, slot, left, inside, over, jumped}
 
 -- where a run stands: at a word of the walk's node, or on the edge that carries the slot
 abbrev pub IsPointBy : Words → Graph → Node → RunPoint → Slot → Point → Type 0

@@ -1,12 +1,10 @@
 -- What a run still needs, or a later snippet names, is kept from step to step.
-use Rattle.std.proofs.Common.{◌≡◌, ℕ, zero, suc, ◌+◌, ◌-◌, ◌<◌, ◌≤◌, ◌⊎◌, inl, inr, true, List, [], ◌∷◌, ◌++◌, length, slice_index, Option, Some, None, refl, ap, sym, ◌∙◌, subst, arith}
+use Rattle.std.proofs.Common.{◌≡◌, ℕ, suc, ◌+◌, ◌-◌, ◌≤◌, ◌⊎◌, inl, inr, true, List, [], ◌∷◌, Option, Some, None, refl, ap, sym, ◌∙◌, subst, arith}
 use Rattle.std.specs.List.{Contains}
-use Rattle.std.specs.Option.{option_map}
-use Rattle.std.proofs.lemmas.Bool.{cases_eq, cases_order}
-use Rattle.eel_base.specs.CodeText.{Words, IsText, word_at}
+use Rattle.std.proofs.lemmas.Bool.{cases_eq}
+use Rattle.eel_base.specs.CodeText.{Words, IsText}
 use Rattle.v8_decode.specs.declared.Instr.{Instr}
 use Rattle.v8_decode.specs.declared.Part.{Part}
-use Rattle.v8_decode.specs.declared.Part.TheVariants.{Reg, Icc, Y}
 use Rattle.v8_decode.specs.Effects.{writes_of}
 use Rattle.v8_decode.specs.Parts.{has, is_member}
 use Rattle.v8_memory.specs.Regions.{fetch_of}
@@ -14,7 +12,7 @@ use Rattle.v8_step.specs.declared.Ending.{Ending}
 use Rattle.v8_step.specs.State.{State}
 use Rattle.v8_step.specs.Run.{run}
 use Rattle.v8_step.specs.Items.{Item, Register, Codes, YRegister, IsItem, IsAmong, item_of}
-use Rattle.v8_step.specs.Needed.{IsNeeded, Reads, ReadsIn, Writes, WritesIn, decoded}
+use Rattle.v8_step.specs.Needed.{IsNeeded, ReadsIn, Writes, WritesIn, decoded}
 use Rattle.v8_step.proofs.Executable.{code_stays}
 use Rattle.code_runs.specs.PointsAlike.{instr_of}
 use Rattle.cfg_blocks.specs.Blocks.{blocks_of}
@@ -22,7 +20,7 @@ use Rattle.cfg_normal.specs.Graph.{Graph, graph_of}
 use Rattle.cfg_walk.specs.Walk.{gone_in}
 use Rattle.cfg_walk.specs.Matches.{FetchesOnly, BeginsAt}
 use Rattle.cfg_walk.proofs.Walks.{live_before}
-use Rattle.live_walk.specs.Keeps.{IsKeptAt, IsKeptBehind, IsNamedLater, Keeps, WhatLivesIsKept, instr_after}
+use Rattle.live_walk.specs.Keeps.{IsKeptAt, IsKeptBehind, WhatLivesIsKept, instr_after}
 use Rattle.live_walk.proofs.Back.{goes_live, live_below, named_is_live, needed_is_live, reads_here}
 
 -- ---- whether a step writes an item

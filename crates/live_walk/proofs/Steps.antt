@@ -1,5 +1,5 @@
 -- Each step of a run is a trip between points.
-use Rattle.std.proofs.Common.{◌≡◌, ◌≢◌, ℕ, zero, suc, ◌+◌, ◌-◌, ◌*◌, ◌%◌, ◌^◌, ◌<◌, ◌≤◌, ◌⊎◌, inl, inr, Bool, true, false, not, ◌||◌, ◌&&◌, ◌==◌, List, [], ◌∷◌, length, slice_index, Option, Some, None, refl, ap, sym, ◌∙◌, subst, arith}
+use Rattle.std.proofs.Common.{◌≡◌, ◌≢◌, ℕ, suc, ◌+◌, ◌-◌, ◌%◌, ◌^◌, ◌<◌, ◌≤◌, ◌⊎◌, inl, inr, Bool, true, false, not, ◌==◌, List, [], ◌∷◌, length, slice_index, Option, Some, None, refl, ap, sym, ◌∙◌, subst, arith}
 use Rattle.std.specs.Prelude.{if◌then◌else◌, ℤ}
 use Rattle.std.specs.Option.{option_map}
 use Rattle.std.proofs.lemmas.Bool.{cond_both, eqb-true, eqb-false, lt-ltb, le-ltb, cases_lt}
@@ -12,7 +12,6 @@ use Rattle.v8_decode.specs.declared.Instr.TheVariants as i
 use Rattle.v8_decode.specs.Words.{decode_of}
 use Rattle.v8_memory.specs.Regions.{fetch_of}
 use Rattle.v8_alu.specs.Conditions.{holds_of}
-use Rattle.v8_alu.specs.Numbers.{wrapped}
 use Rattle.v8_step.specs.declared.Ending.{Ending}
 use Rattle.v8_step.specs.declared.Ending.TheVariants.{Couple}
 use Rattle.v8_step.specs.declared.Slot.{Slot}
@@ -41,7 +40,7 @@ use Rattle.cfg_walk.proofs.Leaving.{end_is, node_is, straight_end, straight_left
 use Rattle.cfg_walk.proofs.Points.{Stands, jumps_to, within_some}
 use Rattle.cfg_walk.proofs.States.{couples}
 use Rattle.cfg_walk.proofs.Slots.{LeadsIfThere}
-use Rattle.cfg_walk.proofs.Holding.{Leads, in_held, ends_within}
+use Rattle.cfg_walk.proofs.Holding.{Leads, in_held}
 use Rattle.cfg_walk.proofs.Ways.{IsOne, fall_is_one, taken_is_one, untaken_is_one, not_never, not_always}
 use Rattle.liveness.specs.Live.{Point, At, Along}
 use Rattle.live_walk.proofs.Trips.{Trip}
