@@ -15,14 +15,10 @@ use Rattle.cfg_normal.specs.declared.Node.{Node}
 use Rattle.cfg_walk.specs.Walk.{Point, point_of, node_after}
 use Rattle.layout.specs.declared.items.Item.{Item}
 use Rattle.layout.specs.declared.items.Item.TheVariants as it
-use Rattle.layout.specs.Laid.{Placement, item_at}
+use Rattle.layout.specs.Laid.{HasShortForms, Placement, item_at}
 use Rattle.jump_code.specs.Pieces.{far_piece}
 use Rattle.image_code.specs.Simulates.{Setting, StepsOn, at_point, does_at, gone_at, graph_in, number_in, word_of}
 use Rattle.image_code.specs.Images.{Pieces, Frame, Here, IsPlaced, visited_at}
-
--- every item is kept
-abbrev pub Everything : List ℕ → ℕ → Thing → Type 0
-Everything edges window item = Unit {0}
 
 abbrev pub visits_it : Setting → Node → Point → State → Type 0
 visits_it g node x t = (visit_of g.notes t ≡ Some x.pc) × (node_at g.notes t.pc ≡ Some (number_in g node))
@@ -59,6 +55,9 @@ pub record JumpsOn (l : Pieces) (p : Placement) (k n : ℕ) (edges : List ℕ) (
   pub first : List ℕ
   pub others : List ℕ
   pub all : edges ≡ first ++ others
+  -- some edge is completed, and the snippets of all stand on one side of the Jump
+  pub some : edges ≢ []
+  pub apart : (first ≡ []) ⊎ (others ≡ [])
   pub piece : PieceNo
   pub rest : rest_from l k n ≡ Some (words_on l first ++ it.Jump piece ∷ [])
   pub leads : LeadsTo l p piece others to
@@ -104,7 +103,7 @@ PlainsStep =
     (node : Node) (x : Point) (t : State)
     → IsPlaced g l base p place f → Here g l base p f node x t → (c : IsPlain g l p place f node x t)
     → AllApart (pages_of g.notes) (judged_by (at_point x t) (decode_of c.word))
-    → StepsOn g (Here g l base p f) Everything (gone_at g node x (does_at g x t)) node x t (does_at g x t)
+    → StepsOn g (Here g l base p f) (HasShortForms l.list place) (gone_at g node x (does_at g x t)) node x t (does_at g x t)
 
 -- ---- a branch on a condition
 

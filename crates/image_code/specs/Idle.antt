@@ -8,10 +8,10 @@ use Rattle.v8_step.specs.State.{State}
 use Rattle.cfg_normal.specs.declared.Node.{Node}
 use Rattle.cfg_walk.specs.Walk.{Point}
 use Rattle.layout.specs.declared.items.Item.{Item}
-use Rattle.layout.specs.Laid.{Placement, nop}
+use Rattle.layout.specs.Laid.{HasShortForms, Placement, nop}
 use Rattle.image_code.specs.Simulates.{Setting, StepsOn, does_at, gone_at, number_in, word_of}
 use Rattle.image_code.specs.Images.{Pieces, Frame, Here, IsPlaced, visited_at}
-use Rattle.image_code.specs.Cases.{Everything, LeadsOn, next_visit, plain_piece}
+use Rattle.image_code.specs.Cases.{LeadsOn, next_visit, plain_piece}
 use Rattle.image_code.specs.Turns.{IsNoJumpsSlot}
 
 pub record IsIdle (g : Setting) (l : Pieces) (p : Placement) (place : ℕ → ℕ → ℕ) (f : Frame)
@@ -40,4 +40,4 @@ IdlesStep =
     (g : Setting) (l : Pieces) (base : ℕ) (p : Placement) (place : ℕ → ℕ → ℕ) (f : Frame)
     (node : Node) (x : Point) (t : State)
     → IsPlaced g l base p place f → Here g l base p f node x t → IsIdle g l p place f node x t
-    → StepsOn g (Here g l base p f) Everything (gone_at g node x (does_at g x t)) node x t (does_at g x t)
+    → StepsOn g (Here g l base p f) (HasShortForms l.list place) (gone_at g node x (does_at g x t)) node x t (does_at g x t)
