@@ -12,7 +12,6 @@ use Rattle.v8_memory.specs.Regions.{Memory, code_of, fetch_from}
 use Rattle.v8_step.specs.State.{State, register_of}
 use Rattle.v8_step.specs.Run.{run}
 use Rattle.v8_step.specs.Valid.{IsValid}
-use Rattle.v8_step.specs.Visits.{pages_of}
 use Rattle.v8_step.proofs.ValidSteps.{run-valid}
 use Rattle.cfg_normal.specs.declared.Node.{Node}
 use Rattle.code_runs.specs.Hops.{hopped}
@@ -27,7 +26,7 @@ use Rattle.code_runs.proofs.Leads.{leads_none, leads_then, leads_weaker, silent_
 use Rattle.code_runs.proofs.LongJump.{long_jumps_hop}
 use Rattle.code_runs.proofs.Stays.{stores_there}
 use Rattle.code_runs.proofs.TwoRegisters.{stores_none}
-use Rattle.snippet_code.specs.Runs.{IsAboutToRun, IsCellOf, MayStore, RunsPast, cell_at, kept_word, words_at}
+use Rattle.snippet_code.specs.Runs.{IsAboutToRun, MayStore, RunsPast, kept_word, words_at}
 use Rattle.jump_code.specs.Pieces.{far_piece}
 use Rattle.jump_code.proofs.Fitting.{long_jump_fits}
 use Rattle.jump_code.proofs.Laid.{words_after}
@@ -39,7 +38,7 @@ use Rattle.layout.specs.Running.{CanRun, HasCode}
 use Rattle.layout.proofs.Going.{stays, jumps_hop}
 use Rattle.image_code.specs.Simulates.{Setting, IsOnWay, cells_in, operations_on, snippet_on, spills_at, updates}
 use Rattle.image_code.specs.Images.{Pieces, Frame, HasImages, IsPlaced}
-use Rattle.image_code.specs.Cases.{IsFar, JumpsOn, LeadsTo, LeadsOn, rest_from, words_on}
+use Rattle.image_code.specs.Cases.{IsFar, LeadsTo, LeadsOn, rest_from, words_on}
 use Rattle.image_code.proofs.Between.{can_run, get_below, item_below, item_size, on_none, stores_weaker}
 use Rattle.image_code.proofs.Cells.{cells_above, cell_stored, first_above, may_beside, may_own, operations_then, updates_same, updates_then, word_kept}
 use Rattle.image_code.proofs.Dead.{IsAlike, LastDead, NothingDead, alike_itself, alike_then, last_first, last_others, last_parted, nothing_parted}
@@ -155,8 +154,8 @@ module _ (g : Setting) (l : Pieces) (base : ℕ) (p : Placement) (place : ℕ �
   pub bare_on : (node : Node) (t u : State) → u.ending ≡ None → IsBare u → IsOnWay g node t u
   bare_on node t u live bare = on_none g l base p place f h node t u live bare.0 bare.1 bare.2
 
-  -- A way through such words and the snippets of some edges: all stays as it was but what is dead behind these and words of
-  -- the editor's, and in them the cells are updated, and the target that waits in word 1 of the page stays.
+  -- A way through such words and the snippets of some edges: all stays as it was but what is dead behind these and words
+  -- of the editor's, and in them the cells are updated, and the target that waits in word 1 of the page stays.
   pub record Arrives (edges : List ℕ) (a : State) (to most : ℕ) : Type 0 where
     pub count : ℕ
     pub other : State
@@ -308,11 +307,12 @@ module _ (g : Setting) (l : Pieces) (base : ℕ) (p : Placement) (place : ℕ �
           → updates g.snips others (words_at g.notes.base g.notes.cells one.memory) (hopped one.other mid one.memory)
           ≡ updates g.snips others (words_at g.notes.base g.notes.cells one.memory) a
       read_alike (inl none) =
-          ap (λ z. updates g.snips z (words_at g.notes.base g.notes.cells one.memory) (hopped one.other mid one.memory)) none
+          ap (λ z. updates g.snips z (words_at g.notes.base g.notes.cells one.memory) (hopped one.other mid one.memory))
+          none
           ∙ sym (ap (λ z. updates g.snips z (words_at g.notes.base g.notes.cells one.memory) a) none)
       read_alike (inr nothing) =
-          updates_same g.snips others (words_at g.notes.base g.notes.cells one.memory) (hopped one.other mid one.memory) a
-          (ap (λ (z : State). register_of z) (one.still nothing))
+          updates_same g.snips others (words_at g.notes.base g.notes.cells one.memory) (hopped one.other mid one.memory)
+          a (ap (λ (z : State). register_of z) (one.still nothing))
 
       by_cells : LastDead g (first ++ others)
           → words_at g.notes.base g.notes.cells other.memory ≡ updates g.snips edges (cells_in g a) a

@@ -1,5 +1,5 @@
 -- A nop and then the way.
-use Rattle.std.proofs.Common.{◌≡◌, ℕ, ◌+◌, Option, None, [], ◌∷◌, ◌++◌, length, append-nil, refl, ap, sym, ◌∙◌, subst, arith}
+use Rattle.std.proofs.Common.{◌≡◌, ℕ, ◌+◌, Option, None, [], ◌∷◌, ◌++◌, append-nil, refl, ap, sym, ◌∙◌, subst, arith}
 use Rattle.v8_decode.specs.declared.Instr.{Instr}
 use Rattle.v8_alu.specs.Numbers.{wrapped}
 use Rattle.v8_memory.specs.Regions.{Memory}

@@ -1,13 +1,11 @@
 -- The way along the edge of a JMPL: the copy of its slot's word, the snippet, and the look-up, which leads to a landing or to
 -- the foreign piece.
-use Rattle.std.proofs.Common.{◌≡◌, ℕ, suc, ◌+◌, ◌-◌, ◌*◌, ◌%◌, ◌^◌, ◌<◌, ◌≤◌, ◌⊎◌, inl, inr, true, false, Option, Some, None, List, [], ◌∷◌, ◌++◌, length, map, append-nil, refl, ap, sym, ◌∙◌, subst, arith}
-use Rattle.std.specs.Prelude.{slice_get, slice_index}
+use Rattle.std.proofs.Common.{◌≡◌, ℕ, ◌+◌, ◌*◌, ◌%◌, ◌^◌, ◌<◌, ◌≤◌, inl, inr, true, false, Option, Some, None, List, [], ◌∷◌, ◌++◌, length, map, append-nil, refl, ap, sym, ◌∙◌, subst, arith}
+use Rattle.std.specs.Prelude.{slice_get}
 use Rattle.std.specs.List.{flat_map}
 use Rattle.std.proofs.lemmas.Bool.{cases_lt}
 use Rattle.eel_base.specs.CodeText.{word_at}
-use Rattle.eel_base.specs.declared.numbers.PieceNo.{PieceNo}
 use Rattle.v8_decode.specs.Words.{decode_of}
-use Rattle.v8_alu.specs.Numbers.{wrapped}
 use Rattle.v8_memory.specs.Regions.{code_of}
 use Rattle.v8_memory.specs.Spans.{AllApart}
 use Rattle.v8_step.specs.declared.Slot.{Slot}
@@ -21,9 +19,8 @@ use Rattle.cfg_normal.specs.declared.Node.{Node}
 use Rattle.cfg_walk.specs.Walk.{Point, node_after, point_of}
 use Rattle.code_runs.specs.Hops.{hopped}
 use Rattle.code_runs.specs.Leads.{Leads}
-use Rattle.code_runs.specs.Ours.{IsAmongWords}
 use Rattle.code_runs.specs.Page.{page_word}
-use Rattle.code_runs.specs.StoredWords.{CanStore, memory_word, store_word}
+use Rattle.code_runs.specs.StoredWords.{CanStore, store_word}
 use Rattle.code_runs.specs.Straight.{HasWords, StandIn}
 use Rattle.code_runs.proofs.Leads.{leads_weaker}
 use Rattle.code_runs.proofs.StoredWords.{other_word_stored}
@@ -41,13 +38,13 @@ use Rattle.layout.specs.declared.items.Item.{Item}
 use Rattle.layout.specs.declared.items.Item.TheVariants as it
 use Rattle.layout.specs.Emitting.{words_of}
 use Rattle.layout.specs.Laid.{Placement}
-use Rattle.image_code.specs.Simulates.{Setting, StepsOn, at_point, cells_in, does_at, gone_at, graph_in, number_in}
-use Rattle.image_code.specs.Images.{Pieces, Frame, HasImages, Here, IsPlaced, visited_at, visited_by}
-use Rattle.image_code.specs.Cases.{LeadsTo, next_visit, words_on}
+use Rattle.image_code.specs.Simulates.{Setting, at_point, does_at, gone_at, graph_in, number_in}
+use Rattle.image_code.specs.Images.{Pieces, Frame, Here, IsPlaced, visited_by}
+use Rattle.image_code.specs.Cases.{next_visit, words_on}
 use Rattle.image_code.specs.Landings.{IsJumpsSlot, JumpSlotsStep, Lands}
 use Rattle.image_code.proofs.Arrives.{AreUnmarked, Arrives, IsBare, IsFit, Rest, Stood, arrive, arrived, length_words, on_then, rest_behind, rest_marked, rest_whole, second_there, snippets_run, stood, stood_low, weaker_arrives, words_unmarked}
 use Rattle.image_code.proofs.Cases.{IsMarkedWord, judged_moved, marked_step}
-use Rattle.image_code.proofs.Cells.{cells_above, page_above, word_kept}
+use Rattle.image_code.proofs.Cells.{cells_above, page_above}
 use Rattle.image_code.proofs.Dead.{alike_itself}
 use Rattle.image_code.proofs.Through.{own_stored}
 

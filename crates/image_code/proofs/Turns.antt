@@ -1,7 +1,6 @@
 -- The image of a branch is one step, whatever its annul bit.
-use Rattle.std.proofs.Common.{◌≡◌, ℕ, ◌+◌, ◌-◌, ◌*◌, ◌^◌, ◌<◌, ◌≤◌, ◌⊎◌, inl, inr, Bool, true, false, Option, Some, None, List, [], ◌∷◌, drop, length, refl, ap, sym, ◌∙◌, subst, arith}
+use Rattle.std.proofs.Common.{◌≡◌, ℕ, ◌+◌, ◌-◌, ◌*◌, ◌^◌, ◌<◌, ◌≤◌, ◌⊎◌, inl, inr, Bool, true, false, Option, Some, None, List, [], ◌∷◌, length, refl, ap, sym, ◌∙◌, subst, arith}
 use Rattle.std.specs.Prelude.{if◌then◌else◌, slice_get, slice_index}
-use Rattle.std.specs.Option.{option_map}
 use Rattle.v8_decode.specs.declared.Instr.{Instr}
 use Rattle.v8_alu.specs.Conditions.{holds_of}
 use Rattle.v8_alu.specs.Numbers.{wrapped}

@@ -9,14 +9,14 @@ use Rattle.elf32_sparc.specs.Notes.{node_at}
 use Rattle.v8_decode.specs.Words.{decode_of}
 use Rattle.v8_memory.specs.Spans.{AllApart}
 use Rattle.v8_step.specs.State.{State}
-use Rattle.v8_step.specs.Items.{Item as Thing, is_transfer}
+use Rattle.v8_step.specs.Items.{is_transfer}
 use Rattle.v8_step.specs.Judged.{judged_by}
 use Rattle.v8_step.specs.Visits.{visit_of, pages_of}
 use Rattle.cfg_normal.specs.declared.Node.{Node}
 use Rattle.cfg_walk.specs.Walk.{Point, point_of, node_after}
 use Rattle.layout.specs.declared.items.Item.{Item}
 use Rattle.layout.specs.declared.items.Item.TheVariants as it
-use Rattle.layout.specs.Laid.{HasShortForms, Placement, item_at}
+use Rattle.layout.specs.Laid.{HasShortForms, Placement}
 use Rattle.jump_code.specs.Pieces.{far_piece}
 use Rattle.image_code.specs.Simulates.{Setting, StepsOn, at_point, does_at, gone_at, graph_in, number_in, word_of}
 use Rattle.image_code.specs.Images.{Pieces, Frame, Here, IsPlaced, visited_at}
@@ -42,9 +42,9 @@ IsFar to = (to < 2 ^ 32) × (to % 4 ≡ 0)
 abbrev pub words_on : Pieces → List ℕ → List Item
 words_on l edges = map it.Word (flat_map l.codes edges)
 
--- Control that comes to a piece goes on to an address, through the snippets of some edges: the piece stands there, or what
--- is behind the snippets' words is a Jump to a piece that does, or a long jump to the address itself, where the original
--- goes on at no word of the text.
+-- Control that comes to a piece goes on to an address, through the snippets of some edges: the piece stands there, or
+-- what is behind the snippets' words is a Jump to a piece that does, or a long jump to the address itself, where the
+-- original goes on at no word of the text.
 abbrev pub LeadsTo : Pieces → Placement → PieceNo → List ℕ → Option ℕ → ℕ → Type 0
 LeadsTo l p piece edges next to =
     ((edges ≡ []) × (slice_index p.at piece.0 ≡ to))
@@ -69,9 +69,9 @@ pub record JumpsOn (l : Pieces) (p : Placement) (k n : ℕ) (edges : List ℕ) (
   pub rest : rest_from l k n ≡ Some (words_on l first ++ it.Jump piece ∷ [])
   pub leads : LeadsTo l p piece others next to
 
--- From its item n on, a piece goes on to an address, through the snippets of some edges: it ends behind them and the next
--- piece begins there, or a Jump leads on, or a long jump is all that is left, where the original goes on at no word of the
--- text.
+-- From its item n on, a piece goes on to an address, through the snippets of some edges: it ends behind them and the
+-- next piece begins there, or a Jump leads on, or a long jump is all that is left, where the original goes on at no word
+-- of the text.
 abbrev pub LeadsOn : Pieces → Placement → (ℕ → ℕ → ℕ) → ℕ → ℕ → List ℕ → Option ℕ → ℕ → Type 0
 LeadsOn l p place k n edges next to =
     ((rest_from l k n ≡ Some (words_on l edges)) × (place k (n + length (flat_map l.codes edges)) ≡ to))

@@ -135,7 +135,8 @@ fn push_images(
     requires cells { All (λ ops. EndLow cells.0 ops) snips.now }
     ensures text { IsText text.now }
     ensures images { OnOk result (list.new.items
-        ≡ map (image_of text.now graph.now (codes_of cells.0 (dead_on live.now) snips.now)) (below (length text.now.words))) }
+        ≡ map (image_of text.now graph.now (codes_of cells.0 (dead_on live.now) snips.now))
+        (below (length text.now.words))) }
 {
     let mut way = text.len();
     for block in 0..graph.count() {
@@ -268,7 +269,8 @@ fn push_ways(
     ensures codes { OnOk result ((edge : ℕ) → edge < length (own_edges_of graph.now)
         → CodeDoes frame.cells.0 (dead_on live.now) snips.now (0 + edge)) }
     ensures ways { OnOk result (list.new.items ≡ list.old.items
-        ++ ways_from text.now graph.now frame.table.0 (codes_of frame.cells.0 (dead_on live.now) snips.now) 0 (own_edges_of graph.now)) }
+        ++ ways_from text.now graph.now frame.table.0 (codes_of frame.cells.0 (dead_on live.now) snips.now) 0
+        (own_edges_of graph.now)) }
 {
     for (number, edge) in own_edges(graph).iter().enumerate() {
         let code = code_on(alloc, snips, live, frame.cells, EdgeNo(number as u32))?;
@@ -433,7 +435,8 @@ fn push_landings(
     ensures codes { OnOk result ((block : ℕ) → block < length graph.now.blocks.firsts
         → CodeDoes cells.0 (dead_on live.now) snips.now (length (own_edges_of graph.now) + block)) }
     ensures landings { OnOk result (list.new.items ≡ list.old.items
-        ++ map (landing_of text.now graph.now (codes_of cells.0 (dead_on live.now) snips.now)) (below (length text.now.words))) }
+        ++ map (landing_of text.now graph.now (codes_of cells.0 (dead_on live.now) snips.now))
+        (below (length text.now.words))) }
 {
     let first = own_edges(graph).len() as u32;
     for block in 0..graph.count() {
