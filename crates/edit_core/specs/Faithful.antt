@@ -144,7 +144,10 @@ pub record IsFaithful (original : List ℕ) (plan : Plan) (file : List ℕ) : Ty
   pub graph : HasGraph original plan notes
   pub pages : HasPages original plan file notes
   pub places : All (IsPlace original file) notes.ranges
-  pub runs : HaveRunsAlike original plan file notes
+  -- what is dead behind the snippet of each edge
+  pub dead : ℕ → List Part
+  pub exact : AreDead (image_of original).text (view_of original plan.marks).graph (named_in plan) dead
+  pub runs : HaveRunsAlike original plan dead file notes
   pub counters : AreCounted plan
 
 -- ---- by a tool: `says` tells what its callback may answer

@@ -15,12 +15,13 @@ use Rattle.cfg_walk.specs.Walk.{end_of_walk, gone_in}
 use Rattle.image_code.specs.Simulates.{Setting, cells_in, graph_in, limit_on, number_in, store_of}
 use Rattle.tool_kit.specs.Plans.{Plan}
 
--- an edit of an original by a plan, with these notes
-abbrev pub edit_of : List ℕ → Plan → Notes → Setting
-edit_of original plan notes = record {
+-- an edit of an original by a plan, with these notes, and with what is dead behind each edge's snippet
+abbrev pub edit_of : List ℕ → Plan → (ℕ → List Part) → Notes → Setting
+edit_of original plan dead notes = record {
   text = (image_of original).text;
   given = given_in (image_of original) plan.marks;
   snips = plan.snips;
+  dead = dead;
   notes = notes;
 }
 
@@ -43,7 +44,8 @@ pub record IsAnswered (g : Setting) (entry : ℕ) (s0 t0 : State) (n : ℕ) : Ty
   pub node : EndsAtNode g entry s0 t0 n moment
 
 -- Where the original's first n steps touch no page of the notes:
-pub record AreRunsAlike (g : Setting) (entry : ℕ) (s0 t0 : State) : Type 0 where
+-- `Small` says that so little room is asked that no jump and no branch is long.
+pub record AreRunsAlike (g : Setting) (Small : Type 0) (entry : ℕ) (s0 t0 : State) : Type 0 where
   -- Going on and ending, and the store.
   pub answered : (n : ℕ) → IsUntouched (pages_of g.notes) s0 n → IsAnswered g entry s0 t0 n
   -- The step bound: so many steps at most lie before the first of these moments, and from each to the next, by the
@@ -51,10 +53,21 @@ pub record AreRunsAlike (g : Setting) (entry : ℕ) (s0 t0 : State) : Type 0 whe
   pub soon : IsUntouched (pages_of g.notes) s0 0 → (m : ℕ) → IsLeast (Answers g.notes s0 t0 0) m → m ≤ first_limit
   pub bounded : (n : ℕ) → IsUntouched (pages_of g.notes) s0 (suc n)
       → IsBounded g.notes s0 t0 n (limit_on g (gone_in g.text (graph_in g) entry s0 n))
+  -- Spills: from the first of these moments for a step to the first for the next, what is stored in the pages but for cells
+  -- and word 0 of the editor's page is registers that snippets spill; and what is so besides where nothing is long.
+  pub spared : (n : ℕ) → IsUntouched (pages_of g.notes) s0 (suc n)
+      → IsWatched g (gone_in g.text (graph_in g) entry s0 n) (point_of (run s0 n)) (run s0 (suc n))
+      → (m k : ℕ) → IsLeast (Answers g.notes s0 t0 n) m → IsLeast (Answers g.notes s0 t0 (suc n)) k
+      → IsSparing g (((run s0 n).ending ≡ None) × Small) (gone_in g.text (graph_in g) entry s0 n)
+      (point_of (run s0 n)) (run t0 m) (k - m)
+
+-- at most 8 MiB
+abbrev pub short_bound : ℕ
+short_bound = 8 * 2 ^ 20
 
 -- for all arguments and every input
-abbrev pub HaveRunsAlike : List ℕ → Plan → List ℕ → Notes → Type 0
-HaveRunsAlike original plan file notes =
+abbrev pub HaveRunsAlike : List ℕ → Plan → (ℕ → List Part) → List ℕ → Notes → Type 0
+HaveRunsAlike original plan dead file notes =
     (args : List (List ℕ)) (input : List ℕ) → AreArguments args → AreBytes input
-    → AreRunsAlike (edit_of original plan notes) (image_of original).entry (start_of original args input)
-    (start_of file args input)
+    → AreRunsAlike (edit_of original plan dead notes) (bound_in original plan ≤ short_bound) (image_of original).entry
+    (start_of original args input) (start_of file args input)

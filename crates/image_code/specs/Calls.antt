@@ -14,10 +14,10 @@ use Rattle.cfg_normal.specs.declared.Node.{Node}
 use Rattle.cfg_walk.specs.Walk.{Point}
 use Rattle.jump_code.specs.Jumps.{IsApart}
 use Rattle.jump_code.specs.Pieces.{call_piece, jump_piece}
-use Rattle.layout.specs.Laid.{Placement}
+use Rattle.layout.specs.Laid.{HasShortForms, Placement}
 use Rattle.image_code.specs.Simulates.{Setting, StepsOn, does_at, gone_at, number_in, word_of}
 use Rattle.image_code.specs.Images.{Pieces, Frame, Here, IsPlaced, visited_at}
-use Rattle.image_code.specs.Cases.{Everything, LeadsTo, next_visit}
+use Rattle.image_code.specs.Cases.{LeadsTo, next_visit, word_ahead}
 use Rattle.image_code.specs.Turns.{IsNoJumpsSlot}
 
 -- ---- a CALL
@@ -37,7 +37,7 @@ pub record IsCall (g : Setting) (l : Pieces) (p : Placement) (f : Frame)
   pub says : decode_of word ≡ i.Call disp
   pub way : PieceNo
   pub items : slice_get l.list piece ≡ Some (call_piece address (number_in g node) way)
-  pub leads : LeadsTo l p way (gone_at g node x (does_at g x t)) (next_visit g l p f node x t)
+  pub leads : LeadsTo l p way (gone_at g node x (does_at g x t)) (word_ahead g x t) (next_visit g l p f node x t)
   pub never : IsNoJumpsSlot g (does_at g x t)
 
 abbrev pub CallsStep : Type 0
@@ -45,7 +45,7 @@ CallsStep =
     (g : Setting) (l : Pieces) (base : ℕ) (p : Placement) (place : ℕ → ℕ → ℕ) (f : Frame)
     (node : Node) (x : Point) (t : State)
     → IsPlaced g l base p place f → Here g l base p f node x t → IsCall g l p f node x t
-    → StepsOn g (Here g l base p f) Everything (gone_at g node x (does_at g x t)) node x t (does_at g x t)
+    → StepsOn g (Here g l base p f) (HasShortForms l.list place) (gone_at g node x (does_at g x t)) node x t (does_at g x t)
 
 -- ---- a JMPL, by a register that it doesn't name
 
@@ -71,11 +71,12 @@ pub record IsJump (g : Setting) (l : Pieces) (p : Placement) (f : Frame)
   pub in_range : op2_in_range op2 ≡ true
   pub way : PieceNo
   pub items : slice_get l.list piece ≡ Some (jump_piece scratch rd rs1 op2 address (number_in g node) way)
-  pub leads : (does_at g x t).ending ≡ None → LeadsTo l p way (gone_at g node x (does_at g x t)) (next_visit g l p f node x t)
+  pub leads : (does_at g x t).ending ≡ None
+      → LeadsTo l p way (gone_at g node x (does_at g x t)) (word_ahead g x t) (next_visit g l p f node x t)
 
 abbrev pub JumpsStep : Type 0
 JumpsStep =
     (g : Setting) (l : Pieces) (base : ℕ) (p : Placement) (place : ℕ → ℕ → ℕ) (f : Frame)
     (node : Node) (x : Point) (t : State)
     → IsPlaced g l base p place f → Here g l base p f node x t → IsJump g l p f node x t
-    → StepsOn g (Here g l base p f) Everything (gone_at g node x (does_at g x t)) node x t (does_at g x t)
+    → StepsOn g (Here g l base p f) (HasShortForms l.list place) (gone_at g node x (does_at g x t)) node x t (does_at g x t)

@@ -1,5 +1,6 @@
 -- What the words of snippets do.
-use Rattle.std.specs.Prelude.{ℕ, ◌*◌, ◌≤◌, List, [], length}
+use Rattle.std.specs.Prelude.{ℕ, ◌*◌, ◌≤◌, List, length}
+use Rattle.v8_decode.specs.declared.Part.{Part}
 use Rattle.snippets.specs.declared.snippet.Op.{Op}
 use Rattle.snippets.specs.Cells.{named_by}
 use Rattle.snippet_code.specs.Runs.{DoesJust}
@@ -8,8 +9,8 @@ use Rattle.image_code.specs.Simulates.{snippet_on}
 use Rattle.image_code.specs.Parts.{codes_of}
 
 -- The words on an edge do just its snippet, on the cells at `base`, and are few.
-pub record CodeDoes (base : ℕ) (snips : List (List Op)) (edge : ℕ) : Type 0 where
+pub record CodeDoes (base : ℕ) (dead : ℕ → List Part) (snips : List (List Op)) (edge : ℕ) : Type 0 where
   pub few : length (snippet_on snips edge) ≤ 8
-  pub short : length (codes_of base snips edge) ≤ 22 * length (snippet_on snips edge)
-  pub does : DoesJust (codes_of base snips edge) base []
-      (spills_of [] (named_by (snippet_on snips edge)) (snippet_on snips edge)) (snippet_on snips edge)
+  pub short : length (codes_of base dead snips edge) ≤ 22 * length (snippet_on snips edge)
+  pub does : DoesJust (codes_of base dead snips edge) base (dead edge)
+      (spills_of (dead edge) (named_by (snippet_on snips edge)) (snippet_on snips edge)) (snippet_on snips edge)

@@ -7,10 +7,10 @@ use Rattle.cfg_walk.specs.Walk.{Point, point_of}
 use Rattle.cfg_walk.specs.Matches.{Matches}
 use Rattle.layout.specs.declared.items.Item.{Item}
 use Rattle.layout.specs.declared.items.Item.TheVariants as it
-use Rattle.layout.specs.Laid.{Placement}
+use Rattle.layout.specs.Laid.{HasShortForms, Placement}
 use Rattle.image_code.specs.Simulates.{Setting, Simulates, does_at, graph_in, number_in}
 use Rattle.image_code.specs.Images.{Pieces, Frame, Here, IsPlaced, visited_at}
-use Rattle.image_code.specs.Cases.{Everything, IsPlain, visits_it}
+use Rattle.image_code.specs.Cases.{IsPlain, visits_it}
 use Rattle.image_code.specs.Couple.{IsCouple}
 use Rattle.image_code.specs.Turns.{IsTurn}
 use Rattle.image_code.specs.Idle.{IsIdle}
@@ -48,7 +48,7 @@ pub data IsCase (g : Setting) (l : Pieces) (base : ℕ) (p : Placement) (place :
   plain : IsPlain g l p place f node x t → IsCase g l base p place f node x t
   couple : IsCouple g l p f node x → IsCase g l base p place f node x t
   turn : IsTurn g l p f node x t → IsCase g l base p place f node x t
-  idle : IsIdle g l p place f node x t → IsCase g l base p place f node x t
+  idle : IsIdle g l p f node x t → IsCase g l base p place f node x t
   call : IsCall g l p f node x t → IsCase g l base p place f node x t
   jump : IsJump g l p f node x t → IsCase g l base p place f node x t
   landing : IsJumpsSlot g l p f node x t → IsCase g l base p place f node x t
@@ -73,4 +73,4 @@ pub record IsImaged (g : Setting) (l : Pieces) (base : ℕ) (p : Placement) (pla
 abbrev pub ImagesSimulate : Type 0
 ImagesSimulate =
     (g : Setting) (l : Pieces) (base : ℕ) (p : Placement) (place : ℕ → ℕ → ℕ) (f : Frame) → IsPlaced g l base p place f
-    → IsImaged g l base p place f → Simulates g (IsOpen g) (Here g l base p f) Everything
+    → IsImaged g l base p place f → Simulates g (IsOpen g) (Here g l base p f) (HasShortForms l.list place)

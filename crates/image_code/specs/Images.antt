@@ -1,5 +1,5 @@
 -- Where a machine stands that visits a point of the original, and what it has.
-use Rattle.std.specs.Prelude.{◌≡◌, ℕ, ◌+◌, ◌-◌, ◌*◌, ◌%◌, ◌^◌, ◌<◌, ◌≤◌, ◌⊎◌, true, false, List, [], ◌∷◌, length, Option, Some, None, slice_index}
+use Rattle.std.specs.Prelude.{◌≡◌, ℕ, ◌+◌, ◌-◌, ◌*◌, ◌%◌, ◌^◌, ◌<◌, ◌≤◌, ◌⊎◌, true, false, List, [], ◌∷◌, length, Option, Some, None, slice_get, slice_index}
 use Rattle.eel_base.specs.CodeText.{word_at}
 use Rattle.elf32_sparc.specs.Notes.{range_at}
 use Rattle.v8_alu.specs.Numbers.{wrapped}
@@ -20,7 +20,7 @@ use Rattle.layout.specs.declared.items.Item.{Item}
 use Rattle.layout.specs.Laid.{Placement, IsLaid, range_in}
 use Rattle.layout.specs.Running.{HasCode}
 use Rattle.snippet_code.specs.Runs.{DoesJust, IsCellOf, cell_at}
-use Rattle.image_code.specs.Simulates.{Setting, graph_in, snippet_on}
+use Rattle.image_code.specs.Simulates.{Setting, graph_in, is_out, snippet_on, spills_at}
 
 -- ---- pieces by what they are for
 
@@ -106,14 +106,16 @@ pub record IsFramed (g : Setting) (f : Frame) : Type 0 where
   pub apart : (a : ℕ) → IsAmongWords f.own a → (a + 4 ≤ f.table.base) ⊎ (f.table.base + length f.table.bytes ≤ a)
 
 -- The cells stand below the heap, among the words that the editor's code may store, and the words of each snippet do just
--- the snippet, whatever stores are counted. Without dead registers, a snippet has at most 22 words an operation.
+-- the snippet, with what is dead behind it, whatever stores are counted. A snippet has at most 22 words an operation.
+-- Along the edge of a JMPL nothing is dead.
 pub record HasCells (g : Setting) (l : Pieces) (f : Frame) : Type 0 where
   pub aligned : g.notes.base % 4 ≡ 0
   pub low : cell_at g.notes.base g.notes.cells ≤ 2 ^ 31
   pub own : (cell : ℕ) → cell < g.notes.cells → IsAmongWords f.own (cell_at g.notes.base cell)
   pub named : (edge cell : ℕ) → IsCellOf (snippet_on g.snips edge) cell → cell < g.notes.cells
-  pub spills : ℕ → ℕ
-  pub does : (edge : ℕ) → DoesJust (l.codes edge) g.notes.base [] (spills edge) (snippet_on g.snips edge)
+  pub does : (edge : ℕ)
+      → DoesJust (l.codes edge) g.notes.base (g.dead edge) (spills_at g edge) (snippet_on g.snips edge)
+  pub jumps : (edge : ℕ) → is_out (slice_get (graph_in g).edges edge) ≡ true → g.dead edge ≡ []
   pub short : (edge : ℕ) → length (l.codes edge) ≤ 22 * length (snippet_on g.snips edge)
 
 -- what is given of a placement, to each image

@@ -17,17 +17,17 @@ use Rattle.cfg_walk.specs.Walk.{Point, instr_at, same_kind, way_of}
 use Rattle.addr_translate.specs.Lookup.{IsTable, looked_up}
 use Rattle.addr_translate.specs.Translator.{Translates}
 use Rattle.jump_code.specs.Pieces.{foreign_piece, out_piece}
-use Rattle.layout.specs.Laid.{Placement}
+use Rattle.layout.specs.Laid.{HasShortForms, Placement}
 use Rattle.image_code.specs.Simulates.{Setting, StepsOn, at_point, does_at, gone_at, number_in, word_of}
 use Rattle.image_code.specs.Images.{Pieces, Frame, Here, IsPlaced, visited_at}
-use Rattle.image_code.specs.Cases.{Everything, LeadsTo, next_visit, words_on}
+use Rattle.image_code.specs.Cases.{LeadsTo, next_visit, words_on}
 
 -- What the table has for a target: the piece of a landing, which leads to the next visit through the snippets of some
 -- edges, or outside the text the foreign piece.
 abbrev pub Lands : Setting → Pieces → Placement → Frame → List ℕ → ℕ → ℕ → Type 0
 Lands g l p f edges target visit =
     ((piece : PieceNo) × (piece.0 < length l.list) × (looked_up f.table target ≡ slice_index p.at piece.0)
-    × LeadsTo l p piece edges visit)
+    × LeadsTo l p piece edges (word_at g.text target) visit)
     ⊎ ((edges ≡ []) × ((piece : PieceNo) × (piece.0 < length l.list)
     × (looked_up f.table target ≡ slice_index p.at piece.0)
     × (slice_get l.list piece.0 ≡ Some foreign_piece) × (word_at g.text target ≡ None)))
@@ -63,4 +63,4 @@ JumpSlotsStep =
     (node : Node) (x : Point) (t : State)
     → IsPlaced g l base p place f → Here g l base p f node x t → (c : IsJumpsSlot g l p f node x t)
     → AllApart (pages_of g.notes) (judged_by (at_point x t) (decode_of c.word))
-    → StepsOn g (Here g l base p f) Everything (gone_at g node x (does_at g x t)) node x t (does_at g x t)
+    → StepsOn g (Here g l base p f) (HasShortForms l.list place) (gone_at g node x (does_at g x t)) node x t (does_at g x t)

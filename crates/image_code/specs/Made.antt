@@ -28,12 +28,12 @@ use Rattle.addr_translate.specs.Translator.{translator}
 use Rattle.jump_code.specs.FreeRegister.{free_register}
 use Rattle.jump_code.specs.Pieces.{call_piece, far_piece, foreign_piece, jump_piece, out_piece}
 use Rattle.layout.specs.Emitting.{words_of}
-use Rattle.layout.specs.Laid.{Placement}
+use Rattle.layout.specs.Laid.{HasShortForms, Placement}
 use Rattle.layout.specs.declared.items.Item.{Item}
 use Rattle.layout.specs.declared.items.Item.TheVariants as it
 use Rattle.image_code.specs.Simulates.{Setting, Simulates, graph_in, number_in}
 use Rattle.image_code.specs.Images.{Frame, Here, IsPlaced, Pieces}
-use Rattle.image_code.specs.Cases.{Everything, plain_piece, branch_piece}
+use Rattle.image_code.specs.Cases.{plain_piece, branch_piece}
 use Rattle.image_code.specs.Couple.{couple_piece}
 use Rattle.image_code.specs.Outside.{IsOpen}
 
@@ -212,4 +212,5 @@ PiecesMakeImages =
     (g : Setting) (codes : ℕ → List ℕ) (base : ℕ) (p : Placement) (place : ℕ → ℕ → ℕ) (f : Frame) → IsText g.text
     → IsPlaced g (pieces_in g.text (graph_in g) f.table.base codes) base p place f
     → IsTableFor g.text (graph_in g) p f.table → f.table.base < base → IsOffNoted g f.table.base
-    → Simulates g (IsOpen g) (Here g (pieces_in g.text (graph_in g) f.table.base codes) base p f) Everything
+    → Simulates g (IsOpen g) (Here g (pieces_in g.text (graph_in g) f.table.base codes) base p f)
+    (HasShortForms (piece_list g.text (graph_in g) f.table.base codes) place)

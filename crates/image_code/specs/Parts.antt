@@ -5,6 +5,7 @@ use Rattle.eel_base.specs.CodeText.{Words, address_of}
 use Rattle.eel_base.specs.declared.numbers.Addr.{Addr}
 use Rattle.eel_base.specs.declared.numbers.PieceNo.{PieceNo}
 use Rattle.v8_decode.specs.declared.Instr.{Instr}
+use Rattle.v8_decode.specs.declared.Part.{Part}
 use Rattle.v8_decode.specs.declared.Instr.TheVariants as i
 use Rattle.v8_decode.specs.Words.{decode_of}
 use Rattle.cfg_blocks.specs.Ends.{always, never}
@@ -29,9 +30,10 @@ pub record IsGraphOf (text : Words) (graph : Graph) : Type 0 where
   pub given : List ℕ
   pub is : graph ≡ graph_of (blocks_of text given)
 
--- the words of the snippet on an edge, on the cells at `base`: as `expand` makes them where nothing is dead
-unfoldable pub codes_of : ℕ → List (List Op) → ℕ → List ℕ
-codes_of base snips edge = code_of_snippet base [] (named_by (snippet_on snips edge)) (snippet_on snips edge)
+-- the words of the snippet on an edge, on the cells at `base`: as `expand` makes them by what is dead behind it
+unfoldable pub codes_of : ℕ → (ℕ → List Part) → List (List Op) → ℕ → List ℕ
+codes_of base dead snips edge =
+    code_of_snippet base (dead edge) (named_by (snippet_on snips edge)) (snippet_on snips edge)
 
 -- the way to where control goes on
 abbrev pub items_of : Next → List Item

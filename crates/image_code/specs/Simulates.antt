@@ -1,25 +1,33 @@
 -- What the pieces of a program promise, in whatever way they are placed: from a visit of the original's instruction,
 -- a few steps lead to what the original does there, along the edges that its step completes.
-use Rattle.std.specs.Prelude.{◌≡◌, ◌≢◌, ℕ, zero, suc, ◌+◌, ◌*◌, ◌<◌, ◌≤◌, List, [], ◌∷◌, length, get_or, replicate, slice_index, Option, Some, None}
+use Rattle.std.specs.Prelude.{◌≡◌, ◌≢◌, ℕ, zero, suc, ◌+◌, ◌*◌, ◌<◌, ◌≤◌, Bool, true, false, not, ◌&&◌, nat_le, nat_lt, List, [], ◌∷◌, length, get_or, replicate, slice_get, slice_index, Option, Some, None}
 use Rattle.std.specs.Option.{option_map}
 use Rattle.eel_base.specs.CodeText.{Words, word_at}
 use Rattle.elf32_sparc.specs.Notes.{Notes, node_at}
+use Rattle.v8_decode.specs.declared.Instr.{Instr}
+use Rattle.v8_decode.specs.declared.Instr.TheVariants as i
+use Rattle.v8_decode.specs.declared.Part.{Part}
 use Rattle.v8_memory.specs.Spans.{Span, AllApart, IsSameOutside}
 use Rattle.v8_step.specs.State.{State, register_of}
 use Rattle.v8_step.specs.Step.{on_word, puts_on_word}
 use Rattle.v8_step.specs.Run.{run, run_puts}
-use Rattle.v8_step.specs.Items.{Item, IsItem, IsSameAt}
+use Rattle.v8_step.specs.Items.{Item, IsAmong, IsItem, IsSameAt, is_transfer}
 use Rattle.v8_step.specs.Needed.{judged_in}
-use Rattle.v8_step.specs.Visits.{visit_of, pages_of}
+use Rattle.v8_step.specs.Visits.{in_pages, visit_of, pages_of}
+use Rattle.cfg_blocks.specs.declared.EdgeKind.TheVariants as kinds
 use Rattle.cfg_blocks.specs.Blocks.{blocks_of}
+use Rattle.cfg_normal.specs.declared.Edge.{Edge}
 use Rattle.cfg_normal.specs.declared.Node.{Node}
 use Rattle.cfg_normal.specs.Graph.{Graph, graph_of}
-use Rattle.cfg_walk.specs.Walk.{Point, point_of, goes_on_at, gone, node_after, gone_in}
+use Rattle.cfg_walk.specs.Walk.{Point, point_of, goes_on_at, gone, node_after, gone_in, instr_at, same_kind}
 use Rattle.cfg_walk.specs.Matches.{Matches}
 use Rattle.cfg_normal.specs.Numbers.{node_number}
 use Rattle.snippets.specs.declared.snippet.Op.{Op}
-use Rattle.snippets.specs.Cells.{update}
+use Rattle.snippets.specs.Cells.{named_by, update}
 use Rattle.snippet_code.specs.Runs.{words_at}
+use Rattle.snippet_code.specs.Words.{spills_of}
+use Rattle.code_runs.specs.Counted.{count_stores}
+use Rattle.code_runs.specs.Page.{page_word}
 use Rattle.code_runs.specs.Points.{moved}
 use Rattle.code_runs.specs.PointsAlike.{instr_of}
 
@@ -56,6 +64,8 @@ pub record Setting : Type 0 where
   pub given : List ℕ
   -- the operations on each edge
   pub snips : List (List Op)
+  -- the registers, the codes and Y, as far as they are dead behind the snippet of each edge
+  pub dead : ℕ → List Part
   pub notes : Notes
 
 abbrev pub graph_in : Setting → Graph
@@ -80,6 +90,21 @@ abbrev pub store_of : Setting → ℕ → State → ℕ → List ℕ
 store_of g entry s0 zero = replicate g.notes.cells 0
 store_of g entry s0 (suc n) =
     updates g.snips (gone_in g.text (graph_in g) entry s0 n) (store_of g entry s0 n) (run s0 (suc n))
+
+-- ---- what a way along some edges leaves, and what it spills
+
+-- an item that is dead behind the snippet of none of some edges
+abbrev pub IsKept : Setting → List ℕ → ℕ → Item → Type 0
+IsKept g [] window item = Unit {0}
+IsKept g (edge ∷ edges) window item = (IsAmong item window (g.dead edge) → ⊥) × IsKept g edges window item
+
+-- how many registers the snippet of an edge spills
+abbrev pub spills_at : Setting → ℕ → ℕ
+spills_at g edge = spills_of (g.dead edge) (named_by (snippet_on g.snips edge)) (snippet_on g.snips edge)
+
+abbrev pub spills_on : Setting → List ℕ → ℕ
+spills_on g [] = 0
+spills_on g (edge ∷ edges) = spills_at g edge + spills_on g edges
 
 -- ---- what one image, landing or slot copy does
 
@@ -106,18 +131,67 @@ pub record IsFollowedBy (pages : List Span) (Kept : Item → Type 0) (v after : 
   pub memory : IsSameOutside pages v.memory after.memory
   pub items : v.ending ≡ None → (item : Item) → IsItem item → Kept item → IsSameAt item v after
 
+-- ---- how sparing the code is
+
+-- a byte of a cell
+abbrev pub is_cell : Notes → ℕ → Bool
+is_cell notes a = nat_le notes.base a && nat_lt a (notes.base + 4 * notes.cells)
+
+-- one of word 0 of the editor's page, in which long jumps keep a register
+abbrev pub in_first_word : ℕ → Bool
+in_first_word a = nat_le (page_word 0) a && nat_lt a (page_word 0 + 4)
+
+-- where only snippets store: in the pages, but neither in a cell nor in that word
+abbrev pub is_spill : Notes → ℕ → Bool
+is_spill notes a = in_pages notes a && (not (is_cell notes a) && not (in_first_word a))
+
+abbrev pub is_jmpl : Option Instr → Bool
+is_jmpl (Some (i.Jmpl rd rs1 op2)) = true
+is_jmpl _ = false
+
+abbrev pub is_transfer_at : Option Instr → Bool
+is_transfer_at None = false
+is_transfer_at (Some instr) = is_transfer instr
+
+abbrev pub is_out : Option Edge → Bool
+is_out None = false
+is_out (Some edge) = same_kind edge.kind kinds.Out
+
+abbrev pub NoneIsOut : Graph → List ℕ → Type 0
+NoneIsOut graph [] = Unit {0}
+NoneIsOut graph (edge ∷ edges) = (is_out (slice_get graph.edges edge) ≡ false) × NoneIsOut graph edges
+
+-- The steps whose stores are told: of no JMPL, which keeps its target, and along no edge of one, where that is looked up,
+-- and to a word of the text.
+pub record IsWatched (g : Setting) (edges : List ℕ) (p : Point) (v : State) : Type 0 where
+  pub jump : is_jmpl (instr_at g.text p.pc) ≡ false
+  pub out : NoneIsOut (graph_in g) edges
+  pub inside : word_at g.text v.pc ≢ None
+
+-- What so many steps store and take that answer a step of the original.
+pub record IsSparing (g : Setting) (Short : Type 0) (edges : List ℕ) (p : Point) (t : State) (count : ℕ) : Type 0 where
+  -- registers that snippets spill, and no others
+  pub spills : count_stores (is_spill g.notes) t count ≤ spills_on g edges
+  -- Where nothing is long, that word is left alone,
+  pub first : Short → count_stores in_first_word t count ≡ 0
+  -- a word within its block is carried out alone,
+  pub alone : Short → edges ≡ [] → is_transfer_at (instr_at g.text p.pc) ≡ false → count ≡ 1
+  -- and a way without operations has few words.
+  pub few : Short → operations_on g.snips edges ≡ 0 → count ≤ 8
+
 -- how many steps a way takes at most
 abbrev pub limit_on : Setting → List ℕ → ℕ
 limit_on g edges = 64 + 32 * operations_on g.snips edges
 
-pub record StepsOn (g : Setting) (Here : Node → Point → State → Type 0) (Kept : List ℕ → ℕ → Item → Type 0)
+-- `Short` says that no jump and no branch between pieces is long.
+pub record StepsOn (g : Setting) (Here : Node → Point → State → Type 0) (Short : Type 0)
     (edges : List ℕ) (node : Node) (p : Point) (t v : State) : Type 0 where
   pub count : ℕ
   pub after : State
   pub path : Onward g node (limit_on g edges) t after count
   pub puts : (descriptor : ℕ)
       → run_puts t count descriptor ≡ puts_on_word (at_point p t) (word_of g.text p.pc) descriptor
-  pub followed : IsFollowedBy (pages_of g.notes) (Kept edges v.window) v after
+  pub followed : IsFollowedBy (pages_of g.notes) (IsKept g edges v.window) v after
   pub cells : cells_in g after ≡ updates g.snips edges (cells_in g t) v
   pub here : v.ending ≡ None → Here (node_after (graph_in g) node edges) (point_of v) after
   pub place : v.ending ≢ None → node_at g.notes after.pc ≡ Some (number_in g node)
@@ -125,10 +199,10 @@ pub record StepsOn (g : Setting) (Here : Node → Point → State → Type 0) (K
 -- What the pieces promise. `Here` says that a machine is at the visit of a point at a node of the walk. `Inside` says
 -- to which points the pieces lead: those at words of the text at first, and then all.
 pub record Simulates (g : Setting) (Inside : Point → Type 0) (Here : Node → Point → State → Type 0)
-    (Kept : List ℕ → ℕ → Item → Type 0) : Type 0 where
+    (Short : Type 0) : Type 0 where
   pub visits : (node : Node) (p : Point) (t : State) → Matches g.text (graph_in g) node p → Inside p → Here node p t
       → (t.ending ≡ None) × (visit_of g.notes t ≡ Some p.pc) × (node_at g.notes t.pc ≡ Some (number_in g node))
   pub steps : (node : Node) (p : Point) (t : State) → Matches g.text (graph_in g) node p → Inside p → Here node p t
       → AllApart (pages_of g.notes) (judged_in (at_point p t) (instr_of (word_of g.text p.pc)))
       → ((does_at g p t).ending ≡ None → Inside (point_of (does_at g p t)))
-      → StepsOn g Here Kept (gone_at g node p (does_at g p t)) node p t (does_at g p t)
+      → StepsOn g Here Short (gone_at g node p (does_at g p t)) node p t (does_at g p t)

@@ -230,6 +230,19 @@ long_words (it.Branch cond to) = 6
 long_words (it.Mark address node) = 0
 long_words it.EndMark = 0
 
+-- how many words an item takes in its short form
+abbrev pub short_words : Item → ℕ
+short_words (it.Word word) = 1
+short_words (it.Jump to) = 1
+short_words (it.Branch cond to) = 2
+short_words (it.Mark address node) = 0
+short_words it.EndMark = 0
+
+-- no item takes more
+abbrev pub HasShortForms : List (List Item) → (ℕ → ℕ → ℕ) → Type 0
+HasShortForms pieces place =
+    (k n : ℕ) (x : Item) → item_at pieces k n ≡ Some x → place k (suc n) ≤ place k n + 4 * short_words x
+
 -- The plain layout: the pieces stand in the order of the list, one right behind the other, and each item takes its long
 -- form.
 pub record IsPlain (pieces : List (List Item)) (base : ℕ) (place : ℕ → ℕ → ℕ) : Type 0 where

@@ -30,7 +30,7 @@ use Rattle.code_runs.proofs.Acts.{says_step, says_puts, ld_acts, st_acts}
 use Rattle.code_runs.proofs.Leads.{leads_none, leads_one, leads_then, silent_none, silent_one, silent_then, run_add, split_below}
 use Rattle.code_runs.proofs.TwoRegisters.{places_differ, set_stays, stores_none, stores_more}
 use Rattle.code_runs.proofs.Hops.{equal_or_not}
-use Rattle.snippet_code.specs.Counted.{stores_at, one_if, on_fetched, unless_over, stores_in_step, count_stores}
+use Rattle.code_runs.specs.Counted.{stores_at, one_if, on_fetched, unless_over, stores_in_step, count_stores}
 use Rattle.snippet_code.proofs.Working.{HasBlock, IsAlike, Reaches, Works, put}
 
 -- ---- a value put in one place

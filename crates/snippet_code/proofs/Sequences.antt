@@ -16,7 +16,7 @@ use Rattle.snippet_code.specs.Cells.{cell_at, kept_word}
 use Rattle.code_runs.specs.Page.{of_page}
 use Rattle.snippet_code.specs.Words.{op_words, all_words, numbered, save, restore, low, high}
 use Rattle.snippet_code.proofs.Working.{HasBlock, Works, put}
-use Rattle.snippet_code.specs.Counted.{one_if}
+use Rattle.code_runs.specs.Counted.{one_if}
 use Rattle.snippet_code.proofs.Working.{update_one, update_all, Does, AreFit, AreFrom, HavePage, saved, AreSaved}
 use Rattle.snippet_code.proofs.OneOperation.{as_many, Doing, add_works, put_works, keep_works}
 use Rattle.snippet_code.proofs.Greater.{top_works}

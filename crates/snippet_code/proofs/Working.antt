@@ -18,7 +18,7 @@ use Rattle.snippets.specs.Cells.{value_after}
 use Rattle.snippets.specs.Grammar.{IsOp}
 use Rattle.snippets.specs.Ops.{cell_of}
 use Rattle.snippet_code.specs.Cells.{cell_at, kept_word}
-use Rattle.snippet_code.specs.Counted.{count_stores}
+use Rattle.code_runs.specs.Counted.{count_stores}
 use Rattle.snippet_code.specs.Words.{op_registers}
 
 -- ---- blocks

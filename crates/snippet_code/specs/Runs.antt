@@ -14,7 +14,7 @@ use Rattle.code_runs.specs.TwoRegisters.{IsBetween}
 use Rattle.snippets.specs.declared.snippet.Op.{Op}
 use Rattle.snippets.specs.Cells.{update}
 pub use Rattle.snippet_code.specs.Cells.{cell_at, words_at, IsCellOf, kept_word}
-use Rattle.snippet_code.specs.Counted.{count_stores}
+use Rattle.code_runs.specs.Counted.{count_stores}
 
 -- where a snippet's words may store: in its cells, and in those words of the page
 abbrev pub MayStore : ℕ → List Op → ℕ → Type 0
