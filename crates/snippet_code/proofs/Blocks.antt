@@ -1,5 +1,5 @@
 -- Code in picked registers, word by word.
-use Rattle.std.proofs.Common.{◌≡◌, ◌≢◌, ℕ, zero, suc, ◌+◌, ◌*◌, ◌%◌, ◌^◌, ◌<◌, ◌≤◌, ◌⊎◌, inl, inr, Bool, true, false, Ok, Some, None, List, refl, ap, sym, ◌∙◌, subst, arith}
+use Rattle.std.proofs.Common.{◌≡◌, ◌≢◌, ℕ, zero, suc, ◌+◌, ◌*◌, ◌%◌, ◌^◌, ◌<◌, ◌≤◌, ◌⊎◌, inl, inr, Bool, true, false, Ok, Some, List, refl, ap, sym, ◌∙◌, subst, arith}
 use Rattle.std.specs.Prelude.{if◌then◌else◌, ◌==◌, slice_index, pos}
 use Rattle.std.proofs.lemmas.Bool.Decides.{nat_tests}
 use Rattle.v8_decode.specs.declared.Op2.{Op2}
@@ -11,7 +11,7 @@ use Rattle.v8_decode.specs.declared.StoreKind.TheVariants as stores
 use Rattle.v8_alu.specs.declared.Codes.{Codes}
 use Rattle.v8_alu.specs.Alu.{alu_of}
 use Rattle.v8_alu.specs.Numbers.{wrapped}
-use Rattle.v8_memory.specs.Regions.{Region, code_of, fetch_of, fetch_from}
+use Rattle.v8_memory.specs.Regions.{Region, code_of}
 use Rattle.v8_windows.specs.Registers.{place_of}
 use Rattle.v8_windows.proofs.Places.{register_in-set, register_in-other, length-register_set}
 use Rattle.v8_step.specs.declared.Slot.TheVariants.{NoSlot}
@@ -20,14 +20,13 @@ use Rattle.v8_alu.specs.Conditions.{holds_of}
 use Rattle.v8_step.specs.declared.Slot.{Slot}
 use Rattle.v8_step.specs.Transfers.{next, delayed, branched, branch_step, unless_couple, target_of}
 use Rattle.v8_step.specs.Step.{act, step_of, alu_step}
-use Rattle.v8_step.specs.Run.{run}
 use Rattle.v8_step.proofs.Quiet.{IsPlain}
 use Rattle.code_runs.specs.StoredWords.{memory_word, store_word}
 use Rattle.code_runs.specs.Straight.{Says}
 use Rattle.code_runs.specs.TwoRegisters.{IsBetween, Gives}
 use Rattle.code_runs.proofs.StoredWords.{code-store_word, word_stored, other_word_stored, still_stored, can_load, memory_word-range}
 use Rattle.code_runs.proofs.Acts.{says_step, says_puts, ld_acts, st_acts}
-use Rattle.code_runs.proofs.Leads.{leads_none, leads_one, leads_then, silent_none, silent_one, silent_then, run_add, split_below}
+use Rattle.code_runs.proofs.Leads.{leads_none, leads_one, leads_then, silent_none, silent_one, silent_then, split_below}
 use Rattle.code_runs.proofs.TwoRegisters.{places_differ, set_stays, stores_none, stores_more}
 use Rattle.code_runs.proofs.Hops.{equal_or_not}
 use Rattle.code_runs.specs.Counted.{stores_at, one_if, stores_in_step, count_stores}
