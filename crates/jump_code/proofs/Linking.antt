@@ -39,7 +39,7 @@ calls_act address s h =
     )
 
 -- the two words store nothing
-calls_store : (address : ℕ) (s : State) → IsAboutToCall address s → (counted : ℕ → Bool) → count_stores counted s 2 ≡ 0
+pub calls_store : (address : ℕ) (s : State) → IsAboutToCall address s → (counted : ℕ → Bool) → count_stores counted s 2 ≡ 0
 unfolding act
 calls_store address s h counted =
     let high = i.Sethi 15 (address / 1024) in
