@@ -1,0 +1,8 @@
+//! Which registers, codes and Y are live at the words of a flow graph and on its edges, exactly.
+//!
+//! Source: James R. Larus and Eric Schnarr, "EEL: Machine-Independent Executable Editing", PLDI 1995.
+#![tactic(auto)]
+
+mod live_sets;
+
+pub use live_sets::LiveSets;
