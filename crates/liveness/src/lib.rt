@@ -3,6 +3,9 @@
 //! Source: James R. Larus and Eric Schnarr, "EEL: Machine-Independent Executable Editing", PLDI 1995.
 #![tactic(auto)]
 
+mod effects;
+mod links;
 mod live_sets;
+mod sets;
 
-pub use live_sets::LiveSets;
+pub use live_sets::{LiveSets, live};

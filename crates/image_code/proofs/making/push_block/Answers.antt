@@ -1,5 +1,5 @@
-use Rattle.std.proofs.Common.{◌≡◌, ◌≤◌, ◌<◌, ◌+◌, ◌-◌, ℕ, length, map, ap, sym, ◌∙◌, arith}
-use Rattle.cfg_blocks.specs.Blocks.{below, last_word}
+use Rattle.std.proofs.Common.{◌≡◌, ◌≤◌, ◌+◌, ◌-◌, ℕ, length, map, ap, sym, ◌∙◌, arith}
+use Rattle.cfg_blocks.specs.Blocks.{below}
 use Rattle.liveness.specs.Sets.{dead_on}
 use Rattle.image_code.specs.Made.{image as image_of}
 use Rattle.image_code.specs.Parts.{codes_of, edges_before}

@@ -1,5 +1,4 @@
 use Rattle.std.proofs.Common.{◌≡◌, ◌-◌, ◌++◌, map}
-use Rattle.std.specs.Prelude.{slice_index}
 use Rattle.std.specs.List.{range_with_len}
 use Rattle.image_code.specs.Parts.{landing_with}
 use Rattle.image_code.proofs.making.push_block_landings.Given as goal
