@@ -74,7 +74,7 @@ operations_then snips (edge ∷ edges) others =
     omega (arith, more)
 
 module _ (g : Setting) (l : Pieces) (f : Frame) (framed : IsFramed g f) (has : HasCells g l f) where
-  cell_low : (cell : ℕ) → cell < g.notes.cells → cell_at g.notes.base cell + 4 ≤ 2 ^ 31
+  pub cell_low : (cell : ℕ) → cell < g.notes.cells → cell_at g.notes.base cell + 4 ≤ 2 ^ 31
   cell_low cell within = let low = has.low in omega (arith, low, within)
 
   pub cell_stored : (m : Memory) → IsOurs (pages_of g.notes) f.own m → (cell : ℕ) → cell < g.notes.cells
