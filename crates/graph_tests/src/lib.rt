@@ -9,6 +9,8 @@ mod edges_tests;
 #[cfg(test)]
 mod flows_tests;
 #[cfg(test)]
+mod liveness_tests;
+#[cfg(test)]
 mod profile_tests;
 #[cfg(test)]
 mod switches_tests;
