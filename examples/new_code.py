@@ -9,6 +9,7 @@ PAGE = 4096
 NOP = 0x01000000
 COUPLE = 0x10800002  # ba to the word after the next one
 ALWAYS_OR_NEVER = (8, 0)
+ANNULLED = 16
 
 G0, G1, G2, O7 = 0, 1, 2, 15
 LD, ST = 0, 4
@@ -36,6 +37,15 @@ def operation(op3, register, number, source=None):
 def jump(address):
     """Goes to an address by %g1, which waits in word 0 meanwhile."""
     return [store(G1, 0), sethi(G1, address), operation(JMPL, G0, address & 0x3ff, G1), load(G1, 0)]
+
+
+def bicc(condition, here, to):
+    return condition << 25 | 2 << 22 | (to - here) // 4 & 0x3fffff
+
+
+def branch(condition, here, to, is_long):
+    """On a condition: with a nop in its slot, or on the opposite one past a jump."""
+    return [bicc(condition ^ 8, 0, 24), NOP, *jump(to)] if is_long else [bicc(condition, here, to), NOP]
 
 
 def link(register, address):
@@ -78,18 +88,81 @@ class Piece:
     rest: tuple = ()
     then: int = None
 
-    def visit_size(self):
-        return 4 * len(self.words) + (24 if self.branch else 0)
 
-    def size(self):
-        return self.visit_size() + 4 * len(self.rest) + (0 if self.then is None else 16)
+def in_order(pieces):
+    """The numbers of the pieces as they are laid. One that has nowhere to go is followed by the next one of the list.
+    Where it goes may follow it, unless that is laid or is to follow another; else the lowest one that is left does."""
+    laid, left, piece = {0: None}, 1, 0
+    while len(laid) < len(pieces):
+        while left in laid:
+            left += 1
+        then = pieces[piece].then
+        if then is None:
+            piece = piece + 1 if piece + 1 < len(pieces) else left
+        else:
+            piece = then if then not in laid and pieces[then - 1].then is not None else left
+        laid[piece] = None
+    return list(laid)
 
-    def code(self, at):
-        code = list(self.words)
-        if self.branch:
-            condition, to = self.branch
-            code += [(condition ^ 8) << 25 | 2 << 22 | 6, NOP, *jump(at[to])]
-        return [*code, *self.rest, *([] if self.then is None else jump(at[self.then]))]
+
+class Layout:
+    """Pieces one after the other. A jump to the piece that comes next takes no word, and one that a displacement of 22
+    bits can't make, or a branch, is long: as few of them as can be."""
+
+    def __init__(self, pieces, base):
+        self.pieces, self.base, self.order = pieces, base, in_order(pieces)
+        self.needless = {piece for piece, behind in zip(self.order, self.order[1:]) if pieces[piece].then == behind}
+        self.long = set()
+        self.lay()
+        while more := {(piece, what) for piece, what, here, to in self.jumps()
+                       if not -2**21 <= (self.at[to] - here) // 4 < 2**21} - self.long:
+            self.long |= more
+            self.lay()
+
+    def visit_size(self, number):
+        piece = self.pieces[number]
+        return 4 * (len(piece.words) + (0 if not piece.branch else 6 if (number, 'branch') in self.long else 2))
+
+    def jump_size(self, number):
+        if self.pieces[number].then is None or number in self.needless:
+            return 0
+        return 16 if (number, 'then') in self.long else 4
+
+    def lay(self):
+        self.at, here = {}, self.base
+        for number in self.order:
+            self.at[number] = here
+            here += self.visit_size(number) + 4 * len(self.pieces[number].rest) + self.jump_size(number)
+        self.end = here
+
+    def jumps(self):
+        """Branches and jumps that take words: the piece, which of the two, where it stands, and the piece to which it
+        leads."""
+        for number in self.order:
+            piece = self.pieces[number]
+            if piece.branch:
+                yield number, 'branch', self.at[number] + 4 * len(piece.words), piece.branch[1]
+            if self.jump_size(number):
+                here = self.at[number] + self.visit_size(number) + 4 * len(piece.rest)
+                yield number, 'then', here, piece.then
+
+    def code(self):
+        leads = {(number, what): (here, self.at[to]) for number, what, here, to in self.jumps()}
+        for number in self.order:
+            piece = self.pieces[number]
+            yield from piece.words
+            if piece.branch:
+                yield from branch(piece.branch[0], *leads[number, 'branch'], (number, 'branch') in self.long)
+            yield from piece.rest
+            if (number, 'then') in leads:
+                here, to = leads[number, 'then']
+                yield from jump(to) if (number, 'then') in self.long else [bicc(ANNULLED | 8, here, to)]
+
+    def visits(self):
+        """Where visits stand, in order of address: the addresses of the first word and behind the last, and the visit."""
+        for number in self.order:
+            if self.pieces[number].visit:
+                yield self.at[number], self.at[number] + self.visit_size(number), self.pieces[number].visit
 
 
 class Pieces:
@@ -141,13 +214,12 @@ class Pieces:
         to = self.address(last + 2) if edge.kind == 'untaken' else self.program.target(last)
         return Piece(visit, copy, rest=jump(to))
 
-    def places(self, at):
+    def places(self, layout):
         """Where visits stand. The first is that of a slot behind the text, in the table, if an edge runs one."""
         end = self.graph.count
         behind = [words(self.table, self.table + 4, self.address(end), edge.source)
                   for edge in self.graph.edges if edge.slot == end]
-        return behind[:1] + [words(lo, lo + piece.visit_size(), *piece.visit)
-                             for lo, piece in zip(at, self.list) if piece.visit]
+        return behind[:1] + [words(lo, hi, *visit) for lo, hi, visit in layout.visits()]
 
 
 # ---- the table

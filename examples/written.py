@@ -1,9 +1,8 @@
 """The file that an edit without snippets writes of a program, made apart from EEL."""
 import struct
-from itertools import accumulate
 
 from listing import Graph, Program
-from new_code import PAGE, Pieces, table_size, table_words, words
+from new_code import PAGE, Layout, Pieces, table_size, table_words, words
 
 EDITOR_PAGE = 0xfffff000
 KINDS = ['fall', 'taken', 'untaken', 'call', 'out', 'land']
@@ -54,15 +53,15 @@ def written(original):
     table = up(max(header[2] + header[5] for header in loaded), 0x10000)
     base = table + table_size(program)
     pieces = Pieces(program, graph, table)
-    at = list(accumulate((piece.size() for piece in pieces.list), initial=base))
-    code = b''.join(words(*piece.code(at)) for piece in pieces.list)
+    layout = Layout(pieces.list, base)
+    at, code = layout.at, words(*layout.code())
     landings = {pieces.address(word): at[pieces.first_landing + word] for word in range(graph.count)}
-    added = [(table, 4, words(*table_words(program, table, landings, at[-2]))), (base, 5, code),
+    added = [(table, 4, words(*table_words(program, table, landings, at[len(at) - 1]))), (base, 5, code),
              (EDITOR_PAGE, 6, bytes(PAGE))]
     noted = [number for vaddr, _, content in added for number in (vaddr, len(content))]
     delta = max(PAGE, *(header[7] for header in loaded))
     entry_block = [first <= graph.entry for first in graph.firsts].count(True) - 1
-    told = notes(graph, pieces.places(at), delta, len(original), 0, program.start, graph.count, entry_block, table, 0,
+    told = notes(graph, pieces.places(layout), delta, len(original), 0, program.start, graph.count, entry_block, table, 0,
                  len(added), *noted)
     headers = [carried(header, delta) for header in segments
                if header[0] != 6 and (header[0] != 1 or header[5])]
