@@ -17,7 +17,8 @@ link_at links k = slice_index_or links k (record { from = 0; to = 0; kills = [] 
 
 -- all links are between so many places
 abbrev pub AreLinks : ℕ → List Link → Type 0
-AreLinks places links = (k : ℕ) → k < length links → ((link_at links k).from < places) × ((link_at links k).to < places)
+AreLinks places links =
+    (k : ℕ) → k < length links → ((link_at links k).from < places) × ((link_at links k).to < places)
 
 -- a link leads from one place to the other, and doesn't kill the part
 abbrev pub Passes : List Link → Part → ℕ → ℕ → Type 0
@@ -70,7 +71,8 @@ IsTold links sets k = (x : Part) → has (at sets (link_at links k).to) x ≡ tr
 
 -- The sets hold parts that are live there, what is read there among them. Each link is told, or waits: its end is on
 -- the stack, or is the place at hand and the link's number is still below.
-pub record IsFlooding (reads : Sets) (links : List Link) (place low : ℕ) (sets : Sets) (stack : List ℕ) : Type 0 where
+pub record IsFlooding (reads : Sets) (links : List Link) (place low : ℕ) (sets : Sets) (stack : List ℕ)
+    : Type 0 where
   pub len : length sets ≡ length reads
   pub below : All (λ p. p < length reads) stack
   pub begun : (p : ℕ) (x : Part) → has (at reads p) x ≡ true → has (at sets p) x ≡ true
@@ -79,7 +81,8 @@ pub record IsFlooding (reads : Sets) (links : List Link) (place low : ℕ) (sets
       ⊎ (IsTold links sets k ⊎ (((link_at links k).to ≡ place) × (k < low)))
 
 -- A place's set has gained what it lacked of another, and stands on the stack if that was something.
-pub record IsGrown (place : ℕ) (more : List Part) (sets : Sets) (stack : List ℕ) (sets' : Sets) (stack' : List ℕ) : Type 0 where
+pub record IsGrown (place : ℕ) (more : List Part) (sets : Sets) (stack : List ℕ) (sets' : Sets) (stack' : List ℕ)
+    : Type 0 where
   pub len : length sets' ≡ length sets
   pub others : (p : ℕ) → p ≢ place → at sets' p ≡ at sets p
   pub here : (x : Part) → has (at sets' place) x ≡ (has (at sets place) x || has more x)

@@ -111,7 +111,8 @@ module _ (text : Words) (graph : Graph) (named : ℕ → List Part) where
   -- to the next word of the block
   Goes (At node word) (At other next) = (other ≡ node) × (next ≡ suc word) × Holds graph node next
   -- from the last word on to an edge
-  Goes (At node word) (Along e) = (e < length graph.edges) × ((edge_at graph e).from ≡ node) × IsLast graph node word
+  Goes (At node word) (Along e) =
+      (e < length graph.edges) × ((edge_at graph e).from ≡ node) × IsLast graph node word
   -- along the edge
   Goes (Along e) (Behind f) = f ≡ e
   Goes (Behind e) (After f) = f ≡ e

@@ -30,8 +30,8 @@ pub(crate) fn last_of(graph: &FlowGraph, block: BlockNo) -> u32
     graph.first(block).0 + graph.words(block) - 1
 }
 
-/// What is read on an edge whose snippet names these registers: by the slot, or, unless that writes it, by the snippet or
-/// beyond.
+/// What is read on an edge whose snippet names these registers: by the slot, or, unless that writes it, by the snippet
+/// or beyond.
 pub(crate) fn ahead(text: &Text, edge: Edge, named: RegSet) -> RegSet
     requires { IsSlotWithin (length text.now.words) edge.slot }
     ensures { (x : Part) → has result x ≡ is_ahead text.now edge named x }

@@ -108,7 +108,8 @@ fn link_along(text: &Text, graph: &FlowGraph, from: BlockNo, edge: Edge, to: Blo
     requires to { to.0 < length graph.now.blocks.firsts }
     ensures from { result.from ≡ last_word graph.now.blocks.firsts graph.now.blocks.words from.0 }
     ensures to { result.to ≡ slice_index graph.now.blocks.firsts to.0 }
-    ensures kills { result.kills ≡ set_of (write_set (instr_of text.now result.from) ++ slot_writes text.now edge.slot) }
+    ensures kills { result.kills
+        ≡ set_of (write_set (instr_of text.now result.from) ++ slot_writes text.now edge.slot) }
 {
     let last = last_of(graph, from);
     Link {

@@ -64,7 +64,8 @@ fn set_at(sets: &[RegSet], place: u32) -> RegSet
 
 /// What is live at the words and on the edges of a text's graph, where `snips` has the snippet of each edge.
 ///
-/// It takes time linear in the words and edges, and besides its answer at most 48 bytes for each word.
+/// It takes time linear in the words and edges: a word is looked at once, and again each time that more is found to be
+/// live there, at most 34 times.
 pub fn live(
     alloc: Global,
     text: &Text,
