@@ -1,7 +1,7 @@
+pub mod Emitted
 pub mod Encoding
-pub mod Going
 pub mod Laying
 pub mod Listed
-pub mod Places
-pub mod Ranging
-pub mod Standing
+pub mod Offsets
+pub mod Widening
+pub mod Wider

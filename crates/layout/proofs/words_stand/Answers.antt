@@ -1,5 +1,0 @@
-use Rattle.layout.proofs.Going.{words_stand}
-use Rattle.layout.proofs.words_stand.Goals as goal
-
-pub returns : goal.returns
-returns c = words_stand
