@@ -1,5 +1,5 @@
 -- What the parts of placing make, as lists.
-use Rattle.std.specs.Prelude.{◌≡◌, ◌≢◌, ℕ, zero, suc, ◌+◌, ◌-◌, ◌*◌, ◌<◌, ◌≤◌, Bool, true, false, ◌||◌, nat_lt, if◌then◌else◌, List, [], ◌∷◌, ◌++◌, length, map, slice_get, slice_index, slice_index_or, Option, Some, None, IfSome, ℤ, pos, ◌-ℤ◌}
+use Rattle.std.specs.Prelude.{◌≡◌, ◌≢◌, ℕ, zero, suc, ◌+◌, ◌-◌, ◌*◌, ◌^◌, ◌<◌, ◌≤◌, Bool, true, false, ◌||◌, nat_lt, if◌then◌else◌, List, [], ◌∷◌, ◌++◌, length, map, slice_get, slice_index, slice_index_or, Option, Some, None, Result, Ok, Err, IfSome, ℤ, pos, ◌-ℤ◌}
 use Rattle.std.specs.Option.{option_map}
 use Rattle.eel_base.specs.declared.numbers.Addr.{Addr}
 use Rattle.eel_base.specs.declared.range.Range.{Range}
@@ -10,6 +10,8 @@ use Rattle.code_runs.specs.LongJump.{long_jump}
 use Rattle.layout.specs.declared.items.Item.{Item}
 use Rattle.layout.specs.declared.items.Item.TheVariants as it
 use Rattle.layout.specs.declared.items.Placed.{Placed}
+use Rattle.layout.specs.declared.items.LayoutFault.{LayoutFault}
+use Rattle.layout.specs.declared.items.LayoutFault.TheVariants as faults
 use Rattle.layout.specs.declared.entries.Entry.{Entry}
 use Rattle.layout.specs.declared.entries.Entry.TheVariants as en
 use Rattle.layout.specs.declared.ranges.Open.{Open}
@@ -135,6 +137,28 @@ ranges_from at n mark (x ∷ xs) = closes (at n) mark x ++ ranges_from at (suc n
 abbrev pub addresses : ℕ → List Entry → Forms → List ℕ → List Addr
 addresses base entries long starts = map (λ n. record { 0 = address_of base entries long n }) starts
 
+-- what a compact order and its forms come to
+pub record IsFormed (pieces : List (List Item)) (entries : List Entry) (starts : List ℕ) (forms : List Bool) : Type 0 where
+  pub entries_are : entries ≡ entries_of pieces
+  pub count : length starts ≡ length pieces
+  pub listing : IsListing entries starts
+  pub small : length entries ≤ 2 ^ 42
+  pub len : length forms ≡ length entries
+  pub widened : IsWidened entries (forms_in forms)
+
+-- the code, addresses and ranges of entries
+pub record IsPut (base : ℕ) (entries : List Entry) (starts : List ℕ) (long : Forms) (p : Placed) : Type 0 where
+  pub emitted : IsEmitted base entries long p.code.items (length entries)
+  pub at : p.at.items ≡ addresses base entries long starts
+  pub ranges : p.ranges.items ≡ ranges_from (address_of base entries long) 0 None entries
+
+-- there is room for so many bytes, or a fault tells that there isn't
+abbrev pub FitsIn : Result Placed LayoutFault → ℕ → ℕ → Type 0
+FitsIn (Ok p) bytes room = bytes ≤ room
+FitsIn (Err (faults.Room needed had)) bytes room = (needed ≡ bytes) × (had ≡ room) × (room < needed)
+FitsIn (Err faults.NoMemory) bytes room = Unit {0}
+
+-- all of it
 pub record IsMade (pieces : List (List Item)) (base : ℕ) (long : Forms) (starts : List ℕ) (p : Placed) : Type 0 where
   pub widened : IsWidened (entries_of pieces) long
   pub count : length starts ≡ length pieces

@@ -2,16 +2,32 @@
 //! address of each piece, and the range of each mark.
 #![tactic(auto)]
 
+ghost use Rattle.layout.specs.Running.{BranchesHop, JumpsHop, WordsStand};
+
 mod emitting;
 mod entries;
 mod forms;
 mod items;
 mod order;
+mod placing;
 mod ranges;
 mod words;
 
-pub use emitting::emit;
-pub use entries::{Entry, Listing, list};
-pub use forms::widened;
 pub use items::{Item, LayoutFault, Piece, Placed};
-pub use order::order_of;
+pub use placing::place;
+
+/// A Jump leads to its piece, with all as it was but word 0 of the editor's page.
+pub fn jumps_hop()
+    ensures { JumpsHop }
+{}
+
+/// A Branch leads to its piece where its condition holds, and to the item after it where it doesn't, with all as it was
+/// but word 0 of the editor's page.
+pub fn branches_hop()
+    ensures { BranchesHop }
+{}
+
+/// A Word stands where its item does.
+pub fn words_stand()
+    ensures { WordsStand }
+{}

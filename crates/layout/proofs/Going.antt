@@ -1,0 +1,323 @@
+-- What placed items do.
+use Rattle.std.proofs.Common.{◌≡◌, ℕ, zero, suc, ◌+◌, ◌-◌, ◌%◌, ◌^◌, ◌<◌, ◌≤◌, Bool, true, false, not, Option, Some, None, List, [], ◌∷◌, length, refl, ap, sym, ◌∙◌, subst, arith}
+use Rattle.std.specs.Prelude.{if◌then◌else◌, ◌==◌, slice_index, slice_get, ℤ, pos}
+use Rattle.v8_decode.specs.declared.Instr.{Instr}
+use Rattle.v8_decode.specs.declared.Instr.TheVariants as i
+use Rattle.v8_alu.specs.declared.Codes.{Codes}
+use Rattle.v8_alu.specs.Numbers.{wrapped}
+use Rattle.v8_alu.specs.Conditions.{holds_of}
+use Rattle.v8_memory.specs.Regions.{Memory, code_of, fetch_from}
+use Rattle.v8_step.specs.declared.Slot.{Slot}
+use Rattle.v8_step.specs.declared.Slot.TheVariants.{NoSlot, Taken, Untaken}
+use Rattle.v8_step.specs.State.{State, register_of}
+use Rattle.v8_step.specs.Transfers.{branched, branch_step, target_of, unless_couple}
+use Rattle.v8_step.specs.Step.{act, step_of}
+use Rattle.v8_step.specs.Valid.{IsValid}
+use Rattle.v8_step.proofs.ValidSteps.{run-valid}
+use Rattle.code_runs.specs.StoredWords.{store_word}
+use Rattle.code_runs.specs.Leads.{Leads}
+use Rattle.code_runs.specs.Straight.{IsReady, Says, StandIn}
+use Rattle.code_runs.specs.TwoRegisters.{IsBetween}
+use Rattle.code_runs.specs.Hops.{hopped, Hops}
+use Rattle.code_runs.proofs.Acts.{says_step, says_puts}
+use Rattle.code_runs.proofs.Leads.{leads_none, leads_one, leads_then, leads_weaker, silent_none, silent_one, silent_then}
+use Rattle.code_runs.proofs.LongJump.{long_jumps_hop, says_at}
+use Rattle.code_runs.proofs.TwoRegisters.{stores_none}
+use Rattle.layout.specs.declared.items.Item.{Item}
+use Rattle.layout.specs.declared.items.Item.TheVariants as it
+use Rattle.layout.specs.Laid.{Placement, IsLaid, IsWordAt, SaysFrom, JumpStands, jump_nothing, jump_short, jump_long, BranchStands, branch_short, branch_long, Reaches, nop, opposite, item_at, item_in, items_in}
+use Rattle.code_runs.specs.LongJump.{long_jump, IsFirstWord}
+use Rattle.code_runs.specs.Page.{page_word}
+use Rattle.layout.specs.Running.{HasCode, CanRun, Goes, JumpsHop, BranchesHop, WordsStand}
+
+-- ---- words
+
+pub word_is : (base a word : ℕ) (code : List ℕ) (m : Memory) → HasCode base code m → IsWordAt base code a word
+    → fetch_from (code_of m) a ≡ Some word
+word_is base a word code m h w = ap (fetch_from (code_of m)) w.1 ∙ h w.0 word w.2
+
+pub says_stand : (base : ℕ) (code : List ℕ) (m : Memory) → HasCode base code m → (xs : List Instr) (a : ℕ)
+    → SaysFrom base code a xs → StandIn (code_of m) a xs
+says_stand base code m h [] a says = tt
+says_stand base code m h (x ∷ xs) a says =
+    (record { word = says.0.0; fetched = word_is base a says.0.0 code m h says.0.1; decodes = says.0.2 }, says_stand base code m h xs (a + 4) says.1)
+
+-- ---- a Jump
+
+pub stays : (s : State) (to : ℕ) → s.pc ≡ to → s.npc ≡ s.pc + 4 → s.slot ≡ NoSlot → to + 4 < 2 ^ 32
+    → hopped s to s.memory ≡ s
+stays s to e f n low =
+    let g : wrapped (to + 4) ≡ s.npc = omega arith in
+    ap (λ z. record s { pc = z; npc = wrapped (to + 4); slot = NoSlot }) (sym e)
+    ∙ ap (λ z. record s { npc = z; slot = NoSlot }) g
+    ∙ ap (λ (z : Slot). record s { slot = z }) (sym n)
+
+always_acts : (s : State) (to : ℕ) (disp22 : ℤ) → s.slot ≡ NoSlot → Reaches s.pc to disp22
+    → act s (i.Branch 8 true disp22) ≡ hopped s to s.memory
+unfolding act branch_step holds_of
+always_acts s to disp22 n e =
+    ap (λ (z : Slot). unless_couple z s (record s {
+      pc = target_of s disp22;
+      npc = wrapped
+          (target_of s disp22 + 4);
+    })) n
+    ∙ ap (λ z. record s { pc = z; npc = wrapped (z + 4) }) e
+    ∙ ap (λ (z : Slot). record s { pc = to; npc = wrapped (to + 4); slot = z }) n
+
+jump_goes : (base : ℕ) (code : List ℕ) (to a b : ℕ) (s : State) → JumpStands base code to a b → CanRun base code s
+    → s.pc ≡ a
+    → b ≤ 2 ^ 31 → a ≤ b → to ≤ 2 ^ 31 → to % 4 ≡ 0 → Goes s to b 0 4
+jump_goes base code to a b s (jump_nothing e f) w is low order low' aligned =
+    record {
+      count = 0;
+      memory = s.memory;
+      some = omega arith;
+      few = omega arith;
+      inside = omega arith;
+      hops = record {
+        path = subst (λ (z : State). Leads (IsBetween s 0 IsFirstWord) s z 0) (sym (stays s to (is
+            ∙ e) w.ready.npc w.slot (omega arith))) (leads_none _ s);
+        silent = silent_none s;
+        stores = stores_none IsFirstWord s.memory;
+      };
+    }
+jump_goes base code to a b s (jump_short disp22 f r say) w is low order low' aligned =
+    let words = says_stand base code s.memory w.code (i.Branch 8 true disp22 ∷ []) a say in
+    let here : Says (code_of s.memory) s.pc (i.Branch 8 true disp22) = says_at (code_of s.memory) s.pc a _
+    (sym is) words.0 in
+    let one : step_of s ≡ hopped s to s.memory =
+    says_step s (i.Branch 8 true disp22) w.ready.live here
+    ∙ always_acts s to disp22 w.slot (subst (λ z. Reaches z to disp22) (sym is) r) in
+    record {
+      count = 1;
+      memory = s.memory;
+      some = omega arith;
+      few = omega arith;
+      inside = omega arith;
+      hops = record {
+        path = leads_one _ s _ one;
+        silent = silent_one s (says_puts s (i.Branch 8 true disp22) (λ cond q x e. cc) here);
+        stores = stores_none IsFirstWord s.memory;
+      };
+    }
+jump_goes base code to a b s (jump_long f say) w is low order low' aligned =
+    let words = says_stand base code s.memory w.code (long_jump to) a say in
+    record {
+      count = 4;
+      memory = store_word s.memory (page_word 0) (register_of s 1);
+      some = omega arith;
+      few = omega arith;
+      inside = omega arith;
+      hops = long_jumps_hop to s w.valid w.ready (omega arith) w.page
+          (subst (λ z. StandIn (code_of s.memory) z (long_jump to)) (sym is) words) (omega arith) aligned;
+    }
+
+-- an item's address is below the end
+item_low : (pieces : List (List Item)) (base : ℕ) (p : Placement) (place : ℕ → ℕ → ℕ) → IsLaid pieces base p place
+    → (k n : ℕ) (x : Item) → item_at pieces k n ≡ Some x → place k (suc n) ≤ 2 ^ 31
+item_low pieces base p place h k n x e =
+    let low = h.low in
+    let w = (h.within k (suc n) (piece_size pieces k n x e) (item_size pieces k n x e)).ends in
+    omega arith
+  where
+    get_below : {A : Type 0} (xs : List A) (n : ℕ) (x : A) → slice_get xs n ≡ Some x → n < length xs
+    get_below [] n x e = absurd (cc)
+    get_below (y ∷ ys) zero x e = omega arith
+    get_below (y ∷ ys) (suc n) x e = let f = get_below ys n x e in omega arith
+
+    piece_size : (pieces : List (List Item)) (k n : ℕ) (x : Item) → item_at pieces k n ≡ Some x → k < length pieces
+    piece_size [] k n x e = absurd (cc)
+    piece_size (p ∷ pieces) zero n x e = omega arith
+    piece_size (p ∷ pieces) (suc k) n x e = let f = piece_size pieces k n x e in omega arith
+
+    item_size : (pieces : List (List Item)) (k n : ℕ) (x : Item) → item_at pieces k n ≡ Some x
+        → suc n ≤ items_in (slice_get pieces k)
+    item_size pieces k n x e = go (slice_get pieces k) e
+      where
+        go : (o : Option (List Item)) → item_in o n ≡ Some x → suc n ≤ items_in o
+        go None e = absurd (cc)
+        go (Some items) e = let f = get_below items n x e in omega arith
+
+pub jumps_hop : JumpsHop
+jumps_hop pieces base p place h k n to e s w is =
+    let stands : JumpStands base p.code (slice_index p.at to.0) (place k n) (place k (suc n)) = h.items k n
+    (it.Jump to) e in
+    let a = h.aligned to.0 in
+    jump_goes base p.code (slice_index p.at to.0) (place k n) (place k (suc n)) s stands w is
+    (item_low pieces base p place h k n (it.Jump to) e)
+    (order base p.code (slice_index p.at to.0) (place k n) (place k (suc n)) stands) a.1 a.0
+  where
+    order : (base : ℕ) (code : List ℕ) (to a b : ℕ) → JumpStands base code to a b → a ≤ b
+    order base code to a b (jump_nothing e f) = omega arith
+    order base code to a b (jump_short d f r s) = omega arith
+    order base code to a b (jump_long f s) = omega arith
+
+pub words_stand : WordsStand
+words_stand pieces base p place h k n word e s w is =
+    let stands : (place k (suc n) ≡ place k n + 4)
+    × IsWordAt base p.code (place k n) word = h.items k n (it.Word word) e in
+    (ap (fetch_from (code_of s.memory)) is ∙ word_is base (place k n) word p.code s.memory w.code stands.1, stands.0)
+
+-- ---- branches
+
+twice : (b : Bool) → b ≡ not (not b)
+twice true = refl
+twice false = refl
+
+opposed : (c : ℕ) (k : Codes) → c < 16 → holds_of (opposite c) k ≡ not (holds_of c k)
+unfolding holds_of
+opposed zero k low = refl
+opposed (suc zero) k low = refl
+opposed (suc (suc zero)) k low = refl
+opposed (suc (suc (suc zero))) k low = refl
+opposed (suc (suc (suc (suc zero)))) k low = refl
+opposed (suc (suc (suc (suc (suc zero))))) k low = refl
+opposed (suc (suc (suc (suc (suc (suc zero)))))) k low = refl
+opposed (suc (suc (suc (suc (suc (suc (suc zero))))))) k low = refl
+opposed (suc (suc (suc (suc (suc (suc (suc (suc zero)))))))) k low = refl
+opposed (suc (suc (suc (suc (suc (suc (suc (suc (suc zero))))))))) k low = twice _
+opposed (suc (suc (suc (suc (suc (suc (suc (suc (suc (suc zero)))))))))) k low = twice _
+opposed (suc (suc (suc (suc (suc (suc (suc (suc (suc (suc (suc zero))))))))))) k low = twice _
+opposed (suc (suc (suc (suc (suc (suc (suc (suc (suc (suc (suc (suc zero)))))))))))) k low = twice _
+opposed (suc (suc (suc (suc (suc (suc (suc (suc (suc (suc (suc (suc (suc zero))))))))))))) k low = twice _
+opposed (suc (suc (suc (suc (suc (suc (suc (suc (suc (suc (suc (suc (suc (suc zero)))))))))))))) k low = twice _
+opposed (suc (suc (suc (suc (suc (suc (suc (suc (suc (suc (suc (suc (suc (suc (suc zero))))))))))))))) k low = twice _
+opposed (suc (suc (suc (suc (suc (suc (suc (suc (suc (suc (suc (suc (suc (suc (suc (suc n)))))))))))))))) k low = absurd
+    (omega arith)
+
+-- a branch that isn't annulled
+pub taken_acts : (s : State) (c : ℕ) (disp22 : ℤ) (always : Bool) → s.slot ≡ NoSlot → holds_of c s.codes ≡ true
+    → (c == 8) ≡ always
+    → act s (i.Branch c false disp22) ≡ record s { pc = s.npc; npc = target_of s disp22; slot = Taken }
+unfolding act branch_step
+taken_acts s c disp22 true n h e =
+    ap (λ (z : Slot). unless_couple z s (branched (holds_of c s.codes) (c == 8) false s (target_of s disp22))) n
+    ∙ ap (λ z. branched z (c == 8) false s (target_of s disp22)) h
+    ∙ ap (λ z. branched true z false s (target_of s disp22)) e
+taken_acts s c disp22 false n h e =
+    ap (λ (z : Slot). unless_couple z s (branched (holds_of c s.codes) (c == 8) false s (target_of s disp22))) n
+    ∙ ap (λ z. branched z (c == 8) false s (target_of s disp22)) h
+    ∙ ap (λ z. branched true z false s (target_of s disp22)) e
+
+pub untaken_acts : (s : State) (c : ℕ) (disp22 : ℤ) → s.slot ≡ NoSlot → holds_of c s.codes ≡ false
+    → act s (i.Branch c false disp22) ≡ record s { pc = s.npc; npc = wrapped (s.npc + 4); slot = Untaken }
+unfolding act branch_step
+untaken_acts s c disp22 n h =
+    ap (λ (z : Slot). unless_couple z s (branched (holds_of c s.codes) (c == 8) false s (target_of s disp22))) n
+    ∙ ap (λ z. branched z (c == 8) false s (target_of s disp22)) h
+
+-- a nop in the slot
+nop_acts : (s : State) (pc npc : ℕ) (slot : Slot) → act
+    (record s { pc = pc; npc = npc; slot = slot }) nop ≡ hopped s npc s.memory
+unfolding act
+nop_acts s pc npc slot = refl
+
+module _ (s : State) (ready : IsReady s) (none : s.slot ≡ NoSlot) (low : s.pc < 2 ^ 32 - 64) where
+  in_slot : (c : ℕ) (disp22 : ℤ) (to : ℕ) (slot : Slot)
+      → StandIn (code_of s.memory) s.pc (i.Branch c false disp22 ∷ nop ∷ [])
+      → step_of s ≡ record s { pc = s.npc; npc = to; slot = slot } → Hops s 2 IsFirstWord to s.memory
+  in_slot c disp22 to slot stand one =
+      let s1 = record s { pc = s.npc; npc = to; slot = slot } in
+      let npc = ready.npc in
+      let here : Says (code_of s.memory) s.npc nop = says_at (code_of s.memory) s.npc (s.pc + 4) nop
+      (sym ready.npc) stand.1.0 in
+      let two : step_of (record s { pc = s.npc; npc = to; slot = slot }) ≡ hopped s to s.memory = says_step s1 nop ready.live here ∙ nop_acts s s.npc to slot in
+      record {
+        path = leads_then _ s s1 (hopped s to s.memory) 1 1 (leads_one _ s s1 one) (leads_one _ s1 _ two)
+            (λ _ _. record { past = omega arith; before = omega arith; stores = stores_none IsFirstWord s.memory });
+        silent = silent_then s s1 1 1 one (silent_one s
+            (says_puts s (i.Branch c false disp22) (λ cond q x e. cc) stand.0)) (silent_one s1
+            (says_puts s1 nop (λ cond q x e. cc) here));
+        stores = stores_none IsFirstWord s.memory;
+      }
+
+  -- the branch and its nop lead to the branch's target, or past the nop
+  two_words : (c : ℕ) (disp22 : ℤ) (to : ℕ) (flag : Bool) → Reaches s.pc to disp22
+      → StandIn (code_of s.memory) s.pc (i.Branch c false disp22 ∷ nop ∷ [])
+      → holds_of c s.codes ≡ flag → Hops s 2 IsFirstWord (if flag then to else s.pc + 8) s.memory
+  two_words c disp22 to true r stand e =
+      in_slot c disp22 to Taken stand (says_step s (i.Branch c false disp22) ready.live stand.0
+      ∙ taken_acts s c disp22 (c == 8) none e refl
+      ∙ ap (λ z. record s { pc = s.npc; npc = z; slot = Taken }) r)
+  two_words c disp22 to false r stand e =
+      let npc = ready.npc in
+      let there : wrapped (s.npc + 4) ≡ s.pc + 8 = omega arith in
+      in_slot c disp22 (s.pc + 8) Untaken stand (says_step s (i.Branch c false disp22) ready.live stand.0
+      ∙ untaken_acts s c disp22 none e
+      ∙ ap (λ z. record s { pc = s.npc; npc = z; slot = Untaken }) there)
+
+-- where a branch in its long form goes
+past_jump : (base : ℕ) (code : List ℕ) (to a b : ℕ) (s : State) (flag : Bool) → CanRun base code s → s.pc ≡ a
+    → b ≤ 2 ^ 31 → to ≤ 2 ^ 31 → to % 4 ≡ 0 → b ≡ a + 24
+    → SaysFrom base code (a + 8) (long_jump to) → Hops s 2 IsFirstWord (if not flag then a + 24 else s.pc + 8) s.memory
+    → Goes s (if flag then to else b) b 2 6
+past_jump base code to a b s false w is low low' aligned e say h =
+    record {
+      count = 2;
+      memory = s.memory;
+      some = omega arith;
+      few = omega arith;
+      inside = omega arith;
+      hops = subst
+          (λ z. Hops s 2 IsFirstWord z s.memory) (sym e) h;
+    }
+past_jump base code to a b s true w is low low' aligned e say h =
+    let s2 = hopped s (s.pc + 8) s.memory in
+    let words = says_stand base code s.memory w.code (long_jump to) (a + 8) say in
+    let low2 : wrapped (s.pc + 8 + 4) ≡ s.pc + 8 + 4 = omega arith in
+    let valid2 : IsValid (hopped s (s.pc + 8) s.memory) = subst IsValid h.path.steps (run-valid s 2 w.valid) in
+    let jump : Hops (hopped s (s.pc + 8) s.memory) 4 IsFirstWord to
+    (store_word s.memory (page_word 0) (register_of s 1)) =
+    long_jumps_hop to s2 valid2 (record { live = w.ready.live; npc = low2 }) (omega arith) w.page
+    (subst (λ z. StandIn (code_of s.memory) z (long_jump to)) (let f : a + 8 ≡ s.pc + 8 = omega arith in f) words)
+    (omega arith) aligned in
+    record {
+      count = 2 + 4;
+      memory = store_word s.memory (page_word 0) (register_of s 1);
+      some = omega arith;
+      few = omega arith;
+      inside = omega arith;
+      hops = record {
+        path = leads_then (IsBetween s 6 IsFirstWord) s s2 _ 2 4
+            (leads_weaker (IsBetween s 2 IsFirstWord) (IsBetween s 6 IsFirstWord) s s2 2
+            (λ u k. let x = k.past in let y = k.before in record { past = omega arith; before = omega arith; stores = k.stores }) h.path)
+            (leads_weaker (IsBetween s2 4 IsFirstWord) (IsBetween s 6 IsFirstWord) s2 _ 4
+            (λ u k. let x = k.past in let y = k.before in record { past = omega arith; before = omega arith; stores = k.stores }) jump.path)
+            (λ _ _. record { past = omega arith; before = omega arith; stores = stores_none IsFirstWord s.memory });
+        silent = silent_then s s2 2 4 h.path.steps h.silent jump.silent;
+        stores = jump.stores;
+      };
+    }
+
+branch_goes : (base : ℕ) (code : List ℕ) (c to a b : ℕ) (s : State) → BranchStands base code c to a b
+    → CanRun base code s → s.pc ≡ a → c < 16
+    → b ≤ 2 ^ 31 → to ≤ 2 ^ 31 → to % 4 ≡ 0 → Goes s (if holds_of c s.codes then to else b) b 2 6
+branch_goes base code c to a b s (branch_short disp22 f r say) w is small low low' aligned =
+    let words = says_stand base code s.memory w.code (i.Branch c false disp22 ∷ nop ∷ []) a say in
+    let h = two_words s w.ready w.slot (omega arith) c disp22 to (holds_of c s.codes)
+    (subst (λ z. Reaches z to disp22) (sym is) r)
+    (subst (λ z. StandIn (code_of s.memory) z (i.Branch c false disp22 ∷ nop ∷ [])) (sym is) words) refl in
+    record {
+      count = 2;
+      memory = s.memory;
+      some = omega arith;
+      few = omega arith;
+      inside = omega arith;
+      hops = subst (λ z. Hops s 2 IsFirstWord (if holds_of c s.codes then to else z) s.memory)
+          (let g : s.pc + 8 ≡ b = omega arith in g) h;
+    }
+branch_goes base code c to a b s (branch_long f say say') w is small low low' aligned =
+    let words = says_stand base code s.memory w.code (i.Branch (opposite c) false (pos 6) ∷ nop ∷ []) a say in
+    let reach : Reaches s.pc (a + 24) (pos 6) = omega arith in
+    past_jump base code to a b s (holds_of c s.codes) w is low low' aligned f say'
+    (two_words s w.ready w.slot (omega arith) (opposite c) (pos 6) (a + 24) (not (holds_of c s.codes)) reach
+    (subst (λ z. StandIn (code_of s.memory) z (i.Branch (opposite c) false (pos 6) ∷ nop ∷ [])) (sym is) words)
+    (opposed c s.codes small))
+
+pub branches_hop : BranchesHop
+branches_hop pieces base p place h k n cond to e small s w is =
+    let stands : BranchStands base p.code cond (slice_index p.at to.0) (place k n) (place k (suc n)) = h.items k n
+    (it.Branch cond to) e in
+    let a = h.aligned to.0 in
+    branch_goes base p.code cond (slice_index p.at to.0) (place k n) (place k (suc n)) s stands w is small
+    (item_low pieces base p place h k n (it.Branch cond to) e) a.1 a.0

@@ -1,0 +1,281 @@
+-- Each entry's words stand in the code, and say what it is.
+use Rattle.std.proofs.Common.{◌≡◌, ℕ, zero, suc, ◌+◌, ◌-◌, ◌*◌, ◌/◌, ◌%◌, ◌^◌, ◌<◌, ◌≤◌, ◌⊎◌, inl, inr, Bool, true, false, ◌&&◌, ◌||◌, leb, ltb, List, [], ◌∷◌, ◌++◌, length, map, slice_get, Option, Some, None, refl, ap, sym, ◌∙◌, subst, arith, length-append}
+use Rattle.std.proofs.lemmas.Int.{ints}
+use Rattle.std.specs.Prelude.{pos, negsuc, ℤ, ◌-ℤ◌, nat_lt, if◌then◌else◌, slice_index}
+use Rattle.std.specs.Int.{w32, cast_unsigned}
+use Rattle.std.proofs.lemmas.Bool.Decides.{nat_tests}
+use Rattle.std.proofs.lemmas.Bool.{cases_lt, cases_Bool}
+use Rattle.eel_base.specs.declared.numbers.PieceNo.{PieceNo}
+use Rattle.v8_decode.specs.declared.Op2.TheVariants.{Imm}
+use Rattle.v8_decode.specs.declared.Instr.{Instr}
+use Rattle.v8_decode.specs.declared.Instr.TheVariants as i
+use Rattle.v8_decode.specs.declared.LoadKind.TheVariants as loads
+use Rattle.v8_decode.specs.declared.StoreKind.TheVariants as stores
+use Rattle.v8_decode.specs.Ranges.{is_in_range}
+use Rattle.v8_decode.specs.Words.{decode_of}
+use Rattle.v8_encode.specs.Encoding.{has_word, word_of, fits_signed}
+use Rattle.v8_encode.proofs.Decoded.{decode_of-word_of}
+use Rattle.code_runs.specs.LongJump.{long_jump}
+use Rattle.code_runs.specs.Page.{of_page}
+use Rattle.layout.specs.declared.items.Item.{Item}
+use Rattle.layout.specs.declared.items.Item.TheVariants as it
+use Rattle.layout.specs.declared.entries.Entry.{Entry}
+use Rattle.layout.specs.declared.entries.Entry.TheVariants as en
+use Rattle.layout.specs.Laid.{Placement, SaysFrom, JumpStands, jump_nothing, jump_short, jump_long, BranchStands, branch_short, branch_long, Stands, Reaches, nop, opposite}
+use Rattle.layout.specs.Forms.{Forms, far, leads_next, offset, width}
+use Rattle.layout.specs.Emitting.{between, branch_code, code_at, code_to, entry_code, has_condition, jump_code, or_zero, target_offset, words_of}
+use Rattle.layout.proofs.Emitted.{code_more}
+use Rattle.layout.proofs.Widening.{far_if, offset_more}
+
+differ : false ≡ true → ⊥
+differ e = cc
+
+near_means : (f t : ℕ) → far f t ≡ false → (t < f + 2 ^ 21) × (f ≤ t + 2 ^ 21)
+near_means f t h = (up (cases_lt t (f + 2 ^ 21)), down (cases_lt (t + 2 ^ 21) f))
+  where
+    up : (t < f + 2 ^ 21) ⊎ (f + 2 ^ 21 ≤ t) → t < f + 2 ^ 21
+    up (inl l) = l
+    up (inr l) = absurd (differ (sym h ∙ far_if f t (inl l)))
+
+    down : (t + 2 ^ 21 < f) ⊎ (f ≤ t + 2 ^ 21) → f ≤ t + 2 ^ 21
+    down (inl l) = absurd (differ (sym h ∙ far_if f t (inr l)))
+    down (inr l) = l
+
+up_is : (f t : ℕ) → f ≤ t → between f t ≡ pos (t - f)
+up_is f t l = omega (arith, ints)
+
+down_is : (f t : ℕ) → t < f → between f t ≡ negsuc (f - t - 1)
+down_is f t l = omega (arith, ints)
+
+fits : (f t : ℕ) → far f t ≡ false → fits_signed 22 (between f t) ≡ true
+fits f t h = go (cases_lt t f)
+  where
+    go : (t < f) ⊎ (f ≤ t) → fits_signed 22 (between f t) ≡ true
+    go (inl l) =
+        let n = (near_means f t h).1 in
+        let w : f - t - 1 < 2 ^ 21 = omega (arith, n, l) in
+        ap (fits_signed 22) (down_is f t l) ∙ below (f - t - 1) w
+      where
+        below : (n : ℕ) → n < 2 ^ 21 → nat_lt n (2 ^ (22 - 1)) ≡ true
+        below n w = grind (arith, nat_tests)
+    go (inr l) =
+        let n = (near_means f t h).0 in
+        let w : t - f < 2 ^ 21 = omega (arith, n, l) in
+        ap (fits_signed 22) (up_is f t l) ∙ below (t - f) w
+      where
+        below : (n : ℕ) → n < 2 ^ 21 → nat_lt n (2 ^ (22 - 1)) ≡ true
+        below n w = grind (arith, nat_tests)
+
+pub reaches : (base f t : ℕ) → base + 4 * f ≤ 2 ^ 31 → base + 4 * t ≤ 2 ^ 31 → Reaches (base + 4 * f) (base + 4 * t) (between f t)
+reaches base f t a b = go (cases_lt t f)
+  where
+    go : (t < f) ⊎ (f ≤ t) → Reaches (base + 4 * f) (base + 4 * t) (between f t)
+    go (inl l) = subst (Reaches (base + 4 * f) (base + 4 * t)) (sym (down_is f t l)) (omega arith)
+    go (inr l) = subst (Reaches (base + 4 * f) (base + 4 * t)) (sym (up_is f t l)) (omega arith)
+
+-- ---- words in code
+
+-- these words stand in the code from word n on
+abbrev pub Has : List ℕ → ℕ → List ℕ → Type 0
+Has code n ws = (j w : ℕ) → slice_get ws j ≡ Some w → slice_get code (n + j) ≡ Some w
+
+get_first : (xs ys : List ℕ) (j w : ℕ) → slice_get xs j ≡ Some w → slice_get (xs ++ ys) j ≡ Some w
+get_first [] ys j w e = absurd (cc)
+get_first (x ∷ xs) ys zero w e = e
+get_first (x ∷ xs) ys (suc j) w e = get_first xs ys j w e
+
+get_rest : (xs ys : List ℕ) (j : ℕ) → slice_get (xs ++ ys) (length xs + j) ≡ slice_get ys j
+get_rest [] ys j = ap (slice_get ys) (let e : 0 + j ≡ j = omega arith in e)
+get_rest (x ∷ xs) ys j =
+    ap (slice_get (x ∷ (xs ++ ys))) (let e : suc (length xs) + j ≡ suc (length xs + j) = omega arith in e)
+    ∙ get_rest xs ys j
+
+has_first : (code xs ys : List ℕ) (n : ℕ) → Has code n (xs ++ ys) → Has code n xs
+has_first code xs ys n h j w e = h j w (get_first xs ys j w e)
+
+has_rest : (code xs ys : List ℕ) (n m : ℕ) → m ≡ n + length xs → Has code n (xs ++ ys) → Has code m ys
+has_rest code xs ys n m f h j w e =
+    ap (slice_get code) (let g : m + j ≡ n + (length xs + j) = omega arith in g)
+    ∙ h (length xs + j) w (get_rest xs ys j ∙ e)
+
+-- ---- instructions
+
+abbrev AllDecode : List Instr → Type 0
+AllDecode [] = Unit {0}
+AllDecode (x ∷ xs) = (decode_of (word_of x) ≡ x) × AllDecode xs
+
+says_words : (base : ℕ) (code : List ℕ) (xs : List Instr) (n a : ℕ) → a ≡ base + 4 * n → AllDecode xs
+    → Has code n (words_of xs)
+    → SaysFrom base code a xs
+says_words base code [] n a e d h = tt
+says_words base code (x ∷ xs) n a e d h = (
+  (word_of x, (n, e, ap (slice_get code) (let g : n ≡ n + 0 = omega arith in g) ∙ h 0 (word_of x) refl), d.0),
+  says_words base code xs (n + 1) (a + 4) (omega arith) d.1
+      (λ j w f. ap (slice_get code) (let g : n + 1 + j ≡ n + suc j = omega arith in g) ∙ h (suc j) w f),
+)
+
+decodes : (x : Instr) → is_in_range x ≡ true → has_word x ≡ true → decode_of (word_of x) ≡ x
+decodes x r w = decode_of-word_of x r w
+
+long_jump_decodes : (to : ℕ) → to < 2 ^ 32 → AllDecode (long_jump to)
+long_jump_decodes to low = (
+  decodes (i.Store stores.ST 1 0 (of_page 0)) refl refl,
+  (
+    decodes (i.Sethi 1 (to / 1024)) refl (high (to / 1024) (omega arith)),
+    (
+      decodes (i.Jmpl 0 1 (Imm (pos (to % 1024)))) refl (rest (to % 1024) (omega arith)),
+      (decodes (i.Load loads.LD 1 0 (of_page 0)) refl refl, tt),
+    ),
+  ),
+)
+  where
+    high : (n : ℕ) → n < 2 ^ 22 → nat_lt n (2 ^ 22) ≡ true
+    high n h = grind (arith, nat_tests)
+
+    rest : (n : ℕ) → n < 1024 → nat_lt n (2 ^ (13 - 1)) ≡ true
+    rest n h = grind (arith, nat_tests)
+
+opposite_low : (cond : ℕ) → nat_lt cond 16 ≡ true → nat_lt (opposite cond) 16 ≡ true
+opposite_low cond h = go (nat_lt cond 8) refl
+  where
+    go : (b : Bool) → nat_lt cond 8 ≡ b → nat_lt (if b then cond + 8 else cond - 8) 16 ≡ true
+    go true e = grind (arith, nat_tests)
+    go false e = grind (arith, nat_tests)
+
+branch_decodes : (cond : ℕ) (annul : Bool) (disp : ℤ) → nat_lt cond 16 ≡ true → fits_signed 22 disp ≡ true
+    → decode_of (word_of (i.Branch cond annul disp)) ≡ i.Branch cond annul disp
+branch_decodes cond annul disp h f = decodes (i.Branch cond annul disp) h f
+
+-- ---- how many words an entry has
+
+jump_length : (long : Bool) (base from to : ℕ) → length (words_of (jump_code long base from to)) ≡ (if long then 4 else 1)
+jump_length true base from to = refl
+jump_length false base from to = refl
+
+branch_length : (long : Bool) (base c from to : ℕ) → length (words_of (branch_code long base c from to)) ≡ (if long then 6 else 2)
+branch_length true base c from to = refl
+branch_length false base c from to = refl
+
+unless_next : (b long : Bool) (base from to : ℕ)
+    → length (if b then [] else words_of (jump_code long base from to)) ≡ (if b then 0 else (if long then 4 else 1))
+unless_next true long base from to = refl
+unless_next false long base from to = jump_length long base from to
+
+entry_length : (base : ℕ) (long : Bool) (from to : ℕ) (x next : Option Entry) → length (entry_code base long from to x next) ≡ width long x next
+entry_length base long from to None next = refl
+entry_length base long from to (Some (en.Start k)) next = refl
+entry_length base long from to (Some (en.Item (it.Word word))) next = refl
+entry_length base long from to (Some (en.Item (it.Jump k))) next = unless_next (leads_next k next) long base from to
+entry_length base long from to (Some (en.Item (it.Branch c k))) next = branch_length long base c from to
+entry_length base long from to (Some (en.Item (it.Mark a n))) next = refl
+entry_length base long from to (Some (en.Item it.EndMark)) next = refl
+
+offset_none : (entries : List Entry) (long : Forms) → offset entries long 0 ≡ 0
+unfolding offset
+offset_none entries long = refl
+
+code_none : (base : ℕ) (entries : List Entry) (long : Forms) → code_to base entries long 0 ≡ []
+unfolding code_to
+code_none base entries long = refl
+
+pub code_length : (base : ℕ) (entries : List Entry) (long : Forms) (n : ℕ) → length (code_to base entries long n) ≡ offset entries long n
+code_length base entries long zero = ap length (code_none base entries long) ∙ sym (offset_none entries long)
+code_length base entries long (suc n) =
+    let h = code_length base entries long n in
+    let a = ap length (code_more base entries long n) in
+    let b = length-append (code_to base entries long n) (code_at base entries long n) in
+    let c = entry_length base (long n) (offset entries long n) (or_zero (target_offset entries long n)) (slice_get entries n) (slice_get entries (suc n)) in
+    let d = offset_more entries long n in
+    omega (arith, h, a, b, c, d)
+
+has_more : (code xs ys : List ℕ) (n : ℕ) (ws : List ℕ) → code ≡ xs ++ ys → Has xs n ws → Has code n ws
+has_more code xs ys n ws e h j w f = ap (λ (zs : List ℕ). slice_get zs (n + j)) e ∙ get_first xs ys (n + j) w (h j w f)
+
+-- the words of an entry stand in the code
+pub has_code : (base : ℕ) (entries : List Entry) (long : Forms) (m n : ℕ) → n < m
+    → Has (code_to base entries long m) (offset entries long n) (code_at base entries long n)
+has_code base entries long zero n l = absurd (omega arith)
+has_code base entries long (suc m) n l = go (cases_lt n m) (has_code base entries long m n)
+  where
+    go : (n < m) ⊎ (m ≤ n) → (n < m → Has (code_to base entries long m) (offset entries long n) (code_at base entries long n))
+        → Has (code_to base entries long (suc m)) (offset entries long n) (code_at base entries long n)
+    go (inl u) more =
+        has_more (code_to base entries long (suc m)) (code_to base entries long m) (code_at base entries long m)
+        (offset entries long n) (code_at base entries long n) (code_more base entries long m) (more u)
+    go (inr u) more =
+        let s : m ≡ n = omega arith in
+        subst (λ (n : ℕ). Has (code_to base entries long (suc m)) (offset entries long n) (code_at base entries long n)) s last
+      where
+        last : Has (code_to base entries long (suc m)) (offset entries long m) (code_at base entries long m)
+        last j w f =
+            ap (λ (zs : List ℕ). slice_get zs (offset entries long m + j)) (code_more base entries long m)
+            ∙ ap (λ (z : ℕ). slice_get (code_to base entries long m ++ code_at base entries long m) (z + j)) (sym (code_length base entries long m))
+            ∙ get_rest (code_to base entries long m) (code_at base entries long m) j ∙ f
+
+-- ---- what an item says
+
+module _ (base : ℕ) (p : Placement) where
+  jump_says : (long skip : Bool) (f t a b k : ℕ) → a ≡ base + 4 * f → k ≡ base + 4 * t → base + 4 * f ≤ 2 ^ 31 → base + 4 * t ≤ 2 ^ 31
+      → (skip ≡ true → f ≡ t) → (long ≡ false → far f t ≡ false)
+      → b ≡ a + 4 * (if skip then 0 else (if long then 4 else 1))
+      → Has p.code f (if skip then [] else words_of (jump_code long base f t)) → JumpStands base p.code k a b
+  jump_says long true f t a b k ea ek la lt here near eb h =
+      let s : f ≡ t = here refl in jump_nothing (omega (arith, ea, ek, s)) (omega (arith, eb))
+  jump_says true false f t a b k ea ek la lt here near eb h =
+      jump_long (omega (arith, eb)) (subst (λ (z : ℕ). SaysFrom base p.code a (long_jump z)) (sym ek)
+      (says_words base p.code (long_jump (base + 4 * t)) f a ea (long_jump_decodes (base + 4 * t) (omega (arith, lt))) h))
+  jump_says false false f t a b k ea ek la lt here near eb h =
+      jump_short (between f t) (omega (arith, eb))
+      (subst (λ (z : ℕ). Reaches a z (between f t)) (sym ek)
+      (subst (λ (z : ℕ). Reaches z (base + 4 * t) (between f t)) (sym ea) (reaches base f t la lt)))
+      (says_words base p.code (i.Branch 8 true (between f t) ∷ []) f a ea
+      (branch_decodes 8 true (between f t) refl (fits f t (near refl)), tt) h)
+
+  branch_says : (long : Bool) (c f t a b k : ℕ) → nat_lt c 16 ≡ true → a ≡ base + 4 * f → k ≡ base + 4 * t → base + 4 * f ≤ 2 ^ 31
+      → base + 4 * t ≤ 2 ^ 31 → (long ≡ false → far f t ≡ false) → b ≡ a + 4 * (if long then 6 else 2)
+      → Has p.code f (words_of (branch_code long base c f t)) → BranchStands base p.code c k a b
+  branch_says true c f t a b k range ea ek la lt near eb h =
+      let first = i.Branch (opposite c) false (pos 6) ∷ nop ∷ [] in
+      branch_long (omega (arith, eb))
+      (says_words base p.code first f a ea (branch_decodes (opposite c) false (pos 6) (opposite_low c range) refl, (decodes nop refl refl, tt))
+      (has_first p.code (words_of first) (words_of (long_jump (base + 4 * t))) f h))
+      (subst (λ (z : ℕ). SaysFrom base p.code (a + 8) (long_jump z)) (sym ek)
+      (says_words base p.code (long_jump (base + 4 * t)) (f + 2) (a + 8) (omega (arith, ea))
+      (long_jump_decodes (base + 4 * t) (omega (arith, lt)))
+      (has_rest p.code (words_of first) (words_of (long_jump (base + 4 * t))) f (f + 2) refl h)))
+  branch_says false c f t a b k range ea ek la lt near eb h =
+      branch_short (between f t) (omega (arith, eb))
+      (subst (λ (z : ℕ). Reaches a z (between f t)) (sym ek)
+      (subst (λ (z : ℕ). Reaches z (base + 4 * t) (between f t)) (sym ea) (reaches base f t la lt)))
+      (says_words base p.code (i.Branch c false (between f t) ∷ nop ∷ []) f a ea
+      (branch_decodes c false (between f t) range (fits f t (near refl)), (decodes nop refl refl, tt)) h)
+
+  -- the piece to which an item leads starts at word t
+  abbrev pub GoesTo : Item → ℕ → Type 0
+  GoesTo (it.Jump k) t = slice_index p.at k.0 ≡ base + 4 * t
+  GoesTo (it.Branch c k) t = slice_index p.at k.0 ≡ base + 4 * t
+  GoesTo _ t = Unit {0}
+
+  abbrev pub IsNextAt : Item → Option Entry → ℕ → ℕ → Type 0
+  IsNextAt (it.Jump k) next f t = leads_next k next ≡ true → f ≡ t
+  IsNextAt _ next f t = Unit {0}
+
+  abbrev pub IsNearTo : Item → Bool → ℕ → ℕ → Type 0
+  IsNearTo (it.Jump k) long f t = long ≡ false → far f t ≡ false
+  IsNearTo (it.Branch c k) long f t = long ≡ false → far f t ≡ false
+  IsNearTo _ long f t = Unit {0}
+
+  pub item_stands : (x : Item) (next : Option Entry) (long : Bool) (f t a b : ℕ) → a ≡ base + 4 * f
+      → b ≡ a + 4 * width long (Some (en.Item x)) next → base + 4 * f ≤ 2 ^ 31 → base + 4 * t ≤ 2 ^ 31
+      → has_condition (Some (en.Item x)) ≡ true → GoesTo x t → IsNextAt x next f t → IsNearTo x long f t
+      → Has p.code f (entry_code base long f t (Some (en.Item x)) next) → Stands base p x a b
+  item_stands (it.Word word) next long f t a b ea eb la lt c goes here near h = (
+    omega (arith, eb),
+    (f, ea, ap (slice_get p.code) (let g : f ≡ f + 0 = omega arith in g) ∙ h 0 word refl),
+  )
+  item_stands (it.Jump k) next long f t a b ea eb la lt c goes here near h =
+      jump_says long (leads_next k next) f t a b (slice_index p.at k.0) ea goes la lt here near eb h
+  item_stands (it.Branch cond k) next long f t a b ea eb la lt c goes here near h =
+      branch_says long cond f t a b (slice_index p.at k.0) c ea goes la lt near eb h
+  item_stands (it.Mark address node) next long f t a b ea eb la lt c goes here near h = omega (arith, eb)
+  item_stands it.EndMark next long f t a b ea eb la lt c goes here near h = omega (arith, eb)
