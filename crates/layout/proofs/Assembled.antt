@@ -1,5 +1,5 @@
 -- What was made is a layout.
-use Rattle.std.proofs.Common.{◌≡◌, ℕ, zero, suc, ◌+◌, ◌-◌, ◌*◌, ◌%◌, ◌^◌, ◌<◌, ◌≤◌, ◌⊎◌, inl, inr, Bool, true, false, List, [], ◌∷◌, ◌++◌, length, map, get_or, slice_get, slice_index, Option, Some, None, eqb, refl, ap, sym, ◌∙◌, subst, append_assoc, arith}
+use Rattle.std.proofs.Common.{◌≡◌, ℕ, zero, suc, ◌+◌, ◌-◌, ◌*◌, ◌%◌, ◌^◌, ◌<◌, ◌≤◌, ◌⊎◌, inl, inr, Bool, true, false, List, [], ◌∷◌, ◌++◌, length, map, slice_get, slice_index, Option, Some, None, refl, ap, sym, ◌∙◌, subst, append_assoc, arith}
 use Rattle.std.specs.Prelude.{if◌then◌else◌}
 use Rattle.std.specs.Option.{option_map}
 use Rattle.std.proofs.lemmas.Bool.{cases_lt, eqb-true}
@@ -12,18 +12,18 @@ use Rattle.layout.specs.declared.items.Item.TheVariants as it
 use Rattle.layout.specs.declared.items.Placed.{Placed}
 use Rattle.layout.specs.declared.entries.Entry.{Entry}
 use Rattle.layout.specs.declared.entries.Entry.TheVariants as en
-use Rattle.layout.specs.Laid.{Placement, placement_of, note_range, item_at, item_in, items_in, size_of, range_in, range_of, open_in, open_from, is_jump, AllLead, LeadsBelow, AllMarked, AreMarked, IsMarked, Ascend, IsLaid, IsPlaceIn, IsRangeOf, Stands, Lays}
+use Rattle.layout.specs.Laid.{Placement, placement_of, note_range, item_at, size_of, range_in, range_of, open_in, is_jump, AllLead, LeadsBelow, AllMarked, AreMarked, Ascend, IsLaid, IsPlaceIn, Stands, Lays}
 use Rattle.layout.specs.Order.{compact_order, exit_at, jump_to}
 use Rattle.layout.specs.Laying.{IsWhole}
-use Rattle.layout.specs.Forms.{Forms, entries_in, entries_from, entries_of, far, far_from, goal_of, is_far, leads_next, offset, start_of, target, width, IsWidened}
+use Rattle.layout.specs.Forms.{Forms, entries_in, entries_from, entries_of, far, leads_next, offset, start_of, target, width}
 use Rattle.layout.specs.Compact.{IsCompact}
-use Rattle.layout.specs.Emitting.{address_of, addresses, code_at, code_to, entry_code, far_of, has_condition, or_zero, target_offset, ranges_from, IsEmitted, IsListing, IsMade}
+use Rattle.layout.specs.Emitting.{address_of, addresses, entry_code, far_of, has_condition, or_zero, target_offset, ranges_from, IsMade}
 use Rattle.layout.proofs.Laying.{exits_lead, follows, item_is, whole_is}
-use Rattle.layout.proofs.Listed.{items_at, from_append, IsSplit, split_at, start_at, before_absent}
+use Rattle.layout.proofs.Listed.{items_at, from_append, split_at, start_at, before_absent}
 use Rattle.layout.proofs.Widening.{offset_more, rises}
 use Rattle.layout.proofs.Emitted.{near_enough}
 use Rattle.layout.proofs.Standing.{code_length, has_code, item_stands, GoesTo, IsNextAt, IsNearTo}
-use Rattle.layout.proofs.Ranging.{seen, AreStill, Rises, piece_ranges, seen_both, count_more, order_ascends, order_finds, AllOf, all_then, one_of, piece_made}
+use Rattle.layout.proofs.Ranging.{seen, AreStill, piece_ranges, seen_both, count_more, order_ascends, order_finds, AllOf, all_then, one_of, piece_made}
 
 differ : false ≡ true → ⊥
 differ e = cc
@@ -50,17 +50,17 @@ get_within [] n l = absurd (omega arith)
 get_within (x ∷ items) zero l = (x, refl)
 get_within (x ∷ items) (suc n) l = get_within items n (omega arith)
 
-get_low : (xs : List Item) (n : ℕ) (x : Item) → slice_get xs n ≡ Some x → n < length xs
+pub get_low : (xs : List Item) (n : ℕ) (x : Item) → slice_get xs n ≡ Some x → n < length xs
 get_low [] n x e = absurd (cc)
 get_low (y ∷ ys) zero x e = omega arith
 get_low (y ∷ ys) (suc n) x e = let f = get_low ys n x e in omega arith
 
-size_is : (pieces : List (List Item)) (k : ℕ) → size_of pieces k ≡ length (items_at pieces k)
+pub size_is : (pieces : List (List Item)) (k : ℕ) → size_of pieces k ≡ length (items_at pieces k)
 size_is [] k = refl
 size_is (items ∷ pieces) zero = refl
 size_is (items ∷ pieces) (suc k) = size_is pieces k
 
-piece_at : (pieces : List (List Item)) (k n : ℕ) (x : Item) → item_at pieces k n ≡ Some x
+pub piece_at : (pieces : List (List Item)) (k n : ℕ) (x : Item) → item_at pieces k n ≡ Some x
     → (k < length pieces) × (slice_get pieces k ≡ Some (items_at pieces k))
 piece_at [] k n x e = absurd (cc)
 piece_at (items ∷ pieces) zero n x e = (omega arith, refl)
@@ -121,13 +121,13 @@ module _ (pieces : List (List Item)) (leads : AllLead pieces) where
       ∙ ap (λ (xs : List Entry). slice_get xs (length (entries_from pieces s.before) + suc n)) s.entries
       ∙ get_rest (entries_from pieces s.before) _ (suc n)
 
-  entry_is : (k n : ℕ) (x : Item) → item_at pieces k n ≡ Some x
+  pub entry_is : (k n : ℕ) (x : Item) → item_at pieces k n ≡ Some x
       → slice_get (entries_of pieces) (start_of (entries_of pieces) k + 1 + n) ≡ Some (en.Item x)
   entry_is k n x e =
       let s = piece_is_at k (piece_at pieces k n x e).0 in
       entry_behind k s n ∙ get_item (items_at pieces k) (entries_from pieces s.after) n x (sym (item_is pieces k n) ∙ e)
 
-  start_entry : (k : ℕ) → k < length pieces → slice_get (entries_of pieces) (start_of (entries_of pieces) k) ≡ Some (en.Start (record { 0 = k }))
+  pub start_entry : (k : ℕ) → k < length pieces → slice_get (entries_of pieces) (start_of (entries_of pieces) k) ≡ Some (en.Start (record { 0 = k }))
   start_entry k l =
       let s = piece_is_at k l in
       let e : start_of (entries_of pieces) k ≡ length (entries_from pieces s.before) + 0 = omega (arith, s.start) in
@@ -135,7 +135,7 @@ module _ (pieces : List (List Item)) (leads : AllLead pieces) where
       ∙ ap (λ (xs : List Entry). slice_get xs (length (entries_from pieces s.before) + 0)) s.entries
       ∙ get_rest (entries_from pieces s.before) _ 0
 
-  piece_inside : (k : ℕ) → k < length pieces
+  pub piece_inside : (k : ℕ) → k < length pieces
       → start_of (entries_of pieces) k + 1 + length (items_at pieces k) ≤ length (entries_of pieces)
   piece_inside k l =
       let s = piece_is_at k l in
@@ -475,15 +475,17 @@ module _ (pieces : List (List Item)) (leads : AllLead pieces) (marked : AllMarke
     where
       on : (k i j : ℕ) (x : Item) → item_at pieces k (i + suc j) ≡ Some x → item_at pieces k (suc i + j) ≡ Some x
       on k i j x e = ap (item_at pieces k) (let f : suc i + j ≡ i + suc j = omega arith in f) ∙ e
-  still_from k (it.Mark a m ∷ xs) i are =
-      (mark_still k i (it.Mark a m) (ap (item_at pieces k) (let f : i ≡ i + 0 = omega arith in f) ∙ are 0 (it.Mark a m) refl) (λ long next. refl),
-      still_from k xs (suc i) (λ j x e. on k i j x (are (suc j) x e)))
+  still_from k (it.Mark a m ∷ xs) i are = (
+    mark_still k i (it.Mark a m) (ap (item_at pieces k) (let f : i ≡ i + 0 = omega arith in f) ∙ are 0 (it.Mark a m) refl) (λ long next. refl),
+    still_from k xs (suc i) (λ j x e. on k i j x (are (suc j) x e)),
+  )
     where
       on : (k i j : ℕ) (x : Item) → item_at pieces k (i + suc j) ≡ Some x → item_at pieces k (suc i + j) ≡ Some x
       on k i j x e = ap (item_at pieces k) (let f : suc i + j ≡ i + suc j = omega arith in f) ∙ e
-  still_from k (it.EndMark ∷ xs) i are =
-      (mark_still k i it.EndMark (ap (item_at pieces k) (let f : i ≡ i + 0 = omega arith in f) ∙ are 0 it.EndMark refl) (λ long next. refl),
-      still_from k xs (suc i) (λ j x e. on k i j x (are (suc j) x e)))
+  still_from k (it.EndMark ∷ xs) i are = (
+    mark_still k i it.EndMark (ap (item_at pieces k) (let f : i ≡ i + 0 = omega arith in f) ∙ are 0 it.EndMark refl) (λ long next. refl),
+    still_from k xs (suc i) (λ j x e. on k i j x (are (suc j) x e)),
+  )
     where
       on : (k i j : ℕ) (x : Item) → item_at pieces k (i + suc j) ≡ Some x → item_at pieces k (suc i + j) ≡ Some x
       on k i j x e = ap (item_at pieces k) (let f : suc i + j ≡ i + suc j = omega arith in f) ∙ e

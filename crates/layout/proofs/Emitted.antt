@@ -1,10 +1,10 @@
 -- The words of one entry more.
-use Rattle.std.proofs.Common.{◌≡◌, ℕ, zero, suc, ◌+◌, ◌*◌, ◌^◌, ◌<◌, ◌≤◌, ◌⊎◌, inl, inr, Bool, true, false, List, [], ◌++◌, length, slice_get, is_some, IfSome, Option, None, Some, refl, ap, sym, ◌∙◌, subst, add-one, arith}
+use Rattle.std.proofs.Common.{◌≡◌, ℕ, suc, ◌+◌, ◌*◌, ◌^◌, ◌<◌, ◌≤◌, ◌⊎◌, inl, inr, Bool, true, false, List, [], ◌++◌, length, slice_get, is_some, IfSome, Option, None, Some, refl, ap, sym, ◌∙◌, add-one, arith}
 use Rattle.std.specs.Option.{option_map}
 use Rattle.std.proofs.lemmas.Bool.{cases_lt, cases_Bool}
 use Rattle.layout.specs.declared.entries.Entry.{Entry}
-use Rattle.layout.specs.Forms.{Forms, far_from, goal_of, is_far, offset, start_of, target, NoneLeft}
-use Rattle.layout.specs.Emitting.{code_at, code_to, entry_code, far_of, has_condition, or_zero, target_offset, IsEmitted, IsListing}
+use Rattle.layout.specs.Forms.{Forms, far_from, goal_of, is_far, offset, start_of, NoneLeft}
+use Rattle.layout.specs.Emitting.{code_at, code_to, entry_code, far_of, has_condition, target_offset, IsEmitted, IsListing}
 use Rattle.layout.proofs.Widening.{rises}
 
 differ : false ≡ true → ⊥

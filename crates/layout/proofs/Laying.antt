@@ -1,5 +1,5 @@
 -- Pieces are laid one by one, each once.
-use Rattle.std.proofs.Common.{◌≡◌, ◌≢◌, ℕ, zero, suc, ◌+◌, ◌-◌, ◌<◌, ◌≤◌, ◌⊎◌, inl, inr, Bool, true, false, not, ◌&&◌, ◌||◌, eqb, List, [], ◌∷◌, ◌++◌, length, get_or, set, slice_get, Option, Some, None, is_some, IfSome, ltb, add-one, replicate, refl, ap, sym, ◌∙◌, subst, arith}
+use Rattle.std.proofs.Common.{◌≡◌, ◌≢◌, ℕ, zero, suc, ◌+◌, ◌-◌, ◌<◌, ◌≤◌, ◌⊎◌, inl, inr, Bool, true, false, not, ◌&&◌, ◌||◌, eqb, List, [], ◌∷◌, ◌++◌, length, get_or, set, slice_get, Option, Some, None, is_some, IfSome, ltb, replicate, refl, ap, sym, ◌∙◌, subst, arith}
 use Rattle.std.specs.Prelude.{if◌then◌else◌}
 use Rattle.std.specs.Cmp.{IsEquivalence}
 use Rattle.std.specs.List.{All, IsDistinct}
@@ -11,7 +11,7 @@ use Rattle.std.proofs.lemmas.List.{length-set, length-replicate, length-append, 
 use Rattle.std.proofs.lemmas.Map.Steps.{le-length_from_below, length-le_from_distinct_below}
 use Rattle.layout.specs.declared.items.Item.{Item}
 use Rattle.layout.specs.declared.items.Item.TheVariants as it
-use Rattle.layout.specs.Laid.{AllLead, LeadsBelow, item_at, item_in}
+use Rattle.layout.specs.Laid.{AllLead, LeadsBelow, item_at}
 use Rattle.layout.specs.Order.{jump_to, exit_at, is_laid, first_left, lowest_left, behind, next_after, ends_in_jump, first_laid, next_piece, compact_order}
 use Rattle.layout.specs.Laying.{LeadsInside, IsLaying, IsMarking, IsLowestLeft, IsNext, IsWhole}
 use Rattle.eel_base.specs.declared.numbers.PieceNo.{PieceNo}

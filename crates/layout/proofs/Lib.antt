@@ -4,6 +4,7 @@ pub mod Encoding
 pub mod Going
 pub mod Laying
 pub mod Listed
+pub mod Needed
 pub mod Offsets
 pub mod Ranging
 pub mod Standing

@@ -1,5 +1,5 @@
 -- Pieces become entries one after the other.
-use Rattle.std.proofs.Common.{◌≡◌, ℕ, zero, suc, ◌+◌, ◌-◌, ◌*◌, ◌^◌, ◌<◌, ◌≤◌, ◌⊎◌, inl, inr, Bool, true, false, ◌||◌, eqb, List, [], ◌∷◌, ◌++◌, length, get_or, set, take, drop, slice_get, slice_index, replicate, Option, None, Some, IfSome, map, subst, refl, ap, sym, ◌∙◌, add-one, append_assoc, drop-cons, arith}
+use Rattle.std.proofs.Common.{◌≡◌, ℕ, zero, suc, ◌+◌, ◌<◌, ◌≤◌, ◌⊎◌, inl, inr, Bool, true, false, ◌||◌, eqb, List, [], ◌∷◌, ◌++◌, length, get_or, set, take, drop, slice_get, slice_index, replicate, Some, IfSome, map, subst, refl, ap, sym, ◌∙◌, add-one, append_assoc, drop-cons, arith}
 use Rattle.std.specs.Prelude.{if◌then◌else◌}
 use Rattle.std.specs.List.{All, AllByRecursion, IsDistinct, sum_by}
 use Rattle.std.proofs.lemmas.Bool.{cases_eq, cases_Bool, eqb-true, eq-eqb}
@@ -9,10 +9,10 @@ use Rattle.layout.specs.declared.items.Item.{Item}
 use Rattle.layout.specs.declared.items.Item.TheVariants as it
 use Rattle.layout.specs.declared.entries.Entry.{Entry}
 use Rattle.layout.specs.declared.entries.Entry.TheVariants as en
-use Rattle.layout.specs.Laid.{AllLead, LeadsBelow, item_at}
+use Rattle.layout.specs.Laid.{AllLead, LeadsBelow}
 use Rattle.layout.specs.Order.{is_laid}
 use Rattle.layout.specs.Laying.{IsWhole}
-use Rattle.layout.specs.Forms.{entries_in, entries_from, is_start, start_of, target}
+use Rattle.layout.specs.Forms.{entries_in, entries_from, start_of, target}
 use Rattle.layout.specs.Emitting.{IsListing}
 use Rattle.layout.proofs.Laying.{different, the_equality, laid_other, item_is}
 

@@ -1,5 +1,5 @@
 -- The ranges are those of the Marks.
-use Rattle.std.proofs.Common.{◌≡◌, ℕ, zero, suc, ◌+◌, ◌*◌, ◌<◌, ◌≤◌, Bool, true, false, ◌&&◌, Option, Some, None, List, [], ◌∷◌, ◌++◌, length, get_or, map, slice_get, refl, ap, sym, ◌∙◌, subst, append_assoc, ◌-◌, arith}
+use Rattle.std.proofs.Common.{◌≡◌, ℕ, zero, suc, ◌+◌, ◌<◌, ◌≤◌, Bool, true, false, ◌&&◌, Option, Some, None, List, [], ◌∷◌, ◌++◌, length, map, slice_get, refl, ap, sym, ◌∙◌, subst, append_assoc, ◌-◌, arith}
 use Rattle.std.specs.Prelude.{nat_le, nat_lt, if◌then◌else◌}
 use Rattle.std.proofs.lemmas.Bool.Decides.{nat_tests}
 use Rattle.std.proofs.lemmas.List.{length-append, length-map, map-append}
@@ -10,12 +10,10 @@ use Rattle.layout.specs.declared.items.Item.TheVariants as it
 use Rattle.layout.specs.declared.entries.Entry.{Entry}
 use Rattle.layout.specs.declared.entries.Entry.TheVariants as en
 use Rattle.layout.specs.declared.ranges.Open.{Open as OpenAt}
-use Rattle.layout.specs.Laid.{note_range, range_in, item_at, IsMarked, AreMarked, Open, end_from, open_from, range_of, Ascend, IsRangeOf}
-use Rattle.layout.specs.Laying.{IsWhole}
-use Rattle.layout.specs.Forms.{entries_in, entries_from, start_of}
+use Rattle.layout.specs.Laid.{note_range, range_in, item_at, AreMarked, Open, end_from, open_from, range_of, Ascend, IsRangeOf}
+use Rattle.layout.specs.Forms.{entries_in, entries_from}
 use Rattle.layout.specs.Emitting.{closed, closes, opens, ranges_from}
-use Rattle.layout.proofs.Laying.{item_is}
-use Rattle.layout.proofs.Listed.{items_at, start_at, before_absent}
+use Rattle.layout.proofs.Listed.{items_at}
 
 -- the ranges as notes say them
 abbrev pub seen : List Range → List NoteRange

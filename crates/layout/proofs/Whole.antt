@@ -1,5 +1,5 @@
 -- What is placed, and what is told of its room.
-use Rattle.std.proofs.Common.{◌≡◌, ℕ, ◌+◌, ◌*◌, ◌%◌, ◌^◌, ◌<◌, ◌≤◌, Bool, List, length, Option, Some, None, Result, Ok, Err, IfOk, refl, ap, sym, ◌∙◌, subst, arith}
+use Rattle.std.proofs.Common.{◌≡◌, ℕ, ◌+◌, ◌*◌, ◌%◌, ◌^◌, ◌≤◌, Bool, List, length, Result, Ok, Err, IfOk, ap, ◌∙◌, subst, arith}
 use Rattle.layout.specs.declared.items.Item.{Item}
 use Rattle.layout.specs.declared.items.Placed.{Placed}
 use Rattle.layout.specs.declared.items.LayoutFault.{LayoutFault}
@@ -8,7 +8,7 @@ use Rattle.layout.specs.declared.entries.Entry.{Entry}
 use Rattle.layout.specs.Laid.{ArePieces, Lays, placement_of}
 use Rattle.layout.specs.Forms.{Forms, entries_of, offset, IsWidened}
 use Rattle.layout.specs.Compact.{IsCompact, IsNeeded, RoomIs}
-use Rattle.layout.specs.Emitting.{addresses, address_of, forms_in, ranges_from, FitsIn, IsEmitted, IsFormed, IsListing, IsMade, IsPut}
+use Rattle.layout.specs.Emitting.{forms_in, FitsIn, IsFormed, IsListing, IsMade, IsPut}
 use Rattle.layout.proofs.Standing.{code_length}
 use Rattle.layout.proofs.Assembled.{lays}
 

@@ -1,11 +1,10 @@
 -- Widening only grows, so that every way of widening ends at the same forms.
 use Rattle.std.proofs.Common.{◌≡◌, ℕ, zero, suc, ◌+◌, ◌-◌, ◌^◌, ◌<◌, ◌≤◌, ◌⊎◌, inl, inr, Bool, true, false, cond, ◌||◌, leb, ltb, List, slice_get, Option, Some, None, refl, ap, sym, ◌∙◌, subst, arith}
 use Rattle.std.proofs.lemmas.Bool.{cases_lt, cases_Bool, ltb-true, leb-true, lt-ltb, le-leb}
-use Rattle.eel_base.specs.declared.numbers.PieceNo.{PieceNo}
 use Rattle.layout.specs.declared.items.Item.TheVariants as i
 use Rattle.layout.specs.declared.entries.Entry.{Entry}
 use Rattle.layout.specs.declared.entries.Entry.TheVariants as e
-use Rattle.layout.specs.Forms.{Forms, goal_of, width, leads_next, offset, target, far, far_from, is_far, NoneLeft, IsWidened}
+use Rattle.layout.specs.Forms.{Forms, goal_of, width, leads_next, offset, far, far_from, is_far, NoneLeft, IsWidened}
 
 differ : false ≡ true → ⊥
 differ e = cc

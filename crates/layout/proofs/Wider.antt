@@ -6,7 +6,7 @@ use Rattle.std.proofs.lemmas.List.Sums.{sum_by-cons}
 use Rattle.std.proofs.lemmas.Option.{slice_get_past}
 use Rattle.std.proofs.lemmas.List.{length-append, get_or_push, get_or_append_left, get_or_past}
 use Rattle.layout.specs.declared.entries.Entry.{Entry}
-use Rattle.layout.specs.Forms.{Forms, start_of, offset, target, far_from, is_far, IsWidened}
+use Rattle.layout.specs.Forms.{Forms, start_of, target, far_from, is_far, IsWidened}
 use Rattle.layout.specs.Emitting.{forms_in, AreWider}
 use Rattle.layout.proofs.Widening.{IsWidening, widening_none, widening_all, widening_ends}
 

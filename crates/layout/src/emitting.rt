@@ -68,7 +68,13 @@ fn put_entry(
 }
 
 // The words before the piece to which an entry leads.
-fn target_at(entries: &[Entry], starts: &[usize], at: &[u64], forms: &[bool], n: usize) -> Option<u64>
+fn target_at(
+    entries: &[Entry],
+    starts: &[usize],
+    at: &[u64],
+    forms: &[bool],
+    n: usize,
+) -> Option<u64>
     requires listing { IsListing entries.now starts.now }
     requires at { IsOffsets entries.now (forms_in forms.now) at.now }
     requires inside { n < length entries.now }
@@ -101,7 +107,15 @@ fn put_at(
     ensures condition { OnOk result (has_condition (slice_get entries.now n) ≡ true) }
 {
     let to = target_at(entries, starts, at, forms, n);
-    put_entry(code, base, &entries[n], entry_at(entries, n + 1), at[n], to, forms[n])?;
+    put_entry(
+        code,
+        base,
+        &entries[n],
+        entry_at(entries, n + 1),
+        at[n],
+        to,
+        forms[n],
+    )?;
     Ok(())
 }
 

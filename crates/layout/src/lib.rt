@@ -2,6 +2,7 @@
 //! address of each piece, and the range of each mark.
 #![tactic(auto)]
 
+ghost use Rattle.layout.specs.Compact.{LongIsEnough, NeededOnce, ShortIsEnough};
 ghost use Rattle.layout.specs.Running.{BranchesHop, JumpsHop, WordsStand};
 
 mod emitting;
@@ -15,6 +16,21 @@ mod words;
 
 pub use items::{Item, LayoutFault, Piece, Placed};
 pub use placing::place;
+
+/// What pieces need is one number.
+pub fn needed_once()
+    ensures { NeededOnce }
+{}
+
+/// No layout needs more room than the one with every form long.
+pub fn long_is_enough()
+    ensures { LongIsEnough }
+{}
+
+/// In less than 8 MiB every form is short.
+pub fn short_is_enough()
+    ensures { ShortIsEnough }
+{}
 
 /// A Jump leads to its piece, with all as it was but word 0 of the editor's page.
 pub fn jumps_hop()

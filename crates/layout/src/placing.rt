@@ -138,5 +138,12 @@ pub fn place(alloc: Global, pieces: &[Piece], base: Addr, room: u32) -> Result<P
         return Err(LayoutFault::NoMemory);
     };
     let listing = &formed.listing;
-    put_within(alloc, base, room, &listing.entries, &listing.starts, &formed.forms)
+    put_within(
+        alloc,
+        base,
+        room,
+        &listing.entries,
+        &listing.starts,
+        &formed.forms,
+    )
 }

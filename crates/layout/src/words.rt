@@ -177,7 +177,13 @@ fn nop_word() -> u32
 }
 
 /// Appends a Jump.
-pub fn put_jump(code: &mut Vec<u32>, base: u32, from: u64, to: u64, long: bool) -> Result<(), AllocError>
+pub fn put_jump(
+    code: &mut Vec<u32>,
+    base: u32,
+    from: u64,
+    to: u64,
+    long: bool,
+) -> Result<(), AllocError>
     requires from { from < 2 ^ 62 }
     requires to { to < 2 ^ 62 }
     requires near { long ≡ false → far from to ≡ false }

@@ -1,9 +1,9 @@
-use Rattle.std.proofs.Common.{◌≡◌, ◌∙◌, sym, ap, arith, get_or, false, Some, slice_get, is_some, ℕ, Option, suc, ◌+◌}
+use Rattle.std.proofs.Common.{◌≡◌, ◌∙◌, sym, ap, Some, slice_get, is_some, ℕ, Option}
 use Rattle.layout.specs.declared.entries.Entry.{Entry}
-use Rattle.layout.specs.Forms.{goal_of, offset, target}
-use Rattle.layout.specs.Emitting.{forms_in, has_condition, or_zero, target_offset}
+use Rattle.layout.specs.Forms.{target}
+use Rattle.layout.specs.Emitting.{forms_in, target_offset}
 use Rattle.layout.proofs.Offsets.{entry_at}
-use Rattle.layout.proofs.Emitted.{code_as, near_enough, some_both, target_low}
+use Rattle.layout.proofs.Emitted.{some_both, target_low}
 use Rattle.layout.proofs.emitting.put_at.Goals as goal
 
 pub put_entry-requires-clause-low : goal.put_entry-requires-clause-low

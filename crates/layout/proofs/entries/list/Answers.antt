@@ -1,6 +1,6 @@
-use Rattle.std.proofs.Common.{◌≡◌, ◌++◌, ◌≤◌, get_or, [], refl, rules, ℕ, arith, length, ap, subst, sym}
+use Rattle.std.proofs.Common.{◌≡◌, ◌++◌, get_or, [], refl, rules, ℕ, arith, length, ap}
 use Rattle.layout.specs.Forms.{entries_in}
-use Rattle.layout.proofs.Listed.{listed_none, listed_more, listed_all, listed_entries, few_entries}
+use Rattle.layout.proofs.Listed.{listed_more, listed_all, listed_entries, few_entries}
 use Rattle.layout.proofs.entries.list.Goals as goal
 
 pub loop-k-preserved : goal.loop-k-preserved

@@ -1,4 +1,4 @@
-use Rattle.std.proofs.Common.{ap, sym, subst, ◌∙◌, ◌≡◌, List, ℕ, [], length, replicate, false, arith}
+use Rattle.std.proofs.Common.{ap, sym, subst, ◌∙◌, ◌≡◌, [], length, replicate, false, arith}
 use Rattle.layout.specs.Order.{first_laid, compact_order}
 use Rattle.layout.specs.Laying.{IsWhole}
 use Rattle.layout.proofs.Laying.{marking_none, whole_is}

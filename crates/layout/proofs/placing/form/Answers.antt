@@ -1,5 +1,3 @@
-use Rattle.std.proofs.Common.{◌≡◌}
-use Rattle.layout.specs.Forms.{entries_from}
 use Rattle.layout.proofs.Laying.{exits_lead}
 use Rattle.layout.proofs.placing.form.Goals as goal
 

@@ -1,5 +1,4 @@
 use Rattle.std.proofs.Common.{◌≤◌, length, arith}
-use Rattle.layout.specs.Forms.{offset}
 use Rattle.layout.specs.Emitting.{forms_in}
 use Rattle.layout.proofs.Widening.{rises}
 use Rattle.layout.proofs.ranges.ranges_of.Goals as goal
