@@ -33,7 +33,8 @@ differ e = cc
 get_rest : (xs ys : List Entry) (j : ℕ) → slice_get (xs ++ ys) (length xs + j) ≡ slice_get ys j
 get_rest [] ys j = ap (slice_get ys) (let e : 0 + j ≡ j = omega arith in e)
 get_rest (x ∷ xs) ys j =
-    ap (slice_get (x ∷ (xs ++ ys))) (let e : suc (length xs) + j ≡ suc (length xs + j) = omega arith in e) ∙ get_rest xs ys j
+    ap (slice_get (x ∷ (xs ++ ys))) (let e : suc (length xs) + j ≡ suc (length xs + j) = omega arith in e)
+    ∙ get_rest xs ys j
 
 get_item : (items : List Item) (ys : List Entry) (n : ℕ) (x : Item) → slice_get items n ≡ Some x
     → slice_get (map en.Item items ++ ys) n ≡ Some (en.Item x)
@@ -91,7 +92,8 @@ module _ (pieces : List (List Item)) (leads : AllLead pieces) where
     after : List ℕ
     order : compact_order pieces ≡ before ++ k ∷ after
     start : start_of (entries_of pieces) k ≡ length (entries_from pieces before)
-    entries : entries_of pieces ≡ entries_from pieces before ++ (en.Start (record { 0 = k }) ∷ (map en.Item (items_at pieces k) ++ entries_from pieces after))
+    entries : entries_of pieces ≡ entries_from pieces before ++ (en.Start (record { 0 = k }) ∷ (map en.Item (items_at
+        pieces k) ++ entries_from pieces after))
 
   start_is : (k : ℕ) (before after : List ℕ) → compact_order pieces ≡ before ++ k ∷ after
       → start_of (entries_of pieces) k ≡ length (entries_from pieces before)
@@ -116,7 +118,10 @@ module _ (pieces : List (List Item)) (leads : AllLead pieces) where
       → slice_get (entries_of pieces) (start_of (entries_of pieces) k + 1 + n)
       ≡ slice_get (map en.Item (items_at pieces k) ++ entries_from pieces s.after) n
   entry_behind k s n =
-      let e : start_of (entries_of pieces) k + 1 + n ≡ length (entries_from pieces s.before) + suc n = omega (arith, s.start) in
+      let e : start_of (entries_of pieces) k + 1 + n ≡ length (entries_from pieces s.before) + suc n = omega (
+        arith,
+        s.start,
+      ) in
       ap (slice_get (entries_of pieces)) e
       ∙ ap (λ (xs : List Entry). slice_get xs (length (entries_from pieces s.before) + suc n)) s.entries
       ∙ get_rest (entries_from pieces s.before) _ (suc n)
@@ -127,7 +132,8 @@ module _ (pieces : List (List Item)) (leads : AllLead pieces) where
       let s = piece_is_at k (piece_at pieces k n x e).0 in
       entry_behind k s n ∙ get_item (items_at pieces k) (entries_from pieces s.after) n x (sym (item_is pieces k n) ∙ e)
 
-  pub start_entry : (k : ℕ) → k < length pieces → slice_get (entries_of pieces) (start_of (entries_of pieces) k) ≡ Some (en.Start (record { 0 = k }))
+  pub start_entry : (k : ℕ) → k < length pieces → slice_get (entries_of pieces) (start_of (entries_of pieces) k) ≡
+      Some (en.Start (record { 0 = k }))
   start_entry k l =
       let s = piece_is_at k l in
       let e : start_of (entries_of pieces) k ≡ length (entries_from pieces s.before) + 0 = omega (arith, s.start) in
@@ -140,7 +146,8 @@ module _ (pieces : List (List Item)) (leads : AllLead pieces) where
   piece_inside k l =
       let s = piece_is_at k l in
       let a = ap length s.entries in
-      let b = length-append (entries_from pieces s.before) (en.Start (record { 0 = k }) ∷ (map en.Item (items_at pieces k) ++ entries_from pieces s.after)) in
+      let b = length-append (entries_from pieces s.before) (en.Start (record { 0 = k }) ∷ (map en.Item (items_at
+      pieces k) ++ entries_from pieces s.after)) in
       let c = length-append (map en.Item (items_at pieces k)) (entries_from pieces s.after) in
       let d = length-map (items_at pieces k) en.Item in
       omega (arith, a, b, c, d, s.start)
@@ -175,8 +182,10 @@ module _ (pieces : List (List Item)) (leads : AllLead pieces) where
 
       behind : leads_next to (slice_get (map en.Item (items_at pieces k) ++ entries_from pieces s.after) (suc n)) ≡ true
       behind =
-          let f : suc (start_of (entries_of pieces) k + 1 + n) ≡ start_of (entries_of pieces) k + 1 + suc n = omega arith in
-          ap (leads_next to) (sym (entry_behind k s (suc n))) ∙ ap (λ (m : ℕ). leads_next to (slice_get (entries_of pieces) m)) (sym f) ∙ h
+          let f : suc (start_of (entries_of pieces) k + 1 + n) ≡ start_of (entries_of pieces) k + 1 + suc n = omega
+          arith in
+          ap (leads_next to) (sym (entry_behind k s (suc n))) ∙ ap (λ (m : ℕ). leads_next to (slice_get (entries_of
+          pieces) m)) (sym f) ∙ h
 
       first : (after : List ℕ) → s.after ≡ after → leads_next to (slice_get (entries_from pieces after) 0) ≡ true
           → start_of (entries_of pieces) to.0 ≡ start_of (entries_of pieces) k + 1 + length (items_at pieces k)
@@ -189,12 +198,14 @@ module _ (pieces : List (List Item)) (leads : AllLead pieces) where
           → suc (start_of (entries_of pieces) k + 1 + n) ≡ start_of (entries_of pieces) to.0
       by (inl l) =
           let y = get_within (items_at pieces k) (suc n) l in
-          absurd (differ (ap (leads_next to) (sym (get_item (items_at pieces k) (entries_from pieces s.after) (suc n) y.0 y.1)) ∙ behind))
+          absurd (differ (ap (leads_next to) (sym (get_item (items_at pieces k) (entries_from pieces s.after) (suc n)
+          y.0 y.1)) ∙ behind))
       by (inr l) =
           let m : suc n ≡ length (items_at pieces k) = omega (arith, inside, l) in
           let g : leads_next to (slice_get (entries_from pieces s.after) 0) ≡ true
           = ap (leads_next to) (sym (get_behind (items_at pieces k) (entries_from pieces s.after)))
-          ∙ ap (λ (m : ℕ). leads_next to (slice_get (map en.Item (items_at pieces k) ++ entries_from pieces s.after) m)) (sym m) ∙ behind in
+          ∙ ap (λ (m : ℕ). leads_next to (slice_get (map en.Item (items_at pieces k) ++ entries_from pieces s.after)
+          m)) (sym m) ∙ behind in
           let f = first s.after refl g in
           omega (arith, f, m)
 
@@ -202,7 +213,8 @@ module _ (pieces : List (List Item)) (leads : AllLead pieces) where
   first_after [] after k = refl
   first_after (j ∷ js) after k = first_after js after k
 
-  second_after : (before after : List ℕ) (k : ℕ) → slice_get (before ++ k ∷ after) (suc (length before)) ≡ slice_get after 0
+  second_after : (before after : List ℕ) (k : ℕ) → slice_get (before ++ k ∷ after) (suc (length before)) ≡ slice_get
+      after 0
   second_after [] after k = refl
   second_after (j ∷ js) after k = second_after js after k
 
@@ -222,7 +234,8 @@ module _ (pieces : List (List Item)) (leads : AllLead pieces) where
 
       next : slice_get s.after 0 ≡ Some (suc k)
       next =
-          sym (second_after s.before s.after k) ∙ ap (λ (xs : List ℕ). slice_get xs (suc (length s.before))) (sym s.order)
+          sym (second_after s.before s.after k) ∙ ap (λ (xs : List ℕ). slice_get xs (suc (length s.before))) (sym
+          s.order)
           ∙ follows pieces (exits_lead pieces leads) k (length s.before) l none few
           (ap (λ (xs : List ℕ). slice_get xs (length s.before)) s.order ∙ first_after s.before s.after k)
 
@@ -257,7 +270,8 @@ get_past f [] k l = refl
 get_past f (n ∷ starts) zero l = absurd (omega arith)
 get_past f (n ∷ starts) (suc k) l = get_past f starts k (omega arith)
 
-module _ (pieces : List (List Item)) (leads : AllLead pieces) (marked : AllMarked pieces) (base : ℕ) (aligned : base % 4 ≡ 0)
+module _ (pieces : List (List Item)) (leads : AllLead pieces) (marked : AllMarked pieces) (base : ℕ) (aligned : base %
+    4 ≡ 0)
     (long : Forms) (starts : List ℕ) (p : Placed) (h : IsMade pieces base long starts p)
     (low : base + 4 * offset (entries_of pieces) long (length (entries_of pieces)) ≤ 2 ^ 31) where
   abbrev entries : List Entry
@@ -284,7 +298,8 @@ module _ (pieces : List (List Item)) (leads : AllLead pieces) (marked : AllMarke
   ranges_are : placed.ranges ≡ seen (ranges_from (address_of base entries long) 0 None entries)
   ranges_are = ap (map note_range) h.ranges
 
-  start_value : (k : ℕ) → k < length pieces → slice_index placed.at k ≡ base + 4 * offset (entries_of pieces) long (start_of (entries_of pieces) k)
+  start_value : (k : ℕ) → k < length pieces → slice_index placed.at k ≡ base + 4 * offset (entries_of pieces) long
+      (start_of (entries_of pieces) k)
   start_value k l =
       let c = h.count in
       let m : k < length starts = omega (arith, c, l) in
@@ -311,7 +326,8 @@ module _ (pieces : List (List Item)) (leads : AllLead pieces) (marked : AllMarke
   start_low : (k : ℕ) → (slice_index placed.at k % 4 ≡ 0) × (slice_index placed.at k ≤ 2 ^ 31)
   start_low k = go (cases_lt k (length pieces))
     where
-      go : (k < length pieces) ⊎ (length pieces ≤ k) → (slice_index placed.at k % 4 ≡ 0) × (slice_index placed.at k ≤ 2 ^ 31)
+      go : (k < length pieces) ⊎ (length pieces ≤ k) → (slice_index placed.at k % 4 ≡ 0) × (slice_index placed.at k ≤
+          2 ^ 31)
       go (inl l) =
           let v = start_value k l in
           let i = piece_inside pieces leads k l in
@@ -344,7 +360,8 @@ module _ (pieces : List (List Item)) (leads : AllLead pieces) (marked : AllMarke
   goal_is : (k n : ℕ) (x : Item) (o : Option ℕ) → item_at pieces k n ≡ Some x → target (Some (en.Item x)) ≡ o
       → goal_words k n ≡ or_zero (option_map (offset entries long) (option_map (start_of entries) o))
   goal_is k n x o e t =
-      ap (λ (y : Option Entry). or_zero (option_map (offset entries long) (option_map (start_of entries) (target y)))) (entry_is pieces leads k n x e)
+      ap (λ (y : Option Entry). or_zero (option_map (offset entries long) (option_map (start_of entries) (target y))))
+      (entry_is pieces leads k n x e)
       ∙ ap (λ (o : Option ℕ). or_zero (option_map (offset entries long) (option_map (start_of entries) o))) t
 
   leads_to : (k n : ℕ) (x : Item) → item_at pieces k n ≡ Some x → LeadsBelow (length pieces) (Some x)
@@ -385,7 +402,8 @@ module _ (pieces : List (List Item)) (leads : AllLead pieces) (marked : AllMarke
   step k n x e =
       let a = ap (offset entries long) (next_is k n) in
       let b = offset_more entries long (entry_no k n) in
-      let c = ap (λ (z : Option Entry). width (long (entry_no k n)) z (slice_get entries (suc (entry_no k n)))) (entry_is pieces leads k n x e) in
+      let c = ap (λ (z : Option Entry). width (long (entry_no k n)) z (slice_get entries (suc (entry_no k n))))
+      (entry_is pieces leads k n x e) in
       omega (arith, a, b, c)
 
   -- a Jump takes no word where its target starts right behind it
@@ -395,21 +413,24 @@ module _ (pieces : List (List Item)) (leads : AllLead pieces) (marked : AllMarke
   here k n to e b =
       let j = ap (offset entries long) (jump_next pieces leads k n (it.Jump to) to e b) in
       let m = offset_more entries long (entry_no k n) in
-      let c = ap (λ (z : Option Entry). width (long (entry_no k n)) z (slice_get entries (suc (entry_no k n)))) (entry_is pieces leads k n (it.Jump to) e) in
+      let c = ap (λ (z : Option Entry). width (long (entry_no k n)) z (slice_get entries (suc (entry_no k n))))
+      (entry_is pieces leads k n (it.Jump to) e) in
       let w : width (long (entry_no k n)) (Some (en.Item (it.Jump to))) (slice_get entries (suc (entry_no k n))) ≡ 0
       = ap (λ (z : Bool). if z then 0 else (if long (entry_no k n) then 4 else 1)) b in
       let g = goal_is k n (it.Jump to) (Some to.0) e refl in
       omega (arith, j, m, c, w, g)
 
   nexts : (k n : ℕ) (x : Item) → item_at pieces k n ≡ Some x
-      → IsNextAt base placed x (slice_get (entries_of pieces) (suc (entry_no k n))) (offset (entries_of pieces) long (start_of (entries_of pieces) k + 1 + n)) (goal_words k n)
+      → IsNextAt base placed x (slice_get (entries_of pieces) (suc (entry_no k n))) (offset (entries_of pieces) long
+      (start_of (entries_of pieces) k + 1 + n)) (goal_words k n)
   nexts k n (it.Word w) e = tt
   nexts k n (it.Jump to) e = here k n to e
   nexts k n (it.Branch c to) e = tt
   nexts k n (it.Mark a m) e = tt
   nexts k n it.EndMark e = tt
 
-  near : (k n : ℕ) (to : ℕ) → target (slice_get (entries_of pieces) (entry_no k n)) ≡ Some to → long (entry_no k n) ≡ false
+  near : (k n : ℕ) (to : ℕ) → target (slice_get (entries_of pieces) (entry_no k n)) ≡ Some to
+      → long (entry_no k n) ≡ false
       → far (offset (entries_of pieces) long (start_of (entries_of pieces) k + 1 + n)) (goal_words k n) ≡ false
   near k n to t short =
       let o : target_offset entries long (entry_no k n) ≡ Some (offset entries long (start_of entries to))
@@ -419,7 +440,8 @@ module _ (pieces : List (List Item)) (leads : AllLead pieces) (marked : AllMarke
       ∙ ap (far_of (offset entries long (entry_no k n))) (sym o) ∙ f
 
   nears : (k n : ℕ) (x : Item) → item_at pieces k n ≡ Some x
-      → IsNearTo base placed x (long (entry_no k n)) (offset (entries_of pieces) long (start_of (entries_of pieces) k + 1 + n)) (goal_words k n)
+      → IsNearTo base placed x (long (entry_no k n)) (offset (entries_of pieces) long (start_of (entries_of pieces) k
+      + 1 + n)) (goal_words k n)
   nears k n (it.Word w) e = tt
   nears k n (it.Jump to) e = near k n to.0 (ap target (entry_is pieces leads k n (it.Jump to) e))
   nears k n (it.Branch c to) e = near k n to.0 (ap target (entry_is pieces leads k n (it.Branch c to) e))
@@ -432,20 +454,24 @@ module _ (pieces : List (List Item)) (leads : AllLead pieces) (marked : AllMarke
       let g = get_low (items_at pieces k) n x (sym (item_is pieces k n) ∙ e) in
       let l : start_of (entries_of pieces) k + 1 + n < length (entries_of pieces) = omega (arith, i, g) in
       let t = step k n x e in
-      item_stands base placed x (slice_get entries (suc (entry_no k n))) (long (entry_no k n)) (offset entries long (entry_no k n)) (goal_words k n)
-      (place k n) (place k (suc n)) refl (omega (arith, t)) (offset_low (entry_no k n) (omega (arith, l))) (goal_low k n x e)
+      item_stands base placed x (slice_get entries (suc (entry_no k n))) (long (entry_no k n)) (offset entries long
+      (entry_no k n)) (goal_words k n)
+      (place k n) (place k (suc n)) refl (omega (arith, t)) (offset_low (entry_no k n) (omega (arith, l))) (goal_low k
+      n x e)
       (ap has_condition (sym (entry_is pieces leads k n x e)) ∙ h.emitted.conditions (entry_no k n) l)
       (goes k n x e) (nexts k n x e) (nears k n x e)
       (λ j w f. ap (λ (ws : List ℕ). slice_get ws (offset entries long (entry_no k n) + j)) h.emitted.is
       ∙ has_code base entries long (length (entries_of pieces)) (entry_no k n) l j w
-      (ap (λ (z : Option Entry). slice_get (entry_code base (long (entry_no k n)) (offset entries long (entry_no k n)) (goal_words k n) z (slice_get entries (suc (entry_no k n)))) j) (entry_is pieces leads k n x e) ∙ f))
+      (ap (λ (z : Option Entry). slice_get (entry_code base (long (entry_no k n)) (offset entries long (entry_no k n))
+      (goal_words k n) z (slice_get entries (suc (entry_no k n)))) j) (entry_is pieces leads k n x e) ∙ f))
 
   falls : (k : ℕ) → suc k < length pieces → is_jump (item_at pieces k (size_of pieces k - 1)) ≡ false
       → place k (size_of pieces k) ≡ place (suc k) 0
   falls k l j =
       let z = size_is pieces k in
       let none : exit_at pieces k ≡ None
-      = ap jump_to (sym (item_is pieces k (length (items_at pieces k) - 1)) ∙ ap (λ (m : ℕ). item_at pieces k (m - 1)) (sym z))
+      = ap jump_to (sym (item_is pieces k (length (items_at pieces k) - 1))
+      ∙ ap (λ (m : ℕ). item_at pieces k (m - 1)) (sym z))
       ∙ no_jump (item_at pieces k (size_of pieces k - 1)) j in
       let f = ap (offset entries long) (fall_start pieces leads k l none) in
       let g = start_still (suc k) l in
@@ -460,7 +486,8 @@ module _ (pieces : List (List Item)) (leads : AllLead pieces) (marked : AllMarke
       let z = w (long (entry_no k n)) (slice_get entries (suc (entry_no k n))) in
       omega (arith, t, z)
 
-  still_from : (k : ℕ) (xs : List Item) (i : ℕ) → ((j : ℕ) (x : Item) → slice_get xs j ≡ Some x → item_at pieces k (i + j) ≡ Some x)
+  still_from : (k : ℕ) (xs : List Item) (i : ℕ) → ((j : ℕ) (x : Item) → slice_get xs j ≡ Some x
+      → item_at pieces k (i + j) ≡ Some x)
       → AreStill (place k) i xs
   still_from k [] i are = tt
   still_from k (it.Word w ∷ xs) i are = still_from k xs (suc i) (λ j x e. on k i j x (are (suc j) x e))
@@ -476,14 +503,16 @@ module _ (pieces : List (List Item)) (leads : AllLead pieces) (marked : AllMarke
       on : (k i j : ℕ) (x : Item) → item_at pieces k (i + suc j) ≡ Some x → item_at pieces k (suc i + j) ≡ Some x
       on k i j x e = ap (item_at pieces k) (let f : suc i + j ≡ i + suc j = omega arith in f) ∙ e
   still_from k (it.Mark a m ∷ xs) i are = (
-    mark_still k i (it.Mark a m) (ap (item_at pieces k) (let f : i ≡ i + 0 = omega arith in f) ∙ are 0 (it.Mark a m) refl) (λ long next. refl),
+    mark_still k i (it.Mark a m) (ap (item_at pieces k) (let f : i ≡ i + 0 = omega arith in f)
+        ∙ are 0 (it.Mark a m) refl) (λ long next. refl),
     still_from k xs (suc i) (λ j x e. on k i j x (are (suc j) x e)),
   )
     where
       on : (k i j : ℕ) (x : Item) → item_at pieces k (i + suc j) ≡ Some x → item_at pieces k (suc i + j) ≡ Some x
       on k i j x e = ap (item_at pieces k) (let f : suc i + j ≡ i + suc j = omega arith in f) ∙ e
   still_from k (it.EndMark ∷ xs) i are = (
-    mark_still k i it.EndMark (ap (item_at pieces k) (let f : i ≡ i + 0 = omega arith in f) ∙ are 0 it.EndMark refl) (λ long next. refl),
+    mark_still k i it.EndMark (ap (item_at pieces k) (let f : i ≡ i + 0 = omega arith in f)
+        ∙ are 0 it.EndMark refl) (λ long next. refl),
     still_from k xs (suc i) (λ j x e. on k i j x (are (suc j) x e)),
   )
     where
@@ -502,7 +531,8 @@ module _ (pieces : List (List Item)) (leads : AllLead pieces) (marked : AllMarke
       let q = piece_at pieces k n x e in
       let s = piece_is_at pieces leads k q.0 in
       ap (λ (rs : List NoteRange). range_in rs a) ranges_are
-      ∙ ap (λ (xs : List ℕ). range_in (seen (ranges_from (address_of base entries long) 0 None (entries_from pieces xs))) a) s.order
+      ∙ ap (λ (xs : List ℕ). range_in (seen (ranges_from (address_of base entries long) 0 None (entries_from pieces
+      xs))) a) s.order
       ∙ order_finds at up pieces (marked_at pieces marked) s.before s.after 0 (start_of entries k) k n a x
       (let st = s.start in omega (arith, st)) (still k) (sym (item_is pieces k n) ∙ e) l m
       ∙ ap (λ (o : Option (List Item)). range_of (place k) (open_in o n)) (sym q.1)
@@ -512,13 +542,18 @@ module _ (pieces : List (List Item)) (leads : AllLead pieces) (marked : AllMarke
 
   ascend : Ascend base (base + 4 * length placed.code) placed.ranges
   ascend =
-      let first : base + 4 * offset (entries_of pieces) long 0 ≡ base = (let f = first_at entries long in omega (arith, f)) in
+      let first : base + 4 * offset (entries_of pieces) long 0 ≡ base = (let f = first_at entries long in omega
+      (arith, f)) in
       subst (Ascend base (base + 4 * length placed.code)) (sym ranges_are)
-      (subst (λ (z : ℕ). Ascend z (base + 4 * length placed.code) (seen (ranges_from (address_of base entries long) 0 None entries))) first
-      (subst (λ (z : ℕ). Ascend (base + 4 * offset (entries_of pieces) long 0) z (seen (ranges_from (address_of base entries long) 0 None entries))) (sym end_is)
-      (order_ascends at up pieces (marked_at pieces marked) (compact_order pieces) 0 (length (entries_of pieces)) (omega arith))))
+      (subst (λ (z : ℕ). Ascend z (base + 4 * length placed.code) (seen (ranges_from (address_of base entries long) 0
+      None entries))) first
+      (subst (λ (z : ℕ). Ascend (base + 4 * offset (entries_of pieces) long 0) z (seen (ranges_from (address_of base
+      entries long) 0 None entries))) (sym end_is)
+      (order_ascends at up pieces (marked_at pieces marked) (compact_order pieces) 0 (length (entries_of pieces))
+      (omega arith))))
 
-  order_made : (ks before : List ℕ) (c : ℕ) → compact_order pieces ≡ before ++ ks → c ≡ length (entries_from pieces before)
+  order_made : (ks before : List ℕ) (c : ℕ) → compact_order pieces ≡ before ++ ks
+      → c ≡ length (entries_from pieces before)
       → AllOf pieces place (seen (ranges_from at c None (entries_from pieces ks)))
   order_made [] before c o e = tt
   order_made (k ∷ ks) before c o e =
@@ -546,7 +581,8 @@ module _ (pieces : List (List Item)) (leads : AllLead pieces) (marked : AllMarke
     ranges = ranges;
     ascend = ascend;
     marks = λ n r e. one_of pieces place (seen (ranges_from at 0 None entries)) n r
-        (order_made (compact_order pieces) [] 0 refl refl) (ap (λ (rs : List NoteRange). slice_get rs n) (sym ranges_are) ∙ e);
+        (order_made (compact_order pieces) [] 0 refl refl) (ap (λ (rs : List NoteRange). slice_get rs n) (sym
+        ranges_are) ∙ e);
   }
 
   pub lays : Lays IsCompact pieces base placed

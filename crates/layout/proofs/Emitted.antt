@@ -20,10 +20,16 @@ unfolding code_to
 code_more base entries long n = refl
 
 pub emitted_none : (base : ℕ) (entries : List Entry) (long : Forms) → IsEmitted base entries long [] 0
-emitted_none base entries long = record { is = sym (code_none base entries long); conditions = λ k l. absurd (omega arith) }
+emitted_none base entries long = record {
+  is = sym (code_none base entries long);
+  conditions = λ k l. absurd (omega
+      arith);
+}
 
-pub emitted_more : (base : ℕ) (entries : List Entry) (long : Forms) (code new : List ℕ) (n : ℕ) → IsEmitted base entries long code n
-    → new ≡ code ++ code_at base entries long n → has_condition (slice_get entries n) ≡ true → IsEmitted base entries long new (n + 1)
+pub emitted_more : (base : ℕ) (entries : List Entry) (long : Forms) (code new : List ℕ) (n : ℕ)
+    → IsEmitted base entries long code n
+    → new ≡ code ++ code_at base entries long n → has_condition (slice_get entries n) ≡ true
+    → IsEmitted base entries long new (n + 1)
 emitted_more base entries long code new n h e c = rw add-one record {
   is = e ∙ ap (λ (xs : List ℕ). xs ++ code_at base entries long n) h.is ∙ sym (code_more base entries long n);
   conditions = λ k l. conditions k l (cases_lt k n);
@@ -42,7 +48,8 @@ near_enough entries long n none short = by (goal_of entries n) (not_far (cases_B
     not_far (inl t) = absurd (differ (sym short ∙ none n t))
     not_far (inr f) = f
 
-    by : (o : Option ℕ) → far_from entries long n o ≡ false → far_of (offset entries long n) (option_map (offset entries long) o) ≡ false
+    by : (o : Option ℕ) → far_from entries long n o ≡ false → far_of (offset entries long n) (option_map (offset
+        entries long) o) ≡ false
     by None f = refl
     by (Some m) f = f
 
@@ -65,6 +72,7 @@ pub code_as : (base : ℕ) (old new : List ℕ) (long : Bool) (from a to b : ℕ
     → from ≡ a → to ≡ b → x ≡ y → next ≡ later
     → new ≡ old ++ entry_code base long from to x next → new ≡ old ++ entry_code base long a b y later
 code_as base old new long from a to b x y next later d e f g h =
-    h ∙ ap (λ (a : ℕ). old ++ entry_code base long a to x next) d ∙ ap (λ (b : ℕ). old ++ entry_code base long a b x next) e
+    h ∙ ap (λ (a : ℕ). old ++ entry_code base long a to x next) d ∙ ap (λ (b : ℕ). old ++ entry_code base long a b x
+    next) e
     ∙ ap (λ (y : Option Entry). old ++ entry_code base long a b y next) f
     ∙ ap (λ (z : Option Entry). old ++ entry_code base long a b y z) g

@@ -39,8 +39,11 @@ word_is base a word code m h w = ap (fetch_from (code_of m)) w.1 ∙ h w.0 word 
 pub says_stand : (base : ℕ) (code : List ℕ) (m : Memory) → HasCode base code m → (xs : List Instr) (a : ℕ)
     → SaysFrom base code a xs → StandIn (code_of m) a xs
 says_stand base code m h [] a says = tt
-says_stand base code m h (x ∷ xs) a says =
-    (record { word = says.0.0; fetched = word_is base a says.0.0 code m h says.0.1; decodes = says.0.2 }, says_stand base code m h xs (a + 4) says.1)
+says_stand base code m h (x ∷ xs) a says = (
+  record { word = says.0.0; fetched = word_is base a says.0.0 code m h says.0.1; decodes = says.0.2 },
+  says_stand
+      base code m h xs (a + 4) says.1,
+)
 
 -- ---- a Jump
 
@@ -221,7 +224,8 @@ module _ (s : State) (ready : IsReady s) (none : s.slot ≡ NoSlot) (low : s.pc 
       let npc = ready.npc in
       let here : Says (code_of s.memory) s.npc nop = says_at (code_of s.memory) s.npc (s.pc + 4) nop
       (sym ready.npc) stand.1.0 in
-      let two : step_of (record s { pc = s.npc; npc = to; slot = slot }) ≡ hopped s to s.memory = says_step s1 nop ready.live here ∙ nop_acts s s.npc to slot in
+      let two : step_of (record s { pc = s.npc; npc = to; slot = slot }) ≡ hopped s to s.memory = says_step s1 nop
+      ready.live here ∙ nop_acts s s.npc to slot in
       record {
         path = leads_then _ s s1 (hopped s to s.memory) 1 1 (leads_one _ s s1 one) (leads_one _ s1 _ two)
             (λ _ _. record { past = omega arith; before = omega arith; stores = stores_none IsFirstWord s.memory });
@@ -280,9 +284,19 @@ past_jump base code to a b s true w is low low' aligned e say h =
       hops = record {
         path = leads_then (IsBetween s 6 IsFirstWord) s s2 _ 2 4
             (leads_weaker (IsBetween s 2 IsFirstWord) (IsBetween s 6 IsFirstWord) s s2 2
-            (λ u k. let x = k.past in let y = k.before in record { past = omega arith; before = omega arith; stores = k.stores }) h.path)
+            (λ u k. let x = k.past in let y = k.before in record {
+              past = omega arith;
+              before = omega arith;
+              stores =
+                  k.stores;
+            }) h.path)
             (leads_weaker (IsBetween s2 4 IsFirstWord) (IsBetween s 6 IsFirstWord) s2 _ 4
-            (λ u k. let x = k.past in let y = k.before in record { past = omega arith; before = omega arith; stores = k.stores }) jump.path)
+            (λ u k. let x = k.past in let y = k.before in record {
+              past = omega arith;
+              before = omega arith;
+              stores =
+                  k.stores;
+            }) jump.path)
             (λ _ _. record { past = omega arith; before = omega arith; stores = stores_none IsFirstWord s.memory });
         silent = silent_then s s2 2 4 h.path.steps h.silent jump.silent;
         stores = jump.stores;

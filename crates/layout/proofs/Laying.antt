@@ -49,10 +49,12 @@ or_true true = refl
 or_true false = refl
 
 pub laid_same : (laid : List ℕ) (x : ℕ) → is_laid (laid ++ x ∷ []) x ≡ true
-laid_same laid x = laid_push laid x x ∙ ap (λ (b : Bool). is_laid laid x || (b || false)) (eq-eqb x x refl) ∙ or_true (is_laid laid x)
+laid_same laid x = laid_push laid x x ∙ ap (λ (b : Bool). is_laid laid x || (b || false)) (eq-eqb x x refl)
+    ∙ or_true (is_laid laid x)
 
 pub laid_other : (laid : List ℕ) (x k : ℕ) → (k ≡ x → ⊥) → is_laid (laid ++ x ∷ []) k ≡ is_laid laid k
-laid_other laid x k h = laid_push laid x k ∙ ap (λ (b : Bool). is_laid laid k || (b || false)) (different k x h) ∙ or_false (is_laid laid k)
+laid_other laid x k h = laid_push laid x k ∙ ap (λ (b : Bool). is_laid laid k || (b || false)) (different k x h)
+    ∙ or_false (is_laid laid k)
 
 pub laid_kept : (laid : List ℕ) (x k : ℕ) → is_laid laid k ≡ true → is_laid (laid ++ x ∷ []) k ≡ true
 laid_kept laid x k h = laid_push laid x k ∙ ap (λ (b : Bool). b || (eqb k x || false)) h
@@ -61,7 +63,8 @@ laid_kept laid x k h = laid_push laid x k ∙ ap (λ (b : Bool). b || (eqb k x |
 pub first_left_is : (laid : List ℕ) (k room m : ℕ) → k ≤ m → m < k + room
     → ((j : ℕ) → k ≤ j → j < m → is_laid laid j ≡ true) → is_laid laid m ≡ false → first_left laid k room ≡ m
 first_left_is laid k zero m a b h f = absurd (omega arith)
-first_left_is laid k (suc room) m a b h f = go (cases_eq k m) (λ s. first_left_is laid (suc k) room m s (omega arith) (λ j u v. h j (omega arith) v) f)
+first_left_is laid k (suc room) m a b h f = go (cases_eq k m) (λ s. first_left_is laid (suc k) room m s (omega arith)
+    (λ j u v. h j (omega arith) v) f)
   where
     go : (k ≡ m) ⊎ (k ≡ m → ⊥) → (suc k ≤ m → first_left laid (suc k) room ≡ m) → first_left laid k (suc room) ≡ m
     go (inl e) more = rw (ap (is_laid laid) e ∙ f) e
@@ -124,7 +127,8 @@ target_next : (pieces : List (List Item)) (laid : List ℕ) (to : ℕ)
 target_next pieces laid to inside free jump = record {
   inside = inside;
   free = free;
-  falls = λ j e f. let s : j ≡ to - 1 = omega arith in let g : ends_in_jump pieces (to - 1) ≡ false = ap (ends_in_jump pieces) (sym s) ∙ f in absurd (differ (sym g ∙ jump));
+  falls = λ j e f. let s : j ≡ to - 1 = omega arith in let g : ends_in_jump pieces (to - 1) ≡ false = ap (ends_in_jump
+      pieces) (sym s) ∙ f in absurd (differ (sym g ∙ jump));
 }
 
 -- ---- the lowest left
@@ -143,7 +147,8 @@ left_below laid k (suc room) j a b = go (cases_Bool (is_laid laid k)) (cases_eq 
         let f : first_left laid k (suc room) ≡ k = rw e refl in
         absurd (omega (arith, a, b, f))
 
-left_free : (laid : List ℕ) (k room : ℕ) → first_left laid k room < k + room → is_laid laid (first_left laid k room) ≡ false
+left_free : (laid : List ℕ) (k room : ℕ) → first_left laid k room < k + room
+    → is_laid laid (first_left laid k room) ≡ false
 left_free laid k zero l = absurd (omega arith)
 left_free laid k (suc room) l = go (cases_Bool (is_laid laid k)) (left_free laid (suc k) room)
   where
@@ -204,12 +209,14 @@ next_is pieces laid leads h short = start (slice_get laid (length laid - 1)) ref
     lowest : IsNext pieces laid (lowest_left pieces laid)
     lowest = lowest_next pieces laid (lowest_left pieces laid) (lowest_is_left pieces laid short)
 
-    through : (last : ℕ) (more : Bool) → ltb (suc last) (length pieces) ≡ more → slice_get laid (length laid - 1) ≡ Some last
+    through : (last : ℕ) (more : Bool) → ltb (suc last) (length pieces) ≡ more
+        → slice_get laid (length laid - 1) ≡ Some last
         → exit_at pieces last ≡ None → IsNext pieces laid (if more then suc last else lowest_left pieces laid)
     through last true m end none = through_next pieces laid last h end none (ltb-true (suc last) (length pieces) m)
     through last false m end none = lowest
 
-    lead : (to : PieceNo) (test : Bool) → (not (is_laid laid to.0) && ends_in_jump pieces (to.0 - 1)) ≡ test → to.0 < length pieces
+    lead : (to : PieceNo) (test : Bool) → (not (is_laid laid to.0) && ends_in_jump pieces (to.0 - 1)) ≡ test
+        → to.0 < length pieces
         → IsNext pieces laid (if test then to.0 else lowest_left pieces laid)
     lead to true t l = target_next pieces laid to.0 l (not_left (is_laid laid to.0) (ends_in_jump pieces (to.0 - 1)) t)
         (not_right (is_laid laid to.0) (ends_in_jump pieces (to.0 - 1)) t)
@@ -253,7 +260,8 @@ laying_more pieces laid x h next = record {
         → (is_laid (laid ++ x ∷ []) k ≡ true) × (slice_get (laid ++ x ∷ []) (length (laid ++ x ∷ []) - 1) ≢ Some k)
     both k l = (laid_kept laid x k l, not_last k l)
 
-    after : (k : ℕ) → ends_in_jump pieces k ≡ false → is_laid (laid ++ x ∷ []) (suc k) ≡ true → (suc k ≡ x) ⊎ (suc k ≡ x → ⊥)
+    after : (k : ℕ) → ends_in_jump pieces k ≡ false → is_laid (laid ++ x ∷ []) (suc k) ≡ true
+        → (suc k ≡ x) ⊎ (suc k ≡ x → ⊥)
         → (is_laid (laid ++ x ∷ []) k ≡ true) × (slice_get (laid ++ x ∷ []) (length (laid ++ x ∷ []) - 1) ≢ Some k)
     after k e l (inl s) = both k (next.falls k s e)
     after k e l (inr d) = both k ((h.falls k e (sym (laid_other laid x (suc k) d) ∙ l)).0)
@@ -285,33 +293,46 @@ first_are pieces leads (suc count) l =
       len = let x = length-append laid (next_piece pieces laid ∷ []) in omega (arith, x, n);
     }
 
-pub first_next : (pieces : List (List Item)) (laid : List ℕ) → LeadsInside pieces → laid ≡ first_laid pieces (length laid)
+pub first_next : (pieces : List (List Item)) (laid : List ℕ) → LeadsInside pieces
+    → laid ≡ first_laid pieces (length laid)
     → length laid < length pieces → IsNext pieces laid (next_piece pieces laid)
 first_next pieces laid leads e short =
-    next_is pieces laid leads (subst (IsLaying pieces) (sym e) (first_are pieces leads (length laid) (omega arith)).laying) short
+    next_is pieces laid leads (subst (IsLaying pieces) (sym e) (first_are pieces leads (length laid) (omega
+    arith)).laying) short
 
-pub last_inside : (pieces : List (List Item)) (laid : List ℕ) (last : ℕ) → LeadsInside pieces → laid ≡ first_laid pieces (length laid)
+pub last_inside : (pieces : List (List Item)) (laid : List ℕ) (last : ℕ) → LeadsInside pieces
+    → laid ≡ first_laid pieces (length laid)
     → length laid < length pieces → slice_get laid (length laid - 1) ≡ Some last → last < length pieces
 last_inside pieces laid last leads e short end =
-    let h : IsLaying pieces laid = subst (IsLaying pieces) (sym e) (first_are pieces leads (length laid) (omega arith)).laying in
+    let h : IsLaying pieces laid = subst (IsLaying pieces) (sym e) (first_are pieces leads (length laid) (omega
+    arith)).laying in
     laid_inside laid (length pieces) last h.inside (last_laid laid last end)
 
 -- each piece is laid once
 pub whole_is : (pieces : List (List Item)) → LeadsInside pieces → IsWhole pieces (compact_order pieces)
-whole_is pieces leads = record { laying = h.laying; len = h.len; once = λ k l. go k l (cases_Bool (is_laid (compact_order pieces) k)) }
+whole_is pieces leads = record {
+  laying = h.laying;
+  len = h.len;
+  once = λ k l. go k l (cases_Bool (is_laid
+      (compact_order pieces) k));
+}
   where
     h : AreFirst pieces (compact_order pieces) (length pieces)
     h = first_are pieces leads (length pieces) (omega arith)
 
-    go : (k : ℕ) → k < length pieces → (is_laid (compact_order pieces) k ≡ true) ⊎ (is_laid (compact_order pieces) k ≡ false)
+    go : (k : ℕ) → k < length pieces → (is_laid (compact_order pieces) k ≡ true) ⊎ (is_laid (compact_order pieces) k ≡
+        false)
         → is_laid (compact_order pieces) k ≡ true
     go k l (inl t) = t
     go k l (inr f) =
         let laid = compact_order pieces in
         let n = h.len in
-        let d : IsDistinct eqb (compact_order pieces ++ k ∷ []) = IsDistinct-push the_equality laid k h.laying.distinct f in
-        let in' : All (λ j. j < length pieces) (compact_order pieces ++ k ∷ []) = All-push (λ j. j < length pieces) laid k h.laying.inside l in
-        let m : length (compact_order pieces ++ k ∷ []) ≤ length pieces = length-le_from_distinct_below (laid ++ k ∷ []) (length pieces) d (λ q u. laid_inside (laid ++ k ∷ []) (length pieces) q in' u) in
+        let d : IsDistinct eqb (compact_order pieces ++ k ∷ []) = IsDistinct-push the_equality laid k
+        h.laying.distinct f in
+        let in' : All (λ j. j < length pieces) (compact_order pieces ++ k ∷ []) = All-push (λ j. j < length pieces)
+        laid k h.laying.inside l in
+        let m : length (compact_order pieces ++ k ∷ []) ≤ length pieces = length-le_from_distinct_below (laid ++ k ∷
+        []) (length pieces) d (λ q u. laid_inside (laid ++ k ∷ []) (length pieces) q in' u) in
         absurd (omega (arith, length-append laid (k ∷ []), m, n))
 
 -- ---- what follows
@@ -331,8 +352,10 @@ laid_at pieces leads (suc n) i l m = go (cases_eq i n) (laid_at pieces leads n i
     len : length (first_laid pieces n) ≡ n
     len = (first_are pieces leads n (omega arith)).len
 
-    go : (i ≡ n) ⊎ (i ≡ n → ⊥) → (i < n → slice_get (first_laid pieces n) i ≡ Some (next_piece pieces (first_laid pieces i)))
-        → slice_get (first_laid pieces n ++ next_piece pieces (first_laid pieces n) ∷ []) i ≡ Some (next_piece pieces (first_laid pieces i))
+    go : (i ≡ n) ⊎ (i ≡ n → ⊥) → (i < n → slice_get (first_laid pieces n) i ≡ Some (next_piece pieces (first_laid
+        pieces i)))
+        → slice_get (first_laid pieces n ++ next_piece pieces (first_laid pieces n) ∷ []) i ≡ Some (next_piece pieces
+        (first_laid pieces i))
     go (inl e) more =
         ap (slice_get (first_laid pieces n ++ next_piece pieces (first_laid pieces n) ∷ [])) (e ∙ sym len)
         ∙ pushed_at (first_laid pieces n) (next_piece pieces (first_laid pieces n))
@@ -341,13 +364,16 @@ laid_at pieces leads (suc n) i l m = go (cases_eq i n) (laid_at pieces leads n i
         get_push_old (first_laid pieces n) (next_piece pieces (first_laid pieces n)) i (omega (arith, len, d))
         ∙ more (omega (arith, d))
 
-first_grows : (pieces : List (List Item)) (i : ℕ) → first_laid pieces (suc i) ≡ first_laid pieces i ++ next_piece pieces (first_laid pieces i) ∷ []
+first_grows : (pieces : List (List Item)) (i : ℕ) → first_laid pieces (suc i) ≡ first_laid pieces i ++ next_piece
+    pieces (first_laid pieces i) ∷ []
 unfolding first_laid
 first_grows pieces i = refl
 
 -- the next piece of the list comes right behind one that ends in no Jump
-pub follows : (pieces : List (List Item)) → LeadsInside pieces → (k i : ℕ) → suc k < length pieces → exit_at pieces k ≡ None
-    → i < length pieces → slice_get (compact_order pieces) i ≡ Some k → slice_get (compact_order pieces) (suc i) ≡ Some (suc k)
+pub follows : (pieces : List (List Item)) → LeadsInside pieces → (k i : ℕ) → suc k < length pieces
+    → exit_at pieces k ≡ None
+    → i < length pieces → slice_get (compact_order pieces) i ≡ Some k → slice_get (compact_order pieces) (suc i) ≡
+    Some (suc k)
 follows pieces leads k i more none within is = go (cases_eq (suc i) (length pieces))
   where
     whole : IsWhole pieces (compact_order pieces)
@@ -371,16 +397,20 @@ follows pieces leads k i more none within is = go (cases_eq (suc i) (length piec
         laid_at pieces leads (length pieces) (suc i) (omega arith) (omega (arith, d))
         ∙ ap (λ (o : Option ℕ). Some (next_after pieces (first_laid pieces (suc i)) o)) last
         ∙ ap (λ (o : Option PieceNo). Some (behind pieces (first_laid pieces (suc i)) k o)) none
-        ∙ ap (λ (b : Bool). Some (if b then suc k else lowest_left pieces (first_laid pieces (suc i)))) (lt-ltb (suc k) (length pieces) more)
+        ∙ ap (λ (b : Bool). Some (if b then suc k else lowest_left pieces (first_laid pieces (suc i)))) (lt-ltb (suc
+        k) (length pieces) more)
 
 -- ---- marks
 
 -- the first free mark shows the lowest piece left
-pub lowest_is : (pieces : List (List Item)) (laid : List ℕ) (marks : List Bool) (low k : ℕ) → IsMarking pieces laid marks low
-    → length laid < length pieces → k ≤ length marks → low ≤ k → ((j : ℕ) → low ≤ j → j < k → get_or marks j false ≡ true)
+pub lowest_is : (pieces : List (List Item)) (laid : List ℕ) (marks : List Bool) (low k : ℕ)
+    → IsMarking pieces laid marks low
+    → length laid < length pieces → k ≤ length marks → low ≤ k → ((j : ℕ) → low ≤ j → j < k
+    → get_or marks j false ≡ true)
     → (k < length marks → get_or marks k false ≡ false) → IsLowestLeft pieces laid k
 lowest_is pieces laid marks low k h more within above passed free = record {
-  value = sym (first_left_is laid 0 (length pieces) k (omega arith) (let l : k < length pieces = inside in omega arith) (λ j u v. below j v) unlaid);
+  value = sym (first_left_is laid 0 (length pieces) k (omega arith) (let l : k < length pieces = inside in omega
+      arith) (λ j u v. below j v) unlaid);
   inside = inside;
   free = unlaid;
   below = below;
@@ -399,7 +429,8 @@ lowest_is pieces laid marks low k h more within above passed free = record {
     unlaid : is_laid laid k ≡ false
     unlaid = sym (h.shown k inside) ∙ free (omega (arith, h.len, inside))
 
-pub marking_higher : (pieces : List (List Item)) (laid : List ℕ) (marks : List Bool) (low k : ℕ) → IsMarking pieces laid marks low
+pub marking_higher : (pieces : List (List Item)) (laid : List ℕ) (marks : List Bool) (low k : ℕ)
+    → IsMarking pieces laid marks low
     → IsLowestLeft pieces laid k → IsMarking pieces laid marks k
 marking_higher pieces laid marks low k h l = record {
   order = h.order;
@@ -409,7 +440,8 @@ marking_higher pieces laid marks low k h l = record {
   below = l.below;
 }
 
-pub marking_more : (pieces : List (List Item)) (laid : List ℕ) (marks : List Bool) (low x : ℕ) → IsMarking pieces laid marks low
+pub marking_more : (pieces : List (List Item)) (laid : List ℕ) (marks : List Bool) (low x : ℕ)
+    → IsMarking pieces laid marks low
     → x ≡ next_piece pieces laid → x < length pieces → IsMarking pieces (laid ++ x ∷ []) (set marks x true) low
 marking_more pieces laid marks low x h is inside = record {
   order = grown;
@@ -428,10 +460,16 @@ marking_more pieces laid marks low x h is inside = record {
         ∙ ap (λ (l : List ℕ). l ++ next_piece pieces l ∷ []) h.order
         ∙ sym (first_grows pieces (length laid)) ∙ ap (first_laid pieces) (sym more)
 
-    shown : (k : ℕ) → k < length pieces → (k ≡ x) ⊎ (k ≡ x → ⊥) → get_or (set marks x true) k false ≡ is_laid (laid ++ x ∷ []) k
+    shown : (k : ℕ) → k < length pieces → (k ≡ x) ⊎ (k ≡ x → ⊥) → get_or (set marks x true) k false ≡ is_laid (laid ++
+        x ∷ []) k
     shown k l (inl e) =
-        let at : get_or (set marks x true) x false ≡ true = get_or-set_same marks x true false (omega (arith, h.len, inside)) in
-        ap (λ (k : ℕ). get_or (set marks x true) k false) e ∙ at ∙ sym (laid_same laid x) ∙ ap (is_laid (laid ++ x ∷ [])) (sym e)
+        let at : get_or (set marks x true) x false ≡ true = get_or-set_same marks x true false (omega (
+          arith,
+          h.len,
+          inside,
+        )) in
+        ap (λ (k : ℕ). get_or (set marks x true) k false) e ∙ at ∙ sym (laid_same laid x)
+        ∙ ap (is_laid (laid ++ x ∷ [])) (sym e)
     shown k l (inr d) = get_or-set_other marks x k true false d ∙ h.shown k l ∙ sym (laid_other laid x k d)
 
 pub marking_none : (pieces : List (List Item)) → IsMarking pieces [] (replicate (length pieces) false) 0
@@ -468,4 +506,5 @@ pub exits_lead : (pieces : List (List Item)) → AllLead pieces → LeadsInside 
 exits_lead pieces h k =
     let n : ℕ = length (get_or pieces k []) - 1 in
     exit_leads (length pieces) (slice_get (get_or pieces k []) (length (get_or pieces k []) - 1))
-    (subst (LeadsBelow (length pieces)) (item_is pieces k (length (get_or pieces k []) - 1)) (h k (length (get_or pieces k []) - 1)))
+    (subst (LeadsBelow (length pieces)) (item_is pieces k (length (get_or pieces k []) - 1)) (h k (length (get_or
+    pieces k []) - 1)))

@@ -72,10 +72,12 @@ split_at (j ∷ js) k e = go (cases_Bool (eqb k j)) (split_at js k)
 start_self : (k : ℕ) (xs : List Entry) → start_of (en.Start (record { 0 = k }) ∷ xs) k ≡ 0
 start_self k xs = ap (λ (b : Bool). if b then 0 else suc (start_of xs k)) (eq-eqb k k refl)
 
-start_past : (k j : ℕ) (xs : List Entry) → eqb k j ≡ false → start_of (en.Start (record { 0 = j }) ∷ xs) k ≡ suc (start_of xs k)
+start_past : (k j : ℕ) (xs : List Entry) → eqb k j ≡ false → start_of (en.Start (record { 0 = j }) ∷ xs) k ≡ suc
+    (start_of xs k)
 start_past k j xs e = ap (λ (b : Bool). if b then 0 else suc (start_of xs k)) e
 
-start_items : (k : ℕ) (items : List Item) (xs : List Entry) → start_of (map en.Item items ++ xs) k ≡ length items + start_of xs k
+start_items : (k : ℕ) (items : List Item) (xs : List Entry) → start_of (map en.Item items ++ xs) k ≡ length items +
+    start_of xs k
 start_items k [] xs = omega arith
 start_items k (x ∷ items) xs = let h = start_items k items xs in omega (arith, h)
 
@@ -116,12 +118,14 @@ rest_past f (p ∷ ps) i k ks l =
     = ap (λ (b : Bool). if b then 0 else f p) (or_false (eqb i k) (is_laid ks i) d) in
     omega (arith, h, g)
 
-rest_less : (f : List Item → ℕ) (pieces : List (List Item)) (i d : ℕ) (ks : List ℕ) → d < length pieces → is_laid ks (i + d) ≡ false
+rest_less : (f : List Item → ℕ) (pieces : List (List Item)) (i d : ℕ) (ks : List ℕ) → d < length pieces
+    → is_laid ks (i + d) ≡ false
     → rest_of f pieces i ks ≡ rest_of f pieces i ((i + d) ∷ ks) + f (items_at pieces d)
 rest_less f [] i d ks l e = absurd (omega arith)
 rest_less f (p ∷ ps) i zero ks l e =
     let z : i + 0 ≡ i = omega arith in
-    let a : (if is_laid ks i then 0 else f p) ≡ f p = ap (λ (b : Bool). if b then 0 else f p) (ap (is_laid ks) (sym z) ∙ e) in
+    let a : (if is_laid ks i then 0 else f p) ≡ f p = ap (λ (b : Bool). if b then 0 else f p) (ap (is_laid ks) (sym z)
+    ∙ e) in
     let b : (if eqb i (i + 0) || is_laid ks i then 0 else f p) ≡ 0
     = ap (λ (b : Bool). if b || is_laid ks i then 0 else f p) (eq-eqb i (i + 0) (sym z)) in
     let c = rest_past f ps (suc i) (i + 0) ks (omega arith) in
@@ -167,7 +171,8 @@ weighs_less f pieces order h =
 abbrev counted : List Item → ℕ
 counted items = suc (length items)
 
-entry_count : (pieces : List (List Item)) (order : List ℕ) → length (entries_from pieces order) ≡ weigh counted pieces order
+entry_count : (pieces : List (List Item)) (order : List ℕ) → length (entries_from pieces order) ≡ weigh counted pieces
+    order
 entry_count pieces [] = refl
 entry_count pieces (k ∷ ks) =
     let h = entry_count pieces ks in
@@ -208,7 +213,8 @@ lead_item count (it.Branch c to) h = h
 lead_item count (it.Mark a n) h = tt
 lead_item count it.EndMark h = tt
 
-lead_items : (count : ℕ) (items : List Item) → ((n : ℕ) → LeadsBelow count (slice_get items n)) → LeadBelow count (map en.Item items)
+lead_items : (count : ℕ) (items : List Item) → ((n : ℕ) → LeadsBelow count (slice_get items n))
+    → LeadBelow count (map en.Item items)
 lead_items count [] h n = tt
 lead_items count (x ∷ xs) h zero = lead_item count x (h 0)
 lead_items count (x ∷ xs) h (suc n) = lead_items count xs (λ n. h (suc n)) n
@@ -217,23 +223,27 @@ lead_start : (count j : ℕ) (xs : List Entry) → LeadBelow count xs → LeadBe
 lead_start count j xs h zero = tt
 lead_start count j xs h (suc n) = h n
 
-lead_entries : (pieces : List (List Item)) → AllLead pieces → (order : List ℕ) → LeadBelow (length pieces) (entries_from pieces order)
+lead_entries : (pieces : List (List Item)) → AllLead pieces → (order : List ℕ)
+    → LeadBelow (length pieces) (entries_from pieces order)
 lead_entries pieces h [] n = tt
 lead_entries pieces h (j ∷ js) n =
     lead_append (length pieces) (entries_in j (items_at pieces j)) (entries_from pieces js)
     (lead_start (length pieces) j (map en.Item (items_at pieces j))
-    (lead_items (length pieces) (items_at pieces j) (λ m. subst (LeadsBelow (length pieces)) (item_is pieces j m) (h j m))))
+    (lead_items (length pieces) (items_at pieces j) (λ m. subst (LeadsBelow (length pieces)) (item_is pieces j m) (h j
+    m))))
     (lead_entries pieces h js) n
 
 -- ---- listing them
 
 -- the first i pieces of the order are listed
-pub record IsListed (pieces : List (List Item)) (order : List ℕ) (entries : List Entry) (starts : List ℕ) (i : ℕ) : Type 0 where
+pub record IsListed (pieces : List (List Item)) (order : List ℕ) (entries : List Entry) (starts : List ℕ) (i : ℕ) :
+    Type 0 where
   pub are : entries ≡ entries_from pieces (take i order)
   pub len : length starts ≡ length pieces
   pub known : (k : ℕ) → is_laid (take i order) k ≡ true → slice_index starts k ≡ start_of (entries_from pieces order) k
 
-pub listed_none : (pieces : List (List Item)) (order : List ℕ) → IsListed pieces order [] (replicate (length pieces) 0) 0
+pub listed_none : (pieces : List (List Item)) (order : List ℕ) → IsListed pieces order [] (replicate (length pieces)
+    0) 0
 listed_none pieces order = record {
   are = refl;
   len = length-replicate (length pieces) 0;
@@ -250,7 +260,8 @@ distinct_before (j ∷ fs) rs k d =
     apart [] a = the_equality.symm k j ∙ a.0
     apart (x ∷ xs) a = apart xs a.1
 
-pub before_absent : (pieces : List (List Item)) (order fs rs : List ℕ) (k : ℕ) → IsWhole pieces order → order ≡ fs ++ k ∷ rs
+pub before_absent : (pieces : List (List Item)) (order fs rs : List ℕ) (k : ℕ) → IsWhole pieces order
+    → order ≡ fs ++ k ∷ rs
     → is_laid fs k ≡ false
 before_absent pieces order fs rs k h e = distinct_before fs rs k (subst (IsDistinct eqb) e h.laying.distinct)
 
@@ -275,7 +286,8 @@ listed_more pieces order entries starts i j h whole l same = record {
     one [] = refl
     one (x ∷ xs) = ap (λ (ys : List Entry). x ∷ ys) (one xs)
 
-    grown : entries_from pieces (take (i + 1) order) ≡ entries_from pieces (take i order) ++ entries_in j (items_at pieces j)
+    grown : entries_from pieces (take (i + 1) order) ≡ entries_from pieces (take i order) ++ entries_in j (items_at
+        pieces j)
     grown =
         ap (entries_from pieces) taken ∙ from_append pieces (take i order) (j ∷ [])
         ∙ ap (λ (xs : List Entry). entries_from pieces (take i order) ++ xs) (one (entries_in j (items_at pieces j)))
@@ -283,7 +295,8 @@ listed_more pieces order entries starts i j h whole l same = record {
     split : order ≡ take i order ++ j ∷ drop (i + 1) order
     split =
         sym (take_drop order i)
-        ∙ ap (λ (xs : List ℕ). take i order ++ xs) (let e : drop i order ≡ j ∷ drop (i + 1) order = rw (add-one, same) (drop-cons order i 0 l) in e)
+        ∙ ap (λ (xs : List ℕ). take i order ++ xs) (let e : drop i order ≡ j ∷ drop (i + 1) order = rw (add-one, same)
+        (drop-cons order i 0 l) in e)
 
     inside : j < length pieces
     inside = let a = whole.laying.inside i 0 l in omega (arith, a, same)
@@ -298,8 +311,10 @@ listed_more pieces order entries starts i j h whole l same = record {
     known : (k : ℕ) → is_laid (take (i + 1) order) k ≡ true → (k ≡ j) ⊎ (k ≡ j → ⊥)
         → slice_index (set starts j (length entries)) k ≡ start_of (entries_from pieces order) k
     known k t (inl s) =
-        let a : slice_index (set starts j (length entries)) j ≡ length entries = get_or-set_same starts j (length entries) 0 (omega (arith, h.len, inside)) in
-        ap (slice_index (set starts j (length entries))) s ∙ a ∙ here ∙ ap (start_of (entries_from pieces order)) (sym s)
+        let a : slice_index (set starts j (length entries)) j ≡ length entries = get_or-set_same starts j (length
+        entries) 0 (omega (arith, h.len, inside)) in
+        ap (slice_index (set starts j (length entries))) s ∙ a ∙ here ∙ ap (start_of (entries_from pieces order)) (sym
+        s)
     known k t (inr d) =
         get_or-set_other starts j k (length entries) 0 d
         ∙ h.known k (sym (laid_other (take i order) j k d) ∙ ap (λ (xs : List ℕ). is_laid xs k) (sym taken) ∙ t)
@@ -311,17 +326,21 @@ start_inside pieces order k whole l =
     let a = start_at pieces s.before s.after k s.absent in
     let e : start_of (entries_from pieces order) k ≡ start_of (entries_from pieces (s.before ++ k ∷ s.after)) k
     = ap (λ (xs : List ℕ). start_of (entries_from pieces xs) k) s.is in
-    let f : length (entries_from pieces order) ≡ length (entries_from pieces s.before ++ entries_from pieces (k ∷ s.after))
+    let f : length (entries_from pieces order) ≡ length (entries_from pieces s.before ++ entries_from pieces (k ∷
+    s.after))
     = ap length (ap (entries_from pieces) s.is ∙ from_append pieces s.before (k ∷ s.after)) in
     let g = length-append (entries_from pieces s.before) (entries_from pieces (k ∷ s.after)) in
     omega (arith, a, e, f, g)
 
 pub listed_all : (pieces : List (List Item)) (order : List ℕ) (entries : List Entry) (starts : List ℕ) (i : ℕ)
-    → IsListed pieces order entries starts i → IsWhole pieces order → AllLead pieces → i ≡ length order → IsListing entries starts
+    → IsListed pieces order entries starts i → IsWhole pieces order → AllLead pieces → i ≡ length order
+    → IsListing entries starts
 listed_all pieces order entries starts i h whole leads e =
     subst (λ (xs : List Entry). IsListing xs starts) (sym all) (record {
-      targets = subst (λ (n : ℕ). LeadBelow n (entries_from pieces order)) (sym h.len) (lead_entries pieces leads order);
-      inside = λ k l. let a = start_inside pieces order k whole (omega (arith, h.len, l)) in let b = known k l in omega (arith, a, b);
+      targets = subst (λ (n : ℕ). LeadBelow n (entries_from pieces order)) (sym h.len) (lead_entries pieces leads
+          order);
+      inside = λ k l. let a = start_inside pieces order k whole (omega (arith, h.len, l)) in let b = known k l in
+          omega (arith, a, b);
       are = λ k l. known k l;
     })
   where

@@ -28,7 +28,8 @@ offset_none : (entries : List Entry) (long : Forms) → offset entries long 0 �
 unfolding offset
 offset_none entries long = refl
 
-same_offset : (entries : List Entry) (long other : Forms) → ((n : ℕ) → long n ≡ other n) → (n : ℕ) → offset entries long n ≡ offset entries other n
+same_offset : (entries : List Entry) (long other : Forms) → ((n : ℕ) → long n ≡ other n) → (n : ℕ)
+    → offset entries long n ≡ offset entries other n
 same_offset entries long other h zero = offset_none entries long ∙ sym (offset_none entries other)
 same_offset entries long other h (suc n) =
     let a = same_offset entries long other h n in
@@ -39,7 +40,8 @@ same_offset entries long other h (suc n) =
 
 pub needed_once : NeededOnce
 needed_once pieces bytes other a b =
-    let e = same_offset (entries_of pieces) a.long b.long (widened_once (entries_of pieces) a.long b.long a.widened b.widened) (length (entries_of pieces)) in
+    let e = same_offset (entries_of pieces) a.long b.long (widened_once (entries_of pieces) a.long b.long a.widened
+    b.widened) (length (entries_of pieces)) in
     a.value ∙ ap (λ (n : ℕ). 4 * n) e ∙ sym b.value
 
 -- ---- no more than the long forms
@@ -64,22 +66,26 @@ width_low : (long : Bool) (x : Entry) (next : Option Entry) → width long (Some
 width_low long (en.Start k) next = omega arith
 width_low long (en.Item (it.Word w)) next = omega arith
 width_low long (en.Item (it.Jump to)) next =
-    choose (leads_next to next) 0 (if long then 4 else 1) 4 (omega arith) (choose long 4 1 4 (omega arith) (omega arith))
+    choose (leads_next to next) 0 (if long then 4 else 1) 4 (omega arith) (choose long 4 1 4 (omega arith) (omega
+    arith))
 width_low long (en.Item (it.Branch c to)) next = choose long 6 2 6 (omega arith) (omega arith)
 width_low long (en.Item (it.Mark a n)) next = omega arith
 width_low long (en.Item it.EndMark) next = omega arith
 
-offset_low : (entries : List Entry) (long : Forms) (n : ℕ) → n ≤ length entries → offset entries long n ≤ full (take n entries)
+offset_low : (entries : List Entry) (long : Forms) (n : ℕ) → n ≤ length entries
+    → offset entries long n ≤ full (take n entries)
 offset_low entries long zero l = let e = offset_none entries long in omega (arith, e)
 offset_low entries long (suc n) l =
     let x : Entry = get_or entries n (en.Item it.EndMark) in
     let h = offset_low entries long n (omega arith) in
     let m = offset_more entries long n in
-    let g : slice_get entries n ≡ Some (get_or entries n (en.Item it.EndMark)) = slice_get-get_or entries n (en.Item it.EndMark) (omega arith) in
+    let g : slice_get entries n ≡ Some (get_or entries n (en.Item it.EndMark)) = slice_get-get_or entries n (en.Item
+    it.EndMark) (omega arith) in
     let w = width_low (long n) (get_or entries n (en.Item it.EndMark)) (slice_get entries (suc n)) in
     let y = ap (λ (z : Option Entry). width (long n) z (slice_get entries (suc n))) g in
     let t : take (suc n) entries ≡ take n entries ++ get_or entries n (en.Item it.EndMark) ∷ []
-    = (let s : suc n ≡ n + 1 = omega arith in ap (λ (m : ℕ). take m entries) s ∙ take_more entries n (en.Item it.EndMark) (omega arith)) in
+    = (let s : suc n ≡ n + 1 = omega arith in ap (λ (m : ℕ). take m entries) s
+    ∙ take_more entries n (en.Item it.EndMark) (omega arith)) in
     let f = ap full t in
     let a = full_append (take n entries) (get_or entries n (en.Item it.EndMark) ∷ []) in
     omega (arith, h, m, w, y, f, a)
@@ -88,7 +94,8 @@ full_items : (items : List Item) → full (map en.Item items) ≡ piece_words it
 full_items [] = refl
 full_items (x ∷ xs) = let h = full_items xs in let s = sum_by-cons long_words x xs in omega (arith, h, s)
 
-full_order : (pieces : List (List Item)) (order : List ℕ) → full (entries_from pieces order) ≡ weigh piece_words pieces order
+full_order : (pieces : List (List Item)) (order : List ℕ) → full (entries_from pieces order) ≡ weigh piece_words
+    pieces order
 full_order pieces [] = refl
 full_order pieces (k ∷ ks) =
     let h = full_order pieces ks in
@@ -138,7 +145,8 @@ module _ (pieces : List (List Item)) (base : ℕ) (p : Placement) (place : ℕ �
   abbrev entry_no : ℕ → ℕ → ℕ
   entry_no k n = start_of (entries_of pieces) k + 1 + n
 
-  near : (k n : ℕ) → k < length pieces → n ≤ size_of pieces k → offset (entries_of pieces) c.long (start_of (entries_of pieces) k + 1 + n) < 2 ^ 21
+  near : (k n : ℕ) → k < length pieces → n ≤ size_of pieces k → offset (entries_of pieces) c.long (start_of
+      (entries_of pieces) k + 1 + n) < 2 ^ 21
   near k n l m =
       let e = c.places k n l m in
       let w = (h.within k n l m).ends in
@@ -148,7 +156,8 @@ module _ (pieces : List (List Item)) (base : ℕ) (p : Placement) (place : ℕ �
   start_near k l =
       let s = start_of (entries_of pieces) k in
       let a = near k 0 l (omega arith) in
-      let e = ap (offset (entries_of pieces) c.long) (let f : start_of (entries_of pieces) k + 1 + 0 ≡ suc (start_of (entries_of pieces) k) = omega arith in f) in
+      let e = ap (offset (entries_of pieces) c.long) (let f : start_of (entries_of pieces) k + 1 + 0 ≡ suc (start_of
+      (entries_of pieces) k) = omega arith in f) in
       let m = offset_more (entries_of pieces) c.long (start_of (entries_of pieces) k) in
       omega (arith, a, e, m)
 
@@ -158,34 +167,40 @@ module _ (pieces : List (List Item)) (base : ℕ) (p : Placement) (place : ℕ �
       let z = size_is pieces k in
       omega (arith, g, z)
 
-  short : (k n : ℕ) (x : Item) → item_at pieces k n ≡ Some x → (to : ℕ) → target (Some (en.Item x)) ≡ Some to → to < length pieces
+  short : (k n : ℕ) (x : Item) → item_at pieces k n ≡ Some x → (to : ℕ) → target (Some (en.Item x)) ≡ Some to
+      → to < length pieces
       → c.long (entry_no k n) ≡ false
   short k n x e to t l = go (cases_Bool (c.long (entry_no k n)))
     where
       goal_is : goal_of (entries_of pieces) (entry_no k n) ≡ Some (start_of (entries_of pieces) to)
       goal_is =
-          ap (λ (y : Option Entry). option_map (start_of (entries_of pieces)) (target y)) (entry_is pieces leads k n x e)
+          ap (λ (y : Option Entry). option_map (start_of (entries_of pieces)) (target y)) (entry_is pieces leads k n x
+          e)
           ∙ ap (option_map (start_of (entries_of pieces))) t
 
       reach : is_far (entries_of pieces) c.long (entry_no k n) ≡ false
       reach =
           ap (far_from (entries_of pieces) c.long (entry_no k n)) goal_is
-          ∙ not_far _ _ (near k n (piece_at pieces k n x e).0 (let s = item_size k n x e in omega (arith, s))) (start_near to l)
+          ∙ not_far _ _ (near k n (piece_at pieces k n x e).0 (let s = item_size k n x e in omega (arith, s)))
+          (start_near to l)
 
       go : (c.long (entry_no k n) ≡ true) ⊎ (c.long (entry_no k n) ≡ false) → c.long (entry_no k n) ≡ false
       go (inl f) = absurd (differ (sym reach ∙ c.widened.needed (entry_no k n) f))
       go (inr f) = f
 
   step : (k n : ℕ) (x : Item) → item_at pieces k n ≡ Some x
-      → place k (suc n) ≡ place k n + 4 * width (c.long (entry_no k n)) (Some (en.Item x)) (slice_get (entries_of pieces) (suc (entry_no k n)))
+      → place k (suc n) ≡ place k n + 4 * width (c.long (entry_no k n)) (Some (en.Item x)) (slice_get (entries_of
+      pieces) (suc (entry_no k n)))
   step k n x e =
       let q = (piece_at pieces k n x e).0 in
       let i = item_size k n x e in
       let a = c.places k n q (omega (arith, i)) in
       let b = c.places k (suc n) q i in
-      let d = ap (offset (entries_of pieces) c.long) (let f : start_of (entries_of pieces) k + 1 + suc n ≡ suc (entry_no k n) = omega arith in f) in
+      let d = ap (offset (entries_of pieces) c.long) (let f : start_of (entries_of pieces) k + 1 + suc n ≡ suc
+      (entry_no k n) = omega arith in f) in
       let m = offset_more (entries_of pieces) c.long (entry_no k n) in
-      let w = ap (λ (z : Option Entry). width (c.long (entry_no k n)) z (slice_get (entries_of pieces) (suc (entry_no k n)))) (entry_is pieces leads k n x e) in
+      let w = ap (λ (z : Option Entry). width (c.long (entry_no k n)) z (slice_get (entries_of pieces) (suc (entry_no
+      k n)))) (entry_is pieces leads k n x e) in
       omega (arith, a, b, d, m, w)
 
   leads_to : (k n : ℕ) (x : Item) → item_at pieces k n ≡ Some x → LeadsBelow (length pieces) (Some x)
@@ -195,12 +210,14 @@ module _ (pieces : List (List Item)) (base : ℕ) (p : Placement) (place : ℕ �
   all_short k n (it.Word w) e = let s = step k n (it.Word w) e in omega (arith, s)
   all_short k n (it.Jump to) e =
       let s = step k n (it.Jump to) e in
-      let w = short_low (c.long (entry_no k n)) (it.Jump to) (slice_get (entries_of pieces) (suc (entry_no k n))) (λ t. cc)
+      let w = short_low (c.long (entry_no k n)) (it.Jump to) (slice_get (entries_of pieces) (suc (entry_no k n))) (λ
+      t. cc)
       (short k n (it.Jump to) e to.0 refl (leads_to k n (it.Jump to) e)) in
       omega (arith, s, w)
   all_short k n (it.Branch b to) e =
       let s = step k n (it.Branch b to) e in
-      let w = short_low (c.long (entry_no k n)) (it.Branch b to) (slice_get (entries_of pieces) (suc (entry_no k n))) (λ t. cc)
+      let w = short_low (c.long (entry_no k n)) (it.Branch b to) (slice_get (entries_of pieces) (suc (entry_no k n)))
+      (λ t. cc)
       (short k n (it.Branch b to) e to.0 refl (leads_to k n (it.Branch b to) e)) in
       omega (arith, s, w)
   all_short k n (it.Mark a m) e = let s = step k n (it.Mark a m) e in omega (arith, s)

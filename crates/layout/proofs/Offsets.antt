@@ -8,7 +8,8 @@ use Rattle.layout.specs.Forms.{Forms, width, offset}
 use Rattle.layout.specs.Emitting.{AreOffsets}
 use Rattle.layout.proofs.Widening.{offset_more}
 
-pub offset_next : (entries : List Entry) (long : Forms) (n here w : ℕ) → here ≡ offset entries long n → w ≡ width (long n) (slice_get entries n) (slice_get entries (n + 1))
+pub offset_next : (entries : List Entry) (long : Forms) (n here w : ℕ) → here ≡ offset entries long n
+    → w ≡ width (long n) (slice_get entries n) (slice_get entries (n + 1))
     → here + w ≡ offset entries long (n + 1)
 offset_next entries long n here w e f =
     let x = offset_more entries long n in
@@ -36,7 +37,8 @@ push_other (y ∷ ys) x zero l = refl
 push_other (y ∷ ys) x (suc k) l = push_other ys x k (omega arith)
 
 pub offsets_more : (entries : List Entry) (long : Forms) (at : List ℕ) (n here : ℕ) → AreOffsets entries long at n
-    → here ≡ offset entries long (n + 1) → here ≤ offset entries long n + 6 → AreOffsets entries long (at ++ here ∷ []) (n + 1)
+    → here ≡ offset entries long (n + 1) → here ≤ offset entries long n + 6
+    → AreOffsets entries long (at ++ here ∷ []) (n + 1)
 offsets_more entries long at n here h e l = record {
   len = let x = length-append at (here ∷ []) in omega (arith, x, h.len);
   each = λ k m. each k m (cases_lt k (n + 1));
@@ -48,7 +50,8 @@ offsets_more entries long at n here h e l = record {
     each k m (inr u) =
         let s : k ≡ length at = omega (arith, h.len) in
         let t : length at ≡ n + 1 = h.len in
-        ap (λ (k : ℕ). get_or (at ++ here ∷ []) k 0) s ∙ push_same at here ∙ e ∙ ap (offset entries long) (sym t) ∙ ap (offset entries long) (sym s)
+        ap (λ (k : ℕ). get_or (at ++ here ∷ []) k 0) s ∙ push_same at here ∙ e ∙ ap (offset entries long) (sym t)
+        ∙ ap (offset entries long) (sym s)
 
     small : (k : ℕ) → k ≤ n + 1 → (k < n + 1) ⊎ (n + 1 ≤ k) → offset entries long k ≤ 6 * k
     small k m (inl u) = h.small k (omega arith)
@@ -57,5 +60,6 @@ offsets_more entries long at n here h e l = record {
         let x = h.small n (omega arith) in
         rw s (omega (arith, x, e, l))
 
-pub entry_at : (entries : List Entry) (n : ℕ) (x : Entry) → n < length entries → x ≡ get_or entries n x → slice_get entries n ≡ Some x
+pub entry_at : (entries : List Entry) (n : ℕ) (x : Entry) → n < length entries → x ≡ get_or entries n x
+    → slice_get entries n ≡ Some x
 entry_at entries n x l e = slice_get-get_or entries n x l ∙ ap Some (sym e)

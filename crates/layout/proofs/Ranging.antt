@@ -67,7 +67,8 @@ none_past (r ∷ rs) qs from to a h k =
 pub first_part : (rs qs : List NoteRange) (from to a : ℕ) → Ascend from to qs → a < from
     → range_in (rs ++ qs) a ≡ range_in rs a
 first_part [] qs from to a h k = none_before qs from to a h k
-first_part (r ∷ rs) qs from to a h k = ap (λ (z : Option NoteRange). if nat_le r.lo a && nat_lt a r.hi then Some r else z) (first_part rs qs from to a h k)
+first_part (r ∷ rs) qs from to a h k = ap (λ (z : Option NoteRange). if nat_le r.lo a && nat_lt a r.hi then Some r
+    else z) (first_part rs qs from to a h k)
 
 -- ---- the ranges of a piece, whose items stand at these places
 
@@ -116,7 +117,13 @@ closed_ascends : (m : OpenAt) (here to : ℕ) (rest : List Range) → m.lo.0 ≤
 closed_ascends m here to rest h k = go (nat_lt m.lo.0 here) refl
   where
     go : (b : Bool) → nat_lt m.lo.0 here ≡ b
-        → Ascend m.lo.0 to (seen ((if b then record { lo = m.lo; hi = record { 0 = here }; address = m.address; node = m.node } ∷ [] else []) ++ rest))
+        → Ascend m.lo.0 to (seen ((if b then record {
+          lo = m.lo;
+          hi = record { 0 = here };
+          address = m.address;
+          node =
+              m.node;
+        } ∷ [] else []) ++ rest))
     go true e = (omega arith, less m.lo.0 here e, k)
       where
         less : (a b : ℕ) → nat_lt a b ≡ true → a < b
@@ -126,13 +133,15 @@ closed_ascends m here to rest h k = go (nat_lt m.lo.0 here) refl
 -- past an item that closes nothing
 past_item : (place : ℕ → ℕ) → Rises place → (i to : ℕ) (mark : Option OpenAt) (xs : List Item)
     → begin_of mark (place i) ≤ place i
-    → (begin_of mark (place (suc i)) ≤ place (suc i) → Ascend (begin_of mark (place (suc i))) to (seen (piece_ranges place (suc i) mark xs)))
+    → (begin_of mark (place (suc i)) ≤ place (suc i) → Ascend (begin_of mark (place (suc i))) to (seen (piece_ranges
+    place (suc i) mark xs)))
     → Ascend (begin_of mark (place i)) to (seen (piece_ranges place (suc i) mark xs))
 past_item place up i to None xs low k =
     ascend_from (place (suc i)) (seen (piece_ranges place (suc i) None xs)) (place i) to (up i) (k (omega arith))
 past_item place up i to (Some m) xs low k = let u = up i in k (omega (arith, low, u))
 
-end_on : (place : ℕ → ℕ) (i to : ℕ) (x : Item) (xs : List Item) → place (i + length (x ∷ xs)) ≤ to → place (suc i + length xs) ≤ to
+end_on : (place : ℕ → ℕ) (i to : ℕ) (x : Item) (xs : List Item) → place (i + length (x ∷ xs)) ≤ to
+    → place (suc i + length xs) ≤ to
 end_on place i to x xs h =
     let e : place (suc i + length xs) ≡ place (i + length (x ∷ xs)) = ap place (omega arith) in
     omega (arith, h, e)
@@ -145,7 +154,11 @@ piece_ascends place up [] i to None marked h l =
 piece_ascends place up [] i to (Some m) marked h l = absurd marked
 piece_ascends place up (it.Mark address node ∷ xs) i to None marked h l =
     let u = up i in
-    piece_ascends place up xs (suc i) to (Some (record { lo = record { 0 = place i }; address = address; node = node })) marked u
+    piece_ascends place up xs (suc i) to (Some (record {
+      lo = record { 0 = place i };
+      address = address;
+      node = node;
+    })) marked u
     (end_on place i to (it.Mark address node) xs l)
 piece_ascends place up (it.Mark address node ∷ xs) i to (Some m) marked h l = absurd marked
 piece_ascends place up (it.EndMark ∷ xs) i to None marked h l =
@@ -156,11 +169,14 @@ piece_ascends place up (it.EndMark ∷ xs) i to (Some m) marked h l =
     (ascend_from (place (suc i)) (seen (piece_ranges place (suc i) None xs)) (place i) to (up i)
     (piece_ascends place up xs (suc i) to None marked (omega arith) (end_on place i to it.EndMark xs l)))
 piece_ascends place up (it.Word word ∷ xs) i to mark marked h l =
-    past_item place up i to mark xs h (λ g. piece_ascends place up xs (suc i) to mark marked g (end_on place i to (it.Word word) xs l))
+    past_item place up i to mark xs h (λ g. piece_ascends place up xs (suc i) to mark marked g (end_on place i to
+    (it.Word word) xs l))
 piece_ascends place up (it.Jump k ∷ xs) i to mark marked h l =
-    past_item place up i to mark xs h (λ g. piece_ascends place up xs (suc i) to mark marked g (end_on place i to (it.Jump k) xs l))
+    past_item place up i to mark xs h (λ g. piece_ascends place up xs (suc i) to mark marked g (end_on place i to
+    (it.Jump k) xs l))
 piece_ascends place up (it.Branch c k ∷ xs) i to mark marked h l =
-    past_item place up i to mark xs h (λ g. piece_ascends place up xs (suc i) to mark marked g (end_on place i to (it.Branch c k) xs l))
+    past_item place up i to mark xs h (λ g. piece_ascends place up xs (suc i) to mark marked g (end_on place i to
+    (it.Branch c k) xs l))
 
 -- ---- the range that is found
 
@@ -178,7 +194,12 @@ range_at m hi = record { lo = m.lo.0; hi = hi; address = m.address.0; node = m.n
 closes_here : (m : OpenAt) (here a : ℕ) (rest : List Range) → m.lo.0 ≤ a → a < here
     → range_in (seen (closed (Some m) here ++ rest)) a ≡ Some (range_at m here)
 closes_here m here a rest h k =
-    ap (λ (b : Bool). range_in (seen ((if b then record { lo = m.lo; hi = record { 0 = here }; address = m.address; node = m.node } ∷ [] else []) ++ rest)) a)
+    ap (λ (b : Bool). range_in (seen ((if b then record {
+      lo = m.lo;
+      hi = record { 0 = here };
+      address = m.address;
+      node = m.node;
+    } ∷ [] else []) ++ rest)) a)
     (less m.lo.0 here (omega arith))
     ∙ ap (λ (b : Bool). if b then Some (range_at m here) else range_in (seen rest) a) (holds m.lo.0 here a h k)
   where
@@ -190,11 +211,15 @@ closes_at : (place : ℕ → ℕ) → Rises place → (items : List Item) (i a :
     → m.lo.0 ≤ a → a < place i
     → range_in (seen (piece_ranges place i (Some m) items)) a ≡ Some (range_at m (place (end_from items i)))
 closes_at place up [] i a m marked h k = absurd marked
-closes_at place up (it.EndMark ∷ xs) i a m marked h k = closes_here m (place i) a (piece_ranges place (suc i) None xs) h k
+closes_at place up (it.EndMark ∷ xs) i a m marked h k = closes_here m (place i) a (piece_ranges place (suc i) None xs)
+    h k
 closes_at place up (it.Mark address node ∷ xs) i a m marked h k = absurd marked
-closes_at place up (it.Word word ∷ xs) i a m marked h k = closes_at place up xs (suc i) a m marked h (let u = up i in omega (arith, u, k))
-closes_at place up (it.Jump to ∷ xs) i a m marked h k = closes_at place up xs (suc i) a m marked h (let u = up i in omega (arith, u, k))
-closes_at place up (it.Branch c to ∷ xs) i a m marked h k = closes_at place up xs (suc i) a m marked h (let u = up i in omega (arith, u, k))
+closes_at place up (it.Word word ∷ xs) i a m marked h k = closes_at place up xs (suc i) a m marked h (let u = up i in
+    omega (arith, u, k))
+closes_at place up (it.Jump to ∷ xs) i a m marked h k = closes_at place up xs (suc i) a m marked h (let u = up i in
+    omega (arith, u, k))
+closes_at place up (it.Branch c to ∷ xs) i a m marked h k = closes_at place up xs (suc i) a m marked h (let u = up i
+    in omega (arith, u, k))
 
 same_range : (place : ℕ → ℕ) (o : Open) (m : OpenAt) (hi : ℕ) → place o.first ≡ m.lo.0 → place o.last ≡ hi
     → o.address ≡ m.address.0 → o.node ≡ m.node
@@ -206,7 +231,8 @@ same_range place o m hi a b c d =
     ∙ ap (λ z. Some (record { lo = place o.first; hi = place o.last; address = o.address; node = z })) (sym d)
 
 -- at the words of the first item
-at_first : (place : ℕ → ℕ) → Rises place → (x : Item) (xs : List Item) (i a : ℕ) (o : Option Open) (mark : Option OpenAt)
+at_first : (place : ℕ → ℕ) → Rises place → (x : Item) (xs : List Item) (i a : ℕ) (o : Option Open) (mark : Option
+    OpenAt)
     → end_from (x ∷ xs) i ≡ end_from xs (suc i) → AreSame place (x ∷ xs) i o mark
     → AreMarked (is_open mark) xs → begin_of mark (place i) ≤ place i → place i ≤ a → a < place (suc i)
     → range_in (seen (piece_ranges place (suc i) mark xs)) a ≡ range_of place o
@@ -233,7 +259,12 @@ closed_past : (mark : Option OpenAt) (here a : ℕ) (rest : List Range) → here
 closed_past None here a rest h = refl
 closed_past (Some m) here a rest h = go (nat_lt m.lo.0 here)
   where
-    go : (b : Bool) → range_in (seen ((if b then record { lo = m.lo; hi = record { 0 = here }; address = m.address; node = m.node } ∷ [] else []) ++ rest)) a
+    go : (b : Bool) → range_in (seen ((if b then record {
+      lo = m.lo;
+      hi = record { 0 = here };
+      address = m.address;
+      node = m.node;
+    } ∷ [] else []) ++ rest)) a
         ≡ range_in (seen rest) a
     go true = ap (λ (z : Bool). if z then Some (range_at m here) else range_in (seen rest) a) (past m.lo.0 here a h)
     go false = refl
@@ -252,7 +283,8 @@ next_low : (place : ℕ → ℕ) (i n a : ℕ) → place (i + suc n) ≤ a → p
 next_low place i n a h = let e : place (suc i + n) ≡ place (i + suc n) = ap place (omega arith) in omega (arith, e, h)
 
 next_high : (place : ℕ → ℕ) (i n a : ℕ) → a < place (suc (i + suc n)) → a < place (suc (suc i + n))
-next_high place i n a h = let e : place (suc (suc i + n)) ≡ place (suc (i + suc n)) = ap place (omega arith) in omega (arith, e, h)
+next_high place i n a h = let e : place (suc (suc i + n)) ≡ place (suc (i + suc n)) = ap place (omega arith) in omega
+    (arith, e, h)
 
 this_low : (place : ℕ → ℕ) (i a : ℕ) → place (i + 0) ≤ a → place i ≤ a
 this_low place i a h = let e : place (i + 0) ≡ place i = ap place (omega arith) in omega (arith, e, h)
@@ -260,7 +292,8 @@ this_low place i a h = let e : place (i + 0) ≡ place i = ap place (omega arith
 this_high : (place : ℕ → ℕ) (i a : ℕ) → a < place (suc (i + 0)) → a < place (suc i)
 this_high place i a h = let e : place (suc (i + 0)) ≡ place (suc i) = ap place (omega arith) in omega (arith, e, h)
 
-finds : (place : ℕ → ℕ) → Rises place → (items : List Item) (n i a : ℕ) (o : Option Open) (mark : Option OpenAt) (x : Item)
+finds : (place : ℕ → ℕ) → Rises place → (items : List Item) (n i a : ℕ) (o : Option Open) (mark : Option OpenAt) (x :
+    Item)
     → AreStill place i items → AreSame place items i o mark → AreMarked (is_open mark) items
     → begin_of mark (place i) ≤ place i → slice_get items n ≡ Some x → place (i + n) ≤ a → a < place (suc (i + n))
     → range_in (seen (piece_ranges place i mark items)) a ≡ range_of place (open_from items i n o)
@@ -276,20 +309,25 @@ finds place up (it.Mark address node ∷ xs) zero i a o mark x s same marked low
 finds place up (it.EndMark ∷ xs) zero i a o mark x s same marked low e h k =
     let u = this_low place i a h in let v = this_high place i a k in let w = s.0 in absurd (omega (arith, u, v, w))
 finds place up (it.Word word ∷ xs) (suc n) i a o mark x s same marked low e h k =
-    finds place up xs n (suc i) a o mark x s (same_on place (it.Word word) xs i o mark refl same) marked (low_on place up i mark low) e
+    finds place up xs n (suc i) a o mark x s (same_on place (it.Word word) xs i o mark refl same) marked (low_on place
+    up i mark low) e
     (next_low place i n a h) (next_high place i n a k)
 finds place up (it.Jump to ∷ xs) (suc n) i a o mark x s same marked low e h k =
-    finds place up xs n (suc i) a o mark x s (same_on place (it.Jump to) xs i o mark refl same) marked (low_on place up i mark low) e
+    finds place up xs n (suc i) a o mark x s (same_on place (it.Jump to) xs i o mark refl same) marked (low_on place
+    up i mark low) e
     (next_low place i n a h) (next_high place i n a k)
 finds place up (it.Branch c to ∷ xs) (suc n) i a o mark x s same marked low e h k =
-    finds place up xs n (suc i) a o mark x s (same_on place (it.Branch c to) xs i o mark refl same) marked (low_on place up i mark low) e
+    finds place up xs n (suc i) a o mark x s (same_on place (it.Branch c to) xs i o mark refl same) marked (low_on
+    place up i mark low) e
     (next_low place i n a h) (next_high place i n a k)
 finds place up (it.EndMark ∷ xs) (suc n) i a o mark x s same marked low e h k =
     closed_past mark (place i) a (piece_ranges place (suc i) None xs)
     (let r = rises_by place up i (suc n) in omega (arith, r, h))
-    ∙ finds place up xs n (suc i) a None None x s.1 tt marked (omega arith) e (next_low place i n a h) (next_high place i n a k)
+    ∙ finds place up xs n (suc i) a None None x s.1 tt marked (omega arith) e (next_low place i n a h) (next_high
+    place i n a k)
 finds place up (it.Mark address node ∷ xs) (suc n) i a o None x s same marked low e h k =
-    finds place up xs n (suc i) a _ (Some (record { lo = record { 0 = place i }; address = address; node = node })) x s.1
+    finds place up xs n (suc i) a _ (Some (record { lo = record { 0 = place i }; address = address; node = node })) x
+    s.1
     (s.0, refl, refl, refl) marked (up i) e (next_low place i n a h) (next_high place i n a k)
 finds place up (it.Mark address node ∷ xs) (suc n) i a o (Some m) x s same marked low e h k = absurd marked
 
@@ -310,15 +348,18 @@ module _ (at : ℕ → ℕ) (up : (n : ℕ) → at n ≤ at (suc n)) where
   places_from c n = at (c + n)
 
   places_rise : (c : ℕ) → Rises (λ n. at (c + n))
-  places_rise c n = let u = up (c + n) in let e : at (suc (c + n)) ≡ at (c + suc n) = ap at (omega arith) in omega (arith, u, e)
+  places_rise c n = let u = up (c + n) in let e : at (suc (c + n)) ≡ at (c + suc n) = ap at (omega arith) in omega
+      (arith, u, e)
 
   as_piece : (items : List Item) (c i m : ℕ) (mark : Option OpenAt) (ys : List Entry) → AreMarked (is_open mark) items
       → m ≡ c + i + length items
-      → ranges_from at (c + i) mark (map en.Item items ++ ys) ≡ piece_ranges (λ n. at (c + n)) i mark items ++ ranges_from at m None ys
+      → ranges_from at (c + i) mark (map en.Item items ++ ys) ≡ piece_ranges (λ n. at (c + n)) i mark items ++
+      ranges_from at m None ys
   as_piece [] c i m None ys marked e = ap (λ n. ranges_from at n None ys) (let f : c + i ≡ m = omega (arith, e) in f)
   as_piece [] c i m (Some o) ys marked e = absurd marked
   as_piece (x ∷ xs) c i m mark ys marked e =
-      let more = as_piece xs c (suc i) m (opens (at (c + i)) mark (en.Item x)) ys (marked_on (at (c + i)) mark x xs marked) (omega (arith, e)) in
+      let more = as_piece xs c (suc i) m (opens (at (c + i)) mark (en.Item x)) ys (marked_on (at (c + i)) mark x xs
+      marked) (omega (arith, e)) in
       let f : suc (c + i) ≡ c + suc i = omega arith in
       ap (λ (rs : List Range). closes (at (c + i)) mark (en.Item x) ++ rs)
       (ap (λ n. ranges_from at n (opens (at (c + i)) mark (en.Item x)) (map en.Item xs ++ ys)) f ∙ more)
@@ -332,31 +373,38 @@ module _ (at : ℕ → ℕ) (up : (n : ℕ) → at n ≤ at (suc n)) where
 
     one_piece : (c k : ℕ) (ks : List ℕ)
         → ranges_from at c None (entries_from pieces (k ∷ ks))
-        ≡ piece_ranges (λ n. at (c + 1 + n)) 0 None (items_at pieces k) ++ ranges_from at (behind_at c k) None (entries_from pieces ks)
+        ≡ piece_ranges (λ n. at (c + 1 + n)) 0 None (items_at pieces k) ++ ranges_from at (behind_at c k) None
+        (entries_from pieces ks)
     one_piece c k ks =
-        ap (λ n. ranges_from at n None (map en.Item (items_at pieces k) ++ entries_from pieces ks)) (let e : suc c ≡ c + 1 + 0 = omega arith in e)
+        ap (λ n. ranges_from at n None (map en.Item (items_at pieces k) ++ entries_from pieces ks)) (let e : suc c ≡ c
+        + 1 + 0 = omega arith in e)
         ∙ as_piece (items_at pieces k) (c + 1) 0 (behind_at c k) None (entries_from pieces ks) (marked k) (omega arith)
 
     pub seen_both : (c k : ℕ) (ks : List ℕ)
         → seen (ranges_from at c None (entries_from pieces (k ∷ ks)))
-        ≡ seen (piece_ranges (λ n. at (c + 1 + n)) 0 None (items_at pieces k)) ++ seen (ranges_from at (behind_at c k) None (entries_from pieces ks))
+        ≡ seen (piece_ranges (λ n. at (c + 1 + n)) 0 None (items_at pieces k)) ++ seen (ranges_from at (behind_at c k)
+        None (entries_from pieces ks))
     seen_both c k ks =
         ap seen (one_piece c k ks)
-        ∙ map-append note_range (piece_ranges (λ n. at (c + 1 + n)) 0 None (items_at pieces k)) (ranges_from at (behind_at c k) None (entries_from pieces ks))
+        ∙ map-append note_range (piece_ranges (λ n. at (c + 1 + n)) 0 None (items_at pieces k)) (ranges_from at
+        (behind_at c k) None (entries_from pieces ks))
 
-    pub count_more : (k : ℕ) (ks : List ℕ) → length (entries_from pieces (k ∷ ks)) ≡ 1 + length (items_at pieces k) + length (entries_from pieces ks)
+    pub count_more : (k : ℕ) (ks : List ℕ) → length (entries_from pieces (k ∷ ks)) ≡ 1 + length (items_at pieces k) +
+        length (entries_from pieces ks)
     count_more k ks =
         let a = length-append (entries_in k (items_at pieces k)) (entries_from pieces ks) in
         let b = length-map (items_at pieces k) en.Item in
         omega (arith, a, b)
 
-    one_ascends : (c k : ℕ) → Ascend (at c) (at (behind_at c k)) (seen (piece_ranges (λ n. at (c + 1 + n)) 0 None (items_at pieces k)))
+    one_ascends : (c k : ℕ) → Ascend (at c) (at (behind_at c k)) (seen (piece_ranges (λ n. at (c + 1 + n)) 0 None
+        (items_at pieces k)))
     one_ascends c k =
         let u = up c in
         let e : at (suc c) ≡ at (c + 1 + 0) = ap at (omega arith) in
         let f : at (c + 1 + (0 + length (items_at pieces k))) ≡ at (behind_at c k) = ap at (omega arith) in
         ascend_from (at (c + 1 + 0)) _ (at c) (at (behind_at c k)) (omega (arith, u, e))
-        (piece_ascends (λ n. at (c + 1 + n)) (places_rise (c + 1)) (items_at pieces k) 0 (at (behind_at c k)) None (marked k) (omega arith) (omega (arith, f)))
+        (piece_ascends (λ n. at (c + 1 + n)) (places_rise (c + 1)) (items_at pieces k) 0 (at (behind_at c k)) None
+        (marked k) (omega arith) (omega (arith, f)))
 
     pub order_ascends : (ks : List ℕ) (c m : ℕ) → m ≡ c + length (entries_from pieces ks)
         → Ascend (at c) (at m) (seen (ranges_from at c None (entries_from pieces ks)))
@@ -376,7 +424,8 @@ module _ (at : ℕ → ℕ) (up : (n : ℕ) → at n ≤ at (suc n)) where
         ≡ range_of (λ n. at (s + 1 + n)) (open_from (items_at pieces k) 0 n None)
     order_finds [] after c s k n a x e still is h l =
         subst (λ (c : ℕ). range_in (seen (ranges_from at c None (entries_from pieces (k ∷ after)))) a
-        ≡ range_of (λ n. at (s + 1 + n)) (open_from (items_at pieces k) 0 n None)) (let f : s ≡ c = omega (arith, e) in f) here
+        ≡ range_of (λ n. at (s + 1 + n)) (open_from (items_at pieces k) 0 n None)) (let f : s ≡ c = omega (arith, e)
+        in f) here
       where
         below : a < at (behind_at s k)
         below =
@@ -391,7 +440,8 @@ module _ (at : ℕ → ℕ) (up : (n : ℕ) → at n ≤ at (suc n)) where
             ∙ first_part (seen (piece_ranges (λ n. at (s + 1 + n)) 0 None (items_at pieces k)))
             (seen (ranges_from at (behind_at s k) None (entries_from pieces after))) (at (behind_at s k)) _ a
             (order_ascends after (behind_at s k) (behind_at s k + length (entries_from pieces after)) refl) below
-            ∙ finds (λ n. at (s + 1 + n)) (places_rise (s + 1)) (items_at pieces k) n 0 a None None x still tt (marked k) (omega arith) is
+            ∙ finds (λ n. at (s + 1 + n)) (places_rise (s + 1)) (items_at pieces k) n 0 a None None x still tt (marked
+            k) (omega arith) is
             (let f : at (s + 1 + (0 + n)) ≡ at (s + 1 + n) = ap at (omega arith) in omega (arith, f, h))
             (let f : at (s + 1 + suc (0 + n)) ≡ at (s + 1 + suc n) = ap at (omega arith) in omega (arith, f, l))
     order_finds (j ∷ js) after c s k n a x e still is h l =
@@ -399,7 +449,8 @@ module _ (at : ℕ → ℕ) (up : (n : ℕ) → at n ≤ at (suc n)) where
         let r = rises_to at up (behind_at c j) (s + 1 + n) (omega (arith, e, m)) in
         ap (λ (rs : List NoteRange). range_in rs a) (seen_both c j (js ++ k ∷ after))
         ∙ none_past (seen (piece_ranges (λ n. at (c + 1 + n)) 0 None (items_at pieces j)))
-        (seen (ranges_from at (behind_at c j) None (entries_from pieces (js ++ k ∷ after)))) (at c) (at (behind_at c j)) a
+        (seen (ranges_from at (behind_at c j) None (entries_from pieces (js ++ k ∷ after)))) (at c) (at (behind_at c
+        j)) a
         (one_ascends c j) (omega (arith, r, h))
         ∙ order_finds js after (behind_at c j) s k n a x (omega (arith, e, m)) still is h l
 
@@ -428,7 +479,13 @@ module _ (pieces : List (List Item)) (place : ℕ → ℕ → ℕ) where
   closed_made None here h = tt
   closed_made (Some m) here h = go (nat_lt m.lo.0 here)
     where
-      go : (b : Bool) → AllOf (seen (if b then record { lo = m.lo; hi = record { 0 = here }; address = m.address; node = m.node } ∷ [] else []))
+      go : (b : Bool) → AllOf (seen (if b then record {
+        lo = m.lo;
+        hi = record { 0 = here };
+        address = m.address;
+        node
+            = m.node;
+      } ∷ [] else []))
       go true = (h here, tt)
       go false = tt
 
@@ -442,9 +499,12 @@ module _ (pieces : List (List Item)) (place : ℕ → ℕ → ℕ) where
       → ((j : ℕ) (x : Item) → slice_get items j ≡ Some x → item_at pieces k (i + j) ≡ Some x)
       → AreStill (place k) i items → IsMade mark → AllOf (seen (piece_ranges (place k) i mark items))
   piece_made [] k i mark are s h = tt
-  piece_made (it.Word word ∷ xs) k i mark are s h = piece_made xs k (suc i) mark (λ j x e. at_next k i j x (are (suc j) x e)) s h
-  piece_made (it.Jump to ∷ xs) k i mark are s h = piece_made xs k (suc i) mark (λ j x e. at_next k i j x (are (suc j) x e)) s h
-  piece_made (it.Branch c to ∷ xs) k i mark are s h = piece_made xs k (suc i) mark (λ j x e. at_next k i j x (are (suc j) x e)) s h
+  piece_made (it.Word word ∷ xs) k i mark are s h = piece_made xs k (suc i) mark (λ j x e. at_next k i j x (are (suc
+      j) x e)) s h
+  piece_made (it.Jump to ∷ xs) k i mark are s h = piece_made xs k (suc i) mark (λ j x e. at_next k i j x (are (suc j)
+      x e)) s h
+  piece_made (it.Branch c to ∷ xs) k i mark are s h = piece_made xs k (suc i) mark (λ j x e. at_next k i j x (are (suc
+      j) x e)) s h
   piece_made (it.EndMark ∷ xs) k i mark are s h =
       subst AllOf (sym (map-append note_range (closed mark (place k i)) (piece_ranges (place k) (suc i) None xs)))
       (all_then (seen (closed mark (place k i))) _ (closed_made mark (place k i) h)

@@ -64,7 +64,8 @@ fits f t h = go (cases_lt t f)
         below : (n : ℕ) → n < 2 ^ 21 → nat_lt n (2 ^ (22 - 1)) ≡ true
         below n w = grind (arith, nat_tests)
 
-pub reaches : (base f t : ℕ) → base + 4 * f ≤ 2 ^ 31 → base + 4 * t ≤ 2 ^ 31 → Reaches (base + 4 * f) (base + 4 * t) (between f t)
+pub reaches : (base f t : ℕ) → base + 4 * f ≤ 2 ^ 31 → base + 4 * t ≤ 2 ^ 31
+    → Reaches (base + 4 * f) (base + 4 * t) (between f t)
 reaches base f t a b = go (cases_lt t f)
   where
     go : (t < f) ⊎ (f ≤ t) → Reaches (base + 4 * f) (base + 4 * t) (between f t)
@@ -146,11 +147,13 @@ branch_decodes cond annul disp h f = decodes (i.Branch cond annul disp) h f
 
 -- ---- how many words an entry has
 
-jump_length : (long : Bool) (base from to : ℕ) → length (words_of (jump_code long base from to)) ≡ (if long then 4 else 1)
+jump_length : (long : Bool) (base from to : ℕ) → length (words_of (jump_code long base from to)) ≡ (if long then 4
+    else 1)
 jump_length true base from to = refl
 jump_length false base from to = refl
 
-branch_length : (long : Bool) (base c from to : ℕ) → length (words_of (branch_code long base c from to)) ≡ (if long then 6 else 2)
+branch_length : (long : Bool) (base c from to : ℕ) → length (words_of (branch_code long base c from to)) ≡ (if long
+    then 6 else 2)
 branch_length true base c from to = refl
 branch_length false base c from to = refl
 
@@ -159,7 +162,8 @@ unless_next : (b long : Bool) (base from to : ℕ)
 unless_next true long base from to = refl
 unless_next false long base from to = jump_length long base from to
 
-entry_length : (base : ℕ) (long : Bool) (from to : ℕ) (x next : Option Entry) → length (entry_code base long from to x next) ≡ width long x next
+entry_length : (base : ℕ) (long : Bool) (from to : ℕ) (x next : Option Entry)
+    → length (entry_code base long from to x next) ≡ width long x next
 entry_length base long from to None next = refl
 entry_length base long from to (Some (en.Start k)) next = refl
 entry_length base long from to (Some (en.Item (it.Word word))) next = refl
@@ -176,13 +180,15 @@ code_none : (base : ℕ) (entries : List Entry) (long : Forms) → code_to base 
 unfolding code_to
 code_none base entries long = refl
 
-pub code_length : (base : ℕ) (entries : List Entry) (long : Forms) (n : ℕ) → length (code_to base entries long n) ≡ offset entries long n
+pub code_length : (base : ℕ) (entries : List Entry) (long : Forms) (n : ℕ)
+    → length (code_to base entries long n) ≡ offset entries long n
 code_length base entries long zero = ap length (code_none base entries long) ∙ sym (offset_none entries long)
 code_length base entries long (suc n) =
     let h = code_length base entries long n in
     let a = ap length (code_more base entries long n) in
     let b = length-append (code_to base entries long n) (code_at base entries long n) in
-    let c = entry_length base (long n) (offset entries long n) (or_zero (target_offset entries long n)) (slice_get entries n) (slice_get entries (suc n)) in
+    let c = entry_length base (long n) (offset entries long n) (or_zero (target_offset entries long n)) (slice_get
+    entries n) (slice_get entries (suc n)) in
     let d = offset_more entries long n in
     omega (arith, h, a, b, c, d)
 
@@ -195,25 +201,29 @@ pub has_code : (base : ℕ) (entries : List Entry) (long : Forms) (m n : ℕ) �
 has_code base entries long zero n l = absurd (omega arith)
 has_code base entries long (suc m) n l = go (cases_lt n m) (has_code base entries long m n)
   where
-    go : (n < m) ⊎ (m ≤ n) → (n < m → Has (code_to base entries long m) (offset entries long n) (code_at base entries long n))
+    go : (n < m) ⊎ (m ≤ n) → (n < m → Has (code_to base entries long m) (offset entries long n) (code_at base entries
+        long n))
         → Has (code_to base entries long (suc m)) (offset entries long n) (code_at base entries long n)
     go (inl u) more =
         has_more (code_to base entries long (suc m)) (code_to base entries long m) (code_at base entries long m)
         (offset entries long n) (code_at base entries long n) (code_more base entries long m) (more u)
     go (inr u) more =
         let s : m ≡ n = omega arith in
-        subst (λ (n : ℕ). Has (code_to base entries long (suc m)) (offset entries long n) (code_at base entries long n)) s last
+        subst (λ (n : ℕ). Has (code_to base entries long (suc m)) (offset entries long n) (code_at base entries long
+        n)) s last
       where
         last : Has (code_to base entries long (suc m)) (offset entries long m) (code_at base entries long m)
         last j w f =
             ap (λ (zs : List ℕ). slice_get zs (offset entries long m + j)) (code_more base entries long m)
-            ∙ ap (λ (z : ℕ). slice_get (code_to base entries long m ++ code_at base entries long m) (z + j)) (sym (code_length base entries long m))
+            ∙ ap (λ (z : ℕ). slice_get (code_to base entries long m ++ code_at base entries long m) (z + j)) (sym
+            (code_length base entries long m))
             ∙ get_rest (code_to base entries long m) (code_at base entries long m) j ∙ f
 
 -- ---- what an item says
 
 module _ (base : ℕ) (p : Placement) where
-  jump_says : (long skip : Bool) (f t a b k : ℕ) → a ≡ base + 4 * f → k ≡ base + 4 * t → base + 4 * f ≤ 2 ^ 31 → base + 4 * t ≤ 2 ^ 31
+  jump_says : (long skip : Bool) (f t a b k : ℕ) → a ≡ base + 4 * f → k ≡ base + 4 * t → base + 4 * f ≤ 2 ^ 31
+      → base + 4 * t ≤ 2 ^ 31
       → (skip ≡ true → f ≡ t) → (long ≡ false → far f t ≡ false)
       → b ≡ a + 4 * (if skip then 0 else (if long then 4 else 1))
       → Has p.code f (if skip then [] else words_of (jump_code long base f t)) → JumpStands base p.code k a b
@@ -221,7 +231,8 @@ module _ (base : ℕ) (p : Placement) where
       let s : f ≡ t = here refl in jump_nothing (omega (arith, ea, ek, s)) (omega (arith, eb))
   jump_says true false f t a b k ea ek la lt here near eb h =
       jump_long (omega (arith, eb)) (subst (λ (z : ℕ). SaysFrom base p.code a (long_jump z)) (sym ek)
-      (says_words base p.code (long_jump (base + 4 * t)) f a ea (long_jump_decodes (base + 4 * t) (omega (arith, lt))) h))
+      (says_words base p.code (long_jump (base + 4 * t)) f a ea (long_jump_decodes (base + 4 * t) (omega (arith, lt)))
+      h))
   jump_says false false f t a b k ea ek la lt here near eb h =
       jump_short (between f t) (omega (arith, eb))
       (subst (λ (z : ℕ). Reaches a z (between f t)) (sym ek)
@@ -229,13 +240,17 @@ module _ (base : ℕ) (p : Placement) where
       (says_words base p.code (i.Branch 8 true (between f t) ∷ []) f a ea
       (branch_decodes 8 true (between f t) refl (fits f t (near refl)), tt) h)
 
-  branch_says : (long : Bool) (c f t a b k : ℕ) → nat_lt c 16 ≡ true → a ≡ base + 4 * f → k ≡ base + 4 * t → base + 4 * f ≤ 2 ^ 31
+  branch_says : (long : Bool) (c f t a b k : ℕ) → nat_lt c 16 ≡ true → a ≡ base + 4 * f → k ≡ base + 4 * t
+      → base + 4 * f ≤ 2 ^ 31
       → base + 4 * t ≤ 2 ^ 31 → (long ≡ false → far f t ≡ false) → b ≡ a + 4 * (if long then 6 else 2)
       → Has p.code f (words_of (branch_code long base c f t)) → BranchStands base p.code c k a b
   branch_says true c f t a b k range ea ek la lt near eb h =
       let first = i.Branch (opposite c) false (pos 6) ∷ nop ∷ [] in
       branch_long (omega (arith, eb))
-      (says_words base p.code first f a ea (branch_decodes (opposite c) false (pos 6) (opposite_low c range) refl, (decodes nop refl refl, tt))
+      (says_words base p.code first f a ea (
+        branch_decodes (opposite c) false (pos 6) (opposite_low c range) refl,
+        (decodes nop refl refl, tt),
+      )
       (has_first p.code (words_of first) (words_of (long_jump (base + 4 * t))) f h))
       (subst (λ (z : ℕ). SaysFrom base p.code (a + 8) (long_jump z)) (sym ek)
       (says_words base p.code (long_jump (base + 4 * t)) (f + 2) (a + 8) (omega (arith, ea))

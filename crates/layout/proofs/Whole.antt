@@ -12,7 +12,8 @@ use Rattle.layout.specs.Emitting.{forms_in, FitsIn, IsFormed, IsListing, IsMade,
 use Rattle.layout.proofs.Standing.{code_length}
 use Rattle.layout.proofs.Assembled.{lays}
 
-put_size : (base : ℕ) (entries : List Entry) (starts : List ℕ) (long : Forms) (p : Placed) → IsPut base entries starts long p
+put_size : (base : ℕ) (entries : List Entry) (starts : List ℕ) (long : Forms) (p : Placed)
+    → IsPut base entries starts long p
     → length p.code.items ≡ offset entries long (length entries)
 put_size base entries starts long p h = ap length h.emitted.is ∙ code_length base entries long (length entries)
 
@@ -26,7 +27,8 @@ module _ (pieces : List (List Item)) (base room : ℕ) (entries : List Entry) (s
 
   made : (p : Placed) → IsPut base entries starts (forms_in forms) p → IsMade pieces base (forms_in forms) starts p
   made p h =
-      let q = subst (λ (es : List Entry). IsListing es starts × IsPut base es starts (forms_in forms) p) f.entries_are (f.listing, h) in
+      let q = subst (λ (es : List Entry). IsListing es starts × IsPut base es starts (forms_in forms) p) f.entries_are
+      (f.listing, h) in
       record {
         widened = widened;
         count = f.count;
@@ -44,7 +46,8 @@ module _ (pieces : List (List Item)) (base room : ℕ) (entries : List Entry) (s
   }
 
   pub all_laid : ArePieces pieces → base % 4 ≡ 0 → base + room ≤ 2 ^ 31 → (r : Result Placed LayoutFault)
-      → IfOk r (IsPut base entries starts (forms_in forms)) → FitsIn r (4 * offset entries (forms_in forms) (length entries)) room
+      → IfOk r (IsPut base entries starts (forms_in forms)) → FitsIn r (4 * offset entries (forms_in forms) (length
+      entries)) room
       → IfOk r (λ p. Lays IsCompact pieces base (placement_of p.code.items p.at.items p.ranges.items))
   all_laid are aligned low (Ok p) h fits =
       let e = ap (λ (es : List Entry). 4 * offset es (forms_in forms) (length es)) f.entries_are in

@@ -47,7 +47,8 @@ pub grows : (entries : List Entry) (long other : Forms) → IsWithin long other 
 grows entries long other h a zero = let e : a + 0 ≡ a = omega arith in rw e (omega arith)
 grows entries long other h a (suc n) =
     let more = grows entries long other h a n in
-    let w = wider (slice_get entries (a + n)) (slice_get entries (suc (a + n))) (long (a + n)) (other (a + n)) (h (a + n)) in
+    let w = wider (slice_get entries (a + n)) (slice_get entries (suc (a + n))) (long (a + n)) (other (a + n)) (h (a +
+    n)) in
     let x = offset_more entries long (a + n) in
     let y = offset_more entries other (a + n) in
     rw (add_more a n) (omega (arith, more, w, x, y))
@@ -56,7 +57,8 @@ pub grows_to : (entries : List Entry) (long other : Forms) → IsWithin long oth
     → offset entries long b + offset entries other a ≤ offset entries other b + offset entries long a
 grows_to entries long other h a b l =
     let e : a + (b - a) ≡ b = omega arith in
-    subst (λ (b : ℕ). offset entries long b + offset entries other a ≤ offset entries other b + offset entries long a) e (grows entries long other h a (b - a))
+    subst (λ (b : ℕ). offset entries long b + offset entries other a ≤ offset entries other b + offset entries long a)
+    e (grows entries long other h a (b - a))
 
 rises_by : (entries : List Entry) (long : Forms) (a n : ℕ) → offset entries long a ≤ offset entries long (a + n)
 rises_by entries long a zero = let e : a + 0 ≡ a = omega arith in rw e (omega arith)
@@ -73,7 +75,8 @@ rises entries long a b l =
 pub far_means : (a b : ℕ) → far a b ≡ true → (a + 2 ^ 21 ≤ b) ⊎ (b + 2 ^ 21 < a)
 far_means a b h = go (cases_Bool (leb (a + 2 ^ 21) b)) h
   where
-    go : (leb (a + 2 ^ 21) b ≡ true) ⊎ (leb (a + 2 ^ 21) b ≡ false) → far a b ≡ true → (a + 2 ^ 21 ≤ b) ⊎ (b + 2 ^ 21 < a)
+    go : (leb (a + 2 ^ 21) b ≡ true) ⊎ (leb (a + 2 ^ 21) b ≡ false) → far a b ≡ true
+        → (a + 2 ^ 21 ≤ b) ⊎ (b + 2 ^ 21 < a)
     go (inl t) h = inl (leb-true (a + 2 ^ 21) b t)
     go (inr f) h = inr (ltb-true (b + 2 ^ 21) a (sym (ap (λ (x : Bool). x || ltb (b + 2 ^ 21) a) f) ∙ h))
 
@@ -104,9 +107,12 @@ pub stays_far : (entries : List Entry) (long other : Forms) → IsWithin long ot
     → is_far entries long n ≡ true → is_far entries other n ≡ true
 stays_far entries long other h n e = at (goal_of entries n) e
   where
-    way : (m : ℕ) → (n < m) ⊎ (m ≤ n) → far (offset entries long n) (offset entries long m) ≡ true → far (offset entries other n) (offset entries other m) ≡ true
-    way m (inl l) f = further_up (offset entries long n) (offset entries long m) (offset entries other n) (offset entries other m) (rises entries long n m (omega arith)) (grows_to entries long other h n m (omega arith)) f
-    way m (inr l) f = further_down (offset entries long n) (offset entries long m) (offset entries other n) (offset entries other m) (rises entries long m n l) (grows_to entries long other h m n l) f
+    way : (m : ℕ) → (n < m) ⊎ (m ≤ n) → far (offset entries long n) (offset entries long m) ≡ true
+        → far (offset entries other n) (offset entries other m) ≡ true
+    way m (inl l) f = further_up (offset entries long n) (offset entries long m) (offset entries other n) (offset
+        entries other m) (rises entries long n m (omega arith)) (grows_to entries long other h n m (omega arith)) f
+    way m (inr l) f = further_down (offset entries long n) (offset entries long m) (offset entries other n) (offset
+        entries other m) (rises entries long m n l) (grows_to entries long other h m n l) f
 
     at : (o : Option ℕ) → far_from entries long n o ≡ true → far_from entries other n o ≡ true
     at None f = f
@@ -129,7 +135,8 @@ or_cases false b e = inr e
 
 -- Any of those that are out of reach may be widened.
 pub widening_more : (entries : List Entry) (long more : Forms) → IsWidening entries long
-    → IsWithin long more → ((n : ℕ) → more n ≡ true → (long n ≡ true) ⊎ (is_far entries long n ≡ true)) → IsWidening entries more
+    → IsWithin long more → ((n : ℕ) → more n ≡ true → (long n ≡ true) ⊎ (is_far entries long n ≡ true))
+    → IsWidening entries more
 widening_more entries long more h grown new = record {
   needed = λ n e. needed n (new n e);
   fewest = λ other o n e. fewest other o n (new n e);
@@ -139,7 +146,8 @@ widening_more entries long more h grown new = record {
     needed n (inl l) = stays_far entries long more grown n (h.needed n l)
     needed n (inr f) = stays_far entries long more grown n f
 
-    fewest : (other : Forms) → NoneLeft entries other → (n : ℕ) → (long n ≡ true) ⊎ (is_far entries long n ≡ true) → other n ≡ true
+    fewest : (other : Forms) → NoneLeft entries other → (n : ℕ) → (long n ≡ true) ⊎ (is_far entries long n ≡ true)
+        → other n ≡ true
     fewest other o n (inl l) = h.fewest other o n l
     fewest other o n (inr f) = o n (stays_far entries long other (h.fewest other o) n f)
 
@@ -169,4 +177,5 @@ either false false f g = refl
 -- The least forms are one: no way of widening ends elsewhere.
 pub widened_once : (entries : List Entry) (long other : Forms) → IsWidened entries long → IsWidened entries other
     → (n : ℕ) → long n ≡ other n
-widened_once entries long other a b n = either (long n) (other n) (a.fewest other b.none_left n) (b.fewest long a.none_left n)
+widened_once entries long other a b n = either (long n) (other n) (a.fewest other b.none_left n) (b.fewest long
+    a.none_left n)

@@ -20,23 +20,28 @@ wider_more entries forms wide n x h e = record {
   each = λ k l. each k l (cases_lt k n);
 }
   where
-    each : (k : ℕ) → k < n + 1 → (k < n) ⊎ (n ≤ k) → get_or (wide ++ x ∷ []) k false ≡ (get_or forms k false || is_far entries (forms_in forms) k)
+    each : (k : ℕ) → k < n + 1 → (k < n) ⊎ (n ≤ k) → get_or (wide ++ x ∷ []) k false ≡ (get_or forms k false || is_far
+        entries (forms_in forms) k)
     each k l (inl u) = get_or_append_left wide (x ∷ []) false k (omega (arith, h.len)) ∙ h.each k u
     each k l (inr u) =
         let s : k ≡ n = omega arith in
         let t : length wide ≡ k = h.len ∙ sym s in
-        get_or_push wide x false k t ∙ e ∙ ap (λ (k : ℕ). get_or forms k false || is_far entries (forms_in forms) k) (sym s)
+        get_or_push wide x false k t ∙ e ∙ ap (λ (k : ℕ). get_or forms k false || is_far entries (forms_in forms) k)
+        (sym s)
 
 -- past the entries none is out of reach
 not_far : (entries : List Entry) (long : Forms) (n : ℕ) → length entries ≤ n → is_far entries long n ≡ false
 not_far entries long n l =
-    ap (λ (o : Option Entry). far_from entries long n (option_map (start_of entries) (target o))) (slice_get_past entries n l)
+    ap (λ (o : Option Entry). far_from entries long n (option_map (start_of entries) (target o))) (slice_get_past
+    entries n l)
 
 pub wider_all : (entries : List Entry) (forms wide : List Bool) → length forms ≡ length entries
-    → AreWider entries forms wide (length forms) → (n : ℕ) → forms_in wide n ≡ (forms_in forms n || is_far entries (forms_in forms) n)
+    → AreWider entries forms wide (length forms) → (n : ℕ) → forms_in wide n ≡ (forms_in forms n || is_far entries
+    (forms_in forms) n)
 wider_all entries forms wide e h n = go (cases_lt n (length forms))
   where
-    go : (n < length forms) ⊎ (length forms ≤ n) → forms_in wide n ≡ (forms_in forms n || is_far entries (forms_in forms) n)
+    go : (n < length forms) ⊎ (length forms ≤ n) → forms_in wide n ≡ (forms_in forms n || is_far entries (forms_in
+        forms) n)
     go (inl l) = h.each n l
     go (inr l) =
         let a : get_or wide n false ≡ false = get_or_past wide n false (omega (arith, h.len)) in
@@ -51,7 +56,8 @@ counted : (x : Bool) (xs : List Bool) → count_by (λ b. b) (x ∷ xs) ≡ cond
 counted x xs = sum_by-cons (λ (b : Bool). cond b 1 0) x xs
 
 -- marks that only get more are the same, or more
-pub same_or_more : (xs ys : List Bool) → length xs ≡ length ys → ((k : ℕ) → get_or xs k false ≡ true → get_or ys k false ≡ true)
+pub same_or_more : (xs ys : List Bool) → length xs ≡ length ys → ((k : ℕ) → get_or xs k false ≡ true
+    → get_or ys k false ≡ true)
     → (xs ≡ ys) ⊎ (count_by (λ b. b) xs < count_by (λ b. b) ys)
 same_or_more [] [] e h = inl refl
 same_or_more [] (y ∷ ys) e h = absurd (omega arith)
@@ -81,13 +87,16 @@ pub widening_first : (entries : List Entry) (n : ℕ) → IsWidening entries (fo
 widening_first entries n = widening_none entries (forms_in (replicate n false)) (none_in n)
 
 pub widening_pass : (entries : List Entry) (forms wide : List Bool) → length forms ≡ length entries
-    → AreWider entries forms wide (length forms) → IsWidening entries (forms_in forms) → IsWidening entries (forms_in wide)
-widening_pass entries forms wide e h w = widening_all entries (forms_in forms) (forms_in wide) w (wider_all entries forms wide e h)
+    → AreWider entries forms wide (length forms) → IsWidening entries (forms_in forms)
+    → IsWidening entries (forms_in wide)
+widening_pass entries forms wide e h w = widening_all entries (forms_in forms) (forms_in wide) w (wider_all entries
+    forms wide e h)
 
 pub pass_counts : (entries : List Entry) (forms wide : List Bool) → length forms ≡ length entries
     → AreWider entries forms wide (length forms) → (forms ≡ wide) ⊎ (count_by (λ b. b) forms < count_by (λ b. b) wide)
 pass_counts entries forms wide e h =
-    same_or_more forms wide (sym h.len) (λ k l. wider_all entries forms wide e h k ∙ or_left (get_or forms k false) (is_far entries (forms_in forms) k) l)
+    same_or_more forms wide (sym h.len) (λ k l. wider_all entries forms wide e h k
+    ∙ or_left (get_or forms k false) (is_far entries (forms_in forms) k) l)
 
 -- a pass that leaves the count has left the forms, which are then the least
 pub widening_last : (entries : List Entry) (forms wide : List Bool) → length forms ≡ length entries
@@ -96,7 +105,8 @@ pub widening_last : (entries : List Entry) (forms wide : List Bool) → length f
 widening_last entries forms wide e h w c = go (pass_counts entries forms wide e h)
   where
     go : (forms ≡ wide) ⊎ (count_by (λ b. b) forms < count_by (λ b. b) wide) → IsWidened entries (forms_in forms)
-    go (inl s) = widening_ends entries (forms_in forms) w (λ n. ap (λ (xs : List Bool). get_or xs n false) s ∙ wider_all entries forms wide e h n)
+    go (inl s) = widening_ends entries (forms_in forms) w (λ n. ap (λ (xs : List Bool). get_or xs n false) s
+        ∙ wider_all entries forms wide e h n)
     go (inr l) = absurd (omega arith)
 
 -- a pass that changes the count has fewer left to widen
@@ -105,6 +115,7 @@ pub pass_smaller : (entries : List Entry) (forms wide : List Bool) (long count :
     → count ≤ length wide → (count ≡ long → ⊥) → length entries - count < length entries - long
 pass_smaller entries forms wide long count e h a b l n = go (pass_counts entries forms wide e h)
   where
-    go : (forms ≡ wide) ⊎ (count_by (λ b. b) forms < count_by (λ b. b) wide) → length entries - count < length entries - long
+    go : (forms ≡ wide) ⊎ (count_by (λ b. b) forms < count_by (λ b. b) wide)
+        → length entries - count < length entries - long
     go (inl s) = absurd (n (b ∙ ap (count_by (λ b. b)) (sym s) ∙ sym a))
     go (inr m) = omega (arith, h.len)

@@ -31,11 +31,13 @@ RoomIs (Err faults.NoMemory) pieces room = Unit {0}
 
 -- what is needed is one number
 abbrev pub NeededOnce : Type 0
-NeededOnce = (pieces : List (List Item)) (bytes other : ℕ) → IsNeeded pieces bytes → IsNeeded pieces other → bytes ≡ other
+NeededOnce = (pieces : List (List Item)) (bytes other : ℕ) → IsNeeded pieces bytes → IsNeeded pieces other
+    → bytes ≡ other
 
 -- and never more than with each item in its long form
 abbrev pub LongIsEnough : Type 0
-LongIsEnough = (pieces : List (List Item)) (bytes : ℕ) → ArePieces pieces → IsNeeded pieces bytes → bytes ≤ long_bytes pieces
+LongIsEnough = (pieces : List (List Item)) (bytes : ℕ) → ArePieces pieces → IsNeeded pieces bytes
+    → bytes ≤ long_bytes pieces
 
 -- how many words an item has in its short form
 abbrev pub short_words : Item → ℕ

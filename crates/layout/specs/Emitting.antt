@@ -43,7 +43,8 @@ IsOffsets entries long at = AreOffsets entries long at (length entries)
 -- the first of these forms are long where they were or where they are out of reach
 pub record AreWider (entries : List Entry) (forms wide : List Bool) (n : ℕ) : Type 0 where
   pub len : length wide ≡ n
-  pub each : (k : ℕ) → k < n → slice_index_or wide k false ≡ (slice_index_or forms k false || is_far entries (forms_in forms) k)
+  pub each : (k : ℕ) → k < n → slice_index_or wide k false ≡ (slice_index_or forms k false || is_far entries (forms_in
+      forms) k)
 
 -- ---- words
 
@@ -86,7 +87,8 @@ far_of from (Some to) = far from to
 -- the words of entry n
 abbrev pub code_at : ℕ → List Entry → Forms → ℕ → List ℕ
 code_at base entries long n =
-    entry_code base (long n) (offset entries long n) (or_zero (target_offset entries long n)) (slice_get entries n) (slice_get entries (suc n))
+    entry_code base (long n) (offset entries long n) (or_zero (target_offset entries long n)) (slice_get entries n)
+    (slice_get entries (suc n))
 
 -- the words of the first entries
 unfoldable pub code_to : ℕ → List Entry → Forms → ℕ → List ℕ
@@ -110,7 +112,8 @@ abbrev pub closed : Option Open → ℕ → List Range
 closed None here = []
 closed (Some open_mark) here =
     if nat_lt open_mark.lo.0 here
-    then record { lo = open_mark.lo; hi = record { 0 = here }; address = open_mark.address; node = open_mark.node } ∷ [] else []
+    then record { lo = open_mark.lo; hi = record { 0 = here }; address = open_mark.address; node = open_mark.node } ∷
+    [] else []
 
 -- the range that an entry at an address closes, and the Mark that is open behind it
 abbrev pub closes : ℕ → Option Open → Entry → List Range
@@ -118,7 +121,12 @@ closes here mark (en.Item it.EndMark) = closed mark here
 closes here mark _ = []
 
 abbrev pub opens : ℕ → Option Open → Entry → Option Open
-opens here mark (en.Item (it.Mark address node)) = Some (record { lo = record { 0 = here }; address = address; node = node })
+opens here mark (en.Item (it.Mark address node)) = Some (record {
+  lo = record { 0 = here };
+  address = address;
+  node =
+      node;
+})
 opens here mark (en.Item it.EndMark) = None
 opens here mark _ = mark
 
@@ -138,13 +146,14 @@ abbrev pub addresses : ℕ → List Entry → Forms → List ℕ → List Addr
 addresses base entries long starts = map (λ n. record { 0 = address_of base entries long n }) starts
 
 -- what a compact order and its forms come to
-pub record IsFormed (pieces : List (List Item)) (entries : List Entry) (starts : List ℕ) (forms : List Bool) : Type 0 where
-  pub entries_are : entries ≡ entries_of pieces
-  pub count : length starts ≡ length pieces
-  pub listing : IsListing entries starts
-  pub small : length entries ≤ 2 ^ 42
-  pub len : length forms ≡ length entries
-  pub widened : IsWidened entries (forms_in forms)
+pub record IsFormed (pieces : List (List Item)) (entries : List Entry) (starts : List ℕ) (forms : List Bool) : Type 0
+  where
+    pub entries_are : entries ≡ entries_of pieces
+    pub count : length starts ≡ length pieces
+    pub listing : IsListing entries starts
+    pub small : length entries ≤ 2 ^ 42
+    pub len : length forms ≡ length entries
+    pub widened : IsWidened entries (forms_in forms)
 
 -- the code, addresses and ranges of entries
 pub record IsPut (base : ℕ) (entries : List Entry) (starts : List ℕ) (long : Forms) (p : Placed) : Type 0 where

@@ -174,7 +174,12 @@ open_in (Some items) n = open_from items 0 n None
 
 -- the range that an open Mark has
 abbrev pub range_of : (ℕ → ℕ) → Option Open → Option NoteRange
-range_of place mark = option_map (λ (o : Open). record { lo = place o.first; hi = place o.last; address = o.address; node = o.node }) mark
+range_of place mark = option_map (λ (o : Open). record {
+  lo = place o.first;
+  hi = place o.last;
+  address = o.address;
+  node = o.node;
+}) mark
 
 -- a range is that of a Mark
 pub record IsRangeOf (pieces : List (List Item)) (place : ℕ → ℕ → ℕ) (r : NoteRange) : Type 0 where

@@ -6,7 +6,10 @@ use Rattle.layout.specs.Order.{first_laid, compact_order}
 
 -- A word and a Jump to the third piece, and two that jump to the second: the third comes right behind the first.
 abbrev three : List (List Item)
-three = (Word 1 ∷ Jump (record { 0 = 2 }) ∷ []) ∷ (Word 2 ∷ Jump (record { 0 = 1 }) ∷ []) ∷ (Word 3 ∷ Jump (record { 0 = 1 }) ∷ []) ∷ []
+three = (Word 1 ∷ Jump (record { 0 = 2 }) ∷ []) ∷ (Word 2 ∷ Jump (record { 0 = 1 }) ∷ []) ∷ (Word 3 ∷ Jump (record {
+  0
+      = 1;
+}) ∷ []) ∷ []
 
 three_order : compact_order three ≡ 0 ∷ 2 ∷ 1 ∷ []
 unfolding first_laid

@@ -27,7 +27,8 @@ fn put_jump_before(
     requires from { from < 2 ^ 62 }
     requires near { long ≡ false → far from to ≡ false }
     requires low { base + 4 * to < 2 ^ 32 }
-    ensures { OnOk result (code.new.items ≡ code.old.items ++ entry_code base long from to (Some (en.Item (it.Jump piece))) next) }
+    ensures { OnOk result (code.new.items
+        ≡ code.old.items ++ entry_code base long from to (Some (en.Item (it.Jump piece))) next) }
 {
     if !leads_next(piece, next) {
         put_jump(code, base, from, to, long)?;
@@ -49,7 +50,8 @@ fn put_entry(
     requires low { IfSome to (λ to. base + 4 * to < 2 ^ 32) }
     requires near { long ≡ false → far_of from to ≡ false }
     requires target { is_some (target_of (Some entry.now)) ≡ is_some to }
-    ensures code { OnOk result (code.new.items ≡ code.old.items ++ entry_code base long from (or_zero to) (Some entry.now) next) }
+    ensures code { OnOk result (code.new.items
+        ≡ code.old.items ++ entry_code base long from (or_zero to) (Some entry.now) next) }
     ensures condition { OnOk result (has_condition (Some entry.now) ≡ true) }
 {
     match entry {

@@ -58,7 +58,8 @@ fn width_at(entries: &[Entry], forms: &[bool], n: usize) -> u64
     requires small { length entries.now ≤ 2 ^ 42 }
     requires forms { length forms.now ≡ length entries.now }
     requires inside { n < length entries.now }
-    ensures value { result ≡ width_of (slice_index_or forms.now n false) (slice_get entries.now n) (slice_get entries.now (n + 1)) }
+    ensures value { result
+        ≡ width_of (slice_index_or forms.now n false) (slice_get entries.now n) (slice_get entries.now (n + 1)) }
     ensures small { result ≤ 6 }
 {
     width(&entries[n], entry_at(entries, n + 1), forms[n])

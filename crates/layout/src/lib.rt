@@ -1,5 +1,5 @@
-//! Where pieces of new code are placed: the order in which they are laid, the form of each Jump and Branch, the words, the
-//! address of each piece, and the range of each mark.
+//! Where pieces of new code are placed: the order in which they are laid, the form of each Jump and Branch, the words,
+//! the address of each piece, and the range of each mark.
 #![tactic(auto)]
 
 ghost use Rattle.layout.specs.Compact.{LongIsEnough, NeededOnce, ShortIsEnough};

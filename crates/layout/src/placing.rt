@@ -131,7 +131,8 @@ pub fn place(alloc: Global, pieces: &[Piece], base: Addr, room: u32) -> Result<P
     requires pieces { ArePieces pieces.now }
     requires aligned { base.0 % 4 ≡ 0 }
     requires low { base.0 + room ≤ 2 ^ 31 }
-    ensures laid { IfOk result (λ p. Lays IsCompact pieces.now base.0 (placement_of p.code.items p.at.items p.ranges.items)) }
+    ensures laid { IfOk result (λ p.
+        Lays IsCompact pieces.now base.0 (placement_of p.code.items p.at.items p.ranges.items)) }
     ensures room { RoomIs result pieces.now room }
 {
     let Ok(formed) = form(alloc, pieces) else {

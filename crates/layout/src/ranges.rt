@@ -76,7 +76,8 @@ pub fn ranges_of(
 ) -> Result<Vec<Range>, AllocError>
     requires at { IsOffsets entries.now (forms_in forms.now) at.now }
     requires low { base.0 + 4 * offset entries.now (forms_in forms.now) (length entries.now) ≤ 2 ^ 31 }
-    ensures { IfOk result (λ ranges. ranges.items ≡ ranges_from (address_of base.0 entries.now (forms_in forms.now)) 0 None entries.now) }
+    ensures { IfOk result (λ ranges. ranges.items
+        ≡ ranges_from (address_of base.0 entries.now (forms_in forms.now)) 0 None entries.now) }
 {
     let mut ranges = Vec::new(alloc);
     let mut open_mark = None;

@@ -10,5 +10,6 @@ loop-n-init c =
 
 pub loop-n-preserved : goal.loop-n-preserved
 loop-n-preserved c =
-    emitted_more c.args.base c.args.entries.now (forms_in c.args.forms.now) c.loop-n.code.items c.put_at.new.code.items c.loop-n.n
+    emitted_more c.args.base c.args.entries.now (forms_in c.args.forms.now) c.loop-n.code.items
+    c.put_at.new.code.items c.loop-n.n
     c.loop-n.invariant c.in_ok-put_at.ensures.code c.in_ok-put_at.ensures.condition

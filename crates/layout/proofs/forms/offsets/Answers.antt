@@ -16,10 +16,18 @@ loop-n-init c =
 
 pub loop-n-preserved : goal.loop-n-preserved
 loop-n-preserved c =
-    let f : c.push-in-loop-n.new.self.items ≡ c.loop-n.at.items ++ (c.loop-n.here + c.width_at-here.result) ∷ [] = c.in_ok-push-2.ensures.items in
-    let h : c.loop-n.here + c.width_at-here.result ≡ offset c.args.entries.now (forms_in c.args.forms.now) (c.loop-n.n + 1)
-    = offset_next c.args.entries.now (forms_in c.args.forms.now) c.loop-n.n c.loop-n.here c.width_at-here.result c.loop-n.invariant.here c.width_at-here.ensures.value in
+    let f : c.push-in-loop-n.new.self.items ≡ c.loop-n.at.items ++ (c.loop-n.here + c.width_at-here.result) ∷ [] =
+    c.in_ok-push-2.ensures.items in
+    let h : c.loop-n.here + c.width_at-here.result ≡ offset c.args.entries.now (forms_in c.args.forms.now) (c.loop-n.n
+    + 1)
+    = offset_next c.args.entries.now (forms_in c.args.forms.now) c.loop-n.n c.loop-n.here c.width_at-here.result
+    c.loop-n.invariant.here c.width_at-here.ensures.value in
     record {
       here = h;
-      so_far = rw f (offsets_more c.args.entries.now (forms_in c.args.forms.now) c.loop-n.at.items c.loop-n.n (c.loop-n.here + c.width_at-here.result) c.loop-n.invariant.so_far h (omega (arith, c.loop-n.invariant.here, c.width_at-here.ensures.small)));
+      so_far = rw f (offsets_more c.args.entries.now (forms_in c.args.forms.now) c.loop-n.at.items c.loop-n.n
+          (c.loop-n.here + c.width_at-here.result) c.loop-n.invariant.so_far h (omega (
+            arith,
+            c.loop-n.invariant.here,
+            c.width_at-here.ensures.small,
+          )));
     }

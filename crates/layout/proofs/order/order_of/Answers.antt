@@ -21,5 +21,6 @@ returns-clause-order c =
 pub returns-clause-whole : goal.returns-clause-whole
 returns-clause-whole c =
     let n : length c.loop.laid.items ≡ length c.args.pieces.now = omega (arith, c.loop.invariant.count) in
-    let e : c.loop.laid.items ≡ compact_order c.args.pieces.now = c.loop.invariant.marking.order ∙ ap (first_laid c.args.pieces.now) n in
+    let e : c.loop.laid.items ≡ compact_order c.args.pieces.now = c.loop.invariant.marking.order
+    ∙ ap (first_laid c.args.pieces.now) n in
     subst (IsWhole c.args.pieces.now) (sym e) (whole_is c.args.pieces.now c.requires.leads)

@@ -4,5 +4,6 @@ use Rattle.layout.proofs.ranges.ranges_of.Given as goal
 
 abbrev pub invariant-loop-n : goal.invariant-loop-n
 invariant-loop-n l =
-    l.ranges.items ++ ranges_from (address_of l.base.0 l.entries (forms_in l.forms)) l.n l.open_mark (drop l.n l.entries)
+    l.ranges.items ++ ranges_from (address_of l.base.0 l.entries (forms_in l.forms)) l.n l.open_mark (drop l.n
+    l.entries)
     ≡ ranges_from (address_of l.base.0 l.entries (forms_in l.forms)) 0 None l.entries
