@@ -106,7 +106,7 @@ module _ (original : List ℕ) (plan : Plan) (view : View) (is : IsViewOf origin
   module _ (placed : Placed) (table : TableAt)
       (laid : (place : ℕ → ℕ → ℕ)
       × IsLaid own_pieces (table_after view.image.base plan.cells + size_of view.image.text) (placement_in placed) place)
-      (size : 4 * length placed.code.items ≡ long_bytes own_pieces)
+      (size : 4 * length placed.code.items ≤ long_bytes own_pieces)
       (base : table.base ≡ table_after view.image.base plan.cells)
       (leads : LeadsTo view.image.text view.graph (placement_in placed) table)
     where
@@ -117,7 +117,7 @@ module _ (original : List ℕ) (plan : Plan) (view : View) (is : IsViewOf origin
             (subst (λ (xs : List (List Item)). IsLaid xs
             (table_after view.image.base plan.cells + size_of view.image.text)
             (placement_in placed) laid.0) view_pieces laid.1);
-        size = size ∙ ap long_bytes view_pieces;
+        size = subst (λ (xs : List (List Item)). 4 * length placed.code.items ≤ long_bytes xs) view_pieces size;
         words = words;
         base = base ∙ ap (λ (i : Program). table_after i.base plan.cells) is.0;
         leads = subst (λ (i : Program). LeadsTo i.text (graph_in original plan) (placement_in placed) table) is.0

@@ -193,11 +193,11 @@ pub record IsWorkable (graph : Graph) (kind : ToolKind) (cells : ℕ) (snips : L
 abbrev pub CanDo : List ℕ → Plan → Type 0
 CanDo original plan = IsWorkable (graph_in original plan) plan.kind plan.cells plan.snips
 
--- The code was laid behind the table, in the bytes that its long forms take, and the table leads to it.
+-- The code was laid behind the table, in no more bytes than its long forms take, and the table leads to it.
 pub record IsNewCode (original : List ℕ) (plan : Plan) (p : Placement) (place : ℕ → ℕ → ℕ)
     (table : TableAt) : Type 0 where
   pub laid : IsLaid (pieces_of original plan) (code_base original plan) p place
-  pub size : 4 * length p.code ≡ long_bytes (pieces_of original plan)
+  pub size : 4 * length p.code ≤ long_bytes (pieces_of original plan)
   pub words : All (λ word. word < 2 ^ 32) p.code
   pub base : table.base ≡ table_base original plan
   pub leads : LeadsTo (text_of original plan) (graph_in original plan) p table

@@ -37,7 +37,7 @@ pub(crate) fn new_code(alloc: Global, view: &View, asked: &Asked) -> Result<NewC
     ensures laid { IfOk result (λ new. (p : ℕ → ℕ → ℕ)
         × IsLaid (pieces_by view.now.image.text view.now.graph view.now.image.base asked.now.cells asked.now.snips.items)
         (table_after view.now.image.base asked.now.cells + size_of view.now.image.text) (placement_in new.placed) p) }
-    ensures size { IfOk result (λ new. 4 * length new.placed.code.items ≡ long_bytes
+    ensures size { IfOk result (λ new. 4 * length new.placed.code.items ≤ long_bytes
         (pieces_by view.now.image.text view.now.graph view.now.image.base asked.now.cells asked.now.snips.items)) }
     ensures base { IfOk result (λ new. new.table.base ≡ table_after view.now.image.base asked.now.cells) }
     ensures leads { IfOk result (λ new.
@@ -93,7 +93,7 @@ fn laid(alloc: Global, list: &[Piece], image: &Image, cells: u32) -> Result<Plac
     requires low { image.now.base + image.now.room ≤ 2 ^ 31 }
     ensures laid { IfOk result (λ placed. (p : ℕ → ℕ → ℕ)
         × IsLaid list.now (table_after image.now.base cells + size_of image.now.text) (placement_in placed) p) }
-    ensures size { IfOk result (λ placed. 4 * length placed.code.items ≡ long_bytes list.now) }
+    ensures size { IfOk result (λ placed. 4 * length placed.code.items ≤ long_bytes list.now) }
 {
     let code = code_base(image, cells);
     let room = image.room() - (code.0 - image.base().0);
