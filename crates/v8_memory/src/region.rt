@@ -72,6 +72,21 @@ impl Region {
         })
     }
 
+    #[inline]
+    pub fn start(&self) -> u32
+        ensures { result ≡ self.now.start }
+    {
+        self.start
+    }
+
+    /// How many of its bytes are mapped.
+    #[inline]
+    pub fn size(&self) -> u32
+        ensures { result ≡ self.now.size }
+    {
+        self.size
+    }
+
     /// Whether all `count` bytes from `address` on are mapped here.
     #[inline]
     pub fn covers(&self, address: u32, count: u64) -> bool
