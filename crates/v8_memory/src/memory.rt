@@ -223,8 +223,8 @@ impl Memory {
         }
     }
 
-    /// Stores all of the bytes as one access.
-    #[inline]
+    /// Stores all of the bytes as one access. Where it is inlined, their number is a constant.
+    #[inline(always)]
     fn store(&mut self, address: Addr, bytes: &[u8]) -> Result<(), MemFault>
         requires { 0 < length bytes.now }
         ensures { Stores (store_of self.old address.0 bytes.now) self.old self.new result }
@@ -270,7 +270,7 @@ impl Memory {
     }
 
     /// Whether one region has all these bytes and may be written.
-    #[inline]
+    #[inline(always)]
     #[tactic(auto, unfolding(crate::specs::Regions::with_bytes))]
     fn may_write(&self, address: u32, bytes: &[u8]) -> bool
         ensures { with_bytes self.now address bytes.now ≡ if_allowed result (all_written address bytes.now self.now) }
@@ -282,7 +282,7 @@ impl Memory {
     }
 
     /// Writes the bytes, where one region has them all and may be written.
-    #[inline]
+    #[inline(always)]
     fn write(&mut self, address: u32, bytes: &[u8]) -> bool
         ensures { Fills (with_bytes self.old address bytes.now) self.old self.new result }
     {
@@ -294,7 +294,7 @@ impl Memory {
     }
 
     /// Writes the bytes into every region that has them all and may be written.
-    #[inline]
+    #[inline(always)]
     fn write_all(&mut self, address: u32, bytes: &[u8])
         ensures { self.new ≡ all_written address bytes.now self.old }
     {
@@ -392,6 +392,7 @@ fn find_code<'a>(regions: &'a [Region], address: u32) -> Option<&'a Region>
     None
 }
 
+#[inline(always)]
 fn write_each(regions: &mut [Region], address: u32, bytes: &[u8])
     ensures { regions.new ≡ map (written address bytes.now) regions.old }
 {

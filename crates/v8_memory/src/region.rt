@@ -129,7 +129,7 @@ impl Region {
     }
 
     /// Puts the bytes where they belong, if it has them all and may be written.
-    #[inline]
+    #[inline(always)]
     pub fn write(&mut self, address: u32, bytes: &[u8])
         ensures after { self.new ≡ written address bytes.now self.old }
         ensures start { self.new.start ≡ self.old.start }

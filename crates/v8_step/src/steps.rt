@@ -222,9 +222,9 @@ impl Machine {
     {
         match outcome {
             Ok(outcome) => {
-                self.set(rd, outcome.value);
                 self.codes = outcome.codes;
                 self.y = outcome.y;
+                self.set(rd, outcome.value);
                 self.go_on();
             }
             Err(AluTrap::DivZero) => self.trap(DIVISION_BY_ZERO),
