@@ -16,7 +16,7 @@ use v8_memory::{Op, OpCode};
 
 impl Machine {
     /// Makes the step of the instruction at pc, of which this is the record. It puts nothing out.
-    #[inline]
+    #[inline(always)]
     #[tactic(auto, using(crate::proofs::Ops::kept_steps, crate::proofs::Ops::kept_sum))]
     pub(crate) fn step_kept(&mut self, op: Op)
         requires going { self.old.ending ≡ None }
@@ -28,7 +28,7 @@ impl Machine {
     }
 
     /// Carries out the instruction of a record.
-    #[inline]
+    #[inline(always)]
     #[tactic(auto, unfolding(crate::specs::Step::act, v8_memory::specs::Ops::instr_of))]
     fn act_op(&mut self, op: Op)
         requires sum { IsSum op.rs2 op.imm }
@@ -71,7 +71,7 @@ impl Machine {
     }
 
     /// An operation. Where it is inlined, `kind` and `cc` are constants, so that little of it is left.
-    #[inline]
+    #[inline(always)]
     #[tactic(auto, unfolding(crate::specs::Step::act))]
     fn alu_op(&mut self, kind: AluOp, cc: bool, op: Op)
         requires form { IsTrue (has_form kind cc) }

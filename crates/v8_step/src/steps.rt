@@ -56,7 +56,7 @@ pub fn step<O: Sink, E: Sink>(m: &mut Machine, out: &mut O, err: &mut E) -> Step
 
 impl Machine {
     /// Carries out the instruction at pc. After a failure the machine is as before.
-    #[inline]
+    #[inline(always)]
     #[tactic(auto, using(crate::proofs::Quiet::appended_nothing), unfolding(crate::specs::Step::step_of, crate::specs::Step::puts_of))]
     fn carry_out<O: Sink, E: Sink>(&mut self, out: &mut O, err: &mut E) -> Result<(), Failed>
         requires { self.old.ending ≡ None }
