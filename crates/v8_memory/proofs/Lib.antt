@@ -1,2 +1,3 @@
 pub mod Executable
+pub mod Kept
 pub mod Same

@@ -2,16 +2,22 @@
 ghost use Rattle.std.specs.Prelude.{◌≡◌, ◌<◌, ◌^◌, take, drop, length, map, ◌++◌, MatchOption, MatchResult, IfOk, IsTrue};
 ghost use Rattle.std.specs.Int.{w8, w16, w32, from_be_bytes, to_be_bytes};
 ghost use Rattle.std.specs.List.{All, filter, find};
-ghost use Rattle.v8_memory.specs.Regions.{covers, region_at, bytes_at, with_bytes, written, all_written, fetch_of, heap_end_of, buffer_read, buffer_written, is_code, if_allowed};
+ghost use Rattle.v8_memory.specs.Regions.{covers, region_at, bytes_at, with_bytes, written, all_written, fetch_of, heap_end_of, buffer_read, buffer_written, fetch_from, is_code, if_allowed};
+ghost use Rattle.v8_memory.specs.Kept.{AreKept, IsKept, StandsFor};
 ghost use Rattle.v8_memory.specs.Segments.{region_of};
 ghost use Rattle.v8_memory.specs.Calls.{IsPlan, mapping_of_plan, memory_of, load_of, store_of, Loads, Stores, Fills, moved_heap_end};
 
 use crate::fault::MemFault;
+use crate::ops::{Op, OpCode, no_op, op_of};
 use crate::region::{HEAP_ROOM, HEAP_START, Region};
 use eel_base::{Addr, NoMemory};
 use elf32_sparc::SegFlags;
 use std::alloc::Global;
 use std::marker::Model;
+use v8_decode::decode;
+
+/// How many words have records at most.
+const MOST_KEPT: u32 = 1 << 20;
 
 /// A region that is to be made: `len` bytes from `start` on, of which the first are given and the others
 /// are zeros.
@@ -28,18 +34,23 @@ pub struct RegionPlan<'a> {
 pub struct Memory {
     heap: Region,
     regions: Vec<Region>,
+    /// Where the words begin that have records, and these, so that they needn't be decoded when they are run.
+    first: u32,
+    kept: Vec<Op>,
 }
 
 impl Model for Memory {
     ghost use Rattle.std.specs.Prelude.{◌≡◌, ◌≤◌, length};
-    ghost use Rattle.v8_memory.specs.Regions.{Memory as MemoryValue};
+    ghost use Rattle.std.specs.List.{filter};
+    ghost use Rattle.v8_memory.specs.Kept.{AreKept};
+    ghost use Rattle.v8_memory.specs.Regions.{Memory as MemoryValue, is_code};
     ghost use Rattle.v8_memory.specs.Segments.{heap_start, heap_room};
 
     ghost Value = { MemoryValue };
 
     ghost view = { λ m. record { heap = m.heap; regions = m.regions.items } };
 
-    ghost invariant = { λ m. (m.heap.start ≡ heap_start) × (length m.heap.bytes ≡ heap_room) × (m.heap.size ≤ heap_room) };
+    ghost invariant = { λ m. (m.heap.start ≡ heap_start) × (length m.heap.bytes ≡ heap_room) × (m.heap.size ≤ heap_room) × AreKept (filter is_code m.regions.items) m.first m.kept.items };
 }
 
 impl Memory {
@@ -52,7 +63,14 @@ impl Memory {
     {
         let heap = Region::heap(alloc)?;
         let regions = planned(alloc, plans)?;
-        Ok(Memory { heap, regions })
+        let (first, count) = first_code(&regions);
+        let kept = kept_words(alloc, &regions, first, count)?;
+        Ok(Memory {
+            heap,
+            regions,
+            first,
+            kept,
+        })
     }
 
     #[inline]
@@ -128,11 +146,25 @@ impl Memory {
     pub fn fetch(&self, address: Addr) -> Option<u32>
         ensures { result ≡ fetch_of self.now address.0 }
     {
-        if address.0 % 4 != 0 {
+        fetch_in(&self.regions, address.0)
+    }
+
+    /// The record of the word at an address, if it has one.
+    #[inline]
+    #[tactic(auto, unfolding(crate::specs::Regions::fetch_of))]
+    pub fn kept(&self, address: Addr) -> Option<Op>
+        ensures { MatchOption result (Unit {0}) (λ op. StandsFor op (fetch_of self.now address.0)) }
+    {
+        let offset = address.0.wrapping_sub(self.first);
+        if offset % 4 != 0 {
             return None;
         }
-        match find_code(&self.regions, address.0) {
-            Some(region) => Some(word_of(region.part(address.0, 4))),
+        match self.kept.get((offset / 4) as usize) {
+            Some(op) => if op.code == OpCode::Other {
+                None
+            } else {
+                Some(*op)
+            },
             None => None,
         }
     }
@@ -191,8 +223,8 @@ impl Memory {
         }
     }
 
-    /// Stores all of the bytes as one access.
-    #[inline]
+    /// Stores all of the bytes as one access. Where it is inlined, their number is a constant.
+    #[inline(always)]
     fn store(&mut self, address: Addr, bytes: &[u8]) -> Result<(), MemFault>
         requires { 0 < length bytes.now }
         ensures { Stores (store_of self.old address.0 bytes.now) self.old self.new result }
@@ -238,7 +270,7 @@ impl Memory {
     }
 
     /// Whether one region has all these bytes and may be written.
-    #[inline]
+    #[inline(always)]
     #[tactic(auto, unfolding(crate::specs::Regions::with_bytes))]
     fn may_write(&self, address: u32, bytes: &[u8]) -> bool
         ensures { with_bytes self.now address bytes.now ≡ if_allowed result (all_written address bytes.now self.now) }
@@ -250,7 +282,7 @@ impl Memory {
     }
 
     /// Writes the bytes, where one region has them all and may be written.
-    #[inline]
+    #[inline(always)]
     fn write(&mut self, address: u32, bytes: &[u8]) -> bool
         ensures { Fills (with_bytes self.old address bytes.now) self.old self.new result }
     {
@@ -262,7 +294,7 @@ impl Memory {
     }
 
     /// Writes the bytes into every region that has them all and may be written.
-    #[inline]
+    #[inline(always)]
     fn write_all(&mut self, address: u32, bytes: &[u8])
         ensures { self.new ≡ all_written address bytes.now self.old }
     {
@@ -281,6 +313,57 @@ fn planned(alloc: Global, plans: &[RegionPlan]) -> Result<Vec<Region>, NoMemory>
         regions.push(Region::planned(alloc, plan)?)?;
     }
     Ok(regions)
+}
+
+/// Where the first region begins whose words may be executed, and how many of them are to have records.
+fn first_code(regions: &[Region]) -> (u32, u32) {
+    for region in regions {
+        if region.is_code() {
+            return (region.start(), (region.size() / 4).min(MOST_KEPT));
+        }
+    }
+    (0, 0)
+}
+
+/// The records of so many words from an address on.
+#[tactic(auto, using(crate::proofs::Kept::kept_more))]
+fn kept_words(
+    alloc: Global,
+    regions: &[Region],
+    first: u32,
+    count: u32,
+) -> Result<Vec<Op>, NoMemory>
+    ensures { IfOk result (λ kept. AreKept (filter is_code regions.now) first kept.items) }
+{
+    let mut kept = Vec::with_capacity(alloc, count as usize)?;
+    for place in 0..count {
+        kept.push(kept_word(regions, first.wrapping_add(place.wrapping_mul(4))))?;
+    }
+    Ok(kept)
+}
+
+/// The record of the word at an address.
+fn kept_word(regions: &[Region], address: u32) -> Op
+    ensures { IsKept (filter is_code regions.now) address result }
+{
+    match fetch_in(regions, address) {
+        Some(word) => op_of(decode(word)),
+        None => no_op(),
+    }
+}
+
+/// The word at an address, where it may be executed.
+#[inline]
+fn fetch_in(regions: &[Region], address: u32) -> Option<u32>
+    ensures { result ≡ fetch_from (filter is_code regions.now) address }
+{
+    if address % 4 != 0 {
+        return None;
+    }
+    match find_code(regions, address) {
+        Some(region) => Some(word_of(region.part(address, 4))),
+        None => None,
+    }
 }
 
 /// The first region that has all these bytes.
@@ -309,6 +392,7 @@ fn find_code<'a>(regions: &'a [Region], address: u32) -> Option<&'a Region>
     None
 }
 
+#[inline(always)]
 fn write_each(regions: &mut [Region], address: u32, bytes: &[u8])
     ensures { regions.new ≡ map (written address bytes.now) regions.old }
 {

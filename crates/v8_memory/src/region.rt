@@ -72,6 +72,21 @@ impl Region {
         })
     }
 
+    #[inline]
+    pub fn start(&self) -> u32
+        ensures { result ≡ self.now.start }
+    {
+        self.start
+    }
+
+    /// How many of its bytes are mapped.
+    #[inline]
+    pub fn size(&self) -> u32
+        ensures { result ≡ self.now.size }
+    {
+        self.size
+    }
+
     /// Whether all `count` bytes from `address` on are mapped here.
     #[inline]
     pub fn covers(&self, address: u32, count: u64) -> bool
@@ -114,7 +129,7 @@ impl Region {
     }
 
     /// Puts the bytes where they belong, if it has them all and may be written.
-    #[inline]
+    #[inline(always)]
     pub fn write(&mut self, address: u32, bytes: &[u8])
         ensures after { self.new ≡ written address bytes.now self.old }
         ensures start { self.new.start ≡ self.old.start }

@@ -8,6 +8,7 @@ pub mod Follows
 pub mod FrameWords
 pub mod JudgedAlike
 pub mod Kept
+pub mod Ops
 pub mod Outside
 pub mod Puts
 pub mod Quiet

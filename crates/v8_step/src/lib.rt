@@ -13,6 +13,7 @@ ghost use Rattle.v8_step.specs.Laws.{CodeStays, StepsAlike, ValidStays, WindowSt
 mod accesses;
 mod calls;
 mod machine;
+mod records;
 mod steps;
 mod transfers;
 mod traps;

@@ -56,9 +56,33 @@ pub fn step<O: Sink, E: Sink>(m: &mut Machine, out: &mut O, err: &mut E) -> Step
 
 impl Machine {
     /// Carries out the instruction at pc. After a failure the machine is as before.
-    #[inline]
+    #[inline(always)]
     #[tactic(auto, using(crate::proofs::Quiet::appended_nothing), unfolding(crate::specs::Step::step_of, crate::specs::Step::puts_of))]
     fn carry_out<O: Sink, E: Sink>(&mut self, out: &mut O, err: &mut E) -> Result<(), Failed>
+        requires { self.old.ending ≡ None }
+        ensures state { OnOk result (self.new ≡ step_of self.old) }
+        ensures same { OnErr result (self.new ≡ self.old) }
+        ensures going { OnErr result ((step_of self.old).ending ≡ None) }
+        ensures out { Puts (O.taken out.old) (O.taken out.new) (puts_of self.old 1) result }
+        ensures err { Puts (E.taken err.old) (E.taken err.new) (puts_of self.old 2) result }
+        ensures cause { OnErr result (FailsAt (puts_of self.old 1) (O.faults out.old) (O.faults out.new)
+            ⊎ FailsAt (puts_of self.old 2) (E.faults err.old) (E.faults err.new)) }
+        ensures out_faults { O.faults out.old ≤ O.faults out.new }
+        ensures err_faults { E.faults err.old ≤ E.faults err.new }
+    {
+        match self.memory.kept(Addr(self.pc)) {
+            Some(op) => {
+                self.step_kept(op);
+                Ok(())
+            }
+            None => self.carry_out_word(out, err),
+        }
+    }
+
+    /// Fetches, decodes and carries out the instruction at pc. After a failure the machine is as before.
+    #[inline(never)]
+    #[tactic(auto, using(crate::proofs::Quiet::appended_nothing), unfolding(crate::specs::Step::step_of, crate::specs::Step::puts_of))]
+    fn carry_out_word<O: Sink, E: Sink>(&mut self, out: &mut O, err: &mut E) -> Result<(), Failed>
         requires { self.old.ending ≡ None }
         ensures state { OnOk result (self.new ≡ step_of self.old) }
         ensures same { OnErr result (self.new ≡ self.old) }
@@ -193,14 +217,14 @@ impl Machine {
     /// The outcome of an operation goes to rd, the codes and Y, or traps.
     #[inline]
     #[tactic(auto, unfolding(crate::specs::Step::alu_step))]
-    fn finish_alu(&mut self, rd: Reg, outcome: Result<AluOut, AluTrap>)
+    pub(crate) fn finish_alu(&mut self, rd: Reg, outcome: Result<AluOut, AluTrap>)
         ensures { self.new ≡ alu_step self.old rd outcome }
     {
         match outcome {
             Ok(outcome) => {
-                self.set(rd, outcome.value);
                 self.codes = outcome.codes;
                 self.y = outcome.y;
+                self.set(rd, outcome.value);
                 self.go_on();
             }
             Err(AluTrap::DivZero) => self.trap(DIVISION_BY_ZERO),

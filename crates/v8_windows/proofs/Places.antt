@@ -1,9 +1,10 @@
 -- Where registers stand, and what a write to one leaves.
-use Rattle.std.proofs.Common.{◌≡◌, ◌≢◌, ℕ, zero, suc, ◌+◌, ◌-◌, ◌*◌, ◌%◌, ◌<◌, ◌≤◌, Bool, true, false, List, [], ◌∷◌, length, refl, ap, sym, ◌∙◌, subst, arith, length-set, get_or-set_other, get_or-set_same}
+use Rattle.std.proofs.Common.{◌≡◌, ◌≢◌, ℕ, zero, suc, ◌+◌, ◌-◌, ◌*◌, ◌/◌, ◌%◌, ◌<◌, ◌≤◌, Bool, true, false, List, [], ◌∷◌, length, refl, ap, sym, ◌∙◌, subst, arith, length-set, get_or-set_other, get_or-set_same}
 use Rattle.std.specs.Prelude.{if◌then◌else◌, nat_lt, slice_index, slice_set}
 use Rattle.std.proofs.lemmas.Bool.Decides.{nat_tests}
 use Rattle.v8_windows.specs.Registers.{place_of, register_in, register_set, window_after, windows}
 use Rattle.v8_windows.specs.Frames.{frame_registers, registers_from, frame_bytes}
+use Rattle.v8_windows.specs.Calls.{ArePlaces}
 use Rattle.v8_windows.specs.Laws.{WindowsOverlap, RegistersHold, FramesFit, FramesLoad}
 
 pub place_of-below : (window r : ℕ) → place_of window r < 136
@@ -12,6 +13,19 @@ place_of-below window r = go (nat_lt r 8) refl
     go : (b : Bool) → nat_lt r 8 ≡ b → (if b then r else 8 + (16 * window + (r - 8)) % 128) < 136
     go true e = grind (arith, nat_tests)
     go false e = omega arith
+
+-- the place of a register is that of its number in the table
+pub place_in_table : (places : List ℕ) (window r : ℕ) → ArePlaces places → window < 8 → r < 32
+    → slice_index places (32 * window + r) ≡ place_of window r
+place_in_table places window r h low high =
+    h (32 * window + r) (omega arith)
+    ∙ ap (λ w. place_of w ((32 * window + r) % 32)) quotient ∙ ap (place_of window) remainder
+  where
+    quotient : (32 * window + r) / 32 ≡ window
+    quotient = omega arith
+
+    remainder : (32 * window + r) % 32 ≡ r
+    remainder = omega arith
 
 in_place : (registers : List ℕ) (window r : ℕ) → 0 < r
     → register_in registers window r ≡ slice_index registers (place_of window r)

@@ -1,7 +1,7 @@
 -- What the calls of the windows answer, and what they leave.
-use Rattle.std.specs.Prelude.{◌≡◌, ℕ, zero, suc, ◌-◌, List, [], ◌∷◌, replicate, take, drop, Result, OnOk, OnErr, Bool, MatchBool}
+use Rattle.std.specs.Prelude.{◌≡◌, ◌<◌, ℕ, zero, suc, ◌-◌, ◌/◌, ◌%◌, slice_index, List, [], ◌∷◌, replicate, take, drop, Result, OnOk, OnErr, Bool, MatchBool}
 use Rattle.std.specs.Int.{w32, from_be_bytes}
-use Rattle.v8_windows.specs.Registers.{window_before, window_after, register_set}
+use Rattle.v8_windows.specs.Registers.{place_of, window_before, window_after, register_set}
 use Rattle.v8_windows.specs.Frames.{frame_registers, frame_of, frame_address, oldest_of}
 
 -- the registers, the current window, and how many windows are valid, from the current one on
@@ -52,3 +52,7 @@ oldest_address w = frame_address w.registers (oldest_of w.window w.valid)
 
 abbrev pub oldest_words : WindowState → List ℕ
 oldest_words w = frame_of w.registers (oldest_of w.window w.valid)
+
+-- where the list has each register of each window, 32 for each
+abbrev pub ArePlaces : List ℕ → Type 0
+ArePlaces places = (n : ℕ) → n < 256 → slice_index places n ≡ place_of (n / 32) (n % 32)

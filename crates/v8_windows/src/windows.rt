@@ -1,6 +1,6 @@
 //! The register windows of a running program.
 ghost use Rattle.std.specs.Prelude.{◌≡◌, ◌-◌, ◌<◌, ◌≤◌, ◌==◌, slice_index};
-ghost use Rattle.v8_windows.specs.Calls.{Moves, entered, filled_by, left, no_windows, oldest_address, oldest_words, registers_of_words};
+ghost use Rattle.v8_windows.specs.Calls.{ArePlaces, Moves, entered, filled_by, left, no_windows, oldest_address, oldest_words, registers_of_words};
 ghost use Rattle.v8_windows.specs.Frames.{frame_of, frame_registers};
 ghost use Rattle.v8_windows.specs.Registers.{place_of, register_in, register_set};
 
@@ -23,17 +23,19 @@ pub struct Windows {
     registers: [u32; 136],
     window: u8,
     valid: u8,
+    /// Where `registers` has each register of each window, so that this needn't be worked out.
+    places: [u8; 256],
 }
 
 impl Model for Windows {
     ghost use Rattle.std.specs.Prelude.{◌≡◌, ◌<◌, ◌≤◌, slice_index};
-    ghost use Rattle.v8_windows.specs.Calls.{WindowState};
+    ghost use Rattle.v8_windows.specs.Calls.{ArePlaces, WindowState};
 
     ghost Value = { WindowState };
 
     ghost view = { λ w. record { registers = w.registers; window = w.window; valid = w.valid } };
 
-    ghost invariant = { λ w. (w.window < 8) × (1 ≤ w.valid) × (w.valid ≤ 7) × (slice_index w.registers 0 ≡ 0) };
+    ghost invariant = { λ w. (w.window < 8) × (1 ≤ w.valid) × (w.valid ≤ 7) × (slice_index w.registers 0 ≡ 0) × ArePlaces w.places };
 }
 
 impl Windows {
@@ -45,6 +47,7 @@ impl Windows {
             registers: [0; 136],
             window: 0,
             valid: 1,
+            places: all_places(),
         }
     }
 
@@ -54,7 +57,7 @@ impl Windows {
     pub fn get(&self, r: Reg) -> u32
         ensures { result ≡ register_in self.now.registers self.now.window r }
     {
-        self.registers[place(self.window, r.number())]
+        self.registers[self.place(r)]
     }
 
     /// Writes a register of the current window; a write to %g0 is dropped.
@@ -64,8 +67,19 @@ impl Windows {
         ensures { self.new ≡ record self.old { registers = register_set self.old.registers self.old.window r v } }
     {
         if r.number() != 0 {
-            self.registers[place(self.window, r.number())] = v;
+            let place = self.place(r);
+            self.registers[place] = v;
         }
+    }
+
+    /// Where the list has a register of the current window.
+    #[inline]
+    #[tactic(auto, using(crate::proofs::Places::place_in_table))]
+    fn place(&self, r: Reg) -> usize
+        ensures place { result ≡ place_of self.now.window r }
+        ensures range { result < 136 }
+    {
+        self.places[32 * self.window as usize + r.number() as usize] as usize
     }
 
     /// Goes to the window before (SAVE, section B.20).
@@ -130,6 +144,17 @@ impl Windows {
         load_frame(&mut self.registers, (self.window + 1) % 8, &words);
         self.valid = 2;
     }
+}
+
+// Where the list has each register of each window, 32 for each.
+fn all_places() -> [u8; 256]
+    ensures { ArePlaces result }
+{
+    let mut places = [0; 256];
+    for n in 0..256_usize {
+        places[n] = place((n / 32) as u8, (n % 32) as u8) as u8;
+    }
+    places
 }
 
 // Where the list has a register of a window.

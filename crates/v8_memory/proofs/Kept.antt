@@ -1,0 +1,70 @@
+-- The records that a memory keeps.
+use Rattle.std.proofs.Common.{◌≡◌, ◌+◌, ◌-◌, ◌*◌, ◌/◌, ◌%◌, ◌^◌, ◌<◌, inl, inr, ℕ, zero, suc, List, [], ◌∷◌, ◌++◌, length, get_or, refl, sym, ap, subst, arith, pos, map, take, drop, ◌∙◌}
+use Rattle.std.specs.List.{filter}
+use Rattle.v8_decode.specs.declared.Op2.TheVariants.{Reg}
+use Rattle.v8_memory.specs.declared.ops.Op.{Op}
+use Rattle.v8_memory.specs.declared.ops.OpCode.TheVariants.{Other}
+use Rattle.v8_memory.specs.Kept.{AreKept, IsKept, StandsFor}
+use Rattle.v8_memory.specs.Ops.{operand_in, plain_operand}
+use Rattle.v8_memory.specs.Regions.{Region, fetch_from, is_code, written}
+use Rattle.v8_memory.proofs.Executable.{filter-written}
+
+pub register_operand : (r : ℕ) → operand_in r (pos 0) ≡ plain_operand (Reg r)
+register_operand zero = refl
+register_operand (suc r) = refl
+
+-- one more record
+pub kept_more : (code : List Region) (address : ℕ) (kept : List Op) (x : Op) → AreKept code address kept
+    → IsKept code ((address + 4 * length kept) % 2 ^ 32) x → AreKept code address (kept ++ x ∷ [])
+kept_more code address [] x h last = (subst (λ a. IsKept code (a % 2 ^ 32) x) (omega arith) last, tt)
+kept_more code address (y ∷ kept) x h last =
+    (h.0, kept_more code (address + 4) kept x h.1 (subst (λ a. IsKept code (a % 2 ^ 32) x) (omega arith) last))
+
+-- the record of a word
+pub kept_at : (code : List Region) (address : ℕ) (kept : List Op) (n : ℕ) (d : Op) → AreKept code address kept
+    → n < length kept → IsKept code ((address + 4 * n) % 2 ^ 32) (get_or kept n d)
+kept_at code address [] n d h within = absurd (omega arith)
+kept_at code address (x ∷ kept) zero d h within = subst (λ a. IsKept code (a % 2 ^ 32) x) (omega arith) h.0
+kept_at code address (x ∷ kept) (suc n) d h within =
+    subst (λ a. IsKept code (a % 2 ^ 32) (get_or kept n d)) (omega arith)
+    (kept_at code (address + 4) kept n d h.1 (omega arith))
+
+-- as the code finds it: the place is the offset's quarter
+pub kept_op : (code : List Region) (first address offset : ℕ) (kept : List Op) (x : Op) → AreKept code first kept
+    → first < 2 ^ 32 → address < 2 ^ 32 → offset ≡ (address + (2 ^ 32 - first)) % 2 ^ 32 → offset % 4 ≡ 0 → offset / 4 < length kept
+    → x ≡ get_or kept (offset / 4) x → (x.code ≡ Other → ⊥) → StandsFor x (fetch_from code address)
+kept_op code first address offset kept x h below fits is even within item some = go at
+  where
+    whole : (first + 4 * (offset / 4)) % 2 ^ 32 ≡ address
+    whole = omega arith
+
+    at : IsKept code address x
+    at =
+        subst (λ a. IsKept code a x) whole
+        (subst (IsKept code ((first + 4 * (offset / 4)) % 2 ^ 32)) (sym item)
+        (kept_at code first kept (offset / 4) x h within))
+
+    go : IsKept code address x → StandsFor x (fetch_from code address)
+    go (inl other) = absurd (some other)
+    go (inr stands) = stands
+
+map_in_place : (f : Region → Region) (xs : List Region)
+    → take (length xs) (map f xs ++ drop (length (map f xs)) xs) ≡ map f xs
+map_in_place f [] = refl
+map_in_place f (x ∷ xs) = ap (λ z. f x ∷ z) (map_in_place f xs)
+
+-- a vector that was written through a slice of all its items
+pub written_through : (f : Region → Region) (count : ℕ) (items slice new : List Region) → length items ≡ count
+    → slice ≡ items → new ≡ map f slice → take count (new ++ drop (length new) items) ≡ map f items
+written_through f count items slice new whole same is =
+    ap (λ z. take count (z ++ drop (length z) items)) (is ∙ ap (map f) same)
+    ∙ ap (λ n. take n (map f items ++ drop (length (map f items)) items)) (sym whole)
+    ∙ map_in_place f items
+
+-- a write changes no word that has a record
+pub kept_written : (address : ℕ) (bytes : List ℕ) (old new : List Region) (first : ℕ) (kept : List Op)
+    → new ≡ map (written address bytes) old → AreKept (filter is_code old) first kept
+    → AreKept (filter is_code new) first kept
+kept_written address bytes old new first kept is h =
+    subst (λ rs. AreKept (filter is_code rs) first kept) (sym is)
+    (subst (λ code. AreKept code first kept) (sym (filter-written address bytes old)) h)

@@ -1,0 +1,193 @@
+//! Common instructions as records that are quick to carry out.
+ghost use Rattle.std.specs.Prelude.{◌≡◌, ◌⊎◌, ◌<◌, ◌%◌};
+ghost use Rattle.v8_decode.specs.declared.Instr.TheVariants as instrs;
+ghost use Rattle.v8_memory.specs.Ops.{IsSum, Stands, alu_in, instr_by, operand_in, plain_operand};
+
+use v8_decode::{AluOp, Instr, LoadKind, Op2, Reg, StoreKind};
+
+/// The instructions that have records: some with and without their codes. All else is `Other`.
+#[derive(Clone, Copy, PartialEq, Eq, Debug, Drop)]
+pub enum OpCode {
+    Sethi,
+    Branch,
+    BranchAnnul,
+    Call,
+    Add,
+    AddCc,
+    Sub,
+    SubCc,
+    And,
+    AndCc,
+    Or,
+    OrCc,
+    Xor,
+    Andn,
+    Sll,
+    Srl,
+    Sra,
+    Ld,
+    Ldub,
+    Lduh,
+    Ldsb,
+    Ldsh,
+    St,
+    Stb,
+    Sth,
+    Jmpl,
+    Save,
+    Restore,
+    Other,
+}
+
+/// An instruction whose second operand is the sum of `rs2` and `imm`, one of which is %g0 or 0. A branch has its
+/// condition in the place of `rd`, as its word has.
+#[derive(Clone, Copy, Drop)]
+pub struct Op {
+    pub code: OpCode,
+    pub rd: Reg,
+    pub rs1: Reg,
+    pub rs2: Reg,
+    pub imm: i32,
+}
+
+/// The record of an instruction; `Other` where there is none.
+#[inline]
+#[tactic(auto, unfolding(crate::specs::Ops::instr_of))]
+pub fn op_of(instr: Instr) -> Op
+    ensures { (result.code ≡ OpCode.Other) ⊎ Stands result instr }
+{
+    match instr {
+        Instr::Sethi { rd, imm22 } => immediate(OpCode::Sethi, rd, imm22.cast_signed()),
+        Instr::Branch {
+            cond,
+            annul,
+            disp22,
+        } => immediate(branch_code(annul), register(cond.number()), disp22),
+        Instr::Call { disp30 } => immediate(OpCode::Call, register(15), disp30),
+        Instr::Alu {
+            op,
+            cc,
+            rd,
+            rs1,
+            op2,
+        } => with_operand(alu_code(op, cc), rd, rs1, op2),
+        Instr::Jmpl { rd, rs1, op2 } => with_operand(OpCode::Jmpl, rd, rs1, op2),
+        Instr::Save { rd, rs1, op2 } => with_operand(OpCode::Save, rd, rs1, op2),
+        Instr::Restore { rd, rs1, op2 } => with_operand(OpCode::Restore, rd, rs1, op2),
+        Instr::Load { kind, rd, rs1, op2 } => with_operand(load_code(kind), rd, rs1, op2),
+        Instr::Store { kind, rd, rs1, op2 } => with_operand(store_code(kind), rd, rs1, op2),
+        _ => no_op(),
+    }
+}
+
+/// The record that says nothing.
+pub fn no_op() -> Op
+    ensures { result.code ≡ OpCode.Other }
+{
+    immediate(OpCode::Other, register(0), 0)
+}
+
+/// A record with an immediate, and %g0 beside it.
+fn immediate(code: OpCode, rd: Reg, imm: i32) -> Op
+    ensures { result ≡ record { code = code; rd = rd; rs1 = 0; rs2 = 0; imm = imm } }
+{
+    Op {
+        code,
+        rd,
+        rs1: register(0),
+        rs2: register(0),
+        imm,
+    }
+}
+
+/// A record with a second operand.
+#[tactic(auto, using(crate::proofs::Kept::register_operand))]
+fn with_operand(code: OpCode, rd: Reg, rs1: Reg, op2: Op2) -> Op
+    ensures code { result.code ≡ code }
+    ensures rd { result.rd ≡ rd }
+    ensures rs1 { result.rs1 ≡ rs1 }
+    ensures operand { operand_in result.rs2 result.imm ≡ plain_operand op2 }
+    ensures sum { IsSum result.rs2 result.imm }
+{
+    match op2 {
+        Op2::Reg(rs2) => Op {
+            code,
+            rd,
+            rs1,
+            rs2,
+            imm: 0,
+        },
+        Op2::Imm(imm) => Op {
+            code,
+            rd,
+            rs1,
+            rs2: register(0),
+            imm,
+        },
+    }
+}
+
+fn branch_code(annul: bool) -> OpCode
+    ensures { (x : Op) → instr_by result x ≡ instrs.Branch (x.rd % 16) annul x.imm }
+{
+    if annul {
+        OpCode::BranchAnnul
+    } else {
+        OpCode::Branch
+    }
+}
+
+fn alu_code(op: AluOp, cc: bool) -> OpCode
+    ensures { (result ≡ OpCode.Other) ⊎ ((x : Op) → instr_by result x ≡ alu_in op cc x) }
+{
+    match (op, cc) {
+        (AluOp::ADD, false) => OpCode::Add,
+        (AluOp::ADD, true) => OpCode::AddCc,
+        (AluOp::SUB, false) => OpCode::Sub,
+        (AluOp::SUB, true) => OpCode::SubCc,
+        (AluOp::AND, false) => OpCode::And,
+        (AluOp::AND, true) => OpCode::AndCc,
+        (AluOp::OR, false) => OpCode::Or,
+        (AluOp::OR, true) => OpCode::OrCc,
+        (AluOp::XOR, false) => OpCode::Xor,
+        (AluOp::ANDN, false) => OpCode::Andn,
+        (AluOp::SLL, false) => OpCode::Sll,
+        (AluOp::SRL, false) => OpCode::Srl,
+        (AluOp::SRA, false) => OpCode::Sra,
+        _ => OpCode::Other,
+    }
+}
+
+fn load_code(kind: LoadKind) -> OpCode
+    ensures { (result ≡ OpCode.Other)
+        ⊎ ((x : Op) → instr_by result x ≡ instrs.Load kind x.rd x.rs1 (operand_in x.rs2 x.imm)) }
+{
+    match kind {
+        LoadKind::LD => OpCode::Ld,
+        LoadKind::LDUB => OpCode::Ldub,
+        LoadKind::LDUH => OpCode::Lduh,
+        LoadKind::LDD => OpCode::Other,
+        LoadKind::LDSB => OpCode::Ldsb,
+        LoadKind::LDSH => OpCode::Ldsh,
+    }
+}
+
+fn store_code(kind: StoreKind) -> OpCode
+    ensures { (result ≡ OpCode.Other)
+        ⊎ ((x : Op) → instr_by result x ≡ instrs.Store kind x.rd x.rs1 (operand_in x.rs2 x.imm)) }
+{
+    match kind {
+        StoreKind::ST => OpCode::St,
+        StoreKind::STB => OpCode::Stb,
+        StoreKind::STH => OpCode::Sth,
+        StoreKind::STD => OpCode::Other,
+    }
+}
+
+/// The register with this number.
+fn register(number: u8) -> Reg
+    requires { number < 32 }
+    ensures { result ≡ number }
+{
+    Reg::new(number).unwrap()
+}
