@@ -108,8 +108,14 @@ fn the_target_of_a_jump_comes_next(rt: HostRuntime) -> Result<(), Fail> {
     let Ok(placed) = place(rt.alloc(), &pieces, BASE, 16) else {
         return Err(Fail::from("memory"));
     };
-    assert_eq!(rt; placed.code.as_slice(), [0xa, 0xc, 0xb, 0x30bf_ffff].as_slice());
-    assert_eq!(rt; placed.at.as_slice(), [BASE, Addr(0x4000_1008), Addr(0x4000_1004)].as_slice());
+    assert_eq!(rt;
+        placed.code.as_slice(),
+        [0xa, 0xc, 0xb, 0x30bf_ffff].as_slice()
+    );
+    assert_eq!(rt;
+        placed.at.as_slice(),
+        [BASE, Addr(0x4000_1008), Addr(0x4000_1004)].as_slice()
+    );
     Ok(())
 }
 
@@ -143,12 +149,18 @@ fn first_and_count(alloc: Global, count: usize) -> Result<(u32, usize), Fail>
 
 #[test]
 fn the_longest_short_jump(rt: HostRuntime) -> Result<(), Fail> {
-    assert_eq!(rt; first_and_count(rt.alloc(), 2_097_150)?, (0x309f_ffff, 2_097_152));
+    assert_eq!(rt;
+        first_and_count(rt.alloc(), 2_097_150)?,
+        (0x309f_ffff, 2_097_152)
+    );
     Ok(())
 }
 
 #[test]
 fn the_shortest_long_jump(rt: HostRuntime) -> Result<(), Fail> {
-    assert_eq!(rt; first_and_count(rt.alloc(), 2_097_151)?, (0xc220_3000, 2_097_156));
+    assert_eq!(rt;
+        first_and_count(rt.alloc(), 2_097_151)?,
+        (0xc220_3000, 2_097_156)
+    );
     Ok(())
 }
