@@ -1,4 +1,5 @@
 pub mod Equal
 pub mod Marks
 pub mod Members
+pub mod Minus
 pub mod Rows

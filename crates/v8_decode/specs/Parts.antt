@@ -46,3 +46,7 @@ set_of ps = members (has ps)
 -- a set without a part
 abbrev pub without : List Part → Part → List Part
 without ps p = filter (λ q. not (is_same q p)) ps
+
+-- what a set has and another hasn't
+abbrev pub minus : List Part → List Part → List Part
+minus ps qs = members (λ p. has ps p && not (has qs p))

@@ -2,7 +2,7 @@
 
 ghost use Rattle.std.specs.Prelude.{◌≡◌, ◌<◌, ◌≤◌, true, not, ◌&&◌, ◌||◌, [], ◌∷◌, ◌++◌, length};
 ghost use Rattle.v8_decode.specs.declared.Part.{Part};
-ghost use Rattle.v8_decode.specs.Parts.{every_part, has, is_member, is_part, is_same, set_of, without};
+ghost use Rattle.v8_decode.specs.Parts.{every_part, has, is_member, is_part, is_same, minus, set_of, without};
 ghost use Rattle.v8_decode.specs.Masks.{place_of};
 
 use crate::Part;
@@ -56,9 +56,9 @@ impl RegSet {
         RegSet { mask: 0 }
     }
 
-    // The set of everything.
+    /// The set of everything.
     #[inline]
-    pub(crate) fn all() -> RegSet
+    pub fn all() -> RegSet
         ensures { result ≡ every_part }
     {
         RegSet {
@@ -110,6 +110,17 @@ impl RegSet {
     {
         RegSet {
             mask: self.mask | other.mask,
+        }
+    }
+
+    /// What is in this set and not in the other.
+    #[inline]
+    pub fn minus(self, other: RegSet) -> RegSet
+        ensures value { result ≡ minus self other }
+        ensures has { (q : Part) → has result q ≡ (has self q && not (has other q)) }
+    {
+        RegSet {
+            mask: self.mask & (self.mask ^ other.mask),
         }
     }
 
