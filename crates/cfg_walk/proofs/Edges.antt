@@ -117,7 +117,7 @@ out_leads b =
     (ways_are_own b.words (last_word b.firsts b.words j) (end_of b j))))))
     (each-map _ landing_at (below n) (each _ (below n) (λ j e. absurd (false≢true e))))
 
-number_of_list : (o : Option ℕ) (number : ℕ) → option_to_list o ≡ number ∷ [] → o ≡ Some number
+pub number_of_list : (o : Option ℕ) (number : ℕ) → option_to_list o ≡ number ∷ [] → o ≡ Some number
 number_of_list None number e = absurd (cc)
 number_of_list (Some n) number e = cc
 

@@ -43,7 +43,7 @@ straight_end text word (i.Call disp30) e = absurd (cc)
 straight_end text word (i.Jmpl rd rs1 op2) e = absurd (cc)
 straight_end text word _ e = refl
 
-straight_left : (graph : Graph) (node : Node) (word : ℕ) (instr : Instr) → transfers instr ≡ false
+pub straight_left : (graph : Graph) (node : Node) (word : ℕ) (instr : Instr) → transfers instr ≡ false
     → left_by graph node word instr
     ≡ (if ends_block graph node word then edge_from graph node kinds.Fall else [])
 straight_left graph node word (i.Branch cond annul disp22) e = absurd (cc)

@@ -49,7 +49,7 @@ number_of-numbered : (o : Option ℕ) → number_of (numbered o) ≡ o
 number_of-numbered None = refl
 number_of-numbered (Some word) = refl
 
-within_some : (count word other : ℕ) → within count word ≡ Some other → (word < count) × (word ≡ other)
+pub within_some : (count word other : ℕ) → within count word ≡ Some other → (word < count) × (word ≡ other)
 within_some count word other e = (grind (arith, nat_tests), grind (arith, nat_tests))
 
 module _ {text : Words} {b : Blocks} {node : Node} {before : Point} {word : ℕ} {instr : Instr}

@@ -52,7 +52,7 @@ coupled NoSlot s t h = absurd (h refl)
 coupled Taken s t h = refl
 coupled Untaken s t h = refl
 
-couples : (x : Slot) (s : State) (instr : Instr) → x ≢ NoSlot → s.slot ≡ x → is_transfer instr ≡ true
+pub couples : (x : Slot) (s : State) (instr : Instr) → x ≢ NoSlot → s.slot ≡ x → is_transfer instr ≡ true
     → (act s instr).ending ≡ Some Couple
 unfolding act
 couples x s (i.Branch cond annul disp22) h e t =

@@ -23,3 +23,4 @@ pub mod ValidNumbers
 pub mod ValidStates
 pub mod ValidSteps
 pub mod ValidWindows
+pub mod WindowStays

@@ -1,10 +1,12 @@
 -- The laws of steps and runs.
 use Rattle.std.specs.Prelude.{◌≡◌, ℕ, ◌^◌, ◌<◌, false, Some, List}
+use Rattle.v8_decode.specs.declared.Instr.{Instr}
+use Rattle.v8_decode.specs.Effects.{reads_all}
 use Rattle.v8_decode.specs.Words.{decode_of}
 use Rattle.v8_memory.specs.Regions.{Memory, code_of, fetch_of}
 use Rattle.v8_memory.specs.Spans.{Span}
 use Rattle.v8_step.specs.State.{State}
-use Rattle.v8_step.specs.Step.{step_of, puts_of}
+use Rattle.v8_step.specs.Step.{act, step_of, puts_of}
 use Rattle.v8_step.specs.Run.{run, first_state}
 use Rattle.v8_step.specs.Items.{is_transfer}
 use Rattle.v8_step.specs.Alike.{IsReady, AreSameAfter}
@@ -32,3 +34,7 @@ ValidStays =
     → AreBytes input → IsValid (first_state m entry sp input))
     × ((s : State) → IsValid s → IsValid (step_of s))
     × ((s : State) (n : ℕ) → IsValid s → IsValid (run s n))
+
+-- The window stays, but for SAVE and RESTORE, and for traps, which may save windows: these read every item.
+abbrev pub WindowStays : Type 0
+WindowStays = (s : State) (instr : Instr) → reads_all instr ≡ false → (act s instr).window ≡ s.window

@@ -8,7 +8,7 @@
 
 ghost use Rattle.v8_step.specs.Copied.{CopiesFollow};
 ghost use Rattle.v8_step.specs.Follows.{RunsFollow};
-ghost use Rattle.v8_step.specs.Laws.{CodeStays, StepsAlike, ValidStays};
+ghost use Rattle.v8_step.specs.Laws.{CodeStays, StepsAlike, ValidStays, WindowStays};
 
 mod accesses;
 mod calls;
@@ -50,6 +50,11 @@ pub fn code_stays()
 /// A first state over valid memory is valid, and steps and runs keep a valid state valid.
 pub fn valid_stays()
     ensures { ValidStays }
+{}
+
+/// An instruction that doesn't read every register leaves the window.
+pub fn window_stays()
+    ensures { WindowStays }
 {}
 
 /// Two states that fetch one word, which is no transfer of control, and share what it reads step alike: they end

@@ -1,0 +1,209 @@
+-- What a run still needs, or a later snippet names, is kept from step to step.
+use Rattle.std.proofs.Common.{◌≡◌, ℕ, zero, suc, ◌+◌, ◌-◌, ◌<◌, ◌≤◌, ◌⊎◌, inl, inr, true, List, [], ◌∷◌, ◌++◌, length, slice_index, Option, Some, None, refl, ap, sym, ◌∙◌, subst, arith}
+use Rattle.std.specs.List.{Contains}
+use Rattle.std.specs.Option.{option_map}
+use Rattle.std.proofs.lemmas.Bool.{cases_eq, cases_order}
+use Rattle.eel_base.specs.CodeText.{Words, IsText, word_at}
+use Rattle.v8_decode.specs.declared.Instr.{Instr}
+use Rattle.v8_decode.specs.declared.Part.{Part}
+use Rattle.v8_decode.specs.declared.Part.TheVariants.{Reg, Icc, Y}
+use Rattle.v8_decode.specs.Effects.{writes_of}
+use Rattle.v8_decode.specs.Parts.{has, is_member}
+use Rattle.v8_memory.specs.Regions.{fetch_of}
+use Rattle.v8_step.specs.declared.Ending.{Ending}
+use Rattle.v8_step.specs.State.{State}
+use Rattle.v8_step.specs.Run.{run}
+use Rattle.v8_step.specs.Items.{Item, Register, Codes, YRegister, IsItem, IsAmong, item_of}
+use Rattle.v8_step.specs.Needed.{IsNeeded, Reads, ReadsIn, Writes, WritesIn, decoded}
+use Rattle.v8_step.proofs.Executable.{code_stays}
+use Rattle.code_runs.specs.PointsAlike.{instr_of}
+use Rattle.cfg_blocks.specs.Blocks.{blocks_of}
+use Rattle.cfg_normal.specs.Graph.{Graph, graph_of}
+use Rattle.cfg_walk.specs.Walk.{gone_in}
+use Rattle.cfg_walk.specs.Matches.{FetchesOnly, BeginsAt}
+use Rattle.cfg_walk.proofs.Walks.{live_before}
+use Rattle.live_walk.specs.Keeps.{IsKeptAt, IsKeptBehind, IsNamedLater, Keeps, WhatLivesIsKept, instr_after}
+use Rattle.live_walk.proofs.Back.{goes_live, live_below, named_is_live, needed_is_live, reads_here}
+
+-- ---- whether a step writes an item
+
+same_item : (one other : Item) → (one ≡ other) ⊎ (one ≡ other → ⊥)
+same_item (Register a) (Register b) = elim (cases_eq a b) [
+  | inl e ↦ inl (ap Register e)
+  | inr not ↦ inr (λ e. not (cc))
+]
+same_item (Register a) Codes = inr (λ e. absurd (cc))
+same_item (Register a) YRegister = inr (λ e. absurd (cc))
+same_item Codes (Register b) = inr (λ e. absurd (cc))
+same_item Codes Codes = inl refl
+same_item Codes YRegister = inr (λ e. absurd (cc))
+same_item YRegister (Register b) = inr (λ e. absurd (cc))
+same_item YRegister Codes = inr (λ e. absurd (cc))
+same_item YRegister YRegister = inl refl
+
+among_or_not : (item : Item) (w : ℕ) (ps : List Part) → IsAmong item w ps ⊎ (IsAmong item w ps → ⊥)
+among_or_not item w [] = inr (λ a. a)
+among_or_not item w (p ∷ ps) = by (same_item (item_of w p) item) (among_or_not item w ps)
+  where
+    by : (item_of w p ≡ item) ⊎ (item_of w p ≡ item → ⊥) → IsAmong item w ps ⊎ (IsAmong item w ps → ⊥)
+        → IsAmong item w (p ∷ ps) ⊎ (IsAmong item w (p ∷ ps) → ⊥)
+    by (inl e) rest = inl (inl e)
+    by (inr not) (inl a) = inl (inr a)
+    by (inr not) (inr none) = inr (λ a. neither not none a)
+      where
+        neither : (item_of w p ≡ item → ⊥) → (IsAmong item w ps → ⊥) → IsAmong item w (p ∷ ps) → ⊥
+        neither not none (inl e) = not e
+        neither not none (inr a) = none a
+
+written_or_not : (instr : Option Instr) (w : ℕ) (item : Item)
+    → WritesIn instr w item ⊎ (WritesIn instr w item → ⊥)
+written_or_not None w item = inr (λ h. h)
+written_or_not (Some instr) w item = among_or_not item w (writes_of instr)
+
+-- the instruction of a live state is the one that it fetches
+decoded_live : (ending : Option Ending) (word : Option ℕ) → ending ≡ None → instr_of word ≡ decoded ending word
+decoded_live None None e = refl
+decoded_live None (Some word) e = refl
+decoded_live (Some ending) word e = absurd (cc)
+
+-- from one step after n on, or at n, up to some step
+from_next : (P : ℕ → Type 0) (n to : ℕ) → P n → ((k : ℕ) → suc n ≤ k → k ≤ to → P k) → (k : ℕ) → n ≤ k → k ≤ to → P k
+from_next P n to first rest k low high = elim (cases_eq n k) [
+  | inl e ↦ subst P e first
+  | inr not ↦ rest k (omega arith) high
+]
+
+module _ (text : Words) (given : List ℕ) (entry : ℕ) (s0 : State) (named : ℕ → List Part) (is : IsText text)
+    (fetches : FetchesOnly text s0) (begins : BeginsAt text entry s0) where
+  abbrev graph : Graph
+  graph = graph_of (blocks_of text given)
+
+  abbrev at : ℕ → State
+  at k = run s0 k
+
+  abbrev Kept : ℕ → Item → Type 0
+  Kept n item = IsKeptAt text graph named entry s0 n item
+
+  abbrev Written : ℕ → Item → Type 0
+  Written n item = WritesIn (instr_after text s0 n) (run s0 n).window item
+
+  -- a live state carries out what the text has there
+  carried : (n : ℕ) → (at n).ending ≡ None → instr_after text s0 n
+      ≡ decoded (at n).ending (fetch_of (at n).memory (at n).pc)
+  carried n live =
+      ap instr_of (sym (code_stays.1 s0 n (at n).pc ∙ fetches (at n).pc))
+      ∙ decoded_live (at n).ending (fetch_of (at n).memory (at n).pc) live
+
+  writes_now : (n : ℕ) (item : Item) → (at n).ending ≡ None → (Written n item → ⊥) → ¬ Writes (at n) item
+  writes_now n item live none w =
+      none (subst (λ (o : Option Instr). WritesIn o (at n).window item) (sym (carried n live)) w)
+
+  read_now : (n : ℕ) (item : Item) → (at n).ending ≡ None → IsItem item
+      → ReadsIn (instr_after text s0 n) (at n).window item → Kept n item
+  read_now n item live is_item r =
+      inl (record {
+        is_item = is_item;
+        reader = n;
+        later = omega arith;
+        reads = subst (λ (o : Option Instr). ReadsIn o (at n).window item) (carried n live) r;
+        kept = λ k low high. absurd (omega arith);
+      })
+
+  -- where something is still needed, or named later, the run goes on
+  live_up_to : (n m : ℕ) → n ≤ m → (at m).ending ≡ None → (at n).ending ≡ None
+  live_up_to n m low h =
+      let e : n + (m - n) ≡ m = omega arith in
+      live_below text given entry s0 named is fetches begins n (m - n) (ap (λ (k : ℕ). (at k).ending) e ∙ h)
+
+  kept_lives : (n : ℕ) (item : Item) → Kept n item → (at n).ending ≡ None
+  kept_lives n item (inl needed) =
+      live_up_to n needed.reader needed.later (reads_here (at needed.reader) item needed.reads).0
+  kept_lives n item (inr later) =
+      live_up_to n later.step later.later
+      (live_before (at later.step)
+      (goes_live text given entry s0 named is fetches begins later.step later.edge later.completed))
+
+  kept_before : (n : ℕ) (item : Item) → Kept (suc n) item → ¬ Writes (at n) item → Kept n item
+  kept_before n item (inl needed) none =
+      let low = needed.later in
+      inl (record {
+        is_item = needed.is_item;
+        reader = needed.reader;
+        later = omega arith;
+        reads = needed.reads;
+        kept = λ k from to. elim (cases_eq n k) [
+          | inl e ↦ subst (λ (j : ℕ). ¬ Writes (at j) item) e none
+          | inr not ↦ needed.kept k (omega arith) to
+        ];
+      })
+  kept_before n item (inr later) none =
+      let low = later.later in
+      inr (record {
+        step = later.step;
+        later = omega arith;
+        edge = later.edge;
+        completed = later.completed;
+        part = later.part;
+        is_part = later.is_part;
+        is_named = later.is_named;
+        names = later.names;
+        unwritten = from_next (λ (j : ℕ). ¬ Writes (at j) item) n later.step none later.unwritten;
+      })
+
+  back : (n : ℕ) (item : Item) → Kept (suc n) item → Written n item ⊎ Kept n item
+  back n item kept = by (written_or_not (instr_after text s0 n) (at n).window item)
+    where
+      by : Written n item ⊎ (Written n item → ⊥) → Written n item ⊎ Kept n item
+      by (inl w) = inl w
+      by (inr none) =
+          inr (kept_before n item kept
+          (writes_now n item (live_before (at n) (kept_lives (suc n) item kept)) none))
+
+  live : (n : ℕ) (item : Item) → Kept (suc n) item
+      → IsKeptBehind text graph named (gone_in text graph entry s0 n) (at (suc n)).window item
+  live n item (inl needed) front e last p member dead same =
+      dead (needed_is_live text given entry s0 named is fetches begins n e front p member last
+      (subst (λ (i : Item). IsNeeded s0 (suc n) i) same needed))
+  live n item (inr later) front e last p member dead same =
+      let low = later.later in
+      dead (named_is_live text given entry s0 named is fetches begins n e front p member last
+      later.step later.edge later.part (omega arith) later.completed later.is_part later.is_named
+      (later.names ∙ same)
+      (λ k from to. subst (λ (i : Item). ¬ Writes (at k) i) same (later.unwritten k (omega arith) to)))
+
+  named_items : (n e : ℕ) (p : Part) → Contains (gone_in text graph entry s0 n) e → is_member p ≡ true
+      → has (named e) p ≡ true
+      → Written n (item_of (at (suc n)).window p) ⊎ Kept n (item_of (at (suc n)).window p)
+  named_items n e p gone member names =
+      by (written_or_not (instr_after text s0 n) (at n).window (item_of (at (suc n)).window p))
+    where
+      now : (at n).ending ≡ None
+      now = live_before (at n) (goes_live text given entry s0 named is fetches begins n e gone)
+
+      by : Written n (item_of (at (suc n)).window p) ⊎ (Written n (item_of (at (suc n)).window p) → ⊥)
+          → Written n (item_of (at (suc n)).window p) ⊎ Kept n (item_of (at (suc n)).window p)
+      by (inl w) = inl w
+      by (inr none) =
+          let not : ¬ Writes (at n) (item_of (at (suc n)).window p) = writes_now n _ now none in
+          inr (inr (record {
+            step = n;
+            later = omega arith;
+            edge = e;
+            completed = gone;
+            part = p;
+            is_part = member;
+            is_named = names;
+            names = refl;
+            unwritten = λ k low high.
+                let same : n ≡ k = omega arith in
+                subst (λ (j : ℕ). ¬ Writes (at j) (item_of (at (suc n)).window p)) same not;
+          }))
+
+pub what_lives_is_kept : WhatLivesIsKept
+what_lives_is_kept text given entry s0 named is fetches begins = record {
+  reads = λ n item l i r. read_now text given entry s0 named is fetches begins n item l i r;
+  back = λ n item k. back text given entry s0 named is fetches begins n item k;
+  live = λ n item k. live text given entry s0 named is fetches begins n item k;
+  needed = λ n item k. inl k;
+  named_items = λ n e p c m h. named_items text given entry s0 named is fetches begins n e p c m h;
+}
