@@ -257,10 +257,10 @@ module _ (g : Setting) (entry : ℕ) (Inside : Point → Type 0) (Here : Node �
             (end_next n) (x.on.here go)));
         items = λ item is k. subst (λ (z : State). IsSameAt item (run s0 (suc n)) z) (sym at)
             (same_trans item (run s0 (suc n)) v x.on.after
-            (x.alike.items live item is (before n m h item is (r.keeping.back n item is h.live k)))
+            (x.alike.items live item is (before n m h item is (r.keeping.back n item k)))
             (x.on.followed.items go item is
             (subst (λ (z : ℕ). IsKept g (gone_in g.text (graph_in g) entry s0 n) z item) x.alike.world.window
-            (r.keeping.live n item is k))));
+            (r.keeping.live n item k))));
         together = record {
           world = world_next n m x;
           puts = puts_next n m h x;

@@ -1,4 +1,7 @@
+pub mod Stays
 pub mod Induction
+pub mod Completed
+pub mod Kept
 pub mod Whole
 pub mod Views
 pub mod Tools

@@ -29,10 +29,10 @@ instr_in g s0 n = instr_of (word_of g.text (run s0 n).pc)
 pub record Keeping (g : Setting) (entry : ℕ) (s0 : State) (K : ℕ → Item → Type 0) : Type 0 where
   pub reads : (n : ℕ) (item : Item) → IsItem item → (run s0 n).ending ≡ None
       → ReadsIn (instr_in g s0 n) (run s0 n).window item → K n item
-  pub back : (n : ℕ) (item : Item) → IsItem item → (run s0 n).ending ≡ None → K (suc n) item
+  pub back : (n : ℕ) (item : Item) → K (suc n) item
       → WritesIn (instr_in g s0 n) (run s0 n).window item ⊎ K n item
   -- what the snippets of edges take for their own is kept no longer
-  pub live : (n : ℕ) (item : Item) → IsItem item → K (suc n) item
+  pub live : (n : ℕ) (item : Item) → K (suc n) item
       → IsKept g (gone_in g.text (graph_in g) entry s0 n) (run s0 (suc n)).window item
   pub needed : (n : ℕ) (item : Item) → IsNeeded s0 n item → K n item
   -- what an edge's snippet makes of the cells depends on kept items alone

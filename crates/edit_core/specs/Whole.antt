@@ -1,17 +1,13 @@
 -- What the runs of a written file are, where its code keeps what the original's run still asks for.
-use Rattle.std.specs.Prelude.{◌≡◌, ◌≢◌, ℕ, zero, suc, ◌<◌, ◌≤◌, ◌⊎◌, true, List, All}
-use Rattle.std.specs.List.{Contains}
+use Rattle.std.specs.Prelude.{◌≡◌, ℕ, zero, suc, ◌<◌, ◌≤◌, None, All}
 use Rattle.eel_base.specs.CodeText.{IsText}
 use Rattle.elf32_sparc.specs.Notes.{node_at}
-use Rattle.v8_decode.specs.declared.Part.{Part}
-use Rattle.v8_decode.specs.Parts.{has, is_member}
 use Rattle.v8_step.specs.State.{State}
 use Rattle.v8_step.specs.Run.{run}
-use Rattle.v8_step.specs.Items.{Item, item_of}
-use Rattle.v8_step.specs.Needed.{IsNeeded, IsUntouched, Writes}
+use Rattle.v8_step.specs.Items.{Item}
+use Rattle.v8_step.specs.Needed.{IsUntouched}
 use Rattle.v8_step.specs.Visits.{pages_of}
 use Rattle.v8_step.specs.TwoRuns.{Answers, IsLeast, IsBounded}
-use Rattle.cfg_walk.specs.Walk.{gone_in}
 use Rattle.cfg_walk.specs.Matches.{BeginsAt, FetchesOnly}
 use Rattle.snippets.specs.Grammar.{IsOp}
 use Rattle.layout.specs.Laid.{HasShortForms, Placement}
@@ -19,33 +15,21 @@ use Rattle.image_code.specs.Simulates.{Setting, cells_in, graph_in, store_of}
 use Rattle.image_code.specs.Images.{Pieces, Frame, Here}
 use Rattle.image_code.specs.Outside.{IsOpen}
 use Rattle.liveness.specs.Live.{named_on}
+use Rattle.live_walk.specs.Keeps.{IsKeptAt}
 use Rattle.edit_core.specs.Dead.{AreDead}
 use Rattle.edit_core.specs.Runs.{Keeping, Rests, Spares, Tells, limits_in}
 use Rattle.edit_core.specs.RunsAlike.{EndsAtNode}
 
--- After n steps an item is named later where the snippet of an edge names it that a later step completes, and no step up to
--- and with that one writes it.
-pub record IsNamedLater (g : Setting) (entry : ℕ) (s0 : State) (n : ℕ) (item : Item) : Type 0 where
-  pub step : ℕ
-  pub later : n ≤ step
-  pub edge : ℕ
-  pub gone : Contains (gone_in g.text (graph_in g) entry s0 step) edge
-  pub part : Part
-  pub member : is_member part ≡ true
-  pub named : has (named_on g.snips edge) part ≡ true
-  pub is : item_of (run s0 (suc step)).window part ≡ item
-  pub kept : (k : ℕ) → n ≤ k → k ≤ step → ¬ Writes (run s0 k) item
+-- what is kept: what the original's run still needs, and what snippets name that come before it is written
+abbrev pub KeptIn : Setting → ℕ → State → ℕ → Item → Type 0
+KeptIn g entry s0 n item = IsKeptAt g.text (graph_in g) (named_on g.snips) entry s0 n item
 
--- what the original's run still asks for: what it needs, and what snippets name
-abbrev pub IsAskedFor : Setting → ℕ → State → ℕ → Item → Type 0
-IsAskedFor g entry s0 n item = IsNeeded s0 n item ⊎ IsNamedLater g entry s0 n item
-
--- Where just what isn't live is dead behind each edge's snippet, what the run still asks for is kept.
-abbrev pub KeepsAskedFor : Type 0
-KeepsAskedFor =
+-- Where just what isn't live is dead behind each edge's snippet, all that is kept which has to be.
+abbrev pub KeepsWhatLives : Type 0
+KeepsWhatLives =
     (g : Setting) (entry : ℕ) (s0 : State) → IsText g.text → FetchesOnly g.text s0 → BeginsAt g.text entry s0
     → AreDead g.text (graph_in g) (named_on g.snips) g.dead → All (All IsOp) g.snips
-    → Keeping g entry s0 (IsAskedFor g entry s0)
+    → Keeping g entry s0 (KeptIn g entry s0)
 
 -- The written file answers each step of the original, within its limits, and stores and takes no more than it may. Up to
 -- its first visit it stands in no place, and from then on in none, or in one of the node where the original's walk stands.
@@ -66,5 +50,5 @@ abbrev pub EditsAnswer : Type 0
 EditsAnswer =
     (g : Setting) (l : Pieces) (base : ℕ) (p : Placement) (place : ℕ → ℕ → ℕ) (f : Frame) (entry : ℕ) (s0 t0 : State)
     (last : ℕ)
-    → Rests g entry (IsOpen g) (Here g l base p f) (HasShortForms l.list place) (IsAskedFor g entry s0) s0 t0
+    → Rests g entry (IsOpen g) (Here g l base p f) (HasShortForms l.list place) (KeptIn g entry s0) s0 t0
     → IsUntouched (pages_of g.notes) s0 last → Answered g entry (HasShortForms l.list place) s0 t0 last
