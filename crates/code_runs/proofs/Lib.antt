@@ -1,4 +1,5 @@
 pub mod Acts
+pub mod Counted
 pub mod Hops
 pub mod Leads
 pub mod LongJump

@@ -1,3 +1,4 @@
+pub mod Counted
 pub mod Hops
 pub mod Leads
 pub mod LongJump

@@ -1,5 +1,5 @@
 -- A jump to any address, through a register that waits in the editor's page meanwhile.
-use Rattle.std.specs.Prelude.{◌≡◌, ℕ, ◌+◌, ◌-◌, ◌/◌, ◌%◌, ◌^◌, ◌<◌, List, [], ◌∷◌, pos}
+use Rattle.std.specs.Prelude.{◌≡◌, ℕ, ◌+◌, ◌-◌, ◌/◌, ◌%◌, ◌^◌, ◌<◌, Bool, false, List, [], ◌∷◌, pos}
 use Rattle.v8_decode.specs.declared.Op2.TheVariants.{Imm}
 use Rattle.v8_decode.specs.declared.Instr.{Instr}
 use Rattle.v8_decode.specs.declared.Instr.TheVariants as i
@@ -8,6 +8,7 @@ use Rattle.v8_decode.specs.declared.StoreKind.TheVariants as stores
 use Rattle.v8_memory.specs.Regions.{code_of}
 use Rattle.v8_step.specs.State.{State, register_of}
 use Rattle.v8_step.specs.Valid.{IsValid}
+use Rattle.code_runs.specs.Counted.{count_stores}
 use Rattle.code_runs.specs.Hops.{Hops}
 use Rattle.code_runs.specs.Page.{page_word, of_page}
 use Rattle.code_runs.specs.StoredWords.{CanStore, store_word}
@@ -29,3 +30,10 @@ LongJumpsHop =
     (to : ℕ) (s : State) → IsValid s → IsReady s → s.pc + 16 < 2 ^ 32 - 4 → CanStore s.memory (page_word 0)
     → StandIn (code_of s.memory) s.pc (long_jump to) → to < 2 ^ 32 → to % 4 ≡ 0
     → Hops s 4 IsFirstWord to (store_word s.memory (page_word 0) (register_of s 1))
+
+-- It stores nothing anywhere else.
+abbrev pub LongJumpsStore : Type 0
+LongJumpsStore =
+    (to : ℕ) (s : State) → IsValid s → IsReady s → s.pc + 16 < 2 ^ 32 - 4 → CanStore s.memory (page_word 0)
+    → StandIn (code_of s.memory) s.pc (long_jump to) → to < 2 ^ 32 → to % 4 ≡ 0
+    → (counted : ℕ → Bool) → counted (page_word 0) ≡ false → count_stores counted s 4 ≡ 0

@@ -3,7 +3,7 @@
 //! definitions and laws.
 #![tactic(auto)]
 
-ghost use Rattle.code_runs.specs.LongJump.{LongJumpsHop};
+ghost use Rattle.code_runs.specs.LongJump.{LongJumpsHop, LongJumpsStore};
 ghost use Rattle.code_runs.specs.Ours.{OursAreStored, OursStay, WordsStay};
 ghost use Rattle.code_runs.specs.Points.{ActsAnywhere};
 ghost use Rattle.code_runs.specs.PointsAlike.{PointsActAlike};
@@ -25,6 +25,11 @@ pub fn blocks_work()
 /// waits meanwhile.
 pub fn long_jumps_hop()
     ensures { LongJumpsHop }
+{}
+
+/// It stores in no other word.
+pub fn long_jumps_store()
+    ensures { LongJumpsStore }
 {}
 
 /// An instruction that is no transfer does the same wherever it stands, and puts out the same.

@@ -1,16 +1,24 @@
 -- The words of a CALL write its link, as the original's step does.
-use Rattle.std.proofs.Common.{◌+◌, ◌*◌, refl, subst, arith}
-use Rattle.v8_step.specs.Step.{act}
-use Rattle.v8_step.specs.Transfers.{call_step}
-use Rattle.v8_step.specs.State.{State, register_of}
+use Rattle.std.proofs.Common.{◌≡◌, ℕ, ◌+◌, ◌*◌, ◌/◌, ◌%◌, Bool, false, refl, ◌∙◌, subst, arith}
+use Rattle.std.specs.Prelude.{pos}
+use Rattle.v8_decode.specs.declared.Op2.TheVariants.{Imm}
+use Rattle.v8_decode.specs.declared.AluOp.TheVariants as ops
+use Rattle.v8_decode.specs.declared.Instr.TheVariants as i
+use Rattle.v8_alu.specs.Numbers.{wrapped}
+use Rattle.v8_step.specs.Step.{act, step_of}
+use Rattle.v8_step.specs.Transfers.{call_step, next}
+use Rattle.v8_step.specs.State.{State, register_of, with_register}
+use Rattle.code_runs.specs.Counted.{count_stores}
 use Rattle.code_runs.specs.Leads.{Leads}
 use Rattle.code_runs.specs.Straight.{StandIn}
 use Rattle.code_runs.specs.TwoRegisters.{IsBetween, Works}
+use Rattle.code_runs.proofs.Acts.{says_step}
+use Rattle.code_runs.proofs.Counted.{count_one, none_then, says_stores, stores_there}
 use Rattle.code_runs.proofs.Hops.{works_state}
 use Rattle.code_runs.proofs.TwoRegisters.{block_rules}
 use Rattle.v8_memory.specs.Regions.{code_of}
 use Rattle.jump_code.specs.Jumped.{CallsSimulate}
-use Rattle.jump_code.specs.Links.{address_into, CallsAct}
+use Rattle.jump_code.specs.Links.{address_into, CallsAct, IsAboutToCall}
 use Rattle.jump_code.specs.PageWords.{IsPageWord}
 use Rattle.jump_code.proofs.Blocks.{scratch, addressed}
 
@@ -29,8 +37,21 @@ calls_act address s h =
       w.silent,
     )
 
+-- the two words store nothing
+calls_store : (address : ℕ) (s : State) → IsAboutToCall address s → (counted : ℕ → Bool) → count_stores counted s 2 ≡ 0
+unfolding act
+calls_store address s h counted =
+    let high = i.Sethi 15 (address / 1024) in
+    let low = i.Alu ops.ADD false 15 15 (Imm (pos (address % 1024))) in
+    let s1 : State = next (with_register s 15 (wrapped (1024 * (address / 1024)))) in
+    let one : step_of s ≡ next (with_register s 15 (wrapped (1024 * (address / 1024)))) =
+    says_step s high h.ready.live h.words.0 in
+    none_then counted s s1 1 1 one (count_one counted s ∙ says_stores counted s high h.ready.live h.words.0)
+    (count_one counted s1
+    ∙ stores_there counted s1 (code_of s.memory) (s.pc + 4) low h.ready.live refl h.ready.npc h.words.1.0)
+
 pub calls_simulate : CallsSimulate
 unfolding act call_step
 calls_simulate address disp30 s h =
     let k = calls_act address s h in
-    record { live = h.ready.live; path = k.0; silent = k.1; memory = refl }
+    record { live = h.ready.live; path = k.0; silent = k.1; memory = refl; stored = calls_store address s h }

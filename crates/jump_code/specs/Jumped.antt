@@ -1,5 +1,5 @@
 -- The images of a JMPL and of a CALL against the original's step, at the original's address.
-use Rattle.std.specs.Prelude.{◌≡◌, ℕ, ◌+◌, length, Some, None, ℤ}
+use Rattle.std.specs.Prelude.{◌≡◌, ℕ, ◌+◌, Bool, length, Some, None, ℤ}
 use Rattle.v8_decode.specs.declared.Op2.{Op2}
 use Rattle.v8_decode.specs.declared.Instr.TheVariants as i
 use Rattle.v8_alu.specs.Numbers.{wrapped}
@@ -7,6 +7,7 @@ use Rattle.v8_step.specs.declared.Ending.{Ending}
 use Rattle.v8_step.specs.declared.Slot.TheVariants.{NoSlot}
 use Rattle.v8_step.specs.State.{State}
 use Rattle.v8_step.specs.Step.{act}
+use Rattle.code_runs.specs.Counted.{count_stores}
 use Rattle.code_runs.specs.Leads.{Leads, IsSilent}
 use Rattle.code_runs.specs.Page.{page_word}
 use Rattle.code_runs.specs.Points.{moved}
@@ -45,12 +46,14 @@ JumpsSimulate =
 abbrev pub called : ℕ → ℤ → State → State
 called address disp30 s = act (moved address (wrapped (address + 4)) NoSlot s) (i.Call disp30)
 
--- It goes on, and the image's words lead to their end, where the machine is the original but for the place.
+-- It goes on, and the image's words lead to their end, where the machine is the original but for the place. They store
+-- nothing.
 pub record CallComesToEnd (address : ℕ) (disp30 : ℤ) (s : State) : Type 0 where
   pub live : (called address disp30 s).ending ≡ None
   pub path : Leads (IsBetween s 2 IsPageWord) s (past s 2 s.memory (called address disp30 s)) 2
   pub silent : IsSilent s 2
   pub memory : (called address disp30 s).memory ≡ s.memory
+  pub stored : (counted : ℕ → Bool) → count_stores counted s 2 ≡ 0
 
 abbrev pub CallsSimulate : Type 0
 CallsSimulate =

@@ -1,5 +1,5 @@
 -- What placed items do.
-use Rattle.std.proofs.Common.{◌≡◌, ℕ, zero, suc, ◌+◌, ◌-◌, ◌%◌, ◌^◌, ◌<◌, ◌≤◌, Bool, true, false, not, Option, Some, None, List, [], ◌∷◌, length, refl, ap, sym, ◌∙◌, subst, arith}
+use Rattle.std.proofs.Common.{◌≡◌, ℕ, zero, suc, ◌+◌, ◌-◌, ◌%◌, ◌^◌, ◌<◌, ◌≤◌, inl, inr, Bool, true, false, not, Option, Some, None, List, [], ◌∷◌, length, refl, ap, sym, ◌∙◌, subst, arith}
 use Rattle.std.specs.Prelude.{if◌then◌else◌, ◌==◌, slice_index, slice_get, ℤ, pos}
 use Rattle.v8_decode.specs.declared.Instr.{Instr}
 use Rattle.v8_decode.specs.declared.Instr.TheVariants as i
@@ -15,13 +15,15 @@ use Rattle.v8_step.specs.Step.{act, step_of}
 use Rattle.v8_step.specs.Valid.{IsValid}
 use Rattle.v8_step.proofs.ValidSteps.{run-valid}
 use Rattle.code_runs.specs.StoredWords.{store_word}
+use Rattle.code_runs.specs.Counted.{count_stores}
 use Rattle.code_runs.specs.Leads.{Leads}
 use Rattle.code_runs.specs.Straight.{IsReady, Says, StandIn}
 use Rattle.code_runs.specs.TwoRegisters.{IsBetween}
 use Rattle.code_runs.specs.Hops.{hopped, Hops}
 use Rattle.code_runs.proofs.Acts.{says_step, says_puts}
 use Rattle.code_runs.proofs.Leads.{leads_none, leads_one, leads_then, leads_weaker, silent_none, silent_one, silent_then}
-use Rattle.code_runs.proofs.LongJump.{long_jumps_hop, says_at}
+use Rattle.code_runs.proofs.Counted.{count_one, none_then, says_stores}
+use Rattle.code_runs.proofs.LongJump.{long_jumps_hop, long_jumps_store, says_at}
 use Rattle.code_runs.proofs.TwoRegisters.{stores_none}
 use Rattle.layout.specs.declared.items.Item.{Item}
 use Rattle.layout.specs.declared.items.Item.TheVariants as it
@@ -66,7 +68,7 @@ always_acts s to disp22 n e =
 
 jump_goes : (base : ℕ) (code : List ℕ) (to a b : ℕ) (s : State) → JumpStands base code to a b → CanRun base code s
     → s.pc ≡ a
-    → b ≤ 2 ^ 31 → a ≤ b → to ≤ 2 ^ 31 → to % 4 ≡ 0 → Goes s to b 0 4
+    → b ≤ 2 ^ 31 → a ≤ b → to ≤ 2 ^ 31 → to % 4 ≡ 0 → Goes s to b 0 4 1
 jump_goes base code to a b s (jump_nothing e f) w is low order low' aligned =
     record {
       count = 0;
@@ -80,6 +82,7 @@ jump_goes base code to a b s (jump_nothing e f) w is low order low' aligned =
         silent = silent_none s;
         stores = stores_none IsFirstWord s.memory;
       };
+      stored = λ counted free. refl;
     }
 jump_goes base code to a b s (jump_short disp22 f r say) w is low order low' aligned =
     let words = says_stand base code s.memory w.code (i.Branch 8 true disp22 ∷ []) a say in
@@ -99,6 +102,8 @@ jump_goes base code to a b s (jump_short disp22 f r say) w is low order low' ali
         silent = silent_one s (says_puts s (i.Branch 8 true disp22) (λ cond q x e. cc) here);
         stores = stores_none IsFirstWord s.memory;
       };
+      stored = λ counted free.
+          count_one counted s ∙ says_stores counted s (i.Branch 8 true disp22) w.ready.live here;
     }
 jump_goes base code to a b s (jump_long f say) w is low order low' aligned =
     let words = says_stand base code s.memory w.code (long_jump to) a say in
@@ -110,6 +115,12 @@ jump_goes base code to a b s (jump_long f say) w is low order low' aligned =
       inside = omega arith;
       hops = long_jumps_hop to s w.valid w.ready (omega arith) w.page
           (subst (λ z. StandIn (code_of s.memory) z (long_jump to)) (sym is) words) (omega arith) aligned;
+      stored = λ counted free. elim free [
+        | inl other ↦ long_jumps_store to s w.valid w.ready (omega arith) w.page
+            (subst (λ z. StandIn (code_of s.memory) z (long_jump to)) (sym is) words) (omega arith) aligned counted
+            other
+        | inr near ↦ absurd (omega (arith, f, is, near))
+      ];
     }
 
 -- an item's address is below the end
@@ -212,29 +223,38 @@ nop_acts : (s : State) (pc npc : ℕ) (slot : Slot) → act
 unfolding act
 nop_acts s pc npc slot = refl
 
+-- two words without a store lead there
+abbrev HopsBare : State → ℕ → Type 0
+HopsBare s to = Hops s 2 IsFirstWord to s.memory × ((counted : ℕ → Bool) → count_stores counted s 2 ≡ 0)
+
 module _ (s : State) (ready : IsReady s) (none : s.slot ≡ NoSlot) (low : s.pc < 2 ^ 32 - 64) where
   in_slot : (c : ℕ) (disp22 : ℤ) (to : ℕ) (slot : Slot)
       → StandIn (code_of s.memory) s.pc (i.Branch c false disp22 ∷ nop ∷ [])
-      → step_of s ≡ record s { pc = s.npc; npc = to; slot = slot } → Hops s 2 IsFirstWord to s.memory
+      → step_of s ≡ record s { pc = s.npc; npc = to; slot = slot } → HopsBare s to
   in_slot c disp22 to slot stand one =
       let s1 = record s { pc = s.npc; npc = to; slot = slot } in
       let npc = ready.npc in
       let here : Says (code_of s.memory) s.npc nop = says_at (code_of s.memory) s.npc (s.pc + 4) nop
       (sym ready.npc) stand.1.0 in
       let two : step_of (record s { pc = s.npc; npc = to; slot = slot }) ≡ hopped s to s.memory = says_step s1 nop ready.live here ∙ nop_acts s s.npc to slot in
-      record {
+      let hops : Hops s 2 IsFirstWord to s.memory = record {
         path = leads_then _ s s1 (hopped s to s.memory) 1 1 (leads_one _ s s1 one) (leads_one _ s1 _ two)
             (λ _ _. record { past = omega arith; before = omega arith; stores = stores_none IsFirstWord s.memory });
         silent = silent_then s s1 1 1 one (silent_one s
             (says_puts s (i.Branch c false disp22) (λ cond q x e. cc) stand.0)) (silent_one s1
             (says_puts s1 nop (λ cond q x e. cc) here));
         stores = stores_none IsFirstWord s.memory;
-      }
+      } in (
+        hops,
+        λ counted. none_then counted s s1 1 1 one
+            (count_one counted s ∙ says_stores counted s (i.Branch c false disp22) ready.live stand.0)
+            (count_one counted s1 ∙ says_stores counted s1 nop ready.live here),
+      )
 
   -- the branch and its nop lead to the branch's target, or past the nop
   two_words : (c : ℕ) (disp22 : ℤ) (to : ℕ) (flag : Bool) → Reaches s.pc to disp22
       → StandIn (code_of s.memory) s.pc (i.Branch c false disp22 ∷ nop ∷ [])
-      → holds_of c s.codes ≡ flag → Hops s 2 IsFirstWord (if flag then to else s.pc + 8) s.memory
+      → holds_of c s.codes ≡ flag → HopsBare s (if flag then to else s.pc + 8)
   two_words c disp22 to true r stand e =
       in_slot c disp22 to Taken stand (says_step s (i.Branch c false disp22) ready.live stand.0
       ∙ taken_acts s c disp22 (c == 8) none e refl
@@ -249,8 +269,8 @@ module _ (s : State) (ready : IsReady s) (none : s.slot ≡ NoSlot) (low : s.pc 
 -- where a branch in its long form goes
 past_jump : (base : ℕ) (code : List ℕ) (to a b : ℕ) (s : State) (flag : Bool) → CanRun base code s → s.pc ≡ a
     → b ≤ 2 ^ 31 → to ≤ 2 ^ 31 → to % 4 ≡ 0 → b ≡ a + 24
-    → SaysFrom base code (a + 8) (long_jump to) → Hops s 2 IsFirstWord (if not flag then a + 24 else s.pc + 8) s.memory
-    → Goes s (if flag then to else b) b 2 6
+    → SaysFrom base code (a + 8) (long_jump to) → HopsBare s (if not flag then a + 24 else s.pc + 8)
+    → Goes s (if flag then to else b) b 2 6 2
 past_jump base code to a b s false w is low low' aligned e say h =
     record {
       count = 2;
@@ -259,13 +279,14 @@ past_jump base code to a b s false w is low low' aligned e say h =
       few = omega arith;
       inside = omega arith;
       hops = subst
-          (λ z. Hops s 2 IsFirstWord z s.memory) (sym e) h;
+          (λ z. Hops s 2 IsFirstWord z s.memory) (sym e) h.0;
+      stored = λ counted free. h.1 counted;
     }
 past_jump base code to a b s true w is low low' aligned e say h =
     let s2 = hopped s (s.pc + 8) s.memory in
     let words = says_stand base code s.memory w.code (long_jump to) (a + 8) say in
     let low2 : wrapped (s.pc + 8 + 4) ≡ s.pc + 8 + 4 = omega arith in
-    let valid2 : IsValid (hopped s (s.pc + 8) s.memory) = subst IsValid h.path.steps (run-valid s 2 w.valid) in
+    let valid2 : IsValid (hopped s (s.pc + 8) s.memory) = subst IsValid h.0.path.steps (run-valid s 2 w.valid) in
     let jump : Hops (hopped s (s.pc + 8) s.memory) 4 IsFirstWord to
     (store_word s.memory (page_word 0) (register_of s 1)) =
     long_jumps_hop to s2 valid2 (record { live = w.ready.live; npc = low2 }) (omega arith) w.page
@@ -280,18 +301,25 @@ past_jump base code to a b s true w is low low' aligned e say h =
       hops = record {
         path = leads_then (IsBetween s 6 IsFirstWord) s s2 _ 2 4
             (leads_weaker (IsBetween s 2 IsFirstWord) (IsBetween s 6 IsFirstWord) s s2 2
-            (λ u k. let x = k.past in let y = k.before in record { past = omega arith; before = omega arith; stores = k.stores }) h.path)
+            (λ u k. let x = k.past in let y = k.before in record { past = omega arith; before = omega arith; stores = k.stores }) h.0.path)
             (leads_weaker (IsBetween s2 4 IsFirstWord) (IsBetween s 6 IsFirstWord) s2 _ 4
             (λ u k. let x = k.past in let y = k.before in record { past = omega arith; before = omega arith; stores = k.stores }) jump.path)
             (λ _ _. record { past = omega arith; before = omega arith; stores = stores_none IsFirstWord s.memory });
-        silent = silent_then s s2 2 4 h.path.steps h.silent jump.silent;
+        silent = silent_then s s2 2 4 h.0.path.steps h.0.silent jump.silent;
         stores = jump.stores;
       };
+      stored = λ counted free. elim free [
+        | inl other ↦ none_then counted s s2 2 4 h.0.path.steps (h.1 counted)
+            (long_jumps_store to s2 valid2 (record { live = w.ready.live; npc = low2 }) (omega arith) w.page
+            (subst (λ z. StandIn (code_of s.memory) z (long_jump to))
+            (let f : a + 8 ≡ s.pc + 8 = omega arith in f) words) (omega arith) aligned counted other)
+        | inr near ↦ absurd (omega (arith, e, is, near))
+      ];
     }
 
 branch_goes : (base : ℕ) (code : List ℕ) (c to a b : ℕ) (s : State) → BranchStands base code c to a b
     → CanRun base code s → s.pc ≡ a → c < 16
-    → b ≤ 2 ^ 31 → to ≤ 2 ^ 31 → to % 4 ≡ 0 → Goes s (if holds_of c s.codes then to else b) b 2 6
+    → b ≤ 2 ^ 31 → to ≤ 2 ^ 31 → to % 4 ≡ 0 → Goes s (if holds_of c s.codes then to else b) b 2 6 2
 branch_goes base code c to a b s (branch_short disp22 f r say) w is small low low' aligned =
     let words = says_stand base code s.memory w.code (i.Branch c false disp22 ∷ nop ∷ []) a say in
     let h = two_words s w.ready w.slot (omega arith) c disp22 to (holds_of c s.codes)
@@ -304,7 +332,8 @@ branch_goes base code c to a b s (branch_short disp22 f r say) w is small low lo
       few = omega arith;
       inside = omega arith;
       hops = subst (λ z. Hops s 2 IsFirstWord (if holds_of c s.codes then to else z) s.memory)
-          (let g : s.pc + 8 ≡ b = omega arith in g) h;
+          (let g : s.pc + 8 ≡ b = omega arith in g) h.0;
+      stored = λ counted free. h.1 counted;
     }
 branch_goes base code c to a b s (branch_long f say say') w is small low low' aligned =
     let words = says_stand base code s.memory w.code (i.Branch (opposite c) false (pos 6) ∷ nop ∷ []) a say in

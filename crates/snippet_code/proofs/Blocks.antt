@@ -1,5 +1,5 @@
 -- Code in picked registers, word by word.
-use Rattle.std.proofs.Common.{◌≡◌, ◌≢◌, ℕ, zero, suc, ◌+◌, ◌*◌, ◌%◌, ◌^◌, ◌<◌, ◌≤◌, ◌⊎◌, inl, inr, Bool, true, false, Ok, Some, None, List, refl, ap, sym, ◌∙◌, subst, arith}
+use Rattle.std.proofs.Common.{◌≡◌, ◌≢◌, ℕ, zero, suc, ◌+◌, ◌*◌, ◌%◌, ◌^◌, ◌<◌, ◌≤◌, ◌⊎◌, inl, inr, Bool, true, false, Ok, Some, List, refl, ap, sym, ◌∙◌, subst, arith}
 use Rattle.std.specs.Prelude.{if◌then◌else◌, ◌==◌, slice_index, pos}
 use Rattle.std.proofs.lemmas.Bool.Decides.{nat_tests}
 use Rattle.v8_decode.specs.declared.Op2.{Op2}
@@ -11,7 +11,7 @@ use Rattle.v8_decode.specs.declared.StoreKind.TheVariants as stores
 use Rattle.v8_alu.specs.declared.Codes.{Codes}
 use Rattle.v8_alu.specs.Alu.{alu_of}
 use Rattle.v8_alu.specs.Numbers.{wrapped}
-use Rattle.v8_memory.specs.Regions.{Region, code_of, fetch_of, fetch_from}
+use Rattle.v8_memory.specs.Regions.{Region, code_of}
 use Rattle.v8_windows.specs.Registers.{place_of}
 use Rattle.v8_windows.proofs.Places.{register_in-set, register_in-other, length-register_set}
 use Rattle.v8_step.specs.declared.Slot.TheVariants.{NoSlot}
@@ -20,17 +20,17 @@ use Rattle.v8_alu.specs.Conditions.{holds_of}
 use Rattle.v8_step.specs.declared.Slot.{Slot}
 use Rattle.v8_step.specs.Transfers.{next, delayed, branched, branch_step, unless_couple, target_of}
 use Rattle.v8_step.specs.Step.{act, step_of, alu_step}
-use Rattle.v8_step.specs.Run.{run}
 use Rattle.v8_step.proofs.Quiet.{IsPlain}
 use Rattle.code_runs.specs.StoredWords.{memory_word, store_word}
 use Rattle.code_runs.specs.Straight.{Says}
 use Rattle.code_runs.specs.TwoRegisters.{IsBetween, Gives}
 use Rattle.code_runs.proofs.StoredWords.{code-store_word, word_stored, other_word_stored, still_stored, can_load, memory_word-range}
 use Rattle.code_runs.proofs.Acts.{says_step, says_puts, ld_acts, st_acts}
-use Rattle.code_runs.proofs.Leads.{leads_none, leads_one, leads_then, silent_none, silent_one, silent_then, run_add, split_below}
+use Rattle.code_runs.proofs.Leads.{leads_none, leads_one, leads_then, silent_none, silent_one, silent_then, split_below}
 use Rattle.code_runs.proofs.TwoRegisters.{places_differ, set_stays, stores_none, stores_more}
 use Rattle.code_runs.proofs.Hops.{equal_or_not}
-use Rattle.code_runs.specs.Counted.{stores_at, one_if, on_fetched, unless_over, stores_in_step, count_stores}
+use Rattle.code_runs.specs.Counted.{stores_at, one_if, stores_in_step, count_stores}
+use Rattle.code_runs.proofs.Counted.{says_stores, count_add}
 use Rattle.snippet_code.proofs.Working.{HasBlock, IsAlike, Reaches, Works, put}
 
 -- ---- a value put in one place
@@ -46,24 +46,6 @@ put_same k v f = ap (λ b. if b then v else f k) (let e : (k == k) ≡ true = gr
 
 pub put_other : (k v : ℕ) (f : ℕ → ℕ) (j : ℕ) → j ≢ k → put k v f j ≡ f j
 put_other k v f j ne = ap (λ b. if b then v else f j) (let e : (j == k) ≡ false = grind (arith, nat_tests) in e)
-
--- ---- stores that are counted
-pub says_stores : (counted : ℕ → Bool) (s : State) (x : Instr) → s.ending ≡ None → Says (code_of s.memory) s.pc x
-    → stores_in_step counted s ≡ one_if counted (stores_at s x)
-unfolding stores_in_step fetch_of
-says_stores counted s x live says =
-    ap (λ z. unless_over z (on_fetched counted s (fetch_from (code_of s.memory) s.pc))) live
-    ∙ ap (on_fetched counted s) says.fetched ∙ ap (λ (z : Instr). one_if counted (stores_at s z)) says.decodes
-
-pub count_add : (counted : ℕ → Bool) (s t : State) (k : ℕ) → run s k ≡ t → (l : ℕ)
-    → count_stores counted s (k + l) ≡ count_stores counted s k + count_stores counted t l
-count_add counted s t k e zero = ap (count_stores counted s) (let f : k + 0 ≡ k = omega arith in f) ∙ omega arith
-count_add counted s t k e (suc l) =
-    ap (count_stores counted s) (let f : k + suc l ≡ suc (k + l) = omega arith in f)
-    ∙ ap (λ z. z + stores_in_step counted (run s (k + l))) (count_add counted s t k e l)
-    ∙ ap (λ (z : State). count_stores counted s k + count_stores counted t l + stores_in_step counted z)
-    ((let f : k + l ≡ l + k = omega arith in ap (run s) f) ∙ run_add s k l ∙ ap (λ (z : State). run z l) e)
-    ∙ omega arith
 
 apart_case : (a b : ℕ) → (a < b) ⊎ (b ≤ a) → (b < a) ⊎ (a ≤ b) → a ≢ b → a % 4 ≡ 0 → b % 4 ≡ 0
     → (a + 4 ≤ b) ⊎ (b + 4 ≤ a)

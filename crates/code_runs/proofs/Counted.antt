@@ -1,0 +1,43 @@
+-- Stores that are counted.
+use Rattle.std.proofs.Common.{◌≡◌, ℕ, zero, suc, ◌+◌, Bool, None, List, ap, ◌∙◌, subst, sym, arith}
+use Rattle.v8_decode.specs.declared.Instr.{Instr}
+use Rattle.v8_memory.specs.Regions.{Region, code_of, fetch_of, fetch_from}
+use Rattle.v8_step.specs.State.{State}
+use Rattle.v8_step.specs.Run.{run}
+use Rattle.code_runs.specs.Counted.{stores_at, one_if, on_fetched, unless_over, stores_in_step, count_stores}
+use Rattle.code_runs.specs.Straight.{Says}
+use Rattle.code_runs.proofs.Leads.{run_add}
+
+-- a step of a word
+pub says_stores : (counted : ℕ → Bool) (s : State) (x : Instr) → s.ending ≡ None → Says (code_of s.memory) s.pc x
+    → stores_in_step counted s ≡ one_if counted (stores_at s x)
+unfolding stores_in_step fetch_of
+says_stores counted s x live says =
+    ap (λ z. unless_over z (on_fetched counted s (fetch_from (code_of s.memory) s.pc))) live
+    ∙ ap (on_fetched counted s) says.fetched ∙ ap (λ (z : Instr). one_if counted (stores_at s z)) says.decodes
+
+-- that word where the machine stands, in another machine's code
+pub stores_there : (counted : ℕ → Bool) (s : State) (code : List Region) (a : ℕ) (x : Instr) → s.ending ≡ None
+    → code_of s.memory ≡ code → s.pc ≡ a → Says code a x → stores_in_step counted s ≡ one_if counted (stores_at s x)
+stores_there counted s code a x live same at says =
+    says_stores counted s x live
+    (subst (λ (z : List Region). Says z s.pc x) (sym same) (subst (λ z. Says code z x) (sym at) says))
+
+-- a way, and then the next one
+pub count_add : (counted : ℕ → Bool) (s t : State) (k : ℕ) → run s k ≡ t → (l : ℕ)
+    → count_stores counted s (k + l) ≡ count_stores counted s k + count_stores counted t l
+count_add counted s t k e zero = ap (count_stores counted s) (let f : k + 0 ≡ k = omega arith in f) ∙ omega arith
+count_add counted s t k e (suc l) =
+    ap (count_stores counted s) (let f : k + suc l ≡ suc (k + l) = omega arith in f)
+    ∙ ap (λ z. z + stores_in_step counted (run s (k + l))) (count_add counted s t k e l)
+    ∙ ap (λ (z : State). count_stores counted s k + count_stores counted t l + stores_in_step counted z)
+    ((let f : k + l ≡ l + k = omega arith in ap (run s) f) ∙ run_add s k l ∙ ap (λ (z : State). run z l) e)
+    ∙ omega arith
+
+pub count_one : (counted : ℕ → Bool) (s : State) → count_stores counted s 1 ≡ stores_in_step counted s
+count_one counted s = omega arith
+
+-- ways without such stores
+pub none_then : (counted : ℕ → Bool) (s t : State) (k l : ℕ) → run s k ≡ t → count_stores counted s k ≡ 0
+    → count_stores counted t l ≡ 0 → count_stores counted s (k + l) ≡ 0
+none_then counted s t k l e h g = count_add counted s t k e l ∙ omega (arith, h, g)
