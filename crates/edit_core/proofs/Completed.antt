@@ -1,5 +1,5 @@
 -- Which edges a step completes: none, one, or that of a jump and then a landing.
-use Rattle.std.proofs.Common.{◌≡◌, ℕ, ◌<◌, Bool, true, false, ◌&&◌, cond, List, [], ◌∷◌, ◌++◌, length, Option, Some, None, option_to_list, position, refl, ap, sym, ◌∙◌, subst, arith}
+use Rattle.std.proofs.Common.{◌≡◌, ℕ, ◌-◌, ◌<◌, Bool, true, false, ◌&&◌, ◌==◌, List, [], ◌∷◌, ◌++◌, length, Option, Some, None, option_to_list, position, slice_index, refl, ap, sym, ◌∙◌, subst, arith}
 use Rattle.std.specs.Prelude.{if◌then◌else◌}
 use Rattle.std.proofs.lemmas.Bool.{and_parts, or_left}
 use Rattle.std.proofs.lemmas.List.Quantifiers.{position-Some}
@@ -12,6 +12,7 @@ use Rattle.v8_decode.specs.Words.{decode_of}
 use Rattle.v8_decode.proofs.Members.{has-every_part}
 use Rattle.v8_step.specs.declared.Slot.{Slot}
 use Rattle.v8_step.specs.declared.Slot.TheVariants.{NoSlot, Taken, Untaken}
+use Rattle.cfg_blocks.specs.Ends.{always}
 use Rattle.cfg_blocks.specs.declared.EdgeKind.{EdgeKind}
 use Rattle.cfg_blocks.specs.declared.EdgeKind.TheVariants as kinds
 use Rattle.cfg_normal.specs.declared.Edge.{Edge}
@@ -20,7 +21,7 @@ use Rattle.cfg_normal.specs.declared.Node.TheVariants.{X}
 use Rattle.cfg_normal.specs.declared.Slot.TheVariants as carried
 use Rattle.cfg_normal.specs.Graph.{Graph, node_of}
 use Rattle.cfg_walk.specs.Walk.{Point, WayOut, by_kind, completed, edge_along, edge_from, ends_block, gone, instr_at, landed, landing_at, leads_along, left_at, left_by, same_kind, same_node, slot_left, way_of, way_to}
-use Rattle.liveness.specs.Live.{IsLiveOn, beyond, edge_at, is_call_or_jump, is_unknown}
+use Rattle.liveness.specs.Live.{IsLiveOn, edge_at, is_call_or_jump, is_outside, is_unknown}
 
 abbrev IsIn : Graph → ℕ → Type 0
 IsIn graph e = e < length graph.edges
@@ -36,6 +37,14 @@ pub unknown_lives : (text : Words) (graph : Graph) (named : ℕ → List Part) (
     → is_unknown (edge_at graph e) ≡ true → (p : Part) → is_member p ≡ true → IsLiveOn text graph named e p
 unknown_lives text graph named e unknown p member =
     ([], ap (λ (b : Bool). has (if b then every_part else []) p) unknown ∙ has-every_part p ∙ member)
+
+pub jump_kind : (kind : EdgeKind) → same_kind kind kinds.Out ≡ true → is_call_or_jump kind ≡ true
+jump_kind kinds.Out h = refl
+jump_kind kinds.Call h = refl
+jump_kind kinds.Fall h = absurd (cc)
+jump_kind kinds.Taken h = absurd (cc)
+jump_kind kinds.Untaken h = absurd (cc)
+jump_kind kinds.Land h = absurd (cc)
 
 module _ (graph : Graph) where
   -- the edge that a search finds
@@ -69,68 +78,67 @@ module _ (graph : Graph) where
           two e f first.0 (jumps (edge_at graph e) first.1) (found other f k).0
 
   along : (node : Node) (way : WayOut) → Completes graph (edge_along graph node way)
-  along node way = at_most_one _
+  along node way =
+      at_most_one (λ edge. leads_along way.to edge && (same_node edge.from node && same_kind edge.kind way.kind))
 
   -- ---- without a slot
 
   fall : (node : Node) (b : Bool) → Completes graph (if b then edge_from graph node kinds.Fall else [])
-  fall node true = along node _
+  fall node true = along node (by_kind kinds.Fall)
   fall node false = none
 
   left_by_one : (node : Node) (word : ℕ) (instr : Instr) → Completes graph (left_by graph node word instr)
-  left_by_one node word (i.Branch cond annul disp22) = along node _
+  left_by_one node word (i.Branch cond annul disp22) =
+      along node (by_kind (if cond == always then kinds.Taken else kinds.Untaken))
   left_by_one node word _ = fall node (ends_block graph node word)
 
   left_one : (text : Words) (node : Node) (o : Option ℕ) → Completes graph (left_at text graph node o)
   left_one text node None = none
-  left_one text node (Some word) = left_by_one node word _
+  left_one text node (Some word) = left_by_one node word (decode_of (slice_index text.words word))
 
   -- ---- out of a slot
-
-  jump_kind : (kind : EdgeKind) → same_kind kind kinds.Out ≡ true → is_call_or_jump kind ≡ true
-  jump_kind kinds.Out h = refl
-  jump_kind kinds.Call h = refl
-  jump_kind kinds.Fall h = absurd (cc)
-  jump_kind kinds.Taken h = absurd (cc)
-  jump_kind kinds.Untaken h = absurd (cc)
-  jump_kind kinds.Land h = absurd (cc)
 
   jump_unknown : (node : Node) (edge : Edge)
       → (leads_along None edge && (same_node edge.from node && same_kind edge.kind kinds.Out)) ≡ true
       → is_unknown edge ≡ true
   jump_unknown node edge h =
-      or_left _ _ (jump_kind edge.kind (and_parts _ _ (and_parts _ _ h).1).1)
+      let rest = and_parts (leads_along None edge) (same_node edge.from node && same_kind edge.kind kinds.Out) h in
+      let kind = and_parts (same_node edge.from node) (same_kind edge.kind kinds.Out) rest.1 in
+      or_left (is_call_or_jump edge.kind) (is_outside edge.to) (jump_kind edge.kind kind.1)
 
   along_then : (node : Node) (way : WayOut) → Completes graph (edge_along graph node way ++ [])
-  along_then node way = by (position _ graph.edges) refl
+  along_then node way = by (position test graph.edges) refl
     where
-      by : (o : Option ℕ) → position (λ edge. leads_along way.to edge && (same_node edge.from node && same_kind edge.kind way.kind)) graph.edges ≡ o
-          → Completes graph (option_to_list o ++ [])
+      test : Edge → Bool
+      test edge = leads_along way.to edge && (same_node edge.from node && same_kind edge.kind way.kind)
+
+      by : (o : Option ℕ) → position test graph.edges ≡ o → Completes graph (option_to_list o ++ [])
       by None h = none
-      by (Some e) h = one e (found _ e h).0
+      by (Some e) h = one e (found test e h).0
 
   jumped : (text : Words) (node : Node) (next : ℕ) (o : Option ℕ) → word_at text next ≡ o
       → Completes graph (slot_left text graph node kinds.Out next)
   jumped text node next None e =
       let nowhere : landed text graph kinds.Out next ≡ [] = rw e refl in
-      subst (λ (ns : List ℕ). Completes graph (edge_from graph node kinds.Out ++ ns)) (sym nowhere) (along_then node _)
+      subst (λ (ns : List ℕ). Completes graph (edge_from graph node kinds.Out ++ ns)) (sym nowhere) (along_then node (by_kind kinds.Out))
   jumped text node next (Some word) e =
       let there : landed text graph kinds.Out next ≡ landing_at graph (node_of graph.blocks (Some word)) = rw e refl in
       subst (λ (ns : List ℕ). Completes graph (edge_from graph node kinds.Out ++ ns)) (sym there)
-      (at_most_two _ _ (jump_unknown node))
+      (at_most_two (λ edge. leads_along None edge && (same_node edge.from node && same_kind edge.kind kinds.Out))
+      (λ edge. same_node edge.to (node_of graph.blocks (Some word)) && same_kind edge.kind kinds.Land) (jump_unknown node))
 
   out_of_slot : (text : Words) (node : Node) (kind : EdgeKind) (next : ℕ)
       → Completes graph (slot_left text graph node kind next)
   out_of_slot text node kinds.Out next = jumped text node next (word_at text next) refl
-  out_of_slot text node kinds.Call next = along_then node _
-  out_of_slot text node kinds.Fall next = along_then node _
-  out_of_slot text node kinds.Taken next = along_then node _
-  out_of_slot text node kinds.Untaken next = along_then node _
-  out_of_slot text node kinds.Land next = along_then node _
+  out_of_slot text node kinds.Call next = along_then node (by_kind kinds.Call)
+  out_of_slot text node kinds.Fall next = along_then node (by_kind kinds.Fall)
+  out_of_slot text node kinds.Taken next = along_then node (by_kind kinds.Taken)
+  out_of_slot text node kinds.Untaken next = along_then node (by_kind kinds.Untaken)
+  out_of_slot text node kinds.Land next = along_then node (by_kind kinds.Land)
 
   completes : (text : Words) (node : Node) (before after : Point) (was now : Slot)
       → Completes graph (completed text graph node before after was now)
-  completes text node before after NoSlot NoSlot = left_one text node _
+  completes text node before after NoSlot NoSlot = left_one text node (word_at text before.pc)
   completes text node before after Taken NoSlot = out_of_slot text node (way_of (instr_at text (before.pc - 4)) Taken) after.pc
   completes text node before after Untaken NoSlot = out_of_slot text node (way_of (instr_at text (before.pc - 4)) Untaken) after.pc
   completes text node before after NoSlot Taken = none

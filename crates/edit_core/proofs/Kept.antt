@@ -118,13 +118,13 @@ module _ (g : Setting) (dead : AreDead g.text (graph_in g) (named_on g.snips) g.
 
   kept_by : (edges : List ℕ) → Completes (graph_in g) edges
       → IsKeptBehind g.text (graph_in g) (named_on g.snips) edges window item → IsKept g edges window item
-  kept_by [] none behind = tt
-  kept_by (e ∷ []) (one e within) behind = (not_dead e within (behind [] e refl), tt)
-  kept_by (e ∷ f ∷ []) (two e f within unknown other) behind = (
-    not_dead e within (λ p member live same. live (unknown_lives g.text (graph_in g) (named_on g.snips) e unknown p member)),
-    not_dead f other (behind (e ∷ []) f refl),
-    tt,
-  )
+  kept_by _ none behind = tt
+  kept_by _ (one e within) behind = (not_dead e within (behind [] e refl), tt)
+  kept_by _ (two e f within unknown other) behind =
+      let first = not_dead e within (λ p member live same.
+      live (unknown_lives g.text (graph_in g) (named_on g.snips) e unknown p member)) in
+      let second = not_dead f other (behind (e ∷ []) f refl) in
+      (first, (second, tt))
 
 pub keeps_what_lives : KeepsWhatLives
 keeps_what_lives g entry s0 text fetches begins dead are =

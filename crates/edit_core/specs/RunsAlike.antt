@@ -1,7 +1,8 @@
 -- What a run of a written file has to do with the run of its original, with the same arguments and input.
-use Rattle.std.specs.Prelude.{◌≡◌, ◌≢◌, ℕ, suc, ◌≤◌, List, Some, None}
+use Rattle.std.specs.Prelude.{◌≡◌, ◌≢◌, ℕ, suc, ◌-◌, ◌*◌, ◌^◌, ◌≤◌, List, Some, None}
 use Rattle.elf32_sparc.specs.Image.{image_of}
 use Rattle.elf32_sparc.specs.Notes.{Notes, node_at}
+use Rattle.v8_decode.specs.declared.Part.{Part}
 use Rattle.v8_step.specs.State.{State}
 use Rattle.v8_step.specs.Run.{run}
 use Rattle.v8_step.specs.Needed.{IsUntouched}
@@ -11,9 +12,10 @@ use Rattle.v8_step.specs.Visits.{pages_of}
 use Rattle.v8_process.specs.Arguments.{AreArguments}
 use Rattle.v8_process.specs.Start.{start_of}
 use Rattle.cfg_view.specs.View.{given_in}
-use Rattle.cfg_walk.specs.Walk.{end_of_walk, gone_in}
-use Rattle.image_code.specs.Simulates.{Setting, cells_in, graph_in, limit_on, number_in, store_of}
+use Rattle.cfg_walk.specs.Walk.{end_of_walk, gone_in, point_of}
+use Rattle.image_code.specs.Simulates.{IsSparing, IsWatched, Setting, cells_in, graph_in, limit_on, number_in, store_of}
 use Rattle.tool_kit.specs.Plans.{Plan}
+use Rattle.edit_core.specs.Taken.{bound_in}
 
 -- an edit of an original by a plan, with these notes, and with what is dead behind each edge's snippet
 abbrev pub edit_of : List ℕ → Plan → (ℕ → List Part) → Notes → Setting
