@@ -1,0 +1,5 @@
+use Rattle.flood.specs.Flood.{AreAll}
+use Rattle.flood.proofs.search.all_places.Given as goal
+
+abbrev pub invariant-loop-place : goal.invariant-loop-place
+invariant-loop-place l = AreAll l.place l.places.items

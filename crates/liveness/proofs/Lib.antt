@@ -1,0 +1,5 @@
+pub mod Gaining
+pub mod Held
+pub mod Joining
+pub mod Landings
+pub mod Places
