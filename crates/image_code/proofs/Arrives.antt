@@ -1,5 +1,5 @@
 -- Ways through words in no place: the snippets of some edges, Jumps and long jumps.
-use Rattle.std.proofs.Common.{◌≡◌, ℕ, zero, suc, ◌+◌, ◌*◌, ◌^◌, ◌<◌, ◌≤◌, inl, inr, Option, Some, None, List, [], ◌∷◌, ◌++◌, drop, length, map, append-nil, refl, ap, sym, ◌∙◌, subst, arith}
+use Rattle.std.proofs.Common.{◌≡◌, ℕ, zero, suc, ◌+◌, ◌*◌, ◌^◌, ◌<◌, ◌≤◌, ◌⊎◌, inl, inr, Option, Some, None, List, [], ◌∷◌, ◌++◌, drop, length, map, append-nil, refl, ap, sym, ◌∙◌, subst, arith}
 use Rattle.std.specs.Prelude.{slice_get, slice_index, false}
 use Rattle.std.specs.List.{flat_map}
 use Rattle.std.specs.Option.{option_map}
@@ -37,11 +37,12 @@ use Rattle.layout.specs.declared.items.Item.TheVariants as it
 use Rattle.layout.specs.Laid.{Placement, item_at, item_in, items_in, size_of, open_in, open_from, range_in, range_of, IsWordAt}
 use Rattle.layout.specs.Running.{CanRun, HasCode}
 use Rattle.layout.proofs.Going.{stays, jumps_hop}
-use Rattle.image_code.specs.Simulates.{Setting, IsOnWay, cells_in, operations_on, snippet_on, updates}
+use Rattle.image_code.specs.Simulates.{Setting, IsOnWay, cells_in, operations_on, snippet_on, spills_at, updates}
 use Rattle.image_code.specs.Images.{Pieces, Frame, HasImages, IsPlaced}
 use Rattle.image_code.specs.Cases.{IsFar, JumpsOn, LeadsTo, LeadsOn, rest_from, words_on}
 use Rattle.image_code.proofs.Between.{can_run, get_below, item_below, item_size, on_none, stores_weaker}
 use Rattle.image_code.proofs.Cells.{cells_above, cell_stored, first_above, may_beside, may_own, operations_then, updates_same, updates_then, word_kept}
+use Rattle.image_code.proofs.Dead.{IsAlike, LastDead, NothingDead, alike_itself, alike_then, last_first, last_others, last_parted, nothing_parted}
 use Rattle.image_code.proofs.Memories.{images_stored}
 
 -- ---- items without a Mark
@@ -154,18 +155,21 @@ module _ (g : Setting) (l : Pieces) (base : ℕ) (p : Placement) (place : ℕ �
   pub bare_on : (node : Node) (t u : State) → u.ending ≡ None → IsBare u → IsOnWay g node t u
   bare_on node t u live bare = on_none g l base p place f h node t u live bare.0 bare.1 bare.2
 
-  -- A way through such words and the snippets of some edges: all stays as it was but words of the editor's, and in them the
-  -- cells are updated, and the target that waits in word 1 of the page stays.
+  -- A way through such words and the snippets of some edges: all stays as it was but what is dead behind these and words of
+  -- the editor's, and in them the cells are updated, and the target that waits in word 1 of the page stays.
   pub record Arrives (edges : List ℕ) (a : State) (to most : ℕ) : Type 0 where
     pub count : ℕ
+    pub other : State
     pub memory : Memory
     pub few : count ≤ most + 22 * operations_on g.snips edges
-    pub path : Leads IsBare a (hopped a to memory) count
+    pub path : Leads IsBare a (hopped other to memory) count
     pub silent : IsSilent a count
     pub stores : Stores (IsAmongWords f.own) a.memory memory
     pub waits : memory_word memory (page_word 1) ≡ memory_word a.memory (page_word 1)
-    pub cells : words_at g.notes.base g.notes.cells memory ≡ updates g.snips edges (cells_in g a) a
+    pub cells : LastDead g edges → words_at g.notes.base g.notes.cells memory ≡ updates g.snips edges (cells_in g a) a
     pub begins : 0 < count → IsBare a
+    pub alike : IsAlike g edges a other
+    pub still : NothingDead g edges → hopped other to memory ≡ hopped a to memory
 
   -- what it takes to run on
   pub record IsFit (a : State) : Type 0 where
@@ -173,18 +177,24 @@ module _ (g : Setting) (l : Pieces) (base : ℕ) (p : Placement) (place : ℕ �
     pub has : HasImages g base p f a.memory
     pub runs : CanRun base p.code a
 
-  pub hopped_fit : (a : State) (to : ℕ) → IsFit a → to ≤ 2 ^ 31 → (count : ℕ) (m : Memory)
-      → run a count ≡ hopped a to m → Stores (IsAmongWords f.own) a.memory m → IsFit (hopped a to m)
-  hopped_fit a to k low count m steps stores =
-      let valid : IsValid (hopped a to m) = subst IsValid steps (run-valid a count k.valid) in
+  pub hopped_fit : (a b : State) (to : ℕ) → IsFit a → b.ending ≡ None → to ≤ 2 ^ 31 → (count : ℕ) (m : Memory)
+      → run a count ≡ hopped b to m → Stores (IsAmongWords f.own) a.memory m → IsFit (hopped b to m)
+  hopped_fit a b to k live low count m steps stores =
+      let valid : IsValid (hopped b to m) = subst IsValid steps (run-valid a count k.valid) in
       let has : HasImages g base p f m =
-      images_stored g f h.frame base p a (hopped a to m) count steps stores k.has in
+      images_stored g f h.frame base p a (hopped b to m) count steps stores k.has in
       let npc : wrapped (to + 4) ≡ to + 4 = omega arith in
       record {
         valid = valid;
         has = has;
-        runs = can_run g l base p place f h (hopped a to m) valid k.runs.ready.live npc refl has;
+        runs = can_run g l base p place f h (hopped b to m) valid live npc refl has;
       }
+
+  -- where a way ends
+  pub arrived : (edges : List ℕ) (a : State) (to most : ℕ) → IsFit a → to ≤ 2 ^ 31 → (w : Arrives edges a to most)
+      → IsFit (hopped w.other to w.memory)
+  arrived edges a to most k low w =
+      hopped_fit a w.other to k (w.alike.ending ∙ k.runs.ready.live) low w.count w.memory w.path.steps w.stores
 
   -- word 1 of the page can be stored in
   pub second_there : (a : State) → IsFit a → CanStore a.memory (page_word 1)
@@ -208,6 +218,7 @@ module _ (g : Setting) (l : Pieces) (base : ℕ) (p : Placement) (place : ℕ �
   pub stays_here : (a : State) (to most : ℕ) → CanRun base p.code a → a.pc ≡ to → a.pc ≤ 2 ^ 31 → Arrives [] a to most
   stays_here a to most w e low = record {
     count = 0;
+    other = a;
     memory = a.memory;
     few = omega arith;
     path = subst (λ (q : State). Leads IsBare a q 0) (sym (stays a to e w.ready.npc w.slot (omega arith)))
@@ -215,8 +226,10 @@ module _ (g : Setting) (l : Pieces) (base : ℕ) (p : Placement) (place : ℕ �
     silent = silent_none a;
     stores = stores_none (IsAmongWords f.own) a.memory;
     waits = refl;
-    cells = refl;
+    cells = λ _. refl;
     begins = λ q. absurd (omega arith);
+    alike = alike_itself g [] a;
+    still = λ _. refl;
   }
 
   -- an item outside each Mark
@@ -243,6 +256,7 @@ module _ (g : Setting) (l : Pieces) (base : ℕ) (p : Placement) (place : ℕ �
       let few = j.few in
       record {
         count = j.count;
+        other = a;
         memory = j.memory;
         few = omega (arith, few);
         path = leads_weaker _ _ a _ j.count (λ u q. let b = q.past in let c = q.before in none u (omega arith)
@@ -250,22 +264,25 @@ module _ (g : Setting) (l : Pieces) (base : ℕ) (p : Placement) (place : ℕ �
         silent = j.hops.silent;
         stores = kept.0;
         waits = kept.1.0;
-        cells = kept.1.1;
+        cells = λ _. kept.1.1;
         begins = λ q. none a (omega arith) (omega arith);
+        alike = alike_itself g [] a;
+        still = λ _. refl;
       }
 
   -- a way after another one
   pub on_then : (edges first others : List ℕ) → edges ≡ first ++ others → (a : State) (mid to few more : ℕ)
-      (one : Arrives first a mid few) → Arrives others (hopped a mid one.memory) to more
+      (one : Arrives first a mid few) → Arrives others (hopped one.other mid one.memory) to more
       → Arrives edges a to (few + more)
   on_then edges first others all a mid to few more one other =
       let f1 = one.few in
       let m1 = other.few in
       let sum : operations_on g.snips edges ≡ operations_on g.snips first + operations_on g.snips others =
       ap (operations_on g.snips) all ∙ operations_then g.snips first others in
-      let b : State = hopped a mid one.memory in
+      let b : State = hopped one.other mid one.memory in
       record {
         count = one.count + other.count;
+        other = other.other;
         memory = other.memory;
         few = omega (arith, f1, m1, sum);
         path = leads_then IsBare a b _ one.count other.count one.path other.path (λ _ some. other.begins some);
@@ -273,16 +290,37 @@ module _ (g : Setting) (l : Pieces) (base : ℕ) (p : Placement) (place : ℕ �
         stores = stores_then (IsAmongWords f.own) (IsAmongWords f.own) a.memory one.memory other.memory
             (λ z e. e) one.stores other.stores;
         waits = other.waits ∙ one.waits;
-        cells = other.cells ∙ updates_same g.snips others (words_at g.notes.base g.notes.cells one.memory) b a refl
-            ∙ ap (λ z. updates g.snips others z a) one.cells ∙ sym (updates_then g.snips first others (cells_in g a) a)
-            ∙ ap (λ z. updates g.snips z (cells_in g a) a) (sym all);
+        cells = λ d. by_cells (subst (LastDead g) all d);
         begins = λ some. elim (cases_lt 0 one.count) [
           | inl more ↦ one.begins more
           | inr none ↦
               let still : one.count ≡ 0 = omega arith in
               subst IsBare (sym one.path.steps ∙ ap (run a) still) (other.begins (omega arith))
         ];
+        alike = alike_then g edges first others all a one.other other.other mid one.memory one.alike other.alike;
+        still = λ d.
+            let both = nothing_parted g first others (subst (NothingDead g) all d) in
+            other.still both.1 ∙ ap (λ (z : State). hopped z to other.memory) (one.still both.0);
       }
+    where
+      -- the later snippets read what the earlier ones left
+      read_alike : (others ≡ []) ⊎ NothingDead g first
+          → updates g.snips others (words_at g.notes.base g.notes.cells one.memory) (hopped one.other mid one.memory)
+          ≡ updates g.snips others (words_at g.notes.base g.notes.cells one.memory) a
+      read_alike (inl none) =
+          ap (λ z. updates g.snips z (words_at g.notes.base g.notes.cells one.memory) (hopped one.other mid one.memory)) none
+          ∙ sym (ap (λ z. updates g.snips z (words_at g.notes.base g.notes.cells one.memory) a) none)
+      read_alike (inr nothing) =
+          updates_same g.snips others (words_at g.notes.base g.notes.cells one.memory) (hopped one.other mid one.memory) a
+          (ap (λ (z : State). register_of z) (one.still nothing))
+
+      by_cells : LastDead g (first ++ others)
+          → words_at g.notes.base g.notes.cells other.memory ≡ updates g.snips edges (cells_in g a) a
+      by_cells d =
+          other.cells (last_others g first others d) ∙ read_alike (last_parted g first others d)
+          ∙ ap (λ z. updates g.snips others z a) (one.cells (last_first g first others d))
+          ∙ sym (updates_then g.snips first others (cells_in g a) a)
+          ∙ ap (λ z. updates g.snips z (cells_in g a) a) (sym all)
 
   -- ---- words
 
@@ -355,16 +393,20 @@ module _ (g : Setting) (l : Pieces) (base : ℕ) (p : Placement) (place : ℕ �
         page = λ i few. stores_there (kept_word i) a.memory (fit.has.ours.words (kept_word i) (h.frame.page (i + 2)
             (omega (arith, few))));
       } in
-      let past : RunsPast (λ _. false) g.notes.base [] (snippet_on g.snips edge) (length words) (h.cells.spills edge) a =
-      h.cells.does edge (λ _. false) (λ _ _. refl) a about in
+      let past : RunsPast (λ _. false) g.notes.base (g.dead edge) (snippet_on g.snips edge) (length words)
+      (spills_at g edge) a = h.cells.does edge (λ _. false) (λ _ _. refl) a about in
       let few = past.few in
+      let pc = past.pc in
+      let npc = past.npc in
       let to : a.pc + 4 * length words ≡ place k (n + length words) = omega (arith, at, end) in
       record {
         count = past.steps;
+        other = past.after;
         memory = past.after.memory;
         few = omega (arith, few, short);
         path = subst (λ (q : State). Leads IsBare a q past.steps)
-            (past.all refl ∙ ap (λ z. hopped a z past.after.memory) to)
+            (sym (stays past.after (place k (n + length words)) (pc ∙ to) (omega (arith, pc, npc)) past.slot
+            (omega (arith, low))))
             (leads_weaker _ IsBare a past.after past.steps
             (λ u q. let b = q.past in let c = q.before in there.bare u (omega (arith, at, b)) (omega (arith, at, c)))
             past.path);
@@ -373,8 +415,17 @@ module _ (g : Setting) (l : Pieces) (base : ℕ) (p : Placement) (place : ℕ �
             past.after.memory (may_own g l f h.frame h.cells edge) past.stores;
         waits = word_kept (MayStore g.notes.base (snippet_on g.snips edge)) (page_word 1)
             (may_beside g l f h.frame h.cells edge) a.memory past.after.memory past.stores (second_there a fit);
-        cells = past.cells g.notes.cells (h.cells.named edge) h.cells.low;
+        cells = λ _. past.cells g.notes.cells (h.cells.named edge) h.cells.low;
         begins = λ some. there.bare a (omega (arith, at)) (omega (arith, at, some, few));
+        alike = record {
+          ending = past.live ∙ sym fit.runs.ready.live;
+          window = past.window;
+          valid = past.windows;
+          input = past.input;
+          registers = past.registers ∙ sym fit.valid.registers.count;
+          items = λ item kept. past.items item kept.0;
+        };
+        still = λ d. ap (λ (z : State). hopped z (place k (n + length words)) past.after.memory) (past.all d.0);
       }
 
   pub snippets_run : (edges : List ℕ) (k n : ℕ) (xs : List Item) → Rest l k n (words_on l edges ++ xs) → (a : State)
@@ -398,8 +449,8 @@ module _ (g : Setting) (l : Pieces) (base : ℕ) (p : Placement) (place : ℕ �
       let one = snippet_runs edge k n (words_on l edges ++ xs) r2 a fit at in
       let low = stood_low k n first (words_on l edges ++ xs) r2 in
       let mid = place k (n + length first) in
-      let fit2 : IsFit (hopped a mid one.memory) = hopped_fit a mid fit low one.count one.memory one.path.steps one.stores in
-      let other = snippets_run edges k (n + length first) xs r3 (hopped a mid one.memory) fit2 refl in
+      let fit2 : IsFit (hopped one.other mid one.memory) = arrived (edge ∷ []) a mid 0 fit low one in
+      let other = snippets_run edges k (n + length first) xs r3 (hopped one.other mid one.memory) fit2 refl in
       let sum : n + length first + length (flat_map l.codes edges) ≡ n + length (flat_map l.codes (edge ∷ edges)) =
       (let q = ap length both ∙ length-append first (flat_map l.codes edges) in omega (arith, q)) in
       subst (λ z. Arrives (edge ∷ edges) a z 0) (ap (place k) sum)
@@ -417,10 +468,11 @@ module _ (g : Setting) (l : Pieces) (base : ℕ) (p : Placement) (place : ℕ �
       let low = stood_low k n (flat_map l.codes edges) xs r in
       let r2 : Rest l k (n + length (flat_map l.codes edges)) xs =
       subst (λ z. Rest l k (n + z) xs) (length_words (flat_map l.codes edges)) (rest_behind l k n (words_on l edges) xs r) in
-      let fit2 : IsFit (hopped a mid one.memory) = hopped_fit a mid fit low one.count one.memory one.path.steps one.stores in
+      let fit2 : IsFit (hopped one.other mid one.memory) = arrived edges a mid 0 fit low one in
       let none : 0 + more ≡ more = omega arith in
       subst (λ z. Arrives (edges ++ others) a to z) none
-      (on_then (edges ++ others) edges others refl a mid to 0 more one (behind (hopped a mid one.memory) fit2 refl r2))
+      (on_then (edges ++ others) edges others refl a mid to 0 more one
+      (behind (hopped one.other mid one.memory) fit2 refl r2))
 
   -- ---- long jumps
 
@@ -439,6 +491,7 @@ module _ (g : Setting) (l : Pieces) (base : ℕ) (p : Placement) (place : ℕ �
       let kept = first_kept a (store_word a.memory (page_word 0) (register_of a 1)) fit hops.stores in
       record {
         count = 4;
+        other = a;
         memory = store_word a.memory (page_word 0) (register_of a 1);
         few = omega arith;
         path = leads_weaker _ _ a _ 4 (λ u q. let b = q.past in let c = q.before in there.bare u (omega (arith, at, b))
@@ -446,8 +499,10 @@ module _ (g : Setting) (l : Pieces) (base : ℕ) (p : Placement) (place : ℕ �
         silent = hops.silent;
         stores = kept.0;
         waits = kept.1.0;
-        cells = kept.1.1;
+        cells = λ _. kept.1.1;
         begins = λ q. there.bare a (omega (arith, at)) (omega (arith, at));
+        alike = alike_itself g [] a;
+        still = λ _. refl;
       }
 
   -- ---- from the beginning of a piece
@@ -465,21 +520,30 @@ module _ (g : Setting) (l : Pieces) (base : ℕ) (p : Placement) (place : ℕ �
   pub for_all : (edges : List ℕ) (a : State) (to most : ℕ) → Arrives (edges ++ []) a to most → Arrives edges a to most
   for_all edges a to most way = subst (λ z. Arrives z a to most) (append-nil edges) way
 
-  pub arrive : (z : PieceNo) (edges : List ℕ) (a : State) (to : ℕ) → IsFit a → a.pc ≡ slice_index p.at z.0
-      → LeadsTo l p z edges to → Arrives edges a to 4
-  arrive z edges a to fit at (inl (none, e)) =
+  pub arrive : (z : PieceNo) (edges : List ℕ) (a : State) (next : Option ℕ) (to : ℕ) → IsFit a
+      → a.pc ≡ slice_index p.at z.0 → LeadsTo l p z edges next to → Arrives edges a to 4
+  arrive z edges a next to fit at (inl (none, e)) =
       let low = (h.laid.aligned z.0).1 in
       subst (λ q. Arrives q a to 4) (sym none) (stays_here a to 4 fit.runs (at ∙ e) (omega (arith, at, low)))
-  arrive z edges a to fit at (inr (inl (y, is, e))) =
+  arrive z edges a next to fit at (inr (inl (y, is, e))) =
       let r = rest_whole l z.0 (words_on l edges ++ it.Jump y ∷ []) (jump_unmarked edges y) is in
       for_all edges a to 4 (snippets_then edges z.0 0 (it.Jump y ∷ []) r a fit (at ∙ h.laid.starts z.0 r.within) [] to 4
       (λ b fit2 there r2. subst (λ q. Arrives [] b q 4) e
       (last_jump z.0 (0 + length (flat_map l.codes edges)) y r2 b fit2 there)))
-  arrive z edges a to fit at (inr (inr (far, is))) =
+  arrive z edges a next to fit at (inr (inr (out, far, is))) =
       let r = rest_whole l z.0 (words_on l edges ++ far_piece to)
       (words_unmarked (flat_map l.codes edges) (far_piece to) (far_unmarked to)) is in
       for_all edges a to 4 (snippets_then edges z.0 0 (far_piece to) r a fit (at ∙ h.laid.starts z.0 r.within) [] to 4
       (λ b fit2 there r2. far_on z.0 (0 + length (flat_map l.codes edges)) to far r2 b fit2 there))
+
+  -- a Jump to a piece that leads on
+  pub jump_then : (k n : ℕ) (z : PieceNo) → Rest l k n (it.Jump z ∷ []) → (edges : List ℕ) (a : State)
+      (next : Option ℕ) (to : ℕ) → IsFit a → a.pc ≡ place k n → LeadsTo l p z edges next to → Arrives edges a to 8
+  jump_then k n z r edges a next to fit at leads =
+      let one = last_jump k n z r a fit at in
+      on_then edges [] edges refl a (slice_index p.at z.0) to 4 4 one
+      (arrive z edges (hopped one.other (slice_index p.at z.0) one.memory) next to
+      (arrived [] a (slice_index p.at z.0) 4 fit (h.laid.aligned z.0).1 one) refl leads)
 
   -- ---- from item 3 of a piece on
 
@@ -489,6 +553,7 @@ module _ (g : Setting) (l : Pieces) (base : ℕ) (p : Placement) (place : ℕ �
       let short = one.few in
       record {
         count = one.count;
+        other = one.other;
         memory = one.memory;
         few = omega (arith, less, short);
         path = one.path;
@@ -497,12 +562,15 @@ module _ (g : Setting) (l : Pieces) (base : ℕ) (p : Placement) (place : ℕ �
         waits = one.waits;
         cells = one.cells;
         begins = one.begins;
+        alike = one.alike;
+        still = one.still;
       }
 
   pub tail : (k : ℕ) (rest : List Item) (address : _) (number : ℕ) (y : Item)
-      → slice_get l.list k ≡ Some (it.Mark address number ∷ y ∷ it.EndMark ∷ rest) → (edges : List ℕ) (a : State) (to : ℕ)
-      → IsFit a → a.pc ≡ place k 3 → LeadsOn l p place k 3 edges to → Arrives edges a to 8
-  tail k rest address number y is edges a to fit at leads = by leads
+      → slice_get l.list k ≡ Some (it.Mark address number ∷ y ∷ it.EndMark ∷ rest) → (edges : List ℕ) (a : State)
+      (next : Option ℕ) (to : ℕ) → IsFit a → a.pc ≡ place k 3 → LeadsOn l p place k 3 edges next to
+      → Arrives edges a to 8
+  tail k rest address number y is edges a next to fit at leads = by leads
     where
       some_rest : (xs : List Item) → rest_from l k 3 ≡ Some xs → rest ≡ xs
       some_rest xs e = let q : Some rest ≡ Some xs = sym (ap (option_map (drop 3)) is) ∙ e in cc
@@ -512,7 +580,7 @@ module _ (g : Setting) (l : Pieces) (base : ℕ) (p : Placement) (place : ℕ �
           rest_marked l k address number y xs are
           (is ∙ ap (λ z. Some (it.Mark address number ∷ y ∷ it.EndMark ∷ z)) (some_rest xs e))
 
-      by : LeadsOn l p place k 3 edges to → Arrives edges a to 8
+      by : LeadsOn l p place k 3 edges next to → Arrives edges a to 8
       by (inl (e, stands)) =
           let shape : words_on l edges ≡ words_on l edges ++ [] = sym (append-nil (words_on l edges)) in
           let r = with_rest (words_on l edges ++ []) (words_unmarked (flat_map l.codes edges) [] tt)
@@ -523,12 +591,8 @@ module _ (g : Setting) (l : Pieces) (base : ℕ) (p : Placement) (place : ℕ �
           let r = with_rest (words_on l j.first ++ it.Jump j.piece ∷ []) (jump_unmarked j.first j.piece) j.rest in
           subst (λ q. Arrives q a to 8) (sym j.all)
           (snippets_then j.first k 3 (it.Jump j.piece ∷ []) r a fit at j.others to 8 (λ b fit2 there r2.
-          let one = last_jump k (3 + length (flat_map l.codes j.first)) j.piece r2 b fit2 there in
-          on_then j.others [] j.others refl b (slice_index p.at j.piece.0) to 4 4 one
-          (arrive j.piece j.others (hopped b (slice_index p.at j.piece.0) one.memory) to
-          (hopped_fit b (slice_index p.at j.piece.0) fit2 (h.laid.aligned j.piece.0).1 one.count one.memory
-          one.path.steps one.stores) refl j.leads)))
-      by (inr (inr (far, e))) =
+          jump_then k (3 + length (flat_map l.codes j.first)) j.piece r2 j.others b next to fit2 there j.leads))
+      by (inr (inr (out, far, e))) =
           let r = with_rest (words_on l edges ++ far_piece to)
           (words_unmarked (flat_map l.codes edges) (far_piece to) (far_unmarked to)) e in
           for_all edges a to 8 (snippets_then edges k 3 (far_piece to) r a fit at [] to 8 (λ b fit2 there r2.

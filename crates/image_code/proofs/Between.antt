@@ -53,7 +53,7 @@ use Rattle.layout.specs.Running.{CanRun}
 use Rattle.layout.proofs.Going.{stays, jumps_hop, words_stand}
 use Rattle.image_code.specs.Simulates.{Setting, cells_in, StepsOn, IsOnWay, IsFollowedBy, at_point, does_at, gone_at, graph_in, number_in, word_of}
 use Rattle.image_code.specs.Images.{Pieces, Frame, HasImages, Here, IsPlaced, visited_at}
-use Rattle.image_code.specs.Cases.{Everything, visits_it, IsFar, LeadsTo, LeadsOn, plain_piece, IsPlain, PlainsVisit, PlainsStep}
+use Rattle.image_code.specs.Cases.{visits_it, IsFar, LeadsTo, LeadsOn, plain_piece, IsPlain, PlainsVisit, PlainsStep}
 use Rattle.image_code.proofs.Ended.{stops_act}
 use Rattle.image_code.proofs.Memories.{fetch_is, images_stay, images_stored, same_stored}
 

@@ -42,7 +42,7 @@ use Rattle.layout.specs.declared.items.Item.{Item}
 use Rattle.layout.specs.Laid.{Placement}
 use Rattle.image_code.specs.Simulates.{Setting, at_point, does_at, gone_at, graph_in, number_in}
 use Rattle.image_code.specs.Images.{Frame, visited_at}
-use Rattle.image_code.specs.Cases.{LeadsTo, branch_piece, next_visit, plain_piece, words_on}
+use Rattle.image_code.specs.Cases.{LeadsTo, branch_piece, next_visit, plain_piece, word_ahead, words_on}
 use Rattle.image_code.specs.Imaged.{IsCase, turn, idle}
 use Rattle.image_code.specs.Turns.{IsNoJumpsSlot}
 use Rattle.image_code.specs.Made.{first_way, goes_on, jump_to, nop_word, way_by, way_out}
@@ -176,11 +176,11 @@ module _ (g : Setting) (codes : ℕ → List ℕ) (is : IsText g.text) (p : Plac
 
         by : (o : Option ℕ) → word_at g.text v.pc ≡ o
             → LeadsTo (l g codes is p f) p (record { 0 = way_out g.text (graph_in g) node w.kind })
-            (gone_at g node x v) (visited_at g (l g codes is p f) p f after (point_of v))
+            (gone_at g node x v) (word_at g.text v.pc) (visited_at g (l g codes is p f) p f after (point_of v))
         by None e =
             subst (LeadsTo (l g codes is p f) p (record { 0 = way_out g.text (graph_in g) node w.kind })
-            (gone_at g node x v)) (sym (visited_none g codes is p f after (point_of v) e slot ∙ pc))
-            (inr (inr (along_far g.text word w.kind branch is inside, with_code _ (bare_out (sym to ∙ e)))))
+            (gone_at g node x v) (word_at g.text v.pc)) (sym (visited_none g codes is p f after (point_of v) e slot ∙ pc))
+            (inr (inr (e, along_far g.text word w.kind branch is inside, with_code _ (bare_out (sym to ∙ e)))))
         by (Some other) e =
             inr (inl (
               record { 0 = other },
@@ -333,28 +333,21 @@ module _ (g : Setting) (codes : ℕ → List ℕ) (is : IsText g.text) (p : Plac
         says = says;
         word = nop_word;
         idle = nop_says;
-        rest = jump_to (way_out g.text (graph_in g) node kind);
+        way = record { 0 = way_out g.text (graph_in g) node kind };
         items = found;
-        leads = inr (inl (record {
-          first = [];
-          others = gone_at g node x (does_at g x t);
-          all = refl;
-          piece = record { 0 = way_out g.text (graph_in g) node kind };
-          rest = ap (option_map (drop 3)) found;
-          leads = leads_there;
-        }));
+        leads = leads_there;
         never = no_jumps_slot;
       })
 
       either : t.ending ≡ None → (flag : Bool) → holds_of cond t.codes ≡ flag
           → LeadsTo (l g codes is p f) p (record { 0 = if holds_of cond t.codes then taken else untaken })
-          (gone_at g node x (does_at g x t)) (next_visit g (l g codes is p f) p f node x t)
+          (gone_at g node x (does_at g x t)) (word_ahead g x t) (next_visit g (l g codes is p f) p f node x t)
       either live true e =
           subst (λ (h : Bool). LeadsTo (l g codes is p f) p (record { 0 = if h then taken else untaken })
-          (gone_at g node x (does_at g x t)) (next_visit g (l g codes is p f) p f node x t)) (sym e) (leads live true e)
+          (gone_at g node x (does_at g x t)) (word_ahead g x t) (next_visit g (l g codes is p f) p f node x t)) (sym e) (leads live true e)
       either live false e =
           subst (λ (h : Bool). LeadsTo (l g codes is p f) p (record { 0 = if h then taken else untaken })
-          (gone_at g node x (does_at g x t)) (next_visit g (l g codes is p f) p f node x t)) (sym e) (leads live false e)
+          (gone_at g node x (does_at g x t)) (word_ahead g x t) (next_visit g (l g codes is p f) p f node x t)) (sym e) (leads live false e)
 
       two_ways : t.ending ≡ None
           → slice_get (l g codes is p f).list word ≡ Some (branch_piece address (number_in g node) cond taken untaken)

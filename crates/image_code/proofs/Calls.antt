@@ -1,6 +1,7 @@
 -- The link of a CALL, and then the way.
 use Rattle.std.proofs.Common.{◌≡◌, ℕ, ◌^◌, ◌<◌, Option, List, length, refl, ap, sym, ◌∙◌, subst, arith}
 use Rattle.std.specs.Prelude.{ℤ}
+use Rattle.eel_base.specs.CodeText.{word_at}
 use Rattle.v8_decode.specs.declared.Instr.{Instr}
 use Rattle.v8_decode.specs.declared.Instr.TheVariants as i
 use Rattle.v8_decode.specs.Words.{decode_of}
@@ -17,17 +18,18 @@ use Rattle.code_runs.specs.Leads.{Leads}
 use Rattle.code_runs.specs.Straight.{StandIn}
 use Rattle.code_runs.specs.TwoRegisters.{IsBetween}
 use Rattle.code_runs.proofs.TwoRegisters.{stores_none}
-use Rattle.layout.specs.Laid.{Placement}
+use Rattle.layout.specs.Laid.{HasShortForms, Placement}
 use Rattle.jump_code.specs.Links.{IsAboutToCall, link, past}
 use Rattle.jump_code.specs.PageWords.{IsPageWord}
 use Rattle.jump_code.proofs.Laid.{pieces_are_laid}
 use Rattle.jump_code.proofs.Linking.{calls_act}
 use Rattle.image_code.specs.Simulates.{Setting, StepsOn, at_point, does_at, gone_at, graph_in, number_in}
 use Rattle.image_code.specs.Images.{Pieces, Frame, Here, IsPlaced, visited_at}
-use Rattle.image_code.specs.Cases.{Everything, LeadsTo}
+use Rattle.image_code.specs.Cases.{LeadsTo}
 use Rattle.image_code.specs.Turns.{IsNoJumpsSlot}
 use Rattle.image_code.specs.Calls.{IsCall, CallsStep}
 use Rattle.image_code.proofs.Couple.{quiet_transfer}
+use Rattle.image_code.proofs.Dead.{LastDead, gone_last}
 use Rattle.image_code.proofs.Through.{AtWords, at_words, goes_through}
 
 -- the original after its CALL
@@ -66,14 +68,14 @@ module _ (g : Setting) (l : Pieces) (base : ℕ) (p : Placement) (place : ℕ �
       short : c.address.0 < 2 ^ 32
       short = let o = c.original in let low = c.low in omega arith
 
-  steps : (edges : List ℕ)
-      → LeadsTo l p c.way edges (visited_at g l p f (node_after (graph_in g) node edges) (point_of (called x c.disp t)))
+  steps : (edges : List ℕ) → LastDead g edges
+      → LeadsTo l p c.way edges (word_at g.text (called x c.disp t).pc) (visited_at g l p f (node_after (graph_in g) node edges) (point_of (called x c.disp t)))
       → IsNoJumpsSlot g (called x c.disp t)
-      → StepsOn g (Here g l base p f) Everything edges node x t (called x c.disp t)
-  steps edges leads never =
+      → StepsOn g (Here g l base p f) (HasShortForms l.list place) edges node x t (called x c.disp t)
+  steps edges last leads never =
       let acts = calls_act c.address.0 t about in
       goes_through g l base p place f h node x t here c.piece c.within c.here image c.address c.way c.items
-      (called x c.disp t) t.memory edges (omega arith) (omega arith)
+      (called x c.disp t) t.memory edges last (omega arith) (omega arith)
       (record {
         path = subst (λ a. Leads (IsBetween t 2 IsPageWord) t (past t 2 t.memory (with_register t 15 a)) 2)
             c.original acts.0;
@@ -89,8 +91,9 @@ module _ (g : Setting) (l : Pieces) (base : ℕ) (p : Placement) (place : ℕ �
 pub calls_step : CallsStep
 calls_step g l base p place f node x t h here c =
     let is = does_is g l base p place f h node x t here c in
-    subst (λ (z : State). StepsOn g (Here g l base p f) Everything (gone_at g node x z) node x t z) (sym is)
+    subst (λ (z : State). StepsOn g (Here g l base p f) (HasShortForms l.list place) (gone_at g node x z) node x t z) (sym is)
     (steps g l base p place f h node x t here c (gone_at g node x (called x c.disp t))
-    (subst (λ (z : State). LeadsTo l p c.way (gone_at g node x z)
+    (gone_last g l f h.cells node x (called x c.disp t))
+    (subst (λ (z : State). LeadsTo l p c.way (gone_at g node x z) (word_at g.text z.pc)
     (visited_at g l p f (node_after (graph_in g) node (gone_at g node x z)) (point_of z))) is c.leads)
     (subst (IsNoJumpsSlot g) is c.never))

@@ -49,16 +49,18 @@ use Rattle.eel_base.specs.declared.numbers.Addr.{Addr}
 use Rattle.eel_base.specs.declared.numbers.PieceNo.{PieceNo}
 use Rattle.layout.specs.declared.items.Item.{Item}
 use Rattle.layout.specs.declared.items.Item.TheVariants as it
-use Rattle.layout.specs.Laid.{Placement, item_at, item_in, items_in, size_of, open_in, open_from, range_in, range_of, IsWordAt}
+use Rattle.layout.specs.Laid.{HasShortForms, Placement, item_at, item_in, items_in, size_of, open_in, open_from, range_in, range_of, IsWordAt}
 use Rattle.layout.specs.Running.{CanRun}
 use Rattle.layout.proofs.Going.{stays, jumps_hop, words_stand}
-use Rattle.image_code.specs.Simulates.{updates, Setting, cells_in, StepsOn, IsOnWay, IsFollowedBy, at_point, does_at, gone_at, graph_in, number_in, word_of}
+use Rattle.image_code.specs.Simulates.{updates, Setting, cells_in, StepsOn, IsOnWay, IsFollowedBy, IsKept, at_point, does_at, gone_at, graph_in, number_in, word_of}
 use Rattle.image_code.specs.Images.{Pieces, Frame, HasImages, Here, IsPlaced, visited_at}
-use Rattle.image_code.specs.Cases.{Everything, next_visit, visits_it, IsFar, LeadsTo, LeadsOn, plain_piece, IsPlain, PlainsVisit, PlainsStep}
+use Rattle.image_code.specs.Cases.{next_visit, visits_it, IsFar, LeadsTo, LeadsOn, plain_piece, IsPlain, PlainsVisit, PlainsStep, word_ahead}
 use Rattle.image_code.proofs.Ended.{stops_act}
 use Rattle.image_code.proofs.Memories.{fetch_is, images_stay, images_stored, same_stored}
 pub use Rattle.image_code.proofs.Between.{at_range, can_run, ended_none, first_own, get_below, item_below, item_size, live_before, node_is, on_none, on_range, open_rest, outside_refl, quiet_of, same_at, stores_weaker}
-pub use Rattle.image_code.proofs.Arrives.{Arrives, IsBare, IsFit, arrive, bare_on, far_on, hopped_fit, jump_on, on_then, tail, weaker_arrives}
+pub use Rattle.image_code.proofs.Arrives.{Arrives, IsBare, IsFit, arrive, arrived, bare_on, far_on, hopped_fit, jump_on, jump_then, on_then, tail, weaker_arrives}
+pub use Rattle.image_code.proofs.Dead.{LastDead, alike_hopped, alike_itself, followed_alike, gone_last}
+use Rattle.image_code.proofs.Dead.{IsAlike}
 use Rattle.image_code.proofs.Cells.{cells_stay, updates_same}
 
 -- The piece of a point begins with its word, which is no transfer, in a Mark.
@@ -171,26 +173,19 @@ module _ (g : Setting) (l : Pieces) (base : ℕ) (p : Placement) (place : ℕ �
         ∙ (acts_anywhere x.pc x.npc x.slot t (decode_of c.word) c.straight).1 descriptor
         ∙ sym (ap (λ (o : Option ℕ). puts_on_word (at_point x t) o descriptor) c.is_word)
 
-    -- the same but for where it goes on, and what the pages hold
-    followed : (after : State) → after.ending ≡ (act t (decode_of c.word)).ending
-        → after.window ≡ (act t (decode_of c.word)).window
-        → after.valid ≡ (act t (decode_of c.word)).valid → after.registers ≡ (act t (decode_of c.word)).registers
-        → after.codes ≡ (act t (decode_of c.word)).codes → after.y ≡ (act t (decode_of c.word)).y
-        → after.input ≡ (act t (decode_of c.word)).input
-        → IsSameOutside (pages_of g.notes) (act t (decode_of c.word)).memory after.memory → (edges : List ℕ)
-        → IsFollowedBy (pages_of g.notes) (Everything edges (act (at_point x t) (decode_of c.word)).window)
+    -- the same but for where it goes on, what is dead, and what the pages hold
+    followed : (edges : List ℕ) (after : State) → IsAlike g edges (act t (decode_of c.word)) after
+        → IsSameOutside (pages_of g.notes) (act t (decode_of c.word)).memory after.memory
+        → IsFollowedBy (pages_of g.notes) (IsKept g edges (act (at_point x t) (decode_of c.word)).window)
         (act (at_point x t) (decode_of c.word)) after
-    followed after e1 e2 e3 e4 e5 e6 e7 e8 edges = record {
-      ending = e1 ∙ ap (λ (z : State). z.ending) same;
-      window = e2 ∙ ap (λ (z : State). z.window) same;
-      valid = e3 ∙ ap (λ (z : State). z.valid) same;
-      registers = ap length (e4 ∙ ap (λ (z : State). z.registers) same);
-      input = e7 ∙ ap (λ (z : State). z.input) same;
-      memory = subst (λ (z : Memory). IsSameOutside (pages_of g.notes) z after.memory)
-          (ap (λ (z : State). z.memory) same) e8;
-      items = λ _ thing _ _. same_at thing _ _ (sym (e4 ∙ ap (λ (z : State). z.registers) same))
-          (sym (e5 ∙ ap (λ (z : State). z.codes) same)) (sym (e6 ∙ ap (λ (z : State). z.y) same));
-    }
+    followed edges after alike outside =
+        followed_alike g edges (act (at_point x t) (decode_of c.word)) (act t (decode_of c.word)) after
+        (sym (ap (λ (z : State). z.ending) same)) (sym (ap (λ (z : State). z.window) same))
+        (sym (ap (λ (z : State). z.valid) same)) (sym (ap (λ (z : State). z.registers) same))
+        (sym (ap (λ (z : State). z.codes) same)) (sym (ap (λ (z : State). z.y) same))
+        (sym (ap (λ (z : State). z.input) same))
+        (subst (λ (z : Memory). IsSameOutside (pages_of g.notes) z after.memory) (ap (λ (z : State). z.memory) same)
+        outside) alike
 
     -- its cells, where it judges no byte of the pages
     still : AllApart (pages_of g.notes) (judged_by t (decode_of c.word))
@@ -199,7 +194,7 @@ module _ (g : Setting) (l : Pieces) (base : ℕ) (p : Placement) (place : ℕ �
 
     ends : (d : Ending) → (act (at_point x t) (decode_of c.word)).ending ≡ Some d
         → AllApart (pages_of g.notes) (judged_by t (decode_of c.word))
-        → StepsOn g (Here g l base p f) Everything [] node x t (act (at_point x t) (decode_of c.word))
+        → StepsOn g (Here g l base p f) (HasShortForms l.list place) [] node x t (act (at_point x t) (decode_of c.word))
     ends d over apart =
         let stopped : (act t (decode_of c.word)).ending ≡ Some d = ap (λ (z : State). z.ending) same ∙ over in
         record {
@@ -207,21 +202,21 @@ module _ (g : Setting) (l : Pieces) (base : ℕ) (p : Placement) (place : ℕ �
           after = act t (decode_of c.word);
           path = record { steps = stands.one; some = omega arith; few = omega arith; quiet = λ j a b. absurd (omega arith) };
           puts = puts_one;
-          followed = followed (act t (decode_of c.word)) refl refl refl refl refl refl refl
-              (outside_refl (pages_of g.notes) _) [];
+          followed = followed [] (act t (decode_of c.word)) (alike_itself g [] (act t (decode_of c.word)))
+              (outside_refl (pages_of g.notes) _);
           cells = still apart;
           here = λ live. absurd (cc);
           place = λ _. ap (node_at g.notes) (stops_act t (decode_of c.word) c.straight here.live d stopped) ∙ visits.1;
         }
 
-    goes : (edges : List ℕ) → (act (at_point x t) (decode_of c.word)).ending ≡ None
+    goes : (edges : List ℕ) → LastDead g edges → (act (at_point x t) (decode_of c.word)).ending ≡ None
         → AllApart (pages_of g.notes) (judged_by (at_point x t) (decode_of c.word))
         → AllApart (pages_of g.notes) (judged_by t (decode_of c.word))
         → (IsFit g l base p place f h (act t (decode_of c.word)) → (act t (decode_of c.word)).pc ≡ place c.piece 3
         → Arrives g l base p place f h edges (act t (decode_of c.word)) (visited_at g l p f
         (node_after (graph_in g) node edges) (point_of (act (at_point x t) (decode_of c.word)))) 24)
-        → StepsOn g (Here g l base p f) Everything edges node x t (act (at_point x t) (decode_of c.word))
-    goes edges live apart' apart onward =
+        → StepsOn g (Here g l base p f) (HasShortForms l.list place) edges node x t (act (at_point x t) (decode_of c.word))
+    goes edges last live apart' apart onward =
         let a : State = act t (decode_of c.word) in
         let alive : (act t (decode_of c.word)).ending ≡ None = ap (λ (z : State). z.ending) same ∙ live in
         let went = goes_act t (decode_of c.word) c.straight alive in
@@ -251,15 +246,16 @@ module _ (g : Setting) (l : Pieces) (base : ℕ) (p : Placement) (place : ℕ �
         (leads_one _ t _ stands.one) rest.path (λ _ some. rest.begins some) in
         let few = rest.few in
         let stores = rest.stores in
+        let lives : rest.other.ending ≡ None = rest.alike.ending ∙ alive in
         record {
           count = 1 + rest.count;
-          after = hopped (act t (decode_of c.word)) to rest.memory;
+          after = hopped rest.other to rest.memory;
           path = record {
             steps = way.steps;
             some = omega arith;
             few = omega (arith, few);
             quiet = λ j p1 p2. quiet_of g l base p place f h node t _ (1 + rest.count) (IsBare g l base p place f h) way
-                alive (bare_on g l base p place f h node t) j p1 p2;
+                lives (bare_on g l base p place f h node t) j p1 p2;
           };
           puts = λ descriptor.
               ap (λ n. run_puts t n descriptor) (let e : 1 + rest.count ≡ rest.count + 1 = omega arith in e)
@@ -267,16 +263,16 @@ module _ (g : Setting) (l : Pieces) (base : ℕ) (p : Placement) (place : ℕ �
               ∙ ap (λ (z : State). run_puts t 1 descriptor ++ run_puts z rest.count descriptor) stands.one
               ∙ ap (λ z. run_puts t 1 descriptor ++ z) (rest.silent descriptor) ∙ append-nil (run_puts t 1 descriptor)
               ∙ puts_one descriptor;
-          followed = followed (hopped
-              (act t (decode_of c.word)) to rest.memory) refl refl refl refl refl refl refl
-              (same_stored g f h.frame base p _ rest.memory has stores) edges;
-          cells = rest.cells
+          followed = followed edges (hopped rest.other to rest.memory)
+              (alike_hopped g edges (act t (decode_of c.word)) rest.other to rest.memory rest.alike)
+              (same_stored g f h.frame base p _ rest.memory has stores);
+          cells = rest.cells last
               ∙ updates_same g.snips edges (cells_in g (act t (decode_of c.word))) (act t (decode_of c.word))
               (act (at_point x t) (decode_of c.word)) (ap (λ (z : State). register_of z) same)
               ∙ ap (λ z. updates g.snips edges z (act (at_point x t) (decode_of c.word))) (still apart);
           here = λ _. record {
             valid = subst IsValid way.steps (run-valid t (1 + rest.count) here.valid);
-            live = alive;
+            live = lives;
             at = refl;
             npc = refl;
             slot = refl;
@@ -313,10 +309,10 @@ pub marked_step : (g : Setting) (l : Pieces) (base : ℕ) (p : Placement) (place
     → (act t (decode_of c.word)).pc ≡ place c.piece 3
     → Arrives g l base p place f h (gone_at g node x (does_at g x t)) (act t (decode_of c.word))
     (next_visit g l p f node x t) 24)
-    → StepsOn g (Here g l base p f) Everything (gone_at g node x (does_at g x t)) node x t (does_at g x t)
+    → StepsOn g (Here g l base p f) (HasShortForms l.list place) (gone_at g node x (does_at g x t)) node x t (does_at g x t)
 marked_step g l base p place f node x t h here c apart onward =
     let is : does_at g x t ≡ act (at_point x t) (decode_of c.word) = ap (on_word (at_point x t)) c.is_word in
-    subst (λ (z : State). StepsOn g (Here g l base p f) Everything (gone_at g node x z) node x t z) (sym is)
+    subst (λ (z : State). StepsOn g (Here g l base p f) (HasShortForms l.list place) (gone_at g node x z) node x t z) (sym is)
     (by (act (at_point x t) (decode_of c.word)).ending refl
     (subst (λ (z : State). z.ending ≡ None → Onward (gone_at g node x z)
     (visited_at g l p f (node_after (graph_in g) node (gone_at g node x z)) (point_of z))) is onward))
@@ -331,12 +327,13 @@ marked_step g l base p place f node x t h here c apart onward =
         → Onward (gone_at g node x (act (at_point x t) (decode_of c.word))) (visited_at g l p f
         (node_after (graph_in g) node (gone_at g node x (act (at_point x t) (decode_of c.word))))
         (point_of (act (at_point x t) (decode_of c.word)))))
-        → StepsOn g (Here g l base p f) Everything (gone_at g node x (act (at_point x t) (decode_of c.word))) node x t
+        → StepsOn g (Here g l base p f) (HasShortForms l.list place) (gone_at g node x (act (at_point x t) (decode_of c.word))) node x t
         (act (at_point x t) (decode_of c.word))
-    by None e onward = goes g l base p place f h node x t here c _ e apart
+    by None e onward = goes g l base p place f h node x t here c _
+        (gone_last g l f h.cells node x (act (at_point x t) (decode_of c.word))) e apart
         (judged_moved g.notes x t (decode_of c.word) apart) (onward e)
     by (Some d) e onward =
-        subst (λ z. StepsOn g (Here g l base p f) Everything z node x t (act (at_point x t) (decode_of c.word)))
+        subst (λ z. StepsOn g (Here g l base p f) (HasShortForms l.list place) z node x t (act (at_point x t) (decode_of c.word)))
         (sym (ended_none g node x (act (at_point x t) (decode_of c.word)) d e))
         (ends g l base p place f h node x t here c d e (judged_moved g.notes x t (decode_of c.word) apart))
 
@@ -346,7 +343,8 @@ plains_step g l base p place f node x t h here c apart =
     weaker_arrives g l base p place f h (gone_at g node x (does_at g x t)) (act t (decode_of c.word))
     (next_visit g l p f node x t) 8 24 (omega arith)
     (tail g l base p place f h c.piece c.rest c.address (number_in g node) (it.Word c.word) c.items
-    (gone_at g node x (does_at g x t)) (act t (decode_of c.word)) (next_visit g l p f node x t) fit pc (c.leads live)))
+    (gone_at g node x (does_at g x t)) (act t (decode_of c.word)) (word_ahead g x t) (next_visit g l p f node x t) fit pc
+    (c.leads live)))
 
 -- ---- branches
 

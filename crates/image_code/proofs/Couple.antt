@@ -22,11 +22,10 @@ use Rattle.cfg_walk.proofs.Ways.{always_holds}
 use Rattle.code_runs.proofs.Acts.{step_is}
 use Rattle.layout.specs.declared.items.Item.{Item}
 use Rattle.layout.specs.declared.items.Item.TheVariants as it
-use Rattle.layout.specs.Laid.{Placement, item_at, item_in, items_in, size_of, open_in, range_in, range_of, IsWordAt}
+use Rattle.layout.specs.Laid.{HasShortForms, Placement, item_at, item_in, items_in, size_of, open_in, range_in, range_of, IsWordAt}
 use Rattle.layout.proofs.Going.{taken_acts, word_is}
 use Rattle.image_code.specs.Simulates.{Setting, StepsOn, IsOnWay, at_point, does_at, gone_at, number_in}
 use Rattle.image_code.specs.Images.{Pieces, Frame, Here, IsPlaced}
-use Rattle.image_code.specs.Cases.{Everything}
 use Rattle.image_code.specs.Couple.{couple_piece, IsCouple, CouplesStep}
 use Rattle.image_code.proofs.Memories.{fetch_is}
 use Rattle.image_code.proofs.Cases.{ended_none, on_range, node_is, outside_refl, no_puts}
@@ -162,7 +161,7 @@ module _ (g : Setting) (l : Pieces) (base : ℕ) (p : Placement) (place : ℕ �
       ap (λ (z : State). puts_of t descriptor ++ puts_of z descriptor) one
       ∙ ap (λ z. z ++ puts_of (record t { pc = t.npc; npc = target_of t c.disp; slot = Taken }) descriptor) a ∙ b
 
-  steps : StepsOn g (Here g l base p f) Everything [] node x t (ended (at_point x t) Couple)
+  steps : StepsOn g (Here g l base p f) (HasShortForms l.list place) [] node x t (ended (at_point x t) Couple)
   unfolding mid
   steps = record {
     count = 2;
@@ -202,7 +201,7 @@ module _ (g : Setting) (l : Pieces) (base : ℕ) (p : Placement) (place : ℕ �
 
 pub couples_step : CouplesStep
 couples_step g l base p place f node x t h here c =
-    subst (λ (z : State). StepsOn g (Here g l base p f) Everything (gone_at g node x z) node x t z)
+    subst (λ (z : State). StepsOn g (Here g l base p f) (HasShortForms l.list place) (gone_at g node x z) node x t z)
     (sym (does_is g l base p place f h node x t here c))
-    (subst (λ z. StepsOn g (Here g l base p f) Everything z node x t (ended (at_point x t) Couple))
+    (subst (λ z. StepsOn g (Here g l base p f) (HasShortForms l.list place) z node x t (ended (at_point x t) Couple))
     (sym (ended_none g node x (ended (at_point x t) Couple) Couple refl)) (steps g l base p place f h node x t here c))

@@ -1,5 +1,5 @@
 -- A nop and then the way.
-use Rattle.std.proofs.Common.{◌≡◌, ℕ, ◌+◌, Option, [], ◌++◌, length, append-nil, refl, ap, sym, ◌∙◌, subst, arith}
+use Rattle.std.proofs.Common.{◌≡◌, ℕ, ◌+◌, Option, None, [], ◌∷◌, ◌++◌, length, append-nil, refl, ap, sym, ◌∙◌, subst, arith}
 use Rattle.v8_decode.specs.declared.Instr.{Instr}
 use Rattle.v8_alu.specs.Numbers.{wrapped}
 use Rattle.v8_memory.specs.Regions.{Memory}
@@ -18,21 +18,22 @@ use Rattle.code_runs.specs.Points.{moved}
 use Rattle.code_runs.specs.Hops.{hopped}
 use Rattle.code_runs.proofs.Leads.{leads_one, leads_then, puts_add}
 use Rattle.layout.specs.declared.items.Item.TheVariants as it
-use Rattle.layout.specs.Laid.{nop, Placement}
+use Rattle.layout.specs.Laid.{HasShortForms, nop, Placement}
 use Rattle.image_code.specs.Simulates.{Setting, StepsOn, at_point, cells_in, does_at, gone_at, graph_in, number_in}
 use Rattle.image_code.specs.Images.{Pieces, Frame, Here, IsPlaced, visited_at}
-use Rattle.image_code.specs.Cases.{Everything}
+use Rattle.image_code.specs.Cases.{word_ahead}
 use Rattle.image_code.specs.Idle.{IsIdle, IdlesStep}
+use Rattle.image_code.proofs.Arrives.{rest_marked}
 use Rattle.image_code.proofs.BranchMoves.{branch_moves}
 use Rattle.image_code.proofs.Memories.{fetch_is, images_stored, same_stored}
-use Rattle.image_code.proofs.Cases.{StandsAt, stands_at, can_run, tail, quiet_of, bare_on, IsBare, IsFit, same_at, no_puts}
+use Rattle.image_code.proofs.Cases.{StandsAt, stands_at, can_run, jump_then, quiet_of, alike_hopped, bare_on, followed_alike, gone_last, IsBare, IsFit, no_puts}
 use Rattle.image_code.proofs.Cells.{updates_same}
 
 module _ (g : Setting) (l : Pieces) (base : ℕ) (p : Placement) (place : ℕ → ℕ → ℕ) (f : Frame)
     (h : IsPlaced g l base p place f)
-    (node : Node) (x : Point) (t : State) (here : Here g l base p f node x t) (c : IsIdle g l p place f node x t) where
-  stands : StandsAt g l base p place f h t c.piece c.word c.rest
-  stands = stands_at g l base p place f h node x t here c.piece c.within c.here c.address (number_in g node) c.word c.rest c.items
+    (node : Node) (x : Point) (t : State) (here : Here g l base p f node x t) (c : IsIdle g l p f node x t) where
+  stands : StandsAt g l base p place f h t c.piece c.word (it.Jump c.way ∷ [])
+  stands = stands_at g l base p place f h node x t here c.piece c.within c.here c.address (number_in g node) c.word (it.Jump c.way ∷ []) c.items
 
   idle_acts : act t nop ≡ record t { pc = t.npc; npc = wrapped (t.npc + 4); slot = NoSlot }
   unfolding act
@@ -50,7 +51,7 @@ module _ (g : Setting) (l : Pieces) (base : ℕ) (p : Placement) (place : ℕ �
       live_puts t c.word descriptor here.live (fetch_is t.memory t.pc ∙ stands.fetched)
       ∙ ap (λ (q : Instr). puts_by t q descriptor) c.idle ∙ idle_puts t descriptor
 
-  steps : StepsOn g (Here g l base p f) Everything (gone_at g node x (does_at g x t)) node x t (does_at g x t)
+  steps : StepsOn g (Here g l base p f) (HasShortForms l.list place) (gone_at g node x (does_at g x t)) node x t (does_at g x t)
   steps =
       let npc = stands.ready.ready.npc in
       let i0 = stands.inside.0 in
@@ -88,23 +89,25 @@ module _ (g : Setting) (l : Pieces) (base : ℕ) (p : Placement) (place : ℕ �
         }) valid here.live on refl here.memory;
       } in
       let edges = gone_at g node x (does_at g x t) in
-      let rest = tail g l base p place f h c.piece c.rest c.address (number_in g node) (it.Word c.word) c.items
-      (gone_at g node x (does_at g x t)) (record t { pc = t.npc; npc = wrapped (t.npc + 4); slot = NoSlot }) to fit pc
-      c.leads in
+      let rest = jump_then g l base p place f h c.piece 3 c.way
+      (rest_marked l c.piece c.address (number_in g node) (it.Word c.word) (it.Jump c.way ∷ []) (tt, tt) c.items)
+      (gone_at g node x (does_at g x t)) (record t { pc = t.npc; npc = wrapped (t.npc + 4); slot = NoSlot })
+      (word_ahead g x t) to fit pc c.leads in
       let way = leads_then (IsBare g l base p place f h) t
-      (record t { pc = t.npc; npc = wrapped (t.npc + 4); slot = NoSlot }) (hopped t to rest.memory) 1 rest.count
+      (record t { pc = t.npc; npc = wrapped (t.npc + 4); slot = NoSlot }) (hopped rest.other to rest.memory) 1 rest.count
       (leads_one _ t _ idle_step) rest.path (λ _ some. rest.begins some) in
       let few = rest.few in
       let stores = rest.stores in
+      let lives : rest.other.ending ≡ None = rest.alike.ending ∙ here.live in
       record {
         count = 1 + rest.count;
-        after = hopped t to rest.memory;
+        after = hopped rest.other to rest.memory;
         path = record {
           steps = way.steps;
           some = omega arith;
           few = omega (arith, few);
           quiet = λ j p1 p2. quiet_of g l base p place f h node t _ (1 + rest.count)
-              (IsBare g l base p place f h) way here.live (bare_on g l base p place f h node t) j p1 p2;
+              (IsBare g l base p place f h) way lives (bare_on g l base p place f h node t) j p1 p2;
         };
         puts = λ descriptor.
             ap (λ n. run_puts t n descriptor) (let e : 1 + rest.count ≡ rest.count + 1 = omega arith in e)
@@ -115,24 +118,23 @@ module _ (g : Setting) (l : Pieces) (base : ℕ) (p : Placement) (place : ℕ �
             ∙ sym (ap (λ (o : Option ℕ). puts_on_word (at_point x t) o descriptor) c.is_word
             ∙ ap (λ (q : Instr). puts_by (at_point x t) q descriptor) c.says
             ∙ no_puts (at_point x t) c.cond c.annul c.disp descriptor);
-        followed = record {
-          ending = sym (ap (λ (z : State). z.ending) same);
-          window = sym (ap (λ (z : State). z.window) same);
-          valid = sym (ap (λ (z : State). z.valid) same);
-          registers = sym (ap (λ (z : State). length z.registers) same);
-          input = sym (ap (λ (z : State). z.input) same);
-          memory = subst (λ (z : Memory). IsSameOutside (pages_of g.notes) z rest.memory)
-              (sym (ap (λ (z : State). z.memory) same)) (same_stored g f h.frame base p t.memory rest.memory here.memory stores);
-          items = λ _ thing _ _. same_at thing v (hopped t to rest.memory) (ap (λ (z : State). z.registers) same)
-              (ap (λ (z : State). z.codes) same) (ap (λ (z : State). z.y) same);
-        };
-        cells = rest.cells
+        followed = followed_alike g (gone_at g node x (does_at g x t)) (does_at g x t)
+            (record t { pc = t.npc; npc = wrapped (t.npc + 4); slot = NoSlot }) (hopped rest.other to rest.memory)
+            (ap (λ (z : State). z.ending) same) (ap (λ (z : State). z.window) same) (ap (λ (z : State). z.valid) same)
+            (ap (λ (z : State). z.registers) same) (ap (λ (z : State). z.codes) same) (ap (λ (z : State). z.y) same)
+            (ap (λ (z : State). z.input) same)
+            (subst (λ (z : Memory). IsSameOutside (pages_of g.notes) z rest.memory)
+            (sym (ap (λ (z : State). z.memory) same))
+            (same_stored g f h.frame base p t.memory rest.memory here.memory stores))
+            (alike_hopped g (gone_at g node x (does_at g x t))
+            (record t { pc = t.npc; npc = wrapped (t.npc + 4); slot = NoSlot }) rest.other to rest.memory rest.alike);
+        cells = rest.cells (gone_last g l f h.cells node x (does_at g x t))
             ∙ updates_same g.snips (gone_at g node x (does_at g x t)) (cells_in g t)
             (record t { pc = t.npc; npc = wrapped (t.npc + 4); slot = NoSlot }) (does_at g x t)
             (sym (ap (λ (z : State). register_of z) same));
         here = λ _. record {
           valid = subst IsValid way.steps (run-valid t (1 + rest.count) here.valid);
-          live = here.live;
+          live = lives;
           at = refl;
           npc = refl;
           slot = refl;

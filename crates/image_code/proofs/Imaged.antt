@@ -11,11 +11,11 @@ use Rattle.cfg_normal.specs.declared.Node.{Node}
 use Rattle.cfg_walk.specs.Walk.{Point}
 use Rattle.layout.specs.declared.items.Item.{Item}
 use Rattle.layout.specs.declared.items.Item.TheVariants as it
-use Rattle.layout.specs.Laid.{Placement, Stands, BranchStands, branch_short, branch_long, item_in, items_in, size_of, open_in, range_of, end_from}
+use Rattle.layout.specs.Laid.{HasShortForms, Placement, Stands, BranchStands, branch_short, branch_long, item_in, items_in, size_of, open_in, range_of, end_from}
 use Rattle.image_code.specs.Simulates.{StepsOn, at_point, does_at, gone_at, number_in, word_of}
 use Rattle.code_runs.specs.PointsAlike.{instr_of}
 use Rattle.image_code.specs.Images.{Here}
-use Rattle.image_code.specs.Cases.{Everything, visits_it}
+use Rattle.image_code.specs.Cases.{visits_it}
 use Rattle.image_code.specs.Calls.{CallsStep, JumpsStep}
 use Rattle.image_code.specs.Landings.{JumpSlotsStep}
 use Rattle.image_code.specs.Imaged.{TakesWords, HeadsVisit, IsCase, plain, couple, turn, idle, call, jump, landing, foreign, off, IsVisited, head, outside, beyond, ImagesSimulate}
@@ -87,7 +87,7 @@ module _ (calls : CallsStep) (jumps : JumpsStep) (slots : JumpSlotsStep) where
       by : (node : Node) (x : Point) (t : State) → Here g l base p f node x t
           → AllApart (pages_of g.notes) (judged_in (at_point x t) (instr_of (word_of g.text x.pc)))
           → IsCase g l base p place f node x t
-          → StepsOn g (Here g l base p f) Everything (gone_at g node x (does_at g x t)) node x t (does_at g x t)
+          → StepsOn g (Here g l base p f) (HasShortForms l.list place) (gone_at g node x (does_at g x t)) node x t (does_at g x t)
       by node x t here apart (plain k) =
           plains_step g l base p place f node x t h here k (judged x t k.word k.is_word apart)
       by node x t here apart (couple k) = couples_step g l base p place f node x t h here k

@@ -63,6 +63,7 @@ module _ (g : Setting) (codes : ℕ → List ℕ) (is : IsText g.text) (p : Plac
   abbrev pub LeadsThere : EdgeKind → State → Type 0
   LeadsThere kind v =
       LeadsTo (l g codes is p f) p (record { 0 = way_out g.text (graph_in g) node kind }) (gone_at g node x v)
+      (word_at g.text v.pc)
       (visited_at g (l g codes is p f) p f (node_after (graph_in g) node (gone_at g node x v)) (point_of v))
 
   in_slot : (v : State) → v.ending ≡ None → v.pc ≡ x.npc → (now : Slot) → v.slot ≡ now → now ≢ NoSlot
@@ -70,7 +71,7 @@ module _ (g : Setting) (codes : ℕ → List ℕ) (is : IsText g.text) (p : Plac
   in_slot v live pc now slot some m =
       let not : v.slot ≢ NoSlot = λ n. some (sym slot ∙ n) in
       subst (λ (edges : List ℕ). LeadsTo (l g codes is p f) p
-      (record { 0 = way_out g.text (graph_in g) node (way_of (Some instr) now) }) edges
+      (record { 0 = way_out g.text (graph_in g) node (way_of (Some instr) now) }) edges (word_at g.text v.pc)
       (visited_at g (l g codes is p f) p f (node_after (graph_in g) node edges) (point_of v)))
       (sym (nothing_gone g codes is p f node x v none not live))
       (enters g codes is p f whole node (point_of v) not (on_its_way g codes is p f node (point_of v) now slot some m)

@@ -1,5 +1,6 @@
 -- The words of a JMPL, and then the way; or the ending that a misaligned target has.
 use Rattle.std.proofs.Common.{◌≡◌, ◌≢◌, ℕ, zero, suc, ◌+◌, ◌-◌, ◌*◌, ◌%◌, ◌^◌, ◌<◌, ◌≤◌, ◌⊎◌, inl, inr, Option, Some, None, List, [], length, refl, ap, sym, ◌∙◌, subst, arith}
+use Rattle.eel_base.specs.CodeText.{word_at}
 use Rattle.v8_decode.specs.declared.Instr.{Instr}
 use Rattle.v8_decode.specs.declared.Instr.TheVariants as i
 use Rattle.v8_decode.specs.Words.{decode_of}
@@ -25,7 +26,7 @@ use Rattle.code_runs.specs.TwoRegisters.{IsBetween}
 use Rattle.code_runs.specs.Straight.{StandIn}
 use Rattle.code_runs.proofs.Hops.{equal_or_not}
 use Rattle.code_runs.proofs.Stays.{stores_there}
-use Rattle.layout.specs.Laid.{Placement}
+use Rattle.layout.specs.Laid.{HasShortForms, Placement}
 use Rattle.jump_code.specs.Jumped.{jumped}
 use Rattle.jump_code.specs.Jumps.{IsAboutToJump, jump_image, kept_target}
 use Rattle.jump_code.specs.Links.{link}
@@ -34,11 +35,12 @@ use Rattle.jump_code.proofs.Following.{goes, stops, jumps_simulate}
 use Rattle.jump_code.proofs.Laid.{pieces_are_laid}
 use Rattle.image_code.specs.Simulates.{Setting, StepsOn, IsOnWay, at_point, does_at, gone_at, graph_in, number_in, word_of}
 use Rattle.image_code.specs.Images.{Pieces, Frame, Here, IsPlaced, visited_at}
-use Rattle.image_code.specs.Cases.{Everything, LeadsTo}
+use Rattle.image_code.specs.Cases.{LeadsTo}
 use Rattle.image_code.specs.Calls.{IsJump, JumpsStep}
 use Rattle.image_code.proofs.Memories.{same_stored}
 use Rattle.image_code.proofs.Cases.{ended_none, live_before}
 use Rattle.image_code.proofs.Couple.{quiet_transfer}
+use Rattle.image_code.proofs.Dead.{LastDead, gone_last}
 use Rattle.image_code.proofs.Through.{AtWords, at_words, own_stored, goes_through, page_cells}
 
 link_few : (rd address : ℕ) → length (link rd address) ≤ 2
@@ -135,15 +137,15 @@ module _ (g : Setting) (l : Pieces) (base : ℕ) (p : Placement) (place : ℕ �
       ap (λ (o : Option ℕ). puts_on_word (at_point x t) o descriptor) c.is_word
       ∙ quiet_transfer (at_point x t) (decode_of c.word) descriptor (ap is_transfer c.says)
 
-  going : (edges : List ℕ) → after_jump.ending ≡ None
-      → LeadsTo l p c.way edges (visited_at g l p f (node_after (graph_in g) node edges)
+  going : (edges : List ℕ) → LastDead g edges → after_jump.ending ≡ None
+      → LeadsTo l p c.way edges (word_at g.text after_jump.pc) (visited_at g l p f (node_after (graph_in g) node edges)
       (point_of after_jump))
-      → StepsOn g (Here g l base p f) Everything edges node x t after_jump
-  going edges live leads =
+      → StepsOn g (Here g l base p f) (HasShortForms l.list place) edges node x t after_jump
+  going edges last live leads =
       let on = (jumps_simulate c.scratch c.rd c.rs1 c.op2 c.address.0 t about).0 live in
       let n = many in
       goes_through g l base p place f h node x t here c.piece c.within c.here image c.address c.way c.items
-      after_jump (kept_target t c.scratch c.rs1 c.op2) edges (omega arith) few
+      after_jump (kept_target t c.scratch c.rs1 c.op2) edges last (omega arith) few
       (record {
         path = on.path;
         silent = on.silent;
@@ -154,7 +156,7 @@ module _ (g : Setting) (l : Pieces) (base : ℕ) (p : Placement) (place : ℕ �
         waits = λ _ _. (on.waits, aligned live);
       }) leads
 
-  ends : (d : Ending) → after_jump.ending ≡ Some d → StepsOn g (Here g l base p f) Everything [] node x t after_jump
+  ends : (d : Ending) → after_jump.ending ≡ Some d → StepsOn g (Here g l base p f) (HasShortForms l.list place) [] node x t after_jump
   ends d over =
       let end = (jumps_simulate c.scratch c.rd c.rs1 c.op2 c.address.0 t about).1 d over in
       let traps = end.traps in
@@ -200,19 +202,19 @@ module _ (g : Setting) (l : Pieces) (base : ℕ) (p : Placement) (place : ℕ �
           between.past (omega arith) between.stores
 
   steps : (e : Option Ending) → after_jump.ending ≡ e
-      → (after_jump.ending ≡ None → LeadsTo l p c.way (gone_at g node x after_jump) (visited_at g l p f
+      → (after_jump.ending ≡ None → LeadsTo l p c.way (gone_at g node x after_jump) (word_at g.text after_jump.pc) (visited_at g l p f
       (node_after (graph_in g) node (gone_at g node x after_jump)) (point_of after_jump)))
-      → StepsOn g (Here g l base p f) Everything (gone_at g node x after_jump) node x t after_jump
-  steps None e leads = going (gone_at g node x after_jump) e (leads e)
+      → StepsOn g (Here g l base p f) (HasShortForms l.list place) (gone_at g node x after_jump) node x t after_jump
+  steps None e leads = going (gone_at g node x after_jump) (gone_last g l f h.cells node x after_jump) e (leads e)
   steps (Some d) e leads =
-      subst (λ z. StepsOn g (Here g l base p f) Everything z node x t after_jump)
+      subst (λ z. StepsOn g (Here g l base p f) (HasShortForms l.list place) z node x t after_jump)
       (sym (ended_none g node x after_jump d e)) (ends d e)
 
 pub jumps_step : JumpsStep
 jumps_step g l base p place f node x t h here c =
     let is = does_is g l base p place f h node x t here c in
-    subst (λ (z : State). StepsOn g (Here g l base p f) Everything (gone_at g node x z) node x t z) (sym is)
+    subst (λ (z : State). StepsOn g (Here g l base p f) (HasShortForms l.list place) (gone_at g node x z) node x t z) (sym is)
     (steps g l base p place f h node x t here c _ refl
     (subst (λ (z : State). z.ending ≡ None
-    → LeadsTo l p c.way (gone_at g node x z)
+    → LeadsTo l p c.way (gone_at g node x z) (word_at g.text z.pc)
     (visited_at g l p f (node_after (graph_in g) node (gone_at g node x z)) (point_of z))) is c.leads))

@@ -43,11 +43,12 @@ use Rattle.layout.specs.Emitting.{words_of}
 use Rattle.layout.specs.Laid.{Placement}
 use Rattle.image_code.specs.Simulates.{Setting, StepsOn, at_point, cells_in, does_at, gone_at, graph_in, number_in}
 use Rattle.image_code.specs.Images.{Pieces, Frame, HasImages, Here, IsPlaced, visited_at, visited_by}
-use Rattle.image_code.specs.Cases.{Everything, LeadsTo, next_visit, words_on}
+use Rattle.image_code.specs.Cases.{LeadsTo, next_visit, words_on}
 use Rattle.image_code.specs.Landings.{IsJumpsSlot, JumpSlotsStep, Lands}
-use Rattle.image_code.proofs.Arrives.{AreUnmarked, Arrives, IsBare, IsFit, Rest, Stood, arrive, hopped_fit, length_words, on_then, rest_behind, rest_marked, rest_whole, second_there, snippets_run, stood, stood_low, weaker_arrives, words_unmarked}
+use Rattle.image_code.proofs.Arrives.{AreUnmarked, Arrives, IsBare, IsFit, Rest, Stood, arrive, arrived, length_words, on_then, rest_behind, rest_marked, rest_whole, second_there, snippets_run, stood, stood_low, weaker_arrives, words_unmarked}
 use Rattle.image_code.proofs.Cases.{IsMarkedWord, judged_moved, marked_step}
 use Rattle.image_code.proofs.Cells.{cells_above, page_above, word_kept}
+use Rattle.image_code.proofs.Dead.{alike_itself}
 use Rattle.image_code.proofs.Through.{own_stored}
 
 -- the words of a look-up
@@ -153,6 +154,7 @@ module _ (g : Setting) (l : Pieces) (base : ℕ) (p : Placement) (place : ℕ �
           let stores = looks.hops.stores in
           record {
             count = 18;
+            other = a;
             memory = looked_memory a;
             few = omega arith;
             path = subst (λ z. Leads (IsBare g l base p place f h) a (hopped a (looked_up f.table z) (looked_memory a)) 18)
@@ -161,8 +163,11 @@ module _ (g : Setting) (l : Pieces) (base : ℕ) (p : Placement) (place : ℕ �
             silent = looks.hops.silent;
             stores = own_stored g f h.frame a.memory (looked_memory a) stores;
             waits = looks.target;
-            cells = cells_above g l f h.frame h.cells IsPageWord page_above a.memory (looked_memory a) fit.has.ours stores;
+            cells = λ _. cells_above g l f h.frame h.cells IsPageWord page_above a.memory (looked_memory a) fit.has.ours
+                stores;
             begins = λ _. looking_bare a (omega arith) (omega arith);
+            alike = alike_itself g [] a;
+            still = λ _. refl;
           }
 
   -- ---- the foreign piece
@@ -191,6 +196,7 @@ module _ (g : Setting) (l : Pieces) (base : ℕ) (p : Placement) (place : ℕ �
       let left = store_word a.memory (page_word 2) (register_of a 1) in
       record {
         count = 4;
+        other = a;
         memory = left;
         few = omega arith;
         path = subst (λ z. Leads (IsBare g l base p place f h) a (hopped a z left) 4) waits (leads_weaker _ (IsBare g l base p place f h) a _ 4
@@ -200,8 +206,10 @@ module _ (g : Setting) (l : Pieces) (base : ℕ) (p : Placement) (place : ℕ �
         stores = own_stored g f h.frame a.memory left hops.stores;
         waits = other_word_stored a.memory (page_word 1) (page_word 2) (register_of a 1) (second_there g l base p place f h a fit)
             (inl (omega arith));
-        cells = cells_above g l f h.frame h.cells IsPageWord page_above a.memory left fit.has.ours hops.stores;
+        cells = λ _. cells_above g l f h.frame h.cells IsPageWord page_above a.memory left fit.has.ours hops.stores;
         begins = λ _. there.bare a (omega (arith, at)) (omega (arith, at));
+        alike = alike_itself g [] a;
+        still = λ _. refl;
       }
 
   -- ---- the whole way
@@ -236,18 +244,17 @@ module _ (g : Setting) (l : Pieces) (base : ℕ) (p : Placement) (place : ℕ �
         let n = 3 + length (flat_map l.codes (c.edge ∷ [])) in
         let mid = place c.piece (3 + length (flat_map l.codes (c.edge ∷ []))) in
         let low = stood_low g l base p place f h c.piece 3 (flat_map l.codes (c.edge ∷ [])) (looking c.translator) rest in
-        let b : State = hopped (act t (decode_of c.word)) mid one.memory in
-        let fit2 : IsFit g l base p place f h (hopped (act t (decode_of c.word)) mid one.memory) =
-        hopped_fit g l base p place f h (act t (decode_of c.word)) mid fit low one.count one.memory one.path.steps
-        one.stores in
+        let b : State = hopped one.other mid one.memory in
+        let fit2 : IsFit g l base p place f h (hopped one.other mid one.memory) =
+        arrived g l base p place f h (c.edge ∷ []) (act t (decode_of c.word)) mid 0 fit low one in
         let r2 : Rest l c.piece (3 + length (flat_map l.codes (c.edge ∷ []))) (looking c.translator) =
         subst (λ z. Rest l c.piece (3 + z) (looking c.translator)) (length_words (flat_map l.codes (c.edge ∷ [])))
         (rest_behind l c.piece 3 (words_on l (c.edge ∷ [])) (looking c.translator) rest) in
         let two = looks_up node x t c c.piece n r2 b fit2 refl x.npc (one.waits ∙ target_waits) aligned in
         let there = looked_up f.table x.npc in
-        let fit3 : IsFit g l base p place f h (hopped b there two.memory) =
-        hopped_fit g l base p place f h b there fit2 low_there two.count two.memory two.path.steps two.stores in
-        let three = behind (hopped b there two.memory) fit3 refl (two.waits ∙ one.waits ∙ target_waits) in
+        let fit3 : IsFit g l base p place f h (hopped two.other there two.memory) =
+        arrived g l base p place f h [] b there 18 fit2 low_there two in
+        let three = behind (hopped two.other there two.memory) fit3 refl (two.waits ∙ one.waits ∙ target_waits) in
         let both : Arrives g l base p place f h c.landing b to (18 + 4) =
         on_then g l base p place f h c.landing [] c.landing refl b there to 18 4 two three in
         weaker_arrives g l base p place f h (c.edge ∷ c.landing) a to (0 + (18 + 4)) 24 (omega arith)
@@ -262,7 +269,7 @@ module _ (g : Setting) (l : Pieces) (base : ℕ) (p : Placement) (place : ℕ �
         let multiple : looked_up f.table x.npc % 4 ≡ 0 = ap (λ z. z % 4) found ∙ place_there.0 in
         let low = place_there.1 in
         onward to fit at multiple (omega (arith, found, low)) (λ b fit2 there waits.
-        arrive g l base p place f h piece c.landing b to fit2 (there ∙ found) leads)
+        arrive g l base p place f h piece c.landing b (word_at g.text x.npc) to fit2 (there ∙ found) leads)
     lands to fit at (inr (no_landing, (piece, within, found, is, none))) out =
         let place_there = h.laid.aligned piece.0 in
         let multiple : looked_up f.table x.npc % 4 ≡ 0 = ap (λ z. z % 4) found ∙ place_there.0 in

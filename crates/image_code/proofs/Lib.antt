@@ -6,6 +6,7 @@ pub mod Cells
 pub mod Arrives
 pub mod Cases
 pub mod Couple
+pub mod Dead
 pub mod BranchMoves
 pub mod Turns
 pub mod Idle

@@ -19,10 +19,10 @@ use Rattle.v8_step.specs.Step.{step_of, on_word, unless_ended, puts_of, puts_on_
 use Rattle.v8_step.specs.Visits.{if_live, in_pages, page_of, pages_of, visited}
 use Rattle.cfg_normal.specs.declared.Node.{Node}
 use Rattle.cfg_walk.specs.Walk.{Point}
-use Rattle.layout.specs.Laid.{Placement}
+use Rattle.layout.specs.Laid.{HasShortForms, Placement}
 use Rattle.image_code.specs.Simulates.{Setting, StepsOn, at_point, does_at, gone_at, number_in, word_of}
 use Rattle.image_code.specs.Images.{Pieces, Frame, Here, IsBeside, IsPlaced, visited_by}
-use Rattle.image_code.specs.Cases.{Everything, visits_it}
+use Rattle.image_code.specs.Cases.{visits_it}
 use Rattle.image_code.specs.Outside.{IsForeign, IsOff, ForeignStep, OffsStep}
 use Rattle.image_code.proofs.Memories.{fetch_is}
 use Rattle.image_code.proofs.Cases.{ended_none, outside_refl}
@@ -75,7 +75,7 @@ module _ (g : Setting) (l : Pieces) (base : ℕ) (p : Placement) (place : ℕ �
   does_is : does_at g x t ≡ trapped (at_point x t) instruction_access_exception
   does_is = ap (on_word (at_point x t)) no_word
 
-  steps : StepsOn g (Here g l base p f) Everything [] node x t (trapped (at_point x t) instruction_access_exception)
+  steps : StepsOn g (Here g l base p f) (HasShortForms l.list place) [] node x t (trapped (at_point x t) instruction_access_exception)
   steps = record {
     count = 1;
     after = trapped t instruction_access_exception;
@@ -101,9 +101,9 @@ module _ (g : Setting) (l : Pieces) (base : ℕ) (p : Placement) (place : ℕ �
     place = λ _. visits.1;
   }
 
-  ends : StepsOn g (Here g l base p f) Everything (gone_at g node x (does_at g x t)) node x t (does_at g x t)
-  ends = subst (λ (z : State). StepsOn g (Here g l base p f) Everything (gone_at g node x z) node x t z) (sym does_is)
-      (subst (λ z. StepsOn g (Here g l base p f) Everything z node x t (trapped (at_point x t) instruction_access_exception))
+  ends : StepsOn g (Here g l base p f) (HasShortForms l.list place) (gone_at g node x (does_at g x t)) node x t (does_at g x t)
+  ends = subst (λ (z : State). StepsOn g (Here g l base p f) (HasShortForms l.list place) (gone_at g node x z) node x t z) (sym does_is)
+      (subst (λ z. StepsOn g (Here g l base p f) (HasShortForms l.list place) z node x t (trapped (at_point x t) instruction_access_exception))
       (sym (ended_none g node x (trapped (at_point x t) instruction_access_exception) _ refl)) steps)
 
 -- ---- outside a slot

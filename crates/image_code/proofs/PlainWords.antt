@@ -118,10 +118,10 @@ module _ (g : Setting) (codes : ℕ → List ℕ) (is : IsText g.text) (p : Plac
       (omega arith, omega arith)
 
   goes : (v : State) → does_at g x t ≡ v → v.ending ≡ None
-      → LeadsOn (l g codes is p f) p place word 3 (gone_at g node x v)
+      → LeadsOn (l g codes is p f) p place word 3 (gone_at g node x v) (word_at g.text v.pc)
       (visited_at g (l g codes is p f) p f (node_after (graph_in g) node (gone_at g node x v)) (point_of v))
   goes v e live =
-      subst (λ (gone : List ℕ). LeadsOn (l g codes is p f) p place word 3 gone
+      subst (λ (gone : List ℕ). LeadsOn (l g codes is p f) p place word 3 gone (word_at g.text v.pc)
       (visited_at g (l g codes is p f) p f (node_after (graph_in g) node (gone_at g node x v)) (point_of v)))
       (sym completes) (by (word_at g.text v.pc) refl)
     where
@@ -145,16 +145,16 @@ module _ (g : Setting) (codes : ℕ → List ℕ) (is : IsText g.text) (p : Plac
           left_gone g codes is p f node x v none went.1 live word at (decode_of (slice_index g.text.words word)) refl
 
       by : (o : Option ℕ) → word_at g.text v.pc ≡ o
-          → LeadsOn (l g codes is p f) p place word 3 edges (visited_at g (l g codes is p f) p f after (point_of v))
+          → LeadsOn (l g codes is p f) p place word 3 edges (word_at g.text v.pc) (visited_at g (l g codes is p f) p f after (point_of v))
       by None none_there =
           let last = last_one (word + 1) (length g.text.words) (sym there ∙ none_there) in
           let end : word + 1 ≡ length g.text.words = omega (arith, low) in
           let pc : v.pc ≡ address_of g.text (length g.text.words) =
           went.0 ∙ npc ∙ ap (λ (a : ℕ). (a + 4) % 2 ^ 32) (word_at-some g.text x.pc word at).is
           ∙ next_address g.text word is low ∙ ap (address_of g.text) end in
-          subst (LeadsOn (l g codes is p f) p place word 3 edges)
+          subst (LeadsOn (l g codes is p f) p place word 3 edges (word_at g.text v.pc))
           (sym (visited_none g codes is p f after (point_of v) none_there went.1 ∙ pc))
-          (inr (inr (end_far, leaves last)))
+          (inr (inr (none_there, end_far, leaves last)))
       by (Some other) some =
           let next = within_some (length g.text.words) (word + 1) other (sym there ∙ some) in
           inl (

@@ -183,9 +183,10 @@ module _ (g : Setting) (codes : ℕ → List ℕ) (is : IsText g.text) (p : Plac
           (decode_of (slice_index g.text.words (last_in (graph_in g) node))) is low)
 
       goes : (v : State) → does_at g x t ≡ v → v.ending ≡ None
-          → LeadsOn (l g codes is p f) p place piece 3 (gone_at g node x v) (Visit v)
+          → LeadsOn (l g codes is p f) p place piece 3 (gone_at g node x v) (word_at g.text v.pc) (Visit v)
       goes v e live =
-          subst (λ (gone : List ℕ). LeadsOn (l g codes is p f) p place piece 3 gone (Visit v)) (sym completes)
+          subst (λ (gone : List ℕ). LeadsOn (l g codes is p f) p place piece 3 gone
+          (word_at g.text v.pc) (Visit v)) (sym completes)
           (by (word_at g.text x.npc) refl)
         where
           after : Node
@@ -201,12 +202,13 @@ module _ (g : Setting) (codes : ℕ → List ℕ) (is : IsText g.text) (p : Plac
               (not_landed g.text (graph_in g) (way_in g codes is p f x) v.pc other)
 
           by : (o : Option ℕ) → word_at g.text x.npc ≡ o
-              → LeadsOn (l g codes is p f) p place piece 3 (way.number ∷ [])
+              → LeadsOn (l g codes is p f) p place piece 3 (way.number ∷ []) (word_at g.text v.pc)
               (visited_at g (l g codes is p f) p f after (point_of v))
           by None none =
-              subst (LeadsOn (l g codes is p f) p place piece 3 (way.number ∷ []))
+              subst (LeadsOn (l g codes is p f) p place piece 3 (way.number ∷ []) (word_at g.text v.pc))
               (sym (visited_none g codes is p f after (point_of v) (ap (word_at g.text) w.0 ∙ none) w.1 ∙ w.0))
               (inr (inr (
+                ap (word_at g.text) w.0 ∙ none,
                 npc_far,
                 ap (option_map (drop 3)) (items (far_piece x.npc)
                     (goes_out g.text (graph_in g) way.edge.to x.npc (word_at g.text x.npc)
@@ -217,6 +219,8 @@ module _ (g : Setting) (codes : ℕ → List ℕ) (is : IsText g.text) (p : Plac
                 first = way.number ∷ [];
                 others = [];
                 all = refl;
+                some = λ e. absurd (cc);
+                apart = inr refl;
                 piece = record { 0 = to };
                 rest = ap (option_map (drop 3)) (items (jump_to to)
                     (goes_begins g.text (graph_in g) way.edge.to x.npc (word_at g.text x.npc)

@@ -1,6 +1,7 @@
 -- From the visit of a transfer whose words stand in one Mark, through them, and on along the way behind them.
 use Rattle.std.proofs.Common.{◌≡◌, ℕ, suc, ◌+◌, ◌*◌, ◌%◌, ◌^◌, ◌<◌, ◌≤◌, ◌⊎◌, inl, inr, true, Some, None, List, [], ◌∷◌, length, refl, ap, sym, ◌∙◌, subst, arith}
 use Rattle.std.specs.Prelude.{◌-◌, slice_get, slice_index}
+use Rattle.eel_base.specs.CodeText.{word_at}
 use Rattle.eel_base.specs.declared.numbers.Addr.{Addr}
 use Rattle.eel_base.specs.declared.numbers.PieceNo.{PieceNo}
 use Rattle.elf32_sparc.specs.Notes.{NoteRange, node_at}
@@ -25,17 +26,17 @@ use Rattle.code_runs.specs.StoredWords.{Stores, memory_word}
 use Rattle.code_runs.specs.TwoRegisters.{IsBetween}
 use Rattle.code_runs.proofs.Hops.{stores_then}
 use Rattle.code_runs.proofs.Leads.{leads_then, leads_weaker, silent_then}
-use Rattle.layout.specs.Laid.{Placement}
+use Rattle.layout.specs.Laid.{HasShortForms, Placement}
 use Rattle.jump_code.specs.Links.{past}
 use Rattle.jump_code.specs.PageWords.{IsPageWord}
 use Rattle.jump_code.specs.Pieces.{marked_piece}
 use Rattle.image_code.specs.Simulates.{Setting, StepsOn, IsOnWay, cells_in, updates, at_point, graph_in, number_in, word_of}
 use Rattle.image_code.specs.Images.{Pieces, Frame, HasImages, Here, IsFramed, IsPlaced, visited_at}
-use Rattle.image_code.specs.Cases.{Everything, LeadsTo}
+use Rattle.image_code.specs.Cases.{LeadsTo}
 use Rattle.snippet_code.specs.Runs.{words_at}
 use Rattle.image_code.proofs.Cells.{cells_above, page_above, updates_same}
 use Rattle.image_code.proofs.Memories.{images_stored, same_stored}
-use Rattle.image_code.proofs.Cases.{Arrives, IsBare, IsFit, arrive, bare_on, can_run, hopped_fit, jump_on, node_is, on_range, on_then, quiet_of, same_at, stores_weaker}
+use Rattle.image_code.proofs.Cases.{Arrives, IsBare, IsFit, LastDead, alike_hopped, arrive, arrived, bare_on, can_run, followed_alike, jump_on, node_is, on_range, on_then, quiet_of, stores_weaker}
 use Rattle.image_code.proofs.Marked.{StandMarked, stand_marked}
 
 -- the page's words are the editor's
@@ -125,7 +126,8 @@ module _ (g : Setting) (l : Pieces) (base : ℕ) (p : Placement) (place : ℕ �
       }
 
   -- on along the way
-  on_along : (v : State) (m : Memory) (edges : List ℕ) (to : ℕ) → Through v m → LeadsTo l p way edges to
+  on_along : (v : State) (m : Memory) (edges : List ℕ) (to : ℕ) → Through v m
+      → LeadsTo l p way edges (word_at g.text v.pc) to
       → Arrives g l base p place f h edges (past t (length xs) m v) to 8
   on_along v m edges to w leads =
       let a = at_words.at in
@@ -134,19 +136,20 @@ module _ (g : Setting) (l : Pieces) (base : ℕ) (p : Placement) (place : ℕ �
       let one = jump_on g l base p place f h k (suc (suc (length xs))) way stand.jump stand.shut
       (past t (length xs) m v) fit (omega arith) in
       on_then g l base p place f h edges [] edges refl (past t (length xs) m v) (slice_index p.at way.0) to 4 4 one
-      (arrive g l base p place f h way edges (hopped (past t (length xs) m v) (slice_index p.at way.0) one.memory) to
-      (hopped_fit g l base p place f h (past t (length xs) m v) (slice_index p.at way.0) fit
-      (h.laid.aligned way.0).1 one.count one.memory one.path.steps one.stores) refl leads)
+      (arrive g l base p place f h way edges (hopped one.other (slice_index p.at way.0) one.memory)
+      (word_at g.text v.pc) to
+      (arrived g l base p place f h [] (past t (length xs) m v) (slice_index p.at way.0) 4 fit (h.laid.aligned way.0).1
+      one) refl leads)
 
-  pub goes_through : (v : State) (m : Memory) (edges : List ℕ) → 0 < length xs → length xs ≤ 8 → Through v m
-      → LeadsTo l p way edges (visited_at g l p f (node_after (graph_in g) node edges) (point_of v))
-      → StepsOn g (Here g l base p f) Everything edges node x t v
+  pub goes_through : (v : State) (m : Memory) (edges : List ℕ) → LastDead g edges → 0 < length xs → length xs ≤ 8 → Through v m
+      → LeadsTo l p way edges (word_at g.text v.pc) (visited_at g l p f (node_after (graph_in g) node edges) (point_of v))
+      → StepsOn g (Here g l base p f) (HasShortForms l.list place) edges node x t v
   unfolding On
-  goes_through v m edges some short w leads =
+  goes_through v m edges last some short w leads =
       let rest = on_along v m edges (visited_at g l p f (node_after (graph_in g) node edges) (point_of v)) w leads in
       let few = rest.few in
       let path = leads_then On t (past t (length xs) m v)
-      (hopped v (visited_at g l p f (node_after (graph_in g) node edges) (point_of v)) rest.memory)
+      (hopped rest.other (visited_at g l p f (node_after (graph_in g) node edges) (point_of v)) rest.memory)
       (length xs) rest.count
       (leads_weaker _ On t (past t (length xs) m v) (length xs) (λ u q. inl q) w.path)
       (leads_weaker _ On (past t (length xs) m v) _ rest.count (λ u q. inr q) rest.path)
@@ -155,34 +158,31 @@ module _ (g : Setting) (l : Pieces) (base : ℕ) (p : Placement) (place : ℕ �
       stores_then (IsAmongWords f.own) (IsAmongWords f.own) t.memory m rest.memory (λ z e. e)
       (own_stored g f h.frame t.memory m w.stores) rest.stores in
       let still : memory_word rest.memory (page_word 1) ≡ memory_word m (page_word 1) = rest.waits in
+      let lives : rest.other.ending ≡ None = rest.alike.ending ∙ w.live in
       record {
         count = length xs + rest.count;
-        after = hopped v (visited_at g l p f (node_after (graph_in g) node edges) (point_of v)) rest.memory;
+        after = hopped rest.other (visited_at g l p f (node_after (graph_in g) node edges) (point_of v)) rest.memory;
         path = record {
           steps = path.steps;
           some = omega arith;
           few = omega (arith, few, short);
-          quiet = quiet_of g l base p place f h node t _ (length xs + rest.count) On path w.live on_way;
+          quiet = quiet_of g l base p place f h node t _ (length xs + rest.count) On path lives on_way;
         };
         puts = λ descriptor.
             silent_then t (past t (length xs) m v) (length xs) rest.count w.path.steps w.silent rest.silent descriptor
             ∙ sym (w.quiet descriptor);
-        followed = record {
-          ending = refl;
-          window = refl;
-          valid = refl;
-          registers = refl;
-          input = refl;
-          memory = subst (λ (z : Memory). IsSameOutside (pages_of g.notes) z rest.memory) (sym w.memory)
-              (same_stored g f h.frame base p t.memory rest.memory here.memory stores);
-          items = λ _ thing _ _. same_at thing v _ refl refl refl;
-        };
-        cells = rest.cells
+        followed = followed_alike g edges v (past t (length xs) m v) (hopped rest.other (visited_at g l p f
+            (node_after (graph_in g) node edges) (point_of v)) rest.memory) refl refl refl refl refl refl refl
+            (subst (λ (z : Memory). IsSameOutside (pages_of g.notes) z rest.memory) (sym w.memory)
+            (same_stored g f h.frame base p t.memory rest.memory here.memory stores))
+            (alike_hopped g edges (past t (length xs) m v) rest.other (visited_at g l p f
+            (node_after (graph_in g) node edges) (point_of v)) rest.memory rest.alike);
+        cells = rest.cells last
             ∙ updates_same g.snips edges (words_at g.notes.base g.notes.cells m) (past t (length xs) m v) v refl
             ∙ ap (λ z. updates g.snips edges z v) (page_cells m w.stores);
         here = λ _. record {
           valid = subst IsValid path.steps (run-valid t (length xs + rest.count) here.valid);
-          live = w.live;
+          live = lives;
           at = refl;
           npc = refl;
           slot = refl;

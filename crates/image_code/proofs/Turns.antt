@@ -28,17 +28,18 @@ use Rattle.code_runs.specs.Ours.{IsAmongWords}
 use Rattle.snippet_code.specs.Runs.{words_at}
 use Rattle.layout.specs.declared.items.Item.{Item}
 use Rattle.layout.specs.declared.items.Item.TheVariants as it
-use Rattle.layout.specs.Laid.{Placement, item_at, item_in, items_in, size_of, open_in, range_in, range_of}
+use Rattle.layout.specs.Laid.{HasShortForms, Placement, item_at, item_in, items_in, size_of, open_in, range_in, range_of}
 use Rattle.layout.specs.Running.{CanRun, Goes}
 use Rattle.layout.proofs.Going.{branches_hop}
 use Rattle.image_code.specs.Simulates.{Setting, StepsOn, IsOnWay, at_point, cells_in, does_at, gone_at, graph_in, number_in, operations_on, updates}
 use Rattle.image_code.specs.Images.{Pieces, Frame, Here, IsPlaced, visited_at, visited_by}
-use Rattle.image_code.specs.Cases.{Everything, LeadsTo, branch_piece}
+use Rattle.image_code.specs.Cases.{LeadsTo, branch_piece, word_ahead}
 use Rattle.image_code.specs.Turns.{IsTurn, TurnsStep}
 use Rattle.image_code.proofs.BranchMoves.{IsMoved, branch_moves}
 use Rattle.image_code.proofs.Memories.{images_stored, same_stored}
-use Rattle.image_code.proofs.Arrives.{first_kept}
-use Rattle.image_code.proofs.Cases.{can_run, tail, arrive, quiet_of, bare_on, IsBare, IsFit, hopped_fit, Arrives, on_range, same_at, no_puts}
+use Rattle.image_code.proofs.Arrives.{first_kept, rest_marked}
+use Rattle.image_code.proofs.Dead.{IsAlike, alike_then}
+use Rattle.image_code.proofs.Cases.{LastDead, alike_hopped, alike_itself, can_run, followed_alike, gone_last, jump_then, arrive, quiet_of, bare_on, IsBare, IsFit, hopped_fit, Arrives, on_range, no_puts}
 use Rattle.image_code.proofs.Cells.{updates_same}
 
 module _ (g : Setting) (l : Pieces) (base : ℕ) (p : Placement) (place : ℕ → ℕ → ℕ) (f : Frame)
@@ -136,13 +137,15 @@ module _ (g : Setting) (l : Pieces) (base : ℕ) (p : Placement) (place : ℕ �
 
   record Comes (edges : List ℕ) (to most : ℕ) : Type 0 where
     pub count : ℕ
+    pub other : State
     pub memory : Memory
     pub some : 0 < count
     pub few : count ≤ most + 22 * operations_on g.snips edges
-    pub path : Leads IsOn t (hopped t to memory) count
+    pub path : Leads IsOn t (hopped other to memory) count
     pub silent : IsSilent t count
     pub stores : Stores (IsAmongWords f.own) t.memory memory
-    pub cells : words_at g.notes.base g.notes.cells memory ≡ updates g.snips edges (cells_in g t) t
+    pub cells : LastDead g edges → words_at g.notes.base g.notes.cells memory ≡ updates g.snips edges (cells_in g t) t
+    pub alike : IsAlike g edges t other
 
   of_hop : (to : ℕ) → Goes t to (place (l.image node c.number) 2) 2 6 → Comes [] to 6
   unfolding IsOn
@@ -152,6 +155,7 @@ module _ (g : Setting) (l : Pieces) (base : ℕ) (p : Placement) (place : ℕ �
       let ins = j.inside in
       record {
         count = j.count;
+        other = t;
         memory = j.memory;
         some = omega arith;
         few = omega arith;
@@ -159,13 +163,14 @@ module _ (g : Setting) (l : Pieces) (base : ℕ) (p : Placement) (place : ℕ �
             (omega arith, omega arith, q.stores)) j.hops.path;
         silent = j.hops.silent;
         stores = (first_kept g l base p place f h t j.memory here_fit j.hops.stores).0;
-        cells = (first_kept g l base p place f h t j.memory here_fit j.hops.stores).1.1;
+        cells = λ _. (first_kept g l base p place f h t j.memory here_fit j.hops.stores).1.1;
+        alike = alike_itself g [] t;
       }
 
   of_hop_fit : (to : ℕ) → to ≤ 2 ^ 31 → (j : Goes t to (place (l.image node c.number) 2) 2 6)
       → IsFit g l base p place f h (hopped t to j.memory)
   of_hop_fit to low j =
-      hopped_fit g l base p place f h t to here_fit low j.count j.memory j.hops.path.steps
+      hopped_fit g l base p place f h t t to here_fit here.live low j.count j.memory j.hops.path.steps
       (first_kept g l base p place f h t j.memory here_fit j.hops.stores).0
 
   -- on from where the branch leads
@@ -179,6 +184,7 @@ module _ (g : Setting) (l : Pieces) (base : ℕ) (p : Placement) (place : ℕ �
       let rfew = rest.few in
       record {
         count = k.count + rest.count;
+        other = rest.other;
         memory = rest.memory;
         some = omega arith;
         few = omega arith;
@@ -188,103 +194,97 @@ module _ (g : Setting) (l : Pieces) (base : ℕ) (p : Placement) (place : ℕ �
         silent = silent_then t (hopped t mid k.memory) k.count rest.count k.hops.path.steps k.hops.silent rest.silent;
         stores = stores_then (IsAmongWords f.own) (IsAmongWords f.own) t.memory k.memory rest.memory (λ z e. e) kept.0
             rest.stores;
-        cells = rest.cells
+        cells = λ d. rest.cells d
             ∙ updates_same g.snips edges (words_at g.notes.base g.notes.cells k.memory) (hopped t mid k.memory) t refl
             ∙ ap (λ z. updates g.snips edges z t) kept.1.1;
+        alike = alike_then g edges [] edges refl t t rest.other mid k.memory (alike_itself g [] t) rest.alike;
       }
 
-  takes : (edges : List ℕ) (to : ℕ) → Goes t (slice_index p.at c.taken) (place (l.image node c.number) 2) 2 6
-      → LeadsTo l p (record { 0 = c.taken }) edges to → Comes edges to 10
-  takes edges to j leads =
+  takes : (edges : List ℕ) (next : Option ℕ) (to : ℕ) → Goes t (slice_index p.at c.taken) (place (l.image node c.number) 2) 2 6
+      → LeadsTo l p (record { 0 = c.taken }) edges next to → Comes edges to 10
+  takes edges next to j leads =
       then_on edges (slice_index p.at c.taken) to 4 j
-      (arrive g l base p place f h (record { 0 = c.taken }) edges (hopped t (slice_index p.at c.taken) j.memory) to
+      (arrive g l base p place f h (record { 0 = c.taken }) edges (hopped t (slice_index p.at c.taken) j.memory) next to
       (of_hop_fit (slice_index p.at c.taken) (h.laid.aligned c.taken).1 j) refl leads)
 
-  passes : (edges : List ℕ) (to : ℕ) → Goes t (place (l.image node c.number) 2) (place (l.image node c.number) 2) 2 6
-      → LeadsTo l p (record { 0 = c.untaken }) edges to → Comes edges to 14
-  passes edges to j leads =
+  passes : (edges : List ℕ) (next : Option ℕ) (to : ℕ) → Goes t (place (l.image node c.number) 2) (place (l.image node c.number) 2) 2 6
+      → LeadsTo l p (record { 0 = c.untaken }) edges next to → Comes edges to 14
+  passes edges next to j leads =
       let low = h.laid.low in
       let n2 = b_inside.2 in
       then_on edges (place (l.image node c.number) 2) to 8 j
-      (tail g l base p place f h (l.image node c.number) (it.Jump (record { 0 = c.untaken }) ∷ []) c.address
-      (number_in g node) (it.Branch c.cond (record { 0 = c.taken })) c.items edges
-      (hopped t (place (l.image node c.number) 2) j.memory) to
-      (of_hop_fit (place (l.image node c.number) 2) (omega arith) j) (sym b_closes)
-      (inr (inl (record {
-        first = [];
-        others = edges;
-        all = refl;
-        piece = record { 0 = c.untaken };
-        rest = ap (option_map (drop 3)) c.items;
-        leads = leads;
-      }))))
+      (jump_then g l base p place f h (l.image node c.number) 3 (record { 0 = c.untaken })
+      (rest_marked l (l.image node c.number) c.address (number_in g node) (it.Branch c.cond (record { 0 = c.taken }))
+      (it.Jump (record { 0 = c.untaken }) ∷ []) (tt, tt) c.items) edges
+      (hopped t (place (l.image node c.number) 2) j.memory) next to
+      (of_hop_fit (place (l.image node c.number) 2) (omega arith) j) (sym b_closes) leads)
 
-  turned : (edges : List ℕ) (to most : ℕ) (v : State) → IsMoved (at_point x t) v → Comes edges to most → most ≤ 64
+  turned : (edges : List ℕ) → LastDead g edges → (to most : ℕ) (v : State) → IsMoved (at_point x t) v → Comes edges to most → most ≤ 64
       → to ≡ visited_at g l p f (node_after (graph_in g) node edges) (point_of v)
       → (v.slot ≡ Taken → same_kind (way_of (instr_at g.text (v.pc - 4)) v.slot) kinds.Out ≡ true → ⊥)
-      → StepsOn g (Here g l base p f) Everything edges node x t v
-  turned edges to most v m j bound is never =
+      → StepsOn g (Here g l base p f) (HasShortForms l.list place) edges node x t v
+  turned edges last to most v m j bound is never =
       let few = j.few in
       let stores = j.stores in
       let w : State = moved m.pc m.npc m.slot t in
       let same : v ≡ moved m.pc m.npc m.slot t = m.is in
+      let lives : j.other.ending ≡ None = j.alike.ending ∙ here.live in
       record {
         count = j.count;
-        after = hopped t to j.memory;
+        after = hopped j.other to j.memory;
         path = record {
           steps = j.path.steps;
           some = j.some;
           few = omega (arith, few, bound);
-          quiet = quiet_of g l base p place f h node t _ j.count IsOn j.path here.live on_way;
+          quiet = quiet_of g l base p place f h node t _ j.count IsOn j.path lives on_way;
         };
         puts = λ descriptor. j.silent descriptor
             ∙ sym (ap (λ (o : Option ℕ). puts_on_word (at_point x t) o descriptor) c.is_word
             ∙ ap (λ (q : Instr). puts_by (at_point x t) q descriptor) c.says
             ∙ no_puts (at_point x t) c.cond c.annul c.disp descriptor);
-        followed = record {
-          ending = sym (ap (λ (z : State). z.ending) same);
-          window = sym (ap (λ (z : State). z.window) same);
-          valid = sym (ap (λ (z : State). z.valid) same);
-          registers = sym (ap (λ (z : State). length z.registers) same);
-          input = sym (ap (λ (z : State). z.input) same);
-          memory = subst (λ (z : Memory). IsSameOutside (pages_of g.notes) z j.memory)
-              (sym (ap (λ (z : State). z.memory) same)) (same_stored g f h.frame base p t.memory j.memory here.memory stores);
-          items = λ _ thing _ _. same_at thing v (hopped t to j.memory) (ap (λ (z : State). z.registers) same)
-              (ap (λ (z : State). z.codes) same) (ap (λ (z : State). z.y) same);
-        };
-        cells = j.cells
+        followed = followed_alike g edges v t (hopped j.other to j.memory)
+            (ap (λ (z : State). z.ending) same) (ap (λ (z : State). z.window) same) (ap (λ (z : State). z.valid) same)
+            (ap (λ (z : State). z.registers) same) (ap (λ (z : State). z.codes) same) (ap (λ (z : State). z.y) same)
+            (ap (λ (z : State). z.input) same)
+            (subst (λ (z : Memory). IsSameOutside (pages_of g.notes) z j.memory)
+            (sym (ap (λ (z : State). z.memory) same))
+            (same_stored g f h.frame base p t.memory j.memory here.memory stores))
+            (alike_hopped g edges t j.other to j.memory j.alike);
+        cells = j.cells last
             ∙ updates_same g.snips edges (cells_in g t) t v (sym (ap (λ (z : State). register_of z) same));
         here = λ _. record {
           valid = subst IsValid j.path.steps (run-valid t j.count here.valid);
-          live = here.live;
+          live = lives;
           at = is;
           npc = refl;
           slot = refl;
-          memory = images_stored g f h.frame base p t (hopped t to j.memory) j.count j.path.steps stores here.memory;
+          memory = images_stored g f h.frame base p t (hopped j.other to j.memory) j.count j.path.steps stores here.memory;
           waits = λ a b. absurd (never a b);
         };
         place = λ e. absurd (e (ap (λ (z : State). z.ending) same ∙ here.live));
       }
 
   b_step : (flag : Bool) → holds_of c.cond t.codes ≡ flag
-      → StepsOn g (Here g l base p f) Everything (gone_at g node x (does_at g x t)) node x t (does_at g x t)
+      → StepsOn g (Here g l base p f) (HasShortForms l.list place) (gone_at g node x (does_at g x t)) node x t (does_at g x t)
   b_step true e =
       let to = visited_at g l p f (node_after (graph_in g) node (gone_at g node x (does_at g x t)))
       (point_of (does_at g x t)) in
       let way = subst (λ (b : Bool). Goes t (if b then slice_index p.at c.taken else place (l.image node c.number) 2)
       (place (l.image node c.number) 2) 2 6) e hop in
-      turned (gone_at g node x (does_at g x t)) to 10 (does_at g x t) (branch_moves g x t c.none c.word c.is_word c.cond c.annul c.disp c.says)
-      (takes (gone_at g node x (does_at g x t)) to way (subst (λ (b : Bool).
-      LeadsTo l p (record { 0 = if b then c.taken else c.untaken }) (gone_at g node x (does_at g x t)) to) e c.leads))
+      turned (gone_at g node x (does_at g x t)) (gone_last g l f h.cells node x (does_at g x t)) to 10 (does_at g x t) (branch_moves g x t c.none c.word c.is_word c.cond c.annul c.disp c.says)
+      (takes (gone_at g node x (does_at g x t)) (word_ahead g x t) to way (subst (λ (b : Bool).
+      LeadsTo l p (record { 0 = if b then c.taken else c.untaken }) (gone_at g node x (does_at g x t)) (word_ahead g x t) to) e
+      c.leads))
       (omega arith) refl c.never
   b_step false e =
       let to = visited_at g l p f (node_after (graph_in g) node (gone_at g node x (does_at g x t)))
       (point_of (does_at g x t)) in
       let way = subst (λ (b : Bool). Goes t (if b then slice_index p.at c.taken else place (l.image node c.number) 2)
       (place (l.image node c.number) 2) 2 6) e hop in
-      turned (gone_at g node x (does_at g x t)) to 14 (does_at g x t) (branch_moves g x t c.none c.word c.is_word c.cond c.annul c.disp c.says)
-      (passes (gone_at g node x (does_at g x t)) to way (subst (λ (b : Bool).
-      LeadsTo l p (record { 0 = if b then c.taken else c.untaken }) (gone_at g node x (does_at g x t)) to) e c.leads))
+      turned (gone_at g node x (does_at g x t)) (gone_last g l f h.cells node x (does_at g x t)) to 14 (does_at g x t) (branch_moves g x t c.none c.word c.is_word c.cond c.annul c.disp c.says)
+      (passes (gone_at g node x (does_at g x t)) (word_ahead g x t) to way (subst (λ (b : Bool).
+      LeadsTo l p (record { 0 = if b then c.taken else c.untaken }) (gone_at g node x (does_at g x t)) (word_ahead g x t) to) e
+      c.leads))
       (omega arith) refl c.never
 
 pub turns_step : TurnsStep

@@ -162,7 +162,8 @@ module _ (g : Setting) (codes : ℕ → List ℕ) (is : IsText g.text) (p : Plac
   -- the way of the edge on which a slot is run leads to where that is visited
   pub enters : IsTable f.table → (node : Node) (x : Point) → x.slot ≢ NoSlot
       → IsOnItsWay g.text (graph_in g) node x (way_in x) → (kind : EdgeKind) → way_in x ≡ kind
-      → LeadsTo l p (record { 0 = way_out g.text (graph_in g) node kind }) [] (visited_at g l p f node x)
+      → LeadsTo l p (record { 0 = way_out g.text (graph_in g) node kind }) [] (word_at g.text x.pc)
+      (visited_at g l p f node x)
   enters whole node x slot way kind same = by (word_at g.text x.pc) refl
     where
       own : (is_fall (way_in x) ≡ false) × (same_kind (way_in x) kinds.Land ≡ false)
@@ -174,7 +175,8 @@ module _ (g : Setting) (codes : ℕ → List ℕ) (is : IsText g.text) (p : Plac
           ∙ ap (first_way g.text (graph_in g)) way.only
 
       by : (o : Option ℕ) → word_at g.text x.pc ≡ o
-          → LeadsTo l p (record { 0 = way_out g.text (graph_in g) node kind }) [] (visited_at g l p f node x)
+          → LeadsTo l p (record { 0 = way_out g.text (graph_in g) node kind }) [] (word_at g.text x.pc)
+          (visited_at g l p f node x)
       by (Some word) e =
           inl (
             refl,
@@ -184,8 +186,10 @@ module _ (g : Setting) (codes : ℕ → List ℕ) (is : IsText g.text) (p : Plac
                 ∙ sym (visited_slot node x word e slot),
           )
       by None e =
-          subst (LeadsTo l p (record { 0 = way_out g.text (graph_in g) node kind }) []) (sym (visited_off node x e slot))
+          subst (LeadsTo l p (record { 0 = way_out g.text (graph_in g) node kind }) [] (word_at g.text x.pc))
+          (sym (visited_off node x e slot))
           (inr (inr (
+            e,
             table_far whole,
             ap (slice_get l.list) number
                 ∙ items_along g is f.table.base codes node (way_in x) way.number way.edge

@@ -17,7 +17,7 @@ use Rattle.jump_code.specs.Pieces.{call_piece, jump_piece}
 use Rattle.layout.specs.Laid.{HasShortForms, Placement}
 use Rattle.image_code.specs.Simulates.{Setting, StepsOn, does_at, gone_at, number_in, word_of}
 use Rattle.image_code.specs.Images.{Pieces, Frame, Here, IsPlaced, visited_at}
-use Rattle.image_code.specs.Cases.{LeadsTo, next_visit}
+use Rattle.image_code.specs.Cases.{LeadsTo, next_visit, word_ahead}
 use Rattle.image_code.specs.Turns.{IsNoJumpsSlot}
 
 -- ---- a CALL
@@ -37,7 +37,7 @@ pub record IsCall (g : Setting) (l : Pieces) (p : Placement) (f : Frame)
   pub says : decode_of word ≡ i.Call disp
   pub way : PieceNo
   pub items : slice_get l.list piece ≡ Some (call_piece address (number_in g node) way)
-  pub leads : LeadsTo l p way (gone_at g node x (does_at g x t)) (next_visit g l p f node x t)
+  pub leads : LeadsTo l p way (gone_at g node x (does_at g x t)) (word_ahead g x t) (next_visit g l p f node x t)
   pub never : IsNoJumpsSlot g (does_at g x t)
 
 abbrev pub CallsStep : Type 0
@@ -71,7 +71,8 @@ pub record IsJump (g : Setting) (l : Pieces) (p : Placement) (f : Frame)
   pub in_range : op2_in_range op2 ≡ true
   pub way : PieceNo
   pub items : slice_get l.list piece ≡ Some (jump_piece scratch rd rs1 op2 address (number_in g node) way)
-  pub leads : (does_at g x t).ending ≡ None → LeadsTo l p way (gone_at g node x (does_at g x t)) (next_visit g l p f node x t)
+  pub leads : (does_at g x t).ending ≡ None
+      → LeadsTo l p way (gone_at g node x (does_at g x t)) (word_ahead g x t) (next_visit g l p f node x t)
 
 abbrev pub JumpsStep : Type 0
 JumpsStep =

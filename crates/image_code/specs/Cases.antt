@@ -2,6 +2,7 @@
 use Rattle.std.specs.Prelude.{◌≡◌, ◌≢◌, ℕ, ◌+◌, ◌%◌, ◌^◌, ◌<◌, ◌⊎◌, false, List, [], ◌∷◌, ◌++◌, drop, length, map, Option, Some, None, slice_get, slice_index}
 use Rattle.std.specs.List.{flat_map}
 use Rattle.std.specs.Option.{option_map}
+use Rattle.eel_base.specs.CodeText.{word_at}
 use Rattle.eel_base.specs.declared.numbers.Addr.{Addr}
 use Rattle.eel_base.specs.declared.numbers.PieceNo.{PieceNo}
 use Rattle.elf32_sparc.specs.Notes.{node_at}
@@ -29,6 +30,10 @@ next_visit g l p f node x t =
     let v = does_at g x t in
     visited_at g l p f (node_after (graph_in g) node (gone_at g node x v)) (point_of v)
 
+-- and at which word of the text that goes on, if at any
+abbrev pub word_ahead : Setting → Point → State → Option ℕ
+word_ahead g x t = word_at g.text (does_at g x t).pc
+
 -- an address to which a long jump can lead
 abbrev pub IsFar : ℕ → Type 0
 IsFar to = (to < 2 ^ 32) × (to % 4 ≡ 0)
@@ -38,20 +43,22 @@ abbrev pub words_on : Pieces → List ℕ → List Item
 words_on l edges = map it.Word (flat_map l.codes edges)
 
 -- Control that comes to a piece goes on to an address, through the snippets of some edges: the piece stands there, or what
--- is behind the snippets' words is a Jump to a piece that does, or a long jump to the address itself.
-abbrev pub LeadsTo : Pieces → Placement → PieceNo → List ℕ → ℕ → Type 0
-LeadsTo l p piece edges to =
+-- is behind the snippets' words is a Jump to a piece that does, or a long jump to the address itself, where the original
+-- goes on at no word of the text.
+abbrev pub LeadsTo : Pieces → Placement → PieceNo → List ℕ → Option ℕ → ℕ → Type 0
+LeadsTo l p piece edges next to =
     ((edges ≡ []) × (slice_index p.at piece.0 ≡ to))
     ⊎ (((z : PieceNo) × (slice_get l.list piece.0 ≡ Some (words_on l edges ++ it.Jump z ∷ []))
     × (slice_index p.at z.0 ≡ to))
-    ⊎ (IsFar to × (slice_get l.list piece.0 ≡ Some (words_on l edges ++ far_piece to))))
+    ⊎ ((next ≡ None) × IsFar to × (slice_get l.list piece.0 ≡ Some (words_on l edges ++ far_piece to))))
 
 -- the rest of a piece from its item n on
 abbrev pub rest_from : Pieces → ℕ → ℕ → Option (List Item)
 rest_from l k n = option_map (drop n) (slice_get l.list k)
 
 -- A Jump behind the snippets of the first of some edges leads to a piece that goes on through those of the others.
-pub record JumpsOn (l : Pieces) (p : Placement) (k n : ℕ) (edges : List ℕ) (to : ℕ) : Type 0 where
+pub record JumpsOn (l : Pieces) (p : Placement) (k n : ℕ) (edges : List ℕ) (next : Option ℕ) (to : ℕ)
+    : Type 0 where
   pub first : List ℕ
   pub others : List ℕ
   pub all : edges ≡ first ++ others
@@ -60,15 +67,16 @@ pub record JumpsOn (l : Pieces) (p : Placement) (k n : ℕ) (edges : List ℕ) (
   pub apart : (first ≡ []) ⊎ (others ≡ [])
   pub piece : PieceNo
   pub rest : rest_from l k n ≡ Some (words_on l first ++ it.Jump piece ∷ [])
-  pub leads : LeadsTo l p piece others to
+  pub leads : LeadsTo l p piece others next to
 
 -- From its item n on, a piece goes on to an address, through the snippets of some edges: it ends behind them and the next
--- piece begins there, or a Jump leads on, or a long jump is all that is left.
-abbrev pub LeadsOn : Pieces → Placement → (ℕ → ℕ → ℕ) → ℕ → ℕ → List ℕ → ℕ → Type 0
-LeadsOn l p place k n edges to =
+-- piece begins there, or a Jump leads on, or a long jump is all that is left, where the original goes on at no word of the
+-- text.
+abbrev pub LeadsOn : Pieces → Placement → (ℕ → ℕ → ℕ) → ℕ → ℕ → List ℕ → Option ℕ → ℕ → Type 0
+LeadsOn l p place k n edges next to =
     ((rest_from l k n ≡ Some (words_on l edges)) × (place k (n + length (flat_map l.codes edges)) ≡ to))
-    ⊎ (JumpsOn l p k n edges to
-    ⊎ (IsFar to × (rest_from l k n ≡ Some (words_on l edges ++ far_piece to))))
+    ⊎ (JumpsOn l p k n edges next to
+    ⊎ ((next ≡ None) × IsFar to × (rest_from l k n ≡ Some (words_on l edges ++ far_piece to))))
 
 -- ---- a plain word, or the copy of a slot's word
 
@@ -89,7 +97,8 @@ pub record IsPlain (g : Setting) (l : Pieces) (p : Placement) (place : ℕ → �
   pub rest : List Item
   pub items : slice_get l.list piece ≡ Some (plain_piece address (number_in g node) word rest)
   -- where the walk goes on, there the piece leads
-  pub leads : (does_at g x t).ending ≡ None → LeadsOn l p place piece 3 (gone_at g node x (does_at g x t)) (next_visit g l p f node x t)
+  pub leads : (does_at g x t).ending ≡ None
+      → LeadsOn l p place piece 3 (gone_at g node x (does_at g x t)) (word_ahead g x t) (next_visit g l p f node x t)
 
 abbrev pub PlainsVisit : Type 0
 PlainsVisit =

@@ -48,7 +48,7 @@ pub data IsCase (g : Setting) (l : Pieces) (base : ℕ) (p : Placement) (place :
   plain : IsPlain g l p place f node x t → IsCase g l base p place f node x t
   couple : IsCouple g l p f node x → IsCase g l base p place f node x t
   turn : IsTurn g l p f node x t → IsCase g l base p place f node x t
-  idle : IsIdle g l p place f node x t → IsCase g l base p place f node x t
+  idle : IsIdle g l p f node x t → IsCase g l base p place f node x t
   call : IsCall g l p f node x t → IsCase g l base p place f node x t
   jump : IsJump g l p f node x t → IsCase g l base p place f node x t
   landing : IsJumpsSlot g l p f node x t → IsCase g l base p place f node x t

@@ -27,7 +27,7 @@ use Rattle.image_code.specs.Cases.{LeadsTo, next_visit, words_on}
 abbrev pub Lands : Setting → Pieces → Placement → Frame → List ℕ → ℕ → ℕ → Type 0
 Lands g l p f edges target visit =
     ((piece : PieceNo) × (piece.0 < length l.list) × (looked_up f.table target ≡ slice_index p.at piece.0)
-    × LeadsTo l p piece edges visit)
+    × LeadsTo l p piece edges (word_at g.text target) visit)
     ⊎ ((edges ≡ []) × ((piece : PieceNo) × (piece.0 < length l.list)
     × (looked_up f.table target ≡ slice_index p.at piece.0)
     × (slice_get l.list piece.0 ≡ Some foreign_piece) × (word_at g.text target ≡ None)))

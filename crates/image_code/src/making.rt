@@ -11,6 +11,7 @@ ghost use Rattle.cfg_normal.specs.Numbers.{node_number as node_number_of};
 ghost use Rattle.image_code.specs.Codes.{CodeDoes};
 ghost use Rattle.image_code.specs.Made.{foreign_number as foreign_number_of, goes_on, image as image_of, landing as landing_of, landing_number, next_to, own_edges as own_edges_of, piece_list, ways_from};
 ghost use Rattle.image_code.specs.Parts.{IsGraphOf, codes_of, copy_with, first_way_of, image_in, items_of, landing_with, way_with};
+ghost use Rattle.liveness.specs.Sets.{dead_on};
 ghost use Rattle.snippet_code.specs.Laws.{EndLow};
 ghost use Rattle.v8_decode.specs.Words.{decode_of};
 
@@ -19,12 +20,13 @@ use crate::parts::{
 };
 use cfg_blocks::EdgeKind;
 use cfg_normal::{Edge, FlowGraph, Node, Slot};
-use eel_base::{Addr, BlockNo, NoMemory, PieceNo, Text, WordNo};
+use eel_base::{Addr, BlockNo, EdgeNo, NoMemory, PieceNo, Text, WordNo};
 use layout::Piece;
+use liveness::LiveSets;
 use snippet_code::expand;
 use snippets::Snippet;
 use std::alloc::Global;
-use v8_decode::{Instr, RegSet, decode};
+use v8_decode::{Instr, decode};
 
 /// What the pieces use of memory: the cells that snippets count in, and the table that leads from addresses of the
 /// original to new code.
@@ -53,6 +55,7 @@ pub fn pieces(
     graph: &FlowGraph,
     entry: WordNo,
     snips: &[Snippet],
+    live: &LiveSets,
     frame: Frame,
 ) -> Result<PieceList, NoMemory>
     requires graph { IsGraphOf text.now graph.now }
@@ -63,17 +66,17 @@ pub fn pieces(
     requires table { frame.table.0 % 4096 ≡ 0 }
     requires low { frame.table.0 < 2 ^ 31 }
     ensures list { IfOk result (λ p. p.list.items
-        ≡ piece_list text.now graph.now frame.table.0 (codes_of frame.cells.0 snips.now)) }
-    ensures codes { IfOk result (λ p. (edge : ℕ) → CodeDoes frame.cells.0 snips.now edge) }
+        ≡ piece_list text.now graph.now frame.table.0 (codes_of frame.cells.0 (dead_on live.now) snips.now)) }
+    ensures codes { IfOk result (λ p. (edge : ℕ) → CodeDoes frame.cells.0 (dead_on live.now) snips.now edge) }
     ensures landing { IfOk result (λ p. map (λ (n : PieceNo). n.0) p.landing.items
         ≡ map (landing_number text.now graph.now) (below (length text.now.words))) }
     ensures entry { IfOk result (λ p. p.entry.0 ≡ entry.0) }
     ensures foreign { IfOk result (λ p. p.foreign.0 ≡ foreign_number_of text.now graph.now) }
 {
     let mut list = Vec::new(alloc);
-    push_images(alloc, &mut list, text, graph, snips, frame.cells)?;
-    push_ways(alloc, &mut list, text, graph, snips, frame)?;
-    push_landings(alloc, &mut list, text, graph, snips, frame.cells)?;
+    push_images(alloc, &mut list, text, graph, snips, live, frame.cells)?;
+    push_ways(alloc, &mut list, text, graph, snips, live, frame)?;
+    push_landings(alloc, &mut list, text, graph, snips, live, frame.cells)?;
     list.push(foreign(alloc)?)?;
     let landing = landings(alloc, text, graph)?;
     Ok(PieceList {
@@ -84,16 +87,22 @@ pub fn pieces(
     })
 }
 
-// The code of the snippet on an edge, where all registers may be alive.
-fn code_on(alloc: Global, snips: &[Snippet], cells: Addr, edge: usize) -> Result<Vec<u32>, NoMemory>
-    requires edge { edge < length snips.now }
+// The code of the snippet on an edge, which may use what is dead behind it.
+fn code_on(
+    alloc: Global,
+    snips: &[Snippet],
+    live: &LiveSets,
+    cells: Addr,
+    edge: EdgeNo,
+) -> Result<Vec<u32>, NoMemory>
+    requires edge { edge.0 < length snips.now }
     requires aligned { cells.0 % 4 ≡ 0 }
     requires cells { All (λ ops. EndLow cells.0 ops) snips.now }
-    ensures code { IfOk result (λ code. code.items ≡ codes_of cells.0 snips.now edge) }
-    ensures does { IfOk result (λ code. CodeDoes cells.0 snips.now edge) }
+    ensures code { IfOk result (λ code. code.items ≡ codes_of cells.0 (dead_on live.now) snips.now edge.0) }
+    ensures does { IfOk result (λ code. CodeDoes cells.0 (dead_on live.now) snips.now edge.0) }
 {
-    let snippet = &snips[edge];
-    expand(alloc, snippet, cells, RegSet::empty(), snippet.names())
+    let snippet = &snips[edge.0 as usize];
+    expand(alloc, snippet, cells, live.dead_on(edge), snippet.names())
 }
 
 // The edges but for the landings, which come last, one at each block.
@@ -116,6 +125,7 @@ fn push_images(
     text: &Text,
     graph: &FlowGraph,
     snips: &[Snippet],
+    live: &LiveSets,
     cells: Addr,
 ) -> Result<(), NoMemory>
     requires graph { IsGraphOf text.now graph.now }
@@ -125,12 +135,22 @@ fn push_images(
     requires cells { All (λ ops. EndLow cells.0 ops) snips.now }
     ensures text { IsText text.now }
     ensures images { OnOk result (list.new.items
-        ≡ map (image_of text.now graph.now (codes_of cells.0 snips.now)) (below (length text.now.words))) }
+        ≡ map (image_of text.now graph.now (codes_of cells.0 (dead_on live.now) snips.now)) (below (length text.now.words))) }
 {
     let mut way = text.len();
     for block in 0..graph.count() {
         let block = BlockNo(block);
-        push_block(alloc, list, text, graph, snips, cells, block, PieceNo(way))?;
+        push_block(
+            alloc,
+            list,
+            text,
+            graph,
+            snips,
+            live,
+            cells,
+            block,
+            PieceNo(way),
+        )?;
         way += edges_out(text, graph, block);
     }
     Ok(())
@@ -163,6 +183,7 @@ fn push_block(
     text: &Text,
     graph: &FlowGraph,
     snips: &[Snippet],
+    live: &LiveSets,
     cells: Addr,
     block: BlockNo,
     way: PieceNo,
@@ -174,10 +195,10 @@ fn push_block(
     requires block { block.0 < length graph.now.blocks.firsts }
     requires way { way.0 ≡ first_way_of text.now graph.now block.0 }
     requires before { list.now.items
-        ≡ map (image_of text.now graph.now (codes_of cells.0 snips.now))
+        ≡ map (image_of text.now graph.now (codes_of cells.0 (dead_on live.now) snips.now))
         (below (slice_index graph.now.blocks.firsts block.0)) }
     ensures { OnOk result (list.new.items
-        ≡ map (image_of text.now graph.now (codes_of cells.0 snips.now))
+        ≡ map (image_of text.now graph.now (codes_of cells.0 (dead_on live.now) snips.now))
         (below (last_word_of graph.now.blocks.firsts graph.now.blocks.words block.0 + 1))) }
 {
     let edge = way.0 - text.len();
@@ -185,7 +206,7 @@ fn push_block(
     for word in graph.first(block).0..last.0 {
         list.push(image(alloc, text, WordNo(word), block, way, &[])?)?;
     }
-    let code = code_on(alloc, snips, cells, edge as usize)?;
+    let code = code_on(alloc, snips, live, cells, EdgeNo(edge))?;
     list.push(image(alloc, text, last, block, way, &code)?)?;
     Ok(())
 }
@@ -235,6 +256,7 @@ fn push_ways(
     text: &Text,
     graph: &FlowGraph,
     snips: &[Snippet],
+    live: &LiveSets,
     frame: Frame,
 ) -> Result<(), NoMemory>
     requires text { IsText text.now }
@@ -244,12 +266,12 @@ fn push_ways(
     requires cells { All (λ ops. EndLow frame.cells.0 ops) snips.now }
     requires table { frame.table.0 % 4096 ≡ 0 }
     ensures codes { OnOk result ((edge : ℕ) → edge < length (own_edges_of graph.now)
-        → CodeDoes frame.cells.0 snips.now (0 + edge)) }
+        → CodeDoes frame.cells.0 (dead_on live.now) snips.now (0 + edge)) }
     ensures ways { OnOk result (list.new.items ≡ list.old.items
-        ++ ways_from text.now graph.now frame.table.0 (codes_of frame.cells.0 snips.now) 0 (own_edges_of graph.now)) }
+        ++ ways_from text.now graph.now frame.table.0 (codes_of frame.cells.0 (dead_on live.now) snips.now) 0 (own_edges_of graph.now)) }
 {
     for (number, edge) in own_edges(graph).iter().enumerate() {
-        let code = code_on(alloc, snips, frame.cells, number)?;
+        let code = code_on(alloc, snips, live, frame.cells, EdgeNo(number as u32))?;
         list.push(way(alloc, text, graph, frame.table, edge, &code)?)?;
     }
     Ok(())
@@ -400,6 +422,7 @@ fn push_landings(
     text: &Text,
     graph: &FlowGraph,
     snips: &[Snippet],
+    live: &LiveSets,
     cells: Addr,
 ) -> Result<(), NoMemory>
     requires text { IsText text.now }
@@ -408,13 +431,13 @@ fn push_landings(
     requires aligned { cells.0 % 4 ≡ 0 }
     requires cells { All (λ ops. EndLow cells.0 ops) snips.now }
     ensures codes { OnOk result ((block : ℕ) → block < length graph.now.blocks.firsts
-        → CodeDoes cells.0 snips.now (length (own_edges_of graph.now) + block)) }
+        → CodeDoes cells.0 (dead_on live.now) snips.now (length (own_edges_of graph.now) + block)) }
     ensures landings { OnOk result (list.new.items ≡ list.old.items
-        ++ map (landing_of text.now graph.now (codes_of cells.0 snips.now)) (below (length text.now.words))) }
+        ++ map (landing_of text.now graph.now (codes_of cells.0 (dead_on live.now) snips.now)) (below (length text.now.words))) }
 {
-    let first = own_edges(graph).len();
+    let first = own_edges(graph).len() as u32;
     for block in 0..graph.count() {
-        let code = code_on(alloc, snips, cells, first + block as usize)?;
+        let code = code_on(alloc, snips, live, cells, EdgeNo(first + block))?;
         push_block_landings(alloc, list, graph, BlockNo(block), &code)?;
     }
     Ok(())

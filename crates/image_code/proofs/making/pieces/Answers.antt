@@ -2,6 +2,7 @@ use Rattle.std.proofs.Common.{◌≡◌, ◌+◌, List, [], ◌∷◌, ◌++◌,
 use Rattle.cfg_blocks.specs.Blocks.{below}
 use Rattle.layout.specs.declared.items.Item.{Item}
 use Rattle.jump_code.specs.Pieces.{foreign_piece}
+use Rattle.liveness.specs.Sets.{dead_on}
 use Rattle.image_code.specs.Codes.{CodeDoes}
 use Rattle.image_code.specs.Made.{landing, own_edges, piece_list, ways_from}
 use Rattle.image_code.specs.Parts.{codes_of}
@@ -14,7 +15,7 @@ returns-clause-list c =
     let text = c.args.text.now in
     let graph = c.args.graph.now in
     let table = c.args.frame.table.0 in
-    let codes = codes_of c.args.frame.cells.0 c.args.snips.now in
+    let codes = codes_of c.args.frame.cells.0 (dead_on c.args.live.now) c.args.snips.now in
     c.in_ok-push.ensures.items
     ∙ ap (λ (items : List Item). c.push_landings.new.list.items ++ items ∷ []) c.in_ok-foreign.ensures
     ∙ ap (λ (pieces : List (List Item)). pieces ++ foreign_piece ∷ [])
@@ -26,8 +27,8 @@ returns-clause-list c =
 
 pub returns-clause-codes : goal.returns-clause-codes
 returns-clause-codes c =
-    all_do c.args.frame.cells.0 c.args.snips.now c.requires.aligned c.args.text.now c.args.graph.now c.requires.graph
+    all_do c.args.frame.cells.0 (dead_on c.args.live.now) c.args.snips.now c.requires.aligned c.args.text.now c.args.graph.now c.requires.graph
     c.requires.snips
-    (λ edge l. subst (CodeDoes c.args.frame.cells.0 c.args.snips.now)
+    (λ edge l. subst (CodeDoes c.args.frame.cells.0 (dead_on c.args.live.now) c.args.snips.now)
     (let e : 0 + edge ≡ edge = omega arith in e) (c.in_ok-push_ways.ensures.codes edge l))
     c.in_ok-push_landings.ensures.codes

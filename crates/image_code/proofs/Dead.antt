@@ -1,0 +1,239 @@
+-- What is dead on a way along some edges: only behind the snippet of the last of them, so that no snippet reads a register
+-- that an earlier one left with anything else.
+use Rattle.std.proofs.Common.{◌≡◌, ℕ, ◌<◌, ◌≤◌, ◌⊎◌, inl, inr, Bool, true, false, ◌&&◌, Option, Some, None, List, [], ◌∷◌, ◌++◌, length, refl, ap, sym, ◌∙◌, subst, arith}
+use Rattle.std.specs.Prelude.{if◌then◌else◌, ◌==◌, ◌-◌, get_or, slice_get, slice_index}
+use Rattle.std.specs.List.{position}
+use Rattle.std.specs.Option.{option_to_list}
+use Rattle.std.proofs.lemmas.Bool.{and_parts}
+use Rattle.std.proofs.lemmas.List.Quantifiers.{position-Some}
+use Rattle.std.proofs.lemmas.Option.{slice_get_cases}
+use Rattle.eel_base.specs.CodeText.{word_at}
+use Rattle.v8_decode.specs.declared.Instr.{Instr}
+use Rattle.v8_decode.specs.declared.Instr.TheVariants as i
+use Rattle.v8_decode.specs.Words.{decode_of}
+use Rattle.v8_memory.specs.Regions.{Memory}
+use Rattle.v8_memory.specs.Spans.{IsSameOutside}
+use Rattle.v8_step.specs.declared.Ending.{Ending}
+use Rattle.v8_step.specs.declared.Slot.{Slot}
+use Rattle.v8_step.specs.declared.Slot.TheVariants.{NoSlot, Taken, Untaken}
+use Rattle.v8_step.specs.State.{State}
+use Rattle.v8_step.specs.Visits.{pages_of}
+use Rattle.v8_step.specs.Items.{Item as Thing, Register, Codes, YRegister, IsSameAt}
+use Rattle.cfg_blocks.specs.declared.EdgeKind.{EdgeKind}
+use Rattle.cfg_blocks.specs.declared.EdgeKind.TheVariants as kinds
+use Rattle.cfg_normal.specs.declared.Edge.{Edge}
+use Rattle.cfg_normal.specs.declared.Node.{Node}
+use Rattle.cfg_normal.specs.declared.Node.TheVariants.{X}
+use Rattle.cfg_normal.specs.declared.Slot.TheVariants.{Nothing}
+use Rattle.cfg_walk.specs.Walk.{Point, completed, edge_along, edge_from, gone, instr_at, landed, leads_along, left_at, left_by, point_of, same_kind, same_node, slot_left, unless_ended, way_of, way_to}
+use Rattle.code_runs.specs.Hops.{hopped}
+use Rattle.image_code.specs.Simulates.{IsFollowedBy, IsKept, Setting, gone_at, graph_in, is_out}
+use Rattle.image_code.specs.Images.{Frame, HasCells, Pieces}
+use Rattle.image_code.proofs.Between.{same_at}
+
+-- ---- lists of edges
+
+-- nothing is dead behind any of some edges
+abbrev pub NothingDead : Setting → List ℕ → Type 0
+NothingDead g [] = Unit {0}
+NothingDead g (edge ∷ edges) = (g.dead edge ≡ []) × NothingDead g edges
+
+-- something is dead behind the last one at most
+abbrev pub LastDead : Setting → List ℕ → Type 0
+LastDead g [] = Unit {0}
+LastDead g (edge ∷ edges) = ((edges ≡ []) ⊎ (g.dead edge ≡ [])) × LastDead g edges
+
+none_behind : (first others : List ℕ) → first ++ others ≡ [] → (first ≡ []) × (others ≡ [])
+none_behind [] others e = (refl, e)
+none_behind (edge ∷ first) others e = absurd (cc)
+
+pub last_parted : (g : Setting) (first others : List ℕ) → LastDead g (first ++ others)
+    → (others ≡ []) ⊎ NothingDead g first
+last_parted g [] others d = inr tt
+last_parted g (edge ∷ first) others (inl e, more) = inl (none_behind first others e).1
+last_parted g (edge ∷ first) others (inr e, more) = elim (last_parted g first others more) [
+  | inl none ↦ inl none
+  | inr nothing ↦ inr (e, nothing)
+]
+
+pub last_first : (g : Setting) (first others : List ℕ) → LastDead g (first ++ others) → LastDead g first
+last_first g [] others d = tt
+last_first g (edge ∷ first) others (inl e, more) = (inl (none_behind first others e).0, last_first g first others more)
+last_first g (edge ∷ first) others (inr e, more) = (inr e, last_first g first others more)
+
+pub last_others : (g : Setting) (first others : List ℕ) → LastDead g (first ++ others) → LastDead g others
+last_others g [] others d = d
+last_others g (edge ∷ first) others d = last_others g first others d.1
+
+pub nothing_parted : (g : Setting) (first others : List ℕ) → NothingDead g (first ++ others)
+    → NothingDead g first × NothingDead g others
+nothing_parted g [] others d = (tt, d)
+nothing_parted g (edge ∷ first) others d = let more = nothing_parted g first others d.1 in ((d.0, more.0), more.1)
+
+pub kept_parted : (g : Setting) (first others : List ℕ) (window : ℕ) (item : Thing)
+    → IsKept g (first ++ others) window item → IsKept g first window item × IsKept g others window item
+kept_parted g [] others window item k = (tt, k)
+kept_parted g (edge ∷ first) others window item k =
+    let more = kept_parted g first others window item k.1 in
+    ((k.0, more.0), more.1)
+
+-- ---- states
+
+-- The same but for what is dead behind one of some edges, for the place and for memory.
+pub record IsAlike (g : Setting) (edges : List ℕ) (a b : State) : Type 0 where
+  pub ending : b.ending ≡ a.ending
+  pub window : b.window ≡ a.window
+  pub valid : b.valid ≡ a.valid
+  pub input : b.input ≡ a.input
+  pub registers : length b.registers ≡ length a.registers
+  pub items : (item : Thing) → IsKept g edges a.window item → IsSameAt item a b
+
+pub alike_itself : (g : Setting) (edges : List ℕ) (a : State) → IsAlike g edges a a
+alike_itself g edges a = record {
+  ending = refl;
+  window = refl;
+  valid = refl;
+  input = refl;
+  registers = refl;
+  items = λ item _. same_at item a a refl refl refl;
+}
+
+-- the place and memory are none of its items
+pub same_hopped : (item : Thing) (a b : State) (to : ℕ) (m : Memory) → IsSameAt item a b
+    → IsSameAt item a (hopped b to m)
+same_hopped (Register n) a b to m e = e
+same_hopped Codes a b to m e = e
+same_hopped YRegister a b to m e = e
+
+pub same_from : (item : Thing) (a b c : State) → a.registers ≡ b.registers → a.codes ≡ b.codes → a.y ≡ b.y
+    → IsSameAt item b c → IsSameAt item a c
+same_from (Register n) a b c e f h same = ap (λ z. slice_index z n) e ∙ same
+same_from Codes a b c e f h same = f ∙ same
+same_from YRegister a b c e f h same = h ∙ same
+
+same_then : (item : Thing) (a b c : State) (to : ℕ) (m : Memory) → IsSameAt item a b
+    → IsSameAt item (hopped b to m) c → IsSameAt item a c
+same_then (Register n) a b c to m e f = e ∙ f
+same_then Codes a b c to m e f = e ∙ f
+same_then YRegister a b c to m e f = e ∙ f
+
+pub alike_hopped : (g : Setting) (edges : List ℕ) (a b : State) (to : ℕ) (m : Memory) → IsAlike g edges a b
+    → IsAlike g edges a (hopped b to m)
+alike_hopped g edges a b to m one = record {
+  ending = one.ending;
+  window = one.window;
+  valid = one.valid;
+  input = one.input;
+  registers = one.registers;
+  items = λ item kept. same_hopped item a b to m (one.items item kept);
+}
+
+-- what is alike to a state with the items of the original follows it
+pub followed_alike : (g : Setting) (edges : List ℕ) (v a after : State) → v.ending ≡ a.ending → v.window ≡ a.window
+    → v.valid ≡ a.valid → v.registers ≡ a.registers → v.codes ≡ a.codes → v.y ≡ a.y → v.input ≡ a.input
+    → IsSameOutside (pages_of g.notes) v.memory after.memory → IsAlike g edges a after
+    → IsFollowedBy (pages_of g.notes) (IsKept g edges v.window) v after
+followed_alike g edges v a after e1 e2 e3 e4 e5 e6 e7 outside alike = record {
+  ending = alike.ending ∙ sym e1;
+  window = alike.window ∙ sym e2;
+  valid = alike.valid ∙ sym e3;
+  registers = alike.registers ∙ sym (ap length e4);
+  input = alike.input ∙ sym e7;
+  memory = outside;
+  items = λ _ item _ kept.
+      same_from item v a after e4 e5 e6 (alike.items item (subst (λ z. IsKept g edges z item) e2 kept));
+}
+
+pub alike_then : (g : Setting) (edges first others : List ℕ) → edges ≡ first ++ others → (a b c : State) (to : ℕ)
+    (m : Memory) → IsAlike g first a b → IsAlike g others (hopped b to m) c → IsAlike g edges a c
+alike_then g edges first others all a b c to m one other = record {
+  ending = other.ending ∙ one.ending;
+  window = other.window ∙ one.window;
+  valid = other.valid ∙ one.valid;
+  input = other.input ∙ one.input;
+  registers = other.registers ∙ one.registers;
+  items = λ item kept.
+      let both = kept_parted g first others a.window item (subst (λ z. IsKept g z a.window item) all kept) in
+      same_then item a b c to m (one.items item both.0)
+      (other.items item (subst (λ z. IsKept g others z item) (sym one.window) both.1));
+}
+
+-- ---- the edges of a step
+
+listed_last : (g : Setting) (o : Option ℕ) → LastDead g (option_to_list o)
+listed_last g None = tt
+listed_last g (Some edge) = (inl refl, tt)
+
+-- the edges of a JMPL have nothing dead
+module _ (g : Setting) (l : Pieces) (f : Frame) (has : HasCells g l f) where
+  found_out : (p : Edge → Bool) → ((edge : Edge) → p edge ≡ true → same_kind edge.kind kinds.Out ≡ true) → (edge : ℕ)
+      → position p (graph_in g).edges ≡ Some edge → g.dead edge ≡ []
+  found_out p outs edge e = go (slice_get_cases (graph_in g).edges edge).1
+    where
+      go : ((x : Edge) × (edge < length (graph_in g).edges) × (slice_get (graph_in g).edges edge ≡ Some x)
+          × (get_or (graph_in g).edges edge x ≡ x))
+          ⊎ ((length (graph_in g).edges ≤ edge) × (slice_get (graph_in g).edges edge ≡ None)) → g.dead edge ≡ []
+      go (inl (x, within, is, same)) =
+          let passes = (position-Some p (graph_in g).edges edge x e).1 in
+          has.jumps edge (ap is_out is ∙ outs x (ap p (sym same) ∙ passes))
+      go (inr (past, none)) =
+          let some : Edge = record { from = X; to = X; kind = kinds.Land; slot = Nothing } in
+          let within = (position-Some p (graph_in g).edges edge some e).0 in
+          absurd (omega (arith, past, within))
+
+  landing : (next : ℕ) (o : Option ℕ) → word_at g.text next ≡ o → LastDead g (landed g.text (graph_in g) kinds.Out next)
+  landing next None e = rw e tt
+  landing next (Some word) e = rw e (listed_last g _)
+
+  alone : (o : Option ℕ) → LastDead g (option_to_list o ++ [])
+  alone None = tt
+  alone (Some edge) = (inl refl, tt)
+
+  of_jump : (node : Node) (next : ℕ) (o : Option ℕ)
+      → position (λ (edge : Edge). leads_along None edge && (same_node edge.from node && same_kind edge.kind kinds.Out))
+      (graph_in g).edges ≡ o
+      → LastDead g (option_to_list o ++ landed g.text (graph_in g) kinds.Out next)
+  of_jump node next None e = landing next (word_at g.text next) refl
+  of_jump node next (Some edge) e = (inr (found_out _ outs edge e), landing next (word_at g.text next) refl)
+    where
+      outs : (x : Edge) → (leads_along None x && (same_node x.from node && same_kind x.kind kinds.Out)) ≡ true
+          → same_kind x.kind kinds.Out ≡ true
+      outs x is =
+          (and_parts (same_node x.from node) (same_kind x.kind kinds.Out)
+          (and_parts (leads_along None x) (same_node x.from node && same_kind x.kind kinds.Out) is).1).1
+
+  by_kind : (node : Node) (kind : EdgeKind) (next : ℕ) → LastDead g (slot_left g.text (graph_in g) node kind next)
+  by_kind node kinds.Out next = of_jump node next _ refl
+  by_kind node kinds.Fall next = alone _
+  by_kind node kinds.Taken next = alone _
+  by_kind node kinds.Untaken next = alone _
+  by_kind node kinds.Call next = alone _
+  by_kind node kinds.Land next = alone _
+
+  if_last : (b : Bool) (o : Option ℕ) → LastDead g (if b then option_to_list o else [])
+  if_last true o = listed_last g o
+  if_last false o = tt
+
+  left_last : (node : Node) (word : ℕ) (instr : Instr) → LastDead g (left_by (graph_in g) node word instr)
+  left_last node word (i.Branch cond annul disp) = listed_last g _
+  left_last node word _ = if_last _ _
+
+  at_last : (node : Node) (o : Option ℕ) → LastDead g (left_at g.text (graph_in g) node o)
+  at_last node None = tt
+  at_last node (Some word) = left_last node word (decode_of (slice_index g.text.words word))
+
+  completed_last : (node : Node) (before after : Point) (from to : Slot)
+      → LastDead g (completed g.text (graph_in g) node before after from to)
+  completed_last node before after NoSlot NoSlot = at_last node (word_at g.text before.pc)
+  completed_last node before after Taken NoSlot = by_kind node (way_of (instr_at g.text (before.pc - 4)) Taken) after.pc
+  completed_last node before after Untaken NoSlot =
+      by_kind node (way_of (instr_at g.text (before.pc - 4)) Untaken) after.pc
+  completed_last node before after _ _ = tt
+
+  -- the edges that a step completes
+  pub gone_last : (node : Node) (x : Point) (v : State) → LastDead g (gone_at g node x v)
+  gone_last node x v = go v.ending
+    where
+      go : (e : Option Ending) → LastDead g (gone g.text (graph_in g) node x (unless_ended e (point_of v)))
+      go None = completed_last node x (point_of v) x.slot v.slot
+      go (Some d) = tt
