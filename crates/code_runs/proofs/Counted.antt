@@ -1,24 +1,46 @@
 -- Stores that are counted.
-use Rattle.std.proofs.Common.{◌≡◌, ℕ, zero, suc, ◌+◌, Bool, None, List, ap, ◌∙◌, subst, sym, arith}
+use Rattle.std.proofs.Common.{◌≡◌, ℕ, zero, suc, ◌+◌, ◌≤◌, Bool, Option, Some, None, List, refl, ap, ◌∙◌, subst, sym, arith}
 use Rattle.v8_decode.specs.declared.Instr.{Instr}
 use Rattle.v8_memory.specs.Regions.{Region, code_of, fetch_of, fetch_from}
+use Rattle.v8_step.specs.declared.Ending.{Ending}
 use Rattle.v8_step.specs.State.{State}
+use Rattle.v8_step.specs.Step.{step_of}
 use Rattle.v8_step.specs.Run.{run}
 use Rattle.code_runs.specs.Counted.{stores_at, one_if, on_fetched, unless_over, stores_in_step, count_stores}
 use Rattle.code_runs.specs.Straight.{Says}
 use Rattle.code_runs.proofs.Leads.{run_add}
 
+over_less : (ending : Option Ending) (n : ℕ) → unless_over ending n ≤ n
+over_less None n = omega arith
+over_less (Some ending) n = omega arith
+
 -- a step of a word
 pub says_stores : (counted : ℕ → Bool) (s : State) (x : Instr) → s.ending ≡ None → Says (code_of s.memory) s.pc x
-    → stores_in_step counted s ≡ one_if counted (stores_at s x)
+    → stores_in_step counted s ≤ one_if counted (stores_at s x)
 unfolding stores_in_step fetch_of
 says_stores counted s x live says =
-    ap (λ z. unless_over z (on_fetched counted s (fetch_from (code_of s.memory) s.pc))) live
-    ∙ ap (on_fetched counted s) says.fetched ∙ ap (λ (z : Instr). one_if counted (stores_at s z)) says.decodes
+    let here : on_fetched counted s (fetch_from (code_of s.memory) s.pc) ≡ one_if counted (stores_at s x) =
+    ap (on_fetched counted s) says.fetched ∙ ap (λ (z : Instr). one_if counted (stores_at s z)) says.decodes in
+    let first = over_less (step_of s).ending (on_fetched counted s (fetch_from (code_of s.memory) s.pc)) in
+    let both = over_less s.ending
+    (unless_over (step_of s).ending (on_fetched counted s (fetch_from (code_of s.memory) s.pc))) in
+    omega (arith, here, first, both)
+
+-- one that ends the run
+pub ends_stores : (counted : ℕ → Bool) (s : State) (ending : Ending) → (step_of s).ending ≡ Some ending
+    → stores_in_step counted s ≡ 0
+unfolding stores_in_step
+ends_stores counted s ending over =
+    ap (λ z. unless_over s.ending (unless_over z (on_fetched counted s (fetch_of s.memory s.pc)))) over
+    ∙ none s.ending
+  where
+    none : (e : Option Ending) → unless_over e 0 ≡ 0
+    none None = refl
+    none (Some e) = refl
 
 -- that word where the machine stands, in another machine's code
 pub stores_there : (counted : ℕ → Bool) (s : State) (code : List Region) (a : ℕ) (x : Instr) → s.ending ≡ None
-    → code_of s.memory ≡ code → s.pc ≡ a → Says code a x → stores_in_step counted s ≡ one_if counted (stores_at s x)
+    → code_of s.memory ≡ code → s.pc ≡ a → Says code a x → stores_in_step counted s ≤ one_if counted (stores_at s x)
 stores_there counted s code a x live same at says =
     says_stores counted s x live
     (subst (λ (z : List Region). Says z s.pc x) (sym same) (subst (λ z. Says code z x) (sym at) says))
@@ -36,6 +58,14 @@ count_add counted s t k e (suc l) =
 
 pub count_one : (counted : ℕ → Bool) (s : State) → count_stores counted s 1 ≡ stores_in_step counted s
 count_one counted s = omega arith
+
+-- none, where it is no more than none
+pub no_stores : (counted : ℕ → Bool) (s : State) (x : Instr) → s.ending ≡ None → Says (code_of s.memory) s.pc x
+    → one_if counted (stores_at s x) ≡ 0 → count_stores counted s 1 ≡ 0
+no_stores counted s x live says none =
+    let one = says_stores counted s x live says in
+    let all = count_one counted s in
+    omega (arith, one, all, none)
 
 -- ways without such stores
 pub none_then : (counted : ℕ → Bool) (s t : State) (k l : ℕ) → run s k ≡ t → count_stores counted s k ≡ 0

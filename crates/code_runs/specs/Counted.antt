@@ -1,4 +1,5 @@
--- How often the steps of a run store at certain addresses. A doubleword counts once.
+-- How often the steps of a run store at certain addresses. A doubleword counts once. A store that ends the run stores
+-- nothing.
 use Rattle.std.specs.Prelude.{ℕ, zero, suc, ◌+◌, Bool, Option, Some, None, if◌then◌else◌}
 use Rattle.v8_decode.specs.declared.Instr.{Instr}
 use Rattle.v8_decode.specs.declared.Instr.TheVariants as i
@@ -6,6 +7,7 @@ use Rattle.v8_decode.specs.Words.{decode_of}
 use Rattle.v8_memory.specs.Regions.{fetch_of}
 use Rattle.v8_step.specs.declared.Ending.{Ending}
 use Rattle.v8_step.specs.State.{State, sum_of}
+use Rattle.v8_step.specs.Step.{step_of}
 use Rattle.v8_step.specs.Run.{run}
 
 -- the address at which an instruction stores, if it stores (B.4, B.7, B.8)
@@ -29,7 +31,8 @@ unless_over (Some ending) n = 0
 
 -- one where the step of this state is a store at such an address
 unfoldable pub stores_in_step : (ℕ → Bool) → State → ℕ
-stores_in_step counted s = unless_over s.ending (on_fetched counted s (fetch_of s.memory s.pc))
+stores_in_step counted s =
+    unless_over s.ending (unless_over (step_of s).ending (on_fetched counted s (fetch_of s.memory s.pc)))
 
 -- how many of the first n steps are
 abbrev pub count_stores : (ℕ → Bool) → State → ℕ → ℕ

@@ -1,6 +1,6 @@
 -- Ways through words in no place: the snippets of some edges, Jumps and long jumps.
 use Rattle.std.proofs.Common.{◌≡◌, ℕ, zero, suc, ◌+◌, ◌*◌, ◌^◌, ◌<◌, ◌≤◌, ◌⊎◌, inl, inr, Option, Some, None, List, [], ◌∷◌, ◌++◌, drop, length, map, append-nil, refl, ap, sym, ◌∙◌, subst, arith}
-use Rattle.std.specs.Prelude.{slice_get, slice_index, false}
+use Rattle.std.specs.Prelude.{◌≢◌, slice_get, slice_index}
 use Rattle.std.specs.List.{flat_map}
 use Rattle.std.specs.Option.{option_map}
 use Rattle.std.proofs.lemmas.Bool.{cases_lt}
@@ -12,9 +12,9 @@ use Rattle.v8_memory.specs.Regions.{Memory, code_of, fetch_from}
 use Rattle.v8_step.specs.State.{State, register_of}
 use Rattle.v8_step.specs.Run.{run}
 use Rattle.v8_step.specs.Valid.{IsValid}
-use Rattle.v8_step.specs.Visits.{pages_of}
 use Rattle.v8_step.proofs.ValidSteps.{run-valid}
 use Rattle.cfg_normal.specs.declared.Node.{Node}
+use Rattle.code_runs.specs.Counted.{count_stores}
 use Rattle.code_runs.specs.Hops.{hopped}
 use Rattle.code_runs.specs.Leads.{Leads, IsSilent}
 use Rattle.code_runs.specs.LongJump.{IsFirstWord, long_jump}
@@ -22,28 +22,30 @@ use Rattle.code_runs.specs.Ours.{IsAmongWords}
 use Rattle.code_runs.specs.Page.{page_word}
 use Rattle.code_runs.specs.StoredWords.{CanStore, Stores, memory_word, store_word}
 use Rattle.code_runs.specs.Straight.{HasWords, StandIn}
+use Rattle.code_runs.proofs.Counted.{count_add, none_then}
 use Rattle.code_runs.proofs.Hops.{stores_then}
 use Rattle.code_runs.proofs.Leads.{leads_none, leads_then, leads_weaker, silent_none, silent_then}
 use Rattle.code_runs.proofs.LongJump.{long_jumps_hop}
 use Rattle.code_runs.proofs.Stays.{stores_there}
 use Rattle.code_runs.proofs.TwoRegisters.{stores_none}
-use Rattle.snippet_code.specs.Runs.{IsAboutToRun, IsCellOf, MayStore, RunsPast, cell_at, kept_word, words_at}
+use Rattle.snippet_code.specs.Runs.{IsAboutToRun, MayStore, RunsPast, cell_at, kept_word, words_at}
 use Rattle.jump_code.specs.Pieces.{far_piece}
 use Rattle.jump_code.proofs.Fitting.{long_jump_fits}
 use Rattle.jump_code.proofs.Laid.{words_after}
 use Rattle.layout.specs.Emitting.{words_of}
 use Rattle.layout.specs.declared.items.Item.{Item}
 use Rattle.layout.specs.declared.items.Item.TheVariants as it
-use Rattle.layout.specs.Laid.{Placement, item_at, item_in, items_in, size_of, open_in, open_from, range_in, range_of, IsWordAt}
+use Rattle.layout.specs.Laid.{HasShortForms, Placement, item_at, item_in, items_in, size_of, open_in, open_from, range_in, range_of, IsWordAt}
 use Rattle.layout.specs.Running.{CanRun, HasCode}
 use Rattle.layout.proofs.Going.{stays, jumps_hop}
-use Rattle.image_code.specs.Simulates.{Setting, IsOnWay, cells_in, operations_on, snippet_on, spills_at, updates}
+use Rattle.image_code.specs.Simulates.{Setting, IsOnWay, cells_in, in_first_word, is_spill, operations_on, snippet_on, spills_at, spills_on, updates}
 use Rattle.image_code.specs.Images.{Pieces, Frame, HasImages, IsPlaced}
-use Rattle.image_code.specs.Cases.{IsFar, JumpsOn, LeadsTo, LeadsOn, rest_from, words_on}
+use Rattle.image_code.specs.Cases.{IsFar, LeadsTo, LeadsOn, rest_from, words_on}
 use Rattle.image_code.proofs.Between.{can_run, get_below, item_below, item_size, on_none, stores_weaker}
-use Rattle.image_code.proofs.Cells.{cells_above, cell_stored, first_above, may_beside, may_own, operations_then, updates_same, updates_then, word_kept}
+use Rattle.image_code.proofs.Cells.{cell_low, cells_above, cell_stored, first_above, may_beside, may_own, operations_then, updates_same, updates_then, word_kept}
 use Rattle.image_code.proofs.Dead.{IsAlike, LastDead, NothingDead, alike_itself, alike_then, last_first, last_others, last_parted, nothing_parted}
 use Rattle.image_code.proofs.Memories.{images_stored}
+use Rattle.image_code.proofs.Sparing.{first_cell, first_kept_word, same_steps, spill_cell, spill_first, spills_then}
 
 -- ---- items without a Mark
 
@@ -156,8 +158,10 @@ module _ (g : Setting) (l : Pieces) (base : ℕ) (p : Placement) (place : ℕ �
   bare_on node t u live bare = on_none g l base p place f h node t u live bare.0 bare.1 bare.2
 
   -- A way through such words and the snippets of some edges: all stays as it was but what is dead behind these and words of
-  -- the editor's, and in them the cells are updated, and the target that waits in word 1 of the page stays.
-  pub record Arrives (edges : List ℕ) (a : State) (to most : ℕ) : Type 0 where
+  -- the editor's, and in them the cells are updated, and the target that waits in word 1 of the page stays. Where the
+  -- original goes on at a word of the text, it is known what the way stores, and that it takes a word for each four of its
+  -- bound where nothing is long.
+  pub record Arrives (next : Option ℕ) (edges : List ℕ) (a : State) (to most : ℕ) : Type 0 where
     pub count : ℕ
     pub other : State
     pub memory : Memory
@@ -170,6 +174,9 @@ module _ (g : Setting) (l : Pieces) (base : ℕ) (p : Placement) (place : ℕ �
     pub begins : 0 < count → IsBare a
     pub alike : IsAlike g edges a other
     pub still : NothingDead g edges → hopped other to memory ≡ hopped a to memory
+    pub spares : next ≢ None → count_stores (is_spill g.notes) a count ≤ spills_on g edges
+    pub leaves_first : next ≢ None → HasShortForms l.list place → count_stores in_first_word a count ≡ 0
+    pub brief : next ≢ None → HasShortForms l.list place → 4 * count ≤ most + 88 * operations_on g.snips edges
 
   -- what it takes to run on
   pub record IsFit (a : State) : Type 0 where
@@ -191,7 +198,8 @@ module _ (g : Setting) (l : Pieces) (base : ℕ) (p : Placement) (place : ℕ �
       }
 
   -- where a way ends
-  pub arrived : (edges : List ℕ) (a : State) (to most : ℕ) → IsFit a → to ≤ 2 ^ 31 → (w : Arrives edges a to most)
+  pub arrived : {next : Option ℕ} (edges : List ℕ) (a : State) (to most : ℕ) → IsFit a → to ≤ 2 ^ 31
+      → (w : Arrives next edges a to most)
       → IsFit (hopped w.other to w.memory)
   arrived edges a to most k low w =
       hopped_fit a w.other to k (w.alike.ending ∙ k.runs.ready.live) low w.count w.memory w.path.steps w.stores
@@ -215,7 +223,8 @@ module _ (g : Setting) (l : Pieces) (base : ℕ) (p : Placement) (place : ℕ �
     ),
   )
 
-  pub stays_here : (a : State) (to most : ℕ) → CanRun base p.code a → a.pc ≡ to → a.pc ≤ 2 ^ 31 → Arrives [] a to most
+  pub stays_here : {next : Option ℕ} (a : State) (to most : ℕ) → CanRun base p.code a → a.pc ≡ to → a.pc ≤ 2 ^ 31
+      → Arrives next [] a to most
   stays_here a to most w e low = record {
     count = 0;
     other = a;
@@ -230,6 +239,9 @@ module _ (g : Setting) (l : Pieces) (base : ℕ) (p : Placement) (place : ℕ �
     begins = λ q. absurd (omega arith);
     alike = alike_itself g [] a;
     still = λ _. refl;
+    spares = λ _. omega arith;
+    leaves_first = λ _ _. refl;
+    brief = λ _ _. omega arith;
   }
 
   -- an item outside each Mark
@@ -246,9 +258,9 @@ module _ (g : Setting) (l : Pieces) (base : ℕ) (p : Placement) (place : ℕ �
       )
 
   -- a Jump outside each Mark
-  pub jump_on : (k n : ℕ) (z : PieceNo) → item_at l.list k n ≡ Some (it.Jump z) → open_in (slice_get l.list k) n ≡ None
-      → (a : State) → IsFit a → a.pc ≡ place k n → Arrives [] a (slice_index p.at z.0) 4
-  jump_on k n z item closed a fit at =
+  pub jump_on : (next : Option ℕ) (k n : ℕ) (z : PieceNo) → item_at l.list k n ≡ Some (it.Jump z) → open_in (slice_get l.list k) n ≡ None
+      → (a : State) → IsFit a → a.pc ≡ place k n → Arrives next [] a (slice_index p.at z.0) 4
+  jump_on next k n z item closed a fit at =
       let j = jumps_hop l.list base p place h.laid k n z item a fit.runs at in
       let ins = j.inside in
       let none = bare_item k n (it.Jump z) item closed in
@@ -268,12 +280,16 @@ module _ (g : Setting) (l : Pieces) (base : ℕ) (p : Placement) (place : ℕ �
         begins = λ q. none a (omega arith) (omega arith);
         alike = alike_itself g [] a;
         still = λ _. refl;
+        spares = λ _. let none = j.stored (is_spill g.notes) (inl (spill_first g.notes)) in omega (arith, none);
+        leaves_first = λ _ short.
+            let end = short k n (it.Jump z) item in j.stored in_first_word (inr (omega (arith, end, at)));
+        brief = λ _ short. let end = short k n (it.Jump z) item in omega (arith, end, at, ins);
       }
 
   -- a way after another one
-  pub on_then : (edges first others : List ℕ) → edges ≡ first ++ others → (a : State) (mid to few more : ℕ)
-      (one : Arrives first a mid few) → Arrives others (hopped one.other mid one.memory) to more
-      → Arrives edges a to (few + more)
+  pub on_then : {next : Option ℕ} (edges first others : List ℕ) → edges ≡ first ++ others → (a : State)
+      (mid to few more : ℕ) (one : Arrives next first a mid few)
+      → Arrives next others (hopped one.other mid one.memory) to more → Arrives next edges a to (few + more)
   on_then edges first others all a mid to few more one other =
       let f1 = one.few in
       let m1 = other.few in
@@ -301,6 +317,19 @@ module _ (g : Setting) (l : Pieces) (base : ℕ) (p : Placement) (place : ℕ �
         still = λ d.
             let both = nothing_parted g first others (subst (NothingDead g) all d) in
             other.still both.1 ∙ ap (λ (z : State). hopped z to other.memory) (one.still both.0);
+        spares = λ there.
+            let first_spares = one.spares there in
+            let other_spares = other.spares there in
+            let all_spills = ap (spills_on g) all ∙ spills_then g first others in
+            let both = count_add (is_spill g.notes) a b one.count one.path.steps other.count in
+            omega (arith, first_spares, other_spares, all_spills, both);
+        leaves_first = λ there short.
+            none_then in_first_word a b one.count other.count one.path.steps (one.leaves_first there short)
+            (other.leaves_first there short);
+        brief = λ there short.
+            let first_brief = one.brief there short in
+            let other_brief = other.brief there short in
+            omega (arith, first_brief, other_brief, sum);
       }
     where
       -- the later snippets read what the earlier ones left
@@ -375,9 +404,10 @@ module _ (g : Setting) (l : Pieces) (base : ℕ) (p : Placement) (place : ℕ �
 
   -- ---- the snippets of some edges
 
-  snippet_runs : (edge k n : ℕ) (xs : List Item) → Rest l k n (map it.Word (l.codes edge) ++ xs) → (a : State) → IsFit a
-      → a.pc ≡ place k n → Arrives (edge ∷ []) a (place k (n + length (l.codes edge))) 0
-  snippet_runs edge k n xs r a fit at =
+  snippet_runs : (next : Option ℕ) (edge k n : ℕ) (xs : List Item) → Rest l k n (map it.Word (l.codes edge) ++ xs)
+      → (a : State) → IsFit a → a.pc ≡ place k n
+      → Arrives next (edge ∷ []) a (place k (n + length (l.codes edge))) 0
+  snippet_runs next edge k n xs r a fit at =
       let words = l.codes edge in
       let there = stood a.memory fit.has.code k n words xs r in
       let end = there.end in
@@ -393,8 +423,22 @@ module _ (g : Setting) (l : Pieces) (base : ℕ) (p : Placement) (place : ℕ �
         page = λ i few. stores_there (kept_word i) a.memory (fit.has.ours.words (kept_word i) (h.frame.page (i + 2)
             (omega (arith, few))));
       } in
-      let past : RunsPast (λ _. false) g.notes.base (g.dead edge) (snippet_on g.snips edge) (length words)
-      (spills_at g edge) a = h.cells.does edge (λ _. false) (λ _ _. refl) a about in
+      let past : RunsPast (is_spill g.notes) g.notes.base (g.dead edge) (snippet_on g.snips edge) (length words)
+      (spills_at g edge) a =
+      h.cells.does edge (is_spill g.notes) (λ cell named. spill_cell g.notes cell (h.cells.named edge cell named)) a
+      about in
+      let again : RunsPast in_first_word g.notes.base (g.dead edge) (snippet_on g.snips edge) (length words)
+      (spills_at g edge) a =
+      h.cells.does edge in_first_word (λ cell named.
+      first_cell (cell_at g.notes.base cell) (cell_low g l f h.frame h.cells cell (h.cells.named edge cell named))) a
+      about in
+      let fewer = again.few in
+      let past_stored = past.stored in
+      let same : again.steps ≡ past.steps =
+      same_steps a again.steps past.steps (a.pc + 4 * length words)
+      (ap (λ (z : State). z.pc) again.path.steps ∙ again.pc) (ap (λ (z : State). z.pc) past.path.steps ∙ past.pc)
+      (λ j some less. (again.path.during j some less).before) (λ j some less. (past.path.during j some less).before)
+      (λ e. (let few1 = again.few in omega (arith, e, few1), let few2 = past.few in omega (arith, e, few2))) in
       let few = past.few in
       let pc = past.pc in
       let npc = past.npc in
@@ -426,16 +470,21 @@ module _ (g : Setting) (l : Pieces) (base : ℕ) (p : Placement) (place : ℕ �
           items = λ item kept. past.items item kept.0;
         };
         still = λ d. ap (λ (z : State). hopped z (place k (n + length words)) past.after.memory) (past.all d.0);
+        spares = λ _. omega (arith, past_stored);
+        leaves_first = λ _ _.
+            ap (count_stores in_first_word a) (sym same) ∙ again.elsewhere (λ word _. first_kept_word word);
+        brief = λ _ _. omega (arith, few, short);
       }
 
-  pub snippets_run : (edges : List ℕ) (k n : ℕ) (xs : List Item) → Rest l k n (words_on l edges ++ xs) → (a : State)
-      → IsFit a → a.pc ≡ place k n → Arrives edges a (place k (n + length (flat_map l.codes edges))) 0
-  snippets_run [] k n xs r a fit at =
+  pub snippets_run : (next : Option ℕ) (edges : List ℕ) (k n : ℕ) (xs : List Item) → Rest l k n (words_on l edges ++ xs)
+      → (a : State) → IsFit a → a.pc ≡ place k n
+      → Arrives next edges a (place k (n + length (flat_map l.codes edges))) 0
+  snippets_run next [] k n xs r a fit at =
       let e : n + 0 ≡ n = omega arith in
       let low = stood_low k n [] xs r in
       let same = ap (place k) e in
       stays_here a (place k (n + 0)) 0 fit.runs (at ∙ sym same) (omega (arith, at, same, low))
-  snippets_run (edge ∷ edges) k n xs r a fit at =
+  snippets_run next (edge ∷ edges) k n xs r a fit at =
       let first = l.codes edge in
       let both : flat_map l.codes (edge ∷ edges) ≡ first ++ flat_map l.codes edges = flat_map-cons l.codes edge edges in
       let shape : words_on l (edge ∷ edges) ++ xs ≡ map it.Word first ++ (words_on l edges ++ xs) =
@@ -446,40 +495,40 @@ module _ (g : Setting) (l : Pieces) (base : ℕ) (p : Placement) (place : ℕ �
       let r3 : Rest l k (n + length first) (words_on l edges ++ xs) =
       subst (λ z. Rest l k (n + z) (words_on l edges ++ xs)) size
       (rest_behind l k n (map it.Word first) (words_on l edges ++ xs) r2) in
-      let one = snippet_runs edge k n (words_on l edges ++ xs) r2 a fit at in
+      let one = snippet_runs next edge k n (words_on l edges ++ xs) r2 a fit at in
       let low = stood_low k n first (words_on l edges ++ xs) r2 in
       let mid = place k (n + length first) in
       let fit2 : IsFit (hopped one.other mid one.memory) = arrived (edge ∷ []) a mid 0 fit low one in
-      let other = snippets_run edges k (n + length first) xs r3 (hopped one.other mid one.memory) fit2 refl in
+      let other = snippets_run next edges k (n + length first) xs r3 (hopped one.other mid one.memory) fit2 refl in
       let sum : n + length first + length (flat_map l.codes edges) ≡ n + length (flat_map l.codes (edge ∷ edges)) =
       (let q = ap length both ∙ length-append first (flat_map l.codes edges) in omega (arith, q)) in
-      subst (λ z. Arrives (edge ∷ edges) a z 0) (ap (place k) sum)
+      subst (λ z. Arrives next (edge ∷ edges) a z 0) (ap (place k) sum)
       (on_then (edge ∷ edges) (edge ∷ []) edges refl a mid _ 0 0 one other)
 
   -- and then whatever comes behind them
-  pub snippets_then : (edges : List ℕ) (k n : ℕ) (xs : List Item) → Rest l k n (words_on l edges ++ xs) → (a : State)
+  pub snippets_then : (next : Option ℕ) (edges : List ℕ) (k n : ℕ) (xs : List Item) → Rest l k n (words_on l edges ++ xs) → (a : State)
       → IsFit a → a.pc ≡ place k n → (others : List ℕ) (to more : ℕ)
       → ((b : State) → IsFit b → b.pc ≡ place k (n + length (flat_map l.codes edges))
-      → Rest l k (n + length (flat_map l.codes edges)) xs → Arrives others b to more)
-      → Arrives (edges ++ others) a to more
-  snippets_then edges k n xs r a fit at others to more behind =
-      let one = snippets_run edges k n xs r a fit at in
+      → Rest l k (n + length (flat_map l.codes edges)) xs → Arrives next others b to more)
+      → Arrives next (edges ++ others) a to more
+  snippets_then next edges k n xs r a fit at others to more behind =
+      let one = snippets_run next edges k n xs r a fit at in
       let mid = place k (n + length (flat_map l.codes edges)) in
       let low = stood_low k n (flat_map l.codes edges) xs r in
       let r2 : Rest l k (n + length (flat_map l.codes edges)) xs =
       subst (λ z. Rest l k (n + z) xs) (length_words (flat_map l.codes edges)) (rest_behind l k n (words_on l edges) xs r) in
       let fit2 : IsFit (hopped one.other mid one.memory) = arrived edges a mid 0 fit low one in
       let none : 0 + more ≡ more = omega arith in
-      subst (λ z. Arrives (edges ++ others) a to z) none
+      subst (λ z. Arrives next (edges ++ others) a to z) none
       (on_then (edges ++ others) edges others refl a mid to 0 more one
       (behind (hopped one.other mid one.memory) fit2 refl r2))
 
   -- ---- long jumps
 
   -- a long jump to an address, outside each Mark
-  pub far_on : (k n to : ℕ) → IsFar to → Rest l k n (far_piece to) → (a : State) → IsFit a → a.pc ≡ place k n
-      → Arrives [] a to 4
-  far_on k n to far r a fit at =
+  pub far_on : (next : Option ℕ) → next ≡ None → (k n to : ℕ) → IsFar to → Rest l k n (far_piece to) → (a : State)
+      → IsFit a → a.pc ≡ place k n → Arrives next [] a to 4
+  far_on next out k n to far r a fit at =
       let there = stood a.memory fit.has.code k n (words_of (long_jump to)) [] (subst (Rest l k n) (sym (append-nil (far_piece to))) r) in
       let end = there.end in
       let low = stood_low k n (words_of (long_jump to)) [] (subst (Rest l k n) (sym (append-nil (far_piece to))) r) in
@@ -503,6 +552,9 @@ module _ (g : Setting) (l : Pieces) (base : ℕ) (p : Placement) (place : ℕ �
         begins = λ q. there.bare a (omega (arith, at)) (omega (arith, at));
         alike = alike_itself g [] a;
         still = λ _. refl;
+        spares = λ there. absurd (there out);
+        leaves_first = λ there _. absurd (there out);
+        brief = λ there _. absurd (there out);
       }
 
   -- ---- from the beginning of a piece
@@ -510,45 +562,46 @@ module _ (g : Setting) (l : Pieces) (base : ℕ) (p : Placement) (place : ℕ �
   jump_unmarked : (edges : List ℕ) (z : PieceNo) → AreUnmarked (words_on l edges ++ it.Jump z ∷ [])
   jump_unmarked edges z = words_unmarked (flat_map l.codes edges) (it.Jump z ∷ []) (tt, tt)
 
-  last_jump : (k n : ℕ) (z : PieceNo) → Rest l k n (it.Jump z ∷ []) → (a : State) → IsFit a → a.pc ≡ place k n
-      → Arrives [] a (slice_index p.at z.0) 4
-  last_jump k n z r a fit at =
+  last_jump : (next : Option ℕ) (k n : ℕ) (z : PieceNo) → Rest l k n (it.Jump z ∷ []) → (a : State) → IsFit a
+      → a.pc ≡ place k n → Arrives next [] a (slice_index p.at z.0) 4
+  last_jump next k n z r a fit at =
       let e : n ≡ n + 0 = omega arith in
-      jump_on k n z (ap (item_at l.list k) e ∙ r.items 0) (ap (open_in (slice_get l.list k)) e ∙ r.shut 0) a fit at
+      jump_on next k n z (ap (item_at l.list k) e ∙ r.items 0) (ap (open_in (slice_get l.list k)) e ∙ r.shut 0) a fit at
 
   -- nothing comes after the edges' snippets
-  pub for_all : (edges : List ℕ) (a : State) (to most : ℕ) → Arrives (edges ++ []) a to most → Arrives edges a to most
-  for_all edges a to most way = subst (λ z. Arrives z a to most) (append-nil edges) way
+  pub for_all : {next : Option ℕ} (edges : List ℕ) (a : State) (to most : ℕ) → Arrives next (edges ++ []) a to most
+      → Arrives next edges a to most
+  for_all {next} edges a to most way = subst (λ z. Arrives next z a to most) (append-nil edges) way
 
   pub arrive : (z : PieceNo) (edges : List ℕ) (a : State) (next : Option ℕ) (to : ℕ) → IsFit a
-      → a.pc ≡ slice_index p.at z.0 → LeadsTo l p z edges next to → Arrives edges a to 4
+      → a.pc ≡ slice_index p.at z.0 → LeadsTo l p z edges next to → Arrives next edges a to 4
   arrive z edges a next to fit at (inl (none, e)) =
       let low = (h.laid.aligned z.0).1 in
-      subst (λ q. Arrives q a to 4) (sym none) (stays_here a to 4 fit.runs (at ∙ e) (omega (arith, at, low)))
+      subst (λ q. Arrives next q a to 4) (sym none) (stays_here a to 4 fit.runs (at ∙ e) (omega (arith, at, low)))
   arrive z edges a next to fit at (inr (inl (y, is, e))) =
       let r = rest_whole l z.0 (words_on l edges ++ it.Jump y ∷ []) (jump_unmarked edges y) is in
-      for_all edges a to 4 (snippets_then edges z.0 0 (it.Jump y ∷ []) r a fit (at ∙ h.laid.starts z.0 r.within) [] to 4
-      (λ b fit2 there r2. subst (λ q. Arrives [] b q 4) e
-      (last_jump z.0 (0 + length (flat_map l.codes edges)) y r2 b fit2 there)))
+      for_all edges a to 4 (snippets_then next edges z.0 0 (it.Jump y ∷ []) r a fit (at ∙ h.laid.starts z.0 r.within) [] to 4
+      (λ b fit2 there r2. subst (λ q. Arrives next [] b q 4) e
+      (last_jump next z.0 (0 + length (flat_map l.codes edges)) y r2 b fit2 there)))
   arrive z edges a next to fit at (inr (inr (out, far, is))) =
       let r = rest_whole l z.0 (words_on l edges ++ far_piece to)
       (words_unmarked (flat_map l.codes edges) (far_piece to) (far_unmarked to)) is in
-      for_all edges a to 4 (snippets_then edges z.0 0 (far_piece to) r a fit (at ∙ h.laid.starts z.0 r.within) [] to 4
-      (λ b fit2 there r2. far_on z.0 (0 + length (flat_map l.codes edges)) to far r2 b fit2 there))
+      for_all edges a to 4 (snippets_then next edges z.0 0 (far_piece to) r a fit (at ∙ h.laid.starts z.0 r.within) [] to 4
+      (λ b fit2 there r2. far_on next out z.0 (0 + length (flat_map l.codes edges)) to far r2 b fit2 there))
 
   -- a Jump to a piece that leads on
   pub jump_then : (k n : ℕ) (z : PieceNo) → Rest l k n (it.Jump z ∷ []) → (edges : List ℕ) (a : State)
-      (next : Option ℕ) (to : ℕ) → IsFit a → a.pc ≡ place k n → LeadsTo l p z edges next to → Arrives edges a to 8
+      (next : Option ℕ) (to : ℕ) → IsFit a → a.pc ≡ place k n → LeadsTo l p z edges next to → Arrives next edges a to 8
   jump_then k n z r edges a next to fit at leads =
-      let one = last_jump k n z r a fit at in
+      let one = last_jump next k n z r a fit at in
       on_then edges [] edges refl a (slice_index p.at z.0) to 4 4 one
       (arrive z edges (hopped one.other (slice_index p.at z.0) one.memory) next to
       (arrived [] a (slice_index p.at z.0) 4 fit (h.laid.aligned z.0).1 one) refl leads)
 
   -- ---- from item 3 of a piece on
 
-  pub weaker_arrives : (edges : List ℕ) (a : State) (to few most : ℕ) → few ≤ most → Arrives edges a to few
-      → Arrives edges a to most
+  pub weaker_arrives : {next : Option ℕ} (edges : List ℕ) (a : State) (to few most : ℕ) → few ≤ most
+      → Arrives next edges a to few → Arrives next edges a to most
   weaker_arrives edges a to few most less one =
       let short = one.few in
       record {
@@ -564,12 +617,45 @@ module _ (g : Setting) (l : Pieces) (base : ℕ) (p : Placement) (place : ℕ �
         begins = one.begins;
         alike = one.alike;
         still = one.still;
+        spares = one.spares;
+        leaves_first = one.leaves_first;
+        brief = λ there forms. let brief = one.brief there forms in omega (arith, less, brief);
       }
+
+  -- whatever comes next
+  pub unwatched : (next : Option ℕ) (edges : List ℕ) (a : State) (to most : ℕ) → Arrives next edges a to most
+      → Arrives None edges a to most
+  unwatched next edges a to most one = record {
+    count = one.count;
+    other = one.other;
+    memory = one.memory;
+    few = one.few;
+    path = one.path;
+    silent = one.silent;
+    stores = one.stores;
+    waits = one.waits;
+    cells = one.cells;
+    begins = one.begins;
+    alike = one.alike;
+    still = one.still;
+    spares = λ there. absurd (there refl);
+    leaves_first = λ there _. absurd (there refl);
+    brief = λ there _. absurd (there refl);
+  }
+
+  -- Where no edge is completed, and the original goes on at a word of the text, the way has no step.
+  abbrev pub Tail : Option ℕ → List ℕ → State → ℕ → ℕ → Type 0
+  Tail next edges a to most = (w : Arrives next edges a to most) × (next ≢ None → edges ≡ [] → w.count ≡ 0)
+
+  pub weaker_tail : {next : Option ℕ} (edges : List ℕ) (a : State) (to few most : ℕ) → few ≤ most
+      → Tail next edges a to few → Tail next edges a to most
+  unfolding weaker_arrives
+  weaker_tail edges a to few most less one = (weaker_arrives edges a to few most less one.0, one.1)
 
   pub tail : (k : ℕ) (rest : List Item) (address : _) (number : ℕ) (y : Item)
       → slice_get l.list k ≡ Some (it.Mark address number ∷ y ∷ it.EndMark ∷ rest) → (edges : List ℕ) (a : State)
       (next : Option ℕ) (to : ℕ) → IsFit a → a.pc ≡ place k 3 → LeadsOn l p place k 3 edges next to
-      → Arrives edges a to 8
+      → Tail next edges a to 8
   tail k rest address number y is edges a next to fit at leads = by leads
     where
       some_rest : (xs : List Item) → rest_from l k 3 ≡ Some xs → rest ≡ xs
@@ -580,21 +666,31 @@ module _ (g : Setting) (l : Pieces) (base : ℕ) (p : Placement) (place : ℕ �
           rest_marked l k address number y xs are
           (is ∙ ap (λ z. Some (it.Mark address number ∷ y ∷ it.EndMark ∷ z)) (some_rest xs e))
 
-      by : LeadsOn l p place k 3 edges next to → Arrives edges a to 8
+      by : LeadsOn l p place k 3 edges next to → Tail next edges a to 8
       by (inl (e, stands)) =
           let shape : words_on l edges ≡ words_on l edges ++ [] = sym (append-nil (words_on l edges)) in
           let r = with_rest (words_on l edges ++ []) (words_unmarked (flat_map l.codes edges) [] tt)
           (e ∙ ap (λ z. Some z) shape) in
-          subst (λ q. Arrives edges a q 8) stands
-          (weaker_arrives edges a _ 0 8 (omega arith) (snippets_run edges k 3 [] r a fit at))
+          let one = snippets_run next edges k 3 [] r a fit at in
+          subst (λ q. Tail next edges a q 8) stands (weaker_tail edges a _ 0 8 (omega arith) (
+            one,
+            λ there none.
+                let few = one.few in
+                let nothing = ap (operations_on g.snips) none in
+                omega (arith, few, nothing),
+          ))
       by (inr (inl j)) =
-          let r = with_rest (words_on l j.first ++ it.Jump j.piece ∷ []) (jump_unmarked j.first j.piece) j.rest in
-          subst (λ q. Arrives q a to 8) (sym j.all)
-          (snippets_then j.first k 3 (it.Jump j.piece ∷ []) r a fit at j.others to 8 (λ b fit2 there r2.
-          jump_then k (3 + length (flat_map l.codes j.first)) j.piece r2 j.others b next to fit2 there j.leads))
+          let r = with_rest (words_on l j.first ++ it.Jump j.piece ∷ []) (jump_unmarked j.first j.piece) j.rest in (
+            subst (λ q. Arrives next q a to 8) (sym j.all)
+                (snippets_then next j.first k 3 (it.Jump j.piece ∷ []) r a fit at j.others to 8 (λ b fit2 there r2.
+                jump_then k (3 + length (flat_map l.codes j.first)) j.piece r2 j.others b next to fit2 there j.leads)),
+            λ there none. absurd (j.some none),
+          )
       by (inr (inr (out, far, e))) =
           let r = with_rest (words_on l edges ++ far_piece to)
-          (words_unmarked (flat_map l.codes edges) (far_piece to) (far_unmarked to)) e in
-          for_all edges a to 8 (snippets_then edges k 3 (far_piece to) r a fit at [] to 8 (λ b fit2 there r2.
-          weaker_arrives [] b to 4 8 (omega arith)
-          (far_on k (3 + length (flat_map l.codes edges)) to far r2 b fit2 there)))
+          (words_unmarked (flat_map l.codes edges) (far_piece to) (far_unmarked to)) e in (
+            for_all edges a to 8 (snippets_then next edges k 3 (far_piece to) r a fit at [] to 8 (λ b fit2 there r2.
+                weaker_arrives [] b to 4 8 (omega arith)
+                (far_on next out k (3 + length (flat_map l.codes edges)) to far r2 b fit2 there))),
+            λ there none. absurd (there out),
+          )

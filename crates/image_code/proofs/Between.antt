@@ -1,61 +1,33 @@
 -- Small things, and what the notes say of states between two visits.
-use Rattle.std.proofs.Common.{◌≡◌, ℕ, zero, suc, ◌+◌, ◌-◌, ◌*◌, ◌^◌, ◌<◌, ◌≤◌, inl, inr, Bool, true, false, Option, Some, None, List, [], ◌∷◌, ◌++◌, drop, length, append-nil, refl, ap, sym, ◌∙◌, subst, arith}
-use Rattle.std.specs.Prelude.{if◌then◌else◌, slice_get, slice_index, ◌==◌, ℤ}
+use Rattle.std.proofs.Common.{◌≡◌, ℕ, zero, suc, ◌+◌, ◌-◌, ◌*◌, ◌<◌, ◌≤◌, Bool, true, false, Option, Some, None, List, [], ◌∷◌, length, refl, ap, sym, ◌∙◌, subst, arith}
+use Rattle.std.specs.Prelude.{if◌then◌else◌, slice_get, slice_index, ◌==◌}
 use Rattle.std.specs.Option.{option_map, option_or}
-use Rattle.std.proofs.lemmas.Bool.{cases_lt}
 use Rattle.std.proofs.lemmas.Bool.Decides.{nat_tests}
-use Rattle.elf32_sparc.specs.Notes.{Notes, NoteRange, range_at, node_at}
-use Rattle.v8_decode.specs.declared.Instr.{Instr}
-use Rattle.v8_decode.specs.declared.Instr.TheVariants as i
-use Rattle.v8_decode.specs.Words.{decode_of}
-use Rattle.v8_alu.specs.Numbers.{wrapped}
-use Rattle.v8_memory.specs.Regions.{Memory, Region, code_of, fetch_from}
-use Rattle.v8_memory.specs.Spans.{Span, AllApart, IsSameOutside, IsSameRegion}
+use Rattle.elf32_sparc.specs.Notes.{NoteRange, range_at, node_at}
+use Rattle.v8_memory.specs.Regions.{Memory, Region}
+use Rattle.v8_memory.specs.Spans.{Span, IsSameOutside, IsSameRegion}
 use Rattle.v8_step.specs.declared.Ending.{Ending}
 use Rattle.v8_step.specs.declared.Slot.TheVariants.{NoSlot}
-use Rattle.v8_step.specs.State.{State, register_of}
-use Rattle.v8_step.specs.Step.{act, step_of, on_word, puts_by, puts_on_word}
-use Rattle.v8_step.specs.Run.{run, run_puts}
+use Rattle.v8_step.specs.State.{State}
+use Rattle.v8_step.specs.Run.{run}
 use Rattle.v8_step.specs.Items.{Item as Thing, Register, Codes, YRegister, IsSameAt}
-use Rattle.v8_step.specs.Judged.{judged_by}
 use Rattle.v8_step.specs.Valid.{IsValid}
-use Rattle.v8_step.specs.Visits.{visit_of, visited, if_live, in_pages, pages_of}
-use Rattle.v8_step.proofs.Alike.{live_puts}
-use Rattle.v8_step.proofs.JudgedAlike.{judged_alike}
-use Rattle.v8_step.proofs.CopiedMoves.{goes_act}
-use Rattle.v8_step.proofs.ValidSteps.{run-valid}
+use Rattle.v8_step.specs.Visits.{visit_of, visited, if_live, in_pages}
 use Rattle.cfg_walk.proofs.Walks as walks
 use Rattle.cfg_walk.specs.Walk.{Point, gone, point_of, unless_ended}
 use Rattle.cfg_normal.specs.declared.Node.{Node}
-use Rattle.code_runs.specs.StoredWords.{AllAt, Stores, store_word}
-use Rattle.code_runs.specs.Leads.{Leads, IsSilent}
-use Rattle.code_runs.specs.Points.{moved}
-use Rattle.code_runs.specs.Hops.{hopped}
+use Rattle.code_runs.specs.StoredWords.{AllAt, Stores}
+use Rattle.code_runs.specs.Leads.{Leads}
 use Rattle.code_runs.specs.Ours.{IsAmongWords}
-use Rattle.code_runs.proofs.Acts.{step_is}
-use Rattle.code_runs.proofs.Leads.{leads_none, leads_one, leads_then, leads_weaker, silent_none, silent_then, puts_add}
-use Rattle.code_runs.proofs.Hops.{stores_then}
-use Rattle.code_runs.proofs.Points.{acts_anywhere}
-use Rattle.code_runs.proofs.TwoRegisters.{stores_none}
 use Rattle.code_runs.proofs.Stays.{stores_there}
-use Rattle.code_runs.specs.LongJump.{IsFirstWord, long_jump}
-use Rattle.code_runs.specs.Straight.{StandIn}
-use Rattle.code_runs.proofs.LongJump.{long_jumps_hop}
-use Rattle.jump_code.specs.Pieces.{far_piece}
-use Rattle.jump_code.proofs.Fitting.{long_jump_fits}
+use Rattle.code_runs.specs.LongJump.{IsFirstWord}
 use Rattle.code_runs.specs.Page.{page_word}
-use Rattle.eel_base.specs.declared.numbers.Addr.{Addr}
-use Rattle.eel_base.specs.declared.numbers.PieceNo.{PieceNo}
 use Rattle.layout.specs.declared.items.Item.{Item}
-use Rattle.layout.specs.declared.items.Item.TheVariants as it
-use Rattle.layout.specs.Laid.{Placement, item_at, item_in, items_in, size_of, open_in, open_from, range_in, range_of, IsWordAt}
+use Rattle.layout.specs.Laid.{Placement, item_at, item_in, items_in, size_of, open_from, range_in}
 use Rattle.layout.specs.Running.{CanRun}
-use Rattle.layout.proofs.Going.{stays, jumps_hop, words_stand}
-use Rattle.image_code.specs.Simulates.{Setting, cells_in, StepsOn, IsOnWay, IsFollowedBy, at_point, does_at, gone_at, graph_in, number_in, word_of}
-use Rattle.image_code.specs.Images.{Pieces, Frame, HasImages, Here, IsPlaced, visited_at}
-use Rattle.image_code.specs.Cases.{visits_it, IsFar, LeadsTo, LeadsOn, plain_piece, IsPlain, PlainsVisit, PlainsStep}
-use Rattle.image_code.proofs.Ended.{stops_act}
-use Rattle.image_code.proofs.Memories.{fetch_is, images_stay, images_stored, same_stored}
+use Rattle.image_code.specs.Simulates.{Setting, cells_in, IsOnWay, gone_at, graph_in, number_in}
+use Rattle.image_code.specs.Images.{Pieces, Frame, HasImages, IsPlaced}
+use Rattle.image_code.specs.Cases.{visits_it}
 
 -- ---- small things
 

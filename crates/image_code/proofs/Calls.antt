@@ -22,7 +22,7 @@ use Rattle.layout.specs.Laid.{HasShortForms, Placement}
 use Rattle.jump_code.specs.Links.{IsAboutToCall, link, past}
 use Rattle.jump_code.specs.PageWords.{IsPageWord}
 use Rattle.jump_code.proofs.Laid.{pieces_are_laid}
-use Rattle.jump_code.proofs.Linking.{calls_act}
+use Rattle.jump_code.proofs.Linking.{calls_act, calls_store}
 use Rattle.image_code.specs.Simulates.{Setting, StepsOn, at_point, does_at, gone_at, graph_in, number_in}
 use Rattle.image_code.specs.Images.{Pieces, Frame, Here, IsPlaced, visited_at}
 use Rattle.image_code.specs.Cases.{LeadsTo}
@@ -30,6 +30,7 @@ use Rattle.image_code.specs.Turns.{IsNoJumpsSlot}
 use Rattle.image_code.specs.Calls.{IsCall, CallsStep}
 use Rattle.image_code.proofs.Couple.{quiet_transfer}
 use Rattle.image_code.proofs.Dead.{LastDead, gone_last}
+use Rattle.image_code.proofs.Sparing.{transfers}
 use Rattle.image_code.proofs.Through.{AtWords, at_words, goes_through}
 
 -- the original after its CALL
@@ -86,6 +87,9 @@ module _ (g : Setting) (l : Pieces) (base : ℕ) (p : Placement) (place : ℕ �
         quiet = λ descriptor. ap (λ (o : Option ℕ). puts_on_word (at_point x t) o descriptor) c.is_word
             ∙ quiet_transfer (at_point x t) (decode_of c.word) descriptor (ap is_transfer c.says);
         waits = λ a b. absurd (never a b);
+        transfer = transfers g.text x.pc c.word c.is_word (ap is_transfer c.says);
+        two = λ _. omega arith;
+        stored = λ _. calls_store c.address.0 t about;
       }) leads
 
 pub calls_step : CallsStep

@@ -1,64 +1,50 @@
 -- A word in its Mark at the head of a piece, and the images of plain words: they are one step each.
-use Rattle.std.proofs.Common.{◌≡◌, ℕ, zero, suc, ◌+◌, ◌-◌, ◌*◌, ◌^◌, ◌<◌, ◌≤◌, inl, inr, Bool, true, false, Option, Some, None, List, [], ◌∷◌, ◌++◌, drop, length, append-nil, refl, ap, sym, ◌∙◌, subst, arith}
-use Rattle.std.specs.Prelude.{if◌then◌else◌, slice_get, slice_index, ◌==◌, ℤ}
-use Rattle.std.specs.Option.{option_map, option_or}
-use Rattle.std.proofs.lemmas.Bool.{cases_lt}
-use Rattle.std.proofs.lemmas.Bool.Decides.{nat_tests}
-use Rattle.elf32_sparc.specs.Notes.{Notes, NoteRange, range_at, node_at}
+use Rattle.std.proofs.Common.{◌≡◌, ◌≢◌, ℕ, suc, ◌+◌, ◌*◌, ◌^◌, ◌<◌, ◌≤◌, Bool, false, Option, Some, None, List, [], ◌++◌, length, append-nil, refl, ap, sym, ◌∙◌, subst, arith}
+use Rattle.std.specs.Prelude.{slice_get, slice_index, ℤ}
+use Rattle.elf32_sparc.specs.Notes.{Notes, node_at}
 use Rattle.v8_decode.specs.declared.Instr.{Instr}
 use Rattle.v8_decode.specs.declared.Instr.TheVariants as i
 use Rattle.v8_decode.specs.Words.{decode_of}
 use Rattle.v8_alu.specs.Numbers.{wrapped}
-use Rattle.v8_memory.specs.Regions.{Memory, Region, code_of, fetch_from}
-use Rattle.v8_memory.specs.Spans.{Span, AllApart, IsSameOutside, IsSameRegion}
+use Rattle.v8_memory.specs.Regions.{Memory, code_of, fetch_from}
+use Rattle.v8_memory.specs.Spans.{AllApart, IsSameOutside}
 use Rattle.v8_step.specs.declared.Ending.{Ending}
-use Rattle.v8_step.specs.declared.Slot.TheVariants.{NoSlot}
 use Rattle.v8_step.specs.State.{State, register_of}
 use Rattle.v8_step.specs.Step.{act, step_of, on_word, puts_by, puts_on_word}
-use Rattle.v8_step.specs.Run.{run, run_puts}
-use Rattle.v8_step.specs.Items.{is_transfer, Item as Thing, Register, Codes, YRegister, IsSameAt}
+use Rattle.v8_step.specs.Run.{run_puts}
+use Rattle.v8_step.specs.Items.{is_transfer}
 use Rattle.v8_step.specs.Judged.{judged_by}
 use Rattle.v8_step.specs.Valid.{IsValid}
-use Rattle.v8_step.specs.Visits.{visit_of, visited, if_live, in_pages, pages_of}
+use Rattle.v8_step.specs.Visits.{visited, pages_of}
 use Rattle.v8_step.proofs.Alike.{live_puts}
 use Rattle.v8_step.proofs.JudgedAlike.{judged_alike}
 use Rattle.v8_step.proofs.CopiedMoves.{goes_act}
 use Rattle.v8_step.proofs.ValidSteps.{run-valid}
-use Rattle.cfg_walk.proofs.Walks as walks
 use Rattle.cfg_walk.specs.Walk.{Point, point_of, node_after}
 use Rattle.cfg_normal.specs.declared.Node.{Node}
-use Rattle.code_runs.specs.StoredWords.{AllAt, Stores, store_word}
-use Rattle.code_runs.specs.Leads.{Leads, IsSilent}
+use Rattle.code_runs.specs.Counted.{count_stores, stores_in_step}
+use Rattle.code_runs.specs.Straight.{Says}
 use Rattle.code_runs.specs.Points.{moved}
 use Rattle.code_runs.specs.Hops.{hopped}
-use Rattle.code_runs.specs.Ours.{IsAmongWords}
 use Rattle.code_runs.proofs.Acts.{step_is}
-use Rattle.code_runs.proofs.Leads.{leads_none, leads_one, leads_then, leads_weaker, silent_none, silent_then, puts_add}
-use Rattle.code_runs.proofs.Hops.{stores_then}
+use Rattle.code_runs.proofs.Counted.{count_add, ends_stores, no_stores, none_then}
+use Rattle.code_runs.proofs.Leads.{leads_one, leads_then, puts_add}
 use Rattle.code_runs.proofs.Points.{acts_anywhere}
-use Rattle.code_runs.proofs.TwoRegisters.{stores_none}
-use Rattle.code_runs.proofs.Stays.{stores_there}
-use Rattle.code_runs.specs.LongJump.{IsFirstWord, long_jump}
-use Rattle.code_runs.specs.Straight.{StandIn}
-use Rattle.code_runs.proofs.LongJump.{long_jumps_hop}
-use Rattle.jump_code.specs.Pieces.{far_piece}
-use Rattle.jump_code.proofs.Fitting.{long_jump_fits}
-use Rattle.jump_code.proofs.Laid.{words_after}
 use Rattle.code_runs.specs.Page.{page_word}
 use Rattle.eel_base.specs.declared.numbers.Addr.{Addr}
-use Rattle.eel_base.specs.declared.numbers.PieceNo.{PieceNo}
 use Rattle.layout.specs.declared.items.Item.{Item}
 use Rattle.layout.specs.declared.items.Item.TheVariants as it
-use Rattle.layout.specs.Laid.{HasShortForms, Placement, item_at, item_in, items_in, size_of, open_in, open_from, range_in, range_of, IsWordAt}
+use Rattle.layout.specs.Laid.{HasShortForms, Placement, item_at, item_in, items_in, size_of, open_in, range_in, range_of, IsWordAt}
 use Rattle.layout.specs.Running.{CanRun}
-use Rattle.layout.proofs.Going.{stays, jumps_hop, words_stand}
-use Rattle.image_code.specs.Simulates.{updates, Setting, cells_in, StepsOn, IsOnWay, IsFollowedBy, IsKept, at_point, does_at, gone_at, graph_in, number_in, word_of}
+use Rattle.layout.proofs.Going.{words_stand}
+use Rattle.image_code.specs.Simulates.{updates, Setting, cells_in, StepsOn, IsFollowedBy, IsWatched, in_first_word, is_spill, IsKept, at_point, does_at, gone_at, graph_in, number_in, word_of}
 use Rattle.image_code.specs.Images.{Pieces, Frame, HasImages, Here, IsPlaced, visited_at}
-use Rattle.image_code.specs.Cases.{next_visit, visits_it, IsFar, LeadsTo, LeadsOn, plain_piece, IsPlain, PlainsVisit, PlainsStep, word_ahead}
+use Rattle.image_code.specs.Cases.{next_visit, visits_it, plain_piece, IsPlain, PlainsVisit, PlainsStep, word_ahead}
 use Rattle.image_code.proofs.Ended.{stops_act}
+use Rattle.image_code.proofs.Sparing.{uncounted}
 use Rattle.image_code.proofs.Memories.{fetch_is, images_stay, images_stored, same_stored}
 pub use Rattle.image_code.proofs.Between.{at_range, can_run, ended_none, first_own, get_below, item_below, item_size, live_before, node_is, on_none, on_range, open_rest, outside_refl, quiet_of, same_at, stores_weaker}
-pub use Rattle.image_code.proofs.Arrives.{Arrives, IsBare, IsFit, arrive, arrived, bare_on, far_on, hopped_fit, jump_on, jump_then, on_then, tail, weaker_arrives}
+pub use Rattle.image_code.proofs.Arrives.{Arrives, Tail, IsBare, IsFit, arrive, arrived, bare_on, far_on, hopped_fit, jump_on, jump_then, on_then, tail, weaker_arrives, weaker_tail}
 pub use Rattle.image_code.proofs.Dead.{LastDead, alike_hopped, alike_itself, followed_alike, gone_last}
 use Rattle.image_code.proofs.Dead.{IsAlike}
 use Rattle.image_code.proofs.Cells.{cells_stay, updates_same}
@@ -207,16 +193,40 @@ module _ (g : Setting) (l : Pieces) (base : ℕ) (p : Placement) (place : ℕ �
           cells = still apart;
           here = λ live. absurd (cc);
           place = λ _. ap (node_at g.notes) (stops_act t (decode_of c.word) c.straight here.live d stopped) ∙ visits.1;
+          sparing = λ w.
+              let none : (counted : ℕ → Bool) → stores_in_step counted t ≡ 0 =
+              λ counted. ends_stores counted t d (ap (λ (z : State). z.ending) stands.one ∙ stopped) in
+              let spills = none (is_spill g.notes) in
+              let first = none in_first_word in
+              record {
+                spills = omega (arith, spills);
+                first = λ _. omega (arith, first);
+                alone = λ _ _ _. refl;
+                few = λ _ _. omega arith;
+              };
         }
 
-    goes : (edges : List ℕ) → LastDead g edges → (act (at_point x t) (decode_of c.word)).ending ≡ None
+    -- the word stores nothing that is counted
+    one_spares : AllApart (pages_of g.notes) (judged_by t (decode_of c.word))
+        → (act t (decode_of c.word)).ending ≡ None
+        → (count_stores (is_spill g.notes) t 1 ≡ 0) × (count_stores in_first_word t 1 ≡ 0)
+    one_spares apart alive =
+        let out = uncounted g.notes (h.frame.own.within (page_word 0) h.frame.own.first) t (decode_of c.word) apart alive in
+        let says : Says (code_of t.memory) t.pc (decode_of c.word) =
+        record { word = c.word; fetched = stands.fetched; decodes = refl } in (
+          no_stores (is_spill g.notes) t (decode_of c.word) here.live says out.0,
+          no_stores in_first_word t (decode_of c.word) here.live says out.1,
+        )
+
+    goes : (next : Option ℕ) (edges : List ℕ) → LastDead g edges → (act (at_point x t) (decode_of c.word)).ending ≡ None
         → AllApart (pages_of g.notes) (judged_by (at_point x t) (decode_of c.word))
         → AllApart (pages_of g.notes) (judged_by t (decode_of c.word))
         → (IsFit g l base p place f h (act t (decode_of c.word)) → (act t (decode_of c.word)).pc ≡ place c.piece 3
-        → Arrives g l base p place f h edges (act t (decode_of c.word)) (visited_at g l p f
+        → Tail g l base p place f h next edges (act t (decode_of c.word)) (visited_at g l p f
         (node_after (graph_in g) node edges) (point_of (act (at_point x t) (decode_of c.word)))) 24)
+        → (IsWatched g edges x (act (at_point x t) (decode_of c.word)) → next ≢ None)
         → StepsOn g (Here g l base p f) (HasShortForms l.list place) edges node x t (act (at_point x t) (decode_of c.word))
-    goes edges last live apart' apart onward =
+    goes next edges last live apart' apart onward watched =
         let a : State = act t (decode_of c.word) in
         let alive : (act t (decode_of c.word)).ending ≡ None = ap (λ (z : State). z.ending) same ∙ live in
         let went = goes_act t (decode_of c.word) c.straight alive in
@@ -241,7 +251,9 @@ module _ (g : Setting) (l : Pieces) (base : ℕ) (p : Placement) (place : ℕ �
           has = has;
           runs = can_run g l base p place f h (act t (decode_of c.word)) valid alive onpc went.2 has;
         } in
-        let rest = onward fit pc in
+        let tail = onward fit pc in
+        let rest = tail.0 in
+        let spared = one_spares apart alive in
         let way = leads_then (IsBare g l base p place f h) t (act t (decode_of c.word)) _ 1 rest.count
         (leads_one _ t _ stands.one) rest.path (λ _ some. rest.begins some) in
         let few = rest.few in
@@ -280,6 +292,19 @@ module _ (g : Setting) (l : Pieces) (base : ℕ) (p : Placement) (place : ℕ �
             waits = λ e. let none = vwent.2 in absurd (cc);
           };
           place = λ e. absurd (e live);
+          sparing = λ w.
+              let there = watched w in
+              let first_word = spared.0 in
+              let more = rest.spares there in
+              let both = count_add (is_spill g.notes) t (act t (decode_of c.word)) 1 stands.one rest.count in
+              record {
+                spills = omega (arith, first_word, more, both);
+                first = λ short.
+                    none_then in_first_word t (act t (decode_of c.word)) 1 rest.count stands.one spared.1
+                    (rest.leaves_first there short);
+                alone = λ short none _. let nothing = tail.1 there none in omega (arith, nothing);
+                few = λ short none. let brief = rest.brief there short in omega (arith, none, brief);
+              };
         }
 
 pub plains_visit : PlainsVisit
@@ -302,49 +327,55 @@ judged_moved notes x t instr apart = judged_alike notes instr (at_point x t) t (
 }) apart
 
 -- The word ends the run as the original's does, or control goes on from item 3 of its piece.
-pub marked_step : (g : Setting) (l : Pieces) (base : ℕ) (p : Placement) (place : ℕ → ℕ → ℕ) (f : Frame)
+pub marked_step : (next : Option ℕ) (g : Setting) (l : Pieces) (base : ℕ) (p : Placement) (place : ℕ → ℕ → ℕ) (f : Frame)
     (node : Node) (x : Point) (t : State) (h : IsPlaced g l base p place f) → Here g l base p f node x t
     → (c : IsMarkedWord g l p f node x) → AllApart (pages_of g.notes) (judged_by (at_point x t) (decode_of c.word))
     → ((does_at g x t).ending ≡ None → IsFit g l base p place f h (act t (decode_of c.word))
     → (act t (decode_of c.word)).pc ≡ place c.piece 3
-    → Arrives g l base p place f h (gone_at g node x (does_at g x t)) (act t (decode_of c.word))
+    → Tail g l base p place f h next (gone_at g node x (does_at g x t)) (act t (decode_of c.word))
     (next_visit g l p f node x t) 24)
+    → ((does_at g x t).ending ≡ None → IsWatched g (gone_at g node x (does_at g x t)) x (does_at g x t) → next ≢ None)
     → StepsOn g (Here g l base p f) (HasShortForms l.list place) (gone_at g node x (does_at g x t)) node x t (does_at g x t)
-marked_step g l base p place f node x t h here c apart onward =
+marked_step next g l base p place f node x t h here c apart onward watched =
     let is : does_at g x t ≡ act (at_point x t) (decode_of c.word) = ap (on_word (at_point x t)) c.is_word in
     subst (λ (z : State). StepsOn g (Here g l base p f) (HasShortForms l.list place) (gone_at g node x z) node x t z) (sym is)
     (by (act (at_point x t) (decode_of c.word)).ending refl
     (subst (λ (z : State). z.ending ≡ None → Onward (gone_at g node x z)
-    (visited_at g l p f (node_after (graph_in g) node (gone_at g node x z)) (point_of z))) is onward))
+    (visited_at g l p f (node_after (graph_in g) node (gone_at g node x z)) (point_of z))) is onward)
+    (subst (λ (z : State). z.ending ≡ None → IsWatched g (gone_at g node x z) x z → next ≢ None) is watched))
   where
     Onward : List ℕ → ℕ → Type 0
     Onward edges to =
         IsFit g l base p place f h (act t (decode_of c.word)) → (act t (decode_of c.word)).pc ≡ place c.piece 3
-        → Arrives g l base p place f h edges (act t (decode_of c.word)) to 24
+        → Tail g l base p place f h next edges (act t (decode_of c.word)) to 24
 
     by : (e : Option Ending) → (act (at_point x t) (decode_of c.word)).ending ≡ e
         → ((act (at_point x t) (decode_of c.word)).ending ≡ None
         → Onward (gone_at g node x (act (at_point x t) (decode_of c.word))) (visited_at g l p f
         (node_after (graph_in g) node (gone_at g node x (act (at_point x t) (decode_of c.word))))
         (point_of (act (at_point x t) (decode_of c.word)))))
+        → ((act (at_point x t) (decode_of c.word)).ending ≡ None
+        → IsWatched g (gone_at g node x (act (at_point x t) (decode_of c.word))) x (act (at_point x t) (decode_of c.word))
+        → next ≢ None)
         → StepsOn g (Here g l base p f) (HasShortForms l.list place) (gone_at g node x (act (at_point x t) (decode_of c.word))) node x t
         (act (at_point x t) (decode_of c.word))
-    by None e onward = goes g l base p place f h node x t here c _
+    by None e onward watched = goes g l base p place f h node x t here c next _
         (gone_last g l f h.cells node x (act (at_point x t) (decode_of c.word))) e apart
-        (judged_moved g.notes x t (decode_of c.word) apart) (onward e)
-    by (Some d) e onward =
+        (judged_moved g.notes x t (decode_of c.word) apart) (onward e) (watched e)
+    by (Some d) e onward watched =
         subst (λ z. StepsOn g (Here g l base p f) (HasShortForms l.list place) z node x t (act (at_point x t) (decode_of c.word)))
         (sym (ended_none g node x (act (at_point x t) (decode_of c.word)) d e))
         (ends g l base p place f h node x t here c d e (judged_moved g.notes x t (decode_of c.word) apart))
 
 pub plains_step : PlainsStep
 plains_step g l base p place f node x t h here c apart =
-    marked_step g l base p place f node x t h here (marked g l p place f node x t c) apart (λ live fit pc.
-    weaker_arrives g l base p place f h (gone_at g node x (does_at g x t)) (act t (decode_of c.word))
+    marked_step (word_ahead g x t) g l base p place f node x t h here (marked g l p place f node x t c) apart
+    (λ live fit pc.
+    weaker_tail g l base p place f h (gone_at g node x (does_at g x t)) (act t (decode_of c.word))
     (next_visit g l p f node x t) 8 24 (omega arith)
     (tail g l base p place f h c.piece c.rest c.address (number_in g node) (it.Word c.word) c.items
     (gone_at g node x (does_at g x t)) (act t (decode_of c.word)) (word_ahead g x t) (next_visit g l p f node x t) fit pc
-    (c.leads live)))
+    (c.leads live))) (λ live w. w.inside)
 
 -- ---- branches
 

@@ -1,6 +1,5 @@
 -- The cells in memory: what leaves them as they are, and what the snippets of some edges make of them.
-use Rattle.std.proofs.Common.{◌≡◌, ℕ, ◌+◌, ◌*◌, ◌^◌, ◌<◌, ◌≤◌, ◌⊎◌, inl, inr, true, List, [], ◌∷◌, ◌++◌, length, map, refl, ap, sym, ◌∙◌, subst, arith}
-use Rattle.std.specs.List.{range_with_len}
+use Rattle.std.proofs.Common.{◌≡◌, ℕ, ◌+◌, ◌^◌, ◌<◌, ◌≤◌, ◌⊎◌, inl, inr, true, List, [], ◌∷◌, ◌++◌, length, refl, ap, sym, ◌∙◌, subst, arith}
 use Rattle.std.proofs.Math.Seq.{ext_get_or}
 use Rattle.std.proofs.lemmas.List.FromFn.{get_or-map-range_with_len, length-map-range_with_len}
 use Rattle.v8_decode.specs.declared.Instr.{Instr}
@@ -75,7 +74,7 @@ operations_then snips (edge ∷ edges) others =
     omega (arith, more)
 
 module _ (g : Setting) (l : Pieces) (f : Frame) (framed : IsFramed g f) (has : HasCells g l f) where
-  cell_low : (cell : ℕ) → cell < g.notes.cells → cell_at g.notes.base cell + 4 ≤ 2 ^ 31
+  pub cell_low : (cell : ℕ) → cell < g.notes.cells → cell_at g.notes.base cell + 4 ≤ 2 ^ 31
   cell_low cell within = let low = has.low in omega (arith, low, within)
 
   pub cell_stored : (m : Memory) → IsOurs (pages_of g.notes) f.own m → (cell : ℕ) → cell < g.notes.cells

@@ -1,5 +1,5 @@
 -- A transfer in the slot of another one.
-use Rattle.std.proofs.Common.{◌≡◌, ◌≢◌, ℕ, suc, ◌+◌, ◌*◌, ◌^◌, ◌<◌, ◌≤◌, true, false, Option, Some, List, [], ◌++◌, length, refl, ap, sym, ◌∙◌, subst, arith}
+use Rattle.std.proofs.Common.{◌≡◌, ◌≢◌, ℕ, suc, ◌+◌, ◌*◌, ◌^◌, ◌<◌, ◌≤◌, Bool, true, false, Option, Some, List, [], ◌++◌, length, refl, ap, sym, ◌∙◌, subst, arith}
 use Rattle.std.specs.Prelude.{slice_get}
 use Rattle.v8_decode.specs.declared.Instr.{Instr}
 use Rattle.v8_decode.specs.declared.Instr.TheVariants as i
@@ -19,15 +19,18 @@ use Rattle.v8_step.proofs.Alike.{live_puts}
 use Rattle.cfg_normal.specs.declared.Node.{Node}
 use Rattle.cfg_walk.specs.Walk.{Point}
 use Rattle.cfg_walk.proofs.Ways.{always_holds}
+use Rattle.code_runs.specs.Counted.{count_stores}
 use Rattle.code_runs.proofs.Acts.{step_is}
+use Rattle.code_runs.proofs.Counted.{no_stores, none_then}
 use Rattle.layout.specs.declared.items.Item.{Item}
 use Rattle.layout.specs.declared.items.Item.TheVariants as it
 use Rattle.layout.specs.Laid.{HasShortForms, Placement, item_at, item_in, items_in, size_of, open_in, range_in, range_of, IsWordAt}
 use Rattle.layout.proofs.Going.{taken_acts, word_is}
-use Rattle.image_code.specs.Simulates.{Setting, StepsOn, IsOnWay, at_point, does_at, gone_at, number_in}
+use Rattle.image_code.specs.Simulates.{Setting, StepsOn, IsOnWay, in_first_word, is_spill, at_point, does_at, gone_at, number_in}
 use Rattle.image_code.specs.Images.{Pieces, Frame, Here, IsPlaced}
 use Rattle.image_code.specs.Couple.{couple_piece, IsCouple, CouplesStep}
 use Rattle.image_code.proofs.Memories.{fetch_is}
+use Rattle.image_code.proofs.Sparing.{transfers}
 use Rattle.image_code.proofs.Cases.{ended_none, on_range, node_is, outside_refl, no_puts}
 
 couple_acts : (s : State) (x : Instr) → is_transfer x ≡ true → s.slot ≢ NoSlot → act s x ≡ ended s Couple
@@ -161,6 +164,16 @@ module _ (g : Setting) (l : Pieces) (base : ℕ) (p : Placement) (place : ℕ �
       ap (λ (z : State). puts_of t descriptor ++ puts_of z descriptor) one
       ∙ ap (λ z. z ++ puts_of (record t { pc = t.npc; npc = target_of t c.disp; slot = Taken }) descriptor) a ∙ b
 
+  -- neither word stores anything
+  stores_none : (counted : ℕ → Bool) → count_stores counted t 2 ≡ 0
+  unfolding mid
+  stores_none counted =
+      none_then counted t mid 1 1 one
+      (no_stores counted t (i.Branch 8 false c.disp) here.live (record { word = c.ba; fetched = fetched; decodes = c.says })
+      refl)
+      (no_stores counted mid (i.Branch 8 false c.disp) here.live
+      (record { word = c.ba; fetched = fetched_mid; decodes = c.says }) refl)
+
   steps : StepsOn g (Here g l base p f) (HasShortForms l.list place) [] node x t (ended (at_point x t) Couple)
   unfolding mid
   steps = record {
@@ -197,6 +210,15 @@ module _ (g : Setting) (l : Pieces) (base : ℕ) (p : Placement) (place : ℕ �
         node_is g l base p place f h t.npc
         (Some (record { lo = place c.piece 1; hi = place c.piece 3; address = c.address.0; node = number_in g node }))
         (omega arith) (omega arith) (in_range t.npc (omega arith) (omega arith));
+    sparing = λ w.
+        let none = stores_none (is_spill g.notes) in
+        let moves = transfers g.text x.pc c.word c.is_word c.transfer in
+        record {
+          spills = omega (arith, none);
+          first = λ _. stores_none in_first_word;
+          alone = λ _ _ straight. absurd (cc);
+          few = λ _ _. omega arith;
+        };
   }
 
 pub couples_step : CouplesStep

@@ -1,7 +1,7 @@
 -- What is dead on a way along some edges: only behind the snippet of the last of them, so that no snippet reads a register
 -- that an earlier one left with anything else.
 use Rattle.std.proofs.Common.{◌≡◌, ℕ, ◌<◌, ◌≤◌, ◌⊎◌, inl, inr, Bool, true, false, ◌&&◌, Option, Some, None, List, [], ◌∷◌, ◌++◌, length, refl, ap, sym, ◌∙◌, subst, arith}
-use Rattle.std.specs.Prelude.{if◌then◌else◌, ◌==◌, ◌-◌, get_or, slice_get, slice_index}
+use Rattle.std.specs.Prelude.{if◌then◌else◌, ◌-◌, get_or, slice_get, slice_index}
 use Rattle.std.specs.List.{position}
 use Rattle.std.specs.Option.{option_to_list}
 use Rattle.std.proofs.lemmas.Bool.{and_parts}
@@ -25,7 +25,7 @@ use Rattle.cfg_normal.specs.declared.Edge.{Edge}
 use Rattle.cfg_normal.specs.declared.Node.{Node}
 use Rattle.cfg_normal.specs.declared.Node.TheVariants.{X}
 use Rattle.cfg_normal.specs.declared.Slot.TheVariants.{Nothing}
-use Rattle.cfg_walk.specs.Walk.{Point, completed, edge_along, edge_from, gone, instr_at, landed, leads_along, left_at, left_by, point_of, same_kind, same_node, slot_left, unless_ended, way_of, way_to}
+use Rattle.cfg_walk.specs.Walk.{Point, completed, gone, instr_at, landed, leads_along, left_at, left_by, point_of, same_kind, same_node, slot_left, unless_ended, way_of}
 use Rattle.code_runs.specs.Hops.{hopped}
 use Rattle.image_code.specs.Simulates.{IsFollowedBy, IsKept, Setting, gone_at, graph_in, is_out}
 use Rattle.image_code.specs.Images.{Frame, HasCells, Pieces}

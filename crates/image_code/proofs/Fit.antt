@@ -34,13 +34,12 @@ use Rattle.cfg_walk.specs.Matches.{way_address}
 use Rattle.cfg_normal.specs.Numbers.{node_number}
 use Rattle.cfg_walk.proofs.Addresses.{word_at-address}
 use Rattle.cfg_walk.proofs.Lists.{Each, each, each_at, each-append, each-below, each-map}
-use Rattle.addr_translate.specs.Translator.{translator}
 use Rattle.code_runs.specs.LongJump.{long_jump}
 use Rattle.jump_code.specs.Jumps.{jump_image}
 use Rattle.jump_code.specs.Leaving.{foreign}
 use Rattle.jump_code.specs.Links.{link}
 use Rattle.jump_code.specs.LookUps.{look_up}
-use Rattle.jump_code.specs.Pieces.{call_piece, far_piece, foreign_piece, jump_piece, out_piece, word_items}
+use Rattle.jump_code.specs.Pieces.{call_piece, far_piece, foreign_piece, jump_piece, word_items}
 use Rattle.layout.specs.Emitting.{words_of}
 use Rattle.layout.specs.declared.items.Item.{Item}
 use Rattle.layout.specs.declared.items.Item.TheVariants as it

@@ -1,5 +1,5 @@
 -- A nop and then the way.
-use Rattle.std.proofs.Common.{◌≡◌, ℕ, ◌+◌, Option, None, [], ◌∷◌, ◌++◌, length, append-nil, refl, ap, sym, ◌∙◌, subst, arith}
+use Rattle.std.proofs.Common.{◌≡◌, ℕ, ◌+◌, Bool, Option, None, [], ◌∷◌, ◌++◌, append-nil, refl, ap, sym, ◌∙◌, subst, arith}
 use Rattle.v8_decode.specs.declared.Instr.{Instr}
 use Rattle.v8_alu.specs.Numbers.{wrapped}
 use Rattle.v8_memory.specs.Regions.{Memory}
@@ -8,6 +8,7 @@ use Rattle.v8_step.specs.declared.Slot.TheVariants.{NoSlot}
 use Rattle.v8_step.specs.State.{State, register_of}
 use Rattle.v8_step.specs.Step.{act, step_of, puts_by, puts_on_word}
 use Rattle.v8_step.specs.Run.{run_puts}
+use Rattle.v8_step.specs.Items.{is_transfer}
 use Rattle.v8_step.specs.Valid.{IsValid}
 use Rattle.v8_step.specs.Visits.{pages_of}
 use Rattle.v8_step.proofs.Alike.{live_puts}
@@ -16,10 +17,12 @@ use Rattle.cfg_walk.specs.Walk.{Point, point_of, node_after}
 use Rattle.cfg_normal.specs.declared.Node.{Node}
 use Rattle.code_runs.specs.Points.{moved}
 use Rattle.code_runs.specs.Hops.{hopped}
+use Rattle.code_runs.specs.Counted.{count_stores}
+use Rattle.code_runs.proofs.Counted.{count_add, no_stores, none_then}
 use Rattle.code_runs.proofs.Leads.{leads_one, leads_then, puts_add}
 use Rattle.layout.specs.declared.items.Item.TheVariants as it
 use Rattle.layout.specs.Laid.{HasShortForms, nop, Placement}
-use Rattle.image_code.specs.Simulates.{Setting, StepsOn, at_point, cells_in, does_at, gone_at, graph_in, number_in}
+use Rattle.image_code.specs.Simulates.{Setting, StepsOn, in_first_word, is_spill, at_point, cells_in, does_at, gone_at, graph_in, number_in}
 use Rattle.image_code.specs.Images.{Pieces, Frame, Here, IsPlaced, visited_at}
 use Rattle.image_code.specs.Cases.{word_ahead}
 use Rattle.image_code.specs.Idle.{IsIdle, IdlesStep}
@@ -28,6 +31,7 @@ use Rattle.image_code.proofs.BranchMoves.{branch_moves}
 use Rattle.image_code.proofs.Memories.{fetch_is, images_stored, same_stored}
 use Rattle.image_code.proofs.Cases.{StandsAt, stands_at, can_run, jump_then, quiet_of, alike_hopped, bare_on, followed_alike, gone_last, IsBare, IsFit, no_puts}
 use Rattle.image_code.proofs.Cells.{updates_same}
+use Rattle.image_code.proofs.Sparing.{transfers}
 
 module _ (g : Setting) (l : Pieces) (base : ℕ) (p : Placement) (place : ℕ → ℕ → ℕ) (f : Frame)
     (h : IsPlaced g l base p place f)
@@ -50,6 +54,10 @@ module _ (g : Setting) (l : Pieces) (base : ℕ) (p : Placement) (place : ℕ �
   puts_first descriptor =
       live_puts t c.word descriptor here.live (fetch_is t.memory t.pc ∙ stands.fetched)
       ∙ ap (λ (q : Instr). puts_by t q descriptor) c.idle ∙ idle_puts t descriptor
+
+  first_none : (counted : ℕ → Bool) → count_stores counted t 1 ≡ 0
+  first_none counted =
+      no_stores counted t nop here.live (record { word = c.word; fetched = stands.fetched; decodes = c.idle }) refl
 
   steps : StepsOn g (Here g l base p f) (HasShortForms l.list place) (gone_at g node x (does_at g x t)) node x t (does_at g x t)
   steps =
@@ -143,6 +151,21 @@ module _ (g : Setting) (l : Pieces) (base : ℕ) (p : Placement) (place : ℕ �
           waits = λ a b. absurd (c.never a b);
         };
         place = λ e. absurd (e (ap (λ (z : State). z.ending) same ∙ here.live));
+        sparing = λ w.
+            let none = first_none (is_spill g.notes) in
+            let more = rest.spares w.inside in
+            let both = count_add (is_spill g.notes) t
+            (record t { pc = t.npc; npc = wrapped (t.npc + 4); slot = NoSlot }) 1 idle_step rest.count in
+            let moves = transfers g.text x.pc c.original_word c.is_word (ap is_transfer c.says) in
+            record {
+              spills = omega (arith, none, more, both);
+              first = λ short.
+                  none_then in_first_word t (record t { pc = t.npc; npc = wrapped (t.npc + 4); slot = NoSlot }) 1 rest.count
+                  idle_step (first_none in_first_word) (rest.leaves_first w.inside short);
+              alone = λ _ _ straight. absurd (cc);
+              few = λ short no_operations.
+                  let brief = rest.brief w.inside short in omega (arith, no_operations, brief);
+            };
       }
 
 pub idles_step : IdlesStep

@@ -1,5 +1,5 @@
 -- The words of a JMPL, and then the way; or the ending that a misaligned target has.
-use Rattle.std.proofs.Common.{◌≡◌, ◌≢◌, ℕ, zero, suc, ◌+◌, ◌-◌, ◌*◌, ◌%◌, ◌^◌, ◌<◌, ◌≤◌, ◌⊎◌, inl, inr, Option, Some, None, List, [], length, refl, ap, sym, ◌∙◌, subst, arith}
+use Rattle.std.proofs.Common.{◌≡◌, ◌≢◌, ℕ, zero, suc, ◌+◌, ◌-◌, ◌%◌, ◌^◌, ◌<◌, ◌≤◌, ◌⊎◌, inl, inr, false, Option, Some, None, List, [], length, refl, ap, sym, ◌∙◌, subst, arith}
 use Rattle.eel_base.specs.CodeText.{word_at}
 use Rattle.v8_decode.specs.declared.Instr.{Instr}
 use Rattle.v8_decode.specs.declared.Instr.TheVariants as i
@@ -18,7 +18,7 @@ use Rattle.v8_step.specs.Valid.{IsValid}
 use Rattle.v8_step.specs.Visits.{pages_of}
 use Rattle.v8_step.proofs.ValidSteps.{run-valid}
 use Rattle.cfg_normal.specs.declared.Node.{Node}
-use Rattle.cfg_walk.specs.Walk.{Point, point_of, node_after}
+use Rattle.cfg_walk.specs.Walk.{Point, instr_at, point_of, node_after}
 use Rattle.code_runs.specs.Page.{page_word}
 use Rattle.code_runs.specs.Points.{moved}
 use Rattle.code_runs.specs.StoredWords.{Stores}
@@ -33,7 +33,7 @@ use Rattle.jump_code.specs.Links.{link}
 use Rattle.jump_code.specs.PageWords.{IsPageWord}
 use Rattle.jump_code.proofs.Following.{goes, stops, jumps_simulate}
 use Rattle.jump_code.proofs.Laid.{pieces_are_laid}
-use Rattle.image_code.specs.Simulates.{Setting, StepsOn, IsOnWay, at_point, does_at, gone_at, graph_in, number_in, word_of}
+use Rattle.image_code.specs.Simulates.{Setting, StepsOn, IsOnWay, is_jmpl, at_point, does_at, gone_at, graph_in, number_in, word_of}
 use Rattle.image_code.specs.Images.{Pieces, Frame, Here, IsPlaced, visited_at}
 use Rattle.image_code.specs.Cases.{LeadsTo}
 use Rattle.image_code.specs.Calls.{IsJump, JumpsStep}
@@ -41,6 +41,7 @@ use Rattle.image_code.proofs.Memories.{same_stored}
 use Rattle.image_code.proofs.Cases.{ended_none, live_before}
 use Rattle.image_code.proofs.Couple.{quiet_transfer}
 use Rattle.image_code.proofs.Dead.{LastDead, gone_last}
+use Rattle.image_code.proofs.Sparing.{instr_is, transfers}
 use Rattle.image_code.proofs.Through.{AtWords, at_words, own_stored, goes_through, page_cells}
 
 link_few : (rd address : ℕ) → length (link rd address) ≤ 2
@@ -137,6 +138,10 @@ module _ (g : Setting) (l : Pieces) (base : ℕ) (p : Placement) (place : ℕ �
       ap (λ (o : Option ℕ). puts_on_word (at_point x t) o descriptor) c.is_word
       ∙ quiet_transfer (at_point x t) (decode_of c.word) descriptor (ap is_transfer c.says)
 
+  -- the instruction is a JMPL
+  jumping : is_jmpl (instr_at g.text x.pc) ≡ false → ⊥
+  jumping e = let is = ap is_jmpl (instr_is g.text x.pc c.word c.is_word ∙ ap (λ (z : Instr). Some z) c.says) in cc
+
   going : (edges : List ℕ) → LastDead g edges → after_jump.ending ≡ None
       → LeadsTo l p c.way edges (word_at g.text after_jump.pc) (visited_at g l p f (node_after (graph_in g) node edges)
       (point_of after_jump))
@@ -154,6 +159,9 @@ module _ (g : Setting) (l : Pieces) (base : ℕ) (p : Placement) (place : ℕ �
         memory = memory_is;
         quiet = quiet;
         waits = λ _ _. (on.waits, aligned live);
+        transfer = transfers g.text x.pc c.word c.is_word (ap is_transfer c.says);
+        two = λ other. absurd (jumping other);
+        stored = λ other. absurd (jumping other);
       }) leads
 
   ends : (d : Ending) → after_jump.ending ≡ Some d → StepsOn g (Here g l base p f) (HasShortForms l.list place) [] node x t after_jump
@@ -190,6 +198,7 @@ module _ (g : Setting) (l : Pieces) (base : ℕ) (p : Placement) (place : ℕ �
             traps.after.memory traps.stores;
         here = λ live. absurd (cc);
         place = λ _. ahead.there traps.after.pc (omega arith) (omega arith);
+        sparing = λ watched. absurd (jumping watched.jump);
       }
     where
       on_way : (run t 4).ending ≡ None → (j : ℕ) → 0 < j → j < 5 → IsBetween t 6 IsPageWord (run t j)

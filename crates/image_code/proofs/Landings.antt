@@ -1,13 +1,11 @@
 -- The way along the edge of a JMPL: the copy of its slot's word, the snippet, and the look-up, which leads to a landing or to
 -- the foreign piece.
-use Rattle.std.proofs.Common.{◌≡◌, ℕ, suc, ◌+◌, ◌-◌, ◌*◌, ◌%◌, ◌^◌, ◌<◌, ◌≤◌, ◌⊎◌, inl, inr, true, false, Option, Some, None, List, [], ◌∷◌, ◌++◌, length, map, append-nil, refl, ap, sym, ◌∙◌, subst, arith}
-use Rattle.std.specs.Prelude.{slice_get, slice_index}
+use Rattle.std.proofs.Common.{◌≡◌, ℕ, ◌+◌, ◌*◌, ◌%◌, ◌^◌, ◌<◌, ◌≤◌, inl, inr, true, false, Option, Some, None, List, [], ◌∷◌, ◌++◌, length, map, append-nil, refl, ap, sym, ◌∙◌, subst, arith}
+use Rattle.std.specs.Prelude.{slice_get}
 use Rattle.std.specs.List.{flat_map}
 use Rattle.std.proofs.lemmas.Bool.{cases_lt}
 use Rattle.eel_base.specs.CodeText.{word_at}
-use Rattle.eel_base.specs.declared.numbers.PieceNo.{PieceNo}
 use Rattle.v8_decode.specs.Words.{decode_of}
-use Rattle.v8_alu.specs.Numbers.{wrapped}
 use Rattle.v8_memory.specs.Regions.{code_of}
 use Rattle.v8_memory.specs.Spans.{AllApart}
 use Rattle.v8_step.specs.declared.Slot.{Slot}
@@ -21,9 +19,8 @@ use Rattle.cfg_normal.specs.declared.Node.{Node}
 use Rattle.cfg_walk.specs.Walk.{Point, node_after, point_of}
 use Rattle.code_runs.specs.Hops.{hopped}
 use Rattle.code_runs.specs.Leads.{Leads}
-use Rattle.code_runs.specs.Ours.{IsAmongWords}
 use Rattle.code_runs.specs.Page.{page_word}
-use Rattle.code_runs.specs.StoredWords.{CanStore, memory_word, store_word}
+use Rattle.code_runs.specs.StoredWords.{CanStore, store_word}
 use Rattle.code_runs.specs.Straight.{HasWords, StandIn}
 use Rattle.code_runs.proofs.Leads.{leads_weaker}
 use Rattle.code_runs.proofs.StoredWords.{other_word_stored}
@@ -41,13 +38,13 @@ use Rattle.layout.specs.declared.items.Item.{Item}
 use Rattle.layout.specs.declared.items.Item.TheVariants as it
 use Rattle.layout.specs.Emitting.{words_of}
 use Rattle.layout.specs.Laid.{Placement}
-use Rattle.image_code.specs.Simulates.{Setting, StepsOn, at_point, cells_in, does_at, gone_at, graph_in, number_in}
-use Rattle.image_code.specs.Images.{Pieces, Frame, HasImages, Here, IsPlaced, visited_at, visited_by}
-use Rattle.image_code.specs.Cases.{LeadsTo, next_visit, words_on}
+use Rattle.image_code.specs.Simulates.{NoneIsOut, Setting, at_point, does_at, gone_at, graph_in, number_in}
+use Rattle.image_code.specs.Images.{Pieces, Frame, Here, IsPlaced, visited_by}
+use Rattle.image_code.specs.Cases.{next_visit, words_on}
 use Rattle.image_code.specs.Landings.{IsJumpsSlot, JumpSlotsStep, Lands}
-use Rattle.image_code.proofs.Arrives.{AreUnmarked, Arrives, IsBare, IsFit, Rest, Stood, arrive, arrived, length_words, on_then, rest_behind, rest_marked, rest_whole, second_there, snippets_run, stood, stood_low, weaker_arrives, words_unmarked}
+use Rattle.image_code.proofs.Arrives.{AreUnmarked, Arrives, IsBare, IsFit, Rest, Stood, arrive, arrived, length_words, on_then, rest_behind, rest_marked, rest_whole, second_there, snippets_run, unwatched, stood, stood_low, weaker_arrives, words_unmarked}
 use Rattle.image_code.proofs.Cases.{IsMarkedWord, judged_moved, marked_step}
-use Rattle.image_code.proofs.Cells.{cells_above, page_above, word_kept}
+use Rattle.image_code.proofs.Cells.{cells_above, page_above}
 use Rattle.image_code.proofs.Dead.{alike_itself}
 use Rattle.image_code.proofs.Through.{own_stored}
 
@@ -147,7 +144,7 @@ module _ (g : Setting) (l : Pieces) (base : ℕ) (p : Placement) (place : ℕ �
           }
 
       pub looks_up : (target : ℕ) → waiting a ≡ target → looked_up f.table target % 4 ≡ 0
-          → Arrives g l base p place f h [] a (looked_up f.table target) 18
+          → Arrives g l base p place f h None [] a (looked_up f.table target) 18
       looks_up target waits aligned =
           let looks : LooksUp f.table a =
           look_ups_hop c.translator f.table a c.translates (about (ap (λ z. looked_up f.table z % 4) waits ∙ aligned)) in
@@ -168,13 +165,16 @@ module _ (g : Setting) (l : Pieces) (base : ℕ) (p : Placement) (place : ℕ �
             begins = λ _. looking_bare a (omega arith) (omega arith);
             alike = alike_itself g [] a;
             still = λ _. refl;
+            spares = λ there. absurd (there refl);
+            leaves_first = λ there _. absurd (there refl);
+            brief = λ there _. absurd (there refl);
           }
 
   -- ---- the foreign piece
 
   pub leaves : (k : ℕ) → slice_get l.list k ≡ Some foreign_piece → (a : State) → IsFit g l base p place f h a
       → a.pc ≡ place k 0 → (target : ℕ) → waiting a ≡ target → target % 4 ≡ 0
-      → Arrives g l base p place f h [] a target 4
+      → Arrives g l base p place f h None [] a target 4
   leaves k is a fit at target waits aligned =
       let r : Rest l k 0 (foreign_piece ++ []) =
       subst (Rest l k 0) (sym (append-nil foreign_piece))
@@ -210,6 +210,9 @@ module _ (g : Setting) (l : Pieces) (base : ℕ) (p : Placement) (place : ℕ �
         begins = λ _. there.bare a (omega (arith, at)) (omega (arith, at));
         alike = alike_itself g [] a;
         still = λ _. refl;
+        spares = λ there. absurd (there refl);
+        leaves_first = λ there _. absurd (there refl);
+        brief = λ there _. absurd (there refl);
       }
 
   -- ---- the whole way
@@ -234,12 +237,12 @@ module _ (g : Setting) (l : Pieces) (base : ℕ) (p : Placement) (place : ℕ �
         → (act t (decode_of c.word)).pc ≡ place c.piece 3 → looked_up f.table x.npc % 4 ≡ 0
         → looked_up f.table x.npc ≤ 2 ^ 31
         → ((b : State) → IsFit g l base p place f h b → b.pc ≡ looked_up f.table x.npc → waiting b ≡ x.npc
-        → Arrives g l base p place f h c.landing b to 4)
-        → Arrives g l base p place f h (c.edge ∷ c.landing) (act t (decode_of c.word)) to 24
+        → Arrives g l base p place f h None c.landing b to 4)
+        → Arrives g l base p place f h None (c.edge ∷ c.landing) (act t (decode_of c.word)) to 24
     onward to fit at aligned low_there behind =
         let a : State = act t (decode_of c.word) in
         let edges = c.edge ∷ [] in
-        let one = snippets_run g l base p place f h (c.edge ∷ []) c.piece 3 (looking c.translator) rest
+        let one = snippets_run g l base p place f h None (c.edge ∷ []) c.piece 3 (looking c.translator) rest
         (act t (decode_of c.word)) fit at in
         let n = 3 + length (flat_map l.codes (c.edge ∷ [])) in
         let mid = place c.piece (3 + length (flat_map l.codes (c.edge ∷ []))) in
@@ -255,7 +258,7 @@ module _ (g : Setting) (l : Pieces) (base : ℕ) (p : Placement) (place : ℕ �
         let fit3 : IsFit g l base p place f h (hopped two.other there two.memory) =
         arrived g l base p place f h [] b there 18 fit2 low_there two in
         let three = behind (hopped two.other there two.memory) fit3 refl (two.waits ∙ one.waits ∙ target_waits) in
-        let both : Arrives g l base p place f h c.landing b to (18 + 4) =
+        let both : Arrives g l base p place f h None c.landing b to (18 + 4) =
         on_then g l base p place f h c.landing [] c.landing refl b there to 18 4 two three in
         weaker_arrives g l base p place f h (c.edge ∷ c.landing) a to (0 + (18 + 4)) 24 (omega arith)
         (on_then g l base p place f h (c.edge ∷ c.landing) (c.edge ∷ []) c.landing refl a mid to 0 (18 + 4) one both)
@@ -263,30 +266,40 @@ module _ (g : Setting) (l : Pieces) (base : ℕ) (p : Placement) (place : ℕ �
     lands : (to : ℕ) → IsFit g l base p place f h (act t (decode_of c.word))
         → (act t (decode_of c.word)).pc ≡ place c.piece 3 → Lands g l p f c.landing x.npc to
         → (word_at g.text x.npc ≡ None → to ≡ x.npc)
-        → Arrives g l base p place f h (c.edge ∷ c.landing) (act t (decode_of c.word)) to 24
+        → Arrives g l base p place f h None (c.edge ∷ c.landing) (act t (decode_of c.word)) to 24
     lands to fit at (inl (piece, within, found, leads)) out =
         let place_there = h.laid.aligned piece.0 in
         let multiple : looked_up f.table x.npc % 4 ≡ 0 = ap (λ z. z % 4) found ∙ place_there.0 in
         let low = place_there.1 in
         onward to fit at multiple (omega (arith, found, low)) (λ b fit2 there waits.
-        arrive g l base p place f h piece c.landing b (word_at g.text x.npc) to fit2 (there ∙ found) leads)
+        unwatched g l base p place f h (word_at g.text x.npc) c.landing b to 4
+        (arrive g l base p place f h piece c.landing b (word_at g.text x.npc) to fit2 (there ∙ found) leads))
     lands to fit at (inr (no_landing, (piece, within, found, is, none))) out =
         let place_there = h.laid.aligned piece.0 in
         let multiple : looked_up f.table x.npc % 4 ≡ 0 = ap (λ z. z % 4) found ∙ place_there.0 in
         let low = place_there.1 in
         onward to fit at multiple (omega (arith, found, low)) (λ b fit2 there waits.
-        subst (λ z. Arrives g l base p place f h z b to 4) (sym no_landing)
-        (subst (λ z. Arrives g l base p place f h [] b z 4) (sym (out none))
+        subst (λ z. Arrives g l base p place f h None z b to 4) (sym no_landing)
+        (subst (λ z. Arrives g l base p place f h None [] b z 4) (sym (out none))
         (leaves piece.0 is b fit2 (there ∙ found ∙ h.laid.starts piece.0 within) x.npc waits (here.waits c.slot c.out).1)))
 
 pub jump_slots_step : JumpSlotsStep
 jump_slots_step g l base p place f node x t h here c apart =
-    marked_step g l base p place f node x t h here word apart (λ live fit at.
-    subst (λ z. Arrives g l base p place f h z (act t (decode_of c.word)) (next_visit g l p f node x t) 24)
-    (sym (c.completes live))
-    (lands g l base p place f h node x t here c (judged_moved g.notes x t (decode_of c.word) apart)
-    (next_visit g l p f node x t) fit at (c.lands live) (out live)))
+    marked_step None g l base p place f node x t h here word apart (λ live fit at. (
+      subst (λ z. Arrives g l base p place f h None z (act t (decode_of c.word)) (next_visit g l p f node x t) 24)
+          (sym (c.completes live))
+          (lands g l base p place f h node x t here c (judged_moved g.notes x t (decode_of c.word) apart)
+          (next_visit g l p f node x t) fit at (c.lands live) (out live)),
+      λ there none. absurd (there refl),
+    )) (λ live w. absurd (unwatched_out live w.out))
   where
+    -- along the edge of a jump it isn't told what is stored
+    unwatched_out : (does_at g x t).ending ≡ None → NoneIsOut (graph_in g) (gone_at g node x (does_at g x t)) → ⊥
+    unwatched_out live none =
+        let outward = c.outward in
+        let other = (subst (NoneIsOut (graph_in g)) (c.completes live) none).0 in
+        cc
+
     word : IsMarkedWord g l p f node x
     word = record {
       piece = c.piece;

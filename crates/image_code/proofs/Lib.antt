@@ -3,6 +3,7 @@ pub mod Branches
 pub mod Ended
 pub mod Between
 pub mod Cells
+pub mod Sparing
 pub mod Arrives
 pub mod Cases
 pub mod Couple

@@ -1,14 +1,12 @@
 -- Nothing can be fetched outside the code: there the run ends, as the original's does.
-use Rattle.std.proofs.Common.{◌≡◌, ◌≢◌, ℕ, ◌+◌, ◌*◌, inl, inr, Bool, true, false, ◌||◌, Option, Some, None, List, [], ◌∷◌, length, map, refl, ap, sym, ◌∙◌, subst, arith}
+use Rattle.std.proofs.Common.{◌≡◌, ◌≢◌, ℕ, ◌+◌, ◌*◌, inl, inr, Bool, true, false, Option, Some, None, [], length, refl, ap, sym, ◌∙◌, subst, arith}
 use Rattle.std.specs.Prelude.{if◌then◌else◌, ◌==◌}
-use Rattle.std.specs.List.{list_any}
 use Rattle.std.specs.Option.{option_map, option_or}
 use Rattle.std.proofs.lemmas.Bool.{cases_lt}
 use Rattle.std.proofs.lemmas.Bool.Decides.{nat_tests}
 use Rattle.eel_base.specs.CodeText.{word_at}
-use Rattle.elf32_sparc.specs.Notes.{Notes, NoteRange, NoteSegment, holds, range_at}
+use Rattle.elf32_sparc.specs.Notes.{NoteRange, range_at}
 use Rattle.v8_memory.specs.Regions.{fetch_of}
-use Rattle.v8_memory.specs.Spans.{IsApart, IsApartFromAll}
 use Rattle.v8_step.specs.declared.Ending.{Ending}
 use Rattle.v8_step.specs.declared.Slot.{Slot}
 use Rattle.v8_step.specs.declared.Slot.TheVariants.{NoSlot, Taken, Untaken}
@@ -16,7 +14,7 @@ use Rattle.v8_step.specs.State.{State}
 use Rattle.v8_step.specs.Traps.{instruction_access_exception}
 use Rattle.v8_step.specs.Transfers.{trapped}
 use Rattle.v8_step.specs.Step.{step_of, on_word, unless_ended, puts_of, puts_on_word, puts_unless_ended}
-use Rattle.v8_step.specs.Visits.{if_live, in_pages, page_of, pages_of, visited}
+use Rattle.v8_step.specs.Visits.{if_live, in_pages, pages_of, visited}
 use Rattle.cfg_normal.specs.declared.Node.{Node}
 use Rattle.cfg_walk.specs.Walk.{Point}
 use Rattle.layout.specs.Laid.{HasShortForms, Placement}
@@ -25,25 +23,8 @@ use Rattle.image_code.specs.Images.{Pieces, Frame, Here, IsBeside, IsPlaced, vis
 use Rattle.image_code.specs.Cases.{visits_it}
 use Rattle.image_code.specs.Outside.{IsForeign, IsOff, ForeignStep, OffsStep}
 use Rattle.image_code.proofs.Memories.{fetch_is}
+use Rattle.image_code.proofs.Sparing.{out_of_pages}
 use Rattle.image_code.proofs.Cases.{ended_none, outside_refl}
-
--- ---- an address outside the pages is in none of them
-
-held : (a : ℕ) (segment : NoteSegment) → IsApart (page_of segment) (record { from = a; count = 1 })
-    → holds a (a + 1) segment ≡ false
-held a segment (inl past) = grind (past, arith, nat_tests)
-held a segment (inr before) = grind (before, arith, nat_tests)
-
-held_by : (a : ℕ) (segments : List NoteSegment)
-    → IsApartFromAll (map page_of segments) (record { from = a; count = 1 })
-    → list_any (holds a (a + 1)) segments ≡ false
-held_by a [] apart = refl
-held_by a (segment ∷ segments) apart =
-    ap (λ (b : Bool). b || list_any (holds a (a + 1)) segments) (held a segment apart.0) ∙ held_by a segments apart.1
-
-pub out_of_pages : (notes : Notes) (a : ℕ) → IsApartFromAll (pages_of notes) (record { from = a; count = 1 })
-    → in_pages notes a ≡ false
-out_of_pages notes a apart = held_by a notes.segments apart
 
 -- ---- a step of no word
 
@@ -99,6 +80,7 @@ module _ (g : Setting) (l : Pieces) (base : ℕ) (p : Placement) (place : ℕ �
     cells = refl;
     here = λ live. absurd (cc);
     place = λ _. visits.1;
+    sparing = λ w. absurd (w.inside none);
   }
 
   ends : StepsOn g (Here g l base p f) (HasShortForms l.list place) (gone_at g node x (does_at g x t)) node x t (does_at g x t)

@@ -28,7 +28,7 @@ use Rattle.jump_code.proofs.Fitting.{Fit, decoded, lt}
 use Rattle.layout.specs.Emitting.{words_of}
 use Rattle.layout.specs.declared.items.Item.{Item}
 use Rattle.layout.specs.Laid.{Placement}
-use Rattle.image_code.specs.Simulates.{Setting, at_point, does_at, gone_at, graph_in, number_in}
+use Rattle.image_code.specs.Simulates.{Setting, at_point, does_at, gone_at, graph_in, number_in, is_out}
 use Rattle.image_code.specs.Images.{Frame, Here, visited_at}
 use Rattle.image_code.specs.Cases.{IsFar, LeadsOn, plain_piece, words_on}
 use Rattle.image_code.specs.Couple.{couple_piece}
@@ -325,6 +325,8 @@ module _ (g : Setting) (codes : ℕ → List ℕ) (is : IsText g.text) (p : Plac
         translates = words_translate f.table.base short;
         table = tables.whole;
         edge = way.number;
+        outward = ap is_out way.is ∙ ap (λ (k : EdgeKind). same_kind k kinds.Out)
+            (edge_is g codes is p f node x (way_in g codes is p f x) way).same ∙ out;
         landing = lands_on;
         completes = λ live. completes (does_at g x t) refl live;
         items = past true out;

@@ -1,5 +1,5 @@
 -- From the visit of a transfer whose words stand in one Mark, through them, and on along the way behind them.
-use Rattle.std.proofs.Common.{◌≡◌, ℕ, suc, ◌+◌, ◌*◌, ◌%◌, ◌^◌, ◌<◌, ◌≤◌, ◌⊎◌, inl, inr, true, Some, None, List, [], ◌∷◌, length, refl, ap, sym, ◌∙◌, subst, arith}
+use Rattle.std.proofs.Common.{◌≡◌, ℕ, suc, ◌+◌, ◌*◌, ◌%◌, ◌^◌, ◌<◌, ◌≤◌, ◌⊎◌, inl, inr, Bool, true, false, Some, None, List, [], length, refl, ap, sym, ◌∙◌, subst, arith}
 use Rattle.std.specs.Prelude.{◌-◌, slice_get, slice_index}
 use Rattle.eel_base.specs.CodeText.{word_at}
 use Rattle.eel_base.specs.declared.numbers.Addr.{Addr}
@@ -18,19 +18,21 @@ use Rattle.v8_step.proofs.ValidSteps.{run-valid}
 use Rattle.cfg_blocks.specs.declared.EdgeKind.TheVariants as kinds
 use Rattle.cfg_normal.specs.declared.Node.{Node}
 use Rattle.cfg_walk.specs.Walk.{Point, point_of, node_after, instr_at, way_of, same_kind}
+use Rattle.code_runs.specs.Counted.{count_stores}
 use Rattle.code_runs.specs.Hops.{hopped}
 use Rattle.code_runs.specs.Leads.{Leads, IsSilent}
 use Rattle.code_runs.specs.Ours.{IsAmongWords}
 use Rattle.code_runs.specs.Page.{page_word}
 use Rattle.code_runs.specs.StoredWords.{Stores, memory_word}
 use Rattle.code_runs.specs.TwoRegisters.{IsBetween}
+use Rattle.code_runs.proofs.Counted.{count_add, none_then}
 use Rattle.code_runs.proofs.Hops.{stores_then}
 use Rattle.code_runs.proofs.Leads.{leads_then, leads_weaker, silent_then}
 use Rattle.layout.specs.Laid.{HasShortForms, Placement}
 use Rattle.jump_code.specs.Links.{past}
 use Rattle.jump_code.specs.PageWords.{IsPageWord}
 use Rattle.jump_code.specs.Pieces.{marked_piece}
-use Rattle.image_code.specs.Simulates.{Setting, StepsOn, IsOnWay, cells_in, updates, at_point, graph_in, number_in, word_of}
+use Rattle.image_code.specs.Simulates.{Setting, StepsOn, IsOnWay, in_first_word, is_jmpl, is_spill, is_transfer_at, cells_in, updates, at_point, graph_in, number_in, word_of}
 use Rattle.image_code.specs.Images.{Pieces, Frame, HasImages, Here, IsFramed, IsPlaced, visited_at}
 use Rattle.image_code.specs.Cases.{LeadsTo}
 use Rattle.snippet_code.specs.Runs.{words_at}
@@ -109,6 +111,10 @@ module _ (g : Setting) (l : Pieces) (base : ℕ) (p : Placement) (place : ℕ �
     pub quiet : (descriptor : ℕ) → puts_on_word (at_point x t) (word_of g.text x.pc) descriptor ≡ []
     pub waits : v.slot ≡ Taken → same_kind (way_of (instr_at g.text (v.pc - 4)) v.slot) kinds.Out ≡ true
         → (memory_word m (page_word 1) ≡ v.npc) × (v.npc % 4 ≡ 0)
+    -- those of a transfer that is no JMPL are two at most, and store nothing
+    pub transfer : is_transfer_at (instr_at g.text x.pc) ≡ true
+    pub two : is_jmpl (instr_at g.text x.pc) ≡ false → length xs ≤ 2
+    pub stored : is_jmpl (instr_at g.text x.pc) ≡ false → (counted : ℕ → Bool) → count_stores counted t (length xs) ≡ 0
 
   past_has : (v : State) (m : Memory) → Through v m → HasImages g base p f m
   past_has v m w =
@@ -128,12 +134,12 @@ module _ (g : Setting) (l : Pieces) (base : ℕ) (p : Placement) (place : ℕ �
   -- on along the way
   on_along : (v : State) (m : Memory) (edges : List ℕ) (to : ℕ) → Through v m
       → LeadsTo l p way edges (word_at g.text v.pc) to
-      → Arrives g l base p place f h edges (past t (length xs) m v) to 8
+      → Arrives g l base p place f h (word_at g.text v.pc) edges (past t (length xs) m v) to 8
   on_along v m edges to w leads =
       let a = at_words.at in
       let b = stand.behind in
       let fit = past_fit v m w in
-      let one = jump_on g l base p place f h k (suc (suc (length xs))) way stand.jump stand.shut
+      let one = jump_on g l base p place f h (word_at g.text v.pc) k (suc (suc (length xs))) way stand.jump stand.shut
       (past t (length xs) m v) fit (omega arith) in
       on_then g l base p place f h edges [] edges refl (past t (length xs) m v) (slice_index p.at way.0) to 4 4 one
       (arrive g l base p place f h way edges (hopped one.other (slice_index p.at way.0) one.memory)
@@ -190,4 +196,20 @@ module _ (g : Setting) (l : Pieces) (base : ℕ) (p : Placement) (place : ℕ �
           waits = λ a b. let z = w.waits a b in (still ∙ z.0, z.1);
         };
         place = λ e. absurd (e w.live);
+        sparing = λ watched.
+            let none = w.stored watched.jump (is_spill g.notes) in
+            let more = rest.spares watched.inside in
+            let both = count_add (is_spill g.notes) t (past t (length xs) m v) (length xs) w.path.steps rest.count in
+            let moves = w.transfer in
+            record {
+              spills = omega (arith, none, more, both);
+              first = λ forms.
+                  none_then in_first_word t (past t (length xs) m v) (length xs) rest.count w.path.steps
+                  (w.stored watched.jump in_first_word) (rest.leaves_first watched.inside forms);
+              alone = λ _ _ straight. absurd (cc);
+              few = λ forms no_operations.
+                  let brief = rest.brief watched.inside forms in
+                  let two = w.two watched.jump in
+                  omega (arith, no_operations, brief, two);
+            };
       }

@@ -1,7 +1,7 @@
 -- The image of a branch is one step, whatever its annul bit.
-use Rattle.std.proofs.Common.{◌≡◌, ℕ, ◌+◌, ◌-◌, ◌*◌, ◌^◌, ◌<◌, ◌≤◌, ◌⊎◌, inl, inr, Bool, true, false, Option, Some, None, List, [], ◌∷◌, drop, length, refl, ap, sym, ◌∙◌, subst, arith}
+use Rattle.std.proofs.Common.{◌≡◌, ◌≢◌, ℕ, ◌+◌, ◌-◌, ◌*◌, ◌^◌, ◌<◌, ◌≤◌, ◌⊎◌, inl, inr, Bool, true, false, Option, Some, None, List, [], ◌∷◌, length, refl, ap, sym, ◌∙◌, subst, arith}
 use Rattle.std.specs.Prelude.{if◌then◌else◌, slice_get, slice_index}
-use Rattle.std.specs.Option.{option_map}
+use Rattle.eel_base.specs.CodeText.{word_at}
 use Rattle.v8_decode.specs.declared.Instr.{Instr}
 use Rattle.v8_alu.specs.Conditions.{holds_of}
 use Rattle.v8_alu.specs.Numbers.{wrapped}
@@ -11,6 +11,7 @@ use Rattle.v8_step.specs.declared.Slot.{Slot}
 use Rattle.v8_step.specs.declared.Slot.TheVariants.{Taken}
 use Rattle.v8_step.specs.State.{State, register_of}
 use Rattle.v8_step.specs.Step.{puts_by, puts_on_word}
+use Rattle.v8_step.specs.Items.{is_transfer}
 use Rattle.v8_step.specs.Valid.{IsValid}
 use Rattle.v8_step.specs.Visits.{pages_of}
 use Rattle.v8_step.proofs.ValidSteps.{run-valid}
@@ -18,9 +19,11 @@ use Rattle.cfg_blocks.specs.declared.EdgeKind.TheVariants as kinds
 use Rattle.cfg_walk.specs.Walk.{Point, point_of, node_after, instr_at, way_of, same_kind}
 use Rattle.cfg_normal.specs.declared.Node.{Node}
 use Rattle.code_runs.specs.StoredWords.{Stores}
+use Rattle.code_runs.specs.Counted.{count_stores}
 use Rattle.code_runs.specs.Leads.{Leads, IsSilent}
 use Rattle.code_runs.specs.Points.{moved}
 use Rattle.code_runs.specs.Hops.{hopped}
+use Rattle.code_runs.proofs.Counted.{count_add, none_then}
 use Rattle.code_runs.proofs.Leads.{leads_then, leads_weaker, silent_then}
 use Rattle.code_runs.proofs.Hops.{stores_then}
 use Rattle.code_runs.specs.LongJump.{IsFirstWord}
@@ -31,7 +34,7 @@ use Rattle.layout.specs.declared.items.Item.TheVariants as it
 use Rattle.layout.specs.Laid.{HasShortForms, Placement, item_at, item_in, items_in, size_of, open_in, range_in, range_of}
 use Rattle.layout.specs.Running.{CanRun, Goes}
 use Rattle.layout.proofs.Going.{branches_hop}
-use Rattle.image_code.specs.Simulates.{Setting, StepsOn, IsOnWay, at_point, cells_in, does_at, gone_at, graph_in, number_in, operations_on, updates}
+use Rattle.image_code.specs.Simulates.{Setting, StepsOn, IsOnWay, in_first_word, is_spill, spills_on, at_point, cells_in, does_at, gone_at, graph_in, number_in, operations_on, updates}
 use Rattle.image_code.specs.Images.{Pieces, Frame, Here, IsPlaced, visited_at, visited_by}
 use Rattle.image_code.specs.Cases.{LeadsTo, branch_piece, word_ahead}
 use Rattle.image_code.specs.Turns.{IsTurn, TurnsStep}
@@ -41,6 +44,7 @@ use Rattle.image_code.proofs.Arrives.{first_kept, rest_marked}
 use Rattle.image_code.proofs.Dead.{IsAlike, alike_then}
 use Rattle.image_code.proofs.Cases.{LastDead, alike_hopped, alike_itself, can_run, followed_alike, gone_last, jump_then, arrive, quiet_of, bare_on, IsBare, IsFit, hopped_fit, Arrives, on_range, no_puts}
 use Rattle.image_code.proofs.Cells.{updates_same}
+use Rattle.image_code.proofs.Sparing.{spill_first, transfers}
 
 module _ (g : Setting) (l : Pieces) (base : ℕ) (p : Placement) (place : ℕ → ℕ → ℕ) (f : Frame)
     (h : IsPlaced g l base p place f)
@@ -76,7 +80,7 @@ module _ (g : Setting) (l : Pieces) (base : ℕ) (p : Placement) (place : ℕ �
       ≡ t.pc + 4 = omega arith in q) in e) here.slot here.memory
 
   hop : Goes t (if holds_of c.cond t.codes then slice_index p.at c.taken else place (l.image node c.number) 2)
-      (place (l.image node c.number) 2) 2 6
+      (place (l.image node c.number) 2) 2 6 2
   hop = branches_hop l.list base p place h.laid (l.image node c.number) 1 c.cond (record { 0 = c.taken })
       (b_item 1) c.small t b_ready b_at
 
@@ -135,7 +139,14 @@ module _ (g : Setting) (l : Pieces) (base : ℕ) (p : Placement) (place : ℕ �
       (first_kept g l base p place f h t u.memory here_fit z.2).1.1
   on_way u live (inr z) = bare_on g l base p place f h node t u live z
 
-  record Comes (edges : List ℕ) (to most : ℕ) : Type 0 where
+  -- a short branch takes two words
+  b_short : HasShortForms l.list place → place (l.image node c.number) 2 ≤ t.pc + 4 * 2
+  b_short short =
+      let end = short (l.image node c.number) 1 (it.Branch c.cond (record { 0 = c.taken })) (b_item 1) in
+      let a = b_at in
+      omega (arith, end, a)
+
+  record Comes (next : Option ℕ) (edges : List ℕ) (to most : ℕ) : Type 0 where
     pub count : ℕ
     pub other : State
     pub memory : Memory
@@ -146,38 +157,29 @@ module _ (g : Setting) (l : Pieces) (base : ℕ) (p : Placement) (place : ℕ �
     pub stores : Stores (IsAmongWords f.own) t.memory memory
     pub cells : LastDead g edges → words_at g.notes.base g.notes.cells memory ≡ updates g.snips edges (cells_in g t) t
     pub alike : IsAlike g edges t other
+    pub spares : next ≢ None → count_stores (is_spill g.notes) t count ≤ spills_on g edges
+    pub leaves_first : next ≢ None → HasShortForms l.list place → count_stores in_first_word t count ≡ 0
+    pub brief : next ≢ None → HasShortForms l.list place → operations_on g.snips edges ≡ 0 → count ≤ 8
 
-  of_hop : (to : ℕ) → Goes t to (place (l.image node c.number) 2) 2 6 → Comes [] to 6
+  -- the branch's words lead on
+  of_hop : (to : ℕ) → (j : Goes t to (place (l.image node c.number) 2) 2 6 2) → Leads IsOn t (hopped t to j.memory) j.count
   unfolding IsOn
   of_hop to j =
-      let some = j.some in
-      let few = j.few in
       let ins = j.inside in
-      record {
-        count = j.count;
-        other = t;
-        memory = j.memory;
-        some = omega arith;
-        few = omega arith;
-        path = leads_weaker _ _ t _ j.count (λ u q. let b = q.past in let d = q.before in inl
-            (omega arith, omega arith, q.stores)) j.hops.path;
-        silent = j.hops.silent;
-        stores = (first_kept g l base p place f h t j.memory here_fit j.hops.stores).0;
-        cells = λ _. (first_kept g l base p place f h t j.memory here_fit j.hops.stores).1.1;
-        alike = alike_itself g [] t;
-      }
+      leads_weaker _ _ t _ j.count (λ u q. let b = q.past in let d = q.before in inl (omega arith, omega arith, q.stores))
+      j.hops.path
 
-  of_hop_fit : (to : ℕ) → to ≤ 2 ^ 31 → (j : Goes t to (place (l.image node c.number) 2) 2 6)
+  of_hop_fit : (to : ℕ) → to ≤ 2 ^ 31 → (j : Goes t to (place (l.image node c.number) 2) 2 6 2)
       → IsFit g l base p place f h (hopped t to j.memory)
   of_hop_fit to low j =
       hopped_fit g l base p place f h t t to here_fit here.live low j.count j.memory j.hops.path.steps
       (first_kept g l base p place f h t j.memory here_fit j.hops.stores).0
 
   -- on from where the branch leads
-  then_on : (edges : List ℕ) (mid to most : ℕ) (j : Goes t mid (place (l.image node c.number) 2) 2 6)
-      → Arrives g l base p place f h edges (hopped t mid j.memory) to most → Comes edges to (6 + most)
-  unfolding IsOn of_hop
-  then_on edges mid to most k rest =
+  then_on : (next : Option ℕ) (edges : List ℕ) (mid to most : ℕ) → most ≤ 8 → (j : Goes t mid (place (l.image node c.number) 2) 2 6 2)
+      → Arrives g l base p place f h next edges (hopped t mid j.memory) to most → Comes next edges to (6 + most)
+  unfolding IsOn
+  then_on next edges mid to most bound k rest =
       let kept = first_kept g l base p place f h t k.memory here_fit k.hops.stores in
       let some = k.some in
       let few = k.few in
@@ -188,7 +190,7 @@ module _ (g : Setting) (l : Pieces) (base : ℕ) (p : Placement) (place : ℕ �
         memory = rest.memory;
         some = omega arith;
         few = omega arith;
-        path = leads_then _ t (hopped t mid k.memory) _ k.count rest.count (of_hop mid k).path
+        path = leads_then _ t (hopped t mid k.memory) _ k.count rest.count (of_hop mid k)
             (leads_weaker _ _ (hopped t mid k.memory) _ rest.count (λ u q. inr q) rest.path)
             (λ _ pos. inr (rest.begins pos));
         silent = silent_then t (hopped t mid k.memory) k.count rest.count k.hops.path.steps k.hops.silent rest.silent;
@@ -198,28 +200,42 @@ module _ (g : Setting) (l : Pieces) (base : ℕ) (p : Placement) (place : ℕ �
             ∙ updates_same g.snips edges (words_at g.notes.base g.notes.cells k.memory) (hopped t mid k.memory) t refl
             ∙ ap (λ z. updates g.snips edges z t) kept.1.1;
         alike = alike_then g edges [] edges refl t t rest.other mid k.memory (alike_itself g [] t) rest.alike;
+        spares = λ there.
+            let none = k.stored (is_spill g.notes) (inl (spill_first g.notes)) in
+            let more = rest.spares there in
+            let both = count_add (is_spill g.notes) t (hopped t mid k.memory) k.count k.hops.path.steps rest.count in
+            omega (arith, none, more, both);
+        leaves_first = λ there short.
+            none_then in_first_word t (hopped t mid k.memory) k.count rest.count k.hops.path.steps
+            (k.stored in_first_word (inr (b_short short))) (rest.leaves_first there short);
+        brief = λ there short none.
+            let two = b_short short in
+            let ins = k.inside in
+            let brief = rest.brief there short in
+            omega (arith, two, ins, brief, none, bound);
       }
 
-  takes : (edges : List ℕ) (next : Option ℕ) (to : ℕ) → Goes t (slice_index p.at c.taken) (place (l.image node c.number) 2) 2 6
-      → LeadsTo l p (record { 0 = c.taken }) edges next to → Comes edges to 10
+  takes : (edges : List ℕ) (next : Option ℕ) (to : ℕ) → Goes t (slice_index p.at c.taken) (place (l.image node c.number) 2) 2 6 2
+      → LeadsTo l p (record { 0 = c.taken }) edges next to → Comes next edges to 10
   takes edges next to j leads =
-      then_on edges (slice_index p.at c.taken) to 4 j
+      then_on next edges (slice_index p.at c.taken) to 4 (omega arith) j
       (arrive g l base p place f h (record { 0 = c.taken }) edges (hopped t (slice_index p.at c.taken) j.memory) next to
       (of_hop_fit (slice_index p.at c.taken) (h.laid.aligned c.taken).1 j) refl leads)
 
-  passes : (edges : List ℕ) (next : Option ℕ) (to : ℕ) → Goes t (place (l.image node c.number) 2) (place (l.image node c.number) 2) 2 6
-      → LeadsTo l p (record { 0 = c.untaken }) edges next to → Comes edges to 14
+  passes : (edges : List ℕ) (next : Option ℕ) (to : ℕ) → Goes t (place (l.image node c.number) 2) (place (l.image node c.number) 2) 2 6 2
+      → LeadsTo l p (record { 0 = c.untaken }) edges next to → Comes next edges to 14
   passes edges next to j leads =
       let low = h.laid.low in
       let n2 = b_inside.2 in
-      then_on edges (place (l.image node c.number) 2) to 8 j
+      then_on next edges (place (l.image node c.number) 2) to 8 (omega arith) j
       (jump_then g l base p place f h (l.image node c.number) 3 (record { 0 = c.untaken })
       (rest_marked l (l.image node c.number) c.address (number_in g node) (it.Branch c.cond (record { 0 = c.taken }))
       (it.Jump (record { 0 = c.untaken }) ∷ []) (tt, tt) c.items) edges
       (hopped t (place (l.image node c.number) 2) j.memory) next to
       (of_hop_fit (place (l.image node c.number) 2) (omega arith) j) (sym b_closes) leads)
 
-  turned : (edges : List ℕ) → LastDead g edges → (to most : ℕ) (v : State) → IsMoved (at_point x t) v → Comes edges to most → most ≤ 64
+  turned : (edges : List ℕ) → LastDead g edges → (to most : ℕ) (v : State) → IsMoved (at_point x t) v
+      → Comes (word_at g.text v.pc) edges to most → most ≤ 64
       → to ≡ visited_at g l p f (node_after (graph_in g) node edges) (point_of v)
       → (v.slot ≡ Taken → same_kind (way_of (instr_at g.text (v.pc - 4)) v.slot) kinds.Out ≡ true → ⊥)
       → StepsOn g (Here g l base p f) (HasShortForms l.list place) edges node x t v
@@ -262,6 +278,14 @@ module _ (g : Setting) (l : Pieces) (base : ℕ) (p : Placement) (place : ℕ �
           waits = λ a b. absurd (never a b);
         };
         place = λ e. absurd (e (ap (λ (z : State). z.ending) same ∙ here.live));
+        sparing = λ w.
+            let moves = transfers g.text x.pc c.word c.is_word (ap is_transfer c.says) in
+            record {
+              spills = j.spares w.inside;
+              first = j.leaves_first w.inside;
+              alone = λ _ _ straight. absurd (cc);
+              few = j.brief w.inside;
+            };
       }
 
   b_step : (flag : Bool) → holds_of c.cond t.codes ≡ flag
@@ -270,7 +294,7 @@ module _ (g : Setting) (l : Pieces) (base : ℕ) (p : Placement) (place : ℕ �
       let to = visited_at g l p f (node_after (graph_in g) node (gone_at g node x (does_at g x t)))
       (point_of (does_at g x t)) in
       let way = subst (λ (b : Bool). Goes t (if b then slice_index p.at c.taken else place (l.image node c.number) 2)
-      (place (l.image node c.number) 2) 2 6) e hop in
+      (place (l.image node c.number) 2) 2 6 2) e hop in
       turned (gone_at g node x (does_at g x t)) (gone_last g l f h.cells node x (does_at g x t)) to 10 (does_at g x t) (branch_moves g x t c.none c.word c.is_word c.cond c.annul c.disp c.says)
       (takes (gone_at g node x (does_at g x t)) (word_ahead g x t) to way (subst (λ (b : Bool).
       LeadsTo l p (record { 0 = if b then c.taken else c.untaken }) (gone_at g node x (does_at g x t)) (word_ahead g x t) to) e
@@ -280,7 +304,7 @@ module _ (g : Setting) (l : Pieces) (base : ℕ) (p : Placement) (place : ℕ �
       let to = visited_at g l p f (node_after (graph_in g) node (gone_at g node x (does_at g x t)))
       (point_of (does_at g x t)) in
       let way = subst (λ (b : Bool). Goes t (if b then slice_index p.at c.taken else place (l.image node c.number) 2)
-      (place (l.image node c.number) 2) 2 6) e hop in
+      (place (l.image node c.number) 2) 2 6 2) e hop in
       turned (gone_at g node x (does_at g x t)) (gone_last g l f h.cells node x (does_at g x t)) to 14 (does_at g x t) (branch_moves g x t c.none c.word c.is_word c.cond c.annul c.disp c.says)
       (passes (gone_at g node x (does_at g x t)) (word_ahead g x t) to way (subst (λ (b : Bool).
       LeadsTo l p (record { 0 = if b then c.taken else c.untaken }) (gone_at g node x (does_at g x t)) (word_ahead g x t) to) e

@@ -9,14 +9,14 @@ use Rattle.elf32_sparc.specs.Notes.{node_at}
 use Rattle.v8_decode.specs.Words.{decode_of}
 use Rattle.v8_memory.specs.Spans.{AllApart}
 use Rattle.v8_step.specs.State.{State}
-use Rattle.v8_step.specs.Items.{Item as Thing, is_transfer}
+use Rattle.v8_step.specs.Items.{is_transfer}
 use Rattle.v8_step.specs.Judged.{judged_by}
 use Rattle.v8_step.specs.Visits.{visit_of, pages_of}
 use Rattle.cfg_normal.specs.declared.Node.{Node}
 use Rattle.cfg_walk.specs.Walk.{Point, point_of, node_after}
 use Rattle.layout.specs.declared.items.Item.{Item}
 use Rattle.layout.specs.declared.items.Item.TheVariants as it
-use Rattle.layout.specs.Laid.{HasShortForms, Placement, item_at}
+use Rattle.layout.specs.Laid.{HasShortForms, Placement}
 use Rattle.jump_code.specs.Pieces.{far_piece}
 use Rattle.image_code.specs.Simulates.{Setting, StepsOn, at_point, does_at, gone_at, graph_in, number_in, word_of}
 use Rattle.image_code.specs.Images.{Pieces, Frame, Here, IsPlaced, visited_at}

@@ -1,5 +1,5 @@
 -- What the words of snippets do.
-use Rattle.std.specs.Prelude.{ℕ, ◌*◌, ◌≤◌, List, [], length}
+use Rattle.std.specs.Prelude.{ℕ, ◌*◌, ◌≤◌, List, length}
 use Rattle.v8_decode.specs.declared.Part.{Part}
 use Rattle.snippets.specs.declared.snippet.Op.{Op}
 use Rattle.snippets.specs.Cells.{named_by}

@@ -18,7 +18,7 @@ use Rattle.addr_translate.specs.Lookup.{IsTable, looked_up}
 use Rattle.addr_translate.specs.Translator.{Translates}
 use Rattle.jump_code.specs.Pieces.{foreign_piece, out_piece}
 use Rattle.layout.specs.Laid.{HasShortForms, Placement}
-use Rattle.image_code.specs.Simulates.{Setting, StepsOn, at_point, does_at, gone_at, number_in, word_of}
+use Rattle.image_code.specs.Simulates.{Setting, StepsOn, at_point, does_at, gone_at, graph_in, is_out, number_in, word_of}
 use Rattle.image_code.specs.Images.{Pieces, Frame, Here, IsPlaced, visited_at}
 use Rattle.image_code.specs.Cases.{LeadsTo, next_visit, words_on}
 
@@ -50,6 +50,7 @@ pub record IsJumpsSlot (g : Setting) (l : Pieces) (p : Placement) (f : Frame)
   pub table : IsTable f.table
   -- the jump's edge, whose snippet runs before the look-up, and then the landing's, whose runs there
   pub edge : ℕ
+  pub outward : is_out (slice_get (graph_in g).edges edge) ≡ true
   pub landing : List ℕ
   pub completes : (does_at g x t).ending ≡ None → gone_at g node x (does_at g x t) ≡ edge ∷ landing
   pub items : slice_get l.list piece

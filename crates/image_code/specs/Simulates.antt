@@ -195,6 +195,7 @@ pub record StepsOn (g : Setting) (Here : Node → Point → State → Type 0) (S
   pub cells : cells_in g after ≡ updates g.snips edges (cells_in g t) v
   pub here : v.ending ≡ None → Here (node_after (graph_in g) node edges) (point_of v) after
   pub place : v.ending ≢ None → node_at g.notes after.pc ≡ Some (number_in g node)
+  pub sparing : IsWatched g edges p v → IsSparing g Short edges p t count
 
 -- What the pieces promise. `Here` says that a machine is at the visit of a point at a node of the walk. `Inside` says
 -- to which points the pieces lead: those at words of the text at first, and then all.

@@ -1,5 +1,5 @@
 -- The words of a CALL write its link, as the original's step does.
-use Rattle.std.proofs.Common.{◌≡◌, ℕ, ◌+◌, ◌*◌, ◌/◌, ◌%◌, Bool, false, refl, ◌∙◌, subst, arith}
+use Rattle.std.proofs.Common.{◌≡◌, ℕ, ◌+◌, ◌*◌, ◌/◌, ◌%◌, Bool, false, refl, sym, subst, arith}
 use Rattle.std.specs.Prelude.{pos}
 use Rattle.v8_decode.specs.declared.Op2.TheVariants.{Imm}
 use Rattle.v8_decode.specs.declared.AluOp.TheVariants as ops
@@ -13,8 +13,9 @@ use Rattle.code_runs.specs.Leads.{Leads}
 use Rattle.code_runs.specs.Straight.{StandIn}
 use Rattle.code_runs.specs.TwoRegisters.{IsBetween, Works}
 use Rattle.code_runs.proofs.Acts.{says_step}
-use Rattle.code_runs.proofs.Counted.{count_one, none_then, says_stores, stores_there}
+use Rattle.code_runs.proofs.Counted.{no_stores, none_then}
 use Rattle.code_runs.proofs.Hops.{works_state}
+use Rattle.code_runs.proofs.LongJump.{says_at}
 use Rattle.code_runs.proofs.TwoRegisters.{block_rules}
 use Rattle.v8_memory.specs.Regions.{code_of}
 use Rattle.jump_code.specs.Jumped.{CallsSimulate}
@@ -38,7 +39,7 @@ calls_act address s h =
     )
 
 -- the two words store nothing
-calls_store : (address : ℕ) (s : State) → IsAboutToCall address s → (counted : ℕ → Bool) → count_stores counted s 2 ≡ 0
+pub calls_store : (address : ℕ) (s : State) → IsAboutToCall address s → (counted : ℕ → Bool) → count_stores counted s 2 ≡ 0
 unfolding act
 calls_store address s h counted =
     let high = i.Sethi 15 (address / 1024) in
@@ -46,9 +47,8 @@ calls_store address s h counted =
     let s1 : State = next (with_register s 15 (wrapped (1024 * (address / 1024)))) in
     let one : step_of s ≡ next (with_register s 15 (wrapped (1024 * (address / 1024)))) =
     says_step s high h.ready.live h.words.0 in
-    none_then counted s s1 1 1 one (count_one counted s ∙ says_stores counted s high h.ready.live h.words.0)
-    (count_one counted s1
-    ∙ stores_there counted s1 (code_of s.memory) (s.pc + 4) low h.ready.live refl h.ready.npc h.words.1.0)
+    none_then counted s s1 1 1 one (no_stores counted s high h.ready.live h.words.0 refl)
+    (no_stores counted s1 low h.ready.live (says_at (code_of s.memory) s.npc (s.pc + 4) low (sym h.ready.npc) h.words.1.0) refl)
 
 pub calls_simulate : CallsSimulate
 unfolding act call_step

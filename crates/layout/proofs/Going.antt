@@ -22,7 +22,7 @@ use Rattle.code_runs.specs.TwoRegisters.{IsBetween}
 use Rattle.code_runs.specs.Hops.{hopped, Hops}
 use Rattle.code_runs.proofs.Acts.{says_step, says_puts}
 use Rattle.code_runs.proofs.Leads.{leads_none, leads_one, leads_then, leads_weaker, silent_none, silent_one, silent_then}
-use Rattle.code_runs.proofs.Counted.{count_one, none_then, says_stores}
+use Rattle.code_runs.proofs.Counted.{no_stores, none_then}
 use Rattle.code_runs.proofs.LongJump.{long_jumps_hop, long_jumps_store, says_at}
 use Rattle.code_runs.proofs.TwoRegisters.{stores_none}
 use Rattle.layout.specs.declared.items.Item.{Item}
@@ -103,7 +103,7 @@ jump_goes base code to a b s (jump_short disp22 f r say) w is low order low' ali
         stores = stores_none IsFirstWord s.memory;
       };
       stored = λ counted free.
-          count_one counted s ∙ says_stores counted s (i.Branch 8 true disp22) w.ready.live here;
+          no_stores counted s (i.Branch 8 true disp22) w.ready.live here refl;
     }
 jump_goes base code to a b s (jump_long f say) w is low order low' aligned =
     let words = says_stand base code s.memory w.code (long_jump to) a say in
@@ -247,8 +247,8 @@ module _ (s : State) (ready : IsReady s) (none : s.slot ≡ NoSlot) (low : s.pc 
       } in (
         hops,
         λ counted. none_then counted s s1 1 1 one
-            (count_one counted s ∙ says_stores counted s (i.Branch c false disp22) ready.live stand.0)
-            (count_one counted s1 ∙ says_stores counted s1 nop ready.live here),
+            (no_stores counted s (i.Branch c false disp22) ready.live stand.0 refl)
+            (no_stores counted s1 nop ready.live here refl),
       )
 
   -- the branch and its nop lead to the branch's target, or past the nop

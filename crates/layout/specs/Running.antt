@@ -1,11 +1,12 @@
 -- What machines do at placed items.
-use Rattle.std.specs.Prelude.{◌≡◌, ℕ, suc, ◌+◌, ◌*◌, ◌<◌, ◌≤◌, List, Some, if◌then◌else◌, slice_get, slice_index}
+use Rattle.std.specs.Prelude.{◌≡◌, ℕ, suc, ◌+◌, ◌*◌, ◌<◌, ◌≤◌, ◌⊎◌, Bool, false, List, Some, if◌then◌else◌, slice_get, slice_index}
 use Rattle.eel_base.specs.declared.numbers.PieceNo.{PieceNo}
 use Rattle.v8_alu.specs.Conditions.{holds_of}
 use Rattle.v8_memory.specs.Regions.{Memory, code_of, fetch_from}
 use Rattle.v8_step.specs.declared.Slot.TheVariants.{NoSlot}
 use Rattle.v8_step.specs.State.{State}
 use Rattle.v8_step.specs.Valid.{IsValid}
+use Rattle.code_runs.specs.Counted.{count_stores}
 use Rattle.code_runs.specs.Hops.{Hops}
 use Rattle.code_runs.specs.LongJump.{IsFirstWord}
 use Rattle.code_runs.specs.Page.{page_word}
@@ -27,14 +28,17 @@ pub record CanRun (base : ℕ) (words : List ℕ) (s : State) : Type 0 where
   pub page : CanStore s.memory (page_word 0)
   pub code : HasCode base words s.memory
 
--- In so many steps, all below address b, the machine comes to `to`, as it was but for word 0 of the page.
-pub record Goes (s : State) (to b least most : ℕ) : Type 0 where
+-- In so many steps, all below address b, the machine comes to `to`, as it was but for word 0 of the page. That is stored in
+-- only where there is room for more than a short form before b.
+pub record Goes (s : State) (to b least most short : ℕ) : Type 0 where
   pub count : ℕ
   pub memory : Memory
   pub some : least ≤ count
   pub few : count ≤ most
   pub inside : s.pc + 4 * count ≤ b
   pub hops : Hops s count IsFirstWord to memory
+  pub stored : (counted : ℕ → Bool) → (counted (page_word 0) ≡ false) ⊎ (b ≤ s.pc + 4 * short)
+      → count_stores counted s count ≡ 0
 
 -- A Jump leads to its piece.
 abbrev pub JumpsHop : Type 0
@@ -42,7 +46,7 @@ JumpsHop =
     (pieces : List (List Item)) (base : ℕ) (p : Placement) (place : ℕ → ℕ → ℕ) → IsLaid pieces base p place
     → (k n : ℕ) (to : PieceNo) → item_at pieces k n ≡ Some (it.Jump to)
     → (s : State) → CanRun base p.code s → s.pc ≡ place k n
-    → Goes s (slice_index p.at to.0) (place k (suc n)) 0 4
+    → Goes s (slice_index p.at to.0) (place k (suc n)) 0 4 1
 
 -- A Branch leads to its piece where its condition holds, and to the item after it where it doesn't.
 abbrev pub BranchesHop : Type 0
@@ -50,7 +54,7 @@ BranchesHop =
     (pieces : List (List Item)) (base : ℕ) (p : Placement) (place : ℕ → ℕ → ℕ) → IsLaid pieces base p place
     → (k n cond : ℕ) (to : PieceNo) → item_at pieces k n ≡ Some (it.Branch cond to) → cond < 16
     → (s : State) → CanRun base p.code s → s.pc ≡ place k n
-    → Goes s (if holds_of cond s.codes then slice_index p.at to.0 else place k (suc n)) (place k (suc n)) 2 6
+    → Goes s (if holds_of cond s.codes then slice_index p.at to.0 else place k (suc n)) (place k (suc n)) 2 6 2
 
 -- A Word can be fetched where it was placed, and the item after it stands behind it.
 abbrev pub WordsStand : Type 0

@@ -216,7 +216,7 @@ module _ {s : State} {count : ℕ} {May : ℕ → Type 0} {counted : ℕ → Boo
       let here = says_here instr w says in
       let one : step_of w.after ≡ next v = says_step w.after instr w.alike.live here ∙ acts in
       let fewer = w.stored in
-      let last : stores_in_step counted w.after ≡ one_if counted (stores_at w.after instr) =
+      let last : stores_in_step counted w.after ≤ one_if counted (stores_at w.after instr) =
       says_stores counted w.after instr w.alike.live here in
       let joined : count_stores counted s (w.steps + 1) ≡ count_stores counted s w.steps +
       (0 + stores_in_step counted w.after) = count_add counted s w.after w.steps w.path.steps 1 in
@@ -361,7 +361,7 @@ module _ {s : State} {count : ℕ} {May : ℕ → Type 0} {counted : ℕ → Boo
       says_step u (i.Branch cond true (pos 2)) h.live here
       ∙ branch_acts u cond true w.slot other (ap (holds_of cond) h.codes_are ∙ holds) in
       let fewer = x.stored in
-      let last : stores_in_step counted u ≡ 0 = says_stores counted u (i.Branch cond true (pos 2)) h.live here in
+      let last : stores_in_step counted u ≤ 0 = says_stores counted u (i.Branch cond true (pos 2)) h.live here in
       let joined : count_stores counted s (x.steps + 1) ≡ count_stores counted s x.steps +
       (0 + stores_in_step counted u) = count_add counted s u x.steps x.path.steps 1 in
       let y : Reaches s count May counted r want (suc n) t g codes f = record {
@@ -415,7 +415,7 @@ module _ {s : State} {count : ℕ} {May : ℕ → Type 0} {counted : ℕ → Boo
       says_step u (i.Branch cond true (pos 2)) h.live here
       ∙ branch_acts u cond false w.slot other (ap (holds_of cond) h.codes_are ∙ holds) in
       let fewer = x.stored in
-      let last : stores_in_step counted u ≡ 0 = says_stores counted u (i.Branch cond true (pos 2)) h.live here in
+      let last : stores_in_step counted u ≤ 0 = says_stores counted u (i.Branch cond true (pos 2)) h.live here in
       let joined : count_stores counted s (x.steps + 1) ≡ count_stores counted s x.steps +
       (0 + stores_in_step counted u) = count_add counted s u x.steps x.path.steps 1 in
       record {

@@ -1,6 +1,6 @@
 -- Operations one after the other, and the registers that are saved before them and loaded after them.
 use Rattle.std.proofs.Common.{◌≡◌, ◌≢◌, ℕ, zero, suc, ◌+◌, ◌*◌, ◌<◌, ◌≤◌, ◌⊎◌, inl, inr, Bool, true, false, Some, List, [], ◌∷◌, ◌++◌, length, refl, ap, sym, ◌∙◌, subst, arith, length-append}
-use Rattle.std.specs.Prelude.{if◌then◌else◌}
+use Rattle.std.specs.Prelude.{if◌then◌else◌, ◌||◌}
 use Rattle.v8_decode.specs.declared.Instr.{Instr}
 use Rattle.v8_decode.specs.declared.Instr.TheVariants as i
 use Rattle.v8_decode.specs.declared.LoadKind.TheVariants as loads
@@ -36,13 +36,79 @@ stand_then code a (x ∷ xs) ys h =
 pub stand_at : (code : List Region) (a b : ℕ) (xs : List Instr) → StandIn code a xs → a ≡ b → StandIn code b xs
 stand_at code a b xs h e = subst (λ z. StandIn code z xs) e h
 
--- one store is one at most
-one_at_most : (counted : ℕ → Bool) (t a : ℕ) → t + one_if counted (Some a) ≤ t + 1
-one_at_most counted t a = go (counted a)
-  where
-    go : (b : Bool) → t + (if b then 1 else 0) ≤ t + 1
-    go true = omega arith
-    go false = omega arith
+-- what a store in the page's words costs at most
+pub record IsCost (counted : ℕ → Bool) (cost : ℕ) : Type 0 where
+  pub one : cost ≤ 1
+  pub each : (n : ℕ) → n < 5 → one_if counted (Some (kept_word n)) ≤ cost
+  pub none : ((n : ℕ) → n < 5 → counted (kept_word n) ≡ false) → cost ≡ 0
+
+if_below : (b c : Bool) → (c ≡ false → b ≡ false) → (if b then 1 else 0) ≤ (if c then 1 else 0)
+if_below false c h = omega arith
+if_below true true h = omega arith
+if_below true false h = let e : true ≡ false = h refl in absurd (cc)
+
+if_one : (b : Bool) → (if b then 1 else 0) ≤ 1
+if_one true = omega arith
+if_one false = omega arith
+
+or_none : (a b : Bool) → a ≡ false → b ≡ false → (a || b) ≡ false
+or_none false b e f = f
+or_none true b e f = absurd (cc)
+
+none_of : (a b : Bool) → (a || b) ≡ false → (a ≡ false) × (b ≡ false)
+none_of true b e = absurd (cc)
+none_of false b e = (refl, e)
+
+module _ (counted : ℕ → Bool) where
+  abbrev any_from3 : Bool
+  any_from3 = counted (kept_word 3) || counted (kept_word 4)
+
+  abbrev any_from2 : Bool
+  any_from2 = counted (kept_word 2) || any_from3
+
+  abbrev any_from1 : Bool
+  any_from1 = counted (kept_word 1) || any_from2
+
+  abbrev any : Bool
+  any = counted (kept_word 0) || any_from1
+
+  none_kept : any ≡ false → (n : ℕ) → n < 5 → counted (kept_word n) ≡ false
+  none_kept e n few =
+      let after0 = none_of (counted (kept_word 0)) any_from1 e in
+      let after1 = none_of (counted (kept_word 1)) any_from2 after0.1 in
+      let after2 = none_of (counted (kept_word 2)) any_from3 after1.1 in
+      let after3 = none_of (counted (kept_word 3)) (counted (kept_word 4)) after2.1 in
+      by n few after0.0 after1.0 after2.0 after3.0 after3.1
+    where
+      by : (n : ℕ) → n < 5 → counted (kept_word 0) ≡ false → counted (kept_word 1) ≡ false
+          → counted (kept_word 2) ≡ false → counted (kept_word 3) ≡ false → counted (kept_word 4) ≡ false
+          → counted (kept_word n) ≡ false
+      by zero few a b c d e = a
+      by (suc zero) few a b c d e = b
+      by (suc (suc zero)) few a b c d e = c
+      by (suc (suc (suc zero))) few a b c d e = d
+      by (suc (suc (suc (suc zero)))) few a b c d e = e
+      by (suc (suc (suc (suc (suc n))))) few a b c d e = absurd (omega arith)
+
+  any_none : ((n : ℕ) → n < 5 → counted (kept_word n) ≡ false) → any ≡ false
+  any_none h =
+      or_none (counted (kept_word 0)) any_from1 (h 0 (omega arith))
+      (or_none (counted (kept_word 1)) any_from2 (h 1 (omega arith))
+      (or_none (counted (kept_word 2)) any_from3 (h 2 (omega arith))
+      (or_none (counted (kept_word 3)) (counted (kept_word 4)) (h 3 (omega arith)) (h 4 (omega arith)))))
+
+  pub cost_of_page : (cost : ℕ) × IsCost counted cost
+  cost_of_page = (
+    if any then 1 else 0,
+    record {
+      one = if_one any;
+      each = λ n few. if_below (counted (kept_word n)) any (λ e. none_kept e n few);
+      none = λ h. ap (λ (b : Bool). if b then 1 else 0) (any_none h);
+    },
+  )
+
+one_more : (cost t n : ℕ) → t + cost + cost * n ≡ t + cost * suc n
+one_more cost t n = let e : cost * suc n ≡ cost + cost * n = grind (arith) in omega (arith, e)
 
 page_sum : (u : State) (m : ℕ) → m < 5 → sum_of u 0 (of_page (m + 2)) ≡ kept_word m
 page_sum u zero h = refl
@@ -86,33 +152,34 @@ module _ {s : State} {count : ℕ} {May : ℕ → Type 0} {counted : ℕ → Boo
       (let e : n + length xs + length ys ≡ n + length (xs ++ ys) = omega arith in e) more
 
   -- ---- saved before
-  pub saves : (k m : ℕ) (qs : List ℕ) {n t : ℕ} {g : ℕ → ℕ} {codes : Codes}
+  pub saves : (cost : ℕ) → IsCost counted cost → (k m : ℕ) (qs : List ℕ) {n t : ℕ} {g : ℕ → ℕ} {codes : Codes}
       → Works s count May counted r want n t g codes (λ j. register_of s (r j)) → AreFrom r want k qs
       → HavePage May m qs
       → n + length (numbered save m qs) ≤ count → StandIn (code_of s.memory) (s.pc + 4 * n) (numbered save m qs)
-      → Works s count May counted r want (n + length qs) (t + length qs) (saved (register_of s) m qs g) codes
+      → Works s count May counted r want (n + length qs) (t + cost * length qs) (saved (register_of s) m qs g) codes
       (λ j. register_of s (r j))
-  saves k m [] {n} {t} {g} {codes} w picked page room stand =
-      subst (λ z. Works s count May counted r want z (t + 0) g codes (λ j. register_of s (r j)))
+  saves cost is k m [] {n} {t} {g} {codes} w picked page room stand =
+      subst (λ z. Works s count May counted r want z (t + cost * 0) g codes (λ j. register_of s (r j)))
       (let e : n ≡ n + 0 = omega arith in e)
       (subst (λ z. Works s count May counted r want n z g codes (λ j. register_of s (r j)))
-      (let e : t ≡ t + 0 = omega arith in e) w)
-  saves k m (q ∷ qs) {n} {t} {g} {codes} w picked page room stand =
+      (let e : t ≡ t + cost * 0 = omega arith in e) w)
+  saves cost is k m (q ∷ qs) {n} {t} {g} {codes} w picked page room stand =
+      let paid = is.each m page.0 in
       let one =
-      st c (t + 1) q 0 (of_page (m + 2)) (kept_word m) (register_of s q) w (omega arith) stand.0
+      st c (t + cost) q 0 (of_page (m + 2)) (kept_word m) (register_of s q) w (omega arith) stand.0
       (λ u h. page_sum u m page.0) page.1
       (λ u h. ap (register_of u) picked.1 ∙ h.picked k picked.0 ∙ ap (register_of s) (sym picked.1))
-      (register_of-range s q c.valid) (one_at_most counted t (kept_word m)) in
+      (register_of-range s q c.valid) (omega (arith, paid)) in
       let more =
-      saves (suc k) (suc m) qs one picked.2 page.2 (omega arith)
+      saves cost is (suc k) (suc m) qs one picked.2 page.2 (omega arith)
       (stand_at (code_of s.memory) (s.pc + 4 * n + 4) (s.pc + 4 * suc n) (numbered save (suc m) qs) stand.1
       (omega arith)) in
-      subst (λ z. Works s count May counted r want z (t + suc (length qs))
+      subst (λ z. Works s count May counted r want z (t + cost * suc (length qs))
       (saved (register_of s) (suc m) qs (put (kept_word m) (register_of s q) g)) codes
       (λ j. register_of s (r j))) (let e : suc n + length qs ≡ n + suc (length qs) = omega arith in e)
       (subst (λ z. Works s count May counted r want (suc n + length qs) z
       (saved (register_of s) (suc m) qs (put (kept_word m) (register_of s q) g)) codes
-      (λ j. register_of s (r j))) (let e : t + 1 + length qs ≡ t + suc (length qs) = omega arith in e) more)
+      (λ j. register_of s (r j))) (one_more cost t (length qs)) more)
 
   -- ---- and loaded after
   pub restores : (k m : ℕ) (qs : List ℕ) {n t : ℕ} {g : ℕ → ℕ} {codes : Codes} {f : ℕ → ℕ}

@@ -1,5 +1,5 @@
 -- What the words of a whole snippet do.
-use Rattle.std.proofs.Common.{◌≡◌, ◌≢◌, ℕ, suc, ◌+◌, ◌-◌, ◌*◌, ◌%◌, ◌^◌, ◌<◌, ◌≤◌, ◌⊎◌, inl, inr, max, Bool, true, false, List, [], ◌∷◌, ◌++◌, length, Option, drop, map, refl, ap, sym, ◌∙◌, subst, arith, length-append, length-drop, All}
+use Rattle.std.proofs.Common.{◌≡◌, ◌≢◌, ℕ, zero, suc, ◌+◌, ◌-◌, ◌*◌, ◌%◌, ◌^◌, ◌<◌, ◌≤◌, ◌⊎◌, inl, inr, max, Bool, true, false, List, [], ◌∷◌, ◌++◌, length, Option, drop, map, refl, ap, sym, ◌∙◌, subst, arith, length-append, length-drop, All}
 use Rattle.std.specs.Prelude.{slice_index}
 use Rattle.std.proofs.Math.Seq.{ext_get_or}
 use Rattle.std.proofs.lemmas.List.{length-map, get_or-drop}
@@ -36,7 +36,7 @@ use Rattle.snippet_code.specs.Laws.{EndLow, SnippetsRun}
 use Rattle.snippet_code.proofs.Working.{HasBlock, Works, Does, put, update_all, IsRead, AreFit, AreFrom, HavePage, saved, AreSaved}
 use Rattle.snippet_code.proofs.Blocks.{put_same, put_other, works_none}
 use Rattle.snippet_code.proofs.OneOperation.{as_many}
-use Rattle.snippet_code.proofs.Sequences.{stand_then, stand_at, all_work, saves, restores}
+use Rattle.snippet_code.proofs.Sequences.{cost_of_page, stand_then, stand_at, all_work, saves, restores}
 use Rattle.snippet_code.proofs.Listed.{listed_same, listed_all, all_away, cell_or_not}
 use Rattle.snippet_code.proofs.Unmoved.{IsApart, word_unmoved}
 use Rattle.snippet_code.proofs.Items.{item_stays}
@@ -59,6 +59,15 @@ are_saved regs m (q ∷ qs) g h same = (
       ∙ put_same (kept_word m) (regs q) g,
   are_saved regs (suc m) qs (put (kept_word m) (regs q) g) h same,
 )
+
+-- what they cost
+at_most : (cost n : ℕ) → cost ≤ 1 → cost * n ≤ n
+at_most zero n h = omega arith
+at_most (suc zero) n h = omega arith
+at_most (suc (suc cost)) n h = absurd (omega arith)
+
+at_none : (cost n : ℕ) → cost ≡ 0 → cost * n ≡ 0
+at_none cost n e = ap (λ z. z * n) e ∙ (let f : 0 * n ≡ 0 = omega arith in f)
 
 -- ---- what operations need
 cell_low : (base : ℕ) (ops : List Op) → EndLow base ops → (k : ℕ) → IsCellOf ops k → cell_at base k + 4 ≤ 2 ^ 31
@@ -251,9 +260,10 @@ module _ (counted : ℕ → Bool) (base : ℕ) (dead avoid : List Part) (ops : L
       let pages = page_of (MayStore base ops) (λ m b. inr (m, b, refl)) 0 out (omega arith) in
       let w0 : Works s (length words) (MayStore base ops) counted r Want 0 0 g0 s.codes (λ k. register_of s (r k)) =
       works_none c in
-      let w1 = saves c first 0 out w0 from pages (omega arith)
+      let cost = cost_of_page counted in
+      let w1 = saves c cost.0 cost.1 first 0 out w0 from pages (omega arith)
       (stand_at code s.pc (s.pc + 4 * 0) xs one.0 (omega arith)) in
-      let d1 : Does s (length words) (MayStore base ops) counted r Want d (0 + length out) (0 + length out) g1 =
+      let d1 : Does s (length words) (MayStore base ops) counted r Want d (0 + length out) (0 + cost.0 * length out) g1 =
       record { codes = s.codes; picked = λ k. register_of s (r k); works = w1; kept = λ z. refl } in
       let fits = fits_of counted base r Want d (MayStore base ops) avoid p.unavoided p.some ops are low
       (λ k m. inl (k, m, refl)) free named (omega arith) in
@@ -276,7 +286,8 @@ module _ (counted : ℕ → Bool) (base : ℕ) (dead avoid : List Part) (ops : L
         few = x.few;
         path = x.path;
         silent = x.silent;
-        stored = (let z = x.stored in omega arith);
+        stored = (let z = x.stored in let y = at_most cost.0 (length out) cost.1.one in omega arith);
+        elsewhere = λ free. (let z = x.stored in let y = at_none cost.0 (length out) (cost.1.none free) in omega arith);
         pc = x.pc;
         npc = x.npc;
         slot = w4.slot;

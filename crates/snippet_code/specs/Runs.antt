@@ -34,7 +34,7 @@ pub record IsAboutToRun (words : List ℕ) (base : ℕ) (ops : List Op) (s : Sta
   pub page : (n : ℕ) → n < 5 → CanStore s.memory (kept_word n)
 
 -- Past the last word, in no more steps than words, silently: the cells are updated, only registers, codes or Y that are
--- dead may have changed, and no more than `most` stores were counted.
+-- dead may have changed, and no more than `most` stores were counted, and none where the page's words aren't.
 pub record RunsPast (counted : ℕ → Bool) (base : ℕ) (dead : List Part) (ops : List Op) (count most : ℕ)
     (s : State) : Type 0 where
   pub after : State
@@ -43,6 +43,7 @@ pub record RunsPast (counted : ℕ → Bool) (base : ℕ) (dead : List Part) (op
   pub path : Leads (IsBetween s count (MayStore base ops)) s after steps
   pub silent : IsSilent s steps
   pub stored : count_stores counted s steps ≤ most
+  pub elsewhere : ((n : ℕ) → n < 5 → counted (kept_word n) ≡ false) → count_stores counted s steps ≡ 0
   pub pc : after.pc ≡ s.pc + 4 * count
   pub npc : after.npc ≡ s.pc + 4 * count + 4
   pub slot : after.slot ≡ NoSlot
