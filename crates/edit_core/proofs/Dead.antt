@@ -2,7 +2,7 @@
 use Rattle.std.proofs.Common.{◌≡◌, ℕ, Bool, true, false, not, List, refl}
 use Rattle.eel_base.specs.CodeText.{Words}
 use Rattle.v8_decode.specs.declared.Part.{Part}
-use Rattle.v8_decode.specs.Parts.{has, is_member}
+use Rattle.v8_decode.specs.Parts.{has}
 use Rattle.v8_decode.proofs.Marks.{has-members_at, set_of-members}
 use Rattle.cfg_normal.specs.Graph.{Graph}
 use Rattle.liveness.specs.Live.{IsLiveOn}

@@ -1,11 +1,11 @@
 -- What lives is kept: the code of a snippet takes only what isn't live behind it, and what a snippet makes of the cells
 -- depends on the registers alone that it names.
-use Rattle.std.proofs.Common.{◌≡◌, ℕ, zero, suc, ◌+◌, ◌-◌, ◌*◌, ◌%◌, ◌<◌, ◌⊎◌, inl, inr, Bool, true, false, ◌&&◌, ◌==◌, nat_lt, max, List, [], ◌∷◌, length, get_or, set, slice_index, Option, None, refl, ap, sym, ◌∙◌, subst, arith, All, Contains}
+use Rattle.std.proofs.Common.{◌≡◌, ℕ, zero, suc, ◌+◌, ◌-◌, ◌*◌, ◌%◌, ◌<◌, ◌⊎◌, inl, inr, true, nat_lt, max, List, [], ◌∷◌, length, get_or, set, slice_index, refl, ap, sym, ◌∙◌, subst, arith, All, Contains}
 use Rattle.std.proofs.lemmas.Bool.{and_from, and_parts, cases_lt, cond_both, eq-eqb, lt-ltb, or_left, or_right}
 use Rattle.std.proofs.lemmas.List.{get_or_past}
 use Rattle.v8_decode.specs.declared.Part.{Part}
 use Rattle.v8_decode.specs.declared.Part.TheVariants.{Reg, Icc, Y}
-use Rattle.v8_decode.specs.Parts.{has, is_member, is_same, members, set_of}
+use Rattle.v8_decode.specs.Parts.{has, is_member, is_same, set_of}
 use Rattle.v8_decode.proofs.Members.{has-members}
 use Rattle.v8_windows.specs.Registers.{place_of}
 use Rattle.v8_windows.proofs.Places.{place_of-below}
@@ -15,7 +15,7 @@ use Rattle.v8_step.specs.Needed.{WritesIn}
 use Rattle.v8_step.specs.Run.{run}
 use Rattle.cfg_walk.specs.Walk.{end_of_walk, goes_on_at, gone_in, point_of}
 use Rattle.liveness.specs.Live.{IsLiveOn, named_on}
-use Rattle.live_walk.specs.Keeps.{IsKeptAt, IsKeptBehind, Keeps}
+use Rattle.live_walk.specs.Keeps.{IsKeptBehind, Keeps}
 use Rattle.live_walk.proofs.Keeps.{what_lives_is_kept}
 use Rattle.snippets.specs.declared.snippet.Op.{Op}
 use Rattle.snippets.specs.declared.snippet.Op.TheVariants.{Add, Put, Keep, Top}
@@ -24,7 +24,7 @@ use Rattle.snippets.specs.Grammar.{IsOp}
 use Rattle.snippets.specs.Ops.{cell_of}
 use Rattle.image_code.specs.Simulates.{IsKept, Setting, graph_in, snippet_on, updates}
 use Rattle.edit_core.specs.Dead.{AreDead}
-use Rattle.edit_core.specs.Runs.{Keeping, instr_in}
+use Rattle.edit_core.specs.Runs.{instr_in}
 use Rattle.edit_core.specs.Whole.{KeepsWhatLives, KeptIn}
 use Rattle.edit_core.proofs.Completed.{Completes, gone_completes, none, one, two, unknown_lives}
 

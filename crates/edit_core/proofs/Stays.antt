@@ -1,6 +1,6 @@
 -- A step that ends the run leaves pc where it was.
 use Rattle.std.proofs.Common.{◌≡◌, ◌≢◌, ℕ, zero, suc, ◌-◌, ◌%◌, Bool, true, false, Option, Some, None, Result, Ok, Err, List, take, refl}
-use Rattle.std.specs.Prelude.{if◌then◌else◌, ◌==◌, ℤ}
+use Rattle.std.specs.Prelude.{if◌then◌else◌, ◌==◌}
 use Rattle.std.specs.Int.{Width, byte_len, w8, w32}
 use Rattle.v8_decode.specs.declared.Instr.{Instr}
 use Rattle.v8_decode.specs.declared.Instr.TheVariants as i
@@ -16,7 +16,7 @@ use Rattle.v8_step.specs.declared.Slot.{Slot}
 use Rattle.v8_step.specs.declared.Slot.TheVariants.{NoSlot, Taken, Untaken}
 use Rattle.v8_step.specs.State.{State, sum_of}
 use Rattle.v8_step.specs.Traps.{flush_windows, call_system, data_access_exception}
-use Rattle.v8_step.specs.Transfers.{branched, branch_step, call_step, ended, jump_step, next, unless_couple}
+use Rattle.v8_step.specs.Transfers.{branched, branch_step, call_step, ended, jump_step, unless_couple}
 use Rattle.v8_step.specs.Accesses.{load_size, store_size, stored, on_bytes, on_memory, load_step, store_step, exchange_step, ldstub_step, swap_step}
 use Rattle.v8_step.specs.WindowMoves.{saved_memory, spill_many, fill_from, leave, save_step, restore_step}
 use Rattle.v8_step.specs.Calls.{is_output, read_into, write_from, system_call, trap_step}

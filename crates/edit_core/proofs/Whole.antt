@@ -1,6 +1,5 @@
 -- Whole runs.
-use Rattle.std.proofs.Common.{◌≡◌, ℕ, suc, ◌<◌, ◌≤◌, ap, subst, sym, arith}
-use Rattle.v8_step.specs.State.{State}
+use Rattle.std.proofs.Common.{◌≡◌, ℕ, suc, ◌≤◌, subst, arith}
 use Rattle.v8_step.specs.TwoRuns.{Answers, IsLeast}
 use Rattle.v8_step.proofs.Follows.{runs_follow}
 use Rattle.image_code.specs.Images.{Here}

@@ -49,7 +49,15 @@ pub(crate) fn new_code(alloc: Global, view: &View, asked: &Asked) -> Result<NewC
         table,
     };
     let live = live(alloc, text, &view.graph, &asked.snips)?;
-    let pieces = pieces(alloc, text, &view.graph, image.entry(), &asked.snips, &live, frame)?;
+    let pieces = pieces(
+        alloc,
+        text,
+        &view.graph,
+        image.entry(),
+        &asked.snips,
+        &live,
+        frame,
+    )?;
     let placed = laid(alloc, &pieces.list, image, asked.cells)?;
     let targets = places_of(alloc, &placed.at, &pieces.landing)?;
     let foreign = place_of(&placed.at, pieces.foreign);

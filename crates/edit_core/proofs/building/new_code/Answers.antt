@@ -1,9 +1,11 @@
-use Rattle.std.proofs.Common.{◌≡◌, length, map, slice_index, refl, sym, ap, ◌∙◌}
+use Rattle.std.proofs.Common.{◌≡◌, ◌+◌, List, length, map, slice_index, refl, sym, ap, ◌∙◌, subst}
 use Rattle.std.proofs.lemmas.List.{length-map}
 use Rattle.eel_base.specs.CodeText.{Words}
 use Rattle.eel_base.specs.declared.numbers.Addr.{Addr}
 use Rattle.eel_base.specs.declared.numbers.PieceNo.{PieceNo}
-use Rattle.edit_core.specs.Written.{addr, foreign_of, landings_of, placement_in}
+use Rattle.addr_translate.specs.Table.{size_of}
+use Rattle.layout.specs.declared.items.Item.{Item}
+use Rattle.edit_core.specs.Written.{AreLaid, addr, foreign_of, landings_of, placement_in, table_after}
 use Rattle.liveness.specs.Sets.{dead_on}
 use Rattle.image_code.proofs.Fit.{pieces_fit}
 use Rattle.image_code.proofs.Numbers.{words_are}
@@ -98,12 +100,12 @@ returns-clause-built c =
       exact = rest_is_dead c.args.view.now.image.text c.args.view.now.graph _ c.in_ok-live.live
           (rw (← c.text-text.ensures, ← c.deref.ensures.value) c.in_ok-live.ensures);
       place = c.in_ok-placed.ensures.0;
-      are = rw (
-        ← c.text-text.ensures,
-        ← c.deref-2.ensures.value,
-        ← c.table_base-table.ensures,
-        ← c.base.ensures.address,
-      ) c.in_ok-placed.ensures.1;
+      are = subst (λ (xs : List (List Item)). AreLaid xs
+          (table_after c.args.view.now.image.base c.args.asked.now.cells + size_of c.args.view.now.image.text)
+          (placement_in c.in_ok-placed.placed) c.in_ok-placed.ensures.0)
+          (c.deref-3.ensures.value ∙ c.in_ok-pieces.ensures.list
+          ∙ rw (c.deref-2.ensures.value, c.text-text.ensures, c.table_base-table.ensures, c.base.ensures.address) refl)
+          c.in_ok-placed.ensures.1;
     }
 
 pub returns-clause-leads : goal.returns-clause-leads
