@@ -308,11 +308,11 @@ module _ (original : List ℕ) (plan : Plan) (p : Placement) (place : ℕ → �
   -- as where little room is asked
   small_short : PiecesFit → bound_in original plan ≤ short_bound → Short
   small_short fits small =
-      let few : 4 * length p.code ≤ short_bound = in_bound in
+      let few : 4 * length p.code < short_bound = in_bound in
       subst (λ (a : ℕ). HasShortForms (piece_list (text_of original plan) (graph_in original plan) a
       (codes_of (cells_base original plan) dead plan.snips)) place) (sym is.code.base) (is.code.short few)
     where
-      in_bound : 4 * length p.code ≤ short_bound
+      in_bound : 4 * length p.code < short_bound
       in_bound =
           let fit = original_fit fits original plan is.taken is.workable dead in
           let bytes = fit.bytes in
@@ -446,7 +446,7 @@ module _ (original : List ℕ) (plan : Plan) (p : Placement) (place : ℕ → �
           node = all.over n (omega arith);
         }
 
-    runs_alike : AreRunsAlike its (bound_in original plan ≤ short_bound) entry s0 t0
+    runs_alike : AreRunsAlike its (bound_in original plan) entry s0 t0
     runs_alike = record {
       answered = answered;
       soon = λ untouched m least. (answers 0 untouched).soon m least;

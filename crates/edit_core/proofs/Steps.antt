@@ -125,7 +125,7 @@ module _ (original : List ℕ) (plan : Plan) (view : View) (is : IsViewOf origin
             (placement_in placed) built.place) (view_pieces built.dead) built.are.laid);
         size = subst (λ (xs : List (List Item)). 4 * length placed.code.items ≤ long_bytes xs) (view_pieces built.dead)
             built.are.size;
-        short = subst (λ (xs : List (List Item)). 4 * length placed.code.items ≤ short_bound → HasShortForms xs built.place)
+        short = subst (λ (xs : List (List Item)). 4 * length placed.code.items < short_bound → HasShortForms xs built.place)
             (view_pieces built.dead) built.are.short;
         words = words;
         base = base ∙ ap (λ (i : Program). table_after i.base plan.cells) is.0;

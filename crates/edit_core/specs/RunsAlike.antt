@@ -45,9 +45,12 @@ pub record IsAnswered (g : Setting) (entry : ℕ) (s0 t0 : State) (n : ℕ) : Ty
   pub cells : cells_in g (run t0 moment) ≡ store_of g entry s0 n
   pub node : EndsAtNode g entry s0 t0 n moment
 
--- Where the original's first n steps touch no page of the notes:
--- `Small` says that so little room is asked that no jump and no branch is long.
-pub record AreRunsAlike (g : Setting) (Small : Type 0) (entry : ℕ) (s0 t0 : State) : Type 0 where
+-- so little room is asked that no jump and no branch is long: 8 MiB
+abbrev pub short_bound : ℕ
+short_bound = 8 * 2 ^ 20
+
+-- Where the original's first n steps touch no page of the notes, and the edit asks for so much room:
+pub record AreRunsAlike (g : Setting) (bound entry : ℕ) (s0 t0 : State) : Type 0 where
   -- Going on and ending, and the store.
   pub answered : (n : ℕ) → IsUntouched (pages_of g.notes) s0 n → IsAnswered g entry s0 t0 n
   -- The step bound: so many steps at most lie before the first of these moments, and from each to the next, by the
@@ -60,16 +63,12 @@ pub record AreRunsAlike (g : Setting) (Small : Type 0) (entry : ℕ) (s0 t0 : St
   pub spared : (n : ℕ) → IsUntouched (pages_of g.notes) s0 (suc n)
       → IsWatched g (gone_in g.text (graph_in g) entry s0 n) (point_of (run s0 n)) (run s0 (suc n))
       → (m k : ℕ) → IsLeast (Answers g.notes s0 t0 n) m → IsLeast (Answers g.notes s0 t0 (suc n)) k
-      → IsSparing g (((run s0 n).ending ≡ None) × Small) (gone_in g.text (graph_in g) entry s0 n)
+      → IsSparing g (((run s0 n).ending ≡ None) × (bound ≤ short_bound)) (gone_in g.text (graph_in g) entry s0 n)
       (point_of (run s0 n)) (run t0 m) (k - m)
-
--- at most 8 MiB
-abbrev pub short_bound : ℕ
-short_bound = 8 * 2 ^ 20
 
 -- for all arguments and every input
 abbrev pub HaveRunsAlike : List ℕ → Plan → (ℕ → List Part) → List ℕ → Notes → Type 0
 HaveRunsAlike original plan dead file notes =
     (args : List (List ℕ)) (input : List ℕ) → AreArguments args → AreBytes input
-    → AreRunsAlike (edit_of original plan dead notes) (bound_in original plan ≤ short_bound) (image_of original).entry
+    → AreRunsAlike (edit_of original plan dead notes) (bound_in original plan) (image_of original).entry
     (start_of original args input) (start_of file args input)

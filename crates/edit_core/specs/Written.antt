@@ -124,11 +124,11 @@ LeadsTo text graph p table = IsTableOf text (landings_of text graph p) (foreign_
 abbrev pub pieces_by : Words → Graph → ℕ → ℕ → (ℕ → List Part) → List (List Op) → List (List Item)
 pieces_by text graph base cells dead snips = piece_list text graph (table_after base cells) (codes_of base dead snips)
 
--- Pieces were laid behind an address, in no more bytes than their long forms take. Where they take few, no form is long.
+-- Pieces were laid from an address on, in no more bytes than their long forms take. Where these are few, no form is long.
 pub record AreLaid (pieces : List (List Item)) (base : ℕ) (p : Placement) (place : ℕ → ℕ → ℕ) : Type 0 where
   pub laid : IsLaid pieces base p place
   pub size : 4 * length p.code ≤ long_bytes pieces
-  pub short : 4 * length p.code ≤ short_bound → HasShortForms pieces place
+  pub short : 4 * length p.code < short_bound → HasShortForms pieces place
 
 -- what was laid, of an original by what is asked of it
 pub record IsBuilt (text : Words) (graph : Graph) (base cells : ℕ) (snips : List (List Op)) (p : Placement) : Type 0 where
@@ -217,7 +217,7 @@ pub record IsNewCode (original : List ℕ) (plan : Plan) (p : Placement) (place 
   pub exact : AreDead (text_of original plan) (graph_in original plan) (named_on plan.snips) dead
   pub laid : IsLaid (pieces_of original plan dead) (code_base original plan) p place
   pub size : 4 * length p.code ≤ long_bytes (pieces_of original plan dead)
-  pub short : 4 * length p.code ≤ short_bound → HasShortForms (pieces_of original plan dead) place
+  pub short : 4 * length p.code < short_bound → HasShortForms (pieces_of original plan dead) place
   pub words : All (λ word. word < 2 ^ 32) p.code
   pub base : table.base ≡ table_base original plan
   pub leads : LeadsTo (text_of original plan) (graph_in original plan) p table

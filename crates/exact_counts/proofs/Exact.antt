@@ -1,5 +1,5 @@
 -- What is rebuilt from the dump of a run that has ended is how often the original's run completes each edge.
-use Rattle.std.proofs.Common.{◌≡◌, ℕ, ◌-◌, ◌<◌, ◌≤◌, Bool, cond, List, length, None, refl, ap, sym, ◌∙◌, subst, arith}
+use Rattle.std.proofs.Common.{◌≡◌, ℕ, ◌-◌, ◌<◌, Bool, cond, List, length, None, refl, ap, sym, ◌∙◌, subst, arith}
 use Rattle.std.specs.Prelude.{pos}
 use Rattle.std.specs.List.{All}
 use Rattle.std.proofs.lemmas.Bool.{lt-ltb}
@@ -25,7 +25,7 @@ use Rattle.span_tree.specs.Links.{links_of}
 use Rattle.walk_counts.specs.Counts.{executions, first_node}
 use Rattle.walk_counts.proofs.Files.{begins, entry_is, executions_of_files_are_flows}
 use Rattle.image_code.specs.Simulates.{Setting, graph_in}
-use Rattle.edit_core.specs.RunsAlike.{edit_of, short_bound}
+use Rattle.edit_core.specs.RunsAlike.{edit_of}
 use Rattle.edit_core.specs.Taken.{bound_in}
 use Rattle.edit_core.specs.Faithful.{HasGraph, note_edges, tool_number}
 use Rattle.count_rebuild.specs.Noted.{noted_graph}
@@ -106,7 +106,7 @@ counts_are_exact original plan file notes args input m is given read over short 
     let v : ℕ = visits_by notes t0 m in
     let n : ℕ = v - 1 in
     let tells : EndsWithStep g entry s0 t0 m v =
-    ended_runs_tell g (bound_in original plan ≤ short_bound) entry s0 t0 m (begins_live original args input) (is.runs args input given read) over in
+    ended_runs_tell g (bound_in original plan) entry s0 t0 m (begins_live original args input) (is.runs args input given read) over in
     let are : AreNotesOf (graph_in g) plan.snips notes = notes_of_graph original plan is.dead notes counts is.graph in
     let few = tells.few in
     let behind : StandsBehind g entry s0 t0 m n = record {
