@@ -1,5 +1,5 @@
 -- What the parts of an edit give it.
-use Rattle.std.proofs.Common.{◌≡◌, ℕ, ◌+◌, ◌-◌, ◌*◌, ◌%◌, ◌^◌, ◌<◌, ◌≤◌, min, List, length, refl, ap, sym, ◌∙◌, subst, arith, All}
+use Rattle.std.proofs.Common.{◌≡◌, ℕ, ◌+◌, ◌-◌, ◌*◌, ◌%◌, ◌^◌, ◌<◌, ◌≤◌, min, List, length, Err, refl, ap, sym, ◌∙◌, subst, arith, All}
 use Rattle.std.proofs.lemmas.List.{length-map}
 use Rattle.eel_base.specs.CodeText.{IsText, Words}
 use Rattle.eel_base.specs.declared.numbers.Addr.{Addr}
@@ -14,7 +14,11 @@ use Rattle.addr_translate.specs.Lookup.{TableAt}
 use Rattle.addr_translate.specs.Table.{size_of}
 use Rattle.layout.specs.declared.items.Placed.{Placed}
 use Rattle.layout.specs.declared.items.Item.{Item}
-use Rattle.layout.specs.Laid.{HasShortForms, IsLaid, long_bytes}
+use Rattle.layout.specs.declared.items.LayoutFault.{LayoutFault}
+use Rattle.layout.specs.declared.items.LayoutFault.TheVariants.{Room}
+use Rattle.layout.specs.Laid.{ArePieces, HasShortForms, IsLaid, long_bytes}
+use Rattle.layout.specs.Compact.{RoomIs}
+use Rattle.layout.proofs.Needed.{long_is_enough}
 use Rattle.image_code.specs.Fit.{AreFit, PiecesFit}
 use Rattle.image_code.specs.Parts.{IsGraphOf, codes_of}
 use Rattle.image_code.proofs.Numbers.{words_are}
@@ -30,6 +34,16 @@ use Rattle.edit_core.proofs.Room.{small_table}
 use Rattle.edit_core.proofs.Snippets.{short_codes}
 use Rattle.edit_core.proofs.Views.{bound_is}
 use Rattle.edit_core.proofs.Originals.{image_text, image_room}
+
+-- pieces have room where their long forms have
+pub never_lacks_room : (list : List (List Item)) (room : ℕ) (fault : LayoutFault) (needed had : ℕ) → ArePieces list
+    → fault ≡ Room needed had → RoomIs (Err fault) list room → long_bytes list ≤ room → ⊥
+never_lacks_room list room fault needed had are e is enough =
+    let r : RoomIs (Err (Room needed had)) list room
+    = subst (λ (x : LayoutFault). RoomIs (Err x) list room) e is in
+    let l = long_is_enough list needed are r.0 in
+    let lacks : room < needed = r.2 in
+    omega (arith, l, lacks, enough)
 
 -- the pieces of what can be edited can be placed
 pub original_fit : PiecesFit → (original : List ℕ) (plan : Plan) → CanEdit original plan → CanDo original plan

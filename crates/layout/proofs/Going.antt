@@ -41,8 +41,11 @@ word_is base a word code m h w = ap (fetch_from (code_of m)) w.1 ∙ h w.0 word 
 pub says_stand : (base : ℕ) (code : List ℕ) (m : Memory) → HasCode base code m → (xs : List Instr) (a : ℕ)
     → SaysFrom base code a xs → StandIn (code_of m) a xs
 says_stand base code m h [] a says = tt
-says_stand base code m h (x ∷ xs) a says =
-    (record { word = says.0.0; fetched = word_is base a says.0.0 code m h says.0.1; decodes = says.0.2 }, says_stand base code m h xs (a + 4) says.1)
+says_stand base code m h (x ∷ xs) a says = (
+  record { word = says.0.0; fetched = word_is base a says.0.0 code m h says.0.1; decodes = says.0.2 },
+  says_stand
+      base code m h xs (a + 4) says.1,
+)
 
 -- ---- a Jump
 
@@ -303,7 +306,12 @@ past_jump base code to a b s true w is low low' aligned e say h =
             (leads_weaker (IsBetween s 2 IsFirstWord) (IsBetween s 6 IsFirstWord) s s2 2
             (λ u k. let x = k.past in let y = k.before in record { past = omega arith; before = omega arith; stores = k.stores }) h.0.path)
             (leads_weaker (IsBetween s2 4 IsFirstWord) (IsBetween s 6 IsFirstWord) s2 _ 4
-            (λ u k. let x = k.past in let y = k.before in record { past = omega arith; before = omega arith; stores = k.stores }) jump.path)
+            (λ u k. let x = k.past in let y = k.before in record {
+              past = omega arith;
+              before = omega arith;
+              stores =
+                  k.stores;
+            }) jump.path)
             (λ _ _. record { past = omega arith; before = omega arith; stores = stores_none IsFirstWord s.memory });
         silent = silent_then s s2 2 4 h.0.path.steps h.0.silent jump.silent;
         stores = jump.stores;

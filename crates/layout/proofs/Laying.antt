@@ -1,78 +1,510 @@
--- The plain layout is a layout.
-use Rattle.std.proofs.Common.{◌≡◌, ℕ, ◌+◌, ◌*◌, ◌%◌, ◌^◌, ◌≤◌, List, length, map, slice_index, slice_get, refl, ap, sym, ◌∙◌, subst, arith}
-use Rattle.std.specs.List.{sum_by}
-use Rattle.std.proofs.lemmas.List.{length-map}
-use Rattle.eel_base.specs.declared.numbers.Addr.{Addr}
-use Rattle.elf32_sparc.specs.Notes.{NoteRange}
+-- Pieces are laid one by one, each once.
+use Rattle.std.proofs.Common.{◌≡◌, ◌≢◌, ℕ, zero, suc, ◌+◌, ◌-◌, ◌<◌, ◌≤◌, ◌⊎◌, inl, inr, Bool, true, false, not, ◌&&◌, ◌||◌, eqb, List, [], ◌∷◌, ◌++◌, length, get_or, set, slice_get, Option, Some, None, is_some, IfSome, ltb, replicate, refl, ap, sym, ◌∙◌, subst, arith}
+use Rattle.std.specs.Prelude.{if◌then◌else◌}
+use Rattle.std.specs.Cmp.{IsEquivalence}
+use Rattle.std.specs.List.{All, IsDistinct}
+use Rattle.std.proofs.lemmas.Bool.{cases_lt, cases_eq, eqb-true, eq-eqb, cases_Bool, ltb-true, lt-ltb}
+use Rattle.std.proofs.lemmas.List.Folds.{list_any-append, Any-from_list_any}
+use Rattle.std.proofs.lemmas.Map.Keys.{any_passes_from_place, IsDistinct-push}
+use Rattle.std.proofs.lemmas.List.Elements.{All-push}
+use Rattle.std.proofs.lemmas.List.{length-set, length-replicate, length-append, get_or-set_same, get_or-set_other}
+use Rattle.std.proofs.lemmas.Map.Steps.{le-length_from_below, length-le_from_distinct_below}
 use Rattle.layout.specs.declared.items.Item.{Item}
-use Rattle.layout.specs.declared.items.Placed.{Placed}
-use Rattle.layout.specs.Laid.{Placement, placement_of, note_range, item_at, range_in, AllMarked, Ascend, IsLaid, IsPlaceIn, IsPlain, Lays, long_bytes, piece_words}
-use Rattle.layout.specs.Emitting.{IsEmitted, addresses, all_ranges}
-use Rattle.layout.proofs.Listed.{length-addresses}
-use Rattle.layout.proofs.Places.{place_from, first_piece, next_piece, next_place, place_within, starts_are, start_within}
-use Rattle.layout.proofs.Ranging.{all_ascend, all_found, all_made, one_of}
-use Rattle.layout.proofs.Standing.{all_stand, code_length}
+use Rattle.layout.specs.declared.items.Item.TheVariants as it
+use Rattle.layout.specs.Laid.{AllLead, LeadsBelow, item_at}
+use Rattle.layout.specs.Order.{jump_to, exit_at, is_laid, first_left, lowest_left, behind, next_after, ends_in_jump, first_laid, next_piece, compact_order}
+use Rattle.layout.specs.Laying.{LeadsInside, IsLaying, IsMarking, IsLowestLeft, IsNext, IsWhole}
+use Rattle.eel_base.specs.declared.numbers.PieceNo.{PieceNo}
 
-pub code_bytes : (pieces : List (List Item)) (base : ℕ) (p : Placed) → IsEmitted pieces base p
-    → 4 * length p.code.items ≡ long_bytes pieces
-code_bytes pieces base p h = ap (λ n. 4 * n) (ap length h.code ∙ code_length p.at.items pieces)
+differ : false ≡ true → ⊥
+differ e = cc
 
-module _ (pieces : List (List Item)) (base : ℕ) (p : Placed) (h : IsEmitted pieces base p) (marked : AllMarked pieces)
-    (aligned : base % 4 ≡ 0) (low : base + long_bytes pieces ≤ 2 ^ 31) where
-  abbrev placed : Placement
-  placed = placement_of p.code.items p.at.items p.ranges.items
+pub different : (a b : ℕ) → (a ≡ b → ⊥) → eqb a b ≡ false
+different a b h = go (cases_Bool (eqb a b))
+  where
+    go : (eqb a b ≡ true) ⊎ (eqb a b ≡ false) → eqb a b ≡ false
+    go (inl e) = absurd (h (eqb-true a b e))
+    go (inr e) = e
 
-  abbrev place : ℕ → ℕ → ℕ
-  place = place_from base pieces
+pub the_equality : IsEquivalence eqb
+the_equality = record {
+  refl = λ x. eq-eqb x x refl;
+  symm = λ x y. both x y (cases_eq x y);
+  congr = λ x y z e. ap (λ (v : ℕ). eqb v z) (eqb-true x y e);
+}
+  where
+    both : (x y : ℕ) → (x ≡ y) ⊎ (x ≡ y → ⊥) → eqb x y ≡ eqb y x
+    both x y (inl e) = eq-eqb x y e ∙ sym (eq-eqb y x (sym e))
+    both x y (inr d) = different x y d ∙ sym (different y x (λ e. d (sym e)))
 
-  at_is : placed.at ≡ map (λ (a : Addr). a.0) (addresses base pieces)
-  at_is = ap (map (λ (a : Addr). a.0)) h.at
+pub laid_push : (laid : List ℕ) (x k : ℕ) → is_laid (laid ++ x ∷ []) k ≡ (is_laid laid k || (eqb k x || false))
+laid_push laid x k = list_any-append (λ j. eqb k j) laid (x ∷ [])
 
-  ranges_are : placed.ranges ≡ map note_range (all_ranges base pieces)
-  ranges_are = ap (map note_range) h.ranges
+or_false : (b : Bool) → (b || (false || false)) ≡ b
+or_false true = refl
+or_false false = refl
 
-  end_is : base + 4 * length placed.code ≡ base + 4 * sum_by piece_words pieces
-  end_is = ap (λ n. base + n) (code_bytes pieces base p h)
+or_true : (b : Bool) → (b || (true || false)) ≡ true
+or_true true = refl
+or_true false = refl
 
-  start_low : (k : ℕ) → (slice_index placed.at k % 4 ≡ 0) × (slice_index placed.at k ≤ 2 ^ 31)
-  start_low k =
-      subst (λ (z : List ℕ). (slice_index z k % 4 ≡ 0) × (slice_index z k ≤ 2 ^ 31)) (sym at_is)
-      (start_within pieces k base (2 ^ 31) aligned low)
+pub laid_same : (laid : List ℕ) (x : ℕ) → is_laid (laid ++ x ∷ []) x ≡ true
+laid_same laid x = laid_push laid x x ∙ ap (λ (b : Bool). is_laid laid x || (b || false)) (eq-eqb x x refl)
+    ∙ or_true (is_laid laid x)
 
-  within : (k n : ℕ) → IsPlaceIn base placed (place k n)
-  within k n =
-      let w = place_within pieces k n base in
-      let ends = w.ends in
-      record { begins = w.begins; ends = omega (arith, end_is, ends); aligned = w.aligned aligned }
+pub laid_other : (laid : List ℕ) (x k : ℕ) → (k ≡ x → ⊥) → is_laid (laid ++ x ∷ []) k ≡ is_laid laid k
+laid_other laid x k h = laid_push laid x k ∙ ap (λ (b : Bool). is_laid laid k || (b || false)) (different k x h)
+    ∙ or_false (is_laid laid k)
 
-  pub laid : IsLaid pieces base placed place
-  laid = record {
-    low = (let e = end_is in omega (arith, e, low));
-    count = length-map p.at.items (λ (a : Addr). a.0) ∙ ap length h.at ∙ length-addresses pieces base;
-    starts = λ k l. ap (λ (z : List ℕ). slice_index z k) at_is ∙ starts_are pieces k base l;
-    aligned = start_low;
-    items = all_stand base placed p.at.items refl (λ k. let l =
-        (start_low k).1 in omega arith) pieces h.conditions h.code;
-    falls = λ k l j. sym (next_piece pieces k base (omega arith));
-    within = λ k n l m. within k n;
-    ranges = λ k n a x e l g.
-        ap (λ (rs : List NoteRange). range_in rs a) ranges_are ∙ all_found pieces k n base a x marked e l g;
-    ascend = subst (λ (z : ℕ). Ascend base z placed.ranges) (sym end_is)
-        (subst (Ascend base (base + 4 * sum_by piece_words pieces)) (sym ranges_are) (all_ascend pieces base marked));
-    marks = λ n r e.
-        one_of pieces place (map note_range (all_ranges base pieces)) n r
-        (all_made pieces place pieces 0 base
-        (λ j m x f. ap (λ z. item_at pieces z m) (let g : 0 + j ≡ j = omega arith in g) ∙ f)
-        (λ j m l. ap (λ z. place z m) (let g : 0 + j ≡ j = omega arith in g)))
-        (ap (λ (rs : List NoteRange). slice_get rs n) (sym ranges_are) ∙ e);
-  }
+pub laid_kept : (laid : List ℕ) (x k : ℕ) → is_laid laid k ≡ true → is_laid (laid ++ x ∷ []) k ≡ true
+laid_kept laid x k h = laid_push laid x k ∙ ap (λ (b : Bool). b || (eqb k x || false)) h
 
-  pub plain : IsPlain pieces base place
-  plain = record {
-    first = first_piece pieces base;
-    next = λ k l. next_piece pieces k base l;
-    long = λ k n x e. next_place pieces k n base x e;
-  }
+-- the lowest that isn't laid is the first free one
+pub first_left_is : (laid : List ℕ) (k room m : ℕ) → k ≤ m → m < k + room
+    → ((j : ℕ) → k ≤ j → j < m → is_laid laid j ≡ true) → is_laid laid m ≡ false → first_left laid k room ≡ m
+first_left_is laid k zero m a b h f = absurd (omega arith)
+first_left_is laid k (suc room) m a b h f = go (cases_eq k m) (λ s. first_left_is laid (suc k) room m s (omega arith)
+    (λ j u v. h j (omega arith) v) f)
+  where
+    go : (k ≡ m) ⊎ (k ≡ m → ⊥) → (suc k ≤ m → first_left laid (suc k) room ≡ m) → first_left laid k (suc room) ≡ m
+    go (inl e) more = rw (ap (is_laid laid) e ∙ f) e
+    go (inr d) more =
+        let l : is_laid laid k ≡ true = h k (omega arith) (omega arith) in
+        rw l (more (omega arith))
 
-  pub lays : Lays IsPlain pieces base placed
-  lays = (place, laid, plain)
+-- while pieces are left, the first free number is one
+pub left_inside : (laid : List ℕ) (n low : ℕ) → length laid < n → ((k : ℕ) → k < low → is_laid laid k ≡ true) → low < n
+left_inside laid n low short below = go (cases_lt low n)
+  where
+    go : (low < n) ⊎ (n ≤ low) → low < n
+    go (inl l) = l
+    go (inr l) =
+        let all : n ≤ length laid = le-length_from_below laid n (λ q u. below q (omega arith)) in
+        absurd (omega arith)
+
+pushed_at : (laid : List ℕ) (x : ℕ) → slice_get (laid ++ x ∷ []) (length laid) ≡ Some x
+pushed_at [] x = refl
+pushed_at (y ∷ ys) x = pushed_at ys x
+
+last_pushed : (laid : List ℕ) (x : ℕ) → slice_get (laid ++ x ∷ []) (length (laid ++ x ∷ []) - 1) ≡ Some x
+last_pushed laid x =
+    let e : length (laid ++ x ∷ []) - 1 ≡ length laid = omega (arith, length-append laid (x ∷ [])) in
+    ap (λ (i : ℕ). slice_get (laid ++ x ∷ []) i) e ∙ pushed_at laid x
+
+last_laid : (laid : List ℕ) (k : ℕ) → slice_get laid (length laid - 1) ≡ Some k → is_laid laid k ≡ true
+last_laid laid k e = any_passes_from_place (eqb k) laid (length laid - 1) k e (eq-eqb k k refl)
+
+-- ---- what may come next
+
+lowest_next : (pieces : List (List Item)) (laid : List ℕ) (k : ℕ) → IsLowestLeft pieces laid k → IsNext pieces laid k
+lowest_next pieces laid k h = record {
+  inside = h.inside;
+  free = h.free;
+  falls = λ j e f. h.below j (omega arith);
+}
+
+through_next : (pieces : List (List Item)) (laid : List ℕ) (last : ℕ) → IsLaying pieces laid
+    → slice_get laid (length laid - 1) ≡ Some last → exit_at pieces last ≡ None → suc last < length pieces
+    → IsNext pieces laid (suc last)
+through_next pieces laid last h end none more = record {
+  inside = more;
+  free = free (cases_Bool (is_laid laid (suc last)));
+  falls = λ j e f. ap (is_laid laid) (same j last e) ∙ last_laid laid last end;
+}
+  where
+    same : (a b : ℕ) → suc a ≡ suc b → a ≡ b
+    same a b e = omega arith
+
+    no_exit : ends_in_jump pieces last ≡ false
+    no_exit = ap (λ (o : Option PieceNo). is_some o) none
+
+    free : (is_laid laid (suc last) ≡ true) ⊎ (is_laid laid (suc last) ≡ false) → is_laid laid (suc last) ≡ false
+    free (inl e) = absurd ((h.falls last no_exit e).1 end)
+    free (inr e) = e
+
+target_next : (pieces : List (List Item)) (laid : List ℕ) (to : ℕ)
+    → to < length pieces → is_laid laid to ≡ false → ends_in_jump pieces (to - 1) ≡ true → IsNext pieces laid to
+target_next pieces laid to inside free jump = record {
+  inside = inside;
+  free = free;
+  falls = λ j e f. let s : j ≡ to - 1 = omega arith in let g : ends_in_jump pieces (to - 1) ≡ false = ap (ends_in_jump
+      pieces) (sym s) ∙ f in absurd (differ (sym g ∙ jump));
+}
+
+-- ---- the lowest left
+
+left_below : (laid : List ℕ) (k room j : ℕ) → k ≤ j → j < first_left laid k room → is_laid laid j ≡ true
+left_below laid k zero j a b = absurd (omega arith)
+left_below laid k (suc room) j a b = go (cases_Bool (is_laid laid k)) (cases_eq k j) (left_below laid (suc k) room j)
+  where
+    go : (is_laid laid k ≡ true) ⊎ (is_laid laid k ≡ false) → (k ≡ j) ⊎ (k ≡ j → ⊥)
+        → (suc k ≤ j → j < first_left laid (suc k) room → is_laid laid j ≡ true) → is_laid laid j ≡ true
+    go (inl e) (inl s) more = ap (is_laid laid) (sym s) ∙ e
+    go (inl e) (inr d) more =
+        let f : first_left laid k (suc room) ≡ first_left laid (suc k) room = rw e refl in
+        more (omega (arith, a, d)) (omega (arith, b, f))
+    go (inr e) s more =
+        let f : first_left laid k (suc room) ≡ k = rw e refl in
+        absurd (omega (arith, a, b, f))
+
+left_free : (laid : List ℕ) (k room : ℕ) → first_left laid k room < k + room
+    → is_laid laid (first_left laid k room) ≡ false
+left_free laid k zero l = absurd (omega arith)
+left_free laid k (suc room) l = go (cases_Bool (is_laid laid k)) (left_free laid (suc k) room)
+  where
+    go : (is_laid laid k ≡ true) ⊎ (is_laid laid k ≡ false)
+        → (first_left laid (suc k) room < suc k + room → is_laid laid (first_left laid (suc k) room) ≡ false)
+        → is_laid laid (first_left laid k (suc room)) ≡ false
+    go (inl e) more =
+        let f : first_left laid k (suc room) ≡ first_left laid (suc k) room = rw e refl in
+        ap (is_laid laid) f ∙ more (omega (arith, l, f))
+    go (inr e) more =
+        let f : first_left laid k (suc room) ≡ k = rw e refl in
+        ap (is_laid laid) f ∙ e
+
+lowest_is_left : (pieces : List (List Item)) (laid : List ℕ) → length laid < length pieces
+    → IsLowestLeft pieces laid (lowest_left pieces laid)
+lowest_is_left pieces laid short = record {
+  value = refl;
+  inside = inside;
+  free = left_free laid 0 (length pieces) (omega (arith, inside));
+  below = λ j l. left_below laid 0 (length pieces) j (omega arith) l;
+}
+  where
+    inside : first_left laid 0 (length pieces) < length pieces
+    inside = left_inside laid (length pieces) (first_left laid 0 (length pieces)) short
+        (λ j l. left_below laid 0 (length pieces) j (omega arith) l)
+
+-- ---- the next piece
+
+pub laid_inside : (laid : List ℕ) (n q : ℕ) → All (λ k. k < n) laid → is_laid laid q ≡ true → q < n
+laid_inside laid n q h l =
+    let a = Any-from_list_any (eqb q) laid l in
+    let b : get_or laid a.0 a.1 < n = h a.0 a.1 a.2 in
+    let d : q ≡ a.1 = eqb-true q a.1 a.4 in
+    omega (arith, a.3, b, d)
+
+some_last : (x : ℕ) (xs : List ℕ) → slice_get (x ∷ xs) (length xs) ≡ None → ⊥
+some_last x [] e = cc
+some_last x (y ∷ ys) e = some_last y ys e
+
+none_last : (laid : List ℕ) → slice_get laid (length laid - 1) ≡ None → laid ≡ []
+none_last [] e = refl
+none_last (x ∷ xs) e =
+    let f : length (x ∷ xs) - 1 ≡ length xs = omega arith in
+    absurd (some_last x xs (ap (slice_get (x ∷ xs)) (sym f) ∙ e))
+
+not_left : (a b : Bool) → (not a && b) ≡ true → a ≡ false
+not_left false b e = refl
+not_left true b e = absurd (differ e)
+
+not_right : (a b : Bool) → (not a && b) ≡ true → b ≡ true
+not_right false b e = e
+not_right true b e = absurd (differ e)
+
+next_is : (pieces : List (List Item)) (laid : List ℕ) → LeadsInside pieces → IsLaying pieces laid
+    → length laid < length pieces → IsNext pieces laid (next_piece pieces laid)
+next_is pieces laid leads h short = start (slice_get laid (length laid - 1)) refl
+  where
+    lowest : IsNext pieces laid (lowest_left pieces laid)
+    lowest = lowest_next pieces laid (lowest_left pieces laid) (lowest_is_left pieces laid short)
+
+    through : (last : ℕ) (more : Bool) → ltb (suc last) (length pieces) ≡ more
+        → slice_get laid (length laid - 1) ≡ Some last
+        → exit_at pieces last ≡ None → IsNext pieces laid (if more then suc last else lowest_left pieces laid)
+    through last true m end none = through_next pieces laid last h end none (ltb-true (suc last) (length pieces) m)
+    through last false m end none = lowest
+
+    lead : (to : PieceNo) (test : Bool) → (not (is_laid laid to.0) && ends_in_jump pieces (to.0 - 1)) ≡ test
+        → to.0 < length pieces
+        → IsNext pieces laid (if test then to.0 else lowest_left pieces laid)
+    lead to true t l = target_next pieces laid to.0 l (not_left (is_laid laid to.0) (ends_in_jump pieces (to.0 - 1)) t)
+        (not_right (is_laid laid to.0) (ends_in_jump pieces (to.0 - 1)) t)
+    lead to false t l = lowest
+
+    exits : (last : ℕ) (o : Option PieceNo) → exit_at pieces last ≡ o → IfSome o (λ to. to.0 < length pieces)
+        → slice_get laid (length laid - 1) ≡ Some last → IsNext pieces laid (behind pieces laid last o)
+    exits last None e l end = through last (ltb (suc last) (length pieces)) refl end e
+    exits last (Some to) e l end = lead to (not (is_laid laid to.0) && ends_in_jump pieces (to.0 - 1)) refl l
+
+    start : (o : Option ℕ) → slice_get laid (length laid - 1) ≡ o → IsNext pieces laid (next_after pieces laid o)
+    start None e =
+        let s : laid ≡ [] = none_last laid e in
+        subst (λ (l : List ℕ). IsNext pieces l 0) (sym s) (record {
+          inside = omega arith;
+          free = refl;
+          falls = λ j e f. absurd (omega arith);
+        })
+    start (Some last) e = exits last (exit_at pieces last) refl (leads last) e
+
+-- ---- laying
+
+laying_more : (pieces : List (List Item)) (laid : List ℕ) (x : ℕ) → IsLaying pieces laid → IsNext pieces laid x
+    → IsLaying pieces (laid ++ x ∷ [])
+laying_more pieces laid x h next = record {
+  inside = All-push (λ k. k < length pieces) laid x h.inside next.inside;
+  falls = λ k e l. after k e l (cases_eq (suc k) x);
+  distinct = IsDistinct-push the_equality laid x h.distinct next.free;
+}
+  where
+    some_is : (a b : ℕ) → Some a ≡ Some b → a ≡ b
+    some_is a b e = cc
+
+    not_last : (k : ℕ) → is_laid laid k ≡ true → slice_get (laid ++ x ∷ []) (length (laid ++ x ∷ []) - 1) ≢ Some k
+    not_last k l e =
+        let same : x ≡ k = some_is x k (sym (last_pushed laid x) ∙ e) in
+        let other : is_laid laid x ≡ true = ap (is_laid laid) same ∙ l in
+        absurd (differ (sym next.free ∙ other))
+
+    both : (k : ℕ) → is_laid laid k ≡ true
+        → (is_laid (laid ++ x ∷ []) k ≡ true) × (slice_get (laid ++ x ∷ []) (length (laid ++ x ∷ []) - 1) ≢ Some k)
+    both k l = (laid_kept laid x k l, not_last k l)
+
+    after : (k : ℕ) → ends_in_jump pieces k ≡ false → is_laid (laid ++ x ∷ []) (suc k) ≡ true
+        → (suc k ≡ x) ⊎ (suc k ≡ x → ⊥)
+        → (is_laid (laid ++ x ∷ []) k ≡ true) × (slice_get (laid ++ x ∷ []) (length (laid ++ x ∷ []) - 1) ≢ Some k)
+    after k e l (inl s) = both k (next.falls k s e)
+    after k e l (inr d) = both k ((h.falls k e (sym (laid_other laid x (suc k) d) ∙ l)).0)
+
+laying_none : (pieces : List (List Item)) → IsLaying pieces []
+unfolding IsDistinct
+laying_none pieces = record {
+  distinct = tt;
+  inside = λ k d l. absurd (omega arith);
+  falls = λ k e l. absurd (differ l);
+}
+
+-- the first pieces of the order are laid
+pub record AreFirst (pieces : List (List Item)) (laid : List ℕ) (count : ℕ) : Type 0 where
+  pub laying : IsLaying pieces laid
+  pub len : length laid ≡ count
+
+pub first_are : (pieces : List (List Item)) → LeadsInside pieces → (count : ℕ) → count ≤ length pieces
+    → AreFirst pieces (first_laid pieces count) count
+unfolding first_laid
+first_are pieces leads zero l = record { laying = laying_none pieces; len = refl }
+first_are pieces leads (suc count) l =
+    let h = first_are pieces leads count (omega arith) in
+    let n = h.len in
+    let laid = first_laid pieces count in
+    let short : length (first_laid pieces count) < length pieces = omega (arith, n) in
+    record {
+      laying = laying_more pieces laid (next_piece pieces laid) h.laying (next_is pieces laid leads h.laying short);
+      len = let x = length-append laid (next_piece pieces laid ∷ []) in omega (arith, x, n);
+    }
+
+pub first_next : (pieces : List (List Item)) (laid : List ℕ) → LeadsInside pieces
+    → laid ≡ first_laid pieces (length laid)
+    → length laid < length pieces → IsNext pieces laid (next_piece pieces laid)
+first_next pieces laid leads e short =
+    next_is pieces laid leads (subst (IsLaying pieces) (sym e) (first_are pieces leads (length laid) (omega
+    arith)).laying) short
+
+pub last_inside : (pieces : List (List Item)) (laid : List ℕ) (last : ℕ) → LeadsInside pieces
+    → laid ≡ first_laid pieces (length laid)
+    → length laid < length pieces → slice_get laid (length laid - 1) ≡ Some last → last < length pieces
+last_inside pieces laid last leads e short end =
+    let h : IsLaying pieces laid = subst (IsLaying pieces) (sym e) (first_are pieces leads (length laid) (omega
+    arith)).laying in
+    laid_inside laid (length pieces) last h.inside (last_laid laid last end)
+
+-- each piece is laid once
+pub whole_is : (pieces : List (List Item)) → LeadsInside pieces → IsWhole pieces (compact_order pieces)
+whole_is pieces leads = record {
+  laying = h.laying;
+  len = h.len;
+  once = λ k l. go k l (cases_Bool (is_laid
+      (compact_order pieces) k));
+}
+  where
+    h : AreFirst pieces (compact_order pieces) (length pieces)
+    h = first_are pieces leads (length pieces) (omega arith)
+
+    go : (k : ℕ) → k < length pieces → (is_laid (compact_order pieces) k ≡ true) ⊎ (is_laid (compact_order pieces) k ≡
+        false)
+        → is_laid (compact_order pieces) k ≡ true
+    go k l (inl t) = t
+    go k l (inr f) =
+        let laid = compact_order pieces in
+        let n = h.len in
+        let d : IsDistinct eqb (compact_order pieces ++ k ∷ []) = IsDistinct-push the_equality laid k
+        h.laying.distinct f in
+        let in' : All (λ j. j < length pieces) (compact_order pieces ++ k ∷ []) = All-push (λ j. j < length pieces)
+        laid k h.laying.inside l in
+        let m : length (compact_order pieces ++ k ∷ []) ≤ length pieces = length-le_from_distinct_below (laid ++ k ∷
+        []) (length pieces) d (λ q u. laid_inside (laid ++ k ∷ []) (length pieces) q in' u) in
+        absurd (omega (arith, length-append laid (k ∷ []), m, n))
+
+-- ---- what follows
+
+get_push_old : (xs : List ℕ) (x i : ℕ) → i < length xs → slice_get (xs ++ x ∷ []) i ≡ slice_get xs i
+get_push_old [] x i l = absurd (omega arith)
+get_push_old (y ∷ ys) x zero l = refl
+get_push_old (y ∷ ys) x (suc i) l = get_push_old ys x i (omega arith)
+
+-- piece i of the order
+laid_at : (pieces : List (List Item)) → LeadsInside pieces → (n i : ℕ) → n ≤ length pieces → i < n
+    → slice_get (first_laid pieces n) i ≡ Some (next_piece pieces (first_laid pieces i))
+unfolding first_laid
+laid_at pieces leads zero i l m = absurd (omega arith)
+laid_at pieces leads (suc n) i l m = go (cases_eq i n) (laid_at pieces leads n i (omega arith))
+  where
+    len : length (first_laid pieces n) ≡ n
+    len = (first_are pieces leads n (omega arith)).len
+
+    go : (i ≡ n) ⊎ (i ≡ n → ⊥) → (i < n → slice_get (first_laid pieces n) i ≡ Some (next_piece pieces (first_laid
+        pieces i)))
+        → slice_get (first_laid pieces n ++ next_piece pieces (first_laid pieces n) ∷ []) i ≡ Some (next_piece pieces
+        (first_laid pieces i))
+    go (inl e) more =
+        ap (slice_get (first_laid pieces n ++ next_piece pieces (first_laid pieces n) ∷ [])) (e ∙ sym len)
+        ∙ pushed_at (first_laid pieces n) (next_piece pieces (first_laid pieces n))
+        ∙ ap (λ (i : ℕ). Some (next_piece pieces (first_laid pieces i))) (sym e)
+    go (inr d) more =
+        get_push_old (first_laid pieces n) (next_piece pieces (first_laid pieces n)) i (omega (arith, len, d))
+        ∙ more (omega (arith, d))
+
+first_grows : (pieces : List (List Item)) (i : ℕ) → first_laid pieces (suc i) ≡ first_laid pieces i ++ next_piece
+    pieces (first_laid pieces i) ∷ []
+unfolding first_laid
+first_grows pieces i = refl
+
+-- the next piece of the list comes right behind one that ends in no Jump
+pub follows : (pieces : List (List Item)) → LeadsInside pieces → (k i : ℕ) → suc k < length pieces
+    → exit_at pieces k ≡ None
+    → i < length pieces → slice_get (compact_order pieces) i ≡ Some k → slice_get (compact_order pieces) (suc i) ≡
+    Some (suc k)
+follows pieces leads k i more none within is = go (cases_eq (suc i) (length pieces))
+  where
+    whole : IsWhole pieces (compact_order pieces)
+    whole = whole_is pieces leads
+
+    next_k : Some (next_piece pieces (first_laid pieces i)) ≡ Some k
+    next_k = sym (laid_at pieces leads (length pieces) i (omega arith) within) ∙ is
+
+    last : slice_get (first_laid pieces (suc i)) (length (first_laid pieces (suc i)) - 1) ≡ Some k
+    last =
+        ap (λ (xs : List ℕ). slice_get xs (length xs - 1)) (first_grows pieces i)
+        ∙ last_pushed (first_laid pieces i) (next_piece pieces (first_laid pieces i)) ∙ next_k
+
+    go : (suc i ≡ length pieces) ⊎ (suc i ≡ length pieces → ⊥) → slice_get (compact_order pieces) (suc i) ≡ Some (suc k)
+    go (inl e) =
+        let end : slice_get (compact_order pieces) (length (compact_order pieces) - 1) ≡ Some k
+        = subst (λ (n : ℕ). slice_get (first_laid pieces n) (length (first_laid pieces n) - 1) ≡ Some k) e last in
+        let laid : is_laid (compact_order pieces) (suc k) ≡ true = whole.once (suc k) more in
+        absurd ((whole.laying.falls k (ap (λ (o : Option PieceNo). is_some o) none) laid).1 end)
+    go (inr d) =
+        laid_at pieces leads (length pieces) (suc i) (omega arith) (omega (arith, d))
+        ∙ ap (λ (o : Option ℕ). Some (next_after pieces (first_laid pieces (suc i)) o)) last
+        ∙ ap (λ (o : Option PieceNo). Some (behind pieces (first_laid pieces (suc i)) k o)) none
+        ∙ ap (λ (b : Bool). Some (if b then suc k else lowest_left pieces (first_laid pieces (suc i)))) (lt-ltb (suc
+        k) (length pieces) more)
+
+-- ---- marks
+
+-- the first free mark shows the lowest piece left
+pub lowest_is : (pieces : List (List Item)) (laid : List ℕ) (marks : List Bool) (low k : ℕ)
+    → IsMarking pieces laid marks low
+    → length laid < length pieces → k ≤ length marks → low ≤ k → ((j : ℕ) → low ≤ j → j < k
+    → get_or marks j false ≡ true)
+    → (k < length marks → get_or marks k false ≡ false) → IsLowestLeft pieces laid k
+lowest_is pieces laid marks low k h more within above passed free = record {
+  value = sym (first_left_is laid 0 (length pieces) k (omega arith) (let l : k < length pieces = inside in omega
+      arith) (λ j u v. below j v) unlaid);
+  inside = inside;
+  free = unlaid;
+  below = below;
+}
+  where
+    below : (j : ℕ) → j < k → is_laid laid j ≡ true
+    below j l = go (cases_lt j low)
+      where
+        go : (j < low) ⊎ (low ≤ j) → is_laid laid j ≡ true
+        go (inl u) = h.below j u
+        go (inr u) = sym (h.shown j (omega (arith, h.len))) ∙ passed j u l
+
+    inside : k < length pieces
+    inside = left_inside laid (length pieces) k more below
+
+    unlaid : is_laid laid k ≡ false
+    unlaid = sym (h.shown k inside) ∙ free (omega (arith, h.len, inside))
+
+pub marking_higher : (pieces : List (List Item)) (laid : List ℕ) (marks : List Bool) (low k : ℕ)
+    → IsMarking pieces laid marks low
+    → IsLowestLeft pieces laid k → IsMarking pieces laid marks k
+marking_higher pieces laid marks low k h l = record {
+  order = h.order;
+  len = h.len;
+  shown = h.shown;
+  within = omega (arith, l.inside);
+  below = l.below;
+}
+
+pub marking_more : (pieces : List (List Item)) (laid : List ℕ) (marks : List Bool) (low x : ℕ)
+    → IsMarking pieces laid marks low
+    → x ≡ next_piece pieces laid → x < length pieces → IsMarking pieces (laid ++ x ∷ []) (set marks x true) low
+marking_more pieces laid marks low x h is inside = record {
+  order = grown;
+  len = length-set marks x true ∙ h.len;
+  shown = λ k l. shown k l (cases_eq k x);
+  within = h.within;
+  below = λ k l. laid_kept laid x k (h.below k l);
+}
+  where
+    more : length (laid ++ x ∷ []) ≡ suc (length laid)
+    more = let y = length-append laid (x ∷ []) in omega (arith, y)
+
+    grown : laid ++ x ∷ [] ≡ first_laid pieces (length (laid ++ x ∷ []))
+    grown =
+        ap (λ (x : ℕ). laid ++ x ∷ []) is
+        ∙ ap (λ (l : List ℕ). l ++ next_piece pieces l ∷ []) h.order
+        ∙ sym (first_grows pieces (length laid)) ∙ ap (first_laid pieces) (sym more)
+
+    shown : (k : ℕ) → k < length pieces → (k ≡ x) ⊎ (k ≡ x → ⊥) → get_or (set marks x true) k false ≡ is_laid (laid ++
+        x ∷ []) k
+    shown k l (inl e) =
+        let at : get_or (set marks x true) x false ≡ true = get_or-set_same marks x true false (omega (
+          arith,
+          h.len,
+          inside,
+        )) in
+        ap (λ (k : ℕ). get_or (set marks x true) k false) e ∙ at ∙ sym (laid_same laid x)
+        ∙ ap (is_laid (laid ++ x ∷ [])) (sym e)
+    shown k l (inr d) = get_or-set_other marks x k true false d ∙ h.shown k l ∙ sym (laid_other laid x k d)
+
+pub marking_none : (pieces : List (List Item)) → IsMarking pieces [] (replicate (length pieces) false) 0
+unfolding first_laid
+marking_none pieces = record {
+  order = refl;
+  len = length-replicate (length pieces) false;
+  shown = λ k l. unmarked (length pieces) k;
+  within = omega arith;
+  below = λ k l. absurd (omega arith);
+}
+  where
+    unmarked : (n k : ℕ) → get_or (replicate n false) k false ≡ false
+    unmarked zero k = refl
+    unmarked (suc n) zero = refl
+    unmarked (suc n) (suc k) = unmarked n k
+
+-- ---- Jumps at the end
+
+pub item_is : (pieces : List (List Item)) (k n : ℕ) → item_at pieces k n ≡ slice_get (get_or pieces k []) n
+item_is [] k n = refl
+item_is (items ∷ pieces) zero n = refl
+item_is (items ∷ pieces) (suc k) n = item_is pieces k n
+
+exit_leads : (count : ℕ) (o : Option Item) → LeadsBelow count o → IfSome (jump_to o) (λ to. to.0 < count)
+exit_leads count None h = tt
+exit_leads count (Some (it.Word w)) h = tt
+exit_leads count (Some (it.Jump to)) h = h
+exit_leads count (Some (it.Branch c to)) h = tt
+exit_leads count (Some (it.Mark a n)) h = tt
+exit_leads count (Some it.EndMark) h = tt
+
+pub exits_lead : (pieces : List (List Item)) → AllLead pieces → LeadsInside pieces
+exits_lead pieces h k =
+    let n : ℕ = length (get_or pieces k []) - 1 in
+    exit_leads (length pieces) (slice_get (get_or pieces k []) (length (get_or pieces k []) - 1))
+    (subst (LeadsBelow (length pieces)) (item_is pieces k (length (get_or pieces k []) - 1)) (h k (length (get_or
+    pieces k []) - 1)))

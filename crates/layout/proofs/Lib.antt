@@ -1,7 +1,13 @@
+pub mod Assembled
+pub mod Emitted
 pub mod Encoding
 pub mod Going
 pub mod Laying
 pub mod Listed
-pub mod Places
+pub mod Needed
+pub mod Offsets
 pub mod Ranging
 pub mod Standing
+pub mod Whole
+pub mod Widening
+pub mod Wider

@@ -1,20 +1,22 @@
--- The ranges of the plain layout are those of its Marks.
-use Rattle.std.proofs.Common.{◌≡◌, ℕ, zero, suc, ◌+◌, ◌*◌, ◌<◌, ◌≤◌, Bool, true, false, ◌&&◌, Option, Some, None, List, [], ◌∷◌, ◌++◌, length, map, slice_get, refl, ap, sym, ◌∙◌, subst, arith}
+-- The ranges are those of the Marks.
+use Rattle.std.proofs.Common.{◌≡◌, ℕ, zero, suc, ◌+◌, ◌<◌, ◌≤◌, Bool, true, false, ◌&&◌, Option, Some, None, List, [], ◌∷◌, ◌++◌, length, map, slice_get, refl, ap, sym, ◌∙◌, subst, append_assoc, ◌-◌, arith}
 use Rattle.std.specs.Prelude.{nat_le, nat_lt, if◌then◌else◌}
-use Rattle.std.specs.List.{sum_by}
 use Rattle.std.proofs.lemmas.Bool.Decides.{nat_tests}
-use Rattle.std.proofs.lemmas.List.{map-append}
+use Rattle.std.proofs.lemmas.List.{length-append, length-map, map-append}
 use Rattle.eel_base.specs.declared.range.Range.{Range}
 use Rattle.elf32_sparc.specs.Notes.{NoteRange}
 use Rattle.layout.specs.declared.items.Item.{Item}
 use Rattle.layout.specs.declared.items.Item.TheVariants as it
+use Rattle.layout.specs.declared.entries.Entry.{Entry}
+use Rattle.layout.specs.declared.entries.Entry.TheVariants as en
 use Rattle.layout.specs.declared.ranges.Open.{Open as OpenAt}
-use Rattle.layout.specs.Laid.{note_range, range_in, item_at, IsMarked, AreMarked, Open, end_from, open_from, open_in, range_of, Ascend, IsRangeOf, long_words, piece_words}
-use Rattle.layout.specs.Emitting.{closed, ranges_from, all_ranges}
-use Rattle.layout.proofs.Places.{item_place, place_from, first_item, item_within, place_within, words_more, pieces_more}
+use Rattle.layout.specs.Laid.{note_range, range_in, item_at, AreMarked, Open, end_from, open_from, range_of, Ascend, IsRangeOf}
+use Rattle.layout.specs.Forms.{entries_in, entries_from}
+use Rattle.layout.specs.Emitting.{closed, closes, opens, ranges_from}
+use Rattle.layout.proofs.Listed.{items_at}
 
 -- the ranges as notes say them
-abbrev seen : List Range → List NoteRange
+abbrev pub seen : List Range → List NoteRange
 seen ranges = map note_range ranges
 
 -- ---- one after the other
@@ -65,9 +67,15 @@ none_past (r ∷ rs) qs from to a h k =
 pub first_part : (rs qs : List NoteRange) (from to a : ℕ) → Ascend from to qs → a < from
     → range_in (rs ++ qs) a ≡ range_in rs a
 first_part [] qs from to a h k = none_before qs from to a h k
-first_part (r ∷ rs) qs from to a h k = ap (λ (z : Option NoteRange). if nat_le r.lo a && nat_lt a r.hi then Some r else z) (first_part rs qs from to a h k)
+first_part (r ∷ rs) qs from to a h k = ap (λ (z : Option NoteRange). if nat_le r.lo a && nat_lt a r.hi then Some r
+    else z) (first_part rs qs from to a h k)
 
--- ---- the ranges of a piece
+-- ---- the ranges of a piece, whose items stand at these places
+
+abbrev pub piece_ranges : (ℕ → ℕ) → ℕ → Option OpenAt → List Item → List Range
+piece_ranges place i mark [] = []
+piece_ranges place i mark (x ∷ xs) =
+    closes (place i) mark (en.Item x) ++ piece_ranges place (suc i) (opens (place i) mark (en.Item x)) xs
 
 abbrev is_open : Option OpenAt → Bool
 is_open None = false
@@ -78,76 +86,97 @@ abbrev begin_of : Option OpenAt → ℕ → ℕ
 begin_of None here = here
 begin_of (Some m) here = m.lo.0
 
+-- Marks take no room
+abbrev pub AreStill : (ℕ → ℕ) → ℕ → List Item → Type 0
+AreStill place i [] = Unit {0}
+AreStill place i (it.Mark address node ∷ xs) = (place (suc i) ≡ place i) × AreStill place (suc i) xs
+AreStill place i (it.EndMark ∷ xs) = (place (suc i) ≡ place i) × AreStill place (suc i) xs
+AreStill place i (it.Word word ∷ xs) = AreStill place (suc i) xs
+AreStill place i (it.Jump to ∷ xs) = AreStill place (suc i) xs
+AreStill place i (it.Branch cond to ∷ xs) = AreStill place (suc i) xs
+
+abbrev pub Rises : (ℕ → ℕ) → Type 0
+Rises place = (n : ℕ) → place n ≤ place (suc n)
+
+rises_by : (place : ℕ → ℕ) → Rises place → (a n : ℕ) → place a ≤ place (a + n)
+rises_by place up a zero = let e : place a ≡ place (a + 0) = ap place (omega arith) in omega (arith, e)
+rises_by place up a (suc n) =
+    let h = rises_by place up a n in
+    let u = up (a + n) in
+    let e : place (suc (a + n)) ≡ place (a + suc n) = ap place (omega arith) in
+    omega (arith, h, u, e)
+
+rises_to : (place : ℕ → ℕ) → Rises place → (a b : ℕ) → a ≤ b → place a ≤ place b
+rises_to place up a b l =
+    let h = rises_by place up a (b - a) in
+    let e : place (a + (b - a)) ≡ place b = ap place (omega arith) in
+    omega (arith, h, e)
+
 closed_ascends : (m : OpenAt) (here to : ℕ) (rest : List Range) → m.lo.0 ≤ here → Ascend here to (seen rest)
     → Ascend m.lo.0 to (seen (closed (Some m) here ++ rest))
 closed_ascends m here to rest h k = go (nat_lt m.lo.0 here) refl
   where
     go : (b : Bool) → nat_lt m.lo.0 here ≡ b
-        → Ascend m.lo.0 to (seen ((if b then record { lo = m.lo; hi = record { 0 = here }; address = m.address; node = m.node } ∷ [] else []) ++ rest))
+        → Ascend m.lo.0 to (seen ((if b then record {
+          lo = m.lo;
+          hi = record { 0 = here };
+          address = m.address;
+          node =
+              m.node;
+        } ∷ [] else []) ++ rest))
     go true e = (omega arith, less m.lo.0 here e, k)
       where
         less : (a b : ℕ) → nat_lt a b ≡ true → a < b
         less a b e = grind (arith, nat_tests)
     go false e = ascend_from here (seen rest) m.lo.0 to h k
 
--- past an item with words
-over : (x : Item) (xs : List Item) (here bytes : ℕ) (mark : Option OpenAt) → AreMarked (is_open mark) xs
-    → begin_of mark here ≤ here
-    → bytes ≡ 4 * long_words x
-    → ((m : Option OpenAt) → AreMarked (is_open m) xs → begin_of m (here + bytes) ≤ here + bytes
-    → Ascend (begin_of m (here + bytes)) (here + bytes + 4 * piece_words xs) (seen (ranges_from (here + bytes) m xs)))
-    → Ascend (begin_of mark here) (here + 4 * piece_words (x ∷ xs)) (seen (ranges_from (here + bytes) mark xs))
-over x xs here bytes None marked h e k =
-    let w = words_more x xs in
-    ascend_from (here + bytes) _ here _ (omega arith)
-    (subst (λ (z : ℕ). Ascend (here + bytes) z (seen (ranges_from (here + bytes) None xs))) (omega (arith, w, e))
-    (k None marked (omega arith)))
-over x xs here bytes (Some m) marked h e k =
-    let w = words_more x xs in
-    subst (λ (z : ℕ). Ascend m.lo.0 z (seen (ranges_from (here + bytes) (Some m) xs))) (omega (arith, w, e))
-    (k (Some m) marked (omega arith))
+-- past an item that closes nothing
+past_item : (place : ℕ → ℕ) → Rises place → (i to : ℕ) (mark : Option OpenAt) (xs : List Item)
+    → begin_of mark (place i) ≤ place i
+    → (begin_of mark (place (suc i)) ≤ place (suc i) → Ascend (begin_of mark (place (suc i))) to (seen (piece_ranges
+    place (suc i) mark xs)))
+    → Ascend (begin_of mark (place i)) to (seen (piece_ranges place (suc i) mark xs))
+past_item place up i to None xs low k =
+    ascend_from (place (suc i)) (seen (piece_ranges place (suc i) None xs)) (place i) to (up i) (k (omega arith))
+past_item place up i to (Some m) xs low k = let u = up i in k (omega (arith, low, u))
 
-pub piece_ascends : (items : List Item) (here : ℕ) (mark : Option OpenAt) → AreMarked (is_open mark) items
-    → begin_of mark here ≤ here
-    → Ascend (begin_of mark here) (here + 4 * piece_words items) (seen (ranges_from here mark items))
-piece_ascends [] here None marked h = omega arith
-piece_ascends [] here (Some m) marked h = absurd marked
-piece_ascends (it.Mark address node ∷ xs) here None marked h =
-    let w = words_more (it.Mark address node) xs in
-    subst (λ (z : ℕ). Ascend here z (seen (ranges_from here
-    (Some (record { lo = record { 0 = here }; address = address; node = node })) xs)))
-    (omega (arith, w)) (piece_ascends xs here (Some
-    (record { lo = record { 0 = here }; address = address; node = node })) marked (omega arith))
-piece_ascends (it.Mark address node ∷ xs) here (Some m) marked h = absurd marked
-piece_ascends (it.EndMark ∷ xs) here None marked h =
-    let w = words_more it.EndMark xs in
-    subst (λ (z : ℕ). Ascend here z (seen (ranges_from here None xs))) (omega (arith, w))
-    (piece_ascends xs here None marked (omega arith))
-piece_ascends (it.EndMark ∷ xs) here (Some m) marked h =
-    let w = words_more it.EndMark xs in
-    closed_ascends m here (here + 4 * piece_words (it.EndMark ∷ xs)) (ranges_from here None xs) h
-    (subst (λ (z : ℕ). Ascend here z (seen (ranges_from here None xs))) (omega (arith, w))
-    (piece_ascends xs here None marked (omega arith)))
-piece_ascends (it.Word word ∷ xs) here mark marked h = over (it.Word word) xs here 4 mark marked h refl
-    (piece_ascends xs (here + 4))
-piece_ascends (it.Jump to ∷ xs) here mark marked h = over (it.Jump to) xs here 16 mark marked h refl
-    (piece_ascends xs (here + 16))
-piece_ascends (it.Branch cond to ∷ xs) here mark marked h = over (it.Branch cond to) xs here 24 mark marked h refl
-    (piece_ascends xs (here + 24))
+end_on : (place : ℕ → ℕ) (i to : ℕ) (x : Item) (xs : List Item) → place (i + length (x ∷ xs)) ≤ to
+    → place (suc i + length xs) ≤ to
+end_on place i to x xs h =
+    let e : place (suc i + length xs) ≡ place (i + length (x ∷ xs)) = ap place (omega arith) in
+    omega (arith, h, e)
 
-pub all_ascend : (pieces : List (List Item)) (here : ℕ) → ((k : ℕ) → IsMarked (slice_get pieces k))
-    → Ascend here (here + 4 * sum_by piece_words pieces) (seen (all_ranges here pieces))
-all_ascend [] here marked = omega arith
-all_ascend (items ∷ pieces) here marked =
-    let w = pieces_more items pieces in
-    subst (λ (z : List NoteRange). Ascend here (here + 4 * sum_by piece_words (items ∷ pieces)) z)
-    (sym (map-append note_range (ranges_from here None items) (all_ranges (here + 4 * piece_words items) pieces)))
-    (ascend_then (seen (ranges_from here None items)) (seen (all_ranges (here + 4 * piece_words items) pieces)) here
-    (here + 4 * piece_words items) _
-    (piece_ascends items here None (marked 0) (omega arith))
-    (subst (λ (z : ℕ). Ascend (here + 4 * piece_words items) z
-    (seen (all_ranges (here + 4 * piece_words items) pieces))) (omega (arith, w))
-    (all_ascend pieces (here + 4 * piece_words items) (λ k. marked (suc k)))))
+pub piece_ascends : (place : ℕ → ℕ) → Rises place → (items : List Item) (i to : ℕ) (mark : Option OpenAt)
+    → AreMarked (is_open mark) items → begin_of mark (place i) ≤ place i → place (i + length items) ≤ to
+    → Ascend (begin_of mark (place i)) to (seen (piece_ranges place i mark items))
+piece_ascends place up [] i to None marked h l =
+    let e : place i ≡ place (i + 0) = ap place (omega arith) in omega (arith, e, l)
+piece_ascends place up [] i to (Some m) marked h l = absurd marked
+piece_ascends place up (it.Mark address node ∷ xs) i to None marked h l =
+    let u = up i in
+    piece_ascends place up xs (suc i) to (Some (record {
+      lo = record { 0 = place i };
+      address = address;
+      node = node;
+    })) marked u
+    (end_on place i to (it.Mark address node) xs l)
+piece_ascends place up (it.Mark address node ∷ xs) i to (Some m) marked h l = absurd marked
+piece_ascends place up (it.EndMark ∷ xs) i to None marked h l =
+    ascend_from (place (suc i)) (seen (piece_ranges place (suc i) None xs)) (place i) to (up i)
+    (piece_ascends place up xs (suc i) to None marked (omega arith) (end_on place i to it.EndMark xs l))
+piece_ascends place up (it.EndMark ∷ xs) i to (Some m) marked h l =
+    closed_ascends m (place i) to (piece_ranges place (suc i) None xs) h
+    (ascend_from (place (suc i)) (seen (piece_ranges place (suc i) None xs)) (place i) to (up i)
+    (piece_ascends place up xs (suc i) to None marked (omega arith) (end_on place i to it.EndMark xs l)))
+piece_ascends place up (it.Word word ∷ xs) i to mark marked h l =
+    past_item place up i to mark xs h (λ g. piece_ascends place up xs (suc i) to mark marked g (end_on place i to
+    (it.Word word) xs l))
+piece_ascends place up (it.Jump k ∷ xs) i to mark marked h l =
+    past_item place up i to mark xs h (λ g. piece_ascends place up xs (suc i) to mark marked g (end_on place i to
+    (it.Jump k) xs l))
+piece_ascends place up (it.Branch c k ∷ xs) i to mark marked h l =
+    past_item place up i to mark xs h (λ g. piece_ascends place up xs (suc i) to mark marked g (end_on place i to
+    (it.Branch c k) xs l))
 
 -- ---- the range that is found
 
@@ -159,24 +188,18 @@ AreSame place items i (Some o) (Some m) = (place o.first ≡ m.lo.0) × (o.last 
 AreSame place items i None (Some m) = ⊥
 AreSame place items i (Some o) None = ⊥
 
--- these items have the numbers from i on
-abbrev StandFrom : (ℕ → ℕ) → ℕ → ℕ → List Item → Type 0
-StandFrom place i here items = (j : ℕ) → place (i + j) ≡ item_place here items j
-
-stand_on : (place : ℕ → ℕ) (i here : ℕ) (x : Item) (xs : List Item) → StandFrom place i here (x ∷ xs)
-    → StandFrom place (suc i) (here + 4 * long_words x) xs
-stand_on place i here x xs h j = ap place (let e : suc i + j ≡ i + suc j = omega arith in e) ∙ h (suc j)
-
-stand_here : (place : ℕ → ℕ) (i here : ℕ) (items : List Item) → StandFrom place i here items → place i ≡ here
-stand_here place i here items h = ap place (let e : i ≡ i + 0 = omega arith in e) ∙ h 0 ∙ first_item items here
-
 abbrev range_at : (m : OpenAt) → ℕ → NoteRange
 range_at m hi = record { lo = m.lo.0; hi = hi; address = m.address.0; node = m.node }
 
 closes_here : (m : OpenAt) (here a : ℕ) (rest : List Range) → m.lo.0 ≤ a → a < here
     → range_in (seen (closed (Some m) here ++ rest)) a ≡ Some (range_at m here)
 closes_here m here a rest h k =
-    ap (λ (b : Bool). range_in (seen ((if b then record { lo = m.lo; hi = record { 0 = here }; address = m.address; node = m.node } ∷ [] else []) ++ rest)) a)
+    ap (λ (b : Bool). range_in (seen ((if b then record {
+      lo = m.lo;
+      hi = record { 0 = here };
+      address = m.address;
+      node = m.node;
+    } ∷ [] else []) ++ rest)) a)
     (less m.lo.0 here (omega arith))
     ∙ ap (λ (b : Bool). if b then Some (range_at m here) else range_in (seen rest) a) (holds m.lo.0 here a h k)
   where
@@ -184,21 +207,19 @@ closes_here m here a rest h k =
     less a b e = grind (arith, nat_tests)
 
 -- a Mark that is open before these items, at an address before them
-closes : (items : List Item) (i here a : ℕ) (place : ℕ → ℕ) (m : OpenAt) → StandFrom place i here items
-    → AreMarked true items
-    → m.lo.0 ≤ a → a < here → range_in (seen (ranges_from here (Some m) items)) a ≡ Some
-    (range_at m (place (end_from items i)))
-closes [] i here a place m s marked h k = absurd marked
-closes (it.EndMark ∷ xs) i here a place m s marked h k =
-    closes_here m here a (ranges_from here None xs) h k
-    ∙ ap (λ (z : ℕ). Some (range_at m z)) (sym (stand_here place i here (it.EndMark ∷ xs) s))
-closes (it.Mark address node ∷ xs) i here a place m s marked h k = absurd marked
-closes (it.Word word ∷ xs) i here a place m s marked h k =
-    closes xs (suc i) (here + 4) a place m (stand_on place i here (it.Word word) xs s) marked h (omega arith)
-closes (it.Jump to ∷ xs) i here a place m s marked h k =
-    closes xs (suc i) (here + 16) a place m (stand_on place i here (it.Jump to) xs s) marked h (omega arith)
-closes (it.Branch cond to ∷ xs) i here a place m s marked h k =
-    closes xs (suc i) (here + 24) a place m (stand_on place i here (it.Branch cond to) xs s) marked h (omega arith)
+closes_at : (place : ℕ → ℕ) → Rises place → (items : List Item) (i a : ℕ) (m : OpenAt) → AreMarked true items
+    → m.lo.0 ≤ a → a < place i
+    → range_in (seen (piece_ranges place i (Some m) items)) a ≡ Some (range_at m (place (end_from items i)))
+closes_at place up [] i a m marked h k = absurd marked
+closes_at place up (it.EndMark ∷ xs) i a m marked h k = closes_here m (place i) a (piece_ranges place (suc i) None xs)
+    h k
+closes_at place up (it.Mark address node ∷ xs) i a m marked h k = absurd marked
+closes_at place up (it.Word word ∷ xs) i a m marked h k = closes_at place up xs (suc i) a m marked h (let u = up i in
+    omega (arith, u, k))
+closes_at place up (it.Jump to ∷ xs) i a m marked h k = closes_at place up xs (suc i) a m marked h (let u = up i in
+    omega (arith, u, k))
+closes_at place up (it.Branch c to ∷ xs) i a m marked h k = closes_at place up xs (suc i) a m marked h (let u = up i
+    in omega (arith, u, k))
 
 same_range : (place : ℕ → ℕ) (o : Open) (m : OpenAt) (hi : ℕ) → place o.first ≡ m.lo.0 → place o.last ≡ hi
     → o.address ≡ m.address.0 → o.node ≡ m.node
@@ -210,18 +231,19 @@ same_range place o m hi a b c d =
     ∙ ap (λ z. Some (record { lo = place o.first; hi = place o.last; address = o.address; node = z })) (sym d)
 
 -- at the words of the first item
-at_first : (x : Item) (xs : List Item) (i here bytes a : ℕ) (place : ℕ → ℕ) (o : Option Open) (mark : Option OpenAt)
-    → StandFrom place (suc i) (here + bytes) xs → end_from (x ∷ xs) i ≡ end_from xs (suc i)
-    → AreSame place (x ∷ xs) i o mark
-    → AreMarked (is_open mark) xs → begin_of mark here ≤ here → here ≤ a → a < here + bytes
-    → range_in (seen (ranges_from (here + bytes) mark xs)) a ≡ range_of place o
-at_first x xs i here bytes a place None None s e same marked low h k =
-    none_before _ (here + bytes) _ a (piece_ascends xs (here + bytes) None marked (omega arith)) k
-at_first x xs i here bytes a place (Some o) (Some m) s e same marked low h k =
-    closes xs (suc i) (here + bytes) a place m s marked (omega arith) k
+at_first : (place : ℕ → ℕ) → Rises place → (x : Item) (xs : List Item) (i a : ℕ) (o : Option Open) (mark : Option
+    OpenAt)
+    → end_from (x ∷ xs) i ≡ end_from xs (suc i) → AreSame place (x ∷ xs) i o mark
+    → AreMarked (is_open mark) xs → begin_of mark (place i) ≤ place i → place i ≤ a → a < place (suc i)
+    → range_in (seen (piece_ranges place (suc i) mark xs)) a ≡ range_of place o
+at_first place up x xs i a None None e same marked low h k =
+    none_before _ (place (suc i)) (place (suc i + length xs)) a
+    (piece_ascends place up xs (suc i) (place (suc i + length xs)) None marked (omega arith) (omega arith)) k
+at_first place up x xs i a (Some o) (Some m) e same marked low h k =
+    closes_at place up xs (suc i) a m marked (omega arith) k
     ∙ same_range place o m (place (end_from xs (suc i))) same.0 (ap place (same.1 ∙ e)) same.2 same.3
-at_first x xs i here bytes a place None (Some m) s e same marked low h k = absurd same
-at_first x xs i here bytes a place (Some o) None s e same marked low h k = absurd same
+at_first place up x xs i a None (Some m) e same marked low h k = absurd same
+at_first place up x xs i a (Some o) None e same marked low h k = absurd same
 
 same_on : (place : ℕ → ℕ) (x : Item) (xs : List Item) (i : ℕ) (o : Option Open) (mark : Option OpenAt)
     → end_from (x ∷ xs) i ≡ end_from xs (suc i)
@@ -237,96 +259,209 @@ closed_past : (mark : Option OpenAt) (here a : ℕ) (rest : List Range) → here
 closed_past None here a rest h = refl
 closed_past (Some m) here a rest h = go (nat_lt m.lo.0 here)
   where
-    go : (b : Bool) → range_in (seen ((if b then record { lo = m.lo; hi = record { 0 = here }; address = m.address; node = m.node } ∷ [] else []) ++ rest)) a
+    go : (b : Bool) → range_in (seen ((if b then record {
+      lo = m.lo;
+      hi = record { 0 = here };
+      address = m.address;
+      node = m.node;
+    } ∷ [] else []) ++ rest)) a
         ≡ range_in (seen rest) a
     go true = ap (λ (z : Bool). if z then Some (range_at m here) else range_in (seen rest) a) (past m.lo.0 here a h)
     go false = refl
 
-low_on : (mark : Option OpenAt) (here bytes : ℕ) → begin_of mark here ≤ here
-    → begin_of mark (here + bytes) ≤ here + bytes
-low_on None here bytes h = omega arith
-low_on (Some m) here bytes h = omega arith
+low_on : (place : ℕ → ℕ) → Rises place → (i : ℕ) (mark : Option OpenAt) → begin_of mark (place i) ≤ place i
+    → begin_of mark (place (suc i)) ≤ place (suc i)
+low_on place up i None h = omega arith
+low_on place up i (Some m) h = let u = up i in omega (arith, u, h)
 
-finds : (items : List Item) (n i here a : ℕ) (place : ℕ → ℕ) (o : Option Open) (mark : Option OpenAt) (x : Item)
-    → StandFrom place i here items
-    → AreSame place items i o mark → AreMarked (is_open mark) items → begin_of mark here ≤ here
-    → slice_get items n ≡ Some x
-    → item_place here items n ≤ a → a < item_place here items (suc n)
-    → range_in (seen (ranges_from here mark items)) a ≡ range_of place (open_from items i n o)
-finds [] n i here a place o mark x s same marked low e h k = absurd (cc)
-finds (it.Word word ∷ xs) zero i here a place o mark x s same marked low e h k =
-    let f = first_item xs (here + 4) in
-    at_first (it.Word word) xs i here 4 a place o mark
-    (stand_on place i here (it.Word word) xs s) refl same marked low h (omega (arith, f, k))
-finds (it.Jump to ∷ xs) zero i here a place o mark x s same marked low e h k =
-    let f = first_item xs (here + 16) in
-    at_first (it.Jump to) xs i here 16 a place o mark (stand_on place i here (it.Jump to) xs s) refl same marked low h
-    (omega (arith, f, k))
-finds (it.Branch cond to ∷ xs) zero i here a place o mark x s same marked low e h k =
-    let f = first_item xs (here + 24) in
-    at_first (it.Branch cond to) xs i here 24 a place o mark
-    (stand_on place i here (it.Branch cond to) xs s) refl same marked low h (omega (arith, f, k))
-finds (it.Mark address node ∷ xs) zero i here a place o mark x s same marked low e h k =
-    let f = first_item xs (here + 0) in absurd (omega (arith, f, h, k))
-finds (it.EndMark ∷ xs) zero i here a place o mark x s same marked low e h k =
-    let f = first_item xs (here + 0) in absurd (omega (arith, f, h, k))
-finds (it.Word word ∷ xs) (suc n) i here a place o mark x s same marked low e h k =
-    finds xs n (suc i) (here + 4) a place o mark x (stand_on place i here (it.Word word) xs s)
-    (same_on place (it.Word word) xs i o mark refl same) marked (low_on mark here 4 low) e h k
-finds (it.Jump to ∷ xs) (suc n) i here a place o mark x s same marked low e h k =
-    finds xs n (suc i) (here + 16) a place o mark x (stand_on place i here (it.Jump to) xs s)
-    (same_on place (it.Jump to) xs i o mark refl same) marked (low_on mark here 16 low) e h k
-finds (it.Branch cond to ∷ xs) (suc n) i here a place o mark x s same marked low e h k =
-    finds xs n (suc i) (here + 24) a place o mark x (stand_on place i here (it.Branch cond to) xs s)
-    (same_on place (it.Branch cond to) xs i o mark refl same) marked (low_on mark here 24 low) e h k
-finds (it.EndMark ∷ xs) (suc n) i here a place o mark x s same marked low e h k =
-    let z = (item_within xs n (here + 0)).begins in
-    let g : here + 0 ≡ here = omega arith in
-    closed_past mark here a (ranges_from here None xs) (omega (arith, z, h))
-    ∙ finds xs n (suc i) here a place None None x
-    (λ j. stand_on place i here it.EndMark xs s j ∙ ap (λ z. item_place z xs j) g) tt marked (omega arith) e
-    (subst (λ z. item_place z xs n ≤ a) g h) (subst (λ z. a < item_place z xs (suc n)) g k)
-finds (it.Mark address node ∷ xs) (suc n) i here a place o None x s same marked low e h k =
-    let g : here + 0 ≡ here = omega arith in
-    let first : place (suc i) ≡ here = stand_here place (suc i) (here + 0) xs
-    (stand_on place i here (it.Mark address node) xs s) ∙ g in
-    finds xs n (suc i) here a place _ (Some (record { lo = record { 0 = here }; address = address; node = node })) x
-    (λ j. stand_on place i here (it.Mark address node) xs s j
-    ∙ ap (λ z. item_place z xs j) g) (first, refl, refl, refl) marked (omega arith) e
-    (subst (λ z. item_place z xs n ≤ a) g h) (subst (λ z. a < item_place z xs (suc n)) g k)
-finds (it.Mark address node ∷ xs) (suc n) i here a place o (Some m) x s same marked low e h k = absurd marked
+get_low : (xs : List Item) (n : ℕ) (x : Item) → slice_get xs n ≡ Some x → n < length xs
+get_low [] n x e = absurd (cc)
+get_low (y ∷ ys) zero x e = omega arith
+get_low (y ∷ ys) (suc n) x e = let f = get_low ys n x e in omega arith
 
-pub all_found : (pieces : List (List Item)) (k n here a : ℕ) (x : Item) → ((k : ℕ) → IsMarked (slice_get pieces k))
-    → item_at pieces k n ≡ Some x
-    → place_from here pieces k n ≤ a → a < place_from here pieces k (suc n)
-    → range_in (seen (all_ranges here pieces)) a ≡ range_of (place_from here pieces k) (open_in (slice_get pieces k) n)
-all_found [] k n here a x marked e h l = absurd (cc)
-all_found (items ∷ pieces) zero n here a x marked e h l =
-    let z = (item_within items (suc n) here).ends in
-    ap (λ (rs : List NoteRange). range_in rs a) (map-append note_range (ranges_from here None items)
-    (all_ranges (here + 4 * piece_words items) pieces))
-    ∙ first_part (seen (ranges_from here None items)) (seen (all_ranges (here + 4 * piece_words items) pieces))
-    (here + 4 * piece_words items) _ a
-    (all_ascend pieces (here + 4 * piece_words items) (λ k. marked (suc k))) (omega (arith, z, l))
-    ∙ finds items n 0 here a (item_place here items) None None x
-    (λ j. ap (item_place here items) (let f : 0 + j ≡ j = omega arith in f)) tt (marked 0) (omega arith) e h l
-all_found (items ∷ pieces) (suc k) n here a x marked e h l =
-    let z = (place_within pieces k n (here + 4 * piece_words items)).begins in
-    ap (λ (rs : List NoteRange). range_in rs a) (map-append note_range (ranges_from here None items)
-    (all_ranges (here + 4 * piece_words items) pieces))
-    ∙ none_past (seen (ranges_from here None items)) (seen (all_ranges (here + 4 * piece_words items) pieces)) here
-    (here + 4 * piece_words items) a
-    (piece_ascends items here None (marked 0) (omega arith)) (omega (arith, z, h))
-    ∙ all_found pieces k n (here + 4 * piece_words items) a x (λ k. marked (suc k)) e h l
+next_low : (place : ℕ → ℕ) (i n a : ℕ) → place (i + suc n) ≤ a → place (suc i + n) ≤ a
+next_low place i n a h = let e : place (suc i + n) ≡ place (i + suc n) = ap place (omega arith) in omega (arith, e, h)
+
+next_high : (place : ℕ → ℕ) (i n a : ℕ) → a < place (suc (i + suc n)) → a < place (suc (suc i + n))
+next_high place i n a h = let e : place (suc (suc i + n)) ≡ place (suc (i + suc n)) = ap place (omega arith) in omega
+    (arith, e, h)
+
+this_low : (place : ℕ → ℕ) (i a : ℕ) → place (i + 0) ≤ a → place i ≤ a
+this_low place i a h = let e : place (i + 0) ≡ place i = ap place (omega arith) in omega (arith, e, h)
+
+this_high : (place : ℕ → ℕ) (i a : ℕ) → a < place (suc (i + 0)) → a < place (suc i)
+this_high place i a h = let e : place (suc (i + 0)) ≡ place (suc i) = ap place (omega arith) in omega (arith, e, h)
+
+finds : (place : ℕ → ℕ) → Rises place → (items : List Item) (n i a : ℕ) (o : Option Open) (mark : Option OpenAt) (x :
+    Item)
+    → AreStill place i items → AreSame place items i o mark → AreMarked (is_open mark) items
+    → begin_of mark (place i) ≤ place i → slice_get items n ≡ Some x → place (i + n) ≤ a → a < place (suc (i + n))
+    → range_in (seen (piece_ranges place i mark items)) a ≡ range_of place (open_from items i n o)
+finds place up [] n i a o mark x s same marked low e h k = absurd (cc)
+finds place up (it.Word word ∷ xs) zero i a o mark x s same marked low e h k =
+    at_first place up (it.Word word) xs i a o mark refl same marked low (this_low place i a h) (this_high place i a k)
+finds place up (it.Jump to ∷ xs) zero i a o mark x s same marked low e h k =
+    at_first place up (it.Jump to) xs i a o mark refl same marked low (this_low place i a h) (this_high place i a k)
+finds place up (it.Branch c to ∷ xs) zero i a o mark x s same marked low e h k =
+    at_first place up (it.Branch c to) xs i a o mark refl same marked low (this_low place i a h) (this_high place i a k)
+finds place up (it.Mark address node ∷ xs) zero i a o mark x s same marked low e h k =
+    let u = this_low place i a h in let v = this_high place i a k in let w = s.0 in absurd (omega (arith, u, v, w))
+finds place up (it.EndMark ∷ xs) zero i a o mark x s same marked low e h k =
+    let u = this_low place i a h in let v = this_high place i a k in let w = s.0 in absurd (omega (arith, u, v, w))
+finds place up (it.Word word ∷ xs) (suc n) i a o mark x s same marked low e h k =
+    finds place up xs n (suc i) a o mark x s (same_on place (it.Word word) xs i o mark refl same) marked (low_on place
+    up i mark low) e
+    (next_low place i n a h) (next_high place i n a k)
+finds place up (it.Jump to ∷ xs) (suc n) i a o mark x s same marked low e h k =
+    finds place up xs n (suc i) a o mark x s (same_on place (it.Jump to) xs i o mark refl same) marked (low_on place
+    up i mark low) e
+    (next_low place i n a h) (next_high place i n a k)
+finds place up (it.Branch c to ∷ xs) (suc n) i a o mark x s same marked low e h k =
+    finds place up xs n (suc i) a o mark x s (same_on place (it.Branch c to) xs i o mark refl same) marked (low_on
+    place up i mark low) e
+    (next_low place i n a h) (next_high place i n a k)
+finds place up (it.EndMark ∷ xs) (suc n) i a o mark x s same marked low e h k =
+    closed_past mark (place i) a (piece_ranges place (suc i) None xs)
+    (let r = rises_by place up i (suc n) in omega (arith, r, h))
+    ∙ finds place up xs n (suc i) a None None x s.1 tt marked (omega arith) e (next_low place i n a h) (next_high
+    place i n a k)
+finds place up (it.Mark address node ∷ xs) (suc n) i a o None x s same marked low e h k =
+    finds place up xs n (suc i) a _ (Some (record { lo = record { 0 = place i }; address = address; node = node })) x
+    s.1
+    (s.0, refl, refl, refl) marked (up i) e (next_low place i n a h) (next_high place i n a k)
+finds place up (it.Mark address node ∷ xs) (suc n) i a o (Some m) x s same marked low e h k = absurd marked
+
+-- ---- the ranges of all pieces, in an order
+
+marked_on : (here : ℕ) (mark : Option OpenAt) (x : Item) (xs : List Item) → AreMarked (is_open mark) (x ∷ xs)
+    → AreMarked (is_open (opens here mark (en.Item x))) xs
+marked_on here mark (it.Word word) xs h = h
+marked_on here mark (it.Jump to) xs h = h
+marked_on here mark (it.Branch c to) xs h = h
+marked_on here None (it.Mark address node) xs h = h
+marked_on here (Some m) (it.Mark address node) xs h = absurd h
+marked_on here mark it.EndMark xs h = h
+
+module _ (at : ℕ → ℕ) (up : (n : ℕ) → at n ≤ at (suc n)) where
+  -- the places of items, the first of which is this entry
+  abbrev pub places_from : ℕ → ℕ → ℕ
+  places_from c n = at (c + n)
+
+  places_rise : (c : ℕ) → Rises (λ n. at (c + n))
+  places_rise c n = let u = up (c + n) in let e : at (suc (c + n)) ≡ at (c + suc n) = ap at (omega arith) in omega
+      (arith, u, e)
+
+  as_piece : (items : List Item) (c i m : ℕ) (mark : Option OpenAt) (ys : List Entry) → AreMarked (is_open mark) items
+      → m ≡ c + i + length items
+      → ranges_from at (c + i) mark (map en.Item items ++ ys) ≡ piece_ranges (λ n. at (c + n)) i mark items ++
+      ranges_from at m None ys
+  as_piece [] c i m None ys marked e = ap (λ n. ranges_from at n None ys) (let f : c + i ≡ m = omega (arith, e) in f)
+  as_piece [] c i m (Some o) ys marked e = absurd marked
+  as_piece (x ∷ xs) c i m mark ys marked e =
+      let more = as_piece xs c (suc i) m (opens (at (c + i)) mark (en.Item x)) ys (marked_on (at (c + i)) mark x xs
+      marked) (omega (arith, e)) in
+      let f : suc (c + i) ≡ c + suc i = omega arith in
+      ap (λ (rs : List Range). closes (at (c + i)) mark (en.Item x) ++ rs)
+      (ap (λ n. ranges_from at n (opens (at (c + i)) mark (en.Item x)) (map en.Item xs ++ ys)) f ∙ more)
+      ∙ sym (append_assoc (closes (at (c + i)) mark (en.Item x))
+      (piece_ranges (λ n. at (c + n)) (suc i) (opens (at (c + i)) mark (en.Item x)) xs) (ranges_from at m None ys))
+
+  module _ (pieces : List (List Item)) (marked : (k : ℕ) → AreMarked false (items_at pieces k)) where
+    -- the number of the entry behind a piece that starts here
+    abbrev behind_at : ℕ → ℕ → ℕ
+    behind_at c k = c + 1 + length (items_at pieces k)
+
+    one_piece : (c k : ℕ) (ks : List ℕ)
+        → ranges_from at c None (entries_from pieces (k ∷ ks))
+        ≡ piece_ranges (λ n. at (c + 1 + n)) 0 None (items_at pieces k) ++ ranges_from at (behind_at c k) None
+        (entries_from pieces ks)
+    one_piece c k ks =
+        ap (λ n. ranges_from at n None (map en.Item (items_at pieces k) ++ entries_from pieces ks)) (let e : suc c ≡ c
+        + 1 + 0 = omega arith in e)
+        ∙ as_piece (items_at pieces k) (c + 1) 0 (behind_at c k) None (entries_from pieces ks) (marked k) (omega arith)
+
+    pub seen_both : (c k : ℕ) (ks : List ℕ)
+        → seen (ranges_from at c None (entries_from pieces (k ∷ ks)))
+        ≡ seen (piece_ranges (λ n. at (c + 1 + n)) 0 None (items_at pieces k)) ++ seen (ranges_from at (behind_at c k)
+        None (entries_from pieces ks))
+    seen_both c k ks =
+        ap seen (one_piece c k ks)
+        ∙ map-append note_range (piece_ranges (λ n. at (c + 1 + n)) 0 None (items_at pieces k)) (ranges_from at
+        (behind_at c k) None (entries_from pieces ks))
+
+    pub count_more : (k : ℕ) (ks : List ℕ) → length (entries_from pieces (k ∷ ks)) ≡ 1 + length (items_at pieces k) +
+        length (entries_from pieces ks)
+    count_more k ks =
+        let a = length-append (entries_in k (items_at pieces k)) (entries_from pieces ks) in
+        let b = length-map (items_at pieces k) en.Item in
+        omega (arith, a, b)
+
+    one_ascends : (c k : ℕ) → Ascend (at c) (at (behind_at c k)) (seen (piece_ranges (λ n. at (c + 1 + n)) 0 None
+        (items_at pieces k)))
+    one_ascends c k =
+        let u = up c in
+        let e : at (suc c) ≡ at (c + 1 + 0) = ap at (omega arith) in
+        let f : at (c + 1 + (0 + length (items_at pieces k))) ≡ at (behind_at c k) = ap at (omega arith) in
+        ascend_from (at (c + 1 + 0)) _ (at c) (at (behind_at c k)) (omega (arith, u, e))
+        (piece_ascends (λ n. at (c + 1 + n)) (places_rise (c + 1)) (items_at pieces k) 0 (at (behind_at c k)) None
+        (marked k) (omega arith) (omega (arith, f)))
+
+    pub order_ascends : (ks : List ℕ) (c m : ℕ) → m ≡ c + length (entries_from pieces ks)
+        → Ascend (at c) (at m) (seen (ranges_from at c None (entries_from pieces ks)))
+    order_ascends [] c m e = let f : at c ≡ at m = ap at (omega (arith, e)) in omega (arith, f)
+    order_ascends (k ∷ ks) c m e =
+        let n = count_more k ks in
+        subst (Ascend (at c) (at m)) (sym (seen_both c k ks))
+        (ascend_then (seen (piece_ranges (λ n. at (c + 1 + n)) 0 None (items_at pieces k)))
+        (seen (ranges_from at (behind_at c k) None (entries_from pieces ks))) (at c) (at (behind_at c k)) (at m)
+        (one_ascends c k) (order_ascends ks (behind_at c k) m (omega (arith, e, n))))
+
+    -- at an address of an item the range of the Mark that is open there is found
+    pub order_finds : (before after : List ℕ) (c s k n a : ℕ) (x : Item) → s ≡ c + length (entries_from pieces before)
+        → AreStill (λ n. at (s + 1 + n)) 0 (items_at pieces k)
+        → slice_get (items_at pieces k) n ≡ Some x → at (s + 1 + n) ≤ a → a < at (s + 1 + suc n)
+        → range_in (seen (ranges_from at c None (entries_from pieces (before ++ k ∷ after)))) a
+        ≡ range_of (λ n. at (s + 1 + n)) (open_from (items_at pieces k) 0 n None)
+    order_finds [] after c s k n a x e still is h l =
+        subst (λ (c : ℕ). range_in (seen (ranges_from at c None (entries_from pieces (k ∷ after)))) a
+        ≡ range_of (λ n. at (s + 1 + n)) (open_from (items_at pieces k) 0 n None)) (let f : s ≡ c = omega (arith, e)
+        in f) here
+      where
+        below : a < at (behind_at s k)
+        below =
+            let g = get_low (items_at pieces k) n x is in
+            let r = rises_to at up (s + 1 + suc n) (behind_at s k) (omega (arith, g)) in
+            omega (arith, r, l)
+
+        here : range_in (seen (ranges_from at s None (entries_from pieces (k ∷ after)))) a
+            ≡ range_of (λ n. at (s + 1 + n)) (open_from (items_at pieces k) 0 n None)
+        here =
+            ap (λ (rs : List NoteRange). range_in rs a) (seen_both s k after)
+            ∙ first_part (seen (piece_ranges (λ n. at (s + 1 + n)) 0 None (items_at pieces k)))
+            (seen (ranges_from at (behind_at s k) None (entries_from pieces after))) (at (behind_at s k)) _ a
+            (order_ascends after (behind_at s k) (behind_at s k + length (entries_from pieces after)) refl) below
+            ∙ finds (λ n. at (s + 1 + n)) (places_rise (s + 1)) (items_at pieces k) n 0 a None None x still tt (marked
+            k) (omega arith) is
+            (let f : at (s + 1 + (0 + n)) ≡ at (s + 1 + n) = ap at (omega arith) in omega (arith, f, h))
+            (let f : at (s + 1 + suc (0 + n)) ≡ at (s + 1 + suc n) = ap at (omega arith) in omega (arith, f, l))
+    order_finds (j ∷ js) after c s k n a x e still is h l =
+        let m = count_more j js in
+        let r = rises_to at up (behind_at c j) (s + 1 + n) (omega (arith, e, m)) in
+        ap (λ (rs : List NoteRange). range_in rs a) (seen_both c j (js ++ k ∷ after))
+        ∙ none_past (seen (piece_ranges (λ n. at (c + 1 + n)) 0 None (items_at pieces j)))
+        (seen (ranges_from at (behind_at c j) None (entries_from pieces (js ++ k ∷ after)))) (at c) (at (behind_at c
+        j)) a
+        (one_ascends c j) (omega (arith, r, h))
+        ∙ order_finds js after (behind_at c j) s k n a x (omega (arith, e, m)) still is h l
 
 -- ---- whose range each is
 
 module _ (pieces : List (List Item)) (place : ℕ → ℕ → ℕ) where
-  abbrev AllOf : List NoteRange → Type 0
+  abbrev pub AllOf : List NoteRange → Type 0
   AllOf [] = Unit {0}
   AllOf (r ∷ rs) = IsRangeOf pieces place r × AllOf rs
 
-  all_then : (xs ys : List NoteRange) → AllOf xs → AllOf ys → AllOf (xs ++ ys)
+  pub all_then : (xs ys : List NoteRange) → AllOf xs → AllOf ys → AllOf (xs ++ ys)
   all_then [] ys h k = k
   all_then (x ∷ xs) ys h k = (h.0, all_then xs ys h.1 k)
 
@@ -344,7 +479,13 @@ module _ (pieces : List (List Item)) (place : ℕ → ℕ → ℕ) where
   closed_made None here h = tt
   closed_made (Some m) here h = go (nat_lt m.lo.0 here)
     where
-      go : (b : Bool) → AllOf (seen (if b then record { lo = m.lo; hi = record { 0 = here }; address = m.address; node = m.node } ∷ [] else []))
+      go : (b : Bool) → AllOf (seen (if b then record {
+        lo = m.lo;
+        hi = record { 0 = here };
+        address = m.address;
+        node
+            = m.node;
+      } ∷ [] else []))
       go true = (h here, tt)
       go false = tt
 
@@ -354,53 +495,28 @@ module _ (pieces : List (List Item)) (place : ℕ → ℕ → ℕ) where
   at_this : (k i : ℕ) (x : Item) → item_at pieces k (i + 0) ≡ Some x → item_at pieces k i ≡ Some x
   at_this k i x h = ap (item_at pieces k) (let e : i ≡ i + 0 = omega arith in e) ∙ h
 
-  piece_made : (items : List Item) (k i here : ℕ) (mark : Option OpenAt)
+  pub piece_made : (items : List Item) (k i : ℕ) (mark : Option OpenAt)
       → ((j : ℕ) (x : Item) → slice_get items j ≡ Some x → item_at pieces k (i + j) ≡ Some x)
-      → StandFrom (place k) i here items → IsMade mark → AllOf (seen (ranges_from here mark items))
-  piece_made [] k i here mark are s h = tt
-  piece_made (it.Word word ∷ xs) k i here mark are s h = piece_made xs k (suc i) (here + 4) mark
-      (λ j x e. at_next k i j x (are (suc j) x e)) (stand_on (place k) i here (it.Word word) xs s) h
-  piece_made (it.Jump to ∷ xs) k i here mark are s h = piece_made xs k (suc i) (here + 16) mark
-      (λ j x e. at_next k i j x (are (suc j) x e)) (stand_on (place k) i here (it.Jump to) xs s) h
-  piece_made (it.Branch cond to ∷ xs) k i here mark are s h = piece_made xs k (suc i) (here + 24) mark
-      (λ j x e. at_next k i j x (are (suc j) x e)) (stand_on (place k) i here (it.Branch cond to) xs s) h
-  piece_made (it.EndMark ∷ xs) k i here mark are s h =
-      let g : here + 0 ≡ here = omega arith in
-      subst AllOf (sym (map-append note_range (closed mark here) (ranges_from here None xs)))
-      (all_then (seen (closed mark here)) _ (closed_made mark here h)
-      (piece_made xs k (suc i) here None (λ j x e. at_next k i j x (are (suc j) x e))
-      (λ j. stand_on (place k) i here it.EndMark xs s j ∙ ap (λ z. item_place z xs j) g) tt))
-  piece_made (it.Mark address node ∷ xs) k i here mark are s h =
-      let g : here + 0 ≡ here = omega arith in
-      let first : place k (suc i) ≡ here = stand_here (place k) (suc i) (here + 0) xs
-      (stand_on (place k) i here (it.Mark address node) xs s) ∙ g in
-      piece_made xs k (suc i) here (Some (record { lo = record { 0 = here }; address = address; node = node }))
-      (λ j x e. at_next k i j x (are (suc j) x e))
-      (λ j. stand_on (place k) i here (it.Mark address node) xs s j ∙ ap (λ z. item_place z xs j) g)
+      → AreStill (place k) i items → IsMade mark → AllOf (seen (piece_ranges (place k) i mark items))
+  piece_made [] k i mark are s h = tt
+  piece_made (it.Word word ∷ xs) k i mark are s h = piece_made xs k (suc i) mark (λ j x e. at_next k i j x (are (suc
+      j) x e)) s h
+  piece_made (it.Jump to ∷ xs) k i mark are s h = piece_made xs k (suc i) mark (λ j x e. at_next k i j x (are (suc j)
+      x e)) s h
+  piece_made (it.Branch c to ∷ xs) k i mark are s h = piece_made xs k (suc i) mark (λ j x e. at_next k i j x (are (suc
+      j) x e)) s h
+  piece_made (it.EndMark ∷ xs) k i mark are s h =
+      subst AllOf (sym (map-append note_range (closed mark (place k i)) (piece_ranges (place k) (suc i) None xs)))
+      (all_then (seen (closed mark (place k i))) _ (closed_made mark (place k i) h)
+      (piece_made xs k (suc i) None (λ j x e. at_next k i j x (are (suc j) x e)) s.1 tt))
+  piece_made (it.Mark address node ∷ xs) k i mark are s h =
+      piece_made xs k (suc i) (Some (record { lo = record { 0 = place k i }; address = address; node = node }))
+      (λ j x e. at_next k i j x (are (suc j) x e)) s.1
       (λ hi. record {
         piece = k;
         item = i;
         address = address;
-        mark = at_this k i (it.Mark address node)
-            (are 0 _ refl);
+        mark = at_this k i (it.Mark address node) (are 0 _ refl);
         says = refl;
-        lo = sym first;
+        lo = sym s.0;
       })
-
-  pub all_made : (rest : List (List Item)) (k here : ℕ)
-      → ((j n : ℕ) (x : Item) → item_at rest j n ≡ Some x → item_at pieces (k + j) n ≡ Some x)
-      → ((j n : ℕ) → j < length rest → place (k + j) n ≡ place_from here rest j n) → AllOf (seen (all_ranges here rest))
-  all_made [] k here are s = tt
-  all_made (items ∷ rest) k here are s =
-      let zero_more : k + 0 ≡ k = omega arith in
-      subst AllOf (sym (map-append note_range (ranges_from here None items)
-      (all_ranges (here + 4 * piece_words items) rest)))
-      (all_then (seen (ranges_from here None items)) _
-      (piece_made items k 0 here None
-      (λ j x e. subst (λ z. item_at pieces z (0 + j) ≡ Some x) zero_more
-      (ap (λ z. item_at pieces (k + 0) z) (let f : 0 + j ≡ j = omega arith in f) ∙ are 0 j x e))
-      (λ j. subst (λ z. place z (0 + j) ≡ item_place here items j) zero_more
-      (ap (place (k + 0)) (let f : 0 + j ≡ j = omega arith in f) ∙ s 0 j (omega arith))) tt)
-      (all_made rest (suc k) (here + 4 * piece_words items)
-      (λ j n x e. ap (λ z. item_at pieces z n) (let f : suc k + j ≡ k + suc j = omega arith in f) ∙ are (suc j) n x e)
-      (λ j n l. ap (λ z. place z n) (let f : suc k + j ≡ k + suc j = omega arith in f) ∙ s (suc j) n (omega arith))))

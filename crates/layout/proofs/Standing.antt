@@ -1,25 +1,76 @@
--- The words of the plain layout stand where its items do.
-use Rattle.std.proofs.Common.{◌≡◌, ℕ, zero, suc, ◌+◌, ◌-◌, ◌*◌, ◌/◌, ◌%◌, ◌^◌, ◌<◌, Bool, true, false, ◌&&◌, List, [], ◌∷◌, ◌++◌, length, map, slice_get, Some, refl, ap, sym, ◌∙◌, subst, arith, length-append}
-use Rattle.std.specs.Prelude.{pos, nat_lt, if◌then◌else◌, slice_index}
+-- Each entry's words stand in the code, and say what it is.
+use Rattle.std.proofs.Common.{◌≡◌, ℕ, zero, suc, ◌+◌, ◌-◌, ◌*◌, ◌/◌, ◌%◌, ◌^◌, ◌<◌, ◌≤◌, ◌⊎◌, inl, inr, Bool, true, false, List, [], ◌∷◌, ◌++◌, length, slice_get, Option, Some, None, refl, ap, sym, ◌∙◌, subst, arith, length-append}
+use Rattle.std.proofs.lemmas.Int.{ints}
+use Rattle.std.specs.Prelude.{pos, negsuc, ℤ, nat_lt, if◌then◌else◌, slice_index}
 use Rattle.std.proofs.lemmas.Bool.Decides.{nat_tests}
+use Rattle.std.proofs.lemmas.Bool.{cases_lt}
 use Rattle.v8_decode.specs.declared.Op2.TheVariants.{Imm}
-use Rattle.std.specs.List.{flat_map, list_all, sum_by}
-use Rattle.eel_base.specs.declared.numbers.Addr.{Addr}
 use Rattle.v8_decode.specs.declared.Instr.{Instr}
 use Rattle.v8_decode.specs.declared.Instr.TheVariants as i
 use Rattle.v8_decode.specs.declared.LoadKind.TheVariants as loads
 use Rattle.v8_decode.specs.declared.StoreKind.TheVariants as stores
 use Rattle.v8_decode.specs.Ranges.{is_in_range}
 use Rattle.v8_decode.specs.Words.{decode_of}
-use Rattle.v8_encode.specs.Encoding.{has_word, word_of}
+use Rattle.v8_encode.specs.Encoding.{has_word, word_of, fits_signed}
 use Rattle.v8_encode.proofs.Decoded.{decode_of-word_of}
 use Rattle.code_runs.specs.LongJump.{long_jump}
 use Rattle.code_runs.specs.Page.{of_page}
 use Rattle.layout.specs.declared.items.Item.{Item}
 use Rattle.layout.specs.declared.items.Item.TheVariants as it
-use Rattle.layout.specs.Laid.{Placement, SaysFrom, jump_long, branch_long, Stands, item_at, long_words, nop, opposite, piece_words}
-use Rattle.layout.specs.Emitting.{address_in, has_condition, have_conditions, item_code, piece_code, words_of}
-use Rattle.layout.proofs.Places.{item_place, place_from, first_item, words_more, pieces_more}
+use Rattle.layout.specs.declared.entries.Entry.{Entry}
+use Rattle.layout.specs.declared.entries.Entry.TheVariants as en
+use Rattle.layout.specs.Laid.{Placement, SaysFrom, JumpStands, jump_nothing, jump_short, jump_long, BranchStands, branch_short, branch_long, Stands, Reaches, nop, opposite}
+use Rattle.layout.specs.Forms.{Forms, far, leads_next, offset, width}
+use Rattle.layout.specs.Emitting.{between, branch_code, code_at, code_to, entry_code, has_condition, jump_code, or_zero, target_offset, words_of}
+use Rattle.layout.proofs.Emitted.{code_more}
+use Rattle.layout.proofs.Widening.{far_if, offset_more}
+
+differ : false ≡ true → ⊥
+differ e = cc
+
+near_means : (f t : ℕ) → far f t ≡ false → (t < f + 2 ^ 21) × (f ≤ t + 2 ^ 21)
+near_means f t h = (up (cases_lt t (f + 2 ^ 21)), down (cases_lt (t + 2 ^ 21) f))
+  where
+    up : (t < f + 2 ^ 21) ⊎ (f + 2 ^ 21 ≤ t) → t < f + 2 ^ 21
+    up (inl l) = l
+    up (inr l) = absurd (differ (sym h ∙ far_if f t (inl l)))
+
+    down : (t + 2 ^ 21 < f) ⊎ (f ≤ t + 2 ^ 21) → f ≤ t + 2 ^ 21
+    down (inl l) = absurd (differ (sym h ∙ far_if f t (inr l)))
+    down (inr l) = l
+
+up_is : (f t : ℕ) → f ≤ t → between f t ≡ pos (t - f)
+up_is f t l = omega (arith, ints)
+
+down_is : (f t : ℕ) → t < f → between f t ≡ negsuc (f - t - 1)
+down_is f t l = omega (arith, ints)
+
+fits : (f t : ℕ) → far f t ≡ false → fits_signed 22 (between f t) ≡ true
+fits f t h = go (cases_lt t f)
+  where
+    go : (t < f) ⊎ (f ≤ t) → fits_signed 22 (between f t) ≡ true
+    go (inl l) =
+        let n = (near_means f t h).1 in
+        let w : f - t - 1 < 2 ^ 21 = omega (arith, n, l) in
+        ap (fits_signed 22) (down_is f t l) ∙ below (f - t - 1) w
+      where
+        below : (n : ℕ) → n < 2 ^ 21 → nat_lt n (2 ^ (22 - 1)) ≡ true
+        below n w = grind (arith, nat_tests)
+    go (inr l) =
+        let n = (near_means f t h).0 in
+        let w : t - f < 2 ^ 21 = omega (arith, n, l) in
+        ap (fits_signed 22) (up_is f t l) ∙ below (t - f) w
+      where
+        below : (n : ℕ) → n < 2 ^ 21 → nat_lt n (2 ^ (22 - 1)) ≡ true
+        below n w = grind (arith, nat_tests)
+
+pub reaches : (base f t : ℕ) → base + 4 * f ≤ 2 ^ 31 → base + 4 * t ≤ 2 ^ 31
+    → Reaches (base + 4 * f) (base + 4 * t) (between f t)
+reaches base f t a b = go (cases_lt t f)
+  where
+    go : (t < f) ⊎ (f ≤ t) → Reaches (base + 4 * f) (base + 4 * t) (between f t)
+    go (inl l) = subst (Reaches (base + 4 * f) (base + 4 * t)) (sym (down_is f t l)) (omega arith)
+    go (inr l) = subst (Reaches (base + 4 * f) (base + 4 * t)) (sym (up_is f t l)) (omega arith)
 
 -- ---- words in code
 
@@ -83,112 +134,161 @@ long_jump_decodes to low = (
     rest : (n : ℕ) → n < 1024 → nat_lt n (2 ^ (13 - 1)) ≡ true
     rest n h = grind (arith, nat_tests)
 
-branch_decodes : (cond : ℕ) → nat_lt cond 16 ≡ true
-    → decode_of (word_of (i.Branch (opposite cond) false (pos 6))) ≡ i.Branch (opposite cond) false (pos 6)
-branch_decodes cond h = decodes _ (below cond h) refl
+opposite_low : (cond : ℕ) → nat_lt cond 16 ≡ true → nat_lt (opposite cond) 16 ≡ true
+opposite_low cond h = go (nat_lt cond 8) refl
   where
-    below : (cond : ℕ) → nat_lt cond 16 ≡ true → nat_lt (opposite cond) 16 ≡ true
-    below cond h = go (nat_lt cond 8) refl
+    go : (b : Bool) → nat_lt cond 8 ≡ b → nat_lt (if b then cond + 8 else cond - 8) 16 ≡ true
+    go true e = grind (arith, nat_tests)
+    go false e = grind (arith, nat_tests)
+
+branch_decodes : (cond : ℕ) (annul : Bool) (disp : ℤ) → nat_lt cond 16 ≡ true → fits_signed 22 disp ≡ true
+    → decode_of (word_of (i.Branch cond annul disp)) ≡ i.Branch cond annul disp
+branch_decodes cond annul disp h f = decodes (i.Branch cond annul disp) h f
+
+-- ---- how many words an entry has
+
+jump_length : (long : Bool) (base from to : ℕ) → length (words_of (jump_code long base from to)) ≡ (if long then 4
+    else 1)
+jump_length true base from to = refl
+jump_length false base from to = refl
+
+branch_length : (long : Bool) (base c from to : ℕ) → length (words_of (branch_code long base c from to)) ≡ (if long
+    then 6 else 2)
+branch_length true base c from to = refl
+branch_length false base c from to = refl
+
+unless_next : (b long : Bool) (base from to : ℕ)
+    → length (if b then [] else words_of (jump_code long base from to)) ≡ (if b then 0 else (if long then 4 else 1))
+unless_next true long base from to = refl
+unless_next false long base from to = jump_length long base from to
+
+entry_length : (base : ℕ) (long : Bool) (from to : ℕ) (x next : Option Entry)
+    → length (entry_code base long from to x next) ≡ width long x next
+entry_length base long from to None next = refl
+entry_length base long from to (Some (en.Start k)) next = refl
+entry_length base long from to (Some (en.Item (it.Word word))) next = refl
+entry_length base long from to (Some (en.Item (it.Jump k))) next = unless_next (leads_next k next) long base from to
+entry_length base long from to (Some (en.Item (it.Branch c k))) next = branch_length long base c from to
+entry_length base long from to (Some (en.Item (it.Mark a n))) next = refl
+entry_length base long from to (Some (en.Item it.EndMark)) next = refl
+
+offset_none : (entries : List Entry) (long : Forms) → offset entries long 0 ≡ 0
+unfolding offset
+offset_none entries long = refl
+
+code_none : (base : ℕ) (entries : List Entry) (long : Forms) → code_to base entries long 0 ≡ []
+unfolding code_to
+code_none base entries long = refl
+
+pub code_length : (base : ℕ) (entries : List Entry) (long : Forms) (n : ℕ)
+    → length (code_to base entries long n) ≡ offset entries long n
+code_length base entries long zero = ap length (code_none base entries long) ∙ sym (offset_none entries long)
+code_length base entries long (suc n) =
+    let h = code_length base entries long n in
+    let a = ap length (code_more base entries long n) in
+    let b = length-append (code_to base entries long n) (code_at base entries long n) in
+    let c = entry_length base (long n) (offset entries long n) (or_zero (target_offset entries long n)) (slice_get
+    entries n) (slice_get entries (suc n)) in
+    let d = offset_more entries long n in
+    omega (arith, h, a, b, c, d)
+
+has_more : (code xs ys : List ℕ) (n : ℕ) (ws : List ℕ) → code ≡ xs ++ ys → Has xs n ws → Has code n ws
+has_more code xs ys n ws e h j w f = ap (λ (zs : List ℕ). slice_get zs (n + j)) e ∙ get_first xs ys (n + j) w (h j w f)
+
+-- the words of an entry stand in the code
+pub has_code : (base : ℕ) (entries : List Entry) (long : Forms) (m n : ℕ) → n < m
+    → Has (code_to base entries long m) (offset entries long n) (code_at base entries long n)
+has_code base entries long zero n l = absurd (omega arith)
+has_code base entries long (suc m) n l = go (cases_lt n m) (has_code base entries long m n)
+  where
+    go : (n < m) ⊎ (m ≤ n) → (n < m → Has (code_to base entries long m) (offset entries long n) (code_at base entries
+        long n))
+        → Has (code_to base entries long (suc m)) (offset entries long n) (code_at base entries long n)
+    go (inl u) more =
+        has_more (code_to base entries long (suc m)) (code_to base entries long m) (code_at base entries long m)
+        (offset entries long n) (code_at base entries long n) (code_more base entries long m) (more u)
+    go (inr u) more =
+        let s : m ≡ n = omega arith in
+        subst (λ (n : ℕ). Has (code_to base entries long (suc m)) (offset entries long n) (code_at base entries long
+        n)) s last
       where
-        go : (b : Bool) → nat_lt cond 8 ≡ b → nat_lt (if b then cond + 8 else cond - 8) 16 ≡ true
-        go true e = grind (arith, nat_tests)
-        go false e = grind (arith, nat_tests)
+        last : Has (code_to base entries long (suc m)) (offset entries long m) (code_at base entries long m)
+        last j w f =
+            ap (λ (zs : List ℕ). slice_get zs (offset entries long m + j)) (code_more base entries long m)
+            ∙ ap (λ (z : ℕ). slice_get (code_to base entries long m ++ code_at base entries long m) (z + j)) (sym
+            (code_length base entries long m))
+            ∙ get_rest (code_to base entries long m) (code_at base entries long m) j ∙ f
 
-both_first : (a b : Bool) → (a && b) ≡ true → a ≡ true
-both_first true b e = refl
-both_first false b e = e
+-- ---- what an item says
 
-both_rest : (a b : Bool) → (a && b) ≡ true → b ≡ true
-both_rest true b e = e
-both_rest false b e = absurd (cc)
+module _ (base : ℕ) (p : Placement) where
+  jump_says : (long skip : Bool) (f t a b k : ℕ) → a ≡ base + 4 * f → k ≡ base + 4 * t → base + 4 * f ≤ 2 ^ 31
+      → base + 4 * t ≤ 2 ^ 31
+      → (skip ≡ true → f ≡ t) → (long ≡ false → far f t ≡ false)
+      → b ≡ a + 4 * (if skip then 0 else (if long then 4 else 1))
+      → Has p.code f (if skip then [] else words_of (jump_code long base f t)) → JumpStands base p.code k a b
+  jump_says long true f t a b k ea ek la lt here near eb h =
+      let s : f ≡ t = here refl in jump_nothing (omega (arith, ea, ek, s)) (omega (arith, eb))
+  jump_says true false f t a b k ea ek la lt here near eb h =
+      jump_long (omega (arith, eb)) (subst (λ (z : ℕ). SaysFrom base p.code a (long_jump z)) (sym ek)
+      (says_words base p.code (long_jump (base + 4 * t)) f a ea (long_jump_decodes (base + 4 * t) (omega (arith, lt)))
+      h))
+  jump_says false false f t a b k ea ek la lt here near eb h =
+      jump_short (between f t) (omega (arith, eb))
+      (subst (λ (z : ℕ). Reaches a z (between f t)) (sym ek)
+      (subst (λ (z : ℕ). Reaches z (base + 4 * t) (between f t)) (sym ea) (reaches base f t la lt)))
+      (says_words base p.code (i.Branch 8 true (between f t) ∷ []) f a ea
+      (branch_decodes 8 true (between f t) refl (fits f t (near refl)), tt) h)
 
--- ---- an item
+  branch_says : (long : Bool) (c f t a b k : ℕ) → nat_lt c 16 ≡ true → a ≡ base + 4 * f → k ≡ base + 4 * t
+      → base + 4 * f ≤ 2 ^ 31
+      → base + 4 * t ≤ 2 ^ 31 → (long ≡ false → far f t ≡ false) → b ≡ a + 4 * (if long then 6 else 2)
+      → Has p.code f (words_of (branch_code long base c f t)) → BranchStands base p.code c k a b
+  branch_says true c f t a b k range ea ek la lt near eb h =
+      let first = i.Branch (opposite c) false (pos 6) ∷ nop ∷ [] in
+      branch_long (omega (arith, eb))
+      (says_words base p.code first f a ea (
+        branch_decodes (opposite c) false (pos 6) (opposite_low c range) refl,
+        (decodes nop refl refl, tt),
+      )
+      (has_first p.code (words_of first) (words_of (long_jump (base + 4 * t))) f h))
+      (subst (λ (z : ℕ). SaysFrom base p.code (a + 8) (long_jump z)) (sym ek)
+      (says_words base p.code (long_jump (base + 4 * t)) (f + 2) (a + 8) (omega (arith, ea))
+      (long_jump_decodes (base + 4 * t) (omega (arith, lt)))
+      (has_rest p.code (words_of first) (words_of (long_jump (base + 4 * t))) f (f + 2) refl h)))
+  branch_says false c f t a b k range ea ek la lt near eb h =
+      branch_short (between f t) (omega (arith, eb))
+      (subst (λ (z : ℕ). Reaches a z (between f t)) (sym ek)
+      (subst (λ (z : ℕ). Reaches z (base + 4 * t) (between f t)) (sym ea) (reaches base f t la lt)))
+      (says_words base p.code (i.Branch c false (between f t) ∷ nop ∷ []) f a ea
+      (branch_decodes c false (between f t) range (fits f t (near refl)), (decodes nop refl refl, tt)) h)
 
-item_length : (at : List Addr) (x : Item) → length (item_code at x) ≡ long_words x
-item_length at (it.Word word) = refl
-item_length at (it.Jump to) = refl
-item_length at (it.Branch cond to) = refl
-item_length at (it.Mark address node) = refl
-item_length at it.EndMark = refl
+  -- the piece to which an item leads starts at word t
+  abbrev pub GoesTo : Item → ℕ → Type 0
+  GoesTo (it.Jump k) t = slice_index p.at k.0 ≡ base + 4 * t
+  GoesTo (it.Branch c k) t = slice_index p.at k.0 ≡ base + 4 * t
+  GoesTo _ t = Unit {0}
 
-pub piece_length : (at : List Addr) (items : List Item) → length (piece_code at items) ≡ piece_words items
-piece_length at [] = refl
-piece_length at (x ∷ xs) =
-    let a = length-append (item_code at x) (piece_code at xs) in
-    omega (arith, a, item_length at x, piece_length at xs, words_more x xs)
+  abbrev pub IsNextAt : Item → Option Entry → ℕ → ℕ → Type 0
+  IsNextAt (it.Jump k) next f t = leads_next k next ≡ true → f ≡ t
+  IsNextAt _ next f t = Unit {0}
 
-pub code_length : (at : List Addr) (pieces : List (List Item))
-    → length (flat_map (piece_code at) pieces) ≡ sum_by piece_words pieces
-code_length at [] = refl
-code_length at (items ∷ pieces) =
-    let a = length-append (piece_code at items) (flat_map (piece_code at) pieces) in
-    omega (arith, a, piece_length at items, code_length at pieces, pieces_more items pieces)
+  abbrev pub IsNearTo : Item → Bool → ℕ → ℕ → Type 0
+  IsNearTo (it.Jump k) long f t = long ≡ false → far f t ≡ false
+  IsNearTo (it.Branch c k) long f t = long ≡ false → far f t ≡ false
+  IsNearTo _ long f t = Unit {0}
 
-module _ (base : ℕ) (p : Placement) (at : List Addr) (is : p.at ≡ map (λ (a : Addr). a.0) at) (low : (k : ℕ)
-    → address_in at k < 2 ^ 32) where
-  address_is : (k : ℕ) → address_in at k ≡ slice_index p.at k
-  address_is k = ap (λ (z : List ℕ). slice_index z k) (sym is)
-
-  item_stands : (x : Item) (n a : ℕ) → a ≡ base + 4 * n → has_condition x ≡ true → Has p.code n (item_code at x)
-      → Stands base p x a (a + 4 * long_words x)
-  item_stands (it.Word word) n a e c h = (
-    omega arith,
-    (n, e, ap (slice_get p.code) (let g : n ≡ n + 0 = omega arith in g) ∙ h 0 word refl),
+  pub item_stands : (x : Item) (next : Option Entry) (long : Bool) (f t a b : ℕ) → a ≡ base + 4 * f
+      → b ≡ a + 4 * width long (Some (en.Item x)) next → base + 4 * f ≤ 2 ^ 31 → base + 4 * t ≤ 2 ^ 31
+      → has_condition (Some (en.Item x)) ≡ true → GoesTo x t → IsNextAt x next f t → IsNearTo x long f t
+      → Has p.code f (entry_code base long f t (Some (en.Item x)) next) → Stands base p x a b
+  item_stands (it.Word word) next long f t a b ea eb la lt c goes here near h = (
+    omega (arith, eb),
+    (f, ea, ap (slice_get p.code) (let g : f ≡ f + 0 = omega arith in g) ∙ h 0 word refl),
   )
-  item_stands (it.Jump to) n a e c h =
-      jump_long (omega arith) (subst (λ (z : ℕ). SaysFrom base p.code a (long_jump z)) (address_is to.0)
-      (says_words base p.code (long_jump (address_in at to.0)) n a e
-      (long_jump_decodes (address_in at to.0) (low to.0)) h))
-  item_stands (it.Branch cond to) n a e c h =
-      let first = i.Branch (opposite cond) false (pos 6) ∷ nop ∷ [] in
-      branch_long (omega arith)
-      (says_words base p.code first n a e (branch_decodes cond c, (decodes nop refl refl, tt))
-      (has_first p.code (words_of first) (words_of (long_jump (address_in at to.0))) n h))
-      (subst (λ (z : ℕ). SaysFrom base p.code (a + 8) (long_jump z)) (address_is to.0)
-      (says_words base p.code (long_jump (address_in at to.0)) (n + 2) (a + 8) (omega arith)
-      (long_jump_decodes (address_in at to.0) (low to.0))
-      (has_rest p.code (words_of first) (words_of (long_jump (address_in at to.0))) n (n + 2) refl h)))
-  item_stands (it.Mark address node) n a e c h = omega arith
-  item_stands it.EndMark n a e c h = omega arith
-
-  -- ---- an item of a piece
-
-  stands_in_piece : (items : List Item) (j n a : ℕ) (x : Item) → a ≡ base + 4 * n → have_conditions items ≡ true
-      → Has p.code n (piece_code at items) → slice_get items j ≡ Some x
-      → Stands base p x (item_place a items j) (item_place a items (suc j))
-  stands_in_piece [] j n a x e c h f = absurd (cc)
-  stands_in_piece (y ∷ ys) zero n a x e c h f =
-      let g : y ≡ x = cc in
-      subst (λ (z : Item). Stands base p z a (item_place a (y ∷ ys) 1)) g
-      (subst (λ (z : ℕ). Stands base p y a z) (sym (first_item ys (a + 4 * long_words y)))
-      (item_stands y n a e (both_first (has_condition y) (have_conditions ys) c)
-      (has_first p.code (item_code at y) (piece_code at ys) n h)))
-  stands_in_piece (y ∷ ys) (suc j) n a x e c h f =
-      let l = item_length at y in
-      stands_in_piece ys j (n + long_words y) (a + 4 * long_words y) x (omega arith)
-      (both_rest (has_condition y) (have_conditions ys) c)
-      (has_rest p.code (item_code at y) (piece_code at ys) n (n + long_words y) (omega (arith, l)) h) f
-
-  stands_in : (pieces : List (List Item)) (k j n a : ℕ) (x : Item) → a ≡ base + 4 * n
-      → list_all have_conditions pieces ≡ true
-      → Has p.code n (flat_map (piece_code at) pieces) → item_at pieces k j ≡ Some x
-      → Stands base p x (place_from a pieces k j) (place_from a pieces k (suc j))
-  stands_in [] k j n a x e c h f = absurd (cc)
-  stands_in (items ∷ pieces) zero j n a x e c h f =
-      stands_in_piece items j n a x e (both_first (have_conditions items) (list_all have_conditions pieces) c)
-      (has_first p.code (piece_code at items) (flat_map (piece_code at) pieces) n h) f
-  stands_in (items ∷ pieces) (suc k) j n a x e c h f =
-      let l = piece_length at items in
-      stands_in pieces k j (n + piece_words items) (a + 4 * piece_words items) x (omega arith)
-      (both_rest (have_conditions items) (list_all have_conditions pieces) c)
-      (has_rest p.code (piece_code at items) (flat_map (piece_code at) pieces) n (n + piece_words items)
-      (omega (arith, l)) h) f
-
-  pub all_stand : (pieces : List (List Item)) → list_all have_conditions pieces ≡ true
-      → p.code ≡ flat_map (piece_code at) pieces
-      → (k j : ℕ) (x : Item) → item_at pieces k j ≡ Some x
-      → Stands base p x (place_from base pieces k j) (place_from base pieces k (suc j))
-  all_stand pieces c e k j x f =
-      stands_in pieces k j 0 base x (omega arith) c
-      (λ m w g. ap (slice_get p.code) (let z : 0 + m ≡ m = omega arith in z) ∙ ap (λ (ws : List ℕ). slice_get ws m) e
-      ∙ g) f
+  item_stands (it.Jump k) next long f t a b ea eb la lt c goes here near h =
+      jump_says long (leads_next k next) f t a b (slice_index p.at k.0) ea goes la lt here near eb h
+  item_stands (it.Branch cond k) next long f t a b ea eb la lt c goes here near h =
+      branch_says long cond f t a b (slice_index p.at k.0) c ea goes la lt near eb h
+  item_stands (it.Mark address node) next long f t a b ea eb la lt c goes here near h = omega (arith, eb)
+  item_stands it.EndMark next long f t a b ea eb la lt c goes here near h = omega (arith, eb)

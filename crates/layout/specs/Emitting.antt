@@ -1,6 +1,6 @@
--- What the parts of placing make: the plain layout, as lists.
-use Rattle.std.specs.Prelude.{◌≡◌, ℕ, ◌+◌, ◌*◌, Bool, true, false, nat_lt, if◌then◌else◌, List, [], ◌∷◌, ◌++◌, map, slice_index, Option, Some, None, pos, slice_get}
-use Rattle.std.specs.List.{flat_map, list_all}
+-- What the parts of placing make, as lists.
+use Rattle.std.specs.Prelude.{◌≡◌, ℕ, zero, suc, ◌+◌, ◌*◌, ◌^◌, ◌<◌, ◌≤◌, Bool, true, false, ◌||◌, nat_lt, if◌then◌else◌, List, [], ◌∷◌, ◌++◌, length, map, slice_get, slice_index, slice_index_or, Option, Some, None, Result, Ok, Err, IfSome, ℤ, pos, ◌-ℤ◌}
+use Rattle.std.specs.Option.{option_map}
 use Rattle.eel_base.specs.declared.numbers.Addr.{Addr}
 use Rattle.eel_base.specs.declared.range.Range.{Range}
 use Rattle.v8_decode.specs.declared.Instr.{Instr}
@@ -10,72 +10,168 @@ use Rattle.code_runs.specs.LongJump.{long_jump}
 use Rattle.layout.specs.declared.items.Item.{Item}
 use Rattle.layout.specs.declared.items.Item.TheVariants as it
 use Rattle.layout.specs.declared.items.Placed.{Placed}
+use Rattle.layout.specs.declared.items.LayoutFault.{LayoutFault}
+use Rattle.layout.specs.declared.items.LayoutFault.TheVariants as faults
+use Rattle.layout.specs.declared.entries.Entry.{Entry}
+use Rattle.layout.specs.declared.entries.Entry.TheVariants as en
 use Rattle.layout.specs.declared.ranges.Open.{Open}
-use Rattle.layout.specs.Laid.{nop, opposite, piece_words, LeadsBelow}
+use Rattle.layout.specs.Laid.{nop, opposite}
+use Rattle.layout.specs.Forms.{Forms, entries_of, far, goal_of, is_far, leads_next, offset, start_of, target, IsWidened}
 
--- a Branch in its long form
-abbrev pub long_branch : ℕ → ℕ → List Instr
-long_branch cond to = i.Branch (opposite cond) false (pos 6) ∷ nop ∷ long_jump to
+-- ---- entries
+
+-- each leads to one of the pieces, and each piece starts at one of them, which this list has
+pub record IsListing (entries : List Entry) (starts : List ℕ) : Type 0 where
+  pub targets : (n : ℕ) → IfSome (target (slice_get entries n)) (λ k. k < length starts)
+  pub inside : (k : ℕ) → k < length starts → slice_index starts k < length entries
+  pub are : (k : ℕ) → k < length starts → slice_index starts k ≡ start_of entries k
+
+-- the forms that a list has
+abbrev pub forms_in : List Bool → Forms
+forms_in forms n = slice_index_or forms n false
+
+-- the words before the first entries, up to entry n
+pub record AreOffsets (entries : List Entry) (long : Forms) (at : List ℕ) (n : ℕ) : Type 0 where
+  pub len : length at ≡ n + 1
+  pub each : (k : ℕ) → k ≤ n → slice_index at k ≡ offset entries long k
+  pub small : (k : ℕ) → k ≤ n → offset entries long k ≤ 6 * k
+
+-- these are the words before each entry, and all of them
+abbrev pub IsOffsets : List Entry → Forms → List ℕ → Type 0
+IsOffsets entries long at = AreOffsets entries long at (length entries)
+
+-- the first of these forms are long where they were or where they are out of reach
+pub record AreWider (entries : List Entry) (forms wide : List Bool) (n : ℕ) : Type 0 where
+  pub len : length wide ≡ n
+  pub each : (k : ℕ) → k < n → slice_index_or wide k false ≡ (slice_index_or forms k false || is_far entries (forms_in
+      forms) k)
+
+-- ---- words
+
+-- the displacement of a branch, in words
+abbrev pub between : ℕ → ℕ → ℤ
+between from to = pos to -ℤ pos from
 
 abbrev pub words_of : List Instr → List ℕ
 words_of instrs = map word_of instrs
 
--- the address of a piece
-abbrev pub address_in : List Addr → ℕ → ℕ
-address_in at k = slice_index (map (λ (a : Addr). a.0) at) k
+-- a Jump at word `from` to word `to`, and a Branch
+abbrev pub jump_code : Bool → ℕ → ℕ → ℕ → List Instr
+jump_code true base from to = long_jump (base + 4 * to)
+jump_code false base from to = i.Branch 8 true (between from to) ∷ []
 
--- the words of an item
-abbrev pub item_code : List Addr → Item → List ℕ
-item_code at (it.Word word) = word ∷ []
-item_code at (it.Jump to) = words_of (long_jump (address_in at to.0))
-item_code at (it.Branch cond to) = words_of (long_branch cond (address_in at to.0))
-item_code at (it.Mark address node) = []
-item_code at it.EndMark = []
+abbrev pub branch_code : Bool → ℕ → ℕ → ℕ → ℕ → List Instr
+branch_code true base cond from to = i.Branch (opposite cond) false (pos 6) ∷ nop ∷ long_jump (base + 4 * to)
+branch_code false base cond from to = i.Branch cond false (between from to) ∷ nop ∷ []
 
-abbrev pub piece_code : List Addr → List Item → List ℕ
-piece_code at items = flat_map (item_code at) items
+-- the words of an entry at word `from` before the next one, where the piece to which it leads starts at word `to`
+abbrev pub entry_code : ℕ → Bool → ℕ → ℕ → Option Entry → Option Entry → List ℕ
+entry_code base long from to (Some (en.Item (it.Word word))) next = word ∷ []
+entry_code base long from to (Some (en.Item (it.Jump k))) next =
+    if leads_next k next then [] else words_of (jump_code long base from to)
+entry_code base long from to (Some (en.Item (it.Branch cond k))) next = words_of (branch_code long base cond from to)
+entry_code base long from to _ next = []
+
+-- the words before the piece to which entry n leads
+abbrev pub target_offset : List Entry → Forms → ℕ → Option ℕ
+target_offset entries long n = option_map (offset entries long) (goal_of entries n)
+
+abbrev pub or_zero : Option ℕ → ℕ
+or_zero None = 0
+or_zero (Some n) = n
+
+abbrev pub far_of : ℕ → Option ℕ → Bool
+far_of from None = false
+far_of from (Some to) = far from to
+
+-- the words of entry n
+abbrev pub code_at : ℕ → List Entry → Forms → ℕ → List ℕ
+code_at base entries long n =
+    entry_code base (long n) (offset entries long n) (or_zero (target_offset entries long n)) (slice_get entries n)
+    (slice_get entries (suc n))
+
+-- the words of the first entries
+unfoldable pub code_to : ℕ → List Entry → Forms → ℕ → List ℕ
+code_to base entries long zero = []
+code_to base entries long (suc n) = code_to base entries long n ++ code_at base entries long n
 
 -- its condition, if it has one, is a condition's number
-abbrev pub has_condition : Item → Bool
-has_condition (it.Branch cond to) = nat_lt cond 16
+abbrev pub has_condition : Option Entry → Bool
+has_condition (Some (en.Item (it.Branch cond to))) = nat_lt cond 16
 has_condition _ = true
 
-abbrev pub have_conditions : List Item → Bool
-have_conditions items = list_all has_condition items
+-- the words of the first n entries
+pub record IsEmitted (base : ℕ) (entries : List Entry) (long : Forms) (code : List ℕ) (n : ℕ) : Type 0 where
+  pub is : code ≡ code_to base entries long n
+  pub conditions : (k : ℕ) → k < n → has_condition (slice_get entries k) ≡ true
 
--- each item of a piece leads to one of so many
-abbrev pub PieceLeads : ℕ → List Item → Type 0
-PieceLeads count items = (n : ℕ) → LeadsBelow count (slice_get items n)
-
--- the addresses of pieces, from the first one's on
-abbrev pub addresses : ℕ → List (List Item) → List Addr
-addresses here [] = []
-addresses here (items ∷ pieces) = record { 0 = here } ∷ addresses (here + 4 * piece_words items) pieces
+-- ---- ranges
 
 -- the range of a Mark that is open, up to an address: none where it is empty
 abbrev pub closed : Option Open → ℕ → List Range
 closed None here = []
 closed (Some open_mark) here =
     if nat_lt open_mark.lo.0 here
-    then record { lo = open_mark.lo; hi = record { 0 = here }; address = open_mark.address; node = open_mark.node } ∷ [] else []
+    then record { lo = open_mark.lo; hi = record { 0 = here }; address = open_mark.address; node = open_mark.node } ∷
+    [] else []
 
--- the ranges of items, the first of which stands at an address
-abbrev pub ranges_from : ℕ → Option Open → List Item → List Range
-ranges_from here mark [] = []
-ranges_from here mark (it.Mark address node ∷ items) = ranges_from here
-    (Some (record { lo = record { 0 = here }; address = address; node = node })) items
-ranges_from here mark (it.EndMark ∷ items) = closed mark here ++ ranges_from here None items
-ranges_from here mark (it.Word word ∷ items) = ranges_from (here + 4) mark items
-ranges_from here mark (it.Jump to ∷ items) = ranges_from (here + 16) mark items
-ranges_from here mark (it.Branch cond to ∷ items) = ranges_from (here + 24) mark items
+-- the range that an entry at an address closes, and the Mark that is open behind it
+abbrev pub closes : ℕ → Option Open → Entry → List Range
+closes here mark (en.Item it.EndMark) = closed mark here
+closes here mark _ = []
 
-abbrev pub all_ranges : ℕ → List (List Item) → List Range
-all_ranges here [] = []
-all_ranges here (items ∷ pieces) = ranges_from here None items ++ all_ranges (here + 4 * piece_words items) pieces
+abbrev pub opens : ℕ → Option Open → Entry → Option Open
+opens here mark (en.Item (it.Mark address node)) = Some (record {
+  lo = record { 0 = here };
+  address = address;
+  node =
+      node;
+})
+opens here mark (en.Item it.EndMark) = None
+opens here mark _ = mark
 
--- the plain layout
-pub record IsEmitted (pieces : List (List Item)) (base : ℕ) (p : Placed) : Type 0 where
-  pub code : p.code.items ≡ flat_map (piece_code p.at.items) pieces
-  pub at : p.at.items ≡ addresses base pieces
-  pub ranges : p.ranges.items ≡ all_ranges base pieces
-  pub conditions : list_all have_conditions pieces ≡ true
+-- the address of an entry
+abbrev pub address_of : ℕ → List Entry → Forms → ℕ → ℕ
+address_of base entries long n = base + 4 * offset entries long n
+
+-- the ranges of entries, the first of which has the number n
+abbrev pub ranges_from : (ℕ → ℕ) → ℕ → Option Open → List Entry → List Range
+ranges_from at n mark [] = []
+ranges_from at n mark (x ∷ xs) = closes (at n) mark x ++ ranges_from at (suc n) (opens (at n) mark x) xs
+
+-- ---- all of it
+
+-- the addresses of pieces
+abbrev pub addresses : ℕ → List Entry → Forms → List ℕ → List Addr
+addresses base entries long starts = map (λ n. record { 0 = address_of base entries long n }) starts
+
+-- what a compact order and its forms come to
+pub record IsFormed (pieces : List (List Item)) (entries : List Entry) (starts : List ℕ) (forms : List Bool) : Type 0
+  where
+    pub entries_are : entries ≡ entries_of pieces
+    pub count : length starts ≡ length pieces
+    pub listing : IsListing entries starts
+    pub small : length entries ≤ 2 ^ 42
+    pub len : length forms ≡ length entries
+    pub widened : IsWidened entries (forms_in forms)
+
+-- the code, addresses and ranges of entries
+pub record IsPut (base : ℕ) (entries : List Entry) (starts : List ℕ) (long : Forms) (p : Placed) : Type 0 where
+  pub emitted : IsEmitted base entries long p.code.items (length entries)
+  pub at : p.at.items ≡ addresses base entries long starts
+  pub ranges : p.ranges.items ≡ ranges_from (address_of base entries long) 0 None entries
+
+-- there is room for so many bytes, or a fault tells that there isn't
+abbrev pub FitsIn : Result Placed LayoutFault → ℕ → ℕ → Type 0
+FitsIn (Ok p) bytes room = bytes ≤ room
+FitsIn (Err (faults.Room needed had)) bytes room = (needed ≡ bytes) × (had ≡ room) × (room < needed)
+FitsIn (Err faults.NoMemory) bytes room = Unit {0}
+
+-- all of it
+pub record IsMade (pieces : List (List Item)) (base : ℕ) (long : Forms) (starts : List ℕ) (p : Placed) : Type 0 where
+  pub widened : IsWidened (entries_of pieces) long
+  pub count : length starts ≡ length pieces
+  pub listing : IsListing (entries_of pieces) starts
+  pub emitted : IsEmitted base (entries_of pieces) long p.code.items (length (entries_of pieces))
+  pub at : p.at.items ≡ addresses base (entries_of pieces) long starts
+  pub ranges : p.ranges.items ≡ ranges_from (address_of base (entries_of pieces) long) 0 None (entries_of pieces)

@@ -1,5 +1,5 @@
 -- What a layout of pieces promises: where each item stands, and that its words do what it says.
-use Rattle.std.specs.Prelude.{◌≡◌, ℕ, zero, suc, ◌+◌, ◌-◌, ◌*◌, ◌%◌, ◌^◌, ◌<◌, ◌≤◌, Bool, true, false, ◌&&◌, List, [], ◌∷◌, length, map, Option, Some, None, Result, Ok, Err, if◌then◌else◌, nat_le, nat_lt, slice_get, slice_index, ℤ, pos}
+use Rattle.std.specs.Prelude.{◌≡◌, ℕ, zero, suc, ◌+◌, ◌-◌, ◌*◌, ◌%◌, ◌^◌, ◌<◌, ◌≤◌, Bool, true, false, ◌&&◌, List, [], ◌∷◌, length, map, Option, Some, None, if◌then◌else◌, nat_le, nat_lt, slice_get, slice_index, ℤ, pos}
 use Rattle.std.specs.List.{find, sum_by}
 use Rattle.std.specs.Option.{option_map}
 use Rattle.std.specs.Int.{w32, cast_unsigned}
@@ -13,9 +13,6 @@ use Rattle.v8_alu.specs.Numbers.{wrapped}
 use Rattle.code_runs.specs.LongJump.{long_jump}
 use Rattle.layout.specs.declared.items.Item.{Item}
 use Rattle.layout.specs.declared.items.Item.TheVariants as it
-use Rattle.layout.specs.declared.items.Placed.{Placed}
-use Rattle.layout.specs.declared.items.LayoutFault.{LayoutFault}
-use Rattle.layout.specs.declared.items.LayoutFault.TheVariants as faults
 
 -- ---- what was placed
 
@@ -177,7 +174,12 @@ open_in (Some items) n = open_from items 0 n None
 
 -- the range that an open Mark has
 abbrev pub range_of : (ℕ → ℕ) → Option Open → Option NoteRange
-range_of place mark = option_map (λ (o : Open). record { lo = place o.first; hi = place o.last; address = o.address; node = o.node }) mark
+range_of place mark = option_map (λ (o : Open). record {
+  lo = place o.first;
+  hi = place o.last;
+  address = o.address;
+  node = o.node;
+}) mark
 
 -- a range is that of a Mark
 pub record IsRangeOf (pieces : List (List Item)) (place : ℕ → ℕ → ℕ) (r : NoteRange) : Type 0 where
@@ -222,6 +224,10 @@ pub record IsLaid (pieces : List (List Item)) (base : ℕ) (p : Placement) (plac
   pub ascend : Ascend base (base + 4 * length p.code) p.ranges
   pub marks : (n : ℕ) (r : NoteRange) → slice_get p.ranges n ≡ Some r → IsRangeOf pieces place r
 
+-- laid, in some order and forms
+abbrev pub Lays : (List (List Item) → ℕ → (ℕ → ℕ → ℕ) → Type 0) → List (List Item) → ℕ → Placement → Type 0
+Lays Forms pieces base p = (place : ℕ → ℕ → ℕ) × IsLaid pieces base p place × Forms pieces base place
+
 -- how many words an item takes in its long form
 abbrev pub long_words : Item → ℕ
 long_words (it.Word word) = 1
@@ -243,27 +249,9 @@ abbrev pub HasShortForms : List (List Item) → (ℕ → ℕ → ℕ) → Type 0
 HasShortForms pieces place =
     (k n : ℕ) (x : Item) → item_at pieces k n ≡ Some x → place k (suc n) ≤ place k n + 4 * short_words x
 
--- The plain layout: the pieces stand in the order of the list, one right behind the other, and each item takes its long
--- form.
-pub record IsPlain (pieces : List (List Item)) (base : ℕ) (place : ℕ → ℕ → ℕ) : Type 0 where
-  pub first : place 0 0 ≡ base
-  pub next : (k : ℕ) → k < length pieces → place (suc k) 0 ≡ place k (size_of pieces k)
-  pub long : (k n : ℕ) (x : Item) → item_at pieces k n ≡ Some x → place k (suc n) ≡ place k n + 4 * long_words x
-
--- laid, in some order and forms
-abbrev pub Lays : (List (List Item) → ℕ → (ℕ → ℕ → ℕ) → Type 0) → List (List Item) → ℕ → Placement → Type 0
-Lays Forms pieces base p = (place : ℕ → ℕ → ℕ) × IsLaid pieces base p place × Forms pieces base place
-
 -- how many words a piece takes, and how many bytes the pieces, each item in its long form
 abbrev pub piece_words : List Item → ℕ
 piece_words items = sum_by long_words items
 
 abbrev pub long_bytes : List (List Item) → ℕ
 long_bytes pieces = 4 * sum_by piece_words pieces
-
--- The code has just these bytes, and room for them. A refusal for want of room names them, and comes just where they are
--- too many.
-abbrev pub RoomIs : Result Placed LayoutFault → List (List Item) → ℕ → Type 0
-RoomIs (Ok p) pieces room = (4 * length p.code.items ≡ long_bytes pieces) × (long_bytes pieces ≤ room)
-RoomIs (Err (faults.Room needed had)) pieces room = (needed ≡ long_bytes pieces) × (had ≡ room) × (room < needed)
-RoomIs (Err faults.NoMemory) pieces room = Unit {0}

@@ -1,64 +1,146 @@
-//! The code of pieces, each item in its long form.
+//! The words of a layout.
 
-ghost use Rattle.std.specs.Prelude.{◌≡◌, ◌<◌, ◌++◌, true, OnOk, IfOk, length, Some};
-ghost use Rattle.std.specs.List.{flat_map, list_all};
-ghost use Rattle.layout.specs.Emitting.{address_in, has_condition, have_conditions, item_code, piece_code, PieceLeads};
-ghost use Rattle.layout.specs.Laid.{AllLead, LeadsBelow};
+ghost use Rattle.std.specs.Prelude.{◌≡◌, ℕ, ◌+◌, ◌*◌, ◌^◌, ◌<◌, ◌≤◌, ◌++◌, true, false, length, slice_get, Some, OnOk, IfOk, IfSome};
+ghost use Rattle.std.specs.Option.{is_some};
+ghost use Rattle.layout.specs.declared.items.Item.TheVariants as it;
+ghost use Rattle.layout.specs.declared.entries.Entry.TheVariants as en;
+ghost use Rattle.layout.specs.Forms.{far, offset, target as target_of, NoneLeft};
+ghost use Rattle.layout.specs.Emitting.{code_at, entry_code, far_of, forms_in, has_condition, or_zero, target_offset, IsEmitted, IsListing, IsOffsets};
 
-use crate::words::{branch_past, long_jump_words, nop_word};
-use crate::{Item, Piece};
-use eel_base::{Addr, PieceNo};
+use crate::Item;
+use crate::entries::Entry;
+use crate::forms::{entry_at, leads_next, target};
+use crate::words::{put_branch, put_jump};
+use eel_base::PieceNo;
 use std::alloc::{AllocError, Global};
 
-// The address of a piece.
-fn address(at: &[Addr], piece: PieceNo) -> u32
-    requires inside { piece.0 < length at.now }
-    ensures { result ≡ address_in at.now piece.0 }
+// Appends a Jump to a piece, unless that is laid next.
+fn put_jump_before(
+    code: &mut Vec<u32>,
+    base: u32,
+    piece: PieceNo,
+    next: Option<Entry>,
+    from: u64,
+    to: u64,
+    long: bool,
+) -> Result<(), AllocError>
+    requires from { from < 2 ^ 62 }
+    requires near { long ≡ false → far from to ≡ false }
+    requires low { base + 4 * to < 2 ^ 32 }
+    ensures { OnOk result (code.new.items
+        ≡ code.old.items ++ entry_code base long from to (Some (en.Item (it.Jump piece))) next) }
 {
-    at[piece.0 as usize].0
-}
-
-// Appends an item's words.
-fn put_item(code: &mut Vec<u32>, at: &[Addr], item: &Item) -> Result<(), AllocError>
-    requires leads { LeadsBelow (length at.now) (Some item.now) }
-    ensures code { OnOk result (code.new.items ≡ code.old.items ++ item_code at.now item.now) }
-    ensures condition { OnOk result (has_condition item.now ≡ true) }
-{
-    match item {
-        Item::Word(word) => code.push(*word)?,
-        Item::Jump(to) => code.extend_from_slice(&long_jump_words(address(at, *to)))?,
-        Item::Branch { cond, to } => {
-            code.push(branch_past(*cond))?;
-            code.push(nop_word())?;
-            code.extend_from_slice(&long_jump_words(address(at, *to)))?;
-        }
-        Item::Mark { .. } | Item::EndMark => {}
+    if !leads_next(piece, next) {
+        put_jump(code, base, from, to, long)?;
     }
     Ok(())
 }
 
-// Appends a piece's words.
-fn put_piece(code: &mut Vec<u32>, at: &[Addr], piece: &Piece) -> Result<(), AllocError>
-    requires leads { PieceLeads (length at.now) piece.now }
-    ensures code { OnOk result (code.new.items ≡ code.old.items ++ piece_code at.now piece.now) }
-    ensures conditions { OnOk result (have_conditions piece.now ≡ true) }
+// Appends an entry's words.
+fn put_entry(
+    code: &mut Vec<u32>,
+    base: u32,
+    entry: &Entry,
+    next: Option<Entry>,
+    from: u64,
+    to: Option<u64>,
+    long: bool,
+) -> Result<(), AllocError>
+    requires from { from < 2 ^ 62 }
+    requires low { IfSome to (λ to. base + 4 * to < 2 ^ 32) }
+    requires near { long ≡ false → far_of from to ≡ false }
+    requires target { is_some (target_of (Some entry.now)) ≡ is_some to }
+    ensures code { OnOk result (code.new.items
+        ≡ code.old.items ++ entry_code base long from (or_zero to) (Some entry.now) next) }
+    ensures condition { OnOk result (has_condition (Some entry.now) ≡ true) }
 {
-    for item in &piece.items {
-        put_item(code, at, item)?;
+    match entry {
+        Entry::Item(Item::Word(word)) => code.push(*word)?,
+        Entry::Item(Item::Jump(piece)) => match to {
+            Some(to) => put_jump_before(code, base, *piece, next, from, to, long)?,
+            None => unreachable!(),
+        },
+        Entry::Item(Item::Branch { cond, .. }) => match to {
+            Some(to) => put_branch(code, base, *cond, from, to, long)?,
+            None => unreachable!(),
+        },
+        _ => {}
     }
     Ok(())
 }
 
-/// The code of pieces that begin at these addresses.
-pub fn code_of(alloc: Global, pieces: &[Piece], at: &[Addr]) -> Result<Vec<u32>, AllocError>
-    requires leads { AllLead pieces.now }
-    requires count { length at.now ≡ length pieces.now }
-    ensures code { IfOk result (λ code. code.items ≡ flat_map (piece_code at.now) pieces.now) }
-    ensures conditions { OnOk result (list_all have_conditions pieces.now ≡ true) }
+// The words before the piece to which an entry leads.
+fn target_at(
+    entries: &[Entry],
+    starts: &[usize],
+    at: &[u64],
+    forms: &[bool],
+    n: usize,
+) -> Option<u64>
+    requires listing { IsListing entries.now starts.now }
+    requires at { IsOffsets entries.now (forms_in forms.now) at.now }
+    requires inside { n < length entries.now }
+    ensures { result ≡ target_offset entries.now (forms_in forms.now) n }
+{
+    match target(&entries[n]) {
+        Some(k) => Some(at[starts[k]]),
+        None => None,
+    }
+}
+
+// Appends the words of the entry with this number.
+fn put_at(
+    code: &mut Vec<u32>,
+    base: u32,
+    entries: &[Entry],
+    starts: &[usize],
+    at: &[u64],
+    forms: &[bool],
+    n: usize,
+) -> Result<(), AllocError>
+    requires small { length entries.now ≤ 2 ^ 42 }
+    requires listing { IsListing entries.now starts.now }
+    requires at { IsOffsets entries.now (forms_in forms.now) at.now }
+    requires forms { length forms.now ≡ length entries.now }
+    requires none_left { NoneLeft entries.now (forms_in forms.now) }
+    requires low { base + 4 * offset entries.now (forms_in forms.now) (length entries.now) ≤ 2 ^ 31 }
+    requires inside { n < length entries.now }
+    ensures code { OnOk result (code.new.items ≡ code.old.items ++ code_at base entries.now (forms_in forms.now) n) }
+    ensures condition { OnOk result (has_condition (slice_get entries.now n) ≡ true) }
+{
+    let to = target_at(entries, starts, at, forms, n);
+    put_entry(
+        code,
+        base,
+        &entries[n],
+        entry_at(entries, n + 1),
+        at[n],
+        to,
+        forms[n],
+    )?;
+    Ok(())
+}
+
+/// The words of entries with these forms.
+pub fn emit(
+    alloc: Global,
+    base: u32,
+    entries: &[Entry],
+    starts: &[usize],
+    at: &[u64],
+    forms: &[bool],
+) -> Result<Vec<u32>, AllocError>
+    requires small { length entries.now ≤ 2 ^ 42 }
+    requires listing { IsListing entries.now starts.now }
+    requires at { IsOffsets entries.now (forms_in forms.now) at.now }
+    requires forms { length forms.now ≡ length entries.now }
+    requires none_left { NoneLeft entries.now (forms_in forms.now) }
+    requires low { base + 4 * offset entries.now (forms_in forms.now) (length entries.now) ≤ 2 ^ 31 }
+    ensures { IfOk result (λ code. IsEmitted base entries.now (forms_in forms.now) code.items (length entries.now)) }
 {
     let mut code = Vec::new(alloc);
-    for piece in pieces {
-        put_piece(&mut code, at, piece)?;
+    for n in 0..entries.len() {
+        put_at(&mut code, base, entries, starts, at, forms, n)?;
     }
     Ok(code)
 }

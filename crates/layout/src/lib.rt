@@ -1,17 +1,36 @@
-//! Where pieces of new code are placed: the words of each item, the address of each piece, and the range of each mark.
+//! Where pieces of new code are placed: the order in which they are laid, the form of each Jump and Branch, the words,
+//! the address of each piece, and the range of each mark.
 #![tactic(auto)]
 
+ghost use Rattle.layout.specs.Compact.{LongIsEnough, NeededOnce, ShortIsEnough};
 ghost use Rattle.layout.specs.Running.{BranchesHop, JumpsHop, WordsStand};
 
 mod emitting;
+mod entries;
+mod forms;
 mod items;
+mod order;
 mod placing;
 mod ranges;
-mod sizes;
 mod words;
 
 pub use items::{Item, LayoutFault, Piece, Placed};
 pub use placing::place;
+
+/// What pieces need is one number.
+pub fn needed_once()
+    ensures { NeededOnce }
+{}
+
+/// No layout needs more room than the one with every form long.
+pub fn long_is_enough()
+    ensures { LongIsEnough }
+{}
+
+/// In less than 8 MiB every form is short.
+pub fn short_is_enough()
+    ensures { ShortIsEnough }
+{}
 
 /// A Jump leads to its piece, with all as it was but word 0 of the editor's page.
 pub fn jumps_hop()

@@ -1,47 +1,150 @@
 //! Placing pieces.
 
-ghost use Rattle.std.specs.Prelude.{◌≡◌, ◌+◌, ◌*◌, ◌^◌, ◌%◌, ◌≤◌, length, IfOk};
+ghost use Rattle.std.specs.Prelude.{◌≡◌, ℕ, ◌+◌, ◌*◌, ◌^◌, ◌%◌, ◌≤◌, length, IfOk};
 ghost use Rattle.std.specs.List.{sum_by};
-ghost use Rattle.layout.specs.Laid.{piece_words, placement_of, AllLead, ArePieces, IsPlain, Lays, RoomIs};
-ghost use Rattle.layout.specs.Emitting.{IsEmitted};
+ghost use Rattle.layout.specs.Laid.{placement_of, AllLead, ArePieces, Lays};
+ghost use Rattle.layout.specs.Forms.{entries_of, offset, IsWidened, NoneLeft};
+ghost use Rattle.layout.specs.Compact.{IsCompact, RoomIs};
+ghost use Rattle.layout.specs.Emitting.{addresses, forms_in, FitsIn, IsFormed, IsListing, IsOffsets, IsPut};
 
-use crate::emitting::code_of;
-use crate::ranges::ranges_of;
-use crate::sizes::{starts, words_of};
+use crate::emitting::emit;
+use crate::entries::{Entry, Listing, list};
+use crate::forms::{offsets, widened};
+use crate::order::order_of;
+use crate::ranges::{address, ranges_of};
 use crate::{LayoutFault, Piece, Placed};
 use eel_base::Addr;
 use std::alloc::{AllocError, Global};
 
-// Code, addresses and ranges of pieces for which there is room.
-fn lay(alloc: Global, pieces: &[Piece], base: Addr) -> Result<Placed, AllocError>
-    requires few { sum_by length pieces.now ≤ 2 ^ 40 }
-    requires leads { AllLead pieces.now }
-    requires low { base.0 + 4 * sum_by piece_words pieces.now ≤ 2 ^ 31 }
-    ensures { IfOk result (IsEmitted pieces.now base.0) }
-{
-    let at = starts(alloc, pieces, base)?;
-    let code = code_of(alloc, pieces, &at)?;
-    let ranges = ranges_of(alloc, pieces, base)?;
-    Ok(Placed { code, at, ranges })
+/// The entries of a layout, and which of them have the long form.
+#[derive(Drop)]
+pub struct Formed {
+    pub listing: Listing,
+    pub forms: Vec<bool>,
 }
 
-/// Places pieces one after the other, in the order of the list, each Jump and Branch in its long form.
-pub fn place(alloc: Global, pieces: &[Piece], base: Addr, room: u32) -> Result<Placed, LayoutFault>
-    requires pieces { ArePieces pieces.now }
-    requires aligned { base.0 % 4 ≡ 0 }
-    requires low { base.0 + room ≤ 2 ^ 31 }
-    ensures laid { IfOk result (λ p. Lays IsPlain pieces.now base.0 (placement_of p.code.items p.at.items p.ranges.items)) }
-    ensures room { RoomIs result pieces.now room }
+// The compact order and its forms.
+fn form(alloc: Global, pieces: &[Piece]) -> Result<Formed, AllocError>
+    requires leads { AllLead pieces.now }
+    requires few { length pieces.now ≤ 2 ^ 28 }
+    requires items { sum_by length pieces.now ≤ 2 ^ 40 }
+    ensures { IfOk result (λ f. IsFormed pieces.now f.listing.entries.items f.listing.starts.items f.forms.items) }
 {
-    let needed = 4 * words_of(pieces);
+    let order = order_of(alloc, pieces)?;
+    let listing = list(alloc, pieces, &order)?;
+    let forms = widened(alloc, &listing.entries, &listing.starts)?;
+    Ok(Formed { listing, forms })
+}
+
+// The addresses of pieces.
+fn addresses_of(
+    alloc: Global,
+    base: Addr,
+    entries: &[Entry],
+    starts: &[usize],
+    at: &[u64],
+    forms: &[bool],
+) -> Result<Vec<Addr>, AllocError>
+    requires listing { IsListing entries.now starts.now }
+    requires at { IsOffsets entries.now (forms_in forms.now) at.now }
+    requires low { base.0 + 4 * offset entries.now (forms_in forms.now) (length entries.now) ≤ 2 ^ 31 }
+    ensures { IfOk result (λ v. v.items ≡ addresses base.0 entries.now (forms_in forms.now) starts.now) }
+{
+    let mut addresses = Vec::new(alloc);
+    for start in starts {
+        addresses.push(address(base, at[*start]))?;
+    }
+    Ok(addresses)
+}
+
+// Code, addresses and ranges, where there is room.
+fn put(
+    alloc: Global,
+    base: Addr,
+    entries: &[Entry],
+    starts: &[usize],
+    at: &[u64],
+    forms: &[bool],
+) -> Result<Placed, AllocError>
+    requires small { length entries.now ≤ 2 ^ 42 }
+    requires listing { IsListing entries.now starts.now }
+    requires at { IsOffsets entries.now (forms_in forms.now) at.now }
+    requires forms { length forms.now ≡ length entries.now }
+    requires none_left { NoneLeft entries.now (forms_in forms.now) }
+    requires low { base.0 + 4 * offset entries.now (forms_in forms.now) (length entries.now) ≤ 2 ^ 31 }
+    ensures { IfOk result (IsPut base.0 entries.now starts.now (forms_in forms.now)) }
+{
+    let code = emit(alloc, base.0, entries, starts, at, forms)?;
+    let addresses = addresses_of(alloc, base, entries, starts, at, forms)?;
+    let ranges = ranges_of(alloc, base, entries, at, forms)?;
+    Ok(Placed {
+        code,
+        at: addresses,
+        ranges,
+    })
+}
+
+// The bytes of entries, of which these are the offsets.
+fn bytes_of(entries: &[Entry], at: &[u64], forms: &[bool]) -> u64
+    requires small { length entries.now ≤ 2 ^ 42 }
+    requires at { IsOffsets entries.now (forms_in forms.now) at.now }
+    ensures { result ≡ 4 * offset entries.now (forms_in forms.now) (length entries.now) }
+{
+    4 * at[entries.len()]
+}
+
+// The same, or a fault where there isn't room.
+fn put_within(
+    alloc: Global,
+    base: Addr,
+    room: u32,
+    entries: &[Entry],
+    starts: &[usize],
+    forms: &[bool],
+) -> Result<Placed, LayoutFault>
+    requires small { length entries.now ≤ 2 ^ 42 }
+    requires listing { IsListing entries.now starts.now }
+    requires forms { length forms.now ≡ length entries.now }
+    requires none_left { NoneLeft entries.now (forms_in forms.now) }
+    requires low { base.0 + room ≤ 2 ^ 31 }
+    ensures put { IfOk result (IsPut base.0 entries.now starts.now (forms_in forms.now)) }
+    ensures room { FitsIn result (4 * offset entries.now (forms_in forms.now) (length entries.now)) room }
+{
+    let Ok(at) = offsets(alloc, entries, forms) else {
+        return Err(LayoutFault::NoMemory);
+    };
+    let needed = bytes_of(entries, &at, forms);
     if needed > room as u64 {
         return Err(LayoutFault::Room {
             needed,
             had: room as u64,
         });
     }
-    match lay(alloc, pieces, base) {
+    match put(alloc, base, entries, starts, &at, forms) {
         Ok(placed) => Ok(placed),
         Err(_) => Err(LayoutFault::NoMemory),
     }
+}
+
+/// Places pieces in the compact order, each Jump and Branch in the shortest form that its distance allows.
+pub fn place(alloc: Global, pieces: &[Piece], base: Addr, room: u32) -> Result<Placed, LayoutFault>
+    requires pieces { ArePieces pieces.now }
+    requires aligned { base.0 % 4 ≡ 0 }
+    requires low { base.0 + room ≤ 2 ^ 31 }
+    ensures laid { IfOk result (λ p.
+        Lays IsCompact pieces.now base.0 (placement_of p.code.items p.at.items p.ranges.items)) }
+    ensures room { RoomIs result pieces.now room }
+{
+    let Ok(formed) = form(alloc, pieces) else {
+        return Err(LayoutFault::NoMemory);
+    };
+    let listing = &formed.listing;
+    put_within(
+        alloc,
+        base,
+        room,
+        &listing.entries,
+        &listing.starts,
+        &formed.forms,
+    )
 }

@@ -1,16 +1,18 @@
 //! The words of jumps and branches.
 
-ghost use Rattle.std.specs.Prelude.{◌≡◌, ◌/◌, ◌%◌, ◌<◌, IsTrue, false, pos};
+ghost use Rattle.std.specs.Prelude.{◌≡◌, ◌+◌, ◌*◌, ◌/◌, ◌%◌, ◌^◌, ◌<◌, ◌++◌, IsTrue, true, false, pos, OnOk};
 ghost use Rattle.v8_decode.specs.declared.Instr.TheVariants as w;
 ghost use Rattle.v8_decode.specs.declared.Op2.TheVariants.{Imm};
 ghost use Rattle.v8_decode.specs.declared.LoadKind.TheVariants as loads;
 ghost use Rattle.v8_decode.specs.declared.StoreKind.TheVariants as stores;
-ghost use Rattle.v8_encode.specs.Encoding.{has_word, word_of as word_in};
+ghost use Rattle.v8_encode.specs.Encoding.{fits_signed, has_word, word_of as word_in};
 ghost use Rattle.code_runs.specs.LongJump.{long_jump};
 ghost use Rattle.code_runs.specs.Page.{of_page};
 ghost use Rattle.layout.specs.Laid.{nop, opposite};
-ghost use Rattle.layout.specs.Emitting.{words_of};
+ghost use Rattle.layout.specs.Forms.{far};
+ghost use Rattle.layout.specs.Emitting.{between, branch_code, jump_code, words_of};
 
+use std::alloc::AllocError;
 use v8_decode::{Cond, Instr, LoadKind, Op2, Reg, StoreKind};
 use v8_encode::encode;
 
@@ -83,8 +85,8 @@ fn jump_word(to: u32) -> u32
     })
 }
 
-/// A jump to an address, which keeps %g1 in the editor's page meanwhile.
-pub fn long_jump_words(to: u32) -> [u32; 4]
+// A jump to an address, which keeps %g1 in the editor's page meanwhile.
+fn long_jump_words(to: u32) -> [u32; 4]
     ensures { result ≡ words_of (long_jump to) }
 {
     [spill_word(), high_word(to), jump_word(to), reload_word()]
@@ -109,8 +111,8 @@ fn opposite_of(cond: Cond) -> Cond
     condition(if number < 8 { number + 8 } else { number - 8 })
 }
 
-/// A branch past the six words that begin with it.
-pub fn branch_past(cond: Cond) -> u32
+// A branch past the six words that begin with it.
+fn branch_past(cond: Cond) -> u32
     ensures value { result ≡ word_in (w.Branch (opposite cond) false (pos 6)) }
     ensures range { cond < 16 }
 {
@@ -121,11 +123,104 @@ pub fn branch_past(cond: Cond) -> u32
     })
 }
 
-pub fn nop_word() -> u32
+// The displacement from a word to another that is in reach.
+fn displacement(from: u64, to: u64) -> i32
+    requires near { far from to ≡ false }
+    requires from { from < 2 ^ 62 }
+    requires to { to < 2 ^ 62 }
+    ensures value { result ≡ between from to }
+    ensures fits { fits_signed 22 result ≡ true }
+{
+    if to >= from {
+        (to - from) as i32
+    } else {
+        -((from - to) as i32)
+    }
+}
+
+// A branch to a word in reach.
+fn branch_to(cond: Cond, from: u64, to: u64) -> u32
+    requires near { far from to ≡ false }
+    requires from { from < 2 ^ 62 }
+    requires to { to < 2 ^ 62 }
+    ensures value { result ≡ word_in (w.Branch cond false (between from to)) }
+    ensures range { cond < 16 }
+{
+    word_of(Instr::Branch {
+        cond: condition(cond.number()),
+        annul: false,
+        disp22: displacement(from, to),
+    })
+}
+
+// A branch always to a word in reach, without a delay slot.
+fn jump_to(from: u64, to: u64) -> u32
+    requires near { far from to ≡ false }
+    requires from { from < 2 ^ 62 }
+    requires to { to < 2 ^ 62 }
+    ensures { result ≡ word_in (w.Branch 8 true (between from to)) }
+{
+    word_of(Instr::Branch {
+        cond: condition(8),
+        annul: true,
+        disp22: displacement(from, to),
+    })
+}
+
+fn nop_word() -> u32
     ensures { result ≡ word_in nop }
 {
     word_of(Instr::Sethi {
         rd: register(0),
         imm22: 0,
     })
+}
+
+/// Appends a Jump.
+pub fn put_jump(
+    code: &mut Vec<u32>,
+    base: u32,
+    from: u64,
+    to: u64,
+    long: bool,
+) -> Result<(), AllocError>
+    requires from { from < 2 ^ 62 }
+    requires to { to < 2 ^ 62 }
+    requires near { long ≡ false → far from to ≡ false }
+    requires low { base + 4 * to < 2 ^ 32 }
+    ensures { OnOk result (code.new.items ≡ code.old.items ++ words_of (jump_code long base from to)) }
+{
+    if long {
+        code.extend_from_slice(&long_jump_words(base + 4 * to as u32))?;
+    } else {
+        code.push(jump_to(from, to))?;
+    }
+    Ok(())
+}
+
+/// Appends a Branch.
+pub fn put_branch(
+    code: &mut Vec<u32>,
+    base: u32,
+    cond: Cond,
+    from: u64,
+    to: u64,
+    long: bool,
+) -> Result<(), AllocError>
+    requires from { from < 2 ^ 62 }
+    requires to { to < 2 ^ 62 }
+    requires near { long ≡ false → far from to ≡ false }
+    requires low { base + 4 * to < 2 ^ 32 }
+    ensures code { OnOk result (code.new.items ≡ code.old.items ++ words_of (branch_code long base cond from to)) }
+    ensures condition { OnOk result (cond < 16) }
+{
+    if long {
+        code.push(branch_past(cond))?;
+        code.push(nop_word())?;
+        code.extend_from_slice(&long_jump_words(base + 4 * to as u32))?;
+    } else {
+        code.push(branch_to(cond, from, to))?;
+        code.push(nop_word())?;
+    }
+    Ok(())
 }

@@ -1,6 +1,6 @@
 //! Placed pieces, with words that were made by hand.
 
-ghost use Rattle.std.specs.Prelude.{IfOk};
+ghost use Rattle.std.specs.Prelude.{◌^◌, ◌≤◌, IfOk};
 ghost use Rattle.layout.specs.Laid.{ArePieces};
 
 use eel_base::{Addr, PieceNo, Range};
@@ -69,21 +69,11 @@ fn two_pieces_in_their_room(rt: HostRuntime) -> Result<(), Fail> {
     };
     let code = [
         0x8200_6001,
-        0x1280_0006,
+        0x0280_0003,
         0x0100_0000,
-        0xc220_3000,
-        0x0310_0004,
-        0x81c0_602c,
-        0xc200_3000,
-        0xc220_3000,
-        0x0310_0004,
-        0x81c0_6000,
-        0xc200_3000,
+        0x30bf_fffd,
         0x0100_0000,
-        0xc220_3000,
-        0x0310_0004,
-        0x81c0_6000,
-        0xc200_3000,
+        0x30bf_fffb,
     ];
     let range = Range {
         lo: BASE,
@@ -92,7 +82,85 @@ fn two_pieces_in_their_room(rt: HostRuntime) -> Result<(), Fail> {
         node: 2,
     };
     assert_eq!(rt; placed.code.as_slice(), code.as_slice());
-    assert_eq!(rt; placed.at.as_slice(), [BASE, Addr(0x4000_102c)].as_slice());
+    assert_eq!(rt; placed.at.as_slice(), [BASE, Addr(0x4000_1010)].as_slice());
     assert_eq!(rt; placed.ranges.as_slice(), [range].as_slice());
+    Ok(())
+}
+
+// A word and a Jump to the third piece, and two that jump to the second.
+fn three_jumps(alloc: Global) -> Result<Vec<Piece>, AllocError>
+    ensures { IfOk result (λ pieces. ArePieces pieces.items) }
+{
+    let first = vec![in alloc; Item::Word(0xa), Item::Jump(PieceNo(2))]?;
+    let second = vec![in alloc; Item::Word(0xb), Item::Jump(PieceNo(1))]?;
+    let third = vec![in alloc; Item::Word(0xc), Item::Jump(PieceNo(1))]?;
+    let pieces = vec![in alloc;
+        Piece { items: first },
+        Piece { items: second },
+        Piece { items: third },
+    ]?;
+    Ok(pieces)
+}
+
+#[test]
+fn the_target_of_a_jump_comes_next(rt: HostRuntime) -> Result<(), Fail> {
+    let pieces = three_jumps(rt.alloc())?;
+    let Ok(placed) = place(rt.alloc(), &pieces, BASE, 16) else {
+        return Err(Fail::from("memory"));
+    };
+    assert_eq!(rt;
+        placed.code.as_slice(),
+        [0xa, 0xc, 0xb, 0x30bf_ffff].as_slice()
+    );
+    assert_eq!(rt;
+        placed.at.as_slice(),
+        [BASE, Addr(0x4000_1008), Addr(0x4000_1004)].as_slice()
+    );
+    Ok(())
+}
+
+// A Jump past so many words, which end in no Jump.
+fn jump_past(alloc: Global, count: usize) -> Result<Vec<Piece>, AllocError>
+    requires few { count ≤ 2 ^ 22 }
+    ensures { IfOk result (λ pieces. ArePieces pieces.items) }
+{
+    let first = vec![in alloc; Item::Jump(PieceNo(2))]?;
+    let second = vec![in alloc; Item::Word(0x0100_0000); count]?;
+    let third = vec![in alloc; Item::Word(0x0100_0000)]?;
+    let pieces = vec![in alloc;
+        Piece { items: first },
+        Piece { items: second },
+        Piece { items: third },
+    ]?;
+    Ok(pieces)
+}
+
+// The first word of the code, and how many there are.
+fn first_and_count(alloc: Global, count: usize) -> Result<(u32, usize), Fail>
+    requires few { count ≤ 2 ^ 22 }
+{
+    let pieces = jump_past(alloc, count)?;
+    let Ok(placed) = place(alloc, &pieces, BASE, 0x3fff_0000) else {
+        return Err(Fail::from("memory"));
+    };
+    let first = placed.code.first().copied().ok_or("a word")?;
+    Ok((first, placed.code.len()))
+}
+
+#[test]
+fn the_longest_short_jump(rt: HostRuntime) -> Result<(), Fail> {
+    assert_eq!(rt;
+        first_and_count(rt.alloc(), 2_097_150)?,
+        (0x309f_ffff, 2_097_152)
+    );
+    Ok(())
+}
+
+#[test]
+fn the_shortest_long_jump(rt: HostRuntime) -> Result<(), Fail> {
+    assert_eq!(rt;
+        first_and_count(rt.alloc(), 2_097_151)?,
+        (0xc220_3000, 2_097_156)
+    );
     Ok(())
 }

@@ -1,14 +1,36 @@
-use Rattle.std.proofs.Common.{arith}
-use Rattle.layout.proofs.Laying.{code_bytes, lays}
+use Rattle.std.proofs.Common.{◌≡◌, ◌*◌, length, IfOk}
+use Rattle.layout.specs.Forms.{offset}
+use Rattle.layout.specs.Emitting.{forms_in, FitsIn, IsPut}
+use Rattle.layout.proofs.Whole.{all_laid, room_is}
 use Rattle.layout.proofs.placing.place.Goals as goal
 
-pub returns-in-Ok-clause-laid : goal.returns-in-Ok-clause-laid
-returns-in-Ok-clause-laid c =
-    lays c.args.pieces.now c.args.base.0 c.in-Ok.placed c.in-Ok.ensures c.requires.pieces.marked c.requires.aligned
-    (omega (arith, c.requires.low, c.if-needed-room.false, c.words_of-needed.ensures.value))
+pub returns-clause-laid : goal.returns-clause-laid
+returns-clause-laid c =
+    let e : c.deref.result.now ≡ c.in-Ok.formed.listing.entries.items = c.deref.ensures.value in
+    let s : c.deref-2.result.now ≡ c.in-Ok.formed.listing.starts.items = c.deref-2.ensures.value in
+    let f : c.deref-3.result.now ≡ c.in-Ok.formed.forms.items = c.deref-3.ensures.value in
+    let put : IfOk c.put_within.result (IsPut c.args.base.0 c.in-Ok.formed.listing.entries.items
+    c.in-Ok.formed.listing.starts.items
+    (forms_in c.in-Ok.formed.forms.items)) = rw (e, s, f) at c.put_within.ensures.put in
+    let fits : FitsIn c.put_within.result (4 * offset c.in-Ok.formed.listing.entries.items (forms_in
+    c.in-Ok.formed.forms.items)
+    (length c.in-Ok.formed.listing.entries.items)) c.args.room = rw (e, f) at c.put_within.ensures.room in
+    all_laid c.args.pieces.now c.args.base.0 c.args.room c.in-Ok.formed.listing.entries.items
+    c.in-Ok.formed.listing.starts.items
+    c.in-Ok.formed.forms.items c.in-Ok.ensures c.requires.pieces c.requires.aligned c.requires.low c.put_within.result
+    put fits
 
-pub returns-in-Ok-clause-room : goal.returns-in-Ok-clause-room
-returns-in-Ok-clause-room c = (
-  code_bytes c.args.pieces.now c.args.base.0 c.in-Ok.placed c.in-Ok.ensures,
-  omega (arith, c.if-needed-room.false, c.words_of-needed.ensures.value),
-)
+pub returns-clause-room : goal.returns-clause-room
+returns-clause-room c =
+    let e : c.deref.result.now ≡ c.in-Ok.formed.listing.entries.items = c.deref.ensures.value in
+    let s : c.deref-2.result.now ≡ c.in-Ok.formed.listing.starts.items = c.deref-2.ensures.value in
+    let f : c.deref-3.result.now ≡ c.in-Ok.formed.forms.items = c.deref-3.ensures.value in
+    let put : IfOk c.put_within.result (IsPut c.args.base.0 c.in-Ok.formed.listing.entries.items
+    c.in-Ok.formed.listing.starts.items
+    (forms_in c.in-Ok.formed.forms.items)) = rw (e, s, f) at c.put_within.ensures.put in
+    let fits : FitsIn c.put_within.result (4 * offset c.in-Ok.formed.listing.entries.items (forms_in
+    c.in-Ok.formed.forms.items)
+    (length c.in-Ok.formed.listing.entries.items)) c.args.room = rw (e, f) at c.put_within.ensures.room in
+    room_is c.args.pieces.now c.args.base.0 c.args.room c.in-Ok.formed.listing.entries.items
+    c.in-Ok.formed.listing.starts.items
+    c.in-Ok.formed.forms.items c.in-Ok.ensures c.put_within.result put fits

@@ -1,0 +1,589 @@
+-- What was made is a layout.
+use Rattle.std.proofs.Common.{◌≡◌, ℕ, zero, suc, ◌+◌, ◌-◌, ◌*◌, ◌%◌, ◌^◌, ◌<◌, ◌≤◌, ◌⊎◌, inl, inr, Bool, true, false, List, [], ◌∷◌, ◌++◌, length, map, slice_get, slice_index, Option, Some, None, refl, ap, sym, ◌∙◌, subst, append_assoc, arith}
+use Rattle.std.specs.Prelude.{if◌then◌else◌}
+use Rattle.std.specs.Option.{option_map}
+use Rattle.std.proofs.lemmas.Bool.{cases_lt, eqb-true}
+use Rattle.std.proofs.lemmas.List.{length-append, length-map}
+use Rattle.eel_base.specs.declared.numbers.Addr.{Addr}
+use Rattle.eel_base.specs.declared.numbers.PieceNo.{PieceNo}
+use Rattle.elf32_sparc.specs.Notes.{NoteRange}
+use Rattle.layout.specs.declared.items.Item.{Item}
+use Rattle.layout.specs.declared.items.Item.TheVariants as it
+use Rattle.layout.specs.declared.items.Placed.{Placed}
+use Rattle.layout.specs.declared.entries.Entry.{Entry}
+use Rattle.layout.specs.declared.entries.Entry.TheVariants as en
+use Rattle.layout.specs.Laid.{Placement, placement_of, note_range, item_at, size_of, range_in, range_of, open_in, is_jump, AllLead, LeadsBelow, AllMarked, AreMarked, Ascend, IsLaid, IsPlaceIn, Stands, Lays}
+use Rattle.layout.specs.Order.{compact_order, exit_at, jump_to}
+use Rattle.layout.specs.Laying.{IsWhole}
+use Rattle.layout.specs.Forms.{Forms, entries_in, entries_from, entries_of, far, leads_next, offset, start_of, target, width}
+use Rattle.layout.specs.Compact.{IsCompact}
+use Rattle.layout.specs.Emitting.{address_of, addresses, entry_code, far_of, has_condition, or_zero, target_offset, ranges_from, IsMade}
+use Rattle.layout.proofs.Laying.{exits_lead, follows, item_is, whole_is}
+use Rattle.layout.proofs.Listed.{items_at, from_append, split_at, start_at, before_absent}
+use Rattle.layout.proofs.Widening.{offset_more, rises}
+use Rattle.layout.proofs.Emitted.{near_enough}
+use Rattle.layout.proofs.Standing.{code_length, has_code, item_stands, GoesTo, IsNextAt, IsNearTo}
+use Rattle.layout.proofs.Ranging.{seen, AreStill, piece_ranges, seen_both, count_more, order_ascends, order_finds, AllOf, all_then, one_of, piece_made}
+
+differ : false ≡ true → ⊥
+differ e = cc
+
+-- ---- lists
+
+get_rest : (xs ys : List Entry) (j : ℕ) → slice_get (xs ++ ys) (length xs + j) ≡ slice_get ys j
+get_rest [] ys j = ap (slice_get ys) (let e : 0 + j ≡ j = omega arith in e)
+get_rest (x ∷ xs) ys j =
+    ap (slice_get (x ∷ (xs ++ ys))) (let e : suc (length xs) + j ≡ suc (length xs + j) = omega arith in e)
+    ∙ get_rest xs ys j
+
+get_item : (items : List Item) (ys : List Entry) (n : ℕ) (x : Item) → slice_get items n ≡ Some x
+    → slice_get (map en.Item items ++ ys) n ≡ Some (en.Item x)
+get_item [] ys n x e = absurd (cc)
+get_item (y ∷ items) ys zero x e = let f : y ≡ x = cc in ap (λ (z : Item). Some (en.Item z)) f
+get_item (y ∷ items) ys (suc n) x e = get_item items ys n x e
+
+get_behind : (items : List Item) (ys : List Entry) → slice_get (map en.Item items ++ ys) (length items) ≡ slice_get ys 0
+get_behind [] ys = refl
+get_behind (y ∷ items) ys = get_behind items ys
+
+get_within : (items : List Item) (n : ℕ) → n < length items → (x : Item) × (slice_get items n ≡ Some x)
+get_within [] n l = absurd (omega arith)
+get_within (x ∷ items) zero l = (x, refl)
+get_within (x ∷ items) (suc n) l = get_within items n (omega arith)
+
+pub get_low : (xs : List Item) (n : ℕ) (x : Item) → slice_get xs n ≡ Some x → n < length xs
+get_low [] n x e = absurd (cc)
+get_low (y ∷ ys) zero x e = omega arith
+get_low (y ∷ ys) (suc n) x e = let f = get_low ys n x e in omega arith
+
+pub size_is : (pieces : List (List Item)) (k : ℕ) → size_of pieces k ≡ length (items_at pieces k)
+size_is [] k = refl
+size_is (items ∷ pieces) zero = refl
+size_is (items ∷ pieces) (suc k) = size_is pieces k
+
+pub piece_at : (pieces : List (List Item)) (k n : ℕ) (x : Item) → item_at pieces k n ≡ Some x
+    → (k < length pieces) × (slice_get pieces k ≡ Some (items_at pieces k))
+piece_at [] k n x e = absurd (cc)
+piece_at (items ∷ pieces) zero n x e = (omega arith, refl)
+piece_at (items ∷ pieces) (suc k) n x e = let h = piece_at pieces k n x e in (omega (arith, h.0), h.1)
+
+marked_at : (pieces : List (List Item)) → AllMarked pieces → (k : ℕ) → AreMarked false (items_at pieces k)
+marked_at [] h k = tt
+marked_at (items ∷ pieces) h zero = h 0
+marked_at (items ∷ pieces) h (suc k) = marked_at pieces (λ k. h (suc k)) k
+
+no_jump : (o : Option Item) → is_jump o ≡ false → jump_to o ≡ None
+no_jump None e = refl
+no_jump (Some (it.Word w)) e = refl
+no_jump (Some (it.Jump k)) e = absurd (differ (sym e))
+no_jump (Some (it.Branch c k)) e = refl
+no_jump (Some (it.Mark a n)) e = refl
+no_jump (Some it.EndMark) e = refl
+
+-- ---- where entries stand
+
+module _ (pieces : List (List Item)) (leads : AllLead pieces) where
+  whole : IsWhole pieces (compact_order pieces)
+  whole = whole_is pieces (exits_lead pieces leads)
+
+  -- a piece in the order, and what is before and behind it
+  record IsAt (k : ℕ) : Type 0 where
+    before : List ℕ
+    after : List ℕ
+    order : compact_order pieces ≡ before ++ k ∷ after
+    start : start_of (entries_of pieces) k ≡ length (entries_from pieces before)
+    entries : entries_of pieces ≡ entries_from pieces before ++ (en.Start (record { 0 = k }) ∷ (map en.Item (items_at
+        pieces k) ++ entries_from pieces after))
+
+  start_is : (k : ℕ) (before after : List ℕ) → compact_order pieces ≡ before ++ k ∷ after
+      → start_of (entries_of pieces) k ≡ length (entries_from pieces before)
+  start_is k before after e =
+      ap (λ (xs : List ℕ). start_of (entries_from pieces xs) k) e
+      ∙ start_at pieces before after k (before_absent pieces (compact_order pieces) before after k whole e)
+
+  is_at : (k : ℕ) (before after : List ℕ) → compact_order pieces ≡ before ++ k ∷ after → IsAt k
+  is_at k before after e = record {
+    before = before;
+    after = after;
+    order = e;
+    start = start_is k before after e;
+    entries = ap (entries_from pieces) e ∙ from_append pieces before (k ∷ after);
+  }
+
+  piece_is_at : (k : ℕ) → k < length pieces → IsAt k
+  piece_is_at k l = let s = split_at (compact_order pieces) k (whole.once k l) in is_at k s.before s.after s.is
+
+  -- an entry behind a piece's start
+  entry_behind : (k : ℕ) (s : IsAt k) (n : ℕ)
+      → slice_get (entries_of pieces) (start_of (entries_of pieces) k + 1 + n)
+      ≡ slice_get (map en.Item (items_at pieces k) ++ entries_from pieces s.after) n
+  entry_behind k s n =
+      let e : start_of (entries_of pieces) k + 1 + n ≡ length (entries_from pieces s.before) + suc n = omega (
+        arith,
+        s.start,
+      ) in
+      ap (slice_get (entries_of pieces)) e
+      ∙ ap (λ (xs : List Entry). slice_get xs (length (entries_from pieces s.before) + suc n)) s.entries
+      ∙ get_rest (entries_from pieces s.before) _ (suc n)
+
+  pub entry_is : (k n : ℕ) (x : Item) → item_at pieces k n ≡ Some x
+      → slice_get (entries_of pieces) (start_of (entries_of pieces) k + 1 + n) ≡ Some (en.Item x)
+  entry_is k n x e =
+      let s = piece_is_at k (piece_at pieces k n x e).0 in
+      entry_behind k s n ∙ get_item (items_at pieces k) (entries_from pieces s.after) n x (sym (item_is pieces k n) ∙ e)
+
+  pub start_entry : (k : ℕ) → k < length pieces → slice_get (entries_of pieces) (start_of (entries_of pieces) k) ≡
+      Some (en.Start (record { 0 = k }))
+  start_entry k l =
+      let s = piece_is_at k l in
+      let e : start_of (entries_of pieces) k ≡ length (entries_from pieces s.before) + 0 = omega (arith, s.start) in
+      ap (slice_get (entries_of pieces)) e
+      ∙ ap (λ (xs : List Entry). slice_get xs (length (entries_from pieces s.before) + 0)) s.entries
+      ∙ get_rest (entries_from pieces s.before) _ 0
+
+  pub piece_inside : (k : ℕ) → k < length pieces
+      → start_of (entries_of pieces) k + 1 + length (items_at pieces k) ≤ length (entries_of pieces)
+  piece_inside k l =
+      let s = piece_is_at k l in
+      let a = ap length s.entries in
+      let b = length-append (entries_from pieces s.before) (en.Start (record { 0 = k }) ∷ (map en.Item (items_at
+      pieces k) ++ entries_from pieces s.after)) in
+      let c = length-append (map en.Item (items_at pieces k)) (entries_from pieces s.after) in
+      let d = length-map (items_at pieces k) en.Item in
+      omega (arith, a, b, c, d, s.start)
+
+  -- the piece behind another starts right behind its items
+  next_start : (k j : ℕ) (s : IsAt k) (js : List ℕ) → s.after ≡ j ∷ js
+      → start_of (entries_of pieces) j ≡ start_of (entries_of pieces) k + 1 + length (items_at pieces k)
+  next_start k j s js e =
+      let o : compact_order pieces ≡ (s.before ++ k ∷ []) ++ j ∷ js
+      = s.order ∙ ap (λ (xs : List ℕ). s.before ++ k ∷ xs) e ∙ sym (append_assoc s.before (k ∷ []) (j ∷ js)) in
+      let a = start_is j (s.before ++ k ∷ []) js o in
+      let b = ap length (from_append pieces s.before (k ∷ [])) in
+      let c = length-append (entries_from pieces s.before) (entries_from pieces (k ∷ [])) in
+      let d = length-append (entries_in k (items_at pieces k)) [] in
+      let f = length-map (items_at pieces k) en.Item in
+      omega (arith, a, b, c, d, f, s.start)
+
+  -- a Jump before the start of its piece
+  jump_next : (k n : ℕ) (x : Item) (to : PieceNo) → item_at pieces k n ≡ Some x
+      → leads_next to (slice_get (entries_of pieces) (suc (start_of (entries_of pieces) k + 1 + n))) ≡ true
+      → suc (start_of (entries_of pieces) k + 1 + n) ≡ start_of (entries_of pieces) to.0
+  jump_next k n x to e h = by (cases_lt (suc n) (length (items_at pieces k)))
+    where
+      at : k < length pieces
+      at = (piece_at pieces k n x e).0
+
+      inside : n < length (items_at pieces k)
+      inside = get_low (items_at pieces k) n x (sym (item_is pieces k n) ∙ e)
+
+      s : IsAt k
+      s = piece_is_at k at
+
+      behind : leads_next to (slice_get (map en.Item (items_at pieces k) ++ entries_from pieces s.after) (suc n)) ≡ true
+      behind =
+          let f : suc (start_of (entries_of pieces) k + 1 + n) ≡ start_of (entries_of pieces) k + 1 + suc n = omega
+          arith in
+          ap (leads_next to) (sym (entry_behind k s (suc n))) ∙ ap (λ (m : ℕ). leads_next to (slice_get (entries_of
+          pieces) m)) (sym f) ∙ h
+
+      first : (after : List ℕ) → s.after ≡ after → leads_next to (slice_get (entries_from pieces after) 0) ≡ true
+          → start_of (entries_of pieces) to.0 ≡ start_of (entries_of pieces) k + 1 + length (items_at pieces k)
+      first [] f g = absurd (differ g)
+      first (j ∷ js) f g =
+          let same : to.0 ≡ j = eqb-true to.0 j g in
+          ap (start_of (entries_of pieces)) same ∙ next_start k j s js f
+
+      by : (suc n < length (items_at pieces k)) ⊎ (length (items_at pieces k) ≤ suc n)
+          → suc (start_of (entries_of pieces) k + 1 + n) ≡ start_of (entries_of pieces) to.0
+      by (inl l) =
+          let y = get_within (items_at pieces k) (suc n) l in
+          absurd (differ (ap (leads_next to) (sym (get_item (items_at pieces k) (entries_from pieces s.after) (suc n)
+          y.0 y.1)) ∙ behind))
+      by (inr l) =
+          let m : suc n ≡ length (items_at pieces k) = omega (arith, inside, l) in
+          let g : leads_next to (slice_get (entries_from pieces s.after) 0) ≡ true
+          = ap (leads_next to) (sym (get_behind (items_at pieces k) (entries_from pieces s.after)))
+          ∙ ap (λ (m : ℕ). leads_next to (slice_get (map en.Item (items_at pieces k) ++ entries_from pieces s.after)
+          m)) (sym m) ∙ behind in
+          let f = first s.after refl g in
+          omega (arith, f, m)
+
+  first_after : (before after : List ℕ) (k : ℕ) → slice_get (before ++ k ∷ after) (length before) ≡ Some k
+  first_after [] after k = refl
+  first_after (j ∷ js) after k = first_after js after k
+
+  second_after : (before after : List ℕ) (k : ℕ) → slice_get (before ++ k ∷ after) (suc (length before)) ≡ slice_get
+      after 0
+  second_after [] after k = refl
+  second_after (j ∷ js) after k = second_after js after k
+
+  fall_start : (k : ℕ) → suc k < length pieces → exit_at pieces k ≡ None
+      → start_of (entries_of pieces) (suc k) ≡ start_of (entries_of pieces) k + 1 + length (items_at pieces k)
+  fall_start k l none = go s.after refl next
+    where
+      s : IsAt k
+      s = piece_is_at k (omega arith)
+
+      few : length s.before < length pieces
+      few =
+          let a = ap length s.order in
+          let b = length-append s.before (k ∷ s.after) in
+          let c = whole.len in
+          omega (arith, a, b, c)
+
+      next : slice_get s.after 0 ≡ Some (suc k)
+      next =
+          sym (second_after s.before s.after k) ∙ ap (λ (xs : List ℕ). slice_get xs (suc (length s.before))) (sym
+          s.order)
+          ∙ follows pieces (exits_lead pieces leads) k (length s.before) l none few
+          (ap (λ (xs : List ℕ). slice_get xs (length s.before)) s.order ∙ first_after s.before s.after k)
+
+      go : (after : List ℕ) → s.after ≡ after → slice_get after 0 ≡ Some (suc k)
+          → start_of (entries_of pieces) (suc k) ≡ start_of (entries_of pieces) k + 1 + length (items_at pieces k)
+      go [] e f = absurd (cc)
+      go (j ∷ js) e f =
+          let same : j ≡ suc k = some_is j (suc k) f in
+          ap (start_of (entries_of pieces)) (sym same) ∙ next_start k j s js e
+        where
+          some_is : (a b : ℕ) → Some a ≡ Some b → a ≡ b
+          some_is a b e = cc
+
+-- ---- the layout
+
+first_at : (entries : List Entry) (long : Forms) → offset entries long 0 ≡ 0
+unfolding offset
+first_at entries long = refl
+
+start_width : (long : Bool) (k : ℕ) (next : Option Entry) → width long (Some (en.Start (record { 0 = k }))) next ≡ 0
+start_width long k next = refl
+
+get_map : (f : ℕ → ℕ) (starts : List ℕ) (k : ℕ) → k < length starts
+    → slice_index (map (λ (a : Addr). a.0) (map (λ n. record { 0 = f n }) starts)) k ≡ f (slice_index starts k)
+get_map f [] k l = absurd (omega arith)
+get_map f (n ∷ starts) zero l = refl
+get_map f (n ∷ starts) (suc k) l = get_map f starts k (omega arith)
+
+get_past : (f : ℕ → ℕ) (starts : List ℕ) (k : ℕ) → length starts ≤ k
+    → slice_index (map (λ (a : Addr). a.0) (map (λ n. record { 0 = f n }) starts)) k ≡ 0
+get_past f [] k l = refl
+get_past f (n ∷ starts) zero l = absurd (omega arith)
+get_past f (n ∷ starts) (suc k) l = get_past f starts k (omega arith)
+
+module _ (pieces : List (List Item)) (leads : AllLead pieces) (marked : AllMarked pieces) (base : ℕ) (aligned : base %
+    4 ≡ 0)
+    (long : Forms) (starts : List ℕ) (p : Placed) (h : IsMade pieces base long starts p)
+    (low : base + 4 * offset (entries_of pieces) long (length (entries_of pieces)) ≤ 2 ^ 31) where
+  abbrev entries : List Entry
+  entries = entries_of pieces
+
+  abbrev placed : Placement
+  placed = placement_of p.code.items p.at.items p.ranges.items
+
+  abbrev at : ℕ → ℕ
+  at n = base + 4 * offset (entries_of pieces) long n
+
+  abbrev place : ℕ → ℕ → ℕ
+  place k n = base + 4 * offset (entries_of pieces) long (start_of (entries_of pieces) k + 1 + n)
+
+  up : (n : ℕ) → at n ≤ at (suc n)
+  up n = let r = rises entries long n (suc n) (omega arith) in omega (arith, r)
+
+  pub size : length p.code.items ≡ offset (entries_of pieces) long (length (entries_of pieces))
+  size = ap length h.emitted.is ∙ code_length base entries long (length (entries_of pieces))
+
+  at_is : placed.at ≡ map (λ (a : Addr). a.0) (addresses base entries long starts)
+  at_is = ap (map (λ (a : Addr). a.0)) h.at
+
+  ranges_are : placed.ranges ≡ seen (ranges_from (address_of base entries long) 0 None entries)
+  ranges_are = ap (map note_range) h.ranges
+
+  start_value : (k : ℕ) → k < length pieces → slice_index placed.at k ≡ base + 4 * offset (entries_of pieces) long
+      (start_of (entries_of pieces) k)
+  start_value k l =
+      let c = h.count in
+      let m : k < length starts = omega (arith, c, l) in
+      ap (λ (z : List ℕ). slice_index z k) at_is ∙ get_map (address_of base entries long) starts k m
+      ∙ ap (address_of base entries long) (h.listing.are k m)
+
+  -- a start takes no word
+  start_still : (k : ℕ) → k < length pieces → offset (entries_of pieces) long (start_of (entries_of pieces) k + 1 + 0)
+      ≡ offset (entries_of pieces) long (start_of (entries_of pieces) k)
+  start_still k l =
+      let s = start_of entries k in
+      let e : start_of entries k + 1 + 0 ≡ suc (start_of entries k) = omega arith in
+      let m = offset_more entries long s in
+      let w : width (long s) (slice_get entries s) (slice_get entries (suc s)) ≡ 0
+      = ap (λ (x : Option Entry). width (long s) x (slice_get entries (suc s))) (start_entry pieces leads k l) in
+      ap (offset entries long) e ∙ omega (arith, m, w)
+
+  starts_are : (k : ℕ) → k < length pieces → slice_index placed.at k ≡ place k 0
+  starts_are k l = let e = start_still k l in let v = start_value k l in omega (arith, e, v)
+
+  offset_low : (n : ℕ) → n ≤ length (entries_of pieces) → base + 4 * offset (entries_of pieces) long n ≤ 2 ^ 31
+  offset_low n l = let r = rises entries long n (length (entries_of pieces)) l in omega (arith, r, low)
+
+  start_low : (k : ℕ) → (slice_index placed.at k % 4 ≡ 0) × (slice_index placed.at k ≤ 2 ^ 31)
+  start_low k = go (cases_lt k (length pieces))
+    where
+      go : (k < length pieces) ⊎ (length pieces ≤ k) → (slice_index placed.at k % 4 ≡ 0) × (slice_index placed.at k ≤
+          2 ^ 31)
+      go (inl l) =
+          let v = start_value k l in
+          let i = piece_inside pieces leads k l in
+          let w = offset_low (start_of entries k) (omega (arith, i)) in
+          (omega (arith, v, aligned), omega (arith, v, w))
+      go (inr l) =
+          let c = h.count in
+          let v : slice_index placed.at k ≡ 0 = ap (λ (z : List ℕ). slice_index z k) at_is
+          ∙ get_past (address_of base entries long) starts k (omega (arith, c, l)) in
+          (omega (arith, v), omega (arith, v))
+
+  within : (k n : ℕ) → k < length pieces → n ≤ size_of pieces k → IsPlaceIn base placed (place k n)
+  within k n l m =
+      let i = piece_inside pieces leads k l in
+      let z = size_is pieces k in
+      let r = rises entries long (start_of entries k + 1 + n) (length (entries_of pieces)) (omega (arith, i, z, m)) in
+      let s = size in
+      record { begins = omega arith; ends = omega (arith, r, s); aligned = omega (arith, aligned) }
+
+  next_is : (k n : ℕ) → start_of (entries_of pieces) k + 1 + suc n ≡ suc (start_of (entries_of pieces) k + 1 + n)
+  next_is k n = omega arith
+
+  abbrev entry_no : ℕ → ℕ → ℕ
+  entry_no k n = start_of (entries_of pieces) k + 1 + n
+
+  -- the words before the piece to which an item leads
+  abbrev goal_words : ℕ → ℕ → ℕ
+  goal_words k n = or_zero (target_offset (entries_of pieces) long (start_of (entries_of pieces) k + 1 + n))
+
+  goal_is : (k n : ℕ) (x : Item) (o : Option ℕ) → item_at pieces k n ≡ Some x → target (Some (en.Item x)) ≡ o
+      → goal_words k n ≡ or_zero (option_map (offset entries long) (option_map (start_of entries) o))
+  goal_is k n x o e t =
+      ap (λ (y : Option Entry). or_zero (option_map (offset entries long) (option_map (start_of entries) (target y))))
+      (entry_is pieces leads k n x e)
+      ∙ ap (λ (o : Option ℕ). or_zero (option_map (offset entries long) (option_map (start_of entries) o))) t
+
+  leads_to : (k n : ℕ) (x : Item) → item_at pieces k n ≡ Some x → LeadsBelow (length pieces) (Some x)
+  leads_to k n x e = subst (LeadsBelow (length pieces)) e (leads k n)
+
+  goes : (k n : ℕ) (x : Item) → item_at pieces k n ≡ Some x → GoesTo base placed x (goal_words k n)
+  goes k n (it.Word w) e = tt
+  goes k n (it.Jump to) e =
+      let g = goal_is k n (it.Jump to) (Some to.0) e refl in
+      let v = start_value to.0 (leads_to k n (it.Jump to) e) in
+      omega (arith, g, v)
+  goes k n (it.Branch c to) e =
+      let g = goal_is k n (it.Branch c to) (Some to.0) e refl in
+      let v = start_value to.0 (leads_to k n (it.Branch c to) e) in
+      omega (arith, g, v)
+  goes k n (it.Mark a m) e = tt
+  goes k n it.EndMark e = tt
+
+  goal_low : (k n : ℕ) (x : Item) → item_at pieces k n ≡ Some x → base + 4 * goal_words k n ≤ 2 ^ 31
+  goal_low k n (it.Word w) e = let g = goal_is k n (it.Word w) None e refl in omega (arith, g, low)
+  goal_low k n (it.Jump to) e =
+      let g = goal_is k n (it.Jump to) (Some to.0) e refl in
+      let i = piece_inside pieces leads to.0 (leads_to k n (it.Jump to) e) in
+      let w = offset_low (start_of entries to.0) (omega (arith, i)) in
+      omega (arith, g, w)
+  goal_low k n (it.Branch c to) e =
+      let g = goal_is k n (it.Branch c to) (Some to.0) e refl in
+      let i = piece_inside pieces leads to.0 (leads_to k n (it.Branch c to) e) in
+      let w = offset_low (start_of entries to.0) (omega (arith, i)) in
+      omega (arith, g, w)
+  goal_low k n (it.Mark a m) e = let g = goal_is k n (it.Mark a m) None e refl in omega (arith, g, low)
+  goal_low k n it.EndMark e = let g = goal_is k n it.EndMark None e refl in omega (arith, g, low)
+
+  step : (k n : ℕ) (x : Item) → item_at pieces k n ≡ Some x
+      → offset (entries_of pieces) long (start_of (entries_of pieces) k + 1 + suc n)
+      ≡ offset (entries_of pieces) long (start_of (entries_of pieces) k + 1 + n)
+      + width (long (entry_no k n)) (Some (en.Item x)) (slice_get (entries_of pieces) (suc (entry_no k n)))
+  step k n x e =
+      let a = ap (offset entries long) (next_is k n) in
+      let b = offset_more entries long (entry_no k n) in
+      let c = ap (λ (z : Option Entry). width (long (entry_no k n)) z (slice_get entries (suc (entry_no k n))))
+      (entry_is pieces leads k n x e) in
+      omega (arith, a, b, c)
+
+  -- a Jump takes no word where its target starts right behind it
+  here : (k n : ℕ) (to : PieceNo) → item_at pieces k n ≡ Some (it.Jump to)
+      → leads_next to (slice_get (entries_of pieces) (suc (entry_no k n))) ≡ true
+      → offset (entries_of pieces) long (start_of (entries_of pieces) k + 1 + n) ≡ goal_words k n
+  here k n to e b =
+      let j = ap (offset entries long) (jump_next pieces leads k n (it.Jump to) to e b) in
+      let m = offset_more entries long (entry_no k n) in
+      let c = ap (λ (z : Option Entry). width (long (entry_no k n)) z (slice_get entries (suc (entry_no k n))))
+      (entry_is pieces leads k n (it.Jump to) e) in
+      let w : width (long (entry_no k n)) (Some (en.Item (it.Jump to))) (slice_get entries (suc (entry_no k n))) ≡ 0
+      = ap (λ (z : Bool). if z then 0 else (if long (entry_no k n) then 4 else 1)) b in
+      let g = goal_is k n (it.Jump to) (Some to.0) e refl in
+      omega (arith, j, m, c, w, g)
+
+  nexts : (k n : ℕ) (x : Item) → item_at pieces k n ≡ Some x
+      → IsNextAt base placed x (slice_get (entries_of pieces) (suc (entry_no k n))) (offset (entries_of pieces) long
+      (start_of (entries_of pieces) k + 1 + n)) (goal_words k n)
+  nexts k n (it.Word w) e = tt
+  nexts k n (it.Jump to) e = here k n to e
+  nexts k n (it.Branch c to) e = tt
+  nexts k n (it.Mark a m) e = tt
+  nexts k n it.EndMark e = tt
+
+  near : (k n : ℕ) (to : ℕ) → target (slice_get (entries_of pieces) (entry_no k n)) ≡ Some to
+      → long (entry_no k n) ≡ false
+      → far (offset (entries_of pieces) long (start_of (entries_of pieces) k + 1 + n)) (goal_words k n) ≡ false
+  near k n to t short =
+      let o : target_offset entries long (entry_no k n) ≡ Some (offset entries long (start_of entries to))
+      = ap (λ (o : Option ℕ). option_map (offset entries long) (option_map (start_of entries) o)) t in
+      let f = near_enough entries long (entry_no k n) h.widened.none_left short in
+      ap (λ (m : Option ℕ). far (offset entries long (entry_no k n)) (or_zero m)) o
+      ∙ ap (far_of (offset entries long (entry_no k n))) (sym o) ∙ f
+
+  nears : (k n : ℕ) (x : Item) → item_at pieces k n ≡ Some x
+      → IsNearTo base placed x (long (entry_no k n)) (offset (entries_of pieces) long (start_of (entries_of pieces) k
+      + 1 + n)) (goal_words k n)
+  nears k n (it.Word w) e = tt
+  nears k n (it.Jump to) e = near k n to.0 (ap target (entry_is pieces leads k n (it.Jump to) e))
+  nears k n (it.Branch c to) e = near k n to.0 (ap target (entry_is pieces leads k n (it.Branch c to) e))
+  nears k n (it.Mark a m) e = tt
+  nears k n it.EndMark e = tt
+
+  items : (k n : ℕ) (x : Item) → item_at pieces k n ≡ Some x → Stands base placed x (place k n) (place k (suc n))
+  items k n x e =
+      let i = piece_inside pieces leads k (piece_at pieces k n x e).0 in
+      let g = get_low (items_at pieces k) n x (sym (item_is pieces k n) ∙ e) in
+      let l : start_of (entries_of pieces) k + 1 + n < length (entries_of pieces) = omega (arith, i, g) in
+      let t = step k n x e in
+      item_stands base placed x (slice_get entries (suc (entry_no k n))) (long (entry_no k n)) (offset entries long
+      (entry_no k n)) (goal_words k n)
+      (place k n) (place k (suc n)) refl (omega (arith, t)) (offset_low (entry_no k n) (omega (arith, l))) (goal_low k
+      n x e)
+      (ap has_condition (sym (entry_is pieces leads k n x e)) ∙ h.emitted.conditions (entry_no k n) l)
+      (goes k n x e) (nexts k n x e) (nears k n x e)
+      (λ j w f. ap (λ (ws : List ℕ). slice_get ws (offset entries long (entry_no k n) + j)) h.emitted.is
+      ∙ has_code base entries long (length (entries_of pieces)) (entry_no k n) l j w
+      (ap (λ (z : Option Entry). slice_get (entry_code base (long (entry_no k n)) (offset entries long (entry_no k n))
+      (goal_words k n) z (slice_get entries (suc (entry_no k n)))) j) (entry_is pieces leads k n x e) ∙ f))
+
+  falls : (k : ℕ) → suc k < length pieces → is_jump (item_at pieces k (size_of pieces k - 1)) ≡ false
+      → place k (size_of pieces k) ≡ place (suc k) 0
+  falls k l j =
+      let z = size_is pieces k in
+      let none : exit_at pieces k ≡ None
+      = ap jump_to (sym (item_is pieces k (length (items_at pieces k) - 1))
+      ∙ ap (λ (m : ℕ). item_at pieces k (m - 1)) (sym z))
+      ∙ no_jump (item_at pieces k (size_of pieces k - 1)) j in
+      let f = ap (offset entries long) (fall_start pieces leads k l none) in
+      let g = start_still (suc k) l in
+      let y = ap (λ (m : ℕ). offset entries long (start_of entries k + 1 + m)) z in
+      omega (arith, f, g, y)
+
+  -- Marks take no room
+  mark_still : (k n : ℕ) (x : Item) → item_at pieces k n ≡ Some x
+      → ((long : Bool) (next : Option Entry) → width long (Some (en.Item x)) next ≡ 0) → place k (suc n) ≡ place k n
+  mark_still k n x e w =
+      let t = step k n x e in
+      let z = w (long (entry_no k n)) (slice_get entries (suc (entry_no k n))) in
+      omega (arith, t, z)
+
+  still_from : (k : ℕ) (xs : List Item) (i : ℕ) → ((j : ℕ) (x : Item) → slice_get xs j ≡ Some x
+      → item_at pieces k (i + j) ≡ Some x)
+      → AreStill (place k) i xs
+  still_from k [] i are = tt
+  still_from k (it.Word w ∷ xs) i are = still_from k xs (suc i) (λ j x e. on k i j x (are (suc j) x e))
+    where
+      on : (k i j : ℕ) (x : Item) → item_at pieces k (i + suc j) ≡ Some x → item_at pieces k (suc i + j) ≡ Some x
+      on k i j x e = ap (item_at pieces k) (let f : suc i + j ≡ i + suc j = omega arith in f) ∙ e
+  still_from k (it.Jump to ∷ xs) i are = still_from k xs (suc i) (λ j x e. on k i j x (are (suc j) x e))
+    where
+      on : (k i j : ℕ) (x : Item) → item_at pieces k (i + suc j) ≡ Some x → item_at pieces k (suc i + j) ≡ Some x
+      on k i j x e = ap (item_at pieces k) (let f : suc i + j ≡ i + suc j = omega arith in f) ∙ e
+  still_from k (it.Branch c to ∷ xs) i are = still_from k xs (suc i) (λ j x e. on k i j x (are (suc j) x e))
+    where
+      on : (k i j : ℕ) (x : Item) → item_at pieces k (i + suc j) ≡ Some x → item_at pieces k (suc i + j) ≡ Some x
+      on k i j x e = ap (item_at pieces k) (let f : suc i + j ≡ i + suc j = omega arith in f) ∙ e
+  still_from k (it.Mark a m ∷ xs) i are = (
+    mark_still k i (it.Mark a m) (ap (item_at pieces k) (let f : i ≡ i + 0 = omega arith in f)
+        ∙ are 0 (it.Mark a m) refl) (λ long next. refl),
+    still_from k xs (suc i) (λ j x e. on k i j x (are (suc j) x e)),
+  )
+    where
+      on : (k i j : ℕ) (x : Item) → item_at pieces k (i + suc j) ≡ Some x → item_at pieces k (suc i + j) ≡ Some x
+      on k i j x e = ap (item_at pieces k) (let f : suc i + j ≡ i + suc j = omega arith in f) ∙ e
+  still_from k (it.EndMark ∷ xs) i are = (
+    mark_still k i it.EndMark (ap (item_at pieces k) (let f : i ≡ i + 0 = omega arith in f)
+        ∙ are 0 it.EndMark refl) (λ long next. refl),
+    still_from k xs (suc i) (λ j x e. on k i j x (are (suc j) x e)),
+  )
+    where
+      on : (k i j : ℕ) (x : Item) → item_at pieces k (i + suc j) ≡ Some x → item_at pieces k (suc i + j) ≡ Some x
+      on k i j x e = ap (item_at pieces k) (let f : suc i + j ≡ i + suc j = omega arith in f) ∙ e
+
+  items_are : (k j : ℕ) (x : Item) → slice_get (items_at pieces k) j ≡ Some x → item_at pieces k (0 + j) ≡ Some x
+  items_are k j x e = ap (item_at pieces k) (let f : 0 + j ≡ j = omega arith in f) ∙ item_is pieces k j ∙ e
+
+  still : (k : ℕ) → AreStill (place k) 0 (items_at pieces k)
+  still k = still_from k (items_at pieces k) 0 (items_are k)
+
+  ranges : (k n a : ℕ) (x : Item) → item_at pieces k n ≡ Some x → place k n ≤ a → a < place k (suc n)
+      → range_in placed.ranges a ≡ range_of (place k) (open_in (slice_get pieces k) n)
+  ranges k n a x e l m =
+      let q = piece_at pieces k n x e in
+      let s = piece_is_at pieces leads k q.0 in
+      ap (λ (rs : List NoteRange). range_in rs a) ranges_are
+      ∙ ap (λ (xs : List ℕ). range_in (seen (ranges_from (address_of base entries long) 0 None (entries_from pieces
+      xs))) a) s.order
+      ∙ order_finds at up pieces (marked_at pieces marked) s.before s.after 0 (start_of entries k) k n a x
+      (let st = s.start in omega (arith, st)) (still k) (sym (item_is pieces k n) ∙ e) l m
+      ∙ ap (λ (o : Option (List Item)). range_of (place k) (open_in o n)) (sym q.1)
+
+  end_is : base + 4 * length p.code.items ≡ base + 4 * offset (entries_of pieces) long (length (entries_of pieces))
+  end_is = let s = size in omega (arith, s)
+
+  ascend : Ascend base (base + 4 * length placed.code) placed.ranges
+  ascend =
+      let first : base + 4 * offset (entries_of pieces) long 0 ≡ base = (let f = first_at entries long in omega
+      (arith, f)) in
+      subst (Ascend base (base + 4 * length placed.code)) (sym ranges_are)
+      (subst (λ (z : ℕ). Ascend z (base + 4 * length placed.code) (seen (ranges_from (address_of base entries long) 0
+      None entries))) first
+      (subst (λ (z : ℕ). Ascend (base + 4 * offset (entries_of pieces) long 0) z (seen (ranges_from (address_of base
+      entries long) 0 None entries))) (sym end_is)
+      (order_ascends at up pieces (marked_at pieces marked) (compact_order pieces) 0 (length (entries_of pieces))
+      (omega arith))))
+
+  order_made : (ks before : List ℕ) (c : ℕ) → compact_order pieces ≡ before ++ ks
+      → c ≡ length (entries_from pieces before)
+      → AllOf pieces place (seen (ranges_from at c None (entries_from pieces ks)))
+  order_made [] before c o e = tt
+  order_made (k ∷ ks) before c o e =
+      let same : start_of (entries_of pieces) k ≡ c = start_is pieces leads k before ks o ∙ sym e in
+      let n = count_more at up pieces (marked_at pieces marked) k [] in
+      let f = ap length (from_append pieces before (k ∷ [])) in
+      let g = length-append (entries_from pieces before) (entries_from pieces (k ∷ [])) in
+      subst (AllOf pieces place) (sym (seen_both at up pieces (marked_at pieces marked) c k ks))
+      (all_then pieces place (seen (piece_ranges (λ n. at (c + 1 + n)) 0 None (items_at pieces k))) _
+      (subst (λ (z : ℕ). AllOf pieces place (seen (piece_ranges (λ n. at (z + 1 + n)) 0 None (items_at pieces k)))) same
+      (piece_made pieces place (items_at pieces k) k 0 None (items_are k) (still k) tt))
+      (order_made ks (before ++ k ∷ []) (c + 1 + length (items_at pieces k))
+      (o ∙ sym (append_assoc before (k ∷ []) ks)) (omega (arith, n, f, g, e))))
+
+  pub laid : IsLaid pieces base placed place
+  laid = record {
+    low = (let e = end_is in omega (arith, e, low));
+    count = length-map p.at.items (λ (a : Addr). a.0) ∙ ap length h.at
+        ∙ length-map starts (λ n. record { 0 = address_of base entries long n }) ∙ h.count;
+    starts = starts_are;
+    aligned = start_low;
+    items = items;
+    falls = falls;
+    within = within;
+    ranges = ranges;
+    ascend = ascend;
+    marks = λ n r e. one_of pieces place (seen (ranges_from at 0 None entries)) n r
+        (order_made (compact_order pieces) [] 0 refl refl) (ap (λ (rs : List NoteRange). slice_get rs n) (sym
+        ranges_are) ∙ e);
+  }
+
+  pub lays : Lays IsCompact pieces base placed
+  lays = (place, laid, record { long = long; widened = h.widened; places = λ k n l m. refl })

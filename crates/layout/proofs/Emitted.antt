@@ -1,0 +1,78 @@
+-- The words of one entry more.
+use Rattle.std.proofs.Common.{◌≡◌, ℕ, suc, ◌+◌, ◌*◌, ◌^◌, ◌<◌, ◌≤◌, ◌⊎◌, inl, inr, Bool, true, false, List, [], ◌++◌, length, slice_get, is_some, IfSome, Option, None, Some, refl, ap, sym, ◌∙◌, add-one, arith}
+use Rattle.std.specs.Option.{option_map}
+use Rattle.std.proofs.lemmas.Bool.{cases_lt, cases_Bool}
+use Rattle.layout.specs.declared.entries.Entry.{Entry}
+use Rattle.layout.specs.Forms.{Forms, far_from, goal_of, is_far, offset, start_of, NoneLeft}
+use Rattle.layout.specs.Emitting.{code_at, code_to, entry_code, far_of, has_condition, target_offset, IsEmitted, IsListing}
+use Rattle.layout.proofs.Widening.{rises}
+
+differ : false ≡ true → ⊥
+differ e = cc
+
+code_none : (base : ℕ) (entries : List Entry) (long : Forms) → code_to base entries long 0 ≡ []
+unfolding code_to
+code_none base entries long = refl
+
+pub code_more : (base : ℕ) (entries : List Entry) (long : Forms) (n : ℕ)
+    → code_to base entries long (suc n) ≡ code_to base entries long n ++ code_at base entries long n
+unfolding code_to
+code_more base entries long n = refl
+
+pub emitted_none : (base : ℕ) (entries : List Entry) (long : Forms) → IsEmitted base entries long [] 0
+emitted_none base entries long = record {
+  is = sym (code_none base entries long);
+  conditions = λ k l. absurd (omega
+      arith);
+}
+
+pub emitted_more : (base : ℕ) (entries : List Entry) (long : Forms) (code new : List ℕ) (n : ℕ)
+    → IsEmitted base entries long code n
+    → new ≡ code ++ code_at base entries long n → has_condition (slice_get entries n) ≡ true
+    → IsEmitted base entries long new (n + 1)
+emitted_more base entries long code new n h e c = rw add-one record {
+  is = e ∙ ap (λ (xs : List ℕ). xs ++ code_at base entries long n) h.is ∙ sym (code_more base entries long n);
+  conditions = λ k l. conditions k l (cases_lt k n);
+}
+  where
+    conditions : (k : ℕ) → k < suc n → (k < n) ⊎ (n ≤ k) → has_condition (slice_get entries k) ≡ true
+    conditions k l (inl u) = h.conditions k u
+    conditions k l (inr u) = let s : k ≡ n = omega arith in ap (λ (k : ℕ). has_condition (slice_get entries k)) s ∙ c
+
+-- what is short is near
+pub near_enough : (entries : List Entry) (long : Forms) (n : ℕ) → NoneLeft entries long → long n ≡ false
+    → far_of (offset entries long n) (target_offset entries long n) ≡ false
+near_enough entries long n none short = by (goal_of entries n) (not_far (cases_Bool (is_far entries long n)))
+  where
+    not_far : (is_far entries long n ≡ true) ⊎ (is_far entries long n ≡ false) → is_far entries long n ≡ false
+    not_far (inl t) = absurd (differ (sym short ∙ none n t))
+    not_far (inr f) = f
+
+    by : (o : Option ℕ) → far_from entries long n o ≡ false → far_of (offset entries long n) (option_map (offset
+        entries long) o) ≡ false
+    by None f = refl
+    by (Some m) f = f
+
+pub some_both : (entries : List Entry) (long : Forms) (o : Option ℕ)
+    → is_some o ≡ is_some (option_map (offset entries long) (option_map (start_of entries) o))
+some_both entries long None = refl
+some_both entries long (Some k) = refl
+
+pub target_low : (base : ℕ) (entries : List Entry) (starts : List ℕ) (long : Forms) → IsListing entries starts
+    → base + 4 * offset entries long (length entries) ≤ 2 ^ 31 → (o : Option ℕ) → IfSome o (λ k. k < length starts)
+    → IfSome (option_map (offset entries long) (option_map (start_of entries) o)) (λ to. base + 4 * to < 2 ^ 32)
+target_low base entries starts long h low None l = tt
+target_low base entries starts long h low (Some k) l =
+    let i = h.inside k l in
+    let e = h.are k l in
+    let r = rises entries long (start_of entries k) (length entries) (omega (arith, i, e)) in
+    omega arith
+
+pub code_as : (base : ℕ) (old new : List ℕ) (long : Bool) (from a to b : ℕ) (x y next later : Option Entry)
+    → from ≡ a → to ≡ b → x ≡ y → next ≡ later
+    → new ≡ old ++ entry_code base long from to x next → new ≡ old ++ entry_code base long a b y later
+code_as base old new long from a to b x y next later d e f g h =
+    h ∙ ap (λ (a : ℕ). old ++ entry_code base long a to x next) d ∙ ap (λ (b : ℕ). old ++ entry_code base long a b x
+    next) e
+    ∙ ap (λ (y : Option Entry). old ++ entry_code base long a b y next) f
+    ∙ ap (λ (z : Option Entry). old ++ entry_code base long a b y z) g

@@ -1,0 +1,121 @@
+-- One pass that widens all that are out of reach.
+use Rattle.std.proofs.Common.{◌≡◌, ℕ, zero, suc, ◌+◌, ◌-◌, ◌<◌, ◌≤◌, ◌⊎◌, inl, inr, Bool, true, false, cond, ◌||◌, List, [], ◌∷◌, ◌++◌, length, get_or, replicate, count_by, Option, refl, ap, sym, ◌∙◌, arith}
+use Rattle.std.specs.Option.{option_map}
+use Rattle.std.proofs.lemmas.Bool.{cases_lt}
+use Rattle.std.proofs.lemmas.List.Sums.{sum_by-cons}
+use Rattle.std.proofs.lemmas.Option.{slice_get_past}
+use Rattle.std.proofs.lemmas.List.{length-append, get_or_push, get_or_append_left, get_or_past}
+use Rattle.layout.specs.declared.entries.Entry.{Entry}
+use Rattle.layout.specs.Forms.{Forms, start_of, target, far_from, is_far, IsWidened}
+use Rattle.layout.specs.Emitting.{forms_in, AreWider}
+use Rattle.layout.proofs.Widening.{IsWidening, widening_none, widening_all, widening_ends}
+
+differ : false ≡ true → ⊥
+differ e = cc
+
+pub wider_more : (entries : List Entry) (forms wide : List Bool) (n : ℕ) (x : Bool) → AreWider entries forms wide n
+    → x ≡ (get_or forms n false || is_far entries (forms_in forms) n) → AreWider entries forms (wide ++ x ∷ []) (n + 1)
+wider_more entries forms wide n x h e = record {
+  len = let y = length-append wide (x ∷ []) in omega (arith, y, h.len);
+  each = λ k l. each k l (cases_lt k n);
+}
+  where
+    each : (k : ℕ) → k < n + 1 → (k < n) ⊎ (n ≤ k) → get_or (wide ++ x ∷ []) k false ≡ (get_or forms k false || is_far
+        entries (forms_in forms) k)
+    each k l (inl u) = get_or_append_left wide (x ∷ []) false k (omega (arith, h.len)) ∙ h.each k u
+    each k l (inr u) =
+        let s : k ≡ n = omega arith in
+        let t : length wide ≡ k = h.len ∙ sym s in
+        get_or_push wide x false k t ∙ e ∙ ap (λ (k : ℕ). get_or forms k false || is_far entries (forms_in forms) k)
+        (sym s)
+
+-- past the entries none is out of reach
+not_far : (entries : List Entry) (long : Forms) (n : ℕ) → length entries ≤ n → is_far entries long n ≡ false
+not_far entries long n l =
+    ap (λ (o : Option Entry). far_from entries long n (option_map (start_of entries) (target o))) (slice_get_past
+    entries n l)
+
+pub wider_all : (entries : List Entry) (forms wide : List Bool) → length forms ≡ length entries
+    → AreWider entries forms wide (length forms) → (n : ℕ) → forms_in wide n ≡ (forms_in forms n || is_far entries
+    (forms_in forms) n)
+wider_all entries forms wide e h n = go (cases_lt n (length forms))
+  where
+    go : (n < length forms) ⊎ (length forms ≤ n) → forms_in wide n ≡ (forms_in forms n || is_far entries (forms_in
+        forms) n)
+    go (inl l) = h.each n l
+    go (inr l) =
+        let a : get_or wide n false ≡ false = get_or_past wide n false (omega (arith, h.len)) in
+        let b : get_or forms n false ≡ false = get_or_past forms n false l in
+        let c : is_far entries (forms_in forms) n ≡ false = not_far entries (forms_in forms) n (omega arith) in
+        rw (a, b, c) refl
+
+or_left : (a b : Bool) → a ≡ true → (a || b) ≡ true
+or_left a b e = ap (λ (x : Bool). x || b) e
+
+counted : (x : Bool) (xs : List Bool) → count_by (λ b. b) (x ∷ xs) ≡ cond x 1 0 + count_by (λ b. b) xs
+counted x xs = sum_by-cons (λ (b : Bool). cond b 1 0) x xs
+
+-- marks that only get more are the same, or more
+pub same_or_more : (xs ys : List Bool) → length xs ≡ length ys → ((k : ℕ) → get_or xs k false ≡ true
+    → get_or ys k false ≡ true)
+    → (xs ≡ ys) ⊎ (count_by (λ b. b) xs < count_by (λ b. b) ys)
+same_or_more [] [] e h = inl refl
+same_or_more [] (y ∷ ys) e h = absurd (omega arith)
+same_or_more (x ∷ xs) [] e h = absurd (omega arith)
+same_or_more (x ∷ xs) (y ∷ ys) e h = go x y (h 0) (same_or_more xs ys (omega arith) (λ k. h (suc k)))
+  where
+    go : (x y : Bool) → (x ≡ true → y ≡ true) → (xs ≡ ys) ⊎ (count_by (λ b. b) xs < count_by (λ b. b) ys)
+        → (x ∷ xs ≡ y ∷ ys) ⊎ (count_by (λ b. b) (x ∷ xs) < count_by (λ b. b) (y ∷ ys))
+    go true true h (inl s) = inl (ap (λ (zs : List Bool). true ∷ zs) s)
+    go true true h (inr l) = inr (omega (arith, l, counted true xs, counted true ys))
+    go true false h s = absurd (differ (h refl))
+    go false true h (inl s) = inr (omega (arith, ap (count_by (λ b. b)) s, counted false xs, counted true ys))
+    go false true h (inr l) = inr (omega (arith, l, counted false xs, counted true ys))
+    go false false h (inl s) = inl (ap (λ (zs : List Bool). false ∷ zs) s)
+    go false false h (inr l) = inr (omega (arith, l, counted false xs, counted false ys))
+
+none_in : (n k : ℕ) → get_or (replicate n false) k false ≡ false
+none_in zero k = refl
+none_in (suc n) zero = refl
+none_in (suc n) (suc k) = none_in n k
+
+pub count_none : (n : ℕ) → 0 ≡ count_by (λ b. b) (replicate n false)
+count_none zero = refl
+count_none (suc n) = let x = counted false (replicate n false) in let y = count_none n in omega (arith, x, y)
+
+pub widening_first : (entries : List Entry) (n : ℕ) → IsWidening entries (forms_in (replicate n false))
+widening_first entries n = widening_none entries (forms_in (replicate n false)) (none_in n)
+
+pub widening_pass : (entries : List Entry) (forms wide : List Bool) → length forms ≡ length entries
+    → AreWider entries forms wide (length forms) → IsWidening entries (forms_in forms)
+    → IsWidening entries (forms_in wide)
+widening_pass entries forms wide e h w = widening_all entries (forms_in forms) (forms_in wide) w (wider_all entries
+    forms wide e h)
+
+pub pass_counts : (entries : List Entry) (forms wide : List Bool) → length forms ≡ length entries
+    → AreWider entries forms wide (length forms) → (forms ≡ wide) ⊎ (count_by (λ b. b) forms < count_by (λ b. b) wide)
+pass_counts entries forms wide e h =
+    same_or_more forms wide (sym h.len) (λ k l. wider_all entries forms wide e h k
+    ∙ or_left (get_or forms k false) (is_far entries (forms_in forms) k) l)
+
+-- a pass that leaves the count has left the forms, which are then the least
+pub widening_last : (entries : List Entry) (forms wide : List Bool) → length forms ≡ length entries
+    → AreWider entries forms wide (length forms) → IsWidening entries (forms_in forms)
+    → count_by (λ b. b) wide ≡ count_by (λ b. b) forms → IsWidened entries (forms_in forms)
+widening_last entries forms wide e h w c = go (pass_counts entries forms wide e h)
+  where
+    go : (forms ≡ wide) ⊎ (count_by (λ b. b) forms < count_by (λ b. b) wide) → IsWidened entries (forms_in forms)
+    go (inl s) = widening_ends entries (forms_in forms) w (λ n. ap (λ (xs : List Bool). get_or xs n false) s
+        ∙ wider_all entries forms wide e h n)
+    go (inr l) = absurd (omega arith)
+
+-- a pass that changes the count has fewer left to widen
+pub pass_smaller : (entries : List Entry) (forms wide : List Bool) (long count : ℕ) → length forms ≡ length entries
+    → AreWider entries forms wide (length forms) → long ≡ count_by (λ b. b) forms → count ≡ count_by (λ b. b) wide
+    → count ≤ length wide → (count ≡ long → ⊥) → length entries - count < length entries - long
+pass_smaller entries forms wide long count e h a b l n = go (pass_counts entries forms wide e h)
+  where
+    go : (forms ≡ wide) ⊎ (count_by (λ b. b) forms < count_by (λ b. b) wide)
+        → length entries - count < length entries - long
+    go (inl s) = absurd (n (b ∙ ap (count_by (λ b. b)) (sym s) ∙ sym a))
+    go (inr m) = omega (arith, h.len)

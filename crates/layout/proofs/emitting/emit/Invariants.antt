@@ -1,0 +1,5 @@
+use Rattle.layout.specs.Emitting.{forms_in, IsEmitted}
+use Rattle.layout.proofs.emitting.emit.Given as goal
+
+abbrev pub invariant-loop-n : goal.invariant-loop-n
+invariant-loop-n l = IsEmitted l.base l.entries (forms_in l.forms) l.code.items l.n

@@ -1,0 +1,10 @@
+use Rattle.std.proofs.Common.{◌≡◌}
+use Rattle.layout.specs.Forms.{offset}
+use Rattle.layout.specs.Emitting.{forms_in, AreOffsets}
+use Rattle.layout.proofs.forms.offsets.Given as goal
+
+abbrev pub invariant-loop-n : goal.invariant-loop-n
+invariant-loop-n l = record {
+  here : l.here ≡ offset l.entries (forms_in l.forms) l.n;
+  so_far : AreOffsets l.entries (forms_in l.forms) l.at.items l.n;
+}

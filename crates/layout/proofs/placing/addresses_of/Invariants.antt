@@ -1,0 +1,7 @@
+use Rattle.std.proofs.Common.{◌≡◌, take}
+use Rattle.layout.specs.Emitting.{addresses, forms_in}
+use Rattle.layout.proofs.placing.addresses_of.Given as goal
+
+abbrev pub invariant-loop-start : goal.invariant-loop-start
+invariant-loop-start l = l.addresses.items ≡ addresses l.base.0 l.entries (forms_in l.forms) (take l.start-index
+    l.starts)
