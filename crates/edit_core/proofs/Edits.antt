@@ -203,7 +203,7 @@ tool_few tools.Script = omega arith
 module _ (original : List ℕ) (plan : Plan) (limit : length original ≤ 2 ^ 26) (can : CanEdit original plan)
     (work : CanDo original plan) (p : Placement) (place : ℕ → ℕ → ℕ) (table : TableAt)
     (code : IsNewCode original plan p place table)
-    (fit : AreFit (text_of original plan) (graph_in original plan) plan.snips (pieces_of original plan)) where
+    (fit : AreFit (text_of original plan) (graph_in original plan) plan.snips (pieces_of original plan code.dead)) where
   text_is : IsText (text_of original plan)
   text_is = image_text original can.sound
 
@@ -212,7 +212,7 @@ module _ (original : List ℕ) (plan : Plan) (limit : length original ≤ 2 ^ 26
 
   code_some : 0 < length p.code
   code_some = some_code (text_of original plan) (graph_in original plan) (table_base original plan)
-      (codes_of (cells_base original plan) plan.snips) text_is graph_is
+      (codes_of (cells_base original plan) code.dead plan.snips) text_is graph_is
       (code_base original plan) p place code.laid
 
   abbrev cells : AddedSegment
@@ -322,12 +322,12 @@ module _ (original : List ℕ) (plan : Plan) (limit : length original ≤ 2 ^ 26
         below = each_all (WorksBelow plan.cells) plan.snips (λ k d l. (work.good k d l).below);
         ranges = refl;
         range_count =
-            let marks = ranges_few (pieces_of original plan) (code_base original plan) p place code.laid in
+            let marks = ranges_few (pieces_of original plan code.dead) (code_base original plan) p place code.laid in
             let few = fit.marks in
             omega arith;
         ascend = code.laid.ascend;
         whole = ranges_whole (text_of original plan) (graph_in original plan) (table_base original plan)
-            (codes_of (cells_base original plan) plan.snips) text_is graph_is
+            (codes_of (cells_base original plan) code.dead plan.snips) text_is graph_is
             (code_base original plan) p place code.laid;
       }
 

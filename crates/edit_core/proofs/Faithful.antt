@@ -1,5 +1,5 @@
 -- An edit is faithful.
-use Rattle.std.proofs.Common.{◌≡◌, ℕ, zero, suc, ◌+◌, ◌*◌, ◌^◌, ◌<◌, ◌≤◌, Bool, true, cond, List, [], ◌∷◌, ◌++◌, length, map, slice_index, Some, None, refl, ap, sym, ◌∙◌, arith, All}
+use Rattle.std.proofs.Common.{◌≡◌, ℕ, zero, suc, ◌+◌, ◌*◌, ◌^◌, ◌<◌, ◌≤◌, Bool, true, cond, List, [], ◌∷◌, ◌++◌, length, map, slice_index, Some, None, refl, ap, sym, ◌∙◌, subst, arith, All}
 use Rattle.std.specs.Prelude.{slice_get}
 use Rattle.std.specs.List.{list_any}
 use Rattle.std.proofs.lemmas.Bool.{le-leb, lt-ltb}
@@ -9,6 +9,7 @@ use Rattle.eel_base.specs.CodeText.{IsText, address_of, word_at}
 use Rattle.elf32_sparc.specs.Image.{image_of}
 use Rattle.elf32_sparc.specs.Mapping.{Mapping, mappings}
 use Rattle.elf32_sparc.specs.Notes.{NoteRange, NoteSegment}
+use Rattle.v8_decode.specs.declared.Part.{Part}
 use Rattle.elf32_write.specs.Headers.{AddedSegment}
 use Rattle.elf32_write.specs.Laws.{AreBytes, kept, mapping_added}
 use Rattle.cfg_blocks.specs.Blocks.{holding_of}
@@ -16,12 +17,14 @@ use Rattle.cfg_normal.specs.declared.Edge.{Edge}
 use Rattle.cfg_normal.specs.Graph.{Graph}
 use Rattle.cfg_walk.proofs.Addresses.{word_at-address}
 use Rattle.cfg_walk.proofs.Lists.{Each, each, each-append}
+use Rattle.liveness.specs.Live.{named_on}
 use Rattle.addr_translate.specs.Lookup.{TableAt}
 use Rattle.layout.specs.Laid.{Placement, IsWordAt}
 use Rattle.image_code.specs.Parts.{IsGraphOf}
 use Rattle.image_code.specs.Fit.{AreFit, PlacesSay}
 use Rattle.image_code.specs.Parts.{codes_of}
 use Rattle.tool_kit.specs.Plans.{Plan}
+use Rattle.edit_core.specs.Dead.{AreDead}
 use Rattle.edit_core.specs.Taken.{CanEdit}
 use Rattle.edit_core.specs.Faithful.{editor_page, page_size, IsFaithful, HasGraph, HasPages, IsInRoom, IsPlace, holds_cells, note_edges, note_of, word_mapped}
 use Rattle.edit_core.specs.Written.{CanDo, IsNewCode, IsEdit, EditsRunAlike, added, cells_at, cells_base, if_any, text_of, given_of, graph_in, table_base, code_base, pieces_of, off_range, off_ranges, table_at, code_segment, page_segment, notes_on, edit_file}
@@ -101,7 +104,7 @@ module _ (original : List ℕ) (plan : Plan) (p : Placement) (place : ℕ → �
           record { start = code_base original plan; length = 4 * length p.code }
           ∷ record { start = editor_page; length = page_size } ∷ []
 
-  has_pages : AreFit (text_of original plan) (graph_in original plan) plan.snips (pieces_of original plan)
+  has_pages : AreFit (text_of original plan) (graph_in original plan) plan.snips (pieces_of original plan is.code.dead)
       → HasPages original plan file (notes_on original plan p)
   has_pages fit =
       let few = fit.bytes in
@@ -137,7 +140,7 @@ module _ (original : List ℕ) (plan : Plan) (p : Placement) (place : ℕ → �
       ∙ word_here original plan word l in
       let at : IsWordAt (code_base original plan) p.code r.lo (slice_index (text_of original plan).words word) =
       say (text_of original plan) (graph_in original plan) (table_base original plan)
-      (codes_of (cells_base original plan) plan.snips) (code_base original plan) p place text_is is_graph
+      (codes_of (cells_base original plan) is.code.dead plan.snips) (code_base original plan) p place text_is is_graph
       is.code.laid n r e word here plain in
       let inside = slice_get_within p.code at.0 (slice_index (text_of original plan).words word) at.2 in
       let base = is.code.base in
@@ -167,24 +170,28 @@ module _ (original : List ℕ) (plan : Plan) (p : Placement) (place : ℕ → �
       (each_index (IsPlace original file) p.ranges (place_is say)))
 
 pub faithful : EditsRunAlike → PlacesSay → (original : List ℕ) (plan : Plan)
-    → AreFit (text_of original plan) (graph_in original plan) plan.snips (pieces_of original plan)
+    → ((dead : ℕ → List Part)
+    → AreFit (text_of original plan) (graph_in original plan) plan.snips (pieces_of original plan dead))
     → length original ≤ 2 ^ 26 → AreBytes original → CanEdit original plan → CanDo original plan
     → (p : Placement) (place : ℕ → ℕ → ℕ) (table : TableAt) → IsNewCode original plan p place table
     → IsFaithful original plan (edit_file original plan p table)
 faithful alike say original plan fit limit bytes can work p place table code =
-    let is = is_edit original plan limit can work p place table code fit bytes in
+    let is = is_edit original plan limit can work p place table code (fit code.dead) bytes in
     record {
       notes = notes_on original plan p;
       whole = record {
         loads = is.loads;
         reads = is.reads;
         size = refl;
-        holds = (holds original plan limit can work p place table code fit).holds;
-        small = small_file original plan limit can work p place table code fit bytes;
+        holds = (holds original plan limit can work p place table code (fit code.dead)).holds;
+        small = small_file original plan limit can work p place table code (fit code.dead) bytes;
       };
       graph = has_graph original plan p;
-      pages = has_pages original plan p place table (edit_file original plan p table) is fit;
+      pages = has_pages original plan p place table (edit_file original plan p table) is (fit is.code.dead);
       places = places_are original plan p place table (edit_file original plan p table) is say;
+      dead = is.code.dead;
+      exact = subst (λ (g : Graph). AreDead (text_of original plan) g (named_on plan.snips) is.code.dead)
+          (sym (view_graph original plan)) is.code.exact;
       runs = alike original plan p place table (edit_file original plan p table) is;
       counters = work.counters;
     }

@@ -1,5 +1,6 @@
 -- The induction over the steps of the original.
-use Rattle.std.proofs.Common.{◌≡◌, ℕ, zero, suc, ◌+◌, ◌-◌, ◌<◌, ◌≤◌, ◌⊎◌, inl, inr, Option, Some, None, List, [], ◌++◌, append-nil, refl, ap, sym, ◌∙◌, subst, arith}
+use Rattle.std.proofs.Common.{◌≡◌, ◌≢◌, ℕ, zero, suc, ◌+◌, ◌-◌, ◌<◌, ◌≤◌, ◌⊎◌, inl, inr, Option, Some, None, List, [], ◌++◌, append-nil, refl, ap, sym, ◌∙◌, subst, arith}
+use Rattle.eel_base.specs.CodeText.{word_at}
 use Rattle.elf32_sparc.specs.Notes.{node_at}
 use Rattle.v8_decode.specs.declared.Instr.{Instr}
 use Rattle.v8_memory.specs.Regions.{Memory, Region, fetch_of}
@@ -25,9 +26,10 @@ use Rattle.cfg_walk.proofs.Walks.{walks_match}
 use Rattle.code_runs.proofs.Leads.{run_add, puts_add, split_below}
 use Rattle.code_runs.specs.PointsAlike.{AreAlikeOn, AreAtOnePoint, instr_of}
 use Rattle.code_runs.proofs.PointsAlike.{points_act_alike}
-use Rattle.image_code.specs.Simulates.{Setting, cells_in, StepsOn, IsFollowedBy, at_point, does_at, graph_in, number_in, word_of, updates, store_of}
+use Rattle.image_code.specs.Simulates.{IsFollowedBy, IsKept, IsSparing, Setting, StepsOn, at_point, cells_in, does_at, graph_in, number_in, store_of, updates, word_of}
 use Rattle.edit_core.specs.RunsAlike.{EndsAtNode}
-use Rattle.edit_core.specs.Runs.{Linked, Closed, AreTogether, Rests, Follows, Tells, StaysInside, instr_in, limits_in}
+use Rattle.edit_core.specs.Runs.{AreTogether, Closed, Follows, Linked, Rests, Spares, StaysInside, Tells, instr_in, limits_in}
+use Rattle.edit_core.proofs.Stays.{ended_stays}
 
 -- ---- small things
 
@@ -110,13 +112,15 @@ one_point s u h =
 
 -- ---- one step
 
-pub record IsNext (g : Setting) (entry : ℕ) (Here : Node → Point → State → Type 0) (Kept : List ℕ → ℕ → Item → Type 0)
+pub record IsNext (g : Setting) (entry : ℕ) (Here : Node → Point → State → Type 0) (Short : Type 0)
     (s0 t0 : State) (n m : ℕ) : Type 0 where
   pub alike : AreAlikeOn (pages_of g.notes) (word_of g.text (run s0 n).pc) (run s0 n)
       (at_point (point_of (run s0 n)) (run t0 m))
       (run s0 (suc n)) (does_at g (point_of (run s0 n)) (run t0 m))
-  pub on : StepsOn g Here Kept (gone_in g.text (graph_in g) entry s0 n) (end_of_walk g.text (graph_in g) entry s0 n)
+  pub on : StepsOn g Here Short (gone_in g.text (graph_in g) entry s0 n) (end_of_walk g.text (graph_in g) entry s0 n)
       (point_of (run s0 n)) (run t0 m) (does_at g (point_of (run s0 n)) (run t0 m))
+  -- also where it ends the run
+  pub pc : (run s0 (suc n)).pc ≡ (does_at g (point_of (run s0 n)) (run t0 m)).pc
 
 -- how far both runs have come, up to step `last`
 pub data Reached (g : Setting) (entry : ℕ) (Here : Node → Point → State → Type 0) (K : ℕ → Item → Type 0)
@@ -126,8 +130,7 @@ pub data Reached (g : Setting) (entry : ℕ) (Here : Node → Point → State �
   past : (m : ℕ) → last < n → Reached g entry Here K s0 t0 last n
 
 module _ (g : Setting) (entry : ℕ) (Inside : Point → Type 0) (Here : Node → Point → State → Type 0)
-    (Kept : List ℕ → ℕ → Item → Type 0)
-    (K : ℕ → Item → Type 0) (s0 t0 : State) (r : Rests g entry Inside Here Kept K s0 t0) where
+    (Short : Type 0) (K : ℕ → Item → Type 0) (s0 t0 : State) (r : Rests g entry Inside Here Short K s0 t0) where
   fetched : (n : ℕ) → fetch_of (run s0 n).memory (run s0 n).pc ≡ word_of g.text (run s0 n).pc
   fetched n = code_stays.1 s0 n (run s0 n).pc ∙ r.fetches (run s0 n).pc
 
@@ -156,7 +159,7 @@ module _ (g : Setting) (entry : ℕ) (Inside : Point → Type 0) (Here : Node �
 
   pub next_of : (n m : ℕ) → Linked g entry Here K s0 t0 n m
       → AllApart (pages_of g.notes) (judged_in (run s0 n) (instr_at (run s0 n))) → Inside (point_of (run s0 n))
-      → ((run s0 (suc n)).ending ≡ None → Inside (point_of (run s0 (suc n)))) → IsNext g entry Here Kept s0 t0 n m
+      → ((run s0 (suc n)).ending ≡ None → Inside (point_of (run s0 (suc n)))) → IsNext g entry Here Short s0 t0 n m
   next_of n m h apart within inside =
       let visits = r.simulates.visits _ _ _
       (walks_match g.text g.given entry s0 n r.text r.fetches r.begins h.live) within h.here in
@@ -172,7 +175,7 @@ module _ (g : Setting) (entry : ℕ) (Inside : Point → Type 0) (Here : Node �
       (record { pc = refl; npc = refl; slot = refl })
       (world_moved (pages_of g.notes) (run s0 n) (run t0 m) (point_of (run s0 n)) h.together.world)
       (λ item is d. same_moved item (run s0 n) (run t0 m) (point_of (run s0 n))
-      (h.items item is (r.keeping.reads n item is d))) judged in
+      (h.items item is (r.keeping.reads n item is h.live d))) judged in
       let b : AreAlikeOn (pages_of g.notes) (word_of g.text (run s0 n).pc) (run s0 n)
       (at_point (point_of (run s0 n)) (run t0 m))
       (run s0 (suc n)) (does_at g (point_of (run s0 n)) (run t0 m)) =
@@ -180,7 +183,7 @@ module _ (g : Setting) (entry : ℕ) (Inside : Point → Type 0) (Here : Node �
       (at_point (point_of (run s0 n)) (run t0 m)) z (does_at g (point_of (run s0 n)) (run t0 m))) (sym stepped) a in
       record {
         alike = b;
-        on = subst (λ (z : Option Point). StepsOn g Here Kept
+        on = subst (λ (z : Option Point). StepsOn g Here Short
             (gone g.text (graph_in g) (end_of_walk g.text (graph_in g) entry s0 n) (point_of (run s0 n)) z)
             (end_of_walk g.text (graph_in g) entry s0 n) (point_of (run s0 n)) (run t0 m)
             (does_at g (point_of (run s0 n)) (run t0 m)))
@@ -192,13 +195,30 @@ module _ (g : Setting) (entry : ℕ) (Inside : Point → Type 0) (Here : Node �
             (λ live. let on : (run s0 (suc n)).ending ≡ None = b.ending
             ∙ live in subst Inside (one_point (run s0 (suc n)) (does_at g (point_of (run s0 n)) (run t0 m))
             (b.point on)) (inside on)));
+        pc = pc_by (run s0 (suc n)).ending refl stepped visits.0 b;
       }
+    where
+      pc_by : (e : Option Ending) → (run s0 (suc n)).ending ≡ e
+          → run s0 (suc n) ≡ on_word (run s0 n) (word_of g.text (run s0 n).pc) → (run t0 m).ending ≡ None
+          → AreAlikeOn (pages_of g.notes) (word_of g.text (run s0 n).pc) (run s0 n)
+          (at_point (point_of (run s0 n)) (run t0 m))
+          (run s0 (suc n)) (does_at g (point_of (run s0 n)) (run t0 m))
+          → (run s0 (suc n)).pc ≡ (does_at g (point_of (run s0 n)) (run t0 m)).pc
+      pc_by None e stepped other b = (b.point e).pc
+      pc_by (Some d) e stepped other b =
+          let first : (on_word (run s0 n) (word_of g.text (run s0 n).pc)).ending ≡ Some d =
+          ap (λ (z : State). z.ending) (sym stepped) ∙ e in
+          let second : (does_at g (point_of (run s0 n)) (run t0 m)).ending ≡ Some d = sym b.ending ∙ e in
+          ap (λ (z : State). z.pc) stepped
+          ∙ ended_stays (run s0 n) (word_of g.text (run s0 n).pc) h.live (λ none. absurd (cc))
+          ∙ sym (ended_stays (at_point (point_of (run s0 n)) (run t0 m)) (word_of g.text (run s0 n).pc) other
+          (λ none. absurd (cc)))
 
   -- where the written file is after the step
-  arrived : (n m : ℕ) (x : IsNext g entry Here Kept s0 t0 n m) → run t0 (x.on.count + m) ≡ x.on.after
+  arrived : (n m : ℕ) (x : IsNext g entry Here Short s0 t0 n m) → run t0 (x.on.count + m) ≡ x.on.after
   arrived n m x = run_add t0 m x.on.count ∙ x.on.path.steps
 
-  puts_next : (n m : ℕ) → Linked g entry Here K s0 t0 n m → (x : IsNext g entry Here Kept s0 t0 n m) (descriptor : ℕ)
+  puts_next : (n m : ℕ) → Linked g entry Here K s0 t0 n m → (x : IsNext g entry Here Short s0 t0 n m) (descriptor : ℕ)
       → run_puts s0 (suc n) descriptor ≡ run_puts t0 (x.on.count + m) descriptor
   puts_next n m h x descriptor =
       ap (λ z. z ++ puts_of (run s0 n) descriptor) (h.together.puts descriptor)
@@ -207,7 +227,7 @@ module _ (g : Setting) (entry : ℕ) (Inside : Point → Type 0) (Here : Node �
       ∙ sym (x.on.puts descriptor))
       ∙ sym (puts_add t0 m x.on.count descriptor)
 
-  world_next : (n m : ℕ) (x : IsNext g entry Here Kept s0 t0 n m)
+  world_next : (n m : ℕ) (x : IsNext g entry Here Short s0 t0 n m)
       → IsSameWorld (pages_of g.notes) (run s0 (suc n)) (run t0 (x.on.count + m))
   world_next n m x =
       subst (λ (z : State). IsSameWorld (pages_of g.notes) (run s0 (suc n)) z) (sym (arrived n m x))
@@ -221,7 +241,7 @@ module _ (g : Setting) (entry : ℕ) (Inside : Point → Type 0) (Here : Node �
   before n m h item is (inl a) = inl a
   before n m h item is (inr a) = inr (same_moved item (run s0 n) (run t0 m) (point_of (run s0 n)) (h.items item is a))
 
-  pub linked_next : (n m : ℕ) → Linked g entry Here K s0 t0 n m → (x : IsNext g entry Here Kept s0 t0 n m)
+  pub linked_next : (n m : ℕ) → Linked g entry Here K s0 t0 n m → (x : IsNext g entry Here Short s0 t0 n m)
       → (run s0 (suc n)).ending ≡ None → Linked g entry Here K s0 t0 (suc n) (x.on.count + m)
   linked_next n m h x live =
       let v : State = does_at g (point_of (run s0 n)) (run t0 m) in
@@ -237,10 +257,10 @@ module _ (g : Setting) (entry : ℕ) (Inside : Point → Type 0) (Here : Node �
             (end_next n) (x.on.here go)));
         items = λ item is k. subst (λ (z : State). IsSameAt item (run s0 (suc n)) z) (sym at)
             (same_trans item (run s0 (suc n)) v x.on.after
-            (x.alike.items live item is (before n m h item is (r.keeping.back n item is k)))
+            (x.alike.items live item is (before n m h item is (r.keeping.back n item k)))
             (x.on.followed.items go item is
-            (subst (λ (z : ℕ). Kept (gone_in g.text (graph_in g) entry s0 n) z item) x.alike.world.window
-            (r.keeping.live n item is k))));
+            (subst (λ (z : ℕ). IsKept g (gone_in g.text (graph_in g) entry s0 n) z item) x.alike.world.window
+            (r.keeping.live n item k))));
         together = record {
           world = world_next n m x;
           puts = puts_next n m h x;
@@ -252,7 +272,38 @@ module _ (g : Setting) (entry : ℕ) (Inside : Point → Type 0) (Here : Node �
         };
       }
 
-  pub closed_next : (n m : ℕ) → Linked g entry Here K s0 t0 n m → (x : IsNext g entry Here Kept s0 t0 n m) (d : Ending)
+  -- what its steps store and take
+  spares_next : (n m : ℕ) (x : IsNext g entry Here Short s0 t0 n m) → Spares g entry Short s0 t0 n m (x.on.count + m)
+  spares_next n m x watched =
+      let sparing = x.on.sparing (record {
+        jump = watched.jump;
+        out = watched.out;
+        inside = subst (λ (z : ℕ). word_at g.text z ≢ None) x.pc watched.inside;
+      }) in
+      let all : x.on.count ≡ x.on.count + m - m = omega arith in
+      subst (λ (z : ℕ). IsSparing g (((run s0 n).ending ≡ None) × Short) (gone_in g.text (graph_in g) entry s0 n)
+      (point_of (run s0 n)) (run t0 m) z) all
+      (record {
+        spills = sparing.spills;
+        first = λ short. sparing.first short.1;
+        alone = λ short. sparing.alone short.1;
+        few = λ short. sparing.few short.1;
+      })
+
+  -- nothing, once it has ended
+  spares_ended : (n m : ℕ) (d : Ending) → (run s0 n).ending ≡ Some d → Spares g entry Short s0 t0 n m m
+  spares_ended n m d over watched =
+      let none : 0 ≡ m - m = omega arith in
+      subst (λ (z : ℕ). IsSparing g (((run s0 n).ending ≡ None) × Short) (gone_in g.text (graph_in g) entry s0 n)
+      (point_of (run s0 n)) (run t0 m) z) none
+      (record {
+        spills = omega arith;
+        first = λ short. refl;
+        alone = λ short. absurd (let live : (run s0 n).ending ≡ None = short.0 in cc);
+        few = λ short none. omega arith;
+      })
+
+  pub closed_next : (n m : ℕ) → Linked g entry Here K s0 t0 n m → (x : IsNext g entry Here Short s0 t0 n m) (d : Ending)
       → (run s0 (suc n)).ending ≡ Some d → Closed g entry s0 t0 (suc n) (x.on.count + m) d
   closed_next n m h x d over =
       let at = arrived n m x in
@@ -297,12 +348,12 @@ module _ (g : Setting) (entry : ℕ) (Inside : Point → Type 0) (Here : Node �
     moment_of n (ends m d h) = m
     moment_of n (past m h) = m
 
-    went_by : (n m : ℕ) → Linked g entry Here K s0 t0 n m → IsNext g entry Here Kept s0 t0 n m → (e : Option Ending)
+    went_by : (n m : ℕ) → Linked g entry Here K s0 t0 n m → IsNext g entry Here Short s0 t0 n m → (e : Option Ending)
         → (run s0 (suc n)).ending ≡ e → Reached g entry Here K s0 t0 last (suc n)
     went_by n m h x None e = goes (x.on.count + m) (linked_next n m h x e)
     went_by n m h x (Some d) e = ends (x.on.count + m) d (closed_next n m h x d e)
 
-    moment_by : (n m : ℕ) (h : Linked g entry Here K s0 t0 n m) (x : IsNext g entry Here Kept s0 t0 n m)
+    moment_by : (n m : ℕ) (h : Linked g entry Here K s0 t0 n m) (x : IsNext g entry Here Short s0 t0 n m)
         (e : Option Ending)
         (is : (run s0 (suc n)).ending ≡ e) → moment_of (suc n) (went_by n m h x e is) ≡ x.on.count + m
     unfolding moment_of went_by
@@ -369,7 +420,7 @@ module _ (g : Setting) (entry : ℕ) (Inside : Point → Type 0) (Here : Node �
     cells_at n l (ends m d h) = h.together.cells
     cells_at n l (past m k) = absurd (omega arith)
 
-    way_by : (n m : ℕ) (x : IsNext g entry Here Kept s0 t0 n m)
+    way_by : (n m : ℕ) (x : IsNext g entry Here Short s0 t0 n m)
         → IsWay g.notes t0 m (x.on.count + m) (limits_in g entry s0 n)
     way_by n m x =
         let some = x.on.path.some in
@@ -408,6 +459,24 @@ module _ (g : Setting) (entry : ℕ) (Inside : Point → Type 0) (Here : Node �
     stays_at n l d over (ends m e h) = refl
     stays_at n l d over (past m k) = absurd (omega arith)
 
+    -- ---- stores
+
+    spared_on : (n m : ℕ) (h : Linked g entry Here K s0 t0 n m) → n < last → (c : (n < last) ⊎ (last ≤ n))
+        → Spares g entry Short s0 t0 n m (moment_of (suc n) (go_on n m h c))
+    unfolding go_on
+    spared_on n m h l (inl k) =
+        let x = next_of n m h (u.unjudged n k) (inside n (weaken n k) h.live) (inside (suc n) k) in
+        subst (λ (z : ℕ). Spares g entry Short s0 t0 n m z)
+        (sym (moment_by n m h x (run s0 (suc n)).ending refl)) (spares_next n m x)
+    spared_on n m h l (inr k) = absurd (omega arith)
+
+    spared_at : (n : ℕ) → n < last → (x : Reached g entry Here K s0 t0 last n)
+        → Spares g entry Short s0 t0 n (moment_of n x) (moment_of (suc n) (step n x))
+    unfolding moment_of step
+    spared_at n l (goes m h) = spared_on n m h l (split_below n last)
+    spared_at n l (ends m d h) = spares_ended n m d h.first
+    spared_at n l (past m k) = absurd (omega arith)
+
     -- ---- stops
 
     some_same : (a b : ℕ) → Some a ≡ Some b → a ≡ b
@@ -433,7 +502,7 @@ module _ (g : Setting) (entry : ℕ) (Inside : Point → Type 0) (Here : Node �
 
     -- at a visit, or past it
     told_from : (n m k : ℕ) → n ≤ last → (h : Linked g entry Here K s0 t0 n m)
-        (x : IsNext g entry Here Kept s0 t0 n m) → m ≤ k → k < x.on.count + m
+        (x : IsNext g entry Here Short s0 t0 n m) → m ≤ k → k < x.on.count + m
         → (m < k) ⊎ (k ≤ m) → Tells g entry s0 t0 n k
     told_from n m k l h x a b (inr c) =
         let e : m ≡ k = omega arith in
@@ -468,7 +537,7 @@ module _ (g : Setting) (entry : ℕ) (Inside : Point → Type 0) (Here : Node �
     between_at n k l (ends m d h) a b = absurd (omega arith)
     between_at n k l (past m i) a b = absurd (omega arith)
 
-    pub follows : Follows g entry s0 t0 last
+    pub follows : Follows g entry Short s0 t0 last
     unfolding moments reached moment_of
     follows = record {
       moments = moments;
@@ -480,6 +549,7 @@ module _ (g : Setting) (entry : ℕ) (Inside : Point → Type 0) (Here : Node �
         stays = λ n l d over. stays_at n l d over (reached n);
       };
       cells = λ n l. cells_at n l (reached n);
+      spared = λ n l. spared_at n l (reached n);
       early = λ m l. (r.early m l).2;
       told = λ n l. told_at n l (reached n);
       between = λ n m l a b. between_at n m l (reached n) a b;

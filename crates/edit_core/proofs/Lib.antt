@@ -1,4 +1,8 @@
+pub mod Stays
 pub mod Induction
+pub mod Completed
+pub mod Dead
+pub mod Kept
 pub mod Whole
 pub mod Views
 pub mod Tools

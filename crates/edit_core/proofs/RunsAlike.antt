@@ -1,6 +1,8 @@
 -- What was written of an original has runs like the original's.
 use Rattle.std.proofs.Common.{◌≡◌, ℕ, suc, ◌+◌, ◌-◌, ◌*◌, ◌%◌, ◌^◌, ◌<◌, ◌≤◌, ◌⊎◌, inl, inr, Bool, true, false, ◌&&◌, cond, nat_le, nat_lt, List, [], ◌∷◌, ◌++◌, length, map, replicate, slice_index, Option, Some, None, refl, ap, sym, ◌∙◌, subst, arith}
+use Rattle.std.specs.Prelude.{slice_get}
 use Rattle.std.specs.List.{list_any}
+use Rattle.std.proofs.lemmas.Option.{get_or_from_slice_get, slice_get_within}
 use Rattle.std.proofs.lemmas.Bool.{and_from, cases_lt, le-leb, lt-leb, or_left, or_parts, or_right}
 use Rattle.std.proofs.lemmas.Bool.Decides.{nat_tests}
 use Rattle.std.proofs.Math.Seq.{ext_get_or}
@@ -11,6 +13,9 @@ use Rattle.elf32_sparc.specs.Notes.{NoteRange, NoteSegment, holds, range_at}
 use Rattle.elf32_sparc.specs.Image.{image_of}
 use Rattle.eel_base.specs.CodeText.{IsText, word_at}
 use Rattle.eel_base.specs.declared.numbers.Addr.{Addr}
+use Rattle.v8_decode.specs.declared.Part.{Part}
+use Rattle.v8_decode.specs.Parts.{every_part, has, is_member, members, set_of}
+use Rattle.v8_decode.proofs.Marks.{same_sets}
 use Rattle.v8_step.specs.State.{State}
 use Rattle.v8_step.specs.declared.Slot.TheVariants.{NoSlot}
 use Rattle.v8_step.specs.Items.{IsSameAt, Item, Register, Codes, YRegister}
@@ -21,31 +26,36 @@ use Rattle.v8_process.specs.Arguments.{AreArguments}
 use Rattle.v8_process.specs.Start.{program_name, start_of}
 use Rattle.cfg_blocks.specs.Blocks.{below}
 use Rattle.cfg_blocks.proofs.Targets.{word_at-some}
+use Rattle.cfg_blocks.specs.declared.EdgeKind.TheVariants as kinds
+use Rattle.cfg_normal.specs.declared.Edge.{Edge}
 use Rattle.cfg_normal.specs.declared.Node.{Node}
 use Rattle.cfg_walk.specs.Matches.{FetchesOnly, BeginsAt}
-use Rattle.cfg_walk.specs.Walk.{point_of}
+use Rattle.cfg_walk.specs.Walk.{point_of, same_kind}
+use Rattle.liveness.specs.Live.{edge_at, is_call_or_jump, is_outside, is_unknown, named_on}
 use Rattle.walk_counts.proofs.Fetching.{only_text_is_fetched}
 use Rattle.walk_counts.proofs.Files.{begins, entry_is}
 use Rattle.addr_translate.specs.Lookup.{TableAt, looked_up}
 use Rattle.addr_translate.specs.Table.{size_of, target_of}
-use Rattle.layout.specs.Laid.{Ascend, IsLaid, Placement, range_in}
+use Rattle.layout.specs.Laid.{Ascend, HasShortForms, IsLaid, Placement, range_in}
 use Rattle.code_runs.specs.StoredWords.{memory_word}
-use Rattle.snippets.specs.Cells.{named_by}
 use Rattle.snippet_code.specs.Cells.{cell_at, words_at}
-use Rattle.snippet_code.specs.Words.{spills_of}
 use Rattle.tool_kit.specs.Plans.{Plan}
-use Rattle.image_code.specs.Simulates.{Setting, Simulates, snippet_on}
+use Rattle.image_code.specs.Fit.{PiecesFit}
+use Rattle.image_code.specs.Simulates.{Setting, Simulates, is_out, snippet_on}
 use Rattle.image_code.specs.Images.{AreNoted, Frame, HasCells, Here, IsPlaced, Pieces, visited_by}
 use Rattle.image_code.specs.Parts.{codes_of}
-use Rattle.image_code.specs.Cases.{Everything}
 use Rattle.image_code.specs.Made.{IsOffNoted, IsTableFor, PiecesMakeImages, landing_number, piece_list, pieces_in}
 use Rattle.image_code.specs.Outside.{IsOpen}
 use Rattle.image_code.proofs.Numbers.{cut_of}
 use Rattle.edit_core.specs.Faithful.{editor_page, page_size}
 use Rattle.edit_core.specs.Runs.{Linked, Rests}
-use Rattle.edit_core.specs.RunsAlike.{AreRunsAlike, IsAnswered, edit_of}
-use Rattle.edit_core.specs.Whole.{Answered, EveryItem}
+use Rattle.edit_core.specs.RunsAlike.{AreRunsAlike, IsAnswered, edit_of, short_bound}
+use Rattle.edit_core.specs.Taken.{bound_in}
+use Rattle.edit_core.specs.Whole.{Answered, KeptIn}
 use Rattle.edit_core.specs.Written.{EditsRunAlike, IsEdit, LeadsTo, addr, cells_base, code_base, foreign_of, given_of, graph_in, landings_of, notes_on, table_base, text_of}
+use Rattle.edit_core.proofs.Bounds.{operations_few}
+use Rattle.edit_core.proofs.Completed.{jump_kind, unknown_lives}
+use Rattle.edit_core.proofs.Kept.{keeps_what_lives}
 use Rattle.edit_core.proofs.CodeFetched.{has_code, only_code}
 use Rattle.edit_core.proofs.Faithful.{word_here}
 use Rattle.edit_core.proofs.Landings.{map_below}
@@ -57,16 +67,32 @@ use Rattle.elf32_sparc.proofs.Images.{accepted-program}
 use Rattle.edit_core.proofs.Owned.{cell_is_own, cell_zero, frame, has_table, is_framed, owned}
 use Rattle.edit_core.proofs.Ranges.{ends_by}
 use Rattle.edit_core.proofs.Starts.{file_valid, memory_alike, original_valid}
-use Rattle.edit_core.proofs.Whole.{all_is_kept, edits_answer}
+use Rattle.edit_core.proofs.Steps.{original_fit}
+use Rattle.edit_core.proofs.Views.{bound_is}
+use Rattle.edit_core.proofs.Whole.{edits_answer}
+
+-- a set that has no part
+all_live_none : (set : List Part) → set_of set ≡ set → ((part : Part) → is_member part ≡ true → has set part ≡ true → ⊥)
+    → set ≡ []
+unfolding members every_part
+all_live_none set is none = same_sets set [] is no_set (λ part member. no_part (has set part) (none part member))
+  where
+    no_set : set_of [] ≡ []
+    no_set = refl
+
+    no_part : (b : Bool) → (b ≡ true → ⊥) → b ≡ false
+    no_part true no_true = absurd (no_true refl)
+    no_part false no_true = refl
 
 -- ---- an edit
 
-abbrev setting : List ℕ → Plan → Placement → Setting
-setting original plan p = edit_of original plan (notes_on original plan p)
+abbrev setting : List ℕ → Plan → (ℕ → List Part) → Placement → Setting
+setting original plan dead p = edit_of original plan dead (notes_on original plan p)
 
-abbrev pieces : List ℕ → Plan → TableAt → Pieces
-pieces original plan table =
-    pieces_in (text_of original plan) (graph_in original plan) table.base (codes_of (cells_base original plan) plan.snips)
+abbrev pieces : List ℕ → Plan → (ℕ → List Part) → TableAt → Pieces
+pieces original plan dead table =
+    pieces_in (text_of original plan) (graph_in original plan) table.base
+    (codes_of (cells_base original plan) dead plan.snips)
 
 abbrev its_frame : List ℕ → Plan → TableAt → Frame
 its_frame original plan table = frame (cells_base original plan) plan.cells table
@@ -107,7 +133,7 @@ none_beside base p a ascend (inl below) = none_below base (base + 4 * length p.c
 none_beside base p a ascend (inr past) = none_past base (base + 4 * length p.code) a p.ranges ascend past
 
 -- what the notes say of the code, behind the table
-module _ (original : List ℕ) (plan : Plan) (p : Placement) where
+module _ (original : List ℕ) (plan : Plan) (dead : ℕ → List Part) (p : Placement) where
   abbrev size : ℕ
   size = size_of (text_of original plan)
 
@@ -149,7 +175,8 @@ module _ (original : List ℕ) (plan : Plan) (p : Placement) where
       off_table (inl below) = inl below
       off_table (inr past) = inr (omega (arith, past))
 
-  are_noted : Ascend (code_base original plan) code_end p.ranges → AreNoted (setting original plan p) (code_base original plan) p
+  are_noted : Ascend (code_base original plan) code_end p.ranges
+      → AreNoted (setting original plan dead p) (code_base original plan) p
   are_noted ascend = record {
     inside = in_code;
     ranges = λ a from to.
@@ -160,7 +187,7 @@ module _ (original : List ℕ) (plan : Plan) (p : Placement) where
   }
 
   -- the place of a slot behind the text
-  off_noted : IsText (text_of original plan) → IsOffNoted (setting original plan p) (table_base original plan)
+  off_noted : IsText (text_of original plan) → IsOffNoted (setting original plan dead p) (table_base original plan)
   off_noted text number edge at off =
       let cut = cut_of (text_of original plan) (graph_in original plan) (record { given = given_of original plan; is = refl })
       text.some in
@@ -214,7 +241,32 @@ module _ (original : List ℕ) (plan : Plan) (p : Placement) (place : ℕ → �
   cells_end_low : cell_at (cells_base original plan) plan.cells ≤ 2 ^ 31
   cells_end_low = let base = is.code.base in omega (arith, base, is.code.leads.whole.below)
 
-  cells_are : HasCells (setting original plan p) (pieces original plan table) (its_frame original plan table)
+  abbrev dead : ℕ → List Part
+  dead = is.code.dead
+
+  abbrev its : Setting
+  its = setting original plan dead p
+
+  -- nothing is dead behind the edge of a jump
+  none_dead : (edge : ℕ) → is_out (slice_get (graph_in original plan).edges edge) ≡ true → dead edge ≡ []
+  none_dead edge out = by (slice_get (graph_in original plan).edges edge) refl out
+    where
+      out_unknown : (e : Edge) → same_kind e.kind kinds.Out ≡ true → is_unknown e ≡ true
+      out_unknown e out = or_left (is_call_or_jump e.kind) (is_outside e.to) (jump_kind e.kind out)
+
+      by : (o : Option Edge) → slice_get (graph_in original plan).edges edge ≡ o → is_out o ≡ true → dead edge ≡ []
+      by None at out = absurd (cc)
+      by (Some e) at out =
+          let within = slice_get_within (graph_in original plan).edges edge e at in
+          let same : edge_at (graph_in original plan) edge ≡ e =
+          get_or_from_slice_get (graph_in original plan).edges edge e _ at in
+          let unknown : is_unknown (edge_at (graph_in original plan) edge) ≡ true =
+          ap (λ (x : Edge). is_unknown x) same ∙ out_unknown e out in
+          all_live_none (dead edge) (is.code.exact.sets edge within) (λ part member.
+          (λ gone. (is.code.exact.all edge within part member).0 gone
+          (unknown_lives (text_of original plan) (graph_in original plan) (named_on plan.snips) edge unknown part member)))
+
+  cells_are : HasCells its (pieces original plan dead table) (its_frame original plan table)
   cells_are = record {
     aligned = omega (arith, base_aligned);
     low = cells_end_low;
@@ -222,20 +274,20 @@ module _ (original : List ℕ) (plan : Plan) (p : Placement) (place : ℕ → �
     named = λ edge cell is_one.
         cells_in_range plan.cells (snippet_on plan.snips edge) (good_on plan.cells plan.snips is.workable.good edge) cell
         is_one;
-    spills = λ edge. spills_of [] (named_by (snippet_on plan.snips edge)) (snippet_on plan.snips edge);
-    does = snippet_does (cells_base original plan) plan.cells (omega (arith, base_aligned)) cells_end_low plan.snips
+    does = snippet_does (cells_base original plan) plan.cells (omega (arith, base_aligned)) cells_end_low dead plan.snips
         is.workable.good;
-    short = code_short (cells_base original plan) plan.snips;
+    jumps = none_dead;
+    short = code_short (cells_base original plan) dead plan.snips;
   }
 
-  placed : IsPlaced (setting original plan p) (pieces original plan table) (code_base original plan) p place
+  placed : IsPlaced its (pieces original plan dead table) (code_base original plan) p place
       (its_frame original plan table)
   placed = record {
     laid = subst (λ (a : ℕ). IsLaid (piece_list (text_of original plan) (graph_in original plan) a
-        (codes_of (cells_base original plan) plan.snips)) (code_base original plan) p place)
+        (codes_of (cells_base original plan) dead plan.snips)) (code_base original plan) p place)
         (sym is.code.base) is.code.laid;
-    noted = are_noted original plan p is.code.laid.ascend;
-    frame = is_framed original plan p table (setting original plan p) refl is.code.base is.code.leads.size
+    noted = are_noted original plan dead p is.code.laid.ascend;
+    frame = is_framed original plan p table its refl is.code.base is.code.leads.size
         is.code.leads.whole.below;
     cells = cells_are;
   }
@@ -246,19 +298,39 @@ module _ (original : List ℕ) (plan : Plan) (p : Placement) (place : ℕ → �
   text_is : IsText (text_of original plan)
   text_is = image_text original is.taken.sound
 
-  off_noted_here : IsOffNoted (setting original plan p) table.base
-  off_noted_here = subst (IsOffNoted (setting original plan p)) (sym is.code.base) (off_noted original plan p text_is)
+  off_noted_here : IsOffNoted its table.base
+  off_noted_here = subst (IsOffNoted its) (sym is.code.base) (off_noted original plan dead p text_is)
+
+  -- where no form is long
+  abbrev Short : Type 0
+  Short = HasShortForms (pieces original plan dead table).list place
+
+  -- as where little room is asked
+  small_short : PiecesFit → bound_in original plan ≤ short_bound → Short
+  small_short fits small =
+      let few : 4 * length p.code < short_bound = in_bound in
+      subst (λ (a : ℕ). HasShortForms (piece_list (text_of original plan) (graph_in original plan) a
+      (codes_of (cells_base original plan) dead plan.snips)) place) (sym is.code.base) (is.code.short few)
+    where
+      in_bound : 4 * length p.code < short_bound
+      in_bound =
+          let fit = original_fit fits original plan is.taken is.workable dead in
+          let bytes = fit.bytes in
+          let long = is.code.size in
+          let made = operations_few (graph_in original plan) plan.kind plan.cells plan.snips is.workable in
+          let bound = bound_is original plan in
+          omega arith
 
   simulates : PiecesMakeImages
-      → Simulates (setting original plan p) (IsOpen (setting original plan p))
-      (Here (setting original plan p) (pieces original plan table) (code_base original plan) p (its_frame original plan table)) Everything
+      → Simulates its (IsOpen its)
+      (Here its (pieces original plan dead table) (code_base original plan) p (its_frame original plan table)) Short
   simulates make =
       let base = is.code.base in
-      make (setting original plan p) (codes_of (cells_base original plan) plan.snips) (code_base original plan) p place
+      make its (codes_of (cells_base original plan) dead plan.snips) (code_base original plan) p place
       (its_frame original plan table) text_is placed
-      (table_for original plan p table is.code.leads) (omega (arith, base)) off_noted_here
+      (table_for original plan dead p table is.code.leads) (omega (arith, base)) off_noted_here
 
-  module _ (make : PiecesMakeImages) (args : List (List ℕ)) (input : List ℕ) (given : AreArguments args)
+  module _ (make : PiecesMakeImages) (fits : PiecesFit) (args : List (List ℕ)) (input : List ℕ) (given : AreArguments args)
       (read : AreBytes input) where
     abbrev s0 : State
     s0 = start_of original args input
@@ -278,13 +350,13 @@ module _ (original : List ℕ) (plan : Plan) (p : Placement) (place : ℕ → �
     entry_here = ap (word_at (text_of original plan)) begins_at.pc ∙ word_here original plan entry begins_at.within
 
     here : (node : Node)
-        → Here (setting original plan p) (pieces original plan table) (code_base original plan) p (its_frame original plan table) node (point_of s0) t0
+        → Here its (pieces original plan dead table) (code_base original plan) p (its_frame original plan table) node (point_of s0) t0
     unfolding start_of
     here node = record {
       valid = file_valid original plan p place table file is args input given read;
       live = refl;
       at = is.entered
-          ∙ ap (λ found. visited_by (setting original plan p) (pieces original plan table) p (its_frame original plan table) node
+          ∙ ap (λ found. visited_by its (pieces original plan dead table) p (its_frame original plan table) node
           (point_of s0) found NoSlot)
           (sym entry_here);
       npc = refl;
@@ -319,8 +391,9 @@ module _ (original : List ℕ) (plan : Plan) (p : Placement) (place : ℕ → �
         ∙ cell_zero original plan p place table file is (program_name ∷ args) i within
         ∙ sym (get_or-replicate plan.cells i 0 0 within))
 
-    linked : Linked (setting original plan p) entry
-        (Here (setting original plan p) (pieces original plan table) (code_base original plan) p (its_frame original plan table)) EveryItem s0 t0 0 0
+    linked : Linked its entry
+        (Here its (pieces original plan dead table) (code_base original plan) p (its_frame original plan table))
+        (KeptIn its entry s0) s0 t0 0 0
     unfolding start_of
     linked = record {
       live = refl;
@@ -339,9 +412,9 @@ module _ (original : List ℕ) (plan : Plan) (p : Placement) (place : ℕ → �
       };
     }
 
-    rests : Rests (setting original plan p) entry (IsOpen (setting original plan p))
-        (Here (setting original plan p) (pieces original plan table) (code_base original plan) p (its_frame original plan table)) Everything EveryItem
-        s0 t0
+    rests : Rests its entry (IsOpen its)
+        (Here its (pieces original plan dead table) (code_base original plan) p (its_frame original plan table)) Short
+        (KeptIn its entry s0) s0 t0
     rests = record {
       text = text_is;
       first_valid = original_valid original plan p place table file is args input given read;
@@ -349,20 +422,21 @@ module _ (original : List ℕ) (plan : Plan) (p : Placement) (place : ℕ → �
       fetches = fetches;
       begins = begins_at;
       simulates = simulates make;
-      keeping = all_is_kept (setting original plan p) entry s0;
+      keeping = keeps_what_lives its entry s0 text_is fetches begins_at is.code.exact
+          (λ k d l. (is.workable.good k d l).are_ops);
       begin = 0;
       soon = omega arith;
       first = linked;
       early = λ j below. absurd (omega (arith, below));
     }
 
-    answers : (n : ℕ) → IsUntouched (pages_of (notes_on original plan p)) s0 n → Answered (setting original plan p) entry s0 t0 n
+    answers : (n : ℕ) → IsUntouched (pages_of (notes_on original plan p)) s0 n → Answered its entry Short s0 t0 n
     answers n untouched =
-        edits_answer (setting original plan p) (pieces original plan table) (code_base original plan) p
+        edits_answer its (pieces original plan dead table) (code_base original plan) p place
         (its_frame original plan table) entry s0 t0 n rests untouched
 
     answered : (n : ℕ) → IsUntouched (pages_of (notes_on original plan p)) s0 n
-        → IsAnswered (setting original plan p) entry s0 t0 n
+        → IsAnswered its entry s0 t0 n
     answered n untouched =
         let all = answers n untouched in
         record {
@@ -372,13 +446,21 @@ module _ (original : List ℕ) (plan : Plan) (p : Placement) (place : ℕ → �
           node = all.over n (omega arith);
         }
 
-    runs_alike : AreRunsAlike (setting original plan p) entry s0 t0
+    runs_alike : AreRunsAlike its (bound_in original plan) entry s0 t0
     runs_alike = record {
       answered = answered;
       soon = λ untouched m least. (answers 0 untouched).soon m least;
       bounded = λ n untouched. (answers (suc n) untouched).bounded n (omega arith);
+      spared = λ n untouched watched m k first next.
+          let sparing = (answers (suc n) untouched).spared n (omega arith) m k first next watched in
+          record {
+            spills = sparing.spills;
+            first = λ small. sparing.first (small.0, small_short fits small.1);
+            alone = λ small. sparing.alone (small.0, small_short fits small.1);
+            few = λ small. sparing.few (small.0, small_short fits small.1);
+          };
     }
 
-pub edits_run_alike : PiecesMakeImages → EditsRunAlike
-edits_run_alike make original plan p place table file is args input given read =
-    runs_alike original plan p place table file is make args input given read
+pub edits_run_alike : PiecesMakeImages → PiecesFit → EditsRunAlike
+edits_run_alike make fits original plan p place table file is args input given read =
+    runs_alike original plan p place table file is make fits args input given read

@@ -2,6 +2,7 @@
 use Rattle.std.proofs.Common.{◌≡◌, ℕ, suc, ◌*◌, ◌%◌, ◌^◌, ◌<◌, ◌≤◌, inl, inr, List, [], ◌∷◌, length, sym, subst, arith, All}
 use Rattle.std.proofs.lemmas.Bool.{cases_lt}
 use Rattle.std.proofs.lemmas.List.{get_or_past, length-map}
+use Rattle.v8_decode.specs.declared.Part.{Part}
 use Rattle.v8_encode.specs.Encoding.{word_of}
 use Rattle.snippets.specs.declared.snippet.Op.{Op}
 use Rattle.snippets.specs.Cells.{named_by}
@@ -51,27 +52,27 @@ module _ (base cells : ℕ) (aligned : base % 4 ≡ 0) (low : cell_at base cells
       record { aligned = aligned; few = good.few; are_ops = good.are_ops; low = ends_low ops good }
 
   -- its words do just the snippet
-  pub snippet_does : (snips : List (List Op)) → All (IsGood cells) snips → (edge : ℕ)
-      → DoesJust (codes_of base snips edge) base []
-      (spills_of [] (named_by (snippet_on snips edge)) (snippet_on snips edge)) (snippet_on snips edge)
+  pub snippet_does : (dead : ℕ → List Part) (snips : List (List Op)) → All (IsGood cells) snips → (edge : ℕ)
+      → DoesJust (codes_of base dead snips edge) base (dead edge)
+      (spills_of (dead edge) (named_by (snippet_on snips edge)) (snippet_on snips edge)) (snippet_on snips edge)
   unfolding codes_of
-  snippet_does snips good edge =
-      (snippet_code_runs base [] (snippet_on snips edge)
+  snippet_does dead snips good edge =
+      (snippet_code_runs base (dead edge) (snippet_on snips edge)
       (can_expand (snippet_on snips edge) (good_on cells snips good edge))).1
 
 -- they are few
-pub code_short : (base : ℕ) (snips : List (List Op)) (edge : ℕ)
-    → length (codes_of base snips edge) ≤ 22 * length (snippet_on snips edge)
+pub code_short : (base : ℕ) (dead : ℕ → List Part) (snips : List (List Op)) (edge : ℕ)
+    → length (codes_of base dead snips edge) ≤ 22 * length (snippet_on snips edge)
 unfolding codes_of
-code_short base snips edge =
+code_short base dead snips edge =
     let ops = snippet_on snips edge in
-    let words = snippet_words base [] (named_by ops) ops in
-    let most = costs_hold base [] (named_by ops) ops in
+    let words = snippet_words base (dead edge) (named_by ops) ops in
+    let most = costs_hold base (dead edge) (named_by ops) ops in
     omega (arith, length-map words word_of, most.0, most.1)
 
-pub short_codes : (base cells : ℕ) (snips : List (List Op)) → All (IsGood cells) snips
-    → AreShort snips (codes_of base snips)
-short_codes base cells snips good = record {
-  short = code_short base snips;
+pub short_codes : (base cells : ℕ) (dead : ℕ → List Part) (snips : List (List Op)) → All (IsGood cells) snips
+    → AreShort snips (codes_of base dead snips)
+short_codes base cells dead snips good = record {
+  short = code_short base dead snips;
   few = λ edge. let is = good_on cells snips good edge in is.few;
 }

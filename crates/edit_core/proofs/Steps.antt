@@ -5,7 +5,9 @@ use Rattle.eel_base.specs.CodeText.{IsText, Words}
 use Rattle.eel_base.specs.declared.numbers.Addr.{Addr}
 use Rattle.elf32_sparc.specs.Image.{Program, image_of}
 use Rattle.elf32_sparc.proofs.Images.{accepted-program}
+use Rattle.v8_decode.specs.declared.Part.{Part}
 use Rattle.cfg_normal.specs.Graph.{Graph}
+use Rattle.liveness.specs.Live.{named_on}
 use Rattle.cfg_view.specs.declared.View.{View}
 use Rattle.elf32_write.specs.Laws.{AreBytes}
 use Rattle.addr_translate.specs.Lookup.{TableAt}
@@ -14,7 +16,7 @@ use Rattle.layout.specs.declared.items.Placed.{Placed}
 use Rattle.layout.specs.declared.items.Item.{Item}
 use Rattle.layout.specs.declared.items.LayoutFault.{LayoutFault}
 use Rattle.layout.specs.declared.items.LayoutFault.TheVariants.{Room}
-use Rattle.layout.specs.Laid.{ArePieces, IsLaid, long_bytes}
+use Rattle.layout.specs.Laid.{ArePieces, HasShortForms, IsLaid, long_bytes}
 use Rattle.layout.specs.Compact.{RoomIs}
 use Rattle.layout.proofs.Needed.{long_is_enough}
 use Rattle.image_code.specs.Fit.{AreFit, PiecesFit}
@@ -23,8 +25,10 @@ use Rattle.image_code.proofs.Numbers.{words_are}
 use Rattle.snippets.specs.declared.snippet.Op.{Op}
 use Rattle.tool_kit.specs.declared.edge_ref.ToolKind.{ToolKind}
 use Rattle.tool_kit.specs.Plans.{Plan}
+use Rattle.edit_core.specs.Dead.{AreDead}
+use Rattle.edit_core.specs.RunsAlike.{short_bound}
 use Rattle.edit_core.specs.Taken.{CanEdit, bound_by, bound_of}
-use Rattle.edit_core.specs.Written.{CanDo, IsNewCode, IsViewOf, IsWorkable, LeadsTo, cells_base, cells_size, code_base, given_of, graph_in, pieces_by, pieces_of, placement_in, table_after, table_base, text_of}
+use Rattle.edit_core.specs.Written.{CanDo, IsBuilt, IsNewCode, IsViewOf, IsWorkable, LeadsTo, cells_base, cells_size, code_base, given_of, graph_in, pieces_by, pieces_of, placement_in, table_after, table_base, text_of}
 use Rattle.edit_core.proofs.Bounds.{operations_few}
 use Rattle.edit_core.proofs.Room.{small_table}
 use Rattle.edit_core.proofs.Snippets.{short_codes}
@@ -43,14 +47,15 @@ never_lacks_room list room fault needed had are e is enough =
 
 -- the pieces of what can be edited can be placed
 pub original_fit : PiecesFit → (original : List ℕ) (plan : Plan) → CanEdit original plan → CanDo original plan
-    → AreFit (text_of original plan) (graph_in original plan) plan.snips (pieces_of original plan)
-original_fit fits original plan can work =
+    → (dead : ℕ → List Part)
+    → AreFit (text_of original plan) (graph_in original plan) plan.snips (pieces_of original plan dead)
+original_fit fits original plan can work dead =
     fits (text_of original plan) (graph_in original plan) (table_base original plan) plan.snips
-    (codes_of (cells_base original plan) plan.snips) (image_text original can.sound)
+    (codes_of (cells_base original plan) dead plan.snips) (image_text original can.sound)
     (record { given = given_of original plan; is = refl })
     (under (cells_base original plan) (image_of original).room plan.cells (length (text_of original plan).words) _
     (image_room original) work.few can.room)
-    (short_codes (cells_base original plan) plan.cells plan.snips work.good)
+    (short_codes (cells_base original plan) plan.cells dead plan.snips work.good)
   where
     under : (base room cells words more : ℕ) → room ≡ min (2 ^ 30) (0x80000000 - base) → cells ≤ 2 ^ 22
         → 2 ^ 20 + 512 * words + 4 * cells + 128 * more ≤ room → table_after base cells < 2 ^ 31
@@ -58,15 +63,15 @@ original_fit fits original plan can work =
 
 -- the pieces that are made of a view can be placed in its room
 module _ (fits : PiecesFit) (text : Words) (graph : Graph) (base room : ℕ) (kind : ToolKind) (cells : ℕ)
-    (snips : List (List Op)) (is : IsText text) (h : IsGraphOf text graph) (work : IsWorkable graph kind cells snips)
+    (dead : ℕ → List Part) (snips : List (List Op)) (is : IsText text) (h : IsGraphOf text graph) (work : IsWorkable graph kind cells snips)
     (enough : bound_by text graph kind cells snips ≤ room) (low : base + room ≤ 2 ^ 31) where
-  pub new_fit : AreFit text graph snips (pieces_by text graph base cells snips)
+  pub new_fit : AreFit text graph snips (pieces_by text graph base cells dead snips)
   new_fit =
       let few = work.few in
-      fits text graph (table_after base cells) snips (codes_of base snips) is h (omega arith)
-      (short_codes base cells snips work.good)
+      fits text graph (table_after base cells) snips (codes_of base dead snips) is h (omega arith)
+      (short_codes base cells dead snips work.good)
 
-  pub new_room : cells_size cells + size_of text + long_bytes (pieces_by text graph base cells snips) ≤ room
+  pub new_room : cells_size cells + size_of text + long_bytes (pieces_by text graph base cells dead snips) ≤ room
   new_room =
       let fit = new_fit in
       let bytes = fit.bytes in
@@ -105,33 +110,37 @@ module _ (original : List ℕ) (plan : Plan) (view : View) (is : IsViewOf origin
   pub view_words : CanEdit original plan → view.graph.blocks.words ≡ length view.image.text.words
   view_words can = words_are view.image.text view.graph view_graph
 
-  abbrev own_pieces : List (List Item)
-  own_pieces = pieces_by view.image.text view.graph view.image.base plan.cells plan.snips
+  abbrev own_pieces : (ℕ → List Part) → List (List Item)
+  own_pieces dead = pieces_by view.image.text view.graph view.image.base plan.cells dead plan.snips
 
   -- the pieces of the view are those of the original
-  view_pieces : own_pieces ≡ pieces_of original plan
-  view_pieces =
-      ap (λ (i : Program). pieces_by i.text view.graph i.base plan.cells plan.snips) is.0
-      ∙ ap (λ (g : Graph). pieces_by (text_of original plan) g (cells_base original plan) plan.cells plan.snips) is.1
+  view_pieces : (dead : ℕ → List Part) → own_pieces dead ≡ pieces_of original plan dead
+  view_pieces dead =
+      ap (λ (i : Program). pieces_by i.text view.graph i.base plan.cells dead plan.snips) is.0
+      ∙ ap (λ (g : Graph). pieces_by (text_of original plan) g (cells_base original plan) plan.cells dead plan.snips) is.1
 
   view_base : table_after view.image.base plan.cells + size_of view.image.text ≡ code_base original plan
   view_base = ap (λ (i : Program). table_after i.base plan.cells + size_of i.text) is.0
 
   module _ (placed : Placed) (table : TableAt)
-      (laid : (place : ℕ → ℕ → ℕ)
-      × IsLaid own_pieces (table_after view.image.base plan.cells + size_of view.image.text) (placement_in placed) place)
-      (size : 4 * length placed.code.items ≤ long_bytes own_pieces)
+      (built : IsBuilt view.image.text view.graph view.image.base plan.cells plan.snips (placement_in placed))
       (base : table.base ≡ table_after view.image.base plan.cells)
       (leads : LeadsTo view.image.text view.graph (placement_in placed) table)
     where
       pub code_is : All (λ word. word < 2 ^ 32) placed.code.items → AreBytes table.bytes
-          → IsNewCode original plan (placement_in placed) laid.0 table
+          → IsNewCode original plan (placement_in placed) built.place table
       code_is words bytes = record {
-        laid = subst (λ (a : ℕ). IsLaid (pieces_of original plan) a (placement_in placed) laid.0) view_base
+        dead = built.dead;
+        exact = subst (λ (i : Program). AreDead i.text (graph_in original plan) (named_on plan.snips) built.dead) is.0
+            (subst (λ (g : Graph). AreDead view.image.text g (named_on plan.snips) built.dead) is.1 built.exact);
+        laid = subst (λ (a : ℕ). IsLaid (pieces_of original plan built.dead) a (placement_in placed) built.place) view_base
             (subst (λ (xs : List (List Item)). IsLaid xs
             (table_after view.image.base plan.cells + size_of view.image.text)
-            (placement_in placed) laid.0) view_pieces laid.1);
-        size = subst (λ (xs : List (List Item)). 4 * length placed.code.items ≤ long_bytes xs) view_pieces size;
+            (placement_in placed) built.place) (view_pieces built.dead) built.are.laid);
+        size = subst (λ (xs : List (List Item)). 4 * length placed.code.items ≤ long_bytes xs) (view_pieces built.dead)
+            built.are.size;
+        short = subst (λ (xs : List (List Item)). 4 * length placed.code.items < short_bound → HasShortForms xs built.place)
+            (view_pieces built.dead) built.are.short;
         words = words;
         base = base ∙ ap (λ (i : Program). table_after i.base plan.cells) is.0;
         leads = subst (λ (i : Program). LeadsTo i.text (graph_in original plan) (placement_in placed) table) is.0
@@ -139,12 +148,12 @@ module _ (original : List ℕ) (plan : Plan) (view : View) (is : IsViewOf origin
         bytes = bytes;
       }
 
-      pub entry_inside : AreFit (text_of original plan) (graph_in original plan) plan.snips (pieces_of original plan)
-          → (entry : ℕ) → entry < length view.image.text.words → entry < length placed.at.items
+      pub entry_inside : AreFit (text_of original plan) (graph_in original plan) plan.snips
+          (pieces_of original plan built.dead) → (entry : ℕ) → entry < length view.image.text.words → entry < length placed.at.items
       entry_inside fit entry l =
           let many = fit.images in
-          let pieces = ap length view_pieces in
+          let pieces = ap length (view_pieces built.dead) in
           let words = ap (λ (i : Program). length i.text.words) is.0 in
-          let count = laid.1.count in
+          let count = built.are.laid.count in
           let same = length-map placed.at.items (λ (a : Addr). a.0) in
           omega arith

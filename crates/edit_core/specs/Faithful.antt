@@ -10,6 +10,7 @@ use Rattle.elf32_sparc.specs.Mapping.{Mapping, mappings}
 use Rattle.elf32_sparc.specs.Image.{image_of}
 use Rattle.elf32_sparc.specs.Notes.{Notes, NoteEdge, NoteSegment, NoteRange, notes_of}
 use Rattle.elf32_write.specs.Laws.{kept}
+use Rattle.v8_decode.specs.declared.Part.{Part}
 use Rattle.v8_decode.specs.Words.{decode_of}
 use Rattle.v8_step.specs.Items.{is_transfer}
 use Rattle.cfg_blocks.specs.declared.EdgeKind.{EdgeKind}
@@ -20,6 +21,7 @@ use Rattle.cfg_normal.specs.declared.Edge.{Edge}
 use Rattle.cfg_normal.specs.Graph.{Graph}
 use Rattle.cfg_view.specs.View.{view_of}
 use Rattle.cfg_normal.specs.Numbers.{node_number}
+use Rattle.liveness.specs.Live.{named_on}
 use Rattle.snippets.specs.declared.snippet.Op.{Op}
 use Rattle.snippets.specs.Ops.{cell_of}
 use Rattle.tool_kit.specs.declared.edge_ref.ToolKind.{ToolKind}
@@ -27,6 +29,7 @@ use Rattle.tool_kit.specs.declared.edge_ref.ToolKind.TheVariants as tools
 use Rattle.tool_kit.specs.declared.edge_ref.EdgeRef.{EdgeRef}
 use Rattle.tool_kit.specs.Kept.{Kept}
 use Rattle.tool_kit.specs.Plans.{AreCounters, IsPlanOf, Plan}
+use Rattle.edit_core.specs.Dead.{AreDead}
 use Rattle.edit_core.specs.Taken.{bound_in}
 use Rattle.edit_core.specs.RunsAlike.{HaveRunsAlike}
 
@@ -144,9 +147,9 @@ pub record IsFaithful (original : List ℕ) (plan : Plan) (file : List ℕ) : Ty
   pub graph : HasGraph original plan notes
   pub pages : HasPages original plan file notes
   pub places : All (IsPlace original file) notes.ranges
-  -- what is dead behind the snippet of each edge
+  -- what is dead behind the snippet of each edge, which may be taken there
   pub dead : ℕ → List Part
-  pub exact : AreDead (image_of original).text (view_of original plan.marks).graph (named_in plan) dead
+  pub exact : AreDead (image_of original).text (view_of original plan.marks).graph (named_on plan.snips) dead
   pub runs : HaveRunsAlike original plan dead file notes
   pub counters : AreCounted plan
 

@@ -1,3 +1,4 @@
+pub mod Dead
 pub mod Runs
 pub mod Whole
 pub mod Taken

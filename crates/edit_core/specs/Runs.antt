@@ -1,5 +1,5 @@
 -- What a run of a written file rests on, and what follows for it as a whole.
-use Rattle.std.specs.Prelude.{◌≡◌, ℕ, zero, suc, ◌<◌, ◌≤◌, ◌⊎◌, List, Option, Some, None}
+use Rattle.std.specs.Prelude.{◌≡◌, ℕ, zero, suc, ◌-◌, ◌<◌, ◌≤◌, ◌⊎◌, List, Option, Some, None}
 use Rattle.eel_base.specs.CodeText.{IsText}
 use Rattle.elf32_sparc.specs.Notes.{node_at}
 use Rattle.v8_decode.specs.declared.Instr.{Instr}
@@ -17,7 +17,7 @@ use Rattle.code_runs.specs.PointsAlike.{instr_of}
 use Rattle.cfg_walk.specs.Walk.{Point, point_of, end_of_walk, gone_in}
 use Rattle.cfg_walk.specs.Matches.{FetchesOnly, BeginsAt}
 use Rattle.edit_core.specs.RunsAlike.{EndsAtNode}
-use Rattle.image_code.specs.Simulates.{Setting, Simulates, cells_in, graph_in, number_in, word_of, updates, store_of, limit_on}
+use Rattle.image_code.specs.Simulates.{IsKept, IsSparing, IsWatched, Setting, Simulates, cells_in, graph_in, limit_on, number_in, store_of, updates, word_of}
 
 -- ---- the items that are kept equal, step by step
 
@@ -25,15 +25,15 @@ use Rattle.image_code.specs.Simulates.{Setting, Simulates, cells_in, graph_in, n
 abbrev pub instr_in : Setting → State → ℕ → Option Instr
 instr_in g s0 n = instr_of (word_of g.text (run s0 n).pc)
 
--- At first K holds of every item. Once dead registers are taken: of those that are needed, or that a later snippet
--- names before they are written.
-pub record Keeping (g : Setting) (entry : ℕ) (Kept : List ℕ → ℕ → Item → Type 0)
-    (s0 : State) (K : ℕ → Item → Type 0) : Type 0 where
-  pub reads : (n : ℕ) (item : Item) → IsItem item → ReadsIn (instr_in g s0 n) (run s0 n).window item → K n item
-  pub back : (n : ℕ) (item : Item) → IsItem item → K (suc n) item
+-- `K n` holds of the items at which both runs have the same after n steps of the original.
+pub record Keeping (g : Setting) (entry : ℕ) (s0 : State) (K : ℕ → Item → Type 0) : Type 0 where
+  pub reads : (n : ℕ) (item : Item) → IsItem item → (run s0 n).ending ≡ None
+      → ReadsIn (instr_in g s0 n) (run s0 n).window item → K n item
+  pub back : (n : ℕ) (item : Item) → K (suc n) item
       → WritesIn (instr_in g s0 n) (run s0 n).window item ⊎ K n item
-  pub live : (n : ℕ) (item : Item) → IsItem item → K (suc n) item
-      → Kept (gone_in g.text (graph_in g) entry s0 n) (run s0 (suc n)).window item
+  -- what the snippets of edges take for their own is kept no longer
+  pub live : (n : ℕ) (item : Item) → K (suc n) item
+      → IsKept g (gone_in g.text (graph_in g) entry s0 n) (run s0 (suc n)).window item
   pub needed : (n : ℕ) (item : Item) → IsNeeded s0 n item → K n item
   -- what an edge's snippet makes of the cells depends on kept items alone
   pub named : (n : ℕ) (cells : List ℕ) (v : State) → (run s0 (suc n)).ending ≡ None
@@ -68,15 +68,14 @@ pub record Closed (g : Setting) (entry : ℕ) (s0 t0 : State) (n m : ℕ) (d : E
 
 -- What is proved of the files, the pieces and the items.
 pub record Rests (g : Setting) (entry : ℕ) (Inside : Point → Type 0)
-    (Here : Node → Point → State → Type 0) (Kept : List ℕ → ℕ → Item → Type 0)
-    (K : ℕ → Item → Type 0) (s0 t0 : State) : Type 0 where
+    (Here : Node → Point → State → Type 0) (Short : Type 0) (K : ℕ → Item → Type 0) (s0 t0 : State) : Type 0 where
   pub text : IsText g.text
   pub first_valid : IsValid s0
   pub second_valid : IsValid t0
   pub fetches : FetchesOnly g.text s0
   pub begins : BeginsAt g.text entry s0
-  pub simulates : Simulates g Inside Here Kept
-  pub keeping : Keeping g entry Kept s0 K
+  pub simulates : Simulates g Inside Here Short
+  pub keeping : Keeping g entry s0 K
   -- from the entry to the first visit, with no visit and in no place before
   pub begin : ℕ
   pub soon : begin ≤ 64
@@ -99,11 +98,20 @@ Tells g entry s0 t0 n m =
     (r : ℕ) → node_at g.notes (run t0 m).pc ≡ Some r
     → (r ≡ number_in g (end_of_walk g.text (graph_in g) entry s0 n)) × (cells_in g (run t0 m) ≡ store_of g entry s0 n)
 
+-- What the written file stores and takes that answers step n, from one moment to another. `Short` says that no jump and
+-- no branch is long.
+abbrev pub Spares : Setting → ℕ → Type 0 → State → State → ℕ → ℕ → ℕ → Type 0
+Spares g entry Short s0 t0 n m k =
+    IsWatched g (gone_in g.text (graph_in g) entry s0 n) (point_of (run s0 n)) (run s0 (suc n))
+    → IsSparing g (((run s0 n).ending ≡ None) × Short) (gone_in g.text (graph_in g) entry s0 n) (point_of (run s0 n))
+    (run t0 m) (k - m)
+
 -- what follows
-pub record Follows (g : Setting) (entry : ℕ) (s0 t0 : State) (last : ℕ) : Type 0 where
+pub record Follows (g : Setting) (entry : ℕ) (Short : Type 0) (s0 t0 : State) (last : ℕ) : Type 0 where
   pub moments : ℕ → ℕ
   pub followed : IsFollowed g.notes s0 t0 64 (limits_in g entry s0) moments last
   pub cells : (n : ℕ) → n ≤ last → cells_in g (run t0 (moments n)) ≡ store_of g entry s0 n
+  pub spared : (n : ℕ) → n < last → Spares g entry Short s0 t0 n (moments n) (moments (suc n))
   -- before the first visit in no place, at each visit and at the end as it tells, and between two as the first of them
   pub early : (m : ℕ) → m < moments zero → node_at g.notes (run t0 m).pc ≡ None
   pub told : (n : ℕ) → n ≤ last → Tells g entry s0 t0 n (moments n)

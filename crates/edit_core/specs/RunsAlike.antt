@@ -1,7 +1,8 @@
 -- What a run of a written file has to do with the run of its original, with the same arguments and input.
-use Rattle.std.specs.Prelude.{◌≡◌, ◌≢◌, ℕ, suc, ◌≤◌, List, Some, None}
+use Rattle.std.specs.Prelude.{◌≡◌, ◌≢◌, ℕ, suc, ◌-◌, ◌*◌, ◌^◌, ◌≤◌, List, Some, None}
 use Rattle.elf32_sparc.specs.Image.{image_of}
 use Rattle.elf32_sparc.specs.Notes.{Notes, node_at}
+use Rattle.v8_decode.specs.declared.Part.{Part}
 use Rattle.v8_step.specs.State.{State}
 use Rattle.v8_step.specs.Run.{run}
 use Rattle.v8_step.specs.Needed.{IsUntouched}
@@ -11,9 +12,10 @@ use Rattle.v8_step.specs.Visits.{pages_of}
 use Rattle.v8_process.specs.Arguments.{AreArguments}
 use Rattle.v8_process.specs.Start.{start_of}
 use Rattle.cfg_view.specs.View.{given_in}
-use Rattle.cfg_walk.specs.Walk.{end_of_walk, gone_in}
-use Rattle.image_code.specs.Simulates.{Setting, cells_in, graph_in, limit_on, number_in, store_of}
+use Rattle.cfg_walk.specs.Walk.{end_of_walk, gone_in, point_of}
+use Rattle.image_code.specs.Simulates.{IsSparing, IsWatched, Setting, cells_in, graph_in, limit_on, number_in, store_of}
 use Rattle.tool_kit.specs.Plans.{Plan}
+use Rattle.edit_core.specs.Taken.{bound_in}
 
 -- an edit of an original by a plan, with these notes, and with what is dead behind each edge's snippet
 abbrev pub edit_of : List ℕ → Plan → (ℕ → List Part) → Notes → Setting
@@ -43,9 +45,12 @@ pub record IsAnswered (g : Setting) (entry : ℕ) (s0 t0 : State) (n : ℕ) : Ty
   pub cells : cells_in g (run t0 moment) ≡ store_of g entry s0 n
   pub node : EndsAtNode g entry s0 t0 n moment
 
--- Where the original's first n steps touch no page of the notes:
--- `Small` says that so little room is asked that no jump and no branch is long.
-pub record AreRunsAlike (g : Setting) (Small : Type 0) (entry : ℕ) (s0 t0 : State) : Type 0 where
+-- so little room is asked that no jump and no branch is long: 8 MiB
+abbrev pub short_bound : ℕ
+short_bound = 8 * 2 ^ 20
+
+-- Where the original's first n steps touch no page of the notes, and the edit asks for so much room:
+pub record AreRunsAlike (g : Setting) (bound entry : ℕ) (s0 t0 : State) : Type 0 where
   -- Going on and ending, and the store.
   pub answered : (n : ℕ) → IsUntouched (pages_of g.notes) s0 n → IsAnswered g entry s0 t0 n
   -- The step bound: so many steps at most lie before the first of these moments, and from each to the next, by the
@@ -58,16 +63,12 @@ pub record AreRunsAlike (g : Setting) (Small : Type 0) (entry : ℕ) (s0 t0 : St
   pub spared : (n : ℕ) → IsUntouched (pages_of g.notes) s0 (suc n)
       → IsWatched g (gone_in g.text (graph_in g) entry s0 n) (point_of (run s0 n)) (run s0 (suc n))
       → (m k : ℕ) → IsLeast (Answers g.notes s0 t0 n) m → IsLeast (Answers g.notes s0 t0 (suc n)) k
-      → IsSparing g (((run s0 n).ending ≡ None) × Small) (gone_in g.text (graph_in g) entry s0 n)
+      → IsSparing g (((run s0 n).ending ≡ None) × (bound ≤ short_bound)) (gone_in g.text (graph_in g) entry s0 n)
       (point_of (run s0 n)) (run t0 m) (k - m)
-
--- at most 8 MiB
-abbrev pub short_bound : ℕ
-short_bound = 8 * 2 ^ 20
 
 -- for all arguments and every input
 abbrev pub HaveRunsAlike : List ℕ → Plan → (ℕ → List Part) → List ℕ → Notes → Type 0
 HaveRunsAlike original plan dead file notes =
     (args : List (List ℕ)) (input : List ℕ) → AreArguments args → AreBytes input
-    → AreRunsAlike (edit_of original plan dead notes) (bound_in original plan ≤ short_bound) (image_of original).entry
+    → AreRunsAlike (edit_of original plan dead notes) (bound_in original plan) (image_of original).entry
     (start_of original args input) (start_of file args input)

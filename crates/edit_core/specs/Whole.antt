@@ -1,5 +1,6 @@
--- What follows for runs of a written file in which every item is kept.
-use Rattle.std.specs.Prelude.{◌≡◌, ℕ, zero, suc, ◌<◌, ◌≤◌, None}
+-- What the runs of a written file are, where its code keeps what the original's run still asks for.
+use Rattle.std.specs.Prelude.{◌≡◌, ℕ, zero, suc, ◌<◌, ◌≤◌, None, All}
+use Rattle.eel_base.specs.CodeText.{IsText}
 use Rattle.elf32_sparc.specs.Notes.{node_at}
 use Rattle.v8_step.specs.State.{State}
 use Rattle.v8_step.specs.Run.{run}
@@ -7,28 +8,38 @@ use Rattle.v8_step.specs.Items.{Item}
 use Rattle.v8_step.specs.Needed.{IsUntouched}
 use Rattle.v8_step.specs.Visits.{pages_of}
 use Rattle.v8_step.specs.TwoRuns.{Answers, IsLeast, IsBounded}
-use Rattle.layout.specs.Laid.{Placement}
-use Rattle.image_code.specs.Simulates.{Setting, cells_in, store_of}
+use Rattle.cfg_walk.specs.Matches.{BeginsAt, FetchesOnly}
+use Rattle.snippets.specs.Grammar.{IsOp}
+use Rattle.layout.specs.Laid.{HasShortForms, Placement}
+use Rattle.image_code.specs.Simulates.{Setting, cells_in, graph_in, store_of}
 use Rattle.image_code.specs.Images.{Pieces, Frame, Here}
-use Rattle.image_code.specs.Cases.{Everything}
 use Rattle.image_code.specs.Outside.{IsOpen}
-use Rattle.edit_core.specs.Runs.{Keeping, Rests, Tells, limits_in}
+use Rattle.liveness.specs.Live.{named_on}
+use Rattle.live_walk.specs.Keeps.{IsKeptAt}
+use Rattle.edit_core.specs.Dead.{AreDead}
+use Rattle.edit_core.specs.Runs.{Keeping, Rests, Spares, Tells, limits_in}
 use Rattle.edit_core.specs.RunsAlike.{EndsAtNode}
 
-abbrev pub EveryItem : ℕ → Item → Type 0
-EveryItem n item = Unit {0}
+-- what is kept: what the original's run still needs, and what snippets name that come before it is written
+abbrev pub KeptIn : Setting → ℕ → State → ℕ → Item → Type 0
+KeptIn g entry s0 n item = IsKeptAt g.text (graph_in g) (named_on g.snips) entry s0 n item
 
--- Where no register is taken as dead, every item is kept.
-abbrev pub KeepsAll : Type 0
-KeepsAll = (g : Setting) (entry : ℕ) (s0 : State) → Keeping g entry Everything s0 EveryItem
+-- Where just what isn't live is dead behind each edge's snippet, all that is kept which has to be.
+abbrev pub KeepsWhatLives : Type 0
+KeepsWhatLives =
+    (g : Setting) (entry : ℕ) (s0 : State) → IsText g.text → FetchesOnly g.text s0 → BeginsAt g.text entry s0
+    → AreDead g.text (graph_in g) (named_on g.snips) g.dead → All (All IsOp) g.snips
+    → Keeping g entry s0 (KeptIn g entry s0)
 
--- The written file answers each step of the original, within its limits. Up to its first visit it stands in no place,
--- and from then on in none, or in one of the node where the original's walk stands.
-pub record Answered (g : Setting) (entry : ℕ) (s0 t0 : State) (last : ℕ) : Type 0 where
+-- The written file answers each step of the original, within its limits, and stores and takes no more than it may. Up to
+-- its first visit it stands in no place, and from then on in none, or in one of the node where the original's walk stands.
+pub record Answered (g : Setting) (entry : ℕ) (Short : Type 0) (s0 t0 : State) (last : ℕ) : Type 0 where
   pub moments : ℕ → ℕ
   pub answers : (n : ℕ) → n ≤ last → IsLeast (Answers g.notes s0 t0 n) (moments n)
   pub soon : (m : ℕ) → IsLeast (Answers g.notes s0 t0 zero) m → m ≤ 64
   pub bounded : (n : ℕ) → n < last → IsBounded g.notes s0 t0 n (limits_in g entry s0 n)
+  pub spared : (n : ℕ) → n < last → (m k : ℕ) → IsLeast (Answers g.notes s0 t0 n) m
+      → IsLeast (Answers g.notes s0 t0 (suc n)) k → Spares g entry Short s0 t0 n m k
   pub cells : (n : ℕ) → n ≤ last → cells_in g (run t0 (moments n)) ≡ store_of g entry s0 n
   pub early : (m : ℕ) → m < moments zero → node_at g.notes (run t0 m).pc ≡ None
   pub told : (n : ℕ) → n ≤ last → Tells g entry s0 t0 n (moments n)
@@ -37,6 +48,7 @@ pub record Answered (g : Setting) (entry : ℕ) (s0 t0 : State) (last : ℕ) : T
 
 abbrev pub EditsAnswer : Type 0
 EditsAnswer =
-    (g : Setting) (l : Pieces) (base : ℕ) (p : Placement) (f : Frame) (entry : ℕ) (s0 t0 : State) (last : ℕ)
-    → Rests g entry (IsOpen g) (Here g l base p f) Everything EveryItem s0 t0 → IsUntouched (pages_of g.notes) s0 last
-    → Answered g entry s0 t0 last
+    (g : Setting) (l : Pieces) (base : ℕ) (p : Placement) (place : ℕ → ℕ → ℕ) (f : Frame) (entry : ℕ) (s0 t0 : State)
+    (last : ℕ)
+    → Rests g entry (IsOpen g) (Here g l base p f) (HasShortForms l.list place) (KeptIn g entry s0) s0 t0
+    → IsUntouched (pages_of g.notes) s0 last → Answered g entry (HasShortForms l.list place) s0 t0 last

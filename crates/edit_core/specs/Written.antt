@@ -10,6 +10,7 @@ use Rattle.elf32_sparc.specs.FileFault.{load_fault}
 use Rattle.elf32_sparc.specs.Mapping.{mappings}
 use Rattle.elf32_sparc.specs.Image.{image_of}
 use Rattle.elf32_sparc.specs.Notes.{Notes, NoteSegment, NoteRange, notes_of}
+use Rattle.v8_decode.specs.declared.Part.{Part}
 use Rattle.notes.specs.Written.{notes_bytes}
 use Rattle.elf32_write.specs.Bytes.{words_bytes}
 use Rattle.elf32_write.specs.Headers.{AddedSegment}
@@ -23,11 +24,12 @@ use Rattle.cfg_normal.specs.Graph.{Graph, graph_of}
 use Rattle.cfg_view.specs.View.{given_in}
 use Rattle.cfg_view.specs.declared.View.{View}
 use Rattle.cfg_normal.specs.Numbers.{node_number}
+use Rattle.liveness.specs.Live.{named_on}
 use Rattle.addr_translate.specs.Lookup.{TableAt}
 use Rattle.addr_translate.specs.Table.{IsTableOf, size_of}
 use Rattle.layout.specs.declared.items.Item.{Item}
 use Rattle.layout.specs.declared.items.Placed.{Placed}
-use Rattle.layout.specs.Laid.{Placement, IsLaid, long_bytes, placement_of}
+use Rattle.layout.specs.Laid.{HasShortForms, IsLaid, Placement, long_bytes, placement_of}
 use Rattle.image_code.specs.Made.{foreign_number, landing_number, piece_list}
 use Rattle.image_code.specs.Parts.{codes_of}
 use Rattle.snippets.specs.declared.snippet.Op.{Op}
@@ -35,9 +37,10 @@ use Rattle.tool_kit.specs.Good.{IsGood}
 use Rattle.tool_kit.specs.declared.edge_ref.ToolKind.{ToolKind}
 use Rattle.tool_kit.specs.declared.edge_ref.ToolKind.TheVariants as tools
 use Rattle.tool_kit.specs.Plans.{AreCounters, Plan}
+use Rattle.edit_core.specs.Dead.{AreDead}
 use Rattle.edit_core.specs.Taken.{CanEdit}
 use Rattle.edit_core.specs.declared.taking.Asked.{Asked}
-use Rattle.edit_core.specs.RunsAlike.{HaveRunsAlike}
+use Rattle.edit_core.specs.RunsAlike.{HaveRunsAlike, short_bound}
 use Rattle.edit_core.specs.Faithful.{editor_page, page_size, note_edges, tool_number}
 
 -- a table of addresses as a segment, with the flag PF_R
@@ -116,10 +119,23 @@ foreign_of text graph p = addr (slice_index p.at (foreign_number text graph))
 abbrev pub LeadsTo : Words → Graph → Placement → TableAt → Type 0
 LeadsTo text graph p table = IsTableOf text (landings_of text graph p) (foreign_of text graph p) table
 
--- ---- the pieces of new code, with the snippets on the cells at `base`
+-- ---- the pieces of new code, with the snippets on the cells at `base`, by what is dead behind them
 
-abbrev pub pieces_by : Words → Graph → ℕ → ℕ → List (List Op) → List (List Item)
-pieces_by text graph base cells snips = piece_list text graph (table_after base cells) (codes_of base snips)
+abbrev pub pieces_by : Words → Graph → ℕ → ℕ → (ℕ → List Part) → List (List Op) → List (List Item)
+pieces_by text graph base cells dead snips = piece_list text graph (table_after base cells) (codes_of base dead snips)
+
+-- Pieces were laid from an address on, in no more bytes than their long forms take. Where these are few, no form is long.
+pub record AreLaid (pieces : List (List Item)) (base : ℕ) (p : Placement) (place : ℕ → ℕ → ℕ) : Type 0 where
+  pub laid : IsLaid pieces base p place
+  pub size : 4 * length p.code ≤ long_bytes pieces
+  pub short : 4 * length p.code < short_bound → HasShortForms pieces place
+
+-- what was laid, of an original by what is asked of it
+pub record IsBuilt (text : Words) (graph : Graph) (base cells : ℕ) (snips : List (List Op)) (p : Placement) : Type 0 where
+  pub dead : ℕ → List Part
+  pub exact : AreDead text graph (named_on snips) dead
+  pub place : ℕ → ℕ → ℕ
+  pub are : AreLaid (pieces_by text graph base cells dead snips) (table_after base cells + size_of text) p place
 
 -- ---- of an original, by what a tool asks of it
 
@@ -144,8 +160,8 @@ module _ (original : List ℕ) (plan : Plan) where
   abbrev pub code_base : ℕ
   code_base = table_base + size_of text_of
 
-  abbrev pub pieces_of : List (List Item)
-  pieces_of = pieces_by text_of graph_in cells_base plan.cells plan.snips
+  abbrev pub pieces_of : (ℕ → List Part) → List (List Item)
+  pieces_of dead = pieces_by text_of graph_in cells_base plan.cells dead plan.snips
 
   -- where the program is entered: the image of its entry
   abbrev pub entry_of : Placement → ℕ
@@ -193,11 +209,15 @@ pub record IsWorkable (graph : Graph) (kind : ToolKind) (cells : ℕ) (snips : L
 abbrev pub CanDo : List ℕ → Plan → Type 0
 CanDo original plan = IsWorkable (graph_in original plan) plan.kind plan.cells plan.snips
 
--- The code was laid behind the table, in no more bytes than its long forms take, and the table leads to it.
+-- The code was laid behind the table, in no more bytes than its long forms take, and the table leads to it. Where it is
+-- short, no form is long. Its snippets take only what is dead behind them.
 pub record IsNewCode (original : List ℕ) (plan : Plan) (p : Placement) (place : ℕ → ℕ → ℕ)
     (table : TableAt) : Type 0 where
-  pub laid : IsLaid (pieces_of original plan) (code_base original plan) p place
-  pub size : 4 * length p.code ≤ long_bytes (pieces_of original plan)
+  pub dead : ℕ → List Part
+  pub exact : AreDead (text_of original plan) (graph_in original plan) (named_on plan.snips) dead
+  pub laid : IsLaid (pieces_of original plan dead) (code_base original plan) p place
+  pub size : 4 * length p.code ≤ long_bytes (pieces_of original plan dead)
+  pub short : 4 * length p.code < short_bound → HasShortForms (pieces_of original plan dead) place
   pub words : All (λ word. word < 2 ^ 32) p.code
   pub base : table.base ≡ table_base original plan
   pub leads : LeadsTo (text_of original plan) (graph_in original plan) p table
@@ -232,7 +252,8 @@ pub record IsWritten (original : List ℕ) (plan : Plan) (file : List ℕ) : Typ
 abbrev pub EditsRunAlike : Type 0
 EditsRunAlike =
     (original : List ℕ) (plan : Plan) (p : Placement) (place : ℕ → ℕ → ℕ) (table : TableAt) (file : List ℕ)
-    → IsEdit original plan p place table file → HaveRunsAlike original plan file (notes_on original plan p)
+    → (is : IsEdit original plan p place table file)
+    → HaveRunsAlike original plan is.code.dead file (notes_on original plan p)
 
 -- ---- as the program keeps it
 

@@ -2,10 +2,10 @@
 ghost use Rattle.std.specs.Prelude.{◌≡◌, ◌+◌, ◌*◌, ◌%◌, ◌^◌, ◌<◌, ◌≤◌, ℕ, length, map, slice_index, All, IfOk};
 ghost use Rattle.addr_translate.specs.Table.{size_of};
 ghost use Rattle.eel_base.specs.CodeText.{IsText};
-ghost use Rattle.layout.specs.Laid.{ArePieces, IsLaid, long_bytes};
+ghost use Rattle.layout.specs.Laid.{ArePieces, long_bytes};
 ghost use Rattle.image_code.specs.Parts.{IsGraphOf};
 ghost use Rattle.edit_core.specs.Taken.{bound_by};
-ghost use Rattle.edit_core.specs.Written.{addr, cells_size as cells_size_of, pieces_by, placement_in, table_after, IsWorkable, LeadsTo};
+ghost use Rattle.edit_core.specs.Written.{addr, cells_size as cells_size_of, placement_in, table_after, AreLaid, IsBuilt, IsWorkable, LeadsTo};
 
 use crate::segments::PAGE_SIZE;
 use crate::taking::Asked;
@@ -15,6 +15,7 @@ use eel_base::{Addr, NoMemory, PieceNo};
 use elf32_sparc::Image;
 use image_code::{Frame, pieces};
 use layout::{LayoutFault, Piece, Placed, place};
+use liveness::live;
 use std::alloc::Global;
 
 /// Code, and the table that leads to it.
@@ -34,11 +35,8 @@ pub(crate) fn new_code(alloc: Global, view: &View, asked: &Asked) -> Result<NewC
         ≤ view.now.image.room }
     requires base { view.now.image.base % 4096 ≡ 0 }
     requires low { view.now.image.base + view.now.image.room ≤ 2 ^ 31 }
-    ensures laid { IfOk result (λ new. (p : ℕ → ℕ → ℕ)
-        × IsLaid (pieces_by view.now.image.text view.now.graph view.now.image.base asked.now.cells asked.now.snips.items)
-        (table_after view.now.image.base asked.now.cells + size_of view.now.image.text) (placement_in new.placed) p) }
-    ensures size { IfOk result (λ new. 4 * length new.placed.code.items ≤ long_bytes
-        (pieces_by view.now.image.text view.now.graph view.now.image.base asked.now.cells asked.now.snips.items)) }
+    ensures built { IfOk result (λ new. IsBuilt view.now.image.text view.now.graph view.now.image.base asked.now.cells
+        asked.now.snips.items (placement_in new.placed)) }
     ensures base { IfOk result (λ new. new.table.base ≡ table_after view.now.image.base asked.now.cells) }
     ensures leads { IfOk result (λ new.
         LeadsTo view.now.image.text view.now.graph (placement_in new.placed) new.table) }
@@ -50,7 +48,16 @@ pub(crate) fn new_code(alloc: Global, view: &View, asked: &Asked) -> Result<NewC
         cells: image.base(),
         table,
     };
-    let pieces = pieces(alloc, text, &view.graph, image.entry(), &asked.snips, frame)?;
+    let live = live(alloc, text, &view.graph, &asked.snips)?;
+    let pieces = pieces(
+        alloc,
+        text,
+        &view.graph,
+        image.entry(),
+        &asked.snips,
+        &live,
+        frame,
+    )?;
     let placed = laid(alloc, &pieces.list, image, asked.cells)?;
     let targets = places_of(alloc, &placed.at, &pieces.landing)?;
     let foreign = place_of(&placed.at, pieces.foreign);
@@ -91,9 +98,8 @@ fn laid(alloc: Global, list: &[Piece], image: &Image, cells: u32) -> Result<Plac
     requires room { cells_size_of cells + size_of image.now.text + long_bytes list.now ≤ image.now.room }
     requires base { image.now.base % 4096 ≡ 0 }
     requires low { image.now.base + image.now.room ≤ 2 ^ 31 }
-    ensures laid { IfOk result (λ placed. (p : ℕ → ℕ → ℕ)
-        × IsLaid list.now (table_after image.now.base cells + size_of image.now.text) (placement_in placed) p) }
-    ensures size { IfOk result (λ placed. 4 * length placed.code.items ≤ long_bytes list.now) }
+    ensures { IfOk result (λ placed. (p : ℕ → ℕ → ℕ)
+        × AreLaid list.now (table_after image.now.base cells + size_of image.now.text) (placement_in placed) p) }
 {
     let code = code_base(image, cells);
     let room = image.room() - (code.0 - image.base().0);

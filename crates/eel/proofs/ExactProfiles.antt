@@ -81,6 +81,7 @@ is_profiled original file notes profile bytes read =
       bytes = bytes;
       counters = off_tree (graph_in original) profile.cells profile.are;
       graph = faithful.graph;
+      dead = faithful.dead;
       runs = faithful.runs;
     })
 

@@ -234,7 +234,7 @@ module _ (g : Setting) (entry : ℕ) (s0 t0 : State) (m : ℕ) (begins : s0.endi
       by (inr (c, ended)) = tells_by n is c ended a
 
 pub ended_runs_tell : EndedRunsTell
-ended_runs_tell g entry s0 t0 m begins alike h = by (over_or_not (run t0 m).ending)
+ended_runs_tell g bound entry s0 t0 m begins alike h = by (over_or_not (run t0 m).ending)
   where
     by : ((run t0 m).ending ≡ None) ⊎ ((d : Ending) × ((run t0 m).ending ≡ Some d))
         → EndsWithStep g entry s0 t0 m (visits_by g.notes t0 m)

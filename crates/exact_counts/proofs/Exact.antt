@@ -6,6 +6,7 @@ use Rattle.std.proofs.lemmas.Bool.{lt-ltb}
 use Rattle.elf32_sparc.specs.FileFault.{fault}
 use Rattle.elf32_sparc.specs.Image.{image_of}
 use Rattle.elf32_sparc.specs.Notes.{Notes}
+use Rattle.v8_decode.specs.declared.Part.{Part}
 use Rattle.v8_step.specs.State.{State}
 use Rattle.v8_step.specs.Valid.{AreBytes}
 use Rattle.v8_process.specs.Start.{start_of}
@@ -25,6 +26,7 @@ use Rattle.walk_counts.specs.Counts.{executions, first_node}
 use Rattle.walk_counts.proofs.Files.{begins, entry_is, executions_of_files_are_flows}
 use Rattle.image_code.specs.Simulates.{Setting, graph_in}
 use Rattle.edit_core.specs.RunsAlike.{edit_of}
+use Rattle.edit_core.specs.Taken.{bound_in}
 use Rattle.edit_core.specs.Faithful.{HasGraph, note_edges, tool_number}
 use Rattle.count_rebuild.specs.Noted.{noted_graph}
 use Rattle.exact_counts.specs.Profiles.{CountsOffTree, counted_by, original_graph}
@@ -34,9 +36,9 @@ use Rattle.exact_counts.proofs.Ends.{ended_runs_tell}
 use Rattle.exact_counts.proofs.Noted.{AreNotesOf, flow_alike, graphs_alike, tree_noted}
 use Rattle.exact_counts.proofs.Rebuilt.{StandsBehind, counts_tell, made_in, node_in, refused_not}
 
-module _ (original : List ℕ) (plan : Plan) (notes : Notes) where
+module _ (original : List ℕ) (plan : Plan) (dead : ℕ → List Part) (notes : Notes) where
   abbrev g : Setting
-  g = edit_of original plan notes
+  g = edit_of original plan dead notes
 
   -- the original's graph is that of the edit
   view_graph : original_graph original plan ≡ graph_in g
@@ -97,29 +99,29 @@ begins_live file args input = refl
 pub counts_are_exact : CountsAreExact
 counts_are_exact original plan file notes args input m is given read over short =
     let counts = is.counters in
-    let g : Setting = edit_of original plan notes in
+    let g : Setting = edit_of original plan is.dead notes in
     let entry : ℕ = (image_of original).entry in
     let s0 : State = start_of original args input in
     let t0 : State = start_of file args input in
     let v : ℕ = visits_by notes t0 m in
     let n : ℕ = v - 1 in
     let tells : EndsWithStep g entry s0 t0 m v =
-    ended_runs_tell g entry s0 t0 m (begins_live original args input) (is.runs args input given read) over in
-    let are : AreNotesOf (graph_in g) plan.snips notes = notes_of_graph original plan notes counts is.graph in
+    ended_runs_tell g (bound_in original plan) entry s0 t0 m (begins_live original args input) (is.runs args input given read) over in
+    let are : AreNotesOf (graph_in g) plan.snips notes = notes_of_graph original plan is.dead notes counts is.graph in
     let few = tells.few in
     let behind : StandsBehind g entry s0 t0 m n = record {
       profile = record {
         tool = is.graph.tool ∙ ap tool_number counts.kind;
         tree = tree_noted (graph_in g) plan.snips notes are
             (subst (λ (graph : Graph). IsSpanningTree (links_of graph) all_nodes (rest (counted_by plan.snips)))
-            (view_graph original plan notes) counts.tree);
+            (view_graph original plan is.dead notes) counts.tree);
       };
       counters = counts.counters;
       below = subst (λ (cells : ℕ). All (WorksBelow cells) plan.snips) (sym is.graph.cells) counts.below;
       are = are;
       short = short;
       few = omega (arith, few, short);
-      flow = noted_flow original plan notes args input is.sound is.bytes n are is.graph;
+      flow = noted_flow original plan is.dead notes args input is.sound is.bytes n are is.graph;
       cells = tells.cells;
       node = tells.node;
     } in
@@ -128,5 +130,5 @@ counts_are_exact original plan file notes args input m is given read over short 
       counts = λ given h e l.
           counts_tell g entry s0 t0 m n behind given h e l
           ∙ ap (λ (graph : Graph). executions (image_of original).text graph entry s0 n e)
-          (sym (view_graph original plan notes));
+          (sym (view_graph original plan is.dead notes));
     }

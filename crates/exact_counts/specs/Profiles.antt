@@ -3,6 +3,7 @@ use Rattle.std.specs.Prelude.{◌≡◌, ℕ, ◌<◌, Bool, true, false, List, 
 use Rattle.std.specs.List.{All}
 use Rattle.elf32_sparc.specs.FileFault.{fault}
 use Rattle.elf32_sparc.specs.Notes.{Notes}
+use Rattle.v8_decode.specs.declared.Part.{Part}
 use Rattle.v8_step.specs.Valid.{AreBytes}
 use Rattle.flows.specs.Flows.{EdgeSet, rest}
 use Rattle.flows.specs.Trees.{IsSpanningTree, all_nodes}
@@ -66,4 +67,5 @@ pub record IsProfiled (original : List ℕ) (plan : Plan) (file : List ℕ) (not
   pub bytes : AreBytes original
   pub counters : CountsOffTree (original_graph original plan) plan
   pub graph : HasGraph original plan notes
-  pub runs : HaveRunsAlike original plan file notes
+  pub dead : ℕ → List Part
+  pub runs : HaveRunsAlike original plan dead file notes

@@ -38,5 +38,6 @@ pub record EndsWithStep (g : Setting) (entry : ℕ) (s0 t0 : State) (m v : ℕ) 
 
 abbrev pub EndedRunsTell : Type 0
 EndedRunsTell =
-    (g : Setting) (entry : ℕ) (s0 t0 : State) (m : ℕ) → s0.ending ≡ None → AreRunsAlike g entry s0 t0
+    (g : Setting) (bound entry : ℕ) (s0 t0 : State) (m : ℕ) → s0.ending ≡ None
+    → AreRunsAlike g bound entry s0 t0
     → IsOver g.notes s0 t0 m → EndsWithStep g entry s0 t0 m (visits_by g.notes t0 m)

@@ -10,10 +10,10 @@ use Rattle.layout.specs.declared.items.Item.{Item}
 use Rattle.layout.specs.declared.items.Item.TheVariants as it
 use Rattle.layout.specs.declared.entries.Entry.{Entry}
 use Rattle.layout.specs.declared.entries.Entry.TheVariants as en
-use Rattle.layout.specs.Laid.{AllLead, LeadsBelow, IsLaid, Placement, item_at, long_words, piece_words, size_of}
+use Rattle.layout.specs.Laid.{AllLead, LeadsBelow, IsLaid, Placement, item_at, long_words, piece_words, short_words, size_of}
 use Rattle.layout.specs.Order.{compact_order}
 use Rattle.layout.specs.Forms.{Forms, entries_in, entries_from, entries_of, far, far_from, goal_of, is_far, leads_next, offset, start_of, target, width}
-use Rattle.layout.specs.Compact.{IsCompact, LongIsEnough, NeededOnce, ShortIsEnough, short_words}
+use Rattle.layout.specs.Compact.{IsCompact, LongIsEnough, NeededOnce, ShortIsEnough}
 use Rattle.layout.proofs.Laying.{exits_lead, item_is, whole_is}
 use Rattle.layout.proofs.Listed.{items_at, weigh, weighs_less}
 use Rattle.layout.proofs.Widening.{far_means, offset_more, widened_once}

@@ -1,11 +1,10 @@
 -- The compact layout: its order, its forms, and how many bytes it takes.
-use Rattle.std.specs.Prelude.{◌≡◌, ℕ, suc, ◌+◌, ◌*◌, ◌^◌, ◌<◌, ◌≤◌, List, length, Some, Result, Ok, Err}
+use Rattle.std.specs.Prelude.{◌≡◌, ℕ, ◌+◌, ◌*◌, ◌^◌, ◌<◌, ◌≤◌, List, length, Result, Ok, Err}
 use Rattle.layout.specs.declared.items.Item.{Item}
-use Rattle.layout.specs.declared.items.Item.TheVariants as it
 use Rattle.layout.specs.declared.items.Placed.{Placed}
 use Rattle.layout.specs.declared.items.LayoutFault.{LayoutFault}
 use Rattle.layout.specs.declared.items.LayoutFault.TheVariants as faults
-use Rattle.layout.specs.Laid.{ArePieces, IsLaid, Placement, item_at, long_bytes, size_of}
+use Rattle.layout.specs.Laid.{ArePieces, HasShortForms, IsLaid, Placement, long_bytes, size_of}
 use Rattle.layout.specs.Forms.{Forms, entries_of, start_of, offset, IsWidened}
 
 -- The compact layout: the pieces stand in the compact order, one right behind the other, each item in the form that
@@ -39,17 +38,9 @@ abbrev pub LongIsEnough : Type 0
 LongIsEnough = (pieces : List (List Item)) (bytes : ℕ) → ArePieces pieces → IsNeeded pieces bytes
     → bytes ≤ long_bytes pieces
 
--- how many words an item has in its short form
-abbrev pub short_words : Item → ℕ
-short_words (it.Word word) = 1
-short_words (it.Jump to) = 1
-short_words (it.Branch cond to) = 2
-short_words (it.Mark address node) = 0
-short_words it.EndMark = 0
-
 -- In less than 8 MiB each is short.
 abbrev pub ShortIsEnough : Type 0
 ShortIsEnough =
     (pieces : List (List Item)) (base : ℕ) (p : Placement) (place : ℕ → ℕ → ℕ) → ArePieces pieces
     → IsLaid pieces base p place → IsCompact pieces base place → 4 * length p.code < 2 ^ 23
-    → (k n : ℕ) (x : Item) → item_at pieces k n ≡ Some x → place k (suc n) ≤ place k n + 4 * short_words x
+    → HasShortForms pieces place

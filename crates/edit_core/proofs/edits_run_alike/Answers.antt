@@ -1,6 +1,7 @@
+use Rattle.image_code.proofs.Fit.{pieces_fit}
 use Rattle.image_code.proofs.Made.{pieces_make_images}
 use Rattle.edit_core.proofs.RunsAlike.{edits_run_alike}
 use Rattle.edit_core.proofs.edits_run_alike.Goals as goal
 
 pub returns : goal.returns
-returns c = edits_run_alike pieces_make_images
+returns c = edits_run_alike pieces_make_images pieces_fit

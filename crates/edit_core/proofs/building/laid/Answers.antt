@@ -1,5 +1,7 @@
-use Rattle.std.proofs.Common.{◌-◌, ◌*◌, length, arith}
-use Rattle.layout.proofs.Needed.{long_is_enough}
+use Rattle.std.proofs.Common.{ℕ, ◌-◌, ◌*◌, length, subst, arith}
+use Rattle.layout.specs.Laid.{IsLaid}
+use Rattle.layout.proofs.Needed.{long_is_enough, short_is_enough}
+use Rattle.edit_core.specs.Written.{placement_in}
 use Rattle.edit_core.proofs.Steps.{never_lacks_room}
 use Rattle.edit_core.proofs.building.laid.Goals as goal
 
@@ -9,6 +11,16 @@ unreachable-requires c =
     c.in-Err-Room.field-0-0 c.in-Err-Room.field-0-1 c.requires.pieces c.in-Err-Room.field-0-is c.in-Err-Room.ensures.room
     (omega (arith, c.requires.room, c.room.ensures, c.code_base-code.ensures.address, c.base.ensures.address))
 
-pub returns-in-Ok-clause-size : goal.returns-in-Ok-clause-size
-returns-in-Ok-clause-size c =
-    long_is_enough c.args.list.now (4 * length c.in-Ok.placed.code.items) c.requires.pieces (c.in-Ok.ensures.room).0
+pub returns-in-Ok : goal.returns-in-Ok
+returns-in-Ok c =
+    let lays = c.in-Ok.ensures.laid in (
+      lays.0,
+      record {
+        laid = subst (λ (a : ℕ). IsLaid c.args.list.now a (placement_in c.in-Ok.placed) lays.0)
+            c.code_base-code.ensures.address lays.1;
+        size = long_is_enough c.args.list.now (4 * length c.in-Ok.placed.code.items) c.requires.pieces
+            (c.in-Ok.ensures.room).0;
+        short = short_is_enough c.args.list.now c.code_base-code.result.0 (placement_in c.in-Ok.placed) lays.0
+            c.requires.pieces lays.1 lays.2;
+      },
+    )

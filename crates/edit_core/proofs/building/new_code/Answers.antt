@@ -1,23 +1,32 @@
-use Rattle.std.proofs.Common.{◌≡◌, length, map, slice_index, refl, sym, ap, ◌∙◌}
+use Rattle.std.proofs.Common.{◌≡◌, ◌+◌, List, length, map, slice_index, refl, sym, ap, ◌∙◌, subst}
 use Rattle.std.proofs.lemmas.List.{length-map}
 use Rattle.eel_base.specs.CodeText.{Words}
 use Rattle.eel_base.specs.declared.numbers.Addr.{Addr}
 use Rattle.eel_base.specs.declared.numbers.PieceNo.{PieceNo}
-use Rattle.edit_core.specs.Written.{addr, foreign_of, landings_of, placement_in}
+use Rattle.addr_translate.specs.Table.{size_of}
+use Rattle.layout.specs.declared.items.Item.{Item}
+use Rattle.edit_core.specs.Written.{AreLaid, addr, foreign_of, landings_of, placement_in, table_after}
+use Rattle.liveness.specs.Sets.{dead_on}
 use Rattle.image_code.proofs.Fit.{pieces_fit}
+use Rattle.image_code.proofs.Numbers.{words_are}
+use Rattle.edit_core.proofs.Dead.{rest_is_dead}
 use Rattle.edit_core.proofs.Landings.{landings_are, landings_count, landings_inside}
 use Rattle.edit_core.proofs.Steps.{new_fit, new_room}
 use Rattle.edit_core.proofs.building.new_code.Goals as goal
 
+pub live-requires-clause-graph : goal.live-requires-clause-graph
+live-requires-clause-graph c =
+    rw c.text-text.ensures (words_are c.args.view.now.image.text c.args.view.now.graph c.requires.graph)
+
 pub laid-requires-clause-pieces : goal.laid-requires-clause-pieces
 laid-requires-clause-pieces c =
     let fit = new_fit pieces_fit c.args.view.now.image.text c.args.view.now.graph c.args.view.now.image.base
-    c.args.view.now.image.room c.args.asked.now.kind c.args.asked.now.cells c.args.asked.now.snips.items c.requires.text
+    c.args.view.now.image.room c.args.asked.now.kind c.args.asked.now.cells (dead_on c.in_ok-live.live) c.args.asked.now.snips.items c.requires.text
     c.requires.graph c.requires.asked c.requires.room c.requires.low in
     rw (
-      c.deref-2.ensures.value,
+      c.deref-3.ensures.value,
       c.in_ok-pieces.ensures.list,
-      c.deref.ensures.value,
+      c.deref-2.ensures.value,
       c.text-text.ensures,
       c.table_base-table.ensures,
       c.base.ensures.address,
@@ -27,12 +36,12 @@ laid-requires-clause-pieces c =
 pub laid-requires-clause-room : goal.laid-requires-clause-room
 laid-requires-clause-room c =
     let room = new_room pieces_fit c.args.view.now.image.text c.args.view.now.graph c.args.view.now.image.base
-    c.args.view.now.image.room c.args.asked.now.kind c.args.asked.now.cells c.args.asked.now.snips.items c.requires.text
+    c.args.view.now.image.room c.args.asked.now.kind c.args.asked.now.cells (dead_on c.in_ok-live.live) c.args.asked.now.snips.items c.requires.text
     c.requires.graph c.requires.asked c.requires.room c.requires.low in
     rw (
-      c.deref-2.ensures.value,
+      c.deref-3.ensures.value,
       c.in_ok-pieces.ensures.list,
-      c.deref.ensures.value,
+      c.deref-2.ensures.value,
       c.text-text.ensures,
       c.table_base-table.ensures,
       c.base.ensures.address,
@@ -42,30 +51,30 @@ laid-requires-clause-room c =
 pub places_of-requires : goal.places_of-requires
 places_of-requires c =
     let fit = new_fit pieces_fit c.args.view.now.image.text c.args.view.now.graph c.args.view.now.image.base
-    c.args.view.now.image.room c.args.asked.now.kind c.args.asked.now.cells c.args.asked.now.snips.items c.requires.text
+    c.args.view.now.image.room c.args.asked.now.kind c.args.asked.now.cells (dead_on c.in_ok-live.live) c.args.asked.now.snips.items c.requires.text
     c.requires.graph c.requires.asked c.requires.room c.requires.low in
     let count = sym (length-map c.in_ok-placed.placed.at.items (λ (a : Addr). a.0))
-    ∙ c.in_ok-placed.ensures.laid.1.count in
-    rw (c.deref-4.ensures.value, c.deref-3.ensures.value)
+    ∙ c.in_ok-placed.ensures.1.laid.count in
+    rw (c.deref-5.ensures.value, c.deref-4.ensures.value)
     (landings_inside c.args.view.now.image.text c.args.view.now.graph _ _ fit c.in_ok-pieces.pieces.landing.items
     (rw (← c.text-text.ensures) c.in_ok-pieces.ensures.landing) (length c.in_ok-placed.placed.at.items)
-    (count ∙ ap length (c.deref-2.ensures.value ∙ c.in_ok-pieces.ensures.list
-    ∙ rw (c.deref.ensures.value, c.text-text.ensures, c.table_base-table.ensures, c.base.ensures.address) refl)))
+    (count ∙ ap length (c.deref-3.ensures.value ∙ c.in_ok-pieces.ensures.list
+    ∙ rw (c.deref-2.ensures.value, c.text-text.ensures, c.table_base-table.ensures, c.base.ensures.address) refl)))
 
 pub place_of-foreign-requires : goal.place_of-foreign-requires
 place_of-foreign-requires c =
     let fit = new_fit pieces_fit c.args.view.now.image.text c.args.view.now.graph c.args.view.now.image.base
-    c.args.view.now.image.room c.args.asked.now.kind c.args.asked.now.cells c.args.asked.now.snips.items c.requires.text
+    c.args.view.now.image.room c.args.asked.now.kind c.args.asked.now.cells (dead_on c.in_ok-live.live) c.args.asked.now.snips.items c.requires.text
     c.requires.graph c.requires.asked c.requires.room c.requires.low in
     let count = sym (length-map c.in_ok-placed.placed.at.items (λ (a : Addr). a.0))
-    ∙ c.in_ok-placed.ensures.laid.1.count in
+    ∙ c.in_ok-placed.ensures.1.laid.count in
     rw (
-      c.deref-5.ensures.value,
+      c.deref-6.ensures.value,
       count,
-      c.deref-2.ensures.value,
+      c.deref-3.ensures.value,
       c.in_ok-pieces.ensures.list,
       c.in_ok-pieces.ensures.foreign,
-      c.deref.ensures.value,
+      c.deref-2.ensures.value,
       c.text-text.ensures,
       c.table_base-table.ensures,
       c.base.ensures.address,
@@ -74,28 +83,43 @@ place_of-foreign-requires c =
 pub build-requires-clause-targets : goal.build-requires-clause-targets
 build-requires-clause-targets c =
     let fit = new_fit pieces_fit c.args.view.now.image.text c.args.view.now.graph c.args.view.now.image.base
-    c.args.view.now.image.room c.args.asked.now.kind c.args.asked.now.cells c.args.asked.now.snips.items c.requires.text
+    c.args.view.now.image.room c.args.asked.now.kind c.args.asked.now.cells (dead_on c.in_ok-live.live) c.args.asked.now.snips.items c.requires.text
     c.requires.graph c.requires.asked c.requires.room c.requires.low in
-    ap length (c.deref-6.ensures.value ∙ c.in_ok-targets.ensures)
-    ∙ length-map c.deref-4.result.now
-    (λ (n : PieceNo). addr (slice_index (map (λ (a : Addr). a.0) c.deref-3.result.now) n.0))
-    ∙ ap length c.deref-4.ensures.value
+    ap length (c.deref-7.ensures.value ∙ c.in_ok-targets.ensures)
+    ∙ length-map c.deref-5.result.now
+    (λ (n : PieceNo). addr (slice_index (map (λ (a : Addr). a.0) c.deref-4.result.now) n.0))
+    ∙ ap length c.deref-5.ensures.value
     ∙ landings_count c.args.view.now.image.text c.args.view.now.graph _ _ fit c.in_ok-pieces.pieces.landing.items
     (rw (← c.text-text.ensures) c.in_ok-pieces.ensures.landing)
     ∙ ap (λ (t : Words). length t.words) (sym c.text-text.ensures)
 
+pub returns-clause-built : goal.returns-clause-built
+returns-clause-built c =
+    record {
+      dead = dead_on c.in_ok-live.live;
+      exact = rest_is_dead c.args.view.now.image.text c.args.view.now.graph _ c.in_ok-live.live
+          (rw (← c.text-text.ensures, ← c.deref.ensures.value) c.in_ok-live.ensures);
+      place = c.in_ok-placed.ensures.0;
+      are = subst (λ (xs : List (List Item)). AreLaid xs
+          (table_after c.args.view.now.image.base c.args.asked.now.cells + size_of c.args.view.now.image.text)
+          (placement_in c.in_ok-placed.placed) c.in_ok-placed.ensures.0)
+          (c.deref-3.ensures.value ∙ c.in_ok-pieces.ensures.list
+          ∙ rw (c.deref-2.ensures.value, c.text-text.ensures, c.table_base-table.ensures, c.base.ensures.address) refl)
+          c.in_ok-placed.ensures.1;
+    }
+
 pub returns-clause-leads : goal.returns-clause-leads
 returns-clause-leads c =
     let fit = new_fit pieces_fit c.args.view.now.image.text c.args.view.now.graph c.args.view.now.image.base
-    c.args.view.now.image.room c.args.asked.now.kind c.args.asked.now.cells c.args.asked.now.snips.items c.requires.text
+    c.args.view.now.image.room c.args.asked.now.kind c.args.asked.now.cells (dead_on c.in_ok-live.live) c.args.asked.now.snips.items c.requires.text
     c.requires.graph c.requires.asked c.requires.room c.requires.low in
     let p = placement_in c.in_ok-placed.placed in
-    let targets : c.deref-6.result.now ≡ landings_of c.args.view.now.image.text c.args.view.now.graph
-    (placement_in c.in_ok-placed.placed) = c.deref-6.ensures.value ∙ c.in_ok-targets.ensures
-    ∙ rw (c.deref-3.ensures.value, c.deref-4.ensures.value)
+    let targets : c.deref-7.result.now ≡ landings_of c.args.view.now.image.text c.args.view.now.graph
+    (placement_in c.in_ok-placed.placed) = c.deref-7.ensures.value ∙ c.in_ok-targets.ensures
+    ∙ rw (c.deref-4.ensures.value, c.deref-5.ensures.value)
     (landings_are c.args.view.now.image.text c.args.view.now.graph _ _ fit c.in_ok-pieces.pieces.landing.items
     (rw (← c.text-text.ensures) c.in_ok-pieces.ensures.landing) p) in
     let foreign : c.place_of-foreign.result ≡ foreign_of c.args.view.now.image.text c.args.view.now.graph
     (placement_in c.in_ok-placed.placed) = c.place_of-foreign.ensures
-    ∙ rw (c.deref-5.ensures.value, c.in_ok-pieces.ensures.foreign, c.text-text.ensures) refl in
+    ∙ rw (c.deref-6.ensures.value, c.in_ok-pieces.ensures.foreign, c.text-text.ensures) refl in
     rw (← targets, ← foreign, ← c.text-text.ensures) c.in_ok-table.ensures.table

@@ -86,7 +86,7 @@ returns-clause-edited g c =
       asked,
       can,
       subst (IsFaithful c.args.bytes.now plan) (sym written.is)
-          (faithful (edits_run_alike pieces_make_images) places_say c.args.bytes.now plan
+          (faithful (edits_run_alike pieces_make_images pieces_fit) places_say c.args.bytes.now plan
           (original_fit pieces_fit c.args.bytes.now plan can work)
           c.requires.limit
           (λ k d below. let same = get_or_default_zero c.args.bytes.now k d below in let fits =

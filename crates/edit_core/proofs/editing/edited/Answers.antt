@@ -38,8 +38,8 @@ image_of-entry-requires c =
     let plan = plan_of marks c.args.asked.now in
     let new = c.in_ok-new.new in
     rw c.deref.ensures.value (entry_inside c.args.bytes.now plan c.args.view.now view new.placed new.table
-    c.in_ok-new.ensures.laid c.in_ok-new.ensures.size c.in_ok-new.ensures.base c.in_ok-new.ensures.leads
-    (original_fit pieces_fit c.args.bytes.now plan can work) c.entry.result.0
+    c.in_ok-new.ensures.built c.in_ok-new.ensures.base c.in_ok-new.ensures.leads
+    (original_fit pieces_fit c.args.bytes.now plan can work c.in_ok-new.ensures.built.dead) c.entry.result.0
     (rw c.entry.ensures.word c.entry.ensures.inside))
 
 pub write_notes-requires : goal.write_notes-requires
@@ -50,11 +50,11 @@ write_notes-requires c =
     let work = c.requires.asked.3 in
     let new = c.in_ok-new.new in
     let plan = plan_of marks c.args.asked.now in
-    let code = code_is c.args.bytes.now plan c.args.view.now view new.placed new.table c.in_ok-new.ensures.laid
-    c.in_ok-new.ensures.size c.in_ok-new.ensures.base c.in_ok-new.ensures.leads c.in_ok-added.ensures.code
+    let code = code_is c.args.bytes.now plan c.args.view.now view new.placed new.table c.in_ok-new.ensures.built
+    c.in_ok-new.ensures.base c.in_ok-new.ensures.leads c.in_ok-added.ensures.code
     c.in_ok-added.ensures.table in
     rw (c.in_ok-notes.ensures marks view) (notes_meet_rules c.args.bytes.now plan c.requires.limit can work _ _ _ code
-    (original_fit pieces_fit c.args.bytes.now plan can work))
+    (original_fit pieces_fit c.args.bytes.now plan can work code.dead))
 
 pub write_around-requires-clause-original : goal.write_around-requires-clause-original
 write_around-requires-clause-original c =
@@ -64,8 +64,8 @@ write_around-requires-clause-original c =
     let work = c.requires.asked.3 in
     let new = c.in_ok-new.new in
     let plan = plan_of marks c.args.asked.now in
-    let code = code_is c.args.bytes.now plan c.args.view.now view new.placed new.table c.in_ok-new.ensures.laid
-    c.in_ok-new.ensures.size c.in_ok-new.ensures.base c.in_ok-new.ensures.leads c.in_ok-added.ensures.code
+    let code = code_is c.args.bytes.now plan c.args.view.now view new.placed new.table c.in_ok-new.ensures.built
+    c.in_ok-new.ensures.base c.in_ok-new.ensures.leads c.in_ok-added.ensures.code
     c.in_ok-added.ensures.table in
     rw (
       c.deref-2.ensures.value,
@@ -76,14 +76,14 @@ write_around-requires-clause-original c =
       c.requires.asked.1.0,
     )
     (can_be_written c.args.bytes.now plan c.requires.limit can work _ _ _ code
-    (original_fit pieces_fit c.args.bytes.now plan can work))
+    (original_fit pieces_fit c.args.bytes.now plan can work code.dead))
 
 pub returns : goal.returns
 returns c = λ marks view.
     let new = c.in_ok-new.new in
     let plan = plan_of marks c.args.asked.now in
-    let code = code_is c.args.bytes.now plan c.args.view.now view new.placed new.table c.in_ok-new.ensures.laid
-    c.in_ok-new.ensures.size c.in_ok-new.ensures.base c.in_ok-new.ensures.leads c.in_ok-added.ensures.code
+    let code = code_is c.args.bytes.now plan c.args.view.now view new.placed new.table c.in_ok-new.ensures.built
+    c.in_ok-new.ensures.base c.in_ok-new.ensures.leads c.in_ok-added.ensures.code
     c.in_ok-added.ensures.table in
     record {
       p = _;

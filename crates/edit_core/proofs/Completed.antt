@@ -1,0 +1,154 @@
+-- Which edges a step completes: none, one, or that of a jump and then a landing.
+use Rattle.std.proofs.Common.{◌≡◌, ℕ, ◌-◌, ◌<◌, Bool, true, false, ◌&&◌, ◌==◌, List, [], ◌∷◌, ◌++◌, length, Option, Some, None, option_to_list, position, slice_index, refl, ap, sym, ◌∙◌, subst}
+use Rattle.std.specs.Prelude.{if◌then◌else◌}
+use Rattle.std.proofs.lemmas.Bool.{and_parts, or_left}
+use Rattle.std.proofs.lemmas.List.Quantifiers.{position-Some}
+use Rattle.eel_base.specs.CodeText.{Words, word_at}
+use Rattle.v8_decode.specs.declared.Instr.{Instr}
+use Rattle.v8_decode.specs.declared.Instr.TheVariants as i
+use Rattle.v8_decode.specs.declared.Part.{Part}
+use Rattle.v8_decode.specs.Parts.{every_part, has, is_member}
+use Rattle.v8_decode.specs.Words.{decode_of}
+use Rattle.v8_decode.proofs.Members.{has-every_part}
+use Rattle.v8_step.specs.declared.Slot.{Slot}
+use Rattle.v8_step.specs.declared.Slot.TheVariants.{NoSlot, Taken, Untaken}
+use Rattle.cfg_blocks.specs.Ends.{always}
+use Rattle.cfg_blocks.specs.declared.EdgeKind.{EdgeKind}
+use Rattle.cfg_blocks.specs.declared.EdgeKind.TheVariants as kinds
+use Rattle.cfg_normal.specs.declared.Edge.{Edge}
+use Rattle.cfg_normal.specs.declared.Node.{Node}
+use Rattle.cfg_normal.specs.declared.Node.TheVariants.{X}
+use Rattle.cfg_normal.specs.declared.Slot.TheVariants as carried
+use Rattle.cfg_normal.specs.Graph.{Graph, node_of}
+use Rattle.cfg_walk.specs.Walk.{Point, WayOut, by_kind, completed, edge_along, edge_from, ends_block, gone, instr_at, landed, landing_at, leads_along, left_at, left_by, same_kind, same_node, slot_left, way_of}
+use Rattle.liveness.specs.Live.{IsLiveOn, edge_at, is_call_or_jump, is_outside, is_unknown}
+
+abbrev IsIn : Graph → ℕ → Type 0
+IsIn graph e = e < length graph.edges
+
+-- Along the first of two edges a jump went.
+pub data Completes (graph : Graph) : List ℕ → Type 0 where
+  none : Completes graph []
+  one : (e : ℕ) → IsIn graph e → Completes graph (e ∷ [])
+  two : (e f : ℕ) → IsIn graph e → is_unknown (edge_at graph e) ≡ true → IsIn graph f → Completes graph (e ∷ f ∷ [])
+
+-- anything may be read behind an edge of a jump
+pub unknown_lives : (text : Words) (graph : Graph) (named : ℕ → List Part) (e : ℕ)
+    → is_unknown (edge_at graph e) ≡ true → (p : Part) → is_member p ≡ true → IsLiveOn text graph named e p
+unknown_lives text graph named e unknown p member =
+    ([], ap (λ (b : Bool). has (if b then every_part else []) p) unknown ∙ has-every_part p ∙ member)
+
+pub jump_kind : (kind : EdgeKind) → same_kind kind kinds.Out ≡ true → is_call_or_jump kind ≡ true
+jump_kind kinds.Out h = refl
+jump_kind kinds.Call h = refl
+jump_kind kinds.Fall h = absurd (cc)
+jump_kind kinds.Taken h = absurd (cc)
+jump_kind kinds.Untaken h = absurd (cc)
+jump_kind kinds.Land h = absurd (cc)
+
+module _ (graph : Graph) where
+  -- the edge that a search finds
+  found : (test : Edge → Bool) (e : ℕ) → position test graph.edges ≡ Some e
+      → IsIn graph e × (test (edge_at graph e) ≡ true)
+  found test e h =
+      let at = position-Some test graph.edges e no_edge h in
+      (at.0, at.1)
+    where
+      no_edge : Edge
+      no_edge = record { from = X; to = X; kind = kinds.Land; slot = carried.Nothing }
+
+  at_most_one : (test : Edge → Bool) → Completes graph (option_to_list (position test graph.edges))
+  at_most_one test = by (position test graph.edges) refl
+    where
+      by : (o : Option ℕ) → position test graph.edges ≡ o → Completes graph (option_to_list o)
+      by None h = none
+      by (Some e) h = one e (found test e h).0
+
+  at_most_two : (test other : Edge → Bool) → ((edge : Edge) → test edge ≡ true → is_unknown edge ≡ true)
+      → Completes graph (option_to_list (position test graph.edges) ++ option_to_list (position other graph.edges))
+  at_most_two test other jumps = by (position test graph.edges) refl (position other graph.edges) refl
+    where
+      by : (o : Option ℕ) → position test graph.edges ≡ o → (u : Option ℕ) → position other graph.edges ≡ u
+          → Completes graph (option_to_list o ++ option_to_list u)
+      by None h None k = none
+      by None h (Some f) k = one f (found other f k).0
+      by (Some e) h None k = one e (found test e h).0
+      by (Some e) h (Some f) k =
+          let first = found test e h in
+          two e f first.0 (jumps (edge_at graph e) first.1) (found other f k).0
+
+  along : (node : Node) (way : WayOut) → Completes graph (edge_along graph node way)
+  along node way =
+      at_most_one (λ edge. leads_along way.to edge && (same_node edge.from node && same_kind edge.kind way.kind))
+
+  -- ---- without a slot
+
+  fall : (node : Node) (b : Bool) → Completes graph (if b then edge_from graph node kinds.Fall else [])
+  fall node true = along node (by_kind kinds.Fall)
+  fall node false = none
+
+  left_by_one : (node : Node) (word : ℕ) (instr : Instr) → Completes graph (left_by graph node word instr)
+  left_by_one node word (i.Branch cond annul disp22) =
+      along node (by_kind (if cond == always then kinds.Taken else kinds.Untaken))
+  left_by_one node word _ = fall node (ends_block graph node word)
+
+  left_one : (text : Words) (node : Node) (o : Option ℕ) → Completes graph (left_at text graph node o)
+  left_one text node None = none
+  left_one text node (Some word) = left_by_one node word (decode_of (slice_index text.words word))
+
+  -- ---- out of a slot
+
+  jump_unknown : (node : Node) (edge : Edge)
+      → (leads_along None edge && (same_node edge.from node && same_kind edge.kind kinds.Out)) ≡ true
+      → is_unknown edge ≡ true
+  jump_unknown node edge h =
+      let rest = and_parts (leads_along None edge) (same_node edge.from node && same_kind edge.kind kinds.Out) h in
+      let kind = and_parts (same_node edge.from node) (same_kind edge.kind kinds.Out) rest.1 in
+      or_left (is_call_or_jump edge.kind) (is_outside edge.to) (jump_kind edge.kind kind.1)
+
+  along_then : (node : Node) (way : WayOut) → Completes graph (edge_along graph node way ++ [])
+  along_then node way = by (position test graph.edges) refl
+    where
+      test : Edge → Bool
+      test edge = leads_along way.to edge && (same_node edge.from node && same_kind edge.kind way.kind)
+
+      by : (o : Option ℕ) → position test graph.edges ≡ o → Completes graph (option_to_list o ++ [])
+      by None h = none
+      by (Some e) h = one e (found test e h).0
+
+  jumped : (text : Words) (node : Node) (next : ℕ) (o : Option ℕ) → word_at text next ≡ o
+      → Completes graph (slot_left text graph node kinds.Out next)
+  jumped text node next None e =
+      let nowhere : landed text graph kinds.Out next ≡ [] = rw e refl in
+      subst (λ (ns : List ℕ). Completes graph (edge_from graph node kinds.Out ++ ns)) (sym nowhere) (along_then node (by_kind kinds.Out))
+  jumped text node next (Some word) e =
+      let there : landed text graph kinds.Out next ≡ landing_at graph (node_of graph.blocks (Some word)) = rw e refl in
+      subst (λ (ns : List ℕ). Completes graph (edge_from graph node kinds.Out ++ ns)) (sym there)
+      (at_most_two (λ edge. leads_along None edge && (same_node edge.from node && same_kind edge.kind kinds.Out))
+      (λ edge. same_node edge.to (node_of graph.blocks (Some word)) && same_kind edge.kind kinds.Land) (jump_unknown node))
+
+  out_of_slot : (text : Words) (node : Node) (kind : EdgeKind) (next : ℕ)
+      → Completes graph (slot_left text graph node kind next)
+  out_of_slot text node kinds.Out next = jumped text node next (word_at text next) refl
+  out_of_slot text node kinds.Call next = along_then node (by_kind kinds.Call)
+  out_of_slot text node kinds.Fall next = along_then node (by_kind kinds.Fall)
+  out_of_slot text node kinds.Taken next = along_then node (by_kind kinds.Taken)
+  out_of_slot text node kinds.Untaken next = along_then node (by_kind kinds.Untaken)
+  out_of_slot text node kinds.Land next = along_then node (by_kind kinds.Land)
+
+  completes : (text : Words) (node : Node) (before after : Point) (was now : Slot)
+      → Completes graph (completed text graph node before after was now)
+  completes text node before after NoSlot NoSlot = left_one text node (word_at text before.pc)
+  completes text node before after Taken NoSlot = out_of_slot text node (way_of (instr_at text (before.pc - 4)) Taken) after.pc
+  completes text node before after Untaken NoSlot = out_of_slot text node (way_of (instr_at text (before.pc - 4)) Untaken) after.pc
+  completes text node before after NoSlot Taken = none
+  completes text node before after NoSlot Untaken = none
+  completes text node before after Taken Taken = none
+  completes text node before after Taken Untaken = none
+  completes text node before after Untaken Taken = none
+  completes text node before after Untaken Untaken = none
+
+  pub gone_completes : (text : Words) (node : Node) (before : Point) (after : Option Point)
+      → Completes graph (gone text graph node before after)
+  gone_completes text node before None = none
+  gone_completes text node before (Some after) = completes text node before after before.slot after.slot

@@ -1,0 +1,162 @@
+-- What lives is kept: the code of a snippet takes only what isn't live behind it, and what a snippet makes of the cells
+-- depends on the registers alone that it names.
+use Rattle.std.proofs.Common.{◌≡◌, ℕ, zero, suc, ◌+◌, ◌-◌, ◌*◌, ◌%◌, ◌<◌, ◌⊎◌, inl, inr, true, nat_lt, max, List, [], ◌∷◌, length, get_or, set, slice_index, refl, ap, sym, ◌∙◌, subst, arith, All, Contains}
+use Rattle.std.proofs.lemmas.Bool.{and_from, and_parts, cases_lt, cond_both, eq-eqb, lt-ltb, or_left, or_right}
+use Rattle.std.proofs.lemmas.List.{get_or_past}
+use Rattle.v8_decode.specs.declared.Part.{Part}
+use Rattle.v8_decode.specs.declared.Part.TheVariants.{Reg, Icc, Y}
+use Rattle.v8_decode.specs.Parts.{has, is_member, is_same, set_of}
+use Rattle.v8_decode.proofs.Members.{has-members}
+use Rattle.v8_windows.specs.Registers.{place_of}
+use Rattle.v8_windows.proofs.Places.{place_of-below}
+use Rattle.v8_step.specs.State.{State, register_of}
+use Rattle.v8_step.specs.Items.{IsAmong, IsItem, IsSameAt, Item, Register, item_of}
+use Rattle.v8_step.specs.Needed.{WritesIn}
+use Rattle.v8_step.specs.Run.{run}
+use Rattle.cfg_walk.specs.Walk.{end_of_walk, goes_on_at, gone_in, point_of}
+use Rattle.liveness.specs.Live.{IsLiveOn, named_on}
+use Rattle.live_walk.specs.Keeps.{IsKeptBehind, Keeps}
+use Rattle.live_walk.proofs.Keeps.{what_lives_is_kept}
+use Rattle.snippets.specs.declared.snippet.Op.{Op}
+use Rattle.snippets.specs.declared.snippet.Op.TheVariants.{Add, Put, Keep, Top}
+use Rattle.snippets.specs.Cells.{named_by, read_by, update, value_after}
+use Rattle.snippets.specs.Grammar.{IsOp}
+use Rattle.snippets.specs.Ops.{cell_of}
+use Rattle.image_code.specs.Simulates.{IsKept, Setting, graph_in, snippet_on, updates}
+use Rattle.edit_core.specs.Dead.{AreDead}
+use Rattle.edit_core.specs.Runs.{instr_in}
+use Rattle.edit_core.specs.Whole.{KeepsWhatLives, KeptIn}
+use Rattle.edit_core.proofs.Completed.{Completes, gone_completes, none, one, two, unknown_lives}
+
+-- ---- what snippets make of cells depends on the registers alone that they name
+
+same_self : (reg : ℕ) → is_same (Reg reg) (Reg reg) ≡ true
+same_self reg = eq-eqb reg reg refl
+
+module _ (f h : ℕ → ℕ) where
+  SameAt : List Op → Type 0
+  SameAt ops = (reg : ℕ) → reg < 32 → has (read_by ops) (Reg reg) ≡ true → f reg ≡ h reg
+
+  value_same : (op : Op) (ops : List Op) → IsOp op → SameAt (op ∷ ops) → (value : ℕ)
+      → value_after f op value ≡ value_after h op value
+  unfolding SameAt
+  value_same (Add cell amount) ops is same value = refl
+  value_same (Put cell new) ops is same value = refl
+  value_same (Keep cell reg) ops is same value = same reg is.1 (or_left _ _ (same_self reg))
+  value_same (Top cell reg) ops is same value = ap (max value) (same reg is.1 (or_left _ _ (same_self reg)))
+
+  rest_same : (op : Op) (ops : List Op) → SameAt (op ∷ ops) → SameAt ops
+  unfolding SameAt
+  rest_same (Add cell amount) ops same reg low reads = same reg low reads
+  rest_same (Put cell new) ops same reg low reads = same reg low reads
+  rest_same (Keep cell other) ops same reg low reads = same reg low (or_right _ _ reads)
+  rest_same (Top cell other) ops same reg low reads = same reg low (or_right _ _ reads)
+
+  update_same : (ops : List Op) → All IsOp ops → SameAt ops → (cells : List ℕ) → update f ops cells ≡ update h ops cells
+  update_same [] are same cells = refl
+  update_same (op ∷ ops) are same cells =
+      ap (λ (value : ℕ). update f ops (set cells (cell_of op) value))
+      (value_same op ops (are 0 op (omega arith)) same (get_or cells (cell_of op) 0))
+      ∙ update_same ops (λ k d l. are (suc k) d (omega (arith, l))) (rest_same op ops same)
+      (set cells (cell_of op) (value_after h op (get_or cells (cell_of op) 0)))
+
+ops_on : (snips : List (List Op)) → All (All IsOp) snips → (edge : ℕ) → All IsOp (snippet_on snips edge)
+ops_on snips are edge = elim (cases_lt edge (length snips)) [
+  | inl within ↦ are edge [] within
+  | inr past ↦ subst (All IsOp) (sym (get_or_past snips edge [] past)) (λ k d l. absurd (omega (arith, l)))
+]
+
+updates_same : (snips : List (List Op)) → All (All IsOp) snips → (edges cells : List ℕ) (s v : State)
+    → ((edge : ℕ) → Contains edges edge → (reg : ℕ) → reg < 32 → has (read_by (snippet_on snips edge)) (Reg reg) ≡ true
+    → register_of s reg ≡ register_of v reg)
+    → updates snips edges cells s ≡ updates snips edges cells v
+unfolding SameAt
+updates_same snips are [] cells s v same = refl
+updates_same snips are (edge ∷ edges) cells s v same =
+    ap (λ (now : List ℕ). updates snips edges now s)
+    (update_same (register_of s) (register_of v) (snippet_on snips edge) (ops_on snips are edge)
+    (same edge (0, omega arith, refl)) cells)
+    ∙ updates_same snips are edges (update (register_of v) (snippet_on snips edge) cells) s v
+    (λ other c. let l = c.1 in same other (suc c.0, omega (arith, l), c.2))
+
+place_some : (window r : ℕ) → 0 < place_of window (suc r)
+place_some window r =
+    cond_both (nat_lt (suc r) 8) (suc r) (8 + (16 * window + (suc r - 8)) % 128) (λ (n : ℕ). 0 < n) (λ _. omega arith)
+    (λ _. omega arith)
+
+-- ---- what is dead isn't kept
+
+-- one of the parts that name the item
+name_among : (item : Item) (window : ℕ) (parts : List Part) → IsAmong item window parts
+    → (part : Part) × (has parts part ≡ true) × (item ≡ item_of window part)
+name_among item window [] among = absurd among
+name_among item window (p ∷ ps) (inl is) = (p, or_left _ _ (part_self p), sym is)
+  where
+    part_self : (p : Part) → is_same p p ≡ true
+    part_self (Reg r) = eq-eqb r r refl
+    part_self Icc = refl
+    part_self Y = refl
+name_among item window (p ∷ ps) (inr among) =
+    let rest = name_among item window ps among in
+    (rest.0, or_right _ _ rest.1, rest.2)
+
+module _ (g : Setting) (dead : AreDead g.text (graph_in g) (named_on g.snips) g.dead) (item : Item) (window : ℕ) where
+  abbrev Lives : ℕ → Part → Type 0
+  Lives e p = IsLiveOn g.text (graph_in g) (named_on g.snips) e p
+
+  -- no part that is dead behind an edge names an item that only live ones name
+  not_dead : (e : ℕ) → e < length (graph_in g).edges
+      → ((p : Part) → is_member p ≡ true → ¬ Lives e p → item ≡ item_of window p → ⊥)
+      → IsAmong item window (g.dead e) → ⊥
+  not_dead e within live among =
+      let name = name_among item window (g.dead e) among in
+      let member = member_of name.0 (subst (λ (ps : List Part). has ps name.0 ≡ true) (sym (dead.sets e within)) name.1) in
+      live name.0 member ((dead.all e within name.0 member).0 name.1) name.2
+    where
+      member_of : (p : Part) → has (set_of (g.dead e)) p ≡ true → is_member p ≡ true
+      member_of p h = (and_parts _ _ (sym (has-members (has (g.dead e)) p) ∙ h)).0
+
+  kept_by : (edges : List ℕ) → Completes (graph_in g) edges
+      → IsKeptBehind g.text (graph_in g) (named_on g.snips) edges window item → IsKept g edges window item
+  kept_by _ none behind = tt
+  kept_by _ (one e within) behind = (not_dead e within (behind [] e refl), tt)
+  kept_by _ (two e f within unknown other) behind =
+      let first = not_dead e within (λ p member live same.
+      live (unknown_lives g.text (graph_in g) (named_on g.snips) e unknown p member)) in
+      let second = not_dead f other (behind (e ∷ []) f refl) in
+      (first, (second, tt))
+
+pub keeps_what_lives : KeepsWhatLives
+keeps_what_lives g entry s0 text fetches begins dead are =
+    let keeps : Keeps g.text (graph_in g) (named_on g.snips) entry s0 =
+    what_lives_is_kept g.text g.given entry s0 (named_on g.snips) text fetches begins in
+    record {
+      reads = λ n item is live r. keeps.reads n item live is r;
+      back = λ n item k. keeps.back n item k;
+      live = λ n item k.
+          kept_by g dead item (run s0 (suc n)).window (gone_in g.text (graph_in g) entry s0 n)
+          (gone_completes (graph_in g) g.text (end_of_walk g.text (graph_in g) entry s0 n) (point_of (run s0 n))
+          (goes_on_at (run s0 (suc n))))
+          (keeps.live n item k);
+      needed = λ n item k. keeps.needed n item k;
+      named = λ n cells v live window same.
+          updates_same g.snips are (gone_in g.text (graph_in g) entry s0 n) cells (run s0 (suc n)) v
+          (λ edge gone reg low reads. registers n v window same keeps edge gone reg low reads);
+    }
+  where
+    registers : (n : ℕ) (v : State) → (run s0 (suc n)).window ≡ v.window
+        → ((item : Item) → IsItem item → (WritesIn (instr_in g s0 n) (run s0 n).window item ⊎ KeptIn g entry s0 n item)
+        → IsSameAt item (run s0 (suc n)) v)
+        → Keeps g.text (graph_in g) (named_on g.snips) entry s0
+        → (edge : ℕ) → Contains (gone_in g.text (graph_in g) entry s0 n) edge
+        → (reg : ℕ) → reg < 32 → has (read_by (snippet_on g.snips edge)) (Reg reg) ≡ true
+        → register_of (run s0 (suc n)) reg ≡ register_of v reg
+    registers n v window same keeps edge gone zero low reads = refl
+    registers n v window same keeps edge gone (suc r) low reads =
+        let member : is_member (Reg (suc r)) ≡ true = and_from _ _ (lt-ltb 0 (suc r) (omega arith)) (lt-ltb (suc r) 32 low) in
+        let named : has (named_by (snippet_on g.snips edge)) (Reg (suc r)) ≡ true =
+        has-members (has (read_by (snippet_on g.snips edge))) (Reg (suc r)) ∙ and_from _ _ member reads in
+        same (Register (place_of (run s0 (suc n)).window (suc r)))
+        (place_some (run s0 (suc n)).window r, place_of-below (run s0 (suc n)).window (suc r))
+        (keeps.named_items n edge (Reg (suc r)) gone member named)
+        ∙ ap (λ (w : ℕ). slice_index v.registers (place_of w (suc r))) window
