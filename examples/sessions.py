@@ -28,10 +28,15 @@ def draws(number):
         yield number >> 16
 
 
-def made(number, count):
-    """The program that `demo` makes, of so many routines: each turns a loop some times, and adds some amount in it."""
+def drawn_routines(number, count):
+    """How often the loop of each turns, and what each turn adds."""
     drawn = draws(number)
-    routines = [(1 + next(drawn) % 16, next(drawn) % 64) for _ in range(count)]
+    return [(1 + next(drawn) % 16, next(drawn) % 64) for _ in range(count)]
+
+
+def made(number, count):
+    """The program that `demo` makes, of so many routines."""
+    routines = drawn_routines(number, count)
     calls = [[0x40000000 + 2 * count + 2 + 5 * routine, 0x01000000] for routine in range(count)]
     codes = [[0x84102000 + turns, 0x90022000 + amount, 0x84a0a001, 0x12bffffe, 0x01000000, 0x81c3e008, 0x01000000]
         for turns, amount in routines]
@@ -300,7 +305,7 @@ def uncounted():
 
 
 def told(number, count, executions):
-    """What `demo` prints: of routines, two edges for each call, three for each exit and its slot, and all the landings."""
+    """What `demo` prints."""
     program = made(number, count)
     return (f'demo {number} routines {count}\n'
         f'words {9 * count + 2} blocks {7 * count + 1} edges {15 * count + 2}\n'
@@ -317,6 +322,8 @@ def demo():
     for number, count in [(1, 1), (0, 1), (4294967295, 10)]:
         yield eel(f'demo {number} {count}', 0, told(number, count, counted(number, count)))
     yield eel('demo 0000000001 0000000001', 0, told(1, 1, counted(1, 1)))
+    # of each routine: its call, the way to its loop, a way out of each turn, the return, and the landing behind the call
+    yield eel('demo 7 60000', 0, told(7, 60000, sum(turns + 4 for turns, _ in drawn_routines(7, 60000))))
     for line in ['demo 1 0', 'demo 1 100001', 'demo 4294967296 1', 'demo 00000000001 1', 'demo 1 x', 'demo -1 1', 'demo 1',
             'demo 1 1 1']:
         yield eel(line, 64, err=BAD_WORDS)
