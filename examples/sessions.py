@@ -19,7 +19,37 @@ ARGUMENT = Program('prints_its_argument',
 SHOWN = {'leaves_at_both_ends': 'trap 1', 'never_and_always': 'trap 1', 'ends_with_a_jump': 'trap 1',
     'ends_with_a_branch': 'trap 1', 'leads_to_a_slot': 'couple', 'data_words': 'trap 2'}
 
-EDITED = {program.name: program for program in [*SMALL, *C_PROGRAMS, ARGUMENT]}
+
+
+def draws(number):
+    """The numbers that are drawn, one after the other."""
+    while True:
+        number = (1103515245 * number + 12345) % 2**32
+        yield number >> 16
+
+
+def drawn_routines(number, count):
+    """How often the loop of each turns, and what each turn adds."""
+    drawn = draws(number)
+    return [(1 + next(drawn) % 16, next(drawn) % 64) for _ in range(count)]
+
+
+def made(number, count):
+    """The program that `demo` makes, of so many routines."""
+    routines = drawn_routines(number, count)
+    calls = [[0x40000000 + 2 * count + 2 + 5 * routine, 0x01000000] for routine in range(count)]
+    codes = [[0x84102000 + turns, 0x90022000 + amount, 0x84a0a001, 0x12bffffe, 0x01000000, 0x81c3e008, 0x01000000]
+        for turns, amount in routines]
+    words = [word for code in [*calls, [0x82102001, 0x91d02010], *codes] for word in code]
+    steps = 2 * count + 2 + sum(4 * turns + 3 for turns, _ in routines)
+    total = sum(turns * amount for turns, amount in routines)
+    return Program(f'made_{number}_{count}', ' '.join(f'{word:08x}' for word in words), steps, f'exit {total % 256}')
+
+
+# One that is edited and counted, too.
+MADE = made(1, 1)
+
+EDITED = {program.name: program for program in [*SMALL, *C_PROGRAMS, ARGUMENT, MADE]}
 EDITED |= {name: Program(name, listings.WORDS[name], 0, ending) for name, ending in SHOWN.items()}
 THREE_WORDS = EDITED['three_words']
 ECHOES = EDITED['echoes']
@@ -274,8 +304,35 @@ def uncounted():
     yield eel('counts profiled dump dump', 64, err=BAD_WORDS)
 
 
+def told(number, count, executions):
+    """What `demo` prints."""
+    program = made(number, count)
+    return (f'demo {number} routines {count}\n'
+        f'words {9 * count + 2} blocks {7 * count + 1} edges {15 * count + 2}\n'
+        f'ending {program.ending} steps {program.steps}\nexecutions {executions}\n').encode()
+
+
+def counted(number, count):
+    """How often the edges of a program that is made are completed in all, by a plain count of its run."""
+    return sum(plain_count.edge_counts(made(number, count).file(), [], b''))
+
+
+def demo():
+    """Programs that are made from numbers, and words that say none."""
+    for number, count in [(1, 1), (0, 1), (4294967295, 10)]:
+        yield eel(f'demo {number} {count}', 0, told(number, count, counted(number, count)))
+    yield eel('demo 0000000001 0000000001', 0, told(1, 1, counted(1, 1)))
+    # of each routine: its call, the way to its loop, a way out of each turn, the return, and the landing behind the call
+    yield eel('demo 7 60000', 0, told(7, 60000, sum(turns + 4 for turns, _ in drawn_routines(7, 60000))))
+    for line in ['demo 1 0', 'demo 1 100001', 'demo 4294967296 1', 'demo 00000000001 1', 'demo 1 x', 'demo -1 1', 'demo 1',
+            'demo 1 1 1']:
+        yield eel(line, 64, err=BAD_WORDS)
+    yield 'room 5 100', b''
+    yield eel('demo 1 1', 74, b'demo ', DEVICE_FAULT)
+
+
 SESSIONS = {'edits': list(edits()), 'scripts': list(scripts()), 'words': list(words()), 'restores': list(restores()),
-    'refusals': list(refusals()), 'profiles': list(profiles()), 'uncounted': list(uncounted())}
+    'refusals': list(refusals()), 'profiles': list(profiles()), 'uncounted': list(uncounted()), 'demo': list(demo())}
 
 
 def program_file(name):
@@ -302,6 +359,7 @@ def files():
         yield f'{name}.counts', words_of(counts)
     yield 'three_words.broken', broken()
     yield ARGUMENT.name, ARGUMENT.file()
+    yield MADE.name, MADE.file()
     yield 'cramped', cramped()
     yield from DUMPS.items()
     for name, lines in SESSIONS.items():

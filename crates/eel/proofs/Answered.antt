@@ -1,8 +1,8 @@
 -- What there is after a call, by its status.
-use Rattle.std.proofs.Common.{◌≡◌, ℕ, inl, inr, Some, None, ap, subst, arith}
-use Rattle.eel.specs.Command.{Command, EditPlain, EditScript, Run, Show, Restore, EditProfile, Counts, Unknown}
+use Rattle.std.proofs.Common.{◌≡◌, ℕ, ◌⊎◌, inl, inr, Some, None, ap, sym, subst, arith}
+use Rattle.eel.specs.Command.{Command, EditPlain, EditScript, Run, Show, Restore, EditProfile, Counts, Demo, Unknown}
 use Rattle.eel.specs.Outcome.{Shows, shown, failed, status_of}
-use Rattle.eel.specs.Answers.{Ran, IsDone, IsRefusal, IsUnchanged, HasFailed, WasWanting, meaning_of, unknown_means}
+use Rattle.eel.specs.Answers.{Ran, IsDone, IsUnrefused, IsRefusal, IsUnchanged, HasFailed, WasWanting, meaning_of, unknown_means}
 use Rattle.eel.specs.Answers.Shared.{Outside, with_err}
 use Rattle.eel.proofs.Later.{rose-before, rose-after}
 use Rattle.eel.proofs.Meanings.{IsByStatus, AnyRose, refusal_is_bad}
@@ -14,6 +14,7 @@ use Rattle.eel.proofs.Showing.{show_by_status}
 use Rattle.eel.proofs.Restoring.{restore_by_status}
 use Rattle.eel.proofs.ProfileEdits.{profile_by_status}
 use Rattle.eel.proofs.Counted.{counts_by_status}
+use Rattle.eel.proofs.Telling.{demo_by_status, status_told}
 
 unknown_by_status : IsByStatus unknown_means
 unknown_by_status = record {
@@ -35,6 +36,7 @@ by_status (Show file) = show_by_status file
 by_status (Restore written output) = restore_by_status written output
 by_status (EditProfile input output) = profile_by_status input output
 by_status (Counts written dump) = counts_by_status written dump
+by_status (Demo number routines) = demo_by_status number routines
 by_status Unknown = unknown_by_status
 
 pub done_shown : (command : Command) (old new : Outside) (status : ℕ) → Ran command old new status
@@ -54,6 +56,24 @@ refused_shown command old new status r refusal = at r.shown
         let kept = (by_status command).refused old (with_err new r.err) r.outcome r.follows (subst IsRefusal is refusal) in
         record { files = kept.files; out = kept.out }
     at (failed is took rose) = absurd ((refusal_is_bad status refusal).not_failed is)
+
+pub unrefused_shown : (command : Command) (old new : Outside) (status : ℕ) → Ran command old new status
+    → IsUnrefused command status
+unrefused_shown (Demo number routines) old new status r = at r.shown
+  where
+    at : Shows r.outcome status r.err new.err → (status ≡ 0) ⊎ (status ≡ 70) ⊎ (status ≡ 74)
+    at (shown is took) =
+        subst (λ (n : ℕ). (n ≡ 0) ⊎ (n ≡ 70) ⊎ (n ≡ 74)) (sym is)
+        (status_told number routines old (with_err new r.err) r.outcome r.follows.0)
+    at (failed is took rose) = inr (inr is)
+unrefused_shown (EditPlain input output) old new status r = tt
+unrefused_shown (EditScript input output script) old new status r = tt
+unrefused_shown (Run file limit dump args) old new status r = tt
+unrefused_shown (Show file) old new status r = tt
+unrefused_shown (Restore written output) old new status r = tt
+unrefused_shown (EditProfile input output) old new status r = tt
+unrefused_shown (Counts written dump) old new status r = tt
+unrefused_shown Unknown old new status r = tt
 
 pub wanting_shown : (command : Command) (old new : Outside) (status : ℕ) → Ran command old new status
     → status ≡ 70 → WasWanting command old new

@@ -1,5 +1,5 @@
 -- The counts of a profile are exact.
-use Rattle.std.proofs.Common.{◌≡◌, ℕ, zero, suc, ◌<◌, ◌≤◌, List, [], ◌∷◌, length, map, refl, ap, sym, ◌∙◌, subst, arith}
+use Rattle.std.proofs.Common.{◌≡◌, ℕ, zero, suc, ◌<◌, List, [], ◌∷◌, map, refl, ap, sym, ◌∙◌, subst}
 use Rattle.std.specs.Prelude.{Option, Some, None, IfSome, get_or, Result, Ok, Err}
 use Rattle.std.specs.List.{All}
 use Rattle.std.specs.Option.{is_some}
@@ -14,7 +14,7 @@ use Rattle.snippets.specs.declared.snippet.Op.TheVariants.{Add}
 use Rattle.snippets.specs.Ops.{cell_of}
 use Rattle.snippets.specs.Cells.{WorksBelow}
 use Rattle.cfg_normal.specs.Graph.{Graph}
-use Rattle.span_tree.specs.Cells.{AreNumbered, cell_at, cell_count, has_cell}
+use Rattle.span_tree.specs.Cells.{cell_at, cell_count, has_cell}
 use Rattle.span_tree.specs.Links.{links_of}
 use Rattle.span_tree.proofs.Numbered.{cell_within}
 use Rattle.dump_file.specs.Dump.{Dump}
@@ -67,10 +67,10 @@ abbrev notes_in : Notes → Result Notes NoNotes → Notes
 notes_in notes (Ok read) = read
 notes_in notes (Err why) = notes
 
-one_notes : (file : List ℕ) (one other : Notes) → notes_of file ≡ Ok one → notes_of file ≡ Ok other → other ≡ one
+pub one_notes : (file : List ℕ) (one other : Notes) → notes_of file ≡ Ok one → notes_of file ≡ Ok other → other ≡ one
 one_notes file one other first second = ap (notes_in one) (sym second ∙ first)
 
-is_profiled : (original file : List ℕ) (notes : Notes) (profile : IsProfileOf original file) → AreBytes original
+pub is_profiled : (original file : List ℕ) (notes : Notes) (profile : IsProfileOf original file) → AreBytes original
     → notes_of file ≡ Ok notes → IsProfiled original (profile_plan profile.cells) file notes
 is_profiled original file notes profile bytes read =
     let faithful = profile.made.faithful in

@@ -6,6 +6,7 @@ pub mod Editing
 pub mod ExactProfiles
 pub mod Later
 pub mod Lines
+pub mod Made
 pub mod Meanings
 pub mod ProfileEdits
 pub mod Profiled
@@ -13,4 +14,6 @@ pub mod Restoring
 pub mod Running
 pub mod Scripting
 pub mod Showing
+pub mod Tame
+pub mod Telling
 pub mod Tools

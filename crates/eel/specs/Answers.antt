@@ -10,6 +10,7 @@ pub mod Dump
 pub mod Show
 pub mod Restore
 pub mod Counts
+pub mod Demo
 use Rattle.std.specs.Prelude.{◌≡◌, ℕ, ◌≤◌, ◌⊎◌, Some, None}
 use Rattle.eel_base.specs.Outside.{Rose}
 use Rattle.eel.specs.Command.{Command}
@@ -24,6 +25,7 @@ use Rattle.eel.specs.Answers.Show.{show_means}
 use Rattle.eel.specs.Answers.Restore.{restore_means}
 use Rattle.eel.specs.Answers.Profile.{profile_means}
 use Rattle.eel.specs.Answers.Counts.{counts_means}
+use Rattle.eel.specs.Answers.Demo.{demo_means}
 
 -- words outside the grammar
 abbrev pub unknown_means : Meaning
@@ -44,6 +46,7 @@ meaning_of (words.Show file) = show_means file
 meaning_of (words.Restore written output) = restore_means written output
 meaning_of (words.EditProfile input output) = profile_means input output
 meaning_of (words.Counts written dump) = counts_means written dump
+meaning_of (words.Demo number routines) = demo_means number routines
 meaning_of words.Unknown = unknown_means
 
 -- A call of the program: some outcome follows from the command, and then its line is written to the error stream.
@@ -80,3 +83,8 @@ abbrev pub HasFailed : Command → Outside → Outside → Type 0
 HasFailed command old new =
     Rose old.files.faults new.files.faults ⊎ Rose old.input.faults new.input.faults
     ⊎ Rose old.out.faults new.out.faults ⊎ Rose old.err.faults new.err.faults ⊎ (meaning_of command).lacks old.files
+
+-- What is made from a number is never refused: there is no other status than 0, 70 and 74.
+abbrev pub IsUnrefused : Command → ℕ → Type 0
+IsUnrefused (words.Demo number routines) status = (status ≡ 0) ⊎ (status ≡ 70) ⊎ (status ≡ 74)
+IsUnrefused _ status = Unit {0}

@@ -1,5 +1,5 @@
 -- The grammar of the program's words.
-use Rattle.std.specs.Prelude.{ℕ, ◌+◌, ◌-◌, ◌*◌, ◌^◌, ◌&&◌, nat_le, nat_lt, Bool, if◌then◌else◌, List, [], ◌∷◌, length, codes, Option, Some, None}
+use Rattle.std.specs.Prelude.{ℕ, ◌+◌, ◌-◌, ◌*◌, ◌^◌, ◌≤◌, ◌&&◌, nat_le, nat_lt, Bool, if◌then◌else◌, List, [], ◌∷◌, length, codes, Option, Some, None}
 use Rattle.std.specs.Borrow.{Bor}
 use Rattle.std.specs.List.{fold, list_all}
 use Rattle.std.specs.Str.{bytes_eq}
@@ -24,6 +24,8 @@ pub data Command : Type 0 where
   Restore : (written output : List ℕ) → Command
   -- counts WRITTEN DUMP
   Counts : (written dump : List ℕ) → Command
+  -- demo NUMBER ROUTINES
+  Demo : (number routines : ℕ) → Command
   -- words outside the grammar
   Unknown : Command
 
@@ -128,6 +130,24 @@ abbrev pub counts_of : List (List ℕ) → Command
 counts_of (written ∷ dump ∷ []) = Counts written dump
 counts_of _ = Unknown
 
+-- ---- demo
+
+-- a number: one to ten digits, with a value below 2^32
+abbrev pub number_of : List ℕ → Option ℕ
+number_of text =
+    if nat_le 1 (length text) && nat_le (length text) 10 && list_all is_digit text && nat_lt (value_of text) (2 ^ 32)
+    then Some (value_of text) else None
+
+-- a number, and how many routines there are: 1 to 100,000
+abbrev pub demo_with : Option ℕ → Option ℕ → Command
+demo_with (Some number) (Some routines) =
+    if nat_le 1 routines && nat_le routines 100000 then Demo number routines else Unknown
+demo_with _ _ = Unknown
+
+abbrev pub demo_of : List (List ℕ) → Command
+demo_of (number ∷ routines ∷ []) = demo_with (number_of number) (number_of routines)
+demo_of _ = Unknown
+
 -- ---- what the words ask for
 
 abbrev pub command_of : List (List ℕ) → Command
@@ -137,12 +157,14 @@ command_of (verb ∷ words) =
     if bytes_eq verb (codes "run") then run_of words else
     if bytes_eq verb (codes "show") then show_of words else
     if bytes_eq verb (codes "restore") then restore_of words else
-    if bytes_eq verb (codes "counts") then counts_of words else Unknown
+    if bytes_eq verb (codes "counts") then counts_of words else
+    if bytes_eq verb (codes "demo") then demo_of words else Unknown
 
--- the arguments of a run, where the command is one, are ones that a program can be given
-abbrev pub HasArguments : Command → Type 0
-HasArguments (Run file limit dump args) = AreArguments args
-HasArguments _ = Unit {0}
+-- the arguments of a run are ones that a program can be given, and as many routines are asked for as can be made
+abbrev pub KeepsLimits : Command → Type 0
+KeepsLimits (Run file limit dump args) = AreArguments args
+KeepsLimits (Demo number routines) = (1 ≤ routines) × (routines ≤ 100000)
+KeepsLimits _ = Unit {0}
 
 -- a name, if there is one
 abbrev pub name_seen : Option (Bor (List ℕ)) → Option (List ℕ)
@@ -158,4 +180,5 @@ command_seen (variants.Show file) = Show file.now
 command_seen (variants.Restore written output) = Restore written.now output.now
 command_seen (variants.EditProfile input output) = EditProfile input.now output.now
 command_seen (variants.Counts written dump) = Counts written.now dump.now
+command_seen (variants.Demo number routines) = Demo number routines
 command_seen variants.Unknown = Unknown

@@ -1,4 +1,5 @@
 pub mod Answers
 pub mod Cells
+pub mod Tame
 pub mod Command
 pub mod Outcome

@@ -5,7 +5,7 @@ ghost use Rattle.std.specs.List.{All, list_all};
 ghost use Rattle.v8_step.specs.Valid.{AreBytes};
 ghost use Rattle.v8_process.specs.Arguments.{AreArguments};
 ghost use Rattle.v8_process.specs.Start.{strings};
-ghost use Rattle.eel.specs.Command.{HasArguments, command_of, command_seen, edit_of, tool_of, run_of, options_of, after_limit, after_dump, limited, arguments_of, are_few, is_digit, limit_of, name_seen, restore_of, counts_of, show_of, texts, unlimited};
+ghost use Rattle.eel.specs.Command.{KeepsLimits, command_of, command_seen, edit_of, tool_of, run_of, options_of, after_limit, after_dump, limited, arguments_of, are_few, is_digit, limit_of, number_of, name_seen, restore_of, counts_of, demo_of, demo_with as demo_with_of, show_of, texts, unlimited};
 
 /// What the words ask for.
 #[derive(Clone, Copy)]
@@ -49,6 +49,12 @@ pub enum Command<'a> {
         written: &'a str,
         dump: &'a str,
     },
+    /// `demo NUMBER ROUTINES`: make a program of so many routines from the number, edit it with counters, run both, and
+    /// print what is told of them.
+    Demo {
+        number: u32,
+        routines: u32,
+    },
     /// The words are outside the grammar.
     Unknown,
 }
@@ -65,10 +71,16 @@ const MOST_ARGUMENT_BYTES: usize = 65_536;
 /// How many digits a limit has at most.
 const MOST_DIGITS: usize = 20;
 
+/// How many digits other numbers have at most.
+const MOST_NUMBER_DIGITS: usize = 10;
+
+/// How many routines a program that is made has at most.
+const MOST_ROUTINES: u32 = 100_000;
+
 /// The command that the words are.
 pub fn parse<'a>(words: &'a [&'a str]) -> Command<'a>
     ensures command { command_seen result ≡ command_of (texts words.now) }
-    ensures few { HasArguments (command_seen result) }
+    ensures few { KeepsLimits (command_seen result) }
 {
     match words {
         [verb, words @ ..] if *verb == "edit" => parse_edit(words),
@@ -76,6 +88,7 @@ pub fn parse<'a>(words: &'a [&'a str]) -> Command<'a>
         [verb, words @ ..] if *verb == "show" => parse_show(words),
         [verb, words @ ..] if *verb == "restore" => parse_restore(words),
         [verb, words @ ..] if *verb == "counts" => parse_counts(words),
+        [verb, words @ ..] if *verb == "demo" => parse_demo(words),
         _ => Command::Unknown,
     }
 }
@@ -138,10 +151,34 @@ fn parse_counts<'a>(words: &'a [&'a str]) -> Command<'a>
     }
 }
 
+/// What follows the word `demo`: a number, and how many routines there are.
+fn parse_demo<'a>(words: &'a [&'a str]) -> Command<'a>
+    ensures command { command_seen result ≡ demo_of (texts words.now) }
+    ensures limits { KeepsLimits (command_seen result) }
+{
+    match words {
+        [number, routines] => demo_with(parse_number(number), parse_number(routines)),
+        _ => Command::Unknown,
+    }
+}
+
+/// A demonstration with these, if both are numbers, and so many routines can be made.
+fn demo_with(number: Option<u32>, routines: Option<u32>) -> Command<'static>
+    ensures command { command_seen result ≡ demo_with_of number routines }
+    ensures limits { KeepsLimits (command_seen result) }
+{
+    match (number, routines) {
+        (Some(number), Some(routines)) if 1 <= routines && routines <= MOST_ROUTINES => {
+            Command::Demo { number, routines }
+        }
+        _ => Command::Unknown,
+    }
+}
+
 /// What follows the word `run`: the file, a limit after `-n`, a dump after `-d`, and arguments after `--`.
 fn parse_run<'a>(words: &'a [&'a str]) -> Command<'a>
     ensures command { command_seen result ≡ run_of (texts words.now) }
-    ensures few { HasArguments (command_seen result) }
+    ensures few { KeepsLimits (command_seen result) }
 {
     match words {
         [file, words @ ..] => parse_options(file, words),
@@ -152,7 +189,7 @@ fn parse_run<'a>(words: &'a [&'a str]) -> Command<'a>
 /// What follows the file.
 fn parse_options<'a>(file: &'a str, words: &'a [&'a str]) -> Command<'a>
     ensures command { command_seen result ≡ options_of file.now (texts words.now) }
-    ensures few { HasArguments (command_seen result) }
+    ensures few { KeepsLimits (command_seen result) }
 {
     match words {
         [option, limit, words @ ..] if *option == "-n" => {
@@ -166,7 +203,7 @@ fn parse_options<'a>(file: &'a str, words: &'a [&'a str]) -> Command<'a>
 #[tactic(auto, unfolding(crate::specs::Command::unlimited))]
 fn parse_unlimited<'a>(file: &'a str, words: &'a [&'a str]) -> Command<'a>
     ensures command { command_seen result ≡ unlimited file.now (texts words.now) }
-    ensures few { HasArguments (command_seen result) }
+    ensures few { KeepsLimits (command_seen result) }
 {
     match words {
         [option, dump, words @ ..] if *option == "-d" => parse_after_dump(file, dump, words),
@@ -177,7 +214,7 @@ fn parse_unlimited<'a>(file: &'a str, words: &'a [&'a str]) -> Command<'a>
 /// What follows a limit.
 fn parse_after_limit<'a>(file: &'a str, limit: Option<u64>, words: &'a [&'a str]) -> Command<'a>
     ensures command { command_seen result ≡ after_limit file.now limit (texts words.now) }
-    ensures few { HasArguments (command_seen result) }
+    ensures few { KeepsLimits (command_seen result) }
 {
     match words {
         [option, dump, words @ ..] if *option == "-d" => {
@@ -190,7 +227,7 @@ fn parse_after_limit<'a>(file: &'a str, limit: Option<u64>, words: &'a [&'a str]
 /// What follows a dump.
 fn parse_after_dump<'a>(file: &'a str, dump: &'a str, words: &'a [&'a str]) -> Command<'a>
     ensures command { command_seen result ≡ after_dump file.now dump.now (texts words.now) }
-    ensures few { HasArguments (command_seen result) }
+    ensures few { KeepsLimits (command_seen result) }
 {
     match words {
         [option, limit, words @ ..] if *option == "-n" => {
@@ -208,7 +245,7 @@ fn parse_limited<'a>(
     words: &'a [&'a str],
 ) -> Command<'a>
     ensures command { command_seen result ≡ limited file.now limit (name_seen dump.entry) (texts words.now) }
-    ensures few { HasArguments (command_seen result) }
+    ensures few { KeepsLimits (command_seen result) }
 {
     match limit {
         Some(limit) => parse_arguments(file, limit, dump, words),
@@ -225,7 +262,7 @@ fn parse_arguments<'a>(
     words: &'a [&'a str],
 ) -> Command<'a>
     ensures command { command_seen result ≡ arguments_of file.now limit (name_seen dump.entry) (texts words.now) }
-    ensures few { HasArguments (command_seen result) }
+    ensures few { KeepsLimits (command_seen result) }
 {
     match words {
         [] => Command::Run {
@@ -249,6 +286,16 @@ fn parse_limit(text: &str) -> Option<u64>
     ensures { result ≡ limit_of text.now }
 {
     if text.is_empty() || text.len() > MOST_DIGITS || !are_digits(text) {
+        return None;
+    }
+    text.parse().ok()
+}
+
+/// A number: one to ten decimal digits with a value below 2^32.
+fn parse_number(text: &str) -> Option<u32>
+    ensures { result ≡ number_of text.now }
+{
+    if text.is_empty() || text.len() > MOST_NUMBER_DIGITS || !are_digits(text) {
         return None;
     }
     text.parse().ok()

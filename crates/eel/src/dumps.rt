@@ -7,7 +7,8 @@ ghost use Rattle.notes.specs.Seen.{notes_seen};
 ghost use Rattle.v8_process.specs.Arguments.{AreArguments};
 ghost use Rattle.snippet_code.specs.Cells.{cell_at, words_at};
 ghost use Rattle.code_runs.specs.StoredWords.{CanLoad, memory_word};
-ghost use Rattle.dump_file.specs.Written.{dump_bytes};
+ghost use Rattle.dump_file.specs.Dump.{dump_seen};
+ghost use Rattle.dump_file.specs.Written.{dump_bytes as dump_bytes_of};
 ghost use Rattle.eel.specs.Command.{texts};
 ghost use Rattle.eel.specs.Outcome.{outcome_seen, stream};
 ghost use Rattle.eel.specs.Answers.Shared.{Feed, feed, outside, store};
@@ -163,7 +164,7 @@ fn dump_machine<F: Files, O: Sink, E: Sink>(
     if was_broken(end.stop) {
         return Outcome::DeviceFault;
     }
-    let bytes = match dump_of(alloc, &machine, dumping.notes, end.steps) {
+    let bytes = match dump_bytes(alloc, &machine, dumping.notes, end.steps) {
         Ok(bytes) => bytes,
         Err(NoMemory) => return Outcome::OutOfMemory,
     };
@@ -196,22 +197,40 @@ fn put_dump<F: Files>(
 }
 
 /// The bytes of the dump of a machine after so many steps.
-fn dump_of(alloc: Global, machine: &Machine, notes: &Notes, steps: u64) -> Result<Vec<u8>, NoMemory>
+fn dump_bytes(
+    alloc: Global,
+    machine: &Machine,
+    notes: &Notes,
+    steps: u64,
+) -> Result<Vec<u8>, NoMemory>
     requires rules { AreNotes (notes_seen notes.now) }
     requires cells { AreLoadable (notes_seen notes.now) machine.now.memory }
-    ensures { IfOk result (λ bytes. bytes.items ≡ dump_bytes (dump_of_state (notes_seen notes.now) machine.now steps)) }
+    ensures { IfOk result (λ bytes. bytes.items ≡ dump_bytes_of (dump_of_state (notes_seen notes.now) machine.now steps)) }
+{
+    let dump = dump_of(alloc, machine, notes, steps)?;
+    let bytes = write_dump(alloc, &dump)?;
+    Ok(bytes)
+}
+
+/// The dump of a machine after so many steps.
+pub fn dump_of(
+    alloc: Global,
+    machine: &Machine,
+    notes: &Notes,
+    steps: u64,
+) -> Result<Dump, NoMemory>
+    requires rules { AreNotes (notes_seen notes.now) }
+    requires cells { AreLoadable (notes_seen notes.now) machine.now.memory }
+    ensures dump { IfOk result (λ dump. dump_seen dump ≡ dump_of_state (notes_seen notes.now) machine.now steps) }
+    ensures few { IfOk result (λ dump. vec_len dump.cells < 2 ^ 30) }
 {
     let cells = read_cells(alloc, machine.memory(), notes.base, notes.cells)?;
-    let bytes = write_dump(
-        alloc,
-        &Dump {
-            ending: machine.ending(),
-            pc: machine.pc(),
-            steps,
-            cells,
-        },
-    )?;
-    Ok(bytes)
+    Ok(Dump {
+        ending: machine.ending(),
+        pc: machine.pc(),
+        steps,
+        cells,
+    })
 }
 
 /// So many words of memory, from an address on.

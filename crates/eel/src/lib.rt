@@ -4,6 +4,7 @@
 
 mod command;
 mod counting;
+mod demo;
 mod dumps;
 mod edit;
 mod listing;

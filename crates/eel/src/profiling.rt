@@ -43,7 +43,7 @@ pub fn edit_for_counts<'a, F: Files>(
 }
 
 /// The edit of a file with counters on the edges off a spanning tree of its graph.
-fn profiled(alloc: Global, bytes: &[u8]) -> Result<Vec<u8>, EditFault>
+pub fn profiled(alloc: Global, bytes: &[u8]) -> Result<Vec<u8>, EditFault>
     requires { length bytes.now ≤ 2 ^ 26 }
     ensures profile { IfOk result (λ file. IsProfileOf bytes.now file.items) }
     ensures refused { IfErr result (ProfileRefuses bytes.now) }

@@ -3,10 +3,11 @@ ghost use Rattle.std.specs.Prelude.{◌≡◌, ◌≤◌};
 ghost use Rattle.eel.specs.Command.{command_of, texts};
 ghost use Rattle.eel.specs.Outcome.{outcome_seen, stream};
 ghost use Rattle.eel.specs.Answers.Shared.{outside, store, feed};
-ghost use Rattle.eel.specs.Answers.{HasFailed, IsDone, IsRefusal, IsUnchanged, Ran, WasWanting, meaning_of};
+ghost use Rattle.eel.specs.Answers.{HasFailed, IsDone, IsRefusal, IsUnchanged, IsUnrefused, Ran, WasWanting, meaning_of};
 
 use crate::command::{Command, parse};
 use crate::counting::count_edges;
+use crate::demo::demonstrate;
 use crate::dumps::run_for_dump;
 use crate::edit::{edit_by_script, edit_plain};
 use crate::listing::show_program;
@@ -46,6 +47,9 @@ pub fn eel<F: Files, I: Source, O: Sink, E: Sink>(
         (stream (O.taken out.old) (O.faults out.old)) (stream (E.taken err.old) (E.faults err.old)))
         (outside (store (F.held files.new) (F.faults files.new)) (feed (I.left input.new) (I.faults input.new))
         (stream (O.taken out.new) (O.faults out.new)) (stream (E.taken err.new) (E.faults err.new))) }
+
+    // A program that is made from a number isn't refused.
+    ensures unrefused { IsUnrefused (command_of (texts words.now)) result }
 
     // Nor does want of memory change a file. It puts nothing out, or comes once a program has run.
     ensures wanting { result ≡ 70 → WasWanting (command_of (texts words.now))
@@ -116,6 +120,7 @@ fn perform<'a, F: Files, I: Source, O: Sink, E: Sink>(
         Command::Restore { written, output } => restore_original(alloc, files, written, output),
         Command::EditProfile { input, output } => edit_for_counts(alloc, files, input, output),
         Command::Counts { written, dump } => count_edges(alloc, files, written, dump, out),
+        Command::Demo { number, routines } => demonstrate(alloc, number, routines, out),
         Command::Unknown => Outcome::BadWords,
     }
 }

@@ -41,7 +41,7 @@ both_over s m k d c over ended = by (cases_lt m k)
     by (inl below) = sym (stays s m k d (omega (arith, below)) over)
     by (inr above) = stays s k m c above ended
 
-over_or_not : (o : Option Ending) → (o ≡ None) ⊎ ((d : Ending) × (o ≡ Some d))
+pub over_or_not : (o : Option Ending) → (o ≡ None) ⊎ ((d : Ending) × (o ≡ Some d))
 over_or_not None = inl refl
 over_or_not (Some d) = inr (d, refl)
 
@@ -162,7 +162,7 @@ going : (notes : Notes) (s0 t0 : State) (n m : ℕ) (o : Option Ending) → o �
 going notes s0 t0 n m None live h = h
 going notes s0 t0 n m (Some d) live h = absurd (cc)
 
-ending : (notes : Notes) (s0 t0 : State) (n m : ℕ) (o : Option Ending) (d : Ending) → o ≡ Some d
+pub ending : (notes : Notes) (s0 t0 : State) (n m : ℕ) (o : Option Ending) (d : Ending) → o ≡ Some d
     → MatchesBy o notes s0 t0 n m → Ends notes s0 t0 n m
 ending notes s0 t0 n m None d over h = absurd (cc)
 ending notes s0 t0 n m (Some c) d over h = h

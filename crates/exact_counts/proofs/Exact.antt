@@ -41,11 +41,11 @@ module _ (original : List ℕ) (plan : Plan) (dead : ℕ → List Part) (notes :
   g = edit_of original plan dead notes
 
   -- the original's graph is that of the edit
-  view_graph : original_graph original plan ≡ graph_in g
+  pub view_graph : original_graph original plan ≡ graph_in g
   unfolding view_of entered_of
   view_graph = refl
 
-  notes_of_graph : CountsOffTree (original_graph original plan) plan → HasGraph original plan notes
+  pub notes_of_graph : CountsOffTree (original_graph original plan) plan → HasGraph original plan notes
       → AreNotesOf (graph_in g) plan.snips notes
   notes_of_graph counts has = record {
     blocks = subst (λ (graph : Graph). notes.blocks ≡ graph.blocks.firsts) view_graph has.blocks;
@@ -92,7 +92,7 @@ module _ (original : List ℕ) (plan : Plan) (dead : ℕ → List Part) (notes :
         (subst (λ (a : ℕ). IsFlow (links_of (graph_in g)) a (node_in g entry s0 n)
         (λ e. pos (made_in g entry s0 n e))) (entry_node ∙ sym from) own_flow)
 
-begins_live : (file : List ℕ) (args : List (List ℕ)) (input : List ℕ) → (start_of file args input).ending ≡ None
+pub begins_live : (file : List ℕ) (args : List (List ℕ)) (input : List ℕ) → (start_of file args input).ending ≡ None
 unfolding start_of
 begins_live file args input = refl
 

@@ -27,7 +27,7 @@ times-append [] more e = omega arith
 times-append (x ∷ es) more e = let later = times-append es more e in omega (arith, later)
 
 -- past the last edge
-no_edge : Edge
+pub no_edge : Edge
 no_edge = record { from = X; to = X; kind = kinds.Land; slot = Nothing }
 
 abbrev IsOnce : List ℕ → Type 0

@@ -5,3 +5,7 @@ pub mod Noted
 pub mod Rebuilt
 pub mod Exact
 pub mod Trees
+pub mod Gone
+pub mod Totals
+pub mod Soon
+pub mod Little

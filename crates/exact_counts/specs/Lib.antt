@@ -1,3 +1,4 @@
 pub mod Profiles
 pub mod Stops
 pub mod Laws
+pub mod Sizes

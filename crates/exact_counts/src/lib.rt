@@ -4,6 +4,7 @@
 
 ghost use Rattle.exact_counts.specs.Laws.{CellsCount, CountsAreExact, ExecutionsAreFew};
 ghost use Rattle.exact_counts.specs.Profiles.{TreesMakeProfiles};
+ghost use Rattle.exact_counts.specs.Sizes.{ExecutionsAddUp, ProfilesEndSoon, ProfilesNeedLittle};
 ghost use Rattle.exact_counts.specs.Stops.{EndedRunsTell};
 
 /// The cells of a spanning tree make a profile: a counter in the cell of each edge that has one, and none on the tree.
@@ -31,4 +32,19 @@ pub fn ended_runs_tell()
 /// a touch of the editor's pages by the original, are exact. No refusal comes but for want of memory.
 pub fn counts_are_exact()
     ensures { CountsAreExact }
+{}
+
+/// The edit of a profile asks for little room, by the words of the text alone.
+pub fn profiles_need_little()
+    ensures { ProfilesNeedLittle }
+{}
+
+/// The written file of a profile has ended soon after its original, by the steps of that alone.
+pub fn profiles_end_soon()
+    ensures { ProfilesEndSoon }
+{}
+
+/// The executions of all edges are as many as the walk is long.
+pub fn executions_add_up()
+    ensures { ExecutionsAddUp }
 {}

@@ -121,7 +121,7 @@ fn counted_edges(edges: &[NoteEdge]) -> usize
 }
 
 /// The sum in 128 bits, which a slice of numbers of 64 bits can't exceed.
-fn sum(counts: &[u64]) -> u128
+pub fn sum(counts: &[u64]) -> u128
     ensures { result ≡ sum counts.now }
 {
     let mut sum: u128 = 0;

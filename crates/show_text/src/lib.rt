@@ -5,5 +5,5 @@ mod counting;
 mod lines;
 mod words;
 
-pub use counting::counts;
-pub use lines::show;
+pub use counting::{counts, sum};
+pub use lines::{put_line, show};

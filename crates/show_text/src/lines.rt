@@ -34,7 +34,7 @@ pub fn show(alloc: Global, v: &View, switches: &[Switch]) -> Result<Vec<u8>, NoM
 }
 
 /// Adds a line: its first word, and then the others, each behind a space.
-pub(crate) fn put_line(text: &mut Vec<u8>, first: &[u8], words: &[&[u8]]) -> Result<(), NoMemory>
+pub fn put_line(text: &mut Vec<u8>, first: &[u8], words: &[&[u8]]) -> Result<(), NoMemory>
     ensures { OnOk result (text.new.items
         ≡ text.old.items ++ line (first.now ∷ map (λ word. word.now) words.now)) }
 {

@@ -1,11 +1,12 @@
 mod Made
 mod Headers
-mod Faults
+pub mod Faults
 mod Steps
 mod Way
 mod Turns
 mod Calls
 mod Ends
 mod Standing
-mod Texts
-mod Runs
+pub mod Texts
+pub mod Runs
+pub mod Room

@@ -4,6 +4,7 @@
 #![tactic(auto)]
 
 ghost use Rattle.workload.specs.Laws.{GeneratedHoldsItsCode, GeneratedRunsEnd, HasNoFault};
+ghost use Rattle.workload.specs.Room.{GeneratedLeavesRoom};
 
 mod draws;
 mod making;
@@ -19,6 +20,11 @@ pub fn generated_has_no_fault()
 /// The text of a file that is made is the program's words, in order.
 pub fn generated_holds_its_code()
     ensures { GeneratedHoldsItsCode }
+{}
+
+/// All of the room that there can be for an edit lies free above the text of a file that is made.
+pub fn generated_leaves_room()
+    ensures { GeneratedLeavesRoom }
 {}
 
 /// The run of a file that is made exits, with what its routines add, after so many steps as they have turns. It stays

@@ -1,4 +1,4 @@
-use Rattle.eel.proofs.Answered.{done_shown, refused_shown, wanting_shown, failed_shown}
+use Rattle.eel.proofs.Answered.{done_shown, refused_shown, unrefused_shown, wanting_shown, failed_shown}
 use Rattle.eel.proofs.top.eel.Goals as goal
 
 pub returns-clause-done : goal.returns-clause-done
@@ -13,6 +13,16 @@ returns-clause-done g c = done_shown _ _ _ _ (record {
 
 pub returns-clause-refused : goal.returns-clause-refused
 returns-clause-refused g c = refused_shown _ _ _ _ (record {
+  outcome = _;
+  err = _;
+  follows = c.perform-outcome.ensures.follows;
+  shown = c.show.ensures.shows;
+  later = c.perform-outcome.ensures.err_faults;
+  at_last = c.show.ensures.later;
+})
+
+pub returns-clause-unrefused : goal.returns-clause-unrefused
+returns-clause-unrefused g c = unrefused_shown _ _ _ _ (record {
   outcome = _;
   err = _;
   follows = c.perform-outcome.ensures.follows;

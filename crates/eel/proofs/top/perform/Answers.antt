@@ -33,3 +33,7 @@ returns-in-Restore-clause-follows g c =
 pub returns-in-Show-clause-follows : goal.returns-in-Show-clause-follows
 returns-in-Show-clause-follows g c =
     rw (← c.in-Show.ensures.command) (c.show_program.ensures.lists _ _, c.show_program.ensures.kept, refl)
+
+pub returns-in-Demo-clause-follows : goal.returns-in-Demo-clause-follows
+returns-in-Demo-clause-follows g c =
+    rw (← c.in-Demo.ensures.command) (c.demonstrate.ensures.tells _ _ _, refl, refl)

@@ -1,0 +1,246 @@
+-- Of a tame file a profile is made, and its run ends, and tells how often edges are completed.
+use Rattle.std.proofs.Common.{◌≡◌, ℕ, suc, ◌+◌, ◌-◌, ◌*◌, ◌^◌, ◌<◌, ◌≤◌, ◌⊎◌, inl, inr, List, [], ◌∷◌, ◌++◌, append-nil, length, map, Some, None, Ok, refl, ap, sym, ◌∙◌, subst, arith}
+use Rattle.std.specs.List.{All, list_any, sum}
+use Rattle.std.proofs.lemmas.Bool.{cases_lt, or_left, or_right}
+use Rattle.std.proofs.lemmas.List.Elements.{All-head, All-nil, All-tail}
+use Rattle.std.proofs.lemmas.List.Folds.{list_any-append}
+use Rattle.elf32_sparc.specs.FileFault.{load_fault}
+use Rattle.elf32_sparc.specs.Image.{image_of}
+use Rattle.elf32_sparc.specs.Mapping.{Mapping, mappings}
+use Rattle.elf32_sparc.specs.Notes.{Notes, NoteSegment, notes_of}
+use Rattle.elf32_write.specs.Laws.{kept}
+use Rattle.v8_step.specs.declared.Ending.{Ending}
+use Rattle.v8_step.specs.State.{State}
+use Rattle.v8_step.specs.Machine.{FailsAt}
+use Rattle.v8_step.specs.Run.{run}
+use Rattle.v8_step.specs.Needed.{IsUntouched}
+use Rattle.v8_step.specs.Visits.{page_of, pages_of}
+use Rattle.v8_process.specs.Arguments.{AreArguments}
+use Rattle.v8_runner.specs.Runs.{AreMade}
+use Rattle.cfg_normal.specs.Graph.{Graph}
+use Rattle.cfg_walk.specs.Walk.{end_of_walk, gone, point_of, unless_ended, walk}
+use Rattle.span_tree.specs.Cells.{has_cell}
+use Rattle.span_tree.proofs.LoopBounds.{counted_few}
+use Rattle.dump_file.specs.Dump.{Dump}
+use Rattle.tool_kit.specs.Plans.{Plan}
+use Rattle.count_rebuild.specs.declared.fault.CountFault.{CountFault}
+use Rattle.count_rebuild.specs.declared.fault.CountFault.TheVariants as count_faults
+use Rattle.count_rebuild.specs.Answers.{AreCounts, IsRefused}
+use Rattle.edit_core.specs.declared.taking.EditFault.{EditFault}
+use Rattle.edit_core.specs.declared.taking.EditFault.TheVariants as faults
+use Rattle.edit_core.specs.Faithful.{HasPages, IsInRoom, holds_cells, note_of}
+use Rattle.edit_core.specs.RunsAlike.{AreRunsAlike, edit_of}
+use Rattle.image_code.specs.Simulates.{Setting, graph_in}
+use Rattle.exact_counts.specs.Profiles.{IsProfiled, original_graph}
+use Rattle.exact_counts.specs.Sizes.{HasEndedBy}
+use Rattle.exact_counts.specs.Stops.{EndsWithStep, IsOver, dump_at, visits_by}
+use Rattle.exact_counts.specs.Laws.{IsExact}
+use Rattle.exact_counts.proofs.Ends.{ended_runs_tell}
+use Rattle.exact_counts.proofs.Exact.{begins_live, counts_are_exact, notes_of_graph, view_graph}
+use Rattle.exact_counts.proofs.Little.{profiles_need_little}
+use Rattle.exact_counts.proofs.Noted.{edge_count}
+use Rattle.exact_counts.proofs.Soon.{profiles_end_soon}
+use Rattle.exact_counts.proofs.Totals.{executions_add_up}
+use Rattle.eel.specs.Answers.Demo.{EndsAlone, alone, walk_alone}
+use Rattle.eel.specs.Answers.Dump.{IsNoted}
+use Rattle.eel.specs.Answers.Profile.{IsProfileOf, ProfileRefuses, profile_plan}
+use Rattle.eel.specs.Tame.{AreAbove, EndsWithin, IsLastDump, IsNotedFile, IsTame}
+use Rattle.eel.proofs.ExactProfiles.{is_profiled, one_notes}
+
+some_not_none : (d : Ending) → Some d ≡ None → ⊥
+some_not_none d e = cc
+
+-- ---- the edit
+
+-- nothing but want of memory refuses a profile
+pub profiled_or_wanting : (file : List ℕ) → IsTame file → (fault : EditFault) → ProfileRefuses file fault
+    → fault ≡ faults.NoMemory
+profiled_or_wanting file tame (faults.File first) is = absurd (cc (tame.sound, is))
+profiled_or_wanting file tame (faults.Room needed had) (cells, are, cramped) =
+    let size = are.size in
+    let counted = counted_few (length cells) (has_cell cells) in
+    let little = profiles_need_little file (profile_plan cells) tame.some refl (omega (arith, size, counted)) in
+    let room = tame.room in
+    let needs = cramped.needed_is in
+    let has = cramped.had_is in
+    let less = cramped.less in
+    absurd (omega (arith, little, room, needs, has, less))
+profiled_or_wanting file tame faults.NoMemory is = refl
+
+pub is_noted_file : (file written : List ℕ) → IsProfileOf file written → IsNotedFile written
+is_noted_file file written profile =
+    let faithful = profile.made.faithful in record { notes = faithful.notes; reads = faithful.whole.reads }
+
+-- ---- its run ends soon
+
+pub tame_ends : (file : List ℕ) → IsTame file → EndsWithin (alone file) (2 ^ 32)
+tame_ends file tame =
+    let few = tame.few in
+    record {
+      steps = tame.steps;
+      few = omega (arith, few);
+      ended = λ none. some_not_none tame.ending (sym tame.ran.ends ∙ none);
+    }
+
+-- ---- pages of notes
+
+low_base : (file : List ℕ) → 1 ≤ (image_of file).room → (image_of file).base ≤ 0x80000000
+unfolding image_of
+low_base file some = omega (arith, some)
+
+room_above : (base : ℕ) (file : List ℕ) (plan : Plan) (room : List Mapping) (editor : Mapping)
+    → (image_of file).base ≡ base → All (IsInRoom file plan) room → base ≤ editor.start
+    → AreAbove base (map page_of (map note_of (room ++ editor ∷ [])))
+room_above base file plan [] editor same inside last = (last, tt)
+room_above base file plan (m ∷ room) editor same inside last =
+    let first = (All-head (IsInRoom file plan) m room inside).0 in (
+      omega (arith, first, same),
+      room_above base file plan room editor same (All-tail (IsInRoom file plan) m room inside) last,
+    )
+
+no_arguments : AreArguments []
+no_arguments = record { few = omega arith; short = omega arith; bytes = All-nil _ }
+
+-- ---- the profile of a tame file, with its notes
+
+module _ (file written : List ℕ) (tame : IsTame file) (profile : IsProfileOf file written) (notes : Notes)
+    (reads : notes_of written ≡ Ok notes) where
+  abbrev plan : Plan
+  plan = profile_plan profile.cells
+
+  is : IsProfiled file plan written notes
+  is = is_profiled file written notes profile tame.bytes reads
+
+  pub loads : load_fault written ≡ None
+  loads = profile.made.faithful.whole.loads
+
+  pages : HasPages file plan written notes
+  pages =
+      let faithful = profile.made.faithful in
+      subst (HasPages file plan written) (one_notes written notes faithful.notes reads faithful.whole.reads)
+      faithful.pages
+
+  pub noted : IsNoted written notes
+  noted = record {
+    reads = reads;
+    mapped = λ some.
+        let holds = holds_cells notes.base notes.cells in
+        ap (list_any holds) pages.mapped
+        ∙ list_any-append holds (map kept (mappings file)) (pages.room ++ pages.editor ∷ [])
+        ∙ or_right (list_any holds (map kept (mappings file))) (list_any holds (pages.room ++ pages.editor ∷ []))
+        (list_any-append holds pages.room (pages.editor ∷ [])
+        ∙ or_left (list_any holds pages.room) (list_any holds (pages.editor ∷ [])) (pages.cells some));
+  }
+
+  above : AreAbove (image_of file).base (pages_of notes)
+  above =
+      let room = tame.room in
+      let low = low_base file (omega (arith, room)) in
+      let own = pages.own.0 in
+      subst (λ (segments : List NoteSegment). AreAbove (image_of file).base (map page_of segments)) pages.noted
+      (room_above (image_of file).base file plan pages.room pages.editor refl pages.inside (omega (arith, low, own)))
+
+  untouched : (n : ℕ) → IsUntouched (pages_of notes) (alone file) n
+  untouched n = tame.untouched (pages_of notes) above n
+
+  abbrev g : Setting
+  g = edit_of file plan notes
+
+  abbrev entry : ℕ
+  entry = (image_of file).entry
+
+  abbrev s0 : State
+  s0 = alone file
+
+  abbrev t0 : State
+  t0 = alone written
+
+  alike : AreRunsAlike g entry s0 t0
+  alike = is.runs [] [] no_arguments (All-nil _)
+
+  soon : HasEndedBy t0 (64 + 128 * tame.steps)
+  soon =
+      profiles_end_soon g entry s0 t0 tame.steps is.counters.counters alike
+      (λ none. some_not_none tame.ending (sym tame.ran.ends ∙ none)) (untouched tame.steps)
+
+  pub ends : EndsWithin t0 (2 ^ 32)
+  ends =
+      let few = soon.few in
+      let most = tame.few in
+      record { steps = soon.steps; few = omega (arith, few, most); ended = soon.ended }
+
+  -- ---- the dump of its run
+
+  module _ (dump : Dump) (last : IsLastDump written notes dump) where
+    abbrev m : ℕ
+    m = last.steps
+
+    over : IsOver notes s0 t0 m
+    over = record { ended = last.ended; untouched = untouched (visits_by notes t0 m) }
+
+    short : m < 2 ^ 32
+    short = by (cases_lt ends.steps m)
+      where
+        by : (ends.steps < m) ⊎ (m ≤ ends.steps) → m < 2 ^ 32
+        by (inl before) = absurd (ends.ended (last.made ends.steps before))
+        by (inr after) = let few = ends.few in omega (arith, few, after)
+
+    abbrev v : ℕ
+    v = visits_by notes t0 m
+
+    exact : IsExact file plan notes s0 (dump_at notes t0 m) (v - 1)
+    exact = counts_are_exact file plan written notes [] [] m is no_arguments (All-nil _) over short
+
+    pub tells : (fault : CountFault) → IsRefused notes dump fault → fault ≡ count_faults.NoMemory
+    tells fault refused = exact.refused fault (subst (λ (d : Dump). IsRefused notes d fault) last.is refused)
+
+    told : EndsWithStep g entry s0 t0 m v
+    told = ended_runs_tell g entry s0 t0 m (begins_live file [] []) alike over
+
+    -- the original's run ends with its last visit
+    last_visit : (ending : Ending) (steps : ℕ) → EndsAlone file ending steps → v ≡ steps
+    last_visit ending steps ran = by (cases_lt v steps) (cases_lt steps v)
+      where
+        by : (v < steps) ⊎ (steps ≤ v) → (steps < v) ⊎ (v ≤ steps) → v ≡ steps
+        by (inl before) other = absurd (last.ended (sym told.ending ∙ ran.made v before))
+        by (inr below) (inl after) =
+            absurd (some_not_none ending (sym ran.ends ∙ told.before steps after))
+        by (inr below) (inr above) = omega (arith, below, above)
+
+    -- which completes no edge
+    no_more : (ending : Ending) (steps n : ℕ) → EndsAlone file ending steps → steps ≡ suc n
+        → walk_alone file steps ≡ walk_alone file n
+    unfolding walk
+    no_more ending steps n ran one =
+        let graph = original_graph file plan in
+        let over : (run s0 (suc n)).ending ≡ Some ending = ap (λ k. (run s0 k).ending) (sym one) ∙ ran.ends in
+        ap (walk_alone file) one
+        ∙ ap (λ o. walk_alone file n ++ gone (image_of file).text graph (end_of_walk (image_of file).text graph entry s0 n)
+        (point_of (run s0 n)) (unless_ended o (point_of (run s0 (suc n))))) over
+        ∙ append-nil (walk_alone file n)
+
+    counted : (counts : List ℕ) → AreCounts notes dump counts → length counts ≡ length (original_graph file plan).edges
+    counted counts are =
+        are.len
+        ∙ edge_count (graph_in g) plan.snips notes (notes_of_graph file plan notes is.counters is.graph)
+        ∙ ap (λ (graph : Graph). length graph.edges) (sym (view_graph file plan notes))
+
+    pub adds_up : (counts : List ℕ) → AreCounts notes dump counts → (ending : Ending) (steps : ℕ)
+        → EndsAlone file ending steps → sum counts ≡ length (walk_alone file steps)
+    adds_up counts are ending steps ran =
+        let visits = last_visit ending steps ran in
+        let some = told.some in
+        let given = subst (λ (d : Dump). AreCounts notes d counts) last.is are in
+        let len = are.len in
+        executions_add_up (image_of file).text (original_graph file plan) entry s0 (v - 1) counts (counted counts are)
+        (λ e inside. exact.counts counts given e (omega (arith, inside, len)))
+        ∙ ap length (sym (no_more ending steps (v - 1) ran (omega (arith, visits, some))))
+
+-- ---- runs whose output goes nowhere
+
+pub not_stopped : (s0 : State) (steps : ℕ) → EndsWithin s0 (2 ^ 32) → AreMade s0 steps → steps ≡ 2 ^ 40 → ⊥
+not_stopped s0 steps ends made all =
+    let few = ends.few in ends.ended (made ends.steps (omega (arith, few, all)))
+
+pub no_failure : (bytes : List ℕ) → FailsAt bytes 0 0 → ⊥
+no_failure bytes fails = let rose = fails.1 in omega (arith, rose)

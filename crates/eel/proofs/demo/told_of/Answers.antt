@@ -1,0 +1,17 @@
+use Rattle.std.proofs.Common.{ap, ◌∙◌}
+use Rattle.eel.specs.Answers.Demo.{demo_lines, size_of}
+use Rattle.eel.proofs.demo.told_of.Goals as goal
+
+pub returns : goal.returns
+returns c =
+    let end = c.in_ok-end.end in
+    record {
+      ending = end.ending;
+      steps = end.steps;
+      ran = c.in_ok-end.ensures;
+      tell = c.in_ok-lines.ensures
+          ∙ ap (λ size. demo_lines c.args.number c.args.routines size end.ending end.steps c.in_ok-executions.executions)
+          c.in_ok-size.ensures
+          ∙ ap (demo_lines c.args.number c.args.routines (size_of c.args.original.now) end.ending end.steps)
+          (c.in_ok-executions.ensures end.ending end.steps c.in_ok-end.ensures);
+    }

@@ -1,0 +1,104 @@
+-- `demo NUMBER ROUTINES`: a program of so many routines is made from the number and edited with counters, both are run
+-- without arguments and input, and what is told of them is printed.
+use Rattle.std.specs.Prelude.{◌≡◌, ℕ, List, [], ◌∷◌, ◌++◌, length, codes, decimal, Some}
+use Rattle.eel_base.specs.Outside.{appended}
+use Rattle.elf32_sparc.specs.Image.{image_of}
+use Rattle.v8_step.specs.declared.Ending.{Ending}
+use Rattle.v8_step.specs.State.{State}
+use Rattle.v8_step.specs.Run.{run}
+use Rattle.v8_process.specs.Start.{start_of}
+use Rattle.v8_runner.specs.Runs.{AreMade}
+use Rattle.cfg_view.specs.declared.View.{View}
+use Rattle.cfg_view.specs.View.{view_of}
+use Rattle.cfg_walk.specs.Walk.{walk}
+use Rattle.show_text.specs.Lines.{line}
+use Rattle.workload.specs.Generated.{generated}
+use Rattle.eel.specs.declared.demo.Size.{Size}
+use Rattle.eel.specs.Outcome.{Outcome, OutOfMemory, ending_text}
+use Rattle.eel.specs.Answers.Shared.{Outside, Meaning, IsPrinted, IsUnused, IsQuiet, IsSilent}
+use Rattle.eel.specs.Answers.Profile.{graph_in}
+
+-- ---- the run of a file without arguments and input
+
+abbrev pub alone : List ℕ → State
+alone file = start_of file [] []
+
+-- it ends so, with the last of so many steps
+pub record EndsAlone (file : List ℕ) (ending : Ending) (steps : ℕ) : Type 0 where
+  pub made : AreMade (alone file) steps
+  pub ends : (run (alone file) steps).ending ≡ Some ending
+
+-- the edges that so many steps complete, in order
+abbrev pub walk_alone : List ℕ → ℕ → List ℕ
+walk_alone file steps = walk (image_of file).text (graph_in file) (image_of file).entry (alone file) steps
+
+-- ---- the lines
+
+-- how many words, blocks and edges a program has
+abbrev pub size_in : View → Size
+size_in view = record {
+  words = length view.image.text.words;
+  blocks = length view.graph.blocks.firsts;
+  edges = length view.graph.edges;
+}
+
+abbrev pub size_of : List ℕ → Size
+size_of file = size_in (view_of file [])
+
+abbrev pub name_line : ℕ → ℕ → List ℕ
+name_line number routines = line (codes "demo" ∷ decimal number ∷ codes "routines" ∷ decimal routines ∷ [])
+
+abbrev pub size_line : Size → List ℕ
+size_line size =
+    line (codes "words" ∷ decimal size.words ∷ codes "blocks" ∷ decimal size.blocks ∷ codes "edges"
+    ∷ decimal size.edges ∷ [])
+
+abbrev pub ending_line : Ending → ℕ → List ℕ
+ending_line ending steps =
+    line (codes "ending" ∷ ending_text (Some ending) steps ∷ codes "steps" ∷ decimal steps ∷ [])
+
+abbrev pub executions_line : ℕ → List ℕ
+executions_line executions = line (codes "executions" ∷ decimal executions ∷ [])
+
+abbrev pub demo_lines : ℕ → ℕ → Size → Ending → ℕ → ℕ → List ℕ
+demo_lines number routines size ending steps executions =
+    name_line number routines ++ size_line size ++ ending_line ending steps ++ executions_line executions
+
+-- The lines tell of a file: how large its program is, how its run ends and after how many steps, and how often that
+-- completes the edges of the flow graph in all.
+pub record TellOf (number routines : ℕ) (file lines : List ℕ) : Type 0 where
+  pub ending : Ending
+  pub steps : ℕ
+  pub ran : EndsAlone file ending steps
+  pub tell : lines ≡ demo_lines number routines (size_of file) ending steps (length (walk_alone file steps))
+
+-- they tell of the program that is made from the number
+abbrev pub IsTold : ℕ → ℕ → List ℕ → Type 0
+IsTold number routines lines = TellOf number routines (generated number routines) lines
+
+-- ---- the command
+
+-- How a demonstration goes, and what comes of it: nothing but want of memory and a stream that fails keeps the lines from
+-- being printed.
+pub data Tells (number routines : ℕ) (old new : Outside) (outcome : Outcome) : Type 0 where
+  -- memory was wanting
+  wanting : outcome ≡ OutOfMemory → IsQuiet old new → Tells number routines old new outcome
+  -- the lines were to be printed
+  printed : (lines : List ℕ) → IsTold number routines lines → IsPrinted old.out new.out lines outcome
+      → new.err.taken ≡ old.err.taken → Tells number routines old new outcome
+
+-- the lines are printed
+pub record WasTold (number routines : ℕ) (old new : Outside) : Type 0 where
+  pub lines : List ℕ
+  pub told : IsTold number routines lines
+  pub out : new.out.taken ≡ appended old.out.taken lines
+  pub err : new.err.taken ≡ old.err.taken
+
+abbrev pub demo_means : ℕ → ℕ → Meaning
+demo_means number routines = record {
+  follows = λ old new outcome.
+      Tells number routines old new outcome × (new.files.held ≡ old.files.held) × IsUnused old new;
+  does = λ old new. WasTold number routines old new × (new.files.held ≡ old.files.held) × IsUnused old new;
+  wants = IsSilent;
+  lacks = λ files. ⊥;
+}

@@ -1,0 +1,53 @@
+-- Files whose profile is made, run and rebuilt without a refusal.
+use Rattle.std.specs.Prelude.{◌≡◌, ◌≢◌, ℕ, ◌+◌, ◌*◌, ◌^◌, ◌<◌, ◌≤◌, List, [], ◌∷◌, length, None, Ok}
+use Rattle.elf32_sparc.specs.FileFault.{fault, load_fault}
+use Rattle.elf32_sparc.specs.Image.{image_of}
+use Rattle.elf32_sparc.specs.Notes.{Notes, notes_of}
+use Rattle.v8_memory.specs.Spans.{Span}
+use Rattle.v8_step.specs.declared.Ending.{Ending}
+use Rattle.v8_step.specs.State.{State}
+use Rattle.v8_step.specs.Run.{run}
+use Rattle.v8_step.specs.Needed.{IsUntouched}
+use Rattle.v8_step.specs.Valid.{AreBytes}
+use Rattle.v8_runner.specs.Runs.{AreMade}
+use Rattle.dump_file.specs.Dump.{Dump}
+use Rattle.exact_counts.specs.Stops.{dump_at}
+use Rattle.eel.specs.Answers.Demo.{EndsAlone, alone}
+
+-- pages from an address on
+abbrev pub AreAbove : ℕ → List Span → Type 0
+AreAbove base [] = Unit {0}
+AreAbove base (page ∷ pages) = (base ≤ page.from) × AreAbove base pages
+
+-- It has no fault, there is room for every profile, and its run ends soon, without touching what lies above its segments.
+pub record IsTame (file : List ℕ) : Type 0 where
+  pub bytes : AreBytes file
+  pub size : length file ≤ 2 ^ 26
+  pub sound : fault file ≡ None
+  pub loads : load_fault file ≡ None
+  pub some : 1 ≤ length (image_of file).text.words
+  pub room : 2 ^ 20 + 908 * length (image_of file).text.words ≤ (image_of file).room
+  pub ending : Ending
+  pub steps : ℕ
+  pub ran : EndsAlone file ending steps
+  pub few : steps ≤ 2 ^ 24
+  pub untouched : (pages : List Span) → AreAbove (image_of file).base pages → (n : ℕ)
+      → IsUntouched pages (alone file) n
+
+-- a file with notes
+pub record IsNotedFile (file : List ℕ) : Type 0 where
+  pub notes : Notes
+  pub reads : notes_of file ≡ Ok notes
+
+-- the run of a machine ends within so many steps
+pub record EndsWithin (s0 : State) (limit : ℕ) : Type 0 where
+  pub steps : ℕ
+  pub few : steps < limit
+  pub ended : (run s0 steps).ending ≢ None
+
+-- what the run of a file comes to where it ends
+pub record IsLastDump (file : List ℕ) (notes : Notes) (dump : Dump) : Type 0 where
+  pub steps : ℕ
+  pub made : AreMade (alone file) steps
+  pub ended : (run (alone file) steps).ending ≢ None
+  pub is : dump ≡ dump_at notes (alone file) steps

@@ -1,0 +1,88 @@
+-- A profile's runs end soon after the original's.
+use Rattle.std.proofs.Common.{◌≡◌, ◌≢◌, ℕ, zero, suc, ◌+◌, ◌*◌, ◌<◌, ◌≤◌, ◌⊎◌, inl, inr, List, [], ◌∷◌, length, Option, Some, None, refl, ap, sym, ◌∙◌, subst, arith}
+use Rattle.elf32_sparc.specs.Notes.{Notes}
+use Rattle.v8_step.specs.declared.Ending.{Ending}
+use Rattle.v8_step.specs.State.{State}
+use Rattle.v8_step.specs.Run.{run}
+use Rattle.v8_step.specs.Needed.{IsUntouched}
+use Rattle.v8_step.specs.TwoRuns.{MatchesBy}
+use Rattle.v8_step.specs.Visits.{pages_of}
+use Rattle.snippets.specs.declared.snippet.Op.{Op}
+use Rattle.cfg_walk.specs.Walk.{gone_in}
+use Rattle.tool_kit.specs.Plans.{AreCounters}
+use Rattle.image_code.specs.Simulates.{Setting, graph_in, limit_on, operations_on, snippet_on}
+use Rattle.edit_core.specs.RunsAlike.{AreRunsAlike, IsAnswered}
+use Rattle.exact_counts.specs.Sizes.{HasEndedBy, ProfilesEndSoon}
+use Rattle.exact_counts.proofs.Counters.{IsCounterFrom, none_or_counter}
+use Rattle.exact_counts.proofs.Ends.{over_or_not, ending}
+use Rattle.exact_counts.proofs.Gone.{step_few}
+
+-- fewer steps touch no page either
+fewer : (notes : Notes) (s0 : State) (k n : ℕ) → k ≤ n → IsUntouched (pages_of notes) s0 n
+    → IsUntouched (pages_of notes) s0 k
+fewer notes s0 k n below h = record {
+  outside = λ j l. h.outside j (omega (arith, l, below));
+  unjudged = λ j l. h.unjudged j (omega (arith, l, below));
+}
+
+module _ (g : Setting) (are : AreCounters 0 g.snips) where
+  one_operation : (e : ℕ) → length (snippet_on g.snips e) ≤ 1
+  one_operation e = by (none_or_counter 0 g.snips e are)
+    where
+      by : (snippet_on g.snips e ≡ []) ⊎ IsCounterFrom 0 (snippet_on g.snips e)
+          → length (snippet_on g.snips e) ≤ 1
+      by (inl none) = let size : length (snippet_on g.snips e) ≡ 0 = ap length none in omega (arith, size)
+      by (inr some) = let size : length (snippet_on g.snips e) ≡ 1 = ap length some.is in omega (arith, size)
+
+  few_operations : (es : List ℕ) → operations_on g.snips es ≤ length es
+  few_operations [] = omega arith
+  few_operations (e ∷ es) =
+      let first = one_operation e in
+      let later = few_operations es in
+      omega (arith, first, later)
+
+  module _ (entry : ℕ) (s0 t0 : State) (alike : AreRunsAlike g entry s0 t0) where
+    abbrev gone : ℕ → List ℕ
+    gone n = gone_in g.text (graph_in g) entry s0 n
+
+    step_limit : (n : ℕ) → limit_on g (gone n) ≤ 128
+    step_limit n =
+        let few = (step_few g.text (graph_in g) entry s0 n).few in
+        let operations = few_operations (gone n) in
+        omega (arith, few, operations)
+
+    moments : (n : ℕ) (untouched : IsUntouched (pages_of g.notes) s0 n)
+        → (alike.answered n untouched).moment ≤ 64 + 128 * n
+    moments zero untouched =
+        let soon = alike.soon untouched (alike.answered 0 untouched).moment (alike.answered 0 untouched).first in
+        omega (arith, soon)
+    moments (suc n) untouched =
+        let earlier = fewer g.notes s0 n (suc n) (omega arith) untouched in
+        let before = moments n earlier in
+        let step = alike.bounded n untouched (alike.answered n earlier).moment
+        (alike.answered (suc n) untouched).moment (alike.answered n earlier).first
+        (alike.answered (suc n) untouched).first in
+        let limit = step_limit n in
+        omega (arith, before, step, limit)
+
+    ends_by : (n : ℕ) (d : Ending) → (run s0 n).ending ≡ Some d → IsUntouched (pages_of g.notes) s0 n
+        → HasEndedBy t0 (64 + 128 * n)
+    ends_by n d over untouched =
+        let a = alike.answered n untouched in
+        let ends = ending g.notes s0 t0 n a.moment (run s0 n).ending d over a.first.holds.matches in
+        let same : (run t0 a.moment).ending ≡ Some d = ends.ending ∙ over in
+        record {
+          steps = a.moment;
+          few = moments n untouched;
+          ended = λ none. has_none d (sym same ∙ none);
+        }
+      where
+        has_none : (d : Ending) → Some d ≡ None → ⊥
+        has_none d e = cc
+
+pub profiles_end_soon : ProfilesEndSoon
+profiles_end_soon g entry s0 t0 n are alike ended untouched = by (over_or_not (run s0 n).ending)
+  where
+    by : ((run s0 n).ending ≡ None) ⊎ ((d : Ending) × ((run s0 n).ending ≡ Some d)) → HasEndedBy t0 (64 + 128 * n)
+    by (inl live) = absurd (ended live)
+    by (inr (d, over)) = ends_by g are entry s0 t0 alike n d over untouched

@@ -1,0 +1,48 @@
+-- How much room a profile asks for, when its runs have ended, and how many executions there are in all.
+use Rattle.std.specs.Prelude.{◌≡◌, ◌≢◌, ℕ, ◌+◌, ◌*◌, ◌^◌, ◌<◌, ◌≤◌, List, length, slice_index, None}
+use Rattle.std.specs.List.{sum}
+use Rattle.eel_base.specs.CodeText.{Words}
+use Rattle.elf32_sparc.specs.FileFault.{fault}
+use Rattle.elf32_sparc.specs.Image.{image_of}
+use Rattle.v8_step.specs.State.{State}
+use Rattle.v8_step.specs.Run.{run}
+use Rattle.v8_step.specs.Needed.{IsUntouched}
+use Rattle.v8_step.specs.Visits.{pages_of}
+use Rattle.cfg_normal.specs.Graph.{Graph}
+use Rattle.cfg_walk.specs.Walk.{walk}
+use Rattle.tool_kit.specs.declared.edge_ref.ToolKind.TheVariants as tools
+use Rattle.tool_kit.specs.Plans.{AreCounters, Plan}
+use Rattle.walk_counts.specs.Counts.{executions}
+use Rattle.image_code.specs.Simulates.{Setting}
+use Rattle.edit_core.specs.Taken.{bound_in}
+use Rattle.edit_core.specs.RunsAlike.{AreRunsAlike}
+use Rattle.exact_counts.specs.Profiles.{original_graph}
+
+-- A profile with a cell for each edge at most asks for 1 MiB and 908 bytes for each word: a block has two edges at most
+-- and a landing, whose counter is made once for each of its words.
+abbrev pub ProfilesNeedLittle : Type 0
+ProfilesNeedLittle =
+    (original : List ℕ) (plan : Plan) → 1 ≤ length (image_of original).text.words → plan.kind ≡ tools.Profile
+    → plan.cells ≤ length (original_graph original plan).edges
+    → bound_in original plan ≤ 2 ^ 20 + 908 * length (image_of original).text.words
+
+-- the run has ended after so many steps, or fewer
+pub record HasEndedBy (t0 : State) (limit : ℕ) : Type 0 where
+  pub steps : ℕ
+  pub few : steps ≤ limit
+  pub ended : (run t0 steps).ending ≢ None
+
+-- Where an original has ended after n steps, which touch no page, a written file that counts edges has ended after 64
+-- steps and 128 for each of them: no step completes more than two edges.
+abbrev pub ProfilesEndSoon : Type 0
+ProfilesEndSoon =
+    (g : Setting) (entry : ℕ) (s0 t0 : State) (n : ℕ) → AreCounters 0 g.snips → AreRunsAlike g entry s0 t0
+    → (run s0 n).ending ≢ None → IsUntouched (pages_of g.notes) s0 n → HasEndedBy t0 (64 + 128 * n)
+
+-- How often each edge is completed is in all how long the walk is.
+abbrev pub ExecutionsAddUp : Type 0
+ExecutionsAddUp =
+    (text : Words) (graph : Graph) (entry : ℕ) (s0 : State) (n : ℕ) (counts : List ℕ)
+    → length counts ≡ length graph.edges
+    → ((e : ℕ) → e < length counts → slice_index counts e ≡ executions text graph entry s0 n e)
+    → sum counts ≡ length (walk text graph entry s0 n)
