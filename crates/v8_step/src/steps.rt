@@ -215,7 +215,7 @@ impl Machine {
     }
 
     /// The outcome of an operation goes to rd, the codes and Y, or traps.
-    #[inline]
+    #[inline(always)]
     #[tactic(auto, unfolding(crate::specs::Step::alu_step))]
     pub(crate) fn finish_alu(&mut self, rd: Reg, outcome: Result<AluOut, AluTrap>)
         ensures { self.new ≡ alu_step self.old rd outcome }
