@@ -12,7 +12,8 @@ use Rattle.liveness.specs.Live.{Holds}
 abbrev pub start_of : ℕ → List ℕ → ℕ → ℕ
 start_of words firsts i = if nat_lt i (length firsts) then slice_index firsts i else words
 
-pub start_is : (words : ℕ) (firsts : List ℕ) (i : ℕ) → i < length firsts → start_of words firsts i ≡ slice_index firsts i
+pub start_is : (words : ℕ) (firsts : List ℕ) (i : ℕ) → i < length firsts
+    → start_of words firsts i ≡ slice_index firsts i
 start_is words firsts i l = rw (lt-ltb _ _ l) refl
 
 -- which is where the one before it ends
@@ -47,7 +48,8 @@ module _ (words : ℕ) (firsts : List ℕ) (f : AreFirsts words firsts) where
   pub apart : (i j : ℕ) → i < j → j < length firsts → block_end firsts words i ≤ slice_index firsts j
   apart i j l h = omega (arith, ends_at_next i (omega arith), ordered (suc i) j l h)
 
-  some_block : (word : ℕ) → word < words → (i : ℕ) × (i < length firsts) × (slice_index firsts i ≤ word) × (word < block_end firsts words i)
+  some_block : (word : ℕ) → word < words
+      → (i : ℕ) × (i < length firsts) × (slice_index firsts i ≤ word) × (word < block_end firsts words i)
   some_block zero l = (0, omega (arith, f.some), omega (arith, f.begin), omega (arith, f.begin, some_words 0 (omega (arith, f.some))))
   some_block (suc word) l =
       let before = some_block word (omega arith) in

@@ -45,7 +45,8 @@ among_more sets first word live more grown x low h is union = (λ k. to (or_case
         union ∙ or_right _ _ (ap (λ s. has s x) is ∙ subst (λ (n : ℕ). has (at sets n) x ≡ true) same k.3)
 
 -- one set more
-pub pushed : (P : ℕ → List Part → Type 0) (xs : Sets) (y : List Part) (i : ℕ) → length xs ≡ i → ((j : ℕ) → j < i → P j (at xs j)) → P i y
+pub pushed : (P : ℕ → List Part → Type 0) (xs : Sets) (y : List Part) (i : ℕ) → length xs ≡ i
+    → ((j : ℕ) → j < i → P j (at xs j)) → P i y
     → (j : ℕ) → j < i + 1 → P j (at (xs ++ y ∷ []) j)
 pushed P xs y i len below here j l = by (cases_lt j i)
   where

@@ -26,7 +26,8 @@ use Rattle.liveness.specs.Sets.{AreLiveWords}
 use Rattle.liveness.proofs.Held.{held_within, held_once, some_node, some_words}
 use Rattle.liveness.proofs.Landings.{lands_from_outside}
 
-pub goes_on_held : (graph : Graph) (kind : EdgeKind) (node : Node) (w : ℕ) → GoesOnAt graph kind node w → Holds graph node w
+pub goes_on_held : (graph : Graph) (kind : EdgeKind) (node : Node) (w : ℕ) → GoesOnAt graph kind node w
+    → Holds graph node w
 goes_on_held graph kinds.Land node w h = h
 goes_on_held graph kinds.Fall node w h = h.0
 goes_on_held graph kinds.Taken node w h = h.0
@@ -35,7 +36,8 @@ goes_on_held graph kinds.Call node w h = h.0
 goes_on_held graph kinds.Out node w h = h.0
 
 -- an edge that is no landing goes on at the first word
-goes_on_first : (graph : Graph) (kind : EdgeKind) (node : Node) (w : ℕ) → (kind ≡ kinds.Land → ⊥) → GoesOnAt graph kind node w → IsFirst graph node w
+goes_on_first : (graph : Graph) (kind : EdgeKind) (node : Node) (w : ℕ) → (kind ≡ kinds.Land → ⊥)
+    → GoesOnAt graph kind node w → IsFirst graph node w
 goes_on_first graph kinds.Land node w n h = absurd (n refl)
 goes_on_first graph kinds.Fall node w n h = h.1
 goes_on_first graph kinds.Taken node w n h = h.1
@@ -43,7 +45,8 @@ goes_on_first graph kinds.Untaken node w n h = h.1
 goes_on_first graph kinds.Call node w n h = h.1
 goes_on_first graph kinds.Out node w n h = h.1
 
-first_goes_on : (graph : Graph) (kind : EdgeKind) (node : Node) (w : ℕ) → Holds graph node w → IsFirst graph node w → GoesOnAt graph kind node w
+first_goes_on : (graph : Graph) (kind : EdgeKind) (node : Node) (w : ℕ) → Holds graph node w → IsFirst graph node w
+    → GoesOnAt graph kind node w
 first_goes_on graph kinds.Land node w h f = h
 first_goes_on graph kinds.Fall node w h f = (h, f)
 first_goes_on graph kinds.Taken node w h f = (h, f)
@@ -107,7 +110,8 @@ module _ (text : Words) (graph : Graph) (g : IsGraph graph) (same : graph.blocks
     contained : (k : ℕ) → k < length links → Contains links (link_at links k)
     contained k l = Contains-get_or links k (record { from = 0; to = 0; kills = [] }) l
 
-    within_links : (l : Link) → InBlockBelow text graph (length graph.blocks.firsts) l ⊎ OfEdgeBelow text graph (length graph.edges) l
+    within_links : (l : Link)
+        → InBlockBelow text graph (length graph.blocks.firsts) l ⊎ OfEdgeBelow text graph (length graph.edges) l
         → (l.from < length text.words) × (l.to < length text.words)
     within_links l (inl (b, below, (first, i, under, kills))) =
         let to : Holds graph (Block (record { 0 = b })) l.to = (below, omega arith, under) in
@@ -125,7 +129,8 @@ module _ (text : Words) (graph : Graph) (g : IsGraph graph) (same : graph.blocks
 
     -- ---- links and what follows
 
-    of_link : (x : Part) (l : Link) → InBlockBelow text graph (length graph.blocks.firsts) l ⊎ OfEdgeBelow text graph (length graph.edges) l
+    of_link : (x : Part) (l : Link)
+        → InBlockBelow text graph (length graph.blocks.firsts) l ⊎ OfEdgeBelow text graph (length graph.edges) l
         → has l.kills x ≡ false → Follows x l.from l.to
     of_link x l (inl (b, below, (first, i, under, kills))) u =
         next (Block (record { 0 = b })) (below, first, omega arith) (below, omega arith, under) i (sym (ap (λ s. has s x) kills) ∙ u)
@@ -165,7 +170,8 @@ module _ (text : Words) (graph : Graph) (g : IsGraph graph) (same : graph.blocks
 
     -- ---- what is live
 
-    module _ {named : ℕ → List Part} {reads : Sets} (r : AreBegun text graph named (length graph.edges) reads) (x : Part) where
+    module _ {named : ℕ → List Part} {reads : Sets} (r : AreBegun text graph named (length graph.edges) reads)
+        (x : Part) where
       abbrev Plain : ℕ → Type 0
       Plain p = IsLiveIn reads links p x
 
@@ -175,7 +181,8 @@ module _ (text : Words) (graph : Graph) (g : IsGraph graph) (same : graph.blocks
       read : (p : Point) → has (reads_at text graph named p) x ≡ true → Lives p
       read p h = ([], h)
 
-      step : (p q : Point) → has (writes_at text graph named p) x ≡ false → Goes text graph named p q → Lives q → Lives p
+      step : (p q : Point) → has (writes_at text graph named p) x ≡ false → Goes text graph named p q → Lives q
+          → Lives p
       step p q w f l = (q ∷ l.0, (w, f, l.1))
 
       plain_read : (w : ℕ) → w < length text.words → IsBegun text graph named (length graph.edges) w x → Plain w
@@ -203,7 +210,8 @@ module _ (text : Words) (graph : Graph) (g : IsGraph graph) (same : graph.blocks
       begun e h l w last u =
           plain_read w (low (edge_at graph e).from w (last_held (edge_at graph e).from w (edge_in e l).from last)) (inr (e, l, (last, u, h)))
 
-      ahead : (e : ℕ) → (has (named e) x || has (beyond (edge_at graph e)) x) ≡ true → has (slot_writes text (edge_at graph e).slot) x ≡ false → Leaving e
+      ahead : (e : ℕ) → (has (named e) x || has (beyond (edge_at graph e)) x) ≡ true
+          → has (slot_writes text (edge_at graph e).slot) x ≡ false → Leaving e
       ahead e h s = begun e (or_right _ _ (and_from _ _ h (not_from_false _ s)))
 
       onward : (e : ℕ) → Onward e → has (slot_writes text (edge_at graph e).slot) x ≡ false → Leaving e
@@ -216,7 +224,8 @@ module _ (text : Words) (graph : Graph) (g : IsGraph graph) (same : graph.blocks
       numbered_read (Behind e) h = ahead e (or_left _ _ h)
       numbered_read (After e) h = inl h
 
-      numbered_step : (p q : Point) → has (writes_at text graph named p) x ≡ false → Goes text graph named p q → Numbered q → Numbered p
+      numbered_step : (p q : Point) → has (writes_at text graph named p) x ≡ false → Goes text graph named p q
+          → Numbered q → Numbered p
       numbered_step (At node w) (At other v) u f h = λ k.
           let there : Holds graph node v = f.2 in
           plain_step w v (next node k there f.1 u) (h (subst (λ (m : Node). Holds graph m v) (sym f.0) there))
@@ -238,7 +247,9 @@ module _ (text : Words) (graph : Graph) (g : IsGraph graph) (same : graph.blocks
       numbered_step (After e) (Behind d) u f h = absurd f
       numbered_step (After e) (After d) u f h = absurd f
 
-      numbered : (path : List Point) (p : Point) → ReadsFirst (reads_at text graph named) (writes_at text graph named) (Goes text graph named) x p path → Numbered p
+      numbered : (path : List Point) (p : Point)
+          → ReadsFirst (reads_at text graph named) (writes_at text graph named) (Goes text graph named) x p path
+          → Numbered p
       numbered [] p h = numbered_read p h
       numbered (q ∷ path) p h = numbered_step p q h.0 h.1 (numbered path q h.2)
 
@@ -246,7 +257,8 @@ module _ (text : Words) (graph : Graph) (g : IsGraph graph) (same : graph.blocks
       abbrev Pointed : ℕ → Type 0
       Pointed p = (node : Node) → Holds graph node p → Lives (At node p)
 
-      onto : (node : Node) (w e : ℕ) → Holds graph node w → e < length graph.edges → IsLast graph (edge_at graph e).from w
+      onto : (node : Node) (w e : ℕ) → Holds graph node w → e < length graph.edges
+          → IsLast graph (edge_at graph e).from w
           → has (write_set (instr_of text w)) x ≡ false → Lives (Along e) → Lives (At node w)
       onto node w e h l last u k =
           let same : (edge_at graph e).from ≡ node =
@@ -315,7 +327,8 @@ module _ (text : Words) (graph : Graph) (named : ℕ → List Part) (g : IsGraph
           let there : IsLive text graph named (At (edge_at graph e).to h.0) x = subst (λ (n : Node). IsLive text graph named (At n h.0) x) is k.2 in
           (At (edge_at graph e).to h.0 ∷ there.0, (refl, (refl, h.1), there.1))
 
-  after_goes : (path : List Point) → ReadsFirst (reads_at text graph named) (writes_at text graph named) (Goes text graph named) x (After e) path
+  after_goes : (path : List Point)
+      → ReadsFirst (reads_at text graph named) (writes_at text graph named) (Goes text graph named) x (After e) path
       → IsOnward graph (edge_at graph e) sets x
   after_goes [] h = inl h
   after_goes (At node w ∷ path) h =
