@@ -55,7 +55,8 @@ All-flat_map P f (x ∷ xs) each = All-append P (f x) (flat_map f xs) (each x) (
 all_land : (b : Blocks) → All LandsFromOutside (edges_in b)
 unfolding edges_in
 all_land b =
-    All-append LandsFromOutside (flat_map (edges_of b) (below (length b.firsts))) (map landing_at (below (length b.firsts)))
+    All-append LandsFromOutside (flat_map (edges_of b) (below (length b.firsts)))
+    (map landing_at (below (length b.firsts)))
     (All-flat_map LandsFromOutside (edges_of b) (below (length b.firsts)) (edges_stay b))
     (All-map LandsFromOutside landing_at (below (length b.firsts)) (λ k d l h. refl))
 

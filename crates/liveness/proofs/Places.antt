@@ -69,9 +69,11 @@ slot_set text (Word word) = set_of-members (has (writes_of (instr_of text word.0
 slot_set text Off = refl
 
 has_both : (text : Words) (instr : Instr) (slot : Slot) (x : Part)
-    → has (set_of (write_set instr ++ slot_writes text slot)) x ≡ (has (write_set instr) x || has (slot_writes text slot) x)
+    → has (set_of (write_set instr ++ slot_writes text slot)) x
+    ≡ (has (write_set instr) x || has (slot_writes text slot) x)
 has_both text instr slot x =
-    has-union (write_set instr) (slot_writes text slot) _ x (set_of-members (has (writes_of instr))) (slot_set text slot) refl
+    has-union (write_set instr) (slot_writes text slot) _ x (set_of-members (has (writes_of instr)))
+    (slot_set text slot) refl
 
 module _ (text : Words) (graph : Graph) (g : IsGraph graph) (same : graph.blocks.words ≡ length text.words) where
   count : ℕ
@@ -96,7 +98,9 @@ module _ (text : Words) (graph : Graph) (g : IsGraph graph) (same : graph.blocks
   first_held X w within e = absurd e
 
   edge_in : (e : ℕ) → e < length graph.edges → IsEdgeIn graph.blocks (edge_at graph e)
-  edge_in e l = All-get_or (IsEdgeIn graph.blocks) graph.edges e (record { from = X; to = X; kind = kinds.Land; slot = Nothing }) l g.edges
+  edge_in e l =
+      All-get_or (IsEdgeIn graph.blocks) graph.edges e
+      (record { from = X; to = X; kind = kinds.Land; slot = Nothing }) l g.edges
 
   -- what leads from a word to another, without a write of the part
   pub data Follows (x : Part) (p q : ℕ) : Type 0 where
@@ -104,7 +108,8 @@ module _ (text : Words) (graph : Graph) (g : IsGraph graph) (same : graph.blocks
         → has (write_set (instr_of text p)) x ≡ false → Follows x p q
     over : (e : ℕ) → e < length graph.edges → IsLast graph (edge_at graph e).from p
         → GoesOnAt graph (edge_at graph e).kind (edge_at graph e).to q
-        → has (write_set (instr_of text p)) x ≡ false → has (slot_writes text (edge_at graph e).slot) x ≡ false → Follows x p q
+        → has (write_set (instr_of text p)) x ≡ false → has (slot_writes text (edge_at graph e).slot) x ≡ false
+        → Follows x p q
 
   module _ {links : List Link} (all : AreLinksOf text graph links) where
     contained : (k : ℕ) → k < length links → Contains links (link_at links k)
@@ -133,9 +138,12 @@ module _ (text : Words) (graph : Graph) (g : IsGraph graph) (same : graph.blocks
         → InBlockBelow text graph (length graph.blocks.firsts) l ⊎ OfEdgeBelow text graph (length graph.edges) l
         → has l.kills x ≡ false → Follows x l.from l.to
     of_link x l (inl (b, below, (first, i, under, kills))) u =
-        next (Block (record { 0 = b })) (below, first, omega arith) (below, omega arith, under) i (sym (ap (λ s. has s x) kills) ∙ u)
+        next (Block (record { 0 = b })) (below, first, omega arith) (below, omega arith, under) i
+        (sym (ap (λ s. has s x) kills) ∙ u)
     of_link x l (inr (e, below, (last, first, kills))) u =
-        let none = or_none _ _ (sym (has_both text (instr_of text l.from) (edge_at graph e).slot x) ∙ sym (ap (λ s. has s x) kills) ∙ u) in
+        let none =
+        or_none _ _
+        (sym (has_both text (instr_of text l.from) (edge_at graph e).slot x) ∙ sym (ap (λ s. has s x) kills) ∙ u) in
         over e below last
         (first_goes_on graph (edge_at graph e).kind (edge_at graph e).to l.to (first_held (edge_at graph e).to l.to (edge_in e below).to first) first)
         none.0 none.1
@@ -148,7 +156,8 @@ module _ (text : Words) (graph : Graph) (g : IsGraph graph) (same : graph.blocks
 
     of_contained : (x : Part) (l : Link) → Contains links l → has l.kills x ≡ false → Passes links x l.from l.to
     of_contained x l c u =
-        let is : link_at links c.0 ≡ l = get_or_default links c.0 (record { from = 0; to = 0; kills = [] }) l c.1 ∙ c.2 in
+        let is : link_at links c.0 ≡ l =
+        get_or_default links c.0 (record { from = 0; to = 0; kills = [] }) l c.1 ∙ c.2 in
         (c.0, c.1, ap (λ (k : Link). k.from) is, ap (λ (k : Link). k.to) is, ap (λ (k : Link). has k.kills x) is ∙ u)
 
     follows : (x : Part) (p q : ℕ) → Follows x p q → Passes links x p q
@@ -161,7 +170,8 @@ module _ (text : Words) (graph : Graph) (g : IsGraph graph) (same : graph.blocks
         (has_both text (instr_of text p) (edge_at graph e).slot x ∙ none_or _ _ u s)
       where
         along : ℕ → Link
-        along f = record { from = p; to = q; kills = set_of (write_set (instr_of text p) ++ slot_writes text (edge_at graph f).slot) }
+        along f =
+            record { from = p; to = q; kills = set_of (write_set (instr_of text p) ++ slot_writes text (edge_at graph f).slot) }
 
         first : IsFirst graph (edge_at graph e).to q
         first =
@@ -197,7 +207,9 @@ module _ (text : Words) (graph : Graph) (g : IsGraph graph) (same : graph.blocks
           ⊎ ((w : ℕ) × GoesOnAt graph (edge_at graph e).kind (edge_at graph e).to w × Plain w)
 
       abbrev Leaving : ℕ → Type 0
-      Leaving e = e < length graph.edges → (w : ℕ) → IsLast graph (edge_at graph e).from w → has (write_set (instr_of text w)) x ≡ false → Plain w
+      Leaving e =
+          e < length graph.edges → (w : ℕ) → IsLast graph (edge_at graph e).from w → has
+          (write_set (instr_of text w)) x ≡ false → Plain w
 
       -- from paths of points to paths of words
       abbrev Numbered : Point → Type 0
@@ -208,7 +220,8 @@ module _ (text : Words) (graph : Graph) (g : IsGraph graph) (same : graph.blocks
 
       begun : (e : ℕ) → is_ahead text (edge_at graph e) (named e) x ≡ true → Leaving e
       begun e h l w last u =
-          plain_read w (low (edge_at graph e).from w (last_held (edge_at graph e).from w (edge_in e l).from last)) (inr (e, l, (last, u, h)))
+          plain_read w (low (edge_at graph e).from w (last_held (edge_at graph e).from w (edge_in e l).from last))
+          (inr (e, l, (last, u, h)))
 
       ahead : (e : ℕ) → (has (named e) x || has (beyond (edge_at graph e)) x) ≡ true
           → has (slot_writes text (edge_at graph e).slot) x ≡ false → Leaving e
@@ -235,7 +248,8 @@ module _ (text : Words) (graph : Graph) (g : IsGraph graph) (same : graph.blocks
       numbered_step (At node w) (After e) u f h = absurd f
       numbered_step (Along e) (At node w) u f h = absurd f
       numbered_step (Along e) (Along d) u f h = absurd f
-      numbered_step (Along e) (Behind d) u f h = subst Leaving f (h (subst (λ (n : ℕ). has (slot_writes text (edge_at graph n).slot) x ≡ false) (sym f) u))
+      numbered_step (Along e) (Behind d) u f h =
+          subst Leaving f (h (subst (λ (n : ℕ). has (slot_writes text (edge_at graph n).slot) x ≡ false) (sym f) u))
       numbered_step (Along e) (After d) u f h = absurd f
       numbered_step (Behind e) (At node w) u f h = absurd f
       numbered_step (Behind e) (Along d) u f h = absurd f
@@ -262,7 +276,8 @@ module _ (text : Words) (graph : Graph) (g : IsGraph graph) (same : graph.blocks
           → has (write_set (instr_of text w)) x ≡ false → Lives (Along e) → Lives (At node w)
       onto node w e h l last u k =
           let same : (edge_at graph e).from ≡ node =
-          held_once graph g.firsts (edge_at graph e).from node w (last_held (edge_at graph e).from w (edge_in e l).from last) h in
+          held_once graph g.firsts (edge_at graph e).from node w
+          (last_held (edge_at graph e).from w (edge_in e l).from last) h in
           step (At node w) (Along e) u (l, same, subst (λ (m : Node). IsLast graph m w) same last) k
 
       behind : (e : ℕ) → (has (named e) x || has (beyond (edge_at graph e)) x) ≡ true → Lives (Behind e)
@@ -313,7 +328,8 @@ module _ (text : Words) (graph : Graph) (g : IsGraph graph) (same : graph.blocks
           (λ p. (node.0, node.1, pointed p.0 w p.1 node.0 node.1), λ h. numbered h.2.0 (At h.0 w) h.2.1 h.1)
 
 -- what is live at words says what is so behind snippets
-module _ (text : Words) (graph : Graph) (named : ℕ → List Part) (g : IsGraph graph) (same : graph.blocks.words ≡ length text.words)
+module _ (text : Words) (graph : Graph) (named : ℕ → List Part) (g : IsGraph graph)
+    (same : graph.blocks.words ≡ length text.words)
     (sets : Sets) (live : AreLiveWords text graph named sets) (e : ℕ) (x : Part) where
   after_read : IsOnward graph (edge_at graph e) sets x → IsLiveOn text graph named e x
   after_read (inl h) = ([], h)
@@ -324,7 +340,8 @@ module _ (text : Words) (graph : Graph) (named : ℕ → List Part) (g : IsGraph
       by : Holds graph (edge_at graph e).to h.0 → IsLiveAt text graph named h.0 x → IsLiveOn text graph named e x
       by held k =
           let is : k.0 ≡ (edge_at graph e).to = held_once graph g.firsts k.0 (edge_at graph e).to h.0 k.1 held in
-          let there : IsLive text graph named (At (edge_at graph e).to h.0) x = subst (λ (n : Node). IsLive text graph named (At n h.0) x) is k.2 in
+          let there : IsLive text graph named (At (edge_at graph e).to h.0) x =
+          subst (λ (n : Node). IsLive text graph named (At n h.0) x) is k.2 in
           (At (edge_at graph e).to h.0 ∷ there.0, (refl, (refl, h.1), there.1))
 
   after_goes : (path : List Point)
