@@ -50,7 +50,8 @@ def with_symbols(strings=STRINGS, symbols=SYMBOLS, entry_size=40):
 def files():
     """The files by their names."""
     known = {program.name: program for program in SMALL + C_PROGRAMS}
-    for name in ['call_and_return', 'inner_landings', 'transfer_in_slot', 'switch_of_four', 'queens', 'calculator']:
+    for name in ['call_and_return', 'inner_landings', 'transfer_in_slot', 'switch_of_four', 'queens', 'calculator',
+                 'dispatch', 'dispatch_at_o1']:
         yield name, known[name].file()
     for name, words in WORDS.items():
         yield name, Program(name, words, 0, '').file()

@@ -142,6 +142,10 @@ FRACTIONS_WORKED_OUT = b'5/6\n-6\n3\n144/89\nno number\n1/6\na fault at byte 137
 SAMPLES_SUMMED_UP = (b'900 2024 -55, off by 7 at most\n343b2490 c9741860\nd8726b4a 8240\n'
                      b'-2583 -2571 2589, 12817b38\n0 -141 2589, 869590c6\n0 186 -141, 3f47acd1\n')
 
+# Ten numbers, the letters of a word, which of four texts are numbers, and a count.
+DISPATCHED = (b'1010\n2006\n15030\n16024\n2179072\n8515\n9515\n1051\n2051\n3051\n'
+              b'alpha bravo charlie delta 204 ? foxtrot golf ? \n1010 214\n')
+
 C_PROGRAMS = [
     Program('word_count', '', 1472, 'exit 0', output=b'4 17 91\n',
         given=b'The windows overlap:\n\nthe ins of one\tare the outs of the next.\n'
@@ -167,5 +171,7 @@ C_PROGRAMS = [
                b'471899279385846262 is minus the sum of their eighths\n'
                b'8683317618811886495518194401280000000 is 33!\n'),
     Program('samples', '', 55300, 'exit 99', output=SAMPLES_SUMMED_UP),
+    Program('dispatch', '', 3515, 'exit 86', output=DISPATCHED),
+    Program('dispatch_at_o1', '', 4037, 'exit 86', output=DISPATCHED),
     Program('samples_unoptimised', '', 160122, 'exit 99', output=SAMPLES_SUMMED_UP),
 ]

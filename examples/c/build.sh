@@ -21,6 +21,8 @@ done
 for program in fractions samples; do
     build "${program}_unoptimised" start.S "$program.c" -O0
 done
+build dispatch start.S dispatch.c
+build dispatch_at_o1 start.S dispatch.c -O1
 clang --target=sparc-linux-gnu -mcpu=v8 -msoft-float -fintegrated-as -ffreestanding -fno-pic \
     -fno-asynchronous-unwind-tables -O2 -Wall -c fractions.c -o fractions_by_clang.o
 build fractions_by_clang start.S fractions_by_clang.o
