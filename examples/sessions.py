@@ -322,10 +322,10 @@ def demo():
     for number, count in [(1, 1), (0, 1), (4294967295, 10)]:
         yield eel(f'demo {number} {count}', 0, told(number, count, counted(number, count)))
     yield eel('demo 0000000001 0000000001', 0, told(1, 1, counted(1, 1)))
-    # of each routine: its call, the way to its loop, a way out of each turn, the return, and the landing behind the call
+    # of each routine: its call, the way to its loop, a way out of each turn, the return, the landing behind the call
     yield eel('demo 7 60000', 0, told(7, 60000, sum(turns + 4 for turns, _ in drawn_routines(7, 60000))))
-    for line in ['demo 1 0', 'demo 1 100001', 'demo 4294967296 1', 'demo 00000000001 1', 'demo 1 x', 'demo -1 1', 'demo 1',
-            'demo 1 1 1']:
+    for line in ['demo 1 0', 'demo 1 100001', 'demo 4294967296 1', 'demo 00000000001 1', 'demo 1 x', 'demo -1 1',
+            'demo 1', 'demo 1 1 1']:
         yield eel(line, 64, err=BAD_WORDS)
     yield 'room 5 100', b''
     yield eel('demo 1 1', 74, b'demo ', DEVICE_FAULT)

@@ -34,7 +34,7 @@ use Rattle.v8_step.specs.Items.{Item, Register, Codes, YRegister, IsItem, IsAmon
 use Rattle.v8_step.specs.Judged.{judged_by, aligned_span}
 use Rattle.v8_step.specs.Alike.{IsSameWorld, AreSameAfter}
 use Rattle.v8_step.specs.Needed.{ReadsIn}
-use Rattle.v8_step.specs.Copied.{AreTwins}
+use Rattle.v8_step.specs.Twins.{AreTwins}
 use Rattle.v8_step.specs.Visits.{pages_of}
 use Rattle.v8_step.proofs.Reading.{same_first, same_rest, same_sum, place_one, no_codes, no_y, ended_alike, same_lengths}
 use Rattle.v8_step.proofs.JudgedAlike.{judged_alike}

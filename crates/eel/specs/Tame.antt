@@ -19,7 +19,8 @@ abbrev pub AreAbove : ℕ → List Span → Type 0
 AreAbove base [] = Unit {0}
 AreAbove base (page ∷ pages) = (base ≤ page.from) × AreAbove base pages
 
--- It has no fault, there is room for every profile, and its run ends soon, without touching what lies above its segments.
+-- It has no fault, there is room for every profile, and its run ends soon, without touching what lies above its
+-- segments.
 pub record IsTame (file : List ℕ) : Type 0 where
   pub bytes : AreBytes file
   pub size : length file ≤ 2 ^ 26

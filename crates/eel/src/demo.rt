@@ -56,7 +56,8 @@ struct End {
     steps: u64,
 }
 
-/// Makes a program of so many routines from the number, edits it with counters, runs both, and prints what is told of them.
+/// Makes a program of so many routines from the number, edits it with counters, runs both, and prints what is told of
+/// them.
 pub fn demonstrate<O: Sink>(
     alloc: Global,
     number: u32,

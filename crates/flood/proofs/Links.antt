@@ -21,7 +21,9 @@ module _ (links : List Link) (p : ℕ) where
   last_into-leads zero j e = absurd (omega arith)
   last_into-leads (suc k) j e = by (leads k) refl e (last_into-leads k j)
     where
-      by : (b : Bool) → leads k ≡ b → cond b (suc k) (last_into links p k) ≡ suc j → (last_into links p k ≡ suc j → (j < k) × ((link_at links j).to ≡ p)) → (j < suc k) × ((link_at links j).to ≡ p)
+      by : (b : Bool) → leads k ≡ b → cond b (suc k) (last_into links p k) ≡ suc j
+          → (last_into links p k ≡ suc j → (j < k) × ((link_at links j).to ≡ p))
+          → (j < suc k) × ((link_at links j).to ≡ p)
       by true t e rest =
           let same : k ≡ j = omega arith in
           (omega arith, ap (λ i. (link_at links i).to) (sym same) ∙ eqb-true _ _ t)
@@ -32,7 +34,8 @@ module _ (links : List Link) (p : ℕ) where
   below_last zero j l e = absurd (omega arith)
   below_last (suc k) j l e = by (leads k) refl (below_last k j)
     where
-      by : (b : Bool) → leads k ≡ b → (j < k → (link_at links j).to ≡ p → j < last_into links p k) → j < cond b (suc k) (last_into links p k)
+      by : (b : Bool) → leads k ≡ b → (j < k → (link_at links j).to ≡ p → j < last_into links p k)
+          → j < cond b (suc k) (last_into links p k)
       by true t rest = omega arith
       by false t rest = go (cases_lt j k)
         where
@@ -43,7 +46,8 @@ module _ (links : List Link) (p : ℕ) where
               absurd (eqb-false _ _ t (ap (λ i. (link_at links i).to) (sym same) ∙ e))
 
   -- the number of a link that leads there, where there is one
-  pub leads_at : (n next : ℕ) → next ≡ last_into links p n → n ≤ length links → (k : ℕ) → next ≡ suc k → (k < length links) × ((link_at links k).to ≡ p)
+  pub leads_at : (n next : ℕ) → next ≡ last_into links p n → n ≤ length links → (k : ℕ) → next ≡ suc k
+      → (k < length links) × ((link_at links k).to ≡ p)
   leads_at n next e few k f =
       let h = last_into-leads n k (sym e ∙ f) in
       let low = h.0 in

@@ -23,10 +23,12 @@ module _ {place : ℕ} {more : List Part} {sets : Sets} {stack : List ℕ} {sets
       by (inr e) = ap (λ s. has s x) (g.others p e) ∙ h
 
   -- what is new was in the other set
-  pub gained : (p : ℕ) (x : Part) → has (at sets' p) x ≡ true → (has (at sets p) x ≡ true) ⊎ ((p ≡ place) × (has more x ≡ true))
+  pub gained : (p : ℕ) (x : Part) → has (at sets' p) x ≡ true
+      → (has (at sets p) x ≡ true) ⊎ ((p ≡ place) × (has more x ≡ true))
   gained p x h = by (cases_eq p place)
     where
-      old : p ≡ place → (has (at sets place) x ≡ true) ⊎ (has more x ≡ true) → (has (at sets p) x ≡ true) ⊎ ((p ≡ place) × (has more x ≡ true))
+      old : p ≡ place → (has (at sets place) x ≡ true) ⊎ (has more x ≡ true)
+          → (has (at sets p) x ≡ true) ⊎ ((p ≡ place) × (has more x ≡ true))
       old e (inl k) = inl (subst (λ (q : ℕ). has (at sets q) x ≡ true) (sym e) k)
       old e (inr k) = inr (e, k)
 
@@ -45,9 +47,12 @@ module _ {place : ℕ} {more : List Part} {sets : Sets} {stack : List ℕ} {sets
   pub settled : (p : ℕ) → Contains stack' p ⊎ (at sets' p ≡ at sets p)
   settled p = by (cases_eq p place) g.stacked
     where
-      by : (p ≡ place) ⊎ (p ≢ place) → ((at sets' place ≡ at sets place) × (stack' ≡ stack)) ⊎ (stack' ≡ stack ++ place ∷ []) → Contains stack' p ⊎ (at sets' p ≡ at sets p)
+      by : (p ≡ place) ⊎ (p ≢ place)
+          → ((at sets' place ≡ at sets place) × (stack' ≡ stack)) ⊎ (stack' ≡ stack ++ place ∷ [])
+          → Contains stack' p ⊎ (at sets' p ≡ at sets p)
       by (inl e) (inl f) = inr (ap (at sets') e ∙ f.0 ∙ ap (at sets) (sym e))
-      by (inl e) (inr f) = inl (subst (λ (q : ℕ). Contains stack' q) (sym e) (subst (λ (st : List ℕ). Contains st place) (sym f) (Contains-push stack place)))
+      by (inl e) (inr f) =
+          inl (subst (λ (q : ℕ). Contains stack' q) (sym e) (subst (λ (st : List ℕ). Contains st place) (sym f) (Contains-push stack place)))
       by (inr e) f = inr (g.others p e)
 
 module _ {reads : Sets} {links : List Link} where
@@ -63,12 +68,15 @@ module _ {reads : Sets} {links : List Link} where
       where
         by : ((at sets' (link_at links k).from ≡ at sets (link_at links k).from) × (stack' ≡ stack)) ⊎ (stack' ≡ stack ++ (link_at links k).from ∷ []) → All (λ p. p < length reads) stack'
         by (inl e) = subst (λ (st : List ℕ). All (λ p. p < length reads) st) (sym e.1) f.below
-        by (inr e) = subst (λ (st : List ℕ). All (λ p. p < length reads) st) (sym e) (All-push (λ p. p < length reads) stack _ f.below (areLinks k within).0)
+        by (inr e) =
+            subst (λ (st : List ℕ). All (λ p. p < length reads) st) (sym e)
+            (All-push (λ p. p < length reads) stack _ f.below (areLinks k within).0)
 
     live_again : (p : ℕ) (x : Part) → has (at sets' p) x ≡ true → IsLiveIn reads links p x
     live_again p x h = by (gained g p x h)
       where
-        by : (has (at sets p) x ≡ true) ⊎ ((p ≡ (link_at links k).from) × (has more x ≡ true)) → IsLiveIn reads links p x
+        by : (has (at sets p) x ≡ true) ⊎ ((p ≡ (link_at links k).from) × (has more x ≡ true))
+            → IsLiveIn reads links p x
         by (inl old) = f.live p x old
         by (inr new) =
             let parts = and_parts _ _ (sym (passes x) ∙ new.1) in
@@ -79,17 +87,20 @@ module _ {reads : Sets} {links : List Link} where
     told_again : (j : ℕ) → IsTold links sets j → Contains stack' (link_at links j).to ⊎ IsTold links sets' j
     told_again j told = by (settled g (link_at links j).to)
       where
-        by : Contains stack' (link_at links j).to ⊎ (at sets' (link_at links j).to ≡ at sets (link_at links j).to) → Contains stack' (link_at links j).to ⊎ IsTold links sets' j
+        by : Contains stack' (link_at links j).to ⊎ (at sets' (link_at links j).to ≡ at sets (link_at links j).to)
+            → Contains stack' (link_at links j).to ⊎ IsTold links sets' j
         by (inl h) = inl h
         by (inr e) = inr (λ x h w. kept g _ x (told x (sym (ap (λ s. has s x) e) ∙ h) w))
 
     told_now : Contains stack' (link_at links k).to ⊎ IsTold links sets' k
     told_now = by (settled g (link_at links k).to)
       where
-        by : Contains stack' (link_at links k).to ⊎ (at sets' (link_at links k).to ≡ at sets (link_at links k).to) → Contains stack' (link_at links k).to ⊎ IsTold links sets' k
+        by : Contains stack' (link_at links k).to ⊎ (at sets' (link_at links k).to ≡ at sets (link_at links k).to)
+            → Contains stack' (link_at links k).to ⊎ IsTold links sets' k
         by (inl h) = inl h
         by (inr e) = inr (λ x h w.
-            let here : has (at sets place) x ≡ true = ap (λ (q : ℕ). has (at sets q) x) (sym to) ∙ sym (ap (λ s. has s x) e) ∙ h in
+            let here : has (at sets place) x ≡ true =
+            ap (λ (q : ℕ). has (at sets q) x) (sym to) ∙ sym (ap (λ s. has s x) e) ∙ h in
             g.here x ∙ or_right _ _ (passes x ∙ and_from _ _ here (not_from_false _ w)))
 
     pub told_one : (low : ℕ) → low ≡ last_into links place k → IsFlooding reads links place low sets' stack'
@@ -101,23 +112,31 @@ module _ {reads : Sets} {links : List Link} where
       told = λ j l. by j l (f.told j l);
     }
       where
-        three : (j : ℕ) → Contains stack' (link_at links j).to ⊎ IsTold links sets' j → Contains stack' (link_at links j).to ⊎ (IsTold links sets' j ⊎ (((link_at links j).to ≡ place) × (j < low)))
+        three : (j : ℕ) → Contains stack' (link_at links j).to ⊎ IsTold links sets' j
+            → Contains stack' (link_at links j).to
+            ⊎ (IsTold links sets' j ⊎ (((link_at links j).to ≡ place) × (j < low)))
         three j (inl h) = inl h
         three j (inr h) = inr (inl h)
 
-        wait : (j : ℕ) → (link_at links j).to ≡ place → j < suc k → (j < k) ⊎ (k ≤ j) → Contains stack' (link_at links j).to ⊎ (IsTold links sets' j ⊎ (((link_at links j).to ≡ place) × (j < low)))
+        wait : (j : ℕ) → (link_at links j).to ≡ place → j < suc k → (j < k) ⊎ (k ≤ j)
+            → Contains stack' (link_at links j).to
+            ⊎ (IsTold links sets' j ⊎ (((link_at links j).to ≡ place) × (j < low)))
         wait j e l (inl less) = inr (inr (e, subst (λ (n : ℕ). j < n) (sym is) (below_last links place k j less e)))
         wait j e l (inr more) =
             let same : k ≡ j = omega arith in
             three j (subst (λ (i : ℕ). Contains stack' (link_at links i).to ⊎ IsTold links sets' i) same told_now)
 
-        by : (j : ℕ) → j < length links → Contains stack (link_at links j).to ⊎ (IsTold links sets j ⊎ (((link_at links j).to ≡ place) × (j < suc k))) → Contains stack' (link_at links j).to ⊎ (IsTold links sets' j ⊎ (((link_at links j).to ≡ place) × (j < low)))
+        by : (j : ℕ) → j < length links
+            → Contains stack (link_at links j).to
+            ⊎ (IsTold links sets j ⊎ (((link_at links j).to ≡ place) × (j < suc k))) → Contains stack'
+            (link_at links j).to ⊎ (IsTold links sets' j ⊎ (((link_at links j).to ≡ place) × (j < low)))
         by j l (inl h) = inl (on_stack g _ h)
         by j l (inr (inl h)) = three j (told_again j h)
         by j l (inr (inr h)) = wait j h.0 h.1 (cases_lt j k)
 
   -- a place is taken off the stack
-  pub taken : {at_hand place : ℕ} {sets : Sets} {stack rest : List ℕ} (low : ℕ) → IsFlooding reads links at_hand 0 sets stack
+  pub taken : {at_hand place : ℕ} {sets : Sets} {stack rest : List ℕ} (low : ℕ)
+      → IsFlooding reads links at_hand 0 sets stack
       → stack ≡ rest ++ place ∷ [] → low ≡ last_into links place (length links) → (All (λ p. p < length reads) rest)
       → IsFlooding reads links place low sets rest
   taken {at_hand} {place} {sets} {stack} {rest} low f e is below = record {
@@ -128,16 +147,22 @@ module _ {reads : Sets} {links : List Link} where
     told = λ j l. by j l (f.told j l);
   }
     where
-      off : (j : ℕ) → j < length links → Contains rest (link_at links j).to ⊎ (place ≡ (link_at links j).to) → Contains rest (link_at links j).to ⊎ (IsTold links sets j ⊎ (((link_at links j).to ≡ place) × (j < low)))
+      off : (j : ℕ) → j < length links → Contains rest (link_at links j).to ⊎ (place ≡ (link_at links j).to)
+          → Contains rest (link_at links j).to ⊎ (IsTold links sets j ⊎ (((link_at links j).to ≡ place) × (j < low)))
       off j l (inl h) = inl h
-      off j l (inr h) = inr (inr (sym h, subst (λ (n : ℕ). j < n) (sym is) (below_last links place (length links) j l (sym h))))
+      off j l (inr h) =
+          inr (inr (sym h, subst (λ (n : ℕ). j < n) (sym is) (below_last links place (length links) j l (sym h))))
 
-      by : (j : ℕ) → j < length links → Contains stack (link_at links j).to ⊎ (IsTold links sets j ⊎ (((link_at links j).to ≡ at_hand) × (j < 0))) → Contains rest (link_at links j).to ⊎ (IsTold links sets j ⊎ (((link_at links j).to ≡ place) × (j < low)))
-      by j l (inl h) = off j l (Contains-push_cases rest place _ (subst (λ (st : List ℕ). Contains st (link_at links j).to) e h))
+      by : (j : ℕ) → j < length links
+          → Contains stack (link_at links j).to ⊎ (IsTold links sets j ⊎ (((link_at links j).to ≡ at_hand) × (j < 0)))
+          → Contains rest (link_at links j).to ⊎ (IsTold links sets j ⊎ (((link_at links j).to ≡ place) × (j < low)))
+      by j l (inl h) =
+          off j l (Contains-push_cases rest place _ (subst (λ (st : List ℕ). Contains st (link_at links j).to) e h))
       by j l (inr (inl h)) = inr (inl h)
       by j l (inr (inr h)) = let none = h.1 in absurd (omega arith)
 
-  pub moved : {a b : ℕ} {sets : Sets} {stack : List ℕ} → IsFlooding reads links a 0 sets stack → IsFlooding reads links b 0 sets stack
+  pub moved : {a b : ℕ} {sets : Sets} {stack : List ℕ} → IsFlooding reads links a 0 sets stack
+      → IsFlooding reads links b 0 sets stack
   moved {a} {b} {sets} {stack} f = record {
     len = f.len;
     below = f.below;
@@ -146,7 +171,9 @@ module _ {reads : Sets} {links : List Link} where
     told = λ j l. by j (f.told j l);
   }
     where
-      by : (j : ℕ) → Contains stack (link_at links j).to ⊎ (IsTold links sets j ⊎ (((link_at links j).to ≡ a) × (j < 0))) → Contains stack (link_at links j).to ⊎ (IsTold links sets j ⊎ (((link_at links j).to ≡ b) × (j < 0)))
+      by : (j : ℕ)
+          → Contains stack (link_at links j).to ⊎ (IsTold links sets j ⊎ (((link_at links j).to ≡ a) × (j < 0)))
+          → Contains stack (link_at links j).to ⊎ (IsTold links sets j ⊎ (((link_at links j).to ≡ b) × (j < 0)))
       by j (inl h) = inl h
       by j (inr (inl h)) = inr (inl h)
       by j (inr (inr h)) = let none = h.1 in absurd (omega arith)

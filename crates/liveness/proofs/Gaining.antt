@@ -48,11 +48,13 @@ gains_both xs ys zs P Q R g h pr qr back = record {
 pub gains_push : (xs ys zs : List Link) (one : Link) (P R : Link → Type 0) → Gains xs ys P → zs ≡ ys ++ one ∷ []
     → ((l : Link) → P l → R l) → R one → ((l : Link) → R l → P l ⊎ (one ≡ l)) → Gains xs zs R
 gains_push xs ys zs one P R g e pr here back =
-    gains_both xs ys zs P (λ l. one ≡ l) R g (subst (λ (ls : List Link). Gains ys ls (λ l. one ≡ l)) (sym e) (gains_one ys one))
+    gains_both xs ys zs P (λ l. one ≡ l) R g
+    (subst (λ (ls : List Link). Gains ys ls (λ l. one ≡ l)) (sym e) (gains_one ys one))
     pr (λ l h. subst R h here) back
 
 -- said in another way
-pub gains_as : (xs ys : List Link) (P Q : Link → Type 0) → Gains xs ys P → ((l : Link) → P l → Q l) → ((l : Link) → Q l → P l) → Gains xs ys Q
+pub gains_as : (xs ys : List Link) (P Q : Link → Type 0) → Gains xs ys P → ((l : Link) → P l → Q l)
+    → ((l : Link) → Q l → P l) → Gains xs ys Q
 gains_as xs ys P Q g to from = record {
   kept = g.kept;
   added = λ l h. g.added l (from l h);
@@ -73,14 +75,19 @@ same_links a b f t k = ap (λ n. link n a.to a.kills) f ∙ ap (λ n. link b.fro
 
 module _ (text : Words) where
   pub no_words : (xs : List Link) (first end : ℕ) → end ≤ suc first → Gains xs xs (NextBelow text first end)
-  no_words xs first end e = gains_none xs (NextBelow text first end) (λ l h. let a = h.0 in let b = h.1 in let c = h.2 in absurd (omega arith))
+  no_words xs first end e =
+      gains_none xs (NextBelow text first end)
+      (λ l h. let a = h.0 in let b = h.1 in let c = h.2 in absurd (omega arith))
 
-  pub more_words : (first word : ℕ) (xs ys zs : List Link) (kills : List Part) → suc first ≤ word → Gains xs ys (NextBelow text first word)
-      → zs ≡ ys ++ record { from = word - 1; to = word; kills = kills } ∷ [] → kills ≡ write_set (instr_of text (word - 1))
+  pub more_words : (first word : ℕ) (xs ys zs : List Link) (kills : List Part) → suc first ≤ word
+      → Gains xs ys (NextBelow text first word)
+      → zs ≡ ys ++ record { from = word - 1; to = word; kills = kills } ∷ []
+      → kills ≡ write_set (instr_of text (word - 1))
       → Gains xs zs (NextBelow text first (word + 1))
   more_words first word xs ys zs kills low g e is =
       gains_push xs ys zs _ (NextBelow text first word) (NextBelow text first (word + 1)) g e
-      (λ l h. (h.0, h.1, omega (arith, h.2), h.3)) (omega arith, omega arith, omega arith, is) (λ l h. by l h (cases_lt l.to word))
+      (λ l h. (h.0, h.1, omega (arith, h.2), h.3)) (omega arith, omega arith, omega arith, is)
+      (λ l h. by l h (cases_lt l.to word))
     where
       by : (l : Link) → NextBelow text first (word + 1) l → (l.to < word) ⊎ (word ≤ l.to)
           → NextBelow text first word l ⊎ (record { from = word - 1; to = word; kills = kills } ≡ l)
@@ -102,9 +109,12 @@ module _ (text : Words) where
       (λ l k. (k.0, omega (arith, k.1), k.2)) (λ l k. (b, omega arith, k)) (λ l k. by l k (cases_lt k.0 b))
     where
       In : ℕ → Link → Type 0
-      In block = NextBelow text (slice_index graph.blocks.firsts block) (block_end graph.blocks.firsts graph.blocks.words block)
+      In block =
+          NextBelow text (slice_index graph.blocks.firsts block)
+          (block_end graph.blocks.firsts graph.blocks.words block)
 
-      by : (l : Link) (k : InBlockBelow text graph (b + 1) l) → (k.0 < b) ⊎ (b ≤ k.0) → InBlockBelow text graph b l ⊎ In b l
+      by : (l : Link) (k : InBlockBelow text graph (b + 1) l) → (k.0 < b) ⊎ (b ≤ k.0)
+          → InBlockBelow text graph b l ⊎ In b l
       by l k (inl low) = inl (k.0, low, k.2)
       by l k (inr high) =
           let low = k.1 in
@@ -118,14 +128,16 @@ module _ (text : Words) where
       (subst (λ (d : Edge). Gains ys zs (OfEdge text graph d)) is h)
       (λ l k. (k.0, omega (arith, k.1), k.2)) (λ l k. (e, omega arith, k)) (λ l k. by l k (cases_lt k.0 e))
     where
-      by : (l : Link) (k : OfEdgeBelow text graph (e + 1) l) → (k.0 < e) ⊎ (e ≤ k.0) → OfEdgeBelow text graph e l ⊎ OfEdge text graph (edge_at graph e) l
+      by : (l : Link) (k : OfEdgeBelow text graph (e + 1) l) → (k.0 < e) ⊎ (e ≤ k.0)
+          → OfEdgeBelow text graph e l ⊎ OfEdge text graph (edge_at graph e) l
       by l k (inl low) = inl (k.0, low, k.2)
       by l k (inr high) =
           let low = k.1 in
           let same : k.0 ≡ e = omega arith in
           inr (subst (λ (n : ℕ). OfEdge text graph (edge_at graph n) l) same k.2)
 
-  pub all_links : (graph : Graph) (ys zs : List Link) → Gains [] ys (InBlockBelow text graph (length graph.blocks.firsts))
+  pub all_links : (graph : Graph) (ys zs : List Link)
+      → Gains [] ys (InBlockBelow text graph (length graph.blocks.firsts))
       → Gains ys zs (OfEdgeBelow text graph (length graph.edges)) → AreLinksOf text graph zs
   all_links graph ys zs g h = record {
     only = λ l k. second l (h.only l k);

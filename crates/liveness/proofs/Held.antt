@@ -12,7 +12,8 @@ use Rattle.liveness.specs.Live.{Holds}
 abbrev pub start_of : ℕ → List ℕ → ℕ → ℕ
 start_of words firsts i = if nat_lt i (length firsts) then slice_index firsts i else words
 
-pub start_is : (words : ℕ) (firsts : List ℕ) (i : ℕ) → i < length firsts → start_of words firsts i ≡ slice_index firsts i
+pub start_is : (words : ℕ) (firsts : List ℕ) (i : ℕ) → i < length firsts
+    → start_of words firsts i ≡ slice_index firsts i
 start_is words firsts i l = rw (lt-ltb _ _ l) refl
 
 -- which is where the one before it ends
@@ -47,14 +48,18 @@ module _ (words : ℕ) (firsts : List ℕ) (f : AreFirsts words firsts) where
   pub apart : (i j : ℕ) → i < j → j < length firsts → block_end firsts words i ≤ slice_index firsts j
   apart i j l h = omega (arith, ends_at_next i (omega arith), ordered (suc i) j l h)
 
-  some_block : (word : ℕ) → word < words → (i : ℕ) × (i < length firsts) × (slice_index firsts i ≤ word) × (word < block_end firsts words i)
-  some_block zero l = (0, omega (arith, f.some), omega (arith, f.begin), omega (arith, f.begin, some_words 0 (omega (arith, f.some))))
+  some_block : (word : ℕ) → word < words
+      → (i : ℕ) × (i < length firsts) × (slice_index firsts i ≤ word) × (word < block_end firsts words i)
+  some_block zero l =
+      (0, omega (arith, f.some), omega (arith, f.begin), omega (arith, f.begin, some_words 0 (omega (arith, f.some))))
   some_block (suc word) l =
       let before = some_block word (omega arith) in
-      go before.0 before.1 before.2 before.3 (cases_lt (suc word) (block_end firsts words before.0)) (cases_lt (suc before.0) (length firsts))
+      go before.0 before.1 before.2 before.3 (cases_lt (suc word) (block_end firsts words before.0))
+      (cases_lt (suc before.0) (length firsts))
     where
       go : (i : ℕ) → i < length firsts → slice_index firsts i ≤ word → word < block_end firsts words i
-          → (suc word < block_end firsts words i) ⊎ (block_end firsts words i ≤ suc word) → (suc i < length firsts) ⊎ (length firsts ≤ suc i)
+          → (suc word < block_end firsts words i) ⊎ (block_end firsts words i ≤ suc word)
+          → (suc i < length firsts) ⊎ (length firsts ≤ suc i)
           → (i : ℕ) × (i < length firsts) × (slice_index firsts i ≤ suc word) × (suc word < block_end firsts words i)
       go i within above below (inl here) more = (i, within, omega arith, here)
       go i within above below (inr past) (inl more) =
@@ -80,7 +85,8 @@ module _ (graph : Graph) (f : AreFirsts graph.blocks.words graph.blocks.firsts) 
 
   -- and no other holds it
   pub held_once : (one other : Node) (w : ℕ) → Holds graph one w → Holds graph other w → one ≡ other
-  held_once (Block a) (Block b) w h k = ap (λ n. Block (record { 0 = n })) (same_number a.0 b.0 w h.0 k.0 h.1 h.2 k.1 k.2)
+  held_once (Block a) (Block b) w h k =
+      ap (λ n. Block (record { 0 = n })) (same_number a.0 b.0 w h.0 k.0 h.1 h.2 k.1 k.2)
   held_once X other w h k = absurd h
   held_once (Block a) X w h k = absurd k
 

@@ -31,7 +31,8 @@ among_none sets first x = (λ h. absurd (false_is_true h), λ h. let a = h.1 in 
 pub among_more : (sets : Sets) (first word : ℕ) (live more grown : List Part) (x : Part) → first ≤ word
     → ((has live x ≡ true) ↔ Among sets first word x) → more ≡ at sets word → has grown x ≡ (has live x || has more x)
     → (has grown x ≡ true) ↔ Among sets first (word + 1) x
-among_more sets first word live more grown x low h is union = (λ k. to (or_cases _ _ (sym union ∙ k)), λ k. from k (cases_lt k.0 word))
+among_more sets first word live more grown x low h is union =
+    (λ k. to (or_cases _ _ (sym union ∙ k)), λ k. from k (cases_lt k.0 word))
   where
     to : (has live x ≡ true) ⊎ (has more x ≡ true) → Among sets first (word + 1) x
     to (inl k) = let m = h.0 k in (m.0, m.1, omega (arith, m.2), m.3)
@@ -45,15 +46,18 @@ among_more sets first word live more grown x low h is union = (λ k. to (or_case
         union ∙ or_right _ _ (ap (λ s. has s x) is ∙ subst (λ (n : ℕ). has (at sets n) x ≡ true) same k.3)
 
 -- one set more
-pub pushed : (P : ℕ → List Part → Type 0) (xs : Sets) (y : List Part) (i : ℕ) → length xs ≡ i → ((j : ℕ) → j < i → P j (at xs j)) → P i y
+pub pushed : (P : ℕ → List Part → Type 0) (xs : Sets) (y : List Part) (i : ℕ) → length xs ≡ i
+    → ((j : ℕ) → j < i → P j (at xs j)) → P i y
     → (j : ℕ) → j < i + 1 → P j (at (xs ++ y ∷ []) j)
 pushed P xs y i len below here j l = by (cases_lt j i)
   where
     by : (j < i) ⊎ (i ≤ j) → P j (at (xs ++ y ∷ []) j)
-    by (inl less) = subst (λ (s : List Part). P j s) (sym (get_or_append_left xs (y ∷ []) [] j (omega arith))) (below j less)
+    by (inl less) =
+        subst (λ (s : List Part). P j s) (sym (get_or_append_left xs (y ∷ []) [] j (omega arith))) (below j less)
     by (inr more) =
         let same : i ≡ j = omega arith in
-        subst (λ (k : ℕ). P k (at (xs ++ y ∷ []) k)) same (subst (λ (s : List Part). P i s) (sym (get_or_push xs y [] i len)) here)
+        subst (λ (k : ℕ). P k (at (xs ++ y ∷ []) k)) same
+        (subst (λ (s : List Part). P i s) (sym (get_or_push xs y [] i len)) here)
 
 -- one edge more
 pub begun_more : (text : Words) (graph : Graph) (named : ℕ → List Part) (e : ℕ) (edge : Edge) (names : List Part) (sets sets' : Sets)

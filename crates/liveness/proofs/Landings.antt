@@ -47,14 +47,16 @@ edges_stay b block =
     All-map LandsFromOutside (edge_of b block) (ways_from b block)
     (λ k d l h. absurd (ways_stay b.words (last_word b.firsts b.words block) (end_of b block) k d l h))
 
-All-flat_map : {A B : Type 0} (P : B → Type 0) (f : A → List B) (xs : List A) → ((x : A) → All P (f x)) → All P (flat_map f xs)
+All-flat_map : {A B : Type 0} (P : B → Type 0) (f : A → List B) (xs : List A) → ((x : A) → All P (f x))
+    → All P (flat_map f xs)
 All-flat_map P f [] each = λ k d l. absurd (omega arith)
 All-flat_map P f (x ∷ xs) each = All-append P (f x) (flat_map f xs) (each x) (All-flat_map P f xs each)
 
 all_land : (b : Blocks) → All LandsFromOutside (edges_in b)
 unfolding edges_in
 all_land b =
-    All-append LandsFromOutside (flat_map (edges_of b) (below (length b.firsts))) (map landing_at (below (length b.firsts)))
+    All-append LandsFromOutside (flat_map (edges_of b) (below (length b.firsts)))
+    (map landing_at (below (length b.firsts)))
     (All-flat_map LandsFromOutside (edges_of b) (below (length b.firsts)) (edges_stay b))
     (All-map LandsFromOutside landing_at (below (length b.firsts)) (λ k d l h. refl))
 

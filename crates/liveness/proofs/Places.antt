@@ -26,7 +26,8 @@ use Rattle.liveness.specs.Sets.{AreLiveWords}
 use Rattle.liveness.proofs.Held.{held_within, held_once, some_node, some_words}
 use Rattle.liveness.proofs.Landings.{lands_from_outside}
 
-pub goes_on_held : (graph : Graph) (kind : EdgeKind) (node : Node) (w : ℕ) → GoesOnAt graph kind node w → Holds graph node w
+pub goes_on_held : (graph : Graph) (kind : EdgeKind) (node : Node) (w : ℕ) → GoesOnAt graph kind node w
+    → Holds graph node w
 goes_on_held graph kinds.Land node w h = h
 goes_on_held graph kinds.Fall node w h = h.0
 goes_on_held graph kinds.Taken node w h = h.0
@@ -35,7 +36,8 @@ goes_on_held graph kinds.Call node w h = h.0
 goes_on_held graph kinds.Out node w h = h.0
 
 -- an edge that is no landing goes on at the first word
-goes_on_first : (graph : Graph) (kind : EdgeKind) (node : Node) (w : ℕ) → (kind ≡ kinds.Land → ⊥) → GoesOnAt graph kind node w → IsFirst graph node w
+goes_on_first : (graph : Graph) (kind : EdgeKind) (node : Node) (w : ℕ) → (kind ≡ kinds.Land → ⊥)
+    → GoesOnAt graph kind node w → IsFirst graph node w
 goes_on_first graph kinds.Land node w n h = absurd (n refl)
 goes_on_first graph kinds.Fall node w n h = h.1
 goes_on_first graph kinds.Taken node w n h = h.1
@@ -43,7 +45,8 @@ goes_on_first graph kinds.Untaken node w n h = h.1
 goes_on_first graph kinds.Call node w n h = h.1
 goes_on_first graph kinds.Out node w n h = h.1
 
-first_goes_on : (graph : Graph) (kind : EdgeKind) (node : Node) (w : ℕ) → Holds graph node w → IsFirst graph node w → GoesOnAt graph kind node w
+first_goes_on : (graph : Graph) (kind : EdgeKind) (node : Node) (w : ℕ) → Holds graph node w → IsFirst graph node w
+    → GoesOnAt graph kind node w
 first_goes_on graph kinds.Land node w h f = h
 first_goes_on graph kinds.Fall node w h f = (h, f)
 first_goes_on graph kinds.Taken node w h f = (h, f)
@@ -66,9 +69,11 @@ slot_set text (Word word) = set_of-members (has (writes_of (instr_of text word.0
 slot_set text Off = refl
 
 has_both : (text : Words) (instr : Instr) (slot : Slot) (x : Part)
-    → has (set_of (write_set instr ++ slot_writes text slot)) x ≡ (has (write_set instr) x || has (slot_writes text slot) x)
+    → has (set_of (write_set instr ++ slot_writes text slot)) x
+    ≡ (has (write_set instr) x || has (slot_writes text slot) x)
 has_both text instr slot x =
-    has-union (write_set instr) (slot_writes text slot) _ x (set_of-members (has (writes_of instr))) (slot_set text slot) refl
+    has-union (write_set instr) (slot_writes text slot) _ x (set_of-members (has (writes_of instr)))
+    (slot_set text slot) refl
 
 module _ (text : Words) (graph : Graph) (g : IsGraph graph) (same : graph.blocks.words ≡ length text.words) where
   count : ℕ
@@ -93,7 +98,9 @@ module _ (text : Words) (graph : Graph) (g : IsGraph graph) (same : graph.blocks
   first_held X w within e = absurd e
 
   edge_in : (e : ℕ) → e < length graph.edges → IsEdgeIn graph.blocks (edge_at graph e)
-  edge_in e l = All-get_or (IsEdgeIn graph.blocks) graph.edges e (record { from = X; to = X; kind = kinds.Land; slot = Nothing }) l g.edges
+  edge_in e l =
+      All-get_or (IsEdgeIn graph.blocks) graph.edges e
+      (record { from = X; to = X; kind = kinds.Land; slot = Nothing }) l g.edges
 
   -- what leads from a word to another, without a write of the part
   pub data Follows (x : Part) (p q : ℕ) : Type 0 where
@@ -101,13 +108,15 @@ module _ (text : Words) (graph : Graph) (g : IsGraph graph) (same : graph.blocks
         → has (write_set (instr_of text p)) x ≡ false → Follows x p q
     over : (e : ℕ) → e < length graph.edges → IsLast graph (edge_at graph e).from p
         → GoesOnAt graph (edge_at graph e).kind (edge_at graph e).to q
-        → has (write_set (instr_of text p)) x ≡ false → has (slot_writes text (edge_at graph e).slot) x ≡ false → Follows x p q
+        → has (write_set (instr_of text p)) x ≡ false → has (slot_writes text (edge_at graph e).slot) x ≡ false
+        → Follows x p q
 
   module _ {links : List Link} (all : AreLinksOf text graph links) where
     contained : (k : ℕ) → k < length links → Contains links (link_at links k)
     contained k l = Contains-get_or links k (record { from = 0; to = 0; kills = [] }) l
 
-    within_links : (l : Link) → InBlockBelow text graph (length graph.blocks.firsts) l ⊎ OfEdgeBelow text graph (length graph.edges) l
+    within_links : (l : Link)
+        → InBlockBelow text graph (length graph.blocks.firsts) l ⊎ OfEdgeBelow text graph (length graph.edges) l
         → (l.from < length text.words) × (l.to < length text.words)
     within_links l (inl (b, below, (first, i, under, kills))) =
         let to : Holds graph (Block (record { 0 = b })) l.to = (below, omega arith, under) in
@@ -125,12 +134,16 @@ module _ (text : Words) (graph : Graph) (g : IsGraph graph) (same : graph.blocks
 
     -- ---- links and what follows
 
-    of_link : (x : Part) (l : Link) → InBlockBelow text graph (length graph.blocks.firsts) l ⊎ OfEdgeBelow text graph (length graph.edges) l
+    of_link : (x : Part) (l : Link)
+        → InBlockBelow text graph (length graph.blocks.firsts) l ⊎ OfEdgeBelow text graph (length graph.edges) l
         → has l.kills x ≡ false → Follows x l.from l.to
     of_link x l (inl (b, below, (first, i, under, kills))) u =
-        next (Block (record { 0 = b })) (below, first, omega arith) (below, omega arith, under) i (sym (ap (λ s. has s x) kills) ∙ u)
+        next (Block (record { 0 = b })) (below, first, omega arith) (below, omega arith, under) i
+        (sym (ap (λ s. has s x) kills) ∙ u)
     of_link x l (inr (e, below, (last, first, kills))) u =
-        let none = or_none _ _ (sym (has_both text (instr_of text l.from) (edge_at graph e).slot x) ∙ sym (ap (λ s. has s x) kills) ∙ u) in
+        let none =
+        or_none _ _
+        (sym (has_both text (instr_of text l.from) (edge_at graph e).slot x) ∙ sym (ap (λ s. has s x) kills) ∙ u) in
         over e below last
         (first_goes_on graph (edge_at graph e).kind (edge_at graph e).to l.to (first_held (edge_at graph e).to l.to (edge_in e below).to first) first)
         none.0 none.1
@@ -143,7 +156,8 @@ module _ (text : Words) (graph : Graph) (g : IsGraph graph) (same : graph.blocks
 
     of_contained : (x : Part) (l : Link) → Contains links l → has l.kills x ≡ false → Passes links x l.from l.to
     of_contained x l c u =
-        let is : link_at links c.0 ≡ l = get_or_default links c.0 (record { from = 0; to = 0; kills = [] }) l c.1 ∙ c.2 in
+        let is : link_at links c.0 ≡ l =
+        get_or_default links c.0 (record { from = 0; to = 0; kills = [] }) l c.1 ∙ c.2 in
         (c.0, c.1, ap (λ (k : Link). k.from) is, ap (λ (k : Link). k.to) is, ap (λ (k : Link). has k.kills x) is ∙ u)
 
     follows : (x : Part) (p q : ℕ) → Follows x p q → Passes links x p q
@@ -156,7 +170,8 @@ module _ (text : Words) (graph : Graph) (g : IsGraph graph) (same : graph.blocks
         (has_both text (instr_of text p) (edge_at graph e).slot x ∙ none_or _ _ u s)
       where
         along : ℕ → Link
-        along f = record { from = p; to = q; kills = set_of (write_set (instr_of text p) ++ slot_writes text (edge_at graph f).slot) }
+        along f =
+            record { from = p; to = q; kills = set_of (write_set (instr_of text p) ++ slot_writes text (edge_at graph f).slot) }
 
         first : IsFirst graph (edge_at graph e).to q
         first =
@@ -165,7 +180,8 @@ module _ (text : Words) (graph : Graph) (g : IsGraph graph) (same : graph.blocks
 
     -- ---- what is live
 
-    module _ {named : ℕ → List Part} {reads : Sets} (r : AreBegun text graph named (length graph.edges) reads) (x : Part) where
+    module _ {named : ℕ → List Part} {reads : Sets} (r : AreBegun text graph named (length graph.edges) reads)
+        (x : Part) where
       abbrev Plain : ℕ → Type 0
       Plain p = IsLiveIn reads links p x
 
@@ -175,7 +191,8 @@ module _ (text : Words) (graph : Graph) (g : IsGraph graph) (same : graph.blocks
       read : (p : Point) → has (reads_at text graph named p) x ≡ true → Lives p
       read p h = ([], h)
 
-      step : (p q : Point) → has (writes_at text graph named p) x ≡ false → Goes text graph named p q → Lives q → Lives p
+      step : (p q : Point) → has (writes_at text graph named p) x ≡ false → Goes text graph named p q → Lives q
+          → Lives p
       step p q w f l = (q ∷ l.0, (w, f, l.1))
 
       plain_read : (w : ℕ) → w < length text.words → IsBegun text graph named (length graph.edges) w x → Plain w
@@ -190,7 +207,9 @@ module _ (text : Words) (graph : Graph) (g : IsGraph graph) (same : graph.blocks
           ⊎ ((w : ℕ) × GoesOnAt graph (edge_at graph e).kind (edge_at graph e).to w × Plain w)
 
       abbrev Leaving : ℕ → Type 0
-      Leaving e = e < length graph.edges → (w : ℕ) → IsLast graph (edge_at graph e).from w → has (write_set (instr_of text w)) x ≡ false → Plain w
+      Leaving e =
+          e < length graph.edges → (w : ℕ) → IsLast graph (edge_at graph e).from w → has
+          (write_set (instr_of text w)) x ≡ false → Plain w
 
       -- from paths of points to paths of words
       abbrev Numbered : Point → Type 0
@@ -201,9 +220,11 @@ module _ (text : Words) (graph : Graph) (g : IsGraph graph) (same : graph.blocks
 
       begun : (e : ℕ) → is_ahead text (edge_at graph e) (named e) x ≡ true → Leaving e
       begun e h l w last u =
-          plain_read w (low (edge_at graph e).from w (last_held (edge_at graph e).from w (edge_in e l).from last)) (inr (e, l, (last, u, h)))
+          plain_read w (low (edge_at graph e).from w (last_held (edge_at graph e).from w (edge_in e l).from last))
+          (inr (e, l, (last, u, h)))
 
-      ahead : (e : ℕ) → (has (named e) x || has (beyond (edge_at graph e)) x) ≡ true → has (slot_writes text (edge_at graph e).slot) x ≡ false → Leaving e
+      ahead : (e : ℕ) → (has (named e) x || has (beyond (edge_at graph e)) x) ≡ true
+          → has (slot_writes text (edge_at graph e).slot) x ≡ false → Leaving e
       ahead e h s = begun e (or_right _ _ (and_from _ _ h (not_from_false _ s)))
 
       onward : (e : ℕ) → Onward e → has (slot_writes text (edge_at graph e).slot) x ≡ false → Leaving e
@@ -216,7 +237,8 @@ module _ (text : Words) (graph : Graph) (g : IsGraph graph) (same : graph.blocks
       numbered_read (Behind e) h = ahead e (or_left _ _ h)
       numbered_read (After e) h = inl h
 
-      numbered_step : (p q : Point) → has (writes_at text graph named p) x ≡ false → Goes text graph named p q → Numbered q → Numbered p
+      numbered_step : (p q : Point) → has (writes_at text graph named p) x ≡ false → Goes text graph named p q
+          → Numbered q → Numbered p
       numbered_step (At node w) (At other v) u f h = λ k.
           let there : Holds graph node v = f.2 in
           plain_step w v (next node k there f.1 u) (h (subst (λ (m : Node). Holds graph m v) (sym f.0) there))
@@ -226,7 +248,8 @@ module _ (text : Words) (graph : Graph) (g : IsGraph graph) (same : graph.blocks
       numbered_step (At node w) (After e) u f h = absurd f
       numbered_step (Along e) (At node w) u f h = absurd f
       numbered_step (Along e) (Along d) u f h = absurd f
-      numbered_step (Along e) (Behind d) u f h = subst Leaving f (h (subst (λ (n : ℕ). has (slot_writes text (edge_at graph n).slot) x ≡ false) (sym f) u))
+      numbered_step (Along e) (Behind d) u f h =
+          subst Leaving f (h (subst (λ (n : ℕ). has (slot_writes text (edge_at graph n).slot) x ≡ false) (sym f) u))
       numbered_step (Along e) (After d) u f h = absurd f
       numbered_step (Behind e) (At node w) u f h = absurd f
       numbered_step (Behind e) (Along d) u f h = absurd f
@@ -238,7 +261,9 @@ module _ (text : Words) (graph : Graph) (g : IsGraph graph) (same : graph.blocks
       numbered_step (After e) (Behind d) u f h = absurd f
       numbered_step (After e) (After d) u f h = absurd f
 
-      numbered : (path : List Point) (p : Point) → ReadsFirst (reads_at text graph named) (writes_at text graph named) (Goes text graph named) x p path → Numbered p
+      numbered : (path : List Point) (p : Point)
+          → ReadsFirst (reads_at text graph named) (writes_at text graph named) (Goes text graph named) x p path
+          → Numbered p
       numbered [] p h = numbered_read p h
       numbered (q ∷ path) p h = numbered_step p q h.0 h.1 (numbered path q h.2)
 
@@ -246,11 +271,13 @@ module _ (text : Words) (graph : Graph) (g : IsGraph graph) (same : graph.blocks
       abbrev Pointed : ℕ → Type 0
       Pointed p = (node : Node) → Holds graph node p → Lives (At node p)
 
-      onto : (node : Node) (w e : ℕ) → Holds graph node w → e < length graph.edges → IsLast graph (edge_at graph e).from w
+      onto : (node : Node) (w e : ℕ) → Holds graph node w → e < length graph.edges
+          → IsLast graph (edge_at graph e).from w
           → has (write_set (instr_of text w)) x ≡ false → Lives (Along e) → Lives (At node w)
       onto node w e h l last u k =
           let same : (edge_at graph e).from ≡ node =
-          held_once graph g.firsts (edge_at graph e).from node w (last_held (edge_at graph e).from w (edge_in e l).from last) h in
+          held_once graph g.firsts (edge_at graph e).from node w
+          (last_held (edge_at graph e).from w (edge_in e l).from last) h in
           step (At node w) (Along e) u (l, same, subst (λ (m : Node). IsLast graph m w) same last) k
 
       behind : (e : ℕ) → (has (named e) x || has (beyond (edge_at graph e)) x) ≡ true → Lives (Behind e)
@@ -301,7 +328,8 @@ module _ (text : Words) (graph : Graph) (g : IsGraph graph) (same : graph.blocks
           (λ p. (node.0, node.1, pointed p.0 w p.1 node.0 node.1), λ h. numbered h.2.0 (At h.0 w) h.2.1 h.1)
 
 -- what is live at words says what is so behind snippets
-module _ (text : Words) (graph : Graph) (named : ℕ → List Part) (g : IsGraph graph) (same : graph.blocks.words ≡ length text.words)
+module _ (text : Words) (graph : Graph) (named : ℕ → List Part) (g : IsGraph graph)
+    (same : graph.blocks.words ≡ length text.words)
     (sets : Sets) (live : AreLiveWords text graph named sets) (e : ℕ) (x : Part) where
   after_read : IsOnward graph (edge_at graph e) sets x → IsLiveOn text graph named e x
   after_read (inl h) = ([], h)
@@ -312,10 +340,12 @@ module _ (text : Words) (graph : Graph) (named : ℕ → List Part) (g : IsGraph
       by : Holds graph (edge_at graph e).to h.0 → IsLiveAt text graph named h.0 x → IsLiveOn text graph named e x
       by held k =
           let is : k.0 ≡ (edge_at graph e).to = held_once graph g.firsts k.0 (edge_at graph e).to h.0 k.1 held in
-          let there : IsLive text graph named (At (edge_at graph e).to h.0) x = subst (λ (n : Node). IsLive text graph named (At n h.0) x) is k.2 in
+          let there : IsLive text graph named (At (edge_at graph e).to h.0) x =
+          subst (λ (n : Node). IsLive text graph named (At n h.0) x) is k.2 in
           (At (edge_at graph e).to h.0 ∷ there.0, (refl, (refl, h.1), there.1))
 
-  after_goes : (path : List Point) → ReadsFirst (reads_at text graph named) (writes_at text graph named) (Goes text graph named) x (After e) path
+  after_goes : (path : List Point)
+      → ReadsFirst (reads_at text graph named) (writes_at text graph named) (Goes text graph named) x (After e) path
       → IsOnward graph (edge_at graph e) sets x
   after_goes [] h = inl h
   after_goes (At node w ∷ path) h =

@@ -17,7 +17,8 @@ is_marked-minus a b p =
     ap (λ n. n == 1) (bit_at_and a (bit_xor a b) (place_of p) ∙ ap (λ n. min (bit_at a (place_of p)) n) (bit_at_xor a b (place_of p)))
     ∙ one_alone (bit_at a (place_of p)) (bit_at b (place_of p)) (bit_at-lt a (place_of p)) (bit_at-lt b (place_of p))
 
-pub parts_of-minus : (a b : ℕ) (s t : List Part) → parts_of a ≡ s → parts_of b ≡ t → parts_of (bit_and a (bit_xor a b)) ≡ minus s t
+pub parts_of-minus : (a b : ℕ) (s t : List Part) → parts_of a ≡ s → parts_of b ≡ t
+    → parts_of (bit_and a (bit_xor a b)) ≡ minus s t
 parts_of-minus a b s t es et =
     members-same (is_marked (bit_and a (bit_xor a b))) (λ p. has s p && not (has t p)) (λ p h.
     is_marked-minus a b p

@@ -18,7 +18,7 @@ use Rattle.v8_step.specs.Calls.{is_output}
 use Rattle.v8_step.specs.Step.{trap_number}
 use Rattle.v8_step.specs.Judged.{aligned_span, buffer_span, judged_by_call, saved_span, frame_span, judged_after, judged_by_spills, judged_by_trap, judged_by}
 use Rattle.v8_step.specs.Visits.{pages_of}
-use Rattle.v8_step.specs.Copied.{AreTwins}
+use Rattle.v8_step.specs.Twins.{AreTwins}
 use Rattle.v8_step.proofs.Twins.{same_arguments, twin_register, twin_sum, twins_saved, same_address, saved_alike, apart_first, apart_rest}
 
 module _ (notes : Notes) where

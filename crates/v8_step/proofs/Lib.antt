@@ -1,8 +1,6 @@
 pub mod AccessesAlike
 pub mod Alike
-pub mod Copied
 pub mod CopiedMoves
-pub mod CopiedSteps
 pub mod Executable
 pub mod Follows
 pub mod FrameWords

@@ -17,7 +17,7 @@ use Rattle.v8_step.specs.Calls.{is_output, trap_step}
 use Rattle.v8_step.specs.Step.{act, trap_number, written_out, puts_by}
 use Rattle.v8_step.specs.Judged.{buffer_span, judged_by_call, judged_by_spills, judged_by_trap}
 use Rattle.v8_step.specs.Alike.{ActsAlike}
-use Rattle.v8_step.specs.Copied.{AreTwins}
+use Rattle.v8_step.specs.Twins.{AreTwins}
 use Rattle.v8_step.proofs.Twins.{twins_of, alike_of, same_arguments, twin_sum, buffer_reads, ticc_by}
 
 -- what a call with these arguments puts out

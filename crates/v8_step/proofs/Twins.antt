@@ -27,7 +27,7 @@ use Rattle.v8_step.specs.Calls.{answered, succeeds, refuses, read_into, read_cal
 use Rattle.v8_step.specs.Step.{act, puts_by}
 use Rattle.v8_step.specs.Items.{Item, Register, Codes, YRegister, IsSameAt}
 use Rattle.v8_step.specs.Judged.{buffer_span, judged_by_call, saved_span, frame_span, judged_after, judged_by_spills, judged_by_trap}
-use Rattle.v8_step.specs.Copied.{AreTwins}
+use Rattle.v8_step.specs.Twins.{AreTwins}
 use Rattle.v8_step.specs.Alike.{AreSameAfter, IsSameWorld, IsReady, ActsAlike}
 
 pub twins_of : (pages : List Span) (instr : Instr) (s t : State) → reads_all instr ≡ true → IsReady pages instr s t

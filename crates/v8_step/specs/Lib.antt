@@ -1,7 +1,6 @@
 pub mod Accesses
 pub mod Alike
 pub mod Calls
-pub mod Copied
 pub mod Follows
 pub mod Items
 pub mod Judged
@@ -13,6 +12,7 @@ pub mod State
 pub mod Step
 pub mod Transfers
 pub mod Traps
+pub mod Twins
 pub mod TwoRuns
 pub mod Valid
 pub mod Visits

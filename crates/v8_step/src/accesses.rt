@@ -13,7 +13,7 @@ use v8_decode::{LoadKind, Reg, StoreKind};
 use v8_memory::MemFault;
 
 impl Machine {
-    #[inline]
+    #[inline(always)]
     #[tactic(auto, unfolding(crate::specs::Accesses::load_step))]
     pub(crate) fn load(&mut self, kind: LoadKind, rd: Reg, address: u32)
         requires pair { kind ≡ LoadKind.LDD → rd % 2 ≡ 0 }
@@ -33,7 +33,7 @@ impl Machine {
     }
 
     /// What a load into one register gives it.
-    #[inline]
+    #[inline(always)]
     fn loaded(&self, kind: LoadKind, address: Addr) -> Result<u32, MemFault>
         requires single { kind ≡ LoadKind.LDD → ⊥ }
         ensures { Loads (value_of kind) (load_of self.now.memory (load_size kind) address.0) result }

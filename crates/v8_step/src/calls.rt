@@ -1,5 +1,5 @@
 //! Software traps and system calls.
-ghost use Rattle.std.specs.Prelude.{◌≡◌, ◌⊎◌, ◌≤◌, ◌<◌, OnOk, OnErr};
+ghost use Rattle.std.specs.Prelude.{[], ◌≡◌, ◌⊎◌, ◌≤◌, ◌<◌, OnOk, OnErr};
 ghost use Rattle.v8_step.specs.Calls.{answered, succeeds, refuses, read_call, write_call, heap_call, system_step, trap_step};
 ghost use Rattle.v8_step.specs.Machine.{FailsAt, Puts, call_puts, trap_puts};
 ghost use Rattle.v8_step.specs.Step.{written_out};
@@ -41,6 +41,8 @@ impl Machine {
             ⊎ FailsAt (trap_puts self.old number 2) (E.faults err.old) (E.faults err.new)) }
         ensures out_faults { O.faults out.old ≤ O.faults out.new }
         ensures err_faults { E.faults err.old ≤ E.faults err.new }
+        ensures quiet_out { trap_puts self.old number 1 ≡ [] → out.new ≡ out.old }
+        ensures quiet_err { trap_puts self.old number 2 ≡ [] → err.new ≡ err.old }
     {
         match number {
             FLUSH_WINDOWS => self.flush(),
@@ -61,6 +63,8 @@ impl Machine {
             ⊎ FailsAt (written_out self.old 2) (E.faults err.old) (E.faults err.new)) }
         ensures out_faults { O.faults out.old ≤ O.faults out.new }
         ensures err_faults { E.faults err.old ≤ E.faults err.new }
+        ensures quiet_out { written_out self.old 1 ≡ [] → out.new ≡ out.old }
+        ensures quiet_err { written_out self.old 2 ≡ [] → err.new ≡ err.old }
     {
         let first = self.reg(register(FIRST_ARGUMENT));
         let second = self.reg(register(SECOND_ARGUMENT));
@@ -113,6 +117,8 @@ impl Machine {
             ⊎ FailsAt (call_puts self.old.memory descriptor address count 2) (E.faults err.old) (E.faults err.new)) }
         ensures out_faults { O.faults out.old ≤ O.faults out.new }
         ensures err_faults { E.faults err.old ≤ E.faults err.new }
+        ensures quiet_out { call_puts self.old.memory descriptor address count 1 ≡ [] → out.new ≡ out.old }
+        ensures quiet_err { call_puts self.old.memory descriptor address count 2 ≡ [] → err.new ≡ err.old }
     {
         if descriptor != 1 && descriptor != 2 {
             self.refuse(EBADF);
@@ -169,6 +175,7 @@ fn put_out<S: Sink>(sink: &mut S, bytes: &[u8]) -> Result<(), Failed>
     ensures taken { Puts (S.taken sink.old) (S.taken sink.new) bytes.now result }
     ensures cause { OnErr result (FailsAt bytes.now (S.faults sink.old) (S.faults sink.new)) }
     ensures faults { S.faults sink.old ≤ S.faults sink.new }
+    ensures quiet { bytes.now ≡ [] → sink.new ≡ sink.old }
 {
     if bytes.is_empty() {
         return Ok(());

@@ -6,7 +6,6 @@
 //! Manual, Version 8.
 #![tactic(auto)]
 
-ghost use Rattle.v8_step.specs.Copied.{CopiesFollow};
 ghost use Rattle.v8_step.specs.Follows.{RunsFollow};
 ghost use Rattle.v8_step.specs.Laws.{CodeStays, StepsAlike, ValidStays, WindowStays};
 
@@ -68,10 +67,4 @@ pub fn steps_alike()
 /// between, the second run answers the first as a whole, and its steps are bounded.
 pub fn runs_follow()
     ensures { RunsFollow }
-{}
-
-/// Straight code that was copied, with a place for each of its words, follows the original step by step
-/// until that ends, as long as the original stays in its text and touches no page. One step answers each.
-pub fn copies_follow()
-    ensures { CopiesFollow }
 {}

@@ -1,7 +1,6 @@
 //! Instructions whose records the memory keeps.
 ghost use Rattle.std.specs.Prelude.{◌≡◌, ◌%◌, ℕ, IsTrue, None, []};
 ghost use Rattle.v8_decode.specs.Forms.{has_form};
-ghost use Rattle.v8_decode.specs.declared.Instr.TheVariants as instrs;
 ghost use Rattle.v8_memory.specs.Kept.{StandsFor};
 ghost use Rattle.v8_memory.specs.Ops.{IsSum, alu_in, instr_of, operand_in};
 ghost use Rattle.v8_memory.specs.Regions.{fetch_of};

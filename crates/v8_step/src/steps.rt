@@ -1,5 +1,5 @@
 //! One step of the machine.
-ghost use Rattle.std.specs.Prelude.{◌≡◌, ◌⊎◌, ◌≤◌, IsTrue, Some, None, OnOk, OnErr};
+ghost use Rattle.std.specs.Prelude.{[], ◌≡◌, ◌⊎◌, ◌≤◌, IsTrue, Some, None, OnOk, OnErr};
 ghost use Rattle.v8_step.specs.declared.Ending.{Ending};
 ghost use Rattle.v8_decode.specs.Ranges.{has_even_pair};
 ghost use Rattle.v8_alu.specs.Alu.{alu_has_form};
@@ -41,6 +41,9 @@ pub fn step<O: Sink, E: Sink>(m: &mut Machine, out: &mut O, err: &mut E) -> Step
         ⊎ FailsAt (puts_of m.old 2) (E.faults err.old) (E.faults err.new) }
     ensures out_faults { O.faults out.old ≤ O.faults out.new }
     ensures err_faults { E.faults err.old ≤ E.faults err.new }
+    // A step that puts nothing to a sink leaves it as it was.
+    ensures quiet_out { puts_of m.old 1 ≡ [] → out.new ≡ out.old }
+    ensures quiet_err { puts_of m.old 2 ≡ [] → err.new ≡ err.old }
 {
     if let Some(ending) = m.ending {
         return StepOut::Ended(ending);
@@ -69,6 +72,8 @@ impl Machine {
             ⊎ FailsAt (puts_of self.old 2) (E.faults err.old) (E.faults err.new)) }
         ensures out_faults { O.faults out.old ≤ O.faults out.new }
         ensures err_faults { E.faults err.old ≤ E.faults err.new }
+        ensures quiet_out { puts_of self.old 1 ≡ [] → out.new ≡ out.old }
+        ensures quiet_err { puts_of self.old 2 ≡ [] → err.new ≡ err.old }
     {
         match self.memory.kept(Addr(self.pc)) {
             Some(op) => {
@@ -93,6 +98,8 @@ impl Machine {
             ⊎ FailsAt (puts_of self.old 2) (E.faults err.old) (E.faults err.new)) }
         ensures out_faults { O.faults out.old ≤ O.faults out.new }
         ensures err_faults { E.faults err.old ≤ E.faults err.new }
+        ensures quiet_out { puts_of self.old 1 ≡ [] → out.new ≡ out.old }
+        ensures quiet_err { puts_of self.old 2 ≡ [] → err.new ≡ err.old }
     {
         let Some(word) = self.memory.fetch(Addr(self.pc)) else {
             self.trap(INSTRUCTION_ACCESS_EXCEPTION);
@@ -121,6 +128,8 @@ impl Machine {
             ⊎ FailsAt (puts_by self.old instr 2) (E.faults err.old) (E.faults err.new)) }
         ensures out_faults { O.faults out.old ≤ O.faults out.new }
         ensures err_faults { E.faults err.old ≤ E.faults err.new }
+        ensures quiet_out { puts_by self.old instr 1 ≡ [] → out.new ≡ out.old }
+        ensures quiet_err { puts_by self.old instr 2 ≡ [] → err.new ≡ err.old }
     {
         match instr {
             Instr::Ticc { cond, rs1, op2 } => self.trap_if(cond, rs1, op2, out, err),
@@ -152,6 +161,8 @@ impl Machine {
             ⊎ FailsAt (puts_by self.old (Instr.Ticc cond rs1 op2) 2) (E.faults err.old) (E.faults err.new)) }
         ensures out_faults { O.faults out.old ≤ O.faults out.new }
         ensures err_faults { E.faults err.old ≤ E.faults err.new }
+        ensures quiet_out { puts_by self.old (Instr.Ticc cond rs1 op2) 1 ≡ [] → out.new ≡ out.old }
+        ensures quiet_err { puts_by self.old (Instr.Ticc cond rs1 op2) 2 ≡ [] → err.new ≡ err.old }
     {
         if holds(cond, self.codes) {
             let number = (self.sum(rs1, op2) % 128) as u8;
@@ -215,7 +226,7 @@ impl Machine {
     }
 
     /// The outcome of an operation goes to rd, the codes and Y, or traps.
-    #[inline]
+    #[inline(always)]
     #[tactic(auto, unfolding(crate::specs::Step::alu_step))]
     pub(crate) fn finish_alu(&mut self, rd: Reg, outcome: Result<AluOut, AluTrap>)
         ensures { self.new ≡ alu_step self.old rd outcome }

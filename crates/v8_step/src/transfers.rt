@@ -16,7 +16,7 @@ const ALWAYS: u8 = 8;
 const LINK: u8 = 15;
 
 impl Machine {
-    #[inline]
+    #[inline(always)]
     #[tactic(auto, unfolding(crate::specs::Transfers::branch_step))]
     pub(crate) fn branch(&mut self, cond: Cond, annul: bool, disp22: i32)
         ensures { self.new ≡ unless_couple self.old.slot self.old (branch_step self.old cond annul disp22) }
@@ -92,7 +92,7 @@ impl Machine {
         self.slot = Slot::Taken;
     }
 
-    #[inline]
+    #[inline(always)]
     fn branch_to(&mut self, taken: bool, always: bool, annul: bool, target: u32)
         ensures { self.new ≡ branched taken always annul self.old target }
     {

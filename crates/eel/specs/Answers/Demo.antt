@@ -78,8 +78,8 @@ IsTold number routines lines = TellOf number routines (generated number routines
 
 -- ---- the command
 
--- How a demonstration goes, and what comes of it: nothing but want of memory and a stream that fails keeps the lines from
--- being printed.
+-- How a demonstration goes, and what comes of it: nothing but want of memory and a stream that fails keeps the lines
+-- from being printed.
 pub data Tells (number routines : ℕ) (old new : Outside) (outcome : Outcome) : Type 0 where
   -- memory was wanting
   wanting : outcome ≡ OutOfMemory → IsQuiet old new → Tells number routines old new outcome

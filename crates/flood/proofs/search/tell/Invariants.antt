@@ -6,7 +6,8 @@ abbrev pub invariant-loop-next : goal.invariant-loop-next
 invariant-loop-next l = record {
   leads : (k : ℕ) → l.next ≡ suc k → (k < length l.links) × ((link_at l.links k).to ≡ l.place);
   len : length l.sets.items ≡ length l.fn.sets.items;
-  told : (reads : Sets) → IsFlooding reads l.links l.place (slice_index l.chain.heads.items l.place) l.fn.sets.items l.fn.stack.items
+  told : (reads : Sets)
+      → IsFlooding reads l.links l.place (slice_index l.chain.heads.items l.place) l.fn.sets.items l.fn.stack.items
       → IsFlooding reads l.links l.place l.next l.sets.items l.stack.items;
   falls : fuel l.sets.items l.stack.items ≤ fuel l.fn.sets.items l.fn.stack.items;
 }

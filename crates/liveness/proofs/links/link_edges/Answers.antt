@@ -13,9 +13,12 @@ some_edge = record { from = Block (record { 0 = 0 }); to = Block (record { 0 = 0
 
 pub loop-e-preserved : goal.loop-e-preserved
 loop-e-preserved c =
-    let low : c.loop-e.e < length c.args.graph.now.edges = omega (arith, ap (λ (l : List Edge). length l) c.edges-edges.ensures.edges) in
+    let low : c.loop-e.e < length c.args.graph.now.edges =
+    omega (arith, ap (λ (l : List Edge). length l) c.edges-edges.ensures.edges) in
     record {
-      gained = more_edges c.args.text.now c.args.graph.now c.loop-e.e (get_or c.args.graph.now.edges c.loop-e.e some_edge) c.args.links.now.items
+      gained =
+          more_edges c.args.text.now c.args.graph.now c.loop-e.e
+          (get_or c.args.graph.now.edges c.loop-e.e some_edge) c.args.links.now.items
           c.loop-e.links.items c.link_edge.new.links.items c.loop-e.invariant.gained
           (subst (λ (l : List Edge). Gains c.loop-e.links.items c.link_edge.new.links.items
           (OfEdge c.args.text.now c.args.graph.now (get_or l c.loop-e.e some_edge))) c.edges-edges.ensures.edges c.in_ok-link_edge.ensures.gained)

@@ -15,8 +15,12 @@ returns c = record {
       (λ h. live.0 (ap (λ s. has s x) (sym is) ∙ h), λ h. ap (λ s. has s x) is ∙ live.1 h);
   edges = λ e l x.
       let is = get_or_default c.in_ok-edges.edges.items e every_part [] (omega (arith, c.in_ok-edges.ensures.len)) in
-      let sets = subst (λ (v : Sets). AreLiveWords c.args.text.now c.args.graph.now (named_on c.args.snips.now) v) (sym c.deref.ensures.value) c.in_ok-words.ensures.live in
-      let live = onward_is c.args.text.now c.args.graph.now (named_on c.args.snips.now) c.in_ok-edges.ensures.graph c.requires.graph c.deref.result.now sets e x in
+      let sets =
+      subst (λ (v : Sets). AreLiveWords c.args.text.now c.args.graph.now (named_on c.args.snips.now) v)
+      (sym c.deref.ensures.value) c.in_ok-words.ensures.live in
+      let live =
+      onward_is c.args.text.now c.args.graph.now
+      (named_on c.args.snips.now) c.in_ok-edges.ensures.graph c.requires.graph c.deref.result.now sets e x in
       let here = c.in_ok-edges.ensures.onward e l x in
       (λ h. live.0 (here.0 (ap (λ s. has s x) (sym is) ∙ h)), λ h. ap (λ s. has s x) is ∙ here.1 (live.1 h));
 }

@@ -5,7 +5,8 @@ use Rattle.liveness.proofs.Places.{are_links, words_are}
 use Rattle.liveness.proofs.live_sets.word_sets.Goals as goal
 
 pub flood-requires-clause-places : goal.flood-requires-clause-places
-flood-requires-clause-places c = omega (arith, c.in_ok-reads.ensures.len, c.in_ok-links.ensures.graph.few, c.requires.graph)
+flood-requires-clause-places c =
+    omega (arith, c.in_ok-reads.ensures.len, c.in_ok-links.ensures.graph.few, c.requires.graph)
 
 pub flood-requires-clause-few : goal.flood-requires-clause-few
 flood-requires-clause-few c =

@@ -18,8 +18,10 @@ some_edge = record { from = Block (record { 0 = 0 }); to = Block (record { 0 = 0
 
 pub loop-e-preserved : goal.loop-e-preserved
 loop-e-preserved c =
-    let low : c.loop-e.e < length c.args.graph.now.edges = omega (arith, ap (λ (l : List Edge). length l) c.edges-edges.ensures.edges) in
-    begun_more c.args.text.now c.args.graph.now (named_on c.args.snips.now) c.loop-e.e (get_or c.args.graph.now.edges c.loop-e.e some_edge) c.names.result
+    let low : c.loop-e.e < length c.args.graph.now.edges =
+    omega (arith, ap (λ (l : List Edge). length l) c.edges-edges.ensures.edges) in
+    begun_more c.args.text.now c.args.graph.now (named_on c.args.snips.now) c.loop-e.e
+    (get_or c.args.graph.now.edges c.loop-e.e some_edge) c.names.result
     c.loop-e.all.items c.read_edge.new.all.items c.loop-e.invariant c.read_edge.ensures.len
     (subst (λ (l : List Edge). (w : ℕ) (x : Part) → (has (at c.read_edge.new.all.items w) x ≡ true)
     ↔ ((has (at c.loop-e.all.items w) x ≡ true) ⊎ IsBegunBy c.args.text.now c.args.graph.now (get_or l c.loop-e.e some_edge) c.names.result w x))

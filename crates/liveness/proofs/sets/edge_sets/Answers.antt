@@ -17,7 +17,8 @@ some_edge = record { from = Block (record { 0 = 0 }); to = Block (record { 0 = 0
 
 pub loop-e-preserved : goal.loop-e-preserved
 loop-e-preserved c =
-    let low : c.loop-e.e < length c.args.graph.now.edges = omega (arith, ap (λ (l : List Edge). length l) c.edges-edges.ensures.edges) in
+    let low : c.loop-e.e < length c.args.graph.now.edges =
+    omega (arith, ap (λ (l : List Edge). length l) c.edges-edges.ensures.edges) in
     let here : (x : Part) → (has c.onward.result x ≡ true) ↔ IsOnward c.args.graph.now (get_or c.args.graph.now.edges c.loop-e.e some_edge) c.args.words.now x =
     subst (λ (l : List Edge). (x : Part) → (has c.onward.result x ≡ true) ↔ IsOnward c.args.graph.now (get_or l c.loop-e.e some_edge) c.args.words.now x)
     c.edges-edges.ensures.edges c.onward.ensures in

@@ -9,5 +9,6 @@ use Rattle.liveness.proofs.sets.edge_sets.Given as goal
 abbrev pub invariant-loop-e : goal.invariant-loop-e
 invariant-loop-e l = record {
   len : length l.all.items ≡ l.e;
-  onward : (j : ℕ) → j < l.e → (x : Part) → (has (at l.all.items j) x ≡ true) ↔ IsOnward l.graph (edge_at l.graph j) l.words x;
+  onward : (j : ℕ) → j < l.e → (x : Part)
+      → (has (at l.all.items j) x ≡ true) ↔ IsOnward l.graph (edge_at l.graph j) l.words x;
 }
