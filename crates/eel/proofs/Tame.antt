@@ -30,6 +30,7 @@ use Rattle.edit_core.specs.declared.taking.EditFault.{EditFault}
 use Rattle.edit_core.specs.declared.taking.EditFault.TheVariants as faults
 use Rattle.edit_core.specs.Faithful.{HasPages, IsInRoom, holds_cells, note_of}
 use Rattle.edit_core.specs.RunsAlike.{AreRunsAlike, edit_of}
+use Rattle.edit_core.specs.Taken.{bound_in}
 use Rattle.image_code.specs.Simulates.{Setting, graph_in}
 use Rattle.exact_counts.specs.Profiles.{IsProfiled, original_graph}
 use Rattle.exact_counts.specs.Sizes.{HasEndedBy}
@@ -144,7 +145,7 @@ module _ (file written : List ℕ) (tame : IsTame file) (profile : IsProfileOf f
   untouched n = tame.untouched (pages_of notes) above n
 
   abbrev g : Setting
-  g = edit_of file plan notes
+  g = edit_of file plan is.dead notes
 
   abbrev entry : ℕ
   entry = (image_of file).entry
@@ -155,12 +156,12 @@ module _ (file written : List ℕ) (tame : IsTame file) (profile : IsProfileOf f
   abbrev t0 : State
   t0 = alone written
 
-  alike : AreRunsAlike g entry s0 t0
+  alike : AreRunsAlike g (bound_in file plan) entry s0 t0
   alike = is.runs [] [] no_arguments (All-nil _)
 
   soon : HasEndedBy t0 (64 + 128 * tame.steps)
   soon =
-      profiles_end_soon g entry s0 t0 tame.steps is.counters.counters alike
+      profiles_end_soon g (bound_in file plan) entry s0 t0 tame.steps is.counters.counters alike
       (λ none. some_not_none tame.ending (sym tame.ran.ends ∙ none)) (untouched tame.steps)
 
   pub ends : EndsWithin t0 (2 ^ 32)
@@ -195,7 +196,7 @@ module _ (file written : List ℕ) (tame : IsTame file) (profile : IsProfileOf f
     tells fault refused = exact.refused fault (subst (λ (d : Dump). IsRefused notes d fault) last.is refused)
 
     told : EndsWithStep g entry s0 t0 m v
-    told = ended_runs_tell g entry s0 t0 m (begins_live file [] []) alike over
+    told = ended_runs_tell g (bound_in file plan) entry s0 t0 m (begins_live file [] []) alike over
 
     -- the original's run ends with its last visit
     last_visit : (ending : Ending) (steps : ℕ) → EndsAlone file ending steps → v ≡ steps
@@ -222,8 +223,8 @@ module _ (file written : List ℕ) (tame : IsTame file) (profile : IsProfileOf f
     counted : (counts : List ℕ) → AreCounts notes dump counts → length counts ≡ length (original_graph file plan).edges
     counted counts are =
         are.len
-        ∙ edge_count (graph_in g) plan.snips notes (notes_of_graph file plan notes is.counters is.graph)
-        ∙ ap (λ (graph : Graph). length graph.edges) (sym (view_graph file plan notes))
+        ∙ edge_count (graph_in g) plan.snips notes (notes_of_graph file plan is.dead notes is.counters is.graph)
+        ∙ ap (λ (graph : Graph). length graph.edges) (sym (view_graph file plan is.dead notes))
 
     pub adds_up : (counts : List ℕ) → AreCounts notes dump counts → (ending : Ending) (steps : ℕ)
         → EndsAlone file ending steps → sum counts ≡ length (walk_alone file steps)

@@ -41,7 +41,7 @@ module _ (g : Setting) (are : AreCounters 0 g.snips) where
       let later = few_operations es in
       omega (arith, first, later)
 
-  module _ (entry : ℕ) (s0 t0 : State) (alike : AreRunsAlike g entry s0 t0) where
+  module _ (bound entry : ℕ) (s0 t0 : State) (alike : AreRunsAlike g bound entry s0 t0) where
     abbrev gone : ℕ → List ℕ
     gone n = gone_in g.text (graph_in g) entry s0 n
 
@@ -81,8 +81,8 @@ module _ (g : Setting) (are : AreCounters 0 g.snips) where
         has_none d e = cc
 
 pub profiles_end_soon : ProfilesEndSoon
-profiles_end_soon g entry s0 t0 n are alike ended untouched = by (over_or_not (run s0 n).ending)
+profiles_end_soon g bound entry s0 t0 n are alike ended untouched = by (over_or_not (run s0 n).ending)
   where
     by : ((run s0 n).ending ≡ None) ⊎ ((d : Ending) × ((run s0 n).ending ≡ Some d)) → HasEndedBy t0 (64 + 128 * n)
     by (inl live) = absurd (ended live)
-    by (inr (d, over)) = ends_by g are entry s0 t0 alike n d over untouched
+    by (inr (d, over)) = ends_by g are bound entry s0 t0 alike n d over untouched

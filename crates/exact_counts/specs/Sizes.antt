@@ -36,7 +36,7 @@ pub record HasEndedBy (t0 : State) (limit : ℕ) : Type 0 where
 -- steps and 128 for each of them: no step completes more than two edges.
 abbrev pub ProfilesEndSoon : Type 0
 ProfilesEndSoon =
-    (g : Setting) (entry : ℕ) (s0 t0 : State) (n : ℕ) → AreCounters 0 g.snips → AreRunsAlike g entry s0 t0
+    (g : Setting) (bound entry : ℕ) (s0 t0 : State) (n : ℕ) → AreCounters 0 g.snips → AreRunsAlike g bound entry s0 t0
     → (run s0 n).ending ≢ None → IsUntouched (pages_of g.notes) s0 n → HasEndedBy t0 (64 + 128 * n)
 
 -- How often each edge is completed is in all how long the walk is.
