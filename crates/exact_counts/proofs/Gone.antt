@@ -1,5 +1,5 @@
 -- How many edges a step completes, and that they are edges of the graph.
-use Rattle.std.proofs.Common.{◌≡◌, ℕ, zero, suc, ◌+◌, ◌<◌, ◌≤◌, Bool, true, false, List, [], ◌∷◌, ◌++◌, length, Option, Some, None, refl, ap, sym, ◌∙◌, arith, length-append}
+use Rattle.std.proofs.Common.{◌≡◌, ℕ, zero, suc, ◌<◌, ◌≤◌, Bool, List, [], ◌++◌, length, Option, Some, None, refl, arith, length-append}
 use Rattle.std.specs.List.{position}
 use Rattle.std.specs.Option.{option_to_list}
 use Rattle.std.proofs.lemmas.Bool.{cond_both}
@@ -15,8 +15,8 @@ use Rattle.cfg_blocks.specs.declared.EdgeKind.{EdgeKind}
 use Rattle.cfg_blocks.specs.declared.EdgeKind.TheVariants as kinds
 use Rattle.cfg_normal.specs.declared.Edge.{Edge}
 use Rattle.cfg_normal.specs.declared.Node.{Node}
-use Rattle.cfg_normal.specs.Graph.{Graph, node_of}
-use Rattle.cfg_walk.specs.Walk.{Point, completed, edge_from, end_of_walk, ends_block, gone, gone_in, goes_on_at, landed, left_at, left_by, point_of, slot_left, walk}
+use Rattle.cfg_normal.specs.Graph.{Graph}
+use Rattle.cfg_walk.specs.Walk.{Point, completed, end_of_walk, ends_block, gone, gone_in, goes_on_at, landed, left_at, left_by, point_of, slot_left, walk}
 use Rattle.cfg_walk.proofs.Lists.{Each, each-append}
 use Rattle.exact_counts.proofs.Few.{no_edge}
 

@@ -1,14 +1,14 @@
 -- A profile asks for little room.
 use Rattle.std.proofs.Common.{◌≡◌, ℕ, zero, suc, ◌+◌, ◌*◌, ◌^◌, ◌<◌, ◌≤◌, Bool, false, List, [], ◌∷◌, ◌++◌, length, length-append, map, refl, ap, sym, ◌∙◌, subst, arith}
-use Rattle.std.specs.Prelude.{if◌then◌else◌, slice_index}
+use Rattle.std.specs.Prelude.{if◌then◌else◌}
 use Rattle.std.proofs.lemmas.List.{length-map, map-append}
 use Rattle.eel_base.specs.CodeText.{Words}
 use Rattle.elf32_sparc.specs.Image.{image_of}
-use Rattle.cfg_blocks.specs.Blocks.{Blocks, below, block_end, size_of}
+use Rattle.cfg_blocks.specs.Blocks.{Blocks, below}
 use Rattle.cfg_blocks.specs.declared.EdgeKind.TheVariants as kinds
 use Rattle.cfg_blocks.proofs.Below.{length-below}
 use Rattle.cfg_normal.specs.declared.Edge.{Edge}
-use Rattle.cfg_normal.specs.Graph.{Graph, edges_of, landing_at}
+use Rattle.cfg_normal.specs.Graph.{Graph, landing_at}
 use Rattle.cfg_walk.specs.Walk.{same_kind}
 use Rattle.cfg_walk.proofs.Holding.{some_words}
 use Rattle.cfg_walk.proofs.Lists.{Each}
@@ -18,12 +18,11 @@ use Rattle.tool_kit.specs.declared.edge_ref.ToolKind.TheVariants as tools
 use Rattle.tool_kit.specs.Plans.{Plan}
 use Rattle.image_code.specs.Fit.{copies_of, words_in}
 use Rattle.image_code.specs.Made.{own_edges}
-use Rattle.image_code.specs.Parts.{IsGraphOf, begin_of, edges_before}
+use Rattle.image_code.specs.Parts.{IsGraphOf, begin_of}
 use Rattle.image_code.proofs.Numbers.{all_are, begin_after, begin_at, begin_first, begin_last, count_of, cut_of, few_before, own_no_landings, words_are}
-use Rattle.edit_core.specs.Taken.{bound_in, bound_of, operations_on}
+use Rattle.edit_core.specs.Taken.{bound_of, operations_on}
 use Rattle.edit_core.specs.Written.{given_of, graph_in, text_of}
 use Rattle.edit_core.proofs.Views.{bound_is, view_graph}
-use Rattle.exact_counts.specs.Profiles.{original_graph}
 use Rattle.exact_counts.specs.Sizes.{ProfilesNeedLittle}
 
 -- how often the counters of some edges are made

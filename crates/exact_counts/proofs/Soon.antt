@@ -1,17 +1,15 @@
 -- A profile's runs end soon after the original's.
-use Rattle.std.proofs.Common.{◌≡◌, ◌≢◌, ℕ, zero, suc, ◌+◌, ◌*◌, ◌<◌, ◌≤◌, ◌⊎◌, inl, inr, List, [], ◌∷◌, length, Option, Some, None, refl, ap, sym, ◌∙◌, subst, arith}
+use Rattle.std.proofs.Common.{◌≡◌, ℕ, zero, suc, ◌+◌, ◌*◌, ◌≤◌, ◌⊎◌, inl, inr, List, [], ◌∷◌, length, Some, None, ap, sym, ◌∙◌, arith}
 use Rattle.elf32_sparc.specs.Notes.{Notes}
 use Rattle.v8_step.specs.declared.Ending.{Ending}
 use Rattle.v8_step.specs.State.{State}
 use Rattle.v8_step.specs.Run.{run}
 use Rattle.v8_step.specs.Needed.{IsUntouched}
-use Rattle.v8_step.specs.TwoRuns.{MatchesBy}
 use Rattle.v8_step.specs.Visits.{pages_of}
-use Rattle.snippets.specs.declared.snippet.Op.{Op}
 use Rattle.cfg_walk.specs.Walk.{gone_in}
 use Rattle.tool_kit.specs.Plans.{AreCounters}
 use Rattle.image_code.specs.Simulates.{Setting, graph_in, limit_on, operations_on, snippet_on}
-use Rattle.edit_core.specs.RunsAlike.{AreRunsAlike, IsAnswered}
+use Rattle.edit_core.specs.RunsAlike.{AreRunsAlike}
 use Rattle.exact_counts.specs.Sizes.{HasEndedBy, ProfilesEndSoon}
 use Rattle.exact_counts.proofs.Counters.{IsCounterFrom, none_or_counter}
 use Rattle.exact_counts.proofs.Ends.{over_or_not, ending}
