@@ -1,0 +1,84 @@
+#!/usr/bin/env python3
+"""Prints how many steps programs take, and their files that are edited without snippets and with counters, and how many
+counters spill a register.
+
+    examples/steps.py [--eel PROGRAM] FILE..
+
+A file FILE.input beside FILE is its input. Steps are the least limit with which `eel run` ends.
+"""
+import os
+import struct
+import subprocess
+import sys
+import tempfile
+
+EEL = os.path.join(os.path.dirname(os.path.abspath(__file__)), '..', 'eel')
+FIRST_KEPT = 0xfffff008 - 2**32
+
+
+def stopped(eel, name, limit, given):
+    run = subprocess.run([eel, 'run', name, '-n', str(limit)], input=given, capture_output=True, check=False)
+    return run.stderr.split(b'\n')[-2].startswith(b'stopped')
+
+
+def steps(eel, name, given):
+    """The least limit, found by doubling and then by halving."""
+    high = 1
+    while stopped(eel, name, high, given):
+        high *= 2
+    low = high // 2
+    while high - low > 1:
+        middle = (low + high) // 2
+        low, high = (middle, high) if stopped(eel, name, middle, given) else (low, middle)
+    return high
+
+
+def is_kept(word):
+    """A store of a register in word 2 of the editor's page, or one behind it."""
+    return word >> 30 == 3 and word >> 19 & 63 == 4 and word & 0x7ffff >= 1 << 13 | FIRST_KEPT & 0x1fff and word >> 14 & 31 == 0
+
+
+def counters(file):
+    """How many counters the code of an edited file has, and how many of them spill a register."""
+    phoff, = struct.unpack_from('>I', file, 28)
+    count, = struct.unpack_from('>H', file, 44)
+    segments = [struct.unpack_from('>8I', file, phoff + 32 * number) for number in range(count)]
+    _, offset, _, _, size, _, _, _ = [segment for segment in segments if segment[0] == 1 and segment[6] == 5][-1]
+    words = struct.unpack_from(f'>{size // 4}I', file, offset)
+    found = spilled = 0
+    for at in range(len(words) - 3):
+        high, load, add, store = words[at:at + 4]
+        base, register = high >> 25 & 31, load >> 25 & 31
+        low = load & 0x3ff
+        if (high >> 22 & 0x1c7 == 4 and load >> 30 == 3 and load >> 19 & 63 == 0 and load >> 14 & 31 == base
+                and add == 0x80002001 | register << 25 | register << 14
+                and store == 0xc0202000 | register << 25 | base << 14 | low):
+            found += 1
+            spilled += at > 0 and is_kept(words[at - 1])
+    return found, spilled
+
+
+def main():
+    arguments, eel = sys.argv[1:], EEL
+    if arguments[:1] == ['--eel']:
+        eel, arguments = arguments[1], arguments[2:]
+    with tempfile.TemporaryDirectory() as folder:
+        out = os.path.join(folder, 'out')
+        for name in arguments:
+            given = b''
+            if os.path.exists(f'{name}.input'):
+                with open(f'{name}.input', 'rb') as file:
+                    given = file.read()
+            told, own = [os.path.basename(name)], steps(eel, name, given)
+            told.append(str(own))
+            for tool in ('plain', 'profile'):
+                subprocess.run([eel, 'edit', name, out, tool], check=True)
+                edited = steps(eel, out, given)
+                told += [str(edited), f'{edited / own:.2f}']
+            with open(out, 'rb') as file:
+                told += map(str, counters(file.read()))
+            print(*told, sep='\t', flush=True)
+
+
+if __name__ == '__main__':
+    main()
