@@ -50,7 +50,7 @@ def counters(file):
         high, load, add, store = words[at:at + 4]
         base, register = high >> 25 & 31, load >> 25 & 31
         low = load & 0x3ff
-        if (high >> 22 & 0x1c7 == 4 and load >> 30 == 3 and load >> 19 & 63 == 0 and load >> 14 & 31 == base
+        if (high >> 30 == 0 and high >> 22 & 7 == 4 and load >> 30 == 3 and load >> 19 & 63 == 0 and load >> 14 & 31 == base
                 and add == 0x80002001 | register << 25 | register << 14
                 and store == 0xc0202000 | register << 25 | base << 14 | low):
             found += 1
