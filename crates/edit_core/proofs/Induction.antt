@@ -1,7 +1,7 @@
 -- The induction over the steps of the original.
 use Rattle.std.proofs.Common.{◌≡◌, ◌≢◌, ℕ, zero, suc, ◌+◌, ◌-◌, ◌<◌, ◌≤◌, ◌⊎◌, inl, inr, Option, Some, None, List, [], ◌++◌, append-nil, refl, ap, sym, ◌∙◌, subst, arith}
 use Rattle.eel_base.specs.CodeText.{word_at}
-use Rattle.elf32_sparc.specs.Notes.{node_at}
+use Rattle.elf32_sparc.specs.Notes.{node_at, range_at}
 use Rattle.v8_decode.specs.declared.Instr.{Instr}
 use Rattle.v8_memory.specs.Regions.{Memory, Region, fetch_of}
 use Rattle.v8_memory.specs.Spans.{Span, AllApart, IsSameOutside, IsSameRegion}
@@ -26,10 +26,11 @@ use Rattle.cfg_walk.proofs.Walks.{walks_match}
 use Rattle.code_runs.proofs.Leads.{run_add, puts_add, split_below}
 use Rattle.code_runs.specs.PointsAlike.{AreAlikeOn, AreAtOnePoint, instr_of}
 use Rattle.code_runs.proofs.PointsAlike.{points_act_alike}
-use Rattle.image_code.specs.Simulates.{IsFollowedBy, IsKept, IsSparing, Setting, StepsOn, at_point, cells_in, does_at, graph_in, number_in, store_of, updates, word_of}
-use Rattle.edit_core.specs.RunsAlike.{EndsAtNode}
+use Rattle.image_code.specs.Simulates.{IsFollowedBy, IsKept, IsOnWay, IsSparing, IsThere, Setting, StepsOn, at_point, cells_in, does_at, graph_in, number_in, store_of, updates, word_of}
+use Rattle.edit_core.specs.RunsAlike.{EndsAtNode, TellsStep}
 use Rattle.edit_core.specs.Runs.{AreTogether, Closed, Follows, Linked, Rests, Spares, StaysInside, Tells, instr_in, limits_in}
 use Rattle.edit_core.proofs.Stays.{ended_stays}
+use Rattle.edit_core.proofs.Places.{node_of_place, placed_between, step_stays, there_node, visited_address}
 
 -- ---- small things
 
@@ -121,6 +122,8 @@ pub record IsNext (g : Setting) (entry : ℕ) (Here : Node → Point → State �
       (point_of (run s0 n)) (run t0 m) (does_at g (point_of (run s0 n)) (run t0 m))
   -- also where it ends the run
   pub pc : (run s0 (suc n)).pc ≡ (does_at g (point_of (run s0 n)) (run t0 m)).pc
+  pub visit : visit_of g.notes (run t0 m) ≡ Some (run s0 n).pc
+  pub node : node_at g.notes (run t0 m).pc ≡ Some (number_in g (end_of_walk g.text (graph_in g) entry s0 n))
 
 -- how far both runs have come, up to step `last`
 pub data Reached (g : Setting) (entry : ℕ) (Here : Node → Point → State → Type 0) (K : ℕ → Item → Type 0)
@@ -196,6 +199,8 @@ module _ (g : Setting) (entry : ℕ) (Inside : Point → Type 0) (Here : Node �
             ∙ live in subst Inside (one_point (run s0 (suc n)) (does_at g (point_of (run s0 n)) (run t0 m))
             (b.point on)) (inside on)));
         pc = pc_by (run s0 (suc n)).ending refl stepped visits.0 b;
+        visit = visits.1;
+        node = visits.2;
       }
     where
       pc_by : (e : Option Ending) → (run s0 (suc n)).ending ≡ e
@@ -311,8 +316,12 @@ module _ (g : Setting) (entry : ℕ) (Inside : Point → Type 0) (Here : Node �
       record {
         first = over;
         second = ap (λ (z : State). z.ending) at ∙ x.on.followed.ending ∙ ended;
-        node = ap (λ (z : State). node_at g.notes z.pc) at ∙ x.on.place (λ none. absurd (cc))
+        node = ap (λ (z : State). node_at g.notes z.pc) at ∙ there_node g (run t0 m) x.on.after (there ended) ∙ x.node
             ∙ ap (λ (z : Node). Some (number_in g z)) (end_stays n d over);
+        address = λ place is.
+            visited_address g.notes (run t0 m) (run s0 n).pc place x.visit
+            (sym (there ended).range ∙ sym (ap (λ (z : State). range_at g.notes z.pc) at) ∙ is)
+            ∙ sym (step_stays (run s0 n) d h.live over);
         together = record {
           world = world_next n m x;
           puts = puts_next n m h x;
@@ -322,6 +331,9 @@ module _ (g : Setting) (entry : ℕ) (Inside : Point → Type 0) (Here : Node �
               ∙ h.together.cells ∙ store_stays n d over;
         };
       }
+    where
+      there : (does_at g (point_of (run s0 n)) (run t0 m)).ending ≡ Some d → IsThere g (run t0 m) x.on.after
+      there ended = x.on.place (λ none. absurd (cc))
 
   closed_stays : (n m : ℕ) (d : Ending) → Closed g entry s0 t0 n m d → Closed g entry s0 t0 (suc n) m d
   closed_stays n m d h =
@@ -331,6 +343,7 @@ module _ (g : Setting) (entry : ℕ) (Inside : Point → Type 0) (Here : Node �
         first = over;
         second = h.second;
         node = h.node ∙ ap (λ (z : Node). Some (number_in g z)) (end_stays n d over);
+        address = λ place is. h.address place is ∙ sym (ap (λ (z : State). z.pc) stays);
         together = record {
           world = subst (λ (z : State). IsSameWorld (pages_of g.notes) z (run t0 m)) (sym stays) h.together.world;
           puts = λ descriptor.
@@ -479,18 +492,21 @@ module _ (g : Setting) (entry : ℕ) (Inside : Point → Type 0) (Here : Node �
 
     -- ---- stops
 
-    some_same : (a b : ℕ) → Some a ≡ Some b → a ≡ b
-    some_same a b e = cc
+    -- at a visit
+    tells_there : (n m : ℕ) → n ≤ last → Linked g entry Here K s0 t0 n m → TellsStep g entry s0 t0 m n
+    tells_there n m l h =
+        let visits = r.simulates.visits _ _ _
+        (walks_match g.text g.given entry s0 n r.text r.fetches r.begins h.live) (inside n l h.live) h.here in
+        record {
+          cells = h.together.cells;
+          node = visits.2;
+          address = λ place is. visited_address g.notes (run t0 m) (run s0 n).pc place visits.1 is;
+        }
 
     told_at : (n : ℕ) → n ≤ last → (x : Reached g entry Here K s0 t0 last n) → Tells g entry s0 t0 n (moment_of n x)
     unfolding moment_of
-    told_at n l (goes m h) = λ q e. (
-      some_same q _ (sym e
-          ∙ (r.simulates.visits _ _ _ (walks_match g.text g.given entry s0 n r.text r.fetches r.begins h.live)
-          (inside n l h.live) h.here).2),
-      h.together.cells,
-    )
-    told_at n l (ends m d h) = λ q e. (some_same q _ (sym e ∙ h.node), h.together.cells)
+    told_at n l (goes m h) = λ some. tells_there n m l h
+    told_at n l (ends m d h) = λ some. record { cells = h.together.cells; node = h.node; address = h.address }
     told_at n l (past m k) = absurd (omega arith)
 
     over_at : (n : ℕ) → n ≤ last → (x : Reached g entry Here K s0 t0 last n)
@@ -500,25 +516,34 @@ module _ (g : Setting) (entry : ℕ) (Inside : Point → Type 0) (Here : Node �
     over_at n l (ends m d h) = λ over. h.node
     over_at n l (past m k) = absurd (omega arith)
 
+    -- past it, in the place of the visit
+    on_the_way : (n m k : ℕ) → Linked g entry Here K s0 t0 n m → IsNext g entry Here Short s0 t0 n m → (u : State)
+        → run t0 k ≡ u → IsOnWay g (run t0 m) u → Tells g entry s0 t0 n k
+    on_the_way n m k h x u at on some =
+        let same : node_at g.notes (run t0 k).pc ≡ node_at g.notes u.pc = ap (λ (z : State). node_at g.notes z.pc) at in
+        let place = placed_between g.notes u on.live on.visit (λ none. some (same ∙ none)) in
+        let there = on.place place.0 place.1 in
+        record {
+          cells = ap (cells_in g) at ∙ there.1 ∙ h.together.cells;
+          node = same ∙ node_of_place g.notes u.pc place.0 place.1
+              ∙ sym (node_of_place g.notes (run t0 m).pc place.0 there.0) ∙ x.node;
+          address = λ other is.
+              visited_address g.notes (run t0 m) (run s0 n).pc other x.visit
+              (there.0 ∙ sym place.1 ∙ sym (ap (λ (z : State). range_at g.notes z.pc) at) ∙ is);
+        }
+
     -- at a visit, or past it
     told_from : (n m k : ℕ) → n ≤ last → (h : Linked g entry Here K s0 t0 n m)
         (x : IsNext g entry Here Short s0 t0 n m) → m ≤ k → k < x.on.count + m
         → (m < k) ⊎ (k ≤ m) → Tells g entry s0 t0 n k
     told_from n m k l h x a b (inr c) =
         let e : m ≡ k = omega arith in
-        subst (λ (z : ℕ). Tells g entry s0 t0 n z) e (λ q e. (
-          some_same q _ (sym e ∙ (r.simulates.visits _ _ _
-              (walks_match g.text g.given entry s0 n r.text r.fetches r.begins h.live)
-              (inside n l h.live) h.here).2),
-          h.together.cells,
-        ))
+        subst (λ (z : ℕ). Tells g entry s0 t0 n z) e (λ some. tells_there n m l h)
     told_from n m k l h x a b (inl c) =
         let at : run t0 k ≡ run (run t0 m) (k - m) = (let e : k ≡ (k - m) + m = omega arith in ap (run t0) e)
         ∙ run_add t0 m (k - m) in
         let on = x.on.path.quiet (k - m) (omega arith) (omega arith) in
-        λ q e.
-        let z = on.place q (sym (ap (λ (u : State). node_at g.notes u.pc) at) ∙ e) in
-        (z.0, ap (cells_in g) at ∙ z.1 ∙ h.together.cells)
+        λ some. on_the_way n m k h x (run (run t0 m) (k - m)) at on some
 
     between_on : (n m k : ℕ) (h : Linked g entry Here K s0 t0 n m) → n < last → (c : (n < last) ⊎ (last ≤ n)) → m ≤ k
         → k < moment_of (suc n) (go_on n m h c) → Tells g entry s0 t0 n k

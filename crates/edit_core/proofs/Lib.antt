@@ -1,4 +1,7 @@
 pub mod Stays
+pub mod Places
+pub mod Trails
+pub mod Stops
 pub mod Induction
 pub mod Completed
 pub mod Dead

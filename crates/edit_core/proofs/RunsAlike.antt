@@ -49,7 +49,7 @@ use Rattle.image_code.specs.Outside.{IsOpen}
 use Rattle.image_code.proofs.Numbers.{cut_of}
 use Rattle.edit_core.specs.Faithful.{editor_page, page_size}
 use Rattle.edit_core.specs.Runs.{Linked, Rests}
-use Rattle.edit_core.specs.RunsAlike.{AreRunsAlike, IsAnswered, edit_of, short_bound}
+use Rattle.edit_core.specs.RunsAlike.{AreRunsAlike, IsAnswered, edit_of, short_bound, visits_by}
 use Rattle.edit_core.specs.Taken.{bound_in}
 use Rattle.edit_core.specs.Whole.{Answered, KeptIn}
 use Rattle.edit_core.specs.Written.{EditsRunAlike, IsEdit, LeadsTo, addr, cells_base, code_base, foreign_of, given_of, graph_in, landings_of, notes_on, table_base, text_of}
@@ -459,6 +459,7 @@ module _ (original : List ℕ) (plan : Plan) (p : Placement) (place : ℕ → �
             alone = λ small. sparing.alone (small.0, small_short fits small.1);
             few = λ small. sparing.few (small.0, small_short fits small.1);
           };
+      stops = λ m untouched. (answers (visits_by (notes_on original plan p) t0 m) untouched).stops m refl;
     }
 
 pub edits_run_alike : PiecesMakeImages → PiecesFit → EditsRunAlike

@@ -8,6 +8,7 @@ use Rattle.layout.specs.Laid.{HasShortForms}
 use Rattle.edit_core.specs.Runs.{Follows, Spares, limits_in}
 use Rattle.edit_core.specs.Whole.{EditsAnswer, KeptIn}
 use Rattle.edit_core.proofs.Induction.{follows}
+use Rattle.edit_core.proofs.Stops.{stop_is}
 
 -- there is one first moment
 one_least : (P : ℕ → Type 0) (m k : ℕ) → IsLeast P m → IsLeast P k → m ≡ k
@@ -33,8 +34,6 @@ edits_answer g l base p place f entry s0 t0 last r u =
           (one_least (Answers g.notes s0 t0 (suc n)) (k.moments (suc n)) i (all.0 (suc n) (omega (arith, below))) next)
           (k.spared n below));
       cells = k.cells;
-      early = k.early;
-      told = k.told;
-      between = k.between;
+      stops = λ m visits. stop_is g entry (HasShortForms l.list place) s0 t0 last r.first.live k all.0 m visits;
       over = k.over;
     }

@@ -1,7 +1,7 @@
 -- What a run of a written file rests on, and what follows for it as a whole.
-use Rattle.std.specs.Prelude.{◌≡◌, ℕ, zero, suc, ◌-◌, ◌<◌, ◌≤◌, ◌⊎◌, List, Option, Some, None}
+use Rattle.std.specs.Prelude.{◌≡◌, ◌≢◌, ℕ, zero, suc, ◌-◌, ◌<◌, ◌≤◌, ◌⊎◌, List, Option, Some, None}
 use Rattle.eel_base.specs.CodeText.{IsText}
-use Rattle.elf32_sparc.specs.Notes.{node_at}
+use Rattle.elf32_sparc.specs.Notes.{NoteRange, node_at, range_at}
 use Rattle.v8_decode.specs.declared.Instr.{Instr}
 use Rattle.v8_step.specs.declared.Ending.{Ending}
 use Rattle.v8_step.specs.State.{State}
@@ -16,7 +16,7 @@ use Rattle.cfg_normal.specs.declared.Node.{Node}
 use Rattle.code_runs.specs.PointsAlike.{instr_of}
 use Rattle.cfg_walk.specs.Walk.{Point, point_of, end_of_walk, gone_in}
 use Rattle.cfg_walk.specs.Matches.{FetchesOnly, BeginsAt}
-use Rattle.edit_core.specs.RunsAlike.{EndsAtNode}
+use Rattle.edit_core.specs.RunsAlike.{EndsAtNode, TellsStep}
 use Rattle.image_code.specs.Simulates.{IsKept, IsSparing, IsWatched, Setting, Simulates, cells_in, graph_in, limit_on, number_in, store_of, updates, word_of}
 
 -- ---- the items that are kept equal, step by step
@@ -59,11 +59,13 @@ pub record Linked (g : Setting) (entry : ℕ) (Here : Node → Point → State �
   pub items : (item : Item) → IsItem item → K n item → IsSameAt item (run s0 n) (run t0 m)
   pub together : AreTogether g entry s0 t0 n m
 
--- both are over; the written file's pc is then in a place of the node where the original's walk ended
+-- both are over; the written file's pc is then in a place of the node where the original's walk ended, and of the last
+-- instruction, or outside the pages
 pub record Closed (g : Setting) (entry : ℕ) (s0 t0 : State) (n m : ℕ) (d : Ending) : Type 0 where
   pub first : (run s0 n).ending ≡ Some d
   pub second : (run t0 m).ending ≡ Some d
   pub node : node_at g.notes (run t0 m).pc ≡ Some (number_in g (end_of_walk g.text (graph_in g) entry s0 n))
+  pub address : (r : NoteRange) → range_at g.notes (run t0 m).pc ≡ Some r → r.address ≡ (run s0 n).pc
   pub together : AreTogether g entry s0 t0 n m
 
 -- What is proved of the files, the pieces and the items.
@@ -91,12 +93,9 @@ limits_in g entry s0 n = limit_on g (gone_in g.text (graph_in g) entry s0 n)
 abbrev pub StaysInside : (Point → Type 0) → State → ℕ → Type 0
 StaysInside Inside s0 n = (k : ℕ) → k ≤ n → (run s0 k).ending ≡ None → Inside (point_of (run s0 k))
 
--- What a stop at moment m tells, where it is in a place: the node where the original's walk of n steps stands, and the
--- cells of that walk.
+-- a stop at moment m tells of step n, where it is in a place or outside the pages
 abbrev pub Tells : Setting → ℕ → State → State → ℕ → ℕ → Type 0
-Tells g entry s0 t0 n m =
-    (r : ℕ) → node_at g.notes (run t0 m).pc ≡ Some r
-    → (r ≡ number_in g (end_of_walk g.text (graph_in g) entry s0 n)) × (cells_in g (run t0 m) ≡ store_of g entry s0 n)
+Tells g entry s0 t0 n m = node_at g.notes (run t0 m).pc ≢ None → TellsStep g entry s0 t0 m n
 
 -- What the written file stores and takes that answers step n, from one moment to another. `Short` says that no jump and
 -- no branch is long.

@@ -1,14 +1,14 @@
 -- What a run of a written file has to do with the run of its original, with the same arguments and input.
-use Rattle.std.specs.Prelude.{◌≡◌, ◌≢◌, ℕ, suc, ◌-◌, ◌*◌, ◌^◌, ◌≤◌, List, Some, None}
+use Rattle.std.specs.Prelude.{◌≡◌, ◌≢◌, ℕ, suc, ◌-◌, ◌*◌, ◌^◌, ◌<◌, ◌≤◌, List, length, Some, None}
 use Rattle.elf32_sparc.specs.Image.{image_of}
-use Rattle.elf32_sparc.specs.Notes.{Notes, node_at}
+use Rattle.elf32_sparc.specs.Notes.{NoteRange, Notes, node_at, range_at}
 use Rattle.v8_decode.specs.declared.Part.{Part}
 use Rattle.v8_step.specs.State.{State}
 use Rattle.v8_step.specs.Run.{run}
 use Rattle.v8_step.specs.Needed.{IsUntouched}
 use Rattle.v8_step.specs.TwoRuns.{Answers, IsLeast, IsBounded}
 use Rattle.v8_step.specs.Valid.{AreBytes}
-use Rattle.v8_step.specs.Visits.{pages_of}
+use Rattle.v8_step.specs.Visits.{pages_of, trail_of}
 use Rattle.v8_process.specs.Arguments.{AreArguments}
 use Rattle.v8_process.specs.Start.{start_of}
 use Rattle.cfg_view.specs.View.{given_in}
@@ -45,6 +45,28 @@ pub record IsAnswered (g : Setting) (entry : ℕ) (s0 t0 : State) (n : ℕ) : Ty
   pub cells : cells_in g (run t0 moment) ≡ store_of g entry s0 n
   pub node : EndsAtNode g entry s0 t0 n moment
 
+-- ---- stops
+
+-- how many of the first m + 1 states are visits
+abbrev pub visits_by : Notes → State → ℕ → ℕ
+visits_by notes t0 m = length (trail_of notes t0 (suc m))
+
+-- What a stop after m steps tells where it is told to be at step n: the cells are what the snippets make of the edges that
+-- n steps complete, and the run stands at the node where these lead; where it stands in a place, that is of the
+-- instruction which step n carries out.
+pub record TellsStep (g : Setting) (entry : ℕ) (s0 t0 : State) (m n : ℕ) : Type 0 where
+  pub cells : cells_in g (run t0 m) ≡ store_of g entry s0 n
+  pub node : node_at g.notes (run t0 m).pc ≡ Some (number_in g (end_of_walk g.text (graph_in g) entry s0 n))
+  pub address : (r : NoteRange) → range_at g.notes (run t0 m).pc ≡ Some r → r.address ≡ (run s0 n).pc
+
+-- A stop after m steps, with v visits by then. In a place, or outside the pages, it tells of step v - 1, which the original
+-- carries out; and where the run has ended, it is there.
+pub record IsStop (g : Setting) (entry : ℕ) (s0 t0 : State) (m v : ℕ) : Type 0 where
+  pub some : node_at g.notes (run t0 m).pc ≢ None → 0 < v
+  pub lives : node_at g.notes (run t0 m).pc ≢ None → (run s0 (v - 1)).ending ≡ None
+  pub tells : node_at g.notes (run t0 m).pc ≢ None → TellsStep g entry s0 t0 m (v - 1)
+  pub placed : (run t0 m).ending ≢ None → node_at g.notes (run t0 m).pc ≢ None
+
 -- so little room is asked that no jump and no branch is long: 8 MiB
 abbrev pub short_bound : ℕ
 short_bound = 8 * 2 ^ 20
@@ -65,6 +87,9 @@ pub record AreRunsAlike (g : Setting) (bound entry : ℕ) (s0 t0 : State) : Type
       → (m k : ℕ) → IsLeast (Answers g.notes s0 t0 n) m → IsLeast (Answers g.notes s0 t0 (suc n)) k
       → IsSparing g (((run s0 n).ending ≡ None) × (bound ≤ short_bound)) (gone_in g.text (graph_in g) entry s0 n)
       (point_of (run s0 n)) (run t0 m) (k - m)
+  -- Stops: wherever the run is stopped, with no touch in as many steps as it made visits.
+  pub stops : (m : ℕ) → IsUntouched (pages_of g.notes) s0 (visits_by g.notes t0 m)
+      → IsStop g entry s0 t0 m (visits_by g.notes t0 m)
 
 -- for all arguments and every input
 abbrev pub HaveRunsAlike : List ℕ → Plan → (ℕ → List Part) → List ℕ → Notes → Type 0

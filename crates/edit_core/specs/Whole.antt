@@ -1,7 +1,6 @@
 -- What the runs of a written file are, where its code keeps what the original's run still asks for.
-use Rattle.std.specs.Prelude.{◌≡◌, ℕ, zero, suc, ◌<◌, ◌≤◌, None, All}
+use Rattle.std.specs.Prelude.{◌≡◌, ℕ, zero, suc, ◌<◌, ◌≤◌, All}
 use Rattle.eel_base.specs.CodeText.{IsText}
-use Rattle.elf32_sparc.specs.Notes.{node_at}
 use Rattle.v8_step.specs.State.{State}
 use Rattle.v8_step.specs.Run.{run}
 use Rattle.v8_step.specs.Items.{Item}
@@ -17,8 +16,8 @@ use Rattle.image_code.specs.Outside.{IsOpen}
 use Rattle.liveness.specs.Live.{named_on}
 use Rattle.live_walk.specs.Keeps.{IsKeptAt}
 use Rattle.edit_core.specs.Dead.{AreDead}
-use Rattle.edit_core.specs.Runs.{Keeping, Rests, Spares, Tells, limits_in}
-use Rattle.edit_core.specs.RunsAlike.{EndsAtNode}
+use Rattle.edit_core.specs.Runs.{Keeping, Rests, Spares, limits_in}
+use Rattle.edit_core.specs.RunsAlike.{EndsAtNode, IsStop, visits_by}
 
 -- what is kept: what the original's run still needs, and what snippets name that come before it is written
 abbrev pub KeptIn : Setting → ℕ → State → ℕ → Item → Type 0
@@ -31,8 +30,8 @@ KeepsWhatLives =
     → AreDead g.text (graph_in g) (named_on g.snips) g.dead → All (All IsOp) g.snips
     → Keeping g entry s0 (KeptIn g entry s0)
 
--- The written file answers each step of the original, within its limits, and stores and takes no more than it may. Up to
--- its first visit it stands in no place, and from then on in none, or in one of the node where the original's walk stands.
+-- The written file answers each step of the original, within its limits, and stores and takes no more than it may. Its stops
+-- tell where the original's walk stands.
 pub record Answered (g : Setting) (entry : ℕ) (Short : Type 0) (s0 t0 : State) (last : ℕ) : Type 0 where
   pub moments : ℕ → ℕ
   pub answers : (n : ℕ) → n ≤ last → IsLeast (Answers g.notes s0 t0 n) (moments n)
@@ -41,9 +40,7 @@ pub record Answered (g : Setting) (entry : ℕ) (Short : Type 0) (s0 t0 : State)
   pub spared : (n : ℕ) → n < last → (m k : ℕ) → IsLeast (Answers g.notes s0 t0 n) m
       → IsLeast (Answers g.notes s0 t0 (suc n)) k → Spares g entry Short s0 t0 n m k
   pub cells : (n : ℕ) → n ≤ last → cells_in g (run t0 (moments n)) ≡ store_of g entry s0 n
-  pub early : (m : ℕ) → m < moments zero → node_at g.notes (run t0 m).pc ≡ None
-  pub told : (n : ℕ) → n ≤ last → Tells g entry s0 t0 n (moments n)
-  pub between : (n m : ℕ) → n < last → moments n ≤ m → m < moments (suc n) → Tells g entry s0 t0 n m
+  pub stops : (m : ℕ) → visits_by g.notes t0 m ≡ last → IsStop g entry s0 t0 m last
   pub over : (n : ℕ) → n ≤ last → EndsAtNode g entry s0 t0 n (moments n)
 
 abbrev pub EditsAnswer : Type 0

@@ -26,7 +26,7 @@ module _ (written dump : List ℕ) where
       absurd (unread_not_done old.files new.files written written_limit outcome is zero)
   done old new err outcome (undumped file read is quiet) zero took =
       absurd (unread_not_done old.files new.files dump dump_limit outcome is zero)
-  done old new err outcome (refused file read bytes dump_read is quiet) zero took =
+  done old new err outcome (refused file read bytes dump_read is seldom quiet) zero took =
       absurd ((not_counted written file dump bytes outcome is).not_done zero)
   done old new err outcome (printed file read bytes dump_read lines tell is same) zero took =
       let (line, out) = printed_done old.out new.out lines outcome is zero in
@@ -46,7 +46,7 @@ module _ (written dump : List ℕ) where
       → IsBad (status_of outcome) → new.out.taken ≡ old.out.taken
   silent old new outcome (unread is quiet) other = ap (λ s. s.taken) quiet.0
   silent old new outcome (undumped file read is quiet) other = ap (λ s. s.taken) quiet.0
-  silent old new outcome (refused file read bytes dump_read is quiet) other = ap (λ s. s.taken) quiet.0
+  silent old new outcome (refused file read bytes dump_read is seldom quiet) other = ap (λ s. s.taken) quiet.0
   silent old new outcome (printed file read bytes dump_read lines tell is same) other =
       absurd (printed_not_refused old.out new.out lines outcome is other)
 
@@ -59,7 +59,7 @@ module _ (written dump : List ℕ) where
       elim (unread_failed old.files new.files written written_limit outcome is fails) [ inl lacks ↦ inr (inr (inr (inr (inl lacks)))) | inr rose ↦ inl rose ]
   failed old new outcome (undumped file read is quiet) fails =
       elim (unread_failed old.files new.files dump dump_limit outcome is fails) [ inl lacks ↦ inr (inr (inr (inr (inr lacks)))) | inr rose ↦ inl rose ]
-  failed old new outcome (refused file read bytes dump_read is quiet) fails =
+  failed old new outcome (refused file read bytes dump_read is seldom quiet) fails =
       absurd ((not_counted written file dump bytes outcome is).not_failed fails)
   failed old new outcome (printed file read bytes dump_read lines tell is same) fails =
       inr (inr (inl (printed_failed old.out new.out lines outcome is fails)))

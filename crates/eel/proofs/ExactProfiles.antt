@@ -1,5 +1,5 @@
 -- The counts of a profile are exact.
-use Rattle.std.proofs.Common.{◌≡◌, ℕ, zero, suc, ◌<◌, List, [], ◌∷◌, map, refl, ap, sym, ◌∙◌, subst}
+use Rattle.std.proofs.Common.{◌≡◌, ℕ, zero, suc, ◌-◌, ◌<◌, List, [], ◌∷◌, map, refl, ap, sym, ◌∙◌, subst}
 use Rattle.std.specs.Prelude.{Option, Some, None, IfSome, get_or, Result, Ok, Err}
 use Rattle.std.specs.List.{All}
 use Rattle.std.specs.Option.{is_some}
@@ -22,7 +22,10 @@ use Rattle.count_rebuild.specs.Answers.{AreCounts}
 use Rattle.exact_counts.specs.Profiles.{CountsOffTree, IsProfiled, counted_by, is_counter}
 use Rattle.exact_counts.proofs.Exact.{counts_are_exact}
 use Rattle.eel.specs.Answers.Profile.{AreCells, IsProfileOf, counter_of, graph_in, profile_plan}
-use Rattle.eel.specs.Answers.Counts.{AreExact}
+use Rattle.v8_process.specs.Start.{start_of}
+use Rattle.exact_counts.specs.Laws.{IsExact}
+use Rattle.exact_counts.specs.Stops.{dump_at, visits_by}
+use Rattle.eel.specs.Answers.Counts.{AreExact, IsOfRun}
 use Rattle.eel.proofs.Profiled.{are_counters}
 
 -- an edge has a counter where it has a cell
@@ -85,9 +88,17 @@ is_profiled original file notes profile bytes read =
       runs = faithful.runs;
     })
 
+pub exact_in : (file : List ℕ) (notes : Notes) (dump : Dump) → notes_of file ≡ Ok notes
+    → (original : List ℕ) (args : List (List ℕ)) (input : List ℕ) (m : ℕ)
+    → (run : IsOfRun original file notes dump args input m)
+    → IsExact original (profile_plan run.profile.cells) notes (start_of original args input)
+    (dump_at notes (start_of file args input) m) (visits_by notes (start_of file args input) m - 1)
+exact_in file notes dump read original args input m run =
+    counts_are_exact original (profile_plan run.profile.cells) file notes args input m
+    (is_profiled original file notes run.profile run.bytes read) run.arguments run.given run.untouched run.few
+
 pub are_exact : (file : List ℕ) (notes : Notes) (dump : Dump) (counts : List ℕ) → notes_of file ≡ Ok notes
     → AreCounts notes dump counts → AreExact file notes dump counts
-are_exact file notes dump counts read are = λ original args input m bytes profile arguments given over few is e inside.
-    let exact = counts_are_exact original (profile_plan profile.cells) file notes args input m
-    (is_profiled original file notes profile bytes read) arguments given over few in
-    exact.counts counts (subst (λ (d : Dump). AreCounts notes d counts) is are) e inside
+are_exact file notes dump counts read are = λ original args input m run e inside.
+    let exact = exact_in file notes dump read original args input m run in
+    exact.counts counts (subst (λ (d : Dump). AreCounts notes d counts) run.is are) e inside

@@ -35,7 +35,7 @@ use Rattle.image_code.specs.Simulates.{Setting, graph_in}
 use Rattle.exact_counts.specs.Profiles.{IsProfiled, original_graph}
 use Rattle.exact_counts.specs.Sizes.{HasEndedBy}
 use Rattle.exact_counts.specs.Stops.{EndsWithStep, IsOver, dump_at, visits_by}
-use Rattle.exact_counts.specs.Laws.{IsExact}
+use Rattle.exact_counts.specs.Laws.{IsExact, MayRefuse}
 use Rattle.exact_counts.proofs.Ends.{ended_runs_tell}
 use Rattle.exact_counts.proofs.Exact.{begins_live, counts_are_exact, notes_of_graph, view_graph}
 use Rattle.exact_counts.proofs.Little.{profiles_need_little}
@@ -50,6 +50,16 @@ use Rattle.eel.proofs.ExactProfiles.{is_profiled, one_notes}
 
 some_not_none : (d : Ending) → Some d ≡ None → ⊥
 some_not_none d e = cc
+
+-- of a run that has ended only want of memory refuses the counts
+only_memory : (dump : Dump) (fault : CountFault) → (dump.ending ≡ None → ⊥) → MayRefuse dump fault
+    → fault ≡ count_faults.NoMemory
+only_memory dump (count_faults.Between pc) ended may = absurd (ended may.1)
+only_memory dump count_faults.NoMemory ended may = refl
+only_memory dump count_faults.NoProfile ended may = absurd may
+only_memory dump (count_faults.Shape cells wanted) ended may = absurd may
+only_memory dump (count_faults.TooLong steps) ended may = absurd may
+only_memory dump (count_faults.Negative edge value) ended may = absurd may
 
 -- ---- the edit
 
@@ -190,10 +200,12 @@ module _ (file written : List ℕ) (tame : IsTame file) (profile : IsProfileOf f
     v = visits_by notes t0 m
 
     exact : IsExact file plan notes s0 (dump_at notes t0 m) (v - 1)
-    exact = counts_are_exact file plan written notes [] [] m is no_arguments (All-nil _) over short
+    exact = counts_are_exact file plan written notes [] [] m is no_arguments (All-nil _) (untouched v) short
 
     pub tells : (fault : CountFault) → IsRefused notes dump fault → fault ≡ count_faults.NoMemory
-    tells fault refused = exact.refused fault (subst (λ (d : Dump). IsRefused notes d fault) last.is refused)
+    tells fault refused =
+        only_memory (dump_at notes t0 m) fault last.ended
+        (exact.refused fault (subst (λ (d : Dump). IsRefused notes d fault) last.is refused))
 
     told : EndsWithStep g entry s0 t0 m v
     told = ended_runs_tell g (bound_in file plan) entry s0 t0 m (begins_live file [] []) alike over

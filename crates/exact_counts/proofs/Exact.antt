@@ -1,5 +1,5 @@
--- What is rebuilt from the dump of a run that has ended is how often the original's run completes each edge.
-use Rattle.std.proofs.Common.{◌≡◌, ℕ, ◌-◌, ◌<◌, Bool, cond, List, length, None, refl, ap, sym, ◌∙◌, subst, arith}
+-- What is rebuilt from the dump of a run, wherever it is stopped, is how often the original's run completes each edge.
+use Rattle.std.proofs.Common.{◌≡◌, ℕ, suc, ◌-◌, ◌<◌, Bool, cond, List, length, None, refl, ap, sym, ◌∙◌, subst, arith}
 use Rattle.std.specs.Prelude.{pos}
 use Rattle.std.specs.List.{All}
 use Rattle.std.proofs.lemmas.Bool.{lt-ltb}
@@ -25,16 +25,15 @@ use Rattle.span_tree.specs.Links.{links_of}
 use Rattle.walk_counts.specs.Counts.{executions, first_node}
 use Rattle.walk_counts.proofs.Files.{begins, entry_is, executions_of_files_are_flows}
 use Rattle.image_code.specs.Simulates.{Setting, graph_in}
-use Rattle.edit_core.specs.RunsAlike.{edit_of}
-use Rattle.edit_core.specs.Taken.{bound_in}
+use Rattle.edit_core.specs.RunsAlike.{IsStop, edit_of}
+use Rattle.edit_core.proofs.Trails.{few_visits}
 use Rattle.edit_core.specs.Faithful.{HasGraph, note_edges, tool_number}
 use Rattle.count_rebuild.specs.Noted.{noted_graph}
 use Rattle.exact_counts.specs.Profiles.{CountsOffTree, counted_by, original_graph}
-use Rattle.exact_counts.specs.Stops.{EndsWithStep, visits_by}
+use Rattle.exact_counts.specs.Stops.{visits_by}
 use Rattle.exact_counts.specs.Laws.{CountsAreExact}
-use Rattle.exact_counts.proofs.Ends.{ended_runs_tell}
 use Rattle.exact_counts.proofs.Noted.{AreNotesOf, flow_alike, graphs_alike, tree_noted}
-use Rattle.exact_counts.proofs.Rebuilt.{StandsBehind, counts_tell, made_in, node_in, refused_not}
+use Rattle.exact_counts.proofs.Rebuilt.{StandsBehind, counts_tell, made_in, node_in, refused_so}
 
 module _ (original : List ℕ) (plan : Plan) (dead : ℕ → List Part) (notes : Notes) where
   abbrev g : Setting
@@ -97,7 +96,7 @@ unfolding start_of
 begins_live file args input = refl
 
 pub counts_are_exact : CountsAreExact
-counts_are_exact original plan file notes args input m is given read over short =
+counts_are_exact original plan file notes args input m is given read untouched short =
     let counts = is.counters in
     let g : Setting = edit_of original plan is.dead notes in
     let entry : ℕ = (image_of original).entry in
@@ -105,10 +104,9 @@ counts_are_exact original plan file notes args input m is given read over short 
     let t0 : State = start_of file args input in
     let v : ℕ = visits_by notes t0 m in
     let n : ℕ = v - 1 in
-    let tells : EndsWithStep g entry s0 t0 m v =
-    ended_runs_tell g (bound_in original plan) entry s0 t0 m (begins_live original args input) (is.runs args input given read) over in
+    let stop : IsStop g entry s0 t0 m v = (is.runs args input given read).stops m untouched in
     let are : AreNotesOf (graph_in g) plan.snips notes = notes_of_graph original plan is.dead notes counts is.graph in
-    let few = tells.few in
+    let few = few_visits notes t0 (suc m) in
     let behind : StandsBehind g entry s0 t0 m n = record {
       profile = record {
         tool = is.graph.tool ∙ ap tool_number counts.kind;
@@ -122,11 +120,11 @@ counts_are_exact original plan file notes args input m is given read over short 
       short = short;
       few = omega (arith, few, short);
       flow = noted_flow original plan is.dead notes args input is.sound is.bytes n are is.graph;
-      cells = tells.cells;
-      node = tells.node;
+      tells = stop.tells;
+      placed = stop.placed;
     } in
     record {
-      refused = refused_not g entry s0 t0 m n behind;
+      refused = refused_so g entry s0 t0 m n behind;
       counts = λ given h e l.
           counts_tell g entry s0 t0 m n behind given h e l
           ∙ ap (λ (graph : Graph). executions (image_of original).text graph entry s0 n e)

@@ -1,10 +1,11 @@
 -- What is rebuilt from a dump that has the cells of a walk, and stands where the walk ends.
-use Rattle.std.proofs.Common.{◌≡◌, ℕ, ◌%◌, ◌^◌, ◌<◌, ◌⊎◌, inl, inr, true, false, List, [], length, get_or, slice_index, Some, None, refl, ap, sym, ◌∙◌, subst, arith}
+use Rattle.std.proofs.Common.{◌≡◌, ◌≢◌, ℕ, ◌%◌, ◌^◌, ◌<◌, ◌⊎◌, inl, inr, true, false, List, [], length, get_or, slice_index, Option, Some, None, refl, ap, sym, ◌∙◌, subst, arith}
 use Rattle.std.specs.Prelude.{ℤ, pos}
 use Rattle.std.specs.List.{All}
 use Rattle.std.specs.Option.{is_some}
 use Rattle.std.proofs.lemmas.List.FromFn.{length-map-range_with_len}
 use Rattle.elf32_sparc.specs.Notes.{NoteEdge, node_at}
+use Rattle.v8_step.specs.declared.Ending.{Ending}
 use Rattle.v8_step.specs.State.{State}
 use Rattle.v8_step.specs.Run.{run}
 use Rattle.flows.specs.Flows.{AgreeOn, IsFlow}
@@ -14,13 +15,15 @@ use Rattle.tool_kit.specs.declared.edge_ref.ToolKind.TheVariants as tools
 use Rattle.cfg_walk.specs.Walk.{end_of_walk}
 use Rattle.walk_counts.specs.Counts.{executions}
 use Rattle.dump_file.specs.Dump.{Dump}
-use Rattle.image_code.specs.Simulates.{Setting, cells_in, graph_in, number_in, snippet_on, store_of}
+use Rattle.image_code.specs.Simulates.{Setting, graph_in, number_in, snippet_on}
 use Rattle.edit_core.specs.Faithful.{cell_noted}
+use Rattle.edit_core.specs.RunsAlike.{TellsStep}
 use Rattle.count_rebuild.specs.declared.fault.CountFault.{CountFault}
 use Rattle.count_rebuild.specs.declared.fault.CountFault.TheVariants as faults
 use Rattle.count_rebuild.specs.Answers.{AreCounts, IsRefused}
 use Rattle.count_rebuild.specs.Counts.{IsFlowTo, StandsAt, cell_counts, cell_value, is_negative}
 use Rattle.count_rebuild.specs.Noted.{IsProfile, edge_at, has_cell, noted_graph}
+use Rattle.exact_counts.specs.Laws.{MayRefuse}
 use Rattle.exact_counts.specs.Stops.{dump_at}
 use Rattle.exact_counts.proofs.Few.{executions_are_few}
 use Rattle.exact_counts.proofs.Counters.{IsCounterFrom, cells_count, counter, none_or_counter}
@@ -33,7 +36,7 @@ node_in g entry s0 n = number_in g (end_of_walk g.text (graph_in g) entry s0 n)
 abbrev pub made_in : Setting → ℕ → State → ℕ → ℕ → ℕ
 made_in g entry s0 n e = executions g.text (graph_in g) entry s0 n e
 
--- a profile's run that stands at the end of the walk of the original's first n steps
+-- a profile's run that was stopped, and stands at the end of the walk of the original's first n steps, or between places
 pub record StandsBehind (g : Setting) (entry : ℕ) (s0 t0 : State) (m n : ℕ) : Type 0 where
   -- of its file
   pub profile : IsProfile g.notes
@@ -44,8 +47,8 @@ pub record StandsBehind (g : Setting) (entry : ℕ) (s0 t0 : State) (m n : ℕ) 
   pub short : m < 2 ^ 32
   pub few : n < 2 ^ 32
   pub flow : IsFlow (noted_graph g.notes) g.notes.entry (node_in g entry s0 n) (λ e. pos (made_in g entry s0 n e))
-  pub cells : cells_in g (run t0 m) ≡ store_of g entry s0 n
-  pub node : node_at g.notes (run t0 m).pc ≡ Some (node_in g entry s0 n)
+  pub tells : node_at g.notes (run t0 m).pc ≢ None → TellsStep g entry s0 t0 m n
+  pub placed : (run t0 m).ending ≢ None → node_at g.notes (run t0 m).pc ≢ None
 
 same_number : (a b : ℕ) → pos a ≡ pos b → a ≡ b
 same_number a b e = cc
@@ -61,21 +64,21 @@ module _ (g : Setting) (entry : ℕ) (s0 t0 : State) (m n : ℕ) (is : StandsBeh
   dump = dump_at g.notes t0 m
 
   -- an edge's counter tells
-  cell_tells : (e cell : ℕ) → snippet_on g.snips e ≡ counter cell
+  cell_tells : TellsStep g entry s0 t0 m n → (e cell : ℕ) → snippet_on g.snips e ≡ counter cell
       → cell_value dump.cells (Some cell) ≡ pos (made_in g entry s0 n e)
-  cell_tells e cell has =
+  cell_tells told e cell has =
       let count = cells_count g entry s0 n e cell is.counters is.below has in
       let most = executions_are_few g.text (graph_in g) entry s0 n e in
       let few = is.few in
-      ap (λ (cells : List ℕ). pos (get_or cells cell 0)) is.cells
+      ap (λ (cells : List ℕ). pos (get_or cells cell 0)) told.cells
       ∙ ap pos (count ∙ small (made_in g entry s0 n e) (omega (arith, most, few)))
     where
       small : (k : ℕ) → k < 2 ^ 32 → k % 2 ^ 32 ≡ k
       small k l = omega (arith, l)
 
-  agrees : AgreeOn (noted_graph g.notes) (has_cell g.notes) (cell_counts g.notes dump)
+  agrees : TellsStep g entry s0 t0 m n → AgreeOn (noted_graph g.notes) (has_cell g.notes) (cell_counts g.notes dump)
       (λ e. pos (made_in g entry s0 n e))
-  agrees e l has = by (none_or_counter 0 g.snips e is.counters)
+  agrees told e l has = by (none_or_counter 0 g.snips e is.counters)
     where
       edges : length g.notes.edges ≡ length (graph_in g).edges
       edges = edge_count (graph_in g) g.snips g.notes is.are
@@ -93,18 +96,19 @@ module _ (g : Setting) (entry : ℕ) (s0 t0 : State) (m n : ℕ) (is : StandsBeh
           absurd (none_has (sym (ap (λ o. is_some o) (noted ∙ ap (cell_noted tools.Profile) none)) ∙ has))
       by (inr some) =
           ap (cell_value dump.cells) (noted ∙ ap (cell_noted tools.Profile) some.is)
-          ∙ cell_tells e some.cell some.is
+          ∙ cell_tells told e some.cell some.is
 
   -- the one flow is the walk's
   flow_tells : (node : ℕ) (flow : ℕ → ℤ) → StandsAt g.notes dump node → IsFlowTo g.notes dump node flow → (e : ℕ)
       → e < length g.notes.edges → flow e ≡ pos (made_in g entry s0 n e)
   flow_tells node flow stands h e l =
+      let told = is.tells (λ none. not_none node (sym stands.at ∙ none)) in
       let same : node_in g entry s0 n ≡ node =
-      same_some (node_in g entry s0 n) node (sym is.node ∙ stands.at) in
+      same_some (node_in g entry s0 n) node (sym told.node ∙ stands.at) in
       h.only (λ e. pos (made_in g entry s0 n e))
       (subst (λ (b : ℕ). IsFlow (noted_graph g.notes) g.notes.entry b (λ e. pos (made_in g entry s0 n e))) same
       is.flow)
-      agrees e l
+      (agrees told) e l
 
   pub counts_tell : (counts : List ℕ) → AreCounts g.notes dump counts → (e : ℕ) → e < length g.notes.edges
       → slice_index counts e ≡ made_in g entry s0 n e
@@ -115,17 +119,22 @@ module _ (g : Setting) (entry : ℕ) (s0 t0 : State) (m n : ℕ) (is : StandsBeh
   negative_not : (value : ℤ) (k : ℕ) → value ≡ pos k → is_negative value ≡ true → ⊥
   negative_not value k e negative = let no : is_negative value ≡ false = ap is_negative e in cc (no, negative)
 
-  pub refused_not : (fault : CountFault) → IsRefused g.notes dump fault → fault ≡ faults.NoMemory
-  refused_not faults.NoProfile h = absurd (h is.profile)
-  refused_not (faults.Shape cells wanted) h =
+  -- between places it hasn't ended
+  runs_on : node_at g.notes (run t0 m).pc ≡ None → (o : Option Ending) → (run t0 m).ending ≡ o → (run t0 m).ending ≡ None
+  runs_on none None live = live
+  runs_on none (Some d) over = absurd (is.placed (λ live. absurd (cc)) none)
+
+  pub refused_so : (fault : CountFault) → IsRefused g.notes dump fault → MayRefuse dump fault
+  refused_so faults.NoProfile h = absurd (h is.profile)
+  refused_so (faults.Shape cells wanted) h =
       absurd (h.differ (h.has ∙ length-map-range_with_len _ 0 g.notes.cells ∙ sym h.wants))
-  refused_not (faults.TooLong steps) h =
+  refused_so (faults.TooLong steps) h =
       let made = h.made in
       let long = h.long in
       let short = is.short in
       absurd (omega (arith, made, long, short))
-  refused_not (faults.Between pc) h = absurd (not_none (node_in g entry s0 n) (sym is.node ∙ h.between))
-  refused_not (faults.Negative edge value) h =
+  refused_so (faults.Between pc) h = (h.at, runs_on h.between (run t0 m).ending refl)
+  refused_so (faults.Negative edge value) h =
       absurd (negative_not (h.flow edge.0) (made_in g entry s0 n edge.0)
       (flow_tells h.node h.flow h.stands h.is edge.0 h.first.inside) h.first.negative)
-  refused_not faults.NoMemory h = refl
+  refused_so faults.NoMemory h = tt

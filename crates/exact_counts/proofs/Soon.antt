@@ -12,7 +12,7 @@ use Rattle.image_code.specs.Simulates.{Setting, graph_in, limit_on, operations_o
 use Rattle.edit_core.specs.RunsAlike.{AreRunsAlike}
 use Rattle.exact_counts.specs.Sizes.{HasEndedBy, ProfilesEndSoon}
 use Rattle.exact_counts.proofs.Counters.{IsCounterFrom, none_or_counter}
-use Rattle.exact_counts.proofs.Ends.{over_or_not, ending}
+use Rattle.edit_core.proofs.Trails.{over_or_not, ending}
 use Rattle.exact_counts.proofs.Gone.{step_few}
 
 -- fewer steps touch no page either

@@ -1,6 +1,6 @@
--- Counts are exact: what is rebuilt from the dump of a written file's run that has ended is how often the original's
--- run completes each edge.
-use Rattle.std.specs.Prelude.{◌≡◌, ℕ, ◌-◌, ◌%◌, ◌^◌, ◌<◌, ◌≤◌, List, [], ◌∷◌, length, get_or, slice_index}
+-- Counts are exact: what is rebuilt from the dump of a written file's run, wherever it is stopped, is how often the
+-- original's run completes each edge.
+use Rattle.std.specs.Prelude.{◌≡◌, ℕ, ◌-◌, ◌%◌, ◌^◌, ◌<◌, ◌≤◌, List, [], ◌∷◌, length, get_or, slice_index, None}
 use Rattle.std.specs.List.{All}
 use Rattle.eel_base.specs.CodeText.{Words}
 use Rattle.elf32_sparc.specs.Image.{image_of}
@@ -20,7 +20,9 @@ use Rattle.count_rebuild.specs.declared.fault.CountFault.{CountFault}
 use Rattle.count_rebuild.specs.declared.fault.CountFault.TheVariants as faults
 use Rattle.count_rebuild.specs.Answers.{AreCounts, IsRefused}
 use Rattle.exact_counts.specs.Profiles.{IsProfiled, original_graph}
-use Rattle.exact_counts.specs.Stops.{IsOver, dump_at, visits_by}
+use Rattle.v8_step.specs.Needed.{IsUntouched}
+use Rattle.v8_step.specs.Visits.{pages_of}
+use Rattle.exact_counts.specs.Stops.{dump_at, visits_by}
 
 -- no edge is completed twice in one step
 abbrev pub ExecutionsAreFew : Type 0
@@ -34,21 +36,28 @@ CellsCount =
     → AreCounters 0 g.snips → All (WorksBelow g.notes.cells) g.snips → snippet_on g.snips e ≡ Add cell 1 ∷ []
     → get_or (store_of g entry s0 n) cell 0 ≡ executions g.text (graph_in g) entry s0 n e % 2 ^ 32
 
--- Rebuilding refuses the dump for want of memory alone. What it answers is how often the first n steps of the
--- original's run complete each edge.
+-- Rebuilding may be refused where the run stands between places, which it doesn't where it has ended; and for want of
+-- memory.
+abbrev pub MayRefuse : Dump → CountFault → Type 0
+MayRefuse dump (faults.Between pc) = (pc.0 ≡ dump.pc) × (dump.ending ≡ None)
+MayRefuse dump faults.NoMemory = Unit {0}
+MayRefuse dump _ = ⊥
+
+-- For nothing else the dump is refused. What is answered is how often the first n steps of the original's run complete
+-- each edge.
 pub record IsExact (original : List ℕ) (plan : Plan) (notes : Notes) (s0 : State) (dump : Dump) (n : ℕ) : Type 0 where
-  pub refused : (fault : CountFault) → IsRefused notes dump fault → fault ≡ faults.NoMemory
+  pub refused : (fault : CountFault) → IsRefused notes dump fault → MayRefuse dump fault
   pub counts : (counts : List ℕ) → AreCounts notes dump counts → (e : ℕ) → e < length notes.edges
       → slice_index counts e
       ≡ executions (image_of original).text (original_graph original plan) (image_of original).entry s0 n e
 
--- So it is after a run below 2^32 steps that has ended, where the original touches no page: for all arguments and every
--- input. The original's run ends with step v, which completes no edge.
+-- So it is wherever a run is stopped below 2^32 steps, where the original touches no page in as many steps as there were
+-- visits: for all arguments and every input. The last visit is of the instruction that step v - 1 carries out.
 abbrev pub CountsAreExact : Type 0
 CountsAreExact =
     (original : List ℕ) (plan : Plan) (file : List ℕ) (notes : Notes) (args : List (List ℕ)) (input : List ℕ) (m : ℕ)
     → IsProfiled original plan file notes → AreArguments args → AreBytes input
     → let s0 = start_of original args input in
     let t0 = start_of file args input in
-    IsOver notes s0 t0 m → m < 2 ^ 32
+    IsUntouched (pages_of notes) s0 (visits_by notes t0 m) → m < 2 ^ 32
     → IsExact original plan notes s0 (dump_at notes t0 m) (visits_by notes t0 m - 1)

@@ -1,19 +1,15 @@
 -- What a written file's run tells where it has ended.
-use Rattle.std.specs.Prelude.{◌≡◌, ◌≢◌, ℕ, suc, ◌-◌, ◌<◌, ◌≤◌, length, Some, None}
+use Rattle.std.specs.Prelude.{◌≡◌, ◌≢◌, ℕ, ◌-◌, ◌<◌, ◌≤◌, Some, None}
 use Rattle.elf32_sparc.specs.Notes.{Notes, node_at}
 use Rattle.v8_step.specs.State.{State}
 use Rattle.v8_step.specs.Run.{run}
 use Rattle.v8_step.specs.Needed.{IsUntouched}
-use Rattle.v8_step.specs.Visits.{pages_of, trail_of}
+use Rattle.v8_step.specs.Visits.{pages_of}
 use Rattle.cfg_walk.specs.Walk.{end_of_walk}
 use Rattle.snippet_code.specs.Cells.{words_at}
 use Rattle.dump_file.specs.Dump.{Dump}
 use Rattle.image_code.specs.Simulates.{Setting, cells_in, graph_in, number_in, store_of}
-use Rattle.edit_core.specs.RunsAlike.{AreRunsAlike}
-
--- how many of the first m + 1 states are visits
-abbrev pub visits_by : Notes → State → ℕ → ℕ
-visits_by notes t0 m = length (trail_of notes t0 (suc m))
+pub use Rattle.edit_core.specs.RunsAlike.{AreRunsAlike, visits_by}
 
 -- the dump of the m-th state: how it ended and where it stands, the steps, and the words at the cells' base
 abbrev pub dump_at : Notes → State → ℕ → Dump

@@ -13,7 +13,6 @@ use Rattle.v8_step.specs.State.{State, register_of}
 use Rattle.v8_step.specs.Run.{run}
 use Rattle.v8_step.specs.Valid.{IsValid}
 use Rattle.v8_step.proofs.ValidSteps.{run-valid}
-use Rattle.cfg_normal.specs.declared.Node.{Node}
 use Rattle.code_runs.specs.Counted.{count_stores}
 use Rattle.code_runs.specs.Hops.{hopped}
 use Rattle.code_runs.specs.Leads.{Leads, IsSilent}
@@ -154,8 +153,8 @@ module _ (g : Setting) (l : Pieces) (base : ℕ) (p : Placement) (place : ℕ �
   abbrev pub IsBare : State → Type 0
   IsBare u = (base ≤ u.pc) × (u.pc < base + 4 * length p.code) × (range_in p.ranges u.pc ≡ None)
 
-  pub bare_on : (node : Node) (t u : State) → u.ending ≡ None → IsBare u → IsOnWay g node t u
-  bare_on node t u live bare = on_none g l base p place f h node t u live bare.0 bare.1 bare.2
+  pub bare_on : (t u : State) → u.ending ≡ None → IsBare u → IsOnWay g t u
+  bare_on t u live bare = on_none g l base p place f h t u live bare.0 bare.1 bare.2
 
   -- A way through such words and the snippets of some edges: all stays as it was but what is dead behind these and words of
   -- the editor's, and in them the cells are updated, and the target that waits in word 1 of the page stays. Where the

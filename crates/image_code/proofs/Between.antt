@@ -25,7 +25,7 @@ use Rattle.code_runs.specs.Page.{page_word}
 use Rattle.layout.specs.declared.items.Item.{Item}
 use Rattle.layout.specs.Laid.{Placement, item_at, item_in, items_in, size_of, open_from, range_in}
 use Rattle.layout.specs.Running.{CanRun}
-use Rattle.image_code.specs.Simulates.{Setting, cells_in, IsOnWay, gone_at, graph_in, number_in}
+use Rattle.image_code.specs.Simulates.{Setting, cells_in, IsOnWay, IsThere, gone_at, graph_in, number_in}
 use Rattle.image_code.specs.Images.{Pieces, Frame, HasImages, IsPlaced}
 use Rattle.image_code.specs.Cases.{visits_it}
 
@@ -104,31 +104,38 @@ module _ (g : Setting) (l : Pieces) (base : ℕ) (p : Placement) (place : ℕ �
       ∙ ap (λ (b : Bool). visited o b u.pc) (h.noted.inside u.pc low high)
 
   -- between places
-  pub on_none : (node : Node) (t u : State) → u.ending ≡ None → base ≤ u.pc → u.pc < base + 4 * length p.code
-      → range_in p.ranges u.pc ≡ None → IsOnWay g node t u
-  on_none node t u live low high r =
-      let n : node_at g.notes u.pc ≡ None = node_is u.pc None low high r in
+  pub on_none : (t u : State) → u.ending ≡ None → base ≤ u.pc → u.pc < base + 4 * length p.code
+      → range_in p.ranges u.pc ≡ None → IsOnWay g t u
+  on_none t u live low high r =
+      let n : range_at g.notes u.pc ≡ None = h.noted.ranges u.pc low high ∙ r in
       record { live = live; visit = visit_is u None live low high r; place = λ q e. absurd (cc) }
 
-  -- in a place of the node, past its first address
-  pub on_range : (node : Node) (t u : State) (r : NoteRange) → u.ending ≡ None → base ≤ u.pc
+  -- in the place of the visit, past its first address
+  pub on_range : (t u : State) (r : NoteRange) → u.ending ≡ None → base ≤ t.pc → t.pc < u.pc
       → u.pc < base + 4 * length p.code
-      → range_in p.ranges u.pc ≡ Some r → r.lo < u.pc → r.node ≡ number_in g node → cells_in g u ≡ cells_in g t
-      → IsOnWay g node t u
-  on_range node t u r live low high is past same cells =
-      let n : node_at g.notes u.pc ≡ Some r.node = node_is u.pc (Some r) low high is in
+      → range_in p.ranges t.pc ≡ Some r → range_in p.ranges u.pc ≡ Some r → r.lo ≡ t.pc → cells_in g u ≡ cells_in g t
+      → IsOnWay g t u
+  on_range t u r live low past high here is lo cells =
+      let there : range_at g.notes u.pc ≡ Some r = h.noted.ranges u.pc (omega (arith, low, past)) high ∙ is in
+      let at : range_at g.notes t.pc ≡ Some r = h.noted.ranges t.pc low (omega (arith, past, high)) ∙ here in
       record {
         live = live;
-        visit = visit_is u (Some r) live low high is ∙ ap (λ (b : Bool). if b then Some r.address else None)
-            (not_first r.lo u.pc past);
-        place = λ q e. (let k : q ≡ r.node = some_same q r.node (sym e ∙ n) in k ∙ same, cells);
+        visit = visit_is u (Some r) live (omega (arith, low, past)) high is
+            ∙ ap (λ (b : Bool). if b then Some r.address else None) (not_first r.lo u.pc (omega (arith, lo, past)));
+        place = λ q e. (at ∙ sym there ∙ e, cells);
       }
     where
       not_first : (a b : ℕ) → a < b → (a == b) ≡ false
       not_first a b l = grind (arith, nat_tests)
 
-      some_same : (a b : ℕ) → Some a ≡ Some b → a ≡ b
-      some_same a b e = cc
+  -- at an address of the visit's place
+  pub there_in : (t u : State) (r : NoteRange) → base ≤ t.pc → t.pc < base + 4 * length p.code → base ≤ u.pc
+      → u.pc < base + 4 * length p.code
+      → range_in p.ranges t.pc ≡ Some r → range_in p.ranges u.pc ≡ Some r → IsThere g t u
+  there_in t u r low high from to here is = record {
+    range = h.noted.ranges u.pc from to ∙ is ∙ sym (h.noted.ranges t.pc low high ∙ here);
+    page = h.noted.inside u.pc from to ∙ sym (h.noted.inside t.pc low high);
+  }
 
   -- at the first address of a place
   pub at_range : (node : Node) (x : Point) (t : State) (r : NoteRange) → t.ending ≡ None → base ≤ t.pc
@@ -144,11 +151,11 @@ module _ (g : Setting) (l : Pieces) (base : ℕ) (p : Placement) (place : ℕ �
       first : (a b : ℕ) → a ≡ b → (a == b) ≡ true
       first a b e = grind (arith, nat_tests)
 
-  pub quiet_of : (node : Node) (t after : State) (count : ℕ) (P : State → Type 0) → Leads P t after count
+  pub quiet_of : (t after : State) (count : ℕ) (P : State → Type 0) → Leads P t after count
       → after.ending ≡ None
-      → ((u : State) → u.ending ≡ None → P u → IsOnWay g node t u) → (j : ℕ) → 0 < j → j < count
-      → IsOnWay g node t (run t j)
-  quiet_of node t after count P way live on j a b =
+      → ((u : State) → u.ending ≡ None → P u → IsOnWay g t u) → (j : ℕ) → 0 < j → j < count
+      → IsOnWay g t (run t j)
+  quiet_of t after count P way live on j a b =
       let e : (run t (count - j + j)).ending ≡ None = (let q : count - j + j ≡ count = omega arith in ap
       (λ z. (run t z).ending) q) ∙ ap (λ (z : State). z.ending) way.steps ∙ live in
       on (run t j) (live_before t (count - j) j e) (way.during j a b)

@@ -50,7 +50,7 @@ module _ (g : Setting) (l : Pieces) (base : ℕ) (p : Placement) (place : ℕ �
   abbrev image : List Instr
   image = link 15 c.address.0
 
-  ahead : AtWords g node t (place c.piece 1) (length image)
+  ahead : AtWords g t (place c.piece 1) (length image)
   ahead = at_words g l base p place f h node x t here c.piece c.within c.here image c.address c.way c.items
 
   about : IsAboutToCall c.address.0 t

@@ -1,7 +1,7 @@
 -- A word in its Mark at the head of a piece, and the images of plain words: they are one step each.
 use Rattle.std.proofs.Common.{◌≡◌, ◌≢◌, ℕ, suc, ◌+◌, ◌*◌, ◌^◌, ◌<◌, ◌≤◌, Bool, false, Option, Some, None, List, [], ◌++◌, length, append-nil, refl, ap, sym, ◌∙◌, subst, arith}
 use Rattle.std.specs.Prelude.{slice_get, slice_index, ℤ}
-use Rattle.elf32_sparc.specs.Notes.{Notes, node_at}
+use Rattle.elf32_sparc.specs.Notes.{Notes, range_at}
 use Rattle.v8_decode.specs.declared.Instr.{Instr}
 use Rattle.v8_decode.specs.declared.Instr.TheVariants as i
 use Rattle.v8_decode.specs.Words.{decode_of}
@@ -15,7 +15,7 @@ use Rattle.v8_step.specs.Run.{run_puts}
 use Rattle.v8_step.specs.Items.{is_transfer}
 use Rattle.v8_step.specs.Judged.{judged_by}
 use Rattle.v8_step.specs.Valid.{IsValid}
-use Rattle.v8_step.specs.Visits.{visited, pages_of}
+use Rattle.v8_step.specs.Visits.{in_pages, visited, pages_of}
 use Rattle.v8_step.proofs.Alike.{live_puts}
 use Rattle.v8_step.proofs.JudgedAlike.{judged_alike}
 use Rattle.v8_step.proofs.CopiedMoves.{goes_act}
@@ -43,7 +43,7 @@ use Rattle.image_code.specs.Cases.{next_visit, visits_it, plain_piece, IsPlain, 
 use Rattle.image_code.proofs.Ended.{stops_act}
 use Rattle.image_code.proofs.Sparing.{uncounted}
 use Rattle.image_code.proofs.Memories.{fetch_is, images_stay, images_stored, same_stored}
-pub use Rattle.image_code.proofs.Between.{at_range, can_run, ended_none, first_own, get_below, item_below, item_size, live_before, node_is, on_none, on_range, open_rest, outside_refl, quiet_of, same_at, stores_weaker}
+pub use Rattle.image_code.proofs.Between.{at_range, can_run, ended_none, first_own, get_below, item_below, item_size, live_before, node_is, on_none, on_range, there_in, open_rest, outside_refl, quiet_of, same_at, stores_weaker}
 pub use Rattle.image_code.proofs.Arrives.{Arrives, Tail, IsBare, IsFit, arrive, arrived, bare_on, far_on, hopped_fit, jump_on, jump_then, on_then, tail, weaker_arrives, weaker_tail}
 pub use Rattle.image_code.proofs.Dead.{LastDead, alike_hopped, alike_itself, followed_alike, gone_last}
 use Rattle.image_code.proofs.Dead.{IsAlike}
@@ -192,7 +192,9 @@ module _ (g : Setting) (l : Pieces) (base : ℕ) (p : Placement) (place : ℕ �
               (outside_refl (pages_of g.notes) _);
           cells = still apart;
           here = λ live. absurd (cc);
-          place = λ _. ap (node_at g.notes) (stops_act t (decode_of c.word) c.straight here.live d stopped) ∙ visits.1;
+          place = λ _.
+              let stays = stops_act t (decode_of c.word) c.straight here.live d stopped in
+              record { range = ap (range_at g.notes) stays; page = ap (in_pages g.notes) stays };
           sparing = λ w.
               let none : (counted : ℕ → Bool) → stores_in_step counted t ≡ 0 =
               λ counted. ends_stores counted t d (ap (λ (z : State). z.ending) stands.one ∙ stopped) in
@@ -266,8 +268,8 @@ module _ (g : Setting) (l : Pieces) (base : ℕ) (p : Placement) (place : ℕ �
             steps = way.steps;
             some = omega arith;
             few = omega (arith, few);
-            quiet = λ j p1 p2. quiet_of g l base p place f h node t _ (1 + rest.count) (IsBare g l base p place f h) way
-                lives (bare_on g l base p place f h node t) j p1 p2;
+            quiet = λ j p1 p2. quiet_of g l base p place f h t _ (1 + rest.count) (IsBare g l base p place f h) way
+                lives (bare_on g l base p place f h t) j p1 p2;
           };
           puts = λ descriptor.
               ap (λ n. run_puts t n descriptor) (let e : 1 + rest.count ≡ rest.count + 1 = omega arith in e)

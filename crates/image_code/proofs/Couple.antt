@@ -31,7 +31,7 @@ use Rattle.image_code.specs.Images.{Pieces, Frame, Here, IsPlaced}
 use Rattle.image_code.specs.Couple.{couple_piece, IsCouple, CouplesStep}
 use Rattle.image_code.proofs.Memories.{fetch_is}
 use Rattle.image_code.proofs.Sparing.{transfers}
-use Rattle.image_code.proofs.Cases.{ended_none, on_range, node_is, outside_refl, no_puts}
+use Rattle.image_code.proofs.Cases.{ended_none, on_range, there_in, outside_refl, no_puts}
 
 couple_acts : (s : State) (x : Instr) → is_transfer x ≡ true → s.slot ≢ NoSlot → act s x ≡ ended s Couple
 unfolding act
@@ -111,6 +111,12 @@ module _ (g : Setting) (l : Pieces) (base : ℕ) (p : Placement) (place : ℕ �
   in_range a low high = h.laid.ranges c.piece 2 a (it.Word c.ba) (item 2) low high
       ∙ ap (λ (v : Option (List Item)). range_of (place c.piece) (open_in v 2)) c.items
 
+  in_first : (a : ℕ) → place c.piece 1 ≤ a → a < place c.piece 2
+      → range_in p.ranges a ≡ Some
+      (record { lo = place c.piece 1; hi = place c.piece 3; address = c.address.0; node = number_in g node })
+  in_first a low high = h.laid.ranges c.piece 1 a (it.Word c.ba) (item 1) low high
+      ∙ ap (λ (v : Option (List Item)). range_of (place c.piece) (open_in v 1)) c.items
+
   -- in the slot of the first word
   mid : State
   mid = record t { pc = t.npc; npc = target_of t c.disp; slot = Taken }
@@ -137,7 +143,7 @@ module _ (g : Setting) (l : Pieces) (base : ℕ) (p : Placement) (place : ℕ �
   two = step_is mid c.ba here.live fetched_mid ∙ ap (act mid) c.says
       ∙ couple_acts mid (i.Branch 8 false c.disp) refl (λ e. cc)
 
-  on_way : IsOnWay g node t (record t { pc = t.npc; npc = target_of t c.disp; slot = Taken })
+  on_way : IsOnWay g t (record t { pc = t.npc; npc = target_of t c.disp; slot = Taken })
   unfolding mid
   on_way =
       let n = npc in
@@ -146,9 +152,10 @@ module _ (g : Setting) (l : Pieces) (base : ℕ) (p : Placement) (place : ℕ �
       let w = second.0 in
       let i0 = inside.0 in
       let i1 = inside.1 in
-      on_range g l base p place f h node t mid
+      on_range g l base p place f h t mid
       (record { lo = place c.piece 1; hi = place c.piece 3; address = c.address.0; node = number_in g node })
-      here.live (omega arith) (omega arith) (in_range t.npc (omega arith) (omega arith)) (omega arith) refl refl
+      here.live (omega arith) (omega arith) (omega arith) (in_first t.pc (omega arith) (omega arith))
+      (in_range t.npc (omega arith) (omega arith)) (sym a) refl
 
   does_is : does_at g x t ≡ ended (at_point x t) Couple
   does_is = ap (on_word (at_point x t)) c.is_word ∙ couple_acts (at_point x t) (decode_of c.word) c.transfer c.slot
@@ -183,8 +190,8 @@ module _ (g : Setting) (l : Pieces) (base : ℕ) (p : Placement) (place : ℕ �
       steps = ap step_of one ∙ two;
       some = omega arith;
       few = omega arith;
-      quiet = λ j a b. subst (λ (n : ℕ). IsOnWay g node t (run t n)) (let e : 1 ≡ j = omega arith in e)
-          (subst (IsOnWay g node t) (sym one) on_way);
+      quiet = λ j a b. subst (λ (n : ℕ). IsOnWay g t (run t n)) (let e : 1 ≡ j = omega arith in e)
+          (subst (IsOnWay g t) (sym one) on_way);
     };
     puts = λ descriptor. silent descriptor
         ∙ sym (ap (λ (o : Option ℕ). puts_on_word (at_point x t) o descriptor) c.is_word
@@ -207,9 +214,10 @@ module _ (g : Setting) (l : Pieces) (base : ℕ) (p : Placement) (place : ℕ �
         let w = second.0 in
         let i0 = inside.0 in
         let i1 = inside.1 in
-        node_is g l base p place f h t.npc
-        (Some (record { lo = place c.piece 1; hi = place c.piece 3; address = c.address.0; node = number_in g node }))
-        (omega arith) (omega arith) (in_range t.npc (omega arith) (omega arith));
+        there_in g l base p place f h t (ended mid Couple)
+        (record { lo = place c.piece 1; hi = place c.piece 3; address = c.address.0; node = number_in g node })
+        (omega arith) (omega arith) (omega arith) (omega arith) (in_first t.pc (omega arith) (omega arith))
+        (in_range t.npc (omega arith) (omega arith));
     sparing = λ w.
         let none = stores_none (is_spill g.notes) in
         let moves = transfers g.text x.pc c.word c.is_word c.transfer in

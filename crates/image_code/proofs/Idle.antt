@@ -114,8 +114,8 @@ module _ (g : Setting) (l : Pieces) (base : ℕ) (p : Placement) (place : ℕ �
           steps = way.steps;
           some = omega arith;
           few = omega (arith, few);
-          quiet = λ j p1 p2. quiet_of g l base p place f h node t _ (1 + rest.count)
-              (IsBare g l base p place f h) way lives (bare_on g l base p place f h node t) j p1 p2;
+          quiet = λ j p1 p2. quiet_of g l base p place f h t _ (1 + rest.count)
+              (IsBare g l base p place f h) way lives (bare_on g l base p place f h t) j p1 p2;
         };
         puts = λ descriptor.
             ap (λ n. run_puts t n descriptor) (let e : 1 + rest.count ≡ rest.count + 1 = omega arith in e)

@@ -74,7 +74,7 @@ module _ (g : Setting) (l : Pieces) (base : ℕ) (p : Placement) (place : ℕ �
       ap (on_word (at_point x t)) c.is_word ∙ ap (act (at_point x t)) c.says
       ∙ ap (λ (z : State). act z (i.Jmpl c.rd c.rs1 c.op2)) point_is
 
-  ahead : AtWords g node t (place c.piece 1) (length image)
+  ahead : AtWords g t (place c.piece 1) (length image)
   ahead = at_words g l base p place f h node x t here c.piece c.within c.here image c.address c.way c.items
 
   about : IsAboutToJump c.scratch c.rd c.rs1 c.op2 c.address.0 t
@@ -197,12 +197,12 @@ module _ (g : Setting) (l : Pieces) (base : ℕ) (p : Placement) (place : ℕ �
         cells = page_cells g l base p place f h node x t here c.piece c.within c.here image c.address c.way c.items
             traps.after.memory traps.stores;
         here = λ live. absurd (cc);
-        place = λ _. ahead.there traps.after.pc (omega arith) (omega arith);
+        place = λ _. ahead.there traps.after (omega arith) (omega arith);
         sparing = λ watched. absurd (jumping watched.jump);
       }
     where
       on_way : (run t 4).ending ≡ None → (j : ℕ) → 0 < j → j < 5 → IsBetween t 6 IsPageWord (run t j)
-          → IsOnWay g node t (run t j)
+          → IsOnWay g t (run t j)
       on_way live j some below between =
           let n = many in
           let before = between.before in

@@ -46,7 +46,7 @@ unfetched_puts s descriptor live fetched =
 module _ (g : Setting) (l : Pieces) (base : ℕ) (p : Placement) (place : ℕ → ℕ → ℕ) (f : Frame)
     (h : IsPlaced g l base p place f)
     (node : Node) (x : Point) (t : State) (here : Here g l base p f node x t) (none : word_at g.text x.pc ≡ None)
-    (beside : IsBeside base p.code t.pc) (visits : visits_it g node x t) where
+    (beside : IsBeside base p.code t.pc) where
   no_word : word_of g.text x.pc ≡ None
   no_word = ap (option_map _) none
 
@@ -79,7 +79,7 @@ module _ (g : Setting) (l : Pieces) (base : ℕ) (p : Placement) (place : ℕ �
     };
     cells = refl;
     here = λ live. absurd (cc);
-    place = λ _. visits.1;
+    place = λ _. record { range = refl; page = refl };
     sparing = λ w. absurd (w.inside none);
   }
 
@@ -124,11 +124,10 @@ module _ (g : Setting) (l : Pieces) (base : ℕ) (p : Placement) (place : ℕ �
   )
 
 pub foreign_step : ForeignStep
-foreign_step g l base p place f node x t h here c =
-    let visits = foreign_visits g l base p place f h node x t here c in (
-      visits,
-      ends g l base p place f h node x t here c.none (foreign_beside g l base p place f h node x t here c) visits,
-    )
+foreign_step g l base p place f node x t h here c = (
+  foreign_visits g l base p place f h node x t here c,
+  ends g l base p place f h node x t here c.none (foreign_beside g l base p place f h node x t here c),
+)
 
 -- ---- in a slot behind the text
 
@@ -161,9 +160,8 @@ module _ (g : Setting) (l : Pieces) (base : ℕ) (p : Placement) (f : Frame)
   )
 
 pub offs_step : OffsStep
-offs_step g l base p place f node x t h here c =
-    let visits = off_visits g l base p f node x t here c in (
-      visits,
-      ends g l base p place f h node x t here c.none
-          (subst (IsBeside base p.code) (sym (at g l base p f node x t here c)) c.beside) visits,
-    )
+offs_step g l base p place f node x t h here c = (
+  off_visits g l base p f node x t here c,
+  ends g l base p place f h node x t here c.none
+      (subst (IsBeside base p.code) (sym (at g l base p f node x t here c)) c.beside),
+)

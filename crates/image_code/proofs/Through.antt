@@ -4,7 +4,7 @@ use Rattle.std.specs.Prelude.{◌-◌, slice_get, slice_index}
 use Rattle.eel_base.specs.CodeText.{word_at}
 use Rattle.eel_base.specs.declared.numbers.Addr.{Addr}
 use Rattle.eel_base.specs.declared.numbers.PieceNo.{PieceNo}
-use Rattle.elf32_sparc.specs.Notes.{NoteRange, node_at}
+use Rattle.elf32_sparc.specs.Notes.{NoteRange}
 use Rattle.v8_decode.specs.declared.Instr.{Instr}
 use Rattle.v8_alu.specs.Numbers.{wrapped}
 use Rattle.v8_memory.specs.Regions.{Memory}
@@ -32,13 +32,13 @@ use Rattle.layout.specs.Laid.{HasShortForms, Placement}
 use Rattle.jump_code.specs.Links.{past}
 use Rattle.jump_code.specs.PageWords.{IsPageWord}
 use Rattle.jump_code.specs.Pieces.{marked_piece}
-use Rattle.image_code.specs.Simulates.{Setting, StepsOn, IsOnWay, in_first_word, is_jmpl, is_spill, is_transfer_at, cells_in, updates, at_point, graph_in, number_in, word_of}
+use Rattle.image_code.specs.Simulates.{Setting, StepsOn, IsOnWay, IsThere, in_first_word, is_jmpl, is_spill, is_transfer_at, cells_in, updates, at_point, graph_in, number_in, word_of}
 use Rattle.image_code.specs.Images.{Pieces, Frame, HasImages, Here, IsFramed, IsPlaced, visited_at}
 use Rattle.image_code.specs.Cases.{LeadsTo}
 use Rattle.snippet_code.specs.Runs.{words_at}
 use Rattle.image_code.proofs.Cells.{cells_above, page_above, updates_same}
 use Rattle.image_code.proofs.Memories.{images_stored, same_stored}
-use Rattle.image_code.proofs.Cases.{Arrives, IsBare, IsFit, LastDead, alike_hopped, arrive, arrived, bare_on, can_run, followed_alike, jump_on, node_is, on_range, on_then, quiet_of, stores_weaker}
+use Rattle.image_code.proofs.Cases.{Arrives, IsBare, IsFit, LastDead, alike_hopped, arrive, arrived, bare_on, can_run, followed_alike, jump_on, on_range, on_then, there_in, quiet_of, stores_weaker}
 use Rattle.image_code.proofs.Marked.{StandMarked, stand_marked}
 
 -- the page's words are the editor's
@@ -53,14 +53,14 @@ pub own_stored : (g : Setting) (f : Frame) → IsFramed g f → (m n : Memory) �
     → Stores (IsAmongWords f.own) m n
 own_stored g f framed m n stores = stores_weaker IsPageWord (IsAmongWords f.own) m n (page_own g f framed) stores
 
--- A machine at the first of so many words of a node's Mark: the states between them are on the way.
-pub record AtWords (g : Setting) (node : Node) (t : State) (begin count : ℕ) : Type 0 where
+-- A machine at the first of so many words of a Mark: the states between them are on the way.
+pub record AtWords (g : Setting) (t : State) (begin count : ℕ) : Type 0 where
   pub at : t.pc ≡ begin
   pub low : t.pc + 4 * count ≤ 2 ^ 31
   pub next : 0 < count → t.npc ≡ t.pc + 4
   pub on : (u : State) → u.ending ≡ None → t.pc < u.pc → u.pc < t.pc + 4 * count → Stores IsPageWord t.memory u.memory
-      → IsOnWay g node t u
-  pub there : (a : ℕ) → t.pc ≤ a → a < t.pc + 4 * count → node_at g.notes a ≡ Some (number_in g node)
+      → IsOnWay g t u
+  pub there : (u : State) → t.pc ≤ u.pc → u.pc < t.pc + 4 * count → IsThere g t u
 
 module _ (g : Setting) (l : Pieces) (base : ℕ) (p : Placement) (place : ℕ → ℕ → ℕ) (f : Frame)
     (h : IsPlaced g l base p place f)
@@ -75,7 +75,7 @@ module _ (g : Setting) (l : Pieces) (base : ℕ) (p : Placement) (place : ℕ �
   stand : StandMarked l.list base p place k address.0 (number_in g node) way (length xs)
   stand = stand_marked l.list base p place h.laid k within xs address (number_in g node) way is
 
-  pub at_words : AtWords g node t (place k 1) (length xs)
+  pub at_words : AtWords g t (place k 1) (length xs)
   at_words =
       let at : t.pc ≡ place k 1 = here.at ∙ visited ∙ h.laid.starts k within ∙ sym stand.mark in
       let begins = stand.begins in
@@ -87,19 +87,20 @@ module _ (g : Setting) (l : Pieces) (base : ℕ) (p : Placement) (place : ℕ �
         at = at;
         low = omega arith;
         next = λ some. here.npc ∙ (let e : wrapped (t.pc + 4) ≡ t.pc + 4 = omega arith in e);
-        on = λ u live past before stores. on_range g l base p place f h node t u range live (omega arith) (omega arith)
-            (stand.range u.pc (omega arith) (omega arith)) (omega arith) refl (page_cells u.memory stores);
-        there = λ a from below. node_is g l base p place f h a (Some range) (omega arith) (omega arith)
-            (stand.range a (omega arith) (omega arith));
+        on = λ u live past before stores. on_range g l base p place f h t u range live (omega arith) past (omega arith)
+            (stand.range t.pc (omega arith) (omega arith)) (stand.range u.pc (omega arith) (omega arith)) (sym at)
+            (page_cells u.memory stores);
+        there = λ u from below. there_in g l base p place f h t u range (omega arith) (omega arith) (omega arith)
+            (omega arith) (stand.range t.pc (omega arith) (omega arith)) (stand.range u.pc (omega arith) (omega arith));
       }
 
   On : State → Type 0
   On u = IsBetween t (length xs) IsPageWord u ⊎ IsBare g l base p place f h u
 
-  on_way : (u : State) → u.ending ≡ None → On u → IsOnWay g node t u
+  on_way : (u : State) → u.ending ≡ None → On u → IsOnWay g t u
   unfolding On
   on_way u live (inl z) = at_words.on u live z.past z.before z.stores
-  on_way u live (inr z) = bare_on g l base p place f h node t u live z
+  on_way u live (inr z) = bare_on g l base p place f h t u live z
 
   -- the words lead past them, to all of v but its place and memory
   pub record Through (v : State) (m : Memory) : Type 0 where
@@ -172,7 +173,7 @@ module _ (g : Setting) (l : Pieces) (base : ℕ) (p : Placement) (place : ℕ �
           steps = path.steps;
           some = omega arith;
           few = omega (arith, few, short);
-          quiet = quiet_of g l base p place f h node t _ (length xs + rest.count) On path lives on_way;
+          quiet = quiet_of g l base p place f h t _ (length xs + rest.count) On path lives on_way;
         };
         puts = λ descriptor.
             silent_then t (past t (length xs) m v) (length xs) rest.count w.path.steps w.silent rest.silent descriptor

@@ -120,7 +120,7 @@ module _ (g : Setting) (l : Pieces) (base : ℕ) (p : Placement) (place : ℕ �
   here_fit : IsFit g l base p place f h t
   here_fit = record { valid = here.valid; has = here.memory; runs = b_ready }
 
-  on_way : (u : State) → u.ending ≡ None → IsOn u → IsOnWay g node t u
+  on_way : (u : State) → u.ending ≡ None → IsOn u → IsOnWay g t u
   unfolding IsOn
   on_way u live (inl z) =
       let a = b_at in
@@ -128,16 +128,16 @@ module _ (g : Setting) (l : Pieces) (base : ℕ) (p : Placement) (place : ℕ �
       let n2 = b_inside.2 in
       let z0 = z.0 in
       let z1 = z.1 in
-      on_range g l base p place f h node t u (record {
+      on_range g l base p place f h t u (record {
         lo = place (l.image node c.number) 1;
         hi = place
             (l.image node c.number) 2;
         address = c.address.0;
         node = number_in g node;
       })
-      live (omega arith) (omega arith) (b_range u.pc (omega arith) z1) (omega arith) refl
+      live (omega arith) z0 (omega arith) (b_range t.pc (omega arith) (omega arith)) (b_range u.pc (omega arith) z1) (sym a)
       (first_kept g l base p place f h t u.memory here_fit z.2).1.1
-  on_way u live (inr z) = bare_on g l base p place f h node t u live z
+  on_way u live (inr z) = bare_on g l base p place f h t u live z
 
   -- a short branch takes two words
   b_short : HasShortForms l.list place → place (l.image node c.number) 2 ≤ t.pc + 4 * 2
@@ -252,7 +252,7 @@ module _ (g : Setting) (l : Pieces) (base : ℕ) (p : Placement) (place : ℕ �
           steps = j.path.steps;
           some = j.some;
           few = omega (arith, few, bound);
-          quiet = quiet_of g l base p place f h node t _ j.count IsOn j.path lives on_way;
+          quiet = quiet_of g l base p place f h t _ j.count IsOn j.path lives on_way;
         };
         puts = λ descriptor. j.silent descriptor
             ∙ sym (ap (λ (o : Option ℕ). puts_on_word (at_point x t) o descriptor) c.is_word

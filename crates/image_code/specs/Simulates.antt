@@ -3,7 +3,7 @@
 use Rattle.std.specs.Prelude.{◌≡◌, ◌≢◌, ℕ, zero, suc, ◌+◌, ◌*◌, ◌<◌, ◌≤◌, Bool, true, false, not, ◌&&◌, nat_le, nat_lt, List, [], ◌∷◌, length, get_or, replicate, slice_get, slice_index, Option, Some, None}
 use Rattle.std.specs.Option.{option_map}
 use Rattle.eel_base.specs.CodeText.{Words, word_at}
-use Rattle.elf32_sparc.specs.Notes.{Notes, node_at}
+use Rattle.elf32_sparc.specs.Notes.{NoteRange, Notes, node_at, range_at}
 use Rattle.v8_decode.specs.declared.Instr.{Instr}
 use Rattle.v8_decode.specs.declared.Instr.TheVariants as i
 use Rattle.v8_decode.specs.declared.Part.{Part}
@@ -108,18 +108,24 @@ spills_on g (edge ∷ edges) = spills_at g edge + spills_on g edges
 
 -- ---- what one image, landing or slot copy does
 
--- between a visit at a node and the next: no visit, and in no place but of that node with nothing counted yet
-pub record IsOnWay (g : Setting) (node : Node) (t u : State) : Type 0 where
+-- between a visit and the next: no visit, and in no place but that of the visit, with nothing counted yet
+pub record IsOnWay (g : Setting) (t u : State) : Type 0 where
   pub live : u.ending ≡ None
   pub visit : visit_of g.notes u ≡ None
-  pub place : (r : ℕ) → node_at g.notes u.pc ≡ Some r → (r ≡ number_in g node) × (cells_in g u ≡ cells_in g t)
+  pub place : (r : NoteRange) → range_at g.notes u.pc ≡ Some r
+      → (range_at g.notes t.pc ≡ Some r) × (cells_in g u ≡ cells_in g t)
+
+-- in the place of the visit, or where that is in none because it lies outside the pages
+pub record IsThere (g : Setting) (t u : State) : Type 0 where
+  pub range : range_at g.notes u.pc ≡ range_at g.notes t.pc
+  pub page : in_pages g.notes u.pc ≡ in_pages g.notes t.pc
 
 -- the steps from one visit to the next
-pub record Onward (g : Setting) (node : Node) (limit : ℕ) (t after : State) (count : ℕ) : Type 0 where
+pub record Onward (g : Setting) (limit : ℕ) (t after : State) (count : ℕ) : Type 0 where
   pub steps : run t count ≡ after
   pub some : 0 < count
   pub few : count ≤ limit
-  pub quiet : (j : ℕ) → 0 < j → j < count → IsOnWay g node t (run t j)
+  pub quiet : (j : ℕ) → 0 < j → j < count → IsOnWay g t (run t j)
 
 -- the same but for where it goes on, the pages, and items that are not kept
 pub record IsFollowedBy (pages : List Span) (Kept : Item → Type 0) (v after : State) : Type 0 where
@@ -188,13 +194,13 @@ pub record StepsOn (g : Setting) (Here : Node → Point → State → Type 0) (S
     (edges : List ℕ) (node : Node) (p : Point) (t v : State) : Type 0 where
   pub count : ℕ
   pub after : State
-  pub path : Onward g node (limit_on g edges) t after count
+  pub path : Onward g (limit_on g edges) t after count
   pub puts : (descriptor : ℕ)
       → run_puts t count descriptor ≡ puts_on_word (at_point p t) (word_of g.text p.pc) descriptor
   pub followed : IsFollowedBy (pages_of g.notes) (IsKept g edges v.window) v after
   pub cells : cells_in g after ≡ updates g.snips edges (cells_in g t) v
   pub here : v.ending ≡ None → Here (node_after (graph_in g) node edges) (point_of v) after
-  pub place : v.ending ≢ None → node_at g.notes after.pc ≡ Some (number_in g node)
+  pub place : v.ending ≢ None → IsThere g t after
   pub sparing : IsWatched g edges p v → IsSparing g Short edges p t count
 
 -- What the pieces promise. `Here` says that a machine is at the visit of a point at a node of the walk. `Inside` says

@@ -6,6 +6,7 @@
 mod job;
 mod report;
 mod session;
+mod stops;
 
 use eel_base::{Files, RealFiles};
 use job::{Job, Refusal};
@@ -14,6 +15,7 @@ use session::{play, read_script};
 use std::alloc::Global;
 use std::io::Write;
 use std::{env, io};
+use stops::print_stops;
 
 /// How many steps a program may make.
 const STEP_LIMIT: u64 = 200_000_000;
@@ -57,6 +59,7 @@ enum Mode {
     Run,
     Show,
     Session,
+    Stops,
 }
 
 fn print_file(rt: &HostRuntime, files: &mut impl Files, mode: Mode, name: &str) -> io::Result<()> {
@@ -64,6 +67,7 @@ fn print_file(rt: &HostRuntime, files: &mut impl Files, mode: Mode, name: &str) 
         Mode::Run => print_run(rt, files, name),
         Mode::Show => print_listing(rt, files, name),
         Mode::Session => print_session(rt, files, name),
+        Mode::Stops => print_stops(rt, files, name),
     }
 }
 
@@ -74,6 +78,7 @@ fn main(rt: HostRuntime) -> io::Result<()> {
         match word.as_str() {
             "show" => mode = Mode::Show,
             "session" => mode = Mode::Session,
+            "stops" => mode = Mode::Stops,
             name => print_file(&rt, &mut files, mode, name)?,
         }
     }

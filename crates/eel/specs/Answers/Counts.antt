@@ -1,6 +1,6 @@
 -- `counts WRITTEN DUMP`: the file WRITTEN and the dump DUMP are read, the notes of the one and then the other are judged,
 -- and how often each edge was completed is rebuilt and printed.
-use Rattle.std.specs.Prelude.{◌≡◌, ℕ, ◌-◌, ◌*◌, ◌^◌, ◌<◌, ◌⊎◌, List, length, slice_index, Ok, Err}
+use Rattle.std.specs.Prelude.{◌≡◌, ℕ, ◌-◌, ◌*◌, ◌^◌, ◌<◌, ◌⊎◌, List, length, slice_index, None, Ok, Err}
 use Rattle.eel_base.specs.Outside.{IsMissing, appended}
 use Rattle.elf32_sparc.specs.Image.{image_of}
 use Rattle.elf32_sparc.specs.Notes.{Notes, Absent, Bad, notes_of}
@@ -14,7 +14,9 @@ use Rattle.count_rebuild.specs.Answers.{AreCounts, IsBetween, IsImpossible, IsLo
 use Rattle.count_rebuild.specs.Noted.{IsProfile}
 use Rattle.count_rebuild.specs.declared.fault.CountFault.{CountFault}
 use Rattle.count_rebuild.specs.declared.fault.CountFault.TheVariants as faults
-use Rattle.exact_counts.specs.Stops.{IsOver, dump_at, visits_by}
+use Rattle.v8_step.specs.Needed.{IsUntouched}
+use Rattle.v8_step.specs.Visits.{pages_of}
+use Rattle.exact_counts.specs.Stops.{dump_at, visits_by}
 use Rattle.show_text.specs.CountLines.{count_lines}
 use Rattle.eel.specs.declared.outcome.CountCause.{CountCause}
 use Rattle.eel.specs.declared.outcome.CountCause.TheVariants as causes
@@ -90,20 +92,40 @@ pub record TellCounts (file bytes lines : List ℕ) : Type 0 where
 
 -- ---- what the counts of a profile are
 
--- Where the file is an original's profile, and the dump is what a run of it has come to that has ended, after fewer than
--- 2^32 steps and without a touch of the added pages by the original, the counts are how often the original's run completes
--- each edge: for all arguments and every input. The original's run ends with step v, which completes no edge.
+-- The file is an original's profile, and the dump is what a run of it has come to, wherever it was stopped, after fewer than
+-- 2^32 steps, and without a touch of the added pages in as many steps of the original as there were visits.
+pub record IsOfRun (original file : List ℕ) (notes : Notes) (dump : Dump) (args : List (List ℕ)) (input : List ℕ)
+    (m : ℕ) : Type 0 where
+  pub bytes : AreBytes original
+  pub profile : IsProfileOf original file
+  pub arguments : AreArguments args
+  pub given : AreBytes input
+  pub untouched : IsUntouched (pages_of notes) (start_of original args input)
+      (visits_by notes (start_of file args input) m)
+  pub few : m < 2 ^ 32
+  pub is : dump ≡ dump_at notes (start_of file args input) m
+
+-- Then the counts are how often the original's run completes each edge with the steps before that of the last visit: for
+-- all arguments and every input.
 abbrev pub AreExact : List ℕ → Notes → Dump → List ℕ → Type 0
 AreExact file notes dump counts =
-    (original : List ℕ) (args : List (List ℕ)) (input : List ℕ) (m : ℕ) → AreBytes original
-    → IsProfileOf original file → AreArguments args → AreBytes input
-    → let s0 = start_of original args input in
-    let t0 = start_of file args input in
-    let v = visits_by notes t0 m in
-    IsOver notes s0 t0 m → m < 2 ^ 32 → dump ≡ dump_at notes t0 m
+    (original : List ℕ) (args : List (List ℕ)) (input : List ℕ) (m : ℕ) → IsOfRun original file notes dump args input m
     → (e : ℕ) → e < length notes.edges
     → slice_index counts e
-    ≡ executions (image_of original).text (graph_in original) (image_of original).entry s0 (v - 1) e
+    ≡ executions (image_of original).text (graph_in original) (image_of original).entry (start_of original args input)
+    (visits_by notes (start_of file args input) m - 1) e
+
+-- And there are counts, but for want of memory, and where the run stands between places, which it doesn't where it has ended.
+abbrev pub MayMiss : List ℕ → Dump → Outcome → Type 0
+MayMiss name dump (NoCounts named (causes.Between pc)) = (named ≡ name) × (pc.0 ≡ dump.pc) × (dump.ending ≡ None)
+MayMiss name dump OutOfMemory = Unit {0}
+MayMiss name dump _ = ⊥
+
+abbrev pub AreSeldomMissed : List ℕ → List ℕ → List ℕ → Outcome → Type 0
+AreSeldomMissed file name bytes outcome =
+    (notes : Notes) (dump : Dump) → AreRead file bytes notes dump
+    → (original : List ℕ) (args : List (List ℕ)) (input : List ℕ) (m : ℕ) → IsOfRun original file notes dump args input m
+    → MayMiss name dump outcome
 
 -- ---- the command
 
@@ -119,7 +141,7 @@ pub data Counts (written dump : List ℕ) (old new : Outside) (outcome : Outcome
   -- both were read, and there are no counts
   refused : (file : List ℕ) → WasRead old.files written written_limit file
       → (bytes : List ℕ) → WasRead old.files dump dump_limit bytes
-      → IsUncounted written file dump bytes outcome → IsQuiet old new
+      → IsUncounted written file dump bytes outcome → AreSeldomMissed file dump bytes outcome → IsQuiet old new
       → Counts written dump old new outcome
   -- the lines were to be printed
   printed : (file : List ℕ) → WasRead old.files written written_limit file

@@ -1,6 +1,7 @@
 use Rattle.std.proofs.Common.{refl}
 use Rattle.eel.specs.Answers.Counts.{undumped, refused, printed}
 use Rattle.eel.specs.Answers.Shared.{store}
+use Rattle.eel.proofs.Missed.{seldom_missed}
 use Rattle.eel.proofs.Later.{read-later, unread-later}
 use Rattle.eel.proofs.counting.count_edges.Goals as goal
 
@@ -23,4 +24,6 @@ pub returns-clause-counts : goal.returns-clause-counts
 returns-clause-counts g c = λ feed err.
     refused c.in-Ok.file.items c.in-Ok.ensures.read c.in-Ok-fetch_file.bytes.items
     (read-later _ _ _ _ _ _ _ c.fetch_file.ensures.kept c.in-Ok-fetch_file.ensures.read)
-    (rw (c.deref.ensures.value, c.deref-2.ensures.value) at c.in-Err-count_lines.ensures.refused) (refl, refl)
+    (rw (c.deref.ensures.value, c.deref-2.ensures.value) at c.in-Err-count_lines.ensures.refused)
+    (seldom_missed _ _ _ _ _
+    (rw (c.deref.ensures.value, c.deref-2.ensures.value) at c.in-Err-count_lines.ensures.refused)) (refl, refl)
