@@ -280,7 +280,8 @@ def dump(pc, steps, cells):
 
 # Dumps that no run of three_words with counters makes: its counted edge is the one that leaves its block.
 DUMPS = {'left_without_entry': dump(0, 3, [0]), 'long_run': dump(0, 1 << 32, [1]), 'two_cells': dump(0, 3, [1, 1]),
-    'in_no_place': dump(0xfffff000, 3, [1]), 'cut_dump': dump(0, 3, [1])[:31]}
+    'in_no_place': dump(0xfffff000, 3, [0]), 'cut_dump': dump(0, 3, [1])[:31],
+    'two_cells_of_a_long_run': dump(0, 1 << 32, [1, 1])}
 
 
 def uncounted():
@@ -295,6 +296,7 @@ def uncounted():
     yield eel('counts plain cut_dump', 65, err=b'eel: cut_dump: bad dump at 28\n')
     yield eel('counts plain two_cells', 65, err=b'eel: plain: no profile\n')
     yield eel('counts profiled two_cells', 65, err=b'eel: two_cells: 2 cells, 1 wanted\n')
+    yield eel('counts profiled two_cells_of_a_long_run', 65, err=b'eel: two_cells_of_a_long_run: 2 cells, 1 wanted\n')
     yield eel('counts profiled long_run', 65, err=b'eel: long_run: 4294967296 steps\n')
     yield eel('counts profiled in_no_place', 65, err=b'eel: in_no_place: pc fffff000 between places\n')
     yield eel('counts profiled left_without_entry', 65, err=b'eel: left_without_entry: edge 1 would be -1\n')

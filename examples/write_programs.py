@@ -4,6 +4,7 @@ import os
 
 import listings
 import sessions
+import stops
 from programs import C_PROGRAMS, RUNS, SMALL
 
 
@@ -24,9 +25,9 @@ def main():
         write(f'data/{name}', file)
     shown = listings.printed()
     played = sessions.printed()
-    names = [program.name for program in programs] + ['show', *shown, 'session', *played]
+    names = [program.name for program in programs] + ['show', *shown, 'session', *played, 'stops', *stops.KNOWN]
     write('args', ''.join(f'{name}\n' for name in names).encode())
-    write('stdout', b''.join([program.report() for program in programs] + [*shown.values(), *played.values()]))
+    write('stdout', b''.join([program.report() for program in programs] + [*shown.values(), *played.values(), *stops.printed()]))
 
 
 if __name__ == '__main__':

@@ -11,11 +11,13 @@ use Rattle.dump_file.specs.Dump.{Dump}
 use Rattle.image_code.specs.Simulates.{Setting, cells_in, graph_in, number_in, store_of}
 pub use Rattle.edit_core.specs.RunsAlike.{AreRunsAlike, visits_by}
 
--- the dump of the m-th state: how it ended and where it stands, the steps, and the words at the cells' base
+-- what a run has come to after so many steps: its ending, where it stands, the steps, and the words at the cells' base
+abbrev pub dump_of : Notes → State → ℕ → Dump
+dump_of notes t steps =
+    record { ending = t.ending; pc = t.pc; steps = steps; cells = words_at notes.base notes.cells t.memory }
+
 abbrev pub dump_at : Notes → State → ℕ → Dump
-dump_at notes t0 m =
-    let t = run t0 m in
-    record { ending = t.ending; pc = t.pc; steps = m; cells = words_at notes.base notes.cells t.memory }
+dump_at notes t0 m = dump_of notes (run t0 m) m
 
 -- At its m-th state the run has ended, and the original touches no page within as many steps as there were visits.
 pub record IsOver (notes : Notes) (s0 t0 : State) (m : ℕ) : Type 0 where

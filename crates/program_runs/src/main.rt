@@ -7,6 +7,7 @@ mod job;
 mod report;
 mod session;
 mod stops;
+mod walk;
 
 use eel_base::{Files, RealFiles};
 use job::{Job, Refusal};

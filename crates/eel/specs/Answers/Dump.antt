@@ -11,9 +11,8 @@ use Rattle.v8_step.specs.State.{State}
 use Rattle.v8_step.specs.Run.{run, run_puts}
 use Rattle.v8_process.specs.Start.{start_of}
 use Rattle.v8_runner.specs.Runs.{AreMade}
-use Rattle.dump_file.specs.Dump.{Dump}
 use Rattle.dump_file.specs.Written.{dump_bytes}
-use Rattle.snippet_code.specs.Cells.{words_at}
+pub use Rattle.exact_counts.specs.Stops.{dump_of}
 use Rattle.edit_core.specs.Faithful.{holds_cells}
 use Rattle.eel.specs.Outcome.{Outcome, Stopped, NoNotes, BadNotes, OutOfMemory, DeviceFault, Done, line_of}
 use Rattle.eel.specs.Answers.Shared.{Outside, Store, Meaning, WasRead, IsUnread, IsPut, IsUnused, IsQuiet, IsSilent, written_limit}
@@ -45,15 +44,6 @@ IsNotNoted name bytes OutOfMemory = Unit {0}
 IsNotNoted name bytes _ = ⊥
 
 -- ---- the dump
-
--- what a run has come to after so many steps: its ending, where it stands, the steps, and the words at the cells' base
-abbrev pub dump_of : Notes → State → ℕ → Dump
-dump_of notes s steps = record {
-  ending = s.ending;
-  pc = s.pc;
-  steps = steps;
-  cells = words_at notes.base notes.cells s.memory;
-}
 
 abbrev pub dump_after : Notes → State → ℕ → List ℕ
 dump_after notes s0 steps = dump_bytes (dump_of notes (run s0 steps) steps)
