@@ -61,7 +61,7 @@ pub record IsCramped (needed had : ℕ) (bytes : List ℕ) (plan : Plan) : Type 
 abbrev pub EditRefuses : List ℕ → (Plan → Type 0) → EditFault → Type 0
 EditRefuses bytes IsPlan (faults.File first) = fault bytes ≡ Some first
 EditRefuses bytes IsPlan (faults.Room needed had) = (plan : Plan) × IsPlan plan × IsCramped needed had bytes plan
-EditRefuses bytes IsPlan faults.NoMemory = Unit {0}
+EditRefuses bytes IsPlan faults.NoMemory = fault bytes ≡ None
 
 -- a fault of a reader as one of the edit
 abbrev pub BecomesEditFault : ReadFault → EditFault → Type 0

@@ -248,6 +248,10 @@ pub record IsWritten (original : List ℕ) (plan : Plan) (file : List ℕ) : Typ
   pub code : IsNewCode original plan p place table
   pub is : file ≡ edit_file original plan p table
 
+-- the same as one fact: the file is just that one, byte for byte
+unfoldable pub IsTheEdit : List ℕ → Plan → List ℕ → Type 0
+IsTheEdit original plan file = IsWritten original plan file
+
 -- Whatever meets this has runs like those of its original.
 abbrev pub EditsRunAlike : Type 0
 EditsRunAlike =

@@ -7,7 +7,7 @@ ghost use Rattle.tool_kit.specs.Plans.{Plan};
 ghost use Rattle.edit_core.specs.Taken.{CanEdit, EditRefuses};
 ghost use Rattle.edit_core.specs.Faithful.{AsksOf, CountsEdges, IsFaithful};
 ghost use Rattle.edit_core.specs.Written.{cells_at, code_at, if_any, page_segment as page_segment_of, plan_of, table_after, table_at};
-ghost use Rattle.edit_core.specs.Written.{CanDo, IsViewOf, IsWritten};
+ghost use Rattle.edit_core.specs.Written.{CanDo, IsTheEdit, IsViewOf, IsWritten};
 
 use crate::building::{NewCode, code_base, new_code, table_base};
 use crate::noting::notes;
@@ -32,7 +32,7 @@ pub fn edit_bytes<F: Chooser>(
     requires counters { CountsEdges F.says tool.now bytes.now }
     ensures refused { IfErr result (EditRefuses bytes.now (AsksOf F.says tool.now bytes.now)) }
     ensures edited { IfOk result (λ file. (plan : Plan) × AsksOf F.says tool.now bytes.now plan
-        × CanEdit bytes.now plan × IsFaithful bytes.now plan file.items) }
+        × CanEdit bytes.now plan × IsFaithful bytes.now plan file.items × IsTheEdit bytes.now plan file.items) }
 {
     let view = look(alloc, bytes, tool.marks())?;
     let asked = Asked {

@@ -17,7 +17,7 @@ pub edit_refused : (name bytes : List ℕ) (plan : Plan) (fault : EditFault)
 edit_refused name bytes plan (faults.File first) is = (refl, (first, is, refl))
 edit_refused name bytes plan (faults.Room needed had) (other, same, cramped) =
     (refl, subst (IsCramped needed had bytes) same cramped)
-edit_refused name bytes plan faults.NoMemory is = tt
+edit_refused name bytes plan faults.NoMemory is = is
 
 not_edited : (name bytes : List ℕ) (plan : Plan) (outcome : Outcome) → IsNotEdited name bytes plan outcome
     → IsBad (status_of outcome)

@@ -15,7 +15,7 @@ pub profile_refused : (name bytes : List ℕ) (fault : EditFault) → ProfileRef
     → IsNotProfiled name bytes (refusal_of name fault)
 profile_refused name bytes (faults.File first) is = (refl, (first, is, refl))
 profile_refused name bytes (faults.Room needed had) (cells, are, cramped) = (cells, refl, are, cramped)
-profile_refused name bytes faults.NoMemory is = tt
+profile_refused name bytes faults.NoMemory is = is
 
 not_profiled : (name bytes : List ℕ) (outcome : Outcome) → IsNotProfiled name bytes outcome → IsBad (status_of outcome)
 not_profiled name bytes (BadFile named code) is = bad 65 (lit≤ tt) (lit≤ tt)

@@ -86,4 +86,4 @@ pub refused_as : (bytes : List ℕ) (IsPlan IsOther : Plan → Type 0) (fault : 
     → ((plan : Plan) → IsPlan plan → IsOther plan) → EditRefuses bytes IsPlan fault → EditRefuses bytes IsOther fault
 refused_as bytes IsPlan IsOther (faults.File first) same is = is
 refused_as bytes IsPlan IsOther (faults.Room needed had) same (plan, asks, cramped) = (plan, same plan asks, cramped)
-refused_as bytes IsPlan IsOther faults.NoMemory same is = tt
+refused_as bytes IsPlan IsOther faults.NoMemory same is = is

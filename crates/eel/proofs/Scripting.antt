@@ -24,7 +24,7 @@ use Rattle.eel.proofs.Meanings.{AnyRose, IsByStatus, IsBad, bad, refusal_is_bad,
 pub file_refused : (input bytes script lines : List ℕ) (outcome : Outcome) → IsNotSound input bytes outcome
     → IsNotScripted input bytes script lines outcome
 file_refused input bytes script lines (BadFile named code) is = is
-file_refused input bytes script lines OutOfMemory is = tt
+file_refused input bytes script lines OutOfMemory is = is
 file_refused input bytes script lines _ is = absurd is
 
 -- S is refused
@@ -41,7 +41,7 @@ pub script_refused : (input bytes script lines : List ℕ) (edges : ℕ) (outcom
     → IsNotScripted input bytes script lines outcome
 script_refused input bytes script lines edges (BadLine named number cause) sound are (same, bad) =
     (same, sound, subst (λ count. HasBadLine count lines number cause) are bad)
-script_refused input bytes script lines edges OutOfMemory sound are is = tt
+script_refused input bytes script lines edges OutOfMemory sound are is = sound
 script_refused input bytes script lines edges _ sound are is = absurd is
 
 -- the edit of IN is refused
@@ -51,7 +51,7 @@ pub edit_refused : (input bytes script lines : List ℕ) (plan : Plan) (fault : 
 edit_refused input bytes script lines plan (faults.File first) scripted is = (refl, (first, is, refl))
 edit_refused input bytes script lines plan (faults.Room needed had) scripted (other, same, cramped) =
     (plan, refl, scripted, subst (IsCramped needed had bytes) same cramped)
-edit_refused input bytes script lines plan faults.NoMemory scripted is = tt
+edit_refused input bytes script lines plan faults.NoMemory scripted is = is
 
 -- what the lines of a script that was read ask for
 pub script_asks : (bytes lines : List ℕ) (edges : ℕ) (script : Script) → edges ≡ length (edges_in bytes)

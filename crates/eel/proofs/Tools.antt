@@ -21,6 +21,7 @@ use Rattle.edit_core.specs.declared.taking.EditFault.{EditFault}
 use Rattle.edit_core.specs.declared.taking.EditFault.TheVariants as faults
 use Rattle.edit_core.specs.Taken.{CanEdit, EditRefuses}
 use Rattle.edit_core.specs.Faithful.{AsksOf, IsFaithful}
+use Rattle.edit_core.specs.Written.{IsTheEdit}
 use Rattle.eel.specs.Answers.Edit.{IsEditOf, asked}
 use Rattle.eel.specs.Answers.Script.{HasCells}
 
@@ -102,10 +103,11 @@ module _ {F : Type 0} (says : F → EdgeRef → List Op → Type 0) (tool : Kept
 
   pub edits_made : {A E : Type 0} (items : A → List ℕ) (result : Result A E)
       → IfOk result (λ file. (plan : Plan) × AsksOf says tool bytes plan × CanEdit bytes plan
-      × IsFaithful bytes plan (items file))
+      × IsFaithful bytes plan (items file) × IsTheEdit bytes plan (items file))
       → IfOk result (λ file. IsEditOf bytes (plan_with kind [] cells (asked ops bytes)) (items file))
-  edits_made items (Ok file) (plan, asks, can, faithful) =
-      subst (λ p. IsEditOf bytes p (items file)) (plan_is plan asks) (record { taken = can; faithful = faithful })
+  edits_made items (Ok file) (plan, asks, can, faithful, written) =
+      subst (λ p. IsEditOf bytes p (items file)) (plan_is plan asks)
+      (record { taken = can; faithful = faithful; written = written })
   edits_made items (Err fault) is = is
 
   refusal_is : (fault : EditFault) → EditRefuses bytes (AsksOf says tool bytes) fault

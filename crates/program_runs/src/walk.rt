@@ -158,7 +158,12 @@ fn word_at(notes: &Notes, address: Addr) -> Option<u32> {
 fn node_of(notes: &Notes, word: Option<u32>) -> u32 {
     let blocks = notes.blocks.len();
     let node = match word {
-        Some(word) => notes.blocks.iter().filter(|first| **first <= word).count().saturating_sub(1),
+        Some(word) => notes
+            .blocks
+            .iter()
+            .filter(|first| **first <= word)
+            .count()
+            .saturating_sub(1),
         None => blocks,
     };
     u32::try_from(node).unwrap_or(u32::MAX)

@@ -12,8 +12,9 @@ use Rattle.edit_core.specs.declared.taking.EditFault.{EditFault}
 use Rattle.edit_core.specs.declared.taking.EditFault.TheVariants as faults
 use Rattle.edit_core.specs.Taken.{CanEdit, IsCramped}
 use Rattle.edit_core.specs.Faithful.{IsFaithful}
+use Rattle.edit_core.specs.Written.{IsTheEdit}
 use Rattle.eel.specs.Outcome.{Outcome, BadFile, NoRoom, OutOfMemory}
-use Rattle.eel.specs.Answers.Files.{IsFaulty}
+use Rattle.eel.specs.Answers.Files.{IsFaulty, IsSound}
 use Rattle.eel.specs.Answers.Shared.{Store, Meaning, WasRead, IsUnread, IsPut, IsUnused, IsQuiet, IsSilent, edit_limit}
 
 -- ---- what the tool asks for
@@ -42,15 +43,17 @@ refusal_of name faults.NoMemory = OutOfMemory
 abbrev pub IsNotEdited : List ℕ → List ℕ → Plan → Outcome → Type 0
 IsNotEdited name bytes plan (BadFile named code) = (named ≡ name) × IsFaulty code bytes
 IsNotEdited name bytes plan (NoRoom named needed had) = (named ≡ name) × IsCramped needed had bytes plan
-IsNotEdited name bytes plan OutOfMemory = Unit {0}
+IsNotEdited name bytes plan OutOfMemory = IsSound bytes
 IsNotEdited name bytes plan _ = ⊥
 
 -- ---- the edits
 
--- a file that was made of another by a plan
+-- A file that was made of another by a plan: it is faithful, and it is just the file that holds the original, the segments
+-- of cells, table and code, the editor's page and the notes.
 pub record IsEditOf (bytes : List ℕ) (plan : Plan) (file : List ℕ) : Type 0 where
   pub taken : CanEdit bytes plan
   pub faithful : IsFaithful bytes plan file
+  pub written : IsTheEdit bytes plan file
 
 -- How an edit without snippets goes, step by step, and what comes of it.
 pub data Edits (input output : List ℕ) (old new : Store) (outcome : Outcome) : Type 0 where

@@ -19,5 +19,5 @@ IsNotLoaded code bytes = (first : FileFault) × (load_fault bytes ≡ Some first
 -- a file isn't looked at further, and this comes of it
 abbrev pub IsNotSound : List ℕ → List ℕ → Outcome → Type 0
 IsNotSound name bytes (BadFile named code) = (named ≡ name) × IsFaulty code bytes
-IsNotSound name bytes OutOfMemory = Unit {0}
+IsNotSound name bytes OutOfMemory = IsSound bytes
 IsNotSound name bytes _ = ⊥

@@ -19,7 +19,7 @@ use Rattle.edit_core.specs.declared.taking.EditFault.TheVariants as faults
 use Rattle.elf32_sparc.specs.FileFault.{fault}
 use Rattle.edit_core.specs.Taken.{IsCramped}
 use Rattle.eel.specs.Outcome.{Outcome, BadFile, NoRoom, OutOfMemory}
-use Rattle.eel.specs.Answers.Files.{IsFaulty}
+use Rattle.eel.specs.Answers.Files.{IsFaulty, IsSound}
 use Rattle.eel.specs.Answers.Shared.{Store, Meaning, WasRead, IsUnread, IsPut, IsUnused, IsQuiet, IsSilent, edit_limit}
 use Rattle.eel.specs.Answers.Edit.{IsEditOf}
 
@@ -55,14 +55,14 @@ abbrev pub ProfileRefuses : List ℕ → EditFault → Type 0
 ProfileRefuses bytes (faults.File first) = fault bytes ≡ Some first
 ProfileRefuses bytes (faults.Room needed had) =
     (cells : List (Option ℕ)) × AreCells (graph_in bytes) cells × IsCramped needed had bytes (profile_plan cells)
-ProfileRefuses bytes faults.NoMemory = Unit {0}
+ProfileRefuses bytes faults.NoMemory = fault bytes ≡ None
 
 -- IN was read, and no profile is made of it
 abbrev pub IsNotProfiled : List ℕ → List ℕ → Outcome → Type 0
 IsNotProfiled name bytes (BadFile named code) = (named ≡ name) × IsFaulty code bytes
 IsNotProfiled name bytes (NoRoom named needed had) =
     (cells : List (Option ℕ)) × (named ≡ name) × AreCells (graph_in bytes) cells × IsCramped needed had bytes (profile_plan cells)
-IsNotProfiled name bytes OutOfMemory = Unit {0}
+IsNotProfiled name bytes OutOfMemory = IsSound bytes
 IsNotProfiled name bytes _ = ⊥
 
 -- ---- the edit

@@ -41,7 +41,7 @@ IsUnfed old new _ = ⊥
 -- FILE and the input were read, and the program isn't run
 abbrev pub IsNotRun : List ℕ → List ℕ → Outcome → Type 0
 IsNotRun name bytes (BadFile named code) = (named ≡ name) × IsNotLoaded code bytes
-IsNotRun name bytes OutOfMemory = Unit {0}
+IsNotRun name bytes OutOfMemory = load_fault bytes ≡ None
 IsNotRun name bytes _ = ⊥
 
 -- the run stops at its limit, or with the first state that has ended

@@ -85,7 +85,7 @@ IsNotScripted input bytes script lines (BadLine named number cause) =
     (named ≡ script) × IsSound bytes × HasBadLine (length (edges_in bytes)) lines number cause
 IsNotScripted input bytes script lines (NoRoom named needed had) =
     (plan : Plan) × (named ≡ input) × IsScripted bytes lines plan × IsCramped needed had bytes plan
-IsNotScripted input bytes script lines OutOfMemory = Unit {0}
+IsNotScripted input bytes script lines OutOfMemory = IsSound bytes
 IsNotScripted input bytes script lines _ = ⊥
 
 -- ---- the edit

@@ -20,7 +20,7 @@ shown_of bytes = lines_of (view_of bytes [])
 -- FILE was read, and isn't shown
 abbrev pub IsNotShown : List ℕ → List ℕ → Outcome → Type 0
 IsNotShown name bytes (BadFile named code) = (named ≡ name) × IsFaulty code bytes
-IsNotShown name bytes OutOfMemory = Unit {0}
+IsNotShown name bytes OutOfMemory = IsSound bytes
 IsNotShown name bytes _ = ⊥
 
 -- How a listing goes, step by step, and what comes of it.

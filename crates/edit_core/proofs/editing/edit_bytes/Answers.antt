@@ -7,6 +7,7 @@ use Rattle.image_code.proofs.Fit.{pieces_fit, places_say}
 use Rattle.image_code.proofs.Made.{pieces_make_images}
 use Rattle.edit_core.specs.Faithful.{IsFaithful}
 use Rattle.edit_core.specs.Taken.{bound_of}
+use Rattle.edit_core.specs.Written.{IsTheEdit}
 use Rattle.edit_core.proofs.Views.{can_edit, view_bound, view_is}
 use Rattle.edit_core.proofs.Faithful.{faithful}
 use Rattle.edit_core.proofs.RunsAlike.{edits_run_alike}
@@ -61,6 +62,7 @@ edited-requires-clause-asked g c =
     (numbers c.marks.result.now, seen, can, work)
 
 pub returns-clause-edited : goal.returns-clause-edited
+unfolding IsTheEdit
 returns-clause-edited g c =
     let plan : Plan = record {
       kind = c.kind.result;
@@ -92,4 +94,5 @@ returns-clause-edited g c =
           (λ k d below. let same = get_or_default_zero c.args.bytes.now k d below in let fits =
           c.type_inv.bytes k in omega arith)
           can work written.p written.place written.table written.code),
+      written,
     )
