@@ -1,19 +1,20 @@
 //! The memory of a running program.
-ghost use Rattle.std.specs.Prelude.{◌≡◌, ◌<◌, ◌^◌, take, drop, length, map, ◌++◌, MatchOption, MatchResult, IfOk, IsTrue};
+ghost use Rattle.std.specs.Prelude.{List, ◌≡◌, ◌<◌, ◌^◌, take, drop, length, map, ◌++◌, MatchOption, MatchResult, IfOk, IsTrue};
 ghost use Rattle.std.specs.Int.{w8, w16, w32, from_be_bytes, to_be_bytes};
 ghost use Rattle.std.specs.List.{All, filter, find};
-ghost use Rattle.v8_memory.specs.Regions.{covers, region_at, bytes_at, with_bytes, written, all_written, fetch_of, heap_end_of, buffer_read, buffer_written, fetch_from, is_code, if_allowed};
-ghost use Rattle.v8_memory.specs.Kept.{AreKept, IsKept, StandsFor};
+ghost use Rattle.v8_memory.specs.Regions.{covers, region_at, bytes_at, with_bytes, written, all_written, fetch_of, heap_end_of, buffer_read, buffer_written, fetch_from, is_code, if_allowed, code_of, Region};
+ghost use Rattle.v8_memory.specs.Kept.{AreKept, IsKept};
 ghost use Rattle.v8_memory.specs.Segments.{region_of};
 ghost use Rattle.v8_memory.specs.Calls.{IsPlan, mapping_of_plan, memory_of, load_of, store_of, Loads, Stores, Fills, moved_heap_end};
 
 use crate::fault::MemFault;
-use crate::ops::{Op, OpCode, no_op, op_of};
+use crate::ops::{Op, no_op, op_of};
 use crate::region::{HEAP_ROOM, HEAP_START, Region};
 use eel_base::{Addr, NoMemory};
 use elf32_sparc::SegFlags;
 use std::alloc::Global;
 use std::marker::Model;
+use std::mem;
 use v8_decode::decode;
 
 /// How many words have records at most.
@@ -29,14 +30,20 @@ pub struct RegionPlan<'a> {
     pub first: &'a [u8],
 }
 
+/// The records of words, from the one at `first` on.
+#[derive(Drop)]
+pub struct Records {
+    pub first: u32,
+    pub ops: Vec<Op>,
+}
+
 /// Regions, and the heap with its end that moves.
 #[derive(Drop)]
 pub struct Memory {
     heap: Region,
     regions: Vec<Region>,
-    /// Where the words begin that have records, and these, so that they needn't be decoded when they are run.
-    first: u32,
-    kept: Vec<Op>,
+    /// So that words needn't be decoded when they are run.
+    records: Records,
 }
 
 impl Model for Memory {
@@ -50,7 +57,7 @@ impl Model for Memory {
 
     ghost view = { λ m. record { heap = m.heap; regions = m.regions.items } };
 
-    ghost invariant = { λ m. (m.heap.start ≡ heap_start) × (length m.heap.bytes ≡ heap_room) × (m.heap.size ≤ heap_room) × AreKept (filter is_code m.regions.items) m.first m.kept.items };
+    ghost invariant = { λ m. (m.heap.start ≡ heap_start) × (length m.heap.bytes ≡ heap_room) × (m.heap.size ≤ heap_room) × AreKept (filter is_code m.regions.items) m.records.first m.records.ops.items };
 }
 
 impl Memory {
@@ -64,12 +71,11 @@ impl Memory {
         let heap = Region::heap(alloc)?;
         let regions = planned(alloc, plans)?;
         let (first, count) = first_code(&regions);
-        let kept = kept_words(alloc, &regions, first, count)?;
+        let ops = kept_words(alloc, &regions, first, count)?;
         Ok(Memory {
             heap,
             regions,
-            first,
-            kept,
+            records: Records { first, ops },
         })
     }
 
@@ -149,24 +155,24 @@ impl Memory {
         fetch_in(&self.regions, address.0)
     }
 
-    /// The record of the word at an address, if it has one.
-    #[inline]
-    #[tactic(auto, unfolding(crate::specs::Regions::fetch_of))]
-    pub fn kept(&self, address: Addr) -> Option<Op>
-        ensures { MatchOption result (Unit {0}) (λ op. StandsFor op (fetch_of self.now address.0)) }
+    /// Takes the records out, so that they stand apart from what a run changes. They are to be put back.
+    pub fn take_records(&mut self) -> Records
+        ensures same { self.new ≡ self.old }
+        ensures kept { AreKept (code_of self.old) result.first result.ops.items }
     {
-        let offset = address.0.wrapping_sub(self.first);
-        if offset % 4 != 0 {
-            return None;
-        }
-        match self.kept.get((offset / 4) as usize) {
-            Some(op) => if op.code == OpCode::Other {
-                None
-            } else {
-                Some(*op)
-            },
-            None => None,
-        }
+        let none = Records {
+            first: 0,
+            ops: Vec::new(*self.records.ops.allocator()),
+        };
+        mem::replace(&mut self.records, none)
+    }
+
+    /// Puts records of the words that may be executed in the place of those that there are.
+    pub fn put_records(&mut self, records: Records)
+        requires { AreKept (code_of self.old) records.first records.ops.items }
+        ensures { self.new ≡ self.old }
+    {
+        self.records = records;
     }
 
     /// The bytes from an address on, where they may be read.
@@ -300,6 +306,22 @@ impl Memory {
     {
         self.heap.write(address, bytes);
         write_each(&mut self.regions, address, bytes);
+    }
+}
+
+/// The record of the word at an address, where the records begin with that of the word at `first`.
+#[inline(always)]
+pub fn op_at(ops: &[Op], first: u32, address: Addr) -> Option<&Op>
+    ensures { (code : List Region) → AreKept code first ops.now
+        → MatchOption result (Unit {0}) (λ op. IsKept code address.0 op.now) }
+{
+    let offset = address.0.wrapping_sub(first);
+    if offset % 4 != 0 {
+        return None;
+    }
+    match ops.get((offset / 4) as usize) {
+        Some(op) => Some(op),
+        None => None,
     }
 }
 

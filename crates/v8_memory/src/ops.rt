@@ -1,16 +1,30 @@
 //! Common instructions as records that are quick to carry out.
-ghost use Rattle.std.specs.Prelude.{◌≡◌, ◌⊎◌, ◌<◌, ◌%◌};
+ghost use Rattle.std.specs.Prelude.{◌≡◌, ◌⊎◌, ◌<◌, ◌==◌};
 ghost use Rattle.v8_decode.specs.declared.Instr.TheVariants as instrs;
 ghost use Rattle.v8_memory.specs.Ops.{IsSum, Stands, alu_in, instr_by, operand_in, plain_operand};
 
-use v8_decode::{AluOp, Instr, LoadKind, Op2, Reg, StoreKind};
+use v8_decode::{AluOp, Cond, Instr, LoadKind, Op2, Reg, StoreKind};
 
 /// The instructions that have records: some with and without their codes. All else is `Other`.
 #[derive(Clone, Copy, PartialEq, Eq, Debug, Drop)]
 pub enum OpCode {
     Sethi,
-    Branch,
-    BranchAnnul,
+    B0,
+    B1,
+    B2,
+    B3,
+    B4,
+    B5,
+    B6,
+    B7,
+    B8,
+    B9,
+    B10,
+    B11,
+    B12,
+    B13,
+    B14,
+    B15,
     Call,
     Add,
     AddCc,
@@ -39,8 +53,8 @@ pub enum OpCode {
     Other,
 }
 
-/// An instruction whose second operand is the sum of `rs2` and `imm`, one of which is %g0 or 0. A branch has its
-/// condition in the place of `rd`, as its word has.
+/// An instruction whose second operand is the sum of `rs2` and `imm`, one of which is %g0 or 0. A branch has a
+/// code for each condition, and its annul bit in the place of `rd`.
 #[derive(Clone, Copy, Drop)]
 pub struct Op {
     pub code: OpCode,
@@ -54,7 +68,8 @@ pub struct Op {
 #[inline]
 #[tactic(auto, unfolding(crate::specs::Ops::instr_of))]
 pub fn op_of(instr: Instr) -> Op
-    ensures { (result.code ≡ OpCode.Other) ⊎ Stands result instr }
+    ensures sum { IsSum result.rs2 result.imm }
+    ensures stands { (result.code ≡ OpCode.Other) ⊎ Stands result instr }
 {
     match instr {
         Instr::Sethi { rd, imm22 } => immediate(OpCode::Sethi, rd, imm22.cast_signed()),
@@ -62,7 +77,7 @@ pub fn op_of(instr: Instr) -> Op
             cond,
             annul,
             disp22,
-        } => immediate(branch_code(annul), register(cond.number()), disp22),
+        } => immediate(branch_code(cond), annul_place(annul), disp22),
         Instr::Call { disp30 } => immediate(OpCode::Call, register(15), disp30),
         Instr::Alu {
             op,
@@ -82,7 +97,8 @@ pub fn op_of(instr: Instr) -> Op
 
 /// The record that says nothing.
 pub fn no_op() -> Op
-    ensures { result.code ≡ OpCode.Other }
+    ensures code { result.code ≡ OpCode.Other }
+    ensures sum { IsSum result.rs2 result.imm }
 {
     immediate(OpCode::Other, register(0), 0)
 }
@@ -127,14 +143,36 @@ fn with_operand(code: OpCode, rd: Reg, rs1: Reg, op2: Op2) -> Op
     }
 }
 
-fn branch_code(annul: bool) -> OpCode
-    ensures { (x : Op) → instr_by result x ≡ instrs.Branch (x.rd % 16) annul x.imm }
+/// The code of a branch on this condition.
+fn branch_code(cond: Cond) -> OpCode
+    ensures { (result ≡ OpCode.Other) ⊎ ((x : Op) → instr_by result x ≡ instrs.Branch cond (x.rd == 1) x.imm) }
 {
-    if annul {
-        OpCode::BranchAnnul
-    } else {
-        OpCode::Branch
+    match cond.number() {
+        0 => OpCode::B0,
+        1 => OpCode::B1,
+        2 => OpCode::B2,
+        3 => OpCode::B3,
+        4 => OpCode::B4,
+        5 => OpCode::B5,
+        6 => OpCode::B6,
+        7 => OpCode::B7,
+        8 => OpCode::B8,
+        9 => OpCode::B9,
+        10 => OpCode::B10,
+        11 => OpCode::B11,
+        12 => OpCode::B12,
+        13 => OpCode::B13,
+        14 => OpCode::B14,
+        15 => OpCode::B15,
+        _ => OpCode::Other,
     }
+}
+
+/// The annul bit of a branch, in the place of a register.
+fn annul_place(annul: bool) -> Reg
+    ensures { (result == 1) ≡ annul }
+{
+    if annul { register(1) } else { register(0) }
 }
 
 fn alu_code(op: AluOp, cc: bool) -> OpCode

@@ -80,8 +80,22 @@ puts_plain s i.CpOff descriptor = refl
 op_puts : (s : State) (code : OpCode) (x : Op) (descriptor : ℕ) → puts_by s (instr_by code x) descriptor ≡ []
 unfolding puts_by
 op_puts s c.Sethi x descriptor = refl
-op_puts s c.Branch x descriptor = refl
-op_puts s c.BranchAnnul x descriptor = refl
+op_puts s c.B0 x descriptor = refl
+op_puts s c.B1 x descriptor = refl
+op_puts s c.B2 x descriptor = refl
+op_puts s c.B3 x descriptor = refl
+op_puts s c.B4 x descriptor = refl
+op_puts s c.B5 x descriptor = refl
+op_puts s c.B6 x descriptor = refl
+op_puts s c.B7 x descriptor = refl
+op_puts s c.B8 x descriptor = refl
+op_puts s c.B9 x descriptor = refl
+op_puts s c.B10 x descriptor = refl
+op_puts s c.B11 x descriptor = refl
+op_puts s c.B12 x descriptor = refl
+op_puts s c.B13 x descriptor = refl
+op_puts s c.B14 x descriptor = refl
+op_puts s c.B15 x descriptor = refl
 op_puts s c.Call x descriptor = refl
 op_puts s c.Add x descriptor = refl
 op_puts s c.AddCc x descriptor = refl
@@ -134,10 +148,6 @@ kept_puts s op descriptor stands = ended s.ending (go (fetch_of s.memory s.pc) s
     ended : (ending : Option Ending) {bytes : List ℕ} → bytes ≡ [] → puts_unless_ended ending bytes ≡ []
     ended None h = h
     ended (Some ending) h = refl
-
-pub kept_sum : (op : Op) (word : Option ℕ) → StandsFor op word → IsSum op.rs2 op.imm
-kept_sum op None h = absurd h
-kept_sum op (Some word) h = h.sum
 
 -- the second operand is the sum of a register and an immediate, one of which is 0
 pub operand_sum : (s : State) (r : ℕ) (imm : ℤ) (value : ℕ) → value ≡ register_of s r → value < 2 ^ 32

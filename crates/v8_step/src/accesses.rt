@@ -1,5 +1,5 @@
 //! Loads, stores, LDSTUB and SWAP.
-ghost use Rattle.std.specs.Prelude.{◌≡◌, ◌%◌, suc, [], ◌∷◌};
+ghost use Rattle.std.specs.Prelude.{◌≡◌, ◌%◌, suc, [], ◌∷◌, true};
 ghost use Rattle.std.specs.Int.{w8, w32, to_be_bytes};
 ghost use Rattle.v8_memory.specs.Calls.{Loads, load_of, store_of};
 ghost use Rattle.v8_step.specs.Accesses.{load_size, extended, load_step, store_step, ldstub_step, swap_step};
@@ -22,12 +22,27 @@ impl Machine {
         if kind == LoadKind::LDD {
             self.load_pair(rd, address);
         } else {
-            match self.loaded(kind, Addr(address)) {
-                Ok(value) => {
-                    self.set(rd, value);
-                    self.go_on();
-                }
-                Err(fault) => self.refuse_access(fault),
+            let _goes = self.load_one(kind, rd, address);
+        }
+    }
+
+    /// A load into one register. It tells whether the run goes on.
+    #[inline(always)]
+    #[tactic(auto, unfolding(crate::specs::Accesses::load_step))]
+    pub(crate) fn load_one(&mut self, kind: LoadKind, rd: Reg, address: u32) -> bool
+        requires single { kind ≡ LoadKind.LDD → ⊥ }
+        ensures state { self.new ≡ load_step self.old kind rd address }
+        ensures goes { result ≡ true → self.new.ending ≡ self.old.ending }
+    {
+        match self.loaded(kind, Addr(address)) {
+            Ok(value) => {
+                self.set(rd, value);
+                self.go_on();
+                true
+            }
+            Err(fault) => {
+                self.refuse_access(fault);
+                false
             }
         }
     }
@@ -65,11 +80,13 @@ impl Machine {
         }
     }
 
-    #[inline]
+    /// A store. It tells whether the run goes on.
+    #[inline(always)]
     #[tactic(auto, unfolding(crate::specs::Accesses::store_step))]
-    pub(crate) fn store(&mut self, kind: StoreKind, rd: Reg, address: u32)
+    pub(crate) fn store(&mut self, kind: StoreKind, rd: Reg, address: u32) -> bool
         requires pair { kind ≡ StoreKind.STD → rd % 2 ≡ 0 }
-        ensures { self.new ≡ store_step self.old kind rd address }
+        ensures state { self.new ≡ store_step self.old kind rd address }
+        ensures goes { result ≡ true → self.new.ending ≡ self.old.ending }
     {
         let value = self.reg(rd);
         let at = Addr(address);
@@ -83,8 +100,14 @@ impl Machine {
             }
         };
         match stored {
-            Ok(()) => self.go_on(),
-            Err(fault) => self.refuse_access(fault),
+            Ok(()) => {
+                self.go_on();
+                true
+            }
+            Err(fault) => {
+                self.refuse_access(fault);
+                false
+            }
         }
     }
 
@@ -120,6 +143,7 @@ impl Machine {
     }
 
     /// Ends with the trap of a refused access.
+    #[inline(never)]
     fn refuse_access(&mut self, fault: MemFault)
         ensures { self.new ≡ trapped self.old (trap_of fault) }
     {

@@ -11,7 +11,7 @@ invariant_of-self c = (
   kept_written c.args.address c.args.bytes.now c.self.inside.regions.items
       (take c.self.inside.regions.len
       (c.write_each.new.regions ++ drop (length c.write_each.new.regions) c.self.inside.regions.items))
-      c.self.inside.first c.self.inside.kept.items
+      c.self.inside.records.first c.self.inside.records.ops.items
       (written_through (written c.args.address c.args.bytes.now) c.self.inside.regions.len c.self.inside.regions.items
       c.deref_mut.result.now c.write_each.new.regions (search rules) c.deref_mut.ensures.value c.write_each.ensures)
       (search rules),
