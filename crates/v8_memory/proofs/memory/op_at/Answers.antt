@@ -1,4 +1,4 @@
-use Rattle.std.proofs.Common.{rules, ◌<◌, ◌+◌, ◌-◌, ◌^◌, ◌%◌, ◌/◌, length, get_or, refl, ℕ}
+use Rattle.std.proofs.Common.{rules, ◌+◌, ◌-◌, ◌^◌, ◌%◌, refl}
 use Rattle.v8_memory.proofs.Kept.{kept_op}
 use Rattle.v8_memory.proofs.memory.op_at.Goals as goal
 
