@@ -1,5 +1,5 @@
 -- Common instructions as records without a choice among their fields, which are quick to carry out.
-use Rattle.std.specs.Prelude.{◌≡◌, ℕ, zero, suc, ◌%◌, ◌⊎◌, Bool, false, true, ℤ, pos, ◌==◌}
+use Rattle.std.specs.Prelude.{◌≡◌, ℕ, zero, suc, ◌*◌, ◌%◌, ◌⊎◌, Bool, false, true, ℤ, pos, ◌==◌}
 use Rattle.std.specs.Int.{w32, cast_unsigned}
 use Rattle.v8_decode.specs.declared.AluOp.{AluOp}
 use Rattle.v8_decode.specs.declared.AluOp.TheVariants as ops
@@ -51,17 +51,28 @@ instr_by c.Or x = alu_in ops.OR false x
 instr_by c.OrCc x = alu_in ops.OR true x
 instr_by c.Xor x = alu_in ops.XOR false x
 instr_by c.Andn x = alu_in ops.ANDN false x
+instr_by c.Orn x = alu_in ops.ORN false x
+instr_by c.Xnor x = alu_in ops.XNOR false x
+instr_by c.XnorCc x = alu_in ops.XNOR true x
+instr_by c.Addx x = alu_in ops.ADDX false x
+instr_by c.Subx x = alu_in ops.SUBX false x
+instr_by c.Umul x = alu_in ops.UMUL false x
+instr_by c.Smul x = alu_in ops.SMUL false x
 instr_by c.Sll x = alu_in ops.SLL false x
 instr_by c.Srl x = alu_in ops.SRL false x
 instr_by c.Sra x = alu_in ops.SRA false x
+instr_by c.ReadY x = i.ReadY x.rd
+instr_by c.WriteY x = i.WriteY x.rs1 (operand_in x.rs2 x.imm)
 instr_by c.Ld x = i.Load loads.LD x.rd x.rs1 (operand_in x.rs2 x.imm)
 instr_by c.Ldub x = i.Load loads.LDUB x.rd x.rs1 (operand_in x.rs2 x.imm)
 instr_by c.Lduh x = i.Load loads.LDUH x.rd x.rs1 (operand_in x.rs2 x.imm)
 instr_by c.Ldsb x = i.Load loads.LDSB x.rd x.rs1 (operand_in x.rs2 x.imm)
 instr_by c.Ldsh x = i.Load loads.LDSH x.rd x.rs1 (operand_in x.rs2 x.imm)
+instr_by c.Ldd x = i.Load loads.LDD (2 * (x.rd % 16)) x.rs1 (operand_in x.rs2 x.imm)
 instr_by c.St x = i.Store stores.ST x.rd x.rs1 (operand_in x.rs2 x.imm)
 instr_by c.Stb x = i.Store stores.STB x.rd x.rs1 (operand_in x.rs2 x.imm)
 instr_by c.Sth x = i.Store stores.STH x.rd x.rs1 (operand_in x.rs2 x.imm)
+instr_by c.Std x = i.Store stores.STD (2 * (x.rd % 16)) x.rs1 (operand_in x.rs2 x.imm)
 instr_by c.Jmpl x = i.Jmpl x.rd x.rs1 (operand_in x.rs2 x.imm)
 instr_by c.Save x = i.Save x.rd x.rs1 (operand_in x.rs2 x.imm)
 instr_by c.Restore x = i.Restore x.rd x.rs1 (operand_in x.rs2 x.imm)
@@ -83,6 +94,7 @@ plain_operand x = x
 
 abbrev pub plain : Instr → Instr
 plain (i.Alu op cc rd rs1 op2) = i.Alu op cc rd rs1 (plain_operand op2)
+plain (i.WriteY rs1 op2) = i.WriteY rs1 (plain_operand op2)
 plain (i.Jmpl rd rs1 op2) = i.Jmpl rd rs1 (plain_operand op2)
 plain (i.Save rd rs1 op2) = i.Save rd rs1 (plain_operand op2)
 plain (i.Restore rd rs1 op2) = i.Restore rd rs1 (plain_operand op2)

@@ -1,5 +1,6 @@
 -- Instructions whose records the memory keeps.
 use Rattle.std.proofs.Common.{◌≡◌, ◌+◌, ◌%◌, ◌^◌, ◌<◌, ℕ, zero, suc, ℤ, List, [], Option, Some, None, refl, sym, ap, ◌∙◌, inl, inr, arith}
+use Rattle.std.specs.Prelude.{bit_xor}
 use Rattle.std.specs.Int.{w32, cast_unsigned}
 use Rattle.v8_decode.specs.declared.Op2.{Op2}
 use Rattle.v8_decode.specs.declared.Op2.TheVariants.{Reg, Imm}
@@ -16,7 +17,7 @@ use Rattle.v8_memory.specs.Ops.{IsSum, instr_by, instr_of, operand_in, plain, pl
 use Rattle.v8_memory.specs.Regions.{fetch_of}
 use Rattle.v8_step.specs.declared.Ending.{Ending}
 use Rattle.v8_step.specs.State.{State, operand_of, register_of}
-use Rattle.v8_step.specs.Transfers.{unless_couple, jump_step}
+use Rattle.v8_step.specs.Transfers.{next, unless_couple, jump_step}
 use Rattle.v8_step.specs.Accesses.{load_step, store_step}
 use Rattle.v8_step.specs.WindowMoves.{save_step, restore_step}
 use Rattle.v8_step.specs.Step.{act, alu_step, on_word, puts_by, puts_of, puts_on_word, puts_unless_ended, step_of, unless_ended}
@@ -43,7 +44,8 @@ act_plain s (i.Sethi rd imm22) = refl
 act_plain s (i.Branch cond annul disp22) = refl
 act_plain s (i.Call disp30) = refl
 act_plain s (i.ReadY rd) = refl
-act_plain s (i.WriteY rs1 op2) = refl
+act_plain s (i.WriteY rs1 op2) =
+    ap (λ v. next (record s { y = bit_xor (register_of s rs1) v })) (operand_plain s op2)
 act_plain s (i.Ticc cond rs1 op2) = refl
 act_plain s (i.Flush rs1 op2) = refl
 act_plain s i.Stbar = refl
@@ -107,17 +109,28 @@ op_puts s c.Or x descriptor = refl
 op_puts s c.OrCc x descriptor = refl
 op_puts s c.Xor x descriptor = refl
 op_puts s c.Andn x descriptor = refl
+op_puts s c.Orn x descriptor = refl
+op_puts s c.Xnor x descriptor = refl
+op_puts s c.XnorCc x descriptor = refl
+op_puts s c.Addx x descriptor = refl
+op_puts s c.Subx x descriptor = refl
+op_puts s c.Umul x descriptor = refl
+op_puts s c.Smul x descriptor = refl
 op_puts s c.Sll x descriptor = refl
 op_puts s c.Srl x descriptor = refl
 op_puts s c.Sra x descriptor = refl
+op_puts s c.ReadY x descriptor = refl
+op_puts s c.WriteY x descriptor = refl
 op_puts s c.Ld x descriptor = refl
 op_puts s c.Ldub x descriptor = refl
 op_puts s c.Lduh x descriptor = refl
 op_puts s c.Ldsb x descriptor = refl
 op_puts s c.Ldsh x descriptor = refl
+op_puts s c.Ldd x descriptor = refl
 op_puts s c.St x descriptor = refl
 op_puts s c.Stb x descriptor = refl
 op_puts s c.Sth x descriptor = refl
+op_puts s c.Std x descriptor = refl
 op_puts s c.Jmpl x descriptor = refl
 op_puts s c.Save x descriptor = refl
 op_puts s c.Restore x descriptor = refl

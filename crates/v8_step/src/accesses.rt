@@ -20,7 +20,7 @@ impl Machine {
         ensures { self.new ≡ load_step self.old kind rd address }
     {
         if kind == LoadKind::LDD {
-            self.load_pair(rd, address);
+            let _goes = self.load_pair(rd, address);
         } else {
             let _goes = self.load_one(kind, rd, address);
         }
@@ -63,20 +63,25 @@ impl Machine {
         }
     }
 
-    /// LDD: the word of rd comes first.
+    /// LDD: the word of rd comes first. It tells whether the run goes on.
     #[inline]
     #[tactic(auto, unfolding(crate::specs::Accesses::load_step))]
-    fn load_pair(&mut self, rd: Reg, address: u32)
+    pub(crate) fn load_pair(&mut self, rd: Reg, address: u32) -> bool
         requires pair { rd % 2 ≡ 0 }
-        ensures { self.new ≡ load_step self.old LoadKind.LDD rd address }
+        ensures state { self.new ≡ load_step self.old LoadKind.LDD rd address }
+        ensures goes { result ≡ true → self.new.ending ≡ self.old.ending }
     {
         match self.memory.load64(Addr(address)) {
             Ok((first, second)) => {
                 self.set(rd, first);
                 self.set(next_register(rd), second);
                 self.go_on();
+                true
             }
-            Err(fault) => self.refuse_access(fault),
+            Err(fault) => {
+                self.refuse_access(fault);
+                false
+            }
         }
     }
 

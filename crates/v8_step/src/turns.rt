@@ -1,5 +1,5 @@
 //! Many steps at once, of instructions that have records.
-ghost use Rattle.std.specs.Prelude.{◌≡◌, ◌<◌, ◌≤◌, ◌==◌, ℕ, IsTrue, None, true};
+ghost use Rattle.std.specs.Prelude.{◌≡◌, ◌<◌, ◌≤◌, ◌==◌, ◌*◌, ◌%◌, ℕ, IsTrue, None, true};
 ghost use Rattle.v8_decode.specs.Forms.{has_form};
 ghost use Rattle.v8_decode.specs.declared.Instr.TheVariants as instrs;
 ghost use Rattle.v8_memory.specs.Kept.{AreKept};
@@ -9,7 +9,7 @@ ghost use Rattle.v8_step.specs.State.{operand_of, sum_of};
 ghost use Rattle.v8_step.specs.Step.{act};
 ghost use Rattle.v8_step.specs.Turns.{IsQuietRun, turned};
 
-use crate::machine::Machine;
+use crate::machine::{Machine, register};
 use eel_base::Addr;
 use v8_alu::alu;
 use v8_decode::{AluOp, Cond, LoadKind, Reg, StoreKind};
@@ -71,17 +71,36 @@ impl Machine {
             OpCode::OrCc => self.alu_op(AluOp::OR, true, op),
             OpCode::Xor => self.alu_op(AluOp::XOR, false, op),
             OpCode::Andn => self.alu_op(AluOp::ANDN, false, op),
+            OpCode::Orn => self.alu_op(AluOp::ORN, false, op),
+            OpCode::Xnor => self.alu_op(AluOp::XNOR, false, op),
+            OpCode::XnorCc => self.alu_op(AluOp::XNOR, true, op),
+            OpCode::Addx => self.alu_op(AluOp::ADDX, false, op),
+            OpCode::Subx => self.alu_op(AluOp::SUBX, false, op),
+            OpCode::Umul => self.alu_op(AluOp::UMUL, false, op),
+            OpCode::Smul => self.alu_op(AluOp::SMUL, false, op),
             OpCode::Sll => self.alu_op(AluOp::SLL, false, op),
             OpCode::Srl => self.alu_op(AluOp::SRL, false, op),
             OpCode::Sra => self.alu_op(AluOp::SRA, false, op),
+            OpCode::ReadY => {
+                self.set(op.rd, self.y);
+                self.go_on();
+                true
+            }
+            OpCode::WriteY => {
+                self.y = self.reg(op.rs1) ^ self.op_operand(op);
+                self.go_on();
+                true
+            }
             OpCode::Ld => self.load_one(LoadKind::LD, op.rd, self.op_sum(op)),
             OpCode::Ldub => self.load_one(LoadKind::LDUB, op.rd, self.op_sum(op)),
             OpCode::Lduh => self.load_one(LoadKind::LDUH, op.rd, self.op_sum(op)),
             OpCode::Ldsb => self.load_one(LoadKind::LDSB, op.rd, self.op_sum(op)),
             OpCode::Ldsh => self.load_one(LoadKind::LDSH, op.rd, self.op_sum(op)),
+            OpCode::Ldd => self.load_pair(pair(op.rd), self.op_sum(op)),
             OpCode::St => self.store(StoreKind::ST, op.rd, self.op_sum(op)),
             OpCode::Stb => self.store(StoreKind::STB, op.rd, self.op_sum(op)),
             OpCode::Sth => self.store(StoreKind::STH, op.rd, self.op_sum(op)),
+            OpCode::Std => self.store(StoreKind::STD, pair(op.rd), self.op_sum(op)),
             OpCode::Jmpl => self.jump(op.rd, self.op_sum(op)),
             OpCode::Save => {
                 self.save(op.rd, self.op_sum(op));
@@ -162,6 +181,15 @@ fn go_in(ops: &[Op], first: u32, m: &mut Machine, limit: u64) -> u64
         }
     }
     limit
+}
+
+/// The first register of a pair, whose number is half of its own.
+#[inline(always)]
+fn pair(half: Reg) -> Reg
+    ensures double { result ≡ 2 * (half % 16) }
+    ensures even { result % 2 ≡ 0 }
+{
+    register(half.number() % 16 * 2)
 }
 
 /// The condition with this number.
