@@ -12,7 +12,8 @@ use std::alloc::Global;
 use std::test::Fail;
 use v8_decode::{Part, Reg, RegSet};
 use v8_memory::{Memory, RegionPlan};
-use v8_step::{Machine, step};
+use v8_runner::run;
+use v8_step::Machine;
 
 const CODE: Addr = Addr(0x10000);
 
@@ -83,9 +84,7 @@ fn cell_after(alloc: Global, words: &[u32], cell: u32) -> Result<u32, Fail> {
     let mut machine = Machine::new(memory, CODE, 0, Vec::new(alloc));
     let mut out = MemSink::new(alloc, 0, Vec::new(alloc)).map_err(|_| Fail::from("sink"))?;
     let mut err = MemSink::new(alloc, 0, Vec::new(alloc)).map_err(|_| Fail::from("sink"))?;
-    for _ in 0..words.len() {
-        step(&mut machine, &mut out, &mut err);
-    }
+    run(&mut machine, words.len() as u64, &mut out, &mut err);
     machine
         .memory()
         .load32(CELLS)

@@ -1,12 +1,11 @@
 -- The records that a memory keeps.
-use Rattle.std.proofs.Common.{◌≡◌, ◌+◌, ◌-◌, ◌*◌, ◌/◌, ◌%◌, ◌^◌, ◌<◌, inl, inr, ℕ, zero, suc, List, [], ◌∷◌, ◌++◌, length, get_or, refl, sym, ap, subst, arith, pos, map, take, drop, ◌∙◌}
+use Rattle.std.proofs.Common.{◌≡◌, ◌+◌, ◌-◌, ◌*◌, ◌/◌, ◌%◌, ◌^◌, ◌<◌, ℕ, zero, suc, List, [], ◌∷◌, ◌++◌, length, get_or, refl, sym, ap, subst, arith, pos, map, take, drop, ◌∙◌}
 use Rattle.std.specs.List.{filter}
 use Rattle.v8_decode.specs.declared.Op2.TheVariants.{Reg}
 use Rattle.v8_memory.specs.declared.ops.Op.{Op}
-use Rattle.v8_memory.specs.declared.ops.OpCode.TheVariants.{Other}
-use Rattle.v8_memory.specs.Kept.{AreKept, IsKept, StandsFor}
+use Rattle.v8_memory.specs.Kept.{AreKept, IsKept}
 use Rattle.v8_memory.specs.Ops.{operand_in, plain_operand}
-use Rattle.v8_memory.specs.Regions.{Region, fetch_from, is_code, written}
+use Rattle.v8_memory.specs.Regions.{Region, is_code, written}
 use Rattle.v8_memory.proofs.Executable.{filter-written}
 
 pub register_operand : (r : ℕ) → operand_in r (pos 0) ≡ plain_operand (Reg r)
@@ -32,21 +31,14 @@ kept_at code address (x ∷ kept) (suc n) d h within =
 -- as the code finds it: the place is the offset's quarter
 pub kept_op : (code : List Region) (first address offset : ℕ) (kept : List Op) (x : Op) → AreKept code first kept
     → first < 2 ^ 32 → address < 2 ^ 32 → offset ≡ (address + (2 ^ 32 - first)) % 2 ^ 32 → offset % 4 ≡ 0 → offset / 4 < length kept
-    → x ≡ get_or kept (offset / 4) x → (x.code ≡ Other → ⊥) → StandsFor x (fetch_from code address)
-kept_op code first address offset kept x h below fits is even within item some = go at
+    → x ≡ get_or kept (offset / 4) x → IsKept code address x
+kept_op code first address offset kept x h below fits is even within item =
+    subst (λ a. IsKept code a x) whole
+    (subst (IsKept code ((first + 4 * (offset / 4)) % 2 ^ 32)) (sym item)
+    (kept_at code first kept (offset / 4) x h within))
   where
     whole : (first + 4 * (offset / 4)) % 2 ^ 32 ≡ address
     whole = omega arith
-
-    at : IsKept code address x
-    at =
-        subst (λ a. IsKept code a x) whole
-        (subst (IsKept code ((first + 4 * (offset / 4)) % 2 ^ 32)) (sym item)
-        (kept_at code first kept (offset / 4) x h within))
-
-    go : IsKept code address x → StandsFor x (fetch_from code address)
-    go (inl other) = absurd (some other)
-    go (inr stands) = stands
 
 map_in_place : (f : Region → Region) (xs : List Region)
     → take (length xs) (map f xs ++ drop (length (map f xs)) xs) ≡ map f xs

@@ -3,7 +3,7 @@ use Rattle.std.specs.Prelude.{◌≡◌, ℕ, ◌+◌, ◌%◌, ◌^◌, ◌⊎�
 use Rattle.v8_decode.specs.Words.{decode_of}
 use Rattle.v8_memory.specs.declared.ops.Op.{Op}
 use Rattle.v8_memory.specs.declared.ops.OpCode.TheVariants.{Other}
-use Rattle.v8_memory.specs.Ops.{Stands}
+use Rattle.v8_memory.specs.Ops.{IsSum, Stands}
 use Rattle.v8_memory.specs.Regions.{Region, fetch_from}
 
 -- a record of what a word says that was fetched
@@ -13,7 +13,7 @@ StandsFor x (Some word) = Stands x (decode_of word)
 
 -- a record that says nothing, or what the word at an address says
 abbrev pub IsKept : List Region → ℕ → Op → Type 0
-IsKept code address x = (x.code ≡ Other) ⊎ StandsFor x (fetch_from code address)
+IsKept code address x = IsSum x.rs2 x.imm × ((x.code ≡ Other) ⊎ StandsFor x (fetch_from code address))
 
 -- records of the words from an address on
 abbrev pub AreKept : List Region → ℕ → List Op → Type 0

@@ -1,5 +1,5 @@
 -- Common instructions as records without a choice among their fields, which are quick to carry out.
-use Rattle.std.specs.Prelude.{◌≡◌, ℕ, zero, suc, ◌%◌, ◌⊎◌, Bool, false, true, ℤ, pos}
+use Rattle.std.specs.Prelude.{◌≡◌, ℕ, zero, suc, ◌*◌, ◌%◌, ◌⊎◌, Bool, false, true, ℤ, pos, ◌==◌}
 use Rattle.std.specs.Int.{w32, cast_unsigned}
 use Rattle.v8_decode.specs.declared.AluOp.{AluOp}
 use Rattle.v8_decode.specs.declared.AluOp.TheVariants as ops
@@ -24,8 +24,22 @@ alu_in op cc x = i.Alu op cc x.rd x.rs1 (operand_in x.rs2 x.imm)
 -- what a code says of the fields beside it
 abbrev pub instr_by : OpCode → Op → Instr
 instr_by c.Sethi x = i.Sethi x.rd (cast_unsigned w32 x.imm)
-instr_by c.Branch x = i.Branch (x.rd % 16) false x.imm
-instr_by c.BranchAnnul x = i.Branch (x.rd % 16) true x.imm
+instr_by c.B0 x = i.Branch 0 (x.rd == 1) x.imm
+instr_by c.B1 x = i.Branch 1 (x.rd == 1) x.imm
+instr_by c.B2 x = i.Branch 2 (x.rd == 1) x.imm
+instr_by c.B3 x = i.Branch 3 (x.rd == 1) x.imm
+instr_by c.B4 x = i.Branch 4 (x.rd == 1) x.imm
+instr_by c.B5 x = i.Branch 5 (x.rd == 1) x.imm
+instr_by c.B6 x = i.Branch 6 (x.rd == 1) x.imm
+instr_by c.B7 x = i.Branch 7 (x.rd == 1) x.imm
+instr_by c.B8 x = i.Branch 8 (x.rd == 1) x.imm
+instr_by c.B9 x = i.Branch 9 (x.rd == 1) x.imm
+instr_by c.B10 x = i.Branch 10 (x.rd == 1) x.imm
+instr_by c.B11 x = i.Branch 11 (x.rd == 1) x.imm
+instr_by c.B12 x = i.Branch 12 (x.rd == 1) x.imm
+instr_by c.B13 x = i.Branch 13 (x.rd == 1) x.imm
+instr_by c.B14 x = i.Branch 14 (x.rd == 1) x.imm
+instr_by c.B15 x = i.Branch 15 (x.rd == 1) x.imm
 instr_by c.Call x = i.Call x.imm
 instr_by c.Add x = alu_in ops.ADD false x
 instr_by c.AddCc x = alu_in ops.ADD true x
@@ -37,21 +51,37 @@ instr_by c.Or x = alu_in ops.OR false x
 instr_by c.OrCc x = alu_in ops.OR true x
 instr_by c.Xor x = alu_in ops.XOR false x
 instr_by c.Andn x = alu_in ops.ANDN false x
+instr_by c.Orn x = alu_in ops.ORN false x
+instr_by c.Xnor x = alu_in ops.XNOR false x
+instr_by c.XnorCc x = alu_in ops.XNOR true x
+instr_by c.Addx x = alu_in ops.ADDX false x
+instr_by c.Subx x = alu_in ops.SUBX false x
+instr_by c.Umul x = alu_in ops.UMUL false x
+instr_by c.Smul x = alu_in ops.SMUL false x
 instr_by c.Sll x = alu_in ops.SLL false x
 instr_by c.Srl x = alu_in ops.SRL false x
 instr_by c.Sra x = alu_in ops.SRA false x
+instr_by c.ReadY x = i.ReadY x.rd
+instr_by c.WriteY x = i.WriteY x.rs1 (operand_in x.rs2 x.imm)
 instr_by c.Ld x = i.Load loads.LD x.rd x.rs1 (operand_in x.rs2 x.imm)
 instr_by c.Ldub x = i.Load loads.LDUB x.rd x.rs1 (operand_in x.rs2 x.imm)
 instr_by c.Lduh x = i.Load loads.LDUH x.rd x.rs1 (operand_in x.rs2 x.imm)
 instr_by c.Ldsb x = i.Load loads.LDSB x.rd x.rs1 (operand_in x.rs2 x.imm)
 instr_by c.Ldsh x = i.Load loads.LDSH x.rd x.rs1 (operand_in x.rs2 x.imm)
+instr_by c.Ldd x = i.Load loads.LDD (2 * (x.rd % 16)) x.rs1 (operand_in x.rs2 x.imm)
 instr_by c.St x = i.Store stores.ST x.rd x.rs1 (operand_in x.rs2 x.imm)
 instr_by c.Stb x = i.Store stores.STB x.rd x.rs1 (operand_in x.rs2 x.imm)
 instr_by c.Sth x = i.Store stores.STH x.rd x.rs1 (operand_in x.rs2 x.imm)
+instr_by c.Std x = i.Store stores.STD (2 * (x.rd % 16)) x.rs1 (operand_in x.rs2 x.imm)
 instr_by c.Jmpl x = i.Jmpl x.rd x.rs1 (operand_in x.rs2 x.imm)
 instr_by c.Save x = i.Save x.rd x.rs1 (operand_in x.rs2 x.imm)
 instr_by c.Restore x = i.Restore x.rd x.rs1 (operand_in x.rs2 x.imm)
 instr_by c.Other x = i.Illegal
+
+-- a record that says something
+abbrev pub is_record : OpCode → Bool
+is_record c.Other = false
+is_record _ = true
 
 -- the instruction that a record stands for
 unfoldable pub instr_of : Op → Instr
@@ -64,6 +94,7 @@ plain_operand x = x
 
 abbrev pub plain : Instr → Instr
 plain (i.Alu op cc rd rs1 op2) = i.Alu op cc rd rs1 (plain_operand op2)
+plain (i.WriteY rs1 op2) = i.WriteY rs1 (plain_operand op2)
 plain (i.Jmpl rd rs1 op2) = i.Jmpl rd rs1 (plain_operand op2)
 plain (i.Save rd rs1 op2) = i.Save rd rs1 (plain_operand op2)
 plain (i.Restore rd rs1 op2) = i.Restore rd rs1 (plain_operand op2)

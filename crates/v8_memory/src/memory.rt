@@ -1,19 +1,22 @@
 //! The memory of a running program.
-ghost use Rattle.std.specs.Prelude.{◌≡◌, ◌<◌, ◌^◌, take, drop, length, map, ◌++◌, MatchOption, MatchResult, IfOk, IsTrue};
+ghost use Rattle.std.specs.Prelude.{List, ◌≡◌, ◌<◌, ◌^◌, ◌&&◌, take, drop, length, map, ◌++◌, MatchOption, MatchResult, IfOk, IsTrue};
 ghost use Rattle.std.specs.Int.{w8, w16, w32, from_be_bytes, to_be_bytes};
 ghost use Rattle.std.specs.List.{All, filter, find};
-ghost use Rattle.v8_memory.specs.Regions.{covers, region_at, bytes_at, with_bytes, written, all_written, fetch_of, heap_end_of, buffer_read, buffer_written, fetch_from, is_code, if_allowed};
-ghost use Rattle.v8_memory.specs.Kept.{AreKept, IsKept, StandsFor};
+ghost use Rattle.std.specs.Option.{option_map};
+ghost use Rattle.v8_memory.specs.Regions.{covers, region_at, bytes_at, with_bytes, written, fetch_of, heap_end_of, buffer_read, buffer_written, fetch_from, is_code, code_of, Region};
+ghost use Rattle.v8_memory.specs.Spans.{are_apart, mappings_apart, span_of};
+ghost use Rattle.v8_memory.specs.Kept.{AreKept, IsKept};
 ghost use Rattle.v8_memory.specs.Segments.{region_of};
 ghost use Rattle.v8_memory.specs.Calls.{IsPlan, mapping_of_plan, memory_of, load_of, store_of, Loads, Stores, Fills, moved_heap_end};
 
 use crate::fault::MemFault;
-use crate::ops::{Op, OpCode, no_op, op_of};
+use crate::ops::{Op, no_op, op_of};
 use crate::region::{HEAP_ROOM, HEAP_START, Region};
 use eel_base::{Addr, NoMemory};
 use elf32_sparc::SegFlags;
 use std::alloc::Global;
 use std::marker::Model;
+use std::mem;
 use v8_decode::decode;
 
 /// How many words have records at most.
@@ -29,47 +32,53 @@ pub struct RegionPlan<'a> {
     pub first: &'a [u8],
 }
 
+/// The records of words, from the one at `first` on.
+#[derive(Drop)]
+pub struct Records {
+    pub first: u32,
+    pub ops: Vec<Op>,
+}
+
 /// Regions, and the heap with its end that moves.
 #[derive(Drop)]
 pub struct Memory {
     heap: Region,
     regions: Vec<Region>,
-    /// Where the words begin that have records, and these, so that they needn't be decoded when they are run.
-    first: u32,
-    kept: Vec<Op>,
+    /// So that words needn't be decoded when they are run.
+    records: Records,
 }
 
 impl Model for Memory {
-    ghost use Rattle.std.specs.Prelude.{◌≡◌, ◌≤◌, length};
+    ghost use Rattle.std.specs.Prelude.{◌≡◌, ◌≤◌, length, IsTrue};
     ghost use Rattle.std.specs.List.{filter};
     ghost use Rattle.v8_memory.specs.Kept.{AreKept};
     ghost use Rattle.v8_memory.specs.Regions.{Memory as MemoryValue, is_code};
     ghost use Rattle.v8_memory.specs.Segments.{heap_start, heap_room};
+    ghost use Rattle.v8_memory.specs.Spans.{regions_apart};
 
     ghost Value = { MemoryValue };
 
     ghost view = { λ m. record { heap = m.heap; regions = m.regions.items } };
 
-    ghost invariant = { λ m. (m.heap.start ≡ heap_start) × (length m.heap.bytes ≡ heap_room) × (m.heap.size ≤ heap_room) × AreKept (filter is_code m.regions.items) m.first m.kept.items };
+    ghost invariant = { λ m. (m.heap.start ≡ heap_start) × (length m.heap.bytes ≡ heap_room) × (m.heap.size ≤ heap_room) × (IsTrue (regions_apart m.regions.items)) × AreKept (filter is_code m.regions.items) m.records.first m.records.ops.items };
 }
 
 impl Memory {
     /// Memory with these regions, and a heap of which nothing is mapped yet. All bytes that the heap may
-    /// take are taken here. Regions may overlap: an access is judged by the first that has all of its bytes,
-    /// the heap before the others and these in their order.
+    /// take are taken here. No two regions have a common byte, and none has one that the heap may take.
     pub fn new(alloc: Global, plans: &[RegionPlan]) -> Result<Memory, NoMemory>
-        requires { All (λ plan. IsPlan (mapping_of_plan plan)) plans.now }
+        requires plans { All (λ plan. IsPlan (mapping_of_plan plan)) plans.now }
+        requires apart { IsTrue (mappings_apart (map mapping_of_plan plans.now)) }
         ensures { IfOk result (λ memory. memory ≡ memory_of (map mapping_of_plan plans.now)) }
     {
         let heap = Region::heap(alloc)?;
         let regions = planned(alloc, plans)?;
         let (first, count) = first_code(&regions);
-        let kept = kept_words(alloc, &regions, first, count)?;
+        let ops = kept_words(alloc, &regions, first, count)?;
         Ok(Memory {
             heap,
             regions,
-            first,
-            kept,
+            records: Records { first, ops },
         })
     }
 
@@ -149,24 +158,24 @@ impl Memory {
         fetch_in(&self.regions, address.0)
     }
 
-    /// The record of the word at an address, if it has one.
-    #[inline]
-    #[tactic(auto, unfolding(crate::specs::Regions::fetch_of))]
-    pub fn kept(&self, address: Addr) -> Option<Op>
-        ensures { MatchOption result (Unit {0}) (λ op. StandsFor op (fetch_of self.now address.0)) }
+    /// Takes the records out, so that they stand apart from what a run changes. They are to be put back.
+    pub fn take_records(&mut self) -> Records
+        ensures same { self.new ≡ self.old }
+        ensures kept { AreKept (code_of self.old) result.first result.ops.items }
     {
-        let offset = address.0.wrapping_sub(self.first);
-        if offset % 4 != 0 {
-            return None;
-        }
-        match self.kept.get((offset / 4) as usize) {
-            Some(op) => if op.code == OpCode::Other {
-                None
-            } else {
-                Some(*op)
-            },
-            None => None,
-        }
+        let none = Records {
+            first: 0,
+            ops: Vec::new(*self.records.ops.allocator()),
+        };
+        mem::replace(&mut self.records, none)
+    }
+
+    /// Puts records of the words that may be executed in the place of those that there are.
+    pub fn put_records(&mut self, records: Records)
+        requires { AreKept (code_of self.old) records.first records.ops.items }
+        ensures { self.new ≡ self.old }
+    {
+        self.records = records;
     }
 
     /// The bytes from an address on, where they may be read.
@@ -239,15 +248,21 @@ impl Memory {
         }
     }
 
-    /// The region that has all these bytes.
+    /// The region that has all these bytes. The heap is asked last.
     #[inline]
     fn region(&self, address: u32, count: u64) -> Option<&Region>
+        requires { 0 < count }
         ensures { MatchOption result (region_at self.now address count ≡ None) (λ region. (region_at self.now address count ≡ Some region.now) × IsTrue (covers address count region.now)) }
     {
-        if self.heap.covers(address, count) {
-            Some(&self.heap)
-        } else {
-            find(&self.regions, address, count)
+        match find(&self.regions, address, count) {
+            Some(region) => Some(region),
+            None => {
+                if self.heap.covers(address, count) {
+                    Some(&self.heap)
+                } else {
+                    None
+                }
+            }
         }
     }
 
@@ -255,6 +270,7 @@ impl Memory {
     #[inline]
     #[tactic(auto, unfolding(crate::specs::Regions::bytes_at))]
     fn read(&self, address: u32, count: u32) -> Option<&[u8]>
+        requires { 0 < count }
         ensures { MatchOption result (bytes_at self.now address count ≡ None) (λ bytes. (bytes_at self.now address count ≡ Some bytes.now) × (length bytes.now ≡ count)) }
     {
         match self.region(address, u64::from(count)) {
@@ -269,37 +285,32 @@ impl Memory {
         }
     }
 
-    /// Whether one region has all these bytes and may be written.
-    #[inline(always)]
-    #[tactic(auto, unfolding(crate::specs::Regions::with_bytes))]
-    fn may_write(&self, address: u32, bytes: &[u8]) -> bool
-        ensures { with_bytes self.now address bytes.now ≡ if_allowed result (all_written address bytes.now self.now) }
-    {
-        match self.region(address, bytes.len() as u64) {
-            Some(region) => region.is_writable(),
-            None => false,
-        }
-    }
-
     /// Writes the bytes, where one region has them all and may be written.
     #[inline(always)]
     fn write(&mut self, address: u32, bytes: &[u8]) -> bool
+        requires { 0 < length bytes.now }
         ensures { Fills (with_bytes self.old address bytes.now) self.old self.new result }
     {
-        let allowed = self.may_write(address, bytes);
-        if allowed {
-            self.write_all(address, bytes);
+        match write_one(&mut self.regions, address, bytes) {
+            Some(done) => done,
+            None => write_heap(&mut self.heap, address, bytes),
         }
-        allowed
     }
+}
 
-    /// Writes the bytes into every region that has them all and may be written.
-    #[inline(always)]
-    fn write_all(&mut self, address: u32, bytes: &[u8])
-        ensures { self.new ≡ all_written address bytes.now self.old }
-    {
-        self.heap.write(address, bytes);
-        write_each(&mut self.regions, address, bytes);
+/// The record of the word at an address, where the records begin with that of the word at `first`.
+#[inline(always)]
+pub fn op_at(ops: &[Op], first: u32, address: Addr) -> Option<&Op>
+    ensures { (code : List Region) → AreKept code first ops.now
+        → MatchOption result (Unit {0}) (λ op. IsKept code address.0 op.now) }
+{
+    let offset = address.0.wrapping_sub(first);
+    if offset % 4 != 0 {
+        return None;
+    }
+    match ops.get((offset / 4) as usize) {
+        Some(op) => Some(op),
+        None => None,
     }
 }
 
@@ -369,6 +380,7 @@ fn fetch_in(regions: &[Region], address: u32) -> Option<u32>
 /// The first region that has all these bytes.
 #[inline]
 fn find<'a>(regions: &'a [Region], address: u32, count: u64) -> Option<&'a Region>
+    requires { 0 < count }
     ensures { MatchOption result (find (covers address count) regions.now ≡ None) (λ region. (find (covers address count) regions.now ≡ Some region.now) × IsTrue (covers address count region.now)) }
 {
     for region in regions {
@@ -392,13 +404,33 @@ fn find_code<'a>(regions: &'a [Region], address: u32) -> Option<&'a Region>
     None
 }
 
+/// Writes the bytes into the region that has them all, if it may be written, and tells whether it may; None where no
+/// region has them.
 #[inline(always)]
-fn write_each(regions: &mut [Region], address: u32, bytes: &[u8])
-    ensures { regions.new ≡ map (written address bytes.now) regions.old }
+fn write_one(regions: &mut [Region], address: u32, bytes: &[u8]) -> Option<bool>
+    requires some { 0 < length bytes.now }
+    requires apart { IsTrue (are_apart (map span_of regions.old)) }
+    ensures after { regions.new ≡ map (written address bytes.now) regions.old }
+    ensures may { result ≡ option_map (λ (r : Region). r.writable) (find (covers address (length bytes.now)) regions.old) }
 {
     for region in regions.iter_mut() {
-        region.write(address, bytes);
+        if region.covers(address, bytes.len() as u64) {
+            return Some(region.write(address, bytes));
+        }
     }
+    None
+}
+
+/// Writes the bytes into the heap, if it has them all and may be written.
+fn write_heap(heap: &mut Region, address: u32, bytes: &[u8]) -> bool
+    requires { 0 < length bytes.now }
+    ensures may { result ≡ (covers address (length bytes.now) heap.old && heap.old.writable) }
+    ensures after { heap.new ≡ written address bytes.now heap.old }
+    ensures start { heap.new.start ≡ heap.old.start }
+    ensures size { heap.new.size ≡ heap.old.size }
+    ensures len { length heap.new.bytes ≡ length heap.old.bytes }
+{
+    heap.covers(address, bytes.len() as u64) && heap.write(address, bytes)
 }
 
 /// The word in four bytes, the highest first.

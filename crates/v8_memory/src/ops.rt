@@ -1,16 +1,31 @@
 //! Common instructions as records that are quick to carry out.
-ghost use Rattle.std.specs.Prelude.{◌≡◌, ◌⊎◌, ◌<◌, ◌%◌};
+ghost use Rattle.std.specs.Prelude.{◌≡◌, ◌⊎◌, ◌<◌, ◌==◌, ◌*◌, ◌%◌, IsTrue};
+ghost use Rattle.v8_decode.specs.Ranges.{has_even_pair};
 ghost use Rattle.v8_decode.specs.declared.Instr.TheVariants as instrs;
-ghost use Rattle.v8_memory.specs.Ops.{IsSum, Stands, alu_in, instr_by, operand_in, plain_operand};
+ghost use Rattle.v8_memory.specs.Ops.{IsSum, Stands, alu_in, instr_by, instr_of, operand_in, plain_operand};
 
-use v8_decode::{AluOp, Instr, LoadKind, Op2, Reg, StoreKind};
+use v8_decode::{AluOp, Cond, Instr, LoadKind, Op2, Reg, StoreKind};
 
 /// The instructions that have records: some with and without their codes. All else is `Other`.
 #[derive(Clone, Copy, PartialEq, Eq, Debug, Drop)]
 pub enum OpCode {
     Sethi,
-    Branch,
-    BranchAnnul,
+    B0,
+    B1,
+    B2,
+    B3,
+    B4,
+    B5,
+    B6,
+    B7,
+    B8,
+    B9,
+    B10,
+    B11,
+    B12,
+    B13,
+    B14,
+    B15,
     Call,
     Add,
     AddCc,
@@ -22,25 +37,36 @@ pub enum OpCode {
     OrCc,
     Xor,
     Andn,
+    Orn,
+    Xnor,
+    XnorCc,
+    Addx,
+    Subx,
+    Umul,
+    Smul,
     Sll,
     Srl,
     Sra,
+    ReadY,
+    WriteY,
     Ld,
     Ldub,
     Lduh,
     Ldsb,
     Ldsh,
+    Ldd,
     St,
     Stb,
     Sth,
+    Std,
     Jmpl,
     Save,
     Restore,
     Other,
 }
 
-/// An instruction whose second operand is the sum of `rs2` and `imm`, one of which is %g0 or 0. A branch has its
-/// condition in the place of `rd`, as its word has.
+/// An instruction whose second operand is the sum of `rs2` and `imm`, one of which is %g0 or 0. A branch has a
+/// code for each condition, and its annul bit in the place of `rd`; a doubleword has half of its rd there.
 #[derive(Clone, Copy, Drop)]
 pub struct Op {
     pub code: OpCode,
@@ -54,7 +80,9 @@ pub struct Op {
 #[inline]
 #[tactic(auto, unfolding(crate::specs::Ops::instr_of))]
 pub fn op_of(instr: Instr) -> Op
-    ensures { (result.code ≡ OpCode.Other) ⊎ Stands result instr }
+    requires { IsTrue (has_even_pair instr) }
+    ensures sum { IsSum result.rs2 result.imm }
+    ensures stands { (result.code ≡ OpCode.Other) ⊎ Stands result instr }
 {
     match instr {
         Instr::Sethi { rd, imm22 } => immediate(OpCode::Sethi, rd, imm22.cast_signed()),
@@ -62,7 +90,7 @@ pub fn op_of(instr: Instr) -> Op
             cond,
             annul,
             disp22,
-        } => immediate(branch_code(annul), register(cond.number()), disp22),
+        } => immediate(branch_code(cond), annul_place(annul), disp22),
         Instr::Call { disp30 } => immediate(OpCode::Call, register(15), disp30),
         Instr::Alu {
             op,
@@ -74,15 +102,26 @@ pub fn op_of(instr: Instr) -> Op
         Instr::Jmpl { rd, rs1, op2 } => with_operand(OpCode::Jmpl, rd, rs1, op2),
         Instr::Save { rd, rs1, op2 } => with_operand(OpCode::Save, rd, rs1, op2),
         Instr::Restore { rd, rs1, op2 } => with_operand(OpCode::Restore, rd, rs1, op2),
-        Instr::Load { kind, rd, rs1, op2 } => with_operand(load_code(kind), rd, rs1, op2),
-        Instr::Store { kind, rd, rs1, op2 } => with_operand(store_code(kind), rd, rs1, op2),
+        Instr::ReadY { rd } => immediate(OpCode::ReadY, rd, 0),
+        Instr::WriteY { rs1, op2 } => with_operand(OpCode::WriteY, register(0), rs1, op2),
+        Instr::Load { kind, rd, rs1, op2 } => load_op(kind, rd, rs1, op2),
+        Instr::Store { kind, rd, rs1, op2 } => store_op(kind, rd, rs1, op2),
         _ => no_op(),
     }
 }
 
+/// The half of an even register's number.
+fn half(rd: Reg) -> Reg
+    requires { rd % 2 ≡ 0 }
+    ensures { 2 * (result % 16) ≡ rd }
+{
+    register(rd.number() / 2)
+}
+
 /// The record that says nothing.
 pub fn no_op() -> Op
-    ensures { result.code ≡ OpCode.Other }
+    ensures code { result.code ≡ OpCode.Other }
+    ensures sum { IsSum result.rs2 result.imm }
 {
     immediate(OpCode::Other, register(0), 0)
 }
@@ -127,14 +166,36 @@ fn with_operand(code: OpCode, rd: Reg, rs1: Reg, op2: Op2) -> Op
     }
 }
 
-fn branch_code(annul: bool) -> OpCode
-    ensures { (x : Op) → instr_by result x ≡ instrs.Branch (x.rd % 16) annul x.imm }
+/// The code of a branch on this condition.
+fn branch_code(cond: Cond) -> OpCode
+    ensures { (result ≡ OpCode.Other) ⊎ ((x : Op) → instr_by result x ≡ instrs.Branch cond (x.rd == 1) x.imm) }
 {
-    if annul {
-        OpCode::BranchAnnul
-    } else {
-        OpCode::Branch
+    match cond.number() {
+        0 => OpCode::B0,
+        1 => OpCode::B1,
+        2 => OpCode::B2,
+        3 => OpCode::B3,
+        4 => OpCode::B4,
+        5 => OpCode::B5,
+        6 => OpCode::B6,
+        7 => OpCode::B7,
+        8 => OpCode::B8,
+        9 => OpCode::B9,
+        10 => OpCode::B10,
+        11 => OpCode::B11,
+        12 => OpCode::B12,
+        13 => OpCode::B13,
+        14 => OpCode::B14,
+        15 => OpCode::B15,
+        _ => OpCode::Other,
     }
+}
+
+/// The annul bit of a branch, in the place of a register.
+fn annul_place(annul: bool) -> Reg
+    ensures { (result == 1) ≡ annul }
+{
+    if annul { register(1) } else { register(0) }
 }
 
 fn alu_code(op: AluOp, cc: bool) -> OpCode
@@ -151,6 +212,13 @@ fn alu_code(op: AluOp, cc: bool) -> OpCode
         (AluOp::OR, true) => OpCode::OrCc,
         (AluOp::XOR, false) => OpCode::Xor,
         (AluOp::ANDN, false) => OpCode::Andn,
+        (AluOp::ORN, false) => OpCode::Orn,
+        (AluOp::XNOR, false) => OpCode::Xnor,
+        (AluOp::XNOR, true) => OpCode::XnorCc,
+        (AluOp::ADDX, false) => OpCode::Addx,
+        (AluOp::SUBX, false) => OpCode::Subx,
+        (AluOp::UMUL, false) => OpCode::Umul,
+        (AluOp::SMUL, false) => OpCode::Smul,
         (AluOp::SLL, false) => OpCode::Sll,
         (AluOp::SRL, false) => OpCode::Srl,
         (AluOp::SRA, false) => OpCode::Sra,
@@ -158,29 +226,33 @@ fn alu_code(op: AluOp, cc: bool) -> OpCode
     }
 }
 
-fn load_code(kind: LoadKind) -> OpCode
-    ensures { (result ≡ OpCode.Other)
-        ⊎ ((x : Op) → instr_by result x ≡ instrs.Load kind x.rd x.rs1 (operand_in x.rs2 x.imm)) }
+#[tactic(auto, unfolding(crate::specs::Ops::instr_of))]
+fn load_op(kind: LoadKind, rd: Reg, rs1: Reg, op2: Op2) -> Op
+    requires { kind ≡ LoadKind.LDD → rd % 2 ≡ 0 }
+    ensures sum { IsSum result.rs2 result.imm }
+    ensures same { instr_of result ≡ instrs.Load kind rd rs1 (plain_operand op2) }
 {
     match kind {
-        LoadKind::LD => OpCode::Ld,
-        LoadKind::LDUB => OpCode::Ldub,
-        LoadKind::LDUH => OpCode::Lduh,
-        LoadKind::LDD => OpCode::Other,
-        LoadKind::LDSB => OpCode::Ldsb,
-        LoadKind::LDSH => OpCode::Ldsh,
+        LoadKind::LD => with_operand(OpCode::Ld, rd, rs1, op2),
+        LoadKind::LDUB => with_operand(OpCode::Ldub, rd, rs1, op2),
+        LoadKind::LDUH => with_operand(OpCode::Lduh, rd, rs1, op2),
+        LoadKind::LDD => with_operand(OpCode::Ldd, half(rd), rs1, op2),
+        LoadKind::LDSB => with_operand(OpCode::Ldsb, rd, rs1, op2),
+        LoadKind::LDSH => with_operand(OpCode::Ldsh, rd, rs1, op2),
     }
 }
 
-fn store_code(kind: StoreKind) -> OpCode
-    ensures { (result ≡ OpCode.Other)
-        ⊎ ((x : Op) → instr_by result x ≡ instrs.Store kind x.rd x.rs1 (operand_in x.rs2 x.imm)) }
+#[tactic(auto, unfolding(crate::specs::Ops::instr_of))]
+fn store_op(kind: StoreKind, rd: Reg, rs1: Reg, op2: Op2) -> Op
+    requires { kind ≡ StoreKind.STD → rd % 2 ≡ 0 }
+    ensures sum { IsSum result.rs2 result.imm }
+    ensures same { instr_of result ≡ instrs.Store kind rd rs1 (plain_operand op2) }
 {
     match kind {
-        StoreKind::ST => OpCode::St,
-        StoreKind::STB => OpCode::Stb,
-        StoreKind::STH => OpCode::Sth,
-        StoreKind::STD => OpCode::Other,
+        StoreKind::ST => with_operand(OpCode::St, rd, rs1, op2),
+        StoreKind::STB => with_operand(OpCode::Stb, rd, rs1, op2),
+        StoreKind::STH => with_operand(OpCode::Sth, rd, rs1, op2),
+        StoreKind::STD => with_operand(OpCode::Std, half(rd), rs1, op2),
     }
 }
 

@@ -88,11 +88,13 @@ impl Region {
     }
 
     /// Whether all `count` bytes from `address` on are mapped here.
-    #[inline]
+    #[inline(always)]
     pub fn covers(&self, address: u32, count: u64) -> bool
+        requires { 0 < count }
         ensures { result ≡ covers address count self.now }
     {
-        self.start <= address && u64::from(address).saturating_add(count) <= self.end()
+        let offset = address.wrapping_sub(self.start);
+        offset < self.size && u64::from(self.size - offset) >= count
     }
 
     #[inline]
@@ -128,18 +130,21 @@ impl Region {
         &self.bytes[from..from + count as usize]
     }
 
-    /// Puts the bytes where they belong, if it has them all and may be written.
+    /// Puts the bytes where they belong, if it may be written, and tells whether it may.
     #[inline(always)]
-    pub fn write(&mut self, address: u32, bytes: &[u8])
+    pub fn write(&mut self, address: u32, bytes: &[u8]) -> bool
+        requires { IsTrue (covers address (length bytes.now) self.old) }
+        ensures may { result ≡ self.old.writable }
         ensures after { self.new ≡ written address bytes.now self.old }
         ensures start { self.new.start ≡ self.old.start }
         ensures size { self.new.size ≡ self.old.size }
         ensures len { length self.new.bytes ≡ length self.old.bytes }
     {
-        if self.covers(address, bytes.len() as u64) && self.writable {
+        if self.writable {
             let from = (address - self.start) as usize;
             self.bytes[from..from + bytes.len()].copy_from_slice(bytes);
         }
+        self.writable
     }
 
     /// Where its mapped bytes end.

@@ -1,14 +1,14 @@
 -- What is mapped for a program that starts.
-use Rattle.std.proofs.Common.{◌≡◌, ℕ, ◌+◌, ◌-◌, ◌^◌, ◌≤◌, Bool, true, false, not, ◌&&◌, nat_lt, ◌==◌, List, [], ◌∷◌, ◌++◌, length, map, replicate, All, None, refl, sym, subst, ap, ◌∙◌, arith}
+use Rattle.std.proofs.Common.{◌≡◌, ℕ, ◌+◌, ◌-◌, ◌^◌, ◌≤◌, ◌⊎◌, inl, inr, Bool, true, false, not, ◌&&◌, nat_lt, nat_le, ◌==◌, List, [], ◌∷◌, ◌++◌, length, map, replicate, All, None, refl, sym, subst, ap, ◌∙◌, arith}
 use Rattle.std.specs.List.{list_any}
-use Rattle.std.proofs.lemmas.Bool.{or_parts, and_parts, ltb-false, eqb-true, false≢true}
+use Rattle.std.proofs.lemmas.Bool.{or_parts, or_left, or_right, and_parts, and_from, ltb-false, le-leb, eqb-true, false≢true}
 use Rattle.std.proofs.lemmas.List.{append-nil, map-append}
 use Rattle.std.proofs.lemmas.Simd.{map-map}
 use Rattle.std.proofs.lemmas.List.Elements.{All-nil, All-cons, All-head, All-tail, All-push}
 use Rattle.elf32_sparc.specs.declared.header.ProgramHeader.{ProgramHeader}
 use Rattle.elf32_sparc.specs.declared.program.Segment.{Segment}
 use Rattle.elf32_sparc.specs.Header.{e_entry, program_headers, loadable, end_of}
-use Rattle.elf32_sparc.specs.FileFault.{load_fault, has_memory_outside_a_run, leaves_room, is_last_page}
+use Rattle.elf32_sparc.specs.FileFault.{load_fault, descends_from, has_disorder, has_memory_outside_a_run, leaves_room, is_last_page}
 use Rattle.elf32_sparc.specs.Mapping.{Mapping, mapping_of, mappings}
 use Rattle.elf32_sparc.specs.Image.{segment_of}
 use Rattle.elf32_sparc.proofs.Loadable.{loadable_file}
@@ -17,6 +17,7 @@ use Rattle.v8_memory.specs.declared.memory.RegionPlan as declared
 use Rattle.v8_memory.specs.Regions.{Region, Memory}
 use Rattle.v8_memory.specs.Segments.{region_of, empty_heap}
 use Rattle.v8_memory.specs.Calls.{IsPlan, mapping_of_plan, memory_of}
+use Rattle.v8_memory.specs.Spans.{Span, are_apart, heap_span, is_apart, is_apart_from, mappings_apart, span_of_mapping}
 use Rattle.v8_step.specs.Run.{first_state}
 use Rattle.v8_process.specs.Loading.{segment_mapping, stack_mapping}
 use Rattle.v8_process.specs.Start.{program_name, stack_start, stack_end, first_sp, stack_region, start_memory, start_of}
@@ -109,6 +110,93 @@ plans-fit file all plans are none fits =
     (subst (All IsPlan) (sym are.mapped)
     (All-push IsPlan (mappings file) (stack_mapping (stack_region all).bytes) (mappings-planned file none)
     (stack-planned (stack_region all).bytes (stack-count all fits))))
+
+-- ---- no two of them have a common address
+
+-- a segment ends below the heap, or is the last page
+lies : (h : ProgramHeader) → (leaves_room h && not (is_last_page h)) ≡ false
+    → (h.p_vaddr + h.p_memsz ≤ 0x80000000) ⊎ (h.p_vaddr ≡ 0xfffff000)
+lies h none = go (leaves_room h) (is_last_page h) refl refl none
+  where
+    go : (outside last : Bool) → leaves_room h ≡ outside → is_last_page h ≡ last → (outside && not last) ≡ false
+        → (h.p_vaddr + h.p_memsz ≤ 0x80000000) ⊎ (h.p_vaddr ≡ 0xfffff000)
+    go false last inside page no_fault =
+        inl (ltb-false 0x80000000 (end_of h)
+        (or_parts (nat_lt h.p_vaddr 0x1000) (nat_lt 0x80000000 (end_of h)) inside).1)
+    go true true inside page no_fault =
+        inr (eqb-true _ _ (and_parts (h.p_vaddr == 0xfffff000) (h.p_memsz == 4096) page).0)
+    go true false inside page no_fault = absurd (false≢true (sym no_fault))
+
+beside_heap : (h : ProgramHeader) (file : List ℕ)
+    → (h.p_vaddr + h.p_memsz ≤ 0x80000000) ⊎ (h.p_vaddr ≡ 0xfffff000)
+    → is_apart heap_span (span_of_mapping (mapping_of file h)) ≡ true
+beside_heap h file (inl low) =
+    or_right (nat_le 0x81000000 h.p_vaddr) (nat_le (h.p_vaddr + h.p_memsz) 0x80000000) (le-leb _ _ low)
+beside_heap h file (inr last) =
+    or_left (nat_le 0x81000000 h.p_vaddr) (nat_le (h.p_vaddr + h.p_memsz) 0x80000000) (le-leb _ _ (omega (arith, last)))
+
+beside_stack : (h : ProgramHeader) (file stack : List ℕ)
+    → (h.p_vaddr + h.p_memsz ≤ 0x80000000) ⊎ (h.p_vaddr ≡ 0xfffff000)
+    → is_apart (span_of_mapping (mapping_of file h)) (span_of_mapping (stack_mapping stack)) ≡ true
+beside_stack h file stack (inl low) =
+    or_left (nat_le (h.p_vaddr + h.p_memsz) stack_start) (nat_le stack_end h.p_vaddr) (le-leb _ _ (omega (arith, low)))
+beside_stack h file stack (inr last) =
+    or_right (nat_le (h.p_vaddr + h.p_memsz) stack_start) (nat_le stack_end h.p_vaddr) (le-leb _ _ (omega (arith, last)))
+
+-- what ends before the segments do begin, and is no part of the stack
+apart_from_rest : (file stack : List ℕ) (x : Span) (end : ℕ) (hs : List ProgramHeader) → x.from + x.count ≤ end
+    → descends_from end hs ≡ false → is_apart x (span_of_mapping (stack_mapping stack)) ≡ true
+    → is_apart_from x (map span_of_mapping (map (mapping_of file) hs ++ stack_mapping stack ∷ [])) ≡ true
+apart_from_rest file stack x end [] ends up beside =
+    and_from (is_apart x (span_of_mapping (stack_mapping stack))) true beside refl
+apart_from_rest file stack x end (h ∷ hs) ends up beside =
+    let parts = or_parts (nat_lt h.p_vaddr end) (descends_from (end_of h) hs) up in
+    let above : end ≤ h.p_vaddr = ltb-false h.p_vaddr end parts.0 in
+    and_from (is_apart x (span_of_mapping (mapping_of file h)))
+    (is_apart_from x (map span_of_mapping (map (mapping_of file) hs ++ stack_mapping stack ∷ [])))
+    (or_left (nat_le (x.from + x.count) h.p_vaddr) (nat_le (h.p_vaddr + h.p_memsz) x.from)
+    (le-leb _ _ (omega (arith, ends, above))))
+    (apart_from_rest file stack x (end_of h) hs (omega (arith, ends, above)) parts.1 beside)
+
+segments_apart : (file stack : List ℕ) (end : ℕ) (hs : List ProgramHeader) → descends_from end hs ≡ false
+    → list_any (λ h. leaves_room h && not (is_last_page h)) hs ≡ false
+    → are_apart (map span_of_mapping (map (mapping_of file) hs ++ stack_mapping stack ∷ [])) ≡ true
+segments_apart file stack end [] up none = refl
+segments_apart file stack end (h ∷ hs) up none =
+    let order = or_parts (nat_lt h.p_vaddr end) (descends_from (end_of h) hs) up in
+    let room = or_parts (leaves_room h && not (is_last_page h)) (list_any (λ h. leaves_room h && not (is_last_page h)) hs) none in
+    and_from
+    (is_apart_from (span_of_mapping (mapping_of file h))
+    (map span_of_mapping (map (mapping_of file) hs ++ stack_mapping stack ∷ [])))
+    (are_apart (map span_of_mapping (map (mapping_of file) hs ++ stack_mapping stack ∷ [])))
+    (apart_from_rest file stack (span_of_mapping (mapping_of file h)) (end_of h) hs (omega arith) order.1
+    (beside_stack h file stack (lies h room.0)))
+    (segments_apart file stack (end_of h) hs order.1 room.1)
+
+heap_apart : (file stack : List ℕ) (hs : List ProgramHeader)
+    → list_any (λ h. leaves_room h && not (is_last_page h)) hs ≡ false
+    → is_apart_from heap_span (map span_of_mapping (map (mapping_of file) hs ++ stack_mapping stack ∷ [])) ≡ true
+heap_apart file stack [] none = refl
+heap_apart file stack (h ∷ hs) none =
+    let room = or_parts (leaves_room h && not (is_last_page h)) (list_any (λ h. leaves_room h && not (is_last_page h)) hs) none in
+    and_from (is_apart heap_span (span_of_mapping (mapping_of file h)))
+    (is_apart_from heap_span (map span_of_mapping (map (mapping_of file) hs ++ stack_mapping stack ∷ [])))
+    (beside_heap h file (lies h room.0)) (heap_apart file stack hs room.1)
+
+mapped_apart : (file stack : List ℕ) → load_fault file ≡ None
+    → mappings_apart (mappings file ++ stack_mapping stack ∷ []) ≡ true
+unfolding mappings has_memory_outside_a_run has_disorder
+mapped_apart file stack none =
+    let ok = loadable_file file none in
+    let hs = loadable (program_headers file) in
+    and_from (is_apart_from heap_span (map span_of_mapping (map (mapping_of file) hs ++ stack_mapping stack ∷ [])))
+    (are_apart (map span_of_mapping (map (mapping_of file) hs ++ stack_mapping stack ∷ [])))
+    (heap_apart file stack hs ok.segment_room) (segments_apart file stack 0 hs ok.segment_order ok.segment_room)
+
+pub plans-apart : (file : List ℕ) (all : List (List ℕ)) (plans : List declared.RegionPlan) → ArePlans file all plans
+    → load_fault file ≡ None → mappings_apart (map mapping_of_plan plans) ≡ true
+plans-apart file all plans are none =
+    ap mappings_apart are.mapped ∙ mapped_apart file (stack_region all).bytes none
 
 -- ---- the memory
 

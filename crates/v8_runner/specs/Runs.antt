@@ -3,7 +3,7 @@ use Rattle.std.specs.Prelude.{◌≡◌, ℕ, ◌<◌, ◌≤◌, List, Option, 
 use Rattle.eel_base.specs.Outside.{appended, TookPart}
 use Rattle.v8_step.specs.declared.Ending.{Ending}
 use Rattle.v8_step.specs.State.{State}
-use Rattle.v8_step.specs.Run.{run}
+use Rattle.v8_step.specs.Run.{run, run_puts}
 use Rattle.v8_runner.specs.declared.Stop.{Stop}
 use Rattle.v8_runner.specs.declared.Stop.TheVariants.{Limit, Ended, SinkFault}
 
@@ -22,3 +22,9 @@ abbrev pub RunTakes : Option (List ℕ) → Option (List ℕ) → List ℕ → L
 RunTakes old new bytes more Limit = new ≡ appended old bytes
 RunTakes old new bytes more (Ended how) = new ≡ appended old bytes
 RunTakes old new bytes more SinkFault = TookPart (appended old bytes) new more
+
+-- a state after `later` steps, of which those after `steps` put nothing out
+pub record IsAhead (s0 : State) (steps later : ℕ) (s : State) : Type 0 where
+  pub state : s ≡ run s0 later
+  pub made : AreMade s0 later
+  pub puts : (descriptor : ℕ) → run_puts s0 later descriptor ≡ run_puts s0 steps descriptor

@@ -1,11 +1,12 @@
 //! Runs of the machine: many steps, up to a limit.
 #![tactic(auto)]
 
-ghost use Rattle.std.specs.Prelude.{◌≡◌, ◌⊎◌, ◌≤◌};
+ghost use Rattle.std.specs.Prelude.{◌≡◌, ◌⊎◌, ◌≤◌, None};
 ghost use Rattle.v8_step.specs.Machine.{FailsAt};
 ghost use Rattle.v8_step.specs.Run.{run as run_of, run_puts};
 ghost use Rattle.v8_step.specs.Step.{puts_of};
-ghost use Rattle.v8_runner.specs.Runs.{IsStop, AreMade, RunTakes};
+ghost use Rattle.v8_runner.specs.Runs.{IsAhead, IsStop, AreMade, RunTakes};
+ghost use Rattle.v8_step.specs.State.{State};
 
 use eel_base::{Addr, Sink};
 use v8_step::{Ending, Machine, StepOut, step};
@@ -71,12 +72,31 @@ fn make_steps<O: Sink, E: Sink>(
     if let Some(ending) = m.ending() {
         return (Stop::Ended(ending), 0);
     }
-    for steps in 0..limit {
+    let mut steps = 0;
+    while steps < limit {
+        steps = go_ahead(m, steps, limit);
+        if let Some(ending) = m.ending() {
+            return (Stop::Ended(ending), steps);
+        }
+        if steps == limit {
+            return (Stop::Limit, limit);
+        }
         match step(m, out, err) {
-            StepOut::Went => {}
+            StepOut::Went => steps += 1,
             StepOut::Ended(ending) => return (Stop::Ended(ending), steps + 1),
             StepOut::SinkFault => return (Stop::SinkFault, steps),
         }
     }
-    (Stop::Limit, limit)
+    (Stop::Limit, steps)
+}
+
+/// Makes steps that put nothing out, after so many, and tells how many they are with these.
+fn go_ahead(m: &mut Machine, steps: u64, limit: u64) -> u64
+    requires going { m.old.ending ≡ None }
+    requires below { steps ≤ limit }
+    ensures run { (s0 : State) → m.old ≡ run_of s0 steps → AreMade s0 steps → IsAhead s0 steps result m.new }
+    ensures low { steps ≤ result }
+    ensures high { result ≤ limit }
+{
+    steps + m.go(limit - steps)
 }

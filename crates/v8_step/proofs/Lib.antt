@@ -10,6 +10,7 @@ pub mod Ops
 pub mod Outside
 pub mod Puts
 pub mod Quiet
+pub mod QuietRuns
 pub mod Reading
 pub mod RegistersAlike
 pub mod Spills

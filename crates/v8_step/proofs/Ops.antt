@@ -1,5 +1,6 @@
 -- Instructions whose records the memory keeps.
 use Rattle.std.proofs.Common.{◌≡◌, ◌+◌, ◌%◌, ◌^◌, ◌<◌, ℕ, zero, suc, ℤ, List, [], Option, Some, None, refl, sym, ap, ◌∙◌, inl, inr, arith}
+use Rattle.std.specs.Prelude.{bit_xor}
 use Rattle.std.specs.Int.{w32, cast_unsigned}
 use Rattle.v8_decode.specs.declared.Op2.{Op2}
 use Rattle.v8_decode.specs.declared.Op2.TheVariants.{Reg, Imm}
@@ -16,7 +17,7 @@ use Rattle.v8_memory.specs.Ops.{IsSum, instr_by, instr_of, operand_in, plain, pl
 use Rattle.v8_memory.specs.Regions.{fetch_of}
 use Rattle.v8_step.specs.declared.Ending.{Ending}
 use Rattle.v8_step.specs.State.{State, operand_of, register_of}
-use Rattle.v8_step.specs.Transfers.{unless_couple, jump_step}
+use Rattle.v8_step.specs.Transfers.{next, unless_couple, jump_step}
 use Rattle.v8_step.specs.Accesses.{load_step, store_step}
 use Rattle.v8_step.specs.WindowMoves.{save_step, restore_step}
 use Rattle.v8_step.specs.Step.{act, alu_step, on_word, puts_by, puts_of, puts_on_word, puts_unless_ended, step_of, unless_ended}
@@ -43,7 +44,8 @@ act_plain s (i.Sethi rd imm22) = refl
 act_plain s (i.Branch cond annul disp22) = refl
 act_plain s (i.Call disp30) = refl
 act_plain s (i.ReadY rd) = refl
-act_plain s (i.WriteY rs1 op2) = refl
+act_plain s (i.WriteY rs1 op2) =
+    ap (λ v. next (record s { y = bit_xor (register_of s rs1) v })) (operand_plain s op2)
 act_plain s (i.Ticc cond rs1 op2) = refl
 act_plain s (i.Flush rs1 op2) = refl
 act_plain s i.Stbar = refl
@@ -80,8 +82,22 @@ puts_plain s i.CpOff descriptor = refl
 op_puts : (s : State) (code : OpCode) (x : Op) (descriptor : ℕ) → puts_by s (instr_by code x) descriptor ≡ []
 unfolding puts_by
 op_puts s c.Sethi x descriptor = refl
-op_puts s c.Branch x descriptor = refl
-op_puts s c.BranchAnnul x descriptor = refl
+op_puts s c.B0 x descriptor = refl
+op_puts s c.B1 x descriptor = refl
+op_puts s c.B2 x descriptor = refl
+op_puts s c.B3 x descriptor = refl
+op_puts s c.B4 x descriptor = refl
+op_puts s c.B5 x descriptor = refl
+op_puts s c.B6 x descriptor = refl
+op_puts s c.B7 x descriptor = refl
+op_puts s c.B8 x descriptor = refl
+op_puts s c.B9 x descriptor = refl
+op_puts s c.B10 x descriptor = refl
+op_puts s c.B11 x descriptor = refl
+op_puts s c.B12 x descriptor = refl
+op_puts s c.B13 x descriptor = refl
+op_puts s c.B14 x descriptor = refl
+op_puts s c.B15 x descriptor = refl
 op_puts s c.Call x descriptor = refl
 op_puts s c.Add x descriptor = refl
 op_puts s c.AddCc x descriptor = refl
@@ -93,17 +109,28 @@ op_puts s c.Or x descriptor = refl
 op_puts s c.OrCc x descriptor = refl
 op_puts s c.Xor x descriptor = refl
 op_puts s c.Andn x descriptor = refl
+op_puts s c.Orn x descriptor = refl
+op_puts s c.Xnor x descriptor = refl
+op_puts s c.XnorCc x descriptor = refl
+op_puts s c.Addx x descriptor = refl
+op_puts s c.Subx x descriptor = refl
+op_puts s c.Umul x descriptor = refl
+op_puts s c.Smul x descriptor = refl
 op_puts s c.Sll x descriptor = refl
 op_puts s c.Srl x descriptor = refl
 op_puts s c.Sra x descriptor = refl
+op_puts s c.ReadY x descriptor = refl
+op_puts s c.WriteY x descriptor = refl
 op_puts s c.Ld x descriptor = refl
 op_puts s c.Ldub x descriptor = refl
 op_puts s c.Lduh x descriptor = refl
 op_puts s c.Ldsb x descriptor = refl
 op_puts s c.Ldsh x descriptor = refl
+op_puts s c.Ldd x descriptor = refl
 op_puts s c.St x descriptor = refl
 op_puts s c.Stb x descriptor = refl
 op_puts s c.Sth x descriptor = refl
+op_puts s c.Std x descriptor = refl
 op_puts s c.Jmpl x descriptor = refl
 op_puts s c.Save x descriptor = refl
 op_puts s c.Restore x descriptor = refl
@@ -134,10 +161,6 @@ kept_puts s op descriptor stands = ended s.ending (go (fetch_of s.memory s.pc) s
     ended : (ending : Option Ending) {bytes : List ℕ} → bytes ≡ [] → puts_unless_ended ending bytes ≡ []
     ended None h = h
     ended (Some ending) h = refl
-
-pub kept_sum : (op : Op) (word : Option ℕ) → StandsFor op word → IsSum op.rs2 op.imm
-kept_sum op None h = absurd h
-kept_sum op (Some word) h = h.sum
 
 -- the second operand is the sum of a register and an immediate, one of which is 0
 pub operand_sum : (s : State) (r : ℕ) (imm : ℤ) (value : ℕ) → value ≡ register_of s r → value < 2 ^ 32

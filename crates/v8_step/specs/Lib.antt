@@ -12,6 +12,7 @@ pub mod State
 pub mod Step
 pub mod Transfers
 pub mod Traps
+pub mod Turns
 pub mod Twins
 pub mod TwoRuns
 pub mod Valid

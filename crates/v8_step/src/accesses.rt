@@ -1,5 +1,5 @@
 //! Loads, stores, LDSTUB and SWAP.
-ghost use Rattle.std.specs.Prelude.{◌≡◌, ◌%◌, suc, [], ◌∷◌};
+ghost use Rattle.std.specs.Prelude.{◌≡◌, ◌%◌, suc, [], ◌∷◌, true};
 ghost use Rattle.std.specs.Int.{w8, w32, to_be_bytes};
 ghost use Rattle.v8_memory.specs.Calls.{Loads, load_of, store_of};
 ghost use Rattle.v8_step.specs.Accesses.{load_size, extended, load_step, store_step, ldstub_step, swap_step};
@@ -20,14 +20,29 @@ impl Machine {
         ensures { self.new ≡ load_step self.old kind rd address }
     {
         if kind == LoadKind::LDD {
-            self.load_pair(rd, address);
+            let _goes = self.load_pair(rd, address);
         } else {
-            match self.loaded(kind, Addr(address)) {
-                Ok(value) => {
-                    self.set(rd, value);
-                    self.go_on();
-                }
-                Err(fault) => self.refuse_access(fault),
+            let _goes = self.load_one(kind, rd, address);
+        }
+    }
+
+    /// A load into one register. It tells whether the run goes on.
+    #[inline(always)]
+    #[tactic(auto, unfolding(crate::specs::Accesses::load_step))]
+    pub(crate) fn load_one(&mut self, kind: LoadKind, rd: Reg, address: u32) -> bool
+        requires single { kind ≡ LoadKind.LDD → ⊥ }
+        ensures state { self.new ≡ load_step self.old kind rd address }
+        ensures goes { result ≡ true → self.new.ending ≡ self.old.ending }
+    {
+        match self.loaded(kind, Addr(address)) {
+            Ok(value) => {
+                self.set(rd, value);
+                self.go_on();
+                true
+            }
+            Err(fault) => {
+                self.refuse_access(fault);
+                false
             }
         }
     }
@@ -48,28 +63,35 @@ impl Machine {
         }
     }
 
-    /// LDD: the word of rd comes first.
+    /// LDD: the word of rd comes first. It tells whether the run goes on.
     #[inline]
     #[tactic(auto, unfolding(crate::specs::Accesses::load_step))]
-    fn load_pair(&mut self, rd: Reg, address: u32)
+    pub(crate) fn load_pair(&mut self, rd: Reg, address: u32) -> bool
         requires pair { rd % 2 ≡ 0 }
-        ensures { self.new ≡ load_step self.old LoadKind.LDD rd address }
+        ensures state { self.new ≡ load_step self.old LoadKind.LDD rd address }
+        ensures goes { result ≡ true → self.new.ending ≡ self.old.ending }
     {
         match self.memory.load64(Addr(address)) {
             Ok((first, second)) => {
                 self.set(rd, first);
                 self.set(next_register(rd), second);
                 self.go_on();
+                true
             }
-            Err(fault) => self.refuse_access(fault),
+            Err(fault) => {
+                self.refuse_access(fault);
+                false
+            }
         }
     }
 
-    #[inline]
+    /// A store. It tells whether the run goes on.
+    #[inline(always)]
     #[tactic(auto, unfolding(crate::specs::Accesses::store_step))]
-    pub(crate) fn store(&mut self, kind: StoreKind, rd: Reg, address: u32)
+    pub(crate) fn store(&mut self, kind: StoreKind, rd: Reg, address: u32) -> bool
         requires pair { kind ≡ StoreKind.STD → rd % 2 ≡ 0 }
-        ensures { self.new ≡ store_step self.old kind rd address }
+        ensures state { self.new ≡ store_step self.old kind rd address }
+        ensures goes { result ≡ true → self.new.ending ≡ self.old.ending }
     {
         let value = self.reg(rd);
         let at = Addr(address);
@@ -83,8 +105,14 @@ impl Machine {
             }
         };
         match stored {
-            Ok(()) => self.go_on(),
-            Err(fault) => self.refuse_access(fault),
+            Ok(()) => {
+                self.go_on();
+                true
+            }
+            Err(fault) => {
+                self.refuse_access(fault);
+                false
+            }
         }
     }
 
@@ -120,6 +148,7 @@ impl Machine {
     }
 
     /// Ends with the trap of a refused access.
+    #[inline(never)]
     fn refuse_access(&mut self, fault: MemFault)
         ensures { self.new ≡ trapped self.old (trap_of fault) }
     {

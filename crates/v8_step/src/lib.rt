@@ -12,10 +12,10 @@ ghost use Rattle.v8_step.specs.Laws.{CodeStays, StepsAlike, ValidStays, WindowSt
 mod accesses;
 mod calls;
 mod machine;
-mod records;
 mod steps;
 mod transfers;
 mod traps;
+mod turns;
 mod window_moves;
 
 pub use machine::Machine;

@@ -1,5 +1,5 @@
 //! The machine, and what all its instructions are made of.
-ghost use Rattle.std.specs.Prelude.{◌≡◌, ◌<◌, ◌%◌, suc};
+ghost use Rattle.std.specs.Prelude.{◌≡◌, ◌<◌, ◌%◌, suc, true, None};
 ghost use Rattle.v8_step.specs.Run.{first_state};
 ghost use Rattle.v8_step.specs.State.{register_of, with_register, operand_of, sum_of};
 ghost use Rattle.v8_step.specs.Transfers.{next, ended, trapped};
@@ -131,6 +131,14 @@ impl Machine {
         self.ending
     }
 
+    /// Whether the run hasn't ended.
+    #[inline]
+    pub(crate) fn is_going(&self) -> bool
+        ensures { result ≡ true → self.now.ending ≡ None }
+    {
+        self.ending.is_none()
+    }
+
     #[inline]
     pub(crate) fn set(&mut self, r: Reg, value: u32)
         ensures { self.new ≡ with_register self.old r value }
@@ -166,7 +174,7 @@ impl Machine {
         self.slot = Slot::NoSlot;
     }
 
-    #[inline]
+    #[inline(never)]
     pub(crate) fn end(&mut self, ending: Ending)
         ensures { self.new ≡ ended self.old ending }
     {
@@ -174,7 +182,7 @@ impl Machine {
     }
 
     /// Ends with the trap of this type.
-    #[inline]
+    #[inline(never)]
     pub(crate) fn trap(&mut self, number: u8)
         ensures { self.new ≡ trapped self.old number }
     {

@@ -1,5 +1,5 @@
 //! One step of the machine.
-ghost use Rattle.std.specs.Prelude.{[], ◌≡◌, ◌⊎◌, ◌≤◌, IsTrue, Some, None, OnOk, OnErr};
+ghost use Rattle.std.specs.Prelude.{[], ◌≡◌, ◌⊎◌, ◌≤◌, IsTrue, Some, None, OnOk, OnErr, true};
 ghost use Rattle.v8_step.specs.declared.Ending.{Ending};
 ghost use Rattle.v8_decode.specs.Ranges.{has_even_pair};
 ghost use Rattle.v8_alu.specs.Alu.{alu_has_form};
@@ -58,36 +58,10 @@ pub fn step<O: Sink, E: Sink>(m: &mut Machine, out: &mut O, err: &mut E) -> Step
 }
 
 impl Machine {
-    /// Carries out the instruction at pc. After a failure the machine is as before.
-    #[inline(always)]
-    #[tactic(auto, using(crate::proofs::Quiet::appended_nothing), unfolding(crate::specs::Step::step_of, crate::specs::Step::puts_of))]
-    fn carry_out<O: Sink, E: Sink>(&mut self, out: &mut O, err: &mut E) -> Result<(), Failed>
-        requires { self.old.ending ≡ None }
-        ensures state { OnOk result (self.new ≡ step_of self.old) }
-        ensures same { OnErr result (self.new ≡ self.old) }
-        ensures going { OnErr result ((step_of self.old).ending ≡ None) }
-        ensures out { Puts (O.taken out.old) (O.taken out.new) (puts_of self.old 1) result }
-        ensures err { Puts (E.taken err.old) (E.taken err.new) (puts_of self.old 2) result }
-        ensures cause { OnErr result (FailsAt (puts_of self.old 1) (O.faults out.old) (O.faults out.new)
-            ⊎ FailsAt (puts_of self.old 2) (E.faults err.old) (E.faults err.new)) }
-        ensures out_faults { O.faults out.old ≤ O.faults out.new }
-        ensures err_faults { E.faults err.old ≤ E.faults err.new }
-        ensures quiet_out { puts_of self.old 1 ≡ [] → out.new ≡ out.old }
-        ensures quiet_err { puts_of self.old 2 ≡ [] → err.new ≡ err.old }
-    {
-        match self.memory.kept(Addr(self.pc)) {
-            Some(op) => {
-                self.step_kept(op);
-                Ok(())
-            }
-            None => self.carry_out_word(out, err),
-        }
-    }
-
     /// Fetches, decodes and carries out the instruction at pc. After a failure the machine is as before.
     #[inline(never)]
     #[tactic(auto, using(crate::proofs::Quiet::appended_nothing), unfolding(crate::specs::Step::step_of, crate::specs::Step::puts_of))]
-    fn carry_out_word<O: Sink, E: Sink>(&mut self, out: &mut O, err: &mut E) -> Result<(), Failed>
+    fn carry_out<O: Sink, E: Sink>(&mut self, out: &mut O, err: &mut E) -> Result<(), Failed>
         requires { self.old.ending ≡ None }
         ensures state { OnOk result (self.new ≡ step_of self.old) }
         ensures same { OnErr result (self.new ≡ self.old) }
@@ -190,8 +164,12 @@ impl Machine {
                 cond,
                 annul,
                 disp22,
-            } => self.branch(cond, annul, disp22),
-            Instr::Call { disp30 } => self.call(disp30),
+            } => {
+                let _goes = self.branch(cond, annul, disp22);
+            }
+            Instr::Call { disp30 } => {
+                let _goes = self.call(disp30);
+            }
             Instr::Alu {
                 op,
                 cc,
@@ -200,7 +178,7 @@ impl Machine {
                 op2,
             } => {
                 let outcome = alu(op, cc, self.reg(rs1), self.operand(op2), self.codes, self.y);
-                self.finish_alu(rd, outcome);
+                let _goes = self.finish_alu(rd, outcome);
             }
             Instr::ReadY { rd } => {
                 self.set(rd, self.y);
@@ -210,11 +188,15 @@ impl Machine {
                 self.y = self.reg(rs1) ^ self.operand(op2);
                 self.go_on();
             }
-            Instr::Jmpl { rd, rs1, op2 } => self.jump(rd, self.sum(rs1, op2)),
+            Instr::Jmpl { rd, rs1, op2 } => {
+                let _goes = self.jump(rd, self.sum(rs1, op2));
+            }
             Instr::Save { rd, rs1, op2 } => self.save(rd, self.sum(rs1, op2)),
             Instr::Restore { rd, rs1, op2 } => self.restore(rd, self.sum(rs1, op2)),
             Instr::Load { kind, rd, rs1, op2 } => self.load(kind, rd, self.sum(rs1, op2)),
-            Instr::Store { kind, rd, rs1, op2 } => self.store(kind, rd, self.sum(rs1, op2)),
+            Instr::Store { kind, rd, rs1, op2 } => {
+                let _goes = self.store(kind, rd, self.sum(rs1, op2));
+            }
             Instr::Ldstub { rd, rs1, op2 } => self.load_store_byte(rd, self.sum(rs1, op2)),
             Instr::Swap { rd, rs1, op2 } => self.swap(rd, self.sum(rs1, op2)),
             Instr::Ticc { .. } | Instr::Flush { .. } | Instr::Stbar => self.go_on(),
@@ -225,11 +207,12 @@ impl Machine {
         }
     }
 
-    /// The outcome of an operation goes to rd, the codes and Y, or traps.
+    /// The outcome of an operation goes to rd, the codes and Y, or traps. It tells whether the run goes on.
     #[inline(always)]
     #[tactic(auto, unfolding(crate::specs::Step::alu_step))]
-    pub(crate) fn finish_alu(&mut self, rd: Reg, outcome: Result<AluOut, AluTrap>)
-        ensures { self.new ≡ alu_step self.old rd outcome }
+    pub(crate) fn finish_alu(&mut self, rd: Reg, outcome: Result<AluOut, AluTrap>) -> bool
+        ensures state { self.new ≡ alu_step self.old rd outcome }
+        ensures goes { result ≡ true → self.new.ending ≡ self.old.ending }
     {
         match outcome {
             Ok(outcome) => {
@@ -237,9 +220,16 @@ impl Machine {
                 self.y = outcome.y;
                 self.set(rd, outcome.value);
                 self.go_on();
+                true
             }
-            Err(AluTrap::DivZero) => self.trap(DIVISION_BY_ZERO),
-            Err(AluTrap::TagOverflow) => self.trap(TAG_OVERFLOW),
+            Err(AluTrap::DivZero) => {
+                self.trap(DIVISION_BY_ZERO);
+                false
+            }
+            Err(AluTrap::TagOverflow) => {
+                self.trap(TAG_OVERFLOW);
+                false
+            }
         }
     }
 }

@@ -29,6 +29,7 @@ const FRAME_ALIGN: u32 = 8;
 
 impl Machine {
     /// SAVE: `value` goes to rd of the window before.
+    #[inline(never)]
     #[tactic(auto, unfolding(crate::specs::WindowMoves::save_step))]
     pub(crate) fn save(&mut self, rd: Reg, value: u32)
         ensures { self.new ≡ save_step self.old rd value }
@@ -41,6 +42,7 @@ impl Machine {
     }
 
     /// RESTORE: `value` goes to rd of the window after.
+    #[inline(never)]
     #[tactic(auto, unfolding(crate::specs::WindowMoves::restore_step))]
     pub(crate) fn restore(&mut self, rd: Reg, value: u32)
         ensures { self.new ≡ restore_step self.old rd value }

@@ -1,2 +1,3 @@
 pub mod FrameLoops
 pub mod Places
+pub mod Seen

@@ -1,10 +1,9 @@
 -- Where registers stand, and what a write to one leaves.
-use Rattle.std.proofs.Common.{◌≡◌, ◌≢◌, ℕ, zero, suc, ◌+◌, ◌-◌, ◌*◌, ◌/◌, ◌%◌, ◌<◌, ◌≤◌, Bool, true, false, List, [], ◌∷◌, length, refl, ap, sym, ◌∙◌, subst, arith, length-set, get_or-set_other, get_or-set_same}
+use Rattle.std.proofs.Common.{◌≡◌, ◌≢◌, ℕ, zero, suc, ◌+◌, ◌-◌, ◌*◌, ◌%◌, ◌<◌, ◌≤◌, Bool, true, false, List, [], ◌∷◌, length, refl, ap, sym, ◌∙◌, subst, arith, length-set, get_or-set_other, get_or-set_same}
 use Rattle.std.specs.Prelude.{if◌then◌else◌, nat_lt, slice_index, slice_set}
 use Rattle.std.proofs.lemmas.Bool.Decides.{nat_tests}
 use Rattle.v8_windows.specs.Registers.{place_of, register_in, register_set, window_after, windows}
 use Rattle.v8_windows.specs.Frames.{frame_registers, registers_from, frame_bytes}
-use Rattle.v8_windows.specs.Calls.{ArePlaces}
 use Rattle.v8_windows.specs.Laws.{WindowsOverlap, RegistersHold, FramesFit, FramesLoad}
 
 pub place_of-below : (window r : ℕ) → place_of window r < 136
@@ -14,29 +13,10 @@ place_of-below window r = go (nat_lt r 8) refl
     go true e = grind (arith, nat_tests)
     go false e = omega arith
 
--- the place of a register is that of its number in the table
-pub place_in_table : (places : List ℕ) (window r : ℕ) → ArePlaces places → window < 8 → r < 32
-    → slice_index places (32 * window + r) ≡ place_of window r
-place_in_table places window r h low high =
-    h (32 * window + r) (omega arith)
-    ∙ ap (λ w. place_of w ((32 * window + r) % 32)) quotient ∙ ap (place_of window) remainder
-  where
-    quotient : (32 * window + r) / 32 ≡ window
-    quotient = omega arith
-
-    remainder : (32 * window + r) % 32 ≡ r
-    remainder = omega arith
-
 in_place : (registers : List ℕ) (window r : ℕ) → 0 < r
     → register_in registers window r ≡ slice_index registers (place_of window r)
 in_place registers window zero some = absurd (omega arith)
 in_place registers window (suc r) some = refl
-
--- %g0 stands in the first place, which holds 0
-pub read_in_place : (registers : List ℕ) (window r : ℕ) → slice_index registers 0 ≡ 0
-    → slice_index registers (place_of window r) ≡ register_in registers window r
-read_in_place registers window zero is_zero = is_zero
-read_in_place registers window (suc r) is_zero = refl
 
 pub written_in_place : (registers : List ℕ) (window r value : ℕ) → r ≢ 0
     → slice_set registers (place_of window r) value ≡ register_set registers window r value
@@ -49,12 +29,6 @@ place_of-some window r some = go (nat_lt r 8) refl
     go : (b : Bool) → nat_lt r 8 ≡ b → 0 < (if b then r else 8 + (16 * window + (r - 8)) % 128)
     go true e = omega arith
     go false e = omega arith
-
-pub zero_stays : (registers : List ℕ) (window r value : ℕ) → r ≢ 0 → slice_index registers 0 ≡ 0
-    → slice_index (slice_set registers (place_of window r) value) 0 ≡ 0
-zero_stays registers window r value some is_zero =
-    let below : 0 < place_of window r = place_of-some window r some in
-    get_or-set_other registers (place_of window r) 0 value 0 (omega arith) ∙ is_zero
 
 pub place_of-overlap : (window r : ℕ) → window < windows → 8 ≤ r → r < 16
     → place_of window (r + 16) ≡ place_of (window_after window) r

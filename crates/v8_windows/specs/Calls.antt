@@ -1,7 +1,8 @@
 -- What the calls of the windows answer, and what they leave.
-use Rattle.std.specs.Prelude.{◌≡◌, ◌<◌, ℕ, zero, suc, ◌-◌, ◌/◌, ◌%◌, slice_index, List, [], ◌∷◌, replicate, take, drop, Result, OnOk, OnErr, Bool, MatchBool}
+use Rattle.std.specs.Prelude.{◌≡◌, ◌<◌, ◌≤◌, ℕ, zero, suc, ◌+◌, ◌-◌, ◌*◌, ◌%◌, nat_lt, if◌then◌else◌, slice_index, List, [], ◌∷◌, map, replicate, take, drop, Result, OnOk, OnErr, Bool, MatchBool}
+use Rattle.std.specs.List.{range_with_len}
 use Rattle.std.specs.Int.{w32, from_be_bytes}
-use Rattle.v8_windows.specs.Registers.{place_of, window_before, window_after, register_set}
+use Rattle.v8_windows.specs.Registers.{window_before, window_after, register_set}
 use Rattle.v8_windows.specs.Frames.{frame_registers, frame_of, frame_address, oldest_of}
 
 -- the registers, the current window, and how many windows are valid, from the current one on
@@ -53,6 +54,23 @@ oldest_address w = frame_address w.registers (oldest_of w.window w.valid)
 abbrev pub oldest_words : WindowState → List ℕ
 oldest_words w = frame_of w.registers (oldest_of w.window w.valid)
 
--- where the list has each register of each window, 32 for each
-abbrev pub ArePlaces : List ℕ → Type 0
-ArePlaces places = (n : ℕ) → n < 256 → slice_index places n ≡ place_of (n / 32) (n % 32)
+-- how far a place is behind that of a window's first out
+abbrev pub after_outs : ℕ → ℕ → ℕ
+after_outs window place = (place - 8 + 16 * (8 - window)) % 128
+
+-- the register at a place, where those of a window are in `current`, as instructions name them
+abbrev pub seen_at : List ℕ → List ℕ → ℕ → ℕ → ℕ
+seen_at current others window place =
+    if nat_lt place 8 then slice_index current place
+    else if nat_lt (after_outs window place) 24 then slice_index current (8 + after_outs window place)
+    else slice_index others place
+
+-- all registers, where those of a window are in `current`
+unfoldable pub registers_seen : List ℕ → List ℕ → ℕ → List ℕ
+registers_seen current others window = map (seen_at current others window) (range_with_len 0 136)
+
+-- `count` words were copied to `at`, from `start` on
+pub record IsCopied (at start count : ℕ) (words old new : List ℕ) : Type 0 where
+  pub inside : (k : ℕ) → k < count → slice_index new (at + k) ≡ slice_index words (start + k)
+  pub below : (k : ℕ) → k < at → slice_index new k ≡ slice_index old k
+  pub above : (k : ℕ) → at + count ≤ k → slice_index new k ≡ slice_index old k

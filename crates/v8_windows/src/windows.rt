@@ -1,6 +1,6 @@
 //! The register windows of a running program.
-ghost use Rattle.std.specs.Prelude.{◌≡◌, ◌-◌, ◌<◌, ◌≤◌, ◌==◌, slice_index};
-ghost use Rattle.v8_windows.specs.Calls.{ArePlaces, Moves, entered, filled_by, left, no_windows, oldest_address, oldest_words, registers_of_words};
+ghost use Rattle.std.specs.Prelude.{◌≡◌, ◌+◌, ◌-◌, ◌*◌, ◌<◌, ◌≤◌, ◌==◌, length, slice_index};
+ghost use Rattle.v8_windows.specs.Calls.{IsCopied, Moves, entered, filled_by, left, no_windows, oldest_address, oldest_words, registers_of_words, registers_seen};
 ghost use Rattle.v8_windows.specs.Frames.{frame_of, frame_registers};
 ghost use Rattle.v8_windows.specs.Registers.{place_of, register_in, register_set};
 
@@ -20,66 +20,57 @@ pub struct MustFill;
 /// are valid, one to seven in all; the others' registers are in memory (section 4.1).
 #[derive(Drop)]
 pub struct Windows {
-    registers: [u32; 136],
+    /// The registers of the current window, as instructions name them.
+    current: [u32; 32],
+    /// All registers. Those of the current window are stale here.
+    others: [u32; 136],
     window: u8,
     valid: u8,
-    /// Where `registers` has each register of each window, so that this needn't be worked out.
-    places: [u8; 256],
 }
 
 impl Model for Windows {
     ghost use Rattle.std.specs.Prelude.{◌≡◌, ◌<◌, ◌≤◌, slice_index};
-    ghost use Rattle.v8_windows.specs.Calls.{ArePlaces, WindowState};
+    ghost use Rattle.v8_windows.specs.Calls.{WindowState, registers_seen};
 
     ghost Value = { WindowState };
 
-    ghost view = { λ w. record { registers = w.registers; window = w.window; valid = w.valid } };
+    ghost view = { λ w. record { registers = registers_seen w.current w.others w.window; window = w.window; valid = w.valid } };
 
-    ghost invariant = { λ w. (w.window < 8) × (1 ≤ w.valid) × (w.valid ≤ 7) × (slice_index w.registers 0 ≡ 0) × ArePlaces w.places };
+    ghost invariant = { λ w. (w.window < 8) × (1 ≤ w.valid) × (w.valid ≤ 7) × (slice_index w.current 0 ≡ 0) };
 }
 
 impl Windows {
     /// All registers zero, and one window valid.
+    #[tactic(auto, using(crate::proofs::Seen::zeros_seen))]
     pub fn new() -> Windows
         ensures { result ≡ no_windows }
     {
         Windows {
-            registers: [0; 136],
+            current: [0; 32],
+            others: [0; 136],
             window: 0,
             valid: 1,
-            places: all_places(),
         }
     }
 
     /// What a register of the current window holds; %g0 reads as 0.
-    #[inline]
-    #[tactic(auto, using(crate::proofs::Places::read_in_place))]
+    #[inline(always)]
+    #[tactic(auto, using(crate::proofs::Seen::register_seen))]
     pub fn get(&self, r: Reg) -> u32
         ensures { result ≡ register_in self.now.registers self.now.window r }
     {
-        self.registers[self.place(r)]
+        self.current[r.number() as usize]
     }
 
     /// Writes a register of the current window; a write to %g0 is dropped.
-    #[inline]
-    #[tactic(auto, using(crate::proofs::Places::written_in_place, crate::proofs::Places::zero_stays))]
+    #[inline(always)]
+    #[tactic(auto, using(crate::proofs::Seen::set_seen))]
     pub fn set(&mut self, r: Reg, v: u32)
         ensures { self.new ≡ record self.old { registers = register_set self.old.registers self.old.window r v } }
     {
         if r.number() != 0 {
-            let place = self.place(r);
-            self.registers[place] = v;
+            self.current[r.number() as usize] = v;
         }
-    }
-
-    /// Where the list has a register of the current window.
-    #[inline]
-    #[tactic(auto, using(crate::proofs::Places::place_in_table))]
-    fn place(&self, r: Reg) -> usize
-        ensures place { result ≡ place_of self.now.window r }
-        ensures range { result < 136 }
-    {
-        self.places[32 * self.window as usize + r.number() as usize] as usize
     }
 
     /// Goes to the window before (SAVE, section B.20).
@@ -90,7 +81,7 @@ impl Windows {
         if self.valid == 7 {
             return Err(MustSpill);
         }
-        self.window = (self.window + 7) % 8;
+        self.move_to((self.window + 7) % 8);
         self.valid += 1;
         Ok(())
     }
@@ -103,9 +94,20 @@ impl Windows {
         if self.valid == 1 {
             return Err(MustFill);
         }
-        self.window = (self.window + 1) % 8;
+        self.move_to((self.window + 1) % 8);
         self.valid -= 1;
         Ok(())
+    }
+
+    /// Makes another window the current one.
+    #[inline(always)]
+    fn move_to(&mut self, window: u8)
+        requires { window < 8 }
+        ensures { self.new ≡ record self.old { window = window } }
+    {
+        put_away(&self.current, &mut self.others, self.window);
+        bring(&mut self.current, &self.others, window);
+        self.window = window;
     }
 
     /// How many windows are valid.
@@ -123,9 +125,11 @@ impl Windows {
         ensures address { result.0.0 ≡ oldest_address self.now }
         ensures words { result.1 ≡ oldest_words self.now }
     {
+        let mut registers = self.others;
+        put_away(&self.current, &mut registers, self.window);
         let window = (self.window + self.valid - 1) % 8;
-        let stack_pointer = self.registers[place(window, 14)];
-        (Addr(stack_pointer), frame(&self.registers, window))
+        let stack_pointer = registers[place(window, 14)];
+        (Addr(stack_pointer), frame(&registers, window))
     }
 
     /// Says that the oldest window was saved, so that it is not valid any more.
@@ -141,20 +145,55 @@ impl Windows {
         requires { self.old.valid ≡ 1 }
         ensures { self.new ≡ filled_by self.old words }
     {
-        load_frame(&mut self.registers, (self.window + 1) % 8, &words);
+        put_away(&self.current, &mut self.others, self.window);
+        load_frame(&mut self.others, (self.window + 1) % 8, &words);
+        bring(&mut self.current, &self.others, self.window);
         self.valid = 2;
     }
 }
 
-// Where the list has each register of each window, 32 for each.
-fn all_places() -> [u8; 256]
-    ensures { ArePlaces result }
+// Writes the registers of a window where all registers stand.
+#[inline(always)]
+fn put_away(current: &[u32; 32], registers: &mut [u32; 136], window: u8)
+    requires { window < 8 }
+    ensures all { registers.new ≡ registers_seen current.now registers.old window }
+    ensures zero { slice_index registers.new 0 ≡ slice_index current.now 0 }
 {
-    let mut places = [0; 256];
-    for n in 0..256_usize {
-        places[n] = place((n / 32) as u8, (n % 32) as u8) as u8;
-    }
-    places
+    copy(registers, 0, current, 0, 8);
+    copy(registers, outs_at(window), current, 8, 16);
+    copy(registers, outs_at((window + 1) % 8), current, 24, 8);
+}
+
+// Reads the registers of a window.
+#[inline(always)]
+fn bring(current: &mut [u32; 32], registers: &[u32; 136], window: u8)
+    requires { window < 8 }
+    ensures all { registers_seen current.new registers.now window ≡ registers.now }
+    ensures zero { slice_index current.new 0 ≡ slice_index registers.now 0 }
+{
+    copy(current, 0, registers, 0, 8);
+    copy(current, 8, registers, outs_at(window), 16);
+    copy(current, 24, registers, outs_at((window + 1) % 8), 8);
+}
+
+// Where the outs of a window stand, and its locals after them.
+#[inline(always)]
+fn outs_at(window: u8) -> usize
+    requires { window < 8 }
+    ensures { result ≡ 8 + 16 * window }
+{
+    8 + 16 * window as usize
+}
+
+// Copies so many words.
+#[inline(always)]
+fn copy(to: &mut [u32], at: usize, words: &[u32], start: usize, count: usize)
+    requires to { at + count ≤ length to.old }
+    requires words { start + count ≤ length words.now }
+    ensures copied { IsCopied at start count words.now to.old to.new }
+    ensures len { length to.new ≡ length to.old }
+{
+    to[at..at + count].copy_from_slice(&words[start..start + count]);
 }
 
 // Where the list has a register of a window.

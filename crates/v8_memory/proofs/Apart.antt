@@ -1,0 +1,328 @@
+-- Where regions are apart, one of them at most has given bytes.
+use Rattle.std.proofs.Common.{◌≡◌, ℕ, zero, suc, ◌+◌, ◌<◌, ◌≤◌, ◌⊎◌, inl, inr, Bool, true, false, ◌&&◌, ◌||◌, nat_le, Option, Some, None, List, [], ◌∷◌, length, map, take, drop, ◌++◌, get_or, slice_set, refl, ap, sym, subst, ◌∙◌, arith}
+use Rattle.std.specs.Prelude.{if◌then◌else◌}
+use Rattle.std.specs.List.{filter, find}
+use Rattle.std.specs.Option.{option_map}
+use Rattle.std.proofs.lemmas.Bool.{and_parts, and_left, and_right, leb-true, lt-leb}
+use Rattle.v8_memory.specs.declared.ops.Op.{Op}
+use Rattle.v8_memory.specs.Calls.{Fills}
+use Rattle.v8_memory.specs.Kept.{AreKept}
+use Rattle.v8_memory.specs.Regions.{Memory, Region, covers, changed, written, all_written, write_region, with_bytes, if_allowed, is_code, region_at}
+use Rattle.elf32_sparc.specs.Mapping.{Mapping}
+use Rattle.v8_memory.specs.Segments.{heap_start, heap_room, region_of}
+use Rattle.v8_memory.specs.Spans.{Span, is_apart, is_apart_from, are_apart, heap_span, span_of, span_of_mapping, regions_apart, mappings_apart}
+use Rattle.v8_memory.proofs.Kept.{kept_written, written_through}
+
+either : (x y : Bool) → (x || y) ≡ true → (x ≡ true) ⊎ (y ≡ true)
+either true y h = inl refl
+either false y h = inr h
+
+-- a region that lies in a span has no byte of what is apart from it
+pub not_both : (address count : ℕ) (x : Span) (r q : Region) → 0 < count → is_apart x (span_of q) ≡ true
+    → x.from ≤ r.start → r.start + r.size ≤ x.from + x.count → covers address count r ≡ true
+    → covers address count q ≡ false
+not_both address count x r q some apart low high has =
+    go (either (nat_le (x.from + x.count) q.start) (nat_le (q.start + q.size) x.from) apart)
+  where
+    within : (nat_le r.start address ≡ true) × (nat_le (address + count) (r.start + r.size) ≡ true)
+    within = and_parts (nat_le r.start address) (nat_le (address + count) (r.start + r.size)) has
+
+    from : r.start ≤ address
+    from = leb-true r.start address within.0
+
+    to : address + count ≤ r.start + r.size
+    to = leb-true (address + count) (r.start + r.size) within.1
+
+    beyond : address + count ≤ q.start ⊎ q.start + q.size ≤ address → covers address count q ≡ false
+    beyond (inl before) = and_left (nat_le q.start address) (nat_le (address + count) (q.start + q.size))
+        (lt-leb q.start address (omega (arith, before, some)))
+    beyond (inr after) = and_right (nat_le q.start address) (nat_le (address + count) (q.start + q.size))
+        (lt-leb (address + count) (q.start + q.size) (omega (arith, after, some)))
+
+    go : (nat_le (x.from + x.count) q.start ≡ true) ⊎ (nat_le (q.start + q.size) x.from ≡ true)
+        → covers address count q ≡ false
+    go (inl first) =
+        let e : x.from + x.count ≤ q.start = leb-true (x.from + x.count) q.start first in
+        beyond (inl (omega (arith, e, high, to)))
+    go (inr last) =
+        let e : q.start + q.size ≤ x.from = leb-true (q.start + q.size) x.from last in
+        beyond (inr (omega (arith, e, low, from)))
+
+-- a region that hasn't all of the bytes stays
+stays : (address : ℕ) (bytes : List ℕ) (q : Region) → covers address (length bytes) q ≡ false → written address bytes q ≡ q
+stays address bytes q none = ap (λ (b : Bool). if b && q.writable then changed address bytes q else q) none
+
+-- and so does one that may not be written
+refuses : (address : ℕ) (bytes : List ℕ) (q : Region) → q.writable ≡ false → written address bytes q ≡ q
+refuses address bytes q no_leave = go (covers address (length bytes) q) q.writable no_leave
+  where
+    go : (c w : Bool) → w ≡ false → (if c && w then changed address bytes q else q) ≡ q
+    go true w e = ap (λ (b : Bool). if b then changed address bytes q else q) e
+    go false w e = refl
+
+-- where a region in a span has the bytes, those apart from the span stay
+others_stay : (address : ℕ) (bytes : List ℕ) (x : Span) (r : Region) (rs : List Region) → 0 < length bytes
+    → is_apart_from x (map span_of rs) ≡ true → x.from ≤ r.start → r.start + r.size ≤ x.from + x.count
+    → covers address (length bytes) r ≡ true → map (written address bytes) rs ≡ rs
+others_stay address bytes x r [] some apart low high has = refl
+others_stay address bytes x r (q ∷ rs) some apart low high has =
+    let parts = and_parts (is_apart x (span_of q)) (is_apart_from x (map span_of rs)) apart in
+    ap (λ z. z ∷ map (written address bytes) rs)
+    (stays address bytes q (not_both address (length bytes) x r q some parts.0 low high has))
+    ∙ ap (λ z. q ∷ z) (others_stay address bytes x r rs some parts.1 low high has)
+
+-- and the heap's span has none of them where a region has
+apart_at : (x : Span) (rs : List Region) (i : ℕ) (d : Region) → is_apart_from x (map span_of rs) ≡ true → i < length rs
+    → is_apart x (span_of (get_or rs i d)) ≡ true
+apart_at x [] i d apart within = absurd (omega arith)
+apart_at x (q ∷ rs) zero d apart within = (and_parts (is_apart x (span_of q)) (is_apart_from x (map span_of rs)) apart).0
+apart_at x (q ∷ rs) (suc i) d apart within =
+    apart_at x rs i d (and_parts (is_apart x (span_of q)) (is_apart_from x (map span_of rs)) apart).1 (omega arith)
+
+apart_sym : (x y : Span) → is_apart x y ≡ true → is_apart y x ≡ true
+apart_sym x y h = go (nat_le (x.from + x.count) y.from) (nat_le (y.from + y.count) x.from) h
+  where
+    go : (p q : Bool) → (p || q) ≡ true → (q || p) ≡ true
+    go true true e = refl
+    go true false e = refl
+    go false true e = refl
+    go false false e = e
+
+-- the region that has the bytes is written, and no other
+pub write_once : (address : ℕ) (bytes : List ℕ) (rs : List Region) (i : ℕ) (d : Region) → 0 < length bytes
+    → are_apart (map span_of rs) ≡ true → i < length rs → covers address (length bytes) (get_or rs i d) ≡ true
+    → slice_set rs i (written address bytes (get_or rs i d)) ≡ map (written address bytes) rs
+write_once address bytes [] i d some apart within has = absurd (omega arith)
+write_once address bytes (r ∷ rs) zero d some apart within has =
+    let parts = and_parts (is_apart_from (span_of r) (map span_of rs)) (are_apart (map span_of rs)) apart in
+    ap (λ z. written address bytes r ∷ z)
+    (sym (others_stay address bytes (span_of r) r rs some parts.0 (omega arith) (omega arith) has))
+write_once address bytes (r ∷ rs) (suc i) d some apart within has =
+    let parts = and_parts (is_apart_from (span_of r) (map span_of rs)) (are_apart (map span_of rs)) apart in
+    let q : Region = get_or rs i d in
+    let away : is_apart (span_of q) (span_of r) ≡ true =
+    apart_sym (span_of r) (span_of q) (apart_at (span_of r) rs i d parts.0 (omega arith)) in
+    ap (λ z. r ∷ z) (write_once address bytes rs i d some parts.1 (omega arith) has)
+    ∙ ap (λ z. z ∷ map (written address bytes) rs)
+    (sym (stays address bytes r
+    (not_both address (length bytes) (span_of q) q r some away (omega arith) (omega arith) has)))
+
+-- where none has the bytes, none is written
+none_written : (address : ℕ) (bytes : List ℕ) (rs : List Region) → find (covers address (length bytes)) rs ≡ None
+    → map (written address bytes) rs ≡ rs
+none_written address bytes [] none = refl
+none_written address bytes (r ∷ rs) none =
+    go (covers address (length bytes) r) refl none (λ e. none_written address bytes rs e)
+  where
+    go : (b : Bool) → covers address (length bytes) r ≡ b
+        → (if b then Some r else find (covers address (length bytes)) rs) ≡ None
+        → (find (covers address (length bytes)) rs ≡ None → map (written address bytes) rs ≡ rs)
+        → map (written address bytes) (r ∷ rs) ≡ r ∷ rs
+    go true has e later = absurd (cc)
+    go false has e later =
+        ap (λ z. z ∷ map (written address bytes) rs) (stays address bytes r has) ∙ ap (λ z. r ∷ z) (later e)
+
+-- where the one that has them may not be written, none is
+none_changed : (address : ℕ) (bytes : List ℕ) (rs : List Region) (q : Region) → 0 < length bytes
+    → are_apart (map span_of rs) ≡ true → find (covers address (length bytes)) rs ≡ Some q → q.writable ≡ false
+    → map (written address bytes) rs ≡ rs
+none_changed address bytes [] q some apart is no_leave = absurd (cc)
+none_changed address bytes (r ∷ rs) q some apart is no_leave =
+    let parts = and_parts (is_apart_from (span_of r) (map span_of rs)) (are_apart (map span_of rs)) apart in
+    go (covers address (length bytes) r) refl is parts.0 (λ e. none_changed address bytes rs q some parts.1 e no_leave)
+  where
+    go : (b : Bool) → covers address (length bytes) r ≡ b
+        → (if b then Some r else find (covers address (length bytes)) rs) ≡ Some q
+        → is_apart_from (span_of r) (map span_of rs) ≡ true
+        → (find (covers address (length bytes)) rs ≡ Some q → map (written address bytes) rs ≡ rs)
+        → map (written address bytes) (r ∷ rs) ≡ r ∷ rs
+    go true has e away later =
+        let same : r ≡ q = cc in
+        ap (λ z. z ∷ map (written address bytes) rs)
+        (refuses address bytes r (ap (λ (z : Region). z.writable) same ∙ no_leave))
+        ∙ ap (λ z. r ∷ z)
+        (others_stay address bytes (span_of r) r rs some away (omega arith) (omega arith) has)
+    go false has e away later =
+        ap (λ z. z ∷ map (written address bytes) rs) (stays address bytes r has) ∙ ap (λ z. r ∷ z) (later e)
+
+-- a region that is found has the bytes, and the heap hasn't
+found_apart : (address count : ℕ) (heap : Region) (rs : List Region) (q : Region) → 0 < count
+    → is_apart_from heap_span (map span_of rs) ≡ true → heap.start ≡ heap_start → heap.size ≤ heap_room
+    → find (covers address count) rs ≡ Some q → covers address count heap ≡ false
+found_apart address count heap [] q some apart start room is = absurd (cc)
+found_apart address count heap (r ∷ rs) q some apart start room is =
+    let parts = and_parts (is_apart heap_span (span_of r)) (is_apart_from heap_span (map span_of rs)) apart in
+    go (covers address count r) refl is parts.0 (λ e. found_apart address count heap rs q some parts.1 start room e)
+  where
+    heap_apart : (b : Bool) → covers address count heap ≡ b → is_apart heap_span (span_of r) ≡ true
+        → covers address count r ≡ true → b ≡ false
+    heap_apart false h away has = refl
+    heap_apart true h away has =
+        let none : covers address count r ≡ false =
+        not_both address count heap_span heap r some away (omega (arith, start)) (omega (arith, start, room)) h in
+        absurd (cc)
+
+    go : (b : Bool) → covers address count r ≡ b
+        → (if b then Some r else find (covers address count) rs) ≡ Some q → is_apart heap_span (span_of r) ≡ true
+        → (find (covers address count) rs ≡ Some q → covers address count heap ≡ false)
+        → covers address count heap ≡ false
+    go true has e away later = heap_apart (covers address count heap) refl away has
+    go false has e away later = later e
+
+-- the heap may be asked last
+pub heap_last : (m : Memory) (address count : ℕ) (q : Region) → 0 < count → regions_apart m.regions ≡ true
+    → m.heap.start ≡ heap_start → m.heap.size ≤ heap_room → find (covers address count) m.regions ≡ Some q
+    → region_at m address count ≡ Some q
+heap_last m address count q some apart start room is =
+    ap (λ (b : Bool). if b then Some m.heap else find (covers address count) m.regions)
+    (found_apart address count m.heap m.regions q some
+    (and_parts (is_apart_from heap_span (map span_of m.regions)) (are_apart (map span_of m.regions)) apart).0 start room is)
+    ∙ is
+
+pub heap_or_none : (m : Memory) (address count : ℕ) → find (covers address count) m.regions ≡ None
+    → region_at m address count ≡ (if covers address count m.heap then Some m.heap else None)
+heap_or_none m address count none = ap (λ z. if covers address count m.heap then Some m.heap else z) none
+
+-- regions that are written stay where they are
+spans_stay : (address : ℕ) (bytes : List ℕ) (rs : List Region) → map span_of (map (written address bytes) rs) ≡ map span_of rs
+spans_stay address bytes [] = refl
+spans_stay address bytes (r ∷ rs) =
+    ap (λ z. z ∷ map span_of (map (written address bytes) rs)) (go (covers address (length bytes) r && r.writable))
+    ∙ ap (λ z. span_of r ∷ z) (spans_stay address bytes rs)
+  where
+    go : (b : Bool) → span_of (if b then changed address bytes r else r) ≡ span_of r
+    go true = refl
+    go false = refl
+
+apart_written : (address : ℕ) (bytes : List ℕ) (old new : List Region) → new ≡ map (written address bytes) old
+    → regions_apart old ≡ true → regions_apart new ≡ true
+apart_written address bytes old new is h =
+    ap (λ z. are_apart (heap_span ∷ z)) (ap (map span_of) is ∙ spans_stay address bytes old) ∙ h
+
+-- what a memory's invariant says of its regions stays where they are written through a slice of them all
+pub all_stay : (address : ℕ) (bytes : List ℕ) (count : ℕ) (items slice new : List Region) (first : ℕ) (kept : List Op)
+    → length items ≡ count → slice ≡ items → new ≡ map (written address bytes) slice → regions_apart items ≡ true
+    → AreKept (filter is_code items) first kept
+    → (regions_apart (take count (new ++ drop (length new) items)) ≡ true)
+    × AreKept (filter is_code (take count (new ++ drop (length new) items))) first kept
+all_stay address bytes count items slice new first kept whole same is apart are =
+    let through =
+    written_through (written address bytes) count items slice new whole same is in (
+      apart_written address bytes items (take count (new ++ drop (length new) items)) through apart,
+      kept_written address bytes items (take count (new ++ drop (length new) items)) first kept through are,
+    )
+
+-- the regions of plans that are apart
+spans_planned : (planned : List Mapping) → map span_of (map region_of planned) ≡ map span_of_mapping planned
+spans_planned [] = refl
+spans_planned (m ∷ planned) = ap (λ z. span_of_mapping m ∷ z) (spans_planned planned)
+
+pub planned_apart : (planned : List Mapping) → mappings_apart planned ≡ true
+    → regions_apart (map region_of planned) ≡ true
+planned_apart planned h = ap (λ z. are_apart (heap_span ∷ z)) (spans_planned planned) ∙ h
+
+-- the first region from here on
+pub found_here : (address count : ℕ) (rs : List Region) (i : ℕ) (r d : Region) → i < length rs → r ≡ get_or rs i d
+    → covers address count r ≡ true → find (covers address count) (drop i rs) ≡ Some r
+found_here address count [] i r d within is has = absurd (omega arith)
+found_here address count (q ∷ rs) zero r d within is has =
+    ap (λ (b : Bool). if b then Some q else find (covers address count) rs) (ap (covers address count) (sym is) ∙ has)
+    ∙ ap (λ (z : Region). Some z) (sym is)
+found_here address count (q ∷ rs) (suc i) r d within is has = found_here address count rs i r d (omega arith) is has
+
+none_left : (address count : ℕ) (rs : List Region) (i : ℕ) → length rs ≤ i → find (covers address count) (drop i rs) ≡ None
+none_left address count [] zero past = refl
+none_left address count [] (suc i) past = refl
+none_left address count (r ∷ rs) zero past = absurd (omega arith)
+none_left address count (r ∷ rs) (suc i) past = none_left address count rs i (omega arith)
+
+-- where no region is found, none is written
+pub none_written_here : (address : ℕ) (bytes : List ℕ) (rs : List Region) (i : ℕ) → length rs ≤ i
+    → find (covers address (length bytes)) rs ≡ find (covers address (length bytes)) (drop i rs)
+    → rs ≡ map (written address bytes) rs
+none_written_here address bytes rs i past left =
+    sym (none_written address bytes rs (left ∙ none_left address (length bytes) rs i past))
+
+-- ---- a write as it is made
+
+abbrev memory_with : Region → List Region → Memory
+memory_with heap regions = record { heap = heap; regions = regions }
+
+memory_is : (m n : Memory) → n.heap ≡ m.heap → n.regions ≡ m.regions → n ≡ m
+memory_is m n heap regions = ap (λ h. memory_with h n.regions) heap ∙ ap (memory_with m.heap) regions
+
+-- a region has the bytes
+pub write_region_done : (m n : Memory) (address : ℕ) (bytes : List ℕ) (done : Bool) → 0 < length bytes
+    → regions_apart m.regions ≡ true → m.heap.start ≡ heap_start → m.heap.size ≤ heap_room
+    → n.heap ≡ m.heap → n.regions ≡ map (written address bytes) m.regions
+    → Some done ≡ option_map (λ (r : Region). r.writable) (find (covers address (length bytes)) m.regions)
+    → Fills (with_bytes m address bytes) m n done
+unfolding with_bytes
+write_region_done m n address bytes done some apart start room same is was =
+    go (find (covers address (length bytes)) m.regions) refl was
+  where
+    rest : are_apart (map span_of m.regions) ≡ true
+    rest = (and_parts (is_apart_from heap_span (map span_of m.regions)) (are_apart (map span_of m.regions)) apart).1
+
+    heap_is : (q : Region) → find (covers address (length bytes)) m.regions ≡ Some q → written address bytes m.heap ≡ m.heap
+    heap_is q e =
+        stays address bytes m.heap
+        (found_apart address (length bytes) m.heap m.regions q some
+        (and_parts (is_apart_from heap_span (map span_of m.regions)) (are_apart (map span_of m.regions)) apart).0 start
+        room e)
+
+    made : (q : Region) (b : Bool) → find (covers address (length bytes)) m.regions ≡ Some q → q.writable ≡ b
+        → done ≡ b → Fills (if_allowed b (all_written address bytes m)) m n done
+    made q true e may d = (d, memory_is (all_written address bytes m) n (same ∙ sym (heap_is q e)) is)
+    made q false e may d =
+        (d, memory_is m n same (is ∙ none_changed address bytes m.regions q some rest e may))
+
+    go : (x : Option Region) → find (covers address (length bytes)) m.regions ≡ x
+        → Some done ≡ option_map (λ (r : Region). r.writable) x → Fills (with_bytes m address bytes) m n done
+    go None e w = absurd (cc)
+    go (Some q) e w =
+        let d : done ≡ q.writable = cc in
+        subst (λ (x : Option Region). Fills (write_region address bytes m x) m n done)
+        (sym (heap_last m address (length bytes) q some apart start room e))
+        (made q q.writable e refl d)
+
+-- no region has them, and the heap is asked
+pub write_heap_done : (m n : Memory) (address : ℕ) (bytes : List ℕ) (done : Bool)
+    → None ≡ option_map (λ (r : Region). r.writable) (find (covers address (length bytes)) m.regions)
+    → n.heap ≡ written address bytes m.heap
+    → n.regions ≡ map (written address bytes) m.regions
+    → done ≡ (covers address (length bytes) m.heap && m.heap.writable)
+    → Fills (with_bytes m address bytes) m n done
+unfolding with_bytes
+write_heap_done m n address bytes done found heap regions was =
+    subst (λ (x : Option Region). Fills (write_region address bytes m x) m n done)
+    (sym (heap_or_none m address (length bytes) none))
+    (go (covers address (length bytes) m.heap) refl)
+  where
+    is_none : (x : Option Region) → None ≡ option_map (λ (r : Region). r.writable) x → x ≡ None
+    is_none None e = refl
+    is_none (Some r) e = absurd (cc)
+
+    none : find (covers address (length bytes)) m.regions ≡ None
+    none = is_none (find (covers address (length bytes)) m.regions) found
+
+    allowed : (w : Bool) → covers address (length bytes) m.heap ≡ true → m.heap.writable ≡ w
+        → Fills (if_allowed w (all_written address bytes m)) m n done
+    allowed true has may = (
+      was ∙ ap (λ b. b && m.heap.writable) has ∙ may,
+      memory_is (all_written address bytes m) n heap regions,
+    )
+    allowed false has may = (
+      was ∙ ap (λ b. b && m.heap.writable) has ∙ may,
+      memory_is m n (heap ∙ refuses address bytes m.heap may)
+          (regions ∙ none_written address bytes m.regions none),
+    )
+
+    go : (b : Bool) → covers address (length bytes) m.heap ≡ b
+        → Fills (write_region address bytes m (if b then Some m.heap else None)) m n done
+    go true has = allowed m.heap.writable has refl
+    go false has = (
+      was ∙ ap (λ b. b && m.heap.writable) has,
+      memory_is m n (heap ∙ stays address bytes m.heap has)
+          (regions ∙ none_written address bytes m.regions none),
+    )

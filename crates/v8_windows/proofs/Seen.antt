@@ -1,0 +1,268 @@
+-- All registers, where those of the current window are in an array of their own.
+use Rattle.std.proofs.Common.{◌≡◌, ◌≢◌, ℕ, zero, suc, ◌+◌, ◌-◌, ◌*◌, ◌%◌, ◌<◌, ◌≤◌, ◌⊎◌, inl, inr, Bool, List, length, replicate, refl, ap, sym, ◌∙◌, subst, arith, length-set, get_or-set_other, get_or-set_same}
+use Rattle.std.specs.Prelude.{if◌then◌else◌, nat_lt, slice_index, slice_set}
+use Rattle.std.proofs.lemmas.Bool.{cases_lt, lt-ltb, le-ltb}
+use Rattle.std.proofs.lemmas.List.FromFn.{fill_by_all, get_or-map-range_with_len, length-map-range_with_len}
+use Rattle.v8_windows.specs.Registers.{place_of, register_in, register_set}
+use Rattle.v8_windows.specs.Calls.{IsCopied, after_outs, registers_seen, seen_at}
+use Rattle.v8_windows.proofs.Places.{place_of-below, written_in_place}
+
+-- ---- what is at each place
+
+pub length-seen : (current others : List ℕ) (window : ℕ) → length (registers_seen current others window) ≡ 136
+unfolding registers_seen
+length-seen current others window = length-map-range_with_len (seen_at current others window) 0 136
+
+pub seen : (current others : List ℕ) (window place : ℕ) → place < 136
+    → slice_index (registers_seen current others window) place ≡ seen_at current others window place
+unfolding registers_seen
+seen current others window place below =
+    get_or-map-range_with_len (seen_at current others window) 0 136 place place 0 below (omega arith)
+
+-- a list that has at each place what is seen there
+pub as_seen : (current others : List ℕ) (window : ℕ) (registers : List ℕ) → length registers ≡ 136
+    → ((place : ℕ) → place < 136 → slice_index registers place ≡ seen_at current others window place)
+    → registers ≡ registers_seen current others window
+unfolding registers_seen
+as_seen current others window registers count h = fill_by_all (seen_at current others window) registers 136 0 count h
+
+at_global : (current others : List ℕ) (window place : ℕ) → place < 8
+    → seen_at current others window place ≡ slice_index current place
+at_global current others window place low =
+    ap (λ (b : Bool). if b then slice_index current place else
+    if nat_lt (after_outs window place) 24 then slice_index current (8 + after_outs window place) else slice_index others place)
+    (lt-ltb place 8 low)
+
+past_globals : (current others : List ℕ) (window place : ℕ) → 8 ≤ place
+    → seen_at current others window place
+    ≡ (if nat_lt (after_outs window place) 24 then slice_index current (8 + after_outs window place) else slice_index others place)
+past_globals current others window place high =
+    ap (λ (b : Bool). if b then slice_index current place else
+    if nat_lt (after_outs window place) 24 then slice_index current (8 + after_outs window place) else slice_index others place)
+    (le-ltb place 8 high)
+
+at_own : (current others : List ℕ) (window place : ℕ) → 8 ≤ place → after_outs window place < 24
+    → seen_at current others window place ≡ slice_index current (8 + after_outs window place)
+at_own current others window place high own =
+    past_globals current others window place high
+    ∙ ap (λ (b : Bool). if b then slice_index current (8 + after_outs window place) else slice_index others place)
+    (lt-ltb (after_outs window place) 24 own)
+
+at_other : (current others : List ℕ) (window place : ℕ) → 8 ≤ place → 24 ≤ after_outs window place
+    → seen_at current others window place ≡ slice_index others place
+at_other current others window place high away =
+    past_globals current others window place high
+    ∙ ap (λ (b : Bool). if b then slice_index current (8 + after_outs window place) else slice_index others place)
+    (le-ltb (after_outs window place) 24 away)
+
+-- ---- where the registers of the window stand
+
+place_low : (window r : ℕ) → r < 8 → place_of window r ≡ r
+place_low window r low = ap (λ (b : Bool). if b then r else 8 + (16 * window + (r - 8)) % 128) (lt-ltb r 8 low)
+
+place_high : (window r : ℕ) → 8 ≤ r → place_of window r ≡ 8 + (16 * window + (r - 8)) % 128
+place_high window r high = ap (λ (b : Bool). if b then r else 8 + (16 * window + (r - 8)) % 128) (le-ltb r 8 high)
+
+-- from a number behind the outs to the place, and back
+behind : (window k : ℕ) → window < 8 → k < 128 → after_outs window (8 + (16 * window + k) % 128) ≡ k
+behind window k w below = omega arith
+
+back : (window place : ℕ) → window < 8 → 8 ≤ place → place < 136
+    → 8 + (16 * window + after_outs window place) % 128 ≡ place
+back window place w high below = omega arith
+
+register_is : (current others : List ℕ) (window r : ℕ) → window < 8 → r < 32
+    → seen_at current others window (place_of window r) ≡ slice_index current r
+register_is current others window r w below = go (cases_lt r 8)
+  where
+    go : (r < 8) ⊎ (8 ≤ r) → seen_at current others window (place_of window r) ≡ slice_index current r
+    go (inl low) =
+        ap (seen_at current others window) (place_low window r low) ∙ at_global current others window r low
+    go (inr high) =
+        let k : after_outs window (8 + (16 * window + (r - 8)) % 128) ≡ r - 8 = behind window (r - 8) w (omega arith) in
+        ap (seen_at current others window) (place_high window r high)
+        ∙ at_own current others window (8 + (16 * window + (r - 8)) % 128) (omega arith) (omega (arith, k))
+        ∙ ap (slice_index current) (omega (arith, k))
+
+pub register_seen : (current others : List ℕ) (window r : ℕ) → slice_index current 0 ≡ 0 → window < 8 → r < 32
+    → slice_index current r ≡ register_in (registers_seen current others window) window r
+register_seen current others window zero is_zero w below = is_zero
+register_seen current others window (suc r) is_zero w below =
+    sym (seen current others window (place_of window (suc r)) (place_of-below window (suc r))
+    ∙ register_is current others window (suc r) w below)
+
+-- ---- a register that is written
+
+other_seen : (current others : List ℕ) (window r value place : ℕ) → window < 8 → r < 32 → place < 136
+    → place ≢ place_of window r
+    → seen_at current others window place ≡ seen_at (slice_set current r value) others window place
+other_seen current others window r value place w below within apart = go (cases_lt place 8)
+  where
+    own : 8 ≤ place → after_outs window place < 24 → 8 + after_outs window place ≢ r
+    own high k same =
+        apart (sym (place_high window r (omega (arith, same)) ∙ ap (λ n. 8 + (16 * window + n) % 128) (omega (arith, same))
+        ∙ back window place w high within))
+
+    past : 8 ≤ place → (after_outs window place < 24) ⊎ (24 ≤ after_outs window place)
+        → seen_at current others window place ≡ seen_at (slice_set current r value) others window place
+    past high (inl k) =
+        at_own current others window place high k
+        ∙ sym (get_or-set_other current r (8 + after_outs window place) value 0 (own high k))
+        ∙ sym (at_own (slice_set current r value) others window place high k)
+    past high (inr k) =
+        at_other current others window place high k
+        ∙ sym (at_other (slice_set current r value) others window place high k)
+
+    go : (place < 8) ⊎ (8 ≤ place)
+        → seen_at current others window place ≡ seen_at (slice_set current r value) others window place
+    go (inl low) =
+        at_global current others window place low
+        ∙ sym (get_or-set_other current r place value 0
+        (λ same. apart (same ∙ sym (place_low window r (omega (arith, same, low))))))
+        ∙ sym (at_global (slice_set current r value) others window place low)
+    go (inr high) = past high (cases_lt (after_outs window place) 24)
+
+pub set_seen : (current others : List ℕ) (window r value : ℕ) → length current ≡ 32 → window < 8 → r < 32 → r ≢ 0
+    → registers_seen (slice_set current r value) others window
+    ≡ register_set (registers_seen current others window) window r value
+set_seen current others window r value count w below some =
+    sym (as_seen (slice_set current r value) others window (slice_set all (place_of window r) value)
+    (length-set all (place_of window r) value ∙ length-seen current others window)
+    (λ place within. each place within (same_or_not place (place_of window r))))
+    ∙ written_in_place all window r value some
+  where
+    all : List ℕ
+    all = registers_seen current others window
+
+    same_or_not : (a b : ℕ) → (a ≡ b) ⊎ (a ≢ b)
+    same_or_not a b = go (cases_lt a b) (cases_lt b a)
+      where
+        go : (a < b) ⊎ (b ≤ a) → (b < a) ⊎ (a ≤ b) → (a ≡ b) ⊎ (a ≢ b)
+        go (inl less) q = inr (λ same. omega (arith, less, same))
+        go (inr least) (inl more) = inr (λ same. omega (arith, more, same))
+        go (inr least) (inr most) = inl (omega (arith, least, most))
+
+    each : (place : ℕ) → place < 136 → (place ≡ place_of window r) ⊎ (place ≢ place_of window r)
+        → slice_index (slice_set all (place_of window r) value) place
+        ≡ seen_at (slice_set current r value) others window place
+    each place within (inl same) =
+        ap (slice_index (slice_set all (place_of window r) value)) same
+        ∙ get_or-set_same all (place_of window r) value 0
+        (subst (λ n. place_of window r < n) (sym (length-seen current others window)) (place_of-below window r))
+        ∙ sym (get_or-set_same current r value 0 (subst (λ n. r < n) (sym count) below))
+        ∙ sym (register_is (slice_set current r value) others window r w below)
+        ∙ ap (seen_at (slice_set current r value) others window) (sym same)
+    each place within (inr apart) =
+        get_or-set_other all (place_of window r) place value 0 apart
+        ∙ seen current others window place within
+        ∙ other_seen current others window r value place w below within apart
+
+-- ---- all registers of a window
+
+global_copied : (words old new : List ℕ) (place : ℕ) → IsCopied 0 0 8 words old new → place < 8
+    → slice_index new place ≡ slice_index words place
+global_copied words old new place h low =
+    subst (λ n. slice_index new n ≡ slice_index words n) (omega arith) (h.inside place low)
+
+-- the window's registers are put away
+pub put_away_seen : (current old first second new : List ℕ) (window : ℕ) → window < 8 → length new ≡ 136
+    → IsCopied 0 0 8 current old first → IsCopied (8 + 16 * window) 8 16 current first second
+    → IsCopied (8 + 16 * ((window + 1) % 8)) 24 8 current second new
+    → new ≡ registers_seen current old window
+put_away_seen current old first second new window w count globals outs ins =
+    as_seen current old window new count (λ place within. each place within (cases_lt place 8))
+  where
+    next : ℕ
+    next = 8 + 16 * ((window + 1) % 8)
+
+    beside : (place : ℕ) → (place < next) ⊎ (next ≤ place) → 8 ≤ place → place < 136
+        → (after_outs window place < 16) ⊎ (24 ≤ after_outs window place)
+        → slice_index new place ≡ slice_index second place
+    beside place (inl low) high within k = ins.below place low
+    beside place (inr up) high within (inl k) = ins.above place (omega (arith, up, high, within, k, w))
+    beside place (inr up) high within (inr k) = ins.above place (omega (arith, up, high, within, k, w))
+
+    far : (place : ℕ) → (place < 8 + 16 * window) ⊎ (8 + 16 * window ≤ place) → 8 ≤ place → place < 136
+        → 24 ≤ after_outs window place → slice_index second place ≡ slice_index first place
+    far place (inl low) high within k = outs.below place low
+    far place (inr up) high within k = outs.above place (omega (arith, up, high, within, k, w))
+
+    past : (place : ℕ) → 8 ≤ place → place < 136
+        → (after_outs window place < 16) ⊎ (16 ≤ after_outs window place)
+        → (after_outs window place < 24) ⊎ (24 ≤ after_outs window place)
+        → slice_index new place ≡ seen_at current old window place
+    past place high within (inl k) q =
+        let at : place ≡ 8 + 16 * window + after_outs window place = omega (arith, high, within, k, w) in
+        beside place (cases_lt place next) high within (inl k)
+        ∙ ap (slice_index second) at ∙ outs.inside (after_outs window place) k
+        ∙ sym (at_own current old window place high (omega (arith, k)))
+    past place high within (inr k) (inl own) =
+        let at : place ≡ next + (after_outs window place - 16) = omega (arith, high, within, k, own, w) in
+        ap (slice_index new) at ∙ ins.inside (after_outs window place - 16) (omega (arith, k, own))
+        ∙ ap (slice_index current) (omega (arith, k)) ∙ sym (at_own current old window place high own)
+    past place high within (inr k) (inr away) =
+        beside place (cases_lt place next) high within (inr away)
+        ∙ far place (cases_lt place (8 + 16 * window)) high within away
+        ∙ globals.above place high ∙ sym (at_other current old window place high away)
+
+    each : (place : ℕ) → place < 136 → (place < 8) ⊎ (8 ≤ place)
+        → slice_index new place ≡ seen_at current old window place
+    each place within (inl low) =
+        ins.below place (omega (arith, low)) ∙ outs.below place (omega (arith, low))
+        ∙ global_copied current old first place globals low ∙ sym (at_global current old window place low)
+    each place within (inr high) =
+        past place high within (cases_lt (after_outs window place) 16) (cases_lt (after_outs window place) 24)
+
+pub put_away_zero : (current old first second new : List ℕ) (window : ℕ)
+    → IsCopied 0 0 8 current old first → IsCopied (8 + 16 * window) 8 16 current first second
+    → IsCopied (8 + 16 * ((window + 1) % 8)) 24 8 current second new
+    → slice_index new 0 ≡ slice_index current 0
+put_away_zero current old first second new window globals outs ins =
+    ins.below 0 (omega arith) ∙ outs.below 0 (omega arith) ∙ globals.inside 0 (omega arith)
+
+-- and brought back
+pub bring_seen : (registers old first second new : List ℕ) (window : ℕ) → window < 8 → length registers ≡ 136
+    → IsCopied 0 0 8 registers old first → IsCopied 8 (8 + 16 * window) 16 registers first second
+    → IsCopied 24 (8 + 16 * ((window + 1) % 8)) 8 registers second new
+    → registers_seen new registers window ≡ registers
+bring_seen registers old first second new window w count globals outs ins =
+    sym (as_seen new registers window registers count (λ place within. each place within (cases_lt place 8)))
+  where
+    next : ℕ
+    next = 8 + 16 * ((window + 1) % 8)
+
+    past : (place : ℕ) → 8 ≤ place → place < 136
+        → (after_outs window place < 16) ⊎ (16 ≤ after_outs window place)
+        → (after_outs window place < 24) ⊎ (24 ≤ after_outs window place)
+        → slice_index registers place ≡ seen_at new registers window place
+    past place high within (inl k) q =
+        let at : 8 + 16 * window + after_outs window place ≡ place = omega (arith, high, within, k, w) in
+        sym (at_own new registers window place high (omega (arith, k))
+        ∙ ins.below (8 + after_outs window place) (omega (arith, k)) ∙ outs.inside (after_outs window place) k
+        ∙ ap (slice_index registers) at)
+    past place high within (inr k) (inl own) =
+        let at : next + (after_outs window place - 16) ≡ place = omega (arith, high, within, k, own, w) in
+        sym (at_own new registers window place high own ∙ ap (slice_index new) (omega (arith, k))
+        ∙ ins.inside (after_outs window place - 16) (omega (arith, k, own)) ∙ ap (slice_index registers) at)
+    past place high within (inr k) (inr away) = sym (at_other new registers window place high away)
+
+    each : (place : ℕ) → place < 136 → (place < 8) ⊎ (8 ≤ place)
+        → slice_index registers place ≡ seen_at new registers window place
+    each place within (inl low) =
+        sym (at_global new registers window place low ∙ ins.below place (omega (arith, low))
+        ∙ outs.below place (omega (arith, low)) ∙ global_copied registers old first place globals low)
+    each place within (inr high) =
+        past place high within (cases_lt (after_outs window place) 16) (cases_lt (after_outs window place) 24)
+
+pub bring_zero : (registers old first second new : List ℕ) (window : ℕ) → IsCopied 0 0 8 registers old first
+    → IsCopied 8 (8 + 16 * window) 16 registers first second
+    → IsCopied 24 (8 + 16 * ((window + 1) % 8)) 8 registers second new
+    → slice_index new 0 ≡ slice_index registers 0
+bring_zero registers old first second new window globals outs ins =
+    ins.below 0 (omega arith) ∙ outs.below 0 (omega arith) ∙ globals.inside 0 (omega arith)
+
+-- ---- at first
+
+pub zeros_seen : registers_seen (replicate 32 0) (replicate 136 0) 0 ≡ replicate 136 0
+unfolding registers_seen
+zeros_seen = refl
