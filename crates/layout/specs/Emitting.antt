@@ -62,7 +62,7 @@ jump_code false base from to = i.Branch 8 true (between from to) ∷ []
 
 abbrev pub branch_code : Bool → ℕ → ℕ → ℕ → ℕ → List Instr
 branch_code true base cond from to = i.Branch (opposite cond) false (pos 6) ∷ nop ∷ long_jump (base + 4 * to)
-branch_code false base cond from to = i.Branch cond false (between from to) ∷ nop ∷ []
+branch_code false base cond from to = i.Branch cond true (between from to) ∷ nop ∷ []
 
 -- the words of an entry at word `from` before the next one, where the piece to which it leads starts at word `to`
 abbrev pub entry_code : ℕ → Bool → ℕ → ℕ → Option Entry → Option Entry → List ℕ
