@@ -44,8 +44,8 @@ def bicc(condition, here, to):
 
 
 def branch(condition, here, to, is_long):
-    """On a condition: with a nop in its slot, or on the opposite one past a jump."""
-    return [bicc(condition ^ 8, 0, 24), NOP, *jump(to)] if is_long else [bicc(condition, here, to), NOP]
+    """On a condition: with a nop in its slot, annulled where it isn't taken, or on the opposite one past a jump."""
+    return [bicc(condition ^ 8, 0, 24), NOP, *jump(to)] if is_long else [bicc(ANNULLED | condition, here, to), NOP]
 
 
 def link(register, address):

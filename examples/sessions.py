@@ -278,8 +278,9 @@ def dump(pc, steps, cells):
     return struct.pack(f'>4sIIIIQI{len(cells)}I', b'EELD', 1, 0, 0, pc, steps, len(cells), *cells)
 
 
-# Dumps that no run of three_words with counters makes: its counted edge is the one that leaves its block.
-DUMPS = {'left_without_entry': dump(0, 3, [0]), 'long_run': dump(0, 1 << 32, [1]), 'two_cells': dump(0, 3, [1, 1]),
+# Dumps that no run of three_words with counters makes, whose counted edge is its landing, or of taken_branch, whose branch
+# is counted where it is taken: twice, where the block was entered once.
+DUMPS = {'taken_twice': dump(0, 3, [2, 0, 0, 0, 0, 0, 0]), 'long_run': dump(0, 1 << 32, [1]), 'two_cells': dump(0, 3, [1, 1]),
     'in_no_place': dump(0xfffff000, 3, [0]), 'cut_dump': dump(0, 3, [1])[:31],
     'two_cells_of_a_long_run': dump(0, 1 << 32, [1, 1])}
 
@@ -299,7 +300,9 @@ def uncounted():
     yield eel('counts profiled two_cells_of_a_long_run', 65, err=b'eel: two_cells_of_a_long_run: 2 cells, 1 wanted\n')
     yield eel('counts profiled long_run', 65, err=b'eel: long_run: 4294967296 steps\n')
     yield eel('counts profiled in_no_place', 65, err=b'eel: in_no_place: pc fffff000 between places\n')
-    yield eel('counts profiled left_without_entry', 65, err=b'eel: left_without_entry: edge 1 would be -1\n')
+    yield 'hold taken_branch', b''
+    yield eel('edit taken_branch branching profile', 0)
+    yield eel('counts branching taken_twice', 65, err=b'eel: taken_twice: edge 1 would be -1\n')
     yield eel('run profiled -n 0 -d dump', 0, err=b'stopped 0\n')
     yield eel('counts profiled dump', 0, b'edges 2 counted 1 executions 0\n')
     yield eel('counts profiled', 64, err=BAD_WORDS)

@@ -76,6 +76,15 @@ impl FlowGraph {
         self.blocks.words(b)
     }
 
+    /// How control leaves the last word of the block `b`.
+    #[inline]
+    pub fn end(&self, b: BlockNo) -> BlockEnd
+        requires { b.0 < length self.now.blocks.firsts }
+        ensures { result ≡ end_of self.now.blocks b.0 }
+    {
+        self.blocks.end(b)
+    }
+
     /// The block that holds the word `w`.
     #[inline]
     pub fn holding(&self, w: WordNo) -> BlockNo

@@ -48,9 +48,20 @@ pub fn profiled(alloc: Global, bytes: &[u8]) -> Result<Vec<u8>, EditFault>
     ensures profile { IfOk result (λ file. IsProfileOf bytes.now file.items) }
     ensures refused { IfErr result (ProfileRefuses bytes.now) }
 {
+    let tree = tree_of(alloc, bytes)?;
+    with_counters(alloc, bytes, &tree)
+}
+
+/// A spanning tree of the graph of a file. The view of it is gone when the file is edited, since the edit makes its own.
+fn tree_of(alloc: Global, bytes: &[u8]) -> Result<SpanTree, EditFault>
+    requires { length bytes.now ≤ 2 ^ 26 }
+    ensures cells { IfOk result (AreCells (graph_in bytes.now)) }
+    ensures few { IfOk result (λ cells. cell_count cells ≤ 2 ^ 22) }
+    ensures refused { IfErr result (ProfileRefuses bytes.now) }
+{
     let view = look(alloc, bytes, &[])?;
     let tree = heaviest_tree(alloc, &view)?;
-    with_counters(alloc, bytes, &tree)
+    Ok(tree)
 }
 
 /// A spanning tree of the graph, grown heaviest first.

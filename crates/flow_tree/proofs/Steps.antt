@@ -17,7 +17,7 @@ use Rattle.flows.proofs.Spanning.{grown_count, same_set, all_count, connected_sp
 use Rattle.flows.proofs.Weights.{weight_one}
 use Rattle.flow_tree.specs.Rows.{Row, HasEnds, IsAttached}
 use Rattle.flow_tree.specs.Search.{candidate, IsReal, IsSearch}
-use Rattle.flow_tree.specs.Tree.{edges_in, nodes_in, IsGrown, edges_of, reached_by}
+use Rattle.flow_tree.specs.Tree.{edges_in, nodes_in, IsGrown, RisesWith, edges_of, reached_by}
 use Rattle.flow_tree.specs.declared.Join.{Join}
 use Rattle.flow_tree.specs.declared.growth.Candidate.{Candidate}
 use Rattle.flow_tree.specs.declared.growth.Search.{Search}
@@ -163,12 +163,21 @@ counted_spans n links w r es t off is_node lr ok h whole same c =
     spanning_alike (graph_of n links) is_node (on es) (rest (marked off)) (λ e l. sym (ap not (same e l) ∙ not_twice (on es e)))
     (connected_spans (graph_of n links) is_node w r es t (graph_ok n links ok) lr c h whole)
 
-pub counted_least : (n : ℕ) (links : List Link) (w : ℕ → ℕ) (r : ℕ) (es : List ℕ) (t : NodeSet) (off : List Bool) (is_node : NodeSet) → r < n → IsLinked n links →
-    Grows (graph_of n links) w (only r) es t → IsWhole (graph_of n links) t → ((e : ℕ) → e < length links → marked off e ≡ rest (on es) e) →
-    IsConnected (graph_of n links) is_node r → IsLeast (graph_of n links) w (marked off)
-counted_least n links w r es t off is_node lr ok h whole same c =
-    least_alike (graph_of n links) w (rest (on es)) (marked off) same
-    (off_tree_least (graph_of n links) w r es t (graph_ok n links ok) lr h (connected_ends (graph_of n links) is_node w r es t (graph_ok n links ok) lr c h whole))
+-- a growth by ranks is one by weights that rise with them
+grows_by : (g : Graph) (rank weight : ℕ → ℕ) (es : List ℕ) (s t : NodeSet) → RisesWith g.edges rank weight → Grows g rank s es t → Grows g weight s es t
+grows_by g rank weight [] s t rises h = h
+grows_by g rank weight (x ∷ xs) s t rises h =
+    (record { inside = h.0.inside; across = h.0.across; heaviest = λ e l c. rises x e h.0.inside l (h.0.heaviest e l c) },
+    grows_by g rank weight xs (and_also s (far_end g s x)) t rises h.1)
+
+pub counted_least : (n : ℕ) (links : List Link) (rank weight : ℕ → ℕ) (r : ℕ) (es : List ℕ) (t : NodeSet) (off : List Bool) (is_node : NodeSet) → r < n → IsLinked n links →
+    RisesWith (length links) rank weight → Grows (graph_of n links) rank (only r) es t → IsWhole (graph_of n links) t →
+    ((e : ℕ) → e < length links → marked off e ≡ rest (on es) e) → IsConnected (graph_of n links) is_node r → IsLeast (graph_of n links) weight (marked off)
+counted_least n links rank weight r es t off is_node lr ok rises h whole same c =
+    let by_weight = grows_by (graph_of n links) rank weight es (only r) t rises h in
+    least_alike (graph_of n links) weight (rest (on es)) (marked off) same
+    (off_tree_least (graph_of n links) weight r es t (graph_ok n links ok) lr by_weight
+    (connected_ends (graph_of n links) is_node weight r es t (graph_ok n links ok) lr c by_weight whole))
 
 -- ---- joins
 pub edges-push : (xs : List Join) (j : Join) → edges_in (xs ++ j ∷ []) ≡ edges_in xs ++ j.edge ∷ []

@@ -1,5 +1,5 @@
 -- What a tree tells of its graph.
-use Rattle.std.specs.Prelude.{◌≡◌, ℕ, ◌<◌, List, length, map}
+use Rattle.std.specs.Prelude.{◌≡◌, ℕ, ◌<◌, ◌≤◌, List, length, map}
 use Rattle.std.specs.List.{All}
 use Rattle.flows.specs.Flows.{Graph, NodeSet}
 use Rattle.flows.specs.Trees.{only, Grows, joined_by}
@@ -33,3 +33,7 @@ pub record IsGrown (g : Graph) (t : Tree) : Type 0 where
   pub inside : All (λ (j : Join). j.edge < g.edges) t.joins.items
   pub grows : Grows g (λ e. 0) (only t.root) (edges_of t) (reached_by t)
   pub nodes : nodes_in t.joins.items ≡ joined_by g (only t.root) (edges_of t)
+
+-- of the edges below n none weighs more than one that ranks as high
+abbrev pub RisesWith : ℕ → (ℕ → ℕ) → (ℕ → ℕ) → Type 0
+RisesWith n rank weight = (e h : ℕ) → e < n → h < n → rank h ≤ rank e → weight h ≤ weight e

@@ -5,7 +5,7 @@ ghost use Rattle.std.specs.List.{All};
 ghost use Rattle.flows.specs.Flows.{Determines, IsLeast, rest};
 ghost use Rattle.flows.specs.Trees.{IsConnected, IsSpanningTree, on};
 ghost use Rattle.flows.specs.Links.{graph_of, marked, weight_in, IsLinked};
-ghost use Rattle.flow_tree.specs.Tree.{edges_of};
+ghost use Rattle.flow_tree.specs.Tree.{edges_of, RisesWith};
 
 use crate::Tree;
 use crate::growth::grow;
@@ -26,28 +26,29 @@ pub fn off_tree(alloc: Global, tree: &Tree, edges: usize) -> Result<Vec<bool>, A
     Ok(off)
 }
 
-/// Which edges to count: those off a heaviest tree from `root`. Their counts determine all counts. In a connected graph
-/// the others are a spanning tree, and no set of edges whose counts determine all counts weighs less.
+/// Which edges to count: those off a tree from `root` that is grown by ranks, an edge of the highest rank first. Their
+/// counts determine all counts. In a connected graph the others are a spanning tree, and no set of edges whose counts
+/// determine all counts weighs less, by the ranks or by any weight that rises with them.
 pub fn counted(
     alloc: Global,
     nodes: usize,
     links: &[Link],
-    weights: &[u64],
+    ranks: &[u64],
     root: usize,
 ) -> Result<Vec<bool>, AllocError>
     requires root { root < nodes }
     requires linked { IsLinked nodes links.now }
-    requires weights { length weights.now ≡ length links.now }
+    requires ranks { length ranks.now ≡ length links.now }
     ensures len { IfOk result (λ counted. length counted.items ≡ length links.now) }
     ensures determines { IfOk result (λ counted.
         Determines (graph_of nodes links.now) (marked counted.items)) }
     ensures spans { (is_node : ℕ → Bool) → IsConnected (graph_of nodes links.now) is_node root →
         IfOk result (λ counted.
         IsSpanningTree (graph_of nodes links.now) is_node (rest (marked counted.items))) }
-    ensures least { (is_node : ℕ → Bool) → IsConnected (graph_of nodes links.now) is_node root →
-        IfOk result (λ counted.
-        IsLeast (graph_of nodes links.now) (weight_in weights.now) (marked counted.items)) }
+    ensures least { (is_node : ℕ → Bool) (weight : ℕ → ℕ) → RisesWith (length links.now) (weight_in ranks.now) weight →
+        IsConnected (graph_of nodes links.now) is_node root →
+        IfOk result (λ counted. IsLeast (graph_of nodes links.now) weight (marked counted.items)) }
 {
-    let tree = grow(alloc, nodes, links, weights, root)?;
+    let tree = grow(alloc, nodes, links, ranks, root)?;
     off_tree(alloc, &tree, links.len())
 }

@@ -15,17 +15,17 @@ const CARRY_LOOP: [u32; 7] = [
 
 const WEIGHTS: [u64; 9] = [1, 9, 9, 1, 1, 1, 1, 1, 1];
 
-/// Its cells: those off the tree weigh 13.
+/// Its cells: those off the tree weigh 13, and are landings but for one.
 const CELLS: [Option<u32>; 9] = [
-    Some(0),
-    Some(1),
     None,
+    Some(0),
+    None,
+    None,
+    None,
+    Some(1),
     Some(2),
     Some(3),
-    None,
     Some(4),
-    None,
-    None,
 ];
 
 /// Its notes as words, with the same cells.
@@ -50,11 +50,11 @@ const NOTES: [u32; 54] = [
     0,
     0,
     1,
+    u32::MAX,
+    1,
+    1,
+    1,
     0,
-    1,
-    1,
-    1,
-    1,
     2,
     1,
     3,
@@ -62,27 +62,27 @@ const NOTES: [u32; 54] = [
     0,
     2,
     3,
-    2,
+    u32::MAX,
     0,
     3,
     4,
-    3,
+    u32::MAX,
     5,
     4,
     0,
-    u32::MAX,
+    1,
     5,
     4,
     1,
-    4,
+    2,
     5,
     4,
     2,
-    u32::MAX,
+    3,
     5,
     4,
     3,
-    u32::MAX,
+    4,
     0,
 ];
 

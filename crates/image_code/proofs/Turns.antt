@@ -80,11 +80,11 @@ module _ (g : Setting) (l : Pieces) (base : ℕ) (p : Placement) (place : ℕ �
       ≡ t.pc + 4 = omega arith in q) in e) here.slot here.memory
 
   hop : Goes t (if holds_of c.cond t.codes then slice_index p.at c.taken else place (l.image node c.number) 2)
-      (place (l.image node c.number) 2) 2 6 2
+      (place (l.image node c.number) 2) 1 6 2
   hop = branches_hop l.list base p place h.laid (l.image node c.number) 1 c.cond (record { 0 = c.taken })
       (b_item 1) c.small t b_ready b_at
 
-  b_inside : (base ≤ t.pc) × (t.pc + 8 ≤ place (l.image node c.number) 2)
+  b_inside : (base ≤ t.pc) × (t.pc + 4 ≤ place (l.image node c.number) 2)
       × (place (l.image node c.number) 2 ≤ base + 4 * length p.code)
       × (place (l.image node c.number) 4 ≤ base + 4 * length p.code)
   b_inside =
@@ -162,21 +162,21 @@ module _ (g : Setting) (l : Pieces) (base : ℕ) (p : Placement) (place : ℕ �
     pub brief : next ≢ None → HasShortForms l.list place → operations_on g.snips edges ≡ 0 → count ≤ 8
 
   -- the branch's words lead on
-  of_hop : (to : ℕ) → (j : Goes t to (place (l.image node c.number) 2) 2 6 2) → Leads IsOn t (hopped t to j.memory) j.count
+  of_hop : (to : ℕ) → (j : Goes t to (place (l.image node c.number) 2) 1 6 2) → Leads IsOn t (hopped t to j.memory) j.count
   unfolding IsOn
   of_hop to j =
       let ins = j.inside in
       leads_weaker _ _ t _ j.count (λ u q. let b = q.past in let d = q.before in inl (omega arith, omega arith, q.stores))
       j.hops.path
 
-  of_hop_fit : (to : ℕ) → to ≤ 2 ^ 31 → (j : Goes t to (place (l.image node c.number) 2) 2 6 2)
+  of_hop_fit : (to : ℕ) → to ≤ 2 ^ 31 → (j : Goes t to (place (l.image node c.number) 2) 1 6 2)
       → IsFit g l base p place f h (hopped t to j.memory)
   of_hop_fit to low j =
       hopped_fit g l base p place f h t t to here_fit here.live low j.count j.memory j.hops.path.steps
       (first_kept g l base p place f h t j.memory here_fit j.hops.stores).0
 
   -- on from where the branch leads
-  then_on : (next : Option ℕ) (edges : List ℕ) (mid to most : ℕ) → most ≤ 8 → (j : Goes t mid (place (l.image node c.number) 2) 2 6 2)
+  then_on : (next : Option ℕ) (edges : List ℕ) (mid to most : ℕ) → most ≤ 8 → (j : Goes t mid (place (l.image node c.number) 2) 1 6 2)
       → Arrives g l base p place f h next edges (hopped t mid j.memory) to most → Comes next edges to (6 + most)
   unfolding IsOn
   then_on next edges mid to most bound k rest =
@@ -215,14 +215,14 @@ module _ (g : Setting) (l : Pieces) (base : ℕ) (p : Placement) (place : ℕ �
             omega (arith, two, ins, brief, none, bound);
       }
 
-  takes : (edges : List ℕ) (next : Option ℕ) (to : ℕ) → Goes t (slice_index p.at c.taken) (place (l.image node c.number) 2) 2 6 2
+  takes : (edges : List ℕ) (next : Option ℕ) (to : ℕ) → Goes t (slice_index p.at c.taken) (place (l.image node c.number) 2) 1 6 2
       → LeadsTo l p (record { 0 = c.taken }) edges next to → Comes next edges to 10
   takes edges next to j leads =
       then_on next edges (slice_index p.at c.taken) to 4 (omega arith) j
       (arrive g l base p place f h (record { 0 = c.taken }) edges (hopped t (slice_index p.at c.taken) j.memory) next to
       (of_hop_fit (slice_index p.at c.taken) (h.laid.aligned c.taken).1 j) refl leads)
 
-  passes : (edges : List ℕ) (next : Option ℕ) (to : ℕ) → Goes t (place (l.image node c.number) 2) (place (l.image node c.number) 2) 2 6 2
+  passes : (edges : List ℕ) (next : Option ℕ) (to : ℕ) → Goes t (place (l.image node c.number) 2) (place (l.image node c.number) 2) 1 6 2
       → LeadsTo l p (record { 0 = c.untaken }) edges next to → Comes next edges to 14
   passes edges next to j leads =
       let low = h.laid.low in
@@ -294,7 +294,7 @@ module _ (g : Setting) (l : Pieces) (base : ℕ) (p : Placement) (place : ℕ �
       let to = visited_at g l p f (node_after (graph_in g) node (gone_at g node x (does_at g x t)))
       (point_of (does_at g x t)) in
       let way = subst (λ (b : Bool). Goes t (if b then slice_index p.at c.taken else place (l.image node c.number) 2)
-      (place (l.image node c.number) 2) 2 6 2) e hop in
+      (place (l.image node c.number) 2) 1 6 2) e hop in
       turned (gone_at g node x (does_at g x t)) (gone_last g l f h.cells node x (does_at g x t)) to 10 (does_at g x t) (branch_moves g x t c.none c.word c.is_word c.cond c.annul c.disp c.says)
       (takes (gone_at g node x (does_at g x t)) (word_ahead g x t) to way (subst (λ (b : Bool).
       LeadsTo l p (record { 0 = if b then c.taken else c.untaken }) (gone_at g node x (does_at g x t)) (word_ahead g x t) to) e
@@ -304,7 +304,7 @@ module _ (g : Setting) (l : Pieces) (base : ℕ) (p : Placement) (place : ℕ �
       let to = visited_at g l p f (node_after (graph_in g) node (gone_at g node x (does_at g x t)))
       (point_of (does_at g x t)) in
       let way = subst (λ (b : Bool). Goes t (if b then slice_index p.at c.taken else place (l.image node c.number) 2)
-      (place (l.image node c.number) 2) 2 6 2) e hop in
+      (place (l.image node c.number) 2) 1 6 2) e hop in
       turned (gone_at g node x (does_at g x t)) (gone_last g l f h.cells node x (does_at g x t)) to 14 (does_at g x t) (branch_moves g x t c.none c.word c.is_word c.cond c.annul c.disp c.says)
       (passes (gone_at g node x (does_at g x t)) (word_ahead g x t) to way (subst (λ (b : Bool).
       LeadsTo l p (record { 0 = if b then c.taken else c.untaken }) (gone_at g node x (does_at g x t)) (word_ahead g x t) to) e

@@ -4,7 +4,7 @@ use Rattle.std.specs.Option.{option_map}
 use Rattle.std.proofs.lemmas.Bool.{cases_lt, cases_Bool}
 use Rattle.layout.specs.declared.entries.Entry.{Entry}
 use Rattle.layout.specs.Forms.{Forms, far_from, goal_of, is_far, offset, start_of, NoneLeft}
-use Rattle.layout.specs.Emitting.{code_at, code_to, entry_code, far_of, has_condition, target_offset, IsEmitted, IsListing}
+use Rattle.layout.specs.Emitting.{code_at, code_to, entry_code, far_of, has_condition, target_offset, IsEmitted, IsOffsets}
 use Rattle.layout.proofs.Widening.{rises}
 
 differ : false ≡ true → ⊥
@@ -58,14 +58,13 @@ pub some_both : (entries : List Entry) (long : Forms) (o : Option ℕ)
 some_both entries long None = refl
 some_both entries long (Some k) = refl
 
-pub target_low : (base : ℕ) (entries : List Entry) (starts : List ℕ) (long : Forms) → IsListing entries starts
-    → base + 4 * offset entries long (length entries) ≤ 2 ^ 31 → (o : Option ℕ) → IfSome o (λ k. k < length starts)
+pub target_low : (base : ℕ) (entries : List Entry) (at : List ℕ) (long : Forms) → IsOffsets entries long at
+    → base + 4 * offset entries long (length entries) ≤ 2 ^ 31 → (o : Option ℕ) → IfSome o (λ k. k < length at)
     → IfSome (option_map (offset entries long) (option_map (start_of entries) o)) (λ to. base + 4 * to < 2 ^ 32)
-target_low base entries starts long h low None l = tt
-target_low base entries starts long h low (Some k) l =
+target_low base entries at long h low None l = tt
+target_low base entries at long h low (Some k) l =
     let i = h.inside k l in
-    let e = h.are k l in
-    let r = rises entries long (start_of entries k) (length entries) (omega (arith, i, e)) in
+    let r = rises entries long (start_of entries k) (length entries) (omega (arith, i)) in
     omega arith
 
 pub code_as : (base : ℕ) (old new : List ℕ) (long : Bool) (from a to b : ℕ) (x y next later : Option Entry)

@@ -217,21 +217,37 @@ untaken_acts s c disp22 n h =
     ap (λ (z : Slot). unless_couple z s (branched (holds_of c s.codes) (c == 8) false s (target_of s disp22))) n
     ∙ ap (λ z. branched z (c == 8) false s (target_of s disp22)) h
 
+-- a branch that is annulled where it isn't taken
+annulled_acts : (s : State) (c : ℕ) (disp22 : ℤ) (flag always : Bool) → s.slot ≡ NoSlot → holds_of c s.codes ≡ flag
+    → (c == 8) ≡ always → act s (i.Branch c true disp22) ≡ branched flag always true s (target_of s disp22)
+unfolding act branch_step
+annulled_acts s c disp22 flag always n h e =
+    ap (λ (z : Slot). unless_couple z s (branched (holds_of c s.codes) (c == 8) true s (target_of s disp22))) n
+    ∙ ap (λ z. branched z (c == 8) true s (target_of s disp22)) h
+    ∙ ap (λ z. branched flag z true s (target_of s disp22)) e
+
 -- a nop in the slot
 nop_acts : (s : State) (pc npc : ℕ) (slot : Slot) → act
     (record s { pc = pc; npc = npc; slot = slot }) nop ≡ hopped s npc s.memory
 unfolding act
 nop_acts s pc npc slot = refl
 
--- two words without a store lead there
-abbrev HopsBare : State → ℕ → Type 0
-HopsBare s to = Hops s 2 IsFirstWord to s.memory × ((counted : ℕ → Bool) → count_stores counted s 2 ≡ 0)
+-- so many steps without a store lead there
+abbrev HopsBare : ℕ → State → ℕ → Type 0
+HopsBare count s to = Hops s count IsFirstWord to s.memory × ((counted : ℕ → Bool) → count_stores counted s count ≡ 0)
+
+-- one step or two
+record HopsSoon (s : State) (to : ℕ) : Type 0 where
+  count : ℕ
+  some : 1 ≤ count
+  few : count ≤ 2
+  bare : HopsBare count s to
 
 module _ (s : State) (ready : IsReady s) (none : s.slot ≡ NoSlot) (low : s.pc < 2 ^ 32 - 64) where
-  in_slot : (c : ℕ) (disp22 : ℤ) (to : ℕ) (slot : Slot)
-      → StandIn (code_of s.memory) s.pc (i.Branch c false disp22 ∷ nop ∷ [])
-      → step_of s ≡ record s { pc = s.npc; npc = to; slot = slot } → HopsBare s to
-  in_slot c disp22 to slot stand one =
+  in_slot : (c : ℕ) (annul : Bool) (disp22 : ℤ) (to : ℕ) (slot : Slot)
+      → StandIn (code_of s.memory) s.pc (i.Branch c annul disp22 ∷ nop ∷ [])
+      → step_of s ≡ record s { pc = s.npc; npc = to; slot = slot } → HopsBare 2 s to
+  in_slot c annul disp22 to slot stand one =
       let s1 = record s { pc = s.npc; npc = to; slot = slot } in
       let npc = ready.npc in
       let here : Says (code_of s.memory) s.npc nop = says_at (code_of s.memory) s.npc (s.pc + 4) nop
@@ -241,36 +257,80 @@ module _ (s : State) (ready : IsReady s) (none : s.slot ≡ NoSlot) (low : s.pc 
         path = leads_then _ s s1 (hopped s to s.memory) 1 1 (leads_one _ s s1 one) (leads_one _ s1 _ two)
             (λ _ _. record { past = omega arith; before = omega arith; stores = stores_none IsFirstWord s.memory });
         silent = silent_then s s1 1 1 one (silent_one s
-            (says_puts s (i.Branch c false disp22) (λ cond q x e. cc) stand.0)) (silent_one s1
+            (says_puts s (i.Branch c annul disp22) (λ cond q x e. cc) stand.0)) (silent_one s1
             (says_puts s1 nop (λ cond q x e. cc) here));
         stores = stores_none IsFirstWord s.memory;
       } in (
         hops,
         λ counted. none_then counted s s1 1 1 one
-            (no_stores counted s (i.Branch c false disp22) ready.live stand.0 refl)
+            (no_stores counted s (i.Branch c annul disp22) ready.live stand.0 refl)
             (no_stores counted s1 nop ready.live here refl),
       )
 
   -- the branch and its nop lead to the branch's target, or past the nop
   two_words : (c : ℕ) (disp22 : ℤ) (to : ℕ) (flag : Bool) → Reaches s.pc to disp22
       → StandIn (code_of s.memory) s.pc (i.Branch c false disp22 ∷ nop ∷ [])
-      → holds_of c s.codes ≡ flag → HopsBare s (if flag then to else s.pc + 8)
+      → holds_of c s.codes ≡ flag → HopsBare 2 s (if flag then to else s.pc + 8)
   two_words c disp22 to true r stand e =
-      in_slot c disp22 to Taken stand (says_step s (i.Branch c false disp22) ready.live stand.0
+      in_slot c false disp22 to Taken stand (says_step s (i.Branch c false disp22) ready.live stand.0
       ∙ taken_acts s c disp22 (c == 8) none e refl
       ∙ ap (λ z. record s { pc = s.npc; npc = z; slot = Taken }) r)
   two_words c disp22 to false r stand e =
       let npc = ready.npc in
       let there : wrapped (s.npc + 4) ≡ s.pc + 8 = omega arith in
-      in_slot c disp22 (s.pc + 8) Untaken stand (says_step s (i.Branch c false disp22) ready.live stand.0
+      in_slot c false disp22 (s.pc + 8) Untaken stand (says_step s (i.Branch c false disp22) ready.live stand.0
       ∙ untaken_acts s c disp22 none e
       ∙ ap (λ z. record s { pc = s.npc; npc = z; slot = Untaken }) there)
+
+  no_slot : (c : ℕ) (disp22 : ℤ) (to : ℕ) → StandIn (code_of s.memory) s.pc (i.Branch c true disp22 ∷ nop ∷ [])
+      → step_of s ≡ hopped s to s.memory → HopsBare 1 s to
+  no_slot c disp22 to stand one =
+      let hops : Hops s 1 IsFirstWord to s.memory = record {
+        path = leads_one _ s _ one;
+        silent = silent_one s (says_puts s (i.Branch c true disp22) (λ cond q x e. cc) stand.0);
+        stores = stores_none IsFirstWord s.memory;
+      } in (hops, λ counted. no_stores counted s (i.Branch c true disp22) ready.live stand.0 refl)
+
+  -- the branch leads past its nop where it isn't taken; where it is, the nop runs, unless it is always taken
+  annulled : (c : ℕ) (disp22 : ℤ) (to : ℕ) (flag always : Bool) → Reaches s.pc to disp22
+      → StandIn (code_of s.memory) s.pc (i.Branch c true disp22 ∷ nop ∷ [])
+      → holds_of c s.codes ≡ flag → (c == 8) ≡ always → HopsSoon s (if flag then to else s.pc + 8)
+  annulled c disp22 to true true r stand e a = record {
+    count = 1;
+    some = omega arith;
+    few = omega arith;
+    bare = no_slot c disp22 to stand (says_step s (i.Branch c true disp22) ready.live stand.0
+        ∙ annulled_acts s c disp22 true true none e a
+        ∙ ap (λ z. record s { pc = z; npc = wrapped (z + 4) }) r
+        ∙ ap (λ (z : Slot). record s { pc = to; npc = wrapped (to + 4); slot = z }) none);
+  }
+  annulled c disp22 to true false r stand e a = record {
+    count = 2;
+    some = omega arith;
+    few = omega arith;
+    bare = in_slot c true disp22 to Taken stand (says_step s (i.Branch c true disp22) ready.live stand.0
+        ∙ annulled_acts s c disp22 true false none e a
+        ∙ ap (λ z. record s { pc = s.npc; npc = z; slot = Taken }) r);
+  }
+  annulled c disp22 to false always r stand e a =
+      let there : wrapped (s.pc + 8) ≡ s.pc + 8 = omega arith in
+      let after : s.pc + 12 ≡ s.pc + 8 + 4 = omega arith in
+      record {
+        count = 1;
+        some = omega arith;
+        few = omega arith;
+        bare = no_slot c disp22 (s.pc + 8) stand (says_step s (i.Branch c true disp22) ready.live stand.0
+            ∙ annulled_acts s c disp22 false always none e a
+            ∙ ap (λ z. record s { pc = z; npc = wrapped (s.pc + 12) }) there
+            ∙ ap (λ z. record s { pc = s.pc + 8; npc = wrapped z }) after
+            ∙ ap (λ (z : Slot). record s { pc = s.pc + 8; npc = wrapped (s.pc + 8 + 4); slot = z }) none);
+      }
 
 -- where a branch in its long form goes
 past_jump : (base : ℕ) (code : List ℕ) (to a b : ℕ) (s : State) (flag : Bool) → CanRun base code s → s.pc ≡ a
     → b ≤ 2 ^ 31 → to ≤ 2 ^ 31 → to % 4 ≡ 0 → b ≡ a + 24
-    → SaysFrom base code (a + 8) (long_jump to) → HopsBare s (if not flag then a + 24 else s.pc + 8)
-    → Goes s (if flag then to else b) b 2 6 2
+    → SaysFrom base code (a + 8) (long_jump to) → HopsBare 2 s (if not flag then a + 24 else s.pc + 8)
+    → Goes s (if flag then to else b) b 1 6 2
 past_jump base code to a b s false w is low low' aligned e say h =
     record {
       count = 2;
@@ -319,21 +379,21 @@ past_jump base code to a b s true w is low low' aligned e say h =
 
 branch_goes : (base : ℕ) (code : List ℕ) (c to a b : ℕ) (s : State) → BranchStands base code c to a b
     → CanRun base code s → s.pc ≡ a → c < 16
-    → b ≤ 2 ^ 31 → to ≤ 2 ^ 31 → to % 4 ≡ 0 → Goes s (if holds_of c s.codes then to else b) b 2 6 2
+    → b ≤ 2 ^ 31 → to ≤ 2 ^ 31 → to % 4 ≡ 0 → Goes s (if holds_of c s.codes then to else b) b 1 6 2
 branch_goes base code c to a b s (branch_short disp22 f r say) w is small low low' aligned =
-    let words = says_stand base code s.memory w.code (i.Branch c false disp22 ∷ nop ∷ []) a say in
-    let h = two_words s w.ready w.slot (omega arith) c disp22 to (holds_of c s.codes)
+    let words = says_stand base code s.memory w.code (i.Branch c true disp22 ∷ nop ∷ []) a say in
+    let h = annulled s w.ready w.slot (omega arith) c disp22 to (holds_of c s.codes) (c == 8)
     (subst (λ z. Reaches z to disp22) (sym is) r)
-    (subst (λ z. StandIn (code_of s.memory) z (i.Branch c false disp22 ∷ nop ∷ [])) (sym is) words) refl in
+    (subst (λ z. StandIn (code_of s.memory) z (i.Branch c true disp22 ∷ nop ∷ [])) (sym is) words) refl refl in
     record {
-      count = 2;
+      count = h.count;
       memory = s.memory;
-      some = omega arith;
-      few = omega arith;
-      inside = omega arith;
-      hops = subst (λ z. Hops s 2 IsFirstWord (if holds_of c s.codes then to else z) s.memory)
-          (let g : s.pc + 8 ≡ b = omega arith in g) h.0;
-      stored = λ counted free. h.1 counted;
+      some = h.some;
+      few = omega (arith, h.few);
+      inside = omega (arith, h.few);
+      hops = subst (λ z. Hops s h.count IsFirstWord (if holds_of c s.codes then to else z) s.memory)
+          (let g : s.pc + 8 ≡ b = omega arith in g) h.bare.0;
+      stored = λ counted free. h.bare.1 counted;
     }
 branch_goes base code c to a b s (branch_long f say say') w is small low low' aligned =
     let words = says_stand base code s.memory w.code (i.Branch (opposite c) false (pos 6) ∷ nop ∷ []) a say in

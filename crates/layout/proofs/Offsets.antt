@@ -1,11 +1,17 @@
--- The words before each entry, counted one after the other.
-use Rattle.std.proofs.Common.{◌≡◌, ℕ, zero, suc, ◌+◌, ◌*◌, ◌<◌, ◌≤◌, ◌⊎◌, inl, inr, List, [], ◌∷◌, ◌++◌, length, get_or, slice_get, Some, refl, ap, sym, ◌∙◌, add-one, arith}
-use Rattle.std.proofs.lemmas.Bool.{cases_lt}
-use Rattle.std.proofs.lemmas.List.{length-append}
+-- The words before each entry, and before each piece.
+use Rattle.std.proofs.Common.{◌≡◌, ℕ, zero, suc, ◌+◌, ◌*◌, ◌<◌, ◌≤◌, ◌⊎◌, inl, inr, Bool, true, false, List, [], ◌∷◌, ◌++◌, length, get_or, slice_get, slice_index, Option, Some, None, IfSome, refl, ap, sym, ◌∙◌, subst, add-one, arith, drop}
+use Rattle.std.specs.Prelude.{if◌then◌else◌}
+use Rattle.std.proofs.lemmas.Bool.{cases_lt, eqb-true}
+use Rattle.std.proofs.Math.Seq.{drop-cons}
+use Rattle.std.proofs.lemmas.List.{append_assoc}
 use Rattle.std.proofs.lemmas.Option.{slice_get-get_or}
+use Rattle.eel_base.specs.declared.range.Range.{Range}
+use Rattle.layout.specs.declared.items.Item.TheVariants as it
 use Rattle.layout.specs.declared.entries.Entry.{Entry}
-use Rattle.layout.specs.Forms.{Forms, width, offset}
-use Rattle.layout.specs.Emitting.{AreOffsets}
+use Rattle.layout.specs.declared.entries.Entry.TheVariants as en
+use Rattle.layout.specs.declared.ranges.Open.{Open}
+use Rattle.layout.specs.Forms.{Forms, is_start, leads_next, offset, start_of, target, width}
+use Rattle.layout.specs.Emitting.{closes, opens, ranges_from, AreOffsets, IsListing, IsOffsets}
 use Rattle.layout.proofs.Widening.{offset_more}
 
 pub offset_next : (entries : List Entry) (long : Forms) (n here w : ℕ) → here ≡ offset entries long n
@@ -16,50 +22,110 @@ offset_next entries long n here w e f =
     let g : w ≡ width (long n) (slice_get entries n) (slice_get entries (suc n)) = rw add-one at f in
     rw add-one (omega (arith, x, e, g))
 
-offset_none : (entries : List Entry) (long : Forms) → offset entries long 0 ≡ 0
+pub offset_none : (entries : List Entry) (long : Forms) → offset entries long 0 ≡ 0
 unfolding offset
 offset_none entries long = refl
 
-pub offsets_first : (entries : List Entry) (long : Forms) → AreOffsets entries long (0 ∷ []) 0
-offsets_first entries long = record {
-  len = refl;
-  each = λ k l. let e : k ≡ 0 = omega arith in rw e (sym (offset_none entries long));
-  small = λ k l. let e : k ≡ 0 = omega arith in let x = offset_none entries long in rw e (omega (arith, x));
-}
-
-push_same : (xs : List ℕ) (x : ℕ) → get_or (xs ++ x ∷ []) (length xs) 0 ≡ x
-push_same [] x = refl
-push_same (y ∷ ys) x = push_same ys x
-
-push_other : (xs : List ℕ) (x k : ℕ) → k < length xs → get_or (xs ++ x ∷ []) k 0 ≡ get_or xs k 0
-push_other [] x k l = absurd (omega arith)
-push_other (y ∷ ys) x zero l = refl
-push_other (y ∷ ys) x (suc k) l = push_other ys x k (omega arith)
-
-pub offsets_more : (entries : List Entry) (long : Forms) (at : List ℕ) (n here : ℕ) → AreOffsets entries long at n
-    → here ≡ offset entries long (n + 1) → here ≤ offset entries long n + 6
-    → AreOffsets entries long (at ++ here ∷ []) (n + 1)
-offsets_more entries long at n here h e l = record {
-  len = let x = length-append at (here ∷ []) in omega (arith, x, h.len);
-  each = λ k m. each k m (cases_lt k (n + 1));
-  small = λ k m. small k m (cases_lt k (n + 1));
-}
+width_small : (long : Bool) (x next : Option Entry) → width long x next ≤ 6
+width_small long None next = omega arith
+width_small long (Some (en.Start k)) next = omega arith
+width_small long (Some (en.Item (it.Word word))) next = omega arith
+width_small long (Some (en.Item (it.Jump to))) next = by (leads_next to next) long
   where
-    each : (k : ℕ) → k ≤ n + 1 → (k < n + 1) ⊎ (n + 1 ≤ k) → get_or (at ++ here ∷ []) k 0 ≡ offset entries long k
-    each k m (inl u) = push_other at here k (omega (arith, h.len)) ∙ h.each k (omega arith)
-    each k m (inr u) =
-        let s : k ≡ length at = omega (arith, h.len) in
-        let t : length at ≡ n + 1 = h.len in
-        ap (λ (k : ℕ). get_or (at ++ here ∷ []) k 0) s ∙ push_same at here ∙ e ∙ ap (offset entries long) (sym t)
-        ∙ ap (offset entries long) (sym s)
+    by : (skip long : Bool) → (if skip then 0 else (if long then 4 else 1)) ≤ 6
+    by true long = omega arith
+    by false true = omega arith
+    by false false = omega arith
+width_small true (Some (en.Item (it.Branch cond to))) next = omega arith
+width_small false (Some (en.Item (it.Branch cond to))) next = omega arith
+width_small long (Some (en.Item (it.Mark address node))) next = omega arith
+width_small long (Some (en.Item it.EndMark)) next = omega arith
 
-    small : (k : ℕ) → k ≤ n + 1 → (k < n + 1) ⊎ (n + 1 ≤ k) → offset entries long k ≤ 6 * k
-    small k m (inl u) = h.small k (omega arith)
-    small k m (inr u) =
-        let s : k ≡ n + 1 = omega arith in
-        let x = h.small n (omega arith) in
-        rw s (omega (arith, x, e, l))
+pub offset_small : (entries : List Entry) (long : Forms) (n : ℕ) → offset entries long n ≤ 6 * n
+offset_small entries long zero = omega (arith, offset_none entries long)
+offset_small entries long (suc n) =
+    omega (
+      arith,
+      offset_small entries long n,
+      offset_more entries long n,
+      width_small (long n) (slice_get entries n) (slice_get entries (suc n)),
+    )
 
 pub entry_at : (entries : List Entry) (n : ℕ) (x : Entry) → n < length entries → x ≡ get_or entries n x
     → slice_get entries n ≡ Some x
 entry_at entries n x l e = slice_get-get_or entries n x l ∙ ap Some (sym e)
+
+-- ---- where pieces start
+
+start_is : (k : ℕ) (x : Entry) → is_start k x ≡ true → x ≡ en.Start (record { 0 = k })
+start_is k (en.Start j) e = ap (λ (n : ℕ). en.Start (record { 0 = n })) (sym (eqb-true k j.0 e))
+start_is k (en.Item item) e = absurd (cc)
+
+started : (entries : List Entry) (k : ℕ) → start_of entries k < length entries
+    → slice_get entries (start_of entries k) ≡ Some (en.Start (record { 0 = k }))
+started [] k l = absurd (omega (arith, l))
+started (x ∷ xs) k l = by (is_start k x) refl (started xs k) l
+  where
+    by : (b : Bool) → is_start k x ≡ b
+        → (start_of xs k < length xs → slice_get xs (start_of xs k) ≡ Some (en.Start (record { 0 = k })))
+        → (if b then 0 else suc (start_of xs k)) < suc (length xs)
+        → slice_get (x ∷ xs) (if b then 0 else suc (start_of xs k)) ≡ Some (en.Start (record { 0 = k }))
+    by true e rec l = ap Some (start_is k x e)
+    by false e rec l = rec (omega (arith, l))
+
+-- one entry more, which has `here` words before it
+pub offsets_more : (entries : List Entry) (starts : List ℕ) (long : Forms) (old new : List ℕ) (n here : ℕ) (x : Entry)
+    → IsListing entries starts → length old ≡ length starts → length new ≡ length old → n < length entries
+    → slice_get entries n ≡ Some x → here ≡ offset entries long n → AreOffsets entries long old n
+    → ((k : ℕ) → k < length starts → slice_index starts k ≡ n → x ≡ en.Start (record { 0 = k }) → slice_index new k ≡ here)
+    → ((k : ℕ) → slice_index starts k < n → slice_index new k ≡ slice_index old k)
+    → AreOffsets entries long new (n + 1)
+offsets_more entries starts long old new n here x listing was is inside at e h hit others k l m =
+    by (cases_lt (start_of entries k) n)
+  where
+    below : k < length starts
+    below = omega (arith, l, was, is)
+
+    start : slice_index starts k ≡ start_of entries k
+    start = listing.are k below
+
+    by : (start_of entries k < n) ⊎ (n ≤ start_of entries k) → slice_index new k ≡ offset entries long (start_of entries k)
+    by (inl u) = others k (omega (arith, u, start)) ∙ h k (omega (arith, l, is)) u
+    by (inr u) =
+        let s : start_of entries k ≡ n = omega (arith, u, m) in
+        let there : slice_get entries n ≡ Some (en.Start (record { 0 = k })) =
+        ap (slice_get entries) (sym s) ∙ started entries k (omega (arith, s, inside)) in
+        let same : x ≡ en.Start (record { 0 = k }) = cc (sym at ∙ there) in
+        hit k below (start ∙ s) same ∙ e ∙ ap (offset entries long) (sym s)
+
+pub all_offsets : (entries : List Entry) (starts : List ℕ) (long : Forms) (at : List ℕ) (n : ℕ) → IsListing entries starts
+    → length at ≡ length starts → n ≡ length entries → AreOffsets entries long at n → IsOffsets entries long at
+all_offsets entries starts long at n listing len all h = record {
+  targets = λ n. subst (λ (count : ℕ). IfSome (target (slice_get entries n)) (λ k. k < count)) (sym len) (listing.targets n);
+  inside = inside;
+  each = λ k l. h k l (omega (arith, all, inside k l));
+  small = offset_small entries long;
+}
+  where
+    inside : (k : ℕ) → k < length at → start_of entries k < length entries
+    inside k l =
+        let a = listing.are k (omega (arith, l, len)) in
+        let b = listing.inside k (omega (arith, l, len)) in
+        omega (arith, a, b)
+
+-- ---- ranges
+
+pub ranges_more : (at : ℕ → ℕ) (entries : List Entry) (n here : ℕ) (mark later : Option Open) (x : Entry)
+    (old new whole : List Range) → n < length entries → x ≡ get_or entries n x → here ≡ at n
+    → old ++ ranges_from at n mark (drop n entries) ≡ whole → new ≡ old ++ closes here mark x → later ≡ opens here mark x
+    → new ++ ranges_from at (n + 1) later (drop (n + 1) entries) ≡ whole
+ranges_more at entries n here mark later x old new whole l is place before more next = rw add-one (
+    ap (λ (rs : List Range). rs ++ ranges_from at (suc n) later (drop (suc n) entries)) more
+    ∙ append_assoc old (closes here mark x) (ranges_from at (suc n) later (drop (suc n) entries))
+    ∙ ap (λ (o : Option Open). old ++ (closes here mark x ++ ranges_from at (suc n) o (drop (suc n) entries))) next
+    ∙ ap (λ (a : ℕ). old ++ (closes a mark x ++ ranges_from at (suc n) (opens a mark x) (drop (suc n) entries))) place
+    ∙ sym (ap (λ (xs : List Entry). old ++ ranges_from at n mark xs) list)
+    ∙ before)
+  where
+    list : drop n entries ≡ x ∷ drop (suc n) entries
+    list = drop-cons entries n x l ∙ ap (λ (y : Entry). y ∷ drop (suc n) entries) (sym is)

@@ -260,8 +260,8 @@ module _ (base : ℕ) (p : Placement) where
       branch_short (between f t) (omega (arith, eb))
       (subst (λ (z : ℕ). Reaches a z (between f t)) (sym ek)
       (subst (λ (z : ℕ). Reaches z (base + 4 * t) (between f t)) (sym ea) (reaches base f t la lt)))
-      (says_words base p.code (i.Branch c false (between f t) ∷ nop ∷ []) f a ea
-      (branch_decodes c false (between f t) range (fits f t (near refl)), (decodes nop refl refl, tt)) h)
+      (says_words base p.code (i.Branch c true (between f t) ∷ nop ∷ []) f a ea
+      (branch_decodes c true (between f t) range (fits f t (near refl)), (decodes nop refl refl, tt)) h)
 
   -- the piece to which an item leads starts at word t
   abbrev pub GoesTo : Item → ℕ → Type 0

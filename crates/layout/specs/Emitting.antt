@@ -30,15 +30,17 @@ pub record IsListing (entries : List Entry) (starts : List ℕ) : Type 0 where
 abbrev pub forms_in : List Bool → Forms
 forms_in forms n = slice_index_or forms n false
 
--- the words before the first entries, up to entry n
-pub record AreOffsets (entries : List Entry) (long : Forms) (at : List ℕ) (n : ℕ) : Type 0 where
-  pub len : length at ≡ n + 1
-  pub each : (k : ℕ) → k ≤ n → slice_index at k ≡ offset entries long k
-  pub small : (k : ℕ) → k ≤ n → offset entries long k ≤ 6 * k
+-- the words before each piece that starts at one of the first n entries
+abbrev pub AreOffsets : List Entry → Forms → List ℕ → ℕ → Type 0
+AreOffsets entries long at n =
+    (k : ℕ) → k < length at → start_of entries k < n → slice_index at k ≡ offset entries long (start_of entries k)
 
--- these are the words before each entry, and all of them
-abbrev pub IsOffsets : List Entry → Forms → List ℕ → Type 0
-IsOffsets entries long at = AreOffsets entries long at (length entries)
+-- these are the words before each piece, and each entry leads to one of the pieces
+pub record IsOffsets (entries : List Entry) (long : Forms) (at : List ℕ) : Type 0 where
+  pub targets : (n : ℕ) → IfSome (target (slice_get entries n)) (λ k. k < length at)
+  pub inside : (k : ℕ) → k < length at → start_of entries k < length entries
+  pub each : (k : ℕ) → k < length at → slice_index at k ≡ offset entries long (start_of entries k)
+  pub small : (n : ℕ) → offset entries long n ≤ 6 * n
 
 -- the first of these forms are long where they were or where they are out of reach
 pub record AreWider (entries : List Entry) (forms wide : List Bool) (n : ℕ) : Type 0 where
@@ -62,7 +64,7 @@ jump_code false base from to = i.Branch 8 true (between from to) ∷ []
 
 abbrev pub branch_code : Bool → ℕ → ℕ → ℕ → ℕ → List Instr
 branch_code true base cond from to = i.Branch (opposite cond) false (pos 6) ∷ nop ∷ long_jump (base + 4 * to)
-branch_code false base cond from to = i.Branch cond false (between from to) ∷ nop ∷ []
+branch_code false base cond from to = i.Branch cond true (between from to) ∷ nop ∷ []
 
 -- the words of an entry at word `from` before the next one, where the piece to which it leads starts at word `to`
 abbrev pub entry_code : ℕ → Bool → ℕ → ℕ → Option Entry → Option Entry → List ℕ

@@ -117,10 +117,11 @@ pub data JumpStands (base : ℕ) (code : List ℕ) (to a b : ℕ) : Type 0 where
       → JumpStands base code to a b
   jump_long : b ≡ a + 16 → SaysFrom base code a (long_jump to) → JumpStands base code to a b
 
--- A Branch takes two words, or six: past a long jump on the opposite condition.
+-- A Branch takes two words, the second a nop that is annulled where the branch isn't taken, or six: past a long jump on
+-- the opposite condition.
 pub data BranchStands (base : ℕ) (code : List ℕ) (cond to a b : ℕ) : Type 0 where
   branch_short : (disp22 : ℤ) → b ≡ a + 8 → Reaches a to disp22
-      → SaysFrom base code a (i.Branch cond false disp22 ∷ nop ∷ []) → BranchStands base code cond to a b
+      → SaysFrom base code a (i.Branch cond true disp22 ∷ nop ∷ []) → BranchStands base code cond to a b
   branch_long : b ≡ a + 24 → SaysFrom base code a (i.Branch (opposite cond) false (pos 6) ∷ nop ∷ [])
       → SaysFrom base code (a + 8) (long_jump to)
       → BranchStands base code cond to a b

@@ -54,7 +54,7 @@ BranchesHop =
     (pieces : List (List Item)) (base : ℕ) (p : Placement) (place : ℕ → ℕ → ℕ) → IsLaid pieces base p place
     → (k n cond : ℕ) (to : PieceNo) → item_at pieces k n ≡ Some (it.Branch cond to) → cond < 16
     → (s : State) → CanRun base p.code s → s.pc ≡ place k n
-    → Goes s (if holds_of cond s.codes then slice_index p.at to.0 else place k (suc n)) (place k (suc n)) 2 6 2
+    → Goes s (if holds_of cond s.codes then slice_index p.at to.0 else place k (suc n)) (place k (suc n)) 1 6 2
 
 -- A Word can be fetched where it was placed, and the item after it stands behind it.
 abbrev pub WordsStand : Type 0

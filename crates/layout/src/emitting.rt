@@ -5,11 +5,11 @@ ghost use Rattle.std.specs.Option.{is_some};
 ghost use Rattle.layout.specs.declared.items.Item.TheVariants as it;
 ghost use Rattle.layout.specs.declared.entries.Entry.TheVariants as en;
 ghost use Rattle.layout.specs.Forms.{far, offset, target as target_of, NoneLeft};
-ghost use Rattle.layout.specs.Emitting.{code_at, entry_code, far_of, forms_in, has_condition, or_zero, target_offset, IsEmitted, IsListing, IsOffsets};
+ghost use Rattle.layout.specs.Emitting.{code_at, entry_code, far_of, forms_in, has_condition, or_zero, target_offset, IsEmitted, IsOffsets};
 
 use crate::Item;
 use crate::entries::Entry;
-use crate::forms::{entry_at, leads_next, target};
+use crate::forms::{entry_at, leads_next, target, width_at};
 use crate::words::{put_branch, put_jump};
 use eel_base::PieceNo;
 use std::alloc::{AllocError, Global};
@@ -70,51 +70,44 @@ fn put_entry(
 }
 
 // The words before the piece to which an entry leads.
-fn target_at(
-    entries: &[Entry],
-    starts: &[usize],
-    at: &[u64],
-    forms: &[bool],
-    n: usize,
-) -> Option<u64>
-    requires listing { IsListing entries.now starts.now }
+fn target_at(entries: &[Entry], at: &[u64], forms: &[bool], n: usize) -> Option<u64>
     requires at { IsOffsets entries.now (forms_in forms.now) at.now }
     requires inside { n < length entries.now }
     ensures { result ≡ target_offset entries.now (forms_in forms.now) n }
 {
     match target(&entries[n]) {
-        Some(k) => Some(at[starts[k]]),
+        Some(k) => Some(at[k]),
         None => None,
     }
 }
 
-// Appends the words of the entry with this number.
+// Appends the words of the entry with this number, which has `here` words before it.
 fn put_at(
     code: &mut Vec<u32>,
     base: u32,
     entries: &[Entry],
-    starts: &[usize],
     at: &[u64],
     forms: &[bool],
     n: usize,
+    here: u64,
 ) -> Result<(), AllocError>
     requires small { length entries.now ≤ 2 ^ 42 }
-    requires listing { IsListing entries.now starts.now }
     requires at { IsOffsets entries.now (forms_in forms.now) at.now }
     requires forms { length forms.now ≡ length entries.now }
     requires none_left { NoneLeft entries.now (forms_in forms.now) }
     requires low { base + 4 * offset entries.now (forms_in forms.now) (length entries.now) ≤ 2 ^ 31 }
     requires inside { n < length entries.now }
+    requires here { here ≡ offset entries.now (forms_in forms.now) n }
     ensures code { OnOk result (code.new.items ≡ code.old.items ++ code_at base entries.now (forms_in forms.now) n) }
     ensures condition { OnOk result (has_condition (slice_get entries.now n) ≡ true) }
 {
-    let to = target_at(entries, starts, at, forms, n);
+    let to = target_at(entries, at, forms, n);
     put_entry(
         code,
         base,
         &entries[n],
         entry_at(entries, n + 1),
-        at[n],
+        here,
         to,
         forms[n],
     )?;
@@ -126,12 +119,10 @@ pub fn emit(
     alloc: Global,
     base: u32,
     entries: &[Entry],
-    starts: &[usize],
     at: &[u64],
     forms: &[bool],
 ) -> Result<Vec<u32>, AllocError>
     requires small { length entries.now ≤ 2 ^ 42 }
-    requires listing { IsListing entries.now starts.now }
     requires at { IsOffsets entries.now (forms_in forms.now) at.now }
     requires forms { length forms.now ≡ length entries.now }
     requires none_left { NoneLeft entries.now (forms_in forms.now) }
@@ -139,8 +130,10 @@ pub fn emit(
     ensures { IfOk result (λ code. IsEmitted base entries.now (forms_in forms.now) code.items (length entries.now)) }
 {
     let mut code = Vec::new(alloc);
+    let mut here = 0;
     for n in 0..entries.len() {
-        put_at(&mut code, base, entries, starts, at, forms, n)?;
+        put_at(&mut code, base, entries, at, forms, n, here)?;
+        here += width_at(entries, forms, n);
     }
     Ok(code)
 }

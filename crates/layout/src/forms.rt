@@ -1,6 +1,6 @@
 //! The forms of Jumps and Branches.
 
-ghost use Rattle.std.specs.Prelude.{◌≡◌, ℕ, suc, ◌+◌, ◌*◌, ◌^◌, ◌<◌, ◌≤◌, ◌||◌, true, false, length, replicate, count_by, slice_get, slice_index_or, Some, IfOk};
+ghost use Rattle.std.specs.Prelude.{◌≡◌, ℕ, suc, ◌+◌, ◌*◌, ◌^◌, ◌<◌, ◌≤◌, ◌||◌, true, false, length, replicate, count_by, slice_get, slice_index, slice_index_or, Some, IfOk};
 ghost use Rattle.layout.specs.declared.items.Item.TheVariants as it;
 ghost use Rattle.layout.specs.declared.entries.Entry.TheVariants as en;
 ghost use Rattle.layout.specs.Forms.{far, is_far as is_far_in, leads_next as leads_next_of, offset, target as target_of, width as width_of, IsWidened};
@@ -53,8 +53,8 @@ pub fn entry_at(entries: &[Entry], n: usize) -> Option<Entry>
     entries.get(n).copied()
 }
 
-// The words that the entry with this number takes.
-fn width_at(entries: &[Entry], forms: &[bool], n: usize) -> u64
+/// The words that the entry with this number takes.
+pub fn width_at(entries: &[Entry], forms: &[bool], n: usize) -> u64
     requires small { length entries.now ≤ 2 ^ 42 }
     requires forms { length forms.now ≡ length entries.now }
     requires inside { n < length entries.now }
@@ -76,20 +76,50 @@ pub fn target(entry: &Entry) -> Option<usize>
     }
 }
 
-/// The words before each entry, and all of them.
-pub fn offsets(alloc: Global, entries: &[Entry], forms: &[bool]) -> Result<Vec<u64>, AllocError>
-    requires small { length entries.now ≤ 2 ^ 42 }
-    requires forms { length forms.now ≡ length entries.now }
-    ensures { IfOk result (λ at. IsOffsets entries.now (forms_in forms.now) at.items) }
+/// How many words come before each piece, and how many there are.
+#[derive(Drop)]
+pub struct WordsBefore {
+    pub at: Vec<u64>,
+    pub all: u64,
+}
+
+// Notes how many words come before a piece, if it starts at this entry.
+fn note_start(at: &mut Vec<u64>, starts: &[usize], entry: &Entry, n: usize, here: u64)
+    requires { length at.old.items ≡ length starts.now }
+    ensures len { length at.new.items ≡ length at.old.items }
+    ensures here { (k : ℕ) → k < length starts.now → slice_index starts.now k ≡ n →
+        entry.now ≡ en.Start (record { 0 = k }) → slice_index at.new.items k ≡ here }
+    ensures others { (k : ℕ) → slice_index starts.now k < n → slice_index at.new.items k ≡ slice_index at.old.items k }
 {
-    let mut at = Vec::new(alloc);
-    let mut here = 0;
-    at.push(here)?;
-    for n in 0..entries.len() {
-        here += width_at(entries, forms, n);
-        at.push(here)?;
+    if let Entry::Start(piece) = entry {
+        let piece = piece.0 as usize;
+        if piece < starts.len() && starts[piece] == n {
+            at[piece] = here;
+        }
     }
-    Ok(at)
+}
+
+/// How many words come before each piece.
+pub fn offsets(
+    alloc: Global,
+    entries: &[Entry],
+    starts: &[usize],
+    forms: &[bool],
+) -> Result<WordsBefore, AllocError>
+    requires small { length entries.now ≤ 2 ^ 42 }
+    requires listing { IsListing entries.now starts.now }
+    requires forms { length forms.now ≡ length entries.now }
+    ensures at { IfOk result (λ o. IsOffsets entries.now (forms_in forms.now) o.at.items) }
+    ensures len { IfOk result (λ o. length o.at.items ≡ length starts.now) }
+    ensures all { IfOk result (λ o. o.all ≡ offset entries.now (forms_in forms.now) (length entries.now)) }
+{
+    let mut at = vec![in alloc; 0; starts.len()]?;
+    let mut here = 0;
+    for n in 0..entries.len() {
+        note_start(&mut at, starts, &entries[n], n, here);
+        here += width_at(entries, forms, n);
+    }
+    Ok(WordsBefore { at, all: here })
 }
 
 // Whether a distance doesn't fit 22 signed bits.
@@ -101,49 +131,49 @@ fn is_distant(from: u64, to: u64) -> bool
     from + (1 << 21) <= to || to + (1 << 21) < from
 }
 
-// Whether the target of an entry is out of reach.
-fn is_far(entries: &[Entry], starts: &[usize], at: &[u64], forms: &[bool], n: usize) -> bool
+// Whether the target of an entry, which has `here` words before it, is out of reach.
+fn is_far(entries: &[Entry], at: &[u64], forms: &[bool], n: usize, here: u64) -> bool
     requires small { length entries.now ≤ 2 ^ 42 }
-    requires listing { IsListing entries.now starts.now }
     requires at { IsOffsets entries.now (forms_in forms.now) at.now }
     requires inside { n < length entries.now }
+    requires here { here ≡ offset entries.now (forms_in forms.now) n }
     ensures { result ≡ is_far_in entries.now (forms_in forms.now) n }
 {
     match target(&entries[n]) {
         None => false,
-        Some(to) => is_distant(at[n], at[starts[to]]),
+        Some(to) => is_distant(here, at[to]),
     }
 }
 
 // The form of an entry after it.
-fn form_after(entries: &[Entry], starts: &[usize], at: &[u64], forms: &[bool], n: usize) -> bool
+fn form_after(entries: &[Entry], at: &[u64], forms: &[bool], n: usize, here: u64) -> bool
     requires small { length entries.now ≤ 2 ^ 42 }
-    requires listing { IsListing entries.now starts.now }
     requires at { IsOffsets entries.now (forms_in forms.now) at.now }
     requires forms { length forms.now ≡ length entries.now }
     requires inside { n < length entries.now }
+    requires here { here ≡ offset entries.now (forms_in forms.now) n }
     ensures { result ≡ (slice_index_or forms.now n false || is_far_in entries.now (forms_in forms.now) n) }
 {
-    forms[n] || is_far(entries, starts, at, forms, n)
+    forms[n] || is_far(entries, at, forms, n, here)
 }
 
 // Widens all that are out of reach.
 fn widen(
     alloc: Global,
     entries: &[Entry],
-    starts: &[usize],
     at: &[u64],
     forms: &[bool],
 ) -> Result<Vec<bool>, AllocError>
     requires small { length entries.now ≤ 2 ^ 42 }
-    requires listing { IsListing entries.now starts.now }
     requires at { IsOffsets entries.now (forms_in forms.now) at.now }
     requires forms { length forms.now ≡ length entries.now }
     ensures { IfOk result (λ wide. AreWider entries.now forms.now wide.items (length forms.now)) }
 {
-    let mut wide = Vec::new(alloc);
+    let mut wide = Vec::with_capacity(alloc, forms.len())?;
+    let mut here = 0;
     for n in 0..forms.len() {
-        wide.push(form_after(entries, starts, at, forms, n))?;
+        wide.push(form_after(entries, at, forms, n, here))?;
+        here += width_at(entries, forms, n);
     }
     Ok(wide)
 }
@@ -160,8 +190,8 @@ fn pass(
     requires forms { length forms.now ≡ length entries.now }
     ensures { IfOk result (λ wide. AreWider entries.now forms.now wide.items (length forms.now)) }
 {
-    let at = offsets(alloc, entries, forms)?;
-    let wide = widen(alloc, entries, starts, &at, forms)?;
+    let offsets = offsets(alloc, entries, starts, forms)?;
+    let wide = widen(alloc, entries, &offsets.at, forms)?;
     Ok(wide)
 }
 

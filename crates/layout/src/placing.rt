@@ -23,6 +23,21 @@ pub struct Formed {
     pub forms: Vec<bool>,
 }
 
+// The entries of pieces in the compact order, which isn't kept.
+fn listed(alloc: Global, pieces: &[Piece]) -> Result<Listing, AllocError>
+    requires leads { AllLead pieces.now }
+    requires few { length pieces.now ≤ 2 ^ 28 }
+    requires items { sum_by length pieces.now ≤ 2 ^ 40 }
+    ensures entries { IfOk result (λ l. l.entries.items ≡ entries_of pieces.now) }
+    ensures count { IfOk result (λ l. length l.starts.items ≡ length pieces.now) }
+    ensures listing { IfOk result (λ l. IsListing l.entries.items l.starts.items) }
+    ensures small { IfOk result (λ l. length l.entries.items ≤ 2 ^ 42) }
+{
+    let order = order_of(alloc, pieces)?;
+    let listing = list(alloc, pieces, &order)?;
+    Ok(listing)
+}
+
 // The compact order and its forms.
 fn form(alloc: Global, pieces: &[Piece]) -> Result<Formed, AllocError>
     requires leads { AllLead pieces.now }
@@ -30,8 +45,7 @@ fn form(alloc: Global, pieces: &[Piece]) -> Result<Formed, AllocError>
     requires items { sum_by length pieces.now ≤ 2 ^ 40 }
     ensures { IfOk result (λ f. IsFormed pieces.now f.listing.entries.items f.listing.starts.items f.forms.items) }
 {
-    let order = order_of(alloc, pieces)?;
-    let listing = list(alloc, pieces, &order)?;
+    let listing = listed(alloc, pieces)?;
     let forms = widened(alloc, &listing.entries, &listing.starts)?;
     Ok(Formed { listing, forms })
 }
@@ -45,14 +59,15 @@ fn addresses_of(
     at: &[u64],
     forms: &[bool],
 ) -> Result<Vec<Addr>, AllocError>
+    requires len { length at.now ≡ length starts.now }
     requires listing { IsListing entries.now starts.now }
     requires at { IsOffsets entries.now (forms_in forms.now) at.now }
     requires low { base.0 + 4 * offset entries.now (forms_in forms.now) (length entries.now) ≤ 2 ^ 31 }
     ensures { IfOk result (λ v. v.items ≡ addresses base.0 entries.now (forms_in forms.now) starts.now) }
 {
-    let mut addresses = Vec::new(alloc);
-    for start in starts {
-        addresses.push(address(base, at[*start]))?;
+    let mut addresses = Vec::with_capacity(alloc, at.len())?;
+    for words in at {
+        addresses.push(address(base, *words))?;
     }
     Ok(addresses)
 }
@@ -67,6 +82,7 @@ fn put(
     forms: &[bool],
 ) -> Result<Placed, AllocError>
     requires small { length entries.now ≤ 2 ^ 42 }
+    requires len { length at.now ≡ length starts.now }
     requires listing { IsListing entries.now starts.now }
     requires at { IsOffsets entries.now (forms_in forms.now) at.now }
     requires forms { length forms.now ≡ length entries.now }
@@ -74,23 +90,14 @@ fn put(
     requires low { base.0 + 4 * offset entries.now (forms_in forms.now) (length entries.now) ≤ 2 ^ 31 }
     ensures { IfOk result (IsPut base.0 entries.now starts.now (forms_in forms.now)) }
 {
-    let code = emit(alloc, base.0, entries, starts, at, forms)?;
+    let code = emit(alloc, base.0, entries, at, forms)?;
     let addresses = addresses_of(alloc, base, entries, starts, at, forms)?;
-    let ranges = ranges_of(alloc, base, entries, at, forms)?;
+    let ranges = ranges_of(alloc, base, entries, forms)?;
     Ok(Placed {
         code,
         at: addresses,
         ranges,
     })
-}
-
-// The bytes of entries, of which these are the offsets.
-fn bytes_of(entries: &[Entry], at: &[u64], forms: &[bool]) -> u64
-    requires small { length entries.now ≤ 2 ^ 42 }
-    requires at { IsOffsets entries.now (forms_in forms.now) at.now }
-    ensures { result ≡ 4 * offset entries.now (forms_in forms.now) (length entries.now) }
-{
-    4 * at[entries.len()]
 }
 
 // The same, or a fault where there isn't room.
@@ -110,17 +117,17 @@ fn put_within(
     ensures put { IfOk result (IsPut base.0 entries.now starts.now (forms_in forms.now)) }
     ensures room { FitsIn result (4 * offset entries.now (forms_in forms.now) (length entries.now)) room }
 {
-    let Ok(at) = offsets(alloc, entries, forms) else {
+    let Ok(offsets) = offsets(alloc, entries, starts, forms) else {
         return Err(LayoutFault::NoMemory);
     };
-    let needed = bytes_of(entries, &at, forms);
+    let needed = 4 * offsets.all;
     if needed > room as u64 {
         return Err(LayoutFault::Room {
             needed,
             had: room as u64,
         });
     }
-    match put(alloc, base, entries, starts, &at, forms) {
+    match put(alloc, base, entries, starts, &offsets.at, forms) {
         Ok(placed) => Ok(placed),
         Err(_) => Err(LayoutFault::NoMemory),
     }

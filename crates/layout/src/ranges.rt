@@ -2,10 +2,11 @@
 
 ghost use Rattle.std.specs.Prelude.{◌≡◌, ◌+◌, ◌*◌, ◌≤◌, ◌++◌, ◌^◌, length, None, OnOk, IfOk};
 ghost use Rattle.layout.specs.Forms.{offset};
-ghost use Rattle.layout.specs.Emitting.{address_of, closed, closes, forms_in, opens, ranges_from, IsOffsets};
+ghost use Rattle.layout.specs.Emitting.{address_of, closed, closes, forms_in, opens, ranges_from};
 
 use crate::Item;
 use crate::entries::Entry;
+use crate::forms::width_at;
 use eel_base::{Addr, Range};
 use std::alloc::{AllocError, Global};
 
@@ -71,18 +72,20 @@ pub fn ranges_of(
     alloc: Global,
     base: Addr,
     entries: &[Entry],
-    at: &[u64],
     forms: &[bool],
 ) -> Result<Vec<Range>, AllocError>
-    requires at { IsOffsets entries.now (forms_in forms.now) at.now }
+    requires small { length entries.now ≤ 2 ^ 42 }
+    requires forms { length forms.now ≡ length entries.now }
     requires low { base.0 + 4 * offset entries.now (forms_in forms.now) (length entries.now) ≤ 2 ^ 31 }
     ensures { IfOk result (λ ranges. ranges.items
         ≡ ranges_from (address_of base.0 entries.now (forms_in forms.now)) 0 None entries.now) }
 {
     let mut ranges = Vec::new(alloc);
     let mut open_mark = None;
+    let mut here = 0;
     for (n, entry) in entries.iter().enumerate() {
-        open_mark = put_entry(&mut ranges, open_mark, address(base, at[n]), entry)?;
+        open_mark = put_entry(&mut ranges, open_mark, address(base, here), entry)?;
+        here += width_at(entries, forms, n);
     }
     Ok(ranges)
 }

@@ -138,17 +138,17 @@ fn displacement(from: u64, to: u64) -> i32
     }
 }
 
-// A branch to a word in reach.
+// A branch to a word in reach, whose delay slot is annulled where it isn't taken.
 fn branch_to(cond: Cond, from: u64, to: u64) -> u32
     requires near { far from to ≡ false }
     requires from { from < 2 ^ 62 }
     requires to { to < 2 ^ 62 }
-    ensures value { result ≡ word_in (w.Branch cond false (between from to)) }
+    ensures value { result ≡ word_in (w.Branch cond true (between from to)) }
     ensures range { cond < 16 }
 {
     word_of(Instr::Branch {
         cond: condition(cond.number()),
-        annul: false,
+        annul: true,
         disp22: displacement(from, to),
     })
 }

@@ -69,7 +69,7 @@ fn two_pieces_in_their_room(rt: HostRuntime) -> Result<(), Fail> {
     };
     let code = [
         0x8200_6001,
-        0x0280_0003,
+        0x2280_0003,
         0x0100_0000,
         0x30bf_fffd,
         0x0100_0000,

@@ -1,3 +1,4 @@
 pub mod Connected
 pub mod LoopBounds
 pub mod Numbered
+pub mod Ranked

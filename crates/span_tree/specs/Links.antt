@@ -1,5 +1,5 @@
 -- The flow graph as a plain one, where nodes and edges are numbers.
-use Rattle.std.specs.Prelude.{ℕ, ◌+◌, true, length, slice_index_or}
+use Rattle.std.specs.Prelude.{ℕ, ◌+◌, length, slice_index_or}
 use Rattle.flows.specs.Flows.{Graph as PlainGraph}
 use Rattle.flows.specs.declared.Link.{Link}
 use Rattle.cfg_blocks.specs.declared.EdgeKind.TheVariants.{Land}

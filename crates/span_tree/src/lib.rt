@@ -4,6 +4,7 @@
 #![tactic(auto)]
 
 mod loops;
+mod ranking;
 mod spanning;
 mod weighing;
 

@@ -1,5 +1,6 @@
 //! The spanning tree, and the cells of the edges off it.
-ghost use Rattle.std.specs.Prelude.{◌≡◌, ◌^◌, ◌<◌, length, map, IfOk, IfSome};
+ghost use Rattle.std.specs.Prelude.{◌≡◌, ◌^◌, ◌<◌, ◌≤◌, length, map, IfOk, IfSome};
+ghost use Rattle.std.specs.List.{All};
 ghost use Rattle.cfg_normal.specs.Graph.{Graph, IsGraph};
 ghost use Rattle.cfg_normal.specs.Numbers.{node_number};
 ghost use Rattle.flows.specs.Flows.{IsLeast, rest};
@@ -7,7 +8,9 @@ ghost use Rattle.flows.specs.Links.{marked, weight_in};
 ghost use Rattle.flows.specs.Trees.{IsSpanningTree, all_nodes};
 ghost use Rattle.span_tree.specs.Cells.{cell_at, cell_count, cell_of, has_cell, AreNumbered};
 ghost use Rattle.span_tree.specs.Links.{link_of, links_of};
+ghost use Rattle.span_tree.specs.Ties.{rank_of};
 
+use crate::ranking::ranks;
 use cfg_normal::{FlowGraph, Node};
 use eel_base::{EdgeNo, NoMemory};
 use flow_tree::counted;
@@ -52,15 +55,18 @@ impl SpanTree {
 }
 
 /// A spanning tree of all nodes, grown heaviest first from the node that stands for all outside the text. The counts of
-/// the edges off it determine all counts, and no set of edges whose counts do weighs less.
+/// the edges off it determine all counts, and no set of edges whose counts do weighs less. Of several such sets it is the
+/// one of the least ranks: as few calls and jumps as can be, and of landings mostly those that no call comes back to.
 ///
 /// It takes time n log n in the number of edges.
 pub fn tree(alloc: Global, graph: &FlowGraph, weights: &[u64]) -> Result<SpanTree, NoMemory>
-    requires { length weights.now ≡ length graph.now.edges }
+    requires len { length weights.now ≡ length graph.now.edges }
+    requires most { All (λ weight. weight ≤ 2 ^ 32) weights.now }
     ensures len { IfOk result (λ tree. length tree ≡ length graph.now.edges) }
     ensures numbered { IfOk result AreNumbered }
     ensures spans { IfOk result (λ tree. IsSpanningTree (links_of graph.now) all_nodes (rest (has_cell tree))) }
     ensures least { IfOk result (λ tree. IsLeast (links_of graph.now) (weight_in weights.now) (has_cell tree)) }
+    ensures ties { IfOk result (λ tree. IsLeast (links_of graph.now) (rank_of graph.now weights.now) (has_cell tree)) }
 {
     let counted = counted_edges(alloc, graph, weights)?;
     number(alloc, &counted)
@@ -68,17 +74,21 @@ pub fn tree(alloc: Global, graph: &FlowGraph, weights: &[u64]) -> Result<SpanTre
 
 /// Which edges are off the tree.
 fn counted_edges(alloc: Global, graph: &FlowGraph, weights: &[u64]) -> Result<Vec<bool>, NoMemory>
-    requires { length weights.now ≡ length graph.now.edges }
+    requires len { length weights.now ≡ length graph.now.edges }
+    requires most { All (λ weight. weight ≤ 2 ^ 32) weights.now }
     ensures len { IfOk result (λ counted. length counted.items ≡ length graph.now.edges) }
     ensures few { IfOk result (λ counted. length counted.items < 2 ^ 32) }
     ensures spans { IfOk result (λ counted.
         IsSpanningTree (links_of graph.now) all_nodes (rest (marked counted.items))) }
     ensures least { IfOk result (λ counted.
         IsLeast (links_of graph.now) (weight_in weights.now) (marked counted.items)) }
+    ensures ties { IfOk result (λ counted.
+        IsLeast (links_of graph.now) (rank_of graph.now weights.now) (marked counted.items)) }
 {
+    let ranks = ranks(alloc, graph, weights)?;
     let links = links(alloc, graph)?;
     let outside = graph.count() as usize;
-    let counted = counted(alloc, outside + 1, &links, weights, outside)?;
+    let counted = counted(alloc, outside + 1, &links, &ranks, outside)?;
     Ok(counted)
 }
 

@@ -1,5 +1,6 @@
 //! The weights of edges.
-ghost use Rattle.std.specs.Prelude.{◌≡◌, map, IfOk};
+ghost use Rattle.std.specs.Prelude.{◌≡◌, ◌^◌, ◌≤◌, map, IfOk};
+ghost use Rattle.std.specs.List.{All};
 ghost use Rattle.cfg_blocks.specs.Blocks.{below};
 ghost use Rattle.cfg_normal.specs.Graph.{graph_of, IsNodeIn};
 ghost use Rattle.span_tree.specs.Weights.{loops_at, weight_from, weights_of};
@@ -16,7 +17,8 @@ const MOST_LOOPS: u64 = 1000;
 /// The weight of each edge, in order. It takes time linear in the words of the text and the edges.
 pub fn weights(alloc: Global, blocks: &BlockList, graph: &FlowGraph) -> Result<Vec<u64>, NoMemory>
     requires { graph.now ≡ graph_of blocks.now.blocks }
-    ensures { IfOk result (λ weights. weights.items ≡ weights_of blocks.now.blocks graph.now.edges) }
+    ensures weights { IfOk result (λ weights. weights.items ≡ weights_of blocks.now.blocks graph.now.edges) }
+    ensures most { IfOk result (λ weights. All (λ weight. weight ≤ 2 ^ 32) weights.items) }
 {
     let loops = loops_at_words(alloc, blocks)?;
     let edges = graph.edges();

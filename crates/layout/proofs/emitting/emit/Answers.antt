@@ -1,15 +1,34 @@
-use Rattle.std.proofs.Common.{◌≡◌, []}
+use Rattle.std.proofs.Common.{◌≡◌, [], sym, arith}
 use Rattle.layout.specs.Emitting.{forms_in}
 use Rattle.layout.proofs.Emitted.{emitted_none, emitted_more}
+use Rattle.layout.proofs.Offsets.{offset_next, offset_none}
 use Rattle.layout.proofs.emitting.emit.Goals as goal
 
 pub loop-n-init : goal.loop-n-init
 loop-n-init c =
     let e : c.new-code.result.items ≡ [] = c.new-code.ensures.items in
-    rw e (emitted_none c.args.base c.args.entries.now (forms_in c.args.forms.now))
+    record {
+      emitted = rw e (emitted_none c.args.base c.args.entries.now (forms_in c.args.forms.now));
+      here = sym (offset_none c.args.entries.now (forms_in c.args.forms.now));
+    }
+
+pub overflow_add-here : goal.overflow_add-here
+overflow_add-here c =
+    let few = c.requires.at.small c.loop-n.n in
+    omega (
+      arith,
+      few,
+      c.loop-n.invariant.here,
+      c.width_at-here.ensures.small,
+      c.loop-n-test.true,
+      c.requires.small,
+    )
 
 pub loop-n-preserved : goal.loop-n-preserved
-loop-n-preserved c =
-    emitted_more c.args.base c.args.entries.now (forms_in c.args.forms.now) c.loop-n.code.items
-    c.put_at.new.code.items c.loop-n.n
-    c.loop-n.invariant c.in_ok-put_at.ensures.code c.in_ok-put_at.ensures.condition
+loop-n-preserved c = record {
+  emitted = emitted_more c.args.base c.args.entries.now (forms_in c.args.forms.now) c.loop-n.code.items
+      c.put_at.new.code.items c.loop-n.n
+      c.loop-n.invariant.emitted c.in_ok-put_at.ensures.code c.in_ok-put_at.ensures.condition;
+  here = offset_next c.args.entries.now (forms_in c.args.forms.now) c.loop-n.n c.loop-n.here c.width_at-here.result
+      c.loop-n.invariant.here c.width_at-here.ensures.value;
+}

@@ -10,9 +10,9 @@ pub put_entry-requires-clause-low : goal.put_entry-requires-clause-low
 put_entry-requires-clause-low c =
     let t : c.target_at-to.result ≡ target_offset c.args.entries.now (forms_in c.args.forms.now) c.args.n =
     c.target_at-to.ensures in
-    rw t (target_low c.args.base c.args.entries.now c.args.starts.now (forms_in c.args.forms.now) c.requires.listing
+    rw t (target_low c.args.base c.args.entries.now c.args.at.now (forms_in c.args.forms.now) c.requires.at
     c.requires.low
-    (target (slice_get c.args.entries.now c.args.n)) (c.requires.listing.targets c.args.n))
+    (target (slice_get c.args.entries.now c.args.n)) (c.requires.at.targets c.args.n))
 
 pub put_entry-requires-clause-target : goal.put_entry-requires-clause-target
 put_entry-requires-clause-target c =

@@ -1,33 +1,42 @@
-use Rattle.std.proofs.Common.{◌≡◌, ◌+◌, ◌∷◌, [], ◌++◌, refl, arith}
-use Rattle.layout.specs.Forms.{offset}
+use Rattle.std.proofs.Common.{◌∙◌, sym, arith}
 use Rattle.layout.specs.Emitting.{forms_in}
-use Rattle.layout.proofs.Offsets.{offsets_first, offsets_more, offset_next}
+use Rattle.layout.proofs.Offsets.{all_offsets, entry_at, offset_next, offset_none, offset_small, offsets_more}
 use Rattle.layout.proofs.forms.offsets.Goals as goal
 
 pub loop-n-init : goal.loop-n-init
-unfolding offset
-loop-n-init c =
-    let e : c.new-at.result.items ≡ [] = c.new-at.ensures.items in
-    let f : c.push.new.self.items ≡ c.new-at.result.items ++ 0 ∷ [] = c.in_ok-push.ensures.items in
-    record {
-      here = refl;
-      so_far = rw (f, e) (offsets_first c.args.entries.now (forms_in c.args.forms.now));
-    }
+loop-n-init c = record {
+  here = sym (offset_none c.args.entries.now (forms_in c.args.forms.now));
+  len = omega (arith, c.in_ok-at.ensures.len);
+  so_far = λ k l m. absurd (omega (arith, m));
+}
+
+pub overflow_add-here : goal.overflow_add-here
+overflow_add-here c =
+    let few = offset_small c.args.entries.now (forms_in c.args.forms.now) c.loop-n.n in
+    omega (
+      arith,
+      few,
+      c.loop-n.invariant.here,
+      c.width_at-here.ensures.small,
+      c.loop-n-test.true,
+      c.requires.small,
+    )
 
 pub loop-n-preserved : goal.loop-n-preserved
-loop-n-preserved c =
-    let f : c.push-in-loop-n.new.self.items ≡ c.loop-n.at.items ++ (c.loop-n.here + c.width_at-here.result) ∷ [] =
-    c.in_ok-push-2.ensures.items in
-    let h : c.loop-n.here + c.width_at-here.result ≡ offset c.args.entries.now (forms_in c.args.forms.now) (c.loop-n.n
-    + 1)
-    = offset_next c.args.entries.now (forms_in c.args.forms.now) c.loop-n.n c.loop-n.here c.width_at-here.result
-    c.loop-n.invariant.here c.width_at-here.ensures.value in
-    record {
-      here = h;
-      so_far = rw f (offsets_more c.args.entries.now (forms_in c.args.forms.now) c.loop-n.at.items c.loop-n.n
-          (c.loop-n.here + c.width_at-here.result) c.loop-n.invariant.so_far h (omega (
-            arith,
-            c.loop-n.invariant.here,
-            c.width_at-here.ensures.small,
-          )));
-    }
+loop-n-preserved c = record {
+  here = offset_next c.args.entries.now (forms_in c.args.forms.now) c.loop-n.n c.loop-n.here c.width_at-here.result
+      c.loop-n.invariant.here c.width_at-here.ensures.value;
+  len = c.note_start.ensures.len ∙ c.loop-n.invariant.len;
+  so_far = offsets_more c.args.entries.now c.args.starts.now (forms_in c.args.forms.now) c.loop-n.at.items
+      c.note_start.new.at.items c.loop-n.n c.loop-n.here c.index-entries-n.result c.requires.listing
+      c.loop-n.invariant.len c.note_start.ensures.len (omega (arith, c.loop-n-test.true))
+      (entry_at c.args.entries.now c.loop-n.n c.index-entries-n.result (omega (arith, c.loop-n-test.true))
+      c.index-entries-n.is)
+      c.loop-n.invariant.here c.loop-n.invariant.so_far c.note_start.ensures.here c.note_start.ensures.others;
+}
+
+pub returns-clause-at : goal.returns-clause-at
+returns-clause-at c =
+    all_offsets c.args.entries.now c.args.starts.now (forms_in c.args.forms.now) c.loop-n.at.items c.loop-n.n
+    c.requires.listing c.loop-n.invariant.len (omega (arith, c.loop-n-test.false, c.loop-n.auto.n-end))
+    c.loop-n.invariant.so_far

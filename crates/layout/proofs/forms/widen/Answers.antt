@@ -1,9 +1,28 @@
-use Rattle.std.proofs.Common.{◌≡◌, ◌∷◌, [], ◌++◌}
+use Rattle.std.proofs.Common.{◌≡◌, ◌∷◌, [], ◌++◌, arith}
+use Rattle.layout.specs.Emitting.{forms_in}
+use Rattle.layout.proofs.Offsets.{offset_next}
 use Rattle.layout.proofs.Wider.{wider_more}
 use Rattle.layout.proofs.forms.widen.Goals as goal
+
+pub overflow_add-here : goal.overflow_add-here
+overflow_add-here c =
+    let few = c.requires.at.small c.loop-n.n in
+    omega (
+      arith,
+      few,
+      c.loop-n.invariant.here,
+      c.width_at-here.ensures.small,
+      c.loop-n-test.true,
+      c.requires.small,
+      c.requires.forms,
+    )
 
 pub loop-n-preserved : goal.loop-n-preserved
 loop-n-preserved c =
     let e : c.push.new.self.items ≡ c.loop-n.wide.items ++ c.form_after.result ∷ [] = c.in_ok-push.ensures.items in
-    rw e (wider_more c.args.entries.now c.args.forms.now c.loop-n.wide.items c.loop-n.n c.form_after.result
-    c.loop-n.invariant c.form_after.ensures)
+    record {
+      wider = rw e (wider_more c.args.entries.now c.args.forms.now c.loop-n.wide.items c.loop-n.n c.form_after.result
+          c.loop-n.invariant.wider c.form_after.ensures);
+      here = offset_next c.args.entries.now (forms_in c.args.forms.now) c.loop-n.n c.loop-n.here c.width_at-here.result
+          c.loop-n.invariant.here c.width_at-here.ensures.value;
+    }

@@ -1,11 +1,40 @@
-use Rattle.std.proofs.Common.{◌≤◌, length, arith}
-use Rattle.layout.specs.Emitting.{forms_in}
+use Rattle.std.proofs.Common.{◌≤◌, ◌*◌, ◌+◌, ◌∙◌, ap, sym, length, arith, rules}
+use Rattle.layout.specs.Emitting.{address_of, forms_in}
+use Rattle.layout.proofs.Offsets.{offset_next, offset_none, offset_small, ranges_more}
 use Rattle.layout.proofs.Widening.{rises}
 use Rattle.layout.proofs.ranges.ranges_of.Goals as goal
+
+pub loop-n-init : goal.loop-n-init
+loop-n-init c = record {
+  ranges = search rules;
+  here = sym (offset_none c.args.entries.now (forms_in c.args.forms.now));
+}
 
 pub address-requires : goal.address-requires
 address-requires c =
     let l : c.loop-n.n ≤ length c.args.entries.now = omega arith in
     let r = rises c.args.entries.now (forms_in c.args.forms.now) c.loop-n.n (length c.args.entries.now) l in
-    let e = c.requires.at.each c.loop-n.n l in
-    record { low = omega (arith, r, e, c.requires.low) }
+    record { low = omega (arith, r, c.loop-n.invariant.here, c.requires.low) }
+
+pub overflow_add-here : goal.overflow_add-here
+overflow_add-here c =
+    let few = offset_small c.args.entries.now (forms_in c.args.forms.now) c.loop-n.n in
+    omega (
+      arith,
+      few,
+      c.loop-n.invariant.here,
+      c.width_at-here.ensures.small,
+      c.loop-n-test.true,
+      c.requires.small,
+    )
+
+pub loop-n-preserved : goal.loop-n-preserved
+loop-n-preserved c = record {
+  ranges = ranges_more (address_of c.args.base.0 c.args.entries.now (forms_in c.args.forms.now)) c.args.entries.now
+      c.loop-n.n c.address.result.0 c.loop-n.open_mark c.in_ok-open_mark.open_mark c.index-entries-n.result
+      c.loop-n.ranges.items c.put_entry.new.ranges.items _ (omega (arith, c.loop-n-test.true)) c.index-entries-n.is
+      (c.address.ensures ∙ ap (λ n. c.args.base.0 + 4 * n) c.loop-n.invariant.here)
+      c.loop-n.invariant.ranges c.in_ok-open_mark.ensures.ranges c.in_ok-open_mark.ensures.mark;
+  here = offset_next c.args.entries.now (forms_in c.args.forms.now) c.loop-n.n c.loop-n.here c.width_at-here.result
+      c.loop-n.invariant.here c.width_at-here.ensures.value;
+}

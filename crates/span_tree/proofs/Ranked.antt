@@ -1,0 +1,64 @@
+-- The ranks of edges, and that weights rise with them.
+use Rattle.std.proofs.Common.{◌≡◌, ℕ, ◌^◌, ◌<◌, ◌≤◌, Bool, true, false, List, [], ◌∷◌, length, map, slice_index, ap, ◌∙◌, arith}
+use Rattle.std.specs.List.{All}
+use Rattle.std.specs.Prelude.{if◌then◌else◌}
+use Rattle.std.proofs.lemmas.List.{get_or-map, length-map}
+use Rattle.std.proofs.lemmas.List.Elements.{All-cons, All-nil}
+use Rattle.flows.specs.Links.{weight_in}
+use Rattle.flow_tree.specs.Tree.{RisesWith}
+use Rattle.cfg_blocks.specs.declared.EdgeKind.{EdgeKind}
+use Rattle.cfg_blocks.specs.declared.EdgeKind.TheVariants as kinds
+use Rattle.cfg_blocks.specs.Blocks.{Blocks, below}
+use Rattle.cfg_blocks.proofs.Below.{get_or-below, length-below}
+use Rattle.cfg_normal.specs.declared.Edge.{Edge}
+use Rattle.cfg_normal.specs.declared.Node.{Node}
+use Rattle.cfg_normal.specs.declared.Node.TheVariants.{Block, X}
+use Rattle.cfg_normal.specs.Graph.{Graph}
+use Rattle.span_tree.specs.Links.{edge_at}
+use Rattle.span_tree.specs.Ties.{is_behind_call, rank_of, tie_by}
+use Rattle.span_tree.specs.Weights.{weight_from, weights_of}
+
+-- ---- ties
+
+one_of_two : (c : Bool) → (if c then 2 else 0) < 4
+one_of_two true = omega arith
+one_of_two false = omega arith
+
+pub tie_few : (b : Blocks) (kind : EdgeKind) (to : Node) → tie_by b kind to < 4
+tie_few b kinds.Call to = omega arith
+tie_few b kinds.Out to = omega arith
+tie_few b kinds.Land to = one_of_two (is_behind_call b to)
+tie_few b kinds.Fall to = omega arith
+tie_few b kinds.Taken to = omega arith
+tie_few b kinds.Untaken to = omega arith
+
+-- ---- the list of ranks
+
+pub ranks_length : (g : Graph) (weights ranks : List ℕ) (n : ℕ) → ranks ≡ map (rank_of g weights) (below n) → length ranks ≡ n
+ranks_length g weights ranks n are = ap length are ∙ length-map (below n) (rank_of g weights) ∙ length-below n
+
+module _ (g : Graph) (weights ranks : List ℕ) (n : ℕ) (are : ranks ≡ map (rank_of g weights) (below n)) where
+  rank_at : (e : ℕ) → e < n → weight_in ranks e ≡ rank_of g weights e
+  rank_at e l = ap (λ (xs : List ℕ). slice_index xs e) are
+      ∙ get_or-map (rank_of g weights) (below n) e 0 0 (omega (arith, l, length-below n))
+      ∙ ap (rank_of g weights) (get_or-below n e 0 l)
+
+  pub ranks_rise : RisesWith n (weight_in ranks) (rank_of g weights)
+  ranks_rise e h le lh below = omega (arith, below, rank_at e le, rank_at h lh)
+
+  pub weights_rise : RisesWith n (weight_in ranks) (weight_in weights)
+  weights_rise e h le lh below =
+      let one = tie_few g.blocks (edge_at g e).kind (edge_at g e).to in
+      let other = tie_few g.blocks (edge_at g h).kind (edge_at g h).to in
+      omega (arith, below, rank_at e le, rank_at h lh, one, other)
+
+-- ---- weights
+
+weight_most : (b : Blocks) (node : Node) → weight_from b node ≤ 2 ^ 32
+weight_most b (Block block) = omega arith
+weight_most b X = omega arith
+
+pub weights_most : (b : Blocks) (edges : List Edge) → All (λ weight. weight ≤ 2 ^ 32) (weights_of b edges)
+weights_most b [] = All-nil (λ weight. weight ≤ 2 ^ 32)
+weights_most b (x ∷ xs) =
+    All-cons (λ weight. weight ≤ 2 ^ 32) (weight_from b x.from) (weights_of b xs) (weight_most b x.from) (weights_most b xs)

@@ -1,0 +1,57 @@
+//! The order in which edges come onto the tree.
+ghost use Rattle.std.specs.Prelude.{◌≡◌, ◌^◌, ◌<◌, ◌≤◌, length, map, IfOk};
+ghost use Rattle.std.specs.List.{All};
+ghost use Rattle.cfg_blocks.specs.Blocks.{below};
+ghost use Rattle.cfg_normal.specs.Graph.{IsNodeIn};
+ghost use Rattle.span_tree.specs.Ties.{is_behind_call, is_call, rank_of, tie_of};
+
+use cfg_blocks::{BlockEnd, EdgeKind};
+use cfg_normal::{Edge, FlowGraph, Node};
+use eel_base::{BlockNo, NoMemory};
+use std::alloc::Global;
+
+/// The rank of each edge, in order: an edge of a higher rank comes onto the tree before one of a lower.
+pub(crate) fn ranks(alloc: Global, graph: &FlowGraph, weights: &[u64]) -> Result<Vec<u64>, NoMemory>
+    requires len { length weights.now ≡ length graph.now.edges }
+    requires most { All (λ weight. weight ≤ 2 ^ 32) weights.now }
+    ensures { IfOk result (λ ranks. ranks.items ≡ map (rank_of graph.now weights.now) (below (length graph.now.edges))) }
+{
+    let edges = graph.edges();
+    let mut ranks = Vec::with_capacity(alloc, edges.len())?;
+    for number in 0..edges.len() {
+        ranks.push(4 * weights[number] + tie(graph, edges[number]))?;
+    }
+    Ok(ranks)
+}
+
+/// Of edges that weigh the same, those whose counters would cost most come first.
+fn tie(graph: &FlowGraph, edge: Edge) -> u64
+    requires { IsNodeIn graph.now.blocks edge.to }
+    ensures tie { result ≡ tie_of graph.now.blocks edge }
+    ensures few { result < 4 }
+{
+    match edge.kind {
+        EdgeKind::Call | EdgeKind::Out => 3,
+        EdgeKind::Land if is_behind_call(graph, edge.to) => 2,
+        EdgeKind::Fall | EdgeKind::Taken | EdgeKind::Untaken => 1,
+        EdgeKind::Land => 0,
+    }
+}
+
+/// Whether a call comes back to a block.
+fn is_behind_call(graph: &FlowGraph, to: Node) -> bool
+    requires { IsNodeIn graph.now.blocks to }
+    ensures { result ≡ is_behind_call graph.now.blocks to }
+{
+    match to {
+        Node::Block(block) => block.0 >= 2 && is_call(graph.end(BlockNo(block.0 - 2))),
+        Node::X => false,
+    }
+}
+
+/// Whether control leaves by a call.
+fn is_call(end: BlockEnd) -> bool
+    ensures { result ≡ is_call end }
+{
+    matches!(end, BlockEnd::Call { .. })
+}
