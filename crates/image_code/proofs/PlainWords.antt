@@ -26,7 +26,7 @@ use Rattle.layout.specs.Laid.{Placement, IsLaid, item_at, item_in, items_in, is_
 use Rattle.image_code.specs.Simulates.{Setting, at_point, does_at, gone_at, graph_in, number_in}
 use Rattle.image_code.specs.Images.{Frame, visited_at}
 use Rattle.image_code.specs.Cases.{IsFar, IsPlain, LeadsOn, plain_piece, words_on}
-use Rattle.image_code.specs.Made.{rest_after}
+use Rattle.image_code.specs.Made.{jumps_at, rest_after}
 use Rattle.image_code.proofs.Branches.{image_straight, within_some}
 use Rattle.std.proofs.lemmas.Option.{slice_get_within}
 use Rattle.image_code.proofs.Listed.{image_at}
@@ -68,7 +68,7 @@ module _ (g : Setting) (codes : ℕ → List ℕ) (is : IsText g.text) (p : Plac
       (number_in g node) (slice_index g.text.words word) rest)
   found =
       image_items g codes is p f node x word at held (decode_of (slice_index g.text.words word)) refl
-      ∙ ap (λ z. Some z) (image_straight g.text (graph_in g) codes
+      ∙ ap (λ z. Some z) (image_straight g.text (graph_in g) (jumps_at g.text f.table.base) codes
       (record { 0 = address_of g.text word }) node word (decode_of (slice_index g.text.words word)) straight)
 
   with_rest : (b : Bool) → nat_lt (word + 1) (length g.text.words) ≡ b

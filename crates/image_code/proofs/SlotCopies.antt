@@ -1,6 +1,6 @@
 -- The copies of slots' words: a transfer ends the run, behind a JMPL its target is looked up, and else the copy goes
 -- on to where the edge leads.
-use Rattle.std.proofs.Common.{◌≡◌, ◌≢◌, ℕ, ◌+◌, ◌/◌, ◌%◌, ◌^◌, ◌<◌, inl, inr, Bool, true, false, Option, Some, None, List, [], ◌∷◌, ◌++◌, drop, length, refl, ap, sym, ◌∙◌, subst, arith}
+use Rattle.std.proofs.Common.{◌≡◌, ◌≢◌, ℕ, ◌+◌, ◌%◌, ◌^◌, ◌<◌, inl, inr, Bool, true, false, Option, Some, None, List, [], ◌∷◌, ◌++◌, drop, length, refl, ap, sym, ◌∙◌, subst, arith}
 use Rattle.std.specs.Prelude.{if◌then◌else◌, pos, slice_get, slice_index}
 use Rattle.std.specs.Option.{option_map}
 use Rattle.eel_base.specs.CodeText.{Words, IsText, address_of, word_at}
@@ -21,11 +21,7 @@ use Rattle.cfg_walk.specs.Walk.{Point, landed, landing_at as edge_landing, node_
 use Rattle.cfg_walk.specs.Matches.{Begins, IsOnItsWay, last_in, way_address}
 use Rattle.code_runs.specs.Page.{page_word}
 use Rattle.code_runs.proofs.StoredWords.{memory_word-range}
-use Rattle.addr_translate.specs.Translator.{Translates, translator}
-use Rattle.addr_translate.proofs.TwelveWords.{translates}
-use Rattle.jump_code.specs.Pieces.{far_piece, out_piece}
-use Rattle.jump_code.proofs.Fitting.{Fit, decoded, lt}
-use Rattle.layout.specs.Emitting.{words_of}
+use Rattle.jump_code.specs.Pieces.{far_piece, found_piece}
 use Rattle.layout.specs.declared.items.Item.{Item}
 use Rattle.layout.specs.Laid.{Placement}
 use Rattle.image_code.specs.Simulates.{Setting, at_point, does_at, gone_at, graph_in, number_in, is_out}
@@ -41,20 +37,6 @@ use Rattle.std.proofs.lemmas.Option.{slice_get_within}
 use Rattle.image_code.proofs.Heads.{copy_items, copy_visited}
 use Rattle.image_code.proofs.Listed.{foreign_at, landing_at}
 use Rattle.image_code.proofs.Visited.{edge_is, l, slot_gone, visited_none, visited_word, way_in, word_is}
-
--- ---- the translator's words
-
-translator_fits : (base : ℕ) → base < 2 ^ 32 → Fit (translator base 1 2)
-translator_fits base short =
-    let high = lt (base / 1024) (2 ^ 22) (omega arith) in
-    let last : Fit (drop 8 (translator base 1 2)) = (refl, refl, (refl, refl, (refl, refl, (refl, refl, tt)))) in
-    let more : Fit (drop 4 (translator base 1 2)) = (refl, refl, (refl, refl, (refl, refl, (refl, refl, last)))) in
-    (refl, refl, (refl, refl, (refl, refl, (refl, high, more))))
-
-words_translate : (base : ℕ) → base < 2 ^ 32 → Translates (words_of (translator base 1 2)) base 1 2
-words_translate base short =
-    translates (words_of (translator base 1 2)) base 1 2 (omega arith) (omega arith) (omega arith) (omega arith)
-    (omega arith) (decoded (translator base 1 2) (translator_fits base short))
 
 -- ---- where control goes on at a node
 
@@ -94,7 +76,7 @@ landed_out text graph address None e = rw e refl
 landed_out text graph address (Some word) e = rw e refl
 
 module _ (g : Setting) (codes : ℕ → List ℕ) (is : IsText g.text) (p : Placement) (f : Frame) (base : ℕ)
-    (place : ℕ → ℕ → ℕ) (tables : IsTableFor g.text (graph_in g) p f.table)
+    (place : ℕ → ℕ → ℕ) (tables : IsTableFor g.text (graph_in g) p f.table f.halves)
     (node : Node) (x : Point) (t : State) (here : Here g (l g codes is p f) base p f node x t)
     (slot : ℕ) (at : word_at g.text x.pc ≡ Some slot) (not : x.slot ≢ NoSlot)
     (way : IsOnItsWay g.text (graph_in g) node x (way_in g codes is p f x)) where
@@ -128,7 +110,7 @@ module _ (g : Setting) (codes : ℕ → List ℕ) (is : IsText g.text) (p : Plac
   module _ (straight : is_transfer (decode_of word) ≡ false) where
     abbrev past_by : Bool → List Item
     past_by out =
-        if out then out_piece address (number_in g node) word code (words_of (translator f.table.base 1 2))
+        if out then found_piece address (number_in g node) word code 1
         else plain_piece address (number_in g node) word (goes_along g.text (graph_in g) codes way.number way.edge)
 
     past : (b : Bool) → same_kind (way_in g codes is p f x) kinds.Out ≡ b
@@ -305,9 +287,6 @@ module _ (g : Setting) (codes : ℕ → List ℕ) (is : IsText g.text) (p : Plac
                 )),
               )
 
-      short : f.table.base < 2 ^ 32
-      short = let h = tables.whole.below in omega arith
-
       jump_case : IsCase g (l g codes is p f) base p place f node x t
       jump_case = jumps_slot (record {
         slot = way.jumps out;
@@ -320,10 +299,9 @@ module _ (g : Setting) (codes : ℕ → List ℕ) (is : IsText g.text) (p : Plac
         word = word;
         is_word = word_is g codes is p f x slot at;
         straight = straight;
-        translator = words_of (translator f.table.base 1 2);
-        twelve = refl;
-        translates = words_translate f.table.base short;
-        table = tables.whole;
+        through = 1;
+        some = omega arith;
+        below = omega arith;
         edge = way.number;
         outward = ap is_out way.is ∙ ap (λ (k : EdgeKind). same_kind k kinds.Out)
             (edge_is g codes is p f node x (way_in g codes is p f x) way).same ∙ out;

@@ -23,11 +23,11 @@ use Rattle.cfg_normal.specs.Graph.{Graph, node_of}
 use Rattle.cfg_walk.specs.Walk.{edge_from, landing_at, left_by, same_kind}
 use Rattle.cfg_walk.specs.Matches.{way_address}
 use Rattle.cfg_normal.specs.Numbers.{node_number}
-use Rattle.addr_translate.specs.Lookup.{TableAt, IsTable, looked_up}
-use Rattle.addr_translate.specs.Translator.{translator}
-use Rattle.jump_code.specs.FreeRegister.{free_register}
-use Rattle.jump_code.specs.Pieces.{call_piece, far_piece, foreign_piece, jump_piece, out_piece}
-use Rattle.layout.specs.Emitting.{words_of}
+use Rattle.addr_translate.specs.Halves.{found_in}
+use Rattle.addr_translate.specs.Lookup.{TableAt, IsTable}
+use Rattle.addr_translate.specs.Table.{size_of}
+use Rattle.jump_code.specs.FreeRegister.{free_register, other_register}
+use Rattle.jump_code.specs.Pieces.{call_piece, far_piece, find_piece, foreign_piece, found_piece}
 use Rattle.layout.specs.Laid.{HasShortForms, Placement}
 use Rattle.layout.specs.declared.items.Item.{Item}
 use Rattle.layout.specs.declared.items.Item.TheVariants as it
@@ -108,15 +108,21 @@ module _ (text : Words) (graph : Graph) (codes : ℕ → List ℕ) where
   abbrev pub rest_after : Node → ℕ → Instr → List Item
   rest_after node word instr = snippet_items codes (left_by graph node word instr) ++ next_to text word
 
+-- where the jumps' table stands: behind the other one
+abbrev pub jumps_at : Words → ℕ → ℕ
+jumps_at text table = table + size_of text
+
+-- Jumps look up in the table at `jumps`.
+module _ (text : Words) (graph : Graph) (jumps : ℕ) (codes : ℕ → List ℕ) where
   abbrev pub image_by : Addr → Node → ℕ → Instr → List Item
   image_by address node word (i.Branch cond annul disp22) = branch_image text graph address node cond
   image_by address node word (i.Call disp30) =
       call_piece address (node_number graph node) (record { 0 = way_out text graph node kinds.Call })
   image_by address node word (i.Jmpl rd rs1 op2) =
-      jump_piece (free_register rd rs1 op2) rd rs1 op2 address (node_number graph node)
+      find_piece (free_register rd rs1 op2) (other_register rd rs1 op2) rd rs1 op2 jumps address (node_number graph node)
       (record { 0 = way_out text graph node kinds.Out })
   image_by address node word instr =
-      plain_piece address (node_number graph node) (slice_index text.words word) (rest_after node word instr)
+      plain_piece address (node_number graph node) (slice_index text.words word) (rest_after text graph codes node word instr)
 
   -- the image of a word, at its address, for the block that holds it
   abbrev pub image : ℕ → List Item
@@ -124,6 +130,7 @@ module _ (text : Words) (graph : Graph) (codes : ℕ → List ℕ) where
       image_by (record { 0 = address_of text word }) (node_of graph.blocks (Some word)) word
       (decode_of (slice_index text.words word))
 
+module _ (text : Words) (graph : Graph) (codes : ℕ → List ℕ) where
   -- ---- landings
 
   -- at a landing the snippet of its block's landing edge runs, and control goes on to the word's image
@@ -139,11 +146,11 @@ module _ (text : Words) (graph : Graph) (codes : ℕ → List ℕ) where
       snippet_items codes (number ∷ []) ++ goes_on text graph edge.to (way_address text graph edge.from edge.kind)
 
 module _ (text : Words) (graph : Graph) (table : ℕ) (codes : ℕ → List ℕ) where
-  -- Behind the copy of a slot's word, and the snippet, a JMPL's target is looked up; along any other edge control goes on.
+  -- Behind the copy of a slot's word, and the snippet, a JMPL goes on at what was found; along any other edge control goes on.
   abbrev pub past_slot : Addr → ℕ → ℕ → ℕ → Edge → List Item
   past_slot address node word number edge =
       if same_kind edge.kind kinds.Out
-      then out_piece address node word (snippet_items codes (number ∷ [])) (words_of (translator table 1 2))
+      then found_piece address node word (snippet_items codes (number ∷ [])) 1
       else plain_piece address node word (goes_along text graph codes number edge)
 
   -- a transfer in a slot ends the run
@@ -173,7 +180,7 @@ module _ (text : Words) (graph : Graph) (table : ℕ) (codes : ℕ → List ℕ)
 
   unfoldable pub piece_list : List (List Item)
   piece_list =
-      map (image text graph codes) (below (length text.words)) ++ ways_from 0 (own_edges graph)
+      map (image text graph (jumps_at text table) codes) (below (length text.words)) ++ ways_from 0 (own_edges graph)
       ++ map (landing text graph codes) (below (length text.words)) ++ foreign_piece ∷ []
 
 -- the pieces by what they are for: a word has one image, whatever the node
@@ -188,12 +195,13 @@ pieces_in text graph table codes = record {
 -- ---- what they promise
 
 -- the table leads from each word of the text to its landing, and from all other addresses to the foreign piece
-pub record IsTableFor (text : Words) (graph : Graph) (p : Placement) (table : TableAt) : Type 0 where
+pub record IsTableFor (text : Words) (graph : Graph) (p : Placement) (table jumps : TableAt) : Type 0 where
   pub whole : IsTable table
+  pub behind : jumps.base ≡ jumps_at text table.base
   pub words : (a word : ℕ) → a < 2 ^ 32 → a % 4 ≡ 0 → word_at text a ≡ Some word
-      → looked_up table a ≡ slice_index p.at (landing_number text graph word)
+      → found_in jumps a ≡ slice_index p.at (landing_number text graph word)
   pub others : (a : ℕ) → a < 2 ^ 32 → a % 4 ≡ 0 → word_at text a ≡ None
-      → looked_up table a ≡ slice_index p.at (foreign_number text graph)
+      → found_in jumps a ≡ slice_index p.at (foreign_number text graph)
 
 -- the place of a slot behind the text, where some edge has one, is where the table begins
 abbrev pub IsOffNoted : Setting → ℕ → Type 0
@@ -211,6 +219,6 @@ abbrev pub PiecesMakeImages : Type 0
 PiecesMakeImages =
     (g : Setting) (codes : ℕ → List ℕ) (base : ℕ) (p : Placement) (place : ℕ → ℕ → ℕ) (f : Frame) → IsText g.text
     → IsPlaced g (pieces_in g.text (graph_in g) f.table.base codes) base p place f
-    → IsTableFor g.text (graph_in g) p f.table → f.table.base < base → IsOffNoted g f.table.base
+    → IsTableFor g.text (graph_in g) p f.table f.halves → f.table.base < base → IsOffNoted g f.table.base
     → Simulates g (IsOpen g) (Here g (pieces_in g.text (graph_in g) f.table.base codes) base p f)
     (HasShortForms (piece_list g.text (graph_in g) f.table.base codes) place)
