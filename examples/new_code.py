@@ -199,11 +199,14 @@ class Pieces:
         if kind == 'jump':
             jumps = self.table + table_size(self.program)
             return Piece(visit, jump_image(value, visit[0], jumps), then=self.ways[block, 'out'])
-        return Piece(visit, (value,), rest=() if word + 1 < self.graph.count else jump(self.address(word + 1)))
+        if word + 1 == self.graph.count:
+            return Piece(visit, (value,), rest=jump(self.address(word + 1)))
+        in_slot = word and self.graph.ends[word - 1][0] != 'fall'
+        return Piece(visit, (value,), then=word + 1 if in_slot else None)
 
     def way(self, edge):
         if edge.kind == 'fall':
-            return Piece()
+            return Piece(then=0)
         if edge.slot == self.graph.count:
             return Piece(rest=jump(self.table))
         visit, copy = None, ()

@@ -39,7 +39,7 @@ use Rattle.layout.specs.Laid.{end_from, is_end}
 use Rattle.image_code.specs.Cases.{branch_piece, plain_piece}
 use Rattle.image_code.specs.Couple.{couple_piece}
 use Rattle.image_code.specs.Imaged.{TakesWords}
-use Rattle.image_code.specs.Made.{goes_along, goes_on, image, image_by, jump_to, jumps_at, landing, next_to, own_edges, piece_list, rest_after, way_along, way_by, way_out, ways_from}
+use Rattle.image_code.specs.Made.{goes_along, goes_on, image, image_by, is_slots, jump_to, jumps_at, landing, next_to, own_edges, piece_list, rest_after, way_along, way_by, way_out, ways_from}
 use Rattle.image_code.specs.Parts.{IsGraphOf}
 use Rattle.image_code.proofs.Numbers.{cut_of, edges_are, words_are}
 use Rattle.edit_core.proofs.Eaches.{each_all, each_taken}
@@ -173,7 +173,8 @@ module _ (text : Words) (graph : Graph) (table : ℕ) (codes : ℕ → List ℕ)
   image_by_marked word node visit instr =
       plain_marked nodes _ _ visit _ (rest_after text graph codes node word instr)
       (no_marks (flat_map codes (left_by graph node word instr)) (next_to text word)
-      (cond_both (nat_lt (word + 1) (length text.words)) _ _ NoMarks (λ _. tt)
+      (cond_both (nat_lt (word + 1) (length text.words)) _ _ NoMarks
+      (λ _. cond_both (is_slots text word) _ _ NoMarks (λ _. tt) (λ _. tt))
       (λ _. far_unmarked (address_of text (length text.words)))))
 
   image_marked : (word : ℕ) → word < length text.words → MarksFirst nodes (image text graph (jumps_at text table) codes word)

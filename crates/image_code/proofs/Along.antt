@@ -24,7 +24,7 @@ use Rattle.jump_code.specs.Pieces.{found_piece}
 use Rattle.image_code.specs.declared.parts.Next.{Next}
 use Rattle.image_code.specs.Cases.{plain_piece}
 use Rattle.image_code.specs.Couple.{couple_piece}
-use Rattle.image_code.specs.Made.{couple_word, goes_along, goes_on, past_slot, snippet_items, way_along, way_by, ways_from}
+use Rattle.image_code.specs.Made.{couple_word, goes_along, goes_on, jump_to, past_slot, snippet_items, way_along, way_by, ways_from}
 use Rattle.image_code.specs.Parts.{IsGraphOf, copy_with, items_of, way_with}
 use Rattle.image_code.proofs.Numbers.{words_are}
 
@@ -75,7 +75,7 @@ module _ (text : Words) (graph : Graph) (table : ℕ) (edge : Edge) (made : Resu
         → IfOk made (λ p. p ≡ way_with text graph table code edge)
     bare_way slot other is =
         subst (λ (items : List Item). IfOk made (λ p. p ≡ items)) (along_is ∙ sym (
-        ap (λ (b : Bool). if b then [] else way_by text graph table codes 0 edge edge.slot) (no_fall edge.kind other)
+        ap (λ (b : Bool). if b then jump_to 0 else way_by text graph table codes 0 edge edge.slot) (no_fall edge.kind other)
         ∙ ap (way_by text graph table codes 0 edge) slot)) is
 
     pub plain_copy : (address : Addr) (number word : ℕ) → is_transfer (decode_of word) ≡ false
@@ -102,7 +102,7 @@ way_by_same text graph table codes number edge slots.Off = refl
 pub way_same : (text : Words) (graph : Graph) (table : ℕ) (codes : ℕ → List ℕ) (number : ℕ) (edge : Edge)
     → way_with text graph table (codes number) edge ≡ way_along text graph table codes number edge
 way_same text graph table codes number edge =
-    ap (λ (items : List Item). if is_fall edge.kind then [] else items)
+    ap (λ (items : List Item). if is_fall edge.kind then jump_to 0 else items)
     (way_by_same text graph table codes number edge edge.slot)
 
 pub ways_more : (text : Words) (graph : Graph) (table : ℕ) (codes : ℕ → List ℕ) (number : ℕ) (edges : List Edge)

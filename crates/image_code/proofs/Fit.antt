@@ -3,7 +3,7 @@ use Rattle.std.proofs.Common.{◌≡◌, ℕ, zero, suc, ◌+◌, ◌-◌, ◌*�
 use Rattle.std.specs.Prelude.{if◌then◌else◌, nat_lt, slice_get, slice_index}
 use Rattle.std.specs.List.{All, flat_map, position, sum_by}
 use Rattle.std.specs.Option.{option_to_list}
-use Rattle.std.proofs.lemmas.Bool.{and_parts, cond_both}
+use Rattle.std.proofs.lemmas.Bool.{and_parts, cond_both, ltb-true}
 use Rattle.std.proofs.lemmas.List.Sums.{sum_by-append, sum_by-cons, sum_by-le}
 use Rattle.std.proofs.lemmas.List.Quantifiers.{position-Some}
 use Rattle.std.proofs.lemmas.Option.{get_or_from_slice_get, slice_get-get_or, slice_get_within}
@@ -45,7 +45,7 @@ use Rattle.layout.specs.declared.items.Item.TheVariants as it
 use Rattle.layout.specs.Laid.{AreMarked, IsMarked, IsWordAt, LeadsBelow, item_at, item_in, long_words, piece_words}
 use Rattle.image_code.specs.Cases.{branch_piece, plain_piece}
 use Rattle.image_code.specs.Couple.{couple_piece}
-use Rattle.image_code.specs.Made.{first_way, goes_along, goes_on, image, image_by, jump_to, jumps_at, landing, next_to, own_edges, piece_list, rest_after, way_along, way_by, way_out, ways_from}
+use Rattle.image_code.specs.Made.{first_way, goes_along, goes_on, image, image_by, is_slots, jump_to, jumps_at, landing, next_to, own_edges, piece_list, rest_after, way_along, way_by, way_out, ways_from}
 use Rattle.image_code.specs.Parts.{IsGraphOf}
 use Rattle.image_code.specs.Fit.{AreFit, AreShort, PiecesFit, PlacesSay, is_mark, marks_in, operations_in}
 use Rattle.image_code.proofs.Listed.{count_is, own_at}
@@ -301,16 +301,6 @@ module _ (text : Words) (count : ℕ) where
     says = (says, tt);
   }
 
-  small_empty : IsSmall text count 0 []
-  small_empty = record {
-    few = omega arith;
-    words = omega arith;
-    marks = omega arith;
-    marked = tt;
-    leads = tt;
-    says = tt;
-  }
-
 within_is : (count word other : ℕ) → within count word ≡ Some other → word ≡ other
 within_is count word other e = cond_both (nat_lt word count) _ _ (λ (o : Option ℕ). o ≡ Some other → word ≡ other)
     (λ _ q. cc) (λ _ q. absurd (cc)) e
@@ -425,7 +415,11 @@ module _ (text : Words) (graph : Graph) (table : ℕ) (codes : ℕ → List ℕ)
 
   next_tail : (word : ℕ) → Tail 0 (next_to text word)
   next_tail word =
-      cond_both (nat_lt (word + 1) (length text.words)) _ _ (Tail 0) (λ _. tail_empty text (length pieces))
+      cond_both (nat_lt (word + 1) (length text.words)) _ _ (Tail 0)
+      (λ more. cond_both (is_slots text word) _ _ (Tail 0)
+      (λ _. tail_jump text (length pieces) (word + 1)
+      (omega (arith, ltb-true (word + 1) (length text.words) more, count_is text graph table codes)))
+      (λ _. tail_empty text (length pieces)))
       (λ _. tail_far text (length pieces) (address_of text (length text.words)))
 
   coded : (most other : ℕ) (ws : List ℕ) (rest : List Item) → Tail 0 rest → length ws ≤ other
@@ -497,8 +491,8 @@ module _ (text : Words) (graph : Graph) (table : ℕ) (codes : ℕ → List ℕ)
   way_small number edge inside = by (is_fall edge.kind)
     where
       by : (fall : Bool) → Small (if fall then 0 else length (codes number))
-          (if fall then [] else way_by text graph table codes number edge edge.slot)
-      by true = small_empty text _
+          (if fall then jump_to 0 else way_by text graph table codes number edge edge.slot)
+      by true = small_tail text _ 0 _ (tail_jump text _ 0 (omega (arith, is.some, count_is text graph table codes)))
       by false = way_by_small number edge inside edge.slot
 
   -- ---- landings

@@ -1,6 +1,6 @@
 -- The pieces that are made of a text: an image of each word, the way along each edge but for the landings, a landing at
 -- each word, and last the foreign piece, to which the table leads every address outside the text.
-use Rattle.std.specs.Prelude.{◌≡◌, ℕ, suc, ◌+◌, ◌-◌, ◌%◌, ◌^◌, ◌<◌, ◌==◌, nat_lt, if◌then◌else◌, List, [], ◌∷◌, ◌++◌, length, map, take, slice_get, slice_index, Some, None}
+use Rattle.std.specs.Prelude.{◌≡◌, ℕ, suc, ◌+◌, ◌-◌, ◌%◌, ◌^◌, ◌<◌, ◌==◌, nat_lt, if◌then◌else◌, Bool, ◌&&◌, List, [], ◌∷◌, ◌++◌, length, map, take, slice_get, slice_index, Some, None}
 use Rattle.std.specs.List.{flat_map}
 use Rattle.eel_base.specs.CodeText.{Words, IsText, address_of, word_at}
 use Rattle.elf32_sparc.specs.Notes.{range_at}
@@ -54,10 +54,16 @@ own_edges graph = take (length graph.edges - length graph.blocks.firsts) graph.e
 abbrev pub jump_to : ℕ → List Item
 jump_to piece = it.Jump (record { 0 = piece }) ∷ []
 
--- A word goes on to the image of the next one, which comes next; behind the text's last word control leaves the text.
+-- a word that is the slot of the transfer before it
+abbrev pub is_slots : Words → ℕ → Bool
+is_slots text word = nat_lt 0 word && is_transfer (decode_of (slice_index text.words (word - 1)))
+
+-- A word goes on to the image of the next one, which comes next; the slot's word of a transfer, which is a block of its
+-- own, by a Jump. Behind the text's last word control leaves the text.
 abbrev pub next_to : Words → ℕ → List Item
 next_to text word =
-    if nat_lt (word + 1) (length text.words) then [] else far_piece (address_of text (length text.words))
+    if nat_lt (word + 1) (length text.words) then (if is_slots text word then jump_to (word + 1) else [])
+    else far_piece (address_of text (length text.words))
 
 -- ---- the numbers of pieces: first come the images of the words, by words, then the ways along edges, by edges, then the
 -- landings, by words, and last the foreign piece
@@ -167,9 +173,10 @@ module _ (text : Words) (graph : Graph) (table : ℕ) (codes : ℕ → List ℕ)
       number edge
   way_by number edge slots.Off = far_piece table
 
-  -- to the next word control falls without a way
+  -- To the next word control falls without a way. The piece that stands for it is never run; it ends in a Jump, as the
+  -- ways do.
   abbrev pub way_along : ℕ → Edge → List Item
-  way_along number edge = if is_fall edge.kind then [] else way_by number edge edge.slot
+  way_along number edge = if is_fall edge.kind then jump_to 0 else way_by number edge edge.slot
 
   -- the ways along some edges, the first of which has this number
   abbrev pub ways_from : ℕ → List Edge → List (List Item)

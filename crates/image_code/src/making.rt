@@ -10,7 +10,7 @@ ghost use Rattle.cfg_normal.specs.Graph.{IsEdgeIn, IsNodeIn, edges_of};
 ghost use Rattle.cfg_walk.specs.Matches.{last_in as last_in_of, target_along, way_address};
 ghost use Rattle.cfg_normal.specs.Numbers.{node_number as node_number_of};
 ghost use Rattle.image_code.specs.Codes.{CodeDoes};
-ghost use Rattle.image_code.specs.Made.{foreign_number as foreign_number_of, goes_on, image as image_of, jumps_at, landing as landing_of, landing_number, next_to, own_edges as own_edges_of, piece_list, ways_from};
+ghost use Rattle.image_code.specs.Made.{foreign_number as foreign_number_of, goes_on, image as image_of, is_slots as is_slots_of, jumps_at, landing as landing_of, landing_number, next_to, own_edges as own_edges_of, piece_list, ways_from};
 ghost use Rattle.image_code.specs.Parts.{IsGraphOf, codes_of, copy_with, first_way_of, image_in, items_of, landing_with, way_with};
 ghost use Rattle.liveness.specs.Sets.{dead_on};
 ghost use Rattle.snippet_code.specs.Laws.{EndLow};
@@ -259,17 +259,27 @@ fn image(
 }
 
 // Where control goes on after a word that is no transfer: at the image of the next word, or behind the text's last one
-// out of the text.
+// out of the text. After the slot's word of a transfer that is another piece, which may stand elsewhere.
 fn next_after(text: &Text, word: WordNo) -> Next
     requires word { word.0 < length text.now.words }
     ensures { items_of result ≡ next_to text.now word.0 }
 {
     let words = text.len();
-    if word.0 + 1 < words {
-        Next::Behind
-    } else {
+    if word.0 + 1 >= words {
         Next::Far(text.address(WordNo(words)))
+    } else if is_slots(text, word) {
+        Next::Piece(PieceNo(word.0 + 1))
+    } else {
+        Next::Behind
     }
+}
+
+// Whether a word is the slot of the transfer before it.
+fn is_slots(text: &Text, word: WordNo) -> bool
+    requires word { word.0 < length text.now.words }
+    ensures { result ≡ is_slots_of text.now word.0 }
+{
+    word.0 > 0 && is_transfer(text.word(WordNo(word.0 - 1)))
 }
 
 // ---- ways along edges
@@ -319,7 +329,7 @@ fn way(
     ensures { IfOk result (λ p. p ≡ way_with text.now graph.now table.0 code.now edge.now) }
 {
     match (edge.kind, edge.slot) {
-        (EdgeKind::Fall, _) => way_to(alloc, &[], Next::Behind),
+        (EdgeKind::Fall, _) => way_to(alloc, &[], Next::Piece(PieceNo(0))),
         (_, Slot::Nothing) => way_to(alloc, code, next_along(text, graph, edge)),
         (_, Slot::Off) => way_to(alloc, &[], Next::Far(table)),
         (_, Slot::Word(slot)) => {
