@@ -56,7 +56,8 @@ def written(original):
     pieces = Pieces(program, graph, table)
     layout = Layout(pieces.list, base)
     at, code = layout.at, words(*layout.code())
-    landings = {pieces.address(word): at[pieces.first_landing + word] for word in range(graph.count)}
+    # nothing is done on the way from a landing to its image
+    landings = {pieces.address(word): at[word] for word in range(graph.count)}
     foreign = at[len(at) - 1]
     tables = [*table_words(program, table, landings, foreign), *second_words(program, second, landings, foreign)]
     added = [(table, 4, words(*tables)), (base, 5, code), (EDITOR_PAGE, 6, bytes(PAGE))]

@@ -180,7 +180,7 @@ module _ (original : List ℕ) (plan : Plan) (p : Placement) where
 -- the pages of the notes: that of the cells, the tables', the code's and the editor's
 pub is_framed : (original : List ℕ) (plan : Plan) (p : Placement) (table : TableAt) (g : Setting)
     → g.notes ≡ notes_on original plan p
-    → table.base ≡ table_base original plan → LeadsTo (text_of original plan) (graph_in original plan) p table
+    → table.base ≡ table_base original plan → LeadsTo (text_of original plan) (graph_in original plan) plan.snips p table
     → IsFramed g (frame (text_of original plan) (cells_base original plan) plan.cells table)
 is_framed original plan p table g same base leads = record {
   own = subst (λ (n : Notes). AreOwn (pages_of n) own) (sym same) (record { first = inl refl; within = within });
@@ -365,7 +365,7 @@ module _ (original : List ℕ) (plan : Plan) (p : Placement) (place : ℕ → �
   -- ---- the tables
 
   table_below : table.base + length table.bytes ≤ 2 ^ 31
-  table_below = tables_low (text_of original plan) (landings_of (text_of original plan) (graph_in original plan) p)
+  table_below = tables_low (text_of original plan) (landings_of (text_of original plan) (graph_in original plan) plan.snips p)
       (foreign_of (text_of original plan) (graph_in original plan) p) table is.code.leads
 
   module _ (a : ℕ) (from : table.base ≤ a) (to : a + 4 ≤ table.base + length table.bytes) where

@@ -45,7 +45,7 @@ use Rattle.image_code.specs.Fit.{PiecesFit}
 use Rattle.image_code.specs.Simulates.{Setting, Simulates, is_out, snippet_on}
 use Rattle.image_code.specs.Images.{AreNoted, Frame, HasCells, Here, IsPlaced, Pieces, visited_by}
 use Rattle.image_code.specs.Parts.{codes_of}
-use Rattle.image_code.specs.Made.{IsOffNoted, IsTableFor, PiecesMakeImages, landing_number, piece_list, pieces_in}
+use Rattle.image_code.specs.Made.{IsOffNoted, IsTableFor, PiecesMakeImages, lands_at, piece_list, pieces_in}
 use Rattle.image_code.specs.Outside.{IsOpen}
 use Rattle.image_code.proofs.Numbers.{cut_of}
 use Rattle.edit_core.specs.Faithful.{editor_page, page_size}
@@ -197,30 +197,30 @@ module _ (original : List ℕ) (plan : Plan) (dead : ℕ → List Part) (p : Pla
       ∙ off_here (text_of original plan) (graph_in original plan) (table_base original plan) edge p.ranges
 
   -- where the table leads
-  module _ (table : TableAt) (leads : LeadsTo (text_of original plan) (graph_in original plan) p table) where
+  module _ (table : TableAt) (leads : LeadsTo (text_of original plan) (graph_in original plan) plan.snips p table) where
     landings_at : (word : ℕ) → word < length (text_of original plan).words
-        → slice_index (map (λ (a : Addr). a.0) (landings_of (text_of original plan) (graph_in original plan) p)) word
-        ≡ slice_index p.at (landing_number (text_of original plan) (graph_in original plan) word)
+        → slice_index (map (λ (a : Addr). a.0) (landings_of (text_of original plan) (graph_in original plan) plan.snips p)) word
+        ≡ slice_index p.at (lands_at (text_of original plan) (graph_in original plan) plan.snips word)
     landings_at word l =
         ap (λ (ns : List ℕ). slice_index ns word)
         (map-map (λ (a : Addr). a.0) (λ (k : ℕ). addr
-        (slice_index p.at (landing_number (text_of original plan) (graph_in original plan) k)))
+        (slice_index p.at (lands_at (text_of original plan) (graph_in original plan) plan.snips k)))
         (below (length (text_of original plan).words)))
-        ∙ map_below (λ k. slice_index p.at (landing_number (text_of original plan) (graph_in original plan) k))
+        ∙ map_below (λ k. slice_index p.at (lands_at (text_of original plan) (graph_in original plan) plan.snips k))
         (length (text_of original plan).words) word 0 l
 
     found_at : (a : ℕ) → a < 2 ^ 32 → a % 4 ≡ 0 → (o : Option ℕ) → word_at (text_of original plan) a ≡ o
-        → found_in (second_table (text_of original plan) table) a ≡ target_of (landings_of (text_of original plan) (graph_in original plan) p)
+        → found_in (second_table (text_of original plan) table) a ≡ target_of (landings_of (text_of original plan) (graph_in original plan) plan.snips p)
         (foreign_of (text_of original plan) (graph_in original plan) p) o
     found_at a low aligned o e =
         let same : a - a % 4 ≡ a = omega (arith, aligned) in
         leads.second.finds a low aligned
-        ∙ ap (λ z. target_of (landings_of (text_of original plan) (graph_in original plan) p)
+        ∙ ap (λ z. target_of (landings_of (text_of original plan) (graph_in original plan) plan.snips p)
         (foreign_of (text_of original plan) (graph_in original plan) p) (word_at (text_of original plan) z)) same
-        ∙ ap (target_of (landings_of (text_of original plan) (graph_in original plan) p)
+        ∙ ap (target_of (landings_of (text_of original plan) (graph_in original plan) plan.snips p)
         (foreign_of (text_of original plan) (graph_in original plan) p)) e
 
-    table_for : IsTableFor (text_of original plan) (graph_in original plan) p
+    table_for : IsTableFor (text_of original plan) (graph_in original plan) plan.snips p
         (first_table (text_of original plan) table) (second_table (text_of original plan) table)
     table_for = record {
       whole = leads.first.whole;

@@ -122,7 +122,7 @@ module _ (original : List ℕ) (plan : Plan) (view : View) (is : IsViewOf origin
 
   module _ (placed : Placed) (tables : List ℕ)
       (built : IsBuilt view.image.text view.graph view.image.base plan.cells plan.snips (placement_in placed))
-      (leads : LeadsTo view.image.text view.graph (placement_in placed)
+      (leads : LeadsTo view.image.text view.graph plan.snips (placement_in placed)
       (record { base = table_after view.image.base plan.cells; bytes = tables }))
     where
       pub code_is : All (λ word. word < 2 ^ 32) placed.code.items → AreBytes tables
@@ -142,9 +142,9 @@ module _ (original : List ℕ) (plan : Plan) (view : View) (is : IsViewOf origin
             (view_pieces built.dead) built.are.short;
         words = words;
         base = refl;
-        leads = subst (λ (i : Program). LeadsTo i.text (graph_in original plan) (placement_in placed)
+        leads = subst (λ (i : Program). LeadsTo i.text (graph_in original plan) plan.snips (placement_in placed)
             (record { base = table_after i.base plan.cells; bytes = tables })) is.0
-            (subst (λ (g : Graph). LeadsTo view.image.text g (placement_in placed)
+            (subst (λ (g : Graph). LeadsTo view.image.text g plan.snips (placement_in placed)
             (record { base = table_after view.image.base plan.cells; bytes = tables })) is.1 leads);
         bytes = bytes;
       }

@@ -31,7 +31,7 @@ use Rattle.addr_translate.specs.Table.{IsTableOf, size_of}
 use Rattle.layout.specs.declared.items.Item.{Item}
 use Rattle.layout.specs.declared.items.Placed.{Placed}
 use Rattle.layout.specs.Laid.{HasShortForms, IsLaid, Placement, long_bytes, placement_of}
-use Rattle.image_code.specs.Made.{foreign_number, jumps_at, landing_number, piece_list}
+use Rattle.image_code.specs.Made.{foreign_number, jumps_at, lands_at, piece_list}
 use Rattle.image_code.specs.Parts.{codes_of}
 use Rattle.snippets.specs.declared.snippet.Op.{Op}
 use Rattle.tool_kit.specs.Good.{IsGood}
@@ -121,20 +121,22 @@ pub record AreTablesOf (text : Words) (targets : List Addr) (foreign : Addr) (ta
   pub first : IsTableOf text targets foreign (first_table text tables)
   pub second : IsHalvesOf text targets foreign (second_table text tables)
 
--- ---- where they lead: from each word of the text to its landing, and from all else to the foreign piece
+-- ---- where they lead: from each word of the text to its landing, or to its image where nothing is done on the way, and from
+-- all else to the foreign piece
 
 abbrev pub addr : ℕ → Addr
 addr a = record { 0 = a }
 
-abbrev pub landings_of : Words → Graph → Placement → List Addr
-landings_of text graph p =
-    map (λ word. addr (slice_index p.at (landing_number text graph word))) (below (length text.words))
+abbrev pub landings_of : Words → Graph → List (List Op) → Placement → List Addr
+landings_of text graph snips p =
+    map (λ word. addr (slice_index p.at (lands_at text graph snips word))) (below (length text.words))
 
 abbrev pub foreign_of : Words → Graph → Placement → Addr
 foreign_of text graph p = addr (slice_index p.at (foreign_number text graph))
 
-abbrev pub LeadsTo : Words → Graph → Placement → TableAt → Type 0
-LeadsTo text graph p table = AreTablesOf text (landings_of text graph p) (foreign_of text graph p) table
+abbrev pub LeadsTo : Words → Graph → List (List Op) → Placement → TableAt → Type 0
+LeadsTo text graph snips p table =
+    AreTablesOf text (landings_of text graph snips p) (foreign_of text graph p) table
 
 -- ---- the pieces of new code, with the snippets on the cells at `base`, by what is dead behind them
 
@@ -237,7 +239,7 @@ pub record IsNewCode (original : List ℕ) (plan : Plan) (p : Placement) (place 
   pub short : 4 * length p.code < short_bound → HasShortForms (pieces_of original plan dead) place
   pub words : All (λ word. word < 2 ^ 32) p.code
   pub base : table.base ≡ table_base original plan
-  pub leads : LeadsTo (text_of original plan) (graph_in original plan) p table
+  pub leads : LeadsTo (text_of original plan) (graph_in original plan) plan.snips p table
   pub bytes : AreBytes table.bytes
 
 -- What a written file is: all that those who map it, read its notes or run it need to know.

@@ -37,7 +37,7 @@ pub(crate) fn new_code(alloc: Global, view: &View, asked: &Asked) -> Result<NewC
     ensures built { IfOk result (λ new. IsBuilt view.now.image.text view.now.graph view.now.image.base asked.now.cells
         asked.now.snips.items (placement_in new.placed)) }
     ensures leads { IfOk result (λ new.
-        LeadsTo view.now.image.text view.now.graph (placement_in new.placed)
+        LeadsTo view.now.image.text view.now.graph asked.now.snips.items (placement_in new.placed)
         (record { base = table_after view.now.image.base asked.now.cells; bytes = new.tables.items })) }
 {
     let image = &view.image;

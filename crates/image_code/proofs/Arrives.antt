@@ -27,6 +27,8 @@ use Rattle.code_runs.proofs.Leads.{leads_none, leads_then, leads_weaker, silent_
 use Rattle.code_runs.proofs.LongJump.{long_jumps_hop}
 use Rattle.code_runs.proofs.Stays.{stores_there}
 use Rattle.code_runs.proofs.TwoRegisters.{stores_none}
+use Rattle.snippets.specs.declared.snippet.Op.{Op}
+use Rattle.snippets.specs.Cells.{update}
 use Rattle.snippet_code.specs.Runs.{IsAboutToRun, MayStore, RunsPast, cell_at, kept_word, words_at}
 use Rattle.jump_code.specs.Pieces.{far_piece}
 use Rattle.jump_code.proofs.Fitting.{long_jump_fits}
@@ -147,6 +149,19 @@ rest_behind l k n xs ys r =
 pub far_unmarked : (to : ℕ) → AreUnmarked (far_piece to)
 far_unmarked to = (tt, (tt, (tt, (tt, tt))))
 
+-- edges without operations leave the cells
+no_updates : (snips : List (List Op)) (edges cells : List ℕ) (s : State) → operations_on snips edges ≡ 0
+    → updates snips edges cells s ≡ cells
+no_updates snips [] cells s none = refl
+no_updates snips (edge ∷ edges) cells s none =
+    by (snippet_on snips edge) (omega (arith, none))
+    ∙ no_updates snips edges cells s (omega (arith, none))
+  where
+    by : (ops : List Op) → length ops ≡ 0 → updates snips edges (update (register_of s) ops cells) s
+        ≡ updates snips edges cells s
+    by [] e = refl
+    by (op ∷ ops) e = absurd (omega (arith, e))
+
 module _ (g : Setting) (l : Pieces) (base : ℕ) (p : Placement) (place : ℕ → ℕ → ℕ) (f : Frame)
     (h : IsPlaced g l base p place f) where
   -- in the code, and in no place
@@ -248,6 +263,29 @@ module _ (g : Setting) (l : Pieces) (base : ℕ) (p : Placement) (place : ℕ �
     cells = λ _. refl;
     begins = λ q. absurd (omega arith);
     alike = alike_itself g [] a;
+    still = λ _. refl;
+    spares = λ _. omega arith;
+    leaves_first = λ _ _. refl;
+    brief = λ _ _. omega arith;
+  }
+
+  -- so it does for edges without operations
+  pub bare_here : {next : Option ℕ} (edges : List ℕ) (a : State) (to most : ℕ) → operations_on g.snips edges ≡ 0
+      → CanRun base p.code a → a.pc ≡ to → a.pc ≤ 2 ^ 31 → Arrives next edges a to most
+  bare_here edges a to most none w e low = record {
+    count = 0;
+    other = a;
+    memory = a.memory;
+    few = omega arith;
+    path = subst (λ (q : State). Leads IsBare a q 0) (sym (stays a to e w.ready.npc w.slot (omega arith)))
+        (leads_none _ a);
+    silent = silent_none a;
+    stores = stores_none (IsAmongWords f.own) a.memory;
+    waits = refl;
+    found = λ _. refl;
+    cells = λ _. sym (no_updates g.snips edges (cells_in g a) a none);
+    begins = λ q. absurd (omega arith);
+    alike = alike_itself g edges a;
     still = λ _. refl;
     spares = λ _. omega arith;
     leaves_first = λ _ _. refl;

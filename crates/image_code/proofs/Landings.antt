@@ -1,6 +1,6 @@
 -- The way along the edge of a JMPL: the copy of its slot's word, the snippet, and the jump to what was found, a landing or
 -- the foreign piece.
-use Rattle.std.proofs.Common.{◌≡◌, ◌≢◌, ℕ, ◌+◌, ◌%◌, ◌^◌, ◌<◌, ◌≤◌, inl, inr, true, ◌&&◌, Option, Some, None, List, [], ◌∷◌, ◌++◌, length, append-nil, refl, ap, sym, ◌∙◌, subst, arith}
+use Rattle.std.proofs.Common.{◌≡◌, ◌≢◌, ℕ, ◌+◌, ◌%◌, ◌^◌, ◌<◌, ◌≤◌, ◌⊎◌, inl, inr, true, ◌&&◌, Option, Some, None, List, [], ◌∷◌, ◌++◌, length, append-nil, refl, ap, sym, ◌∙◌, subst, arith}
 use Rattle.std.specs.Prelude.{nat_lt, slice_get, slice_index}
 use Rattle.std.specs.Option.{option_map}
 use Rattle.std.specs.List.{flat_map}
@@ -37,11 +37,11 @@ use Rattle.layout.specs.declared.items.Item.{Item}
 use Rattle.layout.specs.declared.items.Item.TheVariants as it
 use Rattle.layout.specs.Emitting.{words_of}
 use Rattle.layout.specs.Laid.{Placement}
-use Rattle.image_code.specs.Simulates.{NoneIsOut, Setting, at_point, does_at, gone_at, graph_in, number_in}
+use Rattle.image_code.specs.Simulates.{NoneIsOut, Setting, at_point, does_at, gone_at, graph_in, number_in, operations_on}
 use Rattle.image_code.specs.Images.{Pieces, Frame, Here, IsPlaced, visited_by}
-use Rattle.image_code.specs.Cases.{next_visit, words_on}
+use Rattle.image_code.specs.Cases.{LeadsTo, next_visit, words_on}
 use Rattle.image_code.specs.Landings.{IsJumpsSlot, JumpSlotsStep, Lands}
-use Rattle.image_code.proofs.Arrives.{Arrives, IsBare, IsFit, Rest, arrive, arrived, length_words, on_then, rest_behind, rest_marked, rest_whole, second_there, snippets_run, unwatched, stood, stood_low, weaker_arrives, words_unmarked}
+use Rattle.image_code.proofs.Arrives.{Arrives, IsBare, IsFit, Rest, arrive, arrived, bare_here, length_words, on_then, rest_behind, rest_marked, rest_whole, second_there, snippets_run, unwatched, stood, stood_low, weaker_arrives, words_unmarked}
 use Rattle.image_code.proofs.Cases.{IsMarkedWord, judged_moved, marked_step}
 use Rattle.image_code.proofs.Cells.{cells_above, page_above}
 use Rattle.image_code.proofs.Dead.{alike_itself}
@@ -226,9 +226,18 @@ module _ (g : Setting) (l : Pieces) (base : ℕ) (p : Placement) (place : ℕ �
         let place_there = h.laid.aligned piece.0 in
         let multiple : found_in f.halves x.npc % 4 ≡ 0 = ap (λ z. z % 4) found ∙ place_there.0 in
         let low = place_there.1 in
-        onward to fit at multiple (omega (arith, found, low)) (λ b fit2 there waits.
-        unwatched g l base p place f h (word_at g.text x.npc) c.landing b to 4
-        (arrive g l base p place f h piece c.landing b (word_at g.text x.npc) to fit2 (there ∙ found) leads))
+        onward to fit at multiple (omega (arith, found, low)) (λ b fit2 there waits. by b fit2 (there ∙ found) leads)
+      where
+        by : (b : State) → IsFit g l base p place f h b → b.pc ≡ slice_index p.at piece.0
+            → LeadsTo l p piece c.landing (word_at g.text x.npc) to
+            ⊎ ((operations_on g.snips c.landing ≡ 0) × (slice_index p.at piece.0 ≡ to))
+            → Arrives g l base p place f h None c.landing b to 4
+        by b fit2 there (inl leads) =
+            unwatched g l base p place f h (word_at g.text x.npc) c.landing b to 4
+            (arrive g l base p place f h piece c.landing b (word_at g.text x.npc) to fit2 there leads)
+        by b fit2 there (inr (none, e)) =
+            let low = (h.laid.aligned piece.0).1 in
+            bare_here g l base p place f h c.landing b to 4 none fit2.runs (there ∙ e) (omega (arith, there, low))
     lands to fit at (inr (no_landing, (piece, within, found, is, none))) out =
         let place_there = h.laid.aligned piece.0 in
         let multiple : found_in f.halves x.npc % 4 ≡ 0 = ap (λ z. z % 4) found ∙ place_there.0 in

@@ -32,7 +32,7 @@ use Rattle.image_code.proofs.SlotCopies.{copy_case}
 use Rattle.image_code.proofs.Visited.{l, on_its_way, way_in}
 
 module _ (g : Setting) (codes : ℕ → List ℕ) (is : IsText g.text) (p : Placement) (f : Frame) (base : ℕ)
-    (place : ℕ → ℕ → ℕ) (laid : IsLaid (l g codes is p f).list base p place) (tables : IsTableFor g.text (graph_in g) p f.table f.halves)
+    (place : ℕ → ℕ → ℕ) (laid : IsLaid (l g codes is p f).list base p place) (tables : IsTableFor g.text (graph_in g) g.snips p f.table f.halves)
     (below : f.table.base < base) (noted : IsOffNoted g f.table.base) where
   -- at a word, outside a slot
   by_instr : (node : Node) (x : Point) (t : State) (word : ℕ) → word_at g.text x.pc ≡ Some word → x.slot ≡ NoSlot

@@ -37,9 +37,11 @@ use Rattle.layout.specs.declared.items.Item.{Item}
 use Rattle.layout.specs.declared.items.Item.TheVariants as it
 use Rattle.jump_code.specs.FreeRegister.{free_register, other_register}
 use Rattle.jump_code.specs.Pieces.{call_piece, find_piece}
+use Rattle.snippets.specs.declared.snippet.Op.{Op}
+use Rattle.image_code.specs.Simulates.{operations_on, snippet_on}
 use Rattle.image_code.specs.Cases.{branch_piece, plain_piece}
-use Rattle.image_code.specs.Made.{branch_image, first_way, image, image_by, jump_to, landing, next_to, nop_word, own_edges, way_out}
-use Rattle.image_code.specs.Parts.{IsGraphOf, begin_of, branch_from, branch_ways, edges_after, edges_before, first_way_of, image_from, image_in, landing_with, rest_of}
+use Rattle.image_code.specs.Made.{branch_image, first_way, image, image_by, jump_to, landing, landing_number, lands_at, next_to, nop_word, own_edges, way_out}
+use Rattle.image_code.specs.Parts.{IsGraphOf, begin_of, branch_from, branch_ways, edges_after, edges_before, first_way_of, first_with, image_from, image_in, landing_with, rest_of}
 
 -- ---- how many edges there are
 
@@ -673,6 +675,67 @@ landings_pushed text graph codes h some k l code is =
         ∙ sym (append-nil (codes (length (own_edges graph) + k)))
         ∙ ap (flat_map codes) (sym (landing_edge text graph h k l))
         ∙ ap (λ (n : Node). flat_map codes (landing_from graph n)) (sym home))
+
+not_none : (n : ℕ) → (suc n + 0 == 0) ≡ false
+not_none n = grind (arith, nat_tests)
+
+-- the pieces to which the table leads from a block's words
+pub lands_pushed : (text : Words) (graph : Graph) (snips : List (List Op)) → IsGraphOf text graph
+    → 1 ≤ length text.words → (k : ℕ) → k < length graph.blocks.firsts → (from : ℕ)
+    → from ≡ first_with (snippet_on snips (length (own_edges graph) + k)) (length text.words + length (own_edges graph))
+    → map (lands_at text graph snips) (below (begin_of graph.blocks k))
+    ++ map (λ word. from + word) (range_with_len (slice_index graph.blocks.firsts k) (size_of graph.blocks k))
+    ≡ map (lands_at text graph snips) (below (begin_of graph.blocks (k + 1)))
+lands_pushed text graph snips h some k l from is =
+    let end : slice_index graph.blocks.firsts k + size_of graph.blocks k ≡ begin_of graph.blocks (k + 1) =
+    omega (
+      arith,
+      begin_after text graph h some k l,
+      some_words graph.blocks.words graph.blocks.firsts
+          (cut_of text graph h some).firsts k l,
+    ) in
+    ap (λ (n : ℕ). map (lands_at text graph snips) (below n) ++ map (λ word. from + word)
+    (range_with_len (slice_index graph.blocks.firsts k) (size_of graph.blocks k))) (begin_at graph.blocks k l)
+    ∙ maps_joined (lands_at text graph snips) (λ word. from + word) (slice_index graph.blocks.firsts k)
+    (size_of graph.blocks k) here
+    ∙ ap (λ (n : ℕ). map (lands_at text graph snips) (below n)) end
+  where
+    by : (word : ℕ) (ops : List Op) → from ≡ first_with ops (length text.words + length (own_edges graph))
+        → from + word ≡ (if length ops + 0 == 0 then word else landing_number text graph word)
+    by word [] e = omega (arith, e)
+    by word (op ∷ ops) e =
+        ap (λ (n : ℕ). n + word) e
+        ∙ sym (ap (λ (t : Bool). if t then word else landing_number text graph word) (not_none (length ops)))
+
+    here : (word : ℕ) → slice_index graph.blocks.firsts k ≤ word
+        → word < slice_index graph.blocks.firsts k + size_of graph.blocks k
+        → from + word ≡ lands_at text graph snips word
+    here word above under =
+        let room = some_words graph.blocks.words graph.blocks.firsts (cut_of text graph h some).firsts k l in
+        let home : node_of graph.blocks (Some word) ≡ block k =
+        block_home text graph h some k word l above (omega arith) in
+        by word (snippet_on snips (length (own_edges graph) + k)) is
+        ∙ sym (ap (λ (edges : List ℕ). if operations_on snips edges == 0 then word else landing_number text graph word)
+        (ap (landing_from graph) home ∙ landing_edge text graph h k l))
+
+-- one number more
+pub number_pushed : (from first word : ℕ) (before list new : List PieceNo) (number : PieceNo) → first ≤ word
+    → new ≡ list ++ number ∷ [] → number.0 ≡ from + word
+    → map (λ (n : PieceNo). n.0) list ≡ map (λ (n : PieceNo). n.0) before
+    ++ map (λ word. from + word) (range_with_len first (word - first))
+    → map (λ (n : PieceNo). n.0) new ≡ map (λ (n : PieceNo). n.0) before
+    ++ map (λ word. from + word) (range_with_len first (word + 1 - first))
+number_pushed from first word before list new number above pushed made held =
+    let here : first + (word - first) ≡ word = omega arith in
+    let next : word - first + 1 ≡ word + 1 - first = omega arith in
+    ap (map (λ (n : PieceNo). n.0)) pushed ∙ map-append (λ (n : PieceNo). n.0) list (number ∷ [])
+    ∙ ap (λ (n : ℕ). map (λ (n : PieceNo). n.0) list ++ n ∷ []) made
+    ∙ ap (λ (ns : List ℕ). ns ++ (from + word) ∷ []) held
+    ∙ append_assoc (map (λ (n : PieceNo). n.0) before) (map (λ word. from + word) (range_with_len first (word - first)))
+    ((from + word) ∷ [])
+    ∙ ap (λ (ns : List ℕ). map (λ (n : PieceNo). n.0) before ++ ns)
+    (sym (map-range_with_len_more (λ word. from + word) first (word - first) word here)
+    ∙ ap (λ (n : ℕ). map (λ word. from + word) (range_with_len first n)) next)
 
 -- one landing more
 pub landing_pushed : (code : List ℕ) (first word : ℕ) (before list new : List (List Item)) (piece : List Item)

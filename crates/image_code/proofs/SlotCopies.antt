@@ -1,7 +1,8 @@
 -- The copies of slots' words: a transfer ends the run, behind a JMPL its target is looked up, and else the copy goes
 -- on to where the edge leads.
 use Rattle.std.proofs.Common.{◌≡◌, ◌≢◌, ℕ, ◌+◌, ◌%◌, ◌^◌, ◌<◌, inl, inr, Bool, true, false, Option, Some, None, List, [], ◌∷◌, ◌++◌, drop, length, refl, ap, sym, ◌∙◌, subst, arith}
-use Rattle.std.specs.Prelude.{if◌then◌else◌, pos, slice_get, slice_index}
+use Rattle.std.specs.Prelude.{◌==◌, if◌then◌else◌, pos, slice_get, slice_index}
+use Rattle.std.proofs.lemmas.Bool.{eqb-true}
 use Rattle.std.specs.Option.{option_map}
 use Rattle.eel_base.specs.CodeText.{Words, IsText, address_of, word_at}
 use Rattle.eel_base.specs.declared.numbers.Addr.{Addr}
@@ -19,12 +20,13 @@ use Rattle.cfg_normal.specs.declared.Node.TheVariants.{Block, X}
 use Rattle.cfg_normal.specs.Graph.{Graph, node_of}
 use Rattle.cfg_walk.specs.Walk.{Point, landed, landing_at as edge_landing, node_after, point_of, same_kind}
 use Rattle.cfg_walk.specs.Matches.{Begins, IsOnItsWay, last_in, way_address}
+use Rattle.addr_translate.specs.Halves.{found_in}
 use Rattle.code_runs.specs.Page.{page_word}
 use Rattle.code_runs.proofs.StoredWords.{memory_word-range}
 use Rattle.jump_code.specs.Pieces.{far_piece, found_piece}
 use Rattle.layout.specs.declared.items.Item.{Item}
 use Rattle.layout.specs.Laid.{Placement}
-use Rattle.image_code.specs.Simulates.{Setting, at_point, does_at, gone_at, graph_in, number_in, is_out}
+use Rattle.image_code.specs.Simulates.{Setting, at_point, does_at, gone_at, graph_in, number_in, is_out, operations_on}
 use Rattle.image_code.specs.Images.{Frame, Here, visited_at}
 use Rattle.image_code.specs.Cases.{IsFar, LeadsOn, plain_piece, words_on}
 use Rattle.image_code.specs.Couple.{couple_piece}
@@ -35,7 +37,7 @@ use Rattle.image_code.proofs.EdgePieces.{along_far}
 use Rattle.image_code.proofs.Branches.{couple_says, same_is}
 use Rattle.std.proofs.lemmas.Option.{slice_get_within}
 use Rattle.image_code.proofs.Heads.{copy_items, copy_visited}
-use Rattle.image_code.proofs.Listed.{foreign_at, landing_at}
+use Rattle.image_code.proofs.Listed.{foreign_at, image_at, landing_at}
 use Rattle.image_code.proofs.Visited.{edge_is, l, slot_gone, visited_none, visited_word, way_in, word_is}
 
 -- ---- where control goes on at a node
@@ -76,7 +78,7 @@ landed_out text graph address None e = rw e refl
 landed_out text graph address (Some word) e = rw e refl
 
 module _ (g : Setting) (codes : ℕ → List ℕ) (is : IsText g.text) (p : Placement) (f : Frame) (base : ℕ)
-    (place : ℕ → ℕ → ℕ) (tables : IsTableFor g.text (graph_in g) p f.table f.halves)
+    (place : ℕ → ℕ → ℕ) (tables : IsTableFor g.text (graph_in g) g.snips p f.table f.halves)
     (node : Node) (x : Point) (t : State) (here : Here g (l g codes is p f) base p f node x t)
     (slot : ℕ) (at : word_at g.text x.pc ≡ Some slot) (not : x.slot ≢ NoSlot)
     (way : IsOnItsWay g.text (graph_in g) node x (way_in g codes is p f x)) where
@@ -272,20 +274,45 @@ module _ (g : Setting) (codes : ℕ → List ℕ) (is : IsText g.text) (p : Plac
                   none,
                 ),
               )
-          by (Some to) some =
-              let there = landing_at g.text (graph_in g) f.table.base codes to
-              (word_at-some g.text x.npc to some).within in
-              inl (
-                record { 0 = landing_number g.text (graph_in g) to },
-                slice_get_within (l g codes is p f).list _ _ there,
-                tables.words x.npc to waits.0 waits.1 some,
-                inr (inl (
-                  record { 0 = to },
-                  there ∙ ap (λ (edges : List ℕ). Some (words_on (l g codes is p f) edges ++ jump_to to))
-                      (sym (landed_out g.text (graph_in g) x.npc (Some to) some)),
-                  sym (visited_word g codes is p f after (point_of v) to (ap (word_at g.text) w.0 ∙ some) w.1),
-                )),
-              )
+          by (Some to) some = lands_by (operations_on g.snips (landing_of (graph_in g) (Some to)) == 0) refl
+            where
+              within : to < length g.text.words
+              within = (word_at-some g.text x.npc to some).within
+
+              led : (b : Bool) → (operations_on g.snips (landing_of (graph_in g) (Some to)) == 0) ≡ b
+                  → found_in f.halves x.npc ≡ slice_index p.at (if b then to else landing_number g.text (graph_in g) to)
+              led b e = tables.words x.npc to waits.0 waits.1 some
+                  ∙ ap (λ (z : Bool). slice_index p.at (if z then to else landing_number g.text (graph_in g) to)) e
+
+              visit : slice_index p.at to ≡ visited_at g (l g codes is p f) p f after (point_of v)
+              visit = sym (visited_word g codes is p f after (point_of v) to (ap (word_at g.text) w.0 ∙ some) w.1)
+
+              lands_by : (b : Bool) → (operations_on g.snips (landing_of (graph_in g) (Some to)) == 0) ≡ b
+                  → Lands g (l g codes is p f) p f (landed g.text (graph_in g) kinds.Out x.npc) x.npc
+                  (visited_at g (l g codes is p f) p f after (point_of v))
+              lands_by true e =
+                  inl (
+                    record { 0 = to },
+                    slice_get_within (l g codes is p f).list _ _ (image_at g.text (graph_in g) f.table.base codes to within),
+                    led true e,
+                    inr (
+                      ap (operations_on g.snips) (landed_out g.text (graph_in g) x.npc (Some to) some) ∙ eqb-true _ _ e,
+                      visit,
+                    ),
+                  )
+              lands_by false e =
+                  let there = landing_at g.text (graph_in g) f.table.base codes to within in
+                  inl (
+                    record { 0 = landing_number g.text (graph_in g) to },
+                    slice_get_within (l g codes is p f).list _ _ there,
+                    led false e,
+                    inl (inr (inl (
+                      record { 0 = to },
+                      there ∙ ap (λ (edges : List ℕ). Some (words_on (l g codes is p f) edges ++ jump_to to))
+                          (sym (landed_out g.text (graph_in g) x.npc (Some to) some)),
+                      visit,
+                    ))),
+                  )
 
       jump_case : IsCase g (l g codes is p f) base p place f node x t
       jump_case = jumps_slot (record {

@@ -17,16 +17,17 @@ use Rattle.cfg_walk.specs.Walk.{Point, instr_at, same_kind, way_of}
 use Rattle.addr_translate.specs.Halves.{found_in}
 use Rattle.jump_code.specs.Pieces.{foreign_piece, found_piece}
 use Rattle.layout.specs.Laid.{HasShortForms, Placement}
-use Rattle.image_code.specs.Simulates.{Setting, StepsOn, at_point, does_at, gone_at, graph_in, is_out, number_in, word_of}
+use Rattle.image_code.specs.Simulates.{Setting, StepsOn, at_point, does_at, gone_at, graph_in, is_out, number_in, operations_on, word_of}
 use Rattle.image_code.specs.Images.{Pieces, Frame, Here, IsPlaced, visited_at}
 use Rattle.image_code.specs.Cases.{LeadsTo, next_visit, words_on}
 
 -- What the table has for a target: the piece of a landing, which leads to the next visit through the snippets of some
--- edges, or outside the text the foreign piece.
+-- edges; where these have no operation it may be the piece of that visit itself. Outside the text it is the foreign piece.
 abbrev pub Lands : Setting → Pieces → Placement → Frame → List ℕ → ℕ → ℕ → Type 0
 Lands g l p f edges target visit =
     ((piece : PieceNo) × (piece.0 < length l.list) × (found_in f.halves target ≡ slice_index p.at piece.0)
-    × LeadsTo l p piece edges (word_at g.text target) visit)
+    × (LeadsTo l p piece edges (word_at g.text target) visit
+    ⊎ ((operations_on g.snips edges ≡ 0) × (slice_index p.at piece.0 ≡ visit))))
     ⊎ ((edges ≡ []) × ((piece : PieceNo) × (piece.0 < length l.list)
     × (found_in f.halves target ≡ slice_index p.at piece.0)
     × (slice_get l.list piece.0 ≡ Some foreign_piece) × (word_at g.text target ≡ None)))

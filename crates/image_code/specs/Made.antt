@@ -29,9 +29,10 @@ use Rattle.addr_translate.specs.Table.{size_of}
 use Rattle.jump_code.specs.FreeRegister.{free_register, other_register}
 use Rattle.jump_code.specs.Pieces.{call_piece, far_piece, find_piece, foreign_piece, found_piece}
 use Rattle.layout.specs.Laid.{HasShortForms, Placement}
+use Rattle.snippets.specs.declared.snippet.Op.{Op}
 use Rattle.layout.specs.declared.items.Item.{Item}
 use Rattle.layout.specs.declared.items.Item.TheVariants as it
-use Rattle.image_code.specs.Simulates.{Setting, Simulates, graph_in, number_in}
+use Rattle.image_code.specs.Simulates.{Setting, Simulates, graph_in, number_in, operations_on}
 use Rattle.image_code.specs.Images.{Frame, Here, IsPlaced, Pieces}
 use Rattle.image_code.specs.Cases.{plain_piece, branch_piece}
 use Rattle.image_code.specs.Couple.{couple_piece}
@@ -100,6 +101,13 @@ module _ (text : Words) (graph : Graph) where
   abbrev pub goes_on : Node → ℕ → List Item
   goes_on (Block block) address = jump_to (slice_index graph.blocks.firsts block.0)
   goes_on X address = far_piece address
+
+-- The piece to which the table leads from a word: where some operation is made on the landing's edge that is the landing,
+-- and else the word's image itself.
+abbrev pub lands_at : Words → Graph → List (List Op) → ℕ → ℕ
+lands_at text graph snips word =
+    if operations_on snips (landing_at graph (node_of graph.blocks (Some word))) == 0 then word
+    else landing_number text graph word
 
 -- Below, `codes` has the words of the snippet on each edge.
 
@@ -201,12 +209,14 @@ pieces_in text graph table codes = record {
 
 -- ---- what they promise
 
--- the table leads from each word of the text to its landing, and from all other addresses to the foreign piece
-pub record IsTableFor (text : Words) (graph : Graph) (p : Placement) (table jumps : TableAt) : Type 0 where
+-- The table leads from each word of the text to its landing, or to its image where that does as well, and from all other
+-- addresses to the foreign piece.
+pub record IsTableFor (text : Words) (graph : Graph) (snips : List (List Op)) (p : Placement) (table jumps : TableAt)
+    : Type 0 where
   pub whole : IsTable table
   pub behind : jumps.base ≡ jumps_at text table.base
   pub words : (a word : ℕ) → a < 2 ^ 32 → a % 4 ≡ 0 → word_at text a ≡ Some word
-      → found_in jumps a ≡ slice_index p.at (landing_number text graph word)
+      → found_in jumps a ≡ slice_index p.at (lands_at text graph snips word)
   pub others : (a : ℕ) → a < 2 ^ 32 → a % 4 ≡ 0 → word_at text a ≡ None
       → found_in jumps a ≡ slice_index p.at (foreign_number text graph)
 
@@ -226,6 +236,6 @@ abbrev pub PiecesMakeImages : Type 0
 PiecesMakeImages =
     (g : Setting) (codes : ℕ → List ℕ) (base : ℕ) (p : Placement) (place : ℕ → ℕ → ℕ) (f : Frame) → IsText g.text
     → IsPlaced g (pieces_in g.text (graph_in g) f.table.base codes) base p place f
-    → IsTableFor g.text (graph_in g) p f.table f.halves → f.table.base < base → IsOffNoted g f.table.base
+    → IsTableFor g.text (graph_in g) g.snips p f.table f.halves → f.table.base < base → IsOffNoted g f.table.base
     → Simulates g (IsOpen g) (Here g (pieces_in g.text (graph_in g) f.table.base codes) base p f)
     (HasShortForms (piece_list g.text (graph_in g) f.table.base codes) place)

@@ -97,6 +97,11 @@ abbrev pub copy_with : Words → Graph → ℕ → List ℕ → Addr → ℕ →
 copy_with text graph table code address node word edge =
     slot_copy text graph table (λ number. code) address node word 0 edge
 
+-- the piece to which the table leads from word 0 of a block, if that were in it, by the operations on its landing's edge
+abbrev pub first_with : List Op → ℕ → ℕ
+first_with [] landing = 0
+first_with (op ∷ ops) landing = landing
+
 -- a landing at a word, where the snippet has these words
 abbrev pub landing_with : List ℕ → ℕ → List Item
 landing_with code word = map it.Word code ++ jump_to word

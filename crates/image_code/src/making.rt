@@ -10,8 +10,8 @@ ghost use Rattle.cfg_normal.specs.Graph.{IsEdgeIn, IsNodeIn, edges_of};
 ghost use Rattle.cfg_walk.specs.Matches.{last_in as last_in_of, target_along, way_address};
 ghost use Rattle.cfg_normal.specs.Numbers.{node_number as node_number_of};
 ghost use Rattle.image_code.specs.Codes.{CodeDoes};
-ghost use Rattle.image_code.specs.Made.{foreign_number as foreign_number_of, goes_on, image as image_of, is_slots as is_slots_of, jumps_at, landing as landing_of, landing_number, next_to, own_edges as own_edges_of, piece_list, ways_from};
-ghost use Rattle.image_code.specs.Parts.{IsGraphOf, codes_of, copy_with, first_way_of, image_in, items_of, landing_with, way_with};
+ghost use Rattle.image_code.specs.Made.{foreign_number as foreign_number_of, goes_on, image as image_of, is_slots as is_slots_of, jumps_at, landing as landing_of, lands_at, next_to, own_edges as own_edges_of, piece_list, ways_from};
+ghost use Rattle.image_code.specs.Parts.{IsGraphOf, codes_of, copy_with, first_way_of, first_with, image_in, items_of, landing_with, way_with};
 ghost use Rattle.liveness.specs.Sets.{dead_on};
 ghost use Rattle.snippet_code.specs.Laws.{EndLow};
 ghost use Rattle.v8_decode.specs.Words.{decode_of};
@@ -71,7 +71,7 @@ pub fn pieces(
         ≡ piece_list text.now graph.now frame.table.0 (codes_of frame.cells.0 (dead_on live.now) snips.now)) }
     ensures codes { IfOk result (λ p. (edge : ℕ) → CodeDoes frame.cells.0 (dead_on live.now) snips.now edge) }
     ensures landing { IfOk result (λ p. map (λ (n : PieceNo). n.0) p.landing.items
-        ≡ map (landing_number text.now graph.now) (below (length text.now.words))) }
+        ≡ map (lands_at text.now graph.now snips.now) (below (length text.now.words))) }
     ensures entry { IfOk result (λ p. p.entry.0 ≡ entry.0) }
     ensures foreign { IfOk result (λ p. p.foreign.0 ≡ foreign_number_of text.now graph.now) }
 {
@@ -90,7 +90,7 @@ pub fn pieces(
     push_ways(alloc, &mut list, text, graph, snips, live, frame)?;
     push_landings(alloc, &mut list, text, graph, snips, live, frame.cells)?;
     list.push(foreign(alloc)?)?;
-    let landing = landings(alloc, text, graph)?;
+    let landing = landings(alloc, text, graph, snips)?;
     Ok(PieceList {
         list,
         landing,
@@ -509,18 +509,54 @@ fn first_landing(text: &Text, graph: &FlowGraph) -> u32
     text.len() + own_edges(graph).len() as u32
 }
 
-// The landings, by words.
-fn landings(alloc: Global, text: &Text, graph: &FlowGraph) -> Result<Vec<PieceNo>, NoMemory>
+// The pieces to which the table leads from the words, by blocks.
+fn landings(
+    alloc: Global,
+    text: &Text,
+    graph: &FlowGraph,
+    snips: &[Snippet],
+) -> Result<Vec<PieceNo>, NoMemory>
+    requires text { IsText text.now }
     requires graph { IsGraphOf text.now graph.now }
+    requires snips { length snips.now ≡ length graph.now.edges }
     ensures { IfOk result (λ v. map (λ (n : PieceNo). n.0) v.items
-        ≡ map (landing_number text.now graph.now) (below (length text.now.words))) }
+        ≡ map (lands_at text.now graph.now snips.now) (below (length text.now.words))) }
 {
-    let first = first_landing(text, graph);
+    let first = own_edges(graph).len() as u32;
+    let landing = first_landing(text, graph);
     let mut landings = Vec::with_capacity(alloc, text.len() as usize)?;
-    for word in 0..text.len() {
-        landings.push(PieceNo(first + word))?;
+    for block in 0..graph.count() {
+        let from = first_of(&snips[(first + block) as usize], landing);
+        push_numbers(&mut landings, graph, BlockNo(block), from)?;
     }
     Ok(landings)
+}
+
+// The first of the landings, or of the images where an edge to a block has no operation.
+fn first_of(snippet: &Snippet, landing: u32) -> u32
+    ensures { result ≡ first_with snippet.now landing }
+{
+    if snippet.ops().is_empty() { 0 } else { landing }
+}
+
+// Adds the numbers of pieces for a block's words, of which that for word 0 is `from`.
+fn push_numbers(
+    landings: &mut Vec<PieceNo>,
+    graph: &FlowGraph,
+    block: BlockNo,
+    from: u32,
+) -> Result<(), NoMemory>
+    requires block { block.0 < length graph.now.blocks.firsts }
+    requires low { from + graph.now.blocks.words ≤ 2 ^ 32 }
+    ensures { OnOk result (map (λ (n : PieceNo). n.0) landings.new.items ≡ map (λ (n : PieceNo). n.0) landings.old.items
+        ++ map (λ (word : ℕ). from + word) (range_with_len (slice_index graph.now.blocks.firsts block.0)
+        (size_of graph.now.blocks block.0))) }
+{
+    let first = graph.first(block).0;
+    for word in first..first + graph.words(block) {
+        landings.push(PieceNo(from + word))?;
+    }
+    Ok(())
 }
 
 // The foreign piece: the last one.

@@ -63,7 +63,7 @@ places_of-requires c =
     ∙ c.in_ok-placed.ensures.1.laid.count in
     rw (c.deref-5.ensures.value, c.deref-4.ensures.value)
     (landings_inside c.args.view.now.image.text c.args.view.now.graph _ _ fit c.in_ok-pieces.pieces.landing.items
-    (rw (← c.text-text.ensures) c.in_ok-pieces.ensures.landing) (length c.in_ok-placed.placed.at.items)
+    (rw (← c.text-text.ensures, ← c.deref-2.ensures.value) c.in_ok-pieces.ensures.landing) (length c.in_ok-placed.placed.at.items)
     (count ∙ ap length (c.deref-3.ensures.value ∙ c.in_ok-pieces.ensures.list
     ∙ rw (c.deref-2.ensures.value, c.text-text.ensures, c.table_base-table.ensures, c.base.ensures.address) refl)))
 
@@ -96,7 +96,7 @@ tables_for-requires-clause-targets c =
     (λ (n : PieceNo). addr (slice_index (map (λ (a : Addr). a.0) c.deref-4.result.now) n.0))
     ∙ ap length c.deref-5.ensures.value
     ∙ landings_count c.args.view.now.image.text c.args.view.now.graph _ _ fit c.in_ok-pieces.pieces.landing.items
-    (rw (← c.text-text.ensures) c.in_ok-pieces.ensures.landing)
+    (rw (← c.text-text.ensures, ← c.deref-2.ensures.value) c.in_ok-pieces.ensures.landing)
     ∙ ap (λ (t : Words). length t.words) (sym c.text-text.ensures)
 
 pub tables_for-requires-clause-room : goal.tables_for-requires-clause-room
@@ -127,11 +127,11 @@ returns-clause-leads c =
     c.args.view.now.image.room c.args.asked.now.kind c.args.asked.now.cells (dead_on c.in_ok-live.live) c.args.asked.now.snips.items c.requires.text
     c.requires.graph c.requires.asked c.requires.room c.requires.low in
     let p = placement_in c.in_ok-placed.placed in
-    let targets : c.deref-7.result.now ≡ landings_of c.args.view.now.image.text c.args.view.now.graph
+    let targets : c.deref-7.result.now ≡ landings_of c.args.view.now.image.text c.args.view.now.graph c.args.asked.now.snips.items
     (placement_in c.in_ok-placed.placed) = c.deref-7.ensures.value ∙ c.in_ok-targets.ensures
     ∙ rw (c.deref-4.ensures.value, c.deref-5.ensures.value)
     (landings_are c.args.view.now.image.text c.args.view.now.graph _ _ fit c.in_ok-pieces.pieces.landing.items
-    (rw (← c.text-text.ensures) c.in_ok-pieces.ensures.landing) p) in
+    (rw (← c.text-text.ensures, ← c.deref-2.ensures.value) c.in_ok-pieces.ensures.landing) p) in
     let foreign : c.place_of-foreign.result ≡ foreign_of c.args.view.now.image.text c.args.view.now.graph
     (placement_in c.in_ok-placed.placed) = c.place_of-foreign.ensures
     ∙ rw (c.deref-6.ensures.value, c.in_ok-pieces.ensures.foreign, c.text-text.ensures) refl in
