@@ -1,4 +1,4 @@
-"""The code that an edit without snippets makes of a text, and the table that leads to it, made apart from EEL."""
+"""The code that an edit without snippets makes of a text, and the tables that lead to it, made apart from EEL."""
 import struct
 from dataclasses import dataclass
 
@@ -11,23 +11,31 @@ COUPLE = 0x10800002  # ba to the word after the next one
 ALWAYS_OR_NEVER = (8, 0)
 ANNULLED = 16
 
-G0, G1, G2, O7 = 0, 1, 2, 15
-LD, ST = 0, 4
-ADD, AND, SRL, JMPL = 0, 1, 0x26, 0x38
+G0, G1, O7 = 0, 1, 15
+LD, ST, SWAP = 0, 4, 0xf
+ADD, SLL, SRL, JMPL = 0, 0x25, 0x26, 0x38
 
 
 def words(*numbers):
     return struct.pack(f'>{len(numbers)}I', *numbers)
 
 
-# ---- words: those of the editor's page have numbers, 0 for jumps, 1 for the target, 2 and 3 for registers
+# ---- words: those of the editor's page have numbers, 0 for jumps, 1 for the target, 2 for a register, 7 for what was found
 
 def store(register, number):
     return form3(3, register, ST, G0, ('i', 4 * number - PAGE))
 
 
-def load(register, number, base=G0):
-    return form3(3, register, LD, base, ('i', 4 * number - PAGE))
+def load(register, number):
+    return form3(3, register, LD, G0, ('i', 4 * number - PAGE))
+
+
+def load_at(register, one, other):
+    return form3(3, register, LD, one, ('r', other))
+
+
+def exchange(register, number):
+    return form3(3, register, SWAP, G0, ('i', 4 * number - PAGE))
 
 
 def operation(op3, register, number, source=None):
@@ -53,25 +61,21 @@ def link(register, address):
     return [sethi(register, address), operation(ADD, register, address & 0x3ff)] if register else []
 
 
-def jump_image(value, address):
-    """The target of a JMPL goes into word 1, by a register that it doesn't name. A misaligned one traps."""
+def jump_image(value, address, jumps):
+    """The target of a JMPL is looked up in the table at `jumps`, by two registers that it doesn't name: first there is
+    what leads from the target to its entry, and then the entry. Word 7 takes it. A misaligned target traps there."""
     rd, rs1 = value >> 25 & 31, value >> 14 & 31
     second = ('i', value & 0x1fff) if value >> 13 & 1 else ('r', value & 31)
     named = (rd, rs1, 0 if second[0] == 'i' else second[1])
-    free = [register for register in (1, 2, 3, 4) if register not in named][0]
-    return [store(free, 2), form3(2, free, ADD, rs1, second), store(free, 1), operation(AND, free, 3),
-            load(free, 0, free), load(free, 2), *link(rd, address)]
+    one, other = [register for register in range(1, 6) if register not in named][:2]
+    target = form3(2, one, ADD, rs1, second)
+    return [store(one, 7), store(other, 2), target, store(one, 1), operation(SRL, other, 16, one), operation(SLL, other, 2),
+            sethi(one, jumps), load_at(other, one, other), target, load_at(one, other, one),
+            exchange(one, 7), load(other, 2), *link(rd, address)]
 
 
-def look_up(table):
-    """Goes on at what the table has for the target, level by level: %g1 has the entry's place, and %g2 the block."""
-    level = form3(3, G2, LD, G2, ('r', G1))
-    return [store(G1, 2), store(G2, 3), load(G1, 1), store(G1, 1),
-            operation(SRL, G1, 20), operation(AND, G1, 0xffc), sethi(G2, table), level,
-            load(G1, 1), operation(SRL, G1, 10), operation(AND, G1, 0xffc), level,
-            load(G1, 1), operation(AND, G1, 0xffc), form3(3, G1, LD, G2, ('r', G1)),
-            load(G2, 3), operation(JMPL, G0, 0, G1), load(G1, 2)]
-
+# Goes on at what was found.
+FOUND = [exchange(G1, 7), operation(JMPL, G0, 0, G1), load(G1, 7)]
 
 # Goes to the target itself.
 FOREIGN = [store(G1, 2), load(G1, 1), operation(JMPL, G0, 0, G1), load(G1, 2)]
@@ -193,12 +197,16 @@ class Pieces:
         if kind == 'call':
             return Piece(visit, link(O7, visit[0]), then=self.ways[block, 'call'])
         if kind == 'jump':
-            return Piece(visit, jump_image(value, visit[0]), then=self.ways[block, 'out'])
-        return Piece(visit, (value,), rest=() if word + 1 < self.graph.count else jump(self.address(word + 1)))
+            jumps = self.table + table_size(self.program)
+            return Piece(visit, jump_image(value, visit[0], jumps), then=self.ways[block, 'out'])
+        if word + 1 == self.graph.count:
+            return Piece(visit, (value,), rest=jump(self.address(word + 1)))
+        in_slot = word and self.graph.ends[word - 1][0] != 'fall'
+        return Piece(visit, (value,), then=word + 1 if in_slot else None)
 
     def way(self, edge):
         if edge.kind == 'fall':
-            return Piece()
+            return Piece(then=0)
         if edge.slot == self.graph.count:
             return Piece(rest=jump(self.table))
         visit, copy = None, ()
@@ -207,7 +215,7 @@ class Pieces:
             if self.graph.ends[edge.slot][0] != 'fall':
                 return Piece(visit, (COUPLE, COUPLE))
         if edge.kind == 'out':
-            return Piece(visit, copy, rest=look_up(self.table))
+            return Piece(visit, copy, rest=FOUND)
         if edge.target is not None:
             return Piece(visit, copy, then=self.graph.firsts[edge.target])
         last = self.graph.last(edge.source)
@@ -222,7 +230,7 @@ class Pieces:
         return behind[:1] + [words(lo, hi, *visit) for lo, hi, visit in layout.visits()]
 
 
-# ---- the table
+# ---- the tables
 
 def pages_of(program, size):
     return range(program.start // size, (program.start + 4 * len(program.words) - 1) // size + 1)
@@ -245,3 +253,23 @@ def table_words(program, base, landings, foreign):
         yield from (thirds.get(page, blocks[2]) for page in range(1024 * part, 1024 * part + 1024))
     for page in pages:
         yield from (landings.get(address, foreign) for address in range(PAGE * page, PAGE * page + PAGE, 4))
+
+
+def span(program):
+    """From the first 64 KiB that hold text to the end of its last page."""
+    first, last = pages_of(program, 1 << 16)[0], pages_of(program, PAGE)[-1]
+    return range(first << 16, PAGE * (last + 1))
+
+
+def second_size(program):
+    return (1 << 18) + len(span(program)) + (1 << 16)
+
+
+def second_words(program, base, landings, foreign):
+    """A word for each high half of an address, which leads from the address to its entry; the entries, and 64 KiB of them
+    for all that holds no text."""
+    entries, halves = base + (1 << 18), pages_of(program, 1 << 16)
+    for half in range(1 << 16):
+        yield (entries - (halves[0] << 16) if half in halves else entries + len(span(program)) - (half << 16)) % 2**32
+    yield from (landings.get(address, foreign) for address in span(program)[::4])
+    yield from [foreign] * (1 << 14)

@@ -2,7 +2,7 @@
 import struct
 
 from listing import Graph, Program
-from new_code import PAGE, Layout, Pieces, table_size, table_words, words
+from new_code import PAGE, Layout, Pieces, second_size, second_words, table_size, table_words, words
 
 EDITOR_PAGE = 0xfffff000
 KINDS = ['fall', 'taken', 'untaken', 'call', 'out', 'land']
@@ -51,13 +51,16 @@ def written(original):
     segments = [struct.unpack_from('>8I', original, at + 32 * number) for number in range(count)]
     loaded = [header for header in segments if header[0] == 1 and header[5]]
     table = up(max(header[2] + header[5] for header in loaded), 0x10000)
-    base = table + table_size(program)
+    second = table + table_size(program)
+    base = second + second_size(program)
     pieces = Pieces(program, graph, table)
     layout = Layout(pieces.list, base)
     at, code = layout.at, words(*layout.code())
-    landings = {pieces.address(word): at[pieces.first_landing + word] for word in range(graph.count)}
-    added = [(table, 4, words(*table_words(program, table, landings, at[len(at) - 1]))), (base, 5, code),
-             (EDITOR_PAGE, 6, bytes(PAGE))]
+    # nothing is done on the way from a landing to its image
+    landings = {pieces.address(word): at[word] for word in range(graph.count)}
+    foreign = at[len(at) - 1]
+    tables = [*table_words(program, table, landings, foreign), *second_words(program, second, landings, foreign)]
+    added = [(table, 4, words(*tables)), (base, 5, code), (EDITOR_PAGE, 6, bytes(PAGE))]
     noted = [number for vaddr, _, content in added for number in (vaddr, len(content))]
     delta = max(PAGE, *(header[7] for header in loaded))
     entry_block = [first <= graph.entry for first in graph.firsts].count(True) - 1

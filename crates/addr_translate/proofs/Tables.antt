@@ -34,7 +34,7 @@ more_fit f n w k before is small h = go (split_below k n)
     go (inr high) = subst (λ z. f z < 2 ^ 32) (let e : n ≡ k = omega arith in e) (subst (λ z. z < 2 ^ 32) is small)
 
 -- ---- a word among the bytes of words
-word_among : (ws : List ℕ) (n : ℕ) → n < length ws → slice_index ws n < 2 ^ 32
+pub word_among : (ws : List ℕ) (n : ℕ) → n < length ws → slice_index ws n < 2 ^ 32
     → from_be_bytes w32 (take 4 (drop (4 * n) (flat_map (to_be_bytes w32) ws))) ≡ slice_index ws n
 word_among [] n below small = absurd (omega arith)
 word_among (w ∷ ws) zero below small = from_be_bytes-to_be_bytes_4 w small
@@ -43,19 +43,19 @@ word_among (w ∷ ws) (suc n) below small =
     ap (λ z. from_be_bytes w32 (take 4 (drop z (flat_map (to_be_bytes w32) (w ∷ ws))))) e
     ∙ word_among ws n (omega arith) small
 
-length-words : (ws : List ℕ) → length (flat_map (to_be_bytes w32) ws) ≡ 4 * length ws
+pub length-words : (ws : List ℕ) → length (flat_map (to_be_bytes w32) ws) ≡ 4 * length ws
 length-words [] = refl
 length-words (w ∷ ws) = let e = length-words ws in omega arith
 
 -- ---- the numbers of blocks
-abbrev IsIn : ℕ → ℕ → ℕ → Type 0
+abbrev pub IsIn : ℕ → ℕ → ℕ → Type 0
 IsIn first count n = (first ≤ n) × (n < first + count)
 
-abbrev IsOff : ℕ → ℕ → ℕ → Type 0
+abbrev pub IsOff : ℕ → ℕ → ℕ → Type 0
 IsOff first count n = (n < first) ⊎ (first + count ≤ n)
 
 -- a number is among some or not, and what follows of it
-among : (first count n yes no : ℕ)
+pub among : (first count n yes no : ℕ)
     → (((if is_among first count n then yes else no) ≡ yes) × IsIn first count n)
     ⊎ (((if is_among first count n then yes else no) ≡ no) × IsOff first count n)
 among first count n y o = go (nat_le first n) (nat_lt n (first + count)) refl refl
@@ -90,7 +90,7 @@ place_in : (block place : ℕ) → place < 1024 → (1024 * block + place) % 102
 place_in block place h = omega arith
 
 -- ---- addresses that hold no text
-outside : (t : Words) (b : ℕ) → (t.start ≤ b → (b - t.start) / 4 < length t.words → ⊥) → word_at t b ≡ None
+pub outside : (t : Words) (b : ℕ) → (t.start ≤ b → (b - t.start) / 4 < length t.words → ⊥) → word_at t b ≡ None
 outside t b h = go (nat_le t.start b) ((b - t.start) % 4 == 0) (nat_lt ((b - t.start) / 4) (length t.words)) refl refl
   where
     go : (x y z : Bool) → nat_le t.start b ≡ x → nat_lt ((b - t.start) / 4) (length t.words) ≡ z

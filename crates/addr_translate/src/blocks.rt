@@ -32,8 +32,8 @@ impl Parts {
     }
 }
 
-// The address of the text's last byte.
-fn last_byte(text: &Text) -> u32
+/// The address of the text's last byte.
+pub fn last_byte(text: &Text) -> u32
     ensures value { result ≡ last_byte_of text.now }
     ensures text { IsText text.now }
 {

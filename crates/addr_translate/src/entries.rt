@@ -34,8 +34,8 @@ fn third_number(text: &Text, page: u32) -> u32
     }
 }
 
-// Where the word at an address leads.
-fn target(text: &Text, targets: &[Addr], foreign: Addr, address: Addr) -> u32
+/// Where the word at an address leads.
+pub fn target(text: &Text, targets: &[Addr], foreign: Addr, address: Addr) -> u32
     requires { length targets.now ≡ length text.now.words }
     ensures { result ≡ target_of targets.now foreign (word_at text.now address.0) }
 {

@@ -6,10 +6,12 @@ ghost use Rattle.addr_translate.specs.Translator.{RegionsStand};
 mod blocks;
 mod code;
 mod entries;
+mod halves;
 mod table;
 
 pub use blocks::table_size;
 pub use code::translator_code;
+pub use halves::{build_halves, halves_size};
 pub use table::{Table, build};
 
 /// A table stands where one region of memory has its bytes from its base on.

@@ -30,8 +30,8 @@ impl Model for Table {
     ghost invariant = { λ t. IsTable (record { base = t.base.0; bytes = t.bytes.items }) };
 }
 
-// Appends a word, its highest byte first.
-fn put_word(out: &mut Vec<u8>, word: u32) -> Result<(), AllocError>
+/// Appends a word, its highest byte first.
+pub fn put_word(out: &mut Vec<u8>, word: u32) -> Result<(), AllocError>
     ensures { OnOk result (out.new.items ≡ out.old.items ++ to_be_bytes w32 word) }
 {
     out.extend_from_slice(&word.to_be_bytes())?;

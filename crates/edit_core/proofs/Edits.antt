@@ -27,7 +27,6 @@ use Rattle.v8_step.proofs.ValidNumbers.{high_first-bytes, flat_map-bytes}
 use Rattle.cfg_blocks.specs.Blocks.{Blocks, holding_of}
 use Rattle.cfg_normal.proofs.Edges.{edges_in-in}
 use Rattle.addr_translate.specs.Lookup.{TableAt}
-use Rattle.addr_translate.specs.Table.{size_of}
 use Rattle.layout.specs.Laid.{Placement}
 use Rattle.image_code.specs.Fit.{AreFit}
 use Rattle.image_code.specs.Parts.{IsGraphOf}
@@ -39,7 +38,7 @@ use Rattle.snippets.specs.Cells.{WorksBelow}
 use Rattle.tool_kit.specs.declared.edge_ref.ToolKind.{ToolKind}
 use Rattle.tool_kit.specs.declared.edge_ref.ToolKind.TheVariants as tools
 use Rattle.tool_kit.specs.Plans.{Plan}
-use Rattle.edit_core.specs.Written.{CanDo, IsNewCode, IsEdit, if_any, cells_at, cells_base, text_of, given_of, graph_in, table_base, code_base, pieces_of, entry_of, table_at, code_segment, page_segment, added, notes_on, edit_file}
+use Rattle.edit_core.specs.Written.{CanDo, IsNewCode, IsEdit, if_any, cells_at, cells_base, text_of, given_of, graph_in, table_base, code_base, pieces_of, entry_of, table_at, tables_size, code_segment, page_segment, added, notes_on, edit_file}
 use Rattle.edit_core.proofs.Bounds.{operations_few}
 use Rattle.edit_core.proofs.Fronts.{any_length}
 use Rattle.edit_core.proofs.Counted.{ranges_few}
@@ -47,7 +46,7 @@ use Rattle.edit_core.proofs.Eaches.{each_all}
 use Rattle.edit_core.proofs.Originals.{image_text, image_room, base_above}
 use Rattle.edit_core.proofs.Views.{bound_is}
 use Rattle.edit_core.proofs.Ranges.{ranges_whole, some_code}
-use Rattle.edit_core.proofs.Room.{small_table}
+use Rattle.edit_core.proofs.Room.{small_tables}
 use Rattle.edit_core.proofs.Noted.{IsNoted, are_notes, are_words, few_bytes}
 
 -- ---- three segments
@@ -58,14 +57,14 @@ all_three P x y z px py pz (suc zero) d l = py
 all_three P x y z px py pz (suc (suc zero)) d l = pz
 all_three P x y z px py pz (suc (suc (suc k))) d l = absurd (omega arith)
 
--- a table, code right behind it, and a page that can be added
+-- tables, code right behind them, and a page that can be added
 record AreThree (end : ℕ) (t s w : AddedSegment) : Type 0 where
   pub above : end ≤ t.vaddr
   pub aligned : t.vaddr % 4096 ≡ 0
   pub table_filled : length t.bytes ≡ t.memsz
   pub table_some : 0 < t.memsz
   pub table_whole : t.memsz % 4096 ≡ 0
-  pub table_few : t.memsz ≤ 2 ^ 23
+  pub table_few : t.memsz ≤ 2 ^ 24
   pub table_flags : t.flags < 2 ^ 32
   pub behind : s.vaddr ≡ t.vaddr + t.memsz
   pub filled : length s.bytes ≡ s.memsz
@@ -99,7 +98,7 @@ all_any P (suc n) z xs here all = all_cons P z xs (here (omega arith)) all
 
 -- how many bytes they have in the file
 sum_few : (count : ℕ) (z t s w : AddedSegment) (end : ℕ) → AreBefore count end z t → AreThree end t s w
-    → sum_by (λ x. length x.bytes) (if_any count z ++ t ∷ s ∷ w ∷ []) ≤ 2 ^ 23 + 2 ^ 30 + 4096
+    → sum_by (λ x. length x.bytes) (if_any count z ++ t ∷ s ∷ w ∷ []) ≤ 2 ^ 24 + 2 ^ 30 + 4096
 sum_few zero z t s w end before three =
     omega (arith, three.table_filled, three.table_few, three.filled, three.few, three.bytes)
 sum_few (suc k) z t s w end before three =
@@ -250,7 +249,7 @@ module _ (original : List ℕ) (plan : Plan) (limit : length original ≤ 2 ^ 26
       let base = (accepted-program original can.sound).base in
       let at = code.base in
       let size = code.leads.size in
-      let small = small_table (text_of original plan) text_is in
+      let small = small_tables (text_of original plan) text_is in
       let few = text_is.few in
       let some = code_some in
       let above = base_above original in
@@ -282,7 +281,7 @@ module _ (original : List ℕ) (plan : Plan) (limit : length original ≤ 2 ^ 26
       (can_write original plan.cells cells (table_at table) (code_segment original plan p) page_segment notes can.sound limit
       before three few)
 
-  noted : IsNoted (graph_in original plan) (size_of (text_of original plan)) p (notes_on original plan p)
+  noted : IsNoted (graph_in original plan) (tables_size (text_of original plan)) p (notes_on original plan p)
   noted =
       let cut = cut_of (text_of original plan) (graph_in original plan) graph_is text_is.some in
       let first = held [] (omega arith) in
@@ -332,10 +331,10 @@ module _ (original : List ℕ) (plan : Plan) (limit : length original ≤ 2 ^ 26
       }
 
   pub notes_meet_rules : AreNotes (notes_on original plan p)
-  notes_meet_rules = are_notes (graph_in original plan) (size_of (text_of original plan)) p (notes_on original plan p) noted
+  notes_meet_rules = are_notes (graph_in original plan) (tables_size (text_of original plan)) p (notes_on original plan p) noted
 
   notes_few : length (notes_bytes (notes_on original plan p)) ≤ 2 ^ 28
-  notes_few = few_bytes (graph_in original plan) (size_of (text_of original plan)) p (notes_on original plan p) noted
+  notes_few = few_bytes (graph_in original plan) (tables_size (text_of original plan)) p (notes_on original plan p) noted
 
   pub can_be_written : CanWrite original (added original plan p table) (notes_bytes (notes_on original plan p))
   can_be_written =
@@ -381,7 +380,7 @@ module _ (original : List ℕ) (plan : Plan) (limit : length original ≤ 2 ^ 26
           loads = file_loads original (added original plan p table) (entry_of original plan p) ns can_be_written numbers loadable;
           reads = notes_are_read original (added original plan p table) (entry_of original plan p) ns can_be_written
               ∙ written_back (notes_on original plan p) (length (edit_file original plan p table)) notes_meet_rules
-              (are_words (graph_in original plan) (size_of (text_of original plan)) p (notes_on original plan p) noted) holds.inside;
+              (are_words (graph_in original plan) (tables_size (text_of original plan)) p (notes_on original plan p) noted) holds.inside;
           mapped = segments_are_mapped original (added original plan p table) (entry_of original plan p) ns can_be_written numbers
               loadable.filled;
           entered = entry_is_given original (added original plan p table) (entry_of original plan p) ns can_be_written numbers;

@@ -32,7 +32,7 @@ use Rattle.edit_core.proofs.Eaches.{all_each, each_index}
 use Rattle.edit_core.proofs.Off.{off_each}
 use Rattle.edit_core.proofs.Originals.{image_text}
 use Rattle.edit_core.proofs.Mapped.{code_mapped}
-use Rattle.edit_core.proofs.Room.{small_table}
+use Rattle.edit_core.proofs.Room.{small_tables}
 use Rattle.edit_core.proofs.Edits.{all_any, is_edit, holds, small_file}
 use Rattle.edit_core.proofs.Views.{bound_is, view_graph}
 use Rattle.edit_core.proofs.Bounds.{operations_few}
@@ -111,7 +111,7 @@ module _ (original : List ℕ) (plan : Plan) (p : Placement) (place : ℕ → �
       let size = is.code.size in
       let base = is.code.base in
       let long = is.code.leads.size in
-      let small = small_table (text_of original plan) text_is in
+      let small = small_tables (text_of original plan) text_is in
       let made = operations_few (graph_in original plan) plan.kind plan.cells plan.snips is.workable in
       let bound = bound_is original plan in
       record {

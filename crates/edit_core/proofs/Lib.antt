@@ -22,6 +22,7 @@ pub mod Edits
 pub mod Mapped
 pub mod Faithful
 pub mod Room
+pub mod Tables
 pub mod Landings
 pub mod Off
 pub mod Steps

@@ -1,4 +1,4 @@
--- The words of the table, of the cells and of the editor's page, in the memory with which a written file starts.
+-- The words of the tables, of the cells and of the editor's page, in the memory with which a written file starts.
 use Rattle.std.proofs.Common.{◌≡◌, ℕ, zero, suc, ◌+◌, ◌-◌, ◌*◌, ◌^◌, ◌<◌, ◌≤◌, ◌⊎◌, inl, inr, Bool, true, false, ◌&&◌, cond, nat_le, List, [], ◌∷◌, ◌++◌, length, length-append, map, replicate, take, drop, Option, Some, None, refl, ap, sym, ◌∙◌, subst, arith}
 use Rattle.std.specs.List.{find, range_with_len}
 use Rattle.std.specs.Option.{option_map, option_or}
@@ -7,6 +7,7 @@ use Rattle.std.proofs.lemmas.Bool.Decides.{nat_tests}
 use Rattle.std.specs.Int.{from_be_bytes, w32}
 use Rattle.std.proofs.lemmas.List.{append-nil, append_assoc, drop-replicate, take-replicate, length-replicate, map-append}
 use Rattle.std.proofs.lemmas.List.Folds.{find-append}
+use Rattle.eel_base.specs.CodeText.{Words}
 use Rattle.elf32_sparc.specs.Mapping.{Mapping, mappings}
 use Rattle.elf32_sparc.proofs.Images.{accepted-program}
 use Rattle.elf32_write.specs.Headers.{AddedSegment}
@@ -19,8 +20,8 @@ use Rattle.code_runs.specs.Ours.{AreOwn, HasNot, HasWordAt, IsAmongWords, IsIn, 
 use Rattle.code_runs.specs.Page.{page_word}
 use Rattle.code_runs.specs.StoredWords.{memory_word, word_in}
 use Rattle.elf32_sparc.specs.Notes.{Notes, NoteSegment}
+use Rattle.addr_translate.specs.Halves.{halves_size}
 use Rattle.addr_translate.specs.Lookup.{TableAt}
-use Rattle.addr_translate.specs.Table.{size_of}
 use Rattle.addr_translate.specs.Translator.{StandsAt}
 use Rattle.addr_translate.proofs.Regions.{regions_stand}
 use Rattle.layout.specs.Laid.{Placement}
@@ -30,14 +31,17 @@ use Rattle.v8_step.specs.Visits.{pages_of}
 use Rattle.snippet_code.specs.Cells.{cell_at}
 use Rattle.tool_kit.specs.Plans.{Plan}
 use Rattle.edit_core.specs.Faithful.{editor_page, page_size}
-use Rattle.edit_core.specs.Written.{IsEdit, added, cells_at, cells_base, code_base, code_segment, if_any, notes_on, page_segment, table_at, table_base, text_of}
+use Rattle.edit_core.specs.Written.{IsEdit, LeadsTo, added, cells_at, cells_base, code_base, code_segment, first_table, foreign_of, graph_in, if_any, landings_of, notes_on, page_segment, second_table, table_at, table_base, tables_size, text_of}
 use Rattle.edit_core.proofs.Fronts.{any-map, any_none, any_some}
 use Rattle.edit_core.proofs.Mapped.{original_covers}
+use Rattle.edit_core.proofs.Room.{tables_low}
+use Rattle.edit_core.proofs.Tables.{second_word}
 
--- the words that new code stores: seven of the page, and the cells
+-- the words that new code stores: eight of the page, and the cells
 abbrev pub own_page : List ℕ
 own_page =
-    page_word 0 ∷ page_word 1 ∷ page_word 2 ∷ page_word 3 ∷ page_word 4 ∷ page_word 5 ∷ page_word 6 ∷ []
+    page_word 0 ∷ page_word 1 ∷ page_word 2 ∷ page_word 3 ∷ page_word 4 ∷ page_word 5 ∷ page_word 6 ∷ page_word 7
+    ∷ []
 
 abbrev pub own_cells : ℕ → ℕ → List ℕ
 own_cells base cells = map (cell_at base) (range_with_len 0 cells)
@@ -58,7 +62,8 @@ of_page a (inr (inr (inr (inl is)))) = record { from = omega (arith, is); to = o
 of_page a (inr (inr (inr (inr (inl is))))) = record { from = omega (arith, is); to = omega (arith, is) }
 of_page a (inr (inr (inr (inr (inr (inl is)))))) = record { from = omega (arith, is); to = omega (arith, is) }
 of_page a (inr (inr (inr (inr (inr (inr (inl is))))))) = record { from = omega (arith, is); to = omega (arith, is) }
-of_page a (inr (inr (inr (inr (inr (inr (inr none))))))) = absurd none
+of_page a (inr (inr (inr (inr (inr (inr (inr (inl is)))))))) = record { from = omega (arith, is); to = omega (arith, is) }
+of_page a (inr (inr (inr (inr (inr (inr (inr (inr none)))))))) = absurd none
 
 -- a cell, by its address
 pub record IsOfCells (base cells a : ℕ) : Type 0 where
@@ -75,7 +80,7 @@ of_cells base from (suc n) a (inr among) =
     let later = of_cells base (from + 1) n a among in
     record { from = later.from; to = omega (arith, later.to); some = omega arith }
 
-among_words : (n : ℕ) → n < 7 → IsAmongWords own_page (page_word n)
+among_words : (n : ℕ) → n < 8 → IsAmongWords own_page (page_word n)
 among_words zero l = inl refl
 among_words (suc zero) l = inr (inl refl)
 among_words (suc (suc zero)) l = inr (inr (inl refl))
@@ -83,7 +88,8 @@ among_words (suc (suc (suc zero))) l = inr (inr (inr (inl refl)))
 among_words (suc (suc (suc (suc zero)))) l = inr (inr (inr (inr (inl refl))))
 among_words (suc (suc (suc (suc (suc zero))))) l = inr (inr (inr (inr (inr (inl refl)))))
 among_words (suc (suc (suc (suc (suc (suc zero)))))) l = inr (inr (inr (inr (inr (inr (inl refl))))))
-among_words (suc (suc (suc (suc (suc (suc (suc n))))))) l = absurd (omega (arith, l))
+among_words (suc (suc (suc (suc (suc (suc (suc zero))))))) l = inr (inr (inr (inr (inr (inr (inr (inl refl)))))))
+among_words (suc (suc (suc (suc (suc (suc (suc (suc n)))))))) l = absurd (omega (arith, l))
 
 among_cells : (base from count cell : ℕ) → from ≤ cell → cell < from + count
     → IsAmongWords (map (cell_at base) (range_with_len from count)) (cell_at base cell)
@@ -126,8 +132,9 @@ cell_is_own base cells cell l =
     among_last own_page (own_cells base cells) (cell_at base cell)
     (among_cells base 0 cells cell (omega arith) (omega (arith, l)))
 
-abbrev pub frame : ℕ → ℕ → TableAt → Frame
-frame base cells table = record { table = table; own = own_words base cells }
+abbrev pub frame : Words → ℕ → ℕ → TableAt → Frame
+frame text base cells tables =
+    record { table = first_table text tables; halves = second_table text tables; own = own_words base cells }
 
 -- ---- pages behind that of the cells
 
@@ -159,29 +166,39 @@ module _ (original : List ℕ) (plan : Plan) (p : Placement) where
 
   abbrev behind_spans : List Span
   behind_spans =
-      record { from = table_base original plan; count = size_of (text_of original plan) }
+      record { from = table_base original plan; count = tables_size (text_of original plan) }
       ∷ record { from = code_base original plan; count = 4 * length p.code }
       ∷ record { from = editor_page; count = page_size } ∷ []
 
   pub spans_are : pages_of (notes_on original plan p) ≡ if_any plan.cells cells_span ++ behind_spans
   spans_are =
       any-map segment_span plan.cells (record { start = cells_base original plan; length = 4 * plan.cells })
-      (record { start = table_base original plan; length = size_of (text_of original plan) }
+      (record { start = table_base original plan; length = tables_size (text_of original plan) }
       ∷ record { start = code_base original plan; length = 4 * length p.code }
       ∷ record { start = editor_page; length = page_size } ∷ [])
 
--- the pages of the notes: that of the cells, the table's, the code's and the editor's
+-- the pages of the notes: that of the cells, the tables', the code's and the editor's
 pub is_framed : (original : List ℕ) (plan : Plan) (p : Placement) (table : TableAt) (g : Setting)
     → g.notes ≡ notes_on original plan p
-    → table.base ≡ table_base original plan → length table.bytes ≡ size_of (text_of original plan)
-    → table.base + length table.bytes ≤ 2 ^ 31 → IsFramed g (frame (cells_base original plan) plan.cells table)
-is_framed original plan p table g same base size low = record {
+    → table.base ≡ table_base original plan → LeadsTo (text_of original plan) (graph_in original plan) plan.snips p table
+    → IsFramed g (frame (text_of original plan) (cells_base original plan) plan.cells table)
+is_framed original plan p table g same base leads = record {
   own = subst (λ (n : Notes). AreOwn (pages_of n) own) (sym same) (record { first = inl refl; within = within });
   page = λ n l. among_first own_page (own_cells (cells_base original plan) plan.cells) (page_word n) (among_words n l);
   table = λ a from to. subst (λ (n : Notes). IsIn (pages_of n) a) (sym same) (in_table a from to);
   apart = λ a among. beside a (own_either (cells_base original plan) plan.cells a among);
+  whole = leads.second.whole;
 }
   where
+    second : TableAt
+    second = second_table (text_of original plan) table
+
+    second_long : length second.bytes ≡ halves_size (text_of original plan)
+    second_long = leads.second.size
+
+    low : second.base + length second.bytes ≤ 2 ^ 31
+    low = leads.second.whole.below
+
     own : List ℕ
     own = own_words (cells_base original plan) plan.cells
 
@@ -201,14 +218,14 @@ is_framed original plan p table g same base size low = record {
     within : (a : ℕ) → IsAmongWords own a → IsIn (pages_of (notes_on original plan p)) a
     within a among = by a (own_either (cells_base original plan) plan.cells a among)
 
-    in_table : (a : ℕ) → table.base ≤ a → a + 4 ≤ table.base + length table.bytes
+    in_table : (a : ℕ) → second.base ≤ a → a + 4 ≤ second.base + length second.bytes
         → IsIn (pages_of (notes_on original plan p)) a
     in_table a from to =
         there a (in_any plan.cells (cells_span original plan p) (behind_spans original plan p) a
-        (inl (omega (arith, from, base), omega (arith, to, base, size))))
+        (inl (omega (arith, from, base), omega (arith, to, base, second_long))))
 
     beside : (a : ℕ) → IsEither (cells_base original plan) plan.cells a
-        → (a + 4 ≤ table.base) ⊎ (table.base + length table.bytes ≤ a)
+        → (a + 4 ≤ second.base) ⊎ (second.base + length second.bytes ≤ a)
     beside a (inl is) = inr (omega (arith, is.from, low))
     beside a (inr is) = inl (omega (arith, is.to, base))
 
@@ -345,10 +362,11 @@ module _ (original : List ℕ) (plan : Plan) (p : Placement) (place : ℕ → �
       find_regions (covers a 4) (map kept (mappings original))
       ∙ ap (option_map region_of) (original_covers original a above)
 
-  -- ---- the table
+  -- ---- the tables
 
   table_below : table.base + length table.bytes ≤ 2 ^ 31
-  table_below = is.code.leads.whole.below
+  table_below = tables_low (text_of original plan) (landings_of (text_of original plan) (graph_in original plan) plan.snips p)
+      (foreign_of (text_of original plan) (graph_in original plan) p) table is.code.leads
 
   module _ (a : ℕ) (from : table.base ≤ a) (to : a + 4 ≤ table.base + length table.bytes) where
     cells_below : 0 < plan.cells → covers a 4 cells_region ≡ false
@@ -388,9 +406,16 @@ module _ (original : List ℕ) (plan : Plan) (p : Placement) (place : ℕ → �
   stands : StandsAt (start_memory file texts) table
   stands = regions_stand (start_memory file texts) table table_region refl table_bytes refl table_at_all
 
-  -- each word of the table can be loaded, and not stored
-  pub has_table : HasTable table (start_memory file texts)
-  has_table a from to aligned = (word_of_table a from to, stands.same a from to aligned)
+  -- each word of the second can be loaded, and not stored
+  pub has_table : HasTable (second_table (text_of original plan) table) (start_memory file texts)
+  has_table a from to aligned =
+      let size = is.code.leads.size in
+      let long = is.code.leads.second.size in
+      let begin : table.base ≤ a = omega (arith, from) in
+      let end : a + 4 ≤ table.base + length table.bytes = omega (arith, to, size, long) in (
+        word_of_table a begin end,
+        stands.same a begin end aligned ∙ second_word (text_of original plan) table a from,
+      )
 
   -- ---- the editor's page
 

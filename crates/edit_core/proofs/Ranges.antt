@@ -16,7 +16,7 @@ use Rattle.layout.specs.declared.items.Item.TheVariants as it
 use Rattle.layout.specs.Laid.{Ascend, IsLaid, IsRangeOf, Placement, Stands, BranchStands, branch_short, branch_long, item_at, item_in, items_in, range_in, range_of, open_in, end_from}
 use Rattle.jump_code.specs.Pieces.{foreign_piece}
 use Rattle.image_code.specs.Imaged.{TakesWords}
-use Rattle.image_code.specs.Made.{image, landing, own_edges, piece_list, ways_from}
+use Rattle.image_code.specs.Made.{image, jumps_at, landing, own_edges, piece_list, ways_from}
 use Rattle.image_code.specs.Parts.{IsGraphOf}
 use Rattle.edit_core.proofs.Eaches.{each_index}
 use Rattle.edit_core.proofs.Shapes.{IsMark, NoMarks, MarksFirst, all_marked}
@@ -213,7 +213,7 @@ module _ (text : Words) (graph : Graph) (table : ℕ) (codes : ℕ → List ℕ)
   last_piece : (k : ℕ) × (word : ℕ) × (item_at pieces k 0 ≡ Some (it.Word word))
   unfolding piece_list
   last_piece =
-      let xs = map (image text graph codes) (below (length text.words))
+      let xs = map (image text graph (jumps_at text table) codes) (below (length text.words))
       ++ ways_from text graph table codes 0 (own_edges graph)
       ++ map (landing text graph codes) (below (length text.words)) in
       (length xs, _, ap (λ o. item_in o 0) (last_is xs foreign_piece))

@@ -34,8 +34,9 @@ use Rattle.cfg_walk.specs.Walk.{point_of, same_kind}
 use Rattle.liveness.specs.Live.{edge_at, is_call_or_jump, is_outside, is_unknown, named_on}
 use Rattle.walk_counts.proofs.Fetching.{only_text_is_fetched}
 use Rattle.walk_counts.proofs.Files.{begins, entry_is}
-use Rattle.addr_translate.specs.Lookup.{TableAt, looked_up}
-use Rattle.addr_translate.specs.Table.{size_of, target_of}
+use Rattle.addr_translate.specs.Halves.{found_in}
+use Rattle.addr_translate.specs.Lookup.{TableAt}
+use Rattle.addr_translate.specs.Table.{target_of}
 use Rattle.layout.specs.Laid.{Ascend, HasShortForms, IsLaid, Placement, range_in}
 use Rattle.code_runs.specs.StoredWords.{memory_word}
 use Rattle.snippet_code.specs.Cells.{cell_at, words_at}
@@ -44,7 +45,7 @@ use Rattle.image_code.specs.Fit.{PiecesFit}
 use Rattle.image_code.specs.Simulates.{Setting, Simulates, is_out, snippet_on}
 use Rattle.image_code.specs.Images.{AreNoted, Frame, HasCells, Here, IsPlaced, Pieces, visited_by}
 use Rattle.image_code.specs.Parts.{codes_of}
-use Rattle.image_code.specs.Made.{IsOffNoted, IsTableFor, PiecesMakeImages, landing_number, piece_list, pieces_in}
+use Rattle.image_code.specs.Made.{IsOffNoted, IsTableFor, PiecesMakeImages, lands_at, piece_list, pieces_in}
 use Rattle.image_code.specs.Outside.{IsOpen}
 use Rattle.image_code.proofs.Numbers.{cut_of}
 use Rattle.edit_core.specs.Faithful.{editor_page, page_size}
@@ -52,7 +53,7 @@ use Rattle.edit_core.specs.Runs.{Linked, Rests}
 use Rattle.edit_core.specs.RunsAlike.{AreRunsAlike, IsAnswered, edit_of, short_bound, visits_by}
 use Rattle.edit_core.specs.Taken.{bound_in}
 use Rattle.edit_core.specs.Whole.{Answered, KeptIn}
-use Rattle.edit_core.specs.Written.{EditsRunAlike, IsEdit, LeadsTo, addr, cells_base, code_base, foreign_of, given_of, graph_in, landings_of, notes_on, table_base, text_of}
+use Rattle.edit_core.specs.Written.{EditsRunAlike, IsEdit, LeadsTo, addr, cells_base, code_base, first_table, foreign_of, given_of, graph_in, landings_of, notes_on, second_table, table_base, tables_size, text_of}
 use Rattle.edit_core.proofs.Bounds.{operations_few}
 use Rattle.edit_core.proofs.Completed.{jump_kind, unknown_lives}
 use Rattle.edit_core.proofs.Kept.{keeps_what_lives}
@@ -95,7 +96,7 @@ pieces original plan dead table =
     (codes_of (cells_base original plan) dead plan.snips)
 
 abbrev its_frame : List ℕ → Plan → TableAt → Frame
-its_frame original plan table = frame (cells_base original plan) plan.cells table
+its_frame original plan table = frame (text_of original plan) (cells_base original plan) plan.cells table
 
 -- ranges lie in the code's page
 none_below : (from to a : ℕ) (rs : List NoteRange) → Ascend from to rs → a < from → range_in rs a ≡ None
@@ -135,7 +136,7 @@ none_beside base p a ascend (inr past) = none_past base (base + 4 * length p.cod
 -- what the notes say of the code, behind the table
 module _ (original : List ℕ) (plan : Plan) (dead : ℕ → List Part) (p : Placement) where
   abbrev size : ℕ
-  size = size_of (text_of original plan)
+  size = tables_size (text_of original plan)
 
   abbrev code_end : ℕ
   code_end = code_base original plan + 4 * length p.code
@@ -196,32 +197,34 @@ module _ (original : List ℕ) (plan : Plan) (dead : ℕ → List Part) (p : Pla
       ∙ off_here (text_of original plan) (graph_in original plan) (table_base original plan) edge p.ranges
 
   -- where the table leads
-  module _ (table : TableAt) (leads : LeadsTo (text_of original plan) (graph_in original plan) p table) where
+  module _ (table : TableAt) (leads : LeadsTo (text_of original plan) (graph_in original plan) plan.snips p table) where
     landings_at : (word : ℕ) → word < length (text_of original plan).words
-        → slice_index (map (λ (a : Addr). a.0) (landings_of (text_of original plan) (graph_in original plan) p)) word
-        ≡ slice_index p.at (landing_number (text_of original plan) (graph_in original plan) word)
+        → slice_index (map (λ (a : Addr). a.0) (landings_of (text_of original plan) (graph_in original plan) plan.snips p)) word
+        ≡ slice_index p.at (lands_at (text_of original plan) (graph_in original plan) plan.snips word)
     landings_at word l =
         ap (λ (ns : List ℕ). slice_index ns word)
         (map-map (λ (a : Addr). a.0) (λ (k : ℕ). addr
-        (slice_index p.at (landing_number (text_of original plan) (graph_in original plan) k)))
+        (slice_index p.at (lands_at (text_of original plan) (graph_in original plan) plan.snips k)))
         (below (length (text_of original plan).words)))
-        ∙ map_below (λ k. slice_index p.at (landing_number (text_of original plan) (graph_in original plan) k))
+        ∙ map_below (λ k. slice_index p.at (lands_at (text_of original plan) (graph_in original plan) plan.snips k))
         (length (text_of original plan).words) word 0 l
 
     found_at : (a : ℕ) → a < 2 ^ 32 → a % 4 ≡ 0 → (o : Option ℕ) → word_at (text_of original plan) a ≡ o
-        → looked_up table a ≡ target_of (landings_of (text_of original plan) (graph_in original plan) p)
+        → found_in (second_table (text_of original plan) table) a ≡ target_of (landings_of (text_of original plan) (graph_in original plan) plan.snips p)
         (foreign_of (text_of original plan) (graph_in original plan) p) o
     found_at a low aligned o e =
         let same : a - a % 4 ≡ a = omega (arith, aligned) in
-        leads.finds a low
-        ∙ ap (λ z. target_of (landings_of (text_of original plan) (graph_in original plan) p)
+        leads.second.finds a low aligned
+        ∙ ap (λ z. target_of (landings_of (text_of original plan) (graph_in original plan) plan.snips p)
         (foreign_of (text_of original plan) (graph_in original plan) p) (word_at (text_of original plan) z)) same
-        ∙ ap (target_of (landings_of (text_of original plan) (graph_in original plan) p)
+        ∙ ap (target_of (landings_of (text_of original plan) (graph_in original plan) plan.snips p)
         (foreign_of (text_of original plan) (graph_in original plan) p)) e
 
-    table_for : IsTableFor (text_of original plan) (graph_in original plan) p table
+    table_for : IsTableFor (text_of original plan) (graph_in original plan) plan.snips p
+        (first_table (text_of original plan) table) (second_table (text_of original plan) table)
     table_for = record {
-      whole = leads.whole;
+      whole = leads.first.whole;
+      behind = refl;
       words = λ a word low aligned e. found_at a low aligned (Some word) e
           ∙ landings_at word (word_at-some (text_of original plan) a word e).within;
       others = λ a low aligned e. found_at a low aligned None e;
@@ -239,7 +242,10 @@ module _ (original : List ℕ) (plan : Plan) (p : Placement) (place : ℕ → �
   base_aligned = let base = (accepted-program original is.taken.sound).base in omega arith
 
   cells_end_low : cell_at (cells_base original plan) plan.cells ≤ 2 ^ 31
-  cells_end_low = let base = is.code.base in omega (arith, base, is.code.leads.whole.below)
+  cells_end_low =
+      let base = is.code.base in
+      let low = is.code.leads.first.whole.below in
+      omega (arith, base, low)
 
   abbrev dead : ℕ → List Part
   dead = is.code.dead
@@ -287,8 +293,7 @@ module _ (original : List ℕ) (plan : Plan) (p : Placement) (place : ℕ → �
         (codes_of (cells_base original plan) dead plan.snips)) (code_base original plan) p place)
         (sym is.code.base) is.code.laid;
     noted = are_noted original plan dead p is.code.laid.ascend;
-    frame = is_framed original plan p table its refl is.code.base is.code.leads.size
-        is.code.leads.whole.below;
+    frame = is_framed original plan p table its refl is.code.base is.code.leads;
     cells = cells_are;
   }
 

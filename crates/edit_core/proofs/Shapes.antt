@@ -27,13 +27,11 @@ use Rattle.cfg_walk.specs.Matches.{way_address}
 use Rattle.cfg_normal.specs.Numbers.{node_number}
 use Rattle.cfg_walk.proofs.Lists.{Each, each, each-append, each-below, each-map}
 use Rattle.code_runs.specs.LongJump.{long_jump}
-use Rattle.addr_translate.specs.Translator.{translator}
-use Rattle.jump_code.specs.FreeRegister.{free_register}
-use Rattle.jump_code.specs.Jumps.{jump_image}
+use Rattle.jump_code.specs.Finding.{find_image, go_found}
+use Rattle.jump_code.specs.FreeRegister.{free_register, other_register}
 use Rattle.jump_code.specs.Leaving.{foreign}
 use Rattle.jump_code.specs.Links.{link}
-use Rattle.jump_code.specs.LookUps.{look_up_first, look_up_last}
-use Rattle.jump_code.specs.Pieces.{far_piece, foreign_piece, marked_piece, out_piece, word_items}
+use Rattle.jump_code.specs.Pieces.{far_piece, foreign_piece, found_piece, marked_piece, word_items}
 use Rattle.layout.specs.Emitting.{words_of}
 use Rattle.layout.specs.declared.items.Item.{Item}
 use Rattle.layout.specs.declared.items.Item.TheVariants as it
@@ -41,7 +39,7 @@ use Rattle.layout.specs.Laid.{end_from, is_end}
 use Rattle.image_code.specs.Cases.{branch_piece, plain_piece}
 use Rattle.image_code.specs.Couple.{couple_piece}
 use Rattle.image_code.specs.Imaged.{TakesWords}
-use Rattle.image_code.specs.Made.{goes_along, goes_on, image, image_by, jump_to, landing, next_to, own_edges, piece_list, rest_after, way_along, way_by, way_out, ways_from}
+use Rattle.image_code.specs.Made.{goes_along, goes_on, image, image_by, is_slots, jump_to, jumps_at, landing, next_to, own_edges, piece_list, rest_after, way_along, way_by, way_out, ways_from}
 use Rattle.image_code.specs.Parts.{IsGraphOf}
 use Rattle.image_code.proofs.Numbers.{cut_of, edges_are, words_are}
 use Rattle.edit_core.proofs.Eaches.{each_all, each_taken}
@@ -132,13 +130,10 @@ module _ (nodes : ℕ) (address : Addr) (node : ℕ) (visit : IsVisit nodes addr
       marked (it.Word (word_of first)) (word_items xs ++ it.EndMark ∷ it.Jump way ∷ []) tt
       (no_marks (words_of xs) (it.EndMark ∷ it.Jump way ∷ []) tt)
 
-  out_marked : (word : ℕ) (snippet translator : List ℕ)
-      → MarksFirst nodes (out_piece address node word (map it.Word snippet) translator)
-  out_marked word snippet translator =
-      marked (it.Word word) _ tt
-      (no_marks snippet (word_items look_up_first ++ (map it.Word translator ++ word_items look_up_last))
-      (no_marks (words_of look_up_first) (map it.Word translator ++ word_items look_up_last)
-      (no_marks translator (word_items look_up_last) (words_only (words_of look_up_last)))))
+  found_marked : (word : ℕ) (snippet : List ℕ) (x : ℕ)
+      → MarksFirst nodes (found_piece address node word (map it.Word snippet) x)
+  found_marked word snippet x =
+      marked (it.Word word) _ tt (no_marks snippet (word_items (go_found x)) (words_only (words_of (go_found x))))
 
 far_unmarked : (to : ℕ) → NoMarks (far_piece to)
 far_unmarked to = words_only (words_of (long_jump to))
@@ -162,8 +157,8 @@ module _ (text : Words) (graph : Graph) (table : ℕ) (codes : ℕ → List ℕ)
 
   image_by_marked : (word : ℕ) (node : Node) → IsVisit nodes (record { 0 = address_of text word })
       (node_number graph node)
-      → (instr : Instr) → MarksFirst nodes (image_by text graph codes (record { 0 = address_of text word }) node word
-      instr)
+      → (instr : Instr) → MarksFirst nodes (image_by text graph (jumps_at text table) codes
+      (record { 0 = address_of text word }) node word instr)
   image_by_marked word node visit (i.Branch c annul disp) =
       cond_both (c == always) _ _ (MarksFirst nodes) (λ _. plain_marked nodes _ _ visit _ _ tt)
       (λ _. cond_both (c == never) _ _ (MarksFirst nodes) (λ _. plain_marked nodes _ _ visit _ _ tt)
@@ -172,15 +167,17 @@ module _ (text : Words) (graph : Graph) (table : ℕ) (codes : ℕ → List ℕ)
       words_marked nodes _ _ visit (link 15 (address_of text word)) (record { 0 = way_out text graph node kinds.Call })
       (omega arith)
   image_by_marked word node visit (i.Jmpl rd rs1 op2) =
-      words_marked nodes _ _ visit (jump_image (free_register rd rs1 op2) rd rs1 op2 (address_of text word))
+      words_marked nodes _ _ visit (find_image (free_register rd rs1 op2) (other_register rd rs1 op2) rd rs1 op2
+      (jumps_at text table) (address_of text word))
       (record { 0 = way_out text graph node kinds.Out }) (omega arith)
   image_by_marked word node visit instr =
       plain_marked nodes _ _ visit _ (rest_after text graph codes node word instr)
       (no_marks (flat_map codes (left_by graph node word instr)) (next_to text word)
-      (cond_both (nat_lt (word + 1) (length text.words)) _ _ NoMarks (λ _. tt)
+      (cond_both (nat_lt (word + 1) (length text.words)) _ _ NoMarks
+      (λ _. cond_both (is_slots text word) _ _ NoMarks (λ _. tt) (λ _. tt))
       (λ _. far_unmarked (address_of text (length text.words)))))
 
-  image_marked : (word : ℕ) → word < length text.words → MarksFirst nodes (image text graph codes word)
+  image_marked : (word : ℕ) → word < length text.words → MarksFirst nodes (image text graph (jumps_at text table) codes word)
   image_marked word l =
       image_by_marked word (node_of graph.blocks (Some word))
       (visit_at word l _ (node_of-in graph.blocks (cut_of text graph h is.some).firsts.some (Some word)))
@@ -202,7 +199,7 @@ module _ (text : Words) (graph : Graph) (table : ℕ) (codes : ℕ → List ℕ)
       cond_both (is_transfer (decode_of (slice_index text.words word))) _ _ (MarksFirst nodes)
       (λ _. couple_marked nodes _ _ visit _)
       (λ _. cond_both (same_kind edge.kind kinds.Out) _ _ (MarksFirst nodes)
-      (λ _. out_marked nodes _ _ visit _ (flat_map codes (number ∷ [])) (words_of (translator table 1 2)))
+      (λ _. found_marked nodes _ _ visit _ (flat_map codes (number ∷ [])) 1)
       (λ _. plain_marked nodes _ _ visit _ _ (along_unmarked number edge)))
 
   way_by_marked : (number : ℕ) (edge : Edge) → IsEdgeIn graph.blocks edge → (slot : Slot) → edge.slot ≡ slot
@@ -239,7 +236,7 @@ module _ (text : Words) (graph : Graph) (table : ℕ) (codes : ℕ → List ℕ)
       (each_all _ (edges_in graph.blocks) (edges_in-in graph.blocks (cut_of text graph h is.some).firsts.some)))
 
   abbrev images : List (List Item)
-  images = map (image text graph codes) (below (length text.words))
+  images = map (image text graph (jumps_at text table) codes) (below (length text.words))
 
   abbrev ways : List (List Item)
   ways = ways_from text graph table codes 0 (own_edges graph)
@@ -253,7 +250,7 @@ module _ (text : Words) (graph : Graph) (table : ℕ) (codes : ℕ → List ℕ)
       each-append _ (images ++ ways ++ landings) (foreign_piece ∷ [])
       (each-append _ (images ++ ways) landings
       (each-append _ images ways
-      (each-map _ (image text graph codes) (below (length text.words)) (each-below _ (length text.words) image_marked))
+      (each-map _ (image text graph (jumps_at text table) codes) (below (length text.words)) (each-below _ (length text.words) image_marked))
       (ways_marked 0 (own_edges graph) each_own))
       (each-map _ (landing text graph codes) (below (length text.words))
       (each _ (below (length text.words)) landing_marked)))

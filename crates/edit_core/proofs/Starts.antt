@@ -21,9 +21,8 @@ use Rattle.v8_process.proofs.Valid.{mappings_have_room, starts_valid}
 use Rattle.addr_translate.specs.Lookup.{TableAt}
 use Rattle.layout.specs.Laid.{Placement}
 use Rattle.edit_core.specs.Faithful.{editor_page, page_size}
-use Rattle.addr_translate.specs.Table.{size_of}
 use Rattle.tool_kit.specs.Plans.{Plan}
-use Rattle.edit_core.specs.Written.{IsEdit, added, cells_at, cells_base, code_base, code_segment, if_any, notes_on, page_segment, table_at, table_base, text_of}
+use Rattle.edit_core.specs.Written.{IsEdit, added, cells_at, cells_base, code_base, code_segment, if_any, notes_on, page_segment, table_at, table_base, text_of, tables_size}
 use Rattle.edit_core.proofs.Fronts.{any-map}
 use Rattle.elf32_sparc.specs.Notes.{NoteSegment}
 
@@ -76,7 +75,7 @@ module _ (original : List ℕ) (plan : Plan) (p : Placement) (place : ℕ → �
       ∙ ap (λ (n : ℕ). span (table_base original plan) n ∷ behind) size)
       ∙ sym (any-map (λ (s : NoteSegment). span s.start s.length) plan.cells
       (record { start = cells_base original plan; length = 4 * plan.cells })
-      (record { start = table_base original plan; length = size_of (text_of original plan) }
+      (record { start = table_base original plan; length = tables_size (text_of original plan) }
       ∷ record { start = code_base original plan; length = 4 * length p.code }
       ∷ record { start = editor_page; length = page_size } ∷ []))
     where

@@ -10,8 +10,6 @@ use Rattle.cfg_normal.specs.Graph.{Graph}
 use Rattle.liveness.specs.Live.{named_on}
 use Rattle.cfg_view.specs.declared.View.{View}
 use Rattle.elf32_write.specs.Laws.{AreBytes}
-use Rattle.addr_translate.specs.Lookup.{TableAt}
-use Rattle.addr_translate.specs.Table.{size_of}
 use Rattle.layout.specs.declared.items.Placed.{Placed}
 use Rattle.layout.specs.declared.items.Item.{Item}
 use Rattle.layout.specs.declared.items.LayoutFault.{LayoutFault}
@@ -28,9 +26,9 @@ use Rattle.tool_kit.specs.Plans.{Plan}
 use Rattle.edit_core.specs.Dead.{AreDead}
 use Rattle.edit_core.specs.RunsAlike.{short_bound}
 use Rattle.edit_core.specs.Taken.{CanEdit, bound_by, bound_of}
-use Rattle.edit_core.specs.Written.{CanDo, IsBuilt, IsNewCode, IsViewOf, IsWorkable, LeadsTo, cells_base, cells_size, code_base, given_of, graph_in, pieces_by, pieces_of, placement_in, table_after, table_base, text_of}
+use Rattle.edit_core.specs.Written.{CanDo, IsBuilt, IsNewCode, IsViewOf, IsWorkable, LeadsTo, cells_base, cells_size, code_base, given_of, graph_in, pieces_by, pieces_of, placement_in, table_after, table_base, tables_size, text_of}
 use Rattle.edit_core.proofs.Bounds.{operations_few}
-use Rattle.edit_core.proofs.Room.{small_table}
+use Rattle.edit_core.proofs.Room.{small_tables}
 use Rattle.edit_core.proofs.Snippets.{short_codes}
 use Rattle.edit_core.proofs.Views.{bound_is}
 use Rattle.edit_core.proofs.Originals.{image_text, image_room}
@@ -71,12 +69,12 @@ module _ (fits : PiecesFit) (text : Words) (graph : Graph) (base room : ℕ) (ki
       fits text graph (table_after base cells) snips (codes_of base dead snips) is h (omega arith)
       (short_codes base cells dead snips work.good)
 
-  pub new_room : cells_size cells + size_of text + long_bytes (pieces_by text graph base cells dead snips) ≤ room
+  pub new_room : cells_size cells + tables_size text + long_bytes (pieces_by text graph base cells dead snips) ≤ room
   new_room =
       let fit = new_fit in
       let bytes = fit.bytes in
       let made = operations_few graph kind cells snips work in
-      let small = small_table text is in
+      let small = small_tables text is in
       omega arith
 
 module _ (original : List ℕ) (plan : Plan) (view : View) (is : IsViewOf original plan view) where
@@ -119,32 +117,35 @@ module _ (original : List ℕ) (plan : Plan) (view : View) (is : IsViewOf origin
       ap (λ (i : Program). pieces_by i.text view.graph i.base plan.cells dead plan.snips) is.0
       ∙ ap (λ (g : Graph). pieces_by (text_of original plan) g (cells_base original plan) plan.cells dead plan.snips) is.1
 
-  view_base : table_after view.image.base plan.cells + size_of view.image.text ≡ code_base original plan
-  view_base = ap (λ (i : Program). table_after i.base plan.cells + size_of i.text) is.0
+  view_base : table_after view.image.base plan.cells + tables_size view.image.text ≡ code_base original plan
+  view_base = ap (λ (i : Program). table_after i.base plan.cells + tables_size i.text) is.0
 
-  module _ (placed : Placed) (table : TableAt)
+  module _ (placed : Placed) (tables : List ℕ)
       (built : IsBuilt view.image.text view.graph view.image.base plan.cells plan.snips (placement_in placed))
-      (base : table.base ≡ table_after view.image.base plan.cells)
-      (leads : LeadsTo view.image.text view.graph (placement_in placed) table)
+      (leads : LeadsTo view.image.text view.graph plan.snips (placement_in placed)
+      (record { base = table_after view.image.base plan.cells; bytes = tables }))
     where
-      pub code_is : All (λ word. word < 2 ^ 32) placed.code.items → AreBytes table.bytes
-          → IsNewCode original plan (placement_in placed) built.place table
+      pub code_is : All (λ word. word < 2 ^ 32) placed.code.items → AreBytes tables
+          → IsNewCode original plan (placement_in placed) built.place
+          (record { base = table_base original plan; bytes = tables })
       code_is words bytes = record {
         dead = built.dead;
         exact = subst (λ (i : Program). AreDead i.text (graph_in original plan) (named_on plan.snips) built.dead) is.0
             (subst (λ (g : Graph). AreDead view.image.text g (named_on plan.snips) built.dead) is.1 built.exact);
         laid = subst (λ (a : ℕ). IsLaid (pieces_of original plan built.dead) a (placement_in placed) built.place) view_base
             (subst (λ (xs : List (List Item)). IsLaid xs
-            (table_after view.image.base plan.cells + size_of view.image.text)
+            (table_after view.image.base plan.cells + tables_size view.image.text)
             (placement_in placed) built.place) (view_pieces built.dead) built.are.laid);
         size = subst (λ (xs : List (List Item)). 4 * length placed.code.items ≤ long_bytes xs) (view_pieces built.dead)
             built.are.size;
         short = subst (λ (xs : List (List Item)). 4 * length placed.code.items < short_bound → HasShortForms xs built.place)
             (view_pieces built.dead) built.are.short;
         words = words;
-        base = base ∙ ap (λ (i : Program). table_after i.base plan.cells) is.0;
-        leads = subst (λ (i : Program). LeadsTo i.text (graph_in original plan) (placement_in placed) table) is.0
-            (subst (λ (g : Graph). LeadsTo view.image.text g (placement_in placed) table) is.1 leads);
+        base = refl;
+        leads = subst (λ (i : Program). LeadsTo i.text (graph_in original plan) plan.snips (placement_in placed)
+            (record { base = table_after i.base plan.cells; bytes = tables })) is.0
+            (subst (λ (g : Graph). LeadsTo view.image.text g plan.snips (placement_in placed)
+            (record { base = table_after view.image.base plan.cells; bytes = tables })) is.1 leads);
         bytes = bytes;
       }
 

@@ -1,6 +1,6 @@
--- What is written of an original: cells, a table of addresses, new code and a page for the editor, as segments, and
--- notes of them.
-use Rattle.std.specs.Prelude.{◌≡◌, ℕ, zero, suc, ◌+◌, ◌*◌, ◌/◌, ◌^◌, ◌<◌, ◌≤◌, Bool, true, false, List, [], ◌∷◌, ◌++◌, length, map, replicate, slice_index, None, Ok, All}
+-- What is written of an original: cells, tables of addresses, new code and a page for the editor, as segments, and notes
+-- of them.
+use Rattle.std.specs.Prelude.{◌≡◌, ℕ, zero, suc, ◌+◌, ◌*◌, ◌/◌, ◌^◌, ◌<◌, ◌≤◌, Bool, true, false, List, [], ◌∷◌, ◌++◌, length, map, replicate, slice_index, take, drop, None, Ok, All}
 use Rattle.std.specs.List.{find}
 use Rattle.std.specs.Option.{option_map, option_to_list}
 use Rattle.eel_base.specs.CodeText.{Words, address_of}
@@ -26,11 +26,12 @@ use Rattle.cfg_view.specs.declared.View.{View}
 use Rattle.cfg_normal.specs.Numbers.{node_number}
 use Rattle.liveness.specs.Live.{named_on}
 use Rattle.addr_translate.specs.Lookup.{TableAt}
+use Rattle.addr_translate.specs.Halves.{IsHalvesOf, halves_size}
 use Rattle.addr_translate.specs.Table.{IsTableOf, size_of}
 use Rattle.layout.specs.declared.items.Item.{Item}
 use Rattle.layout.specs.declared.items.Placed.{Placed}
 use Rattle.layout.specs.Laid.{HasShortForms, IsLaid, Placement, long_bytes, placement_of}
-use Rattle.image_code.specs.Made.{foreign_number, landing_number, piece_list}
+use Rattle.image_code.specs.Made.{foreign_number, jumps_at, lands_at, piece_list}
 use Rattle.image_code.specs.Parts.{codes_of}
 use Rattle.snippets.specs.declared.snippet.Op.{Op}
 use Rattle.tool_kit.specs.Good.{IsGood}
@@ -43,7 +44,7 @@ use Rattle.edit_core.specs.declared.taking.Asked.{Asked}
 use Rattle.edit_core.specs.RunsAlike.{HaveRunsAlike, short_bound}
 use Rattle.edit_core.specs.Faithful.{editor_page, page_size, note_edges, tool_number}
 
--- a table of addresses as a segment, with the flag PF_R
+-- tables of addresses as a segment, with the flag PF_R
 abbrev pub table_at : TableAt → AddedSegment
 table_at table = record { vaddr = table.base; memsz = length table.bytes; flags = 4; bytes = table.bytes }
 
@@ -70,7 +71,7 @@ cells_at base cells = record { vaddr = base; memsz = 4 * cells; flags = 6; bytes
 abbrev pub cells_size : ℕ → ℕ
 cells_size cells = (4 * cells + 4095) / 4096 * 4096
 
--- the table stands right behind them
+-- the tables stand right behind them
 abbrev pub table_after : ℕ → ℕ → ℕ
 table_after base cells = base + cells_size cells
 
@@ -91,7 +92,7 @@ is_behind _ = false
 abbrev pub is_off : Edge → Bool
 is_off edge = is_behind edge.slot
 
--- Where some edge runs a slot behind the text, the place of that slot is the first word of the table: at the end of the
+-- Where some edge runs a slot behind the text, the place of that slot is the first word of the tables: at the end of the
 -- text, and at the node which the edge leaves.
 abbrev pub off_range : Words → Graph → ℕ → Edge → NoteRange
 off_range text graph table edge = record {
@@ -104,20 +105,38 @@ off_range text graph table edge = record {
 abbrev pub off_ranges : Words → Graph → ℕ → List NoteRange
 off_ranges text graph table = option_to_list (option_map (off_range text graph table) (find is_off graph.edges))
 
--- ---- where the table leads: from each word of the text to its landing, and from all else to the foreign piece
+-- ---- two tables, one right behind the other: that of all addresses, and that of two levels, in which jumps look up
+
+abbrev pub tables_size : Words → ℕ
+tables_size text = size_of text + halves_size text
+
+abbrev pub first_table : Words → TableAt → TableAt
+first_table text tables = record { base = tables.base; bytes = take (size_of text) tables.bytes }
+
+abbrev pub second_table : Words → TableAt → TableAt
+second_table text tables = record { base = jumps_at text tables.base; bytes = drop (size_of text) tables.bytes }
+
+pub record AreTablesOf (text : Words) (targets : List Addr) (foreign : Addr) (tables : TableAt) : Type 0 where
+  pub size : length tables.bytes ≡ tables_size text
+  pub first : IsTableOf text targets foreign (first_table text tables)
+  pub second : IsHalvesOf text targets foreign (second_table text tables)
+
+-- ---- where they lead: from each word of the text to its landing, or to its image where nothing is done on the way, and from
+-- all else to the foreign piece
 
 abbrev pub addr : ℕ → Addr
 addr a = record { 0 = a }
 
-abbrev pub landings_of : Words → Graph → Placement → List Addr
-landings_of text graph p =
-    map (λ word. addr (slice_index p.at (landing_number text graph word))) (below (length text.words))
+abbrev pub landings_of : Words → Graph → List (List Op) → Placement → List Addr
+landings_of text graph snips p =
+    map (λ word. addr (slice_index p.at (lands_at text graph snips word))) (below (length text.words))
 
 abbrev pub foreign_of : Words → Graph → Placement → Addr
 foreign_of text graph p = addr (slice_index p.at (foreign_number text graph))
 
-abbrev pub LeadsTo : Words → Graph → Placement → TableAt → Type 0
-LeadsTo text graph p table = IsTableOf text (landings_of text graph p) (foreign_of text graph p) table
+abbrev pub LeadsTo : Words → Graph → List (List Op) → Placement → TableAt → Type 0
+LeadsTo text graph snips p table =
+    AreTablesOf text (landings_of text graph snips p) (foreign_of text graph p) table
 
 -- ---- the pieces of new code, with the snippets on the cells at `base`, by what is dead behind them
 
@@ -135,7 +154,7 @@ pub record IsBuilt (text : Words) (graph : Graph) (base cells : ℕ) (snips : Li
   pub dead : ℕ → List Part
   pub exact : AreDead text graph (named_on snips) dead
   pub place : ℕ → ℕ → ℕ
-  pub are : AreLaid (pieces_by text graph base cells dead snips) (table_after base cells + size_of text) p place
+  pub are : AreLaid (pieces_by text graph base cells dead snips) (table_after base cells + tables_size text) p place
 
 -- ---- of an original, by what a tool asks of it
 
@@ -150,7 +169,7 @@ module _ (original : List ℕ) (plan : Plan) where
   abbrev pub graph_in : Graph
   graph_in = graph_of (blocks_of text_of given_of)
 
-  -- where the cells stand, the table behind them, and the code right behind that
+  -- where the cells stand, the tables behind them, and the code right behind those
   abbrev pub cells_base : ℕ
   cells_base = (image_of original).base
 
@@ -158,7 +177,7 @@ module _ (original : List ℕ) (plan : Plan) where
   table_base = table_after cells_base plan.cells
 
   abbrev pub code_base : ℕ
-  code_base = table_base + size_of text_of
+  code_base = table_base + tables_size text_of
 
   abbrev pub pieces_of : (ℕ → List Part) → List (List Item)
   pieces_of dead = pieces_by text_of graph_in cells_base plan.cells dead plan.snips
@@ -188,7 +207,7 @@ module _ (original : List ℕ) (plan : Plan) where
     entry = holding_of graph_in.blocks (image_of original).entry;
     base = cells_base;
     cells = plan.cells;
-    segments = segments_noted cells_base plan.cells (size_of text_of) p.code;
+    segments = segments_noted cells_base plan.cells (tables_size text_of) p.code;
     blocks = graph_in.blocks.firsts;
     edges = note_edges graph_in plan.kind graph_in.edges plan.snips;
     ranges = off_ranges text_of graph_in table_base ++ p.ranges;
@@ -209,7 +228,7 @@ pub record IsWorkable (graph : Graph) (kind : ToolKind) (cells : ℕ) (snips : L
 abbrev pub CanDo : List ℕ → Plan → Type 0
 CanDo original plan = IsWorkable (graph_in original plan) plan.kind plan.cells plan.snips
 
--- The code was laid behind the table, in no more bytes than its long forms take, and the table leads to it. Where it is
+-- The code was laid behind the tables, in no more bytes than its long forms take, and the tables lead to it. Where it is
 -- short, no form is long. Its snippets take only what is dead behind them.
 pub record IsNewCode (original : List ℕ) (plan : Plan) (p : Placement) (place : ℕ → ℕ → ℕ)
     (table : TableAt) : Type 0 where
@@ -220,7 +239,7 @@ pub record IsNewCode (original : List ℕ) (plan : Plan) (p : Placement) (place 
   pub short : 4 * length p.code < short_bound → HasShortForms (pieces_of original plan dead) place
   pub words : All (λ word. word < 2 ^ 32) p.code
   pub base : table.base ≡ table_base original plan
-  pub leads : LeadsTo (text_of original plan) (graph_in original plan) p table
+  pub leads : LeadsTo (text_of original plan) (graph_in original plan) plan.snips p table
   pub bytes : AreBytes table.bytes
 
 -- What a written file is: all that those who map it, read its notes or run it need to know.
@@ -231,7 +250,7 @@ pub record IsEdit (original : List ℕ) (plan : Plan) (p : Placement) (place : �
   pub limit : length original ≤ 2 ^ 26
   pub given : AreBytes original
   pub workable : CanDo original plan
-  -- of its code and its table
+  -- of its code and its tables
   pub code : IsNewCode original plan p place table
   -- of the file
   pub bytes : AreBytes file

@@ -2,16 +2,15 @@
 ghost use Rattle.std.specs.Prelude.{◌≡◌, ℕ, List, [], ◌∷◌, ◌++◌, ◌+◌, ◌*◌, ◌<◌, ◌≤◌, ◌^◌, length, map, slice_index, All, IfErr, IfOk, OnOk};
 ghost use Rattle.elf32_write.specs.Headers.{segment_seen};
 ghost use Rattle.elf32_write.specs.Laws.{AreBytes};
-ghost use Rattle.addr_translate.specs.Table.{size_of};
 ghost use Rattle.tool_kit.specs.Plans.{Plan};
 ghost use Rattle.edit_core.specs.Taken.{CanEdit, EditRefuses};
 ghost use Rattle.edit_core.specs.Faithful.{AsksOf, CountsEdges, IsFaithful};
-ghost use Rattle.edit_core.specs.Written.{cells_at, code_at, if_any, page_segment as page_segment_of, plan_of, table_after, table_at};
+ghost use Rattle.edit_core.specs.Written.{cells_at, code_at, if_any, page_segment as page_segment_of, plan_of, table_after, table_at, tables_size};
 ghost use Rattle.edit_core.specs.Written.{CanDo, IsTheEdit, IsViewOf, IsWritten};
 
 use crate::building::{NewCode, code_base, new_code, table_base};
 use crate::noting::notes;
-use crate::segments::{cells_segment, code_segment, page_segment, table_segment};
+use crate::segments::{cells_segment, code_segment, page_segment, tables_segment};
 use crate::taking::{Asked, EditFault, bound};
 use cfg_view::{View, look};
 use eel_base::{Addr, NoMemory, WordNo};
@@ -68,7 +67,7 @@ fn edited(alloc: Global, bytes: &[u8], view: &View, asked: &Asked) -> Result<Vec
     Ok(file)
 }
 
-// The segments of cells, if there are any, of the table and of the code, and the editor's page.
+// The segments of cells, if there are any, of the tables and of the code, and the editor's page.
 fn added(
     alloc: Global,
     image: &Image,
@@ -76,20 +75,22 @@ fn added(
     new: &NewCode,
 ) -> Result<Vec<NewSegment>, NoMemory>
     requires few { cells ≤ 2 ^ 22 }
-    requires table { new.now.table.base ≡ table_after image.now.base cells }
-    requires low { table_after image.now.base cells + size_of image.now.text + 4 * length new.now.placed.code.items ≤ 2 ^ 31 }
+    requires tables { length new.now.tables.items ≡ tables_size image.now.text }
+    requires low { table_after image.now.base cells + tables_size image.now.text
+        + 4 * length new.now.placed.code.items ≤ 2 ^ 31 }
     ensures segments { IfOk result (λ v. map segment_seen v.items
-        ≡ if_any cells (cells_at image.now.base cells) ++ table_at new.now.table
-        ∷ code_at (table_after image.now.base cells + size_of image.now.text) new.now.placed.code.items
+        ≡ if_any cells (cells_at image.now.base cells)
+        ++ table_at (record { base = table_after image.now.base cells; bytes = new.now.tables.items })
+        ∷ code_at (table_after image.now.base cells + tables_size image.now.text) new.now.placed.code.items
         ∷ page_segment_of ∷ []) }
-    ensures table { OnOk result (AreBytes new.now.table.bytes) }
+    ensures tables { OnOk result (AreBytes new.now.tables.items) }
     ensures code { OnOk result (All (λ word. word < 2 ^ 32) new.now.placed.code.items) }
 {
     let mut added = Vec::new(alloc);
     if cells > 0 {
         added.push(cells_segment(alloc, image.base(), cells))?;
     }
-    added.push(table_segment(alloc, table_base(image, cells), &new.table)?)?;
+    added.push(tables_segment(alloc, table_base(image, cells), &new.tables)?)?;
     added.push(code_segment(alloc, code_base(image, cells), &new.placed.code)?)?;
     added.push(page_segment(alloc)?)?;
     Ok(added)

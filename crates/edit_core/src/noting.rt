@@ -4,14 +4,12 @@ ghost use Rattle.std.specs.List.{find};
 ghost use Rattle.eel_base.specs.CodeText.{IsText};
 ghost use Rattle.notes.specs.Seen.{notes_seen, edge_seen, range_seen, segment_seen};
 ghost use Rattle.cfg_normal.specs.Numbers.{node_number as node_number_of};
-ghost use Rattle.addr_translate.specs.Table.{size_of};
 ghost use Rattle.edit_core.specs.Faithful.{cell_noted as cell_noted_of, kind_number as kind_number_of, note_edge as note_edge_of, note_edges as note_edges_of, tool_number as tool_number_of};
-ghost use Rattle.edit_core.specs.Written.{is_off as is_off_of, notes_on, off_range as off_range_of, off_ranges, segments_noted, placement_in, plan_of, table_after, IsViewOf};
+ghost use Rattle.edit_core.specs.Written.{is_off as is_off_of, notes_on, off_range as off_range_of, off_ranges, segments_noted, placement_in, plan_of, table_after, tables_size as tables_size_of, IsViewOf};
 
-use crate::building::{code_base, table_base};
+use crate::building::{code_base, table_base, tables_size};
 use crate::segments::{EDITOR_PAGE, PAGE_SIZE};
 use crate::taking::Asked;
-use addr_translate::table_size;
 use cfg_blocks::EdgeKind;
 use cfg_normal::{Edge, FlowGraph, Node, Slot};
 use cfg_view::View;
@@ -36,7 +34,7 @@ pub(crate) fn notes(
     requires words { view.now.graph.blocks.words ≡ length view.now.image.text.words }
     requires text { IsText view.now.image.text }
     requires few { asked.now.cells ≤ 2 ^ 22 }
-    requires low { table_after view.now.image.base asked.now.cells + size_of view.now.image.text
+    requires low { table_after view.now.image.base asked.now.cells + tables_size_of view.now.image.text
         + 4 * length placed.code.items ≤ 2 ^ 31 }
     ensures { (marks : List ℕ) → IsViewOf bytes.now (plan_of marks asked.now) view.now
         → IfOk result (λ n. notes_seen n ≡ notes_on bytes.now (plan_of marks asked.now) (placement_in placed)) }
@@ -72,7 +70,7 @@ fn tool_number(kind: ToolKind) -> u32
     }
 }
 
-// The segments of cells, if there are any, of the table and of the code, and the editor's page.
+// The segments of cells, if there are any, of the tables and of the code, and the editor's page.
 fn note_segments(
     alloc: Global,
     image: &Image,
@@ -80,9 +78,9 @@ fn note_segments(
     code: &[u32],
 ) -> Result<Vec<NoteSegment>, NoMemory>
     requires few { cells ≤ 2 ^ 22 }
-    requires low { table_after image.now.base cells + size_of image.now.text + 4 * length code.now ≤ 2 ^ 31 }
+    requires low { table_after image.now.base cells + tables_size_of image.now.text + 4 * length code.now ≤ 2 ^ 31 }
     ensures { IfOk result (λ v. map segment_seen v.items
-        ≡ segments_noted image.now.base cells (size_of image.now.text) code.now) }
+        ≡ segments_noted image.now.base cells (tables_size_of image.now.text) code.now) }
 {
     let mut segments = Vec::new(alloc);
     if cells > 0 {
@@ -93,7 +91,7 @@ fn note_segments(
     }
     segments.push(NoteSegment {
         start: table_base(image, cells).0,
-        length: table_size(image.text()),
+        length: tables_size(image.text()),
     })?;
     segments.push(NoteSegment {
         start: code_base(image, cells).0,

@@ -5,7 +5,6 @@ ghost use Rattle.elf32_write.specs.Headers.{segment_seen};
 ghost use Rattle.elf32_write.specs.Laws.{AreBytes};
 ghost use Rattle.edit_core.specs.Written.{cells_at, code_at, page_segment as page_segment_of, table_at};
 
-use addr_translate::Table;
 use byteorder::{BigEndian, ByteOrder};
 use eel_base::{Addr, NoMemory};
 use elf32_sparc::SegFlags;
@@ -37,21 +36,12 @@ pub(crate) fn cells_segment(alloc: Global, base: Addr, cells: u32) -> NewSegment
     }
 }
 
-/// A table of addresses, which can only be read.
-pub(crate) fn table_segment(
+/// Tables of addresses, which can only be read.
+pub(crate) fn tables_segment(
     alloc: Global,
-    base: Addr,
-    table: &Table,
+    vaddr: Addr,
+    bytes: &[u8],
 ) -> Result<NewSegment, NoMemory>
-    requires { table.now.base ≡ base.0 }
-    ensures segment { IfOk result (λ s. segment_seen s ≡ table_at table.now) }
-    ensures bytes { OnOk result (AreBytes table.now.bytes) }
-{
-    read_only(alloc, base, table.bytes())
-}
-
-// Bytes that can only be read.
-fn read_only(alloc: Global, vaddr: Addr, bytes: &[u8]) -> Result<NewSegment, NoMemory>
     requires { length bytes.now < 2 ^ 32 }
     ensures segment { IfOk result (λ s. segment_seen s ≡ table_at (record { base = vaddr.0; bytes = bytes.now })) }
     ensures bytes { OnOk result (AreBytes bytes.now) }

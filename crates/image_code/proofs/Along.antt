@@ -18,15 +18,13 @@ use Rattle.cfg_normal.specs.declared.Slot.TheVariants as slots
 use Rattle.cfg_normal.specs.Graph.{Graph, IsEdgeIn, IsSlotIn}
 use Rattle.cfg_walk.specs.Walk.{same_kind}
 use Rattle.cfg_walk.specs.Matches.{way_address}
-use Rattle.addr_translate.specs.Translator.{translator}
-use Rattle.layout.specs.Emitting.{words_of}
 use Rattle.layout.specs.declared.items.Item.{Item}
 use Rattle.layout.specs.declared.items.Item.TheVariants as it
-use Rattle.jump_code.specs.Pieces.{out_piece}
+use Rattle.jump_code.specs.Pieces.{found_piece}
 use Rattle.image_code.specs.declared.parts.Next.{Next}
 use Rattle.image_code.specs.Cases.{plain_piece}
 use Rattle.image_code.specs.Couple.{couple_piece}
-use Rattle.image_code.specs.Made.{couple_word, goes_along, goes_on, past_slot, snippet_items, way_along, way_by, ways_from}
+use Rattle.image_code.specs.Made.{couple_word, goes_along, goes_on, jump_to, past_slot, snippet_items, way_along, way_by, ways_from}
 use Rattle.image_code.specs.Parts.{IsGraphOf, copy_with, items_of, way_with}
 use Rattle.image_code.proofs.Numbers.{words_are}
 
@@ -53,15 +51,15 @@ module _ (text : Words) (graph : Graph) (table : ℕ) (edge : Edge) (made : Resu
 
   pub out_copy : (address : Addr) (number word : ℕ) → is_transfer (decode_of word) ≡ false
       → edge.kind ≡ kinds.Out
-      → IfOk made (λ p. p ≡ out_piece address number word (map it.Word code) (words_of (translator table 1 2)))
+      → IfOk made (λ p. p ≡ found_piece address number word (map it.Word code) 1)
       → IfOk made (λ p. p ≡ copy_with text graph table code address number word edge)
   out_copy address number word straight kind is =
       subst (λ (items : List Item). IfOk made (λ p. p ≡ items))
-      (ap (λ (items : List Item). out_piece address number word items (words_of (translator table 1 2))) alone ∙ sym (
+      (ap (λ (items : List Item). found_piece address number word items 1) alone ∙ sym (
       ap (λ (b : Bool). if b then couple_piece address number couple_word []
       else past_slot text graph table codes address number word 0 edge) straight
       ∙ ap (λ (b : Bool). if b
-      then out_piece address number word (snippet_items codes (0 ∷ [])) (words_of (translator table 1 2))
+      then found_piece address number word (snippet_items codes (0 ∷ [])) 1
       else plain_piece address number word (goes_along text graph codes 0 edge))
       (ap (λ (k : EdgeKind). same_kind k kinds.Out) kind))) is
 
@@ -77,7 +75,7 @@ module _ (text : Words) (graph : Graph) (table : ℕ) (edge : Edge) (made : Resu
         → IfOk made (λ p. p ≡ way_with text graph table code edge)
     bare_way slot other is =
         subst (λ (items : List Item). IfOk made (λ p. p ≡ items)) (along_is ∙ sym (
-        ap (λ (b : Bool). if b then [] else way_by text graph table codes 0 edge edge.slot) (no_fall edge.kind other)
+        ap (λ (b : Bool). if b then jump_to 0 else way_by text graph table codes 0 edge edge.slot) (no_fall edge.kind other)
         ∙ ap (way_by text graph table codes 0 edge) slot)) is
 
     pub plain_copy : (address : Addr) (number word : ℕ) → is_transfer (decode_of word) ≡ false
@@ -90,7 +88,7 @@ module _ (text : Words) (graph : Graph) (table : ℕ) (edge : Edge) (made : Resu
         ap (λ (b : Bool). if b then couple_piece address number couple_word []
         else past_slot text graph table codes address number word 0 edge) straight
         ∙ ap (λ (b : Bool). if b
-        then out_piece address number word (snippet_items codes (0 ∷ [])) (words_of (translator table 1 2))
+        then found_piece address number word (snippet_items codes (0 ∷ [])) 1
         else plain_piece address number word (goes_along text graph codes 0 edge)) (no_out edge.kind other))) is
 
 -- ---- ways by the numbers of their edges
@@ -104,7 +102,7 @@ way_by_same text graph table codes number edge slots.Off = refl
 pub way_same : (text : Words) (graph : Graph) (table : ℕ) (codes : ℕ → List ℕ) (number : ℕ) (edge : Edge)
     → way_with text graph table (codes number) edge ≡ way_along text graph table codes number edge
 way_same text graph table codes number edge =
-    ap (λ (items : List Item). if is_fall edge.kind then [] else items)
+    ap (λ (items : List Item). if is_fall edge.kind then jump_to 0 else items)
     (way_by_same text graph table codes number edge edge.slot)
 
 pub ways_more : (text : Words) (graph : Graph) (table : ℕ) (codes : ℕ → List ℕ) (number : ℕ) (edges : List Edge)

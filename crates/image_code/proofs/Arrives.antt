@@ -27,6 +27,8 @@ use Rattle.code_runs.proofs.Leads.{leads_none, leads_then, leads_weaker, silent_
 use Rattle.code_runs.proofs.LongJump.{long_jumps_hop}
 use Rattle.code_runs.proofs.Stays.{stores_there}
 use Rattle.code_runs.proofs.TwoRegisters.{stores_none}
+use Rattle.snippets.specs.declared.snippet.Op.{Op}
+use Rattle.snippets.specs.Cells.{update}
 use Rattle.snippet_code.specs.Runs.{IsAboutToRun, MayStore, RunsPast, cell_at, kept_word, words_at}
 use Rattle.jump_code.specs.Pieces.{far_piece}
 use Rattle.jump_code.proofs.Fitting.{long_jump_fits}
@@ -41,7 +43,7 @@ use Rattle.image_code.specs.Simulates.{Setting, IsOnWay, cells_in, in_first_word
 use Rattle.image_code.specs.Images.{Pieces, Frame, HasImages, IsPlaced}
 use Rattle.image_code.specs.Cases.{IsFar, LeadsTo, LeadsOn, rest_from, words_on}
 use Rattle.image_code.proofs.Between.{can_run, get_below, item_below, item_size, on_none, stores_weaker}
-use Rattle.image_code.proofs.Cells.{cell_low, cells_above, cell_stored, first_above, may_beside, may_own, operations_then, updates_same, updates_then, word_kept}
+use Rattle.image_code.proofs.Cells.{cell_low, cells_above, cell_stored, first_above, may_below, may_beside, may_own, operations_then, updates_same, updates_then, word_kept}
 use Rattle.image_code.proofs.Dead.{IsAlike, LastDead, NothingDead, alike_itself, alike_then, last_first, last_others, last_parted, nothing_parted}
 use Rattle.image_code.proofs.Memories.{images_stored}
 use Rattle.image_code.proofs.Sparing.{first_cell, first_kept_word, same_steps, spill_cell, spill_first, spills_then}
@@ -147,6 +149,19 @@ rest_behind l k n xs ys r =
 pub far_unmarked : (to : ℕ) → AreUnmarked (far_piece to)
 far_unmarked to = (tt, (tt, (tt, (tt, tt))))
 
+-- edges without operations leave the cells
+no_updates : (snips : List (List Op)) (edges cells : List ℕ) (s : State) → operations_on snips edges ≡ 0
+    → updates snips edges cells s ≡ cells
+no_updates snips [] cells s none = refl
+no_updates snips (edge ∷ edges) cells s none =
+    by (snippet_on snips edge) (omega (arith, none))
+    ∙ no_updates snips edges cells s (omega (arith, none))
+  where
+    by : (ops : List Op) → length ops ≡ 0 → updates snips edges (update (register_of s) ops cells) s
+        ≡ updates snips edges cells s
+    by [] e = refl
+    by (op ∷ ops) e = absurd (omega (arith, e))
+
 module _ (g : Setting) (l : Pieces) (base : ℕ) (p : Placement) (place : ℕ → ℕ → ℕ) (f : Frame)
     (h : IsPlaced g l base p place f) where
   -- in the code, and in no place
@@ -169,6 +184,7 @@ module _ (g : Setting) (l : Pieces) (base : ℕ) (p : Placement) (place : ℕ �
     pub silent : IsSilent a count
     pub stores : Stores (IsAmongWords f.own) a.memory memory
     pub waits : memory_word memory (page_word 1) ≡ memory_word a.memory (page_word 1)
+    pub found : next ≢ None → memory_word memory (page_word 7) ≡ memory_word a.memory (page_word 7)
     pub cells : LastDead g edges → words_at g.notes.base g.notes.cells memory ≡ updates g.snips edges (cells_in g a) a
     pub begins : 0 < count → IsBare a
     pub alike : IsAlike g edges a other
@@ -208,6 +224,15 @@ module _ (g : Setting) (l : Pieces) (base : ℕ) (p : Placement) (place : ℕ �
   second_there a fit =
       stores_there (page_word 1) a.memory (fit.has.ours.words (page_word 1) (h.frame.page 1 (omega arith)))
 
+  pub seventh_there : (a : State) → IsFit a → CanStore a.memory (page_word 7)
+  seventh_there a fit =
+      stores_there (page_word 7) a.memory (fit.has.ours.words (page_word 7) (h.frame.page 7 (omega arith)))
+
+  seventh_kept : (a : State) (m : Memory) → IsFit a → Stores IsFirstWord a.memory m
+      → memory_word m (page_word 7) ≡ memory_word a.memory (page_word 7)
+  seventh_kept a m fit stores =
+      word_kept IsFirstWord (page_word 7) (λ z e. inr (omega (arith, e))) a.memory m stores (seventh_there a fit)
+
   -- stores in word 0 of the page
   pub first_kept : (a : State) (m : Memory) → IsFit a → Stores IsFirstWord a.memory m
       → Stores (IsAmongWords f.own) a.memory m
@@ -234,9 +259,33 @@ module _ (g : Setting) (l : Pieces) (base : ℕ) (p : Placement) (place : ℕ �
     silent = silent_none a;
     stores = stores_none (IsAmongWords f.own) a.memory;
     waits = refl;
+    found = λ _. refl;
     cells = λ _. refl;
     begins = λ q. absurd (omega arith);
     alike = alike_itself g [] a;
+    still = λ _. refl;
+    spares = λ _. omega arith;
+    leaves_first = λ _ _. refl;
+    brief = λ _ _. omega arith;
+  }
+
+  -- so it does for edges without operations
+  pub bare_here : {next : Option ℕ} (edges : List ℕ) (a : State) (to most : ℕ) → operations_on g.snips edges ≡ 0
+      → CanRun base p.code a → a.pc ≡ to → a.pc ≤ 2 ^ 31 → Arrives next edges a to most
+  bare_here edges a to most none w e low = record {
+    count = 0;
+    other = a;
+    memory = a.memory;
+    few = omega arith;
+    path = subst (λ (q : State). Leads IsBare a q 0) (sym (stays a to e w.ready.npc w.slot (omega arith)))
+        (leads_none _ a);
+    silent = silent_none a;
+    stores = stores_none (IsAmongWords f.own) a.memory;
+    waits = refl;
+    found = λ _. refl;
+    cells = λ _. sym (no_updates g.snips edges (cells_in g a) a none);
+    begins = λ q. absurd (omega arith);
+    alike = alike_itself g edges a;
     still = λ _. refl;
     spares = λ _. omega arith;
     leaves_first = λ _ _. refl;
@@ -275,6 +324,7 @@ module _ (g : Setting) (l : Pieces) (base : ℕ) (p : Placement) (place : ℕ �
         silent = j.hops.silent;
         stores = kept.0;
         waits = kept.1.0;
+        found = λ _. seventh_kept a j.memory fit j.hops.stores;
         cells = λ _. kept.1.1;
         begins = λ q. none a (omega arith) (omega arith);
         alike = alike_itself g [] a;
@@ -305,6 +355,7 @@ module _ (g : Setting) (l : Pieces) (base : ℕ) (p : Placement) (place : ℕ �
         stores = stores_then (IsAmongWords f.own) (IsAmongWords f.own) a.memory one.memory other.memory
             (λ z e. e) one.stores other.stores;
         waits = other.waits ∙ one.waits;
+        found = λ there. other.found there ∙ one.found there;
         cells = λ d. by_cells (subst (LastDead g) all d);
         begins = λ some. elim (cases_lt 0 one.count) [
           | inl more ↦ one.begins more
@@ -458,6 +509,8 @@ module _ (g : Setting) (l : Pieces) (base : ℕ) (p : Placement) (place : ℕ �
             past.after.memory (may_own g l f h.frame h.cells edge) past.stores;
         waits = word_kept (MayStore g.notes.base (snippet_on g.snips edge)) (page_word 1)
             (may_beside g l f h.frame h.cells edge) a.memory past.after.memory past.stores (second_there a fit);
+        found = λ _. word_kept (MayStore g.notes.base (snippet_on g.snips edge)) (page_word 7)
+            (may_below g l f h.frame h.cells edge) a.memory past.after.memory past.stores (seventh_there a fit);
         cells = λ _. past.cells g.notes.cells (h.cells.named edge) h.cells.low;
         begins = λ some. there.bare a (omega (arith, at)) (omega (arith, at, some, few));
         alike = record {
@@ -547,6 +600,7 @@ module _ (g : Setting) (l : Pieces) (base : ℕ) (p : Placement) (place : ℕ �
         silent = hops.silent;
         stores = kept.0;
         waits = kept.1.0;
+        found = λ there. absurd (there out);
         cells = λ _. kept.1.1;
         begins = λ q. there.bare a (omega (arith, at)) (omega (arith, at));
         alike = alike_itself g [] a;
@@ -612,6 +666,7 @@ module _ (g : Setting) (l : Pieces) (base : ℕ) (p : Placement) (place : ℕ �
         silent = one.silent;
         stores = one.stores;
         waits = one.waits;
+        found = one.found;
         cells = one.cells;
         begins = one.begins;
         alike = one.alike;
@@ -622,7 +677,7 @@ module _ (g : Setting) (l : Pieces) (base : ℕ) (p : Placement) (place : ℕ �
       }
 
   -- whatever comes next
-  pub unwatched : (next : Option ℕ) (edges : List ℕ) (a : State) (to most : ℕ) → Arrives next edges a to most
+  unfoldable pub unwatched : (next : Option ℕ) (edges : List ℕ) (a : State) (to most : ℕ) → Arrives next edges a to most
       → Arrives None edges a to most
   unwatched next edges a to most one = record {
     count = one.count;
@@ -633,6 +688,7 @@ module _ (g : Setting) (l : Pieces) (base : ℕ) (p : Placement) (place : ℕ �
     silent = one.silent;
     stores = one.stores;
     waits = one.waits;
+    found = λ there. absurd (there refl);
     cells = one.cells;
     begins = one.begins;
     alike = one.alike;

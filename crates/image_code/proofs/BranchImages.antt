@@ -125,7 +125,7 @@ module _ (g : Setting) (codes : ℕ → List ℕ) (is : IsText g.text) (p : Plac
         ap (slice_get (l g codes is p f).list) number
         ∙ way_at g.text (graph_in g) f.table.base codes found.number (edge_of b k w)
         (own_at b found.number (edge_of b k w) found.is land)
-        ∙ ap (λ (t : Bool). Some (if t then [] else way_by g.text (graph_in g) f.table.base codes found.number
+        ∙ ap (λ (t : Bool). Some (if t then jump_to 0 else way_by g.text (graph_in g) f.table.base codes found.number
         (edge_of b k w) (slot_on b k w.kind))) fall
         ∙ ap (λ (r : Bool). Some (way_by g.text (graph_in g) f.table.base codes found.number (edge_of b k w)
         (if r then slot_behind b.words (last_word b.firsts b.words k) else carried.Nothing)))

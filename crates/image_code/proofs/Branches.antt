@@ -80,14 +80,14 @@ node_same (Block one) (Block other) e =
 node_same X X e = refl
 node_same _ _ e = absurd (cc)
 
-pub image_straight : (text : Words) (graph : Graph) (codes : ℕ → List ℕ) (address : Addr) (node : Node) (word : ℕ)
+pub image_straight : (text : Words) (graph : Graph) (jumps : ℕ) (codes : ℕ → List ℕ) (address : Addr) (node : Node) (word : ℕ)
     (instr : Instr) → is_transfer instr ≡ false
-    → image_by text graph codes address node word instr ≡ plain_piece address (node_number graph node)
+    → image_by text graph jumps codes address node word instr ≡ plain_piece address (node_number graph node)
     (slice_index text.words word) (rest_after text graph codes node word instr)
-image_straight text graph codes address node word (i.Branch cond annul disp) e = absurd (cc)
-image_straight text graph codes address node word (i.Call disp) e = absurd (cc)
-image_straight text graph codes address node word (i.Jmpl rd rs1 op2) e = absurd (cc)
-image_straight text graph codes address node word _ e = refl
+image_straight text graph jumps codes address node word (i.Branch cond annul disp) e = absurd (cc)
+image_straight text graph jumps codes address node word (i.Call disp) e = absurd (cc)
+image_straight text graph jumps codes address node word (i.Jmpl rd rs1 op2) e = absurd (cc)
+image_straight text graph jumps codes address node word _ e = refl
 
 pub first_along : (text : Words) (graph : Graph) (table : ℕ) (codes : ℕ → List ℕ) (edges : List ℕ)
     → first_way text graph edges ≡ along_first (pieces_in text graph table codes) edges

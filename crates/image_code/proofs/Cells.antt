@@ -115,6 +115,13 @@ module _ (g : Setting) (l : Pieces) (f : Frame) (framed : IsFramed g f) (has : H
       inr (omega (arith, low, is))
   may_beside edge z (inr (n, few, is)) = inl (omega (arith, few, is))
 
+  pub may_below : (edge z : ℕ) → MayStore g.notes.base (snippet_on g.snips edge) z
+      → (page_word 7 + 4 ≤ z) ⊎ (z + 4 ≤ page_word 7)
+  may_below edge z (inl (cell, named, is)) =
+      let low = cell_low cell (has.named edge cell named) in
+      inr (omega (arith, low, is))
+  may_below edge z (inr (n, few, is)) = inr (omega (arith, few, is))
+
 pub first_above : (z : ℕ) → IsFirstWord z → 2 ^ 31 ≤ z
 first_above z e = omega (arith, e)
 

@@ -23,7 +23,7 @@ use Rattle.cfg_walk.specs.Matches.{target_along}
 use Rattle.cfg_walk.proofs.Cut.{IsCut, cut}
 use Rattle.image_code.specs.Simulates.{Setting, graph_in}
 use Rattle.image_code.specs.Cases.{IsFar}
-use Rattle.image_code.specs.Made.{piece_list, way_by}
+use Rattle.image_code.specs.Made.{jump_to, piece_list, way_by}
 use Rattle.image_code.proofs.Branches.{node_same, number_of_list, same_is}
 use Rattle.std.proofs.lemmas.Option.{slice_get_within}
 use Rattle.image_code.proofs.Listed.{own_at, way_at}
@@ -88,7 +88,7 @@ module _ (g : Setting) (is : IsText g.text) (table : ℕ) where
   items_along codes node way number edge k fall land to e =
       way_at g.text (graph_in g) table codes number edge
       (own_at b number edge k.found (ap (λ (j : EdgeKind). same_kind j kinds.Land) k.same ∙ land))
-      ∙ ap (λ (t : Bool). Some (if t then [] else way_by g.text (graph_in g) table codes number edge edge.slot))
+      ∙ ap (λ (t : Bool). Some (if t then jump_to 0 else way_by g.text (graph_in g) table codes number edge edge.slot))
       (ap is_fall k.same ∙ fall)
       ∙ ap (λ (s : Carried). Some (way_by g.text (graph_in g) table codes number edge s)) e
 

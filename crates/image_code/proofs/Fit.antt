@@ -3,7 +3,7 @@ use Rattle.std.proofs.Common.{◌≡◌, ℕ, zero, suc, ◌+◌, ◌-◌, ◌*�
 use Rattle.std.specs.Prelude.{if◌then◌else◌, nat_lt, slice_get, slice_index}
 use Rattle.std.specs.List.{All, flat_map, position, sum_by}
 use Rattle.std.specs.Option.{option_to_list}
-use Rattle.std.proofs.lemmas.Bool.{and_parts, cond_both}
+use Rattle.std.proofs.lemmas.Bool.{and_parts, cond_both, ltb-true}
 use Rattle.std.proofs.lemmas.List.Sums.{sum_by-append, sum_by-cons, sum_by-le}
 use Rattle.std.proofs.lemmas.List.Quantifiers.{position-Some}
 use Rattle.std.proofs.lemmas.Option.{get_or_from_slice_get, slice_get-get_or, slice_get_within}
@@ -35,18 +35,17 @@ use Rattle.cfg_normal.specs.Numbers.{node_number}
 use Rattle.cfg_walk.proofs.Addresses.{word_at-address}
 use Rattle.cfg_walk.proofs.Lists.{Each, each, each_at, each-append, each-below, each-map}
 use Rattle.code_runs.specs.LongJump.{long_jump}
-use Rattle.jump_code.specs.Jumps.{jump_image}
+use Rattle.jump_code.specs.Finding.{find_image, go_found}
 use Rattle.jump_code.specs.Leaving.{foreign}
 use Rattle.jump_code.specs.Links.{link}
-use Rattle.jump_code.specs.LookUps.{look_up}
-use Rattle.jump_code.specs.Pieces.{call_piece, far_piece, foreign_piece, jump_piece, word_items}
+use Rattle.jump_code.specs.Pieces.{call_piece, far_piece, find_piece, foreign_piece, word_items}
 use Rattle.layout.specs.Emitting.{words_of}
 use Rattle.layout.specs.declared.items.Item.{Item}
 use Rattle.layout.specs.declared.items.Item.TheVariants as it
 use Rattle.layout.specs.Laid.{AreMarked, IsMarked, IsWordAt, LeadsBelow, item_at, item_in, long_words, piece_words}
 use Rattle.image_code.specs.Cases.{branch_piece, plain_piece}
 use Rattle.image_code.specs.Couple.{couple_piece}
-use Rattle.image_code.specs.Made.{first_way, goes_along, goes_on, image, image_by, jump_to, landing, next_to, own_edges, piece_list, rest_after, way_along, way_by, way_out, ways_from}
+use Rattle.image_code.specs.Made.{first_way, goes_along, goes_on, image, image_by, is_slots, jump_to, jumps_at, landing, next_to, own_edges, piece_list, rest_after, way_along, way_by, way_out, ways_from}
 use Rattle.image_code.specs.Parts.{IsGraphOf}
 use Rattle.image_code.specs.Fit.{AreFit, AreShort, PiecesFit, PlacesSay, is_mark, marks_in, operations_in}
 use Rattle.image_code.proofs.Listed.{count_is, own_at}
@@ -138,13 +137,13 @@ module _ (text : Words) (count : ℕ) where
     says = tt;
   }
 
-  tail_look_up : (table : ℕ) → IsTail text count 0 (word_items (look_up table))
-  tail_look_up table = record {
+  tail_found : (x : ℕ) → IsTail text count 0 (word_items (go_found x))
+  tail_found x = record {
     few = omega arith;
     words = omega arith;
     marks = omega arith;
     marked = tt;
-    leads = only_words_lead count (words_of (look_up table));
+    leads = only_words_lead count (words_of (go_found x));
     says = tt;
   }
 
@@ -263,29 +262,29 @@ module _ (text : Words) (count : ℕ) where
     says = (says, tt);
   }
 
-  small_jmpl : (x rd rs1 : ℕ) (op2 : Op2) (address : Addr) (node : ℕ) (way : PieceNo) → way.0 < count
-      → SaysWord text address.0 (word_items (jump_image x rd rs1 op2 address.0) ++ it.EndMark ∷ it.Jump way ∷ [])
-      → IsSmall text count 0 (jump_piece x rd rs1 op2 address node way)
-  small_jmpl x zero rs1 op2 address node way l says = record {
+  small_jmpl : (x y rd rs1 : ℕ) (op2 : Op2) (jumps : ℕ) (address : Addr) (node : ℕ) (way : PieceNo) → way.0 < count
+      → SaysWord text address.0 (word_items (find_image x y rd rs1 op2 jumps address.0) ++ it.EndMark ∷ it.Jump way ∷ [])
+      → IsSmall text count 0 (find_piece x y rd rs1 op2 jumps address node way)
+  small_jmpl x y zero rs1 op2 jumps address node way l says = record {
     few = omega arith;
     words = omega arith;
     marks = omega arith;
     marked = tt;
     leads = (
       tt,
-      words_lead count (words_of (jump_image x zero rs1 op2 address.0)) (it.EndMark ∷ it.Jump way ∷ [])
+      words_lead count (words_of (find_image x y zero rs1 op2 jumps address.0)) (it.EndMark ∷ it.Jump way ∷ [])
           (tt, (l, tt)),
     );
     says = (says, tt);
   }
-  small_jmpl x (suc r) rs1 op2 address node way l says = record {
+  small_jmpl x y (suc r) rs1 op2 jumps address node way l says = record {
     few = omega arith;
     words = omega arith;
     marks = omega arith;
     marked = tt;
     leads = (
       tt,
-      words_lead count (words_of (jump_image x (suc r) rs1 op2 address.0)) (it.EndMark ∷ it.Jump way ∷ [])
+      words_lead count (words_of (find_image x y (suc r) rs1 op2 jumps address.0)) (it.EndMark ∷ it.Jump way ∷ [])
           (tt, (l, tt)),
     );
     says = (says, tt);
@@ -300,16 +299,6 @@ module _ (text : Words) (count : ℕ) where
     marked = tt;
     leads = (tt, (tt, (tt, (tt, tt))));
     says = (says, tt);
-  }
-
-  small_empty : IsSmall text count 0 []
-  small_empty = record {
-    few = omega arith;
-    words = omega arith;
-    marks = omega arith;
-    marked = tt;
-    leads = tt;
-    says = tt;
   }
 
 within_is : (count word other : ℕ) → within count word ≡ Some other → word ≡ other
@@ -426,7 +415,11 @@ module _ (text : Words) (graph : Graph) (table : ℕ) (codes : ℕ → List ℕ)
 
   next_tail : (word : ℕ) → Tail 0 (next_to text word)
   next_tail word =
-      cond_both (nat_lt (word + 1) (length text.words)) _ _ (Tail 0) (λ _. tail_empty text (length pieces))
+      cond_both (nat_lt (word + 1) (length text.words)) _ _ (Tail 0)
+      (λ more. cond_both (is_slots text word) _ _ (Tail 0)
+      (λ _. tail_jump text (length pieces) (word + 1)
+      (omega (arith, ltb-true (word + 1) (length text.words) more, count_is text graph table codes)))
+      (λ _. tail_empty text (length pieces)))
       (λ _. tail_far text (length pieces) (address_of text (length text.words)))
 
   coded : (most other : ℕ) (ws : List ℕ) (rest : List Item) → Tail 0 rest → length ws ≤ other
@@ -445,7 +438,7 @@ module _ (text : Words) (graph : Graph) (table : ℕ) (codes : ℕ → List ℕ)
 
   image_by_small : (word : ℕ) → (instr : Instr) → decode_of (slice_index text.words word) ≡ instr
       → Small (code_by graph codes word instr)
-      (image_by text graph codes (record { 0 = address_of text word }) (here word) word instr)
+      (image_by text graph (jumps_at text table) codes (record { 0 = address_of text word }) (here word) word instr)
   image_by_small word (i.Branch c annul disp) e =
       let t : is_transfer (decode_of (slice_index text.words word)) ≡ true = ap is_transfer e in
       let taken = way_below (here word) kinds.Taken refl in
@@ -458,11 +451,11 @@ module _ (text : Words) (graph : Graph) (table : ℕ) (codes : ℕ → List ℕ)
   image_by_small word (i.Call disp) e =
       small_call text _ _ _ _ (way_below (here word) kinds.Call refl) (transfer_says text word _ (ap is_transfer e))
   image_by_small word (i.Jmpl rd rs1 op2) e =
-      small_jmpl text _ _ rd rs1 op2 _ _ _ (way_below (here word) kinds.Out refl)
+      small_jmpl text _ _ _ rd rs1 op2 _ _ _ _ (way_below (here word) kinds.Out refl)
       (transfer_says text word _ (ap is_transfer e))
   image_by_small word instr e = plain_small word instr
 
-  image_small : (word : ℕ) → Small (image_code text graph codes word) (image text graph codes word)
+  image_small : (word : ℕ) → Small (image_code text graph codes word) (image text graph (jumps_at text table) codes word)
   image_small word = image_by_small word (decode_of (slice_index text.words word)) refl
 
   -- ---- ways
@@ -490,7 +483,7 @@ module _ (text : Words) (graph : Graph) (table : ℕ) (codes : ℕ → List ℕ)
       (λ t. small_more text _ 0 _ _ (omega arith) (small_couple text _ _ _ _ (transfer_says text slot.0 _ t)))
       (λ _. cond_both (same_kind edge.kind kinds.Out) _ _ (Small (length (codes number)))
       (λ _. small_plain text _ _ _ _ _ _ (coded 0 (length (codes number)) (flat_map codes (number ∷ []))
-      (word_items (look_up table)) (tail_look_up text _ table) (one_code number)) (word_says text slot.0 _))
+      (word_items (go_found 1)) (tail_found text _ 1) (one_code number)) (word_says text slot.0 _))
       (λ _. small_plain text _ _ _ _ _ _ (along_tail number edge inside) (word_says text slot.0 _)))
 
   way_small : (number : ℕ) (edge : Edge) → IsEdgeIn graph.blocks edge
@@ -498,8 +491,8 @@ module _ (text : Words) (graph : Graph) (table : ℕ) (codes : ℕ → List ℕ)
   way_small number edge inside = by (is_fall edge.kind)
     where
       by : (fall : Bool) → Small (if fall then 0 else length (codes number))
-          (if fall then [] else way_by text graph table codes number edge edge.slot)
-      by true = small_empty text _
+          (if fall then jump_to 0 else way_by text graph table codes number edge edge.slot)
+      by true = small_tail text _ 0 _ (tail_jump text _ 0 (omega (arith, is.some, count_is text graph table codes)))
       by false = way_by_small number edge inside edge.slot
 
   -- ---- landings
@@ -525,8 +518,8 @@ module _ (text : Words) (graph : Graph) (table : ℕ) (codes : ℕ → List ℕ)
   unfolding piece_list
   all_say =
       let n = length text.words in
-      let images : Each (MarksSay text) (map (image text graph codes) (below n)) =
-      each-map _ (image text graph codes) (below n) (each _ (below n) (λ word. (image_small word).says)) in
+      let images : Each (MarksSay text) (map (image text graph (jumps_at text table) codes) (below n)) =
+      each-map _ (image text graph (jumps_at text table) codes) (below n) (each _ (below n) (λ word. (image_small word).says)) in
       let landings : Each (MarksSay text) (map (landing text graph codes) (below n)) =
       each-map _ (landing text graph codes) (below n) (each-below _ n (λ word l. (landing_small word l).says)) in
       each-append _ _ (foreign_piece ∷ []) (each-append _ _ _
@@ -571,8 +564,8 @@ module _ (text : Words) (graph : Graph) (table : ℕ) (codes : ℕ → List ℕ)
     unfolding piece_list
     all_small =
         let n = length text.words in
-        let images : Each (Small 176) (map (image text graph codes) (below n)) =
-        each-map _ (image text graph codes) (below n) (each _ (below n) (λ word. small_more text _ _ 176 _
+        let images : Each (Small 176) (map (image text graph (jumps_at text table) codes) (below n)) =
+        each-map _ (image text graph (jumps_at text table) codes) (below n) (each _ (below n) (λ word. small_more text _ _ 176 _
         (image_few word (decode_of (slice_index text.words word))) (image_small word))) in
         let landings : Each (Small 176) (map (landing text graph codes) (below n)) =
         each-map _ (landing text graph codes) (below n) (each-below _ n (λ word l. small_more text _ _ 176 _
@@ -654,9 +647,9 @@ module _ (text : Words) (graph : Graph) (table : ℕ) (codes : ℕ → List ℕ)
   unfolding piece_list
   all_words snips short =
       let n = length text.words in
-      let images : sum_by piece_words (map (image text graph codes) (below (length text.words)))
+      let images : sum_by piece_words (map (image text graph (jumps_at text table) codes) (below (length text.words)))
       ≤ 19 * length (below (length text.words)) + sum_by (image_code text graph codes) (below (length text.words)) =
-      words_up (image text graph codes) (image_code text graph codes) (below (length text.words))
+      words_up (image text graph (jumps_at text table) codes) (image_code text graph codes) (below (length text.words))
       (each _ (below (length text.words)) (λ word. (image_small word).words)) in
       let ways = ways_up 0 (own_edges graph) inside_own in
       let landings : sum_by piece_words (map (landing text graph codes) (below (length text.words)))
@@ -664,7 +657,7 @@ module _ (text : Words) (graph : Graph) (table : ℕ) (codes : ℕ → List ℕ)
       words_up (landing text graph codes) (landing_code graph codes) (below (length text.words))
       (each-below _ (length text.words) (λ word l. (landing_small word l).words)) in
       let last = (small_foreign text (length pieces)).words in
-      let joined = parts_joined (map (image text graph codes) (below (length text.words)))
+      let joined = parts_joined (map (image text graph (jumps_at text table) codes) (below (length text.words)))
       (ways_from text graph table codes 0 (own_edges graph))
       (map (landing text graph codes) (below (length text.words))) (foreign_piece ∷ []) in
       let one : sum_by piece_words (foreign_piece ∷ []) ≡ piece_words foreign_piece = omega arith in

@@ -32,7 +32,7 @@ use Rattle.layout.specs.Laid.{Placement}
 use Rattle.image_code.specs.Simulates.{Setting, graph_in, number_in}
 use Rattle.image_code.specs.Images.{Frame, along_first, visited_at}
 use Rattle.image_code.specs.Imaged.{IsHead, IsVisited, head, outside, beyond}
-use Rattle.image_code.specs.Made.{IsOffNoted, couple_word, image_by, nop_word, slot_copy, way_out}
+use Rattle.image_code.specs.Made.{IsOffNoted, couple_word, image_by, jumps_at, nop_word, slot_copy, way_out}
 use Rattle.image_code.specs.Outside.{IsForeign, IsOff, IsOpen}
 use Rattle.image_code.proofs.EdgePieces.{items_along}
 use Rattle.image_code.proofs.Branches.{HeadOf, way_is_own}
@@ -41,9 +41,9 @@ use Rattle.image_code.proofs.Visited.{edge_is, image_items, l, off, off_address,
 
 -- ---- what pieces begin with
 
-module _ (text : Words) (graph : Graph) (codes : ℕ → List ℕ) where
+module _ (text : Words) (graph : Graph) (jumps : ℕ) (codes : ℕ → List ℕ) where
   image_head : (address : Addr) (node : Node) (word : ℕ) (instr : Instr)
-      → HeadOf address (node_number graph node) (image_by text graph codes address node word instr)
+      → HeadOf address (node_number graph node) (image_by text graph jumps codes address node word instr)
   image_head address node word (i.Branch cond annul disp) =
       cond_both (cond == always) _ _ (HeadOf address (node_number graph node))
       (λ _. record { item = it.Word nop_word; takes = tt; rest = _; is = refl })
@@ -62,7 +62,7 @@ module _ (text : Words) (graph : Graph) (codes : ℕ → List ℕ) where
     is = refl;
   }
   image_head address node word (i.Jmpl rd rs1 op2) = record {
-    item = it.Word (word_for (i.Store stores.ST (free_register rd rs1 op2) 0 (of_page 2)));
+    item = it.Word (word_for (i.Store stores.ST (free_register rd rs1 op2) 0 (of_page 7)));
     takes = tt;
     rest = _;
     is = refl;
@@ -169,7 +169,7 @@ module _ (g : Setting) (codes : ℕ → List ℕ) (is : IsText g.text) (p : Plac
           head (head_of node x (length g.text.words + way.number) _ (record { 0 = address_of g.text slot })
           (copy_visited node x slot e way not) (sym (word_at-some g.text x.pc slot e).is)
           (copy_items node x slot e way)
-          (copy_head g.text (graph_in g) codes f.table.base (record { 0 = address_of g.text slot }) (number_in g node)
+          (copy_head g.text (graph_in g) 0 codes f.table.base (record { 0 = address_of g.text slot }) (number_in g node)
           (slice_index g.text.words slot) way.number way.edge))
 
       by : (s : Slot) → x.slot ≡ s → MatchesBy g.text (graph_in g) node x s → (o : Option ℕ) → word_at g.text x.pc ≡ o
@@ -179,7 +179,7 @@ module _ (g : Setting) (codes : ℕ → List ℕ) (is : IsText g.text) (p : Plac
           head (head_of node x word _ (record { 0 = address_of g.text word })
           (visited_word g codes is p f node x word e none) (sym (word_at-some g.text x.pc word e).is)
           (image_items g codes is p f node x word e m.0 (decode_of (slice_index g.text.words word)) refl)
-          (image_head g.text (graph_in g) codes (record { 0 = address_of g.text word }) node word
+          (image_head g.text (graph_in g) (jumps_at g.text f.table.base) codes (record { 0 = address_of g.text word }) node word
           (decode_of (slice_index g.text.words word))))
       by Taken some m o e =
           let not : x.slot ≢ NoSlot = λ n. let q : Taken ≡ NoSlot = sym some ∙ n in absurd (cc) in

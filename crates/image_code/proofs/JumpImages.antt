@@ -21,13 +21,13 @@ use Rattle.cfg_normal.specs.Graph.{node_of}
 use Rattle.cfg_walk.specs.Walk.{Point, point_of}
 use Rattle.cfg_walk.proofs.Transfers.{call_delayed, jump_delayed}
 use Rattle.addr_translate.specs.Lookup.{IsTable}
-use Rattle.jump_code.specs.FreeRegister.{free_register}
-use Rattle.jump_code.specs.Pieces.{call_piece, jump_piece}
+use Rattle.jump_code.specs.FreeRegister.{free_register, other_register}
+use Rattle.jump_code.specs.Pieces.{call_piece, find_piece}
 use Rattle.layout.specs.Laid.{Placement}
 use Rattle.image_code.specs.Simulates.{Setting, at_point, does_at, graph_in, number_in}
 use Rattle.image_code.specs.Images.{Frame}
 use Rattle.image_code.specs.Calls.{IsCall, IsJump}
-use Rattle.image_code.specs.Made.{way_out}
+use Rattle.image_code.specs.Made.{jumps_at, way_out}
 use Rattle.std.proofs.lemmas.Option.{slice_get_within}
 use Rattle.image_code.proofs.IntoSlots.{LeadsThere, entered, no_jump, stands}
 use Rattle.image_code.proofs.JumpWords.{jmpl_is}
@@ -93,7 +93,8 @@ module _ (g : Setting) (codes : ℕ → List ℕ) (is : IsText g.text) (p : Plac
 
   -- ---- a JMPL
 
-  module _ (rd rs1 : ℕ) (op2 : Op2) (says : decode_of (slice_index g.text.words word) ≡ i.Jmpl rd rs1 op2) where
+  module _ (behind : f.halves.base ≡ jumps_at g.text f.table.base) (rd rs1 : ℕ) (op2 : Op2)
+      (says : decode_of (slice_index g.text.words word) ≡ i.Jmpl rd rs1 op2) where
     abbrev target : ℕ
     target = sum_of (at_point x t) rs1 op2
 
@@ -109,9 +110,12 @@ module _ (g : Setting) (codes : ℕ → List ℕ) (is : IsText g.text) (p : Plac
         ∙ ap (λ (z : Slot). unless_couple z (at_point x t) jumped) none
 
     jump_items : slice_get (l g codes is p f).list word
-        ≡ Some (jump_piece (free_register rd rs1 op2) rd rs1 op2 address (number_in g node)
+        ≡ Some (find_piece (free_register rd rs1 op2) (other_register rd rs1 op2) rd rs1 op2 f.halves.base address (number_in g node)
         (record { 0 = way_out g.text (graph_in g) node kinds.Out }))
-    jump_items = image_items g codes is p f node x word at held (i.Jmpl rd rs1 op2) says
+    jump_items =
+        image_items g codes is p f node x word at held (i.Jmpl rd rs1 op2) says
+        ∙ ap (λ n. Some (find_piece (free_register rd rs1 op2) (other_register rd rs1 op2) rd rs1 op2 n address
+        (number_in g node) (record { 0 = way_out g.text (graph_in g) node kinds.Out }))) (sym behind)
 
     goes : (v : State) → v ≡ jumped → v.ending ≡ None → (v.pc ≡ x.npc) × (v.slot ≡ Taken)
     goes v e live =
@@ -149,6 +153,9 @@ module _ (g : Setting) (codes : ℕ → List ℕ) (is : IsText g.text) (p : Plac
           says = says;
           scratch = free_register rd rs1 op2;
           apart = k.apart;
+          second = other_register rd rs1 op2;
+          other = k.other;
+          differ = k.differ;
           fits = k.fits;
           in_range = k.in_range;
           way = record { 0 = way_out g.text (graph_in g) node kinds.Out };

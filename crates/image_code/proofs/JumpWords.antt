@@ -1,5 +1,5 @@
 -- What is known of the words that are JMPLs, and the register that one doesn't name.
-use Rattle.std.proofs.Common.{◌≡◌, ◌≢◌, ℕ, ◌<◌, Bool, true, false, not, ◌||◌, ◌==◌, nat_lt, refl, sym, arith}
+use Rattle.std.proofs.Common.{◌≡◌, ◌≢◌, ℕ, ◌<◌, Bool, true, false, not, ◌||◌, ◌==◌, nat_lt, refl, sym, ◌∙◌, arith}
 use Rattle.std.proofs.lemmas.Bool.{and_parts, cond_both, eqb-false, ltb-true}
 use Rattle.std.proofs.lemmas.Bool.Decides.{nat_tests}
 use Rattle.v8_decode.specs.declared.Op2.{Op2}
@@ -9,8 +9,8 @@ use Rattle.v8_decode.specs.Ranges.{op2_in_range, operands_in_range}
 use Rattle.v8_decode.specs.Words.{decode_of}
 use Rattle.v8_decode.proofs.Rows.{decoded_range}
 use Rattle.v8_encode.specs.Encoding.{op2_fits}
-use Rattle.jump_code.specs.FreeRegister.{first_free, free_register, is_one_of, second_register}
-use Rattle.jump_code.specs.Jumps.{IsApart, IsNotIn}
+use Rattle.jump_code.specs.FreeRegister.{first_free, free_register, is_one_of, is_one_of_four, next_free, other_register, second_register}
+use Rattle.jump_code.specs.FreeRegister.{IsApart, IsNotIn}
 use Rattle.image_code.proofs.Operands.{operand_fits}
 
 -- ---- the first register that is free
@@ -58,10 +58,73 @@ first_is_free a b c =
     (λ two. cond_both (not (is_one_of 3 a b c)) _ _ (λ (n : ℕ). IsFree n a b c)
     (free_if 3 a b c (omega arith) (omega arith)) (λ three. fourth a b c one two three)))
 
+-- ---- the second one
+
+record IsNext (number a b c d : ℕ) : Type 0 where
+  pub some : 0 < number
+  pub few : number < 6
+  pub first : a ≢ number
+  pub second : b ≢ number
+  pub third : c ≢ number
+  pub fourth : d ≢ number
+
+none_of_four : (p q r s : Bool) → (not (p || q || r || s)) ≡ true → (p ≡ false) × (q ≡ false) × (r ≡ false) × (s ≡ false)
+none_of_four false false false false e = (refl, refl, refl, refl)
+none_of_four true q r s e = absurd (cc)
+none_of_four false true r s e = absurd (cc)
+none_of_four false false true s e = absurd (cc)
+none_of_four false false false true e = absurd (cc)
+
+next_if : (number a b c d : ℕ) → 0 < number → number < 6 → not (is_one_of_four number a b c d) ≡ true
+    → IsNext number a b c d
+next_if number a b c d some few e =
+    let shape : not (is_one_of_four number a b c d) ≡ not ((a == number) || (b == number) || (c == number) || (d == number)) =
+    three (a == number) (b == number) (c == number) (d == number) in
+    let n = none_of_four (a == number) (b == number) (c == number) (d == number) (sym shape ∙ e) in
+    record {
+      some = some;
+      few = few;
+      first = eqb-false a number n.0;
+      second = eqb-false b number n.1;
+      third = eqb-false c number n.2;
+      fourth = eqb-false d number n.3;
+    }
+  where
+    three : (p q r s : Bool) → not ((p || q || r) || s) ≡ not (p || q || r || s)
+    three true q r s = refl
+    three false true r s = refl
+    three false false true s = refl
+    three false false false s = refl
+
+-- where 1 to 4 are all named, 5 isn't
+fifth : (a b c d : ℕ) → not (is_one_of_four 1 a b c d) ≡ false → not (is_one_of_four 2 a b c d) ≡ false
+    → not (is_one_of_four 3 a b c d) ≡ false → not (is_one_of_four 4 a b c d) ≡ false → IsNext 5 a b c d
+fifth a b c d one two three four = record {
+  some = omega arith;
+  few = omega arith;
+  first = λ e. grind (e, one, two, three, four, arith, nat_tests);
+  second = λ e. grind (e, one, two, three, four, arith, nat_tests);
+  third = λ e. grind (e, one, two, three, four, arith, nat_tests);
+  fourth = λ e. grind (e, one, two, three, four, arith, nat_tests);
+}
+
+next_is_free : (a b c d : ℕ) → IsNext (next_free a b c d) a b c d
+next_is_free a b c d =
+    cond_both (not (is_one_of_four 1 a b c d)) _ _ (λ (n : ℕ). IsNext n a b c d)
+    (next_if 1 a b c d (omega arith) (omega arith))
+    (λ one. cond_both (not (is_one_of_four 2 a b c d)) _ _ (λ (n : ℕ). IsNext n a b c d)
+    (next_if 2 a b c d (omega arith) (omega arith))
+    (λ two. cond_both (not (is_one_of_four 3 a b c d)) _ _ (λ (n : ℕ). IsNext n a b c d)
+    (next_if 3 a b c d (omega arith) (omega arith))
+    (λ three. cond_both (not (is_one_of_four 4 a b c d)) _ _ (λ (n : ℕ). IsNext n a b c d)
+    (next_if 4 a b c d (omega arith) (omega arith)) (λ four. fifth a b c d one two three four))))
+
 -- ---- a JMPL that a word is
 
 pub record IsJmpl (rd rs1 : ℕ) (op2 : Op2) : Type 0 where
   pub apart : IsApart (free_register rd rs1 op2) rd rs1 op2
+  pub other : IsApart (other_register rd rs1 op2) rd rs1 op2
+  pub differ : free_register rd rs1 op2 ≢ other_register rd rs1 op2
   pub fits : op2_fits op2 ≡ true
   pub in_range : op2_in_range op2 ≡ true
 
@@ -76,7 +139,19 @@ jmpl_is word rd rs1 op2 says =
     let more = and_parts (nat_lt rs1 32) (op2_in_range op2) parts.1 in
     let free = first_is_free rd rs1 (second_register op2) in
     let few = free.few in
+    let next = next_is_free rd rs1 (second_register op2) (free_register rd rs1 op2) in
+    let fewer = next.few in
     record {
+      other = record {
+        some = next.some;
+        below = omega (arith, fewer);
+        rd_below = ltb-true rd 32 parts.0;
+        rs1_below = ltb-true rs1 32 more.0;
+        rd_not = next.first;
+        rs1_not = next.second;
+        op2_not = not_in (other_register rd rs1 op2) op2 more.1 next.third;
+      };
+      differ = next.fourth;
       apart = record {
         some = free.some;
         below = omega arith;

@@ -25,13 +25,13 @@ use Rattle.code_runs.specs.StoredWords.{Stores}
 use Rattle.code_runs.specs.TwoRegisters.{IsBetween}
 use Rattle.code_runs.specs.Straight.{StandIn}
 use Rattle.code_runs.proofs.Hops.{equal_or_not}
-use Rattle.code_runs.proofs.Stays.{stores_there}
+use Rattle.code_runs.proofs.Stays.{loads_there, stores_there}
 use Rattle.layout.specs.Laid.{HasShortForms, Placement}
 use Rattle.jump_code.specs.Jumped.{jumped}
-use Rattle.jump_code.specs.Jumps.{IsAboutToJump, jump_image, kept_target}
+use Rattle.jump_code.specs.Finding.{IsAboutToFind, find_image, found_memory}
 use Rattle.jump_code.specs.Links.{link}
 use Rattle.jump_code.specs.PageWords.{IsPageWord}
-use Rattle.jump_code.proofs.Following.{goes, stops, jumps_simulate}
+use Rattle.jump_code.proofs.FindFollowing.{goes, stops, finds_simulate}
 use Rattle.jump_code.proofs.Laid.{pieces_are_laid}
 use Rattle.image_code.specs.Simulates.{Setting, StepsOn, IsOnWay, is_jmpl, at_point, does_at, gone_at, graph_in, number_in, word_of}
 use Rattle.image_code.specs.Images.{Pieces, Frame, Here, IsPlaced, visited_at}
@@ -56,12 +56,12 @@ module _ (g : Setting) (l : Pieces) (base : ℕ) (p : Placement) (place : ℕ �
   after_jump = jumped c.address.0 c.rd c.rs1 c.op2 t
 
   abbrev image : List Instr
-  image = jump_image c.scratch c.rd c.rs1 c.op2 c.address.0
+  image = find_image c.scratch c.second c.rd c.rs1 c.op2 f.halves.base c.address.0
 
-  many : 6 ≤ length image
+  many : 12 ≤ length image
   many = omega arith
 
-  few : length image ≤ 8
+  few : length image ≤ 14
   few = let n = link_few c.rd c.address.0 in omega arith
 
   point_is : at_point x t ≡ moved c.address.0 (wrapped (c.address.0 + 4)) NoSlot t
@@ -77,7 +77,7 @@ module _ (g : Setting) (l : Pieces) (base : ℕ) (p : Placement) (place : ℕ �
   ahead : AtWords g t (place c.piece 1) (length image)
   ahead = at_words g l base p place f h node x t here c.piece c.within c.here image c.address c.way c.items
 
-  about : IsAboutToJump c.scratch c.rd c.rs1 c.op2 c.address.0 t
+  about : IsAboutToFind c.scratch c.second c.rd c.rs1 c.op2 c.address.0 f.halves t
   about =
       let low = ahead.low in
       let n = many in
@@ -86,10 +86,18 @@ module _ (g : Setting) (l : Pieces) (base : ℕ) (p : Placement) (place : ℕ �
         ready = record { live = here.live; npc = ahead.next (omega arith) };
         low = omega arith;
         apart = c.apart;
+        other = c.other;
+        differ = c.differ;
         words = subst (λ z. StandIn (code_of t.memory) z image) (sym ahead.at)
-            ((pieces_are_laid l.list base p place h.laid t.memory here.memory.code c.piece _ c.items).jump
-            c.scratch c.rd c.rs1 c.op2 c.address (number_in g node) c.way c.apart c.fits c.in_range short refl).words;
+            ((pieces_are_laid l.list base p place h.laid t.memory here.memory.code c.piece _ c.items).find
+            c.scratch c.second c.rd c.rs1 c.op2 f.halves.base c.address (number_in g node) c.way c.apart c.other c.fits
+            c.in_range (let below = h.frame.whole.below in omega (arith, below)) short refl).words;
         short = short;
+        table = h.frame.whole;
+        stands = record {
+          readable = λ z from to aligned. loads_there z false t.memory (here.memory.table z from to aligned).0;
+          same = λ z from to aligned. (here.memory.table z from to aligned).1;
+        };
         page = λ n below. stores_there (page_word n) t.memory
             (here.memory.ours.words (page_word n) (h.frame.page n (omega (arith, below))));
       }
@@ -102,8 +110,8 @@ module _ (g : Setting) (l : Pieces) (base : ℕ) (p : Placement) (place : ℕ �
     where
       go : (sum_of t c.rs1 c.op2 % 4 ≡ 0) ⊎ (sum_of t c.rs1 c.op2 % 4 ≢ 0)
           → after_jump.memory ≡ t.memory
-      go (inl e) = ap (λ (z : State). z.memory) (goes c.scratch c.rd c.rs1 c.op2 c.address.0 t about e)
-      go (inr ne) = ap (λ (z : State). z.memory) (stops c.scratch c.rd c.rs1 c.op2 c.address.0 t about ne)
+      go (inl e) = ap (λ (z : State). z.memory) (goes c.scratch c.second c.rd c.rs1 c.op2 c.address.0 f.halves t about e)
+      go (inr ne) = ap (λ (z : State). z.memory) (stops c.scratch c.second c.rd c.rs1 c.op2 c.address.0 f.halves t about ne)
 
   -- a JMPL goes on to a multiple of 4
   aligned : after_jump.ending ≡ None → after_jump.npc % 4 ≡ 0
@@ -111,9 +119,9 @@ module _ (g : Setting) (l : Pieces) (base : ℕ) (p : Placement) (place : ℕ �
     where
       go : (sum_of t c.rs1 c.op2 % 4 ≡ 0) ⊎ (sum_of t c.rs1 c.op2 % 4 ≢ 0)
           → after_jump.npc % 4 ≡ 0
-      go (inl e) = ap (λ (z : State). z.npc % 4) (goes c.scratch c.rd c.rs1 c.op2 c.address.0 t about e) ∙ e
+      go (inl e) = ap (λ (z : State). z.npc % 4) (goes c.scratch c.second c.rd c.rs1 c.op2 c.address.0 f.halves t about e) ∙ e
       go (inr ne) =
-          let over = ap (λ (z : State). z.ending) (stops c.scratch c.rd c.rs1 c.op2 c.address.0 t about ne) in
+          let over = ap (λ (z : State). z.ending) (stops c.scratch c.second c.rd c.rs1 c.op2 c.address.0 f.halves t about ne) in
           absurd (cc)
 
   -- one that ends the run changes nothing else
@@ -124,11 +132,11 @@ module _ (g : Setting) (l : Pieces) (base : ℕ) (p : Placement) (place : ℕ �
       go : (sum_of t c.rs1 c.op2 % 4 ≡ 0) ⊎ (sum_of t c.rs1 c.op2 % 4 ≢ 0) → after_jump
           ≡ record (moved c.address.0 (wrapped (c.address.0 + 4)) NoSlot t) { ending = Some d }
       go (inl e) =
-          let live = ap (λ (z : State). z.ending) (goes c.scratch c.rd c.rs1 c.op2 c.address.0 t about e)
+          let live = ap (λ (z : State). z.ending) (goes c.scratch c.second c.rd c.rs1 c.op2 c.address.0 f.halves t about e)
           ∙ here.live in
           absurd (cc)
       go (inr ne) =
-          let end = stops c.scratch c.rd c.rs1 c.op2 c.address.0 t about ne in
+          let end = stops c.scratch c.second c.rd c.rs1 c.op2 c.address.0 f.halves t about ne in
           end
           ∙ ap (λ (z : Option Ending). record (moved c.address.0 (wrapped (c.address.0 + 4)) NoSlot t) { ending = z })
           (sym (ap (λ (z : State). z.ending) end) ∙ is)
@@ -147,18 +155,18 @@ module _ (g : Setting) (l : Pieces) (base : ℕ) (p : Placement) (place : ℕ �
       (point_of after_jump))
       → StepsOn g (Here g l base p f) (HasShortForms l.list place) edges node x t after_jump
   going edges last live leads =
-      let on = (jumps_simulate c.scratch c.rd c.rs1 c.op2 c.address.0 t about).0 live in
+      let on = (finds_simulate c.scratch c.second c.rd c.rs1 c.op2 c.address.0 f.halves t about).0 live in
       let n = many in
       goes_through g l base p place f h node x t here c.piece c.within c.here image c.address c.way c.items
-      after_jump (kept_target t c.scratch c.rs1 c.op2) edges last (omega arith) few
+      after_jump (found_memory t c.scratch c.second c.rs1 c.op2 f.halves) edges last (omega arith) few
       (record {
         path = on.path;
         silent = on.silent;
-        stores = subst (λ (z : Memory). Stores IsPageWord z (kept_target t c.scratch c.rs1 c.op2)) memory_is on.stores;
+        stores = subst (λ (z : Memory). Stores IsPageWord z (found_memory t c.scratch c.second c.rs1 c.op2 f.halves)) memory_is on.stores;
         live = live;
         memory = memory_is;
         quiet = quiet;
-        waits = λ _ _. (on.waits, aligned live);
+        waits = λ _ _. (on.waits, aligned live, λ _. on.found);
         transfer = transfers g.text x.pc c.word c.is_word (ap is_transfer c.says);
         two = λ other. absurd (jumping other);
         stored = λ other. absurd (jumping other);
@@ -166,14 +174,14 @@ module _ (g : Setting) (l : Pieces) (base : ℕ) (p : Placement) (place : ℕ �
 
   ends : (d : Ending) → after_jump.ending ≡ Some d → StepsOn g (Here g l base p f) (HasShortForms l.list place) [] node x t after_jump
   ends d over =
-      let end = (jumps_simulate c.scratch c.rd c.rs1 c.op2 c.address.0 t about).1 d over in
+      let end = (finds_simulate c.scratch c.second c.rd c.rs1 c.op2 c.address.0 f.halves t about).1 d over in
       let traps = end.traps in
       let same = only_ends d over in
       let n = many in
       let pc = traps.pc in
-      let valid : IsValid traps.after = subst IsValid traps.path.steps (run-valid t 5 here.valid) in
+      let valid : IsValid traps.after = subst IsValid traps.path.steps (run-valid t 10 here.valid) in
       record {
-        count = 5;
+        count = 10;
         after = traps.after;
         path = record {
           steps = traps.path.steps;
@@ -201,13 +209,13 @@ module _ (g : Setting) (l : Pieces) (base : ℕ) (p : Placement) (place : ℕ �
         sparing = λ watched. absurd (jumping watched.jump);
       }
     where
-      on_way : (run t 4).ending ≡ None → (j : ℕ) → 0 < j → j < 5 → IsBetween t 6 IsPageWord (run t j)
+      on_way : (run t 9).ending ≡ None → (j : ℕ) → 0 < j → j < 10 → IsBetween t 10 IsPageWord (run t j)
           → IsOnWay g t (run t j)
       on_way live j some below between =
           let n = many in
           let before = between.before in
           ahead.on (run t j)
-          (live_before t (4 - j) j (ap (λ z. (run t z).ending) (let e : 4 - j + j ≡ 4 = omega arith in e) ∙ live))
+          (live_before t (9 - j) j (ap (λ z. (run t z).ending) (let e : 9 - j + j ≡ 9 = omega arith in e) ∙ live))
           between.past (omega arith) between.stores
 
   steps : (e : Option Ending) → after_jump.ending ≡ e

@@ -1,9 +1,9 @@
--- The way along the edge of a JMPL: the copy of its slot's word, the snippet, and the look-up, which leads to a landing or to
+-- The way along the edge of a JMPL: the copy of its slot's word, the snippet, and the jump to what was found, a landing or
 -- the foreign piece.
-use Rattle.std.proofs.Common.{◌≡◌, ℕ, ◌+◌, ◌*◌, ◌%◌, ◌^◌, ◌<◌, ◌≤◌, inl, inr, true, false, Option, Some, None, List, [], ◌∷◌, ◌++◌, length, map, append-nil, refl, ap, sym, ◌∙◌, subst, arith}
-use Rattle.std.specs.Prelude.{slice_get}
+use Rattle.std.proofs.Common.{◌≡◌, ◌≢◌, ℕ, ◌+◌, ◌%◌, ◌^◌, ◌<◌, ◌≤◌, ◌⊎◌, inl, inr, true, ◌&&◌, Option, Some, None, List, [], ◌∷◌, ◌++◌, length, append-nil, refl, ap, sym, ◌∙◌, subst, arith}
+use Rattle.std.specs.Prelude.{nat_lt, slice_get, slice_index}
+use Rattle.std.specs.Option.{option_map}
 use Rattle.std.specs.List.{flat_map}
-use Rattle.std.proofs.lemmas.Bool.{cases_lt}
 use Rattle.eel_base.specs.CodeText.{word_at}
 use Rattle.v8_decode.specs.Words.{decode_of}
 use Rattle.v8_memory.specs.Regions.{code_of}
@@ -21,154 +21,93 @@ use Rattle.code_runs.specs.Hops.{hopped}
 use Rattle.code_runs.specs.Leads.{Leads}
 use Rattle.code_runs.specs.Page.{page_word}
 use Rattle.code_runs.specs.StoredWords.{CanStore, store_word}
-use Rattle.code_runs.specs.Straight.{HasWords, StandIn}
+use Rattle.code_runs.specs.Straight.{StandIn}
 use Rattle.code_runs.proofs.Leads.{leads_weaker}
 use Rattle.code_runs.proofs.StoredWords.{other_word_stored}
-use Rattle.code_runs.proofs.Stays.{loads_there, stores_there, words_stay}
-use Rattle.addr_translate.specs.Lookup.{looked_up}
-use Rattle.addr_translate.specs.Translator.{StandsAt}
+use Rattle.code_runs.proofs.Stays.{stores_there, words_stay}
+use Rattle.addr_translate.specs.Halves.{found_in}
+use Rattle.jump_code.specs.Finding.{IsAboutToGoOn, go_found}
 use Rattle.jump_code.specs.Leaving.{IsAboutToLeave, foreign}
-use Rattle.jump_code.specs.LookUps.{IsAboutToLookUp, LooksUp, look_up_first, look_up_last, looked_memory}
-use Rattle.jump_code.specs.PageWords.{IsPageWord, waiting}
+use Rattle.jump_code.specs.PageWords.{IsPageWord, found_there, waiting}
 use Rattle.jump_code.specs.Pieces.{foreign_piece, word_items}
-use Rattle.jump_code.proofs.Fitting.{words_mean}
+use Rattle.jump_code.proofs.FindFollowing.{found_hops}
+use Rattle.jump_code.proofs.Fitting.{Fit, lt, words_mean}
 use Rattle.jump_code.proofs.Leaving.{foreign_leaves}
-use Rattle.jump_code.proofs.LookingUp.{look_ups_hop}
 use Rattle.layout.specs.declared.items.Item.{Item}
 use Rattle.layout.specs.declared.items.Item.TheVariants as it
 use Rattle.layout.specs.Emitting.{words_of}
 use Rattle.layout.specs.Laid.{Placement}
-use Rattle.image_code.specs.Simulates.{NoneIsOut, Setting, at_point, does_at, gone_at, graph_in, number_in}
+use Rattle.image_code.specs.Simulates.{NoneIsOut, Setting, at_point, does_at, gone_at, graph_in, number_in, operations_on}
 use Rattle.image_code.specs.Images.{Pieces, Frame, Here, IsPlaced, visited_by}
-use Rattle.image_code.specs.Cases.{next_visit, words_on}
+use Rattle.image_code.specs.Cases.{LeadsTo, next_visit, words_on}
 use Rattle.image_code.specs.Landings.{IsJumpsSlot, JumpSlotsStep, Lands}
-use Rattle.image_code.proofs.Arrives.{AreUnmarked, Arrives, IsBare, IsFit, Rest, Stood, arrive, arrived, length_words, on_then, rest_behind, rest_marked, rest_whole, second_there, snippets_run, unwatched, stood, stood_low, weaker_arrives, words_unmarked}
+use Rattle.image_code.proofs.Arrives.{Arrives, IsBare, IsFit, Rest, arrive, arrived, bare_here, length_words, on_then, rest_behind, rest_marked, rest_whole, second_there, snippets_run, unwatched, stood, stood_low, weaker_arrives, words_unmarked}
 use Rattle.image_code.proofs.Cases.{IsMarkedWord, judged_moved, marked_step}
 use Rattle.image_code.proofs.Cells.{cells_above, page_above}
 use Rattle.image_code.proofs.Dead.{alike_itself}
 use Rattle.image_code.proofs.Through.{own_stored}
 
--- the words of a look-up
-abbrev looking : List ℕ → List Item
-looking translator = word_items look_up_first ++ (map it.Word translator ++ word_items look_up_last)
+-- the jump to what was found
+abbrev going_on : ℕ → List Item
+going_on through = word_items (go_found through)
 
-looking_unmarked : (translator : List ℕ) → AreUnmarked (looking translator)
-looking_unmarked translator =
-    words_unmarked (words_of look_up_first) (map it.Word translator ++ word_items look_up_last)
-    (words_unmarked translator (word_items look_up_last) (tt, (tt, (tt, tt))))
+found_fits : (through : ℕ) → through < 32 → Fit (go_found through)
+found_fits through below =
+    let low = lt through 32 below in
+    let alone : (nat_lt through 32 && true) ≡ true = ap (λ z. z && true) low in
+    (alone, refl, (alone, refl, (alone, refl, tt)))
 
 module _ (g : Setting) (l : Pieces) (base : ℕ) (p : Placement) (place : ℕ → ℕ → ℕ) (f : Frame)
     (h : IsPlaced g l base p place f) where
-  page_there : (a : State) → IsFit g l base p place f h a → (n : ℕ) → n < 4
+  page_there : (a : State) → IsFit g l base p place f h a → (n : ℕ) → n < 8
       → CanStore a.memory (page_word n)
   page_there a fit n few =
       stores_there (page_word n) a.memory (fit.has.ours.words (page_word n) (h.frame.page n (omega (arith, few))))
 
-  -- the table in memory
-  table_there : (a : State) → IsFit g l base p place f h a → StandsAt a.memory f.table
-  table_there a fit = record {
-    readable = λ z from to aligned. loads_there z false a.memory (fit.has.table z from to aligned).0;
-    same = λ z from to aligned. (fit.has.table z from to aligned).1;
-  }
+  -- ---- the jump to what was found
 
-  -- ---- the look-up
-
-  module _ (node : Node) (x : Point) (t : State) (c : IsJumpsSlot g l p f node x t) where
-    module _ (k n : ℕ) (r : Rest l k n (looking c.translator)) (a : State) (fit : IsFit g l base p place f h a)
-        (at : a.pc ≡ place k n) where
-      one : Stood g l base p place f h a.memory k n (words_of look_up_first)
-      one = stood g l base p place f h a.memory fit.has.code k n (words_of look_up_first)
-          (map it.Word c.translator ++ word_items look_up_last) r
-
-      second : Rest l k (n + 3) (map it.Word c.translator ++ word_items look_up_last)
-      second = rest_behind l k n (word_items look_up_first) (map it.Word c.translator ++ word_items look_up_last) r
-
-      two : Stood g l base p place f h a.memory k (n + 3) c.translator
-      two = stood g l base p place f h a.memory fit.has.code k (n + 3) c.translator (word_items look_up_last) second
-
-      third : Rest l k (n + 3 + 12) (word_items look_up_last ++ [])
-      third =
-          subst (λ z. Rest l k (n + 3 + 12) z) (sym (append-nil (word_items look_up_last)))
-          (subst (λ z. Rest l k (n + 3 + z) (word_items look_up_last)) (length_words c.translator ∙ c.twelve)
-          (rest_behind l k (n + 3) (map it.Word c.translator) (word_items look_up_last) second))
-
-      three : Stood g l base p place f h a.memory k (n + 3 + 12) (words_of look_up_last)
-      three = stood g l base p place f h a.memory fit.has.code k (n + 3 + 12) (words_of look_up_last) [] third
-
-      second_at : place k (n + 3) ≡ place k n + 12
-      second_at = let e = one.end in omega (arith, e)
-
-      third_at : place k (n + 3 + 12) ≡ place k n + 60
-      third_at =
-          let e : place k (n + 3 + 12) ≡ place k (n + 3) + 4 * 12 =
-          subst (λ z. place k (n + 3 + z) ≡ place k (n + 3) + 4 * z) c.twelve two.end in
-          let s = second_at in
-          omega (arith, e, s)
-
-      looking_bare : (u : State) → a.pc ≤ u.pc → u.pc < a.pc + 4 * 18 → IsBare g l base p place f h u
-      looking_bare u from to =
-          let s = second_at in
-          let q = third_at in
-          let many = c.twelve in
-          elim (cases_lt u.pc (place k (n + 3))) [
-            | inl first ↦ one.bare u (omega (arith, at, from)) (omega (arith, first, s))
-            | inr past ↦ elim (cases_lt u.pc (place k (n + 3 + 12))) [
-              | inl middle ↦ two.bare u past (omega (arith, middle, s, q, many))
-              | inr last ↦ three.bare u last (omega (arith, to, at, q))
-            ]
-          ]
-
-      about : looked_up f.table (waiting a) % 4 ≡ 0 → IsAboutToLookUp c.translator f.table a
-      about aligned =
-          let s = second_at in
-          let q = third_at in
-          let end = three.end in
-          let low = stood_low g l base p place f h k (n + 3 + 12) (words_of look_up_last) [] third in
-          record {
-            valid = fit.valid;
-            ready = fit.runs.ready;
-            low = omega (arith, at, q, end, low);
-            first = subst (λ z. StandIn (code_of a.memory) z look_up_first) (sym at)
-                (words_mean (code_of a.memory) (place k n) look_up_first (refl, refl, (refl, refl, (refl, refl, tt)))
-                one.words);
-            middle = subst (λ z. HasWords (code_of a.memory) z c.translator)
-                (let e : place k (n + 3) ≡ a.pc + 12 = omega (arith, s, at) in e) two.words;
-            last = subst (λ z. StandIn (code_of a.memory) z look_up_last)
-                (let e : place k (n + 3 + 12) ≡ a.pc + 60 = omega (arith, q, at) in e)
-                (words_mean (code_of a.memory) (place k (n + 3 + 12)) look_up_last
-                (refl, refl, (refl, refl, (refl, refl, tt))) three.words);
-            table = c.table;
-            stands = table_there a fit;
-            page = page_there a fit;
-            aligned = aligned;
-          }
-
-      pub looks_up : (target : ℕ) → waiting a ≡ target → looked_up f.table target % 4 ≡ 0
-          → Arrives g l base p place f h None [] a (looked_up f.table target) 18
-      looks_up target waits aligned =
-          let looks : LooksUp f.table a =
-          look_ups_hop c.translator f.table a c.translates (about (ap (λ z. looked_up f.table z % 4) waits ∙ aligned)) in
-          let stores = looks.hops.stores in
-          record {
-            count = 18;
-            other = a;
-            memory = looked_memory a;
-            few = omega arith;
-            path = subst (λ z. Leads (IsBare g l base p place f h) a (hopped a (looked_up f.table z) (looked_memory a)) 18)
-                waits (leads_weaker _ (IsBare g l base p place f h) a _ 18
-                (λ u q. let b = q.past in let d = q.before in looking_bare u (omega (arith, b)) d) looks.hops.path);
-            silent = looks.hops.silent;
-            stores = own_stored g f h.frame a.memory (looked_memory a) stores;
-            waits = looks.target;
-            cells = λ _. cells_above g l f h.frame h.cells IsPageWord page_above a.memory (looked_memory a) fit.has.ours
-                stores;
-            begins = λ _. looking_bare a (omega arith) (omega arith);
-            alike = alike_itself g [] a;
-            still = λ _. refl;
-            spares = λ there. absurd (there refl);
-            leaves_first = λ there _. absurd (there refl);
-            brief = λ there _. absurd (there refl);
-          }
+  goes_found : (through k n : ℕ) → 0 < through → through < 32 → Rest l k n (going_on through) → (a : State)
+      → IsFit g l base p place f h a → a.pc ≡ place k n → (to : ℕ) → found_there a ≡ to → to % 4 ≡ 0
+      → Arrives g l base p place f h None [] a to 3
+  goes_found through k n some below rest a fit at to found aligned =
+      let r : Rest l k n (going_on through ++ []) = subst (Rest l k n) (sym (append-nil (going_on through))) rest in
+      let there = stood g l base p place f h a.memory fit.has.code k n (words_of (go_found through)) [] r in
+      let end = there.end in
+      let low = stood_low g l base p place f h k n (words_of (go_found through)) [] r in
+      let about : IsAboutToGoOn through a = record {
+        valid = fit.valid;
+        ready = fit.runs.ready;
+        low = omega (arith, at, end, low);
+        some = some;
+        below = below;
+        words = subst (λ z. StandIn (code_of a.memory) z (go_found through)) (sym at)
+            (words_mean (code_of a.memory) (place k n) (go_found through) (found_fits through below) there.words);
+        page = page_there a fit;
+        aligned = ap (λ z. z % 4) found ∙ aligned;
+      } in
+      let hops = found_hops through a about in
+      let left = store_word a.memory (page_word 7) (register_of a through) in
+      record {
+        count = 3;
+        other = a;
+        memory = left;
+        few = omega arith;
+        path = subst (λ z. Leads (IsBare g l base p place f h) a (hopped a z left) 3) found (leads_weaker _ (IsBare g l base p place f h) a _ 3
+            (λ u q. let b = q.past in let d = q.before in there.bare u (omega (arith, at, b)) (omega (arith, at, d)))
+            hops.path);
+        silent = hops.silent;
+        stores = own_stored g f h.frame a.memory left hops.stores;
+        waits = other_word_stored a.memory (page_word 1) (page_word 7) (register_of a through)
+            (second_there g l base p place f h a fit) (inl (omega arith));
+        found = λ there. absurd (there refl);
+        cells = λ _. cells_above g l f h.frame h.cells IsPageWord page_above a.memory left fit.has.ours hops.stores;
+        begins = λ _. there.bare a (omega (arith, at)) (omega (arith, at));
+        alike = alike_itself g [] a;
+        still = λ _. refl;
+        spares = λ there. absurd (there refl);
+        leaves_first = λ there _. absurd (there refl);
+        brief = λ there _. absurd (there refl);
+      }
 
   -- ---- the foreign piece
 
@@ -206,6 +145,7 @@ module _ (g : Setting) (l : Pieces) (base : ℕ) (p : Placement) (place : ℕ �
         stores = own_stored g f h.frame a.memory left hops.stores;
         waits = other_word_stored a.memory (page_word 1) (page_word 2) (register_of a 1) (second_there g l base p place f h a fit)
             (inl (omega arith));
+        found = λ there. absurd (there refl);
         cells = λ _. cells_above g l f h.frame h.cells IsPageWord page_above a.memory left fit.has.ours hops.stores;
         begins = λ _. there.bare a (omega (arith, at)) (omega (arith, at));
         alike = alike_itself g [] a;
@@ -227,41 +167,56 @@ module _ (g : Setting) (l : Pieces) (base : ℕ) (p : Placement) (place : ℕ �
         (h.frame.own.within (page_word 1) own) apart (here.memory.ours.words (page_word 1) own)).1
         ∙ (here.waits c.slot c.out).0
 
-    rest : Rest l c.piece 3 (words_on l (c.edge ∷ []) ++ looking c.translator)
-    rest = rest_marked l c.piece c.address (number_in g node) (it.Word c.word)
-        (words_on l (c.edge ∷ []) ++ looking c.translator)
-        (words_unmarked (flat_map l.codes (c.edge ∷ [])) (looking c.translator) (looking_unmarked c.translator)) c.items
+    -- so does what was found
+    found_waits : found_there (act t (decode_of c.word)) ≡ found_in f.halves x.npc
+    found_waits =
+        let own = h.frame.page 7 (omega arith) in
+        (words_stay (pages_of g.notes) (page_word 7) true t (decode_of c.word)
+        (h.frame.own.within (page_word 7) own) apart (here.memory.ours.words (page_word 7) own)).1
+        ∙ (here.waits c.slot c.out).2 (there (word_at g.text x.pc) c.is_word)
+      where
+        there : (o : Option ℕ) → option_map (λ word. slice_index g.text.words word) o ≡ Some c.word → o ≢ None
+        there None e = λ _. cc
+        there (Some word) e = λ q. cc
 
-    -- through the snippet and the look-up to what the table has, and on from there
+    rest : Rest l c.piece 3 (words_on l (c.edge ∷ []) ++ going_on c.through)
+    rest = rest_marked l c.piece c.address (number_in g node) (it.Word c.word)
+        (words_on l (c.edge ∷ []) ++ going_on c.through)
+        (words_unmarked (flat_map l.codes (c.edge ∷ [])) (going_on c.through) (tt, (tt, (tt, tt)))) c.items
+
+    -- through the snippet and the jump to what was found, and on from there
     onward : (to : ℕ) → IsFit g l base p place f h (act t (decode_of c.word))
-        → (act t (decode_of c.word)).pc ≡ place c.piece 3 → looked_up f.table x.npc % 4 ≡ 0
-        → looked_up f.table x.npc ≤ 2 ^ 31
-        → ((b : State) → IsFit g l base p place f h b → b.pc ≡ looked_up f.table x.npc → waiting b ≡ x.npc
+        → (act t (decode_of c.word)).pc ≡ place c.piece 3 → found_in f.halves x.npc % 4 ≡ 0
+        → found_in f.halves x.npc ≤ 2 ^ 31
+        → ((b : State) → IsFit g l base p place f h b → b.pc ≡ found_in f.halves x.npc → waiting b ≡ x.npc
         → Arrives g l base p place f h None c.landing b to 4)
         → Arrives g l base p place f h None (c.edge ∷ c.landing) (act t (decode_of c.word)) to 24
+    unfolding unwatched
     onward to fit at aligned low_there behind =
         let a : State = act t (decode_of c.word) in
         let edges = c.edge ∷ [] in
-        let one = snippets_run g l base p place f h None (c.edge ∷ []) c.piece 3 (looking c.translator) rest
-        (act t (decode_of c.word)) fit at in
         let n = 3 + length (flat_map l.codes (c.edge ∷ [])) in
         let mid = place c.piece (3 + length (flat_map l.codes (c.edge ∷ []))) in
-        let low = stood_low g l base p place f h c.piece 3 (flat_map l.codes (c.edge ∷ [])) (looking c.translator) rest in
-        let b : State = hopped one.other mid one.memory in
-        let fit2 : IsFit g l base p place f h (hopped one.other mid one.memory) =
-        arrived g l base p place f h (c.edge ∷ []) (act t (decode_of c.word)) mid 0 fit low one in
-        let r2 : Rest l c.piece (3 + length (flat_map l.codes (c.edge ∷ []))) (looking c.translator) =
-        subst (λ z. Rest l c.piece (3 + z) (looking c.translator)) (length_words (flat_map l.codes (c.edge ∷ [])))
-        (rest_behind l c.piece 3 (words_on l (c.edge ∷ [])) (looking c.translator) rest) in
-        let two = looks_up node x t c c.piece n r2 b fit2 refl x.npc (one.waits ∙ target_waits) aligned in
-        let there = looked_up f.table x.npc in
+        let way = snippets_run g l base p place f h (Some 0) (c.edge ∷ []) c.piece 3 (going_on c.through) rest
+        (act t (decode_of c.word)) fit at in
+        let one = unwatched g l base p place f h (Some 0) (c.edge ∷ []) a mid 0 way in
+        let low = stood_low g l base p place f h c.piece 3 (flat_map l.codes (c.edge ∷ [])) (going_on c.through) rest in
+        let b : State = hopped way.other mid way.memory in
+        let fit2 : IsFit g l base p place f h (hopped way.other mid way.memory) =
+        arrived g l base p place f h (c.edge ∷ []) (act t (decode_of c.word)) mid 0 fit low way in
+        let r2 : Rest l c.piece (3 + length (flat_map l.codes (c.edge ∷ []))) (going_on c.through) =
+        subst (λ z. Rest l c.piece (3 + z) (going_on c.through)) (length_words (flat_map l.codes (c.edge ∷ [])))
+        (rest_behind l c.piece 3 (words_on l (c.edge ∷ [])) (going_on c.through) rest) in
+        let there = found_in f.halves x.npc in
+        let two = goes_found c.through c.piece n c.some c.below r2 b fit2 refl there (way.found (λ e. cc) ∙ found_waits)
+        aligned in
         let fit3 : IsFit g l base p place f h (hopped two.other there two.memory) =
-        arrived g l base p place f h [] b there 18 fit2 low_there two in
-        let three = behind (hopped two.other there two.memory) fit3 refl (two.waits ∙ one.waits ∙ target_waits) in
-        let both : Arrives g l base p place f h None c.landing b to (18 + 4) =
-        on_then g l base p place f h c.landing [] c.landing refl b there to 18 4 two three in
-        weaker_arrives g l base p place f h (c.edge ∷ c.landing) a to (0 + (18 + 4)) 24 (omega arith)
-        (on_then g l base p place f h (c.edge ∷ c.landing) (c.edge ∷ []) c.landing refl a mid to 0 (18 + 4) one both)
+        arrived g l base p place f h [] b there 3 fit2 low_there two in
+        let three = behind (hopped two.other there two.memory) fit3 refl (two.waits ∙ way.waits ∙ target_waits) in
+        let both : Arrives g l base p place f h None c.landing b to (3 + 4) =
+        on_then g l base p place f h c.landing [] c.landing refl b there to 3 4 two three in
+        weaker_arrives g l base p place f h (c.edge ∷ c.landing) a to (0 + (3 + 4)) 24 (omega arith)
+        (on_then g l base p place f h (c.edge ∷ c.landing) (c.edge ∷ []) c.landing refl a mid to 0 (3 + 4) one both)
 
     lands : (to : ℕ) → IsFit g l base p place f h (act t (decode_of c.word))
         → (act t (decode_of c.word)).pc ≡ place c.piece 3 → Lands g l p f c.landing x.npc to
@@ -269,14 +224,23 @@ module _ (g : Setting) (l : Pieces) (base : ℕ) (p : Placement) (place : ℕ �
         → Arrives g l base p place f h None (c.edge ∷ c.landing) (act t (decode_of c.word)) to 24
     lands to fit at (inl (piece, within, found, leads)) out =
         let place_there = h.laid.aligned piece.0 in
-        let multiple : looked_up f.table x.npc % 4 ≡ 0 = ap (λ z. z % 4) found ∙ place_there.0 in
+        let multiple : found_in f.halves x.npc % 4 ≡ 0 = ap (λ z. z % 4) found ∙ place_there.0 in
         let low = place_there.1 in
-        onward to fit at multiple (omega (arith, found, low)) (λ b fit2 there waits.
-        unwatched g l base p place f h (word_at g.text x.npc) c.landing b to 4
-        (arrive g l base p place f h piece c.landing b (word_at g.text x.npc) to fit2 (there ∙ found) leads))
+        onward to fit at multiple (omega (arith, found, low)) (λ b fit2 there waits. by b fit2 (there ∙ found) leads)
+      where
+        by : (b : State) → IsFit g l base p place f h b → b.pc ≡ slice_index p.at piece.0
+            → LeadsTo l p piece c.landing (word_at g.text x.npc) to
+            ⊎ ((operations_on g.snips c.landing ≡ 0) × (slice_index p.at piece.0 ≡ to))
+            → Arrives g l base p place f h None c.landing b to 4
+        by b fit2 there (inl leads) =
+            unwatched g l base p place f h (word_at g.text x.npc) c.landing b to 4
+            (arrive g l base p place f h piece c.landing b (word_at g.text x.npc) to fit2 there leads)
+        by b fit2 there (inr (none, e)) =
+            let low = (h.laid.aligned piece.0).1 in
+            bare_here g l base p place f h c.landing b to 4 none fit2.runs (there ∙ e) (omega (arith, there, low))
     lands to fit at (inr (no_landing, (piece, within, found, is, none))) out =
         let place_there = h.laid.aligned piece.0 in
-        let multiple : looked_up f.table x.npc % 4 ≡ 0 = ap (λ z. z % 4) found ∙ place_there.0 in
+        let multiple : found_in f.halves x.npc % 4 ≡ 0 = ap (λ z. z % 4) found ∙ place_there.0 in
         let low = place_there.1 in
         onward to fit at multiple (omega (arith, found, low)) (λ b fit2 there waits.
         subst (λ z. Arrives g l base p place f h None z b to 4) (sym no_landing)

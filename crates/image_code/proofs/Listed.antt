@@ -16,7 +16,7 @@ use Rattle.cfg_walk.specs.Walk.{same_kind}
 use Rattle.cfg_walk.proofs.Lists.{each, each-map, each_at}
 use Rattle.jump_code.specs.Pieces.{foreign_piece}
 use Rattle.layout.specs.declared.items.Item.{Item}
-use Rattle.image_code.specs.Made.{foreign_number, image, landing, landing_number, own_edges, piece_list, way_along, ways_from}
+use Rattle.image_code.specs.Made.{foreign_number, image, jumps_at, landing, landing_number, own_edges, piece_list, way_along, ways_from}
 
 get_first : {A : Type 0} (xs ys : List A) (n : ℕ) (x : A) → slice_get xs n ≡ Some x → slice_get (xs ++ ys) n ≡ Some x
 get_first [] ys n x e = absurd (cc)
@@ -63,7 +63,7 @@ way_among text graph table codes number (suc k) (other ∷ edges) edge e =
 
 module _ (text : Words) (graph : Graph) (table : ℕ) (codes : ℕ → List ℕ) where
   abbrev images : List (List Item)
-  images = map (image text graph codes) (below (length text.words))
+  images = map (image text graph (jumps_at text table) codes) (below (length text.words))
 
   abbrev ways : List (List Item)
   ways = ways_from text graph table codes 0 (own_edges graph)
@@ -72,7 +72,7 @@ module _ (text : Words) (graph : Graph) (table : ℕ) (codes : ℕ → List ℕ)
   landings = map (landing text graph codes) (below (length text.words))
 
   images_end : length images ≡ length text.words
-  images_end = length-map (below (length text.words)) (image text graph codes) ∙ length-below (length text.words)
+  images_end = length-map (below (length text.words)) (image text graph (jumps_at text table) codes) ∙ length-below (length text.words)
 
   pub ways_end : length (images ++ ways) ≡ length text.words + length (own_edges graph)
   ways_end =
@@ -93,12 +93,12 @@ module _ (text : Words) (graph : Graph) (table : ℕ) (codes : ℕ → List ℕ)
       length-append (images ++ ways ++ landings) (foreign_piece ∷ []) ∙ ap (λ n. n + 1) landings_end
 
   pub image_at : (word : ℕ) → word < length text.words
-      → slice_get (piece_list text graph table codes) word ≡ Some (image text graph codes word)
+      → slice_get (piece_list text graph table codes) word ≡ Some (image text graph (jumps_at text table) codes word)
   unfolding piece_list
   image_at word l =
       get_first _ _ word _ (get_first _ _ word _ (get_first _ _ word _
-      (slice_get-map (image text graph codes) (below (length text.words)) word
-      ∙ ap (option_map (image text graph codes)) (get_below (length text.words) word l))))
+      (slice_get-map (image text graph (jumps_at text table) codes) (below (length text.words)) word
+      ∙ ap (option_map (image text graph (jumps_at text table) codes)) (get_below (length text.words) word l))))
 
   pub way_at : (number : ℕ) (edge : Edge) → slice_get (own_edges graph) number ≡ Some edge
       → slice_get (piece_list text graph table codes) (length text.words + number)

@@ -32,7 +32,7 @@ use Rattle.image_code.proofs.SlotCopies.{copy_case}
 use Rattle.image_code.proofs.Visited.{l, on_its_way, way_in}
 
 module _ (g : Setting) (codes : ℕ → List ℕ) (is : IsText g.text) (p : Placement) (f : Frame) (base : ℕ)
-    (place : ℕ → ℕ → ℕ) (laid : IsLaid (l g codes is p f).list base p place) (tables : IsTableFor g.text (graph_in g) p f.table)
+    (place : ℕ → ℕ → ℕ) (laid : IsLaid (l g codes is p f).list base p place) (tables : IsTableFor g.text (graph_in g) g.snips p f.table f.halves)
     (below : f.table.base < base) (noted : IsOffNoted g f.table.base) where
   -- at a word, outside a slot
   by_instr : (node : Node) (x : Point) (t : State) (word : ℕ) → word_at g.text x.pc ≡ Some word → x.slot ≡ NoSlot
@@ -44,7 +44,7 @@ module _ (g : Setting) (codes : ℕ → List ℕ) (is : IsText g.text) (p : Plac
   by_instr node x t word at none held npc live (i.Call disp) says =
       call (call_is g codes is p f tables.whole node x word at none held npc t disp says live)
   by_instr node x t word at none held npc live (i.Jmpl rd rs1 op2) says =
-      jump (jump_is g codes is p f tables.whole node x word at none held npc t rd rs1 op2 says)
+      jump (jump_is g codes is p f tables.whole node x word at none held npc t tables.behind rd rs1 op2 says)
   by_instr node x t word at none held npc live instr says =
       plain (plain_is g codes is p f base place laid node x t word at none held npc (ap is_transfer says))
 

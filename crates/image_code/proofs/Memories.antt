@@ -47,18 +47,18 @@ table_beside table m b v apart has a from to aligned =
     apart_word (inr above) = inl (omega arith)
 
 module _ (g : Setting) (f : Frame) (framed : IsFramed g f) where
-  table_after_all : (ws : List (ℕ × ℕ)) (m : Memory) → AllAt (IsAmongWords f.own) ws → HasTable f.table m
-      → HasTable f.table (store_all ws m)
+  table_after_all : (ws : List (ℕ × ℕ)) (m : Memory) → AllAt (IsAmongWords f.own) ws → HasTable f.halves m
+      → HasTable f.halves (store_all ws m)
   table_after_all [] m each has = has
   table_after_all (w ∷ ws) m each has =
-      table_after_all ws (store_word m w.0 w.1) each.1 (table_beside f.table m w.0 w.1 (framed.apart w.0 each.0) has)
+      table_after_all ws (store_word m w.0 w.1) each.1 (table_beside f.halves m w.0 w.1 (framed.apart w.0 each.0) has)
 
-  table_stored : (m n : Memory) → Stores (IsAmongWords f.own) m n → HasTable f.table m → HasTable f.table n
+  table_stored : (m n : Memory) → Stores (IsAmongWords f.own) m n → HasTable f.halves m → HasTable f.halves n
   table_stored m n stores has =
-      subst (HasTable f.table) (sym stores.result) (table_after_all stores.writes m stores.each has)
+      subst (HasTable f.halves) (sym stores.result) (table_after_all stores.writes m stores.each has)
 
-  table_stays : (s : State) (x : Instr) → AllApart (pages_of g.notes) (judged_by s x) → HasTable f.table s.memory
-      → HasTable f.table (act s x).memory
+  table_stays : (s : State) (x : Instr) → AllApart (pages_of g.notes) (judged_by s x) → HasTable f.halves s.memory
+      → HasTable f.halves (act s x).memory
   table_stays s x apart has a from to aligned =
       let old = has a from to aligned in
       let new = words_stay (pages_of g.notes) a false s x (framed.table a from to) apart old.0 in

@@ -35,11 +35,13 @@ use Rattle.cfg_walk.proofs.Leaving.{end_is, is_in, node_is, straight_end, transf
 use Rattle.cfg_walk.proofs.Ways.{IsOwn, ways_are_own}
 use Rattle.layout.specs.declared.items.Item.{Item}
 use Rattle.layout.specs.declared.items.Item.TheVariants as it
-use Rattle.jump_code.specs.FreeRegister.{free_register}
-use Rattle.jump_code.specs.Pieces.{call_piece, jump_piece}
+use Rattle.jump_code.specs.FreeRegister.{free_register, other_register}
+use Rattle.jump_code.specs.Pieces.{call_piece, find_piece}
+use Rattle.snippets.specs.declared.snippet.Op.{Op}
+use Rattle.image_code.specs.Simulates.{operations_on, snippet_on}
 use Rattle.image_code.specs.Cases.{branch_piece, plain_piece}
-use Rattle.image_code.specs.Made.{branch_image, first_way, image, image_by, jump_to, landing, next_to, nop_word, own_edges, way_out}
-use Rattle.image_code.specs.Parts.{IsGraphOf, begin_of, branch_from, branch_ways, edges_after, edges_before, first_way_of, image_from, image_in, landing_with, rest_of}
+use Rattle.image_code.specs.Made.{branch_image, first_way, image, image_by, jump_to, landing, landing_number, lands_at, next_to, nop_word, own_edges, way_out}
+use Rattle.image_code.specs.Parts.{IsGraphOf, begin_of, branch_from, branch_ways, edges_after, edges_before, first_way_of, first_with, image_from, image_in, landing_with, rest_of}
 
 -- ---- how many edges there are
 
@@ -438,7 +440,7 @@ landing_edge text graph h k l =
 
 -- ---- the image of a word
 
-module _ (text : Words) (graph : Graph) (codes : ℕ → List ℕ) (h : IsGraphOf text graph) (some : 1 ≤ length text.words)
+module _ (text : Words) (graph : Graph) (jumps : ℕ) (codes : ℕ → List ℕ) (h : IsGraphOf text graph) (some : 1 ≤ length text.words)
     (word : ℕ) (l : word < length text.words) (first : PieceNo)
     (is : first.0 ≡ first_way_of text graph (holding_of graph.blocks word)) (code : List ℕ)
     (behind : (instr : Instr) → decode_of (slice_index text.words word) ≡ instr → transfers instr ≡ false
@@ -450,8 +452,8 @@ module _ (text : Words) (graph : Graph) (codes : ℕ → List ℕ) (h : IsGraphO
   its = holding_of graph.blocks word
 
   says_is : (instr : Instr) → decode_of (slice_index text.words word) ≡ instr
-      → image_from here its (slice_index text.words word) first (rest_of text word code) instr
-      ≡ image_by text graph codes here (block its) word instr
+      → image_from jumps here its (slice_index text.words word) first (rest_of text word code) instr
+      ≡ image_by text graph jumps codes here (block its) word instr
   says_is (i.Branch c annul disp) says =
       sym (branch_is text graph h some word l c annul disp says here first.0 is)
   says_is (i.Call disp) says =
@@ -460,17 +462,17 @@ module _ (text : Words) (graph : Graph) (codes : ℕ → List ℕ) (h : IsGraphO
       (sym (only_piece text graph h some word l (ends.Call to) (end_is text word (i.Call disp) says) refl kinds.Call
       (way kinds.Call (number_of to)) refl refl refl first.0 is))
   says_is (i.Jmpl rd rs1 op2) says =
-      ap (λ z. jump_piece (free_register rd rs1 op2) rd rs1 op2 here its (record { 0 = z }))
+      ap (λ z. find_piece (free_register rd rs1 op2) (other_register rd rs1 op2) rd rs1 op2 jumps here its (record { 0 = z }))
       (sym (only_piece text graph h some word l ends.Jump (end_is text word (i.Jmpl rd rs1 op2) says) refl kinds.Out
       (way kinds.Out None) refl refl refl first.0 is))
   says_is instr says =
       ap (λ (ws : List ℕ). plain_piece here its (slice_index text.words word) (map it.Word ws ++ next_to text word))
       (behind instr says refl)
 
-  pub image_is : image_in text word its first code ≡ image text graph codes word
+  pub image_is : image_in text jumps word its first code ≡ image text graph jumps codes word
   image_is =
       says_is (decode_of (slice_index text.words word)) refl
-      ∙ ap (λ (n : Node). image_by text graph codes here n word (decode_of (slice_index text.words word)))
+      ∙ ap (λ (n : Node). image_by text graph jumps codes here n word (decode_of (slice_index text.words word)))
       (sym (node_is graph.blocks word (let e = words_are text graph h in omega arith)))
 
 -- a word from the first of a block on, and before its end, is held by the block
@@ -587,34 +589,34 @@ own_no_landings text graph h =
 
 -- ---- images and landings, as they are added
 
-module _ (text : Words) (graph : Graph) (codes : ℕ → List ℕ) (h : IsGraphOf text graph) (some : 1 ≤ length text.words)
+module _ (text : Words) (graph : Graph) (jumps : ℕ) (codes : ℕ → List ℕ) (h : IsGraphOf text graph) (some : 1 ≤ length text.words)
     (k : ℕ) (l : k < length graph.blocks.firsts) (way : PieceNo) (is_way : way.0 ≡ first_way_of text graph k)
     (word : ℕ) (low : word < length text.words) (above : slice_index graph.blocks.firsts k ≤ word)
     (list new : List (List Item)) (piece : List Item) (pushed : new ≡ list ++ piece ∷ [])
-    (before : list ≡ map (image text graph codes) (below word)) where
+    (before : list ≡ map (image text graph jumps codes) (below word)) where
   image_pushed : word < block_end graph.blocks.firsts graph.blocks.words k → (code : List ℕ)
       → ((instr : Instr) → decode_of (slice_index text.words word) ≡ instr → transfers instr ≡ false
       → code ≡ flat_map codes (left_by graph (block k) word instr))
-      → piece ≡ image_in text word k way code → new ≡ map (image text graph codes) (below (word + 1))
+      → piece ≡ image_in text jumps word k way code → new ≡ map (image text graph jumps codes) (below (word + 1))
   image_pushed under code behind made =
       let held : k ≡ holding_of graph.blocks word = held_by text graph h some k word l above under in
       pushed
-      ∙ ap (λ (items : List Item). list ++ items ∷ []) (made ∙ ap (λ (j : ℕ). image_in text word j way code) held
-      ∙ image_is text graph codes h some word low way (is_way ∙ ap (first_way_of text graph) held) code
+      ∙ ap (λ (items : List Item). list ++ items ∷ []) (made ∙ ap (λ (j : ℕ). image_in text jumps word j way code) held
+      ∙ image_is text graph jumps codes h some word low way (is_way ∙ ap (first_way_of text graph) held) code
       (λ instr says straight. behind instr says straight
       ∙ ap (λ (j : ℕ). flat_map codes (left_by graph (block j) word instr)) held))
-      ∙ ap (λ (pieces : List (List Item)). pieces ++ image text graph codes word ∷ []) before
-      ∙ sym (image_more (image text graph codes) word)
+      ∙ ap (λ (pieces : List (List Item)). pieces ++ image text graph jumps codes word ∷ []) before
+      ∙ sym (image_more (image text graph jumps codes) word)
 
-  pub inside_pushed : word < last_word graph.blocks.firsts graph.blocks.words k → piece ≡ image_in text word k way []
-      → new ≡ map (image text graph codes) (below (word + 1))
+  pub inside_pushed : word < last_word graph.blocks.firsts graph.blocks.words k → piece ≡ image_in text jumps word k way []
+      → new ≡ map (image text graph jumps codes) (below (word + 1))
   inside_pushed inner made =
       image_pushed (omega arith) []
       (λ instr says straight. ap (flat_map codes) (sym (left_inside text graph h some k l word inner instr straight))) made
 
   pub last_pushed : word ≡ last_word graph.blocks.firsts graph.blocks.words k → (code : List ℕ)
-      → code ≡ codes (edges_before graph.blocks k) → piece ≡ image_in text word k way code
-      → new ≡ map (image text graph codes) (below (word + 1))
+      → code ≡ codes (edges_before graph.blocks k) → piece ≡ image_in text jumps word k way code
+      → new ≡ map (image text graph jumps codes) (below (word + 1))
   last_pushed last code is made =
       let room = some_words graph.blocks.words graph.blocks.firsts (cut_of text graph h some).firsts k l in
       image_pushed (omega arith) code
@@ -673,6 +675,67 @@ landings_pushed text graph codes h some k l code is =
         ∙ sym (append-nil (codes (length (own_edges graph) + k)))
         ∙ ap (flat_map codes) (sym (landing_edge text graph h k l))
         ∙ ap (λ (n : Node). flat_map codes (landing_from graph n)) (sym home))
+
+not_none : (n : ℕ) → (suc n + 0 == 0) ≡ false
+not_none n = grind (arith, nat_tests)
+
+-- the pieces to which the table leads from a block's words
+pub lands_pushed : (text : Words) (graph : Graph) (snips : List (List Op)) → IsGraphOf text graph
+    → 1 ≤ length text.words → (k : ℕ) → k < length graph.blocks.firsts → (from : ℕ)
+    → from ≡ first_with (snippet_on snips (length (own_edges graph) + k)) (length text.words + length (own_edges graph))
+    → map (lands_at text graph snips) (below (begin_of graph.blocks k))
+    ++ map (λ word. from + word) (range_with_len (slice_index graph.blocks.firsts k) (size_of graph.blocks k))
+    ≡ map (lands_at text graph snips) (below (begin_of graph.blocks (k + 1)))
+lands_pushed text graph snips h some k l from is =
+    let end : slice_index graph.blocks.firsts k + size_of graph.blocks k ≡ begin_of graph.blocks (k + 1) =
+    omega (
+      arith,
+      begin_after text graph h some k l,
+      some_words graph.blocks.words graph.blocks.firsts
+          (cut_of text graph h some).firsts k l,
+    ) in
+    ap (λ (n : ℕ). map (lands_at text graph snips) (below n) ++ map (λ word. from + word)
+    (range_with_len (slice_index graph.blocks.firsts k) (size_of graph.blocks k))) (begin_at graph.blocks k l)
+    ∙ maps_joined (lands_at text graph snips) (λ word. from + word) (slice_index graph.blocks.firsts k)
+    (size_of graph.blocks k) here
+    ∙ ap (λ (n : ℕ). map (lands_at text graph snips) (below n)) end
+  where
+    by : (word : ℕ) (ops : List Op) → from ≡ first_with ops (length text.words + length (own_edges graph))
+        → from + word ≡ (if length ops + 0 == 0 then word else landing_number text graph word)
+    by word [] e = omega (arith, e)
+    by word (op ∷ ops) e =
+        ap (λ (n : ℕ). n + word) e
+        ∙ sym (ap (λ (t : Bool). if t then word else landing_number text graph word) (not_none (length ops)))
+
+    here : (word : ℕ) → slice_index graph.blocks.firsts k ≤ word
+        → word < slice_index graph.blocks.firsts k + size_of graph.blocks k
+        → from + word ≡ lands_at text graph snips word
+    here word above under =
+        let room = some_words graph.blocks.words graph.blocks.firsts (cut_of text graph h some).firsts k l in
+        let home : node_of graph.blocks (Some word) ≡ block k =
+        block_home text graph h some k word l above (omega arith) in
+        by word (snippet_on snips (length (own_edges graph) + k)) is
+        ∙ sym (ap (λ (edges : List ℕ). if operations_on snips edges == 0 then word else landing_number text graph word)
+        (ap (landing_from graph) home ∙ landing_edge text graph h k l))
+
+-- one number more
+pub number_pushed : (from first word : ℕ) (before list new : List PieceNo) (number : PieceNo) → first ≤ word
+    → new ≡ list ++ number ∷ [] → number.0 ≡ from + word
+    → map (λ (n : PieceNo). n.0) list ≡ map (λ (n : PieceNo). n.0) before
+    ++ map (λ word. from + word) (range_with_len first (word - first))
+    → map (λ (n : PieceNo). n.0) new ≡ map (λ (n : PieceNo). n.0) before
+    ++ map (λ word. from + word) (range_with_len first (word + 1 - first))
+number_pushed from first word before list new number above pushed made held =
+    let here : first + (word - first) ≡ word = omega arith in
+    let next : word - first + 1 ≡ word + 1 - first = omega arith in
+    ap (map (λ (n : PieceNo). n.0)) pushed ∙ map-append (λ (n : PieceNo). n.0) list (number ∷ [])
+    ∙ ap (λ (n : ℕ). map (λ (n : PieceNo). n.0) list ++ n ∷ []) made
+    ∙ ap (λ (ns : List ℕ). ns ++ (from + word) ∷ []) held
+    ∙ append_assoc (map (λ (n : PieceNo). n.0) before) (map (λ word. from + word) (range_with_len first (word - first)))
+    ((from + word) ∷ [])
+    ∙ ap (λ (ns : List ℕ). map (λ (n : PieceNo). n.0) before ++ ns)
+    (sym (map-range_with_len_more (λ word. from + word) first (word - first) word here)
+    ∙ ap (λ (n : ℕ). map (λ word. from + word) (range_with_len first n)) next)
 
 -- one landing more
 pub landing_pushed : (code : List ℕ) (first word : ℕ) (before list new : List (List Item)) (piece : List Item)

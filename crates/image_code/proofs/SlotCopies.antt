@@ -1,7 +1,8 @@
 -- The copies of slots' words: a transfer ends the run, behind a JMPL its target is looked up, and else the copy goes
 -- on to where the edge leads.
-use Rattle.std.proofs.Common.{◌≡◌, ◌≢◌, ℕ, ◌+◌, ◌/◌, ◌%◌, ◌^◌, ◌<◌, inl, inr, Bool, true, false, Option, Some, None, List, [], ◌∷◌, ◌++◌, drop, length, refl, ap, sym, ◌∙◌, subst, arith}
-use Rattle.std.specs.Prelude.{if◌then◌else◌, pos, slice_get, slice_index}
+use Rattle.std.proofs.Common.{◌≡◌, ◌≢◌, ℕ, ◌+◌, ◌%◌, ◌^◌, ◌<◌, inl, inr, Bool, true, false, Option, Some, None, List, [], ◌∷◌, ◌++◌, drop, length, refl, ap, sym, ◌∙◌, subst, arith}
+use Rattle.std.specs.Prelude.{◌==◌, if◌then◌else◌, pos, slice_get, slice_index}
+use Rattle.std.proofs.lemmas.Bool.{eqb-true}
 use Rattle.std.specs.Option.{option_map}
 use Rattle.eel_base.specs.CodeText.{Words, IsText, address_of, word_at}
 use Rattle.eel_base.specs.declared.numbers.Addr.{Addr}
@@ -19,16 +20,13 @@ use Rattle.cfg_normal.specs.declared.Node.TheVariants.{Block, X}
 use Rattle.cfg_normal.specs.Graph.{Graph, node_of}
 use Rattle.cfg_walk.specs.Walk.{Point, landed, landing_at as edge_landing, node_after, point_of, same_kind}
 use Rattle.cfg_walk.specs.Matches.{Begins, IsOnItsWay, last_in, way_address}
+use Rattle.addr_translate.specs.Halves.{found_in}
 use Rattle.code_runs.specs.Page.{page_word}
 use Rattle.code_runs.proofs.StoredWords.{memory_word-range}
-use Rattle.addr_translate.specs.Translator.{Translates, translator}
-use Rattle.addr_translate.proofs.TwelveWords.{translates}
-use Rattle.jump_code.specs.Pieces.{far_piece, out_piece}
-use Rattle.jump_code.proofs.Fitting.{Fit, decoded, lt}
-use Rattle.layout.specs.Emitting.{words_of}
+use Rattle.jump_code.specs.Pieces.{far_piece, found_piece}
 use Rattle.layout.specs.declared.items.Item.{Item}
 use Rattle.layout.specs.Laid.{Placement}
-use Rattle.image_code.specs.Simulates.{Setting, at_point, does_at, gone_at, graph_in, number_in, is_out}
+use Rattle.image_code.specs.Simulates.{Setting, at_point, does_at, gone_at, graph_in, number_in, is_out, operations_on}
 use Rattle.image_code.specs.Images.{Frame, Here, visited_at}
 use Rattle.image_code.specs.Cases.{IsFar, LeadsOn, plain_piece, words_on}
 use Rattle.image_code.specs.Couple.{couple_piece}
@@ -39,22 +37,8 @@ use Rattle.image_code.proofs.EdgePieces.{along_far}
 use Rattle.image_code.proofs.Branches.{couple_says, same_is}
 use Rattle.std.proofs.lemmas.Option.{slice_get_within}
 use Rattle.image_code.proofs.Heads.{copy_items, copy_visited}
-use Rattle.image_code.proofs.Listed.{foreign_at, landing_at}
+use Rattle.image_code.proofs.Listed.{foreign_at, image_at, landing_at}
 use Rattle.image_code.proofs.Visited.{edge_is, l, slot_gone, visited_none, visited_word, way_in, word_is}
-
--- ---- the translator's words
-
-translator_fits : (base : ℕ) → base < 2 ^ 32 → Fit (translator base 1 2)
-translator_fits base short =
-    let high = lt (base / 1024) (2 ^ 22) (omega arith) in
-    let last : Fit (drop 8 (translator base 1 2)) = (refl, refl, (refl, refl, (refl, refl, (refl, refl, tt)))) in
-    let more : Fit (drop 4 (translator base 1 2)) = (refl, refl, (refl, refl, (refl, refl, (refl, refl, last)))) in
-    (refl, refl, (refl, refl, (refl, refl, (refl, high, more))))
-
-words_translate : (base : ℕ) → base < 2 ^ 32 → Translates (words_of (translator base 1 2)) base 1 2
-words_translate base short =
-    translates (words_of (translator base 1 2)) base 1 2 (omega arith) (omega arith) (omega arith) (omega arith)
-    (omega arith) (decoded (translator base 1 2) (translator_fits base short))
 
 -- ---- where control goes on at a node
 
@@ -94,7 +78,7 @@ landed_out text graph address None e = rw e refl
 landed_out text graph address (Some word) e = rw e refl
 
 module _ (g : Setting) (codes : ℕ → List ℕ) (is : IsText g.text) (p : Placement) (f : Frame) (base : ℕ)
-    (place : ℕ → ℕ → ℕ) (tables : IsTableFor g.text (graph_in g) p f.table)
+    (place : ℕ → ℕ → ℕ) (tables : IsTableFor g.text (graph_in g) g.snips p f.table f.halves)
     (node : Node) (x : Point) (t : State) (here : Here g (l g codes is p f) base p f node x t)
     (slot : ℕ) (at : word_at g.text x.pc ≡ Some slot) (not : x.slot ≢ NoSlot)
     (way : IsOnItsWay g.text (graph_in g) node x (way_in g codes is p f x)) where
@@ -128,7 +112,7 @@ module _ (g : Setting) (codes : ℕ → List ℕ) (is : IsText g.text) (p : Plac
   module _ (straight : is_transfer (decode_of word) ≡ false) where
     abbrev past_by : Bool → List Item
     past_by out =
-        if out then out_piece address (number_in g node) word code (words_of (translator f.table.base 1 2))
+        if out then found_piece address (number_in g node) word code 1
         else plain_piece address (number_in g node) word (goes_along g.text (graph_in g) codes way.number way.edge)
 
     past : (b : Bool) → same_kind (way_in g codes is p f x) kinds.Out ≡ b
@@ -290,23 +274,45 @@ module _ (g : Setting) (codes : ℕ → List ℕ) (is : IsText g.text) (p : Plac
                   none,
                 ),
               )
-          by (Some to) some =
-              let there = landing_at g.text (graph_in g) f.table.base codes to
-              (word_at-some g.text x.npc to some).within in
-              inl (
-                record { 0 = landing_number g.text (graph_in g) to },
-                slice_get_within (l g codes is p f).list _ _ there,
-                tables.words x.npc to waits.0 waits.1 some,
-                inr (inl (
-                  record { 0 = to },
-                  there ∙ ap (λ (edges : List ℕ). Some (words_on (l g codes is p f) edges ++ jump_to to))
-                      (sym (landed_out g.text (graph_in g) x.npc (Some to) some)),
-                  sym (visited_word g codes is p f after (point_of v) to (ap (word_at g.text) w.0 ∙ some) w.1),
-                )),
-              )
+          by (Some to) some = lands_by (operations_on g.snips (landing_of (graph_in g) (Some to)) == 0) refl
+            where
+              within : to < length g.text.words
+              within = (word_at-some g.text x.npc to some).within
 
-      short : f.table.base < 2 ^ 32
-      short = let h = tables.whole.below in omega arith
+              led : (b : Bool) → (operations_on g.snips (landing_of (graph_in g) (Some to)) == 0) ≡ b
+                  → found_in f.halves x.npc ≡ slice_index p.at (if b then to else landing_number g.text (graph_in g) to)
+              led b e = tables.words x.npc to waits.0 waits.1 some
+                  ∙ ap (λ (z : Bool). slice_index p.at (if z then to else landing_number g.text (graph_in g) to)) e
+
+              visit : slice_index p.at to ≡ visited_at g (l g codes is p f) p f after (point_of v)
+              visit = sym (visited_word g codes is p f after (point_of v) to (ap (word_at g.text) w.0 ∙ some) w.1)
+
+              lands_by : (b : Bool) → (operations_on g.snips (landing_of (graph_in g) (Some to)) == 0) ≡ b
+                  → Lands g (l g codes is p f) p f (landed g.text (graph_in g) kinds.Out x.npc) x.npc
+                  (visited_at g (l g codes is p f) p f after (point_of v))
+              lands_by true e =
+                  inl (
+                    record { 0 = to },
+                    slice_get_within (l g codes is p f).list _ _ (image_at g.text (graph_in g) f.table.base codes to within),
+                    led true e,
+                    inr (
+                      ap (operations_on g.snips) (landed_out g.text (graph_in g) x.npc (Some to) some) ∙ eqb-true _ _ e,
+                      visit,
+                    ),
+                  )
+              lands_by false e =
+                  let there = landing_at g.text (graph_in g) f.table.base codes to within in
+                  inl (
+                    record { 0 = landing_number g.text (graph_in g) to },
+                    slice_get_within (l g codes is p f).list _ _ there,
+                    led false e,
+                    inl (inr (inl (
+                      record { 0 = to },
+                      there ∙ ap (λ (edges : List ℕ). Some (words_on (l g codes is p f) edges ++ jump_to to))
+                          (sym (landed_out g.text (graph_in g) x.npc (Some to) some)),
+                      visit,
+                    ))),
+                  )
 
       jump_case : IsCase g (l g codes is p f) base p place f node x t
       jump_case = jumps_slot (record {
@@ -320,10 +326,9 @@ module _ (g : Setting) (codes : ℕ → List ℕ) (is : IsText g.text) (p : Plac
         word = word;
         is_word = word_is g codes is p f x slot at;
         straight = straight;
-        translator = words_of (translator f.table.base 1 2);
-        twelve = refl;
-        translates = words_translate f.table.base short;
-        table = tables.whole;
+        through = 1;
+        some = omega arith;
+        below = omega arith;
         edge = way.number;
         outward = ap is_out way.is ∙ ap (λ (k : EdgeKind). same_kind k kinds.Out)
             (edge_is g codes is p f node x (way_in g codes is p f x) way).same ∙ out;

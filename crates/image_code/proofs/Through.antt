@@ -1,5 +1,5 @@
 -- From the visit of a transfer whose words stand in one Mark, through them, and on along the way behind them.
-use Rattle.std.proofs.Common.{◌≡◌, ℕ, suc, ◌+◌, ◌*◌, ◌%◌, ◌^◌, ◌<◌, ◌≤◌, ◌⊎◌, inl, inr, Bool, true, false, Some, None, List, [], length, refl, ap, sym, ◌∙◌, subst, arith}
+use Rattle.std.proofs.Common.{◌≡◌, ◌≢◌, ℕ, suc, ◌+◌, ◌*◌, ◌%◌, ◌^◌, ◌<◌, ◌≤◌, ◌⊎◌, inl, inr, Bool, true, false, Some, None, List, [], length, refl, ap, sym, ◌∙◌, subst, arith}
 use Rattle.std.specs.Prelude.{◌-◌, slice_get, slice_index}
 use Rattle.eel_base.specs.CodeText.{word_at}
 use Rattle.eel_base.specs.declared.numbers.Addr.{Addr}
@@ -29,6 +29,7 @@ use Rattle.code_runs.proofs.Counted.{count_add, none_then}
 use Rattle.code_runs.proofs.Hops.{stores_then}
 use Rattle.code_runs.proofs.Leads.{leads_then, leads_weaker, silent_then}
 use Rattle.layout.specs.Laid.{HasShortForms, Placement}
+use Rattle.addr_translate.specs.Halves.{found_in}
 use Rattle.jump_code.specs.Links.{past}
 use Rattle.jump_code.specs.PageWords.{IsPageWord}
 use Rattle.jump_code.specs.Pieces.{marked_piece}
@@ -46,7 +47,7 @@ page_own : (g : Setting) (f : Frame) → IsFramed g f → (z : ℕ) → IsPageWo
 page_own g f framed z (inl e) = subst (IsAmongWords f.own) (sym e) (framed.page 0 (omega arith))
 page_own g f framed z (inr (inl e)) = subst (IsAmongWords f.own) (sym e) (framed.page 1 (omega arith))
 page_own g f framed z (inr (inr (inl e))) = subst (IsAmongWords f.own) (sym e) (framed.page 2 (omega arith))
-page_own g f framed z (inr (inr (inr (inl e)))) = subst (IsAmongWords f.own) (sym e) (framed.page 3 (omega arith))
+page_own g f framed z (inr (inr (inr (inl e)))) = subst (IsAmongWords f.own) (sym e) (framed.page 7 (omega arith))
 page_own g f framed z (inr (inr (inr (inr e)))) = absurd e
 
 pub own_stored : (g : Setting) (f : Frame) → IsFramed g f → (m n : Memory) → Stores IsPageWord m n
@@ -112,6 +113,7 @@ module _ (g : Setting) (l : Pieces) (base : ℕ) (p : Placement) (place : ℕ �
     pub quiet : (descriptor : ℕ) → puts_on_word (at_point x t) (word_of g.text x.pc) descriptor ≡ []
     pub waits : v.slot ≡ Taken → same_kind (way_of (instr_at g.text (v.pc - 4)) v.slot) kinds.Out ≡ true
         → (memory_word m (page_word 1) ≡ v.npc) × (v.npc % 4 ≡ 0)
+        × (word_at g.text v.pc ≢ None → memory_word m (page_word 7) ≡ found_in f.halves v.npc)
     -- those of a transfer that is no JMPL are two at most, and store nothing
     pub transfer : is_transfer_at (instr_at g.text x.pc) ≡ true
     pub two : is_jmpl (instr_at g.text x.pc) ≡ false → length xs ≤ 2
@@ -148,7 +150,7 @@ module _ (g : Setting) (l : Pieces) (base : ℕ) (p : Placement) (place : ℕ �
       (arrived g l base p place f h [] (past t (length xs) m v) (slice_index p.at way.0) 4 fit (h.laid.aligned way.0).1
       one) refl leads)
 
-  pub goes_through : (v : State) (m : Memory) (edges : List ℕ) → LastDead g edges → 0 < length xs → length xs ≤ 8 → Through v m
+  pub goes_through : (v : State) (m : Memory) (edges : List ℕ) → LastDead g edges → 0 < length xs → length xs ≤ 14 → Through v m
       → LeadsTo l p way edges (word_at g.text v.pc) (visited_at g l p f (node_after (graph_in g) node edges) (point_of v))
       → StepsOn g (Here g l base p f) (HasShortForms l.list place) edges node x t v
   unfolding On
@@ -194,7 +196,7 @@ module _ (g : Setting) (l : Pieces) (base : ℕ) (p : Placement) (place : ℕ �
           npc = refl;
           slot = refl;
           memory = images_stored g f h.frame base p t _ (length xs + rest.count) path.steps stores here.memory;
-          waits = λ a b. let z = w.waits a b in (still ∙ z.0, z.1);
+          waits = λ a b. let z = w.waits a b in (still ∙ z.0, z.1, λ there. rest.found there ∙ z.2 there);
         };
         place = λ e. absurd (e w.live);
         sparing = λ watched.

@@ -27,7 +27,7 @@ use Rattle.layout.specs.Laid.{Placement}
 use Rattle.image_code.specs.Simulates.{Setting, gone_at, graph_in, word_of}
 use Rattle.image_code.specs.Images.{Pieces, Frame, slot_piece, visited_at, visited_by}
 use Rattle.image_code.specs.Cases.{IsFar, LeadsTo}
-use Rattle.image_code.specs.Made.{first_way, image_by, pieces_in, way_out}
+use Rattle.image_code.specs.Made.{first_way, image_by, jumps_at, pieces_in, way_out}
 use Rattle.image_code.proofs.EdgePieces.{IsAlong, along, cut_in, items_along, slot_in}
 use Rattle.image_code.proofs.Branches.{first_along, way_is_own, within_is}
 use Rattle.image_code.proofs.Listed.{image_at}
@@ -80,14 +80,14 @@ module _ (g : Setting) (codes : ℕ → List ℕ) (is : IsText g.text) (p : Plac
 
   pub image_items : (node : Node) (x : Point) (word : ℕ) → word_at g.text x.pc ≡ Some word
       → node ≡ node_of b (word_at g.text x.pc) → (instr : Instr) → decode_of (slice_index g.text.words word) ≡ instr
-      → slice_get l.list word ≡ Some (image_by g.text (graph_in g) codes
+      → slice_get l.list word ≡ Some (image_by g.text (graph_in g) (jumps_at g.text f.table.base) codes
       (record { 0 = address_of g.text word }) node word instr)
   image_items node x word at held instr e =
       image_at g.text (graph_in g) f.table.base codes word (word_at-some g.text x.pc word at).within
-      ∙ ap (λ (n : Node). Some (image_by g.text (graph_in g) codes (record { 0 = address_of g.text word }) n
+      ∙ ap (λ (n : Node). Some (image_by g.text (graph_in g) (jumps_at g.text f.table.base) codes (record { 0 = address_of g.text word }) n
       word (decode_of (slice_index g.text.words word))))
       (sym (held ∙ ap (node_of b) at))
-      ∙ ap (λ (d : Instr). Some (image_by g.text (graph_in g) codes
+      ∙ ap (λ (d : Instr). Some (image_by g.text (graph_in g) (jumps_at g.text f.table.base) codes
       (record { 0 = address_of g.text word }) node word d)) e
 
   -- ---- in a slot

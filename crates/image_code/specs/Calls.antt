@@ -1,6 +1,6 @@
 -- The images of a CALL and of a JMPL: the link, and for a JMPL the target that it keeps. The slot's word is run on the way
 -- along the edge.
-use Rattle.std.specs.Prelude.{◌≡◌, ℕ, ◌+◌, ◌%◌, ◌^◌, ◌<◌, true, length, Some, None, slice_get, slice_index, ℤ}
+use Rattle.std.specs.Prelude.{◌≡◌, ◌≢◌, ℕ, ◌+◌, ◌%◌, ◌^◌, ◌<◌, true, length, Some, None, slice_get, slice_index, ℤ}
 use Rattle.eel_base.specs.declared.numbers.Addr.{Addr}
 use Rattle.eel_base.specs.declared.numbers.PieceNo.{PieceNo}
 use Rattle.v8_decode.specs.declared.Op2.{Op2}
@@ -12,8 +12,8 @@ use Rattle.v8_step.specs.declared.Slot.TheVariants.{NoSlot}
 use Rattle.v8_step.specs.State.{State}
 use Rattle.cfg_normal.specs.declared.Node.{Node}
 use Rattle.cfg_walk.specs.Walk.{Point}
-use Rattle.jump_code.specs.Jumps.{IsApart}
-use Rattle.jump_code.specs.Pieces.{call_piece, jump_piece}
+use Rattle.jump_code.specs.FreeRegister.{IsApart}
+use Rattle.jump_code.specs.Pieces.{call_piece, find_piece}
 use Rattle.layout.specs.Laid.{HasShortForms, Placement}
 use Rattle.image_code.specs.Simulates.{Setting, StepsOn, does_at, gone_at, number_in, word_of}
 use Rattle.image_code.specs.Images.{Pieces, Frame, Here, IsPlaced, visited_at}
@@ -67,10 +67,13 @@ pub record IsJump (g : Setting) (l : Pieces) (p : Placement) (f : Frame)
   pub says : decode_of word ≡ i.Jmpl rd rs1 op2
   pub scratch : ℕ
   pub apart : IsApart scratch rd rs1 op2
+  pub second : ℕ
+  pub other : IsApart second rd rs1 op2
+  pub differ : scratch ≢ second
   pub fits : op2_fits op2 ≡ true
   pub in_range : op2_in_range op2 ≡ true
   pub way : PieceNo
-  pub items : slice_get l.list piece ≡ Some (jump_piece scratch rd rs1 op2 address (number_in g node) way)
+  pub items : slice_get l.list piece ≡ Some (find_piece scratch second rd rs1 op2 f.halves.base address (number_in g node) way)
   pub leads : (does_at g x t).ending ≡ None
       → LeadsTo l p way (gone_at g node x (does_at g x t)) (word_ahead g x t) (next_visit g l p f node x t)
 

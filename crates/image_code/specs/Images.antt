@@ -1,5 +1,5 @@
 -- Where a machine stands that visits a point of the original, and what it has.
-use Rattle.std.specs.Prelude.{◌≡◌, ℕ, ◌+◌, ◌-◌, ◌*◌, ◌%◌, ◌^◌, ◌<◌, ◌≤◌, ◌⊎◌, true, false, List, [], ◌∷◌, length, Option, Some, None, slice_get, slice_index}
+use Rattle.std.specs.Prelude.{◌≡◌, ◌≢◌, ℕ, ◌+◌, ◌-◌, ◌*◌, ◌%◌, ◌^◌, ◌<◌, ◌≤◌, ◌⊎◌, true, false, List, [], ◌∷◌, length, Option, Some, None, slice_get, slice_index}
 use Rattle.eel_base.specs.CodeText.{word_at}
 use Rattle.elf32_sparc.specs.Notes.{range_at}
 use Rattle.v8_alu.specs.Numbers.{wrapped}
@@ -15,6 +15,7 @@ use Rattle.cfg_walk.specs.Walk.{Point, edge_from, instr_at, same_kind, way_of}
 use Rattle.code_runs.specs.StoredWords.{memory_word}
 use Rattle.code_runs.specs.Ours.{AreOwn, HasWordAt, IsAmongWords, IsIn, IsOurs}
 use Rattle.code_runs.specs.Page.{page_word}
+use Rattle.addr_translate.specs.Halves.{IsTwoLevel, found_in}
 use Rattle.addr_translate.specs.Lookup.{TableAt, table_word}
 use Rattle.layout.specs.declared.items.Item.{Item}
 use Rattle.layout.specs.Laid.{Placement, IsLaid, range_in}
@@ -32,9 +33,11 @@ pub record Pieces : Type 0 where
   -- the words of the snippet on an edge
   pub codes : ℕ → List ℕ
 
--- the table that leads from addresses of the original to new code, and which words the editor's code may store
+-- the table that leads from addresses of the original to new code, that of two levels by which jumps look up, and which
+-- words the editor's code may store
 pub record Frame : Type 0 where
   pub table : TableAt
+  pub halves : TableAt
   pub own : List ℕ
 
 abbrev pub along_first : Pieces → List ℕ → ℕ
@@ -68,12 +71,12 @@ HasTable table m =
 abbrev pub IsBeside : ℕ → List ℕ → ℕ → Type 0
 IsBeside base code a = (a < base) ⊎ (base + 4 * length code ≤ a)
 
--- The code can be executed, and nothing else; the editor's words are its own, and the table stands.
+-- The code can be executed, and nothing else; the editor's words are its own, and the table of the jumps stands.
 pub record HasImages (g : Setting) (base : ℕ) (p : Placement) (f : Frame) (m : Memory) : Type 0 where
   pub code : HasCode base p.code m
   pub only : (a : ℕ) → IsBeside base p.code a → fetch_from (code_of m) a ≡ None
   pub ours : IsOurs (pages_of g.notes) f.own m
-  pub table : HasTable f.table m
+  pub table : HasTable f.halves m
 
 -- ---- a machine at the visit of a point
 
@@ -85,9 +88,10 @@ pub record Here (g : Setting) (l : Pieces) (base : ℕ) (p : Placement) (f : Fra
   pub npc : t.npc ≡ wrapped (t.pc + 4)
   pub slot : t.slot ≡ NoSlot
   pub memory : HasImages g base p f t.memory
-  -- in the slot of a JMPL, its target, a multiple of 4, waits in word 1 of the page
+  -- in the slot of a JMPL, its target, a multiple of 4, waits in word 1 of the page, and what the table has for it in word 7
   pub waits : x.slot ≡ Taken → same_kind (way_of (instr_at g.text (x.pc - 4)) x.slot) kinds.Out ≡ true
       → (memory_word t.memory (page_word 1) ≡ x.npc) × (x.npc % 4 ≡ 0)
+      × (word_at g.text x.pc ≢ None → memory_word t.memory (page_word 7) ≡ found_in f.halves x.npc)
 
 -- ---- what the notes say of placed code
 
@@ -101,9 +105,10 @@ pub record AreNoted (g : Setting) (base : ℕ) (p : Placement) : Type 0 where
 -- the words of the editor's page that its code stores, and the table, which they leave alone
 pub record IsFramed (g : Setting) (f : Frame) : Type 0 where
   pub own : AreOwn (pages_of g.notes) f.own
-  pub page : (n : ℕ) → n < 7 → IsAmongWords f.own (page_word n)
-  pub table : (a : ℕ) → f.table.base ≤ a → a + 4 ≤ f.table.base + length f.table.bytes → IsIn (pages_of g.notes) a
-  pub apart : (a : ℕ) → IsAmongWords f.own a → (a + 4 ≤ f.table.base) ⊎ (f.table.base + length f.table.bytes ≤ a)
+  pub page : (n : ℕ) → n < 8 → IsAmongWords f.own (page_word n)
+  pub table : (a : ℕ) → f.halves.base ≤ a → a + 4 ≤ f.halves.base + length f.halves.bytes → IsIn (pages_of g.notes) a
+  pub apart : (a : ℕ) → IsAmongWords f.own a → (a + 4 ≤ f.halves.base) ⊎ (f.halves.base + length f.halves.bytes ≤ a)
+  pub whole : IsTwoLevel f.halves
 
 -- The cells stand below the heap, among the words that the editor's code may store, and the words of each snippet do just
 -- the snippet, with what is dead behind it, whatever stores are counted. A snippet has at most 22 words an operation.

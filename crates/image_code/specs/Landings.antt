@@ -1,4 +1,4 @@
--- The way along the edge of a JMPL: the copy of the slot's word, and the look-up of the target, which waits in word 1 of
+-- The way along the edge of a JMPL: the copy of the slot's word, and the jump to what was found, which waits in word 7 of
 -- the page.
 use Rattle.std.specs.Prelude.{◌≡◌, ℕ, ◌-◌, ◌<◌, ◌⊎◌, false, true, [], ◌∷◌, length, List, Some, None, slice_get, slice_index}
 use Rattle.eel_base.specs.CodeText.{word_at}
@@ -14,22 +14,22 @@ use Rattle.v8_step.specs.Visits.{pages_of}
 use Rattle.cfg_blocks.specs.declared.EdgeKind.TheVariants as kinds
 use Rattle.cfg_normal.specs.declared.Node.{Node}
 use Rattle.cfg_walk.specs.Walk.{Point, instr_at, same_kind, way_of}
-use Rattle.addr_translate.specs.Lookup.{IsTable, looked_up}
-use Rattle.addr_translate.specs.Translator.{Translates}
-use Rattle.jump_code.specs.Pieces.{foreign_piece, out_piece}
+use Rattle.addr_translate.specs.Halves.{found_in}
+use Rattle.jump_code.specs.Pieces.{foreign_piece, found_piece}
 use Rattle.layout.specs.Laid.{HasShortForms, Placement}
-use Rattle.image_code.specs.Simulates.{Setting, StepsOn, at_point, does_at, gone_at, graph_in, is_out, number_in, word_of}
+use Rattle.image_code.specs.Simulates.{Setting, StepsOn, at_point, does_at, gone_at, graph_in, is_out, number_in, operations_on, word_of}
 use Rattle.image_code.specs.Images.{Pieces, Frame, Here, IsPlaced, visited_at}
 use Rattle.image_code.specs.Cases.{LeadsTo, next_visit, words_on}
 
 -- What the table has for a target: the piece of a landing, which leads to the next visit through the snippets of some
--- edges, or outside the text the foreign piece.
+-- edges; where these have no operation it may be the piece of that visit itself. Outside the text it is the foreign piece.
 abbrev pub Lands : Setting → Pieces → Placement → Frame → List ℕ → ℕ → ℕ → Type 0
 Lands g l p f edges target visit =
-    ((piece : PieceNo) × (piece.0 < length l.list) × (looked_up f.table target ≡ slice_index p.at piece.0)
-    × LeadsTo l p piece edges (word_at g.text target) visit)
+    ((piece : PieceNo) × (piece.0 < length l.list) × (found_in f.halves target ≡ slice_index p.at piece.0)
+    × (LeadsTo l p piece edges (word_at g.text target) visit
+    ⊎ ((operations_on g.snips edges ≡ 0) × (slice_index p.at piece.0 ≡ visit))))
     ⊎ ((edges ≡ []) × ((piece : PieceNo) × (piece.0 < length l.list)
-    × (looked_up f.table target ≡ slice_index p.at piece.0)
+    × (found_in f.halves target ≡ slice_index p.at piece.0)
     × (slice_get l.list piece.0 ≡ Some foreign_piece) × (word_at g.text target ≡ None)))
 
 pub record IsJumpsSlot (g : Setting) (l : Pieces) (p : Placement) (f : Frame)
@@ -44,17 +44,16 @@ pub record IsJumpsSlot (g : Setting) (l : Pieces) (p : Placement) (f : Frame)
   pub word : ℕ
   pub is_word : word_of g.text x.pc ≡ Some word
   pub straight : is_transfer (decode_of word) ≡ false
-  pub translator : List ℕ
-  pub twelve : length translator ≡ 12
-  pub translates : Translates translator f.table.base 1 2
-  pub table : IsTable f.table
-  -- the jump's edge, whose snippet runs before the look-up, and then the landing's, whose runs there
+  pub through : ℕ
+  pub some : 0 < through
+  pub below : through < 32
+  -- the jump's edge, whose snippet runs before the jump, and then the landing's, whose runs there
   pub edge : ℕ
   pub outward : is_out (slice_get (graph_in g).edges edge) ≡ true
   pub landing : List ℕ
   pub completes : (does_at g x t).ending ≡ None → gone_at g node x (does_at g x t) ≡ edge ∷ landing
   pub items : slice_get l.list piece
-      ≡ Some (out_piece address (number_in g node) word (words_on l (edge ∷ [])) translator)
+      ≡ Some (found_piece address (number_in g node) word (words_on l (edge ∷ [])) through)
   -- where the walk goes on, there the table leads
   pub lands : (does_at g x t).ending ≡ None → Lands g l p f landing x.npc (next_visit g l p f node x t)
 

@@ -1,6 +1,6 @@
 -- The pieces that are made of a text: an image of each word, the way along each edge but for the landings, a landing at
 -- each word, and last the foreign piece, to which the table leads every address outside the text.
-use Rattle.std.specs.Prelude.{◌≡◌, ℕ, suc, ◌+◌, ◌-◌, ◌%◌, ◌^◌, ◌<◌, ◌==◌, nat_lt, if◌then◌else◌, List, [], ◌∷◌, ◌++◌, length, map, take, slice_get, slice_index, Some, None}
+use Rattle.std.specs.Prelude.{◌≡◌, ℕ, suc, ◌+◌, ◌-◌, ◌%◌, ◌^◌, ◌<◌, ◌==◌, nat_lt, if◌then◌else◌, Bool, ◌&&◌, List, [], ◌∷◌, ◌++◌, length, map, take, slice_get, slice_index, Some, None}
 use Rattle.std.specs.List.{flat_map}
 use Rattle.eel_base.specs.CodeText.{Words, IsText, address_of, word_at}
 use Rattle.elf32_sparc.specs.Notes.{range_at}
@@ -23,15 +23,16 @@ use Rattle.cfg_normal.specs.Graph.{Graph, node_of}
 use Rattle.cfg_walk.specs.Walk.{edge_from, landing_at, left_by, same_kind}
 use Rattle.cfg_walk.specs.Matches.{way_address}
 use Rattle.cfg_normal.specs.Numbers.{node_number}
-use Rattle.addr_translate.specs.Lookup.{TableAt, IsTable, looked_up}
-use Rattle.addr_translate.specs.Translator.{translator}
-use Rattle.jump_code.specs.FreeRegister.{free_register}
-use Rattle.jump_code.specs.Pieces.{call_piece, far_piece, foreign_piece, jump_piece, out_piece}
-use Rattle.layout.specs.Emitting.{words_of}
+use Rattle.addr_translate.specs.Halves.{found_in}
+use Rattle.addr_translate.specs.Lookup.{TableAt, IsTable}
+use Rattle.addr_translate.specs.Table.{size_of}
+use Rattle.jump_code.specs.FreeRegister.{free_register, other_register}
+use Rattle.jump_code.specs.Pieces.{call_piece, far_piece, find_piece, foreign_piece, found_piece}
 use Rattle.layout.specs.Laid.{HasShortForms, Placement}
+use Rattle.snippets.specs.declared.snippet.Op.{Op}
 use Rattle.layout.specs.declared.items.Item.{Item}
 use Rattle.layout.specs.declared.items.Item.TheVariants as it
-use Rattle.image_code.specs.Simulates.{Setting, Simulates, graph_in, number_in}
+use Rattle.image_code.specs.Simulates.{Setting, Simulates, graph_in, number_in, operations_on}
 use Rattle.image_code.specs.Images.{Frame, Here, IsPlaced, Pieces}
 use Rattle.image_code.specs.Cases.{plain_piece, branch_piece}
 use Rattle.image_code.specs.Couple.{couple_piece}
@@ -54,10 +55,16 @@ own_edges graph = take (length graph.edges - length graph.blocks.firsts) graph.e
 abbrev pub jump_to : ℕ → List Item
 jump_to piece = it.Jump (record { 0 = piece }) ∷ []
 
--- A word goes on to the image of the next one, which comes next; behind the text's last word control leaves the text.
+-- a word that is the slot of the transfer before it
+abbrev pub is_slots : Words → ℕ → Bool
+is_slots text word = nat_lt 0 word && is_transfer (decode_of (slice_index text.words (word - 1)))
+
+-- A word goes on to the image of the next one, which comes next; the slot's word of a transfer, which is a block of its
+-- own, by a Jump. Behind the text's last word control leaves the text.
 abbrev pub next_to : Words → ℕ → List Item
 next_to text word =
-    if nat_lt (word + 1) (length text.words) then [] else far_piece (address_of text (length text.words))
+    if nat_lt (word + 1) (length text.words) then (if is_slots text word then jump_to (word + 1) else [])
+    else far_piece (address_of text (length text.words))
 
 -- ---- the numbers of pieces: first come the images of the words, by words, then the ways along edges, by edges, then the
 -- landings, by words, and last the foreign piece
@@ -95,6 +102,13 @@ module _ (text : Words) (graph : Graph) where
   goes_on (Block block) address = jump_to (slice_index graph.blocks.firsts block.0)
   goes_on X address = far_piece address
 
+-- The piece to which the table leads from a word: where some operation is made on the landing's edge that is the landing,
+-- and else the word's image itself.
+abbrev pub lands_at : Words → Graph → List (List Op) → ℕ → ℕ
+lands_at text graph snips word =
+    if operations_on snips (landing_at graph (node_of graph.blocks (Some word))) == 0 then word
+    else landing_number text graph word
+
 -- Below, `codes` has the words of the snippet on each edge.
 
 -- the snippets of some edges, in order
@@ -108,15 +122,21 @@ module _ (text : Words) (graph : Graph) (codes : ℕ → List ℕ) where
   abbrev pub rest_after : Node → ℕ → Instr → List Item
   rest_after node word instr = snippet_items codes (left_by graph node word instr) ++ next_to text word
 
+-- where the jumps' table stands: behind the other one
+abbrev pub jumps_at : Words → ℕ → ℕ
+jumps_at text table = table + size_of text
+
+-- Jumps look up in the table at `jumps`.
+module _ (text : Words) (graph : Graph) (jumps : ℕ) (codes : ℕ → List ℕ) where
   abbrev pub image_by : Addr → Node → ℕ → Instr → List Item
   image_by address node word (i.Branch cond annul disp22) = branch_image text graph address node cond
   image_by address node word (i.Call disp30) =
       call_piece address (node_number graph node) (record { 0 = way_out text graph node kinds.Call })
   image_by address node word (i.Jmpl rd rs1 op2) =
-      jump_piece (free_register rd rs1 op2) rd rs1 op2 address (node_number graph node)
+      find_piece (free_register rd rs1 op2) (other_register rd rs1 op2) rd rs1 op2 jumps address (node_number graph node)
       (record { 0 = way_out text graph node kinds.Out })
   image_by address node word instr =
-      plain_piece address (node_number graph node) (slice_index text.words word) (rest_after node word instr)
+      plain_piece address (node_number graph node) (slice_index text.words word) (rest_after text graph codes node word instr)
 
   -- the image of a word, at its address, for the block that holds it
   abbrev pub image : ℕ → List Item
@@ -124,6 +144,7 @@ module _ (text : Words) (graph : Graph) (codes : ℕ → List ℕ) where
       image_by (record { 0 = address_of text word }) (node_of graph.blocks (Some word)) word
       (decode_of (slice_index text.words word))
 
+module _ (text : Words) (graph : Graph) (codes : ℕ → List ℕ) where
   -- ---- landings
 
   -- at a landing the snippet of its block's landing edge runs, and control goes on to the word's image
@@ -139,11 +160,11 @@ module _ (text : Words) (graph : Graph) (codes : ℕ → List ℕ) where
       snippet_items codes (number ∷ []) ++ goes_on text graph edge.to (way_address text graph edge.from edge.kind)
 
 module _ (text : Words) (graph : Graph) (table : ℕ) (codes : ℕ → List ℕ) where
-  -- Behind the copy of a slot's word, and the snippet, a JMPL's target is looked up; along any other edge control goes on.
+  -- Behind the copy of a slot's word, and the snippet, a JMPL goes on at what was found; along any other edge control goes on.
   abbrev pub past_slot : Addr → ℕ → ℕ → ℕ → Edge → List Item
   past_slot address node word number edge =
       if same_kind edge.kind kinds.Out
-      then out_piece address node word (snippet_items codes (number ∷ [])) (words_of (translator table 1 2))
+      then found_piece address node word (snippet_items codes (number ∷ [])) 1
       else plain_piece address node word (goes_along text graph codes number edge)
 
   -- a transfer in a slot ends the run
@@ -160,9 +181,10 @@ module _ (text : Words) (graph : Graph) (table : ℕ) (codes : ℕ → List ℕ)
       number edge
   way_by number edge slots.Off = far_piece table
 
-  -- to the next word control falls without a way
+  -- To the next word control falls without a way. The piece that stands for it is never run; it ends in a Jump, as the
+  -- ways do.
   abbrev pub way_along : ℕ → Edge → List Item
-  way_along number edge = if is_fall edge.kind then [] else way_by number edge edge.slot
+  way_along number edge = if is_fall edge.kind then jump_to 0 else way_by number edge edge.slot
 
   -- the ways along some edges, the first of which has this number
   abbrev pub ways_from : ℕ → List Edge → List (List Item)
@@ -173,7 +195,7 @@ module _ (text : Words) (graph : Graph) (table : ℕ) (codes : ℕ → List ℕ)
 
   unfoldable pub piece_list : List (List Item)
   piece_list =
-      map (image text graph codes) (below (length text.words)) ++ ways_from 0 (own_edges graph)
+      map (image text graph (jumps_at text table) codes) (below (length text.words)) ++ ways_from 0 (own_edges graph)
       ++ map (landing text graph codes) (below (length text.words)) ++ foreign_piece ∷ []
 
 -- the pieces by what they are for: a word has one image, whatever the node
@@ -187,13 +209,16 @@ pieces_in text graph table codes = record {
 
 -- ---- what they promise
 
--- the table leads from each word of the text to its landing, and from all other addresses to the foreign piece
-pub record IsTableFor (text : Words) (graph : Graph) (p : Placement) (table : TableAt) : Type 0 where
+-- The table leads from each word of the text to its landing, or to its image where that does as well, and from all other
+-- addresses to the foreign piece.
+pub record IsTableFor (text : Words) (graph : Graph) (snips : List (List Op)) (p : Placement) (table jumps : TableAt)
+    : Type 0 where
   pub whole : IsTable table
+  pub behind : jumps.base ≡ jumps_at text table.base
   pub words : (a word : ℕ) → a < 2 ^ 32 → a % 4 ≡ 0 → word_at text a ≡ Some word
-      → looked_up table a ≡ slice_index p.at (landing_number text graph word)
+      → found_in jumps a ≡ slice_index p.at (lands_at text graph snips word)
   pub others : (a : ℕ) → a < 2 ^ 32 → a % 4 ≡ 0 → word_at text a ≡ None
-      → looked_up table a ≡ slice_index p.at (foreign_number text graph)
+      → found_in jumps a ≡ slice_index p.at (foreign_number text graph)
 
 -- the place of a slot behind the text, where some edge has one, is where the table begins
 abbrev pub IsOffNoted : Setting → ℕ → Type 0
@@ -211,6 +236,6 @@ abbrev pub PiecesMakeImages : Type 0
 PiecesMakeImages =
     (g : Setting) (codes : ℕ → List ℕ) (base : ℕ) (p : Placement) (place : ℕ → ℕ → ℕ) (f : Frame) → IsText g.text
     → IsPlaced g (pieces_in g.text (graph_in g) f.table.base codes) base p place f
-    → IsTableFor g.text (graph_in g) p f.table → f.table.base < base → IsOffNoted g f.table.base
+    → IsTableFor g.text (graph_in g) g.snips p f.table f.halves → f.table.base < base → IsOffNoted g f.table.base
     → Simulates g (IsOpen g) (Here g (pieces_in g.text (graph_in g) f.table.base codes) base p f)
     (HasShortForms (piece_list g.text (graph_in g) f.table.base codes) place)

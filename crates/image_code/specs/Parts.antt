@@ -14,8 +14,8 @@ use Rattle.cfg_normal.specs.declared.Edge.{Edge}
 use Rattle.cfg_normal.specs.Graph.{Graph, edges_of, graph_of}
 use Rattle.layout.specs.declared.items.Item.{Item}
 use Rattle.layout.specs.declared.items.Item.TheVariants as it
-use Rattle.jump_code.specs.FreeRegister.{free_register}
-use Rattle.jump_code.specs.Pieces.{call_piece, far_piece, jump_piece}
+use Rattle.jump_code.specs.FreeRegister.{free_register, other_register}
+use Rattle.jump_code.specs.Pieces.{call_piece, far_piece, find_piece}
 use Rattle.image_code.specs.declared.parts.Next.{Next}
 use Rattle.image_code.specs.declared.parts.Next.TheVariants as next
 use Rattle.snippets.specs.declared.snippet.Op.{Op}
@@ -69,22 +69,23 @@ abbrev pub edges_after : Instr → ℕ
 edges_after (i.Branch cond annul disp22) = branch_ways cond
 edges_after _ = 1
 
--- the image of a word that says this, in a block whose edges have their ways from a piece on
-abbrev pub image_from : Addr → ℕ → ℕ → PieceNo → List Item → Instr → List Item
-image_from address node word first rest (i.Branch cond annul disp22) = branch_from address node cond first.0
-image_from address node word first rest (i.Call disp30) = call_piece address node first
-image_from address node word first rest (i.Jmpl rd rs1 op2) =
-    jump_piece (free_register rd rs1 op2) rd rs1 op2 address node first
-image_from address node word first rest _ = plain_piece address node word rest
+-- the image of a word that says this, in a block whose edges have their ways from a piece on; jumps
+-- look up in the table there
+abbrev pub image_from : ℕ → Addr → ℕ → ℕ → PieceNo → List Item → Instr → List Item
+image_from jumps address node word first rest (i.Branch cond annul disp22) = branch_from address node cond first.0
+image_from jumps address node word first rest (i.Call disp30) = call_piece address node first
+image_from jumps address node word first rest (i.Jmpl rd rs1 op2) =
+    find_piece (free_register rd rs1 op2) (other_register rd rs1 op2) rd rs1 op2 jumps address node first
+image_from jumps address node word first rest _ = plain_piece address node word rest
 
 -- how control goes on after a word that is no transfer, with a snippet's words before
 abbrev pub rest_of : Words → ℕ → List ℕ → List Item
 rest_of text word code = map it.Word code ++ next_to text word
 
 -- the image of a word of the text, behind which a snippet's words may stand
-abbrev pub image_in : Words → ℕ → ℕ → PieceNo → List ℕ → List Item
-image_in text word node first code =
-    image_from (record { 0 = address_of text word }) node (slice_index text.words word) first (rest_of text word code)
+abbrev pub image_in : Words → ℕ → ℕ → ℕ → PieceNo → List ℕ → List Item
+image_in text jumps word node first code =
+    image_from jumps (record { 0 = address_of text word }) node (slice_index text.words word) first (rest_of text word code)
     (decode_of (slice_index text.words word))
 
 -- the way along an edge whose snippet has these words
@@ -95,6 +96,11 @@ way_with text graph table code edge = way_along text graph table (λ number. cod
 abbrev pub copy_with : Words → Graph → ℕ → List ℕ → Addr → ℕ → ℕ → Edge → List Item
 copy_with text graph table code address node word edge =
     slot_copy text graph table (λ number. code) address node word 0 edge
+
+-- the piece to which the table leads from word 0 of a block, if that were in it, by the operations on its landing's edge
+abbrev pub first_with : List Op → ℕ → ℕ
+first_with [] landing = 0
+first_with (op ∷ ops) landing = landing
 
 -- a landing at a word, where the snippet has these words
 abbrev pub landing_with : List ℕ → ℕ → List Item

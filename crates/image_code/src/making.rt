@@ -1,5 +1,6 @@
 //! The pieces of a text: one pass over its words, by blocks, one over the edges, and one over the landings.
 
+ghost use Rattle.addr_translate.specs.Table.{size_of as table_size_of};
 ghost use Rattle.std.specs.Prelude.{◌≡◌, ◌+◌, ◌*◌, ◌^◌, ◌<◌, ◌≤◌, ◌%◌, ◌++◌, ℕ, [], length, map, slice_index, All, IfOk, OnOk};
 ghost use Rattle.std.specs.Int.{w32, cast_unsigned};
 ghost use Rattle.std.specs.List.{range_with_len};
@@ -9,8 +10,8 @@ ghost use Rattle.cfg_normal.specs.Graph.{IsEdgeIn, IsNodeIn, edges_of};
 ghost use Rattle.cfg_walk.specs.Matches.{last_in as last_in_of, target_along, way_address};
 ghost use Rattle.cfg_normal.specs.Numbers.{node_number as node_number_of};
 ghost use Rattle.image_code.specs.Codes.{CodeDoes};
-ghost use Rattle.image_code.specs.Made.{foreign_number as foreign_number_of, goes_on, image as image_of, landing as landing_of, landing_number, next_to, own_edges as own_edges_of, piece_list, ways_from};
-ghost use Rattle.image_code.specs.Parts.{IsGraphOf, codes_of, copy_with, first_way_of, image_in, items_of, landing_with, way_with};
+ghost use Rattle.image_code.specs.Made.{foreign_number as foreign_number_of, goes_on, image as image_of, is_slots as is_slots_of, jumps_at, landing as landing_of, lands_at, next_to, own_edges as own_edges_of, piece_list, ways_from};
+ghost use Rattle.image_code.specs.Parts.{IsGraphOf, codes_of, copy_with, first_way_of, first_with, image_in, items_of, landing_with, way_with};
 ghost use Rattle.liveness.specs.Sets.{dead_on};
 ghost use Rattle.snippet_code.specs.Laws.{EndLow};
 ghost use Rattle.v8_decode.specs.Words.{decode_of};
@@ -18,6 +19,7 @@ ghost use Rattle.v8_decode.specs.Words.{decode_of};
 use crate::parts::{
     self, Next, Visit, couple, edges_after, foreign, is_transfer, out, plain, way_to,
 };
+use addr_translate::table_size;
 use cfg_blocks::EdgeKind;
 use cfg_normal::{Edge, FlowGraph, Node, Slot};
 use eel_base::{Addr, BlockNo, EdgeNo, NoMemory, PieceNo, Text, WordNo};
@@ -64,21 +66,31 @@ pub fn pieces(
     requires aligned { frame.cells.0 % 4 ≡ 0 }
     requires cells { All (λ ops. EndLow frame.cells.0 ops) snips.now }
     requires table { frame.table.0 % 4096 ≡ 0 }
-    requires low { frame.table.0 < 2 ^ 31 }
+    requires low { frame.table.0 + table_size_of text.now ≤ 2 ^ 31 }
     ensures list { IfOk result (λ p. p.list.items
         ≡ piece_list text.now graph.now frame.table.0 (codes_of frame.cells.0 (dead_on live.now) snips.now)) }
     ensures codes { IfOk result (λ p. (edge : ℕ) → CodeDoes frame.cells.0 (dead_on live.now) snips.now edge) }
     ensures landing { IfOk result (λ p. map (λ (n : PieceNo). n.0) p.landing.items
-        ≡ map (landing_number text.now graph.now) (below (length text.now.words))) }
+        ≡ map (lands_at text.now graph.now snips.now) (below (length text.now.words))) }
     ensures entry { IfOk result (λ p. p.entry.0 ≡ entry.0) }
     ensures foreign { IfOk result (λ p. p.foreign.0 ≡ foreign_number_of text.now graph.now) }
 {
     let mut list = Vec::new(alloc);
-    push_images(alloc, &mut list, text, graph, snips, live, frame.cells)?;
+    let jumps = jumps_of(text, frame.table);
+    push_images(
+        alloc,
+        &mut list,
+        text,
+        graph,
+        snips,
+        live,
+        frame.cells,
+        jumps,
+    )?;
     push_ways(alloc, &mut list, text, graph, snips, live, frame)?;
     push_landings(alloc, &mut list, text, graph, snips, live, frame.cells)?;
     list.push(foreign(alloc)?)?;
-    let landing = landings(alloc, text, graph)?;
+    let landing = landings(alloc, text, graph, snips)?;
     Ok(PieceList {
         list,
         landing,
@@ -115,6 +127,14 @@ fn own_edges(graph: &FlowGraph) -> &[Edge]
     &edges[..edges.len() - graph.count() as usize]
 }
 
+// Where the jumps' table stands: behind the other one.
+fn jumps_of(text: &Text, table: Addr) -> Addr
+    requires { table.0 + table_size_of text.now ≤ 2 ^ 31 }
+    ensures { result.0 ≡ jumps_at text.now table.0 }
+{
+    Addr(table.0 + table_size(text))
+}
+
 // ---- images
 
 // Adds the images of the words, by blocks. The ways along a block's edges come one after the other, behind those of the
@@ -127,6 +147,7 @@ fn push_images(
     snips: &[Snippet],
     live: &LiveSets,
     cells: Addr,
+    jumps: Addr,
 ) -> Result<(), NoMemory>
     requires graph { IsGraphOf text.now graph.now }
     requires empty { list.now.items ≡ [] }
@@ -135,7 +156,7 @@ fn push_images(
     requires cells { All (λ ops. EndLow cells.0 ops) snips.now }
     ensures text { IsText text.now }
     ensures images { OnOk result (list.new.items
-        ≡ map (image_of text.now graph.now (codes_of cells.0 (dead_on live.now) snips.now))
+        ≡ map (image_of text.now graph.now jumps.0 (codes_of cells.0 (dead_on live.now) snips.now))
         (below (length text.now.words))) }
 {
     let mut way = text.len();
@@ -149,6 +170,7 @@ fn push_images(
             snips,
             live,
             cells,
+            jumps,
             block,
             PieceNo(way),
         )?;
@@ -186,6 +208,7 @@ fn push_block(
     snips: &[Snippet],
     live: &LiveSets,
     cells: Addr,
+    jumps: Addr,
     block: BlockNo,
     way: PieceNo,
 ) -> Result<(), NoMemory>
@@ -196,19 +219,19 @@ fn push_block(
     requires block { block.0 < length graph.now.blocks.firsts }
     requires way { way.0 ≡ first_way_of text.now graph.now block.0 }
     requires before { list.now.items
-        ≡ map (image_of text.now graph.now (codes_of cells.0 (dead_on live.now) snips.now))
+        ≡ map (image_of text.now graph.now jumps.0 (codes_of cells.0 (dead_on live.now) snips.now))
         (below (slice_index graph.now.blocks.firsts block.0)) }
     ensures { OnOk result (list.new.items
-        ≡ map (image_of text.now graph.now (codes_of cells.0 (dead_on live.now) snips.now))
+        ≡ map (image_of text.now graph.now jumps.0 (codes_of cells.0 (dead_on live.now) snips.now))
         (below (last_word_of graph.now.blocks.firsts graph.now.blocks.words block.0 + 1))) }
 {
     let edge = way.0 - text.len();
     let last = last_word(graph, block);
     for word in graph.first(block).0..last.0 {
-        list.push(image(alloc, text, WordNo(word), block, way, &[])?)?;
+        list.push(image(alloc, text, WordNo(word), block, way, jumps, &[])?)?;
     }
     let code = code_on(alloc, snips, live, cells, EdgeNo(edge))?;
-    list.push(image(alloc, text, last, block, way, &code)?)?;
+    list.push(image(alloc, text, last, block, way, jumps, &code)?)?;
     Ok(())
 }
 
@@ -220,32 +243,43 @@ fn image(
     word: WordNo,
     block: BlockNo,
     way: PieceNo,
+    jumps: Addr,
     code: &[u32],
 ) -> Result<Piece, NoMemory>
     requires word { word.0 < length text.now.words }
     requires way { way.0 + 1 < 2 ^ 32 }
-    ensures { IfOk result (λ p. p ≡ image_in text.now word.0 block.0 way code.now) }
+    ensures { IfOk result (λ p. p ≡ image_in text.now jumps.0 word.0 block.0 way code.now) }
 {
     let visit = Visit {
         address: text.address(word),
         node: block.0,
     };
     let next = next_after(text, word);
-    parts::image(alloc, visit, text.word(word), way, code, next)
+    parts::image(alloc, visit, text.word(word), way, jumps, code, next)
 }
 
 // Where control goes on after a word that is no transfer: at the image of the next word, or behind the text's last one
-// out of the text.
+// out of the text. After the slot's word of a transfer that is another piece, which may stand elsewhere.
 fn next_after(text: &Text, word: WordNo) -> Next
     requires word { word.0 < length text.now.words }
     ensures { items_of result ≡ next_to text.now word.0 }
 {
     let words = text.len();
-    if word.0 + 1 < words {
-        Next::Behind
-    } else {
+    if word.0 + 1 >= words {
         Next::Far(text.address(WordNo(words)))
+    } else if is_slots(text, word) {
+        Next::Piece(PieceNo(word.0 + 1))
+    } else {
+        Next::Behind
     }
+}
+
+// Whether a word is the slot of the transfer before it.
+fn is_slots(text: &Text, word: WordNo) -> bool
+    requires word { word.0 < length text.now.words }
+    ensures { result ≡ is_slots_of text.now word.0 }
+{
+    word.0 > 0 && is_transfer(text.word(WordNo(word.0 - 1)))
 }
 
 // ---- ways along edges
@@ -295,7 +329,7 @@ fn way(
     ensures { IfOk result (λ p. p ≡ way_with text.now graph.now table.0 code.now edge.now) }
 {
     match (edge.kind, edge.slot) {
-        (EdgeKind::Fall, _) => way_to(alloc, &[], Next::Behind),
+        (EdgeKind::Fall, _) => way_to(alloc, &[], Next::Piece(PieceNo(0))),
         (_, Slot::Nothing) => way_to(alloc, code, next_along(text, graph, edge)),
         (_, Slot::Off) => way_to(alloc, &[], Next::Far(table)),
         (_, Slot::Word(slot)) => {
@@ -339,7 +373,7 @@ fn slot_copy(
         return couple(alloc, visit);
     }
     match edge.kind {
-        EdgeKind::Out => out(alloc, visit, word, code, table),
+        EdgeKind::Out => out(alloc, visit, word, code),
         _ => plain(alloc, visit, word, code, next_along(text, graph, edge)),
     }
 }
@@ -475,18 +509,54 @@ fn first_landing(text: &Text, graph: &FlowGraph) -> u32
     text.len() + own_edges(graph).len() as u32
 }
 
-// The landings, by words.
-fn landings(alloc: Global, text: &Text, graph: &FlowGraph) -> Result<Vec<PieceNo>, NoMemory>
+// The pieces to which the table leads from the words, by blocks.
+fn landings(
+    alloc: Global,
+    text: &Text,
+    graph: &FlowGraph,
+    snips: &[Snippet],
+) -> Result<Vec<PieceNo>, NoMemory>
+    requires text { IsText text.now }
     requires graph { IsGraphOf text.now graph.now }
+    requires snips { length snips.now ≡ length graph.now.edges }
     ensures { IfOk result (λ v. map (λ (n : PieceNo). n.0) v.items
-        ≡ map (landing_number text.now graph.now) (below (length text.now.words))) }
+        ≡ map (lands_at text.now graph.now snips.now) (below (length text.now.words))) }
 {
-    let first = first_landing(text, graph);
+    let first = own_edges(graph).len() as u32;
+    let landing = first_landing(text, graph);
     let mut landings = Vec::with_capacity(alloc, text.len() as usize)?;
-    for word in 0..text.len() {
-        landings.push(PieceNo(first + word))?;
+    for block in 0..graph.count() {
+        let from = first_of(&snips[(first + block) as usize], landing);
+        push_numbers(&mut landings, graph, BlockNo(block), from)?;
     }
     Ok(landings)
+}
+
+// The first of the landings, or of the images where an edge to a block has no operation.
+fn first_of(snippet: &Snippet, landing: u32) -> u32
+    ensures { result ≡ first_with snippet.now landing }
+{
+    if snippet.ops().is_empty() { 0 } else { landing }
+}
+
+// Adds the numbers of pieces for a block's words, of which that for word 0 is `from`.
+fn push_numbers(
+    landings: &mut Vec<PieceNo>,
+    graph: &FlowGraph,
+    block: BlockNo,
+    from: u32,
+) -> Result<(), NoMemory>
+    requires block { block.0 < length graph.now.blocks.firsts }
+    requires low { from + graph.now.blocks.words ≤ 2 ^ 32 }
+    ensures { OnOk result (map (λ (n : PieceNo). n.0) landings.new.items ≡ map (λ (n : PieceNo). n.0) landings.old.items
+        ++ map (λ (word : ℕ). from + word) (range_with_len (slice_index graph.now.blocks.firsts block.0)
+        (size_of graph.now.blocks block.0))) }
+{
+    let first = graph.first(block).0;
+    for word in first..first + graph.words(block) {
+        landings.push(PieceNo(from + word))?;
+    }
+    Ok(())
 }
 
 // The foreign piece: the last one.

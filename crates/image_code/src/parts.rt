@@ -1,23 +1,22 @@
 //! The forms that pieces have.
 
 ghost use Rattle.std.specs.Prelude.{◌≡◌, ◌<◌, IfOk, OnOk, IsTrue, [], ◌++◌, ◌+◌, ◌%◌, ◌^◌, ◌≤◌, map};
-ghost use Rattle.addr_translate.specs.Translator.{translator};
 ghost use Rattle.image_code.specs.Cases.{branch_piece, plain_piece};
 ghost use Rattle.image_code.specs.Couple.{couple_piece};
 ghost use Rattle.image_code.specs.Made.{couple_word};
 ghost use Rattle.image_code.specs.Parts.{branch_from, branch_ways as branch_ways_of, edges_after as edges_after_of, image_from, items_of};
-ghost use Rattle.jump_code.specs.FreeRegister.{free_register as free_register_of};
+ghost use Rattle.jump_code.specs.FreeRegister.{free_register as free_register_of, other_register as other_register_of};
 ghost use Rattle.jump_code.specs.Links.{link};
-ghost use Rattle.jump_code.specs.Pieces.{call_piece, foreign_piece, jump_piece, out_piece, word_items};
+ghost use Rattle.jump_code.specs.Pieces.{call_piece, find_piece, foreign_piece, found_piece, word_items};
 ghost use Rattle.v8_decode.specs.Words.{decode_of};
 ghost use Rattle.v8_encode.specs.Encoding.{op2_fits};
 ghost use Rattle.v8_step.specs.Items.{is_transfer as is_transfer_of};
-ghost use Rattle.layout.specs.Emitting.{words_of};
 ghost use Rattle.layout.specs.declared.items.Item.TheVariants as it;
 
 use eel_base::{Addr, NoMemory, PieceNo};
 use jump_code::{
-    call_code, far_code, foreign_code, free_register, link_code, look_up_code, target_code,
+    call_code, far_code, find_code, foreign_code, found_code, free_register, link_code,
+    other_register,
 };
 use layout::{Item, Piece};
 use std::alloc::Global;
@@ -190,22 +189,24 @@ fn call(alloc: Global, visit: Visit, way: PieceNo) -> Result<Piece, NoMemory>
     Ok(Piece { items })
 }
 
-// A JMPL: its target, which it keeps, its link, and the way along its edge.
+// A JMPL: its target, what the table at `jumps` has for it, its link, and the way along its edge.
 fn jump(
     alloc: Global,
     visit: Visit,
     rd: Reg,
     rs1: Reg,
     op2: Op2,
+    jumps: Addr,
     way: PieceNo,
 ) -> Result<Piece, NoMemory>
     requires fits { IsTrue (op2_fits op2) }
-    ensures { IfOk result (λ p. p
-        ≡ jump_piece (free_register_of rd rs1 op2) rd rs1 op2 visit.address visit.node way) }
+    ensures { IfOk result (λ p. p ≡ find_piece (free_register_of rd rs1 op2) (other_register_of rd rs1 op2)
+        rd rs1 op2 jumps.0 visit.address visit.node way) }
 {
-    let through = free_register(rd, rs1, &op2);
+    let first = free_register(rd, rs1, &op2);
+    let second = other_register(rd, rs1, &op2);
     let mut items = vec![in alloc; visit.mark()]?;
-    push_words(&mut items, &target_code(through, rs1, op2))?;
+    push_words(&mut items, &find_code(first, second, rs1, op2, jumps))?;
     push_link(&mut items, rd, visit.address)?;
     items.push(Item::EndMark)?;
     items.push(Item::Jump(way))?;
@@ -219,17 +220,18 @@ pub fn image(
     visit: Visit,
     word: u32,
     first: PieceNo,
+    jumps: Addr,
     code: &[u32],
     next: Next,
 ) -> Result<Piece, NoMemory>
     requires low { first.0 + 1 < 2 ^ 32 }
-    ensures { IfOk result (λ p. p ≡ image_from visit.address visit.node word first
+    ensures { IfOk result (λ p. p ≡ image_from jumps.0 visit.address visit.node word first
         (map it.Word code.now ++ items_of next) (decode_of word)) }
 {
     match decode(word) {
         Instr::Branch { cond, .. } => branch(alloc, visit, cond, first),
         Instr::Call { .. } => call(alloc, visit, first),
-        Instr::Jmpl { rd, rs1, op2 } => jump(alloc, visit, rd, rs1, op2, first),
+        Instr::Jmpl { rd, rs1, op2 } => jump(alloc, visit, rd, rs1, op2, jumps, first),
         _ => plain(alloc, visit, word, code, next),
     }
 }
@@ -265,19 +267,22 @@ pub fn is_transfer(word: u32) -> bool
     )
 }
 
-/// The copy of a JMPL's slot, the code of a snippet, and behind it the look-up of the target.
-pub fn out(
-    alloc: Global,
-    visit: Visit,
-    word: u32,
-    code: &[u32],
-    table: Addr,
-) -> Result<Piece, NoMemory>
-    requires table { table.0 % 4096 ≡ 0 }
+// %g1
+fn first_register() -> Reg
+    ensures { result ≡ 1 }
+{
+    match Reg::new(1) {
+        Some(first) => first,
+        None => unreachable!(),
+    }
+}
+
+/// The copy of a JMPL's slot, the code of a snippet, and behind it the jump to what was found.
+pub fn out(alloc: Global, visit: Visit, word: u32, code: &[u32]) -> Result<Piece, NoMemory>
     ensures { IfOk result (λ p. p
-        ≡ out_piece visit.address visit.node word (map it.Word code.now) (words_of (translator table.0 1 2))) }
+        ≡ found_piece visit.address visit.node word (map it.Word code.now) 1) }
 {
     let mut items = marked(alloc, visit, word, code)?;
-    push_words(&mut items, &look_up_code(table))?;
+    push_words(&mut items, &found_code(first_register()))?;
     Ok(Piece { items })
 }

@@ -10,7 +10,6 @@ use Rattle.v8_alu.specs.Numbers.{wrapped}
 use Rattle.v8_memory.specs.Regions.{Memory, code_of}
 use Rattle.v8_step.specs.State.{State, register_of, operand_of, sum_of}
 use Rattle.v8_step.specs.Valid.{IsValid, IsValidMemory}
-use Rattle.v8_step.proofs.ValidStates.{register_of-range}
 use Rattle.v8_step.proofs.ValidSteps.{run-valid}
 use Rattle.code_runs.specs.Page.{page_word}
 use Rattle.code_runs.specs.Straight.{IsReady, StandIn}
@@ -28,20 +27,14 @@ not_four n ne = grind (arith, nat_tests)
 
 -- ---- words of the page
 
-pub word0 : IsPageWord (page_word 0)
-word0 = inl refl
-
 pub word1 : IsPageWord (page_word 1)
 word1 = inr (inl refl)
 
 pub word2 : IsPageWord (page_word 2)
 word2 = inr (inr (inl refl))
 
-pub word3 : IsPageWord (page_word 3)
-word3 = inr (inr (inr (inl refl)))
-
-pub second_word : (z : ℕ) → z ≡ page_word 1 → IsPageWord z
-second_word z e = inr (inl e)
+pub word7 : IsPageWord (page_word 7)
+word7 = inr (inr (inr (inl refl)))
 
 -- ---- blocks
 
@@ -59,7 +52,7 @@ scratch s count a b valid ready low some below others within differ = record {
   differ = differ;
 }
 
-pub after_valid : (s : State) (count : ℕ) (May : ℕ → Type 0) (a b n : ℕ) (m : Memory) (x y : ℕ) → IsValid s
+after_valid : (s : State) (count : ℕ) (May : ℕ → Type 0) (a b n : ℕ) (m : Memory) (x y : ℕ) → IsValid s
     → (w : Works s count May a b n m x y) → IsValid w.after
 after_valid s count May a b n m x y v w = subst IsValid w.path.steps (run-valid s n v)
 
@@ -67,11 +60,6 @@ pub memory_valid : (s : State) (count : ℕ) (May : ℕ → Type 0) (a b n : ℕ
     → Works s count May a b n m x y → IsValidMemory m
 memory_valid s count May a b n m x y v w =
     let k = after_valid s count May a b n m x y v w in subst IsValidMemory w.alike.memory k.memory
-
-pub first_range : (s : State) (count : ℕ) (May : ℕ → Type 0) (a b n : ℕ) (m : Memory) (x y : ℕ) → IsValid s
-    → Works s count May a b n m x y → x < 2 ^ 32
-first_range s count May a b n m x y v w =
-    subst (λ z. z < 2 ^ 32) w.alike.first (register_of-range w.after a (after_valid s count May a b n m x y v w))
 
 -- ---- sums, and addresses
 

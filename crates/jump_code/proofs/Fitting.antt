@@ -12,9 +12,9 @@ use Rattle.v8_memory.specs.Regions.{Region}
 use Rattle.code_runs.specs.LongJump.{long_jump}
 use Rattle.code_runs.specs.Straight.{Says, StandIn, HasWords}
 use Rattle.layout.specs.Emitting.{words_of}
-use Rattle.jump_code.specs.Jumps.{IsApart, jump_image}
+use Rattle.jump_code.specs.Finding.{find_image}
+use Rattle.jump_code.specs.FreeRegister.{IsApart}
 use Rattle.jump_code.specs.Links.{link}
-use Rattle.jump_code.specs.LookUps.{look_up}
 
 abbrev pub Fit : List Instr → Type 0
 Fit [] = Unit {0}
@@ -48,15 +48,56 @@ link_fits (suc r) address low short =
     let high = lt (address / 1024) (2 ^ 22) (omega arith) in
     (l, high, (both_registers, lt (address % 1024) 4096 (omega arith), tt))
 
-pub jump_fits : (x rd rs1 : ℕ) (op2 : Op2) (address : ℕ) → IsApart x rd rs1 op2 → op2_fits op2 ≡ true
-    → op2_in_range op2 ≡ true → address < 2 ^ 32 → Fit (jump_image x rd rs1 op2 address)
-jump_fits x rd rs1 op2 address a fits low short =
+-- a JMPL
+pub find_fits : (x y rd rs1 : ℕ) (op2 : Op2) (table address : ℕ) → IsApart x rd rs1 op2 → IsApart y rd rs1 op2
+    → op2_fits op2 ≡ true → op2_in_range op2 ≡ true → table < 2 ^ 32 → address < 2 ^ 32
+    → Fit (find_image x y rd rs1 op2 table address)
+find_fits x y rd rs1 op2 table address a b fits low near short =
     let lx = lt x 32 a.below in
-    let only = both (nat_lt x 32) true lx refl in
-    let twice = both (nat_lt x 32) _ lx only in
+    let ly = lt y 32 b.below in
+    let x_only = both (nat_lt x 32) true lx refl in
+    let y_only = both (nat_lt y 32) true ly refl in
+    let y_by_x = both (nat_lt y 32) _ ly x_only in
+    let y_by_y = both (nat_lt y 32) _ ly y_only in
+    let at_both = both (nat_lt x 32) (nat_lt y 32) lx ly in
+    let at_either = both (nat_lt y 32) (nat_lt x 32) ly lx in
+    let y_there = both (nat_lt y 32) _ ly at_both in
+    let x_there = both (nat_lt x 32) _ lx at_either in
     let sum = both (nat_lt x 32) _ lx (both (nat_lt rs1 32) _ (lt rs1 32 a.rs1_below) low) in
-    let links = link_fits rd address a.rd_below short in
-    (only, refl, (sum, fits, (only, refl, (twice, refl, (twice, refl, (only, refl, links))))))
+    let high = lt (table / 1024) (2 ^ 22) (omega arith) in
+    let links = link_fits rd address a.rd_below short in (
+      x_only,
+      refl,
+      (
+        y_only,
+        refl,
+        (
+          sum,
+          fits,
+          (
+            x_only,
+            refl,
+            (
+              y_by_x,
+              refl,
+              (
+                y_by_y,
+                refl,
+                (
+                  lx,
+                  high,
+                  (
+                    y_there,
+                    refl,
+                    (sum, fits, (x_there, refl, (x_only, refl, (y_only, refl, links)))),
+                  ),
+                ),
+              ),
+            ),
+          ),
+        ),
+      ),
+    )
 
 pub long_jump_fits : (to : ℕ) → to < 2 ^ 32 → Fit (long_jump to)
 long_jump_fits to short =
@@ -66,15 +107,3 @@ long_jump_fits to short =
 pub as_many : (xs : List Instr) → length (words_of xs) ≡ length xs
 as_many [] = refl
 as_many (x ∷ xs) = ap suc (as_many xs)
-
--- the last instructions of a look-up
-abbrev past : ℕ → ℕ → List Instr
-past n base = drop n (look_up base)
-
-pub look_up_fits : (base : ℕ) → base < 2 ^ 32 → Fit (look_up base)
-look_up_fits base short =
-    let high = lt (base / 1024) (2 ^ 22) (omega arith) in
-    let last : Fit (past 14 base) = (refl, refl, (refl, refl, (refl, refl, (refl, refl, tt)))) in
-    let more : Fit (past 10 base) = (refl, refl, (refl, refl, (refl, refl, (refl, refl, last)))) in
-    let rest : Fit (past 7 base) = (refl, refl, (refl, refl, (refl, refl, more))) in
-    (refl, refl, (refl, refl, (refl, refl, (refl, refl, (refl, refl, (refl, refl, (refl, high, rest)))))))

@@ -12,8 +12,8 @@ use Rattle.layout.specs.Emitting.{words_of}
 use Rattle.layout.specs.Laid.{IsLaid, Placement, Stands, item_at, item_in}
 use Rattle.layout.specs.Running.{HasCode}
 use Rattle.layout.proofs.Going.{word_is}
-use Rattle.jump_code.proofs.Fitting.{words_mean, link_fits, jump_fits, as_many, Fit}
-use Rattle.jump_code.specs.Jumps.{jump_image}
+use Rattle.jump_code.proofs.Fitting.{words_mean, link_fits, find_fits, as_many, Fit}
+use Rattle.jump_code.specs.Finding.{find_image}
 use Rattle.jump_code.specs.Links.{link}
 use Rattle.jump_code.specs.Pieces.{word_items, marked_piece, MarkedIsLaid, PiecesAreLaid}
 
@@ -87,9 +87,9 @@ pieces_are_laid pieces base p place laid m has k piece is =
     let stands = λ (z : List Item) (e : piece ≡ z).
     subst (λ (o : List Item). AllStand base p m has (place k) o 0) e stand in
     record {
-      jump = λ x rd rs1 op2 address node way apart fits low short e.
-          marked_laid base p m has (place k) (jump_image x rd rs1 op2 address.0) address node way
-          (jump_fits x rd rs1 op2 address.0 apart fits low short) (stands _ e);
+      find = λ x y rd rs1 op2 table address node way apart other fits low near short e.
+          marked_laid base p m has (place k) (find_image x y rd rs1 op2 table address.0) address node way
+          (find_fits x y rd rs1 op2 table address.0 apart other fits low near short) (stands _ e);
       call = λ address node way short e.
           marked_laid base p m has (place k) (link 15 address.0) address node way
           (link_fits 15 address.0 (omega arith) short) (stands _ e);

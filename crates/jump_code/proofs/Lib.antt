@@ -1,9 +1,8 @@
 pub mod Blocks
-pub mod CodeWords
+pub mod FindFollowing
+pub mod Finding
 pub mod Fitting
-pub mod Following
 pub mod Laid
 pub mod Leaving
 pub mod Linking
-pub mod LookingUp
-pub mod Targets
+pub mod Swaps

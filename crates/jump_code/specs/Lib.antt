@@ -1,9 +1,8 @@
+pub mod Finding
 pub mod FreeRegister
 pub mod Jumped
-pub mod Jumps
 pub mod Leaving
 pub mod Links
-pub mod LookUps
 pub mod PageWords
 pub mod Pieces
 pub mod Words

@@ -14,10 +14,10 @@ use Rattle.layout.specs.declared.items.Item.TheVariants as it
 use Rattle.layout.specs.Emitting.{words_of}
 use Rattle.layout.specs.Laid.{Placement, IsLaid}
 use Rattle.layout.specs.Running.{HasCode}
-use Rattle.jump_code.specs.Jumps.{IsApart, jump_image}
+use Rattle.jump_code.specs.Finding.{find_image, go_found}
+use Rattle.jump_code.specs.FreeRegister.{IsApart}
 use Rattle.jump_code.specs.Leaving.{foreign}
 use Rattle.jump_code.specs.Links.{link}
-use Rattle.jump_code.specs.LookUps.{look_up_first, look_up_last}
 
 -- ---- lists of items
 
@@ -28,19 +28,18 @@ word_items xs = map it.Word (words_of xs)
 abbrev pub marked_piece : List Instr → Addr → ℕ → PieceNo → List Item
 marked_piece xs address node way = it.Mark address node ∷ (word_items xs ++ it.EndMark ∷ it.Jump way ∷ [])
 
--- the image of a JMPL, with its scratch register
-abbrev pub jump_piece : ℕ → ℕ → ℕ → Op2 → Addr → ℕ → PieceNo → List Item
-jump_piece x rd rs1 op2 address = marked_piece (jump_image x rd rs1 op2 address.0) address
+-- the image of a JMPL, with its two registers, and the table there
+abbrev pub find_piece : ℕ → ℕ → ℕ → ℕ → Op2 → ℕ → Addr → ℕ → PieceNo → List Item
+find_piece x y rd rs1 op2 table address = marked_piece (find_image x y rd rs1 op2 table address.0) address
 
 -- that of a CALL
 abbrev pub call_piece : Addr → ℕ → PieceNo → List Item
 call_piece address = marked_piece (link 15 address.0) address
 
--- the edge of a JMPL: the slot's word in its Mark, the snippet, and the look-up with the translator's words
-abbrev pub out_piece : Addr → ℕ → ℕ → List Item → List ℕ → List Item
-out_piece address node word snippet translator =
-    it.Mark address node ∷ it.Word word ∷ it.EndMark
-    ∷ (snippet ++ (word_items look_up_first ++ (map it.Word translator ++ word_items look_up_last)))
+-- the edge of a JMPL: the slot's word in its Mark, the snippet, and the jump to what was found
+abbrev pub found_piece : Addr → ℕ → ℕ → List Item → ℕ → List Item
+found_piece address node word snippet x =
+    it.Mark address node ∷ it.Word word ∷ it.EndMark ∷ (snippet ++ word_items (go_found x))
 
 -- the piece to which the table leads every address outside the text
 abbrev pub foreign_piece : List Item
@@ -60,10 +59,10 @@ pub record MarkedIsLaid (code : List Region) (place : ℕ → ℕ) (xs : List In
 
 -- The words of piece k stand where the laws of jumps ask for them, if it is one of these.
 pub record WordsAreLaid (piece : List Item) (code : List Region) (place : ℕ → ℕ) : Type 0 where
-  pub jump : (x rd rs1 : ℕ) (op2 : Op2) (address : Addr) (node : ℕ) (way : PieceNo) → IsApart x rd rs1 op2
-      → op2_fits op2 ≡ true → op2_in_range op2 ≡ true → address.0 < 2 ^ 32
-      → piece ≡ jump_piece x rd rs1 op2 address node way
-      → MarkedIsLaid code place (jump_image x rd rs1 op2 address.0)
+  pub find : (x y rd rs1 : ℕ) (op2 : Op2) (table : ℕ) (address : Addr) (node : ℕ) (way : PieceNo)
+      → IsApart x rd rs1 op2 → IsApart y rd rs1 op2 → op2_fits op2 ≡ true → op2_in_range op2 ≡ true → table < 2 ^ 32
+      → address.0 < 2 ^ 32 → piece ≡ find_piece x y rd rs1 op2 table address node way
+      → MarkedIsLaid code place (find_image x y rd rs1 op2 table address.0)
   pub call : (address : Addr) (node : ℕ) (way : PieceNo) → address.0 < 2 ^ 32 → piece ≡ call_piece address node way
       → MarkedIsLaid code place (link 15 address.0)
 

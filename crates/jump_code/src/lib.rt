@@ -1,28 +1,33 @@
-//! What becomes of calls, jumps and look-ups in new code: their words, and what machines do there.
+//! What becomes of calls and jumps in new code: their words, and what machines do there.
 #![tactic(auto)]
 
-ghost use Rattle.jump_code.specs.Jumped.{CallsSimulate, JumpsSimulate};
-ghost use Rattle.jump_code.specs.Jumps.{JumpsAct};
+ghost use Rattle.jump_code.specs.Finding.{FindsAct, FindsSimulate, FoundHops};
+ghost use Rattle.jump_code.specs.Jumped.{CallsSimulate};
 ghost use Rattle.jump_code.specs.Leaving.{FarGoes, ForeignLeaves};
 ghost use Rattle.jump_code.specs.Links.{CallsAct};
-ghost use Rattle.jump_code.specs.LookUps.{LookUpsHop};
 ghost use Rattle.jump_code.specs.Pieces.{PiecesAreLaid};
 
 mod code;
 mod registers;
 mod single;
 
-pub use code::{call_code, far_code, foreign_code, link_code, look_up_code, target_code};
-pub use registers::free_register;
+pub use code::{call_code, far_code, find_code, foreign_code, found_code, link_code};
+pub use registers::{free_register, other_register};
 
-/// The words of a JMPL write its link and keep its target where that is aligned, and else end the run as the JMPL does.
-pub fn jumps_act()
-    ensures { JumpsAct }
+/// The words of a JMPL write its link, and keep its target and what the table has for that, where the target is aligned;
+/// else they end the run as the JMPL does.
+pub fn finds_act()
+    ensures { FindsAct }
 {}
 
 /// So they do what the original's step does at its own address.
-pub fn jumps_simulate()
-    ensures { JumpsSimulate }
+pub fn finds_simulate()
+    ensures { FindsSimulate }
+{}
+
+/// Behind the slot's copy the machine goes on at what was found.
+pub fn found_hops()
+    ensures { FoundHops }
 {}
 
 /// The words of a CALL write its link.
@@ -33,11 +38,6 @@ pub fn calls_act()
 /// That is what the original's step does, but for where it goes on.
 pub fn calls_simulate()
     ensures { CallsSimulate }
-{}
-
-/// The look-up goes on at what the table has for the address that waits.
-pub fn look_ups_hop()
-    ensures { LookUpsHop }
 {}
 
 /// The foreign piece goes on at the address that waits.

@@ -29,7 +29,7 @@ fn word_of(instr: Instr) -> u32
 
 // Word n of the editor's page, from %g0.
 fn of_page_word(n: u8) -> Op2
-    requires few { n < 4 }
+    requires few { n < 8 }
     ensures { result ≡ of_page n }
 {
     Op2::Imm(4 * n as i32 - 4096)
@@ -37,7 +37,7 @@ fn of_page_word(n: u8) -> Op2
 
 /// A register goes into word n of the editor's page.
 pub fn keep(rd: Reg, n: u8) -> u32
-    requires few { n < 4 }
+    requires few { n < 8 }
     ensures word { result ≡ word_in (i.Store stores.ST rd 0 (of_page n)) }
     ensures decodes { decode_of result ≡ i.Store stores.ST rd 0 (of_page n) }
 {
@@ -49,35 +49,18 @@ pub fn keep(rd: Reg, n: u8) -> u32
     })
 }
 
-// A load of word n of the editor's page, or past it.
-fn load(rd: Reg, rs1: Reg, n: u8) -> u32
-    requires few { n < 4 }
-    ensures word { result ≡ word_in (i.Load loads.LD rd rs1 (of_page n)) }
-    ensures decodes { decode_of result ≡ i.Load loads.LD rd rs1 (of_page n) }
+/// A register comes out of word n of the editor's page.
+pub fn take(rd: Reg, n: u8) -> u32
+    requires few { n < 8 }
+    ensures word { result ≡ word_in (i.Load loads.LD rd 0 (of_page n)) }
+    ensures decodes { decode_of result ≡ i.Load loads.LD rd 0 (of_page n) }
 {
     word_of(Instr::Load {
         kind: LoadKind::LD,
         rd,
-        rs1,
+        rs1: register(0),
         op2: of_page_word(n),
     })
-}
-
-/// A register comes out of word n of the editor's page.
-pub fn take(rd: Reg, n: u8) -> u32
-    requires few { n < 4 }
-    ensures word { result ≡ word_in (i.Load loads.LD rd 0 (of_page n)) }
-    ensures decodes { decode_of result ≡ i.Load loads.LD rd 0 (of_page n) }
-{
-    load(rd, register(0), n)
-}
-
-/// A register takes the word that is as many bytes behind the editor's page as it says.
-pub fn take_past(rd: Reg) -> u32
-    ensures word { result ≡ word_in (i.Load loads.LD rd rd (of_page 0)) }
-    ensures decodes { decode_of result ≡ i.Load loads.LD rd rd (of_page 0) }
-{
-    load(rd, rd, 0)
 }
 
 /// A sum.
@@ -103,20 +86,6 @@ pub fn add_low(rd: Reg, address: u32) -> u32
     add(rd, rd, Op2::Imm((address % 1024) as i32))
 }
 
-/// The low two bits of a register.
-pub fn low_bits(rd: Reg) -> u32
-    ensures word { result ≡ word_in (i.Alu ops.AND false rd rd (o.Imm (pos 3))) }
-    ensures decodes { decode_of result ≡ i.Alu ops.AND false rd rd (o.Imm (pos 3)) }
-{
-    word_of(Instr::Alu {
-        op: AluOp::AND,
-        cc: false,
-        rd,
-        rs1: rd,
-        op2: Op2::Imm(3),
-    })
-}
-
 /// The high part of an address.
 pub fn high_part(rd: Reg, address: u32) -> u32
     ensures word { result ≡ word_in (i.Sethi rd (address / 1024)) }
@@ -125,18 +94,6 @@ pub fn high_part(rd: Reg, address: u32) -> u32
     word_of(Instr::Sethi {
         rd,
         imm22: address / 1024,
-    })
-}
-
-/// A jump to where %g1 says.
-pub fn jump_by_g1() -> u32
-    ensures word { result ≡ word_in (i.Jmpl 0 1 (o.Imm (pos 0))) }
-    ensures decodes { decode_of result ≡ i.Jmpl 0 1 (o.Imm (pos 0)) }
-{
-    word_of(Instr::Jmpl {
-        rd: register(0),
-        rs1: register(1),
-        op2: Op2::Imm(0),
     })
 }
 
@@ -149,5 +106,71 @@ pub fn jump_past_g1(address: u32) -> u32
         rd: register(0),
         rs1: register(1),
         op2: Op2::Imm((address % 1024) as i32),
+    })
+}
+
+/// A register takes the word at the sum of two others.
+pub fn take_at(rd: Reg, rs1: Reg, rs2: Reg) -> u32
+    ensures word { result ≡ word_in (i.Load loads.LD rd rs1 (o.Reg rs2)) }
+    ensures decodes { decode_of result ≡ i.Load loads.LD rd rs1 (o.Reg rs2) }
+{
+    word_of(Instr::Load {
+        kind: LoadKind::LD,
+        rd,
+        rs1,
+        op2: Op2::Reg(rs2),
+    })
+}
+
+/// The high half of a register.
+pub fn high_half(rd: Reg, rs1: Reg) -> u32
+    ensures word { result ≡ word_in (i.Alu ops.SRL false rd rs1 (o.Imm (pos 16))) }
+    ensures decodes { decode_of result ≡ i.Alu ops.SRL false rd rs1 (o.Imm (pos 16)) }
+{
+    word_of(Instr::Alu {
+        op: AluOp::SRL,
+        cc: false,
+        rd,
+        rs1,
+        op2: Op2::Imm(16),
+    })
+}
+
+/// A register times four.
+pub fn times_four(rd: Reg) -> u32
+    ensures word { result ≡ word_in (i.Alu ops.SLL false rd rd (o.Imm (pos 2))) }
+    ensures decodes { decode_of result ≡ i.Alu ops.SLL false rd rd (o.Imm (pos 2)) }
+{
+    word_of(Instr::Alu {
+        op: AluOp::SLL,
+        cc: false,
+        rd,
+        rs1: rd,
+        op2: Op2::Imm(2),
+    })
+}
+
+/// A jump to where a register says.
+pub fn jump_by(rs1: Reg) -> u32
+    ensures word { result ≡ word_in (i.Jmpl 0 rs1 (o.Imm (pos 0))) }
+    ensures decodes { decode_of result ≡ i.Jmpl 0 rs1 (o.Imm (pos 0)) }
+{
+    word_of(Instr::Jmpl {
+        rd: register(0),
+        rs1,
+        op2: Op2::Imm(0),
+    })
+}
+
+/// A register and word n of the editor's page are exchanged.
+pub fn exchange(rd: Reg, n: u8) -> u32
+    requires few { n < 8 }
+    ensures word { result ≡ word_in (i.Swap rd 0 (of_page n)) }
+    ensures decodes { decode_of result ≡ i.Swap rd 0 (of_page n) }
+{
+    word_of(Instr::Swap {
+        rd,
+        rs1: register(0),
+        op2: of_page_word(n),
     })
 }

@@ -37,8 +37,8 @@ image_of-entry-requires c =
     let work = c.requires.asked.3 in
     let plan = plan_of marks c.args.asked.now in
     let new = c.in_ok-new.new in
-    rw c.deref.ensures.value (entry_inside c.args.bytes.now plan c.args.view.now view new.placed new.table
-    c.in_ok-new.ensures.built c.in_ok-new.ensures.base c.in_ok-new.ensures.leads
+    rw c.deref.ensures.value (entry_inside c.args.bytes.now plan c.args.view.now view new.placed new.tables.items
+    c.in_ok-new.ensures.built c.in_ok-new.ensures.leads
     (original_fit pieces_fit c.args.bytes.now plan can work c.in_ok-new.ensures.built.dead) c.entry.result.0
     (rw c.entry.ensures.word c.entry.ensures.inside))
 
@@ -50,9 +50,9 @@ write_notes-requires c =
     let work = c.requires.asked.3 in
     let new = c.in_ok-new.new in
     let plan = plan_of marks c.args.asked.now in
-    let code = code_is c.args.bytes.now plan c.args.view.now view new.placed new.table c.in_ok-new.ensures.built
-    c.in_ok-new.ensures.base c.in_ok-new.ensures.leads c.in_ok-added.ensures.code
-    c.in_ok-added.ensures.table in
+    let code = code_is c.args.bytes.now plan c.args.view.now view new.placed new.tables.items
+    c.in_ok-new.ensures.built c.in_ok-new.ensures.leads c.in_ok-added.ensures.code
+    c.in_ok-added.ensures.tables in
     rw (c.in_ok-notes.ensures marks view) (notes_meet_rules c.args.bytes.now plan c.requires.limit can work _ _ _ code
     (original_fit pieces_fit c.args.bytes.now plan can work code.dead))
 
@@ -64,9 +64,9 @@ write_around-requires-clause-original c =
     let work = c.requires.asked.3 in
     let new = c.in_ok-new.new in
     let plan = plan_of marks c.args.asked.now in
-    let code = code_is c.args.bytes.now plan c.args.view.now view new.placed new.table c.in_ok-new.ensures.built
-    c.in_ok-new.ensures.base c.in_ok-new.ensures.leads c.in_ok-added.ensures.code
-    c.in_ok-added.ensures.table in
+    let code = code_is c.args.bytes.now plan c.args.view.now view new.placed new.tables.items
+    c.in_ok-new.ensures.built c.in_ok-new.ensures.leads c.in_ok-added.ensures.code
+    c.in_ok-added.ensures.tables in
     rw (
       c.deref-2.ensures.value,
       c.in_ok-added.ensures.segments,
@@ -82,9 +82,9 @@ pub returns : goal.returns
 returns c = λ marks view.
     let new = c.in_ok-new.new in
     let plan = plan_of marks c.args.asked.now in
-    let code = code_is c.args.bytes.now plan c.args.view.now view new.placed new.table c.in_ok-new.ensures.built
-    c.in_ok-new.ensures.base c.in_ok-new.ensures.leads c.in_ok-added.ensures.code
-    c.in_ok-added.ensures.table in
+    let code = code_is c.args.bytes.now plan c.args.view.now view new.placed new.tables.items
+    c.in_ok-new.ensures.built c.in_ok-new.ensures.leads c.in_ok-added.ensures.code
+    c.in_ok-added.ensures.tables in
     record {
       p = _;
       place = _;

@@ -1,9 +1,11 @@
 use Rattle.std.proofs.Common.{◌≡◌, map}
 use Rattle.eel_base.specs.declared.numbers.PieceNo.{PieceNo}
 use Rattle.cfg_blocks.specs.Blocks.{below}
-use Rattle.image_code.specs.Made.{landing_number}
+use Rattle.image_code.specs.Made.{lands_at}
+use Rattle.image_code.specs.Parts.{begin_of}
 use Rattle.image_code.proofs.making.landings.Given as goal
 
-abbrev pub invariant-loop-word : goal.invariant-loop-word
-invariant-loop-word l =
-    map (λ (n : PieceNo). n.0) l.landings.items ≡ map (landing_number l.text l.graph) (below l.word)
+abbrev pub invariant-loop-block : goal.invariant-loop-block
+invariant-loop-block l =
+    map (λ (n : PieceNo). n.0) l.landings.items
+    ≡ map (lands_at l.text l.graph l.snips) (below (begin_of l.graph.blocks l.block))

@@ -1,10 +1,10 @@
-use Rattle.std.proofs.Common.{◌≡◌, ◌+◌, List, [], ◌∷◌, ◌++◌, length, map, ap, ◌∙◌, subst, arith}
+use Rattle.std.proofs.Common.{◌≡◌, ℕ, ◌+◌, List, [], ◌∷◌, ◌++◌, length, map, ap, ◌∙◌, subst, arith}
 use Rattle.cfg_blocks.specs.Blocks.{below}
 use Rattle.layout.specs.declared.items.Item.{Item}
 use Rattle.jump_code.specs.Pieces.{foreign_piece}
 use Rattle.liveness.specs.Sets.{dead_on}
 use Rattle.image_code.specs.Codes.{CodeDoes}
-use Rattle.image_code.specs.Made.{landing, own_edges, piece_list, ways_from}
+use Rattle.image_code.specs.Made.{image, landing, own_edges, piece_list, ways_from}
 use Rattle.image_code.specs.Parts.{codes_of}
 use Rattle.image_code.proofs.Codes.{all_do}
 use Rattle.image_code.proofs.making.pieces.Goals as goal
@@ -23,7 +23,8 @@ returns-clause-list c =
     ∙ ap (λ (pieces : List (List Item)). pieces ++ map (landing text graph codes) (below (length text.words)))
     (c.in_ok-push_ways.ensures.ways
     ∙ ap (λ (pieces : List (List Item)). pieces ++ ways_from text graph table codes 0 (own_edges graph))
-    c.in_ok-push_images.ensures.images))
+    (c.in_ok-push_images.ensures.images
+    ∙ ap (λ (n : ℕ). map (image text graph n codes) (below (length text.words))) c.jumps_of-jumps.ensures)))
 
 pub returns-clause-codes : goal.returns-clause-codes
 returns-clause-codes c =

@@ -9,7 +9,7 @@ use Rattle.image_code.proofs.making.push_block.Goals as goal
 pub loop-word-init : goal.loop-word-init
 loop-word-init c =
     c.requires.before
-    ∙ ap (λ (n : ℕ). map (image_of c.args.text.now c.args.graph.now (codes_of c.args.cells.0 (dead_on c.args.live.now) c.args.snips.now))
+    ∙ ap (λ (n : ℕ). map (image_of c.args.text.now c.args.graph.now c.args.jumps.0 (codes_of c.args.cells.0 (dead_on c.args.live.now) c.args.snips.now))
     (below n)) (sym c.first-word.ensures.first)
 
 pub image-requires-clause-word : goal.image-requires-clause-word
@@ -30,7 +30,7 @@ image-requires-clause-way c =
 pub loop-word-preserved : goal.loop-word-preserved
 loop-word-preserved c =
     let same = words_are c.args.text.now c.args.graph.now c.requires.graph in
-    inside_pushed c.args.text.now c.args.graph.now (codes_of c.args.cells.0 (dead_on c.args.live.now) c.args.snips.now) c.requires.graph
+    inside_pushed c.args.text.now c.args.graph.now c.args.jumps.0 (codes_of c.args.cells.0 (dead_on c.args.live.now) c.args.snips.now) c.requires.graph
     (omega (arith, c.last_word-last.ensures.within)) c.args.block.0 c.requires.block c.args.way c.requires.way
     c.loop-word.word (omega (arith, c.last_word-last.ensures.within, c.loop-word-test.true))
     (omega (arith, c.loop-word.auto.word, c.first-word.ensures.first)) c.loop-word.list.items c.push.new.self.items _
@@ -72,14 +72,14 @@ returns c =
     ) in
     let edge : c.args.way.0 - c.len.result ≡ edges_before graph.blocks c.args.block.0 =
     omega (arith, c.requires.way, c.len.ensures.count) in
-    last_pushed text graph (codes_of c.args.cells.0 (dead_on c.args.live.now) c.args.snips.now) c.requires.graph some c.args.block.0
+    last_pushed text graph c.args.jumps.0 (codes_of c.args.cells.0 (dead_on c.args.live.now) c.args.snips.now) c.requires.graph some c.args.block.0
     c.requires.block c.args.way c.requires.way c.last_word-last.result.0
     (omega (arith, c.last_word-last.ensures.within)) (omega (arith, c.last_word-last.ensures.word))
     c.loop-word.list.items c.push-2.new.self.items _ c.in_ok-push-2.ensures.items
-    (c.loop-word.invariant ∙ ap (λ (n : ℕ). map (image_of c.args.text.now c.args.graph.now
+    (c.loop-word.invariant ∙ ap (λ (n : ℕ). map (image_of c.args.text.now c.args.graph.now c.args.jumps.0
     (codes_of c.args.cells.0 (dead_on c.args.live.now) c.args.snips.now)) (below n)) end)
     c.last_word-last.ensures.word c.deref.result.now
     (c.deref.ensures.value ∙ c.in_ok-code.ensures.code ∙ ap (codes_of c.args.cells.0 (dead_on c.args.live.now) c.args.snips.now) edge)
     c.in_ok-image-2.ensures
-    ∙ ap (λ (n : ℕ). map (image_of c.args.text.now c.args.graph.now (codes_of c.args.cells.0 (dead_on c.args.live.now) c.args.snips.now))
+    ∙ ap (λ (n : ℕ). map (image_of c.args.text.now c.args.graph.now c.args.jumps.0 (codes_of c.args.cells.0 (dead_on c.args.live.now) c.args.snips.now))
     (below (n + 1))) c.last_word-last.ensures.word

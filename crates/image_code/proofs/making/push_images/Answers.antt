@@ -9,7 +9,7 @@ use Rattle.image_code.proofs.making.push_images.Goals as goal
 pub loop-block-init : goal.loop-block-init
 loop-block-init c = (
   c.requires.empty
-      ∙ ap (λ (n : ℕ). map (image_of c.args.text.now c.args.graph.now (codes_of c.args.cells.0 (dead_on c.args.live.now) c.args.snips.now))
+      ∙ ap (λ (n : ℕ). map (image_of c.args.text.now c.args.graph.now c.args.jumps.0 (codes_of c.args.cells.0 (dead_on c.args.live.now) c.args.snips.now))
       (below n))
       (sym (begin_first c.args.text.now c.args.graph.now c.requires.graph c.len-way.ensures.text.some)),
   c.len-way.ensures.count ∙ way_first c.args.text.now c.args.graph.now,
@@ -18,7 +18,7 @@ loop-block-init c = (
 pub push_block-requires-clause-before : goal.push_block-requires-clause-before
 push_block-requires-clause-before c =
     c.loop-block.invariant.0
-    ∙ ap (λ (n : ℕ). map (image_of c.args.text.now c.args.graph.now (codes_of c.args.cells.0 (dead_on c.args.live.now) c.args.snips.now))
+    ∙ ap (λ (n : ℕ). map (image_of c.args.text.now c.args.graph.now c.args.jumps.0 (codes_of c.args.cells.0 (dead_on c.args.live.now) c.args.snips.now))
     (below n))
     (begin_at c.args.graph.now.blocks c.loop-block.block
     (omega (arith, c.loop-block-test.true, c.count-block-end.ensures.count)))
@@ -32,7 +32,7 @@ overflow_add-way c =
 pub loop-block-preserved : goal.loop-block-preserved
 loop-block-preserved c = (
   c.in_ok-push_block.ensures
-      ∙ ap (λ (n : ℕ). map (image_of c.args.text.now c.args.graph.now (codes_of c.args.cells.0 (dead_on c.args.live.now) c.args.snips.now))
+      ∙ ap (λ (n : ℕ). map (image_of c.args.text.now c.args.graph.now c.args.jumps.0 (codes_of c.args.cells.0 (dead_on c.args.live.now) c.args.snips.now))
       (below n))
       (sym (begin_after c.args.text.now c.args.graph.now c.requires.graph c.len-way.ensures.text.some c.loop-block.block
       (omega (arith, c.loop-block-test.true, c.count-block-end.ensures.count)))),
@@ -43,7 +43,7 @@ loop-block-preserved c = (
 pub returns-clause-images : goal.returns-clause-images
 returns-clause-images c =
     c.loop-block.invariant.0
-    ∙ ap (λ (n : ℕ). map (image_of c.args.text.now c.args.graph.now (codes_of c.args.cells.0 (dead_on c.args.live.now) c.args.snips.now))
+    ∙ ap (λ (n : ℕ). map (image_of c.args.text.now c.args.graph.now c.args.jumps.0 (codes_of c.args.cells.0 (dead_on c.args.live.now) c.args.snips.now))
     (below n))
     (begin_last c.args.text.now c.args.graph.now c.requires.graph c.loop-block.block
     (omega (arith, c.loop-block-test.false, c.count-block-end.ensures.count)))

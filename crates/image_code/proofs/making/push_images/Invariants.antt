@@ -8,5 +8,5 @@ use Rattle.image_code.proofs.making.push_images.Given as goal
 abbrev pub invariant-loop-block : goal.invariant-loop-block
 invariant-loop-block l =
     (l.list.items
-    ≡ map (image_of l.text l.graph (codes_of l.cells.0 (dead_on l.live) l.snips)) (below (begin_of l.graph.blocks l.block)))
+    ≡ map (image_of l.text l.graph l.jumps.0 (codes_of l.cells.0 (dead_on l.live) l.snips)) (below (begin_of l.graph.blocks l.block)))
     × (l.way ≡ first_way_of l.text l.graph l.block)

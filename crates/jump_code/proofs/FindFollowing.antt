@@ -1,0 +1,121 @@
+-- The image of a JMPL that looks its target up follows the original's step.
+use Rattle.std.proofs.Common.{◌≡◌, ◌≢◌, ℕ, ◌+◌, ◌%◌, ◌⊎◌, inl, inr, Some, None, length, refl, ap, sym, ◌∙◌, subst, arith}
+use Rattle.std.specs.Prelude.{◌==◌, pos}
+use Rattle.v8_decode.specs.declared.Op2.{Op2}
+use Rattle.v8_decode.specs.declared.Op2.TheVariants.{Reg, Imm}
+use Rattle.v8_memory.specs.Regions.{Memory, code_of}
+use Rattle.v8_alu.specs.Numbers.{wrapped}
+use Rattle.v8_step.specs.declared.Ending.{Ending}
+use Rattle.v8_step.specs.declared.Ending.TheVariants.{Trap}
+use Rattle.v8_step.specs.declared.Slot.TheVariants.{NoSlot}
+use Rattle.v8_step.specs.State.{State, register_of, with_register, sum_of}
+use Rattle.v8_step.specs.Traps.{mem_address_not_aligned}
+use Rattle.v8_step.specs.Transfers.{delayed, trapped}
+use Rattle.code_runs.specs.Leads.{Leads}
+use Rattle.code_runs.specs.Page.{page_word, of_page}
+use Rattle.code_runs.specs.Points.{moved}
+use Rattle.code_runs.specs.StoredWords.{store_word, Stores}
+use Rattle.code_runs.specs.TwoRegisters.{IsBetween, Works}
+use Rattle.code_runs.proofs.Acts.{jump_acts, jump_traps}
+use Rattle.code_runs.proofs.Hops.{equal_or_not, hops_through}
+use Rattle.code_runs.proofs.LongJump.{says_at}
+use Rattle.code_runs.proofs.StoredWords.{can_load, memory_word-range, still_stored, word_stored}
+use Rattle.v8_step.proofs.ValidStates.{register_of-range}
+use Rattle.code_runs.proofs.TwoRegisters.{block_rules}
+use Rattle.addr_translate.specs.Lookup.{TableAt}
+use Rattle.addr_translate.specs.Halves.{found_in}
+use Rattle.jump_code.specs.Finding.{ComesFound, EndsFinding, FindsSimulate, FoundHops, IsAboutToFind, find_image, found_memory}
+use Rattle.jump_code.specs.Jumped.{jumped}
+use Rattle.jump_code.specs.Links.{past}
+use Rattle.jump_code.specs.PageWords.{IsPageWord, found_there}
+use Rattle.jump_code.proofs.Blocks.{four, not_four, scratch, word7}
+use Rattle.jump_code.proofs.Finding.{another, finds_act}
+use Rattle.jump_code.proofs.Swaps.{swap_first}
+
+module _ (x y rd rs1 : ℕ) (op2 : Op2) (address : ℕ) (t : TableAt) (s : State)
+    (h : IsAboutToFind x y rd rs1 op2 address t s) where
+  -- the target doesn't depend on the place
+  sum_moved : (o : Op2) → sum_of (moved address (wrapped (address + 4)) NoSlot s) rs1 o ≡ sum_of s rs1 o
+  sum_moved (Reg r) = refl
+  sum_moved (Imm n) = refl
+
+  abbrev gone_on : State
+  gone_on =
+      delayed (with_register (moved address (wrapped (address + 4)) NoSlot s) rd address) (sum_of s rs1 op2)
+
+  pub goes : sum_of s rs1 op2 % 4 ≡ 0 → jumped address rd rs1 op2 s ≡ gone_on
+  goes e =
+      jump_acts (moved address (wrapped (address + 4)) NoSlot s) rd rs1 op2 (sum_of s rs1 op2) refl (sum_moved op2)
+      (four (sum_of s rs1 op2) e)
+
+  pub stops : sum_of s rs1 op2 % 4 ≢ 0 → jumped address rd rs1 op2 s ≡ trapped
+      (moved address (wrapped (address + 4)) NoSlot s) mem_address_not_aligned
+  stops ne =
+      jump_traps (moved address (wrapped (address + 4)) NoSlot s) rd rs1 op2 refl
+      (ap (λ z. z % 4 == 0) (sum_moved op2) ∙ not_four (sum_of s rs1 op2) ne)
+
+  abbrev count : ℕ
+  count = length (find_image x y rd rs1 op2 t.base address)
+
+  abbrev m : Memory
+  m = found_memory s x y rs1 op2 t
+
+  comes : sum_of s rs1 op2 % 4 ≡ 0 → ComesFound x y rd rs1 op2 address t s count
+  comes e =
+      let k = (finds_act x y rd rs1 op2 address t s h).0 e in
+      let g = goes e in
+      record {
+        path = subst (λ (z : State). Leads (IsBetween s count IsPageWord) s (past s count m z) count) (sym g) k.path;
+        silent = k.silent;
+        stores = subst (λ (z : Memory). Stores IsPageWord z m) (ap (λ (z : State). z.memory) (sym g)) k.stores;
+        waits = k.target ∙ ap (λ (z : State). z.npc) (sym g);
+        found = k.found ∙ ap (λ (z : State). found_in t z.npc) (sym g);
+      }
+
+  going : (jumped address rd rs1 op2 s).ending ≡ None → ComesFound x y rd rs1 op2 address t s count
+  going live = go (equal_or_not (sum_of s rs1 op2 % 4) 0)
+    where
+      never : Some (Trap mem_address_not_aligned) ≡ None → ⊥
+      never k = cc
+
+      go : (sum_of s rs1 op2 % 4 ≡ 0) ⊎ (sum_of s rs1 op2 % 4 ≢ 0) → ComesFound x y rd rs1 op2 address t s count
+      go (inl e) = comes e
+      go (inr ne) = absurd (never (sym (ap (λ (z : State). z.ending) (stops ne)) ∙ live))
+
+  ending_alike : (ending : Ending) → (jumped address rd rs1 op2 s).ending ≡ Some ending → EndsFinding x y s ending
+  ending_alike ending is = go (equal_or_not (sum_of s rs1 op2 % 4) 0)
+    where
+      never : None ≡ Some ending → ⊥
+      never k = cc
+
+      go : (sum_of s rs1 op2 % 4 ≡ 0) ⊎ (sum_of s rs1 op2 % 4 ≢ 0) → EndsFinding x y s ending
+      go (inl e) = absurd (never (sym (ap (λ (z : State). z.ending) (goes e) ∙ h.ready.live) ∙ is))
+      go (inr ne) =
+          let k = (finds_act x y rd rs1 op2 address t s h).1 ne in
+          record { traps = k; same = k.ending ∙ sym (ap (λ (z : State). z.ending) (stops ne)) ∙ is }
+
+pub finds_simulate : FindsSimulate
+finds_simulate x y rd rs1 op2 address t s h =
+    (going x y rd rs1 op2 address t s h, ending_alike x y rd rs1 op2 address t s h)
+
+pub found_hops : FoundHops
+found_hops x s h =
+    let code = code_of s.memory in
+    let o = another x in
+    let g = register_of s x in
+    let to = found_there s in
+    let m = store_word s.memory (page_word 7) (register_of s x) in
+    let r = memory_word-range s.memory (page_word 7) h.valid.memory in
+    let c = scratch s 3 x o.0 h.valid h.ready h.low h.some h.below o.1 o.2 o.3 in
+    let rules = block_rules s 3 IsPageWord x o.0 c in
+    let p7 = h.page 7 (omega arith) in
+    let w : Works s 3 IsPageWord x o.0 1 m (found_there s) (register_of s o.0) =
+    swap_first s 3 IsPageWord x o.0 c 0 s.memory (register_of s x) (register_of s o.0) 0 (of_page 7) (page_word 7)
+    (found_there s) rules.none (omega arith, says_at code _ _ _ (omega arith) h.words.0)
+    (record { sums = λ u k. refl; aligned = refl }) p7 refl word7 in
+    hops_through s 3 IsPageWord x o.0 c 1 m (found_there s) (found_there s) (Imm (pos 0)) (of_page 7) (page_word 7)
+    w (omega arith) (omega arith) (four (found_there s) h.aligned)
+    (says_at code _ _ _ (omega arith) h.words.1.0) (says_at code _ _ _ (omega arith) h.words.1.1.0)
+    (λ u k. ap (λ z. wrapped (z + 0)) k.first ∙ (let e : wrapped (to + 0) ≡ to = omega (arith, r) in e)) (λ u. refl) refl
+    (can_load m (page_word 7) (still_stored s.memory (page_word 7) (page_word 7) g p7))
+    (word_stored s.memory (page_word 7) g (register_of-range s x h.valid) p7)
