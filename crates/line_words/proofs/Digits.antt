@@ -1,5 +1,5 @@
 -- Hexadecimal digits.
-use Rattle.std.proofs.Common.{◌≡◌, ℕ, ◌+◌, ◌*◌, ◌/◌, ◌%◌, ◌^◌, ◌<◌, ◌≤◌, nat_lt, List, [], ◌∷◌, Some, refl, ap, ◌∙◌, arith}
+use Rattle.std.proofs.Common.{◌≡◌, ℕ, ◌+◌, ◌*◌, ◌/◌, ◌%◌, ◌^◌, ◌<◌, ◌≤◌, nat_lt, List, [], ◌∷◌, Some, refl, ap, subst, ◌∙◌, arith}
 use Rattle.std.specs.Str.{bytes_eq}
 use Rattle.std.proofs.lemmas.Bool.{cond_both, le-ltb, lt-ltb, ltb-true, ltb-false}
 use Rattle.std.proofs.lemmas.Slice.Eq.{bytes_eq-Decides}
@@ -61,9 +61,15 @@ pub address_back : (n : ℕ) → n < 2 ^ 32 → hex_number_of (hex_of n) ≡ Som
 unfolding hex_number_of
 address_back n fits = rw (value_back n fits, (bytes_eq-Decides (hex_of n) (hex_of n)).1 refl) refl
 
+value_below : (high : ℕ) (word : List ℕ) → high < 2 ^ 32 → hex_value high word < 2 ^ 32
+value_below high [] low = low
+value_below high (byte ∷ bytes) low = value_below ((high * 16 + digit_of byte) % 2 ^ 32) bytes (omega arith)
+
 -- and nothing else is
-pub address_read : (word : List ℕ) (n : ℕ) → hex_number_of word ≡ Some n → word ≡ hex_of n
+pub address_read : (word : List ℕ) (n : ℕ) → hex_number_of word ≡ Some n → (word ≡ hex_of n) × (n < 2 ^ 32)
 unfolding hex_number_of
 address_read word n h =
-    let found = tested (bytes_eq word (hex_of (hex_value 0 word))) (hex_value 0 word) n h in
-    (bytes_eq-Decides word (hex_of (hex_value 0 word))).0 found.0 ∙ ap hex_of found.1
+    let found = tested (bytes_eq word (hex_of (hex_value 0 word))) (hex_value 0 word) n h in (
+      (bytes_eq-Decides word (hex_of (hex_value 0 word))).0 found.0 ∙ ap hex_of found.1,
+      subst (λ (m : ℕ). m < 2 ^ 32) found.1 (value_below 0 word (omega arith)),
+    )

@@ -1,5 +1,5 @@
 -- Words, and a byte behind each.
-use Rattle.std.proofs.Common.{◌≡◌, ℕ, suc, ◌+◌, ◌^◌, ◌<◌, ◌==◌, not, Bool, true, List, [], ◌∷◌, ◌++◌, length, take, drop, get_or, Some, refl, ap, sym, subst, ◌∙◌, arith, decimal}
+use Rattle.std.proofs.Common.{◌≡◌, ℕ, suc, ◌+◌, ◌^◌, ◌<◌, ◌==◌, not, Bool, true, false, List, [], ◌∷◌, ◌++◌, length, take, drop, get_or, Some, refl, ap, sym, subst, ◌∙◌, arith, decimal}
 use Rattle.std.specs.Prelude.{nat_le}
 use Rattle.std.specs.List.{list_all, position, position_or_len}
 use Rattle.std.proofs.lemmas.Bool.{and_parts, and_from, lt-ltb, leb-true, eqb-true, eq-eqb, ne_eqb}
@@ -15,21 +15,22 @@ use Rattle.line_words.proofs.Numbers.{own}
 abbrev pub is_whole : ℕ → List ℕ → Bool
 is_whole mark word = list_all (λ byte. not (byte == mark)) word
 
+-- the digits of a number
+pub decimal_digits : (n : ℕ) → n < 2 ^ 32 → list_all is_digit (decimal n) ≡ true
+decimal_digits n fits = digits_decimal own n (omega arith)
+
 module _ (mark : ℕ) where
-  digit_whole : mark < 48 → (byte : ℕ) → is_digit byte ≡ true → not (byte == mark) ≡ true
-  digit_whole below byte h =
-      let parts = and_parts (nat_le 48 byte) (nat_le byte 57) h in
-      let low = leb-true 48 byte parts.0 in
-      rw (ne_eqb byte mark (λ is. absurd (omega arith))) refl
+  digit_whole : is_digit mark ≡ false → (byte : ℕ) → is_digit byte ≡ true → not (byte == mark) ≡ true
+  digit_whole other byte h = rw (ne_eqb byte mark (λ is. cc (ap is_digit (sym is) ∙ h, other))) refl
 
-  digits_whole : mark < 48 → (word : List ℕ) → list_all is_digit word ≡ true → is_whole mark word ≡ true
-  digits_whole below [] h = refl
-  digits_whole below (byte ∷ word) h =
+  digits_whole : is_digit mark ≡ false → (word : List ℕ) → list_all is_digit word ≡ true → is_whole mark word ≡ true
+  digits_whole other [] h = refl
+  digits_whole other (byte ∷ word) h =
       let parts = and_parts (is_digit byte) (list_all is_digit word) h in
-      and_from (not (byte == mark)) (is_whole mark word) (digit_whole below byte parts.0) (digits_whole below word parts.1)
+      and_from (not (byte == mark)) (is_whole mark word) (digit_whole other byte parts.0) (digits_whole other word parts.1)
 
-  pub decimal_whole : mark < 48 → (n : ℕ) → n < 2 ^ 32 → is_whole mark (decimal n) ≡ true
-  decimal_whole below n fits = digits_whole below (decimal n) (digits_decimal own n (omega arith))
+  pub decimal_whole : is_digit mark ≡ false → (n : ℕ) → n < 2 ^ 32 → is_whole mark (decimal n) ≡ true
+  decimal_whole other n fits = digits_whole other (decimal n) (decimal_digits n fits)
 
   mark_after : (word rest : List ℕ) → is_whole mark word ≡ true
       → position_or_len (λ byte. byte == mark) (word ++ (mark ∷ rest)) ≡ length word

@@ -19,5 +19,6 @@ pub record NothingElseReads : Type 0 where
   pub splits : (mark : ℕ) (bytes : List ℕ) (parts : List ℕ × List ℕ) → split_at mark bytes ≡ Some parts
       → bytes ≡ parts.0 ++ (mark ∷ parts.1)
   pub numbers : (word : List ℕ) (n : ℕ) → number_of word ≡ Some n → (word ≡ decimal n) × (n < 2 ^ 32)
-  pub addresses : (word : List ℕ) (n : ℕ) → hex_number_of word ≡ Some n → word ≡ hex_of n
+  pub addresses : (word : List ℕ) (n : ℕ) → hex_number_of word ≡ Some n
+      → (word ≡ hex_of n) × (n < 2 ^ 32)
   pub registers : (word : List ℕ) (reg : ℕ) → register_of word ≡ Some reg → (word ≡ register_text reg) × (reg < 32)

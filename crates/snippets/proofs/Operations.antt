@@ -138,9 +138,9 @@ operation_back line edge op is =
     let first = decimal edge ++ (32 ∷ second) in
     let small = cell_small op is.op_fits in
     let verb = ap (split_at 32) (is.text ∙ line_spaced edge op) ∙ split_back 32 (codes "edge") first refl in
-    let at_edge = split_back 32 (decimal edge) second (decimal_whole 32 (omega arith) edge is.edge_fits) in
+    let at_edge = split_back 32 (decimal edge) second (decimal_whole 32 refl edge is.edge_fits) in
     let at_kind = split_back 32 (kind_text op) third (kind_whole op) in
-    let at_cell = split_back 32 (decimal (cell_of op)) operand (decimal_whole 32 (omega arith) (cell_of op) small) in
+    let at_cell = split_back 32 (decimal (cell_of op)) operand (decimal_whole 32 refl (cell_of op) small) in
     let edge_is = number_back edge is.edge_fits in
     let cell_is = number_back (cell_of op) small in
     words_back line first (decimal edge) second (kind_text op) third (decimal (cell_of op)) operand
