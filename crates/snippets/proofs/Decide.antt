@@ -1,5 +1,5 @@
 -- What a snippet makes of the cells depends on the registers alone that it names.
-use Rattle.std.proofs.Common.{◌≡◌, ℕ, zero, suc, ◌<◌, true, ◌&&◌, max, nat_lt, List, [], ◌∷◌, get_or, set, refl, ap, sym, ◌∙◌, arith}
+use Rattle.std.proofs.Common.{◌≡◌, ℕ, zero, suc, ◌<◌, true, max, List, [], ◌∷◌, get_or, set, refl, ap, sym, ◌∙◌, arith}
 use Rattle.std.specs.List.{All}
 use Rattle.std.proofs.lemmas.Bool.{and_from, lt-ltb, or_left, or_right}
 use Rattle.v8_decode.specs.declared.Part.TheVariants.{Reg}
@@ -7,7 +7,7 @@ use Rattle.v8_decode.specs.Parts.{has, is_member, is_same}
 use Rattle.v8_decode.proofs.Members.{has-members, is_same-self}
 use Rattle.snippets.specs.declared.snippet.Op.{Op}
 use Rattle.snippets.specs.declared.snippet.Op.TheVariants.{Add, Put, Keep, Top}
-use Rattle.snippets.specs.Cells.{named_by, read_by, update, value_after}
+use Rattle.snippets.specs.Cells.{read_by, update, value_after}
 use Rattle.snippets.specs.Grammar.{IsOp}
 use Rattle.snippets.specs.Laws.{NamedRegistersDecide}
 use Rattle.snippets.specs.Ops.{cell_of}

@@ -1,5 +1,5 @@
 -- Operations on edges.
-use Rattle.std.proofs.Common.{◌≡◌, ℕ, ◌<◌, ◌^◌, true, List, ◌∷◌, ◌++◌, Some, inl, inr, decimal, codes, refl, ap, ap₂, sym, subst, ◌∙◌}
+use Rattle.std.proofs.Common.{◌≡◌, ℕ, ◌<◌, ◌^◌, true, List, ◌∷◌, ◌++◌, Some, inl, inr, decimal, codes, refl, ap, ap₂, sym, subst, ◌∙◌, arith}
 use Rattle.std.specs.Option.{option_map}
 use Rattle.std.specs.Str.{bytes_eq}
 use Rattle.std.proofs.lemmas.Slice.Eq.{bytes_eq-Decides}
@@ -7,11 +7,11 @@ use Rattle.snippets.specs.declared.snippet.Op.{Op}
 use Rattle.snippets.specs.declared.snippet.Op.TheVariants.{Add, Put, Keep, Top}
 use Rattle.snippets.specs.Ops.{cell_of}
 use Rattle.snippets.specs.Grammar.{IsLine, IsOp, line_text, register_text}
-use Rattle.snippets.specs.Parts.{after_edge, number_of, op_of, operation_of, register_of, split_word}
-use Rattle.snippets.proofs.Steps.{chosen, mapped, step, tested}
-use Rattle.snippets.proofs.Numbers.{number_back, number_read}
-use Rattle.snippets.proofs.Registers.{register_back, register_read}
-use Rattle.snippets.proofs.Split.{decimal_whole, is_whole, split_back, split_read}
+use Rattle.snippets.specs.Parts.{after_edge, number_of, op_of, operation_of, register_of, split_at}
+use Rattle.line_words.proofs.Steps.{chosen, mapped, step, tested}
+use Rattle.line_words.proofs.Numbers.{number_back, number_read}
+use Rattle.line_words.proofs.Registers.{register_back, register_read}
+use Rattle.line_words.proofs.Split.{decimal_whole, is_whole, split_back, split_read}
 
 abbrev kind_text : Op → List ℕ
 kind_text (Add cell amount) = codes "add"
@@ -101,7 +101,7 @@ cell_small (Put cell value) fits = fits.0
 cell_small (Keep cell reg) fits = fits.0
 cell_small (Top cell reg) fits = fits.0
 
-kind_whole : (op : Op) → is_whole (kind_text op) ≡ true
+kind_whole : (op : Op) → is_whole 32 (kind_text op) ≡ true
 kind_whole (Add cell amount) = refl
 kind_whole (Put cell value) = refl
 kind_whole (Keep cell reg) = refl
@@ -120,9 +120,9 @@ line_spaced edge (Top cell reg) = refl
 
 -- words that can be read
 words_back : (line first edge_word second kind third cell_word operand : List ℕ) (edge cell : ℕ) (op : Op)
-    → split_word line ≡ Some (codes "edge", first) → split_word first ≡ Some (edge_word, second)
-    → number_of edge_word ≡ Some edge → split_word second ≡ Some (kind, third)
-    → split_word third ≡ Some (cell_word, operand) → number_of cell_word ≡ Some cell
+    → split_at 32 line ≡ Some (codes "edge", first) → split_at 32 first ≡ Some (edge_word, second)
+    → number_of edge_word ≡ Some edge → split_at 32 second ≡ Some (kind, third)
+    → split_at 32 third ≡ Some (cell_word, operand) → number_of cell_word ≡ Some cell
     → op_of kind cell operand ≡ Some op
     → operation_of line ≡ Some (edge, op)
 unfolding operation_of
@@ -137,10 +137,10 @@ operation_back line edge op is =
     let second = kind_text op ++ (32 ∷ third) in
     let first = decimal edge ++ (32 ∷ second) in
     let small = cell_small op is.op_fits in
-    let verb = ap split_word (is.text ∙ line_spaced edge op) ∙ split_back (codes "edge") first refl in
-    let at_edge = split_back (decimal edge) second (decimal_whole edge is.edge_fits) in
-    let at_kind = split_back (kind_text op) third (kind_whole op) in
-    let at_cell = split_back (decimal (cell_of op)) operand (decimal_whole (cell_of op) small) in
+    let verb = ap (split_at 32) (is.text ∙ line_spaced edge op) ∙ split_back 32 (codes "edge") first refl in
+    let at_edge = split_back 32 (decimal edge) second (decimal_whole 32 refl edge is.edge_fits) in
+    let at_kind = split_back 32 (kind_text op) third (kind_whole op) in
+    let at_cell = split_back 32 (decimal (cell_of op)) operand (decimal_whole 32 refl (cell_of op) small) in
     let edge_is = number_back edge is.edge_fits in
     let cell_is = number_back (cell_of op) small in
     words_back line first (decimal edge) second (kind_text op) third (decimal (cell_of op)) operand
@@ -151,9 +151,9 @@ glue word rest = word ++ (32 ∷ rest)
 
 -- words that were read
 joined : (line : List ℕ) (first : List ℕ × List ℕ) (rest : List ℕ) (second third fourth : List ℕ × List ℕ)
-    (edge cell : ℕ) (op : Op) → split_word line ≡ Some first → after_edge first ≡ Some rest
-    → split_word rest ≡ Some second → number_of second.0 ≡ Some edge → split_word second.1 ≡ Some third
-    → split_word third.1 ≡ Some fourth
+    (edge cell : ℕ) (op : Op) → split_at 32 line ≡ Some first → after_edge first ≡ Some rest
+    → split_at 32 rest ≡ Some second → number_of second.0 ≡ Some edge → split_at 32 second.1 ≡ Some third
+    → split_at 32 third.1 ≡ Some fourth
     → number_of fourth.0 ≡ Some cell → op_of third.0 cell fourth.1 ≡ Some op → IsLine line edge op
 unfolding glue
 joined line first rest second third fourth edge cell op a b c d e f g h =
@@ -163,10 +163,10 @@ joined line first rest second third fourth edge cell op a b c d e f g h =
     let cell_is = number_read fourth.0 cell g in
     let op_is = op_read third.0 cell fourth.1 op h in
     let cell_text = cell_is.0 ∙ ap decimal (sym op_is.same_cell) in
-    let at_cell = split_read third.1 fourth f ∙ ap₂ glue cell_text op_is.same_operand in
-    let at_kind = split_read second.1 third e ∙ ap₂ glue op_is.same_kind at_cell in
-    let at_edge = split_read rest second c ∙ ap₂ glue edge_is.0 at_kind in
-    let whole = split_read line first a ∙ ap₂ glue begins (verb.1 ∙ at_edge) in
+    let at_cell = split_read 32 third.1 fourth f ∙ ap₂ glue cell_text op_is.same_operand in
+    let at_kind = split_read 32 second.1 third e ∙ ap₂ glue op_is.same_kind at_cell in
+    let at_edge = split_read 32 rest second c ∙ ap₂ glue edge_is.0 at_kind in
+    let whole = split_read 32 line first a ∙ ap₂ glue begins (verb.1 ∙ at_edge) in
     record { text = whole ∙ sym (line_spaced edge op); edge_fits = edge_is.1; op_fits = op_is.fits cell_is.1 }
 
 -- The line is the one that was read.
@@ -177,12 +177,12 @@ IsRead line found = IsLine line found.0 found.1
 pub operation_read : (line : List ℕ) (found : ℕ × Op) → operation_of line ≡ Some found → IsLine line found.0 found.1
 unfolding operation_of IsRead
 operation_read line =
-    step (IsRead line) (split_word line) _ (λ first a.
+    step (IsRead line) (split_at 32 line) _ (λ first a.
     step (IsRead line) (after_edge first) _ (λ rest b.
-    step (IsRead line) (split_word rest) _ (λ second c.
+    step (IsRead line) (split_at 32 rest) _ (λ second c.
     step (IsRead line) (number_of second.0) _ (λ edge d.
-    step (IsRead line) (split_word second.1) _ (λ third e.
-    step (IsRead line) (split_word third.1) _ (λ fourth f.
+    step (IsRead line) (split_at 32 second.1) _ (λ third e.
+    step (IsRead line) (split_at 32 third.1) _ (λ fourth f.
     step (IsRead line) (number_of fourth.0) _ (λ cell g.
     step (IsRead line) (op_of third.0 cell fourth.1) _ (λ op h found same.
     subst (IsRead line) (cc same) (joined line first rest second third fourth edge cell op a b c d e f g h)))))))))

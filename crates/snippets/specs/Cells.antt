@@ -1,9 +1,9 @@
 -- What a snippet makes of the cells: words of 32 bits, which it changes one operation after the other. Registers are
 -- those of the current window, as they are when the snippet runs.
-use Rattle.std.specs.Prelude.{◌≡◌, ℕ, ◌+◌, ◌%◌, ◌^◌, ◌<◌, ◌==◌, max, if◌then◌else◌, Bool, List, [], ◌∷◌, get_or, set, All}
+use Rattle.std.specs.Prelude.{ℕ, ◌+◌, ◌%◌, ◌^◌, ◌<◌, max, List, [], ◌∷◌, get_or, set, All}
 use Rattle.v8_decode.specs.declared.Part.{Part}
 use Rattle.v8_decode.specs.declared.Part.TheVariants.{Reg}
-use Rattle.v8_decode.specs.Parts.{is_member, set_of}
+use Rattle.v8_decode.specs.Parts.{set_of}
 use Rattle.snippets.specs.declared.snippet.Op.{Op}
 use Rattle.snippets.specs.declared.snippet.Op.TheVariants.{Add, Put, Keep, Top}
 use Rattle.snippets.specs.Ops.{cell_of}

@@ -5,7 +5,7 @@ use Rattle.snippets.specs.declared.snippet.Op.TheVariants.{Add, Put, Keep, Top}
 use Rattle.snippets.specs.declared.script.ScriptFault.TheVariants as faults
 use Rattle.snippets.specs.Grammar.{Said, Nothing, Does, Wrong, lines_of, line_text, register_text}
 use Rattle.snippets.specs.Scripts.{cell_end, end_of, fault_at, fault_of, snips_of}
-use Rattle.snippets.specs.Parts.{split_word, number_of, register_of, op_of, operation_of, said_of}
+use Rattle.snippets.specs.Parts.{split_at, number_of, register_of, op_of, operation_of, said_of}
 
 -- how lines are spelled
 
@@ -32,7 +32,7 @@ inside = codes "edge 1 add 0 3" ∷ codes "edge 0 put 10 0" ∷ codes "edge 2 ke
 
 good : map said_of inside
     ≡ Does 1 (Add 0 3) ∷ Does 0 (Put 10 0) ∷ Does 2 (Keep 2 8) ∷ Does 1 (Top 1 2) ∷ Nothing ∷ Nothing ∷ []
-unfolding said_of operation_of op_of register_of number_of split_word
+unfolding said_of operation_of op_of register_of number_of split_at
 good = refl
 
 abbrev outside : List (List ℕ)
@@ -43,7 +43,7 @@ outside =
     ∷ codes "edge 1 keep 0 1" ∷ codes "edge 1 keep 0 %g8" ∷ codes "edge 1 keep 0 %sp" ∷ codes "edge 1 top 0 g1" ∷ []
 
 wrong : map said_of outside ≡ map (λ _. Wrong) outside
-unfolding said_of operation_of op_of register_of number_of split_word
+unfolding said_of operation_of op_of register_of number_of split_at
 wrong = refl
 
 -- what comes of them

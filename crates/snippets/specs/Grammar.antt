@@ -7,20 +7,17 @@
 --
 -- with one space between words. Numbers are decimal, below 2^32, and have no needless zero in front. REG is %g0 to
 -- %g7, %o0 to %o7, %l0 to %l7 or %i0 to %i7. A line that is empty or begins with `#` says nothing.
-use Rattle.std.specs.Prelude.{◌≡◌, ◌<◌, ℕ, ◌+◌, ◌/◌, ◌%◌, ◌^◌, ◌==◌, List, [], ◌∷◌, slice_index, codes, decimal}
+use Rattle.std.specs.Prelude.{◌≡◌, ◌<◌, ℕ, ◌^◌, ◌==◌, List, [], ◌∷◌, codes, decimal}
 use Rattle.std.specs.List.{slice_split, join_with_byte}
 use Rattle.snippets.specs.declared.snippet.Op.{Op}
 use Rattle.snippets.specs.declared.snippet.Op.TheVariants.{Add, Put, Keep, Top}
+pub use Rattle.line_words.specs.Words.{register_text}
 pub use Rattle.snippets.specs.declared.line.Said.{Said}
 pub use Rattle.snippets.specs.declared.line.Said.TheVariants.{Nothing, Does, Wrong}
 
 -- The lines of a text end with a newline each, which the last one may lack.
 abbrev pub lines_of : List ℕ → List (List ℕ)
 lines_of bytes = slice_split (λ byte. byte == 10) bytes
-
--- `%`, the register's bank, and its number in the bank
-abbrev pub register_text : ℕ → List ℕ
-register_text reg = 37 ∷ slice_index (codes "goli") (reg / 8) ∷ (48 + reg % 8) ∷ []
 
 abbrev pub op_words : Op → List (List ℕ)
 op_words (Add cell amount) = codes "add" ∷ decimal cell ∷ decimal amount ∷ []

@@ -1,40 +1,17 @@
 -- The parts of which reading a script is made.
-use Rattle.std.specs.Prelude.{◌≡◌, ℕ, ◌+◌, ◌-◌, ◌^◌, Bool, ◌&&◌, ◌||◌, ◌==◌, not, nat_le, nat_lt, max, if◌then◌else◌, List, [], ◌∷◌, ◌++◌, length, take, drop, get_or, slice_index, slice_set, replicate, codes, Option, Some, None, ⊤}
-use Rattle.std.specs.List.{position, find, list_all, range_with_len}
-use Rattle.std.specs.Option.{option_map, option_and_then}
+use Rattle.std.specs.Prelude.{◌≡◌, ℕ, ◌+◌, ◌-◌, ◌^◌, ◌||◌, ◌==◌, nat_le, max, if◌then◌else◌, List, [], ◌∷◌, ◌++◌, length, get_or, slice_index, slice_set, replicate, codes, Option, Some, None, ⊤}
+use Rattle.std.specs.Option.{option_map}
 use Rattle.std.specs.Str.{bytes_eq}
-use Rattle.std.specs.Str.Parse.{digits_value}
 use Rattle.snippets.specs.declared.snippet.Op.{Op}
 use Rattle.snippets.specs.declared.snippet.Op.TheVariants.{Add, Put, Keep, Top}
 use Rattle.snippets.specs.declared.script.ScriptFault.{ScriptFault}
 use Rattle.snippets.specs.declared.script.ScriptFault.TheVariants as faults
 use Rattle.snippets.specs.Ops.{cell_of}
-use Rattle.snippets.specs.Grammar.{Said, Nothing, Does, Wrong, register_text}
-
-infixl 10 ◌>>=◌
-abbrev pub ◌>>=◌ : {A B : Type 0} → Option A → (A → Option B) → Option B
-o >>= f = option_and_then f o
+use Rattle.snippets.specs.Grammar.{Said, Nothing, Does, Wrong}
+pub use Rattle.line_words.specs.Words.{◌>>=◌}
+unfoldable pub use Rattle.line_words.specs.Words.{number_of, register_of, split_at}
 
 -- What a line says.
-
--- the bytes before the first space, and those after it
-unfoldable pub split_word : List ℕ → Option (List ℕ × List ℕ)
-split_word bytes = option_map (λ end. (take end bytes, drop (end + 1) bytes)) (position (λ byte. byte == 32) bytes)
-
-abbrev pub is_digit : ℕ → Bool
-is_digit byte = nat_le 48 byte && nat_le byte 57
-
--- digits, without a needless zero in front
-abbrev pub is_decimal : List ℕ → Bool
-is_decimal word =
-    list_all is_digit word && nat_lt 0 (length word) && (not (slice_index word 0 == 48) || (length word == 1))
-
-unfoldable pub number_of : List ℕ → Option ℕ
-number_of word =
-    if is_decimal word && nat_lt (digits_value 10 word) (2 ^ 32) then Some (digits_value 10 word) else None
-
-unfoldable pub register_of : List ℕ → Option ℕ
-register_of word = find (λ reg. bytes_eq word (register_text reg)) (range_with_len 0 32)
 
 unfoldable pub op_of : List ℕ → ℕ → List ℕ → Option Op
 op_of kind cell operand =
@@ -49,12 +26,12 @@ after_edge parts = if bytes_eq parts.0 (codes "edge") then Some parts.1 else Non
 
 unfoldable pub operation_of : List ℕ → Option (ℕ × Op)
 operation_of line = do
-  first ← split_word line
+  first ← split_at 32 line
   rest ← after_edge first
-  second ← split_word rest
+  second ← split_at 32 rest
   edge ← number_of second.0
-  third ← split_word second.1
-  fourth ← split_word third.1
+  third ← split_at 32 second.1
+  fourth ← split_at 32 third.1
   cell ← number_of fourth.0
   op ← op_of third.0 cell fourth.1
   Some (edge, op)

@@ -1,15 +1,9 @@
 //! Reading a line of a script.
-ghost use Rattle.std.specs.Prelude.{◌≡◌, ◌<◌, ◌==◌, IfSome, length};
-ghost use Rattle.std.specs.List.{list_all, position};
-ghost use Rattle.std.specs.Option.{option_map};
-ghost use Rattle.std.specs.Str.{bytes_eq};
-ghost use Rattle.snippets.specs.Grammar.{register_text};
-ghost use Rattle.snippets.specs.Parts.{is_decimal, is_digit, number_of, op_of, operation_of, register_of};
-ghost use Rattle.snippets.specs.Parts.{said_of, split_word};
+ghost use Rattle.std.specs.Prelude.{◌≡◌};
+ghost use Rattle.snippets.specs.Parts.{op_of, operation_of, said_of};
 
 use crate::snippet::Op;
-use std::str;
-use v8_decode::Reg;
+use line_words::{is_word, read_number, read_register, split_at};
 
 /// What a line says.
 #[derive(Clone, Copy, Debug, Drop)]
@@ -39,14 +33,14 @@ pub(crate) fn read_line(line: &[u8]) -> Said
 fn read_operation(line: &[u8]) -> Option<(u32, Op)>
     ensures { result ≡ operation_of line.now }
 {
-    let (verb, rest) = split_word(line)?;
+    let (verb, rest) = split_at(line, b' ')?;
     if !is_word(verb, "edge") {
         return None;
     }
-    let (edge, rest) = split_word(rest)?;
+    let (edge, rest) = split_at(rest, b' ')?;
     let edge = read_number(edge)?;
-    let (kind, rest) = split_word(rest)?;
-    let (cell, operand) = split_word(rest)?;
+    let (kind, rest) = split_at(rest, b' ')?;
+    let (cell, operand) = split_at(rest, b' ')?;
     let cell = read_number(cell)?;
     let op = read_op(kind, cell, operand)?;
     Some((edge, op))
@@ -68,87 +62,4 @@ fn read_op(kind: &[u8], cell: u32, operand: &[u8]) -> Option<Op>
     } else {
         None
     }
-}
-
-/// The bytes before the first space, and those after it.
-#[tactic(auto, unfolding(crate::specs::Parts::split_word))]
-fn split_word(bytes: &[u8]) -> Option<(&[u8], &[u8])>
-    ensures { option_map (λ parts. (parts.0.now, parts.1.now)) result ≡ split_word bytes.now }
-{
-    let end = first_space(bytes)?;
-    let (word, _) = bytes.split_at(end);
-    let (_, rest) = bytes.split_at(end + 1);
-    Some((word, rest))
-}
-
-fn first_space(bytes: &[u8]) -> Option<usize>
-    ensures place { result ≡ position (λ byte. byte == 32) bytes.now }
-    ensures within { IfSome result (λ end. end < length bytes.now) }
-{
-    bytes.iter().position(|byte| *byte == b' ')
-}
-
-fn is_word(word: &[u8], text: &str) -> bool
-    ensures { result ≡ bytes_eq word.now text.now }
-{
-    word == text.as_bytes()
-}
-
-/// A decimal number below 2^32, without a needless zero in front.
-#[tactic(auto, unfolding(crate::specs::Parts::number_of))]
-fn read_number(word: &[u8]) -> Option<u32>
-    ensures { result ≡ number_of word.now }
-{
-    if !is_decimal(word) {
-        return None;
-    }
-    match str::from_utf8(word) {
-        Ok(text) => text.parse().ok(),
-        Err(_) => None,
-    }
-}
-
-fn is_decimal(word: &[u8]) -> bool
-    ensures { result ≡ is_decimal word.now }
-{
-    are_digits(word) && !word.is_empty() && (word[0] != b'0' || word.len() == 1)
-}
-
-fn are_digits(word: &[u8]) -> bool
-    ensures { result ≡ list_all is_digit word.now }
-{
-    word.iter().all(|byte| byte.is_ascii_digit())
-}
-
-/// The register with this name.
-fn read_register(word: &[u8]) -> Option<Reg>
-    ensures { result ≡ register_of word.now }
-{
-    let number = register_number(word)?;
-    Reg::new(number)
-}
-
-#[tactic(auto, unfolding(crate::specs::Parts::register_of))]
-fn register_number(word: &[u8]) -> Option<u8>
-    ensures value { result ≡ register_of word.now }
-    ensures range { IfSome result (λ number. number < 32) }
-{
-    (0..32).find(|number| names(word, *number))
-}
-
-/// The word is the name of the register with this number.
-fn names(word: &[u8], number: u8) -> bool
-    requires { number < 32 }
-    ensures { result ≡ bytes_eq word.now (register_text number) }
-{
-    word == register_text(number).as_slice()
-}
-
-/// The name of the register with this number: its bank, and its number in the bank.
-fn register_text(number: u8) -> [u8; 3]
-    requires { number < 32 }
-    ensures { result ≡ register_text number }
-{
-    let banks = b"goli";
-    [b'%', banks[usize::from(number / 8)], b'0' + number % 8]
 }

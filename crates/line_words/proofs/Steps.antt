@@ -1,7 +1,7 @@
 -- Steps of a reading, one after the other.
 use Rattle.std.proofs.Common.{◌≡◌, Bool, true, false, Option, Some, None, ◌⊎◌, inl, inr, if◌then◌else◌, refl}
 use Rattle.std.specs.Option.{option_map}
-use Rattle.snippets.specs.Parts.{◌>>=◌}
+use Rattle.line_words.specs.Words.{◌>>=◌}
 
 -- what holds of all that a reading may give, by what its first step gave
 pub step : {A B : Type 0} (P : B → Type 0) (m : Option A) (f : A → Option B)

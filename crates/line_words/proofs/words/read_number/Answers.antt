@@ -1,7 +1,7 @@
 use Rattle.std.proofs.Common.{◌≡◌, ◌∙◌, true, sym}
-use Rattle.snippets.specs.Parts.{is_decimal}
-use Rattle.snippets.proofs.Numbers.{decimal_utf8, number-parsed}
-use Rattle.snippets.proofs.line.read_number.Goals as goal
+use Rattle.line_words.specs.Words.{is_decimal}
+use Rattle.line_words.proofs.Numbers.{decimal_utf8, number-parsed}
+use Rattle.line_words.proofs.words.read_number.Goals as goal
 
 pub returns-in-Ok : goal.returns-in-Ok
 returns-in-Ok c =

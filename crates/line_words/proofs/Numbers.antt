@@ -8,8 +8,8 @@ use Rattle.std.proofs.lemmas.Bool.{and_parts, lt-ltb, ltb-true, eqb-true, eq-eqb
 use Rattle.std.proofs.lemmas.Str.{IsUtf8-from_ascii}
 use Rattle.std.proofs.lemmas.Str.Parse.{IsNumeralModel, numerals_by_value, parse_digits}
 use Rattle.std.proofs.lemmas.Fmt.{digits_decimal, digits_value-decimal, decimal_nonempty, first_decimal, decimal_digit, decimal-digits_value, IsAscii-from_digits}
-use Rattle.snippets.specs.Parts.{is_digit, is_decimal, number_of}
-use Rattle.snippets.proofs.Steps.{tested}
+use Rattle.line_words.specs.Words.{is_digit, is_decimal, number_of}
+use Rattle.line_words.proofs.Steps.{tested}
 
 -- these digits and their value are the decimal numerals
 pub own : IsNumeralModel (λ ds. list_all is_digit ds ≡ true) (digits_value 10)

@@ -1,0 +1,6 @@
+pub mod Steps
+pub mod Numbers
+pub mod Registers
+pub mod Split
+pub mod Digits
+pub mod Whole

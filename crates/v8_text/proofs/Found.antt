@@ -1,0 +1,78 @@
+-- What is read one step after the other.
+use Rattle.std.proofs.Common.{◌≡◌, ℕ, ◌<◌, ◌==◌, not, Bool, true, false, cond, List, [], ◌∷◌, ◌++◌, get_or, map, Option, Some, None, ◌⊎◌, inl, inr, refl, ap, sym, ◌∙◌, arith}
+use Rattle.std.specs.List.{range_with_len}
+use Rattle.std.specs.Str.{bytes_eq}
+use Rattle.std.proofs.lemmas.Bool.{and_from, and_parts, eq-eqb, eqb-true}
+use Rattle.std.proofs.lemmas.List.FromFn.{get_or-map-range_with_len}
+use Rattle.std.proofs.lemmas.Slice.Eq.{bytes_eq-Decides}
+use Rattle.line_words.specs.Words.{register_of, register_text}
+use Rattle.line_words.proofs.Registers.{register_read}
+use Rattle.line_words.proofs.Split.{is_whole}
+use Rattle.v8_text.specs.Parts.{behind, first_of}
+
+-- what the first or the second of two gives
+pub either_of : {A : Type 0} (a b : Option A) (x : A) → first_of a b ≡ Some x → (a ≡ Some x) ⊎ (b ≡ Some x)
+either_of (Some y) b x h = inl h
+either_of None b x h = inr h
+
+-- an equal text is found
+pub same_text : (text : List ℕ) → bytes_eq text text ≡ true
+same_text text = (bytes_eq-Decides text text).1 refl
+
+pub text_is : (one other : List ℕ) → bytes_eq one other ≡ true → one ≡ other
+text_is one other h = (bytes_eq-Decides one other).0 h
+
+-- what is so of each of some numbers is so of each
+pub at_each : (test : ℕ → Bool) (count : ℕ) → map test (range_with_len 0 count) ≡ map (λ k. true) (range_with_len 0 count)
+    → (k : ℕ) → k < count → test k ≡ true
+at_each test count all k low =
+    sym (get_or-map-range_with_len test 0 count k k false low (omega arith))
+    ∙ ap (λ (tests : List Bool). get_or tests k false) all
+    ∙ get_or-map-range_with_len (λ k. true) 0 count k k false low (omega arith)
+
+-- ---- behind a byte
+
+pub behind_back : (mark : ℕ) (rest : List ℕ) → behind mark (mark ∷ rest) ≡ Some rest
+unfolding behind
+behind_back mark rest = rw (eq-eqb mark mark refl) refl
+
+by_mark : (mark byte : ℕ) (bytes rest : List ℕ) (b : Bool) → (byte == mark) ≡ b
+    → cond b (Some bytes) None ≡ Some rest → byte ∷ bytes ≡ mark ∷ rest
+by_mark mark byte bytes rest true is h =
+    ap (λ (first : ℕ). first ∷ bytes) (eqb-true byte mark is) ∙ ap (λ (others : List ℕ). mark ∷ others) (cc h)
+by_mark mark byte bytes rest false is h = absurd (cc h)
+
+pub behind_read : (mark : ℕ) (word rest : List ℕ) → behind mark word ≡ Some rest → word ≡ mark ∷ rest
+unfolding behind
+behind_read mark [] rest h = absurd (cc h)
+behind_read mark (byte ∷ bytes) rest h = by_mark mark byte bytes rest (byte == mark) refl h
+
+-- where another byte comes first there is nothing
+pub not_behind : (mark byte : ℕ) (bytes : List ℕ) → (byte == mark) ≡ false → behind mark (byte ∷ bytes) ≡ None
+unfolding behind
+not_behind mark byte bytes other = rw other refl
+
+-- ---- words without a byte
+
+pub whole_append : (mark : ℕ) (one other : List ℕ) → is_whole mark one ≡ true → is_whole mark other ≡ true
+    → is_whole mark (one ++ other) ≡ true
+whole_append mark [] other a b = b
+whole_append mark (byte ∷ one) other a b =
+    let parts = and_parts (not (byte == mark)) (is_whole mark one) a in
+    and_from (not (byte == mark)) (is_whole mark (one ++ other)) parts.0 (whole_append mark one other parts.1 b)
+
+pub register_whole-44 : (reg : ℕ) → reg < 32 → is_whole 44 (register_text reg) ≡ true
+register_whole-44 = at_each (λ reg. is_whole 44 (register_text reg)) 32 refl
+
+pub register_whole-93 : (reg : ℕ) → reg < 32 → is_whole 93 (register_text reg) ≡ true
+register_whole-93 = at_each (λ reg. is_whole 93 (register_text reg)) 32 refl
+
+-- a word that begins otherwise names no register
+pub no_register : (byte : ℕ) (bytes : List ℕ) → (byte == 37) ≡ false → register_of (byte ∷ bytes) ≡ None
+no_register byte bytes other = go (register_of (byte ∷ bytes)) refl
+  where
+    go : (found : Option ℕ) → register_of (byte ∷ bytes) ≡ found → found ≡ None
+    go None is = refl
+    go (Some reg) is =
+        let read = register_read (byte ∷ bytes) reg is in
+        let first : byte ≡ 37 = cc read.0 in absurd (cc (sym (eq-eqb byte 37 first) ∙ other))

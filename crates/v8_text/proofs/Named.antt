@@ -1,0 +1,258 @@
+-- The names of instructions.
+use Rattle.std.proofs.Common.{◌≡◌, ℕ, ◌<◌, Bool, true, false, if◌then◌else◌, List, [], ◌∷◌, get_or, map, codes, Option, Some, None, inl, inr, refl, ap, sym, ◌∙◌, arith}
+use Rattle.std.specs.List.{find, range_with_len}
+use Rattle.std.specs.Option.{option_map}
+use Rattle.std.specs.Str.{bytes_eq}
+use Rattle.std.proofs.lemmas.List.FromFn.{get_or-map-range_with_len}
+use Rattle.line_words.proofs.Steps.{chosen, mapped}
+use Rattle.v8_decode.specs.declared.AluOp.{AluOp}
+use Rattle.v8_decode.specs.declared.AluOp.TheVariants as ops
+use Rattle.v8_decode.specs.declared.LoadKind.{LoadKind}
+use Rattle.v8_decode.specs.declared.LoadKind.TheVariants as loads
+use Rattle.v8_decode.specs.declared.StoreKind.{StoreKind}
+use Rattle.v8_decode.specs.declared.StoreKind.TheVariants as stores
+use Rattle.v8_decode.specs.Forms.{has_form}
+use Rattle.v8_text.specs.declared.names.Name.{Name}
+use Rattle.v8_text.specs.declared.names.Name.TheVariants as n
+use Rattle.v8_text.specs.Texts.{alu_text, branch_text, load_text, store_text, trap_text}
+use Rattle.v8_text.specs.Parts.{all_loads, all_stores, alu_in, condition_in, first_of, joined_of, leaving, load_in, name_of, setting, single_of, store_in}
+use Rattle.v8_text.proofs.Found.{either_of, text_is}
+
+abbrev pub name_text : Name → List ℕ
+name_text n.Sethi = codes "sethi"
+name_text (n.Branch cond annul) = branch_text cond annul
+name_text n.Call = codes "call"
+name_text (n.Alu op cc) = alu_text op cc
+name_text n.ReadY = codes "rd"
+name_text n.WriteY = codes "wr"
+name_text n.Jmpl = codes "jmpl"
+name_text (n.Ticc cond) = trap_text cond
+name_text n.Flush = codes "flush"
+name_text n.Save = codes "save"
+name_text n.Restore = codes "restore"
+name_text (n.Load kind) = load_text kind
+name_text (n.Store kind) = store_text kind
+name_text n.Ldstub = codes "ldstub"
+name_text n.Swap = codes "swap"
+
+-- ---- names that are written are read
+
+module _ (text : ℕ → List ℕ) (make : ℕ → Name)
+    (all : map (λ cond. name_of (text cond)) (range_with_len 0 16) ≡ map (λ cond. Some (make cond)) (range_with_len 0 16)) where
+  each_condition : (cond : ℕ) → cond < 16 → name_of (text cond) ≡ Some (make cond)
+  each_condition cond low =
+      sym (get_or-map-range_with_len (λ k. name_of (text k)) 0 16 cond cond None low (omega arith))
+      ∙ ap (λ (found : List (Option Name)). get_or found cond None) all
+      ∙ get_or-map-range_with_len (λ k. Some (make k)) 0 16 cond cond None low (omega arith)
+
+all_branches : map (λ cond. name_of (branch_text cond false)) (range_with_len 0 16)
+    ≡ map (λ cond. Some (n.Branch cond false)) (range_with_len 0 16)
+unfolding name_of joined_of single_of
+all_branches = refl
+
+all_annulled : map (λ cond. name_of (branch_text cond true)) (range_with_len 0 16)
+    ≡ map (λ cond. Some (n.Branch cond true)) (range_with_len 0 16)
+unfolding name_of joined_of single_of
+all_annulled = refl
+
+all_traps : map (λ cond. name_of (trap_text cond)) (range_with_len 0 16)
+    ≡ map (λ cond. Some (n.Ticc cond)) (range_with_len 0 16)
+unfolding name_of joined_of single_of
+all_traps = refl
+
+pub branch_back : (cond : ℕ) (annul : Bool) → cond < 16 → name_of (branch_text cond annul) ≡ Some (n.Branch cond annul)
+branch_back cond false low =
+    each_condition (λ k. branch_text k false) (λ k. n.Branch k false) all_branches cond low
+branch_back cond true low = each_condition (λ k. branch_text k true) (λ k. n.Branch k true) all_annulled cond low
+
+pub trap_back : (cond : ℕ) → cond < 16 → name_of (trap_text cond) ≡ Some (n.Ticc cond)
+trap_back cond low = each_condition trap_text n.Ticc all_traps cond low
+
+pub alu_back : (op : AluOp) (cc : Bool) → has_form op cc ≡ true → name_of (alu_text op cc) ≡ Some (n.Alu op cc)
+unfolding name_of joined_of single_of
+alu_back ops.ADD true has = refl
+alu_back ops.ADD false has = refl
+alu_back ops.AND true has = refl
+alu_back ops.AND false has = refl
+alu_back ops.OR true has = refl
+alu_back ops.OR false has = refl
+alu_back ops.XOR true has = refl
+alu_back ops.XOR false has = refl
+alu_back ops.SUB true has = refl
+alu_back ops.SUB false has = refl
+alu_back ops.ANDN true has = refl
+alu_back ops.ANDN false has = refl
+alu_back ops.ORN true has = refl
+alu_back ops.ORN false has = refl
+alu_back ops.XNOR true has = refl
+alu_back ops.XNOR false has = refl
+alu_back ops.ADDX true has = refl
+alu_back ops.ADDX false has = refl
+alu_back ops.UMUL true has = refl
+alu_back ops.UMUL false has = refl
+alu_back ops.SMUL true has = refl
+alu_back ops.SMUL false has = refl
+alu_back ops.SUBX true has = refl
+alu_back ops.SUBX false has = refl
+alu_back ops.UDIV true has = refl
+alu_back ops.UDIV false has = refl
+alu_back ops.SDIV true has = refl
+alu_back ops.SDIV false has = refl
+alu_back ops.TADDcc true has = refl
+alu_back ops.TADDcc false has = absurd (cc has)
+alu_back ops.TSUBcc true has = refl
+alu_back ops.TSUBcc false has = absurd (cc has)
+alu_back ops.TADDccTV true has = refl
+alu_back ops.TADDccTV false has = absurd (cc has)
+alu_back ops.TSUBccTV true has = refl
+alu_back ops.TSUBccTV false has = absurd (cc has)
+alu_back ops.MULScc true has = refl
+alu_back ops.MULScc false has = absurd (cc has)
+alu_back ops.SLL true has = absurd (cc has)
+alu_back ops.SLL false has = refl
+alu_back ops.SRL true has = absurd (cc has)
+alu_back ops.SRL false has = refl
+alu_back ops.SRA true has = absurd (cc has)
+alu_back ops.SRA false has = refl
+
+pub load_back : (kind : LoadKind) → name_of (load_text kind) ≡ Some (n.Load kind)
+unfolding name_of joined_of single_of
+load_back loads.LD = refl
+load_back loads.LDUB = refl
+load_back loads.LDUH = refl
+load_back loads.LDD = refl
+load_back loads.LDSB = refl
+load_back loads.LDSH = refl
+
+pub store_back : (kind : StoreKind) → name_of (store_text kind) ≡ Some (n.Store kind)
+unfolding name_of joined_of single_of
+store_back stores.ST = refl
+store_back stores.STB = refl
+store_back stores.STH = refl
+store_back stores.STD = refl
+
+-- of the names that stand for one instruction
+abbrev IsSingle : Name → Type 0
+IsSingle name = name_of (name_text name) ≡ Some name
+
+pub record Singles : Type 0 where
+  pub sethi : IsSingle n.Sethi
+  pub call : IsSingle n.Call
+  pub jmpl : IsSingle n.Jmpl
+  pub save : IsSingle n.Save
+  pub restore : IsSingle n.Restore
+  pub read_y : IsSingle n.ReadY
+  pub write_y : IsSingle n.WriteY
+  pub flush : IsSingle n.Flush
+  pub ldstub : IsSingle n.Ldstub
+  pub swap : IsSingle n.Swap
+  -- and that of a number stands for none
+  pub raw : name_of (codes ".word") ≡ None
+
+pub singles : Singles
+unfolding name_of joined_of single_of
+singles = record {
+  sethi = refl;
+  call = refl;
+  jmpl = refl;
+  save = refl;
+  restore = refl;
+  read_y = refl;
+  write_y = refl;
+  flush = refl;
+  ldstub = refl;
+  swap = refl;
+  raw = refl;
+}
+
+-- ---- and no others
+
+by_first : {A : Type 0} (test : A → Bool) (y x : A) (others : Option A) (b : Bool) → test y ≡ b
+    → (if b then Some y else others) ≡ Some x → (others ≡ Some x → test x ≡ true) → test x ≡ true
+by_first test y x others true is same rest = let one : y ≡ x = cc same in ap test (sym one) ∙ is
+by_first test y x others false is same rest = rest same
+
+found_in : {A : Type 0} (test : A → Bool) (xs : List A) (x : A) → find test xs ≡ Some x → test x ≡ true
+found_in test [] x h = absurd (cc h)
+found_in test (y ∷ ys) x h = by_first test y x (find test ys) (test y) refl h (found_in test ys x)
+
+-- a name that was found among some
+among : {A : Type 0} (text : A → List ℕ) (make : A → Name) (xs : List A) (word : List ℕ) (name : Name)
+    → ((x : A) → name_text (make x) ≡ text x)
+    → option_map make (find (λ x. bytes_eq word (text x)) xs) ≡ Some name → word ≡ name_text name
+among text make xs word name spelled h =
+    let found = mapped make (find (λ x. bytes_eq word (text x)) xs) name h in
+    text_is word (text found.got) (found_in (λ x. bytes_eq word (text x)) xs found.got found.is)
+    ∙ sym (spelled found.got) ∙ ap name_text found.same
+
+module _ (word : List ℕ) where
+  abbrev leaves : Option Name
+  leaves = option_map (λ op. n.Alu op false) (alu_in leaving false word)
+
+  abbrev sets : Option Name
+  sets = option_map (λ op. n.Alu op true) (alu_in setting true word)
+
+  abbrev branches : Option Name
+  branches = option_map (λ cond. n.Branch cond false) (condition_in (λ cond. branch_text cond false) word)
+
+  abbrev annuls : Option Name
+  annuls = option_map (λ cond. n.Branch cond true) (condition_in (λ cond. branch_text cond true) word)
+
+  abbrev traps : Option Name
+  traps = option_map n.Ticc (condition_in trap_text word)
+
+  abbrev loading : Option Name
+  loading = option_map n.Load (load_in word)
+
+  abbrev storing : Option Name
+  storing = option_map n.Store (store_in word)
+
+  joined_read : (name : Name) → joined_of word ≡ Some name → word ≡ name_text name
+  unfolding joined_of
+  joined_read name h =
+      one leaves (first_of sets (first_of branches (first_of annuls (first_of traps (first_of loading storing))))) h
+      (λ is. among (λ op. alu_text op false) (λ op. n.Alu op false) leaving word name (λ op. refl) is)
+      (λ h. one sets (first_of branches (first_of annuls (first_of traps (first_of loading storing)))) h
+      (λ is. among (λ op. alu_text op true) (λ op. n.Alu op true) setting word name (λ op. refl) is)
+      (λ h. one branches (first_of annuls (first_of traps (first_of loading storing))) h
+      (λ is. among (λ cond. branch_text cond false) (λ cond. n.Branch cond false) (range_with_len 0 16) word name
+      (λ cond. refl) is)
+      (λ h. one annuls (first_of traps (first_of loading storing)) h
+      (λ is. among (λ cond. branch_text cond true) (λ cond. n.Branch cond true) (range_with_len 0 16) word name
+      (λ cond. refl) is)
+      (λ h. one traps (first_of loading storing) h
+      (λ is. among trap_text n.Ticc (range_with_len 0 16) word name (λ cond. refl) is)
+      (λ h. one loading storing h (λ is. among load_text n.Load all_loads word name (λ kind. refl) is)
+      (λ is. among store_text n.Store all_stores word name (λ kind. refl) is))))))
+    where
+      one : (a b : Option Name) → first_of a b ≡ Some name → (a ≡ Some name → word ≡ name_text name)
+          → (b ≡ Some name → word ≡ name_text name) → word ≡ name_text name
+      one (Some x) b is first rest = first is
+      one None b is first rest = rest is
+
+-- one name that is asked for, or another
+asked : (word text : List ℕ) (here name : Name) (others : Option Name) → name_text here ≡ text
+    → (if bytes_eq word text then Some here else others) ≡ Some name → (others ≡ Some name → word ≡ name_text name)
+    → word ≡ name_text name
+asked word text here name others spelled h rest =
+    elim (chosen (bytes_eq word text) (Some here) others name h) as (λ _. word ≡ name_text name) [
+      | inl is ↦ let same : here ≡ name = cc is.1 in text_is word text is.0 ∙ sym spelled ∙ ap name_text same
+      | inr is ↦ rest is.1
+    ]
+
+single_read : (word : List ℕ) (name : Name) → single_of word ≡ Some name → word ≡ name_text name
+unfolding single_of
+single_read word name h =
+    asked word _ n.Sethi name _ refl h (λ h. asked word _ n.Call name _ refl h (λ h. asked word _ n.Jmpl name _ refl h
+    (λ h. asked word _ n.Save name _ refl h (λ h. asked word _ n.Restore name _ refl h
+    (λ h. asked word _ n.ReadY name _ refl h (λ h. asked word _ n.WriteY name _ refl h
+    (λ h. asked word _ n.Flush name _ refl h (λ h. asked word _ n.Ldstub name _ refl h
+    (λ h. asked word _ n.Swap name _ refl h (λ h. absurd (cc h)))))))))))
+
+pub name_read : (word : List ℕ) (name : Name) → name_of word ≡ Some name → word ≡ name_text name
+unfolding name_of
+name_read word name h =
+    elim (either_of (joined_of word) (single_of word) name h) as (λ _. word ≡ name_text name) [
+      | inl is ↦ joined_read word name is
+      | inr is ↦ single_read word name is
+    ]
