@@ -210,6 +210,7 @@ impl Source for MemSource {
         ensures rest { IfOk result (λ count. drop count buf.new ≡ drop count buf.old) }
         ensures end { IfOk result (λ count. count ≡ 0 → 0 < length buf.old → IsAtEnd (Some self.old.left)) }
         ensures unmoved { OnErr result (Some self.new.left ≡ Some self.old.left) }
+        ensures unfilled { OnErr result (buf.new ≡ buf.old) }
         ensures failed { OnErr result (Rose self.old.calls.faults self.new.calls.faults) }
         ensures later { self.old.calls.faults ≤ self.new.calls.faults }
         ensures counted { OnOk result (self.new.reads ≡ raised self.old.reads) }
@@ -218,7 +219,8 @@ impl Source for MemSource {
         ensures fails { IsErr result ↔ IsTrue (is_to_fail self.old.calls) }
         ensures count { IfOk result (λ count. count ≡ min (length buf.old) (length self.old.left)) }
     {
-        if self.calls.begin() {
+        let fails = self.calls.begin();
+        if fails {
             return Err(Failed);
         }
         let left = &self.bytes[self.at..];

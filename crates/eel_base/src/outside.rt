@@ -67,6 +67,7 @@ pub trait Source {
         ensures moved { IfOk result (λ count. left self.old ≡ preceded (take count buf.new) (left self.new)) }
         ensures end { IfOk result (λ count. count ≡ 0 → 0 < length buf.old → IsAtEnd (left self.old)) }
         ensures unmoved { OnErr result (left self.new ≡ left self.old) }
+        ensures unfilled { OnErr result (buf.new ≡ buf.old) }
         ensures failed { OnErr result (Rose (faults self.old) (faults self.new)) }
         ensures later { faults self.old ≤ faults self.new }
         ensures counted { OnOk result (reads self.new ≡ raised (reads self.old)) }

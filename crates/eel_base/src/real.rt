@@ -4,7 +4,7 @@ ghost use Rattle.std.specs.Prelude.{◌≡◌, None};
 ghost use Rattle.eel_base.specs.Real.{Counts};
 
 use crate::outside::{Failed, FetchFault, Files, PutFault, Sink, Source};
-use crate::whole::read_onto;
+use crate::whole::{CHUNK, read_onto};
 use crate::whole_file::put_file;
 use std::alloc::{Alloc, Global};
 use std::fs::OpenFile;
@@ -108,9 +108,13 @@ impl<R: Read> Source for StdSource<R> {
 
     ghost reads = { λ s. s.reads };
 
+    // Through a chunk, since a reader that fails may have written into what it was given.
     fn read(&mut self, buf: &mut [u8]) -> Result<usize, Failed> {
-        match self.reader.read(buf) {
+        let mut chunk = [0; CHUNK];
+        let want = buf.len().min(CHUNK);
+        match self.reader.read(&mut chunk[..want]) {
             Ok(count) => {
+                buf[..count].copy_from_slice(&chunk[..count]);
                 self.reads = self.reads.saturating_add(1);
                 Ok(count)
             }

@@ -6,7 +6,7 @@ use crate::outside::{Failed, FetchFault, Sink, Source};
 use std::alloc::Global;
 
 /// How many bytes are asked of a source at a time.
-const CHUNK: usize = 8192;
+pub(crate) const CHUNK: usize = 8192;
 
 /// All that `s` has left, if that is at most `limit` bytes. Where it is more, `limit + 1` bytes were
 /// taken, and after another fault some of what was left.
