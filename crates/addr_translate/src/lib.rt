@@ -1,4 +1,4 @@
-//! From addresses of the original to addresses of new code: a table, and the code that looks an address up in it.
+//! From addresses of the original to addresses of new code: tables, and the code that looks an address up.
 #![tactic(auto)]
 
 ghost use Rattle.addr_translate.specs.Translator.{RegionsStand};

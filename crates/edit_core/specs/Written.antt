@@ -1,5 +1,5 @@
--- What is written of an original: cells, tables of addresses, new code and a page for the editor, as segments, and notes
--- of them.
+-- What is written of an original: cells, tables of addresses, new code and a page for the editor, as segments, and
+-- notes of them.
 use Rattle.std.specs.Prelude.{◌≡◌, ℕ, zero, suc, ◌+◌, ◌*◌, ◌/◌, ◌^◌, ◌<◌, ◌≤◌, Bool, true, false, List, [], ◌∷◌, ◌++◌, length, map, replicate, slice_index, take, drop, None, Ok, All}
 use Rattle.std.specs.List.{find}
 use Rattle.std.specs.Option.{option_map, option_to_list}
@@ -92,8 +92,8 @@ is_behind _ = false
 abbrev pub is_off : Edge → Bool
 is_off edge = is_behind edge.slot
 
--- Where some edge runs a slot behind the text, the place of that slot is the first word of the tables: at the end of the
--- text, and at the node which the edge leaves.
+-- Where some edge runs a slot behind the text, the place of that slot is the first word of the tables: at the end of
+-- the text, and at the node which the edge leaves.
 abbrev pub off_range : Words → Graph → ℕ → Edge → NoteRange
 off_range text graph table edge = record {
   lo = table;
@@ -121,8 +121,8 @@ pub record AreTablesOf (text : Words) (targets : List Addr) (foreign : Addr) (ta
   pub first : IsTableOf text targets foreign (first_table text tables)
   pub second : IsHalvesOf text targets foreign (second_table text tables)
 
--- ---- where they lead: from each word of the text to its landing, or to its image where nothing is done on the way, and from
--- all else to the foreign piece
+-- ---- where they lead: from each word of the text to its landing, or to its image where nothing is done on the way, and
+-- from all else to the foreign piece
 
 abbrev pub addr : ℕ → Addr
 addr a = record { 0 = a }
@@ -228,8 +228,8 @@ pub record IsWorkable (graph : Graph) (kind : ToolKind) (cells : ℕ) (snips : L
 abbrev pub CanDo : List ℕ → Plan → Type 0
 CanDo original plan = IsWorkable (graph_in original plan) plan.kind plan.cells plan.snips
 
--- The code was laid behind the tables, in no more bytes than its long forms take, and the tables lead to it. Where it is
--- short, no form is long. Its snippets take only what is dead behind them.
+-- The code was laid behind the tables, in no more bytes than its long forms take, and the tables lead to it. Where it
+-- is short, no form is long. Its snippets take only what is dead behind them.
 pub record IsNewCode (original : List ℕ) (plan : Plan) (p : Placement) (place : ℕ → ℕ → ℕ)
     (table : TableAt) : Type 0 where
   pub dead : ℕ → List Part

@@ -73,7 +73,8 @@ pub record IsJump (g : Setting) (l : Pieces) (p : Placement) (f : Frame)
   pub fits : op2_fits op2 ≡ true
   pub in_range : op2_in_range op2 ≡ true
   pub way : PieceNo
-  pub items : slice_get l.list piece ≡ Some (find_piece scratch second rd rs1 op2 f.halves.base address (number_in g node) way)
+  pub items : slice_get l.list piece
+      ≡ Some (find_piece scratch second rd rs1 op2 f.halves.base address (number_in g node) way)
   pub leads : (does_at g x t).ending ≡ None
       → LeadsTo l p way (gone_at g node x (does_at g x t)) (word_ahead g x t) (next_visit g l p f node x t)
 

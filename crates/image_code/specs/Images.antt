@@ -88,7 +88,8 @@ pub record Here (g : Setting) (l : Pieces) (base : ℕ) (p : Placement) (f : Fra
   pub npc : t.npc ≡ wrapped (t.pc + 4)
   pub slot : t.slot ≡ NoSlot
   pub memory : HasImages g base p f t.memory
-  -- in the slot of a JMPL, its target, a multiple of 4, waits in word 1 of the page, and what the table has for it in word 7
+  -- in the slot of a JMPL, its target, a multiple of 4, waits in word 1 of the page, and what the table has for it in
+  -- word 7
   pub waits : x.slot ≡ Taken → same_kind (way_of (instr_at g.text (x.pc - 4)) x.slot) kinds.Out ≡ true
       → (memory_word t.memory (page_word 1) ≡ x.npc) × (x.npc % 4 ≡ 0)
       × (word_at g.text x.pc ≢ None → memory_word t.memory (page_word 7) ≡ found_in f.halves x.npc)

@@ -1,5 +1,5 @@
--- The way along the edge of a JMPL: the copy of the slot's word, and the jump to what was found, which waits in word 7 of
--- the page.
+-- The way along the edge of a JMPL: the copy of the slot's word, and the jump to what was found, which waits in word 7
+-- of the page.
 use Rattle.std.specs.Prelude.{◌≡◌, ℕ, ◌-◌, ◌<◌, ◌⊎◌, false, true, [], ◌∷◌, length, List, Some, None, slice_get, slice_index}
 use Rattle.eel_base.specs.CodeText.{word_at}
 use Rattle.eel_base.specs.declared.numbers.Addr.{Addr}
@@ -22,7 +22,8 @@ use Rattle.image_code.specs.Images.{Pieces, Frame, Here, IsPlaced, visited_at}
 use Rattle.image_code.specs.Cases.{LeadsTo, next_visit, words_on}
 
 -- What the table has for a target: the piece of a landing, which leads to the next visit through the snippets of some
--- edges; where these have no operation it may be the piece of that visit itself. Outside the text it is the foreign piece.
+-- edges; where these have no operation it may be the piece of that visit itself. Outside the text it is the foreign
+-- piece.
 abbrev pub Lands : Setting → Pieces → Placement → Frame → List ℕ → ℕ → ℕ → Type 0
 Lands g l p f edges target visit =
     ((piece : PieceNo) × (piece.0 < length l.list) × (found_in f.halves target ≡ slice_index p.at piece.0)

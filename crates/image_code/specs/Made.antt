@@ -102,8 +102,8 @@ module _ (text : Words) (graph : Graph) where
   goes_on (Block block) address = jump_to (slice_index graph.blocks.firsts block.0)
   goes_on X address = far_piece address
 
--- The piece to which the table leads from a word: where some operation is made on the landing's edge that is the landing,
--- and else the word's image itself.
+-- The piece to which the table leads from a word: where some operation is made on the landing's edge that is the
+-- landing, and else the word's image itself.
 abbrev pub lands_at : Words → Graph → List (List Op) → ℕ → ℕ
 lands_at text graph snips word =
     if operations_on snips (landing_at graph (node_of graph.blocks (Some word))) == 0 then word
@@ -133,10 +133,12 @@ module _ (text : Words) (graph : Graph) (jumps : ℕ) (codes : ℕ → List ℕ)
   image_by address node word (i.Call disp30) =
       call_piece address (node_number graph node) (record { 0 = way_out text graph node kinds.Call })
   image_by address node word (i.Jmpl rd rs1 op2) =
-      find_piece (free_register rd rs1 op2) (other_register rd rs1 op2) rd rs1 op2 jumps address (node_number graph node)
+      find_piece (free_register rd rs1 op2) (other_register rd rs1 op2) rd rs1 op2 jumps address
+      (node_number graph node)
       (record { 0 = way_out text graph node kinds.Out })
   image_by address node word instr =
-      plain_piece address (node_number graph node) (slice_index text.words word) (rest_after text graph codes node word instr)
+      plain_piece address (node_number graph node) (slice_index text.words word)
+      (rest_after text graph codes node word instr)
 
   -- the image of a word, at its address, for the block that holds it
   abbrev pub image : ℕ → List Item
@@ -160,7 +162,8 @@ module _ (text : Words) (graph : Graph) (codes : ℕ → List ℕ) where
       snippet_items codes (number ∷ []) ++ goes_on text graph edge.to (way_address text graph edge.from edge.kind)
 
 module _ (text : Words) (graph : Graph) (table : ℕ) (codes : ℕ → List ℕ) where
-  -- Behind the copy of a slot's word, and the snippet, a JMPL goes on at what was found; along any other edge control goes on.
+  -- Behind the copy of a slot's word, and the snippet, a JMPL goes on at what was found; along any other edge control
+  -- goes on.
   abbrev pub past_slot : Addr → ℕ → ℕ → ℕ → Edge → List Item
   past_slot address node word number edge =
       if same_kind edge.kind kinds.Out
@@ -209,8 +212,8 @@ pieces_in text graph table codes = record {
 
 -- ---- what they promise
 
--- The table leads from each word of the text to its landing, or to its image where that does as well, and from all other
--- addresses to the foreign piece.
+-- The table leads from each word of the text to its landing, or to its image where that does as well, and from all
+-- other addresses to the foreign piece.
 pub record IsTableFor (text : Words) (graph : Graph) (snips : List (List Op)) (p : Placement) (table jumps : TableAt)
     : Type 0 where
   pub whole : IsTable table

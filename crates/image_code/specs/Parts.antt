@@ -85,8 +85,8 @@ rest_of text word code = map it.Word code ++ next_to text word
 -- the image of a word of the text, behind which a snippet's words may stand
 abbrev pub image_in : Words → ℕ → ℕ → ℕ → PieceNo → List ℕ → List Item
 image_in text jumps word node first code =
-    image_from jumps (record { 0 = address_of text word }) node (slice_index text.words word) first (rest_of text word code)
-    (decode_of (slice_index text.words word))
+    image_from jumps (record { 0 = address_of text word }) node (slice_index text.words word) first
+    (rest_of text word code) (decode_of (slice_index text.words word))
 
 -- the way along an edge whose snippet has these words
 abbrev pub way_with : Words → Graph → ℕ → List ℕ → Edge → List Item
@@ -97,7 +97,8 @@ abbrev pub copy_with : Words → Graph → ℕ → List ℕ → Addr → ℕ →
 copy_with text graph table code address node word edge =
     slot_copy text graph table (λ number. code) address node word 0 edge
 
--- the piece to which the table leads from word 0 of a block, if that were in it, by the operations on its landing's edge
+-- the piece to which the table leads from word 0 of a block, if that were in it, by the operations on its landing's
+-- edge
 abbrev pub first_with : List Op → ℕ → ℕ
 first_with [] landing = 0
 first_with (op ∷ ops) landing = landing

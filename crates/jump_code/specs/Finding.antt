@@ -75,8 +75,8 @@ abbrev pub found_memory : State → ℕ → ℕ → ℕ → Op2 → TableAt → 
 found_memory s x y rs1 op2 t =
     store_word (sought_memory s x y rs1 op2) (page_word 7) (found_in t (sum_of s rs1 op2))
 
--- An aligned target: the words are carried out, the link is written, and every other register is as it was. The page has
--- the target, and what the table has for it.
+-- An aligned target: the words are carried out, the link is written, and every other register is as it was. The page
+-- has the target, and what the table has for it.
 pub record FindsIt (s : State) (x y rd rs1 : ℕ) (op2 : Op2) (address : ℕ) (t : TableAt) (count : ℕ) : Type 0 where
   pub path : Leads (IsBetween s count IsPageWord) s
       (past s count (found_memory s x y rs1 op2 t) (with_register s rd address)) count
@@ -136,8 +136,8 @@ FindsSimulate =
     → ComesFound x y rd rs1 op2 address t s (length (find_image x y rd rs1 op2 t.base address)))
     × ((ending : Ending) → (jumped address rd rs1 op2 s).ending ≡ Some ending → EndsFinding x y s ending)
 
--- ---- behind the slot's copy and the snippet: any register and what was found are exchanged, and the register comes back in
--- the jump's slot
+-- ---- behind the slot's copy and the snippet: any register and what was found are exchanged, and the register comes back
+-- in the jump's slot
 
 abbrev pub go_found : ℕ → List Instr
 go_found x = i.Swap x 0 (of_page 7) ∷ i.Jmpl 0 x (Imm (pos 0)) ∷ i.Load loads.LD x 0 (of_page 7) ∷ []

@@ -1,6 +1,6 @@
--- The words of the editor's page that are used on the way of a jump: word 0 by long jumps, word 1 for the target, and word 2
--- for a register that is used meanwhile. From the look-up to the jump behind the slot's copy word 7 has what was found: the
--- words between are those of snippets.
+-- The words of the editor's page that are used on the way of a jump: word 0 by long jumps, word 1 for the target, and
+-- word 2 for a register that is used meanwhile. From the look-up to the jump behind the slot's copy word 7 has what was
+-- found: the words between are those of snippets.
 use Rattle.std.specs.Prelude.{ℕ, ◌<◌, List, [], ◌∷◌}
 use Rattle.v8_memory.specs.Regions.{Memory}
 use Rattle.v8_step.specs.State.{State}

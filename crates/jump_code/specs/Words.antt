@@ -8,8 +8,8 @@ use Rattle.jump_code.specs.Leaving.{foreign}
 use Rattle.jump_code.specs.Links.{link}
 
 -- jmpl %o7 + 8, %g0 at 0x10058, through %g1 and %g2, with the table at 0x20000
-returns : map encode_of (find_image (free_register 0 15 (Imm (pos 8))) (other_register 0 15 (Imm (pos 8))) 0 15 (Imm (pos 8))
-    0x20000 0x10058) ≡ map Some (
+returns : map encode_of (find_image (free_register 0 15 (Imm (pos 8))) (other_register 0 15 (Imm (pos 8))) 0 15
+    (Imm (pos 8)) 0x20000 0x10058) ≡ map Some (
     0xc220301c ∷ 0xc4203008 ∷ 0x8203e008 ∷ 0xc2203004 ∷ 0x85306010 ∷ 0x8528a002
     ∷ 0x03000080 ∷ 0xc4004002 ∷ 0x8203e008 ∷ 0xc2008001 ∷ 0xc278301c ∷ 0xc4003008 ∷ [])
 unfolding encode_of

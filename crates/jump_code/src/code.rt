@@ -17,8 +17,8 @@ use crate::single::{
 use eel_base::Addr;
 use v8_decode::{Op2, Reg};
 
-/// The first words of a JMPL: they look its target up in the table of two levels at `table`, through two registers that it
-/// doesn't name.
+/// The first words of a JMPL: they look its target up in the table of two levels at `table`, through two registers that
+/// it doesn't name.
 pub fn find_code(x: Reg, y: Reg, rs1: Reg, op2: Op2, table: Addr) -> [u32; 12]
     requires fits { IsTrue (op2_fits op2) }
     ensures words { result ≡ words_of (find_words x y rs1 op2 table.0) }

@@ -14,8 +14,8 @@ mod single;
 pub use code::{call_code, far_code, find_code, foreign_code, found_code, link_code};
 pub use registers::{free_register, other_register};
 
-/// The words of a JMPL write its link, and keep its target and what the table has for that, where the target is aligned;
-/// else they end the run as the JMPL does.
+/// The words of a JMPL write its link, and keep its target and what the table has for that, where the target is
+/// aligned; else they end the run as the JMPL does.
 pub fn finds_act()
     ensures { FindsAct }
 {}
