@@ -5,6 +5,7 @@ from dataclasses import replace
 
 import listings
 import plain_count
+import tables
 from programs import C_PROGRAMS, RUNS, SMALL, Program
 from written import written
 
@@ -222,21 +223,21 @@ def scripts():
         yield eel(f'edit {name} edited script {name}.counting', 0)
         yield eel(f'run edited -d dump{arguments}', 0, *ran(program))
         yield f'cells dump {name}.counts', b''
-    # the sixth call of the files puts the second dump
-    yield 'fail 5', b''
     yield 'hold three_words', b''
     yield eel('edit three_words edited plain', 0)
     yield eel('run edited -d dump', 0, err=b'exit 3\n')
+    yield 'fail files 1', b''
     yield eel('run edited -d dump', 74, err=DEVICE_FAULT)
 
 
 def refusals():
     """Files that are refused, and files and streams that fail."""
-    yield 'fail 1 5', b''
     yield 'hold three_words', b''
     yield eel('edit missing out plain', 74, err=DEVICE_FAULT)
+    yield 'fail files 0', b''
     yield eel('edit three_words out plain', 74, err=DEVICE_FAULT)
     yield eel('edit three_words out plain', 0)
+    yield 'fail files 1', b''
     yield eel('edit three_words other plain', 74, err=DEVICE_FAULT)
     yield eel('edit out other plain', 65, err=b'eel: out: file fault 12\n')
     yield eel('show other', 74, err=DEVICE_FAULT)
@@ -248,9 +249,9 @@ def refusals():
     yield eel('show long', 66, err=b'eel: long: longer than 67108864 bytes\n')
     yield eel('run long', 65, err=b'eel: long: file fault 2\n')
     yield 'hold echoes', b''
-    yield 'input echoes.input 1', b''
-    yield eel('run echoes', 74, err=DEVICE_FAULT)
     yield 'input echoes.input', b''
+    yield 'fail input 1', b''
+    yield eel('run echoes', 74, err=DEVICE_FAULT)
     yield 'room 5 100', b''
     yield eel('run echoes', 74, b'hello', DEVICE_FAULT)
     yield eel('show three_words', 74, LISTING[:5], DEVICE_FAULT)
@@ -337,7 +338,9 @@ def demo():
 
 
 SESSIONS = {'edits': list(edits()), 'scripts': list(scripts()), 'words': list(words()), 'restores': list(restores()),
-    'refusals': list(refusals()), 'profiles': list(profiles()), 'uncounted': list(uncounted()), 'demo': list(demo())}
+    'refusals': list(refusals()), 'profiles': list(profiles()), 'uncounted': list(uncounted()), 'demo': list(demo()),
+    'faulty': list(tables.faulty()), 'noted': list(tables.noted()), 'dumped': list(tables.dumped()),
+    'devices': list(tables.devices()), 'long': list(tables.long())}
 
 
 def program_file(name):
@@ -366,6 +369,7 @@ def files():
     yield ARGUMENT.name, ARGUMENT.file()
     yield MADE.name, MADE.file()
     yield 'cramped', cramped()
+    yield 'carry_loop.words', CARRY_LOOP.file()[84:104]
     yield from DUMPS.items()
     for name, lines in SESSIONS.items():
         yield name, ''.join(f'{line}\n' for line, _ in lines).encode()

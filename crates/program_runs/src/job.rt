@@ -4,7 +4,7 @@ use eel_base::{Failed, FetchFault, Files, MemSink, NoMemory};
 use elf32_sparc::ReadFault;
 use jump_slice::switches;
 use show_text::show;
-use std::alloc::{AllocError, Global};
+use std::alloc::{AllocError, AllocFailed, Global};
 use thiserror::Error;
 use v8_process::{LoadFault, load};
 use v8_runner::{RunEnd, Stop, run};
@@ -32,6 +32,12 @@ pub enum Refusal {
 
 impl From<AllocError> for Refusal {
     fn from(_: AllocError) -> Refusal {
+        Refusal::NoMemory
+    }
+}
+
+impl<T: Drop> From<AllocFailed<T>> for Refusal {
+    fn from(_: AllocFailed<T>) -> Refusal {
         Refusal::NoMemory
     }
 }

@@ -1,20 +1,58 @@
 //! Sessions: calls of the editor over files in memory, a line each, as a script has them.
 use crate::job::Refusal;
 use crate::report::print_bytes;
-use eel_base::{Files, MemFiles, MemSink, MemSource};
+use eel_base::{Files, MemFiles, MemSink, MemSource, be32_at};
 use std::alloc::Global;
 use std::io;
 
 /// How many bytes a file may have that a script names.
 const FILE_LIMIT: u64 = 16 << 20;
 
+/// Where a written file says where its notes are.
+const NOTES_AT: usize = 4040;
+
+/// The calls of the files, the input, the output and the error stream that are to fail.
+#[derive(Drop)]
+struct Failures {
+    files: Vec<u64>,
+    input: Vec<u64>,
+    out: Vec<u64>,
+    err: Vec<u64>,
+}
+
+impl Failures {
+    fn none(alloc: Global) -> Failures {
+        Failures {
+            files: Vec::new(alloc),
+            input: Vec::new(alloc),
+            out: Vec::new(alloc),
+            err: Vec::new(alloc),
+        }
+    }
+
+    /// The calls by the name of their device, or none of that name.
+    fn of(&mut self, device: &str) -> Option<&mut Vec<u64>> {
+        match device {
+            "files" => Some(&mut self.files),
+            "input" => Some(&mut self.input),
+            "out" => Some(&mut self.out),
+            "err" => Some(&mut self.err),
+            _ => None,
+        }
+    }
+}
+
 /// What the calls of a session have to do with.
 #[derive(Drop)]
 pub struct Session {
     files: MemFiles,
+    /// The names that a file may have.
+    names: Vec<String>,
+    /// The names that a call has changed are told.
+    is_watched: bool,
     input: Vec<u8>,
-    /// The reads of the input that are to fail.
-    unread: Vec<u64>,
+    /// What is to fail in the next call.
+    failures: Failures,
     out_room: usize,
     err_room: usize,
 }
@@ -25,6 +63,8 @@ pub struct Answer {
     pub status: u8,
     pub out: MemSink,
     pub err: MemSink,
+    /// The names that it changed, where these are watched.
+    pub changed: Vec<String>,
 }
 
 impl Session {
@@ -32,18 +72,23 @@ impl Session {
     pub fn new(alloc: Global) -> Session {
         Session {
             files: MemFiles::new(alloc, Vec::new(alloc)),
+            names: Vec::new(alloc),
+            is_watched: false,
             input: Vec::new(alloc),
-            unread: Vec::new(alloc),
+            failures: Failures::none(alloc),
             out_room: 64 << 10,
             err_room: 64 << 10,
         }
     }
 
     /// Does what a line of a script says. A line that begins with `eel` is a call, and has an answer. The others:
-    /// `hold NAME` holds this file of the script's folder, `zeros NAME COUNT` so many zeros, `input NAME READ ..`
-    /// makes the file the input, of which these reads are to fail, `room OUT ERR` says how much the streams take,
-    /// `fail CALL ..` begins anew with no file, where these calls of the files are to fail, `same NAME NAME` is refused
-    /// where the two files differ, and `cells DUMP NAME` where the dump's cells are other words than the file's.
+    /// `hold NAME` holds this file of the script's folder, `zeros NAME COUNT` so many zeros, `cut OLD NEW COUNT` the
+    /// first bytes of a file that is held, `patch OLD NEW AT BYTES ..` such a file with these bytes at these offsets,
+    /// `noted OLD NEW AT BYTES ..` the same with offsets in its notes, `keep NAME` puts a file that is held into the script's
+    /// folder, `input NAME` makes a file the input, `room OUT
+    /// ERR` says how much the streams take, `fail DEVICE CALL ..` which calls of a device fail in the next call of the
+    /// editor, `watch` that from now on the names are told that a call has changed, `same NAME NAME` is refused where
+    /// the two files differ, and `cells DUMP NAME` where the dump's cells are other words than the file's.
     pub fn act(
         &mut self,
         alloc: Global,
@@ -51,56 +96,126 @@ impl Session {
         line: &str,
     ) -> Result<Option<Answer>, Refusal> {
         let words: Vec<&str> = line.split(' ').collect(alloc)?;
-        match words.as_slice() {
-            [verb, words @ ..] if *verb == "eel" => Ok(Some(self.call(alloc, words)?)),
+        if let [verb, words @ ..] = words.as_slice() {
+            if *verb == "eel" {
+                return Ok(Some(self.call(alloc, words)?));
+            }
+        }
+        self.prepare(alloc, folder, &words)?;
+        Ok(None)
+    }
+
+    /// Does what a line says that is no call.
+    fn prepare(
+        &mut self,
+        alloc: Global,
+        folder: &mut impl Files,
+        words: &[&str],
+    ) -> Result<(), Refusal> {
+        match words {
             [verb, name] if *verb == "hold" => {
                 let bytes = folder.fetch(alloc, name, FILE_LIMIT)?;
-                self.files.add(name, &bytes)?;
-                Ok(None)
+                self.hold(alloc, name, &bytes)
             }
             [verb, name, count] if *verb == "zeros" => {
                 let bytes = vec![in alloc; 0; number(count)?]?;
-                self.files.add(name, &bytes)?;
-                Ok(None)
+                self.hold(alloc, name, &bytes)
             }
-            [verb, name, reads @ ..] if *verb == "input" => {
+            [verb, old, new, count] if *verb == "cut" => {
+                let mut bytes = self.copy(alloc, old)?;
+                bytes.truncate(number(count)?);
+                self.hold(alloc, new, &bytes)
+            }
+            [verb, old, new, patches @ ..] if *verb == "patch" => {
+                let bytes = patched(alloc, self.copy(alloc, old)?, 0, patches)?;
+                self.hold(alloc, new, &bytes)
+            }
+            [verb, old, new, patches @ ..] if *verb == "noted" => {
+                let bytes = self.copy(alloc, old)?;
+                let notes = be32_at(&bytes, NOTES_AT).ok_or(Refusal::Script)?;
+                let bytes = patched(alloc, bytes, notes as usize, patches)?;
+                self.hold(alloc, new, &bytes)
+            }
+            [verb, name] if *verb == "keep" => {
+                let bytes = self.files.get(name).ok_or(Refusal::Unread)?;
+                folder.put(name, bytes).map_err(|_| Refusal::Unread)
+            }
+            [verb, name] if *verb == "input" => {
                 self.input = folder.fetch(alloc, name, FILE_LIMIT)?;
-                self.unread = numbers(alloc, reads)?;
-                Ok(None)
+                Ok(())
             }
             [verb, out, err] if *verb == "room" => {
                 self.out_room = number(out)?;
                 self.err_room = number(err)?;
-                Ok(None)
+                Ok(())
+            }
+            [verb, device, calls @ ..] if *verb == "fail" => {
+                let failing = self.failures.of(device).ok_or(Refusal::Script)?;
+                *failing = numbers(alloc, calls)?;
+                Ok(())
+            }
+            [verb] if *verb == "watch" => {
+                self.is_watched = true;
+                Ok(())
             }
             [verb, first, second] if *verb == "same" => {
-                if self.files.get(first) != self.files.get(second) {
-                    return Err(Refusal::Different);
-                }
-                Ok(None)
+                alike(self.files.get(first), self.files.get(second))
             }
             [verb, dump, words] if *verb == "cells" => {
-                if self.files.get(dump).and_then(cells) != self.files.get(words) {
-                    return Err(Refusal::Different);
-                }
-                Ok(None)
-            }
-            [verb, calls @ ..] if *verb == "fail" => {
-                self.files = MemFiles::new(alloc, numbers(alloc, calls)?);
-                Ok(None)
+                alike(self.files.get(dump).and_then(cells), self.files.get(words))
             }
             _ => Err(Refusal::Script),
         }
     }
 
-    /// Calls the editor.
+    fn hold(&mut self, alloc: Global, name: &str, bytes: &[u8]) -> Result<(), Refusal> {
+        self.know(alloc, name)?;
+        self.files.add(name, bytes)?;
+        Ok(())
+    }
+
+    /// Keeps the name in mind.
+    fn know(&mut self, alloc: Global, name: &str) -> Result<(), Refusal> {
+        if !self.names.iter().any(|known| known.as_str() == name) {
+            let name = String::from_str(alloc, name)?;
+            self.names.push(name)?;
+        }
+        Ok(())
+    }
+
+    /// The bytes of a file that is held.
+    fn copy(&self, alloc: Global, name: &str) -> Result<Vec<u8>, Refusal> {
+        match self.files.get(name) {
+            Some(bytes) => Ok(Vec::from_slice(alloc, bytes)?),
+            None => Err(Refusal::Unread),
+        }
+    }
+
+    /// The same files, of which these calls are to fail.
+    fn files_again(&self, alloc: Global, fail: Vec<u64>) -> Result<MemFiles, Refusal> {
+        let mut files = MemFiles::new(alloc, fail);
+        for name in self.names.iter() {
+            if let Some(bytes) = self.files.get(name) {
+                files.add(name, bytes)?;
+            }
+        }
+        Ok(files)
+    }
+
+    /// Calls the editor. What was to fail in this call doesn't in the next.
     fn call(&mut self, alloc: Global, words: &[&str]) -> Result<Answer, Refusal> {
-        let mut input = MemSource::new(
-            Vec::from_slice(alloc, &self.input)?,
-            Vec::from_slice(alloc, &self.unread)?,
-        );
-        let mut out = MemSink::new(alloc, self.out_room, Vec::new(alloc))?;
-        let mut err = MemSink::new(alloc, self.err_room, Vec::new(alloc))?;
+        for word in words {
+            self.know(alloc, word)?;
+        }
+        let failures = std::mem::replace(&mut self.failures, Failures::none(alloc));
+        let is_failing = !failures.files.is_empty();
+        let before = self.watched(alloc)?;
+        if is_failing {
+            self.files = self.files_again(alloc, failures.files)?;
+        }
+        let mut input = MemSource::new(Vec::from_slice(alloc, &self.input)?, failures.input);
+        let mut out = MemSink::new(alloc, self.out_room, failures.out)?;
+        let mut err = MemSink::new(alloc, self.err_room, failures.err)?;
         let status = eel::eel(
             alloc,
             words,
@@ -109,8 +224,83 @@ impl Session {
             &mut out,
             &mut err,
         );
-        Ok(Answer { status, out, err })
+        if is_failing {
+            self.files = self.files_again(alloc, Vec::new(alloc))?;
+        }
+        Ok(Answer {
+            status,
+            out,
+            err,
+            changed: self.changed_since(alloc, before)?,
+        })
     }
+
+    /// The same files, where their names are watched.
+    fn watched(&self, alloc: Global) -> Result<Option<MemFiles>, Refusal> {
+        if self.is_watched {
+            Ok(Some(self.files_again(alloc, Vec::new(alloc))?))
+        } else {
+            Ok(None)
+        }
+    }
+
+    /// The names whose files aren't as they were.
+    fn changed_since(
+        &self,
+        alloc: Global,
+        before: Option<MemFiles>,
+    ) -> Result<Vec<String>, Refusal> {
+        let mut changed = Vec::new(alloc);
+        if let Some(before) = before {
+            for name in self.names.iter() {
+                if self.files.get(name) != before.get(name) {
+                    let name = String::from_str(alloc, name)?;
+                    changed.push(name)?;
+                }
+            }
+        }
+        Ok(changed)
+    }
+}
+
+fn alike(first: Option<&[u8]>, second: Option<&[u8]>) -> Result<(), Refusal> {
+    if first == second {
+        Ok(())
+    } else {
+        Err(Refusal::Different)
+    }
+}
+
+/// The bytes with others in the place of some: pairs of an offset from `base`, and two digits for each byte that
+/// stands there. Zeros fill what is missing before them.
+fn patched(
+    alloc: Global,
+    mut bytes: Vec<u8>,
+    base: usize,
+    patches: &[&str],
+) -> Result<Vec<u8>, Refusal> {
+    for patch in patches.chunks(2) {
+        let [at, digits] = patch else {
+            return Err(Refusal::Script);
+        };
+        let at = base.saturating_add(number(at)?);
+        for (place, digits) in digits.as_bytes().chunks(2).enumerate() {
+            let place = at.saturating_add(place);
+            while bytes.len() <= place {
+                bytes.push(0)?;
+            }
+            if let Some(byte) = bytes.get_mut(place) {
+                *byte = hexadecimal(digits).ok_or(Refusal::Script)?;
+            }
+        }
+    }
+    Ok(bytes)
+}
+
+/// The byte that two digits name.
+fn hexadecimal(digits: &[u8]) -> Option<u8> {
+    let digits = str::from_utf8(digits).ok()?;
+    u8::from_str_radix(digits, 16).ok()
 }
 
 /// The bytes of a dump's cells.
@@ -126,7 +316,7 @@ fn numbers(alloc: Global, words: &[&str]) -> Result<Vec<u64>, Refusal> {
     let mut all = Vec::with_capacity(alloc, words.len())?;
     for word in words {
         match word.parse() {
-            Ok(number) => all.push(number).map_err(|_| Refusal::NoMemory)?,
+            Ok(number) => all.push(number)?,
             Err(_) => return Err(Refusal::Script),
         }
     }
@@ -155,5 +345,9 @@ pub fn play(rt: &HostRuntime, folder: &mut impl Files, script: &str) -> io::Resu
 fn print_answer(rt: &HostRuntime, line: &str, answer: &Answer) -> io::Result<()> {
     println!(rt; "{line}: {}", answer.status)?;
     print_bytes(rt, "", answer.out.bytes())?;
-    print_bytes(rt, "to the error stream: ", answer.err.bytes())
+    print_bytes(rt, "to the error stream: ", answer.err.bytes())?;
+    for name in answer.changed.iter() {
+        println!(rt; "changed: {name}")?;
+    }
+    Ok(())
 }

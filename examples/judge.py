@@ -1,0 +1,360 @@
+"""What is wrong with a file, from its format alone and apart from EEL: the codes of an ELF file's faults, to be edited or
+to be run; where notes and dumps break a rule; the first bad line of a script."""
+import re
+import struct
+from collections import namedtuple
+
+MIB = 1 << 20
+
+# How many program headers a file may have, and how much memory.
+EDIT_LIMITS = 64, 128 * MIB
+RUN_LIMITS = 80, 1280 * MIB
+
+Header = namedtuple('Header', 'kind offset start physical size memory flags align')
+Notes = namedtuple('Notes', 'delta length tool start words entry base cells segments blocks edges ranges')
+Dump = namedtuple('Dump', 'kind number pc steps cells')
+
+
+def half(file, at):
+    return int.from_bytes(file[at:at + 2], 'big')
+
+
+def word(file, at):
+    return int.from_bytes(file[at:at + 4], 'big')
+
+
+# ---- files
+
+def header_faults(file, most):
+    """The codes 1 to 9 that hold."""
+    if len(file) < 52:
+        return [1]
+    count = half(file, 44)
+    rules = {2: file[:4] == b'\x7fELF', 3: file[4] == 1, 4: file[5] == 2, 5: file[6] == 1 and word(file, 20) == 1,
+             6: half(file, 16) == 2, 7: half(file, 18) == 2, 8: half(file, 40) == 52 and half(file, 42) == 32,
+             9: 1 <= count <= most and word(file, 28) + 32 * count <= len(file)}
+    return [code for code, holds in rules.items() if not holds]
+
+
+def headers(file):
+    at = word(file, 28)
+    return [Header(*struct.unpack_from('>8I', file, at + 32 * number)) for number in range(half(file, 44))]
+
+
+def loadable(file):
+    return [header for header in headers(file) if header.kind == 1 and header.memory]
+
+
+def is_text(header):
+    return header.flags & 3 == 1
+
+
+def leaves_file(header, size):
+    return header.size > header.memory or (header.size > 0 and header.offset + header.size > size)
+
+
+def is_inside(header):
+    return 0x1000 <= header.start and header.start + header.memory <= 0x80000000
+
+
+def is_aligned(header):
+    align = header.align
+    if align == 0:
+        return True
+    return align & (align - 1) == 0 and align <= 1 << 20 and header.start % align == header.offset % align
+
+
+def descend(loads):
+    return any(later.start < header.start + header.memory for header, later in zip(loads, loads[1:]))
+
+
+def text_faults(file, texts):
+    """The codes 15 to 19 that hold; of several texts the first is looked at."""
+    if not texts:
+        return [15, 19]
+    text = texts[0]
+    words = text.memory // 4
+    entry = word(file, 24) - text.start
+    rules = {16: len(texts) == 1, 17: text.start % 4 == 0 and text.memory >= 4, 18: words <= 1 << 20,
+             19: entry >= 0 and entry % 4 == 0 and entry // 4 < words}
+    return [code for code, holds in rules.items() if not holds]
+
+
+def edit_faults(file):
+    """All codes that hold, in order, of a file that is to be edited or shown."""
+    most, memory = EDIT_LIMITS
+    faults = header_faults(file, most)
+    if faults:
+        return faults
+    loads = loadable(file)
+    if any(header.kind in (2, 3) for header in headers(file)):
+        faults.append(10)
+    if any(header.kind == 1 and leaves_file(header, len(file)) for header in headers(file)):
+        faults.append(11)
+    if not all(is_inside(header) for header in loads):
+        faults.append(12)
+    if descend(loads):
+        faults.append(13)
+    if not all(is_aligned(header) for header in loads):
+        faults.append(14)
+    faults += text_faults(file, [header for header in loads if is_text(header)])
+    if sum(header.memory for header in loads) > memory:
+        faults.append(20)
+    return faults
+
+
+def run_faults(file):
+    """All codes that hold, in order, of a file that is to be run."""
+    most, memory = RUN_LIMITS
+    faults = header_faults(file, most)
+    if faults:
+        return faults
+    loads = loadable(file)
+    if any(header.kind == 1 and leaves_file(header, len(file)) for header in headers(file)):
+        faults.append(11)
+    if not all(is_inside(header) or (header.start, header.memory) == (0xfffff000, 4096) for header in loads):
+        faults.append(12)
+    if descend(loads):
+        faults.append(13)
+    if not all(is_aligned(header) for header in loads):
+        faults.append(14)
+    if sum(header.memory for header in loads) > memory:
+        faults.append(20)
+    return faults
+
+
+def room_of(file):
+    """How much room a file without a fault leaves above its segments."""
+    end = max(header.start + header.memory for header in loadable(file))
+    base = (end + 0xffff) // 0x10000 * 0x10000
+    return min(1 << 30, 0x80000000 - base)
+
+
+# ---- notes
+
+class Bad(Exception):
+    """The first word that is missing or breaks its rule."""
+
+
+class Words:
+    """Big-endian words, read from left to right."""
+
+    def __init__(self, file):
+        self.file = file
+        self.at = 0
+
+    def word(self, holds=None):
+        at = self.at
+        if at + 4 > len(self.file):
+            raise Bad(at)
+        self.at += 4
+        read = word(self.file, at)
+        if holds and not holds(read):
+            raise Bad(at)
+        return read
+
+    def row(self, size):
+        """Where a row stands, and its words."""
+        at = self.at
+        return at, [self.word() for _ in range(size)]
+
+
+def keep(holds, at):
+    if not holds:
+        raise Bad(at)
+
+
+def noted_segments(words, count):
+    end = 0
+    for _ in range(count):
+        at, (start, length) = words.row(2)
+        keep(start >= end and length and start + length <= 1 << 32, at)
+        end = start + length
+        yield start, end
+
+
+def noted_blocks(words, count, text):
+    before = -1
+    for _ in range(count):
+        first = words.word(lambda first: (first == 0 if before < 0 else first > before) and first < text)
+        before = first
+        yield first
+
+
+def noted_edges(words, count, blocks, cells):
+    taken = set()
+    for _ in range(count):
+        at, (kind, source, target, cell) = words.row(4)
+        keep(kind <= 5 and source <= blocks and target <= blocks, at)
+        keep(cell == 0xffffffff or cell < cells and cell not in taken, at)
+        taken.add(cell)
+        yield kind, source, target, cell
+
+
+def noted_ranges(words, count, blocks, segments):
+    end = 0
+    for _ in range(count):
+        at, (low, high, address, node) = words.row(4)
+        keep(low % 4 == high % 4 == address % 4 == 0 and end <= low < high and node <= blocks, at)
+        keep(any(start <= low and high <= stop for start, stop in segments), at)
+        end = high
+        yield low, high, address, node
+
+
+def notes_in(told, size):
+    """The notes in these bytes, of a file of this size."""
+    words = Words(told)
+    delta = words.word(lambda delta: delta >= 4096)
+    length = words.word(lambda length: delta + length <= size)
+    tool = words.word(lambda tool: tool <= 2)
+    start = words.word(lambda start: start % 4 == 0 and start >= 0x1000)
+    count = words.word(lambda count: 1 <= count <= MIB and start + 4 * count <= 0x80000000)
+    entry = words.word()
+    base = words.word()
+    cells = words.word()
+    keep(base % 4 == 0 and base + 4 * cells <= 1 << 32, 24)
+    keep(cells <= 1 << 22, 28)
+    segments = list(noted_segments(words, words.word(lambda segments: segments <= 8)))
+    at, (block_count,) = words.row(1)
+    keep(entry < block_count, 20)
+    keep(block_count <= count, at)
+    blocks = list(noted_blocks(words, block_count, count))
+    edges = list(noted_edges(words, words.word(lambda edges: edges < 1 << 24), block_count, cells))
+    ranges = list(noted_ranges(words, words.word(lambda ranges: ranges < 1 << 26), block_count, segments))
+    keep(words.at == len(told), words.at)
+    return Notes(delta, length, tool, start, count, entry, base, cells, segments, blocks, edges, ranges)
+
+
+def notes_of(file):
+    """The notes of a file, or None where it has none. Bad says where they break a rule."""
+    if len(file) < 4096 or word(file, 4032) != 0x45454c4e or word(file, 4036) != 1:
+        return None
+    at, size = word(file, 4040), word(file, 4044)
+    keep(at + size <= len(file), 0)
+    return notes_in(file[at:at + size], len(file))
+
+
+def are_mapped(file, notes):
+    """The cells lie in one loaded segment that may be read."""
+    end = notes.base + 4 * notes.cells
+    return notes.cells == 0 or any(
+        header.flags & 4 and header.start <= notes.base and end <= header.start + header.memory
+        for header in loadable(file))
+
+
+# ---- dumps
+
+def dump_of(file):
+    words = Words(file)
+    words.word(lambda mark: mark == 0x45454c44)
+    words.word(lambda version: version == 1)
+    kind = words.word(lambda kind: kind <= 4)
+    number = words.word(lambda number: number <= (255 if kind in (1, 2) else 0))
+    pc = words.word()
+    keep(len(file) >= 28, 20)
+    steps = words.word() << 32 | words.word()
+    count = words.word(lambda count: len(file) == 32 + 4 * count)
+    return Dump(kind, number, pc, steps, [words.word() for _ in range(count)])
+
+
+# ---- scripts
+
+NUMBER = rb'(0|[1-9]\d*)'
+LINE = re.compile(rb'edge ' + NUMBER + rb' (?:(?:add|put) ' + NUMBER + rb' ' + NUMBER
+                  + rb'|(?:keep|top) ' + NUMBER + rb' %[goli][0-7])', re.ASCII)
+
+
+def script_fault(script, edges):
+    """The number of the first bad line and what is bad about it, or None."""
+    lines = script.split(b'\n')
+    operations = {}
+    for number, line in enumerate(lines, 1):
+        if not line or line.startswith(b'#'):
+            continue
+        found = LINE.fullmatch(line)
+        numbers = [int(text) for text in found.groups() if text] if found else [1 << 32]
+        if any(value >= 1 << 32 for value in numbers):
+            return number, 'grammar'
+        edge, cell = numbers[:2]
+        if edge >= edges:
+            return number, 'edge'
+        if cell >= 1 << 22:
+            return number, 'cell'
+        operations[edge] = operations.get(edge, 0) + 1
+        if operations[edge] > 8:
+            return number, 'operations'
+    return None
+
+
+# ---- counts
+
+def spans(edges, nodes):
+    """These edges are a spanning tree of so many nodes."""
+    joined = list(range(nodes))
+
+    def top(node):
+        while joined[node] != node:
+            joined[node] = joined[joined[node]]
+            node = joined[node]
+        return node
+
+    for _, source, target, _ in edges:
+        source, target = top(source), top(target)
+        if source == target:
+            return False
+        joined[source] = target
+    return len(edges) == nodes - 1
+
+
+def node_of(notes, pc):
+    """The node where a run stands, or None between places."""
+    for low, high, _, node in notes.ranges:
+        if low <= pc < high:
+            return node
+    return None if any(start <= pc < end for start, end in notes.segments) else len(notes.blocks)
+
+
+def flow(notes, start, end, cells):
+    """The one flow from a node to another whose values on the edges with cells are these."""
+    values = [None if cell == 0xffffffff else cells[cell] for _, _, _, cell in notes.edges]
+    at = [[] for _ in range(len(notes.blocks) + 1)]
+    excess = [(node == start) - (node == end) for node in range(len(at))]
+    for number, (_, source, target, _) in enumerate(notes.edges):
+        if values[number] is None:
+            at[source].append(number)
+            at[target].append(number)
+        else:
+            excess[source] -= values[number]
+            excess[target] += values[number]
+    leaves = [node for node, edges in enumerate(at) if len(edges) == 1]
+    while leaves:
+        node = leaves.pop()
+        if not at[node]:
+            continue
+        number, = at[node]
+        _, source, target, _ = notes.edges[number]
+        values[number] = excess[node] if node == source else -excess[node]
+        excess[source] -= values[number]
+        excess[target] += values[number]
+        for end_node in (source, target):
+            at[end_node].remove(number)
+            if len(at[end_node]) == 1:
+                leaves.append(end_node)
+    return values
+
+
+def count_fault(notes, dump):
+    """Why no counts can be rebuilt, as it is told behind a name, or None."""
+    if notes.tool != 1 or not spans([row for row in notes.edges if row[3] == 0xffffffff], len(notes.blocks) + 1):
+        return 'no profile'
+    if len(dump.cells) != notes.cells:
+        return f'{len(dump.cells)} cells, {notes.cells} wanted'
+    if dump.steps >= 1 << 32:
+        return f'{dump.steps} steps'
+    node = node_of(notes, dump.pc)
+    if node is None:
+        return f'pc {dump.pc:08x} between places'
+    for number, value in enumerate(flow(notes, notes.entry, node, dump.cells)):
+        if value < 0:
+            return f'edge {number} would be {value}'
+    return None
