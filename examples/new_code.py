@@ -177,7 +177,6 @@ class Pieces:
         self.program, self.graph, self.table = program, graph, table
         own = [edge for edge in graph.edges if edge.kind != 'land']
         self.ways = {(edge.source, edge.kind): graph.count + number for number, edge in enumerate(own)}
-        self.first_landing = graph.count + len(own)
         self.list = [self.image(word, block) for block, first in enumerate(graph.firsts)
                      for word in range(first, graph.last(block) + 1)]
         self.list += [self.way(edge) for edge in own]
