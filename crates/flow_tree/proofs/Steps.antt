@@ -166,9 +166,10 @@ counted_spans n links w r es t off is_node lr ok h whole same c =
 -- a growth by ranks is one by weights that rise with them
 grows_by : (g : Graph) (rank weight : ℕ → ℕ) (es : List ℕ) (s t : NodeSet) → RisesWith g.edges rank weight → Grows g rank s es t → Grows g weight s es t
 grows_by g rank weight [] s t rises h = h
-grows_by g rank weight (x ∷ xs) s t rises h =
-    (record { inside = h.0.inside; across = h.0.across; heaviest = λ e l c. rises x e h.0.inside l (h.0.heaviest e l c) },
-    grows_by g rank weight xs (and_also s (far_end g s x)) t rises h.1)
+grows_by g rank weight (x ∷ xs) s t rises h = (
+  record { inside = h.0.inside; across = h.0.across; heaviest = λ e l c. rises x e h.0.inside l (h.0.heaviest e l c) },
+  grows_by g rank weight xs (and_also s (far_end g s x)) t rises h.1,
+)
 
 pub counted_least : (n : ℕ) (links : List Link) (rank weight : ℕ → ℕ) (r : ℕ) (es : List ℕ) (t : NodeSet) (off : List Bool) (is_node : NodeSet) → r < n → IsLinked n links →
     RisesWith (length links) rank weight → Grows (graph_of n links) rank (only r) es t → IsWhole (graph_of n links) t →
