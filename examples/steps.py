@@ -79,12 +79,13 @@ def counters(file, original):
         high, load, add, store = words[at:at + 4]
         base, register = high >> 25 & 31, load >> 25 & 31
         low = load & 0x3ff
-        if (high >> 30 == 0 and high >> 22 & 7 == 4 and load >> 30 == 3 and load >> 19 & 63 == 0 and load >> 14 & 31 == base
+        edge = edge_of.get(((high & 0x3fffff) << 10 | low) - base_of_cells >> 2)
+        if (edge is not None and high >> 30 == 0 and high >> 22 & 7 == 4
+                and load >> 30 == 3 and load >> 19 & 63 == 0 and load >> 14 & 31 == base
                 and add == 0x80002001 | register << 25 | register << 14
                 and store == 0xc0202000 | register << 25 | base << 14 | low):
-            sort = named[edge_of[((high & 0x3fffff) << 10 | low) - base_of_cells >> 2]]
-            found[sort] += 1
-            spilled[sort] += at > 0 and is_kept(words[at - 1])
+            found[named[edge]] += 1
+            spilled[named[edge]] += at > 0 and is_kept(words[at - 1])
     return found, spilled
 
 
