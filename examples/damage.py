@@ -28,9 +28,9 @@ from programs import C_PROGRAMS, RUNS, SMALL
 
 BATCH = 250
 
-# The time and the address space that a batch may take.
+# The processor time and the memory that a batch may take: a program that is run has 1,280 MiB at most.
 SECONDS = 600
-MEMORY = 6 << 30
+MEMORY = 3 << 30
 
 # How many steps a damaged program may make.
 STEPS = 500
@@ -286,8 +286,7 @@ def play(program, folder, name, lines, limits=None):
         return printed.read(), status, time.monotonic() - started, used.ru_maxrss
 
 
-def limit_memory():
-    resource.setrlimit(resource.RLIMIT_AS, (MEMORY, MEMORY))
+def limit_time():
     resource.setrlimit(resource.RLIMIT_CPU, (SECONDS, SECONDS))
 
 
@@ -333,9 +332,11 @@ def judge_batch(job):
         inputs = Inputs(folder)
         batch = [(number, inputs.draw(number)) for number in numbers]
         lines = PREPARED + [line for _, input in batch for line in lines_of(input)]
-        printed, ended, seconds, memory = play(program, folder, 'session', lines, limit_memory)
+        printed, ended, seconds, memory = play(program, folder, 'calls', lines, limit_time)
     seen = collections.Counter()
-    odd = [f'inputs from {numbers[0]} on: ended with {ended}'] if ended else []
+    odd = []
+    if ended or memory << 10 > MEMORY:
+        odd.append(f'inputs from {numbers[0]} on: ended with {ended}, in {memory >> 10} MiB')
     for number, (words, wanted, names), status, told in answers(printed, batch):
         seen[words.split()[0], status] += 1
         if differs(words, wanted, names, status, told):
@@ -354,7 +355,7 @@ def prepare(program, folder):
     for name in PROFILED:
         lines += [f'eel edit {name} {name}.written profile', f'eel run {name}.written -d {name}.dump',
                   f'keep {name}.written', f'keep {name}.dump']
-    play(program, folder, 'session', lines)
+    play(program, folder, 'calls', lines)
 
 
 def main():

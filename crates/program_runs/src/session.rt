@@ -48,7 +48,8 @@ pub struct Session {
     files: MemFiles,
     /// The names that a file may have.
     names: Vec<String>,
-    /// The names that a call has changed are told.
+    /// What they held when last looked at, where a call's changes are told.
+    seen: MemFiles,
     is_watched: bool,
     input: Vec<u8>,
     /// What is to fail in the next call.
@@ -73,6 +74,7 @@ impl Session {
         Session {
             files: MemFiles::new(alloc, Vec::new(alloc)),
             names: Vec::new(alloc),
+            seen: MemFiles::new(alloc, Vec::new(alloc)),
             is_watched: false,
             input: Vec::new(alloc),
             failures: Failures::none(alloc),
@@ -84,11 +86,11 @@ impl Session {
     /// Does what a line of a script says. A line that begins with `eel` is a call, and has an answer. The others:
     /// `hold NAME` holds this file of the script's folder, `zeros NAME COUNT` so many zeros, `cut OLD NEW COUNT` the
     /// first bytes of a file that is held, `patch OLD NEW AT BYTES ..` such a file with these bytes at these offsets,
-    /// `noted OLD NEW AT BYTES ..` the same with offsets in its notes, `keep NAME` puts a file that is held into the script's
-    /// folder, `input NAME` makes a file the input, `room OUT
-    /// ERR` says how much the streams take, `fail DEVICE CALL ..` which calls of a device fail in the next call of the
-    /// editor, `watch` that from now on the names are told that a call has changed, `same NAME NAME` is refused where
-    /// the two files differ, and `cells DUMP NAME` where the dump's cells are other words than the file's.
+    /// `noted OLD NEW AT BYTES ..` the same with offsets in its notes, `keep NAME` puts a file that is held into the
+    /// script's folder, `input NAME` makes a file the input, `room OUT ERR` says how much the streams take, `fail DEVICE
+    /// CALL ..` which calls of a device fail in the next call of the editor, `watch` that from now on the names are told
+    /// that a call has changed (it stands first), `same NAME NAME` is refused where the two files differ, and `cells
+    /// DUMP NAME` where the dump's cells are other words than the file's.
     pub fn act(
         &mut self,
         alloc: Global,
@@ -171,6 +173,9 @@ impl Session {
     fn hold(&mut self, alloc: Global, name: &str, bytes: &[u8]) -> Result<(), Refusal> {
         self.know(alloc, name)?;
         self.files.add(name, bytes)?;
+        if self.is_watched {
+            self.seen.add(name, bytes)?;
+        }
         Ok(())
     }
 
@@ -209,7 +214,6 @@ impl Session {
         }
         let failures = std::mem::replace(&mut self.failures, Failures::none(alloc));
         let is_failing = !failures.files.is_empty();
-        let before = self.watched(alloc)?;
         if is_failing {
             self.files = self.files_again(alloc, failures.files)?;
         }
@@ -231,32 +235,20 @@ impl Session {
             status,
             out,
             err,
-            changed: self.changed_since(alloc, before)?,
+            changed: self.changes(alloc)?,
         })
     }
 
-    /// The same files, where their names are watched.
-    fn watched(&self, alloc: Global) -> Result<Option<MemFiles>, Refusal> {
-        if self.is_watched {
-            Ok(Some(self.files_again(alloc, Vec::new(alloc))?))
-        } else {
-            Ok(None)
-        }
-    }
-
-    /// The names whose files aren't as they were.
-    fn changed_since(
-        &self,
-        alloc: Global,
-        before: Option<MemFiles>,
-    ) -> Result<Vec<String>, Refusal> {
+    /// The names whose files aren't as they were seen last, where these are watched.
+    fn changes(&mut self, alloc: Global) -> Result<Vec<String>, Refusal> {
         let mut changed = Vec::new(alloc);
-        if let Some(before) = before {
-            for name in self.names.iter() {
-                if self.files.get(name) != before.get(name) {
-                    let name = String::from_str(alloc, name)?;
-                    changed.push(name)?;
-                }
+        if !self.is_watched {
+            return Ok(changed);
+        }
+        for name in self.names.iter() {
+            if self.files.get(name) != self.seen.get(name) {
+                self.seen.add(name, self.files.get(name).unwrap_or(&[]))?;
+                changed.push(String::from_str(alloc, name)?)?;
             }
         }
         Ok(changed)
