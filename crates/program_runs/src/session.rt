@@ -212,14 +212,20 @@ impl Session {
         for word in words {
             self.know(alloc, word)?;
         }
-        let failures = std::mem::replace(&mut self.failures, Failures::none(alloc));
-        let is_failing = !failures.files.is_empty();
+        let Failures {
+            files: unfetched,
+            input: unread,
+            out: unput,
+            err: untold,
+        } = std::mem::replace(&mut self.failures, Failures::none(alloc));
+        let is_failing = !unfetched.is_empty();
         if is_failing {
-            self.files = self.files_again(alloc, failures.files)?;
+            self.files = self.files_again(alloc, unfetched)?;
         }
-        let mut input = MemSource::new(Vec::from_slice(alloc, &self.input)?, failures.input);
-        let mut out = MemSink::new(alloc, self.out_room, failures.out)?;
-        let mut err = MemSink::new(alloc, self.err_room, failures.err)?;
+        let given = Vec::from_slice(alloc, &self.input)?;
+        let mut input = MemSource::new(given, unread);
+        let mut out = MemSink::new(alloc, self.out_room, unput)?;
+        let mut err = MemSink::new(alloc, self.err_room, untold)?;
         let status = eel::eel(
             alloc,
             words,
@@ -278,7 +284,7 @@ fn patched(
         let at = base.saturating_add(number(at)?);
         for (place, digits) in digits.as_bytes().chunks(2).enumerate() {
             let place = at.saturating_add(place);
-            while bytes.len() <= place {
+            for _ in bytes.len()..place.saturating_add(1) {
                 bytes.push(0)?;
             }
             if let Some(byte) = bytes.get_mut(place) {
