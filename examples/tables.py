@@ -526,8 +526,8 @@ REFUSED = {
     'counts profiled two_cells': ([fetch, fetch], told('two_cells', ': ', '2', ' cells, ', '1', ' wanted\n'), 65),
     'counts profiled long_run': ([fetch, fetch], told('long_run', ': ', '4294967296', ' steps\n'), 65),
     'counts profiled in_no_place': ([fetch, fetch], told('in_no_place', ': pc ', 'fffff000', ' between places\n'), 65),
-    'counts profiled left_without_entry': (
-        [fetch, fetch], told('left_without_entry', ': edge ', '1', ' would be ', '-1', '\n'), 65),
+    'counts branching taken_twice': (
+        [fetch, fetch], told('taken_twice', ': edge ', '1', ' would be ', '-1', '\n'), 65),
     'edit cramped out plain': ([fetch], told('cramped', ': room ', '1050112', ' needed, ', '0', ' had\n'), 69),
     'show missing': ([fetch], [DEVICE_FAULT], 74),
 }
@@ -569,15 +569,20 @@ def failures(words, command):
                 yield from row(words, command, {device: number, 'err': 1})
 
 
-def in_each_room(words, command):
-    """A stream takes each number of bytes, from none to one more than there are."""
+def sizes(size, some):
+    """Each number of bytes up to so many; of a long text some alone."""
+    return range(size + 1) if size <= some else [*range(some // 2), *range(size - some // 2, size + 1)]
+
+
+def in_each_room(words, command, some=20):
+    """A stream takes each number of bytes, from none to all."""
     steps, pieces, status = command
     devices = Devices({}, (1 << 16, 1 << 16))
     perform(steps, pieces, status, devices)
-    for number in range(len(devices.out.taken) + 1 if devices.out.taken else 0):
+    for number in sizes(len(devices.out.taken), some) if devices.out.taken else []:
         yield f'room {number} 65536', b''
         yield from row(words, command, {}, (number, 1 << 16))
-    for number in range(len(devices.err.taken) + 1):
+    for number in sizes(len(devices.err.taken), some):
         yield f'room 65536 {number}', b''
         yield from row(words, command, {}, (1 << 16, number))
     yield 'room 65536 65536', b''
@@ -607,8 +612,8 @@ def long():
 def devices():
     """Every command with each call of each device failing in turn, and in streams of each size that matters."""
     yield 'watch', b''
-    for name in ('three_words', 'echoes', 'echoes.counting', 'cramped', 'left_without_entry', 'long_run', 'two_cells',
-            'in_no_place'):
+    for name in ('three_words', 'echoes', 'echoes.counting', 'cramped', 'taken_branch', 'taken_twice', 'long_run',
+            'two_cells', 'in_no_place'):
         yield f'hold {name}', b''
     yield 'input echoes.input', b''
     yield 'cut three_words out 0', b''
@@ -617,14 +622,15 @@ def devices():
     yield call('edit echoes plain plain', 0, changed=['plain'])
     yield call('edit echoes profiled profile', 0, changed=['profiled'])
     yield call('run profiled -d dump', 0, ECHOES.output, ECHOES.errors + b'exit 3\n', ['dump'])
+    yield call('edit taken_branch branching profile', 0, changed=['branching'])
     yield patch('noted', 'profiled', 'unnoted', {8: 'ffffffff'})
     for words, command in DONE.items():
         yield from good(words, command)
         yield from failures(words, command)
-    for words in ('run echoes', 'run profiled -d out', 'show three_words', 'demo 1 1'):
+    for words, some in {'run echoes': 20, 'run profiled -d out': 6, 'show three_words': 200, 'demo 1 1': 4}.items():
         yield from good(words, DONE[words])
-        yield from in_each_room(words, DONE[words])
+        yield from in_each_room(words, DONE[words], some)
     for words, command in REFUSED.items():
         yield from failures(words, command)
     for words in ('help', 'edit short out plain', 'edit cramped out plain'):
-        yield from in_each_room(words, REFUSED[words])
+        yield from in_each_room(words, REFUSED[words], 60)
