@@ -146,6 +146,15 @@ SECTIONED = {'sections_outside': {32: '7fffffff', 46: '00280003'},
                         96 + 40 + 36: '00000010', 96 + 79: '10'}}
 
 
+# How the faults are shown, by their codes.
+FAULT_TEXTS = ['Short', 'Magic', 'Class', 'Order', 'Version', 'Kind', 'Machine', 'HeaderSize', 'Headers', 'Dynamic',
+    'SegmentFile', 'SegmentRoom', 'SegmentOrder', 'Align', 'NoText', 'ManyTexts', 'TextShape', 'TextLarge', 'Entry', 'MemoryLarge']
+
+
+def fault_texts():
+    return ''.join(f'{code} {text}\n' for code, text in enumerate(FAULT_TEXTS, 1)).encode()
+
+
 def first_of(codes):
     return codes[0] if codes else None
 

@@ -5,6 +5,7 @@ import os
 import listings
 import sessions
 import stops
+import tables
 from programs import C_PROGRAMS, RUNS, SMALL
 
 
@@ -25,9 +26,10 @@ def main():
         write(f'data/{name}', file)
     shown = listings.printed()
     played = sessions.printed()
-    names = [program.name for program in programs] + ['show', *shown, 'session', *played, 'stops', *stops.KNOWN]
+    names = [program.name for program in programs] + ['show', *shown, 'session', *played, 'stops', *stops.KNOWN, 'faults']
     write('args', ''.join(f'{name}\n' for name in names).encode())
-    write('stdout', b''.join([program.report() for program in programs] + [*shown.values(), *played.values(), *stops.printed()]))
+    write('stdout', b''.join([program.report() for program in programs] + [*shown.values(), *played.values(), *stops.printed(),
+        tables.fault_texts()]))
 
 
 if __name__ == '__main__':

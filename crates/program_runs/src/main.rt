@@ -1,8 +1,10 @@
 //! Runs the programs whose files are named by its arguments, each on an input of its own, and prints what
 //! comes of each: how it ends, after how many steps, and what it puts out. Those that are named after the word
-//! `show` it lists instead, and those after the word `session` are scripts of calls of the editor.
+//! `show` it lists instead, and those after the word `session` are scripts of calls of the editor. The word
+//! `faults` has it print the faults of a file.
 #![tactic(auto)]
 
+mod faults;
 mod job;
 mod report;
 mod session;
@@ -10,6 +12,7 @@ mod stops;
 mod walk;
 
 use eel_base::{Files, RealFiles};
+use faults::print_faults;
 use job::{Job, Refusal};
 use report::Report;
 use session::{play, read_script};
@@ -79,6 +82,7 @@ fn main(rt: HostRuntime) -> io::Result<()> {
         match word.as_str() {
             "show" => mode = Mode::Show,
             "session" => mode = Mode::Session,
+            "faults" => print_faults(&rt)?,
             "stops" => mode = Mode::Stops,
             name => print_file(&rt, &mut files, mode, name)?,
         }
