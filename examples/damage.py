@@ -1,5 +1,5 @@
 #!/usr/bin/env python3
-"""Damages files (programs, written files, dumps and scripts) by bits, fields, cuts and splices, and has the built
+"""Damages files (programs, written files, dumps, scripts and weights) by bits, fields, cuts and splices, and has the built
 program_runs do every command on each. What must come of each is told by judge.py: the status, the line, and that no file
 has changed after a refusal.
 
@@ -23,10 +23,12 @@ import tempfile
 import time
 
 import judge
-from listing import Graph, Program
+from listing import Graph, Program, listing
 from programs import C_PROGRAMS, RUNS, SMALL
 
 BATCH = 250
+# The script of a session, each folder's own.
+CALLS = 'calls'
 
 # The processor time and the memory that a batch may take: a program that is run has 1,280 MiB at most.
 SECONDS = 600
@@ -43,6 +45,9 @@ PROGRAMS = ['three_words', 'taken_branch', 'carry_loop', 'call_and_return', 'inn
 PROFILED = ['carry_loop', 'call_and_return', 'switch_of_four']
 
 SCRIPT = b'edge 0 add 0 1\nedge 1 top 1 %g2\n# kept\n\nedge 2 keep 2 %o0\nedge 1 put 3 4294967295\nedge 8 add 4194303 7\n'
+
+ROWS = (b'edge 0 fall 00010054 00010058 1\nedge 1 taken 00010058 00010058 4\nedge 2 untaken 00010058 00010068 1\n'
+    b'edges 9 counted 5 executions 6\n')
 
 INTERESTING = [0, 1, 2, 3, 4, 0x34, 0x54, 0xfff, 0x1000, 0x10000, 0x10054, 0x100000, 0x100001, 0x400000, 0x400004, 0x8000000,
     0x7ffffffc, 0x80000000, 0xfffff000, 0xfffffffc, 0xffffffff]
@@ -184,6 +189,7 @@ def program_calls(file, dump):
         yield 'edit f out plain', fault or no_room(file, 0, 0), ['out']
         yield 'edit f out profile', fault or no_room(file, *profile_asks(file)), ['out']
         yield 'show f', fault or DONE, []
+        yield 'list f', fault or DONE, []
     refused = fault_of(judge.run_faults(file))
     yield f'run f -n {STEPS}', refused or DONE, []
     unnoted, notes = notes_fault('f', file)
@@ -203,6 +209,11 @@ def script_calls(script, edges):
     yield 'edit base out script f', told('f', f'line {bad[0]}: {bad[1]}') if bad else DONE, ['out']
 
 
+def weight_calls(lines, edges):
+    bad = judge.weight_fault(lines, edges)
+    yield 'edit base out profile f', told('f', f'line {bad[0]}: {bad[1]}') if bad else DONE, ['out']
+
+
 # ---- batches
 
 Input = collections.namedtuple('Input', 'base patches size calls')
@@ -218,7 +229,9 @@ class Inputs:
                 with open(os.path.join(folder, f'{name}.{kind}'), 'rb') as opened:
                     self.files[f'{name}.{kind}'] = opened.read()
         self.files['script'] = SCRIPT
-        self.edges = len(Graph(Program(self.files['carry_loop'])).edges)
+        self.files['rows'] = ROWS
+        shown = listing(self.files['carry_loop']).encode().splitlines()
+        self.edges = [tuple(line.split()[2:5]) for line in shown if line.startswith(b'edge ')]
 
     def program(self):
         """A damaged program; the others are those from which parts are spliced."""
@@ -252,11 +265,20 @@ class Inputs:
         if random.random() < 0.7:
             at = random.randrange(len(SCRIPT))
             patches.append((at, random.choice([b' ', b'\n', b'0', b'9', b'#', b'%', b'edge ', b'add', b'8', b'\0'])))
-        return Input('script', patches, size, list(script_calls(apply(SCRIPT, patches, size), self.edges)))
+        return Input('script', patches, size, list(script_calls(apply(SCRIPT, patches, size), len(self.edges))))
+
+    def rows(self):
+        """So are weights."""
+        patches, size = damaged(ROWS, [ROWS], Place((0, len(ROWS))))
+        if random.random() < 0.7:
+            at = random.randrange(len(ROWS))
+            patches.append((at, random.choice([b' ', b'\n', b'0', b'9', b'+', b'x', b'edge ', b'fall', b'000100', b'18446744073709551616'])))
+        return Input('rows', patches, size, list(weight_calls(apply(ROWS, patches, size), self.edges)))
 
     def draw(self, number):
         random.seed(number)
-        return random.choice([self.program, self.program, self.program, self.written, self.written, self.dump, self.script])()
+        return random.choice([self.program, self.program, self.program, self.written, self.written, self.dump, self.script,
+            self.rows])()
 
 
 def lines_of(input):
@@ -267,18 +289,18 @@ def lines_of(input):
         yield f'eel {words}'
 
 
-PREPARED = ['watch', 'room 16777216 1048576', 'hold script', *(f'hold {name}' for name in PROGRAMS),
+PREPARED = ['watch', 'room 16777216 1048576', 'hold script', 'hold rows', *(f'hold {name}' for name in PROGRAMS),
     *(f'hold {name}.{kind}' for name in PROFILED for kind in ('written', 'dump')),
     'patch carry_loop.dump dump', 'patch carry_loop.written written', 'patch carry_loop base']
 
 
-def play(program, folder, name, lines, limits=None):
+def play(program, folder, lines, limits=None):
     """Plays a session, and answers what it printed, its status, and the time and memory that it took."""
-    with open(os.path.join(folder, name), 'w') as script:
+    with open(os.path.join(folder, CALLS), 'w') as script:
         script.write(''.join(f'{line}\n' for line in lines))
     started = time.monotonic()
     with tempfile.TemporaryFile() as printed:
-        ran = subprocess.Popen([program, 'session', name], cwd=folder, stdout=printed, stderr=subprocess.DEVNULL,
+        ran = subprocess.Popen([program, 'session', CALLS], cwd=folder, stdout=printed, stderr=subprocess.DEVNULL,
                                preexec_fn=limits)
         _, status, used = os.wait4(ran.pid, 0)
         ran.returncode = status
@@ -327,12 +349,12 @@ def judge_batch(job):
     """Plays some hundred inputs: how many of each status there were, what differs, the time and the memory."""
     program, source, numbers = job
     with tempfile.TemporaryDirectory() as folder:
-        for name in os.listdir(source):
+        for name in set(os.listdir(source)) - {CALLS}:
             os.symlink(os.path.join(source, name), os.path.join(folder, name))
         inputs = Inputs(folder)
         batch = [(number, inputs.draw(number)) for number in numbers]
         lines = PREPARED + [line for _, input in batch for line in lines_of(input)]
-        printed, ended, seconds, memory = play(program, folder, 'calls', lines, limit_time)
+        printed, ended, seconds, memory = play(program, folder, lines, limit_time)
     seen = collections.Counter()
     odd = []
     if ended or memory << 10 > MEMORY:
@@ -349,13 +371,14 @@ def prepare(program, folder):
     for name in PROGRAMS:
         with open(os.path.join(folder, name), 'wb') as file:
             file.write(file_of(name))
-    with open(os.path.join(folder, 'script'), 'wb') as file:
-        file.write(SCRIPT)
+    for name, text in (('script', SCRIPT), ('rows', ROWS)):
+        with open(os.path.join(folder, name), 'wb') as file:
+            file.write(text)
     lines = [f'hold {name}' for name in PROFILED]
     for name in PROFILED:
         lines += [f'eel edit {name} {name}.written profile', f'eel run {name}.written -d {name}.dump',
                   f'keep {name}.written', f'keep {name}.dump']
-    play(program, folder, 'calls', lines)
+    play(program, folder, lines)
 
 
 def main():

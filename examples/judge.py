@@ -185,7 +185,7 @@ def noted_edges(words, count, blocks, cells):
     taken = set()
     for _ in range(count):
         at, (kind, source, target, cell) = words.row(4)
-        keep(kind <= 5 and source <= blocks and target <= blocks, at)
+        keep(kind <= 6 and source <= 2 * blocks and target <= 2 * blocks, at)
         keep(cell == 0xffffffff or cell < cells and cell not in taken, at)
         taken.add(cell)
         yield kind, source, target, cell
@@ -195,7 +195,7 @@ def noted_ranges(words, count, blocks, segments):
     end = 0
     for _ in range(count):
         at, (low, high, address, node) = words.row(4)
-        keep(low % 4 == high % 4 == address % 4 == 0 and end <= low < high and node <= blocks, at)
+        keep(low % 4 == high % 4 == address % 4 == 0 and end <= low < high and node <= 2 * blocks, at)
         keep(any(start <= low and high <= stop for start, stop in segments), at)
         end = high
         yield low, high, address, node
@@ -288,9 +288,38 @@ def script_fault(script, edges):
 
 # ---- counts
 
+EDGE_LINE = re.compile(rb'edge (0|[1-9]\d*) (fall|taken|untaken|call|out|land|case) (x|[0-9a-f]{8}\+?) (x|[0-9a-f]{8}\+?) ([1-9]\d*)')
+LAST_LINE = re.compile(rb'edges (0|[1-9]\d*) counted (0|[1-9]\d*) executions (0|[1-9]\d*)')
+
+
+def weight_fault(text, edges):
+    """The first bad line of weights, and why, for edges by their kind and their nodes."""
+    *lines, rest = text.split(b'\n')
+    before, total = -1, 0
+    for number, line in enumerate(lines, 1):
+        entry, last = EDGE_LINE.fullmatch(line), LAST_LINE.fullmatch(line)
+        if entry and int(entry[1]) < 2**32 and int(entry[5]) < 2**64:
+            if not before < int(entry[1]) < len(edges) or edges[int(entry[1])] != entry.group(2, 3, 4):
+                return number, 'edge'
+            before, total = int(entry[1]), total + int(entry[5])
+        elif last and int(last[1]) < 2**32 and int(last[2]) < 2**32 and int(last[3]) < 2**128:
+            if int(last[1]) != len(edges) or int(last[3]) != total:
+                return number, 'total'
+            return (number + 1, 'grammar') if number < len(lines) or rest else None
+        else:
+            return number, 'grammar'
+    return len(lines) + 1, 'grammar'
+
+
+def nodes_of(notes):
+    """The nodes of the noted graph: blocks, the outside, and the landed copies that an edge or a place names."""
+    ends = [node for _, source, target, _ in notes.edges for node in (source, target)]
+    return {*range(len(notes.blocks) + 1), *ends, *(node for _, _, _, node in notes.ranges)}
+
+
 def spans(edges, nodes):
-    """These edges are a spanning tree of so many nodes."""
-    joined = list(range(nodes))
+    """These edges are a spanning tree of the nodes."""
+    joined = {node: node for node in nodes}
 
     def top(node):
         while joined[node] != node:
@@ -303,7 +332,7 @@ def spans(edges, nodes):
         if source == target:
             return False
         joined[source] = target
-    return len(edges) == nodes - 1
+    return len(edges) == len(nodes) - 1
 
 
 def node_of(notes, pc):
@@ -317,7 +346,7 @@ def node_of(notes, pc):
 def flow(notes, start, end, cells):
     """The one flow from a node to another whose values on the edges with cells are these."""
     values = [None if cell == 0xffffffff else cells[cell] for _, _, _, cell in notes.edges]
-    at = [[] for _ in range(len(notes.blocks) + 1)]
+    at = [[] for _ in range(2 * len(notes.blocks) + 1)]
     excess = [(node == start) - (node == end) for node in range(len(at))]
     for number, (_, source, target, _) in enumerate(notes.edges):
         if values[number] is None:
@@ -345,7 +374,7 @@ def flow(notes, start, end, cells):
 
 def count_fault(notes, dump):
     """Why no counts can be rebuilt, as it is told behind a name, or None."""
-    if notes.tool != 1 or not spans([row for row in notes.edges if row[3] == 0xffffffff], len(notes.blocks) + 1):
+    if notes.tool != 1 or not spans([row for row in notes.edges if row[3] == 0xffffffff], nodes_of(notes)):
         return 'no profile'
     if len(dump.cells) != notes.cells:
         return f'{len(dump.cells)} cells, {notes.cells} wanted'

@@ -3,6 +3,8 @@ import os
 import struct
 from dataclasses import replace
 
+import disassembler
+import listing
 import listings
 import plain_count
 import tables
@@ -11,6 +13,7 @@ from written import written
 
 BAD_WORDS = b'eel: bad words\n'
 DEVICE_FAULT = b'eel: device fault\n'
+CRAMPED_PROFILE = b'eel: cramped: room 1050628 needed, 0 had\n'
 
 # Prints five bytes of its first argument, and exits with the number of arguments, its name among them.
 ARGUMENT = Program('prints_its_argument',
@@ -88,6 +91,14 @@ def cramped():
     second = struct.pack('>8I', 1, 0, 0x7fff0000, 0x7fff0000, 0, 0x10000, 6, 0)
     file[24:28] = struct.pack('>I', 0x10074)
     return bytes(file[:52]) + first + second + bytes(file[84:])
+
+
+def program_file(name):
+    """The file of a program: those that a compiler made stand in program_runs."""
+    if EDITED[name].words:
+        return EDITED[name].file()
+    with open(os.path.join(RUNS, 'data', name), 'rb') as opened:
+        return opened.read()
 
 
 def ran(program):
@@ -274,6 +285,123 @@ def profiles():
         yield eel('counts profiled dump', 0, lines.encode())
 
 
+# ---- instructions
+
+# Programs whose instructions are listed, and whose words are made of such a listing again.
+LISTED = ['three_words', 'carry_loop', 'switch_of_four', 'data_words', 'queens']
+
+
+def text_of(name):
+    program = listing.Program(program_file(name))
+    return program.start, program.words
+
+
+def instructions(name):
+    return disassembler.listing(*text_of(name)).encode()
+
+
+# Listings with a bad line, and which.
+BAD_LISTINGS = {
+    b'00010054 nop\n': 1,
+    b'00010054 or %g0,1,%g1': 1,
+    b'00010054  or %g0,1,%g1\n': 1,
+    b'00010054 or %g0,01,%g1\n': 1,
+    b'00010056 or %g0,1,%g1\n': 1,
+    b'0001005C or %g0,1,%g1\n': 1,
+    b'00010054 .word 0x01000000\n': 1,
+    b'00010054 or %g0,1,%g1\n00010058 or %g0,4096,%o0\n': 2,
+    b'00010054 or %g0,1,%g1\n0001005c ta %g0,16\n': 2,
+    b'00010054 or %g0,1,%g1\n00010058 ta %g0,16\n\n': 3,
+    b'fffffffc ta %g0,16\n00000000 ta %g0,16\n': 2,
+}
+
+
+def listed():
+    """Instructions that are listed, and words that are made of listings."""
+    for name in LISTED:
+        yield f'hold {name}', b''
+        yield f'hold {name}.listing', b''
+        yield f'hold {name}.text', b''
+        yield eel(f'list {name}', 0, instructions(name))
+        yield eel(f'words {name}.listing words', 0)
+        yield f'same words {name}.text', b''
+    yield 'cut three_words empty 0', b''
+    yield eel('words empty words', 0)
+    yield 'same words empty', b''
+    yield eel('words missing words', 74, err=DEVICE_FAULT)
+    yield eel('list missing', 74, err=DEVICE_FAULT)
+    yield eel('list three_words.listing', 65, err=b'eel: three_words.listing: file fault 2\n')
+    for number, line in enumerate(BAD_LISTINGS.values()):
+        name = f'listing.bad{number}'
+        yield f'hold {name}', b''
+        yield eel(f'words {name} words', 65, err=f'eel: {name}: line {line}: grammar\n'.encode())
+    for words in ('list', 'list a b', 'words a', 'words a b c'):
+        yield eel(words, 64, err=BAD_WORDS)
+
+
+# ---- weights
+
+# Programs whose counters are placed by the counts of their own runs.
+WEIGHED = ['carry_loop', 'three_words', 'inner_landings', 'switch_of_four', 'newline_count', 'queens']
+
+
+def rows(name):
+    """What is counted of a program's run."""
+    return plain_count.count(program_file(name), [], EDITED[name].given)[0].encode()
+
+
+def bad_rows():
+    """Lines that are no weights of carry_loop, and why."""
+    lines = rows('carry_loop').decode().splitlines(keepends=True)
+    whole, first, second, last = ''.join(lines), lines[0], lines[1], lines[-1]
+    yield 'edge 0 call 00010054 00010058 1\n' + whole, (1, 'edge')
+    yield first + first + whole, (2, 'edge')
+    yield 'edge 9 fall 00010054 00010058 1\n', (1, 'edge')
+    yield whole.replace('edge 0 fall 00010054', 'edge 0 fall 00010055'), (1, 'edge')
+    yield whole.replace(' 00010054 ', ' 00010054+ '), (1, 'edge')
+    yield whole.replace('edge 1 ', 'edge 01 '), (2, 'grammar')
+    yield first[:-2] + '0\n' + whole, (1, 'grammar')
+    yield whole.replace('edge 0 fall', 'edge 0  fall'), (1, 'grammar')
+    yield whole.replace('edge 0 fall', 'edge 0 falls'), (1, 'grammar')
+    yield whole + last, (len(lines) + 1, 'grammar')
+    yield ''.join(lines[:-1]), (len(lines), 'grammar')
+    yield whole[:-1], (len(lines), 'grammar')
+    yield '', (1, 'grammar')
+    yield whole.replace('edges 9', 'edges 8'), (len(lines), 'total')
+    yield first + last, (2, 'total')
+    yield whole.replace('executions 6', 'executions 340282366920938463463374607431768211456'), (len(lines), 'grammar')
+    yield whole.replace('executions 6', 'executions 340282366920938463463374607431768211455'), (len(lines), 'total')
+
+
+def weighed():
+    """Counters that are placed by what an earlier run has counted: the counts are the same."""
+    for name in WEIGHED:
+        program = EDITED[name]
+        yield f'hold {name}', b''
+        yield f'hold {name}.rows', b''
+        if program.given:
+            yield f'input {name}.input', b''
+        yield eel(f'edit {name} weighed profile {name}.rows', 0)
+        yield eel('run weighed -d dump', 0, *ran(program))
+        yield eel('counts weighed dump', 0, rows(name))
+    # an edge may have any number of executions, and one without a line has none
+    yield 'hold most.rows', b''
+    yield eel('edit carry_loop weighed profile most.rows', 0)
+    yield eel('run weighed -d dump', 0, *ran(CARRY_LOOP))
+    yield eel('counts weighed dump', 0, rows('carry_loop'))
+    yield eel('edit carry_loop weighed profile missing', 74, err=DEVICE_FAULT)
+    yield eel('edit missing weighed profile missing', 74, err=DEVICE_FAULT)
+    yield eel('edit carry_loop.rows weighed profile carry_loop.rows', 65, err=b'eel: carry_loop.rows: file fault 2\n')
+    for number, (_, (line, cause)) in enumerate(bad_rows()):
+        name = f'rows.bad{number}'
+        yield f'hold {name}', b''
+        yield eel(f'edit carry_loop weighed profile {name}', 65, err=f'eel: {name}: line {line}: {cause}\n'.encode())
+    yield 'hold cramped', b''
+    yield 'hold cramped.rows', b''
+    yield eel('edit cramped weighed profile cramped.rows', 69, err=CRAMPED_PROFILE)
+    yield eel('edit cramped weighed profile carry_loop.rows', 65, err=b'eel: carry_loop.rows: line 1: edge\n')
+
+
 def dump(pc, steps, cells):
     """What a run that hasn't ended has come to."""
     return struct.pack(f'>4sIIIIQI{len(cells)}I', b'EELD', 1, 0, 0, pc, steps, len(cells), *cells)
@@ -339,16 +467,9 @@ def demo():
 
 SESSIONS = {'edits': list(edits()), 'scripts': list(scripts()), 'words': list(words()), 'restores': list(restores()),
     'refusals': list(refusals()), 'profiles': list(profiles()), 'uncounted': list(uncounted()), 'demo': list(demo()),
+    'listed': list(listed()), 'weighed': list(weighed()),
     'faulty': list(tables.faulty()), 'noted': list(tables.noted()), 'dumped': list(tables.dumped()),
     'devices': list(tables.devices()), 'long': list(tables.long())}
-
-
-def program_file(name):
-    """The file of a program: those that a compiler made stand in program_runs."""
-    if EDITED[name].words:
-        return EDITED[name].file()
-    with open(os.path.join(RUNS, 'data', name), 'rb') as opened:
-        return opened.read()
 
 
 def files():
@@ -369,6 +490,18 @@ def files():
     yield ARGUMENT.name, ARGUMENT.file()
     yield MADE.name, MADE.file()
     yield 'cramped', cramped()
+    yield 'cramped.rows', b'edges 2 counted 1 executions 0\n'
+    for name in LISTED:
+        start, words = text_of(name)
+        yield f'{name}.listing', instructions(name)
+        yield f'{name}.text', words_of(words)
+    for number, lines in enumerate(BAD_LISTINGS):
+        yield f'listing.bad{number}', lines
+    for name in {**dict.fromkeys(WEIGHED), 'echoes': None}:
+        yield f'{name}.rows', rows(name)
+    yield 'most.rows', b'edge 1 taken 00010058 00010058 18446744073709551615\nedges 9 counted 0 executions 18446744073709551615\n'
+    for number, (lines, _) in enumerate(bad_rows()):
+        yield f'rows.bad{number}', lines.encode()
     yield 'carry_loop.words', CARRY_LOOP.file()[84:104]
     yield from DUMPS.items()
     for name, lines in SESSIONS.items():

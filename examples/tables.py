@@ -2,6 +2,7 @@
 of their calls. What must come of each row is spelled out here, and the faults are judged by judge.py, too."""
 import struct
 
+import disassembler
 import judge
 import plain_count
 from programs import SMALL
@@ -16,6 +17,8 @@ ECHOES = PROGRAMS['echoes']
 
 LISTING = (b'routine 00010054 -\nblock 0 00010054 3\nedge 0 fall 00010054 x -\n'
     b'edge 1 land x 00010054 -\nroutines 1 blocks 1 edges 2\n')
+
+INSTRUCTIONS = disassembler.listing(0x10054, struct.unpack('>3I', THREE_WORDS[84:96])).encode()
 
 
 def call(words, status, out=b'', err=b'', changed=()):
@@ -263,8 +266,9 @@ BAD_NOTES = [
     ({BLOCKS_AT + 16: '00000007'}, BLOCKS_AT + 16),
     ({EDGES_AT: '01000000'}, EDGES_AT),
     ({edge(0): 'ffffffff'}, edge(0)),
-    ({edge(1) + 4: '00000005'}, edge(1)),
-    ({edge(2) + 8: '00000005'}, edge(2)),
+    ({edge(0): '00000007'}, edge(0)),
+    ({edge(1) + 4: '00000009'}, edge(1)),
+    ({edge(2) + 8: '00000009'}, edge(2)),
     ({edge(0) + 12: '00000005'}, edge(0)),
     ({edge(0) + 12: '00000000', edge(1) + 12: 'ffffffff', edge(2) + 12: '00000000'}, edge(2)),
     ({edge(8) + 8: 'ffffffff'}, edge(8)),
@@ -273,7 +277,7 @@ BAD_NOTES = [
     ({place(0) + 4: '00000000'}, place(0)),
     ({place(1) + 4: '00000003'}, place(1)),
     ({place(1) + 8: '00010056'}, place(1)),
-    ({place(2) + 12: '00000005'}, place(2)),
+    ({place(2) + 12: '00000009'}, place(2)),
     ({place(2): '00010000'}, place(2)),
     ({place(0): '00010000'}, place(0)),
     ({place(RANGES - 1) + 4: 'fffffffc'}, place(RANGES - 1)),
@@ -343,6 +347,11 @@ def noted():
             # a run takes its memory before its notes are looked at
             read = read_by_all if cut % 16 == 0 else read_by_some
             yield from read('bad', bad_notes('bad', cut // 4 * 4))
+    # an edge or a place at a landed copy, which no edge without a cell joins to the other nodes
+    for patches in ({edge(1) + 4: '00000005'}, {edge(2) + 8: '00000008'}, {place(2) + 12: '00000006'}):
+        assert place_of_fault(patched(notes, patches), size) is None
+        yield patch('noted', 'written', 'bad', patches)
+        yield call('counts bad dump', 65, err=b'eel: bad: no profile\n')
     for at in (4040, 4044):
         yield patch('patch', 'written', 'bad', {at: 'ffffffff'})
         yield from read_by_all('bad', bad_notes('bad', 0))
@@ -516,6 +525,9 @@ DONE = {
     'run profiled -n 3 -d out': ([fetch, read(2), put('out')], [b'stopped ', b'3', b'\n'], 0),
     'restore profiled out': ([fetch, put('out')], [], 0),
     'show three_words': ([fetch, prints(LISTING)], [], 0),
+    'list three_words': ([fetch, prints(INSTRUCTIONS)], [], 0),
+    'words three_words.listing out': ([fetch, put('out')], [], 0),
+    'edit echoes out profile echoes.rows': ([fetch, fetch, put('out')], [], 0),
     'counts profiled dump': (
         [fetch, fetch, prints(plain_count.count(ECHOES.file(), [], ECHOES.given)[0].encode())], [], 0),
     'demo 1 1': ([prints(b'demo 1 routines 1\nwords 11 blocks 8 edges 17\nending exit 178 steps 35\nexecutions 11\n')], [], 0),
@@ -527,6 +539,9 @@ REFUSED = {
     'show short': ([fetch], told('short', ': file fault ', '1', '\n'), 65),
     'run short': ([fetch, read(2)], told('short', ': file fault ', '1', '\n'), 65),
     'edit echoes out script echoes': ([fetch, fetch], told('echoes', ': line ', '1', ': ', 'grammar', '\n'), 65),
+    'list short': ([fetch], told('short', ': file fault ', '1', '\n'), 65),
+    'words echoes out': ([fetch], told('echoes', ': line ', '1', ': ', 'grammar', '\n'), 65),
+    'edit echoes out profile echoes': ([fetch, fetch], told('echoes', ': line ', '1', ': ', 'grammar', '\n'), 65),
     'restore echoes out': ([fetch], told('echoes', ': no notes\n'), 65),
     'restore unnoted out': ([fetch], told('unnoted', ': bad notes at ', '8', '\n'), 65),
     'run unnoted -d out': ([fetch, read(2)], told('unnoted', ': bad notes at ', '8', '\n'), 65),
@@ -606,7 +621,9 @@ def good(words, command):
 
 
 LONG = {'edit long out plain': ([fetch], told('long', ': longer than ', '67108864', ' bytes\n'), 66),
-    'edit three_words out script long': ([fetch, fetch], told('long', ': longer than ', '16777216', ' bytes\n'), 66)}
+    'edit three_words out script long': ([fetch, fetch], told('long', ': longer than ', '16777216', ' bytes\n'), 66),
+    'list long': ([fetch], told('long', ': longer than ', '67108864', ' bytes\n'), 66),
+    'words long out': ([fetch], told('long', ': longer than ', '67108864', ' bytes\n'), 66)}
 
 
 def long():
@@ -621,7 +638,7 @@ def long():
 def devices():
     """Every command with each call of each device failing in turn, and in streams of each size that matters."""
     yield 'watch', b''
-    for name in ('three_words', 'echoes', 'echoes.counting', 'cramped', 'taken_branch', 'taken_twice', 'long_run',
+    for name in ('three_words', 'three_words.listing', 'echoes', 'echoes.counting', 'echoes.rows', 'cramped', 'taken_branch', 'taken_twice', 'long_run',
             'two_cells', 'in_no_place'):
         yield f'hold {name}', b''
     yield 'input echoes.input', b''

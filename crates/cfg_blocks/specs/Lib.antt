@@ -5,3 +5,4 @@ pub mod Marks
 pub mod Entries
 pub mod Switches
 pub mod Values
+pub mod Known

@@ -8,17 +8,24 @@
 use eel_base::{BlockNo, WordNo};
 use v8_decode::Cond;
 
+mod approaches;
+mod compares;
 mod ends;
 mod entries;
 mod leaders;
 mod list;
 mod switches;
+mod values;
 
+pub use approaches::{approach, follow_slot};
+pub use compares::compare_in;
 pub use list::{BlockList, blocks};
 pub use switches::{Approach, Compare, Switch, Value};
+pub use values::{follow, sum};
 
 /// What an edge of the flow graph stands for: a word that control leaves without a transfer, a branch that
-/// is taken or not, a CALL, a jump out of the text's known words, or a landing from outside.
+/// is taken or not, a CALL, a jump out of the text's known words, a landing from outside, or a jump through the table
+/// of a switch.
 #[derive(Clone, Copy, PartialEq, Eq, Debug, Drop)]
 pub enum EdgeKind {
     Fall,
@@ -27,6 +34,7 @@ pub enum EdgeKind {
     Call,
     Out,
     Land,
+    Case,
 }
 
 /// How control leaves the last word of a block. A target is the word to which a transfer leads, where the

@@ -1,1 +1,5 @@
-pub mod Edges
+pub mod TableWords
+pub mod Candidates
+pub mod LandingFacts
+pub mod Cases
+pub mod GraphFacts

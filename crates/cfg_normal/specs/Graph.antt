@@ -1,6 +1,7 @@
--- The flow graph of a text: its blocks as nodes, and X for all that lies outside.
-use Rattle.std.specs.Prelude.{◌≡◌, ℕ, ◌+◌, ◌*◌, ◌^◌, ◌<◌, ◌≤◌, Bool, true, false, not, ◌||◌, ◌&&◌, ◌==◌, nat_lt, if◌then◌else◌, List, ◌++◌, length, map, Option, Some, None}
-use Rattle.std.specs.List.{flat_map, All}
+-- The flow graph of a text: its blocks as nodes, landed copies of those about an open switch, and X for all that lies
+-- outside.
+use Rattle.std.specs.Prelude.{◌≡◌, ℕ, ◌+◌, ◌*◌, ◌^◌, ◌<◌, ◌≤◌, Bool, true, false, not, ◌||◌, ◌&&◌, ◌==◌, nat_lt, if◌then◌else◌, List, [], ◌∷◌, ◌++◌, length, map, Option, Some, None}
+use Rattle.std.specs.List.{filter, flat_map, list_any, All}
 use Rattle.cfg_blocks.specs.declared.BlockEnd.{BlockEnd}
 use Rattle.cfg_blocks.specs.declared.BlockEnd.TheVariants as ends
 use Rattle.cfg_blocks.specs.declared.EdgeKind.{EdgeKind}
@@ -10,14 +11,25 @@ use Rattle.cfg_blocks.specs.Blocks.{AreFirsts, Blocks, below, end_of, holding_of
 use Rattle.cfg_blocks.specs.Entries.{ways_from}
 use Rattle.cfg_normal.specs.declared.Edge.{Edge}
 use Rattle.cfg_normal.specs.declared.Node.{Node}
-use Rattle.cfg_normal.specs.declared.Node.TheVariants.{Block, X}
+use Rattle.cfg_normal.specs.declared.Node.TheVariants.{Block, Landed, X}
 use Rattle.cfg_normal.specs.declared.Slot.{Slot}
 use Rattle.cfg_normal.specs.declared.Slot.TheVariants.{Nothing, Word, Off}
+use Rattle.cfg_normal.specs.Nodes.{same_kind, same_node}
+use Rattle.cfg_normal.specs.Opens.{AreOpenIn, Open, is_behind, is_copied, jumps_in, targets_in}
 
 -- the block that holds a word, or X where the text has no such word
 abbrev pub node_of : Blocks → Option ℕ → Node
 node_of b None = X
 node_of b (Some word) = if nat_lt word b.words then Block (record { 0 = holding_of b word }) else X
+
+-- the node at which control lands that comes to a word from outside
+abbrev pub lands_of : Blocks → List Open → Option ℕ → Node
+lands_of b opens None = X
+lands_of b opens (Some word) =
+    if nat_lt word b.words then (
+    let block = holding_of b word in
+    if jumps_in opens block || is_behind opens block word
+    then Landed (record { 0 = block }) else Block (record { 0 = block })) else X
 
 -- ---- delay slots
 
@@ -44,43 +56,99 @@ slot_on b block kind =
 
 -- ---- edges
 
--- the edge of a way out of a block
-abbrev pub edge_of : Blocks → ℕ → Way → Edge
-edge_of b block way =
+-- the edge comes from the comparison's block itself of an open switch of the block, by the way that leads to the jump
+abbrev pub is_compared : List Open → Node → EdgeKind → ℕ → Bool
+is_compared opens (Block from) kind to =
+    list_any (λ (o : Open). (o.block == to) && (o.switch.compare.0 == from.0) && same_kind kind o.way) opens
+is_compared opens _ kind to = false
+
+-- The node to which an edge leads: into the block of an open switch's jump comes only the edge from its comparison, and
+-- all others into its landed copy.
+abbrev pub directed : List Open → Node → EdgeKind → Node → Node
+directed opens from kind (Block to) =
+    if jumps_in opens to.0 && not (is_compared opens from kind to.0) then Landed to else Block to
+directed opens from kind to = to
+
+-- the edge of a way out of a block, for the block or its landed copy
+abbrev pub edge_of : Blocks → List Open → Node → ℕ → Way → Edge
+edge_of b opens from block way =
     record {
-      from = Block (record { 0 = block });
-      to = node_of b way.to;
+      from = from;
+      to = directed opens from way.kind (node_of b way.to);
       kind = way.kind;
       slot = slot_on b block way.kind;
     }
 
-abbrev pub edges_of : Blocks → ℕ → List Edge
-edges_of b block = map (edge_of b block) (ways_from b block)
+-- each node once, where it first stands
+abbrev pub once_onto : List Node → List Node → List Node
+once_onto seen [] = seen
+once_onto seen (node ∷ nodes) =
+    once_onto (if list_any (same_node node) seen then seen else seen ++ node ∷ []) nodes
+
+-- the nodes to which the jump of an open switch goes, in the order of their first entries
+abbrev pub case_nodes : Blocks → List Open → ℕ → List Node
+case_nodes b opens block = once_onto [] (map (λ word. lands_of b opens (Some word)) (targets_in opens block))
+
+abbrev pub case_of : Blocks → ℕ → Node → Edge
+case_of b block to =
+    record { from = Block (record { 0 = block }); to = to; kind = kinds.Case; slot = slot_on b block kinds.Case }
+
+abbrev pub ways_out : Blocks → List Open → Node → ℕ → List Edge
+ways_out b opens from block = map (edge_of b opens from block) (ways_from b block)
+
+-- the edges of a block, and of a landed copy
+abbrev pub edges_of : Blocks → List Open → ℕ → List Edge
+edges_of b opens block =
+    if jumps_in opens block then map (case_of b block) (case_nodes b opens block)
+    else ways_out b opens (Block (record { 0 = block })) block
+
+abbrev pub copied_edges : Blocks → List Open → ℕ → List Edge
+copied_edges b opens block = ways_out b opens (Landed (record { 0 = block })) block
 
 -- a landing from outside
-abbrev pub landing_at : ℕ → Edge
-landing_at block = record { from = X; to = Block (record { 0 = block }); kind = kinds.Land; slot = Nothing }
+abbrev pub landing_at : Node → Edge
+landing_at node = record { from = X; to = node; kind = kinds.Land; slot = Nothing }
 
--- The edges in the order of their numbers: the blocks' own, by blocks in address order, and then a landing at
--- each block.
-unfoldable pub edges_in : Blocks → List Edge
-edges_in b = flat_map (edges_of b) (below (length b.firsts)) ++ map landing_at (below (length b.firsts))
+-- The nodes of a block at which control can land: of a jump's block the copy alone, of a comparison's block both.
+abbrev pub landings_of : List Open → ℕ → List Node
+landings_of opens block =
+    if jumps_in opens block then Landed (record { 0 = block }) ∷ [] else
+    if is_copied opens block then Block (record { 0 = block }) ∷ Landed (record { 0 = block }) ∷ [] else
+    Block (record { 0 = block }) ∷ []
+
+-- The edges in the order of their numbers: the blocks' own, by blocks in address order, those of landed copies, and
+-- then the landings, by blocks.
+unfoldable pub edges_in : Blocks → List Open → List Edge
+edges_in b opens =
+    flat_map (edges_of b opens) (below (length b.firsts))
+    ++ flat_map (copied_edges b opens) (filter (is_copied opens) (below (length b.firsts)))
+    ++ map landing_at (flat_map (landings_of opens) (below (length b.firsts)))
 
 -- ---- the graph: the blocks, and the edges between them
 
 pub record Graph : Type 0 where
   pub blocks : Blocks
+  pub opens : List Open
   pub edges : List Edge
 
-abbrev pub graph_of : Blocks → Graph
-graph_of b = record { blocks = b; edges = edges_in b }
+abbrev pub graph_of : Blocks → List Open → Graph
+graph_of b opens = record { blocks = b; opens = opens; edges = edges_in b opens }
+
+abbrev pub lands : Graph → Option ℕ → Node
+lands graph word = lands_of graph.blocks graph.opens word
+
+-- a jump leaves the node along Case edges
+abbrev pub has_cases : List Open → Node → Bool
+has_cases opens (Block block) = jumps_in opens block.0
+has_cases opens _ = false
 
 -- ---- what is true of each graph
 
 -- a node of these blocks
-abbrev pub IsNodeIn : Blocks → Node → Type 0
-IsNodeIn b (Block block) = block.0 < length b.firsts
-IsNodeIn b X = Unit {0}
+abbrev pub IsNodeIn : Blocks → List Open → Node → Type 0
+IsNodeIn b opens (Block block) = block.0 < length b.firsts
+IsNodeIn b opens (Landed block) = (block.0 < length b.firsts) × (is_copied opens block.0 ≡ true)
+IsNodeIn b opens X = Unit {0}
 
 -- a slot in the text, or behind its end
 abbrev pub IsSlotIn : Blocks → Slot → Type 0
@@ -89,15 +157,17 @@ IsSlotIn b (Word word) = word.0 < b.words
 IsSlotIn b Off = Unit {0}
 
 -- an edge between nodes of these blocks
-pub record IsEdgeIn (b : Blocks) (edge : Edge) : Type 0 where
-  pub from : IsNodeIn b edge.from
-  pub to : IsNodeIn b edge.to
+pub record IsEdgeIn (b : Blocks) (opens : List Open) (edge : Edge) : Type 0 where
+  pub from : IsNodeIn b opens edge.from
+  pub to : IsNodeIn b opens edge.to
   pub slot : IsSlotIn b edge.slot
 
--- the edges are those of the blocks, at most three for each block
+-- the edges are those of the blocks, at most seven for each word; the jump of an open switch leads to some word
 pub record IsGraph (g : Graph) : Type 0 where
-  pub made : g ≡ graph_of g.blocks
+  pub made : g ≡ graph_of g.blocks g.opens
   pub firsts : AreFirsts g.blocks.words g.blocks.firsts
   pub few : g.blocks.words ≤ 2 ^ 20
-  pub edges : All (IsEdgeIn g.blocks) g.edges
-  pub edge_count : length g.edges ≤ 3 * length g.blocks.firsts
+  pub targets : All (λ (o : Open). 1 ≤ length o.targets) g.opens
+  pub opens : AreOpenIn g.blocks g.opens
+  pub edges : All (IsEdgeIn g.blocks g.opens) g.edges
+  pub edge_count : length g.edges ≤ 7 * g.blocks.words

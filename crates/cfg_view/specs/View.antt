@@ -1,13 +1,34 @@
--- What an analysis of a program's file sees: its image, routines, blocks and flow graph.
-use Rattle.std.specs.Prelude.{◌≡◌, ℕ, ◌<◌, nat_lt, List, ◌++◌, length, map, filter}
+-- What an analysis of a program's file sees: its image, routines, blocks, flow graph and switches.
+use Rattle.std.specs.Prelude.{◌≡◌, ℕ, ◌<◌, nat_lt, List, [], ◌++◌, length, map, filter}
 use Rattle.std.specs.List.{All}
 use Rattle.eel_base.specs.CodeText.{Words}
 use Rattle.elf32_sparc.specs.Image.{Program, image_of}
 use Rattle.routines.specs.declared.Routine.{Routine}
 use Rattle.routines.specs.Routines.{routines_of}
-use Rattle.cfg_blocks.specs.Entries.{entered_of}
-use Rattle.cfg_normal.specs.Graph.{graph_of}
+use Rattle.cfg_blocks.specs.Entries.{Entered, entered_of}
+use Rattle.cfg_blocks.specs.Switches.{switches_of}
+use Rattle.cfg_blocks.specs.declared.switches.Switch.{Switch}
+use Rattle.cfg_normal.specs.Opens.{IsTableIn}
+use Rattle.cfg_normal.specs.Graph.{Graph, graph_of}
 use Rattle.cfg_view.specs.declared.View.{View}
+
+-- a program's image, its routines, its blocks, its flow graph, where no switch is open, and its switches
+pub record Seen : Type 0 where
+  pub image : Program
+  pub routines : List Routine
+  pub blocks : Entered
+  pub graph : Graph
+  pub switches : List Switch
+
+-- what the program keeps of it
+abbrev pub view_seen : View → Seen
+view_seen view = record {
+  image = view.image;
+  routines = view.routines;
+  blocks = view.blocks;
+  graph = view.graph;
+  switches = view.switches.items;
+}
 
 -- the words at which routines start
 abbrev pub starts_of : List Routine → List ℕ
@@ -21,21 +42,25 @@ marks_in text marks = filter (λ mark. nat_lt mark (length text.words)) marks
 abbrev pub given_in : Program → List ℕ → List ℕ
 given_in program marks = starts_of (routines_of program) ++ marks_in program.text marks
 
-abbrev pub view_with : Program → List ℕ → View
+abbrev pub view_with : Program → List ℕ → Seen
 view_with program given = record {
   image = program;
   routines = routines_of program;
   blocks = entered_of program.text given;
-  graph = graph_of (entered_of program.text given).blocks;
+  graph = graph_of (entered_of program.text given).blocks [];
+  switches = switches_of program.text (entered_of program.text given) program.entry;
 }
 
 -- the view of a file, with some words marked
-unfoldable pub view_of : List ℕ → List ℕ → View
+unfoldable pub view_of : List ℕ → List ℕ → Seen
 view_of file marks = view_with (image_of file) (given_in (image_of file) marks)
 
 -- What is true of each view: its parts are of one program.
 pub record IsView (view : View) : Type 0 where
   pub routines : view.routines ≡ routines_of view.image
   pub words : view.blocks.blocks.words ≡ length view.image.text.words
-  pub graph : view.graph ≡ graph_of view.blocks.blocks
+  pub graph : view.graph ≡ graph_of view.blocks.blocks []
+  pub switches : view.switches.items ≡ switches_of view.image.text view.blocks view.image.entry
+  pub tables : All (IsTableIn view.image.text) view.switches.items
+  pub jumps : All (λ switch. switch.jump.0 < length view.image.text.words) view.switches.items
   pub starts : All (λ routine. routine.start.0 < length view.image.text.words) view.routines

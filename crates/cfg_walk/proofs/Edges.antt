@@ -1,25 +1,32 @@
 -- The edges of a graph, found by the node that they leave, or to which they lead, and by their kind.
-use Rattle.std.proofs.Common.{◌≡◌, ℕ, ◌<◌, Bool, true, ◌&&◌, List, [], ◌∷◌, length, map, Option, Some, None, refl, ap, sym, ◌∙◌, subst, inl, inr}
-use Rattle.std.specs.List.{list_any, flat_map, slice_get, position}
+use Rattle.std.proofs.Common.{◌≡◌, ℕ, ◌<◌, Bool, true, false, ◌&&◌, ◌||◌, cond, List, [], ◌∷◌, ◌++◌, length, map, Option, Some, None, refl, ap, sym, ◌∙◌, subst, inl, inr}
+use Rattle.std.specs.Prelude.{if◌then◌else◌, ◌⊎◌, ◌==◌}
+use Rattle.std.specs.List.{filter, list_any, flat_map, slice_get, position}
 use Rattle.std.specs.Option.{option_to_list}
 use Rattle.std.proofs.lemmas.List.Folds.{list_any-append}
 use Rattle.std.proofs.lemmas.List.Quantifiers.{position-Some}
 use Rattle.std.proofs.lemmas.Option.{get_or_from_slice_get}
-use Rattle.std.proofs.lemmas.Bool.{and_parts, cases_eq, eq-eqb, eqb-true, false≢true, or_left, or_right}
+use Rattle.std.proofs.lemmas.Bool.{and_parts, cond_both, eq-eqb, eqb-true, false≢true, or_left, or_right}
+use Rattle.cfg_blocks.specs.declared.EdgeKind.{EdgeKind}
 use Rattle.cfg_blocks.specs.declared.EdgeKind.TheVariants as kinds
 use Rattle.cfg_blocks.specs.Ends.{Way}
 use Rattle.cfg_blocks.specs.Blocks.{Blocks, below, end_of, last_word}
 use Rattle.cfg_blocks.specs.Entries.{ways_from}
 use Rattle.cfg_normal.specs.declared.Edge.{Edge}
 use Rattle.cfg_normal.specs.declared.Node.{Node}
-use Rattle.cfg_normal.specs.declared.Node.TheVariants.{Block, X}
-use Rattle.cfg_normal.specs.Graph.{Graph, graph_of, node_of, edge_of, edges_of, edges_in, landing_at}
-use Rattle.cfg_walk.specs.Walk.{edge_from, landing_at as landing_number, same_kind, same_node, node_after, led_to}
-use Rattle.cfg_walk.proofs.Lists.{Each, each, each-append, each-flat_map, each-map, each-then, each_at, any_in_flat_map, any_below, any-map, IsFound, found}
+use Rattle.cfg_normal.specs.declared.Node.TheVariants.{Block, Landed, X}
+use Rattle.cfg_normal.specs.Nodes.{home_of}
+use Rattle.cfg_normal.specs.Opens.{Open, is_copied, jumps_in}
+use Rattle.cfg_normal.specs.Graph.{Graph, IsNodeIn, case_nodes, case_of, copied_edges, directed, graph_of, has_cases, landings_of, node_of, edge_of, edges_of, edges_in, landing_at, once_onto, ways_out}
+use Rattle.cfg_walk.specs.Walk.{edge_along, edge_from, landing_at as landing_number, leads_along as is_to, same_kind, same_node, node_after, led_to}
+use Rattle.cfg_walk.proofs.Lists.{Each, each, each-append, each-flat_map, each-map, each-then, each_at, any_below, any-map, IsFound, found}
 use Rattle.cfg_walk.proofs.Ways.{IsOne, IsOwn, ways_are_own}
 
 abbrev pub block : ℕ → Node
 block k = Block (record { 0 = k })
+
+abbrev pub copy : ℕ → Node
+copy k = Landed (record { 0 = k })
 
 -- the list has the number of an edge alone, and this is the edge
 pub record IsEdge (graph : Graph) (numbers : List ℕ) (edge : Edge) : Type 0 where
@@ -36,112 +43,347 @@ edge_is : (graph : Graph) (p : Edge → Bool) (edge : Edge) → IsFound p graph.
     → IsEdge graph (option_to_list (position p graph.edges)) edge
 edge_is graph p edge h = record { number = h.number; only = ap option_to_list h.at; is = h.is }
 
-module _ (b : Blocks) (k : ℕ) where
-  -- ---- edges that leave a block
+-- ---- nodes
 
-  module _ (w : Way) where
-    leaves : Edge → Bool
-    leaves edge = same_node edge.from (block k) && same_kind edge.kind w.kind
+pub same_nodes : (one other : Node) → same_node one other ≡ true → one ≡ other
+same_nodes (Block a) (Block b) e = ap (λ n. Block (record { 0 = n })) (eqb-true a.0 b.0 e)
+same_nodes (Landed a) (Landed b) e = ap (λ n. Landed (record { 0 = n })) (eqb-true a.0 b.0 e)
+same_nodes X X e = refl
+same_nodes (Block a) (Landed b) e = absurd (false≢true e)
+same_nodes (Block a) X e = absurd (false≢true e)
+same_nodes (Landed a) (Block b) e = absurd (false≢true e)
+same_nodes (Landed a) X e = absurd (false≢true e)
+same_nodes X (Block b) e = absurd (false≢true e)
+same_nodes X (Landed b) e = absurd (false≢true e)
 
-    one_leaves : IsOne w (ways_from b k) → list_any leaves (edges_of b k) ≡ true
-    unfolding leaves
-    one_leaves h =
-        any-map leaves (edge_of b k) (ways_from b k)
-        (subst (λ t. list_any (λ (x : Way). t && same_kind x.kind w.kind) (ways_from b k) ≡ true)
-        (sym (eq-eqb k k refl)) h.any)
+pub same_itself : (node : Node) → same_node node node ≡ true
+same_itself (Block a) = eq-eqb a.0 a.0 refl
+same_itself (Landed a) = eq-eqb a.0 a.0 refl
+same_itself X = refl
 
-    no_other : (j : ℕ) → IsOne w (ways_from b k)
-        → Each (λ edge. leaves edge ≡ true → edge ≡ edge_of b k w) (edges_of b j)
-    unfolding leaves
-    no_other j h = each-map (λ edge. leaves edge ≡ true → edge ≡ edge_of b k w) (edge_of b j) (ways_from b j)
-        (elim (cases_eq j k) [
-          | inl here ↦
-              subst (λ i. Each (λ (x : Way). leaves (edge_of b i x) ≡ true → edge_of b i x ≡ edge_of b k w)
-              (ways_from b i)) (sym here)
-              (each-then (λ (x : Way). same_kind x.kind w.kind ≡ true → x ≡ w)
-              (λ (x : Way). leaves (edge_of b k x) ≡ true → edge_of b k x ≡ edge_of b k w) (ways_from b k)
-              (λ x same e. ap (edge_of b k) (same (and_parts _ _ e).1)) h.only)
-          | inr other ↦ each _ (ways_from b j) (λ x e. absurd (other (eqb-true j k (and_parts _ _ e).0)))
-        ])
+-- a node whose home is a block is that block or its copy
+pub node_at : (node : Node) (k : ℕ) → home_of node ≡ block k → (node ≡ block k) ⊎ (node ≡ copy k)
+node_at (Block a) k e = inl e
+node_at (Landed a) k e = let same : a.0 ≡ k = cc in inr (ap copy same)
+node_at X k e = absurd (cc)
 
-  pub edge_found : (w : Way) → k < length b.firsts → IsOne w (ways_from b k)
-      → IsEdge (graph_of b) (edge_from (graph_of b) (block k) w.kind) (edge_of b k w)
-  unfolding edges_in leaves
-  edge_found w l h =
-      let own = flat_map (edges_of b) (below (length b.firsts)) in
-      let landings = map landing_at (below (length b.firsts)) in
-      edge_is (graph_of b) (leaves w) (edge_of b k w) (found (leaves w) (edge_of b k w) (edges_in b)
-      (list_any-append (leaves w) own landings
-      ∙ or_left _ _ (any_in_flat_map (leaves w) (edges_of b) (length b.firsts) k l (one_leaves w h)))
-      (each-append _ own landings
-      (each-flat_map _ (edges_of b) (below (length b.firsts)) (each _ _ (λ j. no_other w j h)))
-      (each-map _ landing_at (below (length b.firsts)) (each _ _ (λ j e. absurd (false≢true e))))))
+-- ---- lists
+
+-- the tests by which edges are found
+abbrev leaves_by : Node → EdgeKind → Edge → Bool
+leaves_by node kind edge = same_node edge.from node && same_kind edge.kind kind
+
+abbrev goes_by_case : Node → Node → Edge → Bool
+goes_by_case node to edge = is_to (Some to) edge && leaves_by node kinds.Case edge
+
+abbrev lands_on : Node → Edge → Bool
+lands_on node edge = same_node edge.to node && same_kind edge.kind kinds.Land
+
+abbrev pub is_it : Node → Node → Bool
+is_it to n = same_node n to
+
+abbrev has : ℕ → List ℕ → Bool
+has k xs = list_any (λ x. x == k) xs
+
+any_in_flat : {A : Type 0} (p : A → Bool) (f : ℕ → List A) (xs : List ℕ) (k : ℕ) → has k xs ≡ true
+    → list_any p (f k) ≡ true → list_any p (flat_map f xs) ≡ true
+any_in_flat p f [] k l h = absurd (false≢true l)
+any_in_flat p f (x ∷ xs) k l h =
+    list_any-append p (f x) (flat_map f xs) ∙ by (x == k) refl l (λ rest. any_in_flat p f xs k rest h)
+  where
+    by : (b : Bool) → (x == k) ≡ b → (b || list_any (λ y. y == k) xs) ≡ true
+        → (list_any (λ y. y == k) xs ≡ true → list_any p (flat_map f xs) ≡ true)
+        → (list_any p (f x) || list_any p (flat_map f xs)) ≡ true
+    by true e l rest = or_left _ _ (ap (λ j. list_any p (f j)) (eqb-true x k e) ∙ h)
+    by false e l rest = or_right _ _ (rest l)
+
+any_filtered : (q : ℕ → Bool) (xs : List ℕ) (k : ℕ) → has k xs ≡ true → q k ≡ true → has k (filter q xs) ≡ true
+any_filtered q [] k l h = absurd (false≢true l)
+any_filtered q (x ∷ xs) k l h = by (x == k) refl (q x) refl l (λ rest. any_filtered q xs k rest h)
+  where
+    by : (b : Bool) → (x == k) ≡ b → (c : Bool) → q x ≡ c → (b || list_any (λ y. y == k) xs) ≡ true
+        → (list_any (λ y. y == k) xs ≡ true → list_any (λ y. y == k) (filter q xs) ≡ true)
+        → list_any (λ y. y == k) (cond c (x ∷ filter q xs) (filter q xs)) ≡ true
+    by true e true f l rest = ap (λ b. b || list_any (λ y. y == k) (filter q xs)) e
+    by true e false f l rest = absurd (false≢true (sym f ∙ ap q (eqb-true x k e) ∙ h))
+    by false e true f l rest = or_right _ _ (rest l)
+    by false e false f l rest = rest l
+
+-- a node that is among others
+turned_at : (node x : Node) (rest : List Node) (t : Bool) → same_node node x ≡ t
+    → (list_any (same_node node) rest ≡ true → list_any (is_it node) rest ≡ true)
+    → (t || list_any (same_node node) rest) ≡ true → (same_node x node || list_any (is_it node) rest) ≡ true
+turned_at node x rest true e next any =
+    or_left _ _ (ap (same_node x) (same_nodes node x e) ∙ same_itself x)
+turned_at node x rest false e next any = or_right _ _ (next any)
+
+turned : (node : Node) (xs : List Node) → list_any (same_node node) xs ≡ true → list_any (is_it node) xs ≡ true
+turned node [] any = any
+turned node (x ∷ xs) any = turned_at node x xs (same_node node x) refl (turned node xs) any
+
+alike_at : (node : Node) (rest : List Node) (t : Bool)
+    → (list_any (is_it node) rest ≡ true → list_any (λ n. same_node n node && true) rest ≡ true)
+    → (t || list_any (is_it node) rest) ≡ true → ((t && true) || list_any (λ n. same_node n node && true) rest) ≡ true
+alike_at node rest true next h = refl
+alike_at node rest false next h = next h
+
+alike : (node : Node) (xs : List Node) → list_any (is_it node) xs ≡ true
+    → list_any (λ n. same_node n node && true) xs ≡ true
+alike node [] h = h
+alike node (x ∷ xs) h = alike_at node xs (same_node x node) (alike node xs) h
+
+module _ (b : Blocks) (opens : List Open) where
+  abbrev graph : Graph
+  graph = graph_of b opens
+
+  abbrev own : List Edge
+  own = flat_map (edges_of b opens) (below (length b.firsts))
+
+  abbrev copied : List Edge
+  copied = flat_map (copied_edges b opens) (filter (is_copied opens) (below (length b.firsts)))
+
+  abbrev landings : List Edge
+  landings = map landing_at (flat_map (landings_of opens) (below (length b.firsts)))
+
+  pub each_edge : (P : Edge → Type 0) → Each P own → Each P copied → Each P landings → Each P (edges_in b opens)
+  unfolding edges_in
+  each_edge P one two three = each-append P (own ++ copied) landings (each-append P own copied one two) three
+
+  any_own : (p : Edge → Bool) → list_any p own ≡ true → list_any p (edges_in b opens) ≡ true
+  unfolding edges_in
+  any_own p h =
+      list_any-append p (own ++ copied) landings ∙ or_left _ _ (list_any-append p own copied ∙ or_left _ _ h)
+
+  any_copied : (p : Edge → Bool) → list_any p copied ≡ true → list_any p (edges_in b opens) ≡ true
+  unfolding edges_in
+  any_copied p h =
+      list_any-append p (own ++ copied) landings ∙ or_left _ _ (list_any-append p own copied ∙ or_right _ _ h)
+
+  any_landing : (p : Edge → Bool) → list_any p landings ≡ true → list_any p (edges_in b opens) ≡ true
+  unfolding edges_in
+  any_landing p h =
+      list_any-append p (own ++ copied) landings ∙ or_right _ _ h
+
+  -- ---- edges that leave a node
+
+  abbrev pub edges_at : Node → List Edge
+  edges_at (Block k) = edges_of b opens k.0
+  edges_at (Landed k) = copied_edges b opens k.0
+  edges_at X = []
+
+  ways_leave : (node : Node) (k : ℕ) → Each (λ edge. edge.from ≡ node) (ways_out b opens node k)
+  ways_leave node k =
+      each-map (λ edge. edge.from ≡ node) (edge_of b opens node k) (ways_from b k) (each _ (ways_from b k) (λ x. refl))
+
+  pub leave_own : (k : ℕ) → Each (λ edge. edge.from ≡ block k) (edges_of b opens k)
+  leave_own k =
+      cond_both (jumps_in opens k) (map (case_of b k) (case_nodes b opens k)) (ways_out b opens (block k) k)
+      (Each (λ edge. edge.from ≡ block k))
+      (λ _. each-map (λ edge. edge.from ≡ block k) (case_of b k) (case_nodes b opens k)
+      (each _ (case_nodes b opens k) (λ x. refl)))
+      (λ _. ways_leave (block k) k)
+
+  pub leave_node : (node : Node) → Each (λ edge. edge.from ≡ node) (edges_at node)
+  leave_node (Block k) = leave_own k.0
+  leave_node (Landed k) = ways_leave (copy k.0) k.0
+  leave_node X = tt
+
+  module _ (p : Edge → Bool) (v : Edge) (node : Node) (there : IsNodeIn b opens node) (home : same_node X node ≡ false)
+      (leaves : (edge : Edge) → p edge ≡ true → same_node edge.from node ≡ true)
+      (only : Each (λ edge. p edge ≡ true → edge ≡ v) (edges_at node)) where
+    no_other : (other : Node) → Each (λ edge. p edge ≡ true → edge ≡ v) (edges_at other)
+    no_other other = by (same_node other node) refl
+      where
+        by : (s : Bool) → same_node other node ≡ s → Each (λ edge. p edge ≡ true → edge ≡ v) (edges_at other)
+        by true e =
+            subst (λ (n : Node). Each (λ edge. p edge ≡ true → edge ≡ v) (edges_at n)) (sym (same_nodes other node e))
+            only
+        by false e =
+            each-then (λ edge. edge.from ≡ other) (λ edge. p edge ≡ true → edge ≡ v) (edges_at other)
+            (λ x from passes.
+            absurd (false≢true (sym e ∙ ap (λ n. same_node n node) (sym from) ∙ leaves x passes)))
+            (leave_node other)
+
+    pub found_at : list_any p (edges_at node) ≡ true → IsFound p (edges_in b opens) v
+    found_at any =
+        found p v (edges_in b opens) (at_node node there any)
+        (each_edge (λ edge. p edge ≡ true → edge ≡ v)
+        (each-flat_map _ (edges_of b opens) _ (each _ _ (λ j. no_other (block j))))
+        (each-flat_map _ (copied_edges b opens) _ (each _ _ (λ j. no_other (copy j))))
+        (each-map _ landing_at _ (each _ _ (λ n passes. absurd (false≢true (sym home ∙ leaves (landing_at n) passes))))))
+      where
+        at_node : (n : Node) → IsNodeIn b opens n → list_any p (edges_at n) ≡ true
+            → list_any p (edges_in b opens) ≡ true
+        at_node (Block k) within any =
+            any_own p (any_in_flat p (edges_of b opens) (below (length b.firsts)) k.0
+            (any_below (λ x. x == k.0) (length b.firsts) k.0 within (eq-eqb k.0 k.0 refl)) any)
+        at_node (Landed k) within any =
+            any_copied p (any_in_flat p (copied_edges b opens) _ k.0
+            (any_filtered (is_copied opens) (below (length b.firsts)) k.0
+            (any_below (λ x. x == k.0) (length b.firsts) k.0 within.0 (eq-eqb k.0 k.0 refl)) within.1) any)
+        at_node X within any = absurd (false≢true any)
+
+  -- ---- the edge of a way
+
+  not_outside : (node : Node) (k : ℕ) → home_of node ≡ block k → same_node X node ≡ false
+  not_outside (Block a) k e = refl
+  not_outside (Landed a) k e = refl
+  not_outside X k e = absurd (cc)
+
+  plain_edges : (node : Node) (k : ℕ) → home_of node ≡ block k → has_cases opens node ≡ false
+      → edges_at node ≡ ways_out b opens node k
+  plain_edges node k e quiet = elim (node_at node k e) [
+    | inl here ↦
+        subst (λ (n : Node). has_cases opens n ≡ false → edges_at n ≡ ways_out b opens n k) (sym here)
+        (λ quiet. ap (λ (x : Bool). if x then map (case_of b k) (case_nodes b opens k) else ways_out b opens (block k) k)
+        quiet) quiet
+    | inr there ↦ subst (λ (n : Node). edges_at n ≡ ways_out b opens n k) (sym there) refl
+  ]
+
+  pub edge_found : (node : Node) (k : ℕ) (w : Way) → IsNodeIn b opens node → home_of node ≡ block k
+      → has_cases opens node ≡ false → IsOne w (ways_from b k)
+      → IsEdge graph (edge_from graph node w.kind) (edge_of b opens node k w)
+  edge_found node k w there home quiet h =
+      edge_is graph (leaves_by node w.kind) (edge_of b opens node k w)
+      (found_at (leaves_by node w.kind) (edge_of b opens node k w) node there (not_outside node k home) (λ edge e. (and_parts _ _ e).0)
+      (rw own_is (each-map (λ edge. leaves_by node w.kind edge ≡ true → edge ≡ edge_of b opens node k w) (edge_of b opens node k)
+      (ways_from b k)
+      (each-then (λ (x : Way). same_kind x.kind w.kind ≡ true → x ≡ w)
+      (λ (x : Way). (leaves_by node w.kind) (edge_of b opens node k x) ≡ true → edge_of b opens node k x ≡ edge_of b opens node k w)
+      (ways_from b k) (λ x same e. ap (edge_of b opens node k) (same (and_parts _ _ e).1)) h.only)))
+      (rw own_is (any-map (leaves_by node w.kind) (edge_of b opens node k) (ways_from b k)
+      (subst (λ t. list_any (λ (x : Way). t && same_kind x.kind w.kind) (ways_from b k) ≡ true)
+      (sym (same_itself node)) h.any))))
+    where
+      own_is : edges_at node ≡ ways_out b opens node k
+      own_is = plain_edges node k home quiet
+
+  -- ---- the edge to a node where a jump goes by case
+
+  kept : (node to : Node) (xs : List Node) → list_any (same_node node) xs ≡ true → same_node node to ≡ true
+      → list_any (is_it to) xs ≡ true
+  kept node to xs any is = subst (λ (n : Node). list_any (is_it n) xs ≡ true) (same_nodes node to is) (turned node xs any)
+
+  once_next : (to node : Node) (seen nodes : List Node) (s : Bool) → list_any (same_node node) seen ≡ s → (t : Bool)
+      → same_node node to ≡ t → (u : Bool) → list_any (is_it to) seen ≡ u
+      → (u || (t || list_any (is_it to) nodes)) ≡ true
+      → (list_any (is_it to) (cond s seen (seen ++ node ∷ [])) || list_any (is_it to) nodes) ≡ true
+  once_next to node seen nodes true e t f true g h = or_left _ _ g
+  once_next to node seen nodes true e true f false g h = or_left _ _ (kept node to seen e f)
+  once_next to node seen nodes true e false f false g h = or_right _ _ h
+  once_next to node seen nodes false e t f true g h =
+      or_left _ _ (list_any-append (is_it to) seen (node ∷ []) ∙ or_left _ _ g)
+  once_next to node seen nodes false e true f false g h =
+      or_left _ _ (list_any-append (is_it to) seen (node ∷ []) ∙ or_right _ _ (or_left _ _ f))
+  once_next to node seen nodes false e false f false g h = or_right _ _ h
+
+  or_none : (x : Bool) → (x || false) ≡ true → x ≡ true
+  or_none true h = refl
+  or_none false h = h
+
+  pub any_once : (to : Node) (seen nodes : List Node)
+      → (list_any (is_it to) seen || list_any (is_it to) nodes) ≡ true
+      → list_any (is_it to) (once_onto seen nodes) ≡ true
+  any_once to seen [] h = or_none _ h
+  any_once to seen (node ∷ nodes) h =
+      any_once to (if list_any (same_node node) seen then seen else seen ++ node ∷ []) nodes
+      (once_next to node seen nodes (list_any (same_node node) seen) refl (same_node node to) refl
+      (list_any (is_it to) seen) refl h)
+
+  pub case_found : (k : ℕ) (to : Node) → k < length b.firsts → jumps_in opens k ≡ true
+      → list_any (λ n. same_node n to) (case_nodes b opens k) ≡ true
+      → IsEdge graph (edge_along graph (block k) (record { kind = kinds.Case; to = Some to })) (case_of b k to)
+  case_found k to within jumps any =
+      edge_is graph (goes_by_case (block k) to) (case_of b k to)
+      (found_at (goes_by_case (block k) to) (case_of b k to) (block k) within refl (λ edge e. (and_parts _ _ (and_parts _ _ e).1).0)
+      (rw own_is (each-map (λ edge. (goes_by_case (block k) to) edge ≡ true → edge ≡ case_of b k to) (case_of b k) (case_nodes b opens k)
+      (each _ (case_nodes b opens k) (λ n e. ap (case_of b k) (same_nodes n to (and_parts _ _ e).0)))))
+      (rw own_is (any-map (goes_by_case (block k) to) (case_of b k) (case_nodes b opens k)
+      (subst (λ t. list_any (λ n. same_node n to && (t && true)) (case_nodes b opens k) ≡ true)
+      (sym (same_itself (block k))) (alike to (case_nodes b opens k) any)))))
+    where
+      own_is : edges_of b opens k ≡ map (case_of b k) (case_nodes b opens k)
+      own_is =
+          ap (λ (x : Bool). if x then map (case_of b k) (case_nodes b opens k) else ways_out b opens (block k) k) jumps
 
   -- ---- landings
 
-  lands : Edge → Bool
-  lands edge = same_node edge.to (block k) && same_kind edge.kind kinds.Land
+  none_of_ways : (node : Node) (k : ℕ) → Each (λ edge. same_kind edge.kind kinds.Land ≡ false) (ways_out b opens node k)
+  none_of_ways node k =
+      each-map (λ edge. same_kind edge.kind kinds.Land ≡ false) (edge_of b opens node k) (ways_from b k)
+      (each-then IsOwn (λ (x : Way). same_kind (edge_of b opens node k x).kind kinds.Land ≡ false) (ways_from b k)
+      (λ x own. own.0) (ways_are_own b.words (last_word b.firsts b.words k) (end_of b k)))
 
-  no_own_lands : (j : ℕ) → Each (λ edge. lands edge ≡ true → edge ≡ landing_at k) (edges_of b j)
-  unfolding lands
-  no_own_lands j = each-map (λ edge. lands edge ≡ true → edge ≡ landing_at k) (edge_of b j) (ways_from b j)
-      (each-then IsOwn (λ (x : Way). lands (edge_of b j x) ≡ true → edge_of b j x ≡ landing_at k)
-      (ways_from b j) (λ x own e. absurd (false≢true (sym own.0 ∙ (and_parts _ _ e).1)))
-      (ways_are_own b.words (last_word b.firsts b.words j) (end_of b j)))
+  none_own : (k : ℕ) → Each (λ edge. same_kind edge.kind kinds.Land ≡ false) (edges_of b opens k)
+  none_own k =
+      cond_both (jumps_in opens k) (map (case_of b k) (case_nodes b opens k)) (ways_out b opens (block k) k)
+      (Each (λ edge. same_kind edge.kind kinds.Land ≡ false))
+      (λ _. each-map (λ edge. same_kind edge.kind kinds.Land ≡ false) (case_of b k) (case_nodes b opens k)
+      (each _ (case_nodes b opens k) (λ x. refl)))
+      (λ _. none_of_ways (block k) k)
 
-  pub landing_found : k < length b.firsts
-      → IsEdge (graph_of b) (landing_number (graph_of b) (block k)) (landing_at k)
-  unfolding edges_in lands
-  landing_found l =
-      let own = flat_map (edges_of b) (below (length b.firsts)) in
-      let landings = map landing_at (below (length b.firsts)) in
-      edge_is (graph_of b) lands (landing_at k) (found lands (landing_at k) (edges_in b)
-      (list_any-append lands own landings
-      ∙ or_right _ _ (any-map lands landing_at (below (length b.firsts))
-      (any_below _ (length b.firsts) k l (ap (λ t. t && true) (eq-eqb k k refl)))))
-      (each-append _ own landings
-      (each-flat_map _ (edges_of b) (below (length b.firsts)) (each _ _ no_own_lands))
-      (each-map _ landing_at (below (length b.firsts))
-      (each _ _ (λ j e. ap landing_at (eqb-true j k (and_parts _ _ e).0))))))
+  pub landing_found : (node : Node) (k : ℕ) → k < length b.firsts
+      → list_any (λ n. same_node n node) (landings_of opens k) ≡ true
+      → IsEdge graph (landing_number graph node) (landing_at node)
+  landing_found node k within any =
+      edge_is graph (lands_on node) (landing_at node) (found (lands_on node) (landing_at node) (edges_in b opens)
+      (any_landing (lands_on node) (any-map (lands_on node) landing_at _
+      (any_in_flat (λ n. same_node n node && true) (landings_of opens) (below (length b.firsts)) k
+      (any_below (λ x. x == k) (length b.firsts) k within (eq-eqb k k refl)) (alike node (landings_of opens k) any))))
+      (each_edge (λ edge. (lands_on node) edge ≡ true → edge ≡ landing_at node)
+      (each-flat_map _ (edges_of b opens) _ (each _ _ (λ j. quiet (edges_of b opens j) (none_own j))))
+      (each-flat_map _ (copied_edges b opens) _
+      (each _ _ (λ j. quiet (copied_edges b opens j) (none_of_ways (copy j) j))))
+      (each-map _ landing_at _ (each _ _ (λ n e. ap landing_at (same_nodes n node (and_parts _ _ e).0))))))
+    where
+      quiet : (xs : List Edge) → Each (λ edge. same_kind edge.kind kinds.Land ≡ false) xs
+          → Each (λ edge. (lands_on node) edge ≡ true → edge ≡ landing_at node) xs
+      quiet xs h = each-then (λ edge. same_kind edge.kind kinds.Land ≡ false) (λ edge. lands_on node edge ≡ true → edge ≡ landing_at node) xs (λ x none e. absurd (false≢true (sym none ∙ (and_parts (same_node x.to node) (same_kind x.kind kinds.Land) e).1))) h
 
--- ---- jumps lead to X
+  -- ---- jumps lead to X but by case
 
-out_leads : (b : Blocks) → Each (λ edge. same_kind edge.kind kinds.Out ≡ true → edge.to ≡ X) (edges_in b)
-unfolding edges_in
-out_leads b =
-    let n = length b.firsts in
-    each-append _ (flat_map (edges_of b) (below n)) (map landing_at (below n))
-    (each-flat_map _ (edges_of b) (below n) (each _ (below n)
-    (λ j. each-map _ (edge_of b j) (ways_from b j)
-    (each-then IsOwn _ (ways_from b j) (λ x own e. ap (node_of b) (own.1 e))
-    (ways_are_own b.words (last_word b.firsts b.words j) (end_of b j))))))
-    (each-map _ landing_at (below n) (each _ (below n) (λ j e. absurd (false≢true e))))
+  outs_of_ways : (node : Node) (k : ℕ)
+      → Each (λ edge. same_kind edge.kind kinds.Out ≡ true → edge.to ≡ X) (ways_out b opens node k)
+  outs_of_ways node k =
+      each-map (λ edge. same_kind edge.kind kinds.Out ≡ true → edge.to ≡ X) (edge_of b opens node k) (ways_from b k)
+      (each-then IsOwn _ (ways_from b k)
+      (λ x own e. ap (λ o. directed opens node x.kind (node_of b o)) (own.1 e))
+      (ways_are_own b.words (last_word b.firsts b.words k) (end_of b k)))
 
-pub number_of_list : (o : Option ℕ) (number : ℕ) → option_to_list o ≡ number ∷ [] → o ≡ Some number
-number_of_list None number e = absurd (cc)
-number_of_list (Some n) number e = cc
+  out_leads : Each (λ edge. same_kind edge.kind kinds.Out ≡ true → edge.to ≡ X) (edges_in b opens)
+  out_leads =
+      each_edge _
+      (each-flat_map _ (edges_of b opens) _ (each _ _ (λ k.
+      cond_both (jumps_in opens k) (map (case_of b k) (case_nodes b opens k)) (ways_out b opens (block k) k)
+      (Each (λ edge. same_kind edge.kind kinds.Out ≡ true → edge.to ≡ X))
+      (λ _. each-map _ (case_of b k) (case_nodes b opens k)
+      (each _ (case_nodes b opens k) (λ x e. absurd (false≢true e))))
+      (λ _. outs_of_ways (block k) k))))
+      (each-flat_map _ (copied_edges b opens) _ (each _ _ (λ k. outs_of_ways (copy k) k)))
+      (each-map _ landing_at _ (each _ _ (λ n e. absurd (false≢true e))))
 
-pub out_to : (b : Blocks) (node : Node) (edge : Edge)
-    → IsEdge (graph_of b) (edge_from (graph_of b) node kinds.Out) edge → edge.to ≡ X
-out_to b node edge h =
-    let passes =
-    position-Some (λ (x : Edge). same_node x.from node && same_kind x.kind kinds.Out) (edges_in b)
-    h.number edge (number_of_list _ h.number h.only) in
-    each_at _ (edges_in b) h.number edge (out_leads b) h.is
-    (ap (λ (x : Edge). same_kind x.kind kinds.Out)
-    (sym (get_or_from_slice_get (edges_in b) h.number edge edge h.is))
-    ∙ (and_parts _ _ passes.1).1)
+  pub number_of_list : (o : Option ℕ) (number : ℕ) → option_to_list o ≡ number ∷ [] → o ≡ Some number
+  number_of_list None number e = absurd (cc)
+  number_of_list (Some n) number e = cc
 
--- ---- landings come from X
+  pub out_to : (node : Node) (edge : Edge) → IsEdge graph (edge_from graph node kinds.Out) edge → edge.to ≡ X
+  out_to node edge h =
+      let passes =
+      position-Some (λ (x : Edge). same_node x.from node && same_kind x.kind kinds.Out) (edges_in b opens)
+      h.number edge (number_of_list _ h.number h.only) in
+      each_at _ (edges_in b opens) h.number edge out_leads h.is
+      (ap (λ (x : Edge). same_kind x.kind kinds.Out)
+      (sym (get_or_from_slice_get (edges_in b opens) h.number edge edge h.is))
+      ∙ (and_parts _ _ passes.1).1)
 
-pub land_from : (b : Blocks)
-    → Each (λ edge. same_kind edge.kind kinds.Land ≡ true → edge.from ≡ X) (edges_in b)
-unfolding edges_in
-land_from b =
-    let n = length b.firsts in
-    each-append _ (flat_map (edges_of b) (below n)) (map landing_at (below n))
-    (each-flat_map _ (edges_of b) (below n) (each _ (below n)
-    (λ j. each-map _ (edge_of b j) (ways_from b j)
-    (each-then IsOwn _ (ways_from b j) (λ x own e. absurd (false≢true (sym own.0 ∙ e)))
-    (ways_are_own b.words (last_word b.firsts b.words j) (end_of b j))))))
-    (each-map _ landing_at (below n) (each _ (below n) (λ j e. refl)))
+  -- ---- landings come from X
+
+  pub land_from : Each (λ edge. same_kind edge.kind kinds.Land ≡ true → edge.from ≡ X) (edges_in b opens)
+  land_from =
+      each_edge _
+      (each-flat_map _ (edges_of b opens) _
+      (each _ _ (λ k. each-then _ _ (edges_of b opens k) (λ x none e. absurd (false≢true (sym none ∙ e))) (none_own k))))
+      (each-flat_map _ (copied_edges b opens) _
+      (each _ _ (λ k. each-then _ _ (copied_edges b opens k) (λ x none e. absurd (false≢true (sym none ∙ e)))
+      (none_of_ways (copy k) k))))
+      (each-map _ landing_at _ (each _ _ (λ n e. refl)))

@@ -1,7 +1,7 @@
 -- Leaving a block from its last word.
-use Rattle.std.proofs.Common.{◌≡◌, ℕ, suc, ◌+◌, ◌<◌, true, false, ◌==◌, [], slice_index, Some, refl, ap, sym, ◌∙◌, subst, arith}
+use Rattle.std.proofs.Common.{◌≡◌, ℕ, suc, ◌+◌, ◌<◌, Bool, true, false, ◌==◌, List, [], inl, inr, slice_index, Some, refl, ap, sym, ◌∙◌, subst, arith}
 use Rattle.std.specs.Prelude.{if◌then◌else◌}
-use Rattle.std.proofs.lemmas.Bool.{lt-ltb, cond_both, eqb-true, eqb-false}
+use Rattle.std.proofs.lemmas.Bool.{lt-ltb, cond_both, eqb-true, eqb-false, false≢true}
 use Rattle.eel_base.specs.CodeText.{Words}
 use Rattle.v8_decode.specs.declared.Instr.{Instr}
 use Rattle.v8_decode.specs.declared.Instr.TheVariants as i
@@ -10,15 +10,20 @@ use Rattle.v8_step.specs.Items.{is_transfer as transfers}
 use Rattle.cfg_blocks.specs.declared.BlockEnd.TheVariants as ends
 use Rattle.cfg_blocks.specs.declared.EdgeKind.TheVariants as kinds
 use Rattle.cfg_blocks.specs.Ends.{Way, way, within, end_at, end_by, is_transfer, ways_of}
-use Rattle.cfg_blocks.specs.Blocks.{Blocks, block_end, holding_of, last_word}
+use Rattle.cfg_blocks.specs.Blocks.{Blocks, block_end, end_of, holding_of, last_word}
 use Rattle.cfg_blocks.specs.Entries.{ways_from}
 use Rattle.cfg_normal.specs.declared.Node.{Node}
-use Rattle.cfg_normal.specs.Graph.{Graph, graph_of, node_of, edge_of}
+use Rattle.cfg_normal.specs.Nodes.{home_of}
+use Rattle.cfg_normal.specs.Opens.{Open, jumps_in}
+use Rattle.cfg_normal.specs.Graph.{Graph, IsNodeIn, directed, graph_of, has_cases, node_of, edge_of}
+use Rattle.cfg_walk.specs.Matches.{AreOpen}
+use Rattle.cfg_blocks.specs.Switches.{is_jump}
 use Rattle.cfg_walk.specs.Walk.{edge_from, ends_block, left_at, left_by, node_after}
 use Rattle.cfg_walk.proofs.Holding.{IsIn, Leads, in_held, is_held, is_last, ends_within}
 use Rattle.cfg_walk.proofs.Cut.{IsCut}
 use Rattle.cfg_walk.proofs.Ways.{IsOne, fall_is_one}
-use Rattle.cfg_walk.proofs.Edges.{IsEdge, block, edge_found, leads_along}
+use Rattle.cfg_walk.proofs.Edges.{IsEdge, block, edge_found, leads_along, node_at}
+use Rattle.cfg_walk.proofs.Nodes.{home_directed, home_of_node}
 
 -- ---- nodes
 
@@ -49,10 +54,34 @@ pub straight_left : (graph : Graph) (node : Node) (word : ℕ) (instr : Instr) �
 straight_left graph node word (i.Branch cond annul disp22) e = absurd (cc)
 straight_left graph node word _ e = refl
 
-module _ (text : Words) (b : Blocks) (c : IsCut text b) (word : ℕ) (l : word < b.words) where
+-- ---- nodes whose home is a block
+
+pub ends_home : (b : Blocks) (opens : List Open) (node : Node) (k word : ℕ) → home_of node ≡ block k
+    → ends_block (graph_of b opens) node word ≡ (word == last_word b.firsts b.words k)
+ends_home b opens node k word h = elim (node_at node k h) [
+  | inl here ↦ subst (λ (n : Node). ends_block (graph_of b opens) n word ≡ (word == last_word b.firsts b.words k)) (sym here) refl
+  | inr there ↦ subst (λ (n : Node). ends_block (graph_of b opens) n word ≡ (word == last_word b.firsts b.words k)) (sym there) refl
+]
+
+-- a node of a block that ends in no jump has no Case edges
+pub no_cases : (b : Blocks) (opens : List Open) → AreOpen b opens → (node : Node) (k : ℕ) → home_of node ≡ block k
+    → is_jump (end_of b k) ≡ false → has_cases opens node ≡ false
+no_cases b opens are node k h plain = elim (node_at node k h) [
+  | inl here ↦ subst (λ (n : Node). has_cases opens n ≡ false) (sym here) (by (jumps_in opens k) refl)
+  | inr there ↦ subst (λ (n : Node). has_cases opens n ≡ false) (sym there) refl
+]
+  where
+    by : (x : Bool) → jumps_in opens k ≡ x → jumps_in opens k ≡ false
+    by true e = absurd (false≢true (sym plain ∙ are k e))
+    by false e = e
+
+module _ (text : Words) (b : Blocks) (opens : List Open) (c : IsCut text b) (word : ℕ) (l : word < b.words) where
   -- the block that holds the word
   abbrev pub here : ℕ
   here = holding_of b word
+
+  abbrev graph : Graph
+  graph = graph_of b opens
 
   pub is_in : IsIn b.words b.firsts word here
   is_in = in_held b.words b.firsts c.firsts word l
@@ -69,41 +98,55 @@ module _ (text : Words) (b : Blocks) (c : IsCut text b) (word : ℕ) (l : word <
       let next : word + 1 ≡ suc word = omega arith in
       subst (λ w. Leads b.firsts w) next (c.after word t (omega arith)))
 
-  pub way_found : (w : Way) → word ≡ last_word b.firsts b.words here
-      → IsOne w (ways_of b.words word (end_at text word))
-      → IsEdge (graph_of b) (edge_from (graph_of b) (block here) w.kind) (edge_of b here w)
-  way_found w last h =
-      edge_found b here w is_in.within (subst (λ ways. IsOne w ways) (sym (ways_at last)) h)
+  pub end_here : word ≡ last_word b.firsts b.words here → end_of b here ≡ end_at text word
+  end_here last = c.ends here is_in.within ∙ ap (end_at text) (sym last)
 
-  -- ---- a word that is no transfer
+  module _ (are : AreOpen b opens) (node : Node) (there : IsNodeIn b opens node) (home : home_of node ≡ block here) where
+    pub way_found : (w : Way) → word ≡ last_word b.firsts b.words here → has_cases opens node ≡ false
+        → IsOne w (ways_of b.words word (end_at text word))
+        → IsEdge graph (edge_from graph node w.kind) (edge_of b opens node here w)
+    way_found w last quiet h =
+        edge_found b opens node here w there home quiet (subst (λ ways. IsOne w ways) (sym (ways_at last)) h)
 
-  falls : end_at text word ≡ ends.Fall → word ≡ last_word b.firsts b.words here
-      → node_after (graph_of b) (block here) (edge_from (graph_of b) (block here) kinds.Fall)
-      ≡ node_of b (within b.words (word + 1))
-  falls e last =
-      leads_along (graph_of b) (block here) _ (edge_of b here (way kinds.Fall (within b.words (word + 1))))
-      (way_found (way kinds.Fall (within b.words (word + 1))) last
-      (subst (λ end. IsOne (way kinds.Fall (within b.words (word + 1))) (ways_of b.words word end)) (sym e)
-      (fall_is_one b.words word)))
+    -- ---- a word that is no transfer
 
-  stays : (word ≡ last_word b.firsts b.words here → ⊥) → block here ≡ node_of b (within b.words (word + 1))
-  stays inner =
-      let after : word + 1 < block_end b.firsts b.words here = omega (arith, is_in.below, inner) in
-      let low : word + 1 < b.words = omega (arith, ends_within b.words b.firsts c.firsts here is_in.within) in
-      let same : holding_of b (word + 1) ≡ here =
-      is_held b.words b.firsts c.firsts (word + 1) here
-      (record { within = is_in.within; above = omega (arith, is_in.above); below = after }) in
-      ap block (sym same) ∙ sym (node_within b (word + 1) low)
+    pub falls_to : end_at text word ≡ ends.Fall → word ≡ last_word b.firsts b.words here
+        → node_after graph node (edge_from graph node kinds.Fall)
+        ≡ directed opens node kinds.Fall (node_of b (within b.words (word + 1)))
+    falls_to e last =
+        let quiet : has_cases opens node ≡ false =
+        no_cases b opens are node here home (ap is_jump (end_here last ∙ e)) in
+        leads_along graph node _ (edge_of b opens node here (way kinds.Fall (within b.words (word + 1))))
+        (way_found (way kinds.Fall (within b.words (word + 1))) last quiet
+        (subst (λ end. IsOne (way kinds.Fall (within b.words (word + 1))) (ways_of b.words word end)) (sym e)
+        (fall_is_one b.words word)))
 
-  pub straight_on : (instr : Instr) → decode_of (slice_index text.words word) ≡ instr
-      → transfers instr ≡ false
-      → node_after (graph_of b) (block here) (left_at text (graph_of b) (block here) (Some word))
-      ≡ node_of b (within b.words (word + 1))
-  straight_on instr is straight =
-      ap (λ d. node_after (graph_of b) (block here) (left_by (graph_of b) (block here) word d)) is
-      ∙ ap (node_after (graph_of b) (block here))
-      (straight_left (graph_of b) (block here) word instr straight)
-      ∙ cond_both (word == last_word b.firsts b.words here) _ _
-      (λ numbers. node_after (graph_of b) (block here) numbers ≡ node_of b (within b.words (word + 1)))
-      (λ e. falls (end_is text word instr is ∙ straight_end text word instr straight) (eqb-true _ _ e))
-      (λ e. stays (eqb-false _ _ e))
+    falls : end_at text word ≡ ends.Fall → word ≡ last_word b.firsts b.words here
+        → home_of (node_after graph node (edge_from graph node kinds.Fall)) ≡ node_of b (within b.words (word + 1))
+    falls e last =
+        ap home_of (falls_to e last)
+        ∙ home_directed opens node kinds.Fall (node_of b (within b.words (word + 1)))
+        ∙ home_of_node b (within b.words (word + 1))
+
+    stays : (word ≡ last_word b.firsts b.words here → ⊥) → block here ≡ node_of b (within b.words (word + 1))
+    stays inner =
+        let after : word + 1 < block_end b.firsts b.words here = omega (arith, is_in.below, inner) in
+        let low : word + 1 < b.words = omega (arith, ends_within b.words b.firsts c.firsts here is_in.within) in
+        let same : holding_of b (word + 1) ≡ here =
+        is_held b.words b.firsts c.firsts (word + 1) here
+        (record { within = is_in.within; above = omega (arith, is_in.above); below = after }) in
+        ap block (sym same) ∙ sym (node_within b (word + 1) low)
+
+    pub straight_on : (instr : Instr) → decode_of (slice_index text.words word) ≡ instr
+        → transfers instr ≡ false
+        → home_of (node_after graph node (left_at text graph node (Some word)))
+        ≡ node_of b (within b.words (word + 1))
+    straight_on instr is straight =
+        ap (λ d. home_of (node_after graph node (left_by graph node word d))) is
+        ∙ ap (λ ns. home_of (node_after graph node ns)) (straight_left graph node word instr straight)
+        ∙ ap (λ (x : Bool). home_of (node_after graph node (if x then edge_from graph node kinds.Fall else [])))
+        (ends_home b opens node here word home)
+        ∙ cond_both (word == last_word b.firsts b.words here) (edge_from graph node kinds.Fall) []
+        (λ numbers. home_of (node_after graph node numbers) ≡ node_of b (within b.words (word + 1)))
+        (λ e. falls (end_is text word instr is ∙ straight_end text word instr straight) (eqb-true _ _ e))
+        (λ e. home ∙ stays (eqb-false _ _ e))

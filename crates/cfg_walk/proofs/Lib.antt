@@ -4,10 +4,12 @@ pub mod Cut
 pub mod Ways
 pub mod Addresses
 pub mod Edges
+pub mod Nodes
 pub mod Leaving
 pub mod Slots
 pub mod Points
 pub mod Transfers
 pub mod States
 pub mod Walks
+pub mod NoneOpen
 pub mod Numbers

@@ -1,6 +1,7 @@
 -- A transfer goes into its slot, and out of it.
-use Rattle.std.proofs.Common.{◌≡◌, ℕ, ◌+◌, ◌<◌, Bool, true, false, nat_lt, [], ◌++◌, Option, Some, None, refl, ap, sym, ◌∙◌, subst, arith, append-nil}
+use Rattle.std.proofs.Common.{◌≡◌, ℕ, ◌+◌, ◌<◌, inl, inr, not, ◌&&◌, List, Bool, true, false, nat_lt, [], ◌++◌, Option, Some, None, refl, ap, sym, ◌∙◌, subst, arith, append-nil}
 use Rattle.std.specs.Prelude.{if◌then◌else◌, slice_index}
+use Rattle.std.specs.List.{list_any}
 use Rattle.std.proofs.lemmas.Bool.{cond_both}
 use Rattle.std.proofs.lemmas.Bool.Decides.{nat_tests}
 use Rattle.eel_base.specs.CodeText.{Words, address_of, word_at}
@@ -9,33 +10,50 @@ use Rattle.v8_step.specs.declared.Slot.TheVariants.{Taken}
 use Rattle.cfg_blocks.specs.declared.EdgeKind.{EdgeKind}
 use Rattle.cfg_blocks.specs.declared.EdgeKind.TheVariants as kinds
 use Rattle.cfg_blocks.specs.Ends.{Way, end_at, is_transfer, ways_of}
-use Rattle.cfg_blocks.specs.Blocks.{Blocks, end_of, holding_of, last_word}
+use Rattle.cfg_blocks.specs.Blocks.{Blocks, holding_of, last_word}
 use Rattle.cfg_normal.specs.declared.Node.{Node}
 use Rattle.cfg_normal.specs.declared.Node.TheVariants.{X}
 use Rattle.cfg_normal.specs.declared.Slot.TheVariants as carried_slots
-use Rattle.cfg_normal.specs.Graph.{graph_of, node_of, edge_of, runs_slot, slot_behind, landing_at as landing}
-use Rattle.cfg_walk.specs.Walk.{Point, edge_from, landed, landing_at, node_after, led_to, same_kind, slot_left}
-use Rattle.cfg_walk.specs.Matches.{Begins, IsCarried, IsOnItsWay, target_along}
+use Rattle.cfg_normal.specs.declared.Node.TheVariants.{Block, Landed}
+use Rattle.cfg_normal.specs.Nodes.{home_of}
+use Rattle.cfg_normal.specs.Opens.{Open, jumps_in}
+use Rattle.cfg_normal.specs.Graph.{Graph, IsNodeIn, case_of, directed, graph_of, case_nodes, has_cases, is_compared, lands_of, node_of, edge_of, runs_slot, slot_behind, slot_on, landing_at as landing}
+use Rattle.cfg_walk.specs.Walk.{Point, WayOut, by_kind, edge_along, edge_from, landed, left_along, node_after, led_to, same_kind, slot_left, way_to}
+use Rattle.cfg_walk.specs.Matches.{AreOpen, Begins, IsCarried, IsOnItsWay, IsTarget, last_in, target_along}
 use Rattle.cfg_walk.proofs.Holding.{Leads, in_held, first_held}
 use Rattle.cfg_walk.proofs.Cut.{IsCut}
 use Rattle.cfg_walk.proofs.Ways.{IsOne}
 use Rattle.cfg_blocks.proofs.Targets.{word_at-some}
-use Rattle.cfg_walk.proofs.Edges.{block, landing_found, leads_along, out_to}
-use Rattle.cfg_walk.proofs.Leaving.{here, is_in, node_is, transfer_ends, way_found}
+use Rattle.cfg_walk.proofs.Edges.{block, case_found, is_it, landing_found, leads_along, node_at}
+use Rattle.cfg_walk.proofs.Nodes.{case_any, home_directed, home_lands, home_of_node, lands_there}
+use Rattle.cfg_walk.proofs.Leaving.{end_here, here, is_in, node_is, transfer_ends, way_found}
 
 -- a word to which control goes begins its block
 abbrev pub LeadsIfThere : Blocks → Option ℕ → Type 0
 LeadsIfThere b to = (word : ℕ) → to ≡ Some word → (word < b.words) × Leads b.firsts word
 
-module _ (text : Words) (b : Blocks) (c : IsCut text b) where
+module _ (text : Words) (b : Blocks) (opens : List Open) (c : IsCut text b) where
+  abbrev graph : Graph
+  graph = graph_of b opens
+
   -- ---- into the slot
 
-  begins : (to : Option ℕ) → LeadsIfThere b to → Begins (graph_of b) (node_of b to) to
+  begins : (to : Option ℕ) → LeadsIfThere b to → Begins graph (node_of b to) to
   begins None h = tt
   begins (Some word) h =
       let leads = h word refl in
-      subst (λ node. Begins (graph_of b) node (Some word)) (sym (node_is b word leads.0))
+      subst (λ node. Begins graph node (Some word)) (sym (node_is b word leads.0))
       (first_held b.words b.firsts c.firsts word leads.1)
+
+  -- the copy begins with the same word
+  begins_directed : (from : Node) (kind : EdgeKind) (node : Node) (to : Option ℕ) → Begins graph node to
+      → Begins graph (directed opens from kind node) to
+  begins_directed from kind (Block k) None h = absurd h
+  begins_directed from kind (Block k) (Some word) h =
+      cond_both (jumps_in opens k.0 && not (is_compared opens from kind k.0)) (Landed k) (Block k)
+      (λ n. Begins graph n (Some word)) (λ _. h) (λ _. h)
+  begins_directed from kind (Landed k) to h = h
+  begins_directed from kind X to h = h
 
   last_of : (word n : ℕ) → word < n → nat_lt (word + 1) n ≡ false → word + 1 ≡ n
   last_of word n l off = grind (l, off, arith, nat_tests)
@@ -46,84 +64,187 @@ module _ (text : Words) (b : Blocks) (c : IsCut text b) where
       cond_both (nat_lt (word + 1) b.words) _ _ (λ slot. IsCarried text slot address) (λ _. e)
       (λ off. e ∙ ap (address_of text) (last_of word b.words l off ∙ c.words))
 
-  module _ (word : ℕ) (l : word < b.words) (t : is_transfer (end_at text word) ≡ true) where
+  last_home : (node : Node) (k : ℕ) → home_of node ≡ block k
+      → last_in graph node ≡ last_word b.firsts b.words k
+  last_home node k h = elim (node_at node k h) [
+    | inl here ↦ subst (λ (n : Node). last_in graph n ≡ last_word b.firsts b.words k) (sym here) refl
+    | inr there ↦ subst (λ (n : Node). last_in graph n ≡ last_word b.firsts b.words k) (sym there) refl
+  ]
+
+  module _ (word : ℕ) (l : word < b.words) (t : is_transfer (end_at text word) ≡ true) (are : AreOpen b opens)
+      (node : Node) (there : IsNodeIn b opens node) (home : home_of node ≡ block (here text b opens c word l)) where
+    abbrev k : ℕ
+    k = holding_of b word
+
+    last : word ≡ last_word b.firsts b.words k
+    last = transfer_ends text b opens c word l t
+
+    -- the edge of the kind carries the slot behind the word
+    carries_on : (kind : EdgeKind) (address : ℕ) → runs_slot (end_at text word) kind ≡ true
+        → address ≡ address_of text (word + 1) → IsCarried text (slot_on b k kind) address
+    carries_on kind address runs pc =
+        subst (λ (x : Bool). IsCarried text
+        (if x then slot_behind b.words (last_word b.firsts b.words k) else carried_slots.Nothing)
+        address)
+        (sym (ap (λ e. runs_slot e kind) (end_here text b opens c word l last) ∙ runs))
+        (subst (λ (n : ℕ). IsCarried text (slot_behind b.words n) address) last
+        (carried word address l pc))
+
+    last_node : word ≡ last_in graph node
+    last_node = last ∙ sym (last_home node k home)
+
     pub on_its_way : (point : Point) (w : Way) → point.pc ≡ address_of text (word + 1)
+        → way_to text graph node w.kind point.npc ≡ by_kind w.kind → has_cases opens node ≡ false
         → IsOne w (ways_of b.words word (end_at text word)) → runs_slot (end_at text word) w.kind ≡ true
         → (same_kind w.kind kinds.Out ≡ false → (word_at text point.npc ≡ w.to) × LeadsIfThere b w.to)
         → (same_kind w.kind kinds.Out ≡ false
         → point.npc ≡ target_along text word w.kind (decode_of (slice_index text.words word)))
-        → (same_kind w.kind kinds.Out ≡ true → point.slot ≡ Taken)
-        → IsOnItsWay text (graph_of b) (block (here text b c word l)) point w.kind
-    on_its_way point w pc one runs leads goes jumps =
-        let k : ℕ = holding_of b word in
-        let last : word ≡ last_word b.firsts b.words k = transfer_ends text b c word l t in
-        let found = way_found text b c word l w last one in
-        let end : end_of b k ≡ end_at text word =
-        c.ends k (is_in text b c word l).within ∙ ap (end_at text) (sym last) in
+        → (same_kind w.kind kinds.Out ≡ true → (point.slot ≡ Taken) × (w.to ≡ None))
+        → IsOnItsWay text graph node point w.kind
+    on_its_way point w pc plain quiet one runs leads goes jumps =
+        let found = way_found text b opens c word l are node there home w last quiet one in
         record {
           number = found.number;
-          edge = edge_of b k w;
-          only = found.only;
+          edge = edge_of b opens node k w;
+          only = ap (edge_along graph node) plain ∙ found.only;
           is = found.is;
-          pc = pc ∙ ap (λ n. address_of text (n + 1)) last;
+          pc = pc ∙ ap (λ n. address_of text (n + 1)) last_node;
           goes = λ no_jump.
-              goes no_jump ∙ ap (λ n. target_along text n w.kind (decode_of (slice_index text.words n))) last;
-          jumps = jumps;
-          carries =
-              subst (λ (x : Bool). IsCarried text
-              (if x then slot_behind b.words (last_word b.firsts b.words k) else carried_slots.Nothing)
-              point.pc)
-              (sym (ap (λ e. runs_slot e w.kind) end ∙ runs))
-              (subst (λ (n : ℕ). IsCarried text (slot_behind b.words n) point.pc) last
-              (carried word point.pc l pc));
+              goes no_jump ∙ ap (λ n. target_along text n w.kind (decode_of (slice_index text.words n))) last_node;
+          jumps = λ jump. (jumps jump).0;
+          carries = carries_on w.kind point.pc runs pc;
           leads = λ no_jump.
               let to = leads no_jump in (
-                subst (λ (o : Option ℕ). Begins (graph_of b) (node_of b w.to) o) (sym to.0)
-                    (begins w.to to.1),
-                ap (node_of b) (sym to.0),
+                subst (λ (o : Option ℕ). Begins graph (directed opens node w.kind (node_of b w.to)) o) (sym to.0)
+                    (begins_directed node w.kind (node_of b w.to) w.to (begins w.to to.1)),
+                ap (λ o. directed opens node w.kind (node_of b o)) (sym to.0),
               );
+          lands_at = λ jump.
+              ap (λ o. directed opens node w.kind (node_of b o)) (jumps jump).1
+              ∙ sym (ap (λ (x : Bool). if x then lands_of b opens (word_at text point.npc) else X) quiet);
         }
+
+    -- a jump by case
+    pub on_its_case : (point : Point) → point.pc ≡ address_of text (word + 1) → has_cases opens node ≡ true
+        → IsTarget text opens node point.npc → runs_slot (end_at text word) kinds.Case ≡ true → point.slot ≡ Taken
+        → IsOnItsWay text graph node point kinds.Out
+    on_its_case point pc cased to runs slot = elim (node_at node k home) [
+      | inl is ↦ case_of_block is
+      | inr is ↦ absurd (subst (λ (n : Node). has_cases opens n ≡ true → ⊥) (sym is) (λ e. absurd (cc)) cased)
+    ]
+      where
+        case_of_block : node ≡ block k → IsOnItsWay text graph node point kinds.Out
+        case_of_block is =
+            let target : IsTarget text opens (block k) point.npc =
+            subst (λ (n : Node). IsTarget text opens n point.npc) is to in
+            let to_node : Node = lands_of b opens (word_at text point.npc) in
+            let any : list_any (is_it to_node) (case_nodes b opens k) ≡ true =
+            ap (λ o. list_any (is_it (lands_of b opens o)) (case_nodes b opens k)) target.1
+            ∙ case_any b opens k target.0 target.2 in
+            let found = case_found b opens k to_node (is_in text b opens c word l).within
+            (ap (has_cases opens) (sym is) ∙ cased) any in
+            record {
+              number = found.number;
+              edge = case_of b k to_node;
+              only =
+                  ap (λ (x : Bool). edge_along graph node
+                  (if x then record { kind = kinds.Case; to = Some to_node } else by_kind kinds.Out)) cased
+                  ∙ ap (λ n. edge_along graph n (record { kind = kinds.Case; to = Some to_node })) is
+                  ∙ found.only;
+              is = found.is;
+              pc = pc ∙ ap (λ n. address_of text (n + 1)) last_node;
+              goes = λ no_jump. absurd (cc);
+              jumps = λ _. slot;
+              carries = carries_on kinds.Case point.pc runs pc;
+              leads = λ no_jump. absurd (cc);
+              lands_at = λ _. sym (ap (λ (x : Bool). if x then to_node else X) cased);
+            }
 
   -- ---- out of the slot
 
   landed_out : (address : ℕ) (o : Option ℕ) → word_at text address ≡ o
-      → node_after (graph_of b) X (landed text (graph_of b) kinds.Out address) ≡ node_of b o
+      → node_after graph X (landed text graph kinds.Out address) ≡ lands_of b opens o
   landed_out address None e = rw e refl
   landed_out address (Some word) e =
       let is = word_at-some text address word e in
       let low : word < b.words = omega (arith, is.within, c.words) in
-      let k : ℕ = holding_of b word in
-      let lands : node_after (graph_of b) X (landing_at (graph_of b) (block k)) ≡ block k =
-      leads_along (graph_of b) X _ (landing k)
-      (landing_found b k (in_held b.words b.firsts c.firsts word low).within) in
-      rw e (subst (λ node. node_after (graph_of b) X (landing_at (graph_of b) node) ≡ node)
-      (sym (node_is b word low)) lands)
+      rw e (leads_along graph X _ (landing (lands_of b opens (Some word)))
+      (landing_found b opens (lands_of b opens (Some word)) (holding_of b word)
+      (in_held b.words b.firsts c.firsts word low).within (lands_there b opens word low)))
 
   abbrev GoesOut : Node → EdgeKind → ℕ → Type 0
   GoesOut node way address =
-      node_after (graph_of b) node (slot_left text (graph_of b) node way address)
+      home_of (node_after graph node (slot_left text graph node way address))
       ≡ node_of b (word_at text address)
 
-  along : (node : Node) (point : Point) (way : EdgeKind) → IsOnItsWay text (graph_of b) node point way
-      → same_kind way kinds.Out ≡ false
-      → node_after (graph_of b) node (edge_from (graph_of b) node way ++ [])
-      ≡ node_of b (word_at text point.npc)
-  along node point way h e =
-      ap (node_after (graph_of b) node) (append-nil (edge_from (graph_of b) node way))
-      ∙ leads_along (graph_of b) node _ h.edge (record { number = h.number; only = h.only; is = h.is })
+  along_to : (node : Node) (point : Point) (way : EdgeKind) → IsOnItsWay text graph node point way
+      → same_kind way kinds.Out ≡ false → way_to text graph node way point.npc ≡ by_kind way
+      → node_after graph node (edge_from graph node way ++ [])
+      ≡ directed opens node way (node_of b (word_at text point.npc))
+  along_to node point way h e plain =
+      ap (node_after graph node) (append-nil (edge_from graph node way))
+      ∙ leads_along graph node _ h.edge
+      (record { number = h.number; only = ap (edge_along graph node) (sym plain) ∙ h.only; is = h.is })
       ∙ (h.leads e).1
 
+  along : (node : Node) (point : Point) (way : EdgeKind) → IsOnItsWay text graph node point way
+      → same_kind way kinds.Out ≡ false → way_to text graph node way point.npc ≡ by_kind way
+      → home_of (node_after graph node (edge_from graph node way ++ []))
+      ≡ node_of b (word_at text point.npc)
+  along node point way h e plain =
+      ap home_of (along_to node point way h e plain)
+      ∙ home_directed opens node way (node_of b (word_at text point.npc))
+      ∙ home_of_node b (word_at text point.npc)
+
+  -- where another way leads
+  pub way_leads : (node : Node) (point : Point) (way : EdgeKind) → IsOnItsWay text graph node point way
+      → same_kind way kinds.Out ≡ false
+      → node_after graph node (slot_left text graph node way point.npc)
+      ≡ directed opens node way (node_of b (word_at text point.npc))
+  way_leads node point kinds.Out h e = absurd (cc)
+  way_leads node point kinds.Fall h e = along_to node point kinds.Fall h e refl
+  way_leads node point kinds.Taken h e = along_to node point kinds.Taken h e refl
+  way_leads node point kinds.Untaken h e = along_to node point kinds.Untaken h e refl
+  way_leads node point kinds.Call h e = along_to node point kinds.Call h e refl
+  way_leads node point kinds.Land h e = along_to node point kinds.Land h e refl
+  way_leads node point kinds.Case h e = along_to node point kinds.Case h e refl
+
+  -- where a jump lands, by case or not
+  pub jump_lands : (node : Node) (point : Point) → IsOnItsWay text graph node point kinds.Out
+      → node_after graph node (slot_left text graph node kinds.Out point.npc) ≡ lands_of b opens (word_at text point.npc)
+  jump_lands node point h = by (has_cases opens node) refl
+    where
+      by : (x : Bool) → has_cases opens node ≡ x
+          → node_after graph node (slot_left text graph node kinds.Out point.npc)
+          ≡ lands_of b opens (word_at text point.npc)
+      by true e =
+          let way : WayOut = record { kind = kinds.Case; to = Some (lands_of b opens (word_at text point.npc)) } in
+          let is : way_to text graph node kinds.Out point.npc ≡ way =
+          ap (λ (x : Bool). if x then way else by_kind kinds.Out) e in
+          ap (λ (w : WayOut). node_after graph node (left_along text graph node w point.npc)) is
+          ∙ ap (node_after graph node) (append-nil (edge_along graph node way))
+          ∙ leads_along graph node _ h.edge
+          (record { number = h.number; only = ap (edge_along graph node) (sym is) ∙ h.only; is = h.is })
+          ∙ h.lands_at refl
+          ∙ ap (λ (x : Bool). if x then lands_of b opens (word_at text point.npc) else X) e
+      by false e =
+          let is : way_to text graph node kinds.Out point.npc ≡ by_kind kinds.Out =
+          ap (λ (x : Bool). if x then record { kind = kinds.Case; to = Some (lands_of b opens (word_at text point.npc)) } else by_kind kinds.Out) e in
+          let landings = landed text graph kinds.Out point.npc in
+          ap (λ (w : WayOut). node_after graph node (left_along text graph node w point.npc)) is
+          ∙ ap (λ numbers. node_after graph node (numbers ++ landings)) (ap (edge_along graph node) (sym is) ∙ h.only)
+          ∙ ap (λ o. node_after graph (led_to node o) landings) h.is
+          ∙ ap (λ to. node_after graph to landings)
+          (h.lands_at refl ∙ ap (λ (x : Bool). if x then lands_of b opens (word_at text point.npc) else X) e)
+          ∙ landed_out point.npc (word_at text point.npc) refl
+
   pub out_of_slot : (node : Node) (point : Point) (way : EdgeKind)
-      → IsOnItsWay text (graph_of b) node point way → GoesOut node way point.npc
+      → IsOnItsWay text graph node point way → GoesOut node way point.npc
   out_of_slot node point kinds.Out h =
-      let landings = landed text (graph_of b) kinds.Out point.npc in
-      ap (λ numbers. node_after (graph_of b) node (numbers ++ landings)) h.only
-      ∙ ap (λ o. node_after (graph_of b) (led_to node o) landings) h.is
-      ∙ ap (λ to. node_after (graph_of b) to landings)
-      (out_to b node h.edge (record { number = h.number; only = h.only; is = h.is }))
-      ∙ landed_out point.npc (word_at text point.npc) refl
-  out_of_slot node point kinds.Fall h = along node point kinds.Fall h refl
-  out_of_slot node point kinds.Taken h = along node point kinds.Taken h refl
-  out_of_slot node point kinds.Untaken h = along node point kinds.Untaken h refl
-  out_of_slot node point kinds.Call h = along node point kinds.Call h refl
-  out_of_slot node point kinds.Land h = along node point kinds.Land h refl
+      ap home_of (jump_lands node point h) ∙ home_lands b opens (word_at text point.npc)
+  out_of_slot node point kinds.Fall h = along node point kinds.Fall h refl refl
+  out_of_slot node point kinds.Taken h = along node point kinds.Taken h refl refl
+  out_of_slot node point kinds.Untaken h = along node point kinds.Untaken h refl refl
+  out_of_slot node point kinds.Call h = along node point kinds.Call h refl refl
+  out_of_slot node point kinds.Land h = along node point kinds.Land h refl refl
+  out_of_slot node point kinds.Case h = along node point kinds.Case h refl refl

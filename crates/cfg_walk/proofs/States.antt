@@ -1,5 +1,5 @@
 -- The walk follows each step of the machine.
-use Rattle.std.proofs.Common.{◌≡◌, ◌≢◌, ℕ, ◌+◌, ◌-◌, ◌%◌, ◌^◌, Bool, true, false, not, ◌==◌, Option, Some, None, refl, ap, sym, ◌∙◌, subst, arith, slice_index}
+use Rattle.std.proofs.Common.{◌≡◌, ◌≢◌, ℕ, ◌+◌, ◌-◌, ◌%◌, ◌^◌, List, Bool, true, false, not, ◌==◌, Option, Some, None, refl, ap, sym, ◌∙◌, subst, arith, slice_index}
 use Rattle.std.specs.Prelude.{ℤ}
 use Rattle.std.specs.Option.{option_map}
 use Rattle.std.proofs.lemmas.Bool.{cond_both}
@@ -25,9 +25,11 @@ use Rattle.cfg_blocks.specs.Ends.{always}
 use Rattle.cfg_blocks.specs.Blocks.{Blocks}
 use Rattle.cfg_blocks.specs.declared.EdgeKind.{EdgeKind}
 use Rattle.cfg_normal.specs.declared.Node.{Node}
-use Rattle.cfg_normal.specs.Graph.{Graph, graph_of, node_of}
+use Rattle.cfg_normal.specs.Nodes.{home_of}
+use Rattle.cfg_normal.specs.Opens.{Open}
+use Rattle.cfg_normal.specs.Graph.{Graph, IsNodeIn, graph_of, node_of}
 use Rattle.cfg_walk.specs.Walk.{point_of, instr_at, node_after, slot_left, way_of}
-use Rattle.cfg_walk.specs.Matches.{FetchesOnly, IsOnItsWay, MatchesBy, Matches}
+use Rattle.cfg_walk.specs.Matches.{AreOpen, FetchesOnly, GoesByCase, IsOnItsWay, MatchesBy, Matches}
 use Rattle.cfg_walk.proofs.Cut.{IsCut}
 use Rattle.cfg_blocks.proofs.Targets.{word_at-some}
 use Rattle.cfg_walk.proofs.Slots.{out_of_slot}
@@ -63,7 +65,30 @@ couples x s (i.Jmpl rd rs1 op2) h e t =
     ap (λ y. (unless_couple y s (jump_step s rd (sum_of s rs1 op2))).ending) e ∙ coupled x s _ h
 couples x s _ h e t = absurd (cc)
 
-module _ (text : Words) (is : IsText text) (b : Blocks) (c : IsCut text b) (node : Node) (s : State) where
+-- a step out of a slot goes on where the transfer before leads
+pub out_goes : (s : State) → (step_of s).ending ≡ None → s.slot ≢ NoSlot → (step_of s).pc ≡ s.npc
+unfolding step_of
+out_goes s live in_slot = by s.ending refl (fetch_of s.memory s.pc) refl live
+  where
+    acts : (instr : Instr) → (act s instr).ending ≡ None → (act s instr).pc ≡ s.npc
+    acts instr live = at (is_transfer instr) refl s.slot refl
+      where
+        at : (t : Bool) → is_transfer instr ≡ t → (x : Slot) → s.slot ≡ x → (act s instr).pc ≡ s.npc
+        at false f x e = (goes_act s instr f live).0
+        at true f NoSlot e = absurd (in_slot e)
+        at true f Taken e =
+            let ended : (act s instr).ending ≡ Some Couple = couples Taken s instr (λ g. absurd (cc)) e f in absurd (cc)
+        at true f Untaken e =
+            let ended : (act s instr).ending ≡ Some Couple = couples Untaken s instr (λ g. absurd (cc)) e f in absurd (cc)
+
+    by : (x : Option Ending) → s.ending ≡ x → (o : Option ℕ) → fetch_of s.memory s.pc ≡ o
+        → (unless_ended s x (on_word s o)).ending ≡ None → (unless_ended s x (on_word s o)).pc ≡ s.npc
+    by None e (Some word) f live = acts (decode_of word) live
+    by None e None f live = absurd (cc)
+    by (Some ending) e o f live = let ended : s.ending ≡ None = live in absurd (cc)
+
+module _ (text : Words) (is : IsText text) (b : Blocks) (opens : List Open) (c : IsCut text b) (are : AreOpen b opens)
+    (node : Node) (there : IsNodeIn b opens node) (s : State) where
   -- ---- in a slot
 
   -- the way of the transfer before
@@ -71,7 +96,7 @@ module _ (text : Words) (is : IsText text) (b : Blocks) (c : IsCut text b) (node
   way_in x = way_of (instr_at text (s.pc - 4)) x
 
   abbrev graph : Graph
-  graph = graph_of b
+  graph = graph_of b opens
 
   -- a step to npc, out of the slot
   leaves : (x : Slot) → x ≢ NoSlot → s.slot ≡ x → (t : State)
@@ -81,11 +106,11 @@ module _ (text : Words) (is : IsText text) (b : Blocks) (c : IsCut text b) (node
   leaves x not e t way pc npc slot = at_slots text graph node s t x NoSlot e slot (by x not way)
     where
       led : (k : EdgeKind) → IsOnItsWay text graph node (point_of s) k
-          → node_after graph node (slot_left text graph node k t.pc) ≡ node_of b (word_at text t.pc)
+          → home_of (node_after graph node (slot_left text graph node k t.pc)) ≡ node_of b (word_at text t.pc)
       led k way =
-          let out : node_after graph node (slot_left text graph node k s.npc)
+          let out : home_of (node_after graph node (slot_left text graph node k s.npc))
           ≡ node_of b (word_at text s.npc) =
-          out_of_slot text b c node (point_of s) k way in
+          out_of_slot text b opens c node (point_of s) k way in
           rw pc out
 
       next : t.npc ≡ (t.pc + 4) % 2 ^ 32
@@ -113,7 +138,11 @@ module _ (text : Words) (is : IsText text) (b : Blocks) (c : IsCut text b) (node
   -- ---- outside
 
   module _ (e : s.slot ≡ NoSlot) (word : ℕ) where
-    straight : (instr : Instr) → Stands text b node (point_of s) word instr → is_transfer instr ≡ false
+    -- a jump that goes by case leads to a word of the table
+    abbrev ByCase : State → Type 0
+    ByCase t = GoesByCase text opens node (point_of s) (point_of t)
+
+    straight : (instr : Instr) → Stands text b opens node (point_of s) word instr → is_transfer instr ≡ false
         → (act s instr).ending ≡ None → GoesTo text graph node s (act s instr)
     straight instr h f live =
         let t : State = act s instr in
@@ -122,7 +151,7 @@ module _ (text : Words) (is : IsText text) (b : Blocks) (c : IsCut text b) (node
         (straight_step h (point_of t) f went.0 (went.1 ∙ ap (λ a. wrapped (a + 4)) (sym went.0)))
 
     branch : (cond : ℕ) (annul : Bool) (disp22 : ℤ) (holds all : Bool)
-        → Stands text b node (point_of s) word (i.Branch cond annul disp22)
+        → Stands text b opens node (point_of s) word (i.Branch cond annul disp22)
         → holds_of cond s.codes ≡ holds → (cond == always) ≡ all
         → GoesTo text graph node s (branched holds all annul s (target_of s disp22))
     branch cond true disp22 true true h holds all =
@@ -151,49 +180,50 @@ module _ (text : Words) (is : IsText text) (b : Blocks) (c : IsCut text b) (node
         at_slots text graph node s t NoSlot Untaken e refl
         (untaken_delayed cond false disp22 s.codes h (point_of t) holds refl refl refl)
 
-    jump : (rd rs1 : ℕ) (op2 : Op2) → Stands text b node (point_of s) word (i.Jmpl rd rs1 op2)
-        → (jump_step s rd (sum_of s rs1 op2)).ending ≡ None
+    jump : (rd rs1 : ℕ) (op2 : Op2) → Stands text b opens node (point_of s) word (i.Jmpl rd rs1 op2)
+        → ByCase (jump_step s rd (sum_of s rs1 op2)) → (jump_step s rd (sum_of s rs1 op2)).ending ≡ None
         → GoesTo text graph node s (jump_step s rd (sum_of s rs1 op2))
     unfolding jump_step
     jump rd rs1 op2 h =
         cond_both (sum_of s rs1 op2 % 4 == 0) _ _
-        (λ (t : State). t.ending ≡ None → GoesTo text graph node s t)
-        (λ _ live.
+        (λ (t : State). ByCase t → t.ending ≡ None → GoesTo text graph node s t)
+        (λ _ goes live.
         let t : State = delayed (with_register s rd s.pc) (sum_of s rs1 op2) in
         at_slots text graph node s t NoSlot Taken e refl
-        (jump_delayed rd rs1 op2 (point_of t) h refl refl))
-        (λ _ live. absurd (cc))
+        (jump_delayed rd rs1 op2 (point_of t) h refl refl (λ cased. goes cased e refl)))
+        (λ _ goes live. absurd (cc))
 
-    outside : (instr : Instr) → Stands text b node (point_of s) word instr
+    outside : (instr : Instr) → Stands text b opens node (point_of s) word instr → ByCase (act s instr)
         → (act s instr).ending ≡ None → GoesTo text graph node s (act s instr)
     unfolding act branch_step call_step
-    outside (i.Branch cond annul disp22) h live =
+    outside (i.Branch cond annul disp22) h goes live =
         let t : State = branch_step s cond annul disp22 in
         subst (λ (x : Slot). GoesTo text graph node s (unless_couple x s t)) (sym e)
         (branch cond annul disp22 (holds_of cond s.codes) (cond == 8) h refl refl)
-    outside (i.Call disp30) h live =
+    outside (i.Call disp30) h goes live =
         let t : State = call_step s disp30 in
         subst (λ (x : Slot). GoesTo text graph node s (unless_couple x s t)) (sym e)
         (at_slots text graph node s t NoSlot Taken e refl
         (call_delayed disp30 (point_of t) h refl refl))
-    outside (i.Jmpl rd rs1 op2) h live =
+    outside (i.Jmpl rd rs1 op2) h goes live =
         let t : State = jump_step s rd (sum_of s rs1 op2) in
-        subst (λ (x : Slot). (unless_couple x s t).ending ≡ None
-        → GoesTo text graph node s (unless_couple x s t)) (sym e) (jump rd rs1 op2 h) live
-    outside instr h live = straight instr h refl live
+        subst (λ (x : Slot). ByCase (unless_couple x s t) → (unless_couple x s t).ending ≡ None
+        → GoesTo text graph node s (unless_couple x s t)) (sym e) (jump rd rs1 op2 h) goes live
+    outside instr h goes live = straight instr h refl live
 
   -- ---- a step
 
   pub goes_on : s.ending ≡ None → FetchesOnly text s → Matches text graph node (point_of s)
-      → (step_of s).ending ≡ None → GoesTo text graph node s (step_of s)
+      → GoesByCase text opens node (point_of s) (point_of (step_of s)) → (step_of s).ending ≡ None → GoesTo text graph node s (step_of s)
   unfolding step_of
-  goes_on live fetches m after = by (word_at text s.pc) refl
+  goes_on live fetches m goes after = by (word_at text s.pc) refl
     where
       acts : (word : ℕ) → word_at text s.pc ≡ Some word → (x : Slot) → s.slot ≡ x
           → MatchesBy text graph node (point_of s) x
+          → GoesByCase text opens node (point_of s) (point_of (act s (decode_of (slice_index text.words word))))
           → (act s (decode_of (slice_index text.words word))).ending ≡ None
           → GoesTo text graph node s (act s (decode_of (slice_index text.words word)))
-      acts word at NoSlot e m live' =
+      acts word at NoSlot e m goes' live' =
           outside e word (decode_of (slice_index text.words word))
           (record {
             text_is = is;
@@ -201,10 +231,12 @@ module _ (text : Words) (is : IsText text) (b : Blocks) (c : IsCut text b) (node
             is = word_at-some text s.pc word at;
             npc = m.1;
             decodes = refl;
+            are = are;
+            there = there;
             held = m.0;
-          }) live'
-      acts word at Taken e m live' = inside Taken (λ f. absurd (cc)) e _ m live'
-      acts word at Untaken e m live' = inside Untaken (λ f. absurd (cc)) e _ m live'
+          }) goes' live'
+      acts word at Taken e m goes' live' = inside Taken (λ f. absurd (cc)) e _ m live'
+      acts word at Untaken e m goes' live' = inside Untaken (λ f. absurd (cc)) e _ m live'
 
       by : (o : Option ℕ) → word_at text s.pc ≡ o → GoesTo text graph node s (step_of s)
       by None e =
@@ -221,4 +253,5 @@ module _ (text : Words) (is : IsText text) (b : Blocks) (c : IsCut text b) (node
           let went : step_of s ≡ act s (decode_of (slice_index text.words word)) =
           live_step s (slice_index text.words word) live some in
           subst (λ (t : State). GoesTo text graph node s t) (sym went)
-          (acts word e s.slot refl m (ap (λ (t : State). t.ending) (sym went) ∙ after))
+          (acts word e s.slot refl m
+          (subst (λ (t : State). GoesByCase text opens node (point_of s) (point_of t)) went goes) (ap (λ (t : State). t.ending) (sym went) ∙ after))

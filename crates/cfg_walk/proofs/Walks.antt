@@ -11,12 +11,13 @@ use Rattle.v8_step.proofs.Executable.{code_stays}
 use Rattle.v8_step.proofs.Follows.{stays_ended}
 use Rattle.cfg_blocks.specs.Ends.{within}
 use Rattle.cfg_blocks.specs.Blocks.{blocks_of}
-use Rattle.cfg_normal.specs.declared.Node.{Node}
+use Rattle.cfg_normal.specs.Opens.{Open}
 use Rattle.cfg_normal.specs.Graph.{Graph, graph_of, node_of}
-use Rattle.cfg_walk.specs.Walk.{Point, point_of, end_of_walk, gone, node_after, unless_ended}
-use Rattle.cfg_walk.specs.Matches.{BeginsAt, FetchesOnly, Matches, MatchesBy, WalksMatch}
+use Rattle.cfg_walk.specs.Walk.{Point, point_of, end_of_walk, gone, goes_on_at, node_after, unless_ended}
+use Rattle.cfg_walk.specs.Matches.{AreOpen, BeginsAt, FetchesOnly, JumpsGoByCase, Matches, MatchesBy, MatchesRun, StepsMatch, WalksMatch}
 use Rattle.cfg_walk.proofs.Cut.{cut}
 use Rattle.cfg_walk.proofs.Addresses.{word_at-address}
+use Rattle.cfg_walk.proofs.Nodes.{after_in, home_of_node, node_in}
 use Rattle.cfg_walk.proofs.States.{goes_on}
 
 -- a state that steps to a live one is live
@@ -27,34 +28,42 @@ live_before s live = by s.ending refl
     by None e = e
     by (Some ending) e = ap (λ (t : State). t.ending) (sym (stays_ended s ending e)) ∙ live
 
-module _ (text : Words) (given : List ℕ) (entry : ℕ) (s0 : State) (is : IsText text)
-    (fetches : FetchesOnly text s0) (begins : BeginsAt text entry s0) where
-  abbrev graph : Graph
-  graph = graph_of (blocks_of text given)
+pub steps_match : StepsMatch
+steps_match text given opens node s is are fetches there live m goes after =
+    let b = blocks_of text given in
+    let c = cut text given is.some in
+    let went = goes_on text is b opens c are node there s live fetches m goes after in (
+      subst (λ (o : Option Point).
+          Matches text (graph_of b opens) (node_after (graph_of b opens) node (gone text (graph_of b opens) node (point_of s) o))
+          (point_of (step_of s)))
+          (sym (ap (λ (x : Option Ending). unless_ended x (point_of (step_of s))) after)) went,
+      after_in b opens c.firsts.some node (gone text (graph_of b opens) node (point_of s) (goes_on_at (step_of s))) there,
+    )
 
-  first : Matches text graph (node_of graph.blocks (Some entry)) (point_of s0)
+module _ (text : Words) (given : List ℕ) (opens : List Open) (entry : ℕ) (s0 : State) (is : IsText text)
+    (fetches : FetchesOnly text s0) (begins : BeginsAt text entry s0) (are : AreOpen (blocks_of text given) opens) where
+  abbrev graph : Graph
+  graph = graph_of (blocks_of text given) opens
+
+  pub first : Matches text graph (node_of graph.blocks (Some entry)) (point_of s0)
   first =
       let inside : within (length text.words) entry ≡ Some entry = rw (lt-ltb _ _ begins.within) in
       subst (λ (x : Slot). MatchesBy text graph (node_of graph.blocks (Some entry)) (point_of s0) x)
       (sym begins.slot) (
-        ap (node_of graph.blocks) (sym (ap (word_at text) begins.pc ∙ word_at-address text entry ∙ inside)),
+        home_of_node graph.blocks (Some entry)
+            ∙ ap (node_of graph.blocks) (sym (ap (word_at text) begins.pc ∙ word_at-address text entry ∙ inside)),
         omega (arith, begins.pc, begins.npc, is.below, begins.within),
       )
 
-  matches : (n : ℕ) → (run s0 n).ending ≡ None
-      → Matches text graph (end_of_walk text graph entry s0 n) (point_of (run s0 n))
+  matches : JumpsGoByCase text graph entry s0 → (n : ℕ) → MatchesRun text graph entry s0 n
   unfolding end_of_walk
-  matches zero live = first
-  matches (suc n) live =
-      let s : State = run s0 n in
-      let node : Node = end_of_walk text graph entry s0 n in
-      let before : s.ending ≡ None = live_before s live in
-      let went = goes_on text is (blocks_of text given) (cut text given is.some) node s before
-      (λ a. code_stays.1 s0 n a ∙ fetches a) (matches n before) live in
-      subst (λ (o : Option Point).
-      Matches text graph (node_after graph node (gone text graph node (point_of s) o)) (point_of (step_of s)))
-      (sym (ap (λ (x : Option Ending). unless_ended x (point_of (step_of s))) live)) went
+  matches goes zero live = (first, node_in graph.blocks opens (cut text given is.some).firsts.some (Some entry))
+  matches goes (suc n) live =
+      let before = live_before (run s0 n) live in
+      let m = matches goes n before in
+      steps_match text given opens (end_of_walk text graph entry s0 n) (run s0 n) is are
+      (λ a. code_stays.1 s0 n a ∙ fetches a) m.1 before m.0 (goes n live) live
 
 pub walks_match : WalksMatch
-walks_match text given entry s0 n is fetches begins live =
-    matches text given entry s0 is fetches begins n live
+walks_match text given opens entry s0 n is fetches begins are goes =
+    matches text given opens entry s0 is fetches begins are goes n

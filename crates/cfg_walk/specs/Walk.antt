@@ -19,8 +19,9 @@ use Rattle.cfg_blocks.specs.declared.EdgeKind.{EdgeKind}
 use Rattle.cfg_blocks.specs.declared.EdgeKind.TheVariants as kinds
 use Rattle.cfg_normal.specs.declared.Edge.{Edge}
 use Rattle.cfg_normal.specs.declared.Node.{Node}
-use Rattle.cfg_normal.specs.declared.Node.TheVariants.{Block, X}
-use Rattle.cfg_normal.specs.Graph.{Graph, node_of}
+use Rattle.cfg_normal.specs.declared.Node.TheVariants.{Block, Landed, X}
+pub use Rattle.cfg_normal.specs.Nodes.{same_kind, same_node}
+use Rattle.cfg_normal.specs.Graph.{Graph, has_cases, lands, node_of}
 
 -- ---- where a machine stands: the instruction, the next one, and whether the first is in a slot
 
@@ -40,21 +41,7 @@ unless_ended (Some ending) point = None
 abbrev pub goes_on_at : State → Option Point
 goes_on_at s = unless_ended s.ending (point_of s)
 
--- ---- nodes and edges by what they are
-
-abbrev pub same_node : Node → Node → Bool
-same_node (Block one) (Block other) = one.0 == other.0
-same_node X X = true
-same_node _ _ = false
-
-abbrev pub same_kind : EdgeKind → EdgeKind → Bool
-same_kind kinds.Fall kinds.Fall = true
-same_kind kinds.Taken kinds.Taken = true
-same_kind kinds.Untaken kinds.Untaken = true
-same_kind kinds.Call kinds.Call = true
-same_kind kinds.Out kinds.Out = true
-same_kind kinds.Land kinds.Land = true
-same_kind _ _ = false
+-- ---- ways out of nodes
 
 -- A way out of a node: the kind of its edge, and the node to which it leads where a node has several edges of the kind.
 pub record WayOut : Type 0 where
@@ -72,7 +59,8 @@ leads_along (Some node) edge = same_node edge.to node
 -- the number of the edge along which a way leaves a node
 abbrev pub edge_along : Graph → Node → WayOut → List ℕ
 edge_along graph node way =
-    option_to_list (position (λ edge. leads_along way.to edge && (same_node edge.from node && same_kind edge.kind way.kind)) graph.edges)
+    option_to_list (position
+    (λ edge. leads_along way.to edge && (same_node edge.from node && same_kind edge.kind way.kind)) graph.edges)
 
 -- the edge of a kind of which the node has one
 abbrev pub edge_from : Graph → Node → EdgeKind → List ℕ
@@ -99,6 +87,8 @@ way_of _ _ = kinds.Taken
 abbrev pub ends_block : Graph → Node → ℕ → Bool
 ends_block graph (Block block) word =
     word == last_word graph.blocks.firsts graph.blocks.words block.0
+ends_block graph (Landed block) word =
+    word == last_word graph.blocks.firsts graph.blocks.words block.0
 ends_block graph X word = false
 
 -- An instruction was left without a slot: a branch annulled it, which completes its edge, or it is the last of its
@@ -113,22 +103,30 @@ left_at text graph node None = []
 left_at text graph node (Some word) =
     left_by graph node word (decode_of (slice_index text.words word))
 
--- after a jump the landing at the block of the word to which it led
+-- after a jump the landing at the node of the word to which it led
 abbrev pub landed : Words → Graph → EdgeKind → ℕ → List ℕ
 landed text graph kinds.Out address = if_there (word_at text address)
   where
     if_there : Option ℕ → List ℕ
     if_there None = []
-    if_there (Some word) = landing_at graph (node_of graph.blocks (Some word))
+    if_there (Some word) = landing_at graph (lands graph (Some word))
 landed text graph _ address = []
 
--- the way that a transfer of a kind goes, where control goes on at an address
-abbrev pub way_to : EdgeKind → ℕ → WayOut
-way_to kind next = by_kind kind
+-- The way that a transfer of a kind goes, where control goes on at an address: a jump that has Case edges goes along
+-- that to the node at which it lands.
+abbrev pub way_to : Words → Graph → Node → EdgeKind → ℕ → WayOut
+way_to text graph node kinds.Out next =
+    if has_cases graph.opens node
+    then record { kind = kinds.Case; to = Some (lands graph (word_at text next)) } else by_kind kinds.Out
+way_to text graph node kind next = by_kind kind
+
+-- along such a way, and to a landing after it
+abbrev pub left_along : Words → Graph → Node → WayOut → ℕ → List ℕ
+left_along text graph node way next = edge_along graph node way ++ landed text graph way.kind next
 
 -- the step of a slot completes the edge of the transfer before it
 abbrev pub slot_left : Words → Graph → Node → EdgeKind → ℕ → List ℕ
-slot_left text graph node kind next = edge_along graph node (way_to kind next) ++ landed text graph kind next
+slot_left text graph node kind next = left_along text graph node (way_to text graph node kind next) next
 
 -- a step from a point, with what was the slot before and is afterwards
 abbrev pub completed : Words → Graph → Node → Point → Point → Slot → Slot → List ℕ

@@ -1,4 +1,5 @@
 pub mod Profile
+pub mod NodeMarks
 pub mod Rules
 pub mod TheFlow
 pub mod Values

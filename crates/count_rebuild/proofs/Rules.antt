@@ -1,10 +1,10 @@
 -- What the notes' rules and lists say of their graph.
-use Rattle.std.proofs.Common.{◌≡◌, ℕ, ◌+◌, ◌<◌, ◌≤◌, Bool, true, false, ◌&&◌, ◌||◌, cond, List, [], ◌∷◌, length, map, nat_le, nat_lt, Option, Some, None, refl, ap, sym, ◌∙◌, arith}
+use Rattle.std.proofs.Common.{◌≡◌, ℕ, zero, suc, ◌+◌, ◌*◌, ◌<◌, ◌≤◌, Bool, true, false, ◌&&◌, ◌||◌, cond, List, [], ◌∷◌, get_or, length, map, nat_le, nat_lt, Option, Some, None, refl, ap, sym, ◌∙◌, arith}
 use Rattle.std.specs.Prelude.{IfSome, ℤ, if◌then◌else◌}
 use Rattle.std.specs.List.{All, find, list_any}
 use Rattle.std.specs.Option.{option_map, option_or}
 use Rattle.std.proofs.Math.ListN.{get_or-map}
-use Rattle.std.proofs.lemmas.Bool.{and_parts, cond_both, leb-true}
+use Rattle.std.proofs.lemmas.Bool.{and_parts, cond_both, eq-eqb, le-leb, leb-true, or_left, or_right}
 use Rattle.std.proofs.lemmas.List.{length-map}
 use Rattle.std.proofs.lemmas.List.Elements.{All-cons, All-head, All-nil, All-tail}
 use Rattle.elf32_sparc.specs.Notes.{NoteEdge, NoteRange, NoteSegment, Notes, holds, node_at, range_at}
@@ -20,7 +20,7 @@ use Rattle.notes.specs.Seen.{edge_seen, notes_seen, range_seen, segment_seen}
 use Rattle.notes.specs.declared.note.NoteEdge as declared_edge
 use Rattle.notes.specs.declared.note.Notes as declared_notes
 use Rattle.count_rebuild.specs.Counts.{cell_value}
-use Rattle.count_rebuild.specs.Noted.{edge_at, has_cell, is_counted, link_of, no_edge, noted_graph}
+use Rattle.count_rebuild.specs.Noted.{edge_at, ends_at, has_cell, is_counted, is_node, lies_at, link_of, no_edge, noted_graph}
 
 -- ---- lists that are made of the edges
 
@@ -31,19 +31,19 @@ map-map {C = C} f g (x ∷ xs) = ap (λ (ys : List C). g (f x) ∷ ys) (map-map 
 pub links_seen : (edges : List declared_edge.NoteEdge) → map link_of (map edge_seen edges) ≡ map (λ edge. link_of (edge_seen edge)) edges
 links_seen edges = map-map edge_seen link_of edges
 
-noted_is : (notes : Notes) → graph_of (length notes.blocks + 1) (map link_of notes.edges) ≡ noted_graph notes
+noted_is : (notes : Notes) → graph_of (2 * length notes.blocks + 1) (map link_of notes.edges) ≡ noted_graph notes
 noted_is notes = λ i. record {
-  nodes = length notes.blocks + 1;
+  nodes = 2 * length notes.blocks + 1;
   edges = length-map notes.edges link_of i;
   from = λ e. ap (λ (l : Link). l.from) (get_or-map link_of notes.edges e no_edge) i;
   to = λ e. ap (λ (l : Link). l.to) (get_or-map link_of notes.edges e no_edge) i;
 }
 
-pub graph_is : (n : declared_notes.Notes) (count : ℕ) (links : List Link) → count ≡ length n.blocks.items + 1
+pub graph_is : (n : declared_notes.Notes) (count : ℕ) (links : List Link) → count ≡ 2 * length n.blocks.items + 1
     → links ≡ map (λ edge. link_of (edge_seen edge)) n.edges.items → graph_of count links ≡ noted_graph (notes_seen n)
 graph_is n count links nodes are =
     ap (λ (count : ℕ). graph_of count links) nodes
-    ∙ ap (graph_of (length n.blocks.items + 1)) (are ∙ sym (map-map edge_seen link_of n.edges.items))
+    ∙ ap (graph_of (2 * length n.blocks.items + 1)) (are ∙ sym (map-map edge_seen link_of n.edges.items))
     ∙ noted_is (notes_seen n)
 
 pub counted_is : (n : declared_notes.Notes) (counted : List Bool)
@@ -81,22 +81,37 @@ same_nodes g p q t same h = record {
 
 pub edges_inside : (blocks cells : ℕ) (taken : List ℕ) (edges : List NoteEdge)
     → are_edges blocks cells taken edges ≡ true
-    → All (λ (edge : NoteEdge). (edge.from ≤ blocks) × (edge.to ≤ blocks)) edges
-edges_inside blocks cells taken [] h = All-nil (λ (edge : NoteEdge). (edge.from ≤ blocks) × (edge.to ≤ blocks))
+    → All (λ (edge : NoteEdge). (edge.from ≤ 2 * blocks) × (edge.to ≤ 2 * blocks)) edges
+edges_inside blocks cells taken [] h = All-nil (λ (edge : NoteEdge). (edge.from ≤ 2 * blocks) × (edge.to ≤ 2 * blocks))
 edges_inside blocks cells taken (edge ∷ edges) h =
     let parts = and_parts (is_edge blocks cells taken edge) _ h in
     let ends = and_parts _ _ (and_parts _ _ parts.0).0 in
-    All-cons (λ (edge : NoteEdge). (edge.from ≤ blocks) × (edge.to ≤ blocks)) edge edges
-    (leb-true edge.from blocks (and_parts _ _ ends.0).1, leb-true edge.to blocks ends.1)
+    All-cons (λ (edge : NoteEdge). (edge.from ≤ 2 * blocks) × (edge.to ≤ 2 * blocks)) edge edges
+    (leb-true edge.from (2 * blocks) (and_parts _ _ ends.0).1, leb-true edge.to (2 * blocks) ends.1)
     (edges_inside blocks cells (with_cell edge.cell taken) edges parts.1)
 
 ranges_inside : (blocks : ℕ) (segments : List NoteSegment) (end : ℕ) (ranges : List NoteRange)
-    → are_ranges blocks segments end ranges ≡ true → All (λ (range : NoteRange). range.node ≤ blocks) ranges
-ranges_inside blocks segments end [] h = All-nil (λ (range : NoteRange). range.node ≤ blocks)
+    → are_ranges blocks segments end ranges ≡ true → All (λ (range : NoteRange). range.node ≤ 2 * blocks) ranges
+ranges_inside blocks segments end [] h = All-nil (λ (range : NoteRange). range.node ≤ 2 * blocks)
 ranges_inside blocks segments end (range ∷ ranges) h =
     let parts = and_parts (is_range blocks segments end range) _ h in
-    All-cons (λ (range : NoteRange). range.node ≤ blocks) range ranges
-    (leb-true range.node blocks (and_parts _ _ parts.0).1) (ranges_inside blocks segments range.hi ranges parts.1)
+    All-cons (λ (range : NoteRange). range.node ≤ 2 * blocks) range ranges
+    (leb-true range.node (2 * blocks) (and_parts _ _ parts.0).1) (ranges_inside blocks segments range.hi ranges parts.1)
+
+-- ---- ends of edges and nodes of places are nodes
+
+any_at : {X : Type 0} (p : X → Bool) (xs : List X) (i : ℕ) (d : X) → i < length xs → p (get_or xs i d) ≡ true
+    → list_any p xs ≡ true
+any_at p [] i d l h = absurd (omega arith)
+any_at p (x ∷ xs) zero d l h = or_left _ _ h
+any_at p (x ∷ xs) (suc i) d l h = or_right _ _ (any_at p xs i d (omega (arith, l)) h)
+
+pub edge_named : (notes : Notes) (node k : ℕ) (d : NoteEdge) → k < length notes.edges
+    → ends_at node (get_or notes.edges k d) ≡ true → is_node notes node ≡ true
+edge_named notes node k d l h = or_left _ _ (or_right _ _ (any_at (ends_at node) notes.edges k d l h))
+
+pub block_is_node : (notes : Notes) (node : ℕ) → node ≤ length notes.blocks → is_node notes node ≡ true
+block_is_node notes node l = or_left _ _ (or_left _ _ (le-leb node (length notes.blocks) l))
 
 -- ---- where an address stands
 
@@ -106,21 +121,28 @@ IfSome-find P p (x ∷ xs) h =
     cond_both (p x) (Some x) (find p xs) (λ o. IfSome o P) (λ e. All-head P x xs h)
     (λ e. IfSome-find P p xs (All-tail P x xs h))
 
+abbrev IsInside : Notes → ℕ → Type 0
+IsInside notes node = (node ≤ 2 * length notes.blocks) × (is_node notes node ≡ true)
+
 pub node_inside : (notes : Notes) (address : ℕ)
     → are_ranges (length notes.blocks) notes.segments 0 notes.ranges ≡ true
-    → IfSome (node_at notes address) (λ node. node ≤ length notes.blocks)
+    → IfSome (node_at notes address) (IsInside notes)
 node_inside notes address h =
-    by (range_at notes address) (IfSome-find (λ (range : NoteRange). range.node ≤ length notes.blocks)
+    by (range_at notes address) (IfSome-find (λ (range : NoteRange). IsInside notes range.node)
     (λ range. nat_le range.lo address && nat_lt address range.hi) notes.ranges
-    (ranges_inside (length notes.blocks) notes.segments 0 notes.ranges h))
+    (λ k d l. (
+      ranges_inside (length notes.blocks) notes.segments 0 notes.ranges h k d l,
+      or_right _ _ (any_at (lies_at (get_or notes.ranges k d).node) notes.ranges k d l (eq-eqb _ _ refl)),
+    )))
   where
-    by : (o : Option NoteRange) → IfSome o (λ (range : NoteRange). range.node ≤ length notes.blocks)
+    by : (o : Option NoteRange) → IfSome o (λ (range : NoteRange). IsInside notes range.node)
         → IfSome (option_or (option_map (λ (range : NoteRange). range.node) o)
         (if list_any (holds address (address + 1)) notes.segments then None else Some (length notes.blocks)))
-        (λ node. node ≤ length notes.blocks)
+        (IsInside notes)
     by None h =
         cond_both (list_any (holds address (address + 1)) notes.segments) None (Some (length notes.blocks))
-        (λ o. IfSome o (λ node. node ≤ length notes.blocks)) (λ e. tt) (λ e. omega arith)
+        (λ o. IfSome o (IsInside notes)) (λ e. tt)
+        (λ e. (omega arith, block_is_node notes (length notes.blocks) (omega arith)))
     by (Some range) h = h
 
 find-map : {A B : Type 0} (p : B → Bool) (f : A → B) (xs : List A) → find p (map f xs) ≡ option_map f (find (λ x. p (f x)) xs)
@@ -132,7 +154,7 @@ find-map {A = A} {B = B} p f (x ∷ xs) = by (p (f x)) (find-map p f xs)
     by true h = refl
     by false h = h
 
-any-map : {A B : Type 0} (p : B → Bool) (f : A → B) (xs : List A) → list_any p (map f xs) ≡ list_any (λ x. p (f x)) xs
+pub any-map : {A B : Type 0} (p : B → Bool) (f : A → B) (xs : List A) → list_any p (map f xs) ≡ list_any (λ x. p (f x)) xs
 any-map p f [] = refl
 any-map p f (x ∷ xs) = ap (λ (c : Bool). p (f x) || c) (any-map p f xs)
 

@@ -1,5 +1,5 @@
 -- The rebuilt flow as the definitions have it.
-use Rattle.std.proofs.Common.{◌≡◌, ℕ, ◌<◌, ◌≤◌, not, List, length, map, ap, sym, ◌∙◌, subst}
+use Rattle.std.proofs.Common.{◌≡◌, ℕ, ◌*◌, ◌<◌, ◌≤◌, true, not, List, length, map, ap, sym, ◌∙◌, subst}
 use Rattle.std.specs.Prelude.{ℤ, IfSome, Option}
 use Rattle.elf32_sparc.specs.Notes.{Notes}
 use Rattle.flows.specs.Flows.{EdgeSet, Graph, IsTheFlow, rest}
@@ -19,7 +19,7 @@ use Rattle.count_rebuild.specs.declared.fault.CountFault.{CountFault}
 use Rattle.count_rebuild.specs.declared.fault.CountFault.TheVariants as faults
 use Rattle.count_rebuild.specs.Answers.{IsRefused}
 use Rattle.count_rebuild.specs.Counts.{IsFirstNegative, IsFlowTo, StandsAt, cell_counts, cell_value}
-use Rattle.count_rebuild.specs.Noted.{has_cell, link_of, noted_graph}
+use Rattle.count_rebuild.specs.Noted.{has_cell, is_node, link_of, noted_graph}
 use Rattle.count_rebuild.specs.Parts.{IsBelow, IsTreeOf}
 use Rattle.count_rebuild.proofs.Profile.{plain_is}
 use Rattle.count_rebuild.proofs.Rules.{node_inside, values_are}
@@ -52,9 +52,11 @@ flow_to n d links told tree node values flow are is held h =
 
 -- the node where the run stands is one of the graph's
 pub stands_inside : (n : declared_notes.Notes) (d : declared_dump.Dump) (node : ℕ) → AreNotes (notes_seen n)
-    → StandsAt (notes_seen n) (dump_seen d) node → node ≤ length n.blocks.items
+    → StandsAt (notes_seen n) (dump_seen d) node
+    → (node ≤ 2 * length n.blocks.items) × (is_node (notes_seen n) node ≡ true)
 stands_inside n d node rules h =
-    subst (λ (o : Option ℕ). IfSome o (λ node. node ≤ length n.blocks.items)) h.at
+    subst (λ (o : Option ℕ). IfSome o (λ node. (node ≤ 2 * length n.blocks.items) × (is_node (notes_seen n) node ≡ true)))
+    h.at
     (node_inside (notes_seen n) d.pc.0 rules.ranges)
 
 -- a flow that is below 0 somewhere is refused

@@ -1,9 +1,11 @@
 -- The graph that notes tell, and which of its edges are counted.
-use Rattle.std.specs.Prelude.{◌≡◌, ℕ, ◌+◌, Bool, length, slice_index_or, None}
+use Rattle.std.specs.Prelude.{◌≡◌, ℕ, ◌+◌, ◌*◌, ◌<◌, Bool, ◌||◌, ◌==◌, nat_le, List, length, slice_index_or, None}
+use Rattle.std.specs.List.{list_any}
 use Rattle.std.specs.Option.{is_some}
-use Rattle.elf32_sparc.specs.Notes.{NoteEdge, Notes}
-use Rattle.flows.specs.Flows.{EdgeSet, Graph, rest}
-use Rattle.flows.specs.Trees.{IsSpanningTree, all_nodes}
+use Rattle.elf32_sparc.specs.Notes.{NoteEdge, NoteRange, Notes}
+use Rattle.flows.specs.Flows.{EdgeSet, Graph, NodeSet, rest}
+use Rattle.flows.specs.Trees.{IsSpanningTree}
+use Rattle.flows.specs.Links.{marked}
 use Rattle.flows.specs.declared.Link.{Link}
 
 -- past the last edge, one from node 0 to itself that isn't counted
@@ -14,10 +16,27 @@ no_edge = record { kind = 0; from = 0; to = 0; cell = None }
 abbrev pub edge_at : Notes → ℕ → NoteEdge
 edge_at notes e = slice_index_or notes.edges e no_edge
 
--- The nodes are the blocks, and one more for all that lies outside.
+-- the number is an end of the edge, or the node of the place
+abbrev pub ends_at : ℕ → NoteEdge → Bool
+ends_at node edge = (edge.from == node) || (edge.to == node)
+
+abbrev pub lies_at : ℕ → NoteRange → Bool
+lies_at node range = range.node == node
+
+-- The nodes are the blocks, one more for all that lies outside, and the landed copies that an edge or a place names.
+abbrev pub is_node : Notes → NodeSet
+is_node notes node =
+    (nat_le node (length notes.blocks) || list_any (ends_at node) notes.edges) || list_any (lies_at node) notes.ranges
+
+-- the list has for each number whether it is a node
+pub record AreNodes (notes : Notes) (marks : List Bool) : Type 0 where
+  pub len : length marks ≡ 2 * length notes.blocks + 1
+  pub are : (node : ℕ) → node < length marks → marked marks node ≡ is_node notes node
+
+-- Numbers and edges; each block may have a landed copy.
 abbrev pub noted_graph : Notes → Graph
 noted_graph notes = record {
-  nodes = length notes.blocks + 1;
+  nodes = 2 * length notes.blocks + 1;
   edges = length notes.edges;
   from = λ e. (edge_at notes e).from;
   to = λ e. (edge_at notes e).to;
@@ -27,10 +46,10 @@ noted_graph notes = record {
 abbrev pub has_cell : Notes → EdgeSet
 has_cell notes = λ e. is_some (edge_at notes e).cell
 
--- notes of a profile: the edges that aren't counted are a spanning tree of all nodes
+-- notes of a profile: the edges that aren't counted are a spanning tree of the nodes
 pub record IsProfile (notes : Notes) : Type 0 where
   pub tool : notes.tool ≡ 1
-  pub tree : IsSpanningTree (noted_graph notes) all_nodes (rest (has_cell notes))
+  pub tree : IsSpanningTree (noted_graph notes) (is_node notes) (rest (has_cell notes))
 
 -- the graph as a list, and its edges' cells
 abbrev pub link_of : NoteEdge → Link

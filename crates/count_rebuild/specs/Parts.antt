@@ -1,5 +1,5 @@
 -- What the parts of rebuilding answer.
-use Rattle.std.specs.Prelude.{◌≡◌, ℕ, ◌+◌, ◌<◌, true, List, length, map, replicate, ℤ, nat_abs, ⊤, false}
+use Rattle.std.specs.Prelude.{◌≡◌, ℕ, ◌<◌, List, length, map, ℤ, nat_abs, ⊤, false}
 use Rattle.elf32_sparc.specs.Notes.{Notes}
 use Rattle.flows.specs.Flows.{rest}
 use Rattle.flows.specs.Links.{graph_of}
@@ -11,13 +11,13 @@ use Rattle.flow_rebuild.specs.Values.{int_at}
 use Rattle.count_rebuild.specs.declared.fault.CountFault.{CountFault}
 use Rattle.count_rebuild.specs.declared.fault.CountFault.TheVariants as faults
 use Rattle.count_rebuild.specs.Counts.{is_negative, IsFirstNegative}
-use Rattle.count_rebuild.specs.Noted.{has_cell, IsProfile}
+use Rattle.count_rebuild.specs.Noted.{has_cell, AreNodes, IsProfile}
 
--- the tree of all nodes by the edges that aren't counted
+-- the tree of the nodes by the edges that aren't counted
 pub record IsTreeOf (notes : Notes) (links : List Link) (tree : Tree) : Type 0 where
   pub profile : IsProfile notes
   pub grown : IsGrown (graph_of (length tree.reached.items) links) tree
-  pub reached : tree.reached.items ≡ replicate (length notes.blocks + 1) true
+  pub reached : AreNodes notes tree.reached.items
   pub edges : (e : ℕ) → e < length notes.edges → on (edges_of tree) e ≡ rest (has_cell notes) e
 
 -- the flow as numbers that aren't below 0

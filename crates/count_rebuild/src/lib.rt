@@ -4,6 +4,7 @@
 #![tactic(auto)]
 
 mod fault;
+mod nodes;
 mod noted;
 mod rebuilding;
 

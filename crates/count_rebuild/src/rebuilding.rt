@@ -11,6 +11,7 @@ ghost use Rattle.count_rebuild.specs.declared.fault.CountFault.TheVariants as fa
 ghost use Rattle.count_rebuild.specs.Parts.{AreWhole, IsBelow, IsTreeOf};
 
 use crate::CountFault;
+use crate::nodes::nodes;
 use crate::noted::{counted, links, node_at, values};
 use dump_file::Dump;
 use eel_base::EdgeNo;
@@ -53,7 +54,7 @@ fn profile_tree(alloc: Global, n: &Notes, links: &[Link]) -> Result<Tree, CountF
     if n.tool != PROFILE {
         return Err(CountFault::NoProfile);
     }
-    let is_node = vec![in alloc; true; n.blocks.len() + 1]?;
+    let is_node = nodes(alloc, n)?;
     let counted = counted(alloc, &n.edges)?;
     match span(alloc, &is_node, links, &counted, n.entry as usize)? {
         Some(tree) => Ok(tree),

@@ -1,7 +1,7 @@
 -- Which edges a step completes: none, one, or that of a jump and then a landing.
 use Rattle.std.proofs.Common.{◌≡◌, ℕ, ◌-◌, ◌<◌, Bool, true, false, ◌&&◌, ◌==◌, List, [], ◌∷◌, ◌++◌, length, Option, Some, None, option_to_list, position, slice_index, refl, ap, sym, ◌∙◌, subst}
 use Rattle.std.specs.Prelude.{if◌then◌else◌}
-use Rattle.std.proofs.lemmas.Bool.{and_parts, or_left}
+use Rattle.std.proofs.lemmas.Bool.{and_parts, cond_both, or_left}
 use Rattle.std.proofs.lemmas.List.Quantifiers.{position-Some}
 use Rattle.eel_base.specs.CodeText.{Words, word_at}
 use Rattle.v8_decode.specs.declared.Instr.{Instr}
@@ -19,8 +19,8 @@ use Rattle.cfg_normal.specs.declared.Edge.{Edge}
 use Rattle.cfg_normal.specs.declared.Node.{Node}
 use Rattle.cfg_normal.specs.declared.Node.TheVariants.{X}
 use Rattle.cfg_normal.specs.declared.Slot.TheVariants as carried
-use Rattle.cfg_normal.specs.Graph.{Graph, node_of}
-use Rattle.cfg_walk.specs.Walk.{Point, WayOut, by_kind, completed, edge_along, edge_from, ends_block, gone, instr_at, landed, landing_at, leads_along, left_at, left_by, same_kind, same_node, slot_left, way_of}
+use Rattle.cfg_normal.specs.Graph.{Graph, has_cases, lands}
+use Rattle.cfg_walk.specs.Walk.{Point, WayOut, by_kind, completed, edge_along, edge_from, ends_block, gone, instr_at, landed, landing_at, leads_along, left_along, left_at, left_by, same_kind, same_node, slot_left, way_of}
 use Rattle.liveness.specs.Live.{IsLiveOn, edge_at, is_call_or_jump, is_outside, is_unknown}
 
 abbrev IsIn : Graph → ℕ → Type 0
@@ -45,6 +45,7 @@ jump_kind kinds.Fall h = absurd (cc)
 jump_kind kinds.Taken h = absurd (cc)
 jump_kind kinds.Untaken h = absurd (cc)
 jump_kind kinds.Land h = absurd (cc)
+jump_kind kinds.Case h = absurd (cc)
 
 module _ (graph : Graph) where
   -- the edge that a search finds
@@ -117,24 +118,30 @@ module _ (graph : Graph) where
       by (Some e) h = one e (found test e h).0
 
   jumped : (text : Words) (node : Node) (next : ℕ) (o : Option ℕ) → word_at text next ≡ o
-      → Completes graph (slot_left text graph node kinds.Out next)
+      → Completes graph (edge_from graph node kinds.Out ++ landed text graph kinds.Out next)
   jumped text node next None e =
       let nowhere : landed text graph kinds.Out next ≡ [] = rw e refl in
       subst (λ (ns : List ℕ). Completes graph (edge_from graph node kinds.Out ++ ns)) (sym nowhere) (along_then node (by_kind kinds.Out))
   jumped text node next (Some word) e =
-      let there : landed text graph kinds.Out next ≡ landing_at graph (node_of graph.blocks (Some word)) = rw e refl in
+      let there : landed text graph kinds.Out next ≡ landing_at graph (lands graph (Some word)) = rw e refl in
       subst (λ (ns : List ℕ). Completes graph (edge_from graph node kinds.Out ++ ns)) (sym there)
       (at_most_two (λ edge. leads_along None edge && (same_node edge.from node && same_kind edge.kind kinds.Out))
-      (λ edge. same_node edge.to (node_of graph.blocks (Some word)) && same_kind edge.kind kinds.Land) (jump_unknown node))
+      (λ edge. same_node edge.to (lands graph (Some word)) && same_kind edge.kind kinds.Land) (jump_unknown node))
 
   out_of_slot : (text : Words) (node : Node) (kind : EdgeKind) (next : ℕ)
       → Completes graph (slot_left text graph node kind next)
-  out_of_slot text node kinds.Out next = jumped text node next (word_at text next) refl
+  out_of_slot text node kinds.Out next =
+      cond_both (has_cases graph.opens node)
+      (record { kind = kinds.Case; to = Some (lands graph (word_at text next)) }) (by_kind kinds.Out)
+      (λ (way : WayOut). Completes graph (left_along text graph node way next))
+      (λ _. along_then node (record { kind = kinds.Case; to = Some (lands graph (word_at text next)) }))
+      (λ _. jumped text node next (word_at text next) refl)
   out_of_slot text node kinds.Call next = along_then node (by_kind kinds.Call)
   out_of_slot text node kinds.Fall next = along_then node (by_kind kinds.Fall)
   out_of_slot text node kinds.Taken next = along_then node (by_kind kinds.Taken)
   out_of_slot text node kinds.Untaken next = along_then node (by_kind kinds.Untaken)
   out_of_slot text node kinds.Land next = along_then node (by_kind kinds.Land)
+  out_of_slot text node kinds.Case next = along_then node (by_kind kinds.Case)
 
   completes : (text : Words) (node : Node) (before after : Point) (was now : Slot)
       → Completes graph (completed text graph node before after was now)

@@ -25,7 +25,7 @@ use Rattle.elf32_write.proofs.Loads.{file_loads}
 use Rattle.elf32_write.proofs.WordsBytes.{length-words_bytes}
 use Rattle.v8_step.proofs.ValidNumbers.{high_first-bytes, flat_map-bytes}
 use Rattle.cfg_blocks.specs.Blocks.{Blocks, holding_of}
-use Rattle.cfg_normal.proofs.Edges.{edges_in-in}
+use Rattle.cfg_walk.proofs.NoneOpen.{edges_lie_in}
 use Rattle.addr_translate.specs.Lookup.{TableAt}
 use Rattle.layout.specs.Laid.{Placement}
 use Rattle.image_code.specs.Fit.{AreFit}
@@ -313,7 +313,7 @@ module _ (original : List ℕ) (plan : Plan) (limit : length original ≤ 2 ^ 26
             let words = cut.words in
             let few = text_is.few in
             omega arith;
-        edges_in = each_all _ (graph_in original plan).edges (edges_in-in (graph_in original plan).blocks cut.firsts.some);
+        edges_in = edges_lie_in (graph_in original plan).blocks [] cut.firsts.some;
         kind = plan.kind;
         snips = plan.snips;
         edges = refl;

@@ -1,8 +1,8 @@
 -- An edit is faithful.
-use Rattle.std.proofs.Common.{◌≡◌, ℕ, zero, suc, ◌+◌, ◌*◌, ◌^◌, ◌<◌, ◌≤◌, Bool, true, cond, List, [], ◌∷◌, ◌++◌, length, map, slice_index, Some, None, refl, ap, sym, ◌∙◌, subst, arith, All}
+use Rattle.std.proofs.Common.{◌≡◌, ℕ, zero, suc, ◌+◌, ◌-◌, ◌*◌, ◌^◌, ◌<◌, ◌≤◌, Bool, true, cond, List, [], ◌∷◌, ◌++◌, length, map, slice_index, Some, None, refl, ap, sym, ◌∙◌, subst, arith, All}
 use Rattle.std.specs.Prelude.{slice_get}
 use Rattle.std.specs.List.{list_any}
-use Rattle.std.proofs.lemmas.Bool.{le-leb, lt-ltb}
+use Rattle.std.proofs.lemmas.Bool.{le-leb, le-ltb, lt-ltb}
 use Rattle.std.proofs.lemmas.List.{append_assoc}
 use Rattle.std.proofs.lemmas.Option.{slice_get_within, get_or_from_slice_get}
 use Rattle.eel_base.specs.CodeText.{IsText, address_of, word_at}
@@ -14,15 +14,21 @@ use Rattle.elf32_write.specs.Headers.{AddedSegment}
 use Rattle.elf32_write.specs.Laws.{AreBytes, kept, mapping_added}
 use Rattle.cfg_blocks.specs.Blocks.{holding_of}
 use Rattle.cfg_normal.specs.declared.Edge.{Edge}
-use Rattle.cfg_normal.specs.Graph.{Graph}
+use Rattle.cfg_normal.specs.declared.Node.{Node}
+use Rattle.cfg_normal.specs.declared.Node.TheVariants.{Block, Landed, X}
+use Rattle.cfg_normal.specs.Graph.{Graph, IsEdgeIn, IsNodeIn}
+use Rattle.cfg_normal.specs.Numbers.{is_node, node_number}
+use Rattle.cfg_normal.specs.Opens.{is_copied}
 use Rattle.cfg_walk.proofs.Addresses.{word_at-address}
-use Rattle.cfg_walk.proofs.Lists.{Each, each, each-append}
+use Rattle.cfg_walk.proofs.Lists.{Each, each, each-append, each-then}
+use Rattle.cfg_walk.proofs.NoneOpen.{edges_lie_in}
 use Rattle.liveness.specs.Live.{named_on}
 use Rattle.addr_translate.specs.Lookup.{TableAt}
 use Rattle.layout.specs.Laid.{Placement, IsWordAt}
 use Rattle.image_code.specs.Parts.{IsGraphOf}
 use Rattle.image_code.specs.Fit.{AreFit, PlacesSay}
 use Rattle.image_code.specs.Parts.{codes_of}
+use Rattle.image_code.proofs.Numbers.{cut_of}
 use Rattle.tool_kit.specs.Plans.{Plan}
 use Rattle.edit_core.specs.Dead.{AreDead}
 use Rattle.edit_core.specs.Taken.{CanEdit}
@@ -30,6 +36,7 @@ use Rattle.edit_core.specs.Faithful.{editor_page, page_size, IsFaithful, HasGrap
 use Rattle.edit_core.specs.Written.{CanDo, IsNewCode, IsEdit, EditsRunAlike, added, cells_at, cells_base, if_any, text_of, given_of, graph_in, table_base, code_base, pieces_of, off_range, off_ranges, table_at, code_segment, page_segment, notes_on, edit_file}
 use Rattle.edit_core.proofs.Eaches.{all_each, each_index}
 use Rattle.edit_core.proofs.Off.{off_each}
+use Rattle.edit_core.proofs.Ranges.{IsWhole, ranges_whole}
 use Rattle.edit_core.proofs.Originals.{image_text}
 use Rattle.edit_core.proofs.Mapped.{code_mapped}
 use Rattle.edit_core.proofs.Room.{small_tables}
@@ -38,8 +45,10 @@ use Rattle.edit_core.proofs.Views.{bound_is, view_graph}
 use Rattle.edit_core.proofs.Bounds.{operations_few}
 use Rattle.edit_core.proofs.Fronts.{any-map, any_first}
 
-has_graph : (original : List ℕ) (plan : Plan) (p : Placement) → HasGraph original plan (notes_on original plan p)
-has_graph original plan p =
+has_graph : (original : List ℕ) (plan : Plan) (p : Placement)
+    → All (λ range. is_node (graph_in original plan) range.node ≡ true) (notes_on original plan p).ranges
+    → HasGraph original plan (notes_on original plan p)
+has_graph original plan p places =
     let same = sym (view_graph original plan) in
     record {
       start = refl;
@@ -49,6 +58,7 @@ has_graph original plan p =
       edges = ap (λ (g : Graph). note_edges g plan.kind g.edges plan.snips) same;
       tool = refl;
       cells = refl;
+      places = subst (λ (g : Graph). All (λ range. is_node g range.node ≡ true) (notes_on original plan p).ranges) same places;
     }
 
 all_two : (P : Mapping → Type 0) (x y : Mapping) → P x → P y → All P (x ∷ y ∷ [])
@@ -72,6 +82,36 @@ module _ (original : List ℕ) (plan : Plan) (p : Placement) (place : ℕ → �
 
   abbrev cells : AddedSegment
   cells = cells_at (cells_base original plan) plan.cells
+
+  -- ---- each place is at a node
+
+  abbrev its_graph : Graph
+  its_graph = graph_in original plan
+
+  abbrev IsAtNode : NoteRange → Type 0
+  IsAtNode range = is_node its_graph range.node ≡ true
+
+  is_block : (number : ℕ) → number ≤ length its_graph.blocks.firsts → is_node its_graph number ≡ true
+  is_block number l =
+      ap (λ (b : Bool). cond b (is_copied [] (number - (length its_graph.blocks.firsts + 1))) true)
+      (le-ltb (length its_graph.blocks.firsts) number l)
+
+  is_one : (node : Node) → IsNodeIn its_graph.blocks [] node → is_node its_graph (node_number its_graph node) ≡ true
+  is_one (Block k) l = is_block k.0 (omega (arith, l))
+  is_one (Landed k) l = let none = l.1 in absurd (cc)
+  is_one X l = is_block (length its_graph.blocks.firsts) (omega arith)
+
+  nodes_are : All IsAtNode (notes_on original plan p).ranges
+  nodes_are =
+      let some = (cut_of (text_of original plan) its_graph is_graph text_is.some).firsts.some in
+      all_each IsAtNode (off_ranges (text_of original plan) its_graph (table_base original plan) ++ p.ranges)
+      (each-append IsAtNode (off_ranges (text_of original plan) its_graph (table_base original plan)) p.ranges
+      (off_each (text_of original plan) its_graph (table_base original plan) (IsEdgeIn its_graph.blocks []) (Each IsAtNode)
+      (edges_lie_in its_graph.blocks [] some) tt (λ edge inside. (is_one edge.from inside.from, tt)))
+      (each-then (IsWhole (length its_graph.blocks.firsts)) IsAtNode p.ranges (λ r whole. is_block r.node whole.node)
+      (ranges_whole (text_of original plan) its_graph (table_base original plan)
+      (codes_of (cells_base original plan) is.code.dead plan.snips) text_is is_graph (code_base original plan) p place
+      is.code.laid)))
 
   -- the pages in the room
   abbrev room_pages : List Mapping
@@ -186,7 +226,8 @@ faithful alike say original plan fit limit bytes can work p place table code =
         holds = (holds original plan limit can work p place table code (fit code.dead)).holds;
         small = small_file original plan limit can work p place table code (fit code.dead) bytes;
       };
-      graph = has_graph original plan p;
+      graph = has_graph original plan p
+          (nodes_are original plan p place table (edit_file original plan p table) is);
       pages = has_pages original plan p place table (edit_file original plan p table) is (fit is.code.dead);
       places = places_are original plan p place table (edit_file original plan p table) is say;
       dead = is.code.dead;

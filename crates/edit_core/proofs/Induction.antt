@@ -22,11 +22,13 @@ use Rattle.v8_step.proofs.Outside.{byte_outside, heap_end_same}
 use Rattle.v8_step.proofs.ValidSteps.{run-valid}
 use Rattle.cfg_normal.specs.declared.Node.{Node}
 use Rattle.cfg_walk.specs.Walk.{Point, point_of, goes_on_at, gone, gone_in, node_after, end_of_walk, unless_ended as point_unless}
+use Rattle.cfg_blocks.specs.Blocks.{blocks_of}
+use Rattle.cfg_walk.proofs.NoneOpen.{jumps_none, open_none}
 use Rattle.cfg_walk.proofs.Walks.{walks_match}
 use Rattle.code_runs.proofs.Leads.{run_add, puts_add, split_below}
 use Rattle.code_runs.specs.PointsAlike.{AreAlikeOn, AreAtOnePoint, instr_of}
 use Rattle.code_runs.proofs.PointsAlike.{points_act_alike}
-use Rattle.image_code.specs.Simulates.{IsFollowedBy, IsKept, IsOnWay, IsSparing, IsThere, Setting, StepsOn, at_point, cells_in, does_at, graph_in, number_in, store_of, updates, word_of}
+use Rattle.image_code.specs.Simulates.{IsFollowedBy, IsKept, IsOnWay, IsSparing, IsThere, MatchesIn, Setting, StepsOn, at_point, cells_in, does_at, graph_in, number_in, store_of, updates, word_of}
 use Rattle.edit_core.specs.RunsAlike.{EndsAtNode, TellsStep}
 use Rattle.edit_core.specs.Runs.{AreTogether, Closed, Follows, Linked, Rests, Spares, StaysInside, Tells, instr_in, limits_in}
 use Rattle.edit_core.proofs.Stays.{ended_stays}
@@ -137,6 +139,12 @@ module _ (g : Setting) (entry : ℕ) (Inside : Point → Type 0) (Here : Node �
   fetched : (n : ℕ) → fetch_of (run s0 n).memory (run s0 n).pc ≡ word_of g.text (run s0 n).pc
   fetched n = code_stays.1 s0 n (run s0 n).pc ∙ r.fetches (run s0 n).pc
 
+  matched : (n : ℕ) → (run s0 n).ending ≡ None
+      → MatchesIn g (end_of_walk g.text (graph_in g) entry s0 n) (point_of (run s0 n))
+  matched n live =
+      walks_match g.text g.given [] entry s0 n r.text r.fetches r.begins (open_none (blocks_of g.text g.given))
+      (jumps_none g.text (blocks_of g.text g.given) entry s0) live
+
   end_next : (n : ℕ) → node_after (graph_in g) (end_of_walk g.text (graph_in g) entry s0 n)
       (gone_in g.text (graph_in g) entry s0 n)
       ≡ end_of_walk g.text (graph_in g) entry s0 (suc n)
@@ -165,7 +173,7 @@ module _ (g : Setting) (entry : ℕ) (Inside : Point → Type 0) (Here : Node �
       → ((run s0 (suc n)).ending ≡ None → Inside (point_of (run s0 (suc n)))) → IsNext g entry Here Short s0 t0 n m
   next_of n m h apart within inside =
       let visits = r.simulates.visits _ _ _
-      (walks_match g.text g.given entry s0 n r.text r.fetches r.begins h.live) within h.here in
+      (matched n h.live) within h.here in
       let stepped : run s0 (suc n) ≡ on_word (run s0 n) (word_of g.text (run s0 n).pc) = step_live (run s0 n) _ h.live
       (fetched n) in
       let judged : AllApart (pages_of g.notes) (judged_in (run s0 n) (instr_of (word_of g.text (run s0 n).pc))) =
@@ -194,7 +202,7 @@ module _ (g : Setting) (entry : ℕ) (Inside : Point → Type 0) (Here : Node �
             (does_at g (point_of (run s0 n)) (run t0 m)) refl b.ending
             (λ live. one_point (run s0 (suc n)) (does_at g (point_of (run s0 n)) (run t0 m)) (b.point live)))
             (r.simulates.steps (end_of_walk g.text (graph_in g) entry s0 n) (point_of (run s0 n)) (run t0 m)
-            (walks_match g.text g.given entry s0 n r.text r.fetches r.begins h.live) within h.here b.judged
+            (matched n h.live) within h.here b.judged
             (λ live. let on : (run s0 (suc n)).ending ≡ None = b.ending
             ∙ live in subst Inside (one_point (run s0 (suc n)) (does_at g (point_of (run s0 n)) (run t0 m))
             (b.point on)) (inside on)));
@@ -409,7 +417,7 @@ module _ (g : Setting) (entry : ℕ) (Inside : Point → Type 0) (Here : Node �
     unfolding moment_of
     matches_at n l (goes m h) =
         let on : GoesOn g.notes s0 t0 n m = record {
-          visit = (r.simulates.visits _ _ _ (walks_match g.text g.given entry s0 n r.text r.fetches r.begins h.live)
+          visit = (r.simulates.visits _ _ _ (matched n h.live)
               (inside n l h.live) h.here).1;
           window = h.together.world.window;
           valid = h.together.world.valid;
@@ -496,7 +504,7 @@ module _ (g : Setting) (entry : ℕ) (Inside : Point → Type 0) (Here : Node �
     tells_there : (n m : ℕ) → n ≤ last → Linked g entry Here K s0 t0 n m → TellsStep g entry s0 t0 m n
     tells_there n m l h =
         let visits = r.simulates.visits _ _ _
-        (walks_match g.text g.given entry s0 n r.text r.fetches r.begins h.live) (inside n l h.live) h.here in
+        (matched n h.live) (inside n l h.live) h.here in
         record {
           cells = h.together.cells;
           node = visits.2;

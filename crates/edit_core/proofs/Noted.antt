@@ -18,7 +18,7 @@ use Rattle.cfg_blocks.specs.declared.EdgeKind.TheVariants as kinds
 use Rattle.cfg_blocks.specs.Blocks.{AreFirsts, IsAscending}
 use Rattle.cfg_normal.specs.declared.Edge.{Edge}
 use Rattle.cfg_normal.specs.declared.Node.{Node}
-use Rattle.cfg_normal.specs.declared.Node.TheVariants.{Block, X}
+use Rattle.cfg_normal.specs.declared.Node.TheVariants.{Block, Landed, X}
 use Rattle.cfg_normal.specs.Graph.{Graph, IsEdgeIn, IsNodeIn}
 use Rattle.cfg_normal.specs.Numbers.{node_number}
 use Rattle.cfg_walk.proofs.Lists.{Each, each-append}
@@ -57,17 +57,19 @@ blocks_rule words (x ∷ xs) before f g a w =
 
 -- ---- edges
 
-kind_few : (k : EdgeKind) → kind_number k ≤ 5
+kind_few : (k : EdgeKind) → kind_number k ≤ 6
 kind_few kinds.Fall = omega arith
 kind_few kinds.Taken = omega arith
 kind_few kinds.Untaken = omega arith
 kind_few kinds.Call = omega arith
 kind_few kinds.Out = omega arith
 kind_few kinds.Land = omega arith
+kind_few kinds.Case = omega arith
 
-node_few : (graph : Graph) (node : Node) → IsNodeIn graph.blocks node
-    → node_number graph node ≤ length graph.blocks.firsts
+node_few : (graph : Graph) (node : Node) → IsNodeIn graph.blocks graph.opens node
+    → node_number graph node ≤ 2 * length graph.blocks.firsts
 node_few graph (Block k) l = omega (arith, l)
+node_few graph (Landed k) l = omega (arith, l.0)
 node_few graph X l = omega arith
 
 -- an edge's cell, if it has one, is a further one
@@ -85,19 +87,19 @@ is_next cells taken cell few above = rw (lt-ltb cell cells few, not_among taken 
 
 -- the edges' rules but for the cell's
 module _ (graph : Graph) (kind : ToolKind) where
-  ends_rule : (cells : ℕ) (taken : List ℕ) (e : Edge) (ops : List Op) → IsEdgeIn graph.blocks e
+  ends_rule : (cells : ℕ) (taken : List ℕ) (e : Edge) (ops : List Op) → IsEdgeIn graph.blocks graph.opens e
       → is_free cells taken (cell_noted kind ops) ≡ true
       → is_edge (length graph.blocks.firsts) cells taken (note_edge graph kind e ops) ≡ true
   ends_rule cells taken e ops inside free =
       rw (
-        le-leb (kind_number e.kind) 5 (kind_few e.kind),
-        le-leb (node_number graph e.from) (length graph.blocks.firsts) (node_few graph e.from inside.from),
-        le-leb (node_number graph e.to) (length graph.blocks.firsts) (node_few graph e.to inside.to),
+        le-leb (kind_number e.kind) 6 (kind_few e.kind),
+        le-leb (node_number graph e.from) (2 * length graph.blocks.firsts) (node_few graph e.from inside.from),
+        le-leb (node_number graph e.to) (2 * length graph.blocks.firsts) (node_few graph e.to inside.to),
       ) free
 
 -- without a profile no edge has a cell
 uncounted_rule : (graph : Graph) (kind : ToolKind) (cells : ℕ) → ((ops : List Op) → cell_noted kind ops ≡ None)
-    → (es : List Edge) (snips : List (List Op)) → Each (IsEdgeIn graph.blocks) es
+    → (es : List Edge) (snips : List (List Op)) → Each (IsEdgeIn graph.blocks graph.opens) es
     → are_edges (length graph.blocks.firsts) cells [] (note_edges graph kind es snips) ≡ true
 uncounted_rule graph kind cells none [] snips each = refl
 uncounted_rule graph kind cells none (e ∷ es) [] each = refl
@@ -110,7 +112,7 @@ uncounted_rule graph kind cells none (e ∷ es) (ops ∷ snips) each =
 
 -- in a profile each cell is the next one
 counted_rule : (graph : Graph) (cells next : ℕ) (taken : List ℕ) → Each (λ other. other < next) taken
-    → (es : List Edge) (snips : List (List Op)) → Each (IsEdgeIn graph.blocks) es → AreCounters next snips
+    → (es : List Edge) (snips : List (List Op)) → Each (IsEdgeIn graph.blocks graph.opens) es → AreCounters next snips
     → Each (WorksBelow cells) snips
     → are_edges (length graph.blocks.firsts) cells taken (note_edges graph tools.Profile es snips) ≡ true
 counted_rule graph cells next taken above [] snips each are below = refl
@@ -135,7 +137,7 @@ counted_rule graph cells next taken above (e ∷ es) ((Keep cell reg ∷ ops) �
 counted_rule graph cells next taken above (e ∷ es) ((Top cell reg ∷ ops) ∷ snips) each are below = absurd are
 
 edges_rule : (graph : Graph) (kind : ToolKind) (cells : ℕ) (es : List Edge) (snips : List (List Op))
-    → Each (IsEdgeIn graph.blocks) es → (kind ≡ tools.Profile → AreCounters 0 snips) → Each (WorksBelow cells) snips
+    → Each (IsEdgeIn graph.blocks graph.opens) es → (kind ≡ tools.Profile → AreCounters 0 snips) → Each (WorksBelow cells) snips
     → are_edges (length graph.blocks.firsts) cells [] (note_edges graph kind es snips) ≡ true
 edges_rule graph tools.Plain cells es snips each are below =
     uncounted_rule graph tools.Plain cells (λ ops. refl) es snips each
@@ -169,7 +171,7 @@ cell_fits cells tools.Profile [] few below = omega arith
 cell_fits cells tools.Profile (op ∷ ops) few below = let l = below 0 op (omega arith) in omega arith
 
 edges_fit : (graph : Graph) (kind : ToolKind) (cells : ℕ) (es : List Edge) (snips : List (List Op))
-    → length graph.blocks.firsts ≤ 2 ^ 20 → cells ≤ 2 ^ 22 → Each (IsEdgeIn graph.blocks) es
+    → length graph.blocks.firsts ≤ 2 ^ 20 → cells ≤ 2 ^ 22 → Each (IsEdgeIn graph.blocks graph.opens) es
     → Each (WorksBelow cells) snips
     → Each (λ edge. Each Fits (edge_words edge)) (note_edges graph kind es snips)
 edges_fit graph kind cells [] snips few cells_few each below = tt
@@ -216,7 +218,7 @@ pub record IsNoted (graph : Graph) (size : ℕ) (p : Placement) (n : Notes) : Ty
   pub firsts : AreFirsts graph.blocks.words graph.blocks.firsts
   pub blocks : n.blocks ≡ graph.blocks.firsts
   pub edge_count : length graph.edges ≤ 3 * 2 ^ 20
-  pub edges_in : Each (IsEdgeIn graph.blocks) graph.edges
+  pub edges_in : Each (IsEdgeIn graph.blocks graph.opens) graph.edges
   pub kind : ToolKind
   pub snips : List (List Op)
   pub edges : n.edges ≡ note_edges graph kind graph.edges snips
@@ -300,7 +302,7 @@ module _ (graph : Graph) (size : ℕ) (p : Placement) (n : Notes) (is : IsNoted 
       p.ranges
       is.ascend is.whole l code_holds
 
-  off_rule : (edge : Edge) → IsEdgeIn graph.blocks edge
+  off_rule : (edge : Edge) → IsEdgeIn graph.blocks graph.opens edge
       → are_ranges nodes (segments_noted n.base n.cells size p.code) 0 ((off_range is.text graph table edge ∷ []) ++ p.ranges)
       ≡ true
   off_rule edge inside =
@@ -315,13 +317,13 @@ module _ (graph : Graph) (size : ℕ) (p : Placement) (n : Notes) (is : IsNoted 
         lt-ltb table (table + 4) (omega arith),
         le-leb 0 table (omega arith),
         table_holds table (table + 4) (omega arith) (omega arith),
-        le-leb (node_number graph edge.from) nodes (node_few graph edge.from inside.from),
+        le-leb (node_number graph edge.from) (2 * nodes) (node_few graph edge.from inside.from),
       ) refl)
       (code_rule (table + 4) (omega arith))
 
   all_rule : are_ranges nodes (segments_noted n.base n.cells size p.code) 0 (off_ranges is.text graph table ++ p.ranges) ≡ true
   all_rule =
-      off_each is.text graph table (IsEdgeIn graph.blocks)
+      off_each is.text graph table (IsEdgeIn graph.blocks graph.opens)
       (λ offs. are_ranges nodes (segments_noted n.base n.cells size p.code) 0 (offs ++ p.ranges) ≡ true) is.edges_in
       (code_rule 0 (omega arith)) off_rule
 
@@ -419,7 +421,7 @@ module _ (graph : Graph) (size : ℕ) (p : Placement) (n : Notes) (is : IsNoted 
           (λ some. (omega arith, (omega arith, tt)))
           ((omega arith, (omega arith, tt)), ((omega arith, (omega arith, tt)), ((omega arith, (omega arith, tt)), tt))))
 
-      off_fits : (edge : Edge) → IsEdgeIn graph.blocks edge
+      off_fits : (edge : Edge) → IsEdgeIn graph.blocks graph.opens edge
           → Each (λ range. Each Fits (range_words range)) (off_range is.text graph table edge ∷ [])
       off_fits edge inside =
           let low = is.low in
@@ -430,7 +432,7 @@ module _ (graph : Graph) (size : ℕ) (p : Placement) (n : Notes) (is : IsNoted 
       all_fit : Each (λ range. Each Fits (range_words range)) (off_ranges is.text graph table ++ p.ranges)
       all_fit =
           each-append _ (off_ranges is.text graph table) p.ranges
-          (off_each is.text graph table (IsEdgeIn graph.blocks) (Each (λ range. Each Fits (range_words range)))
+          (off_each is.text graph table (IsEdgeIn graph.blocks graph.opens) (Each (λ range. Each Fits (range_words range)))
           is.edges_in tt off_fits)
           (ranges_fit nodes (table + size) (table + size + 4 * length p.code) p.ranges nodes_few is.low is.ascend
           is.whole)

@@ -15,8 +15,10 @@ use Rattle.cfg_normal.specs.declared.Edge.{Edge}
 use Rattle.cfg_normal.specs.declared.Node.{Node}
 use Rattle.cfg_normal.specs.declared.Node.TheVariants.{Block}
 use Rattle.cfg_normal.specs.declared.Slot.TheVariants as slots
-use Rattle.cfg_normal.specs.Graph.{Graph, edge_of, edges_in, edges_of, landing_at, runs_slot, slot_behind}
+use Rattle.cfg_normal.specs.Graph.{Graph, edge_of, edges_in, edges_of, runs_slot, slot_behind}
+use Rattle.cfg_walk.proofs.Edges.{block as block_at}
 use Rattle.cfg_walk.proofs.Lists.{Each, each, each-append, each-below, each-flat_map, each-map, each_at}
+use Rattle.cfg_walk.proofs.NoneOpen.{block_landing, edges_none}
 use Rattle.layout.specs.Laid.{range_in}
 use Rattle.edit_core.specs.Written.{is_behind, is_off, off_range, off_ranges}
 
@@ -80,19 +82,20 @@ module _ (b : Blocks) (firsts : AreFirsts b.words b.firsts) where
       by true is e = absurd (cc)
       by false is e = last_block block l is
 
-  way_last : (block : ℕ) → block < length b.firsts → (w : Way) → IsLast (edge_of b block w)
+  way_last : (block : ℕ) → block < length b.firsts → (w : Way) → IsLast (edge_of b [] (block_at block) block w)
   way_last block l w e =
       ap (λ (n : ℕ). Block (record { 0 = n })) (slot_last block l (runs_slot (end_of b block) w.kind) e)
 
-  pub all_last : Each IsLast (edges_in b)
-  unfolding edges_in
+  pub all_last : Each IsLast (edges_in b [])
   all_last =
-      each-append IsLast _ (map landing_at (below (length b.firsts)))
-      (each-flat_map IsLast (edges_of b) (below (length b.firsts))
-      (each-below (λ block. Each IsLast (edges_of b block)) (length b.firsts)
-      (λ block l. each-map IsLast (edge_of b block) (ways_from b block)
+      subst (Each IsLast) (sym (edges_none b))
+      (each-append IsLast _ (map block_landing (below (length b.firsts)))
+      (each-flat_map IsLast (edges_of b []) (below (length b.firsts))
+      (each-below (λ block. Each IsLast (edges_of b [] block)) (length b.firsts)
+      (λ block l. each-map IsLast (edge_of b [] (block_at block) block) (ways_from b block)
       (each _ (ways_from b block) (way_last block l)))))
-      (each-map IsLast landing_at (below (length b.firsts)) (each _ (below (length b.firsts)) (λ block e. absurd (cc))))
+      (each-map IsLast block_landing (below (length b.firsts))
+      (each _ (below (length b.firsts)) (λ block e. absurd (cc)))))
 
 -- ---- their place
 
@@ -102,7 +105,7 @@ module _ (text : Words) (graph : Graph) (table : ℕ) where
       (record { from = n; to = e.to; kind = e.kind; slot = e.slot })) same
 
   -- the one place is that of each such edge
-  pub off_is : graph.edges ≡ edges_in graph.blocks → AreFirsts graph.blocks.words graph.blocks.firsts
+  pub off_is : graph.edges ≡ edges_in graph.blocks [] → AreFirsts graph.blocks.words graph.blocks.firsts
       → (number : ℕ) (edge : Edge)
       → slice_get graph.edges number ≡ Some edge → edge.slot ≡ slots.Off
       → off_ranges text graph table ≡ off_range text graph table edge ∷ []

@@ -80,7 +80,7 @@ ranges_rule nodes segments end from to (r ∷ rs) a w e held =
       le-leb end r.lo
           (omega arith),
       held r.lo r.hi f past,
-      le-leb r.node nodes w.0.node,
+      le-leb r.node (2 * nodes) (omega (arith, w.0.node)),
     ) refl)
     (ranges_rule nodes segments r.hi r.hi to rs a.2 w.1 (omega arith)
     (λ lo hi from_hi to_end. held lo hi (omega arith) to_end))

@@ -17,15 +17,16 @@ use Rattle.cfg_blocks.specs.Blocks.{below}
 use Rattle.cfg_blocks.specs.Entries.{is_fall}
 use Rattle.cfg_normal.specs.declared.Edge.{Edge}
 use Rattle.cfg_normal.specs.declared.Node.{Node}
-use Rattle.cfg_normal.specs.declared.Node.TheVariants.{Block, X}
+use Rattle.cfg_normal.specs.declared.Node.TheVariants.{Block, Landed, X}
 use Rattle.cfg_normal.specs.declared.Slot.{Slot}
 use Rattle.cfg_normal.specs.declared.Slot.TheVariants as slots
-use Rattle.cfg_normal.specs.Graph.{Graph, IsEdgeIn, IsNodeIn, IsSlotIn, edges_in, node_of}
-use Rattle.cfg_normal.proofs.Edges.{edges_in-in, node_of-in}
+use Rattle.cfg_normal.specs.Graph.{Graph, IsEdgeIn, IsNodeIn, IsSlotIn, node_of}
 use Rattle.cfg_walk.specs.Walk.{landing_at, left_by, same_kind}
 use Rattle.cfg_walk.specs.Matches.{way_address}
 use Rattle.cfg_normal.specs.Numbers.{node_number}
 use Rattle.cfg_walk.proofs.Lists.{Each, each, each-append, each-below, each-map}
+use Rattle.cfg_walk.proofs.Nodes.{node_in}
+use Rattle.cfg_walk.proofs.NoneOpen.{edges_lie_in}
 use Rattle.code_runs.specs.LongJump.{long_jump}
 use Rattle.jump_code.specs.Finding.{find_image, go_found}
 use Rattle.jump_code.specs.FreeRegister.{free_register, other_register}
@@ -42,7 +43,7 @@ use Rattle.image_code.specs.Imaged.{TakesWords}
 use Rattle.image_code.specs.Made.{goes_along, goes_on, image, image_by, is_slots, jump_to, jumps_at, landing, next_to, own_edges, piece_list, rest_after, way_along, way_by, way_out, ways_from}
 use Rattle.image_code.specs.Parts.{IsGraphOf}
 use Rattle.image_code.proofs.Numbers.{cut_of, edges_are, words_are}
-use Rattle.edit_core.proofs.Eaches.{each_all, each_taken}
+use Rattle.edit_core.proofs.Eaches.{each_taken}
 
 -- a Mark, which covers an item that takes words, and ends in its piece
 pub record IsMark (nodes : ℕ) (address : Addr) (node : ℕ) (rest : List Item) : Type 0 where
@@ -143,11 +144,12 @@ module _ (text : Words) (graph : Graph) (table : ℕ) (codes : ℕ → List ℕ)
   abbrev nodes : ℕ
   nodes = length graph.blocks.firsts
 
-  number_few : (node : Node) → IsNodeIn graph.blocks node → node_number graph node ≤ length graph.blocks.firsts
+  number_few : (node : Node) → IsNodeIn graph.blocks [] node → node_number graph node ≤ length graph.blocks.firsts
   number_few (Block k) l = omega (arith, l)
+  number_few (Landed k) l = let none = l.1 in absurd (cc)
   number_few X l = omega arith
 
-  visit_at : (word : ℕ) → word < length text.words → (node : Node) → IsNodeIn graph.blocks node
+  visit_at : (word : ℕ) → word < length text.words → (node : Node) → IsNodeIn graph.blocks [] node
       → IsVisit nodes (record { 0 = address_of text word }) (node_number graph node)
   visit_at word l node inside = record {
     aligned = omega (arith, is.aligned);
@@ -180,11 +182,12 @@ module _ (text : Words) (graph : Graph) (table : ℕ) (codes : ℕ → List ℕ)
   image_marked : (word : ℕ) → word < length text.words → MarksFirst nodes (image text graph (jumps_at text table) codes word)
   image_marked word l =
       image_by_marked word (node_of graph.blocks (Some word))
-      (visit_at word l _ (node_of-in graph.blocks (cut_of text graph h is.some).firsts.some (Some word)))
+      (visit_at word l _ (node_in graph.blocks [] (cut_of text graph h is.some).firsts.some (Some word)))
       (decode_of (slice_index text.words word))
 
   goes_unmarked : (node : Node) (address : ℕ) → NoMarks (goes_on text graph node address)
   goes_unmarked (Block k) address = tt
+  goes_unmarked (Landed k) address = tt
   goes_unmarked X address = far_unmarked address
 
   along_unmarked : (number : ℕ) (edge : Edge) → NoMarks (goes_along text graph codes number edge)
@@ -192,7 +195,7 @@ module _ (text : Words) (graph : Graph) (table : ℕ) (codes : ℕ → List ℕ)
       no_marks (flat_map codes (number ∷ [])) (goes_on text graph edge.to (way_address text graph edge.from edge.kind))
       (goes_unmarked edge.to (way_address text graph edge.from edge.kind))
 
-  slot_marked : (number : ℕ) (edge : Edge) → IsEdgeIn graph.blocks edge → (word : ℕ) → word < length text.words
+  slot_marked : (number : ℕ) (edge : Edge) → IsEdgeIn graph.blocks [] edge → (word : ℕ) → word < length text.words
       → MarksFirst nodes (way_by text graph table codes number edge (slots.Word (record { 0 = word })))
   slot_marked number edge inside word l =
       let visit = visit_at word l edge.from inside.from in
@@ -202,7 +205,7 @@ module _ (text : Words) (graph : Graph) (table : ℕ) (codes : ℕ → List ℕ)
       (λ _. found_marked nodes _ _ visit _ (flat_map codes (number ∷ [])) 1)
       (λ _. plain_marked nodes _ _ visit _ _ (along_unmarked number edge)))
 
-  way_by_marked : (number : ℕ) (edge : Edge) → IsEdgeIn graph.blocks edge → (slot : Slot) → edge.slot ≡ slot
+  way_by_marked : (number : ℕ) (edge : Edge) → IsEdgeIn graph.blocks [] edge → (slot : Slot) → edge.slot ≡ slot
       → MarksFirst nodes (way_by text graph table codes number edge slot)
   way_by_marked number edge inside slots.Nothing e =
       unmarked nodes (goes_along text graph codes number edge) (along_unmarked number edge)
@@ -213,13 +216,13 @@ module _ (text : Words) (graph : Graph) (table : ℕ) (codes : ℕ → List ℕ)
       in_slot s e l = let m : slot.0 < graph.blocks.words =
           subst (IsSlotIn graph.blocks) e l in omega (arith, m, words_are text graph h)
 
-  way_marked : (number : ℕ) (edge : Edge) → IsEdgeIn graph.blocks edge
+  way_marked : (number : ℕ) (edge : Edge) → IsEdgeIn graph.blocks [] edge
       → MarksFirst nodes (way_along text graph table codes number edge)
   way_marked number edge inside =
       cond_both (is_fall edge.kind) _ _ (MarksFirst nodes) (λ _. tt)
       (λ _. way_by_marked number edge inside edge.slot refl)
 
-  ways_marked : (number : ℕ) (edges : List Edge) → Each (IsEdgeIn graph.blocks) edges
+  ways_marked : (number : ℕ) (edges : List Edge) → Each (IsEdgeIn graph.blocks []) edges
       → Each (MarksFirst nodes) (ways_from text graph table codes number edges)
   ways_marked number [] each = tt
   ways_marked number (e ∷ es) each = (way_marked number e each.0, ways_marked (suc number) es each.1)
@@ -229,11 +232,11 @@ module _ (text : Words) (graph : Graph) (table : ℕ) (codes : ℕ → List ℕ)
       unmarked nodes (landing text graph codes word)
       (no_marks (flat_map codes (landing_at graph (node_of graph.blocks (Some word)))) (jump_to word) tt)
 
-  each_own : Each (IsEdgeIn graph.blocks) (own_edges graph)
+  each_own : Each (IsEdgeIn graph.blocks []) (own_edges graph)
   each_own =
       each_taken _ (length graph.edges - length graph.blocks.firsts) graph.edges
-      (subst (Each (IsEdgeIn graph.blocks)) (sym (edges_are text graph h))
-      (each_all _ (edges_in graph.blocks) (edges_in-in graph.blocks (cut_of text graph h is.some).firsts.some)))
+      (subst (Each (IsEdgeIn graph.blocks [])) (sym (edges_are text graph h))
+      (edges_lie_in graph.blocks [] (cut_of text graph h is.some).firsts.some))
 
   abbrev images : List (List Item)
   images = map (image text graph (jumps_at text table) codes) (below (length text.words))

@@ -8,7 +8,6 @@ use Rattle.elf32_sparc.proofs.Images.{accepted-program}
 use Rattle.v8_decode.specs.declared.Part.{Part}
 use Rattle.cfg_normal.specs.Graph.{Graph}
 use Rattle.liveness.specs.Live.{named_on}
-use Rattle.cfg_view.specs.declared.View.{View}
 use Rattle.elf32_write.specs.Laws.{AreBytes}
 use Rattle.layout.specs.declared.items.Placed.{Placed}
 use Rattle.layout.specs.declared.items.Item.{Item}
@@ -77,15 +76,15 @@ module _ (fits : PiecesFit) (text : Words) (graph : Graph) (base room : ℕ) (ki
       let small = small_tables text is in
       omega arith
 
-module _ (original : List ℕ) (plan : Plan) (view : View) (is : IsViewOf original plan view) where
-  pub view_text : CanEdit original plan → IsText view.image.text
+module _ (original : List ℕ) (plan : Plan) (image : Program) (graph : Graph) (is : IsViewOf original plan image graph) where
+  pub view_text : CanEdit original plan → IsText image.text
   view_text can = subst (λ (i : Program). IsText i.text) (sym is.0) (image_text original can.sound)
 
-  pub view_graph : IsGraphOf view.image.text view.graph
-  view_graph = subst (λ (i : Program). IsGraphOf i.text view.graph) (sym is.0)
+  pub view_graph : IsGraphOf image.text graph
+  view_graph = subst (λ (i : Program). IsGraphOf i.text graph) (sym is.0)
       (subst (IsGraphOf (text_of original plan)) (sym is.1) (record { given = given_of original plan; is = refl }))
 
-  pub view_low : CanEdit original plan → view.image.base + view.image.room ≤ 2 ^ 31
+  pub view_low : CanEdit original plan → image.base + image.room ≤ 2 ^ 31
   view_low can = subst (λ (i : Program). i.base + i.room ≤ 2 ^ 31) (sym is.0)
       (within (image_of original).base (image_of original).room (image_room original)
       (accepted-program original can.sound).below)
@@ -93,37 +92,37 @@ module _ (original : List ℕ) (plan : Plan) (view : View) (is : IsViewOf origin
       within : (base room : ℕ) → room ≡ min (2 ^ 30) (0x80000000 - base) → base ≤ 0x80000000 → base + room ≤ 2 ^ 31
       within base room same below = omega arith
 
-  pub view_aligned : CanEdit original plan → view.image.base % 4096 ≡ 0
+  pub view_aligned : CanEdit original plan → image.base % 4096 ≡ 0
   view_aligned can = subst (λ (i : Program). i.base % 4096 ≡ 0) (sym is.0)
       (let base = (accepted-program original can.sound).base in omega arith)
 
-  pub view_room : CanEdit original plan → bound_of view.image.text view.graph plan ≤ view.image.room
-  view_room can = subst (λ (i : Program). bound_of i.text view.graph plan ≤ i.room) (sym is.0)
+  pub view_room : CanEdit original plan → bound_of image.text graph plan ≤ image.room
+  view_room can = subst (λ (i : Program). bound_of i.text graph plan ≤ i.room) (sym is.0)
       (subst (λ (g : Graph). bound_of (image_of original).text g plan ≤ (image_of original).room) (sym is.1)
       (subst (λ (n : ℕ). n ≤ (image_of original).room) (bound_is original plan) can.room))
 
-  pub view_work : CanDo original plan → IsWorkable view.graph plan.kind plan.cells plan.snips
+  pub view_work : CanDo original plan → IsWorkable graph plan.kind plan.cells plan.snips
   view_work work = subst (λ (g : Graph). IsWorkable g plan.kind plan.cells plan.snips) (sym is.1) work
 
-  pub view_words : CanEdit original plan → view.graph.blocks.words ≡ length view.image.text.words
-  view_words can = words_are view.image.text view.graph view_graph
+  pub view_words : CanEdit original plan → graph.blocks.words ≡ length image.text.words
+  view_words can = words_are image.text graph view_graph
 
   abbrev own_pieces : (ℕ → List Part) → List (List Item)
-  own_pieces dead = pieces_by view.image.text view.graph view.image.base plan.cells dead plan.snips
+  own_pieces dead = pieces_by image.text graph image.base plan.cells dead plan.snips
 
   -- the pieces of the view are those of the original
   view_pieces : (dead : ℕ → List Part) → own_pieces dead ≡ pieces_of original plan dead
   view_pieces dead =
-      ap (λ (i : Program). pieces_by i.text view.graph i.base plan.cells dead plan.snips) is.0
+      ap (λ (i : Program). pieces_by i.text graph i.base plan.cells dead plan.snips) is.0
       ∙ ap (λ (g : Graph). pieces_by (text_of original plan) g (cells_base original plan) plan.cells dead plan.snips) is.1
 
-  view_base : table_after view.image.base plan.cells + tables_size view.image.text ≡ code_base original plan
+  view_base : table_after image.base plan.cells + tables_size image.text ≡ code_base original plan
   view_base = ap (λ (i : Program). table_after i.base plan.cells + tables_size i.text) is.0
 
   module _ (placed : Placed) (tables : List ℕ)
-      (built : IsBuilt view.image.text view.graph view.image.base plan.cells plan.snips (placement_in placed))
-      (leads : LeadsTo view.image.text view.graph plan.snips (placement_in placed)
-      (record { base = table_after view.image.base plan.cells; bytes = tables }))
+      (built : IsBuilt image.text graph image.base plan.cells plan.snips (placement_in placed))
+      (leads : LeadsTo image.text graph plan.snips (placement_in placed)
+      (record { base = table_after image.base plan.cells; bytes = tables }))
     where
       pub code_is : All (λ word. word < 2 ^ 32) placed.code.items → AreBytes tables
           → IsNewCode original plan (placement_in placed) built.place
@@ -131,10 +130,10 @@ module _ (original : List ℕ) (plan : Plan) (view : View) (is : IsViewOf origin
       code_is words bytes = record {
         dead = built.dead;
         exact = subst (λ (i : Program). AreDead i.text (graph_in original plan) (named_on plan.snips) built.dead) is.0
-            (subst (λ (g : Graph). AreDead view.image.text g (named_on plan.snips) built.dead) is.1 built.exact);
+            (subst (λ (g : Graph). AreDead image.text g (named_on plan.snips) built.dead) is.1 built.exact);
         laid = subst (λ (a : ℕ). IsLaid (pieces_of original plan built.dead) a (placement_in placed) built.place) view_base
             (subst (λ (xs : List (List Item)). IsLaid xs
-            (table_after view.image.base plan.cells + tables_size view.image.text)
+            (table_after image.base plan.cells + tables_size image.text)
             (placement_in placed) built.place) (view_pieces built.dead) built.are.laid);
         size = subst (λ (xs : List (List Item)). 4 * length placed.code.items ≤ long_bytes xs) (view_pieces built.dead)
             built.are.size;
@@ -144,13 +143,13 @@ module _ (original : List ℕ) (plan : Plan) (view : View) (is : IsViewOf origin
         base = refl;
         leads = subst (λ (i : Program). LeadsTo i.text (graph_in original plan) plan.snips (placement_in placed)
             (record { base = table_after i.base plan.cells; bytes = tables })) is.0
-            (subst (λ (g : Graph). LeadsTo view.image.text g plan.snips (placement_in placed)
-            (record { base = table_after view.image.base plan.cells; bytes = tables })) is.1 leads);
+            (subst (λ (g : Graph). LeadsTo image.text g plan.snips (placement_in placed)
+            (record { base = table_after image.base plan.cells; bytes = tables })) is.1 leads);
         bytes = bytes;
       }
 
       pub entry_inside : AreFit (text_of original plan) (graph_in original plan) plan.snips
-          (pieces_of original plan built.dead) → (entry : ℕ) → entry < length view.image.text.words → entry < length placed.at.items
+          (pieces_of original plan built.dead) → (entry : ℕ) → entry < length image.text.words → entry < length placed.at.items
       entry_inside fit entry l =
           let many = fit.images in
           let pieces = ap length (view_pieces built.dead) in

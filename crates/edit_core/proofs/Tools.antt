@@ -3,7 +3,7 @@ use Rattle.std.proofs.Common.{◌≡◌, ℕ, ◌^◌, ◌≤◌, List, length, 
 use Rattle.eel_base.specs.declared.numbers.WordNo.{WordNo}
 use Rattle.cfg_blocks.specs.Marks.{numbers}
 use Rattle.cfg_normal.specs.Graph.{Graph}
-use Rattle.cfg_view.specs.declared.View.{View}
+use Rattle.cfg_view.specs.View.{Seen}
 use Rattle.cfg_view.specs.View.{view_of}
 use Rattle.snippets.specs.declared.snippet.Op.{Op}
 use Rattle.tool_kit.specs.declared.edge_ref.EdgeRef.{EdgeRef}
@@ -16,7 +16,7 @@ use Rattle.edit_core.specs.Written.{CanDo}
 use Rattle.edit_core.proofs.Views.{view_graph}
 
 module _ {F : Type 0} (says : F → EdgeRef → List Op → Type 0) (tool : Kept F) (bytes : List ℕ) (marks : List WordNo)
-    (kind : ToolKind) (cells : ℕ) (snips : List (List Op)) (view : View) (same_marks : marks ≡ tool.marks)
+    (kind : ToolKind) (cells : ℕ) (snips : List (List Op)) (view : Seen) (same_marks : marks ≡ tool.marks)
     (same_kind : kind ≡ tool.kind) (same_cells : cells ≡ tool.cells) (is : view ≡ view_of bytes (numbers marks))
     (answers : AreAnswers says tool.choose view.graph.edges snips) where
   abbrev plan : Plan
@@ -27,14 +27,14 @@ module _ {F : Type 0} (says : F → EdgeRef → List Op → Type 0) (tool : Kept
     kind = same_kind;
     marks = ap numbers same_marks;
     cells = same_cells;
-    snips = subst (λ (v : View). AreAnswers says tool.choose v.graph.edges snips)
+    snips = subst (λ (v : Seen). AreAnswers says tool.choose v.graph.edges snips)
         (is ∙ ap (λ (ms : List WordNo). view_of bytes (numbers ms)) same_marks) answers;
   }
 
   pub can_do : All (IsGood tool.cells) snips → tool.cells ≤ 2 ^ 22 → CountsEdges says tool bytes → CanDo bytes plan
   can_do good few counters = record {
     few = subst (λ (n : ℕ). n ≤ 2 ^ 22) (sym same_cells) few;
-    size = answers.size ∙ ap (λ (v : View). length v.graph.edges) is
+    size = answers.size ∙ ap (λ (v : Seen). length v.graph.edges) is
         ∙ ap (λ (g : Graph). length g.edges) (view_graph bytes plan);
     good = subst (λ (n : ℕ). All (IsGood n) snips) (sym same_cells) good;
     counters = counters plan asks;

@@ -4,7 +4,7 @@ use Rattle.elf32_sparc.specs.FileFault.{fault}
 use Rattle.elf32_sparc.specs.Image.{Program, image_of}
 use Rattle.cfg_blocks.specs.Entries.{entered_of}
 use Rattle.cfg_normal.specs.Graph.{Graph}
-use Rattle.cfg_view.specs.declared.View.{View}
+use Rattle.cfg_view.specs.View.{Seen}
 use Rattle.cfg_view.specs.View.{view_of}
 use Rattle.tool_kit.specs.Plans.{Plan}
 use Rattle.edit_core.specs.Taken.{CanEdit, bound_in, bound_of}
@@ -19,16 +19,16 @@ unfolding view_of entered_of
 view_graph file plan = refl
 
 -- what was seen of a file
-module _ (file : List ℕ) (plan : Plan) (view : View) (is : view ≡ view_of file plan.marks) where
-  pub view_is : IsViewOf file plan view
+module _ (file : List ℕ) (plan : Plan) (view : Seen) (is : view ≡ view_of file plan.marks) where
+  pub view_is : IsViewOf file plan view.image view.graph
   view_is = (
-    ap (λ (v : View). v.image) is ∙ view_image file plan.marks,
-    ap (λ (v : View). v.graph) is ∙ view_graph file plan,
+    ap (λ (v : Seen). v.image) is ∙ view_image file plan.marks,
+    ap (λ (v : Seen). v.graph) is ∙ view_graph file plan,
   )
 
   pub view_bound : bound_of view.image.text view.graph plan ≡ bound_in file plan
   view_bound =
-      ap (λ (v : View). bound_of v.image.text v.graph plan) is
+      ap (λ (v : Seen). bound_of v.image.text v.graph plan) is
       ∙ ap (λ (i : Program). bound_of i.text (view_of file plan.marks).graph plan) (view_image file plan.marks)
 
   -- it can be edited, where there is room

@@ -20,7 +20,7 @@ use Rattle.cfg_blocks.specs.Marks.{numbers}
 use Rattle.cfg_normal.specs.declared.Edge.{Edge}
 use Rattle.cfg_normal.specs.Graph.{Graph}
 use Rattle.cfg_view.specs.View.{view_of}
-use Rattle.cfg_normal.specs.Numbers.{node_number}
+use Rattle.cfg_normal.specs.Numbers.{is_node, node_number}
 use Rattle.liveness.specs.Live.{named_on}
 use Rattle.snippets.specs.declared.snippet.Op.{Op}
 use Rattle.snippets.specs.Ops.{cell_of}
@@ -51,6 +51,7 @@ kind_number kinds.Untaken = 2
 kind_number kinds.Call = 3
 kind_number kinds.Out = 4
 kind_number kinds.Land = 5
+kind_number kinds.Case = 6
 
 -- the tools by their numbers
 abbrev pub tool_number : ToolKind → ℕ
@@ -86,6 +87,8 @@ pub record HasGraph (original : List ℕ) (plan : Plan) (notes : Notes) : Type 0
       notes.edges ≡ note_edges graph plan.kind graph.edges plan.snips
   pub tool : notes.tool ≡ tool_number plan.kind
   pub cells : notes.cells ≡ plan.cells
+  -- each place is at a node of the graph
+  pub places : All (λ range. is_node (view_of original plan.marks).graph range.node ≡ true) notes.ranges
 
 -- Pages: what is mapped is what the original maps, its text no longer executable, and then the pages of the notes. The
 -- last of them is the editor's, and all others lie in the room. One of them has the cells, if there are any.

@@ -8,7 +8,7 @@ use Rattle.eel_base.specs.declared.numbers.Addr.{Addr}
 use Rattle.elf32_sparc.specs.Header.{e_entry}
 use Rattle.elf32_sparc.specs.FileFault.{load_fault}
 use Rattle.elf32_sparc.specs.Mapping.{mappings}
-use Rattle.elf32_sparc.specs.Image.{image_of}
+use Rattle.elf32_sparc.specs.Image.{Program, image_of}
 use Rattle.elf32_sparc.specs.Notes.{Notes, NoteSegment, NoteRange, notes_of}
 use Rattle.v8_decode.specs.declared.Part.{Part}
 use Rattle.notes.specs.Written.{notes_bytes}
@@ -22,7 +22,6 @@ use Rattle.cfg_normal.specs.declared.Slot.{Slot}
 use Rattle.cfg_normal.specs.declared.Slot.TheVariants as slots
 use Rattle.cfg_normal.specs.Graph.{Graph, graph_of}
 use Rattle.cfg_view.specs.View.{given_in}
-use Rattle.cfg_view.specs.declared.View.{View}
 use Rattle.cfg_normal.specs.Numbers.{node_number}
 use Rattle.liveness.specs.Live.{named_on}
 use Rattle.addr_translate.specs.Lookup.{TableAt}
@@ -167,7 +166,7 @@ module _ (original : List ℕ) (plan : Plan) where
   given_of = given_in (image_of original) plan.marks
 
   abbrev pub graph_in : Graph
-  graph_in = graph_of (blocks_of text_of given_of)
+  graph_in = graph_of (blocks_of text_of given_of) []
 
   -- where the cells stand, the tables behind them, and the code right behind those
   abbrev pub cells_base : ℕ
@@ -280,9 +279,9 @@ EditsRunAlike =
 
 -- ---- as the program keeps it
 
--- the view of the original
-abbrev pub IsViewOf : List ℕ → Plan → View → Type 0
-IsViewOf original plan view = (view.image ≡ image_of original) × (view.graph ≡ graph_in original plan)
+-- the image and the graph of the original, as it was seen
+abbrev pub IsViewOf : List ℕ → Plan → Program → Graph → Type 0
+IsViewOf original plan image graph = (image ≡ image_of original) × (graph ≡ graph_in original plan)
 
 abbrev pub placement_in : Placed → Placement
 placement_in placed = placement_of placed.code.items placed.at.items placed.ranges.items

@@ -9,7 +9,7 @@ ghost use Rattle.edit_core.specs.Written.{addr, cells_size as cells_size_of, pla
 use crate::segments::PAGE_SIZE;
 use crate::taking::Asked;
 use addr_translate::{build, build_halves, halves_size, table_size};
-use cfg_view::View;
+use cfg_normal::FlowGraph;
 use eel_base::{Addr, NoMemory, PieceNo, Text};
 use elf32_sparc::Image;
 use image_code::{Frame, pieces};
@@ -26,32 +26,36 @@ pub(crate) struct NewCode {
 
 /// The cells stand above a program's segments, the tables of the program behind them, and the images of its words right
 /// behind those, where there is as much room as an edit asks for.
-pub(crate) fn new_code(alloc: Global, view: &View, asked: &Asked) -> Result<NewCode, NoMemory>
-    requires text { IsText view.now.image.text }
-    requires graph { IsGraphOf view.now.image.text view.now.graph }
-    requires asked { IsWorkable view.now.graph asked.now.kind asked.now.cells asked.now.snips.items }
-    requires room { bound_by view.now.image.text view.now.graph asked.now.kind asked.now.cells asked.now.snips.items
-        ≤ view.now.image.room }
-    requires base { view.now.image.base % 4096 ≡ 0 }
-    requires low { view.now.image.base + view.now.image.room ≤ 2 ^ 31 }
-    ensures built { IfOk result (λ new. IsBuilt view.now.image.text view.now.graph view.now.image.base asked.now.cells
+pub(crate) fn new_code(
+    alloc: Global,
+    image: &Image,
+    graph: &FlowGraph,
+    asked: &Asked,
+) -> Result<NewCode, NoMemory>
+    requires text { IsText image.now.text }
+    requires graph { IsGraphOf image.now.text graph.now }
+    requires asked { IsWorkable graph.now asked.now.kind asked.now.cells asked.now.snips.items }
+    requires room { bound_by image.now.text graph.now asked.now.kind asked.now.cells asked.now.snips.items
+        ≤ image.now.room }
+    requires base { image.now.base % 4096 ≡ 0 }
+    requires low { image.now.base + image.now.room ≤ 2 ^ 31 }
+    ensures built { IfOk result (λ new. IsBuilt image.now.text graph.now image.now.base asked.now.cells
         asked.now.snips.items (placement_in new.placed)) }
     ensures leads { IfOk result (λ new.
-        LeadsTo view.now.image.text view.now.graph asked.now.snips.items (placement_in new.placed)
-        (record { base = table_after view.now.image.base asked.now.cells; bytes = new.tables.items })) }
+        LeadsTo image.now.text graph.now asked.now.snips.items (placement_in new.placed)
+        (record { base = table_after image.now.base asked.now.cells; bytes = new.tables.items })) }
 {
-    let image = &view.image;
     let text = image.text();
     let table = table_base(image, asked.cells);
     let frame = Frame {
         cells: image.base(),
         table,
     };
-    let live = live(alloc, text, &view.graph, &asked.snips)?;
+    let live = live(alloc, text, graph, &asked.snips)?;
     let pieces = pieces(
         alloc,
         text,
-        &view.graph,
+        graph,
         image.entry(),
         &asked.snips,
         &live,

@@ -12,7 +12,8 @@ use crate::building::{NewCode, code_base, new_code, table_base};
 use crate::noting::notes;
 use crate::segments::{cells_segment, code_segment, page_segment, tables_segment};
 use crate::taking::{Asked, EditFault, bound};
-use cfg_view::{View, look};
+use cfg_normal::FlowGraph;
+use cfg_view::look;
 use eel_base::{Addr, NoMemory, WordNo};
 use elf32_sparc::Image;
 use elf32_write::{NewSegment, write_around};
@@ -45,23 +46,28 @@ pub fn edit_bytes<F: Chooser>(
     if had < needed {
         return Err(EditFault::Room { needed, had });
     }
-    let file = edited(alloc, bytes, &view, &asked)?;
+    let file = edited(alloc, bytes, &view.image, &view.graph, &asked)?;
     Ok(file)
 }
 
 // The file that is written of a program.
-fn edited(alloc: Global, bytes: &[u8], view: &View, asked: &Asked) -> Result<Vec<u8>, NoMemory>
+fn edited(
+    alloc: Global,
+    bytes: &[u8],
+    image: &Image,
+    graph: &FlowGraph,
+    asked: &Asked,
+) -> Result<Vec<u8>, NoMemory>
     requires limit { length bytes.now ≤ 2 ^ 26 }
-    requires asked { (marks : List ℕ) × IsViewOf bytes.now (plan_of marks asked.now) view.now
+    requires asked { (marks : List ℕ) × IsViewOf bytes.now (plan_of marks asked.now) image.now graph.now
         × CanEdit bytes.now (plan_of marks asked.now) × CanDo bytes.now (plan_of marks asked.now) }
-    ensures { (marks : List ℕ) → IsViewOf bytes.now (plan_of marks asked.now) view.now
+    ensures { (marks : List ℕ) → IsViewOf bytes.now (plan_of marks asked.now) image.now graph.now
         → IfOk result (λ file. IsWritten bytes.now (plan_of marks asked.now) file.items) }
 {
-    let image = &view.image;
-    let new = new_code(alloc, view, asked)?;
+    let new = new_code(alloc, image, graph, asked)?;
     let entry = image_of(&new.placed.at, image.entry());
     let added = added(alloc, image, asked.cells, &new)?;
-    let notes = notes(alloc, bytes, view, asked, new.placed)?;
+    let notes = notes(alloc, bytes, image, graph, asked, new.placed)?;
     let notes = write_notes(alloc, &notes)?;
     let file = write_around(alloc, bytes, image, &added, entry, &notes)?;
     Ok(file)

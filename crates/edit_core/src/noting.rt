@@ -1,6 +1,8 @@
 //! The notes on an edit.
 ghost use Rattle.std.specs.Prelude.{◌≡◌, ℕ, List, ◌+◌, ◌*◌, ◌^◌, ◌<◌, ◌≤◌, ◌++◌, length, map, IfOk};
 ghost use Rattle.std.specs.List.{find};
+ghost use Rattle.std.specs.Option.{ForSome};
+ghost use Rattle.cfg_normal.specs.Graph.{IsEdgeIn, IsNodeIn};
 ghost use Rattle.eel_base.specs.CodeText.{IsText};
 ghost use Rattle.notes.specs.Seen.{notes_seen, edge_seen, range_seen, segment_seen};
 ghost use Rattle.cfg_normal.specs.Numbers.{node_number as node_number_of};
@@ -12,7 +14,6 @@ use crate::segments::{EDITOR_PAGE, PAGE_SIZE};
 use crate::taking::Asked;
 use cfg_blocks::EdgeKind;
 use cfg_normal::{Edge, FlowGraph, Node, Slot};
-use cfg_view::View;
 use eel_base::{Addr, BlockNo, NoMemory, Range, Text, WordNo};
 use elf32_sparc::Image;
 use elf32_write::delta;
@@ -26,22 +27,21 @@ use tool_kit::ToolKind;
 pub(crate) fn notes(
     alloc: Global,
     bytes: &[u8],
-    view: &View,
+    image: &Image,
+    graph: &FlowGraph,
     asked: &Asked,
     placed: Placed,
 ) -> Result<Notes, NoMemory>
     requires limit { length bytes.now ≤ 2 ^ 26 }
-    requires words { view.now.graph.blocks.words ≡ length view.now.image.text.words }
-    requires text { IsText view.now.image.text }
+    requires words { graph.now.blocks.words ≡ length image.now.text.words }
+    requires text { IsText image.now.text }
     requires few { asked.now.cells ≤ 2 ^ 22 }
-    requires low { table_after view.now.image.base asked.now.cells + tables_size_of view.now.image.text
+    requires low { table_after image.now.base asked.now.cells + tables_size_of image.now.text
         + 4 * length placed.code.items ≤ 2 ^ 31 }
-    ensures { (marks : List ℕ) → IsViewOf bytes.now (plan_of marks asked.now) view.now
+    ensures { (marks : List ℕ) → IsViewOf bytes.now (plan_of marks asked.now) image.now graph.now
         → IfOk result (λ n. notes_seen n ≡ notes_on bytes.now (plan_of marks asked.now) (placement_in placed)) }
 {
-    let image = &view.image;
     let text = image.text();
-    let graph = &view.graph;
     let table = table_base(image, asked.cells);
     Ok(Notes {
         delta: delta(image),
@@ -128,7 +128,8 @@ fn places(
 
 // The first edge that runs a slot behind the text.
 fn first_off(graph: &FlowGraph) -> Option<Edge>
-    ensures { result ≡ find is_off_of graph.now.edges }
+    ensures first { result ≡ find is_off_of graph.now.edges }
+    ensures inside { ForSome result (IsEdgeIn graph.now.blocks graph.now.opens) }
 {
     graph.edges().iter().copied().find(|edge| is_off(*edge))
 }
@@ -140,7 +141,8 @@ fn is_off(edge: Edge) -> bool
 }
 
 fn off_range(text: &Text, graph: &FlowGraph, table: Addr, edge: &Edge) -> Range
-    requires { table.0 ≤ 2 ^ 31 }
+    requires table { table.0 ≤ 2 ^ 31 }
+    requires edge { IsEdgeIn graph.now.blocks graph.now.opens edge.now }
     ensures { range_seen result ≡ off_range_of text.now graph.now table.0 edge.now }
 {
     Range {
@@ -176,6 +178,7 @@ fn note_edges(alloc: Global, graph: &FlowGraph, asked: &Asked) -> Result<Vec<Not
 }
 
 fn note_edge(graph: &FlowGraph, kind: ToolKind, edge: &Edge, snippet: &Snippet) -> NoteEdge
+    requires { IsEdgeIn graph.now.blocks graph.now.opens edge.now }
     ensures { edge_seen result ≡ note_edge_of graph.now kind edge.now snippet.now }
 {
     NoteEdge {
@@ -206,15 +209,22 @@ fn kind_number(kind: EdgeKind) -> u32
         EdgeKind::Call => 3,
         EdgeKind::Out => 4,
         EdgeKind::Land => 5,
+        EdgeKind::Case => 6,
     }
 }
 
-// A block's own number, or the number of blocks for all that lies outside.
+// A block's own number, the number of blocks for all that lies outside, and those behind it for landed copies.
 fn node_number(graph: &FlowGraph, node: Node) -> u32
+    requires { IsNodeIn graph.now.blocks graph.now.opens node }
     ensures { result ≡ node_number_of graph.now node }
 {
     match node {
         Node::Block(block) => block.0,
         Node::X => graph.count(),
+        Node::Landed(block) => {
+            // A graph has few blocks.
+            let _edges = graph.edges();
+            graph.count() + 1 + block.0
+        }
     }
 }

@@ -5,10 +5,9 @@ ghost use Rattle.elf32_write.specs.Headers.{segment_seen};
 ghost use Rattle.elf32_write.specs.Laws.{AreBytes};
 ghost use Rattle.edit_core.specs.Written.{cells_at, code_at, page_segment as page_segment_of, table_at};
 
-use byteorder::{BigEndian, ByteOrder};
 use eel_base::{Addr, NoMemory};
 use elf32_sparc::SegFlags;
-use elf32_write::NewSegment;
+use elf32_write::{NewSegment, put_words};
 use std::alloc::Global;
 
 // PF_R alone, with PF_X, and with PF_W.
@@ -71,16 +70,11 @@ pub(crate) fn code_segment(alloc: Global, base: Addr, code: &[u32]) -> Result<Ne
 }
 
 // Words as they stand in memory.
-#[tactic(auto, unfolding(elf32_write::specs::Bytes::words_bytes))]
 fn code_bytes(alloc: Global, code: &[u32]) -> Result<Vec<u8>, NoMemory>
     ensures { IfOk result (λ bytes. bytes.items ≡ words_bytes code.now) }
 {
     let mut bytes = Vec::new(alloc);
-    for word in code {
-        let mut field = [0; 4];
-        BigEndian::write_u32(&mut field, *word);
-        bytes.extend_from_slice(&field)?;
-    }
+    put_words(&mut bytes, code)?;
     Ok(bytes)
 }
 

@@ -81,12 +81,13 @@ fn operations(graph: &FlowGraph, kind: ToolKind, snips: &[Snippet]) -> u64
 
 // How often the snippet of an edge is made.
 fn copies(graph: &FlowGraph, edge: &Edge) -> u32
-    requires { IsEdgeIn graph.now.blocks edge.now }
+    requires { IsEdgeIn graph.now.blocks graph.now.opens edge.now }
     ensures copies { result ≡ copies_of graph.now.blocks edge.now }
     ensures few { result ≤ 2 ^ 20 }
 {
     match (edge.kind, edge.to) {
         (EdgeKind::Land, Node::Block(block)) => graph.words(block),
+        (EdgeKind::Land, Node::Landed(block)) => graph.words(block),
         (EdgeKind::Land, Node::X) => 0,
         _ => 1,
     }

@@ -1,6 +1,6 @@
 -- What there is after a call, by its status.
 use Rattle.std.proofs.Common.{◌≡◌, ℕ, ◌⊎◌, inl, inr, Some, None, ap, sym, subst, arith}
-use Rattle.eel.specs.Command.{Command, EditPlain, EditScript, Run, Show, Restore, EditProfile, Counts, Demo, Unknown}
+use Rattle.eel.specs.Command.{Command, EditPlain, EditScript, Run, Show, Restore, EditProfile, Counts, Demo, EditWeighed, ListWords, PutWords, Unknown}
 use Rattle.eel.specs.Outcome.{Shows, shown, failed, status_of}
 use Rattle.eel.specs.Answers.{Ran, IsDone, IsUnrefused, IsRefusal, IsUnchanged, HasFailed, WasWanting, meaning_of, unknown_means}
 use Rattle.eel.specs.Answers.Shared.{Outside, with_err}
@@ -10,7 +10,11 @@ use Rattle.eel.proofs.Editing.{edit_by_status}
 use Rattle.eel.proofs.Scripting.{script_by_status}
 use Rattle.eel.proofs.Running.{run_by_status}
 use Rattle.eel.proofs.Dumping.{dump_by_status}
-use Rattle.eel.proofs.Showing.{show_by_status}
+use Rattle.eel.specs.Answers.List.{listed_of}
+use Rattle.eel.specs.Answers.Show.{shown_of}
+use Rattle.eel.proofs.Assembling.{words_by_status}
+use Rattle.eel.proofs.Printing.{print_by_status}
+use Rattle.eel.proofs.WeighedEdits.{weighed_by_status}
 use Rattle.eel.proofs.Restoring.{restore_by_status}
 use Rattle.eel.proofs.ProfileEdits.{profile_by_status}
 use Rattle.eel.proofs.Counted.{counts_by_status}
@@ -32,7 +36,10 @@ by_status (EditPlain input output) = edit_by_status input output
 by_status (EditScript input output script) = script_by_status input output script
 by_status (Run file limit None args) = run_by_status file limit args
 by_status (Run file limit (Some dump) args) = dump_by_status file limit dump args
-by_status (Show file) = show_by_status file
+by_status (Show file) = print_by_status shown_of file
+by_status (ListWords file) = print_by_status listed_of file
+by_status (PutWords listing output) = words_by_status listing output
+by_status (EditWeighed input output weights) = weighed_by_status input output weights
 by_status (Restore written output) = restore_by_status written output
 by_status (EditProfile input output) = profile_by_status input output
 by_status (Counts written dump) = counts_by_status written dump
@@ -70,6 +77,9 @@ unrefused_shown (EditPlain input output) old new status r = tt
 unrefused_shown (EditScript input output script) old new status r = tt
 unrefused_shown (Run file limit dump args) old new status r = tt
 unrefused_shown (Show file) old new status r = tt
+unrefused_shown (ListWords file) old new status r = tt
+unrefused_shown (PutWords listing output) old new status r = tt
+unrefused_shown (EditWeighed input output weights) old new status r = tt
 unrefused_shown (Restore written output) old new status r = tt
 unrefused_shown (EditProfile input output) old new status r = tt
 unrefused_shown (Counts written dump) old new status r = tt

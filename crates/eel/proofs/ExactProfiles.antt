@@ -8,12 +8,13 @@ use Rattle.std.proofs.lemmas.List.Elements.{All-cons, All-nil}
 use Rattle.elf32_sparc.specs.Notes.{NoNotes, Notes, notes_of}
 use Rattle.v8_step.specs.Valid.{AreBytes}
 use Rattle.flows.specs.Flows.{EdgeSet, rest}
-use Rattle.flows.specs.Trees.{IsSpanningTree, all_nodes}
+use Rattle.flows.specs.Trees.{IsSpanningTree}
 use Rattle.snippets.specs.declared.snippet.Op.{Op}
 use Rattle.snippets.specs.declared.snippet.Op.TheVariants.{Add}
 use Rattle.snippets.specs.Ops.{cell_of}
 use Rattle.snippets.specs.Cells.{WorksBelow}
 use Rattle.cfg_normal.specs.Graph.{Graph}
+use Rattle.cfg_normal.specs.Numbers.{is_node}
 use Rattle.span_tree.specs.Cells.{cell_at, cell_count, has_cell}
 use Rattle.span_tree.specs.Links.{links_of}
 use Rattle.span_tree.proofs.Numbered.{cell_within}
@@ -55,13 +56,14 @@ counters_below count (cell ∷ cells) below =
     All-cons (WorksBelow count) (counter_of cell) (map counter_of cells) (counter_below count cell (below 0))
     (counters_below count cells (λ e. below (suc e)))
 
-off_tree : (graph : Graph) (cells : List (Option ℕ)) → AreCells graph cells → CountsOffTree graph (profile_plan cells)
-off_tree graph cells are = record {
+off_tree : (graph : Graph) (weights : List ℕ) (cells : List (Option ℕ)) → AreCells graph weights cells
+    → CountsOffTree graph (profile_plan cells)
+off_tree graph weights cells are = record {
   kind = refl;
   size = length-map cells counter_of ∙ are.size;
   counters = are_counters cells are.numbered;
   below = counters_below (cell_count cells) cells (λ e. cell_within cells e are.numbered);
-  tree = subst (λ (counted : EdgeSet). IsSpanningTree (links_of graph) all_nodes (rest counted))
+  tree = subst (λ (counted : EdgeSet). IsSpanningTree (links_of graph) (is_node graph) (rest counted))
       (sym (counted_where cells)) are.spans;
 }
 
@@ -73,16 +75,17 @@ notes_in notes (Err why) = notes
 pub one_notes : (file : List ℕ) (one other : Notes) → notes_of file ≡ Ok one → notes_of file ≡ Ok other → other ≡ one
 one_notes file one other first second = ap (notes_in one) (sym second ∙ first)
 
-pub is_profiled : (original file : List ℕ) (notes : Notes) (profile : IsProfileOf original file) → AreBytes original
+pub is_profiled : (weights original file : List ℕ) (notes : Notes) (profile : IsProfileOf weights original file)
+    → AreBytes original
     → notes_of file ≡ Ok notes → IsProfiled original (profile_plan profile.cells) file notes
-is_profiled original file notes profile bytes read =
+is_profiled weights original file notes profile bytes read =
     let faithful = profile.made.faithful in
     subst (λ (n : Notes). IsProfiled original (profile_plan profile.cells) file n)
     (one_notes file notes faithful.notes read faithful.whole.reads)
     (record {
       sound = profile.made.taken.sound;
       bytes = bytes;
-      counters = off_tree (graph_in original) profile.cells profile.are;
+      counters = off_tree (graph_in original) weights profile.cells profile.are;
       graph = faithful.graph;
       dead = faithful.dead;
       runs = faithful.runs;
@@ -95,7 +98,7 @@ pub exact_in : (file : List ℕ) (notes : Notes) (dump : Dump) → notes_of file
     (dump_at notes (start_of file args input) m) (visits_by notes (start_of file args input) m - 1)
 exact_in file notes dump read original args input m run =
     counts_are_exact original (profile_plan run.profile.cells) file notes args input m
-    (is_profiled original file notes run.profile run.bytes read) run.arguments run.given run.untouched run.few
+    (is_profiled run.weights original file notes run.profile run.bytes read) run.arguments run.given run.untouched run.few
 
 pub are_exact : (file : List ℕ) (notes : Notes) (dump : Dump) (counts : List ℕ) → notes_of file ≡ Ok notes
     → AreCounts notes dump counts → AreExact file notes dump counts

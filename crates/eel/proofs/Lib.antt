@@ -14,7 +14,9 @@ pub mod Profiled
 pub mod Restoring
 pub mod Running
 pub mod Scripting
-pub mod Showing
+pub mod Printing
+pub mod Assembling
+pub mod WeighedEdits
 pub mod Tame
 pub mod Telling
 pub mod Tools

@@ -6,12 +6,12 @@ use Rattle.edit_core.specs.declared.taking.EditFault.TheVariants as faults
 use Rattle.eel.specs.Outcome.{Outcome, BadFile, NoRoom, OutOfMemory, status_of, line_of}
 use Rattle.eel.specs.Answers.Shared.{Store, Outside, edit_limit}
 use Rattle.eel.specs.Answers.Edit.{refusal_of}
-use Rattle.eel.specs.Answers.Profile.{ProfileRefuses, Profiles, unread, refused, put, IsNotProfiled, IsProfiled, profile_means}
+use Rattle.eel.specs.Answers.Profile.{ProfileRefuses, Profiles, unread, refused, put, IsNotProfiled, IsProfiled, guessed, profile_means}
 use Rattle.eel.proofs.Later.{appended-nil}
 use Rattle.eel.proofs.Meanings.{AnyRose, IsByStatus, IsBad, bad, refusal_is_bad, wanting_is_bad, unread_not_done, unread_failed, put_done, put_refused, put_failed}
 
 -- what is refused says why
-pub profile_refused : (name bytes : List ℕ) (fault : EditFault) → ProfileRefuses bytes fault
+pub profile_refused : (name bytes : List ℕ) (fault : EditFault) → ProfileRefuses (guessed bytes) bytes fault
     → IsNotProfiled name bytes (refusal_of name fault)
 profile_refused name bytes (faults.File first) is = (refl, (first, is, refl))
 profile_refused name bytes (faults.Room needed had) (cells, are, cramped) = (cells, refl, are, cramped)

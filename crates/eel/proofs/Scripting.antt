@@ -30,10 +30,14 @@ file_refused input bytes script lines _ is = absurd is
 -- S is refused
 pub lines_refused : (name lines : List ℕ) (edges : ℕ) (said : _) (fault : ScriptFault)
     → AllSay (lines_of lines) said → IsFault edges said fault → IsBadScript edges name lines (script_refusal_of name fault)
-lines_refused name lines edges said (script_faults.Line number) say is = (refl, (said, say, is))
-lines_refused name lines edges said (script_faults.Edge number) say is = (refl, (said, say, is))
-lines_refused name lines edges said (script_faults.Cell number) say is = (refl, (said, say, is))
-lines_refused name lines edges said (script_faults.Ops number) say is = (refl, (said, say, is))
+lines_refused name lines edges said (script_faults.Line number) say is =
+    (refl, (said, script_faults.Line number, say, is, refl))
+lines_refused name lines edges said (script_faults.Edge number) say is =
+    (refl, (said, script_faults.Edge number, say, is, refl))
+lines_refused name lines edges said (script_faults.Cell number) say is =
+    (refl, (said, script_faults.Cell number, say, is, refl))
+lines_refused name lines edges said (script_faults.Ops number) say is =
+    (refl, (said, script_faults.Ops number, say, is, refl))
 lines_refused name lines edges said script_faults.NoMemory say is = tt
 
 pub script_refused : (input bytes script lines : List ℕ) (edges : ℕ) (outcome : Outcome) → IsSound bytes

@@ -44,7 +44,7 @@ use Rattle.exact_counts.proofs.Soon.{profiles_end_soon}
 use Rattle.exact_counts.proofs.Totals.{executions_add_up}
 use Rattle.eel.specs.Answers.Demo.{EndsAlone, alone, walk_alone}
 use Rattle.eel.specs.Answers.Dump.{IsNoted}
-use Rattle.eel.specs.Answers.Profile.{IsProfileOf, ProfileRefuses, profile_plan}
+use Rattle.eel.specs.Answers.Profile.{IsProfileOf, ProfileRefuses, guessed, profile_plan}
 use Rattle.eel.specs.Tame.{AreAbove, EndsWithin, IsLastDump, IsNotedFile, IsTame}
 use Rattle.eel.proofs.ExactProfiles.{is_profiled, one_notes}
 
@@ -64,7 +64,8 @@ only_memory dump (count_faults.Negative edge value) ended may = absurd may
 -- ---- the edit
 
 -- nothing but want of memory refuses a profile
-pub profiled_or_wanting : (file : List ℕ) → IsTame file → (fault : EditFault) → ProfileRefuses file fault
+pub profiled_or_wanting : (file : List ℕ) → IsTame file → (fault : EditFault)
+    → ProfileRefuses (guessed file) file fault
     → fault ≡ faults.NoMemory
 profiled_or_wanting file tame (faults.File first) is = absurd (cc (tame.sound, is))
 profiled_or_wanting file tame (faults.Room needed had) (cells, are, cramped) =
@@ -78,7 +79,7 @@ profiled_or_wanting file tame (faults.Room needed had) (cells, are, cramped) =
     absurd (omega (arith, little, room, needs, has, less))
 profiled_or_wanting file tame faults.NoMemory is = refl
 
-pub is_noted_file : (file written : List ℕ) → IsProfileOf file written → IsNotedFile written
+pub is_noted_file : (file written : List ℕ) → IsProfileOf (guessed file) file written → IsNotedFile written
 is_noted_file file written profile =
     let faithful = profile.made.faithful in record { notes = faithful.notes; reads = faithful.whole.reads }
 
@@ -114,13 +115,13 @@ no_arguments = record { few = omega arith; short = omega arith; bytes = All-nil 
 
 -- ---- the profile of a tame file, with its notes
 
-module _ (file written : List ℕ) (tame : IsTame file) (profile : IsProfileOf file written) (notes : Notes)
+module _ (file written : List ℕ) (tame : IsTame file) (profile : IsProfileOf (guessed file) file written) (notes : Notes)
     (reads : notes_of written ≡ Ok notes) where
   abbrev plan : Plan
   plan = profile_plan profile.cells
 
   is : IsProfiled file plan written notes
-  is = is_profiled file written notes profile tame.bytes reads
+  is = is_profiled (guessed file) file written notes profile tame.bytes reads
 
   pub loads : load_fault written ≡ None
   loads = profile.made.faithful.whole.loads

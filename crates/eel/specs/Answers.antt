@@ -5,9 +5,13 @@ pub mod Edit
 pub mod Script
 pub mod Tool
 pub mod Profile
+pub mod Weighed
 pub mod Run
 pub mod Dump
+pub mod Print
 pub mod Show
+pub mod List
+pub mod Words
 pub mod Restore
 pub mod Counts
 pub mod Demo
@@ -22,8 +26,11 @@ use Rattle.eel.specs.Answers.Script.{script_means}
 use Rattle.eel.specs.Answers.Run.{run_means}
 use Rattle.eel.specs.Answers.Dump.{dump_means}
 use Rattle.eel.specs.Answers.Show.{show_means}
+use Rattle.eel.specs.Answers.List.{list_means}
+use Rattle.eel.specs.Answers.Words.{words_means}
 use Rattle.eel.specs.Answers.Restore.{restore_means}
 use Rattle.eel.specs.Answers.Profile.{profile_means}
+use Rattle.eel.specs.Answers.Weighed.{weighed_means}
 use Rattle.eel.specs.Answers.Counts.{counts_means}
 use Rattle.eel.specs.Answers.Demo.{demo_means}
 
@@ -43,8 +50,11 @@ meaning_of (words.EditScript input output script) = script_means input output sc
 meaning_of (words.Run file limit None args) = run_means file limit args
 meaning_of (words.Run file limit (Some dump) args) = dump_means file limit dump args
 meaning_of (words.Show file) = show_means file
+meaning_of (words.ListWords file) = list_means file
+meaning_of (words.PutWords listing output) = words_means listing output
 meaning_of (words.Restore written output) = restore_means written output
 meaning_of (words.EditProfile input output) = profile_means input output
+meaning_of (words.EditWeighed input output weights) = weighed_means input output weights
 meaning_of (words.Counts written dump) = counts_means written dump
 meaning_of (words.Demo number routines) = demo_means number routines
 meaning_of words.Unknown = unknown_means

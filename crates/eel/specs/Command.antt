@@ -16,10 +16,16 @@ pub data Command : Type 0 where
   EditScript : (input output script : List ℕ) → Command
   -- edit INPUT OUTPUT profile
   EditProfile : (input output : List ℕ) → Command
+  -- edit INPUT OUTPUT profile WEIGHTS
+  EditWeighed : (input output weights : List ℕ) → Command
   -- run FILE [-n LIMIT] [-d DUMP] [-- ARG..], the two options in either order
   Run : (file : List ℕ) (limit : ℕ) (dump : Option (List ℕ)) (args : List (List ℕ)) → Command
   -- show FILE
   Show : (file : List ℕ) → Command
+  -- list FILE
+  ListWords : (file : List ℕ) → Command
+  -- words LISTING OUTPUT
+  PutWords : (listing output : List ℕ) → Command
   -- restore WRITTEN OUTPUT
   Restore : (written output : List ℕ) → Command
   -- counts WRITTEN DUMP
@@ -37,10 +43,15 @@ tool_of input output tool =
     if bytes_eq tool (codes "plain") then EditPlain input output else
     if bytes_eq tool (codes "profile") then EditProfile input output else Unknown
 
+-- a tool that takes one
+abbrev pub tool_with : List ℕ → List ℕ → List ℕ → List ℕ → Command
+tool_with input output tool file =
+    if bytes_eq tool (codes "script") then EditScript input output file else
+    if bytes_eq tool (codes "profile") then EditWeighed input output file else Unknown
+
 abbrev pub edit_of : List (List ℕ) → Command
 edit_of (input ∷ output ∷ tool ∷ []) = tool_of input output tool
-edit_of (input ∷ output ∷ tool ∷ script ∷ []) =
-    if bytes_eq tool (codes "script") then EditScript input output script else Unknown
+edit_of (input ∷ output ∷ tool ∷ file ∷ []) = tool_with input output tool file
 edit_of _ = Unknown
 
 -- ---- run
@@ -118,6 +129,16 @@ abbrev pub show_of : List (List ℕ) → Command
 show_of (file ∷ []) = Show file
 show_of _ = Unknown
 
+-- ---- list, words
+
+abbrev pub list_of : List (List ℕ) → Command
+list_of (file ∷ []) = ListWords file
+list_of _ = Unknown
+
+abbrev pub words_of : List (List ℕ) → Command
+words_of (listing ∷ output ∷ []) = PutWords listing output
+words_of _ = Unknown
+
 -- ---- restore
 
 abbrev pub restore_of : List (List ℕ) → Command
@@ -156,6 +177,8 @@ command_of (verb ∷ words) =
     if bytes_eq verb (codes "edit") then edit_of words else
     if bytes_eq verb (codes "run") then run_of words else
     if bytes_eq verb (codes "show") then show_of words else
+    if bytes_eq verb (codes "list") then list_of words else
+    if bytes_eq verb (codes "words") then words_of words else
     if bytes_eq verb (codes "restore") then restore_of words else
     if bytes_eq verb (codes "counts") then counts_of words else
     if bytes_eq verb (codes "demo") then demo_of words else Unknown
@@ -179,6 +202,9 @@ command_seen (variants.Run file limit dump args) = Run file.now limit (name_seen
 command_seen (variants.Show file) = Show file.now
 command_seen (variants.Restore written output) = Restore written.now output.now
 command_seen (variants.EditProfile input output) = EditProfile input.now output.now
+command_seen (variants.EditWeighed input output weights) = EditWeighed input.now output.now weights.now
+command_seen (variants.ListWords file) = ListWords file.now
+command_seen (variants.PutWords listing output) = PutWords listing.now output.now
 command_seen (variants.Counts written dump) = Counts written.now dump.now
 command_seen (variants.Demo number routines) = Demo number routines
 command_seen variants.Unknown = Unknown

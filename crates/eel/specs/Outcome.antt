@@ -23,7 +23,7 @@ pub data Outcome : Type 0 where
   BadWords : Outcome
   -- the file has this fault
   BadFile : (name : List ℕ) (code : ℕ) → Outcome
-  -- the line of the script with this number is bad
+  -- the line with this number is bad, of a script, of weights or of a listing
   BadLine : (name : List ℕ) (number : ℕ) (cause : LineCause) → Outcome
   -- the file leaves less room than an edit asks for
   NoRoom : (name : List ℕ) (needed had : ℕ) → Outcome
@@ -72,12 +72,13 @@ ending_text (Some (endings.Trap number)) steps = codes "trap " ++ decimal number
 ending_text (Some endings.Window) steps = codes "window"
 ending_text (Some endings.Couple) steps = codes "couple"
 
--- what is bad about a line of a script
+-- what is bad about a line
 abbrev pub cause_text : LineCause → List ℕ
 cause_text causes.Grammar = codes "grammar"
 cause_text causes.Edge = codes "edge"
 cause_text causes.Cell = codes "cell"
 cause_text causes.Operations = codes "operations"
+cause_text causes.Total = codes "total"
 
 -- why a dump has no counts
 abbrev pub count_cause_text : CountCause → List ℕ

@@ -5,7 +5,7 @@ ghost use Rattle.std.specs.List.{All, list_all};
 ghost use Rattle.v8_step.specs.Valid.{AreBytes};
 ghost use Rattle.v8_process.specs.Arguments.{AreArguments};
 ghost use Rattle.v8_process.specs.Start.{strings};
-ghost use Rattle.eel.specs.Command.{KeepsLimits, command_of, command_seen, edit_of, tool_of, run_of, options_of, after_limit, after_dump, limited, arguments_of, are_few, is_digit, limit_of, number_of, name_seen, restore_of, counts_of, demo_of, demo_with as demo_with_of, show_of, texts, unlimited};
+ghost use Rattle.eel.specs.Command.{KeepsLimits, command_of, command_seen, edit_of, list_of, tool_of, tool_with, words_of, run_of, options_of, after_limit, after_dump, limited, arguments_of, are_few, is_digit, limit_of, number_of, name_seen, restore_of, counts_of, demo_of, demo_with as demo_with_of, show_of, texts, unlimited};
 
 /// What the words ask for.
 #[derive(Clone, Copy)]
@@ -26,6 +26,13 @@ pub enum Command<'a> {
         input: &'a str,
         output: &'a str,
     },
+    /// `edit INPUT OUTPUT profile WEIGHTS`: write it with counters off the tree that weighs most by the counts in the file
+    /// `weights`.
+    EditWeighed {
+        input: &'a str,
+        output: &'a str,
+        weights: &'a str,
+    },
     /// `run FILE [-n LIMIT] [-d DUMP] [-- ARG..]`: run the program `file` with these arguments, for `limit` steps at
     /// most, and write what it has come to as the file `dump`, where one is named.
     Run {
@@ -37,6 +44,15 @@ pub enum Command<'a> {
     /// `show FILE`: print the routines, blocks and edges of the program `file`.
     Show {
         file: &'a str,
+    },
+    /// `list FILE`: print the instructions of the program `file`, a line for each word of its text.
+    ListWords {
+        file: &'a str,
+    },
+    /// `words LISTING OUTPUT`: write the words of the file `listing`, which is such lines, as the file `output`.
+    PutWords {
+        listing: &'a str,
+        output: &'a str,
     },
     /// `restore WRITTEN OUTPUT`: write the original that the file `written` was made of as the file `output`.
     Restore {
@@ -86,6 +102,8 @@ pub fn parse<'a>(words: &'a [&'a str]) -> Command<'a>
         [verb, words @ ..] if *verb == "edit" => parse_edit(words),
         [verb, words @ ..] if *verb == "run" => parse_run(words),
         [verb, words @ ..] if *verb == "show" => parse_show(words),
+        [verb, words @ ..] if *verb == "list" => parse_list(words),
+        [verb, words @ ..] if *verb == "words" => parse_words(words),
         [verb, words @ ..] if *verb == "restore" => parse_restore(words),
         [verb, words @ ..] if *verb == "counts" => parse_counts(words),
         [verb, words @ ..] if *verb == "demo" => parse_demo(words),
@@ -99,11 +117,7 @@ fn parse_edit<'a>(words: &'a [&'a str]) -> Command<'a>
 {
     match words {
         [input, output, tool] => parse_tool(input, output, tool),
-        [input, output, tool, script] if *tool == "script" => Command::EditScript {
-            input,
-            output,
-            script,
-        },
+        [input, output, tool, file] => parse_tool_with(input, output, tool, file),
         _ => Command::Unknown,
     }
 }
@@ -121,12 +135,53 @@ fn parse_tool<'a>(input: &'a str, output: &'a str, tool: &str) -> Command<'a>
     Command::Unknown
 }
 
+/// An edit by a tool that takes a file.
+fn parse_tool_with<'a>(input: &'a str, output: &'a str, tool: &str, file: &'a str) -> Command<'a>
+    ensures { command_seen result ≡ tool_with input.now output.now tool.now file.now }
+{
+    if tool == "script" {
+        return Command::EditScript {
+            input,
+            output,
+            script: file,
+        };
+    }
+    if tool == "profile" {
+        return Command::EditWeighed {
+            input,
+            output,
+            weights: file,
+        };
+    }
+    Command::Unknown
+}
+
 /// What follows the word `show`.
 fn parse_show<'a>(words: &'a [&'a str]) -> Command<'a>
     ensures { command_seen result ≡ show_of (texts words.now) }
 {
     match words {
         [file] => Command::Show { file },
+        _ => Command::Unknown,
+    }
+}
+
+/// What follows the word `list`.
+fn parse_list<'a>(words: &'a [&'a str]) -> Command<'a>
+    ensures { command_seen result ≡ list_of (texts words.now) }
+{
+    match words {
+        [file] => Command::ListWords { file },
+        _ => Command::Unknown,
+    }
+}
+
+/// What follows the word `words`.
+fn parse_words<'a>(words: &'a [&'a str]) -> Command<'a>
+    ensures { command_seen result ≡ words_of (texts words.now) }
+{
+    match words {
+        [listing, output] => Command::PutWords { listing, output },
         _ => Command::Unknown,
     }
 }

@@ -15,7 +15,7 @@ ghost use Rattle.edit_core.specs.declared.taking.EditFault.TheVariants as edit_f
 ghost use Rattle.eel.specs.Outcome.{Stream, ending_text as ending_text_of, outcome_seen, stream};
 ghost use Rattle.eel.specs.Answers.Shared.{Feed, Store, outside};
 ghost use Rattle.eel.specs.Answers.Dump.{IsNoted};
-ghost use Rattle.eel.specs.Answers.Profile.{IsProfileOf};
+ghost use Rattle.eel.specs.Answers.Profile.{IsProfileOf, guessed};
 ghost use Rattle.eel.specs.Answers.Demo.{EndsAlone, IsTold, TellOf, Tells, alone, demo_lines as demo_lines_of, ending_line, executions_line, name_line, size_line, size_of as size_of_file, walk_alone};
 ghost use Rattle.eel.specs.Tame.{EndsWithin, IsLastDump, IsNotedFile, IsTame};
 
@@ -145,7 +145,7 @@ fn executions(alloc: Global, original: &[u8]) -> Result<u128, NoMemory>
 /// The program with counters.
 fn profile(alloc: Global, original: &[u8]) -> Result<Vec<u8>, NoMemory>
     requires { IsTame original.now }
-    ensures { IfOk result (λ written. IsProfileOf original.now written.items) }
+    ensures { IfOk result (λ written. IsProfileOf (guessed original.now) original.now written.items) }
 {
     match profiled(alloc, original) {
         Ok(written) => Ok(written),

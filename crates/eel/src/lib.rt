@@ -2,9 +2,11 @@
 //! given.
 #![tactic(auto)]
 
+mod assembly;
 mod command;
 mod counting;
 mod demo;
+mod disassembly;
 mod dumps;
 mod edit;
 mod listing;
@@ -15,6 +17,7 @@ mod run;
 mod texts;
 mod tooling;
 mod top;
+mod weighing;
 
 pub use outcome::{Outcome, show};
 pub use top::eel;

@@ -1,10 +1,11 @@
 //! The command `show`.
 ghost use Rattle.std.specs.Prelude.{◌≡◌, ◌≤◌, IfOk, IfErr};
-ghost use Rattle.cfg_view.specs.View.{IsView};
+ghost use Rattle.cfg_view.specs.View.{view_seen, IsView};
 ghost use Rattle.eel.specs.Outcome.{Stream, outcome_seen, stream};
-ghost use Rattle.eel.specs.Answers.Files.{IsSound};
+ghost use Rattle.eel.specs.Answers.Files.{IsNotSound, IsSound};
 ghost use Rattle.eel.specs.Answers.Shared.{Feed, outside, store};
-ghost use Rattle.eel.specs.Answers.Show.{IsNotShown, Lists, lines_of, shown_of};
+ghost use Rattle.eel.specs.Answers.Print.{Prints};
+ghost use Rattle.eel.specs.Answers.Show.{lines_of, shown_of};
 
 use crate::edit::EDIT_LIMIT;
 use crate::outcome::Outcome;
@@ -12,7 +13,6 @@ use crate::texts::{fetch_file, print};
 use cfg_view::{View, look};
 use eel_base::{Files, NoMemory, Sink};
 use elf32_sparc::ReadFault;
-use jump_slice::switches;
 use show_text::show;
 use std::alloc::Global;
 
@@ -24,7 +24,7 @@ pub fn show_program<'a, F: Files, O: Sink>(
     out: &mut O,
 ) -> Outcome<'a>
     // Whatever the input and the error stream are, they stay so.
-    ensures lists { (feed : Feed) (err : Stream) → Lists file.now
+    ensures prints { (feed : Feed) (err : Stream) → Prints shown_of file.now
         (outside (store (F.held files.old) (F.faults files.old)) feed (stream (O.taken out.old) (O.faults out.old)) err)
         (outside (store (F.held files.new) (F.faults files.new)) feed (stream (O.taken out.new) (O.faults out.new)) err)
         (outcome_seen result) }
@@ -46,7 +46,7 @@ pub fn show_program<'a, F: Files, O: Sink>(
 fn listing<'a>(alloc: Global, name: &'a str, bytes: &[u8]) -> Result<Vec<u8>, Outcome<'a>>
     ensures lines { IfOk result (λ lines. lines.items ≡ shown_of bytes.now) }
     ensures sound { IfOk result (λ lines. IsSound bytes.now) }
-    ensures refused { IfErr result (λ outcome. IsNotShown name.now bytes.now (outcome_seen outcome)) }
+    ensures refused { IfErr result (λ outcome. IsNotSound name.now bytes.now (outcome_seen outcome)) }
 {
     let view = match look(alloc, bytes, &[]) {
         Ok(view) => view,
@@ -67,9 +67,8 @@ fn listing<'a>(alloc: Global, name: &'a str, bytes: &[u8]) -> Result<Vec<u8>, Ou
 /// The lines that show a view and its switches.
 fn view_lines(alloc: Global, view: &View) -> Result<Vec<u8>, NoMemory>
     requires { IsView view.now }
-    ensures { IfOk result (λ lines. lines.items ≡ lines_of view.now) }
+    ensures { IfOk result (λ lines. lines.items ≡ lines_of (view_seen view.now)) }
 {
-    let switches = switches(alloc, &view.blocks, view.image.text(), view.image.entry())?;
-    let lines = show(alloc, view, &switches)?;
+    let lines = show(alloc, view, &view.switches)?;
     Ok(lines)
 }

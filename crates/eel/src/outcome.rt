@@ -30,7 +30,7 @@ pub enum Outcome<'a> {
         name: &'a str,
         limit: u64,
     },
-    /// The line of the script `name` with this number, counted from 1, is bad.
+    /// The line of the file `name` with this number, counted from 1, is bad: of a script, of weights or of a listing.
     BadLine {
         name: &'a str,
         number: u32,
@@ -69,17 +69,19 @@ pub enum Outcome<'a> {
     DeviceFault,
 }
 
-/// What is bad about a line of a script.
+/// What is bad about a line.
 #[derive(Clone, Copy)]
 pub enum LineCause {
     /// It is outside the grammar.
     Grammar,
-    /// It names an edge that isn't there.
+    /// It names an edge that isn't there, or not as that is.
     Edge,
     /// Its cell is too great.
     Cell,
     /// Its edge has no place for another operation.
     Operations,
+    /// It isn't the sum of the lines before it.
+    Total,
 }
 
 /// Why no counts can be rebuilt of a dump.
@@ -217,7 +219,7 @@ fn put_line<E: Sink>(outcome: &Outcome, err: &mut E) -> Result<(), Failed>
     }
 }
 
-/// Writes that a line of the script `name` is bad.
+/// Writes that a line of the file `name` is bad.
 fn put_bad_line<E: Sink>(
     name: &str,
     number: u32,
@@ -255,6 +257,7 @@ fn cause_text<'a>(cause: LineCause) -> &'a [u8]
         LineCause::Edge => b"edge",
         LineCause::Cell => b"cell",
         LineCause::Operations => b"operations",
+        LineCause::Total => b"total",
     }
 }
 

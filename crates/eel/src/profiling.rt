@@ -1,13 +1,15 @@
 //! The command `edit` with counters.
 ghost use Rattle.std.specs.Prelude.{◌≡◌, ◌≤◌, ◌^◌, IfErr, IfOk, length};
+ghost use Rattle.std.specs.List.{All};
 ghost use Rattle.snippets.specs.Cells.{WorksBelow};
 ghost use Rattle.cfg_view.specs.View.{IsView};
 ghost use Rattle.edit_core.specs.Taken.{EditRefuses};
-ghost use Rattle.span_tree.specs.Cells.{cell_at, cell_count};
+ghost use Rattle.span_tree.specs.Cells.{cell_at, cell_count, AreNumbered};
+ghost use Rattle.span_tree.specs.Weights.{weights_of};
 ghost use Rattle.eel.specs.Outcome.{outcome_seen};
 ghost use Rattle.eel.specs.Answers.Shared.{store};
 ghost use Rattle.eel.specs.Answers.Edit.{IsEditOf};
-ghost use Rattle.eel.specs.Answers.Profile.{AreCells, IsProfileOf, ProfileRefuses, Profiles, counter_of, graph_in, profile_plan};
+ghost use Rattle.eel.specs.Answers.Profile.{AreCells, IsProfileOf, ProfileRefuses, Profiles, counter_of, graph_in, guessed, profile_plan};
 
 use crate::edit::{EDIT_LIMIT, refusal};
 use crate::outcome::Outcome;
@@ -45,8 +47,8 @@ pub fn edit_for_counts<'a, F: Files>(
 /// The edit of a file with counters on the edges off a spanning tree of its graph.
 pub fn profiled(alloc: Global, bytes: &[u8]) -> Result<Vec<u8>, EditFault>
     requires { length bytes.now ≤ 2 ^ 26 }
-    ensures profile { IfOk result (λ file. IsProfileOf bytes.now file.items) }
-    ensures refused { IfErr result (ProfileRefuses bytes.now) }
+    ensures profile { IfOk result (λ file. IsProfileOf (guessed bytes.now) bytes.now file.items) }
+    ensures refused { IfErr result (ProfileRefuses (guessed bytes.now) bytes.now) }
 {
     let tree = tree_of(alloc, bytes)?;
     with_counters(alloc, bytes, &tree)
@@ -55,32 +57,44 @@ pub fn profiled(alloc: Global, bytes: &[u8]) -> Result<Vec<u8>, EditFault>
 /// A spanning tree of the graph of a file. The view of it is gone when the file is edited, since the edit makes its own.
 fn tree_of(alloc: Global, bytes: &[u8]) -> Result<SpanTree, EditFault>
     requires { length bytes.now ≤ 2 ^ 26 }
-    ensures cells { IfOk result (AreCells (graph_in bytes.now)) }
+    ensures cells { IfOk result (AreCells (graph_in bytes.now) (guessed bytes.now)) }
     ensures few { IfOk result (λ cells. cell_count cells ≤ 2 ^ 22) }
-    ensures refused { IfErr result (ProfileRefuses bytes.now) }
+    ensures refused { IfErr result (ProfileRefuses (guessed bytes.now) bytes.now) }
 {
     let view = look(alloc, bytes, &[])?;
     let tree = heaviest_tree(alloc, &view)?;
     Ok(tree)
 }
 
-/// A spanning tree of the graph, grown heaviest first.
+/// A spanning tree of the graph, grown heaviest first by the weights that are guessed.
 fn heaviest_tree(alloc: Global, view: &View) -> Result<SpanTree, NoMemory>
     requires { IsView view.now }
-    ensures cells { IfOk result (AreCells view.now.graph) }
+    ensures cells { IfOk result (AreCells view.now.graph (weights_of view.now.graph.blocks view.now.graph.edges)) }
     ensures few { IfOk result (λ cells. cell_count cells ≤ 2 ^ 22) }
 {
     let weights = weights(alloc, &view.blocks, &view.graph)?;
-    let tree = tree(alloc, &view.graph, &weights)?;
+    tree_by(alloc, view, &weights)
+}
+
+/// A spanning tree of the graph, grown heaviest first by these weights of its edges.
+pub fn tree_by(alloc: Global, view: &View, weights: &[u64]) -> Result<SpanTree, NoMemory>
+    requires view { IsView view.now }
+    requires len { length weights.now ≡ length view.now.graph.edges }
+    requires most { All (λ weight. weight ≤ 2 ^ 32) weights.now }
+    ensures cells { IfOk result (AreCells view.now.graph weights.now) }
+    ensures few { IfOk result (λ cells. cell_count cells ≤ 2 ^ 22) }
+{
+    let tree = tree(alloc, &view.graph, weights)?;
     // Each edge has one cell at most, and a graph has few edges.
     let _edges = view.graph.edges();
     Ok(tree)
 }
 
 /// The edit of a file with a counter on each edge that has a cell.
-fn with_counters(alloc: Global, bytes: &[u8], tree: &SpanTree) -> Result<Vec<u8>, EditFault>
+pub fn with_counters(alloc: Global, bytes: &[u8], tree: &SpanTree) -> Result<Vec<u8>, EditFault>
     requires bytes { length bytes.now ≤ 2 ^ 26 }
-    requires cells { AreCells (graph_in bytes.now) tree.now }
+    requires size { length tree.now ≡ length (graph_in bytes.now).edges }
+    requires numbered { AreNumbered tree.now }
     requires few { cell_count tree.now ≤ 2 ^ 22 }
     ensures edited { IfOk result (λ file. IsEditOf bytes.now (profile_plan tree.now) file.items) }
     ensures refused { IfErr result (EditRefuses bytes.now (λ plan. plan ≡ profile_plan tree.now)) }

@@ -5,9 +5,11 @@ ghost use Rattle.eel.specs.Outcome.{outcome_seen, stream};
 ghost use Rattle.eel.specs.Answers.Shared.{outside, store, feed};
 ghost use Rattle.eel.specs.Answers.{HasFailed, IsDone, IsRefusal, IsUnchanged, IsUnrefused, Ran, WasWanting, meaning_of};
 
+use crate::assembly::assemble_words;
 use crate::command::{Command, parse};
 use crate::counting::count_edges;
 use crate::demo::demonstrate;
+use crate::disassembly::list_words;
 use crate::dumps::run_for_dump;
 use crate::edit::{edit_by_script, edit_plain};
 use crate::listing::show_program;
@@ -15,6 +17,7 @@ use crate::outcome::{Outcome, show};
 use crate::profiling::edit_for_counts;
 use crate::restore::restore_original;
 use crate::run::{Job, run_program};
+use crate::weighing::edit_by_weights;
 use eel_base::{Files, Sink, Source};
 use std::alloc::Global;
 
@@ -34,7 +37,7 @@ pub fn eel<F: Files, I: Source, O: Sink, E: Sink>(
         (outside (store (F.held files.new) (F.faults files.new)) (feed (I.left input.new) (I.faults input.new))
         (stream (O.taken out.new) (O.faults out.new)) (stream (E.taken err.new) (E.faults err.new))) result }
 
-    // Done: the edited or the original file is written, the program ran, or its listing was printed.
+    // Done: a file is written, a program ran, or lines of it are printed.
     ensures done { result ≡ 0 → IsDone (command_of (texts words.now))
         (outside (store (F.held files.old) (F.faults files.old)) (feed (I.left input.old) (I.faults input.old))
         (stream (O.taken out.old) (O.faults out.old)) (stream (E.taken err.old) (E.faults err.old)))
@@ -117,8 +120,15 @@ fn perform<'a, F: Files, I: Source, O: Sink, E: Sink>(
             err,
         ),
         Command::Show { file } => show_program(alloc, file, files, out),
+        Command::ListWords { file } => list_words(alloc, file, files, out),
+        Command::PutWords { listing, output } => assemble_words(alloc, files, listing, output),
         Command::Restore { written, output } => restore_original(alloc, files, written, output),
         Command::EditProfile { input, output } => edit_for_counts(alloc, files, input, output),
+        Command::EditWeighed {
+            input,
+            output,
+            weights,
+        } => edit_by_weights(alloc, files, input, output, weights),
         Command::Counts { written, dump } => count_edges(alloc, files, written, dump, out),
         Command::Demo { number, routines } => demonstrate(alloc, number, routines, out),
         Command::Unknown => Outcome::BadWords,

@@ -110,7 +110,7 @@ cell_of word = if word == no_cell then None else Some word
 abbrev pub is_cell : ℕ → List ℕ → ℕ → Bool
 is_cell cells taken word = (word == no_cell) || (nat_lt word cells && not (list_any (λ cell. cell == word) taken))
 
--- The edges, of the six kinds 0 to 5. Nodes are the blocks, and one more.
+-- The edges, of the seven kinds 0 to 6. Nodes are the blocks, one more, and then landed copies of blocks.
 unfoldable pub edges_at : ℕ → ℕ → List ℕ → ℕ → List ℕ → ℕ → Result (List NoteEdge) NoNotes
 edges_at blocks cells notes at taken zero = Ok []
 edges_at blocks cells notes at taken (suc count) = do
@@ -118,7 +118,7 @@ edges_at blocks cells notes at taken (suc count) = do
   from ← note_at notes (at + 4)
   to ← note_at notes (at + 8)
   cell ← note_at notes (at + 12)
-  edge ← kept (nat_le kind 5 && nat_le from blocks && nat_le to blocks && is_cell cells taken cell) at (record { kind = kind; from = from; to = to; cell = cell_of cell })
+  edge ← kept (nat_le kind 6 && nat_le from (2 * blocks) && nat_le to (2 * blocks) && is_cell cells taken cell) at (record { kind = kind; from = from; to = to; cell = cell_of cell })
   others ← edges_at blocks cells notes (at + 16) (cell ∷ taken) count
   Ok (edge ∷ others)
 
@@ -134,7 +134,7 @@ ranges_at blocks segments notes at end (suc count) = do
   hi ← note_at notes (at + 4)
   address ← note_at notes (at + 8)
   node ← note_at notes (at + 12)
-  range ← kept ((lo % 4 == 0) && (hi % 4 == 0) && (address % 4 == 0) && nat_lt lo hi && nat_le end lo && list_any (holds lo hi) segments && nat_le node blocks) at (record { lo = lo; hi = hi; address = address; node = node })
+  range ← kept ((lo % 4 == 0) && (hi % 4 == 0) && (address % 4 == 0) && nat_lt lo hi && nat_le end lo && list_any (holds lo hi) segments && nat_le node (2 * blocks)) at (record { lo = lo; hi = hi; address = address; node = node })
   others ← ranges_at blocks segments notes (at + 16) hi count
   Ok (range ∷ others)
 

@@ -18,7 +18,7 @@ pub(crate) fn pad_to(out: &mut Vec<u8>, offset: usize) -> Result<(), NoMemory>
 
 /// Adds big-endian words.
 #[tactic(auto, unfolding(crate::specs::Bytes::words_bytes))]
-pub(crate) fn put_words(out: &mut Vec<u8>, words: &[u32]) -> Result<(), NoMemory>
+pub fn put_words(out: &mut Vec<u8>, words: &[u32]) -> Result<(), NoMemory>
     ensures { OnOk result (out.new.items ≡ out.old.items ++ words_bytes words.now) }
 {
     for word in words {

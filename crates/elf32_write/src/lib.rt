@@ -12,6 +12,7 @@ mod layout;
 mod sections;
 mod segment;
 
+pub use bytes::put_words;
 pub use file::write_around;
 pub use layout::delta;
 pub use segment::NewSegment;

@@ -1,5 +1,5 @@
 -- What is rebuilt from the dump of a run, wherever it is stopped, is how often the original's run completes each edge.
-use Rattle.std.proofs.Common.{◌≡◌, ℕ, suc, ◌-◌, ◌<◌, Bool, cond, List, length, None, refl, ap, sym, ◌∙◌, subst, arith}
+use Rattle.std.proofs.Common.{◌≡◌, ℕ, suc, ◌-◌, ◌<◌, Bool, true, cond, List, [], length, None, refl, ap, sym, ◌∙◌, subst, arith}
 use Rattle.std.specs.Prelude.{pos}
 use Rattle.std.specs.List.{All}
 use Rattle.std.proofs.lemmas.Bool.{lt-ltb}
@@ -11,13 +11,16 @@ use Rattle.v8_step.specs.State.{State}
 use Rattle.v8_step.specs.Valid.{AreBytes}
 use Rattle.v8_process.specs.Start.{start_of}
 use Rattle.flows.specs.Flows.{IsFlow, rest}
-use Rattle.flows.specs.Trees.{IsSpanningTree, all_nodes}
+use Rattle.flows.specs.Trees.{IsSpanningTree}
 use Rattle.snippets.specs.Cells.{WorksBelow}
 use Rattle.cfg_blocks.specs.Blocks.{blocks_of, holding_of}
 use Rattle.cfg_blocks.specs.Entries.{entered_of}
 use Rattle.cfg_normal.specs.declared.Node.TheVariants.{Block, X}
 use Rattle.cfg_normal.specs.Graph.{Graph}
-use Rattle.cfg_normal.specs.Numbers.{node_number}
+use Rattle.cfg_normal.specs.Numbers.{is_node, node_number}
+use Rattle.cfg_walk.proofs.Cut.{cut}
+use Rattle.cfg_walk.proofs.Lists.{Each}
+use Rattle.cfg_walk.proofs.NoneOpen.{edges_lie_in}
 use Rattle.tool_kit.specs.declared.edge_ref.ToolKind.{ToolKind}
 use Rattle.tool_kit.specs.Plans.{Plan}
 use Rattle.cfg_view.specs.View.{given_in, view_of}
@@ -26,6 +29,8 @@ use Rattle.walk_counts.specs.Counts.{executions, first_node}
 use Rattle.walk_counts.proofs.Files.{begins, entry_is, executions_of_files_are_flows}
 use Rattle.image_code.specs.Simulates.{Setting, graph_in}
 use Rattle.edit_core.specs.RunsAlike.{IsStop, edit_of}
+use Rattle.edit_core.proofs.Eaches.{each_all}
+use Rattle.edit_core.proofs.Originals.{image_text}
 use Rattle.edit_core.proofs.Trails.{few_visits}
 use Rattle.edit_core.specs.Faithful.{HasGraph, note_edges, tool_number}
 use Rattle.count_rebuild.specs.Noted.{noted_graph}
@@ -52,6 +57,8 @@ module _ (original : List ℕ) (plan : Plan) (dead : ℕ → List Part) (notes :
         has.edges
         ∙ ap (λ (kind : ToolKind). note_edges (graph_in g) kind (graph_in g).edges plan.snips) counts.kind;
     size = subst (λ (graph : Graph). length plan.snips ≡ length graph.edges) view_graph counts.size;
+    places = subst (λ (graph : Graph). Each (λ range. is_node graph range.node ≡ true) notes.ranges) view_graph
+        (each_all (λ range. is_node (original_graph original plan) range.node ≡ true) notes.ranges has.places);
   }
 
   -- ---- the flow of the original's run, over the graph of the notes
@@ -110,8 +117,9 @@ counts_are_exact original plan file notes args input m is given read untouched s
     let behind : StandsBehind g entry s0 t0 m n = record {
       profile = record {
         tool = is.graph.tool ∙ ap tool_number counts.kind;
-        tree = tree_noted (graph_in g) plan.snips notes are
-            (subst (λ (graph : Graph). IsSpanningTree (links_of graph) all_nodes (rest (counted_by plan.snips)))
+        tree = tree_noted (graph_in g) plan.snips notes are refl
+            (edges_lie_in (graph_in g).blocks [] (cut g.text g.given (image_text original is.sound).some).firsts.some)
+            (subst (λ (graph : Graph). IsSpanningTree (links_of graph) (is_node graph) (rest (counted_by plan.snips)))
             (view_graph original plan is.dead notes) counts.tree);
       };
       counters = counts.counters;

@@ -18,8 +18,8 @@ use Rattle.cfg_normal.specs.declared.Edge.{Edge}
 use Rattle.cfg_normal.specs.declared.Node.{Node}
 use Rattle.cfg_normal.specs.declared.Node.TheVariants.{X}
 use Rattle.cfg_normal.specs.declared.Slot.TheVariants.{Nothing}
-use Rattle.cfg_normal.specs.Graph.{Graph, node_of}
-use Rattle.cfg_walk.specs.Walk.{Point, completed, edge_from, end_of_walk, ends_block, gone, gone_in, goes_on_at, landed, left_at, left_by, point_of, same_kind, same_node, slot_left, walk}
+use Rattle.cfg_normal.specs.Graph.{Graph, has_cases, lands}
+use Rattle.cfg_walk.specs.Walk.{Point, WayOut, by_kind, completed, edge_along, edge_from, end_of_walk, ends_block, gone, gone_in, goes_on_at, landed, left_along, left_at, left_by, point_of, same_kind, same_node, slot_left, walk}
 use Rattle.exact_counts.specs.Laws.{ExecutionsAreFew}
 
 pub times-append : (es more : List ℕ) (e : ℕ) → times (es ++ more) e ≡ times es e + times more e
@@ -86,6 +86,7 @@ out_or_land kinds.Untaken out land = absurd (cc)
 out_or_land kinds.Call out land = absurd (cc)
 out_or_land kinds.Out out land = absurd (cc)
 out_or_land kinds.Land out land = absurd (cc)
+out_or_land kinds.Case out land = absurd (cc)
 
 module _ (text : Words) (graph : Graph) where
   left_once : (node : Node) (word : ℕ) (instr : Instr) → IsOnce (left_by graph node word instr)
@@ -104,20 +105,29 @@ module _ (text : Words) (graph : Graph) where
       rw none (rw (append-nil (edge_from graph node kinds.Out)) (first_once _))
   jump_once node address (Some word) there =
       rw there (firsts_once (λ edge. same_node edge.from node && same_kind edge.kind kinds.Out)
-      (λ edge. same_node edge.to (node_of graph.blocks (Some word)) && same_kind edge.kind kinds.Land) graph.edges
+      (λ edge. same_node edge.to (lands graph (Some word)) && same_kind edge.kind kinds.Land) graph.edges
       no_edge
       (λ edge out land. out_or_land edge.kind (and_parts _ _ out).1 (and_parts _ _ land).1))
 
+  along_once : (node : Node) (way : WayOut) → IsOnce (edge_along graph node way ++ [])
+  along_once node way = rw (append-nil (edge_along graph node way)) (first_once _)
+
   way_once : (node : Node) (kind : EdgeKind) → IsOnce (edge_from graph node kind ++ [])
-  way_once node kind = rw (append-nil (edge_from graph node kind)) (first_once _)
+  way_once node kind = along_once node (by_kind kind)
 
   slot_once : (node : Node) (kind : EdgeKind) (next : ℕ) → IsOnce (slot_left text graph node kind next)
   slot_once node kinds.Fall next = way_once node kinds.Fall
   slot_once node kinds.Taken next = way_once node kinds.Taken
   slot_once node kinds.Untaken next = way_once node kinds.Untaken
   slot_once node kinds.Call next = way_once node kinds.Call
-  slot_once node kinds.Out next = jump_once node next (word_at text next) refl
+  slot_once node kinds.Out next =
+      cond_both (has_cases graph.opens node)
+      (record { kind = kinds.Case; to = Some (lands graph (word_at text next)) }) (by_kind kinds.Out)
+      (λ (way : WayOut). IsOnce (left_along text graph node way next))
+      (λ _. along_once node (record { kind = kinds.Case; to = Some (lands graph (word_at text next)) }))
+      (λ _. jump_once node next (word_at text next) refl)
   slot_once node kinds.Land next = way_once node kinds.Land
+  slot_once node kinds.Case next = way_once node kinds.Case
 
   completed_once : (node : Node) (before after : Point) (was now : Slot)
       → IsOnce (completed text graph node before after was now)

@@ -16,7 +16,7 @@ use Rattle.cfg_blocks.specs.declared.EdgeKind.TheVariants as kinds
 use Rattle.cfg_normal.specs.declared.Edge.{Edge}
 use Rattle.cfg_normal.specs.declared.Node.{Node}
 use Rattle.cfg_normal.specs.Graph.{Graph}
-use Rattle.cfg_walk.specs.Walk.{Point, completed, end_of_walk, ends_block, gone, gone_in, goes_on_at, landed, left_at, left_by, point_of, slot_left, walk}
+use Rattle.cfg_walk.specs.Walk.{Point, WayOut, completed, end_of_walk, ends_block, gone, gone_in, goes_on_at, landed, left_along, left_at, left_by, point_of, slot_left, walk, way_to}
 use Rattle.cfg_walk.proofs.Lists.{Each, each-append}
 use Rattle.exact_counts.proofs.Few.{no_edge}
 
@@ -65,14 +65,18 @@ module _ (text : Words) (graph : Graph) where
   landed_few kinds.Untaken address = none_few 1 edges
   landed_few kinds.Call address = none_few 1 edges
   landed_few kinds.Land address = none_few 1 edges
+  landed_few kinds.Case address = none_few 1 edges
   landed_few kinds.Out address = by (word_at text address) refl
     where
       by : (o : Option ℕ) → word_at text address ≡ o → AreFew 1 edges (landed text graph kinds.Out address)
       by None none = rw none (none_few 1 edges)
       by (Some word) there = rw there (first_few _ graph.edges)
 
+  along_few : (node : Node) (way : WayOut) (next : ℕ) → AreFew 2 edges (left_along text graph node way next)
+  along_few node way next = both_few edges _ _ (first_few _ graph.edges) (landed_few way.kind next)
+
   slot_few : (node : Node) (kind : EdgeKind) (next : ℕ) → AreFew 2 edges (slot_left text graph node kind next)
-  slot_few node kind next = both_few edges _ _ (first_few _ graph.edges) (landed_few kind next)
+  slot_few node kind next = along_few node (way_to text graph node kind next) next
 
   completed_few : (node : Node) (before after : Point) (was now : Slot)
       → AreFew 2 edges (completed text graph node before after was now)

@@ -8,10 +8,11 @@ use Rattle.cfg_blocks.specs.Blocks.{Blocks, below}
 use Rattle.cfg_blocks.specs.declared.EdgeKind.TheVariants as kinds
 use Rattle.cfg_blocks.proofs.Below.{length-below}
 use Rattle.cfg_normal.specs.declared.Edge.{Edge}
-use Rattle.cfg_normal.specs.Graph.{Graph, landing_at}
+use Rattle.cfg_normal.specs.Graph.{Graph}
 use Rattle.cfg_walk.specs.Walk.{same_kind}
 use Rattle.cfg_walk.proofs.Holding.{some_words}
 use Rattle.cfg_walk.proofs.Lists.{Each}
+use Rattle.cfg_walk.proofs.NoneOpen.{block_landing}
 use Rattle.snippets.specs.declared.snippet.Op.{Op}
 use Rattle.tool_kit.specs.declared.edge_ref.ToolKind.{ToolKind}
 use Rattle.tool_kit.specs.declared.edge_ref.ToolKind.TheVariants as tools
@@ -53,7 +54,7 @@ own_once b (edge ∷ edges) own =
 module _ (text : Words) (graph : Graph) (h : IsGraphOf text graph) (some : 1 ≤ length text.words) where
   -- the counters of landings are made once for each word
   landings : (k : ℕ) → k ≤ length graph.blocks.firsts
-      → copies_in graph.blocks (map landing_at (below k)) ≡ begin_of graph.blocks k
+      → copies_in graph.blocks (map block_landing (below k)) ≡ begin_of graph.blocks k
   landings zero l = sym (begin_first text graph h some)
   landings (suc k) l =
       let low : k < length graph.blocks.firsts = omega (arith, l) in
@@ -63,10 +64,10 @@ module _ (text : Words) (graph : Graph) (h : IsGraphOf text graph) (some : 1 ≤
       let room = some_words graph.blocks.words graph.blocks.firsts (cut_of text graph h some).firsts k low in
       let after = begin_after text graph h some k low in
       let there : begin_of graph.blocks (suc k) ≡ begin_of graph.blocks (k + 1) = ap (begin_of graph.blocks) next in
-      let all : copies_in graph.blocks (map landing_at (below k ++ k ∷ []))
-      ≡ copies_in graph.blocks (map landing_at (below k)) + copies_in graph.blocks (landing_at k ∷ []) =
-      ap (copies_in graph.blocks) (map-append landing_at (below k) (k ∷ []))
-      ∙ copies-append graph.blocks (map landing_at (below k)) (landing_at k ∷ []) in
+      let all : copies_in graph.blocks (map block_landing (below k ++ k ∷ []))
+      ≡ copies_in graph.blocks (map block_landing (below k)) + copies_in graph.blocks (block_landing k ∷ []) =
+      ap (copies_in graph.blocks) (map-append block_landing (below k) (k ∷ []))
+      ∙ copies-append graph.blocks (map block_landing (below k)) (block_landing k ∷ []) in
       omega (arith, before, at, room, after, there, all)
 
   -- as many as there are blocks
@@ -89,14 +90,14 @@ module _ (text : Words) (graph : Graph) (h : IsGraphOf text graph) (some : 1 ≤
   copies_few : copies_in graph.blocks graph.edges ≤ 3 * length text.words
   copies_few =
       let all : copies_in graph.blocks graph.edges ≡ copies_in graph.blocks (own_edges graph)
-      + copies_in graph.blocks (map landing_at (below blocks)) =
+      + copies_in graph.blocks (map block_landing (below blocks)) =
       ap (copies_in graph.blocks) (all_are text graph h)
-      ∙ copies-append graph.blocks (own_edges graph) (map landing_at (below blocks)) in
-      let size : length graph.edges ≡ length (own_edges graph) + length (map landing_at (below blocks)) =
-      ap length (all_are text graph h) ∙ length-append (own_edges graph) (map landing_at (below blocks)) in
+      ∙ copies-append graph.blocks (own_edges graph) (map block_landing (below blocks)) in
+      let size : length graph.edges ≡ length (own_edges graph) + length (map block_landing (below blocks)) =
+      ap length (all_are text graph h) ∙ length-append (own_edges graph) (map block_landing (below blocks)) in
       let own = own_once graph.blocks (own_edges graph) (own_no_landings text graph h) in
-      let each : length (map landing_at (below blocks)) ≡ blocks =
-      length-map (below blocks) landing_at ∙ length-below blocks in
+      let each : length (map block_landing (below blocks)) ≡ blocks =
+      length-map (below blocks) block_landing ∙ length-below blocks in
       let made = landings blocks (omega arith) in
       let end = begin_last text graph h blocks (omega arith) in
       let count = count_of text graph h in

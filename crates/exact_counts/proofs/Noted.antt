@@ -1,27 +1,35 @@
 -- The graph that notes tell is the original's.
-use Rattle.std.proofs.Common.{◌≡◌, ℕ, zero, suc, ◌+◌, ◌<◌, not, List, [], ◌∷◌, length, get_or, refl, ap, sym, ◌∙◌, subst, arith}
+use Rattle.std.proofs.Common.{◌≡◌, ℕ, zero, suc, ◌+◌, ◌-◌, ◌*◌, ◌<◌, ◌≤◌, ◌⊎◌, inl, inr, Bool, true, false, not, ◌||◌, nat_le, List, [], ◌∷◌, length, get_or, refl, ap, sym, ◌∙◌, subst, arith}
 use Rattle.std.specs.Prelude.{◌==◌, if◌then◌else◌, IsTrue, ℤ, pos, ◌+ℤ◌}
 use Rattle.std.specs.Option.{is_some}
-use Rattle.elf32_sparc.specs.Notes.{NoteEdge, Notes}
-use Rattle.flows.specs.Flows.{EdgeSet, Graph as PlainGraph, IsFlow, count_below, one_at, rest, total}
-use Rattle.flows.specs.Trees.{IsSpanningTree, all_nodes}
+use Rattle.std.specs.List.{list_any}
+use Rattle.std.proofs.lemmas.Bool.{cases_lt, eqb-true, false≢true, le-leb, le-ltb, lt-leb, lt-ltb, or_left}
+use Rattle.std.proofs.lemmas.Bool.Decides.{nat_tests}
+use Rattle.elf32_sparc.specs.Notes.{NoteEdge, NoteRange, Notes}
+use Rattle.flows.specs.Flows.{EdgeSet, NodeSet, Graph as PlainGraph, IsFlow, count_below, one_at, rest, total}
+use Rattle.flows.specs.Trees.{IsSpanningTree}
 use Rattle.flows.proofs.Sums.{total_same}
 use Rattle.flows.proofs.Weights.{weight_same}
 use Rattle.snippets.specs.declared.snippet.Op.{Op}
 use Rattle.cfg_normal.specs.declared.Edge.{Edge}
-use Rattle.cfg_normal.specs.Graph.{Graph}
+use Rattle.cfg_normal.specs.declared.Node.{Node}
+use Rattle.cfg_normal.specs.declared.Node.TheVariants.{Block, Landed, X}
+use Rattle.cfg_normal.specs.Graph.{Graph, IsEdgeIn, IsNodeIn}
+use Rattle.cfg_normal.specs.Numbers.{is_node, node_number}
+use Rattle.cfg_normal.specs.Opens.{Open, is_copied}
 use Rattle.tool_kit.specs.declared.edge_ref.ToolKind.{ToolKind}
 use Rattle.tool_kit.specs.declared.edge_ref.ToolKind.TheVariants as tools
 use Rattle.span_tree.specs.Links.{edge_at as own_edge, links_of}
 use Rattle.image_code.specs.Simulates.{snippet_on}
 use Rattle.edit_core.specs.Faithful.{cell_noted, note_edge, note_edges}
-use Rattle.count_rebuild.specs.Noted.{edge_at, has_cell, no_edge, noted_graph}
+use Rattle.cfg_walk.proofs.Lists.{Each}
+use Rattle.count_rebuild.specs.Noted.{edge_at, ends_at, has_cell, is_node as is_noted, lies_at, no_edge, noted_graph}
 use Rattle.exact_counts.specs.Profiles.{counted_by, is_counter}
 
--- ---- plain graphs with the same links
+-- ---- plain graphs with the same links, the second with no more nodes
 
 pub record AreAlike (g h : PlainGraph) : Type 0 where
-  pub nodes : g.nodes ≡ h.nodes
+  pub nodes : h.nodes ≤ g.nodes
   pub edges : g.edges ≡ h.edges
   pub from : (e : ℕ) → e < g.edges → g.from e ≡ h.from e
   pub to : (e : ℕ) → e < g.edges → g.to e ≡ h.to e
@@ -46,9 +54,10 @@ module _ (g h : PlainGraph) (alike : AreAlike g h) where
       ∙ flow v (omega (arith, nodes, l))
       ∙ ap (λ s. s +ℤ one_at b v) (same_sum g.from h.from x v alike.from)
 
-  pub tree_alike : (s t : EdgeSet) → ((e : ℕ) → e < g.edges → s e ≡ t e) → IsSpanningTree g all_nodes s
-      → IsSpanningTree h all_nodes t
-  tree_alike s t same tree =
+  pub tree_alike : (nodes others : NodeSet) → ((v : ℕ) → v < h.nodes → IsTrue (others v) → IsTrue (nodes v))
+      → count_below g.nodes nodes ≡ count_below h.nodes others
+      → (s t : EdgeSet) → ((e : ℕ) → e < g.edges → s e ≡ t e) → IsSpanningTree g nodes s → IsSpanningTree h others t
+  tree_alike own others there count s t same tree =
       let nodes = alike.nodes in
       record {
         joins = λ side none u v below under is_node other.
@@ -56,11 +65,11 @@ module _ (g h : PlainGraph) (alike : AreAlike g h) where
             (λ e l on. ap side (alike.from e l)
             ∙ none e (let edges = alike.edges in omega (arith, edges, l)) (subst IsTrue (same e l) on)
             ∙ ap side (sym (alike.to e l)))
-            u v (omega (arith, nodes, below)) (omega (arith, nodes, under)) is_node other;
+            u v (omega (arith, nodes, below)) (omega (arith, nodes, under)) (there u below is_node) (there v under other);
         size = ap (λ n. n + 1)
             (ap (λ n. count_below n t) (sym alike.edges)
             ∙ sym (weight_same g.edges (λ e. 1) s t same))
-            ∙ tree.size ∙ ap (λ n. count_below n all_nodes) nodes;
+            ∙ tree.size ∙ count;
       }
 
 -- ---- the edges of notes
@@ -87,6 +96,7 @@ pub record AreNotesOf (graph : Graph) (snips : List (List Op)) (notes : Notes) :
   pub blocks : notes.blocks ≡ graph.blocks.firsts
   pub edges : notes.edges ≡ note_edges graph tools.Profile graph.edges snips
   pub size : length snips ≡ length graph.edges
+  pub places : Each (λ range. is_node graph range.node ≡ true) notes.ranges
 
 module _ (graph : Graph) (snips : List (List Op)) (notes : Notes) (are : AreNotesOf graph snips notes) where
   pub edge_count : length notes.edges ≡ length graph.edges
@@ -102,7 +112,7 @@ module _ (graph : Graph) (snips : List (List Op)) (notes : Notes) (are : AreNote
 
   pub graphs_alike : AreAlike (links_of graph) (noted_graph notes)
   graphs_alike = record {
-    nodes = ap (λ (firsts : List ℕ). length firsts + 1) (sym are.blocks);
+    nodes = let same = ap (λ (firsts : List ℕ). length firsts) are.blocks in omega (arith, same);
     edges = sym edge_count;
     from = λ e l. ap (λ (edge : NoteEdge). edge.from) (sym (edge_is e l));
     to = λ e l. ap (λ (edge : NoteEdge). edge.to) (sym (edge_is e l));
@@ -116,8 +126,75 @@ module _ (graph : Graph) (snips : List (List Op)) (notes : Notes) (are : AreNote
   pub has_cell_is : (e : ℕ) → e < length graph.edges → has_cell notes e ≡ counted_by snips e
   has_cell_is e l = ap (λ (edge : NoteEdge). is_some edge.cell) (edge_is e l) ∙ noted_cell (snippet_on snips e)
 
-  pub tree_noted : IsSpanningTree (links_of graph) all_nodes (rest (counted_by snips))
-      → IsSpanningTree (noted_graph notes) all_nodes (rest (has_cell notes))
-  tree_noted =
-      tree_alike (links_of graph) (noted_graph notes) graphs_alike (rest (counted_by snips)) (rest (has_cell notes))
+  -- ---- its nodes, where no switch is open: the blocks and X
+
+  is_block : (v : ℕ) → v ≤ length graph.blocks.firsts → is_node graph v ≡ true
+  is_block v l =
+      ap (λ (b : Bool). if b then is_copied graph.opens (v - (length graph.blocks.firsts + 1)) else true)
+      (le-ltb (length graph.blocks.firsts) v l)
+
+  noted_block : (v : ℕ) → v ≤ length graph.blocks.firsts → is_noted notes v ≡ true
+  noted_block v l =
+      let same = ap (λ (firsts : List ℕ). length firsts) are.blocks in
+      or_left _ _ (or_left (nat_le v (length notes.blocks)) (list_any (ends_at v) notes.edges)
+      (le-leb v (length notes.blocks) (omega (arith, same, l))))
+
+  module _ (none : graph.opens ≡ []) (inside : Each (IsEdgeIn graph.blocks graph.opens) graph.edges) (v : ℕ)
+      (past : length graph.blocks.firsts < v) where
+    no_copy : is_node graph v ≡ false
+    no_copy =
+        ap (λ (b : Bool). if b then is_copied graph.opens (v - (length graph.blocks.firsts + 1)) else true)
+        (lt-ltb (length graph.blocks.firsts) v past)
+        ∙ ap (λ (opens : List Open). is_copied opens (v - (length graph.blocks.firsts + 1))) none
+
+    -- the end of an edge is another
+    other_node : (node : Node) → IsNodeIn graph.blocks graph.opens node → (node_number graph node == v) ≡ false
+    other_node (Block k) l = grind (l, past, arith, nat_tests)
+    other_node (Landed k) l =
+        absurd (false≢true (ap (λ (opens : List Open). is_copied opens k.0) (sym none) ∙ l.1))
+    other_node X l = grind (past, arith, nat_tests)
+
+    no_end : (edges : List Edge) (snips : List (List Op)) → Each (IsEdgeIn graph.blocks graph.opens) edges
+        → list_any (ends_at v) (note_edges graph tools.Profile edges snips) ≡ false
+    no_end [] snips each = refl
+    no_end (edge ∷ edges) [] each = refl
+    no_end (edge ∷ edges) (ops ∷ snips) each =
+        rw (other_node edge.from each.0.from, other_node edge.to each.0.to) (no_end edges snips each.1)
+
+    no_place : (ranges : List NoteRange) → Each (λ range. is_node graph range.node ≡ true) ranges
+        → list_any (lies_at v) ranges ≡ false
+    no_place [] each = refl
+    no_place (range ∷ ranges) each = rw (another (range.node == v) refl) (no_place ranges each.1)
+      where
+        another : (b : Bool) → (range.node == v) ≡ b → (range.node == v) ≡ false
+        another true e = absurd (false≢true (sym no_copy ∙ ap (is_node graph) (sym (eqb-true range.node v e)) ∙ each.0))
+        another false e = e
+
+    noted_none : is_noted notes v ≡ false
+    noted_none =
+        let same = ap (λ (firsts : List ℕ). length firsts) are.blocks in
+        let far : nat_le v (length notes.blocks) ≡ false = lt-leb v (length notes.blocks) (omega (arith, same, past)) in
+        let ends : list_any (ends_at v) notes.edges ≡ false =
+        ap (list_any (ends_at v)) are.edges ∙ no_end graph.edges snips inside in
+        rw (far, ends) (no_place notes.ranges are.places)
+
+  nodes_alike : graph.opens ≡ [] → Each (IsEdgeIn graph.blocks graph.opens) graph.edges → (v : ℕ)
+      → is_node graph v ≡ is_noted notes v
+  nodes_alike none inside v = elim (cases_lt (length graph.blocks.firsts) v) [
+    | inl past ↦ no_copy none inside v past ∙ sym (noted_none none inside v past)
+    | inr below ↦ is_block v below ∙ sym (noted_block v below)
+  ]
+
+  pub tree_noted : graph.opens ≡ [] → Each (IsEdgeIn graph.blocks graph.opens) graph.edges
+      → IsSpanningTree (links_of graph) (is_node graph) (rest (counted_by snips))
+      → IsSpanningTree (noted_graph notes) (is_noted notes) (rest (has_cell notes))
+  tree_noted none inside =
+      let same = ap (λ (firsts : List ℕ). length firsts) are.blocks in
+      let count : 2 * length graph.blocks.firsts + 1 ≡ 2 * length notes.blocks + 1 = omega (arith, same) in
+      tree_alike (links_of graph) (noted_graph notes) graphs_alike (is_node graph) (is_noted notes)
+      (λ v l there. subst IsTrue (sym (nodes_alike none inside v)) there)
+      (ap (λ n. count_below n (is_node graph)) count
+      ∙ weight_same (2 * length notes.blocks + 1) (λ e. 1) (is_node graph) (is_noted notes)
+      (λ v l. nodes_alike none inside v))
+      (rest (counted_by snips)) (rest (has_cell notes))
       (λ e l. ap not (sym (has_cell_is e l)))

@@ -9,6 +9,7 @@ use Rattle.snippets.specs.declared.snippet.Op.{Op}
 use Rattle.snippets.specs.Cells.{WorksBelow}
 use Rattle.tool_kit.specs.Plans.{AreCounters}
 use Rattle.span_tree.specs.Cells.{cell_at, cell_count, cell_of, has_cell}
+use Rattle.cfg_normal.specs.Numbers.{is_node}
 use Rattle.span_tree.specs.Links.{links_of}
 use Rattle.image_code.specs.Simulates.{snippet_on}
 use Rattle.exact_counts.specs.Profiles.{TreesMakeProfiles, counted_by, counter_in, is_counter}
@@ -91,7 +92,8 @@ trees_make_profiles graph plan cells h =
           (subst (WorksBelow (cell_count cells)) (sym (get_or_default plan.snips e d [] l ∙ snippet e l))
           (works_below (has_cell cells) e (length cells) (omega (arith, l, size, len))));
       tree = tree_alike (links_of graph) (links_of graph)
-          (record { nodes = refl; edges = refl; from = λ e l. refl; to = λ e l. refl })
+          (record { nodes = omega arith; edges = refl; from = λ e l. refl; to = λ e l. refl })
+          (is_node graph) (is_node graph) (λ v l there. there) refl
           (rest (has_cell cells)) (rest (counted_by plan.snips))
           (λ e l. ap not (counts_where_some (cell_at cells e) ∙ ap is_counter (sym (h.snips e l)))) h.tree;
     }

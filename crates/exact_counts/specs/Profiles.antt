@@ -6,11 +6,12 @@ use Rattle.elf32_sparc.specs.Notes.{Notes}
 use Rattle.v8_decode.specs.declared.Part.{Part}
 use Rattle.v8_step.specs.Valid.{AreBytes}
 use Rattle.flows.specs.Flows.{EdgeSet, rest}
-use Rattle.flows.specs.Trees.{IsSpanningTree, all_nodes}
+use Rattle.flows.specs.Trees.{IsSpanningTree}
 use Rattle.snippets.specs.declared.snippet.Op.{Op}
 use Rattle.snippets.specs.declared.snippet.Op.TheVariants.{Add}
 use Rattle.snippets.specs.Cells.{WorksBelow}
 use Rattle.cfg_normal.specs.Graph.{Graph}
+use Rattle.cfg_normal.specs.Numbers.{is_node}
 use Rattle.tool_kit.specs.declared.edge_ref.ToolKind.TheVariants as tools
 use Rattle.tool_kit.specs.Plans.{AreCounters, Plan}
 use Rattle.cfg_view.specs.View.{view_of}
@@ -36,7 +37,7 @@ pub record CountsOffTree (graph : Graph) (plan : Plan) : Type 0 where
   pub size : length plan.snips ≡ length graph.edges
   pub counters : AreCounters 0 plan.snips
   pub below : All (WorksBelow plan.cells) plan.snips
-  pub tree : IsSpanningTree (links_of graph) all_nodes (rest (counted_by plan.snips))
+  pub tree : IsSpanningTree (links_of graph) (is_node graph) (rest (counted_by plan.snips))
 
 -- a counter in an edge's cell, where it has one
 abbrev pub counter_in : Option ℕ → List Op
@@ -50,7 +51,7 @@ pub record CountsInCells (graph : Graph) (plan : Plan) (cells : List (Option ℕ
   pub size : length plan.snips ≡ length graph.edges
   pub len : length cells ≡ length graph.edges
   pub numbered : AreNumbered cells
-  pub tree : IsSpanningTree (links_of graph) all_nodes (rest (has_cell cells))
+  pub tree : IsSpanningTree (links_of graph) (is_node graph) (rest (has_cell cells))
   pub snips : (e : ℕ) → e < length graph.edges → snippet_on plan.snips e ≡ counter_in (cell_at cells e)
 
 abbrev pub TreesMakeProfiles : Type 0

@@ -39,7 +39,7 @@ fn graph_of(alloc: Global, text: &Text) -> Result<FlowGraph, Fail>
         Ok(list) => list,
         Err(_) => return Err(Fail::from("memory")),
     };
-    match graph(alloc, &list) {
+    match graph(alloc, text, &list, WordNo(0), &[]) {
         Ok(graph) => Ok(graph),
         Err(_) => Err(Fail::from("memory")),
     }

@@ -94,6 +94,7 @@ edge 2 untaken 00010058 00010068 1\n\
 edges 9 counted 5 executions 6\n";
 
 #[test]
+#[tactic(auto, unfolding(cfg_blocks::specs::Entries::entered_of, cfg_blocks::specs::Blocks::blocks_of))]
 fn five_of_nine_edges_are_counted(rt: HostRuntime) -> Result<(), Fail> {
     let words = Vec::from_slice(rt.alloc(), &CARRY_LOOP)?;
     let text = Text::new(Addr(0x10054), words).ok_or("a text")?;
@@ -101,7 +102,8 @@ fn five_of_nine_edges_are_counted(rt: HostRuntime) -> Result<(), Fail> {
         return Err(Fail::from("words"));
     }
     let list = blocks(rt.alloc(), &text, &[WordNo(0)], &[]).map_err(|_| Fail::from("memory"))?;
-    let graph = graph(rt.alloc(), &list).map_err(|_| Fail::from("memory"))?;
+    let graph = graph(rt.alloc(), &text, &list, WordNo(0), &[]);
+    let graph = graph.map_err(|_| Fail::from("memory"))?;
     let weights = weights(rt.alloc(), &list, &graph).map_err(|_| Fail::from("memory"))?;
     assert_eq!(rt; weights.as_slice(), WEIGHTS.as_slice());
     if weights.len() != graph.edges().len() {

@@ -1,6 +1,5 @@
 //! The switch of a small file, and of the same file with one word replaced, as `show` prints it.
 use cfg_view::look;
-use jump_slice::switches;
 use show_text::show;
 use std::alloc::Global;
 use std::process::Abort;
@@ -22,9 +21,7 @@ fn lines(alloc: Global, at: usize, word: u32) -> Result<Vec<u8>, Fail> {
         bytes.extend_from_slice(&word.to_be_bytes())?;
     }
     let view = look(alloc, &bytes, &[]).map_err(|_| Fail::from("a view"))?;
-    let switches = switches(alloc, &view.blocks, view.image.text(), view.image.entry());
-    let switches = switches.map_err(|_| Fail::from("memory"))?;
-    let lines = show(alloc, &view, &switches).map_err(|_| Fail::from("memory"))?;
+    let lines = show(alloc, &view, &view.switches).map_err(|_| Fail::from("memory"))?;
     Ok(lines)
 }
 

@@ -39,6 +39,7 @@ no_out kinds.Taken n = refl
 no_out kinds.Untaken n = refl
 no_out kinds.Call n = refl
 no_out kinds.Land n = refl
+no_out kinds.Case n = refl
 
 -- What is made is what it should be, where it goes on as the edge does.
 module _ (text : Words) (graph : Graph) (table : ℕ) (edge : Edge) (made : Result (List Item) NoMemory)
@@ -147,7 +148,7 @@ ways_pushed text graph table codes edges n d before list new piece code l pushed
     ∙ ap (λ (ways : List (List Item)). before ++ ways) (sym (ways_next text graph table codes edges n d l))
 
 -- a slot that an edge carries stands in the text
-pub slot_within : (text : Words) (graph : Graph) → IsGraphOf text graph → (edge : Edge) → IsEdgeIn graph.blocks edge
+pub slot_within : (text : Words) (graph : Graph) → IsGraphOf text graph → (edge : Edge) → IsEdgeIn graph.blocks graph.opens edge
     → (slot : WordNo) → edge.slot ≡ slots.Word slot → slot.0 < length text.words
 slot_within text graph h edge inside slot is =
     let low : slot.0 < graph.blocks.words = subst (IsSlotIn graph.blocks) is inside.slot in

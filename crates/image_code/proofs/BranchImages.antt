@@ -31,6 +31,7 @@ use Rattle.cfg_walk.proofs.Cut.{IsCut}
 use Rattle.cfg_walk.proofs.Edges.{IsEdge, block}
 use Rattle.cfg_walk.proofs.Holding.{first_held}
 use Rattle.cfg_walk.proofs.Leaving.{end_is, is_in, node_is, transfer_ends, way_found}
+use Rattle.cfg_walk.proofs.NoneOpen.{directed_none, open_none}
 use Rattle.cfg_walk.proofs.Points.{Stands, jumps_along, jumps_to, passes}
 use Rattle.cfg_walk.proofs.Slots.{LeadsIfThere}
 use Rattle.cfg_walk.proofs.Transfers.{taken_delayed, untaken_delayed}
@@ -76,7 +77,7 @@ module _ (g : Setting) (codes : ℕ → List ℕ) (is : IsText g.text) (p : Plac
   cut : IsCut g.text b
   cut = cut_in g is f.table.base
 
-  here : Stands g.text b node x word branch
+  here : Stands g.text b [] node x word branch
   here = stands g codes is p f whole node x word at none held npc branch says
 
   end : end_at g.text word ≡ ends.Branch cond annul (branch_target g.text word cond disp)
@@ -106,10 +107,11 @@ module _ (g : Setting) (codes : ℕ → List ℕ) (is : IsText g.text) (p : Plac
     k = holding_of b word
 
     last : word ≡ last_word b.firsts b.words k
-    last = transfer_ends g.text b cut word low transfer
+    last = transfer_ends g.text b [] cut word low transfer
 
-    found : IsEdge (graph_in g) (edge_from (graph_in g) (block k) w.kind) (edge_of b k w)
-    found = way_found g.text b cut word low w last one
+    found : IsEdge (graph_in g) (edge_from (graph_in g) (block k) w.kind) (edge_of b [] (block k) k w)
+    found = way_found g.text b [] cut word low (open_none b) (block k) (is_in g.text b [] cut word low).within refl w last
+        refl one
 
     abbrev its_code : List Item
     its_code = words_on (l g codes is p f) (found.number ∷ [])
@@ -118,18 +120,22 @@ module _ (g : Setting) (codes : ℕ → List ℕ) (is : IsText g.text) (p : Plac
         ≡ Some (its_code ++ goes_on g.text (graph_in g) (node_of b w.to) goal_address)
     bare_items =
         let ended : end_of b k ≡ end_at g.text word =
-        cut.ends k (is_in g.text b cut word low).within ∙ ap (end_at g.text) (sym last) in
+        cut.ends k (is_in g.text b [] cut word low).within ∙ ap (end_at g.text) (sym last) in
         let number : way_out g.text (graph_in g) node w.kind ≡ length g.text.words + found.number =
         ap (λ (n : Node). way_out g.text (graph_in g) n w.kind) node_home
         ∙ ap (first_way g.text (graph_in g)) found.only in
         ap (slice_get (l g codes is p f).list) number
-        ∙ way_at g.text (graph_in g) f.table.base codes found.number (edge_of b k w)
-        (own_at b found.number (edge_of b k w) found.is land)
+        ∙ way_at g.text (graph_in g) f.table.base codes found.number (edge_of b [] (block k) k w)
+        (own_at b found.number (edge_of b [] (block k) k w) found.is land)
         ∙ ap (λ (t : Bool). Some (if t then jump_to 0 else way_by g.text (graph_in g) f.table.base codes found.number
-        (edge_of b k w) (slot_on b k w.kind))) fall
-        ∙ ap (λ (r : Bool). Some (way_by g.text (graph_in g) f.table.base codes found.number (edge_of b k w)
+        (edge_of b [] (block k) k w) (slot_on b k w.kind))) fall
+        ∙ ap (λ (r : Bool). Some (way_by g.text (graph_in g) f.table.base codes found.number (edge_of b [] (block k) k w)
         (if r then slot_behind b.words (last_word b.firsts b.words k) else carried.Nothing)))
         (ap (λ (d : BlockEnd). runs_slot d w.kind) ended ∙ bare)
+        ∙ ap (λ (n : Node). Some (its_code ++ goes_on g.text (graph_in g) n
+        (target_along g.text (last_word b.firsts b.words k) w.kind
+        (decode_of (slice_index g.text.words (last_word b.firsts b.words k))))))
+        (directed_none (block k) w.kind (node_of b w.to))
         ∙ ap (λ (n : ℕ). Some (its_code ++ goes_on g.text (graph_in g) (node_of b w.to)
         (target_along g.text n w.kind (decode_of (slice_index g.text.words n))))) (sym last)
         ∙ ap (λ (d : Instr). Some (its_code ++ goes_on g.text (graph_in g) (node_of b w.to)

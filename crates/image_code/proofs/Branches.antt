@@ -19,7 +19,7 @@ use Rattle.cfg_blocks.specs.declared.EdgeKind.TheVariants as kinds
 use Rattle.cfg_blocks.specs.Ends.{within}
 use Rattle.cfg_blocks.specs.Entries.{is_fall}
 use Rattle.cfg_normal.specs.declared.Node.{Node}
-use Rattle.cfg_normal.specs.declared.Node.TheVariants.{Block, X}
+use Rattle.cfg_normal.specs.declared.Node.TheVariants.{Block, Landed, X}
 use Rattle.cfg_normal.specs.Graph.{Graph}
 use Rattle.cfg_walk.specs.Walk.{same_kind, same_node, way_of}
 use Rattle.cfg_normal.specs.Numbers.{node_number}
@@ -71,12 +71,16 @@ same_is kinds.Untaken kinds.Untaken e = refl
 same_is kinds.Call kinds.Call e = refl
 same_is kinds.Out kinds.Out e = refl
 same_is kinds.Land kinds.Land e = refl
+same_is kinds.Case kinds.Case e = refl
 same_is _ _ e = absurd (cc)
 
 pub node_same : (n m : Node) → same_node n m ≡ true → n ≡ m
 node_same (Block one) (Block other) e =
     let k : one.0 ≡ other.0 = eqb-true _ _ e in
     ap (λ z. Block (record { 0 = z })) k
+node_same (Landed one) (Landed other) e =
+    let k : one.0 ≡ other.0 = eqb-true _ _ e in
+    ap (λ z. Landed (record { 0 = z })) k
 node_same X X e = refl
 node_same _ _ e = absurd (cc)
 

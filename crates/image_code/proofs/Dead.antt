@@ -29,6 +29,7 @@ use Rattle.cfg_normal.specs.Graph.{Graph}
 use Rattle.cfg_normal.specs.declared.Node.{Node}
 use Rattle.cfg_normal.specs.declared.Node.TheVariants.{X}
 use Rattle.cfg_normal.specs.declared.Slot.TheVariants.{Nothing}
+use Rattle.cfg_walk.proofs.NoneOpen.{slot_none}
 use Rattle.cfg_walk.specs.Walk.{Point, completed, gone, instr_at, landed, leads_along, left_at, left_by, point_of, same_kind, same_node, slot_left, unless_ended, way_of}
 use Rattle.code_runs.specs.Hops.{hopped}
 use Rattle.image_code.specs.Simulates.{IsFollowedBy, IsKept, Setting, gone_at, graph_in, is_out}
@@ -210,12 +211,14 @@ module _ (g : Setting) (l : Pieces) (f : Frame) (has : HasCells g l f) where
           (and_parts (leads_along None x) (same_node x.from node && same_kind x.kind kinds.Out) is).1).1
 
   by_kind : (node : Node) (kind : EdgeKind) (next : ℕ) → LastDead g (slot_left g.text (graph_in g) node kind next)
-  by_kind node kinds.Out next = of_jump node next _ refl
+  by_kind node kinds.Out next =
+      subst (LastDead g) (sym (slot_none g.text (graph_in g).blocks node kinds.Out next)) (of_jump node next _ refl)
   by_kind node kinds.Fall next = alone _
   by_kind node kinds.Taken next = alone _
   by_kind node kinds.Untaken next = alone _
   by_kind node kinds.Call next = alone _
   by_kind node kinds.Land next = alone _
+  by_kind node kinds.Case next = alone _
 
   if_last : (b : Bool) (o : Option ℕ) → LastDead g (if b then option_to_list o else [])
   if_last true o = listed_last g o

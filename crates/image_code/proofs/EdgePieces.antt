@@ -1,5 +1,5 @@
 -- The edges of a text's graph, and the pieces of the ways along them.
-use Rattle.std.proofs.Common.{◌≡◌, ℕ, ◌+◌, ◌*◌, ◌%◌, ◌^◌, ◌<◌, Bool, true, false, Some, List, [], ◌∷◌, length, ap, sym, ◌∙◌, subst, arith}
+use Rattle.std.proofs.Common.{◌≡◌, ℕ, ◌+◌, ◌*◌, ◌%◌, ◌^◌, ◌<◌, Bool, true, false, Some, List, [], ◌∷◌, length, ap, sym, ◌∙◌, arith}
 use Rattle.std.specs.Prelude.{if◌then◌else◌, ◌&&◌, slice_get}
 use Rattle.std.specs.Int.{w32, cast_unsigned}
 use Rattle.std.specs.List.{position}
@@ -17,15 +17,14 @@ use Rattle.cfg_normal.specs.declared.Edge.{Edge}
 use Rattle.cfg_normal.specs.declared.Node.{Node}
 use Rattle.cfg_normal.specs.declared.Slot.{Slot as Carried}
 use Rattle.cfg_normal.specs.Graph.{IsSlotIn, edges_in}
-use Rattle.cfg_normal.proofs.Edges.{edges_in-in}
 use Rattle.cfg_walk.specs.Walk.{edge_from, same_kind, same_node}
 use Rattle.cfg_walk.specs.Matches.{target_along}
 use Rattle.cfg_walk.proofs.Cut.{IsCut, cut}
+use Rattle.cfg_walk.proofs.NoneOpen.{edge_lies_in}
 use Rattle.image_code.specs.Simulates.{Setting, graph_in}
 use Rattle.image_code.specs.Cases.{IsFar}
 use Rattle.image_code.specs.Made.{jump_to, piece_list, way_by}
 use Rattle.image_code.proofs.Branches.{node_same, number_of_list, same_is}
-use Rattle.std.proofs.lemmas.Option.{slice_get_within}
 use Rattle.image_code.proofs.Listed.{own_at, way_at}
 
 -- ---- addresses to which a long jump can lead
@@ -59,19 +58,19 @@ module _ (g : Setting) (is : IsText g.text) (table : ℕ) where
   -- the one edge of a kind that leaves a node
   pub record IsAlong (node : Node) (way : EdgeKind) (number : ℕ) (edge : Edge) : Type 0 where
     pub only : edge_from (graph_in g) node way ≡ number ∷ []
-    pub found : slice_get (edges_in b) number ≡ Some edge
+    pub found : slice_get (edges_in b []) number ≡ Some edge
     pub leaves : edge.from ≡ node
     pub same : edge.kind ≡ way
 
   pub along : (node : Node) (way : EdgeKind) (number : ℕ) (edge : Edge) → edge_from (graph_in g) node way ≡ number ∷ []
-      → slice_get (edges_in b) number ≡ Some edge → IsAlong node way number edge
+      → slice_get (edges_in b []) number ≡ Some edge → IsAlong node way number edge
   along node way number edge only found =
-      let at : position (λ (edge : Edge). same_node edge.from node && same_kind edge.kind way) (edges_in b)
+      let at : position (λ (edge : Edge). same_node edge.from node && same_kind edge.kind way) (edges_in b [])
       ≡ Some number = number_of_list _ number only in
       let passes : (same_node edge.from node && same_kind edge.kind way) ≡ true =
       ap (λ (e : Edge). same_node e.from node && same_kind e.kind way)
-      (sym (get_or_from_slice_get (edges_in b) number edge edge found))
-      ∙ (position-Some (λ (e : Edge). same_node e.from node && same_kind e.kind way) (edges_in b) number edge at).1 in
+      (sym (get_or_from_slice_get (edges_in b []) number edge edge found))
+      ∙ (position-Some (λ (e : Edge). same_node e.from node && same_kind e.kind way) (edges_in b []) number edge at).1 in
       let parts = and_parts (same_node edge.from node) (same_kind edge.kind way) passes in
       record {
         only = only;
@@ -93,7 +92,5 @@ module _ (g : Setting) (is : IsText g.text) (table : ℕ) where
       ∙ ap (λ (s : Carried). Some (way_by g.text (graph_in g) table codes number edge s)) e
 
   -- the slot that an edge carries stands in the text, or behind its end
-  pub slot_in : (number : ℕ) (edge : Edge) → slice_get (edges_in b) number ≡ Some edge → IsSlotIn b edge.slot
-  slot_in number edge found =
-      subst (λ (e : Edge). IsSlotIn b e.slot) (get_or_from_slice_get (edges_in b) number edge edge found)
-      (edges_in-in b cut_in.firsts.some number edge (slice_get_within (edges_in b) number edge found)).slot
+  pub slot_in : (number : ℕ) (edge : Edge) → slice_get (edges_in b []) number ≡ Some edge → IsSlotIn b edge.slot
+  slot_in number edge found = (edge_lies_in b [] cut_in.firsts.some number edge found).slot

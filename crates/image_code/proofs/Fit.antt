@@ -6,7 +6,7 @@ use Rattle.std.specs.Option.{option_to_list}
 use Rattle.std.proofs.lemmas.Bool.{and_parts, cond_both, ltb-true}
 use Rattle.std.proofs.lemmas.List.Sums.{sum_by-append, sum_by-cons, sum_by-le}
 use Rattle.std.proofs.lemmas.List.Quantifiers.{position-Some}
-use Rattle.std.proofs.lemmas.Option.{get_or_from_slice_get, slice_get-get_or, slice_get_within}
+use Rattle.std.proofs.lemmas.Option.{slice_get-get_or, slice_get_within}
 use Rattle.eel_base.specs.CodeText.{Words, IsText, address_of, word_at}
 use Rattle.eel_base.specs.declared.numbers.Addr.{Addr}
 use Rattle.eel_base.specs.declared.numbers.BlockNo.{BlockNo}
@@ -24,16 +24,16 @@ use Rattle.cfg_blocks.proofs.Below.{length-below}
 use Rattle.cfg_blocks.specs.Entries.{is_fall}
 use Rattle.cfg_normal.specs.declared.Edge.{Edge}
 use Rattle.cfg_normal.specs.declared.Node.{Node}
-use Rattle.cfg_normal.specs.declared.Node.TheVariants.{Block, X}
+use Rattle.cfg_normal.specs.declared.Node.TheVariants.{Block, Landed, X}
 use Rattle.cfg_normal.specs.declared.Slot.{Slot}
 use Rattle.cfg_normal.specs.declared.Slot.TheVariants as slots
 use Rattle.cfg_normal.specs.Graph.{Graph, IsEdgeIn, IsNodeIn, edges_in, graph_of, node_of}
-use Rattle.cfg_normal.proofs.Edges.{edges_in-in}
 use Rattle.cfg_walk.specs.Walk.{ends_block, landing_at as landing_from, left_by, same_kind, same_node}
 use Rattle.cfg_walk.specs.Matches.{way_address}
 use Rattle.cfg_normal.specs.Numbers.{node_number}
 use Rattle.cfg_walk.proofs.Addresses.{word_at-address}
 use Rattle.cfg_walk.proofs.Lists.{Each, each, each_at, each-append, each-below, each-map}
+use Rattle.cfg_walk.proofs.NoneOpen.{edge_lies_in}
 use Rattle.code_runs.specs.LongJump.{long_jump}
 use Rattle.jump_code.specs.Finding.{find_image, go_found}
 use Rattle.jump_code.specs.Leaving.{foreign}
@@ -345,14 +345,12 @@ number_of_list None number rest e = absurd (cc)
 number_of_list (Some n) number rest e = let q : n ≡ number = cc in ap (λ z. Some z) q
 
 pub edge_in : (text : Words) (graph : Graph) → IsText text → IsGraphOf text graph → (number : ℕ) (edge : Edge)
-    → slice_get (own_edges graph) number ≡ Some edge → IsEdgeIn graph.blocks edge
+    → slice_get (own_edges graph) number ≡ Some edge → IsEdgeIn graph.blocks [] edge
 edge_in text graph is h number edge e =
-    let all : slice_get (edges_in graph.blocks) number ≡ Some edge =
+    let all : slice_get (edges_in graph.blocks []) number ≡ Some edge =
     sym (ap (λ (es : List Edge). slice_get es number) (edges_are text graph h))
     ∙ get_taken (length graph.edges - length graph.blocks.firsts) number graph.edges edge e in
-    subst (IsEdgeIn graph.blocks) (get_or_from_slice_get (edges_in graph.blocks) number edge edge all)
-    (edges_in-in graph.blocks (cut_of text graph h is.some).firsts.some number edge
-    (slice_get_within (edges_in graph.blocks) number edge all))
+    edge_lies_in graph.blocks [] (cut_of text graph h is.some).firsts.some number edge all
 
 module _ (text : Words) (graph : Graph) (table : ℕ) (codes : ℕ → List ℕ) (is : IsText text)
     (h : IsGraphOf text graph) where
@@ -384,7 +382,7 @@ module _ (text : Words) (graph : Graph) (table : ℕ) (codes : ℕ → List ℕ)
       let same : (get_or graph.edges number no_edge).kind ≡ kind =
       same_is _ kind (and_parts (same_node (get_or graph.edges number no_edge).from node)
       (same_kind (get_or graph.edges number no_edge).kind kind) found.1).1 in
-      let own : slice_get (own_edges (graph_of graph.blocks)) number ≡ Some (get_or graph.edges number no_edge) =
+      let own : slice_get (own_edges (graph_of graph.blocks [])) number ≡ Some (get_or graph.edges number no_edge) =
       own_at graph.blocks number (get_or graph.edges number no_edge)
       (sym (ap (λ (es : List Edge). slice_get es number) (edges_are text graph h)) ∙ here)
       (ap (λ (k : EdgeKind). same_kind k kinds.Land) same ∙ other) in
@@ -460,20 +458,21 @@ module _ (text : Words) (graph : Graph) (table : ℕ) (codes : ℕ → List ℕ)
 
   -- ---- ways
 
-  goes_tail : (node : Node) (address : ℕ) → IsNodeIn graph.blocks node → Tail 0 (goes_on text graph node address)
+  goes_tail : (node : Node) (address : ℕ) → IsNodeIn graph.blocks [] node → Tail 0 (goes_on text graph node address)
   goes_tail (Block k) address l = tail_jump text _ _ (block_below k l)
+  goes_tail (Landed k) address l = tail_jump text _ _ (block_below k l.0)
   goes_tail X address l = tail_far text _ address
 
   one_code : (number : ℕ) → length (flat_map codes (number ∷ [])) ≤ length (codes number)
   one_code number = omega (arith, ap length (append-nil (codes number)))
 
-  along_tail : (number : ℕ) (edge : Edge) → IsEdgeIn graph.blocks edge
+  along_tail : (number : ℕ) (edge : Edge) → IsEdgeIn graph.blocks [] edge
       → Tail (length (codes number)) (goes_along text graph codes number edge)
   along_tail number edge inside =
       coded 0 (length (codes number)) (flat_map codes (number ∷ [])) _
       (goes_tail edge.to (way_address text graph edge.from edge.kind) inside.to) (one_code number)
 
-  way_by_small : (number : ℕ) (edge : Edge) → IsEdgeIn graph.blocks edge → (slot : Slot)
+  way_by_small : (number : ℕ) (edge : Edge) → IsEdgeIn graph.blocks [] edge → (slot : Slot)
       → Small (length (codes number)) (way_by text graph table codes number edge slot)
   way_by_small number edge inside slots.Nothing = small_tail text _ _ _ (along_tail number edge inside)
   way_by_small number edge inside slots.Off =
@@ -486,7 +485,7 @@ module _ (text : Words) (graph : Graph) (table : ℕ) (codes : ℕ → List ℕ)
       (word_items (go_found 1)) (tail_found text _ 1) (one_code number)) (word_says text slot.0 _))
       (λ _. small_plain text _ _ _ _ _ _ (along_tail number edge inside) (word_says text slot.0 _)))
 
-  way_small : (number : ℕ) (edge : Edge) → IsEdgeIn graph.blocks edge
+  way_small : (number : ℕ) (edge : Edge) → IsEdgeIn graph.blocks [] edge
       → Small (way_code codes number edge) (way_along text graph table codes number edge)
   way_small number edge inside = by (is_fall edge.kind)
     where
@@ -505,10 +504,10 @@ module _ (text : Words) (graph : Graph) (table : ℕ) (codes : ℕ → List ℕ)
 
   -- ---- all of them
 
-  inside_own : Each (IsEdgeIn graph.blocks) (own_edges graph)
+  inside_own : Each (IsEdgeIn graph.blocks []) (own_edges graph)
   inside_own = each_index _ (own_edges graph) (λ number edge e. edge_in text graph is h number edge e)
 
-  ways_say : (number : ℕ) (edges : List Edge) → Each (IsEdgeIn graph.blocks) edges
+  ways_say : (number : ℕ) (edges : List Edge) → Each (IsEdgeIn graph.blocks []) edges
       → Each (MarksSay text) (ways_from text graph table codes number edges)
   ways_say number [] inside = tt
   ways_say number (edge ∷ edges) inside =
@@ -552,7 +551,7 @@ module _ (text : Words) (graph : Graph) (table : ℕ) (codes : ℕ → List ℕ)
     way_few number edge =
         cond_both (is_fall edge.kind) _ _ (λ (n : ℕ). n ≤ 176) (λ _. omega arith) (λ _. code_few number)
 
-    each_way : (number : ℕ) (edges : List Edge) → Each (IsEdgeIn graph.blocks) edges
+    each_way : (number : ℕ) (edges : List Edge) → Each (IsEdgeIn graph.blocks []) edges
         → Each (Small 176) (ways_from text graph table codes number edges)
     each_way number [] inside = tt
     each_way number (edge ∷ edges) inside = (
@@ -604,7 +603,7 @@ module _ (text : Words) (graph : Graph) (table : ℕ) (codes : ℕ → List ℕ)
         sum_by-cons most n ns,
       )
 
-  ways_up : (number : ℕ) (edges : List Edge) → Each (IsEdgeIn graph.blocks) edges
+  ways_up : (number : ℕ) (edges : List Edge) → Each (IsEdgeIn graph.blocks []) edges
       → sum_by piece_words (ways_from text graph table codes number edges)
       ≤ 19 * length edges + ways_code codes number edges
   ways_up number [] inside = omega arith

@@ -20,16 +20,18 @@ use Rattle.cfg_blocks.proofs.Targets.{word_at-some}
 use Rattle.cfg_normal.specs.declared.Edge.{Edge}
 use Rattle.cfg_normal.specs.declared.Node.{Node}
 use Rattle.cfg_normal.specs.declared.Slot.TheVariants as carried
+use Rattle.cfg_normal.specs.Nodes.{home_of}
 use Rattle.cfg_normal.specs.Graph.{Graph, node_of}
 use Rattle.cfg_walk.specs.Walk.{Point, instr_at, same_kind}
 use Rattle.cfg_normal.specs.Numbers.{node_number}
-use Rattle.cfg_walk.specs.Matches.{IsOnItsWay, Matches, MatchesBy}
+use Rattle.cfg_walk.specs.Matches.{MatchesBy}
+use Rattle.cfg_walk.proofs.NoneOpen.{IsOnEdge, home_none}
 use Rattle.code_runs.specs.Page.{of_page}
 use Rattle.jump_code.specs.FreeRegister.{free_register}
 use Rattle.layout.specs.declared.items.Item.{Item}
 use Rattle.layout.specs.declared.items.Item.TheVariants as it
 use Rattle.layout.specs.Laid.{Placement}
-use Rattle.image_code.specs.Simulates.{Setting, graph_in, number_in}
+use Rattle.image_code.specs.Simulates.{MatchesIn, Setting, graph_in, number_in}
 use Rattle.image_code.specs.Images.{Frame, along_first, visited_at}
 use Rattle.image_code.specs.Imaged.{IsHead, IsVisited, head, outside, beyond}
 use Rattle.image_code.specs.Made.{IsOffNoted, couple_word, image_by, jumps_at, nop_word, slot_copy, way_out}
@@ -90,7 +92,7 @@ module _ (g : Setting) (codes : ℕ → List ℕ) (is : IsText g.text) (p : Plac
   -- ---- the copy of a slot's word
 
   module _ (node : Node) (x : Point) (slot : ℕ) (at : word_at g.text x.pc ≡ Some slot)
-      (way : IsOnItsWay g.text (graph_in g) node x (way_in g codes is p f x)) where
+      (way : IsOnEdge g.text (graph_in g) node x (way_in g codes is p f x)) where
     own : (is_fall (way_in g codes is p f x) ≡ false) × (same_kind (way_in g codes is p f x) kinds.Land ≡ false)
     own = way_is_own (instr_at g.text (x.pc - 4)) x.slot
 
@@ -122,7 +124,7 @@ module _ (g : Setting) (codes : ℕ → List ℕ) (is : IsText g.text) (p : Plac
   }
 
   pub off_is : (base : ℕ) → f.table.base < base → IsOffNoted g f.table.base → (node : Node) (x : Point)
-      → x.slot ≢ NoSlot → word_at g.text x.pc ≡ None → IsOnItsWay g.text (graph_in g) node x (way_in g codes is p f x)
+      → x.slot ≢ NoSlot → word_at g.text x.pc ≡ None → IsOnEdge g.text (graph_in g) node x (way_in g codes is p f x)
       → IsOff g base p f node x
   off_is base below noted node x slot none way = record {
     slot = slot;
@@ -159,10 +161,13 @@ module _ (g : Setting) (codes : ℕ → List ℕ) (is : IsText g.text) (p : Plac
   }
 
   pub visits : (base : ℕ) → f.table.base < base → IsOffNoted g f.table.base → (node : Node) (x : Point)
-      → Matches g.text (graph_in g) node x → IsOpen g x → IsVisited g (l g codes is p f) base p f node x
-  visits base below noted node x m open_there = by x.slot refl m (word_at g.text x.pc) refl
+      → MatchesIn g node x → IsOpen g x → IsVisited g (l g codes is p f) base p f node x
+  visits base below noted node x m open_there = by x.slot refl m.0 (word_at g.text x.pc) refl
     where
-      in_slot : x.slot ≢ NoSlot → IsOnItsWay g.text (graph_in g) node x (way_in g codes is p f x) → (o : Option ℕ)
+      held : home_of node ≡ node_of b (word_at g.text x.pc) → node ≡ node_of b (word_at g.text x.pc)
+      held e = sym (home_none b node m.1) ∙ e
+
+      in_slot : x.slot ≢ NoSlot → IsOnEdge g.text (graph_in g) node x (way_in g codes is p f x) → (o : Option ℕ)
           → word_at g.text x.pc ≡ o → IsVisited g (l g codes is p f) base p f node x
       in_slot not way None e = beyond (off_is base below noted node x not e way)
       in_slot not way (Some slot) e =
@@ -174,11 +179,11 @@ module _ (g : Setting) (codes : ℕ → List ℕ) (is : IsText g.text) (p : Plac
 
       by : (s : Slot) → x.slot ≡ s → MatchesBy g.text (graph_in g) node x s → (o : Option ℕ) → word_at g.text x.pc ≡ o
           → IsVisited g (l g codes is p f) base p f node x
-      by NoSlot none m None e = outside (foreign_is node x none e m.0 open_there)
+      by NoSlot none m None e = outside (foreign_is node x none e (held m.0) open_there)
       by NoSlot none m (Some word) e =
           head (head_of node x word _ (record { 0 = address_of g.text word })
           (visited_word g codes is p f node x word e none) (sym (word_at-some g.text x.pc word e).is)
-          (image_items g codes is p f node x word e m.0 (decode_of (slice_index g.text.words word)) refl)
+          (image_items g codes is p f node x word e (held m.0) (decode_of (slice_index g.text.words word)) refl)
           (image_head g.text (graph_in g) (jumps_at g.text f.table.base) codes (record { 0 = address_of g.text word }) node word
           (decode_of (slice_index g.text.words word))))
       by Taken some m o e =

@@ -1,5 +1,5 @@
 -- A transfer at a word goes into its slot, where the way of its edge leads.
-use Rattle.std.proofs.Common.{◌≡◌, ◌≢◌, ℕ, ◌+◌, ◌-◌, ◌%◌, ◌^◌, ◌<◌, false, Option, Some, None, List, ap, sym, ◌∙◌, subst, arith}
+use Rattle.std.proofs.Common.{◌≡◌, ◌≢◌, ℕ, ◌+◌, ◌-◌, ◌%◌, ◌^◌, ◌<◌, false, Option, Some, None, List, [], ap, sym, ◌∙◌, subst, arith}
 use Rattle.std.specs.Prelude.{slice_index}
 use Rattle.std.specs.Option.{option_map}
 use Rattle.std.proofs.lemmas.Bool.{false≢true}
@@ -14,9 +14,12 @@ use Rattle.cfg_blocks.specs.declared.EdgeKind.TheVariants as kinds
 use Rattle.cfg_blocks.specs.Blocks.{Blocks, blocks_of}
 use Rattle.cfg_blocks.proofs.Targets.{word_at-some}
 use Rattle.cfg_normal.specs.declared.Node.{Node}
-use Rattle.cfg_normal.specs.Graph.{node_of}
+use Rattle.cfg_normal.specs.Nodes.{home_of}
+use Rattle.cfg_normal.specs.Graph.{IsNodeIn, node_of}
 use Rattle.cfg_walk.specs.Walk.{Point, instr_at, node_after, point_of, same_kind, way_of}
 use Rattle.cfg_walk.specs.Matches.{MatchesBy}
+use Rattle.cfg_walk.proofs.Nodes.{home_of_node, node_in}
+use Rattle.cfg_walk.proofs.NoneOpen.{open_none}
 use Rattle.cfg_walk.proofs.Points.{Stands, StepsTo}
 use Rattle.addr_translate.specs.Lookup.{IsTable}
 use Rattle.layout.specs.Laid.{Placement}
@@ -35,14 +38,16 @@ module _ (g : Setting) (codes : ℕ → List ℕ) (is : IsText g.text) (p : Plac
   abbrev b : Blocks
   b = blocks_of g.text g.given
 
-  pub stands : Stands g.text b node x word instr
+  pub stands : Stands g.text b [] node x word instr
   stands = record {
     text_is = is;
     cut = cut_in g is f.table.base;
     is = word_at-some g.text x.pc word at;
     npc = npc;
     decodes = says;
-    held = held;
+    are = open_none b;
+    there = subst (IsNodeIn b []) (sym held) (node_in b [] (cut_in g is f.table.base).firsts.some (word_at g.text x.pc));
+    held = ap home_of held ∙ home_of_node b (word_at g.text x.pc);
   }
 
   address_low : x.pc + 4 < 2 ^ 32

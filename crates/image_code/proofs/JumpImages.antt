@@ -1,7 +1,7 @@
 -- The images of CALL and JMPL: the way of the edge leads into the slot.
 use Rattle.std.proofs.Common.{◌≡◌, ℕ, ◌+◌, ◌%◌, ◌^◌, ◌<◌, Some, None, List, refl, ap, sym, ◌∙◌, arith}
 use Rattle.std.specs.Prelude.{if◌then◌else◌, slice_get, slice_index, ◌==◌, ℤ}
-use Rattle.std.proofs.lemmas.Bool.{cond_both}
+use Rattle.std.proofs.lemmas.Bool.{cond_both, false≢true}
 use Rattle.eel_base.specs.CodeText.{IsText, address_of, word_at}
 use Rattle.eel_base.specs.declared.numbers.Addr.{Addr}
 use Rattle.v8_decode.specs.declared.Op2.{Op2}
@@ -19,6 +19,7 @@ use Rattle.cfg_blocks.proofs.Targets.{word_at-some}
 use Rattle.cfg_normal.specs.declared.Node.{Node}
 use Rattle.cfg_normal.specs.Graph.{node_of}
 use Rattle.cfg_walk.specs.Walk.{Point, point_of}
+use Rattle.cfg_walk.proofs.NoneOpen.{cases_none}
 use Rattle.cfg_walk.proofs.Transfers.{call_delayed, jump_delayed}
 use Rattle.addr_translate.specs.Lookup.{IsTable}
 use Rattle.jump_code.specs.FreeRegister.{free_register, other_register}
@@ -131,7 +132,8 @@ module _ (g : Setting) (codes : ℕ → List ℕ) (is : IsText g.text) (p : Plac
         let w = goes v e live in
         entered g codes is p f whole node x word at none held npc (i.Jmpl rd rs1 op2) says v live w.0 w.1
         (jump_delayed rd rs1 op2 (point_of v)
-        (stands g codes is p f whole node x word at none held npc (i.Jmpl rd rs1 op2) says) w.0 w.1)
+        (stands g codes is p f whole node x word at none held npc (i.Jmpl rd rs1 op2) says) w.0 w.1
+        (λ e. absurd (false≢true (sym (cases_none node) ∙ e))))
 
     pub jump_is : IsJump g (l g codes is p f) p f node x t
     jump_is =

@@ -11,9 +11,10 @@ use Rattle.cfg_blocks.specs.declared.EdgeKind.TheVariants as kinds
 use Rattle.cfg_blocks.specs.Blocks.{Blocks, below}
 use Rattle.cfg_blocks.proofs.Below.{get_or-below, length-below}
 use Rattle.cfg_normal.specs.declared.Edge.{Edge}
-use Rattle.cfg_normal.specs.Graph.{Graph, graph_of, edges_in, edges_of, landing_at as edge_at_landing}
+use Rattle.cfg_normal.specs.Graph.{Graph, graph_of, edges_in, edges_of}
 use Rattle.cfg_walk.specs.Walk.{same_kind}
 use Rattle.cfg_walk.proofs.Lists.{each, each-map, each_at}
+use Rattle.cfg_walk.proofs.NoneOpen.{block_landing, edges_none}
 use Rattle.jump_code.specs.Pieces.{foreign_piece}
 use Rattle.layout.specs.declared.items.Item.{Item}
 use Rattle.image_code.specs.Made.{foreign_number, image, jumps_at, landing, landing_number, own_edges, piece_list, way_along, ways_from}
@@ -130,23 +131,26 @@ module _ (text : Words) (graph : Graph) (table : ℕ) (codes : ℕ → List ℕ)
       ∙ get_second (images ++ ways ++ landings) (foreign_piece ∷ []) 0
 
 -- an edge that is no landing is among those that have ways
-pub own_at : (b : Blocks) (number : ℕ) (edge : Edge) → slice_get (edges_in b) number ≡ Some edge
-    → same_kind edge.kind kinds.Land ≡ false → slice_get (own_edges (graph_of b)) number ≡ Some edge
-unfolding edges_in
+pub own_at : (b : Blocks) (number : ℕ) (edge : Edge) → slice_get (edges_in b []) number ≡ Some edge
+    → same_kind edge.kind kinds.Land ≡ false → slice_get (own_edges (graph_of b [])) number ≡ Some edge
 own_at b number edge e other =
-    let own : List Edge = flat_map (edges_of b) (below (length b.firsts)) in
-    let landings : List Edge = map edge_at_landing (below (length b.firsts)) in
-    let many : length landings ≡ length b.firsts = length-map (below (length b.firsts)) edge_at_landing
+    let own : List Edge = flat_map (edges_of b []) (below (length b.firsts)) in
+    let landings : List Edge = map block_landing (below (length b.firsts)) in
+    let is : edges_in b [] ≡ own ++ landings = edges_none b in
+    let found : slice_get (own ++ landings) number ≡ Some edge =
+    ap (λ (es : List Edge). slice_get es number) (sym is) ∙ e in
+    let many : length landings ≡ length b.firsts = length-map (below (length b.firsts)) block_landing
     ∙ length-below (length b.firsts) in
     let all : length (own ++ landings) ≡ length own + length landings = length-append own landings in
-    elim (cases_lt number (length own)) [
-      | inl l ↦ get_taken (length (own ++ landings) - length b.firsts) number (own ++ landings) (omega arith) ∙ e
+    ap (λ (es : List Edge). slice_get (take (length es - length b.firsts) es) number) is
+    ∙ elim (cases_lt number (length own)) [
+      | inl l ↦ get_taken (length (own ++ landings) - length b.firsts) number (own ++ landings) (omega arith) ∙ found
       | inr m ↦
           let past : length own + (number - length own) ≡ number = omega arith in
           let there : slice_get landings (number - length own) ≡ Some edge =
-          sym (get_second own landings (number - length own)) ∙ ap (slice_get (own ++ landings)) past ∙ e in
+          sym (get_second own landings (number - length own)) ∙ ap (slice_get (own ++ landings)) past ∙ found in
           let lands : same_kind edge.kind kinds.Land ≡ true =
           each_at (λ (x : Edge). same_kind x.kind kinds.Land ≡ true) landings (number - length own) edge
-          (each-map _ edge_at_landing (below (length b.firsts)) (each _ (below (length b.firsts)) (λ j. refl))) there in
+          (each-map _ block_landing (below (length b.firsts)) (each _ (below (length b.firsts)) (λ j. refl))) there in
           absurd (cc)
     ]

@@ -11,11 +11,13 @@ use Rattle.v8_step.specs.State.{State}
 use Rattle.v8_step.specs.Items.{is_transfer}
 use Rattle.cfg_blocks.specs.Blocks.{blocks_of}
 use Rattle.cfg_normal.specs.declared.Node.{Node}
+use Rattle.cfg_normal.specs.Nodes.{home_of}
 use Rattle.cfg_normal.specs.Graph.{node_of}
 use Rattle.cfg_walk.specs.Walk.{Point}
-use Rattle.cfg_walk.specs.Matches.{IsOnItsWay, Matches, MatchesBy}
+use Rattle.cfg_walk.specs.Matches.{MatchesBy}
+use Rattle.cfg_walk.proofs.NoneOpen.{IsOnEdge, home_none}
 use Rattle.layout.specs.Laid.{Placement, IsLaid}
-use Rattle.image_code.specs.Simulates.{Setting, graph_in}
+use Rattle.image_code.specs.Simulates.{MatchesIn, Setting, graph_in}
 use Rattle.image_code.specs.Images.{Frame, Here}
 use Rattle.image_code.specs.Imaged.{IsCase, plain, call, jump, foreign, off}
 use Rattle.image_code.specs.Made.{IsOffNoted, IsTableFor, PiecesMakeImages, pieces_in}
@@ -48,20 +50,24 @@ module _ (g : Setting) (codes : ℕ → List ℕ) (is : IsText g.text) (p : Plac
   by_instr node x t word at none held npc live instr says =
       plain (plain_is g codes is p f base place laid node x t word at none held npc (ap is_transfer says))
 
-  case : (node : Node) (x : Point) (t : State) → Matches g.text (graph_in g) node x → IsOpen g x
+  case : (node : Node) (x : Point) (t : State) → MatchesIn g node x → IsOpen g x
       → Here g (l g codes is p f) base p f node x t → IsCase g (l g codes is p f) base p place f node x t
-  case node x t m open_there here = by x.slot refl m (word_at g.text x.pc) refl
+  case node x t m open_there here = by x.slot refl m.0 (word_at g.text x.pc) refl
     where
-      in_slot : x.slot ≢ NoSlot → IsOnItsWay g.text (graph_in g) node x (way_in g codes is p f x) → (o : Option ℕ)
+      held : home_of node ≡ node_of (blocks_of g.text g.given) (word_at g.text x.pc)
+          → node ≡ node_of (blocks_of g.text g.given) (word_at g.text x.pc)
+      held e = sym (home_none (blocks_of g.text g.given) node m.1) ∙ e
+
+      in_slot : x.slot ≢ NoSlot → IsOnEdge g.text (graph_in g) node x (way_in g codes is p f x) → (o : Option ℕ)
           → word_at g.text x.pc ≡ o → IsCase g (l g codes is p f) base p place f node x t
       in_slot not way None e = off (off_is g codes is p f base below noted node x not e way)
       in_slot not way (Some slot) e = copy_case g codes is p f base place tables node x t here slot e not way
 
       by : (s : Slot) → x.slot ≡ s → MatchesBy g.text (graph_in g) node x s → (o : Option ℕ) → word_at g.text x.pc ≡ o
           → IsCase g (l g codes is p f) base p place f node x t
-      by NoSlot none m None e = foreign (foreign_is g codes is p f node x none e m.0 open_there)
+      by NoSlot none m None e = foreign (foreign_is g codes is p f node x none e (held m.0) open_there)
       by NoSlot none m (Some word) e =
-          by_instr node x t word e none m.0 m.1 here.live (decode_of (slice_index g.text.words word)) refl
+          by_instr node x t word e none (held m.0) m.1 here.live (decode_of (slice_index g.text.words word)) refl
       by Taken some m o e =
           let not : x.slot ≢ NoSlot = λ n. let q : Taken ≡ NoSlot = sym some ∙ n in absurd (cc) in
           in_slot not (on_its_way g codes is p f node x Taken some (λ q. absurd (cc)) m) o e

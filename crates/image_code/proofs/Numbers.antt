@@ -25,12 +25,13 @@ use Rattle.cfg_blocks.specs.Entries.{ways_from}
 use Rattle.cfg_blocks.proofs.Below.{length-below}
 use Rattle.cfg_normal.specs.declared.Edge.{Edge}
 use Rattle.cfg_normal.specs.declared.Node.{Node}
-use Rattle.cfg_normal.specs.Graph.{Graph, graph_of, edge_of, edges_in, edges_of, landing_at, node_of}
+use Rattle.cfg_normal.specs.Graph.{Graph, graph_of, edge_of, edges_in, edges_of, node_of}
 use Rattle.cfg_walk.specs.Walk.{edge_from, ends_block, landing_at as landing_from, left_by, same_kind, same_node}
 use Rattle.cfg_walk.proofs.Lists.{Each, each-append, each-below, each-flat_map, each-map, each, each-then}
 use Rattle.cfg_walk.proofs.Cut.{IsCut, cut}
 use Rattle.cfg_walk.proofs.Edges.{block}
 use Rattle.cfg_walk.proofs.Holding.{ends_within, is_held, some_words}
+use Rattle.cfg_walk.proofs.NoneOpen.{block_landing, edges_none}
 use Rattle.cfg_walk.proofs.Leaving.{end_is, is_in, node_is, straight_end, transfer_ends, ways_at}
 use Rattle.cfg_walk.proofs.Ways.{IsOwn, ways_are_own}
 use Rattle.layout.specs.declared.items.Item.{Item}
@@ -53,33 +54,38 @@ few_ways count word (ends.Branch cond annul target) =
     cond_both (cond == always) _ _ (λ (ws : List Way). length ws ≤ 2) (λ _. omega arith)
     (λ _. cond_both (cond == never) _ _ (λ (ws : List Way). length ws ≤ 2) (λ _. omega arith) (λ _. omega arith))
 
-few_of : (b : Blocks) (k : ℕ) → length (edges_of b k) ≤ 2
+few_of : (b : Blocks) (k : ℕ) → length (edges_of b [] k) ≤ 2
 few_of b k = let f = few_ways b.words (last_word b.firsts b.words k) (end_of b k) in omega
-    (arith, length-map (ways_from b k) (edge_of b k))
+    (arith, length-map (ways_from b k) (edge_of b [] (block k) k))
 
-before_next : (b : Blocks) (n : ℕ) → length (flat_map (edges_of b) (below (suc n))) ≡ length
-    (flat_map (edges_of b) (below n)) + length (edges_of b n)
+before_next : (b : Blocks) (n : ℕ) → length (flat_map (edges_of b []) (below (suc n))) ≡ length
+    (flat_map (edges_of b []) (below n)) + length (edges_of b [] n)
 before_next b n =
-    ap length (flat_map-append (edges_of b) (below n) (n ∷ []))
-    ∙ length-append (flat_map (edges_of b) (below n)) (flat_map (edges_of b) (n ∷ []))
-    ∙ ap (λ (xs : List Edge). length (flat_map (edges_of b) (below n)) + length xs) (append-nil (edges_of b n))
+    ap length (flat_map-append (edges_of b []) (below n) (n ∷ []))
+    ∙ length-append (flat_map (edges_of b []) (below n)) (flat_map (edges_of b []) (n ∷ []))
+    ∙ ap (λ (xs : List Edge). length (flat_map (edges_of b []) (below n)) + length xs) (append-nil (edges_of b [] n))
 
 pub few_before : (b : Blocks) (n : ℕ) → edges_before b n ≤ 2 * n
 unfolding edges_before
 few_before b zero = omega arith
-few_before b (suc n) = let h : length (flat_map (edges_of b)
+few_before b (suc n) = let h : length (flat_map (edges_of b [])
     (below n)) ≤ 2 * n = few_before b n in let f = few_of b n in omega (arith, before_next b n)
 
-pub next_before : (b : Blocks) (n : ℕ) → edges_before b (suc n) ≡ edges_before b n + length (edges_of b n)
+pub next_before : (b : Blocks) (n : ℕ) → edges_before b (suc n) ≡ edges_before b n + length (edges_of b [] n)
 unfolding edges_before
 next_before b n = before_next b n
 
-all_edges : (b : Blocks) → length (edges_in b) ≡ edges_before b (length b.firsts) + length b.firsts
-unfolding edges_in edges_before
+all_edges : (b : Blocks) → length (edges_in b []) ≡ edges_before b (length b.firsts) + length b.firsts
+unfolding edges_before
 all_edges b =
     let n = length b.firsts in
-    length-append (flat_map (edges_of b) (below n)) (map landing_at (below n))
-    ∙ ap (λ k. length (flat_map (edges_of b) (below n)) + k) (length-map (below n) landing_at ∙ length-below n)
+    ap length (edges_none b)
+    ∙ length-append (flat_map (edges_of b []) (below n)) (map block_landing (below n))
+    ∙ ap (λ k. length (flat_map (edges_of b []) (below n)) + k) (length-map (below n) block_landing ∙ length-below n)
+
+-- a block has three at most, its landing among them
+pub few_edges : (b : Blocks) → length (edges_in b []) ≤ 3 * length b.firsts
+few_edges b = omega (arith, all_edges b, few_before b (length b.firsts))
 
 before_grows : (b : Blocks) (k n : ℕ) → k ≤ n → edges_before b k ≤ edges_before b n
 before_grows b k zero l = let e : k ≡ 0 = omega arith in
@@ -98,11 +104,11 @@ module _ (text : Words) (graph : Graph) (h : IsGraphOf text graph) where
   unfolding blocks_of
   words_are = ap (λ (g : Graph). g.blocks.words) h.is
 
-  pub edges_are : graph.edges ≡ edges_in graph.blocks
-  edges_are = subst (λ (g : Graph). g.edges ≡ edges_in g.blocks) (sym h.is) refl
+  pub edges_are : graph.edges ≡ edges_in graph.blocks []
+  edges_are = subst (λ (g : Graph). g.edges ≡ edges_in g.blocks []) (sym h.is) refl
 
-  pub graph_is : graph ≡ graph_of graph.blocks
-  graph_is = subst (λ (g : Graph). g ≡ graph_of g.blocks) (sym h.is) refl
+  pub graph_is : graph ≡ graph_of graph.blocks []
+  graph_is = subst (λ (g : Graph). g ≡ graph_of g.blocks []) (sym h.is) refl
 
   pub cut_of : 1 ≤ length text.words → IsCut text graph.blocks
   cut_of some = subst (λ (g : Graph). IsCut text g.blocks) (sym h.is) (cut text h.given some)
@@ -149,10 +155,10 @@ module _ (text : Words) (graph : Graph) (h : IsGraphOf text graph) where
   ways_after count word _ = refl
 
   pub edges_out : 1 ≤ length text.words → (k : ℕ) → k < length graph.blocks.firsts
-      → length (edges_of graph.blocks k) ≡ edges_after (decode_of
+      → length (edges_of graph.blocks [] k) ≡ edges_after (decode_of
       (slice_index text.words (last_word graph.blocks.firsts graph.blocks.words k)))
   edges_out some k l =
-      length-map (ways_from graph.blocks k) (edge_of graph.blocks k)
+      length-map (ways_from graph.blocks k) (edge_of graph.blocks [] (block k) k)
       ∙ ap (λ end. length (ways_of graph.blocks.words (last_word graph.blocks.firsts graph.blocks.words k) end))
       (end_says some k l)
       ∙ ways_after graph.blocks.words (last_word graph.blocks.firsts graph.blocks.words k)
@@ -200,34 +206,34 @@ module _ (b : Blocks) (k : ℕ) (kind : EdgeKind) where
   leaves : Edge → Bool
   leaves edge = same_node edge.from (block k) && same_kind edge.kind kind
 
-  others : (j : ℕ) → j < k → Each (λ edge. leaves edge ≡ false) (edges_of b j)
+  others : (j : ℕ) → j < k → Each (λ edge. leaves edge ≡ false) (edges_of b [] j)
   unfolding leaves
   others j l =
       let apart : (j == k) ≡ false = grind (arith, nat_tests) in
-      each-map (λ edge. leaves edge ≡ false) (edge_of b j) (ways_from b j)
+      each-map (λ edge. leaves edge ≡ false) (edge_of b [] (block j) j) (ways_from b j)
       (each _ (ways_from b j) (λ w. ap (λ t. t && same_kind w.kind kind) apart))
 
   pub edge_number : k < length b.firsts → (pre : List Edge) (edge : Edge) (post : List Edge)
-      → edges_of b k ≡ pre ++ edge ∷ post
+      → edges_of b [] k ≡ pre ++ edge ∷ post
       → Each (λ x. same_kind x.kind kind ≡ false) pre → edge.from ≡ block k → same_kind edge.kind kind ≡ true
-      → edge_from (graph_of b) (block k) kind ≡ (edges_before b k + length pre) ∷ []
-  unfolding edges_in edges_before leaves
+      → edge_from (graph_of b []) (block k) kind ≡ (edges_before b k + length pre) ∷ []
+  unfolding edges_before leaves
   edge_number l pre edge post is before from same =
       let n = length b.firsts in
       let s = split_below n k l in
-      let landings = map landing_at (below n) in
-      let early = flat_map (edges_of b) (below k) in
-      let late = post ++ flat_map (edges_of b) s.0 in
-      let all : flat_map (edges_of b) (below n) ++ landings ≡ (early ++ pre) ++ edge ∷ (late ++ landings) =
-      ap (λ (ns : List ℕ). flat_map (edges_of b) ns ++ map landing_at (below n)) s.1
-      ∙ ap (λ (es : List Edge). es ++ map landing_at (below n)) (flat_map-append (edges_of b) (below k) (k ∷ s.0))
-      ∙ ap (λ (es : List Edge). (flat_map (edges_of b) (below k) ++
-      (es ++ flat_map (edges_of b) s.0)) ++ map landing_at (below n)) is
-      ∙ regroup early pre edge post (flat_map (edges_of b) s.0) landings in
-      ap (λ (es : List Edge). option_to_list (position leaves es)) all
+      let landings = map block_landing (below n) in
+      let early = flat_map (edges_of b []) (below k) in
+      let late = post ++ flat_map (edges_of b []) s.0 in
+      let all : flat_map (edges_of b []) (below n) ++ landings ≡ (early ++ pre) ++ edge ∷ (late ++ landings) =
+      ap (λ (ns : List ℕ). flat_map (edges_of b []) ns ++ map block_landing (below n)) s.1
+      ∙ ap (λ (es : List Edge). es ++ map block_landing (below n)) (flat_map-append (edges_of b []) (below k) (k ∷ s.0))
+      ∙ ap (λ (es : List Edge). (flat_map (edges_of b []) (below k) ++
+      (es ++ flat_map (edges_of b []) s.0)) ++ map block_landing (below n)) is
+      ∙ regroup early pre edge post (flat_map (edges_of b []) s.0) landings in
+      ap (λ (es : List Edge). option_to_list (position leaves es)) (edges_none b ∙ all)
       ∙ ap option_to_list (position_is leaves (early ++ pre) edge (late ++ landings)
-      (each-append _ early pre (each-flat_map _ (edges_of b) (below k)
-      (each-below (λ j. Each (λ edge. leaves edge ≡ false) (edges_of b j)) k others))
+      (each-append _ early pre (each-flat_map _ (edges_of b []) (below k)
+      (each-below (λ j. Each (λ edge. leaves edge ≡ false) (edges_of b [] j)) k others))
       (each-then (λ (x : Edge). same_kind x.kind kind ≡ false) (λ (x : Edge). leaves x ≡ false) pre
       (λ x e. and_false (same_node x.from (block k)) (same_kind x.kind kind) e) before))
       (and_from _ _ (ap (λ (m : Node). same_node m (block k)) from ∙ eq-eqb k k refl) same))
@@ -249,12 +255,12 @@ module _ (text : Words) (graph : Graph) (h : IsGraphOf text graph) (some : 1 ≤
   k = holding_of graph.blocks word
 
   within_k : k < length graph.blocks.firsts
-  within_k = (is_in text graph.blocks (cut_of text graph h some) word low).within
+  within_k = (is_in text graph.blocks [] (cut_of text graph h some) word low).within
 
   ways_here : ways_from graph.blocks k ≡ ways_of graph.blocks.words word end
   ways_here =
-      ways_at text graph.blocks (cut_of text graph h some) word low
-      (transfer_ends text graph.blocks (cut_of text graph h some) word low (ap is_transfer is ∙ t))
+      ways_at text graph.blocks [] (cut_of text graph h some) word low
+      (transfer_ends text graph.blocks [] (cut_of text graph h some) word low (ap is_transfer is ∙ t))
       ∙ ap (ways_of graph.blocks.words word) is
 
   -- where the block has one way
@@ -262,8 +268,8 @@ module _ (text : Words) (graph : Graph) (h : IsGraphOf text graph) (some : 1 ≤
       → ways_of graph.blocks.words word end ≡ w ∷ [] → edge_from graph (block k) kind ≡ edges_before graph.blocks k ∷ []
   only_way kind w same itself one =
       ap (λ (g : Graph). edge_from g (block k) kind) (graph_is text graph h)
-      ∙ edge_number graph.blocks k kind within_k [] (edge_of graph.blocks k w) []
-      (ap (map (edge_of graph.blocks k)) (ways_here ∙ one)) tt refl
+      ∙ edge_number graph.blocks k kind within_k [] (edge_of graph.blocks [] (block k) k w) []
+      (ap (map (edge_of graph.blocks [] (block k) k)) (ways_here ∙ one)) tt refl
       (ap (λ (j : EdgeKind). same_kind j kind) same ∙ itself)
       ∙ ap (λ n. n ∷ []) (let e : edges_before graph.blocks k + 0 ≡ edges_before graph.blocks k = omega arith in e)
 
@@ -298,11 +304,11 @@ module _ (text : Words) (graph : Graph) (h : IsGraphOf text graph) (some : 1 ≤
   never_piece e f = only_piece text graph h some word l end ends_so refl kinds.Untaken
       (way kinds.Untaken (within graph.blocks.words (word + 2))) refl refl (rw (e, f) refl)
 
-  two : (c == always) ≡ false → (c == never) ≡ false → edges_of graph.blocks kb
-      ≡ edge_of graph.blocks kb (way kinds.Taken (number_of (branch_target text word c disp)))
-      ∷ edge_of graph.blocks kb (way kinds.Untaken (within graph.blocks.words (word + 2))) ∷ []
+  two : (c == always) ≡ false → (c == never) ≡ false → edges_of graph.blocks [] kb
+      ≡ edge_of graph.blocks [] (block kb) kb (way kinds.Taken (number_of (branch_target text word c disp)))
+      ∷ edge_of graph.blocks [] (block kb) kb (way kinds.Untaken (within graph.blocks.words (word + 2))) ∷ []
   two e f =
-      ap (map (edge_of graph.blocks kb)) (ways_here text graph h some word l end ends_so refl
+      ap (map (edge_of graph.blocks [] (block kb) kb)) (ways_here text graph h some word l end ends_so refl
       ∙ ap (λ (a : Bool). if a then way kinds.Taken (number_of
       (branch_target text word c disp)) ∷ [] else if c == never then way kinds.Untaken
       (within graph.blocks.words (word + 2)) ∷ [] else
@@ -317,8 +323,8 @@ module _ (text : Words) (graph : Graph) (h : IsGraphOf text graph) (some : 1 ≤
   taken_number e f =
       ap (λ (g : Graph). edge_from g (block kb) kinds.Taken) (graph_is text graph h)
       ∙ edge_number graph.blocks kb kinds.Taken (within_k text graph h some word l end ends_so refl) []
-      (edge_of graph.blocks kb (way kinds.Taken (number_of (branch_target text word c disp))))
-      (edge_of graph.blocks kb (way kinds.Untaken (within graph.blocks.words (word + 2))) ∷ [])
+      (edge_of graph.blocks [] (block kb) kb (way kinds.Taken (number_of (branch_target text word c disp))))
+      (edge_of graph.blocks [] (block kb) kb (way kinds.Untaken (within graph.blocks.words (word + 2))) ∷ [])
       (two e f) tt refl refl
       ∙ ap (λ n. n ∷ []) (let z : edges_before graph.blocks kb + 0 ≡ edges_before graph.blocks kb = omega arith in z)
 
@@ -327,8 +333,8 @@ module _ (text : Words) (graph : Graph) (h : IsGraphOf text graph) (some : 1 ≤
   untaken_number e f =
       ap (λ (g : Graph). edge_from g (block kb) kinds.Untaken) (graph_is text graph h)
       ∙ edge_number graph.blocks kb kinds.Untaken (within_k text graph h some word l end ends_so refl)
-      (edge_of graph.blocks kb (way kinds.Taken (number_of (branch_target text word c disp))) ∷ [])
-      (edge_of graph.blocks kb (way kinds.Untaken (within graph.blocks.words (word + 2)))) []
+      (edge_of graph.blocks [] (block kb) kb (way kinds.Taken (number_of (branch_target text word c disp))) ∷ [])
+      (edge_of graph.blocks [] (block kb) kb (way kinds.Untaken (within graph.blocks.words (word + 2)))) []
       (two e f) (refl, tt) refl refl
 
   pub branch_is : (address : Addr) (first : ℕ) → first ≡ first_way_of text graph kb
@@ -374,15 +380,15 @@ module _ (text : Words) (graph : Graph) (h : IsGraphOf text graph) (some : 1 ≤
   module _ (instr : Instr) (says : decode_of (slice_index text.words its_last) ≡ instr)
       (straight : transfers instr ≡ false) where
     abbrev to_next : Edge
-    to_next = edge_of graph.blocks k (way kinds.Fall (within graph.blocks.words (its_last + 1)))
+    to_next = edge_of graph.blocks [] (block k) k (way kinds.Fall (within graph.blocks.words (its_last + 1)))
 
     -- a block that ends with no transfer has one edge
-    pub only_fall : edges_of graph.blocks k ≡ to_next ∷ []
+    pub only_fall : edges_of graph.blocks [] k ≡ to_next ∷ []
     only_fall =
         let end : end_of graph.blocks k ≡ ends.Fall =
         end_says text graph h some k l ∙ ap (end_by text its_last) says
         ∙ straight_end text its_last instr straight in
-        ap (λ (e : BlockEnd). map (edge_of graph.blocks k) (ways_of graph.blocks.words its_last e)) end
+        ap (λ (e : BlockEnd). map (edge_of graph.blocks [] (block k) k) (ways_of graph.blocks.words its_last e)) end
 
     -- whose code comes behind its last word
     pub left_last : left_by graph (block k) its_last instr ≡ edges_before graph.blocks k ∷ []
@@ -397,39 +403,39 @@ module _ (b : Blocks) (k : ℕ) where
   lands : Edge → Bool
   lands edge = same_node edge.to (block k) && same_kind edge.kind kinds.Land
 
-  own_fail : (j : ℕ) → Each (λ edge. lands edge ≡ false) (edges_of b j)
+  own_fail : (j : ℕ) → Each (λ edge. lands edge ≡ false) (edges_of b [] j)
   unfolding lands
   own_fail j =
-      each-map (λ edge. lands edge ≡ false) (edge_of b j) (ways_from b j)
-      (each-then IsOwn (λ (w : Way). lands (edge_of b j w) ≡ false) (ways_from b j)
-      (λ w own. and_false (same_node (edge_of b j w).to (block k)) (same_kind w.kind kinds.Land) own.0)
+      each-map (λ edge. lands edge ≡ false) (edge_of b [] (block j) j) (ways_from b j)
+      (each-then IsOwn (λ (w : Way). lands (edge_of b [] (block j) j w) ≡ false) (ways_from b j)
+      (λ w own. and_false (same_node (edge_of b [] (block j) j w).to (block k)) (same_kind w.kind kinds.Land) own.0)
       (ways_are_own b.words (last_word b.firsts b.words j) (end_of b j)))
 
-  before_fail : (j : ℕ) → j < k → lands (landing_at j) ≡ false
+  before_fail : (j : ℕ) → j < k → lands (block_landing j) ≡ false
   unfolding lands
   before_fail j less =
       let apart : (j == k) ≡ false = grind (arith, nat_tests) in ap (λ t. t && true) apart
 
   pub landing_found : k < length b.firsts
-      → landing_from (graph_of b) (block k) ≡ (edges_before b (length b.firsts) + k) ∷ []
-  unfolding edges_in edges_before lands
+      → landing_from (graph_of b []) (block k) ≡ (edges_before b (length b.firsts) + k) ∷ []
+  unfolding edges_before lands
   landing_found l =
       let n = length b.firsts in
       let s = split_below n k l in
-      let own = flat_map (edges_of b) (below (length b.firsts)) in
-      let early = map landing_at (below k) in
-      let all : flat_map (edges_of b) (below n) ++ map landing_at (below n)
-      ≡ (own ++ early) ++ landing_at k ∷ map landing_at s.0 =
-      ap (λ (ns : List ℕ). flat_map (edges_of b) (below n) ++ map landing_at ns) s.1
-      ∙ ap (λ (es : List Edge). flat_map (edges_of b) (below n) ++ es) (map-append landing_at (below k) (k ∷ s.0))
-      ∙ sym (append_assoc own early (landing_at k ∷ map landing_at s.0)) in
-      ap (λ (es : List Edge). option_to_list (position lands es)) all
-      ∙ ap option_to_list (position_is lands (own ++ early) (landing_at k) (map landing_at s.0)
-      (each-append _ own early (each-flat_map _ (edges_of b) (below n) (each _ (below n) own_fail))
-      (each-map _ landing_at (below k) (each-below (λ j. lands (landing_at j) ≡ false) k before_fail)))
+      let own = flat_map (edges_of b []) (below (length b.firsts)) in
+      let early = map block_landing (below k) in
+      let all : flat_map (edges_of b []) (below n) ++ map block_landing (below n)
+      ≡ (own ++ early) ++ block_landing k ∷ map block_landing s.0 =
+      ap (λ (ns : List ℕ). flat_map (edges_of b []) (below n) ++ map block_landing ns) s.1
+      ∙ ap (λ (es : List Edge). flat_map (edges_of b []) (below n) ++ es) (map-append block_landing (below k) (k ∷ s.0))
+      ∙ sym (append_assoc own early (block_landing k ∷ map block_landing s.0)) in
+      ap (λ (es : List Edge). option_to_list (position lands es)) (edges_none b ∙ all)
+      ∙ ap option_to_list (position_is lands (own ++ early) (block_landing k) (map block_landing s.0)
+      (each-append _ own early (each-flat_map _ (edges_of b []) (below n) (each _ (below n) own_fail))
+      (each-map _ block_landing (below k) (each-below (λ j. lands (block_landing j) ≡ false) k before_fail)))
       (ap (λ t. t && true) (eq-eqb k k refl)))
       ∙ ap (λ m. m ∷ []) (length-append own early
-      ∙ ap (λ m. length own + m) (length-map (below k) landing_at ∙ length-below k))
+      ∙ ap (λ m. length own + m) (length-map (below k) block_landing ∙ length-below k))
 
 -- the landing at a block
 pub landing_edge : (text : Words) (graph : Graph) → IsGraphOf text graph → (k : ℕ) → k < length graph.blocks.firsts
@@ -515,7 +521,7 @@ begin_last text graph h k m =
 
 -- the way after those along a block's edges
 pub way_after : (text : Words) (graph : Graph) → (way out k : ℕ) → way ≡ first_way_of text graph k
-    → out ≡ length (edges_of graph.blocks k)
+    → out ≡ length (edges_of graph.blocks [] k)
     → way + out ≡ first_way_of text graph (k + 1)
 way_after text graph way out k e f =
     let next : suc k ≡ k + 1 = omega arith in
@@ -548,41 +554,41 @@ first_last text graph h some k l =
 
 -- the graph's own edges, before the landings
 pub own_are : (text : Words) (graph : Graph) → IsGraphOf text graph
-    → own_edges graph ≡ flat_map (edges_of graph.blocks) (below (length graph.blocks.firsts))
-unfolding edges_in
+    → own_edges graph ≡ flat_map (edges_of graph.blocks []) (below (length graph.blocks.firsts))
 own_are text graph h =
     let many : length graph.edges - length graph.blocks.firsts
-    ≡ length (flat_map (edges_of graph.blocks) (below (length graph.blocks.firsts))) =
+    ≡ length (flat_map (edges_of graph.blocks []) (below (length graph.blocks.firsts))) =
     omega (
       arith,
-      ap length (edges_are text graph h),
-      length-append (flat_map (edges_of graph.blocks) (below (length graph.blocks.firsts)))
-          (map landing_at (below (length graph.blocks.firsts))),
-      length-map (below (length graph.blocks.firsts)) landing_at,
+      ap length (edges_are text graph h ∙ edges_none graph.blocks),
+      length-append (flat_map (edges_of graph.blocks []) (below (length graph.blocks.firsts)))
+          (map block_landing (below (length graph.blocks.firsts))),
+      length-map (below (length graph.blocks.firsts)) block_landing,
       length-below (length graph.blocks.firsts),
     ) in
     ap (λ (k : ℕ). take k graph.edges) many
-    ∙ ap (take (length (flat_map (edges_of graph.blocks) (below (length graph.blocks.firsts))))) (edges_are text graph h)
-    ∙ take_first (flat_map (edges_of graph.blocks) (below (length graph.blocks.firsts)))
-    (map landing_at (below (length graph.blocks.firsts)))
+    ∙ ap (take (length (flat_map (edges_of graph.blocks []) (below (length graph.blocks.firsts)))))
+    (edges_are text graph h ∙ edges_none graph.blocks)
+    ∙ take_first (flat_map (edges_of graph.blocks []) (below (length graph.blocks.firsts)))
+    (map block_landing (below (length graph.blocks.firsts)))
 
 pub all_are : (text : Words) (graph : Graph) → IsGraphOf text graph
-    → graph.edges ≡ own_edges graph ++ map landing_at (below (length graph.blocks.firsts))
-unfolding edges_in
+    → graph.edges ≡ own_edges graph ++ map block_landing (below (length graph.blocks.firsts))
 all_are text graph h =
     edges_are text graph h
-    ∙ ap (λ (es : List Edge). es ++ map landing_at (below (length graph.blocks.firsts))) (sym (own_are text graph h))
+    ∙ edges_none graph.blocks
+    ∙ ap (λ (es : List Edge). es ++ map block_landing (below (length graph.blocks.firsts))) (sym (own_are text graph h))
 
 pub own_no_landings : (text : Words) (graph : Graph) → IsGraphOf text graph
     → Each (λ edge. same_kind edge.kind kinds.Land ≡ false) (own_edges graph)
 own_no_landings text graph h =
     subst (Each (λ edge. same_kind edge.kind kinds.Land ≡ false)) (sym (own_are text graph h))
-    (each-flat_map _ (edges_of graph.blocks) (below (length graph.blocks.firsts))
+    (each-flat_map _ (edges_of graph.blocks []) (below (length graph.blocks.firsts))
     (each _ (below (length graph.blocks.firsts)) none))
   where
-    none : (k : ℕ) → Each (λ edge. same_kind edge.kind kinds.Land ≡ false) (edges_of graph.blocks k)
+    none : (k : ℕ) → Each (λ edge. same_kind edge.kind kinds.Land ≡ false) (edges_of graph.blocks [] k)
     none k =
-        each-map (λ edge. same_kind edge.kind kinds.Land ≡ false) (edge_of graph.blocks k) (ways_from graph.blocks k)
+        each-map (λ edge. same_kind edge.kind kinds.Land ≡ false) (edge_of graph.blocks [] (block k) k) (ways_from graph.blocks k)
         (each-then IsOwn (λ (w : Way). same_kind w.kind kinds.Land ≡ false) (ways_from graph.blocks k)
         (λ w own. own.0) (ways_are_own graph.blocks.words
         (last_word graph.blocks.firsts graph.blocks.words k) (end_of graph.blocks k)))

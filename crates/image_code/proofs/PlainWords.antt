@@ -118,7 +118,7 @@ module _ (g : Setting) (codes : ℕ → List ℕ) (is : IsText g.text) (p : Plac
       let cut = cut_in g is f.table.base in
       let words = cut.words in
       let inside : word < (graph_in g).blocks.words = omega (arith, low, words) in
-      let held_in = is_in g.text (graph_in g).blocks cut word inside in
+      let held_in = is_in g.text (graph_in g).blocks [] cut word inside in
       let transfer : ends_block_after (end_at g.text (word - 1)) ≡ true =
       ap ends_block_after (end_is g.text (word - 1) before refl) ∙ transfer_end g.text (word - 1) before two.1 in
       let next : word - 1 + 2 ≡ suc word = omega (arith, some) in

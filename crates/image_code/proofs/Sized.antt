@@ -17,10 +17,11 @@ use Rattle.cfg_blocks.specs.Blocks.{Blocks, below, block_end, last_word, size_of
 use Rattle.cfg_blocks.specs.Entries.{is_fall}
 use Rattle.cfg_normal.specs.declared.Edge.{Edge}
 use Rattle.cfg_normal.specs.declared.Node.{Node}
-use Rattle.cfg_normal.specs.Graph.{Graph, edges_of, landing_at, node_of}
+use Rattle.cfg_normal.specs.Graph.{Graph, edges_of, node_of}
 use Rattle.cfg_walk.specs.Walk.{landing_at as landing_from, left_by, same_kind}
 use Rattle.cfg_walk.proofs.Holding.{some_words}
 use Rattle.cfg_walk.proofs.Lists.{Each}
+use Rattle.cfg_walk.proofs.NoneOpen.{block_landing}
 use Rattle.snippets.specs.declared.snippet.Op.{Op}
 use Rattle.image_code.specs.Simulates.{snippet_on}
 use Rattle.image_code.specs.Made.{own_edges}
@@ -163,11 +164,11 @@ module _ (text : Words) (graph : Graph) (codes : ℕ → List ℕ) (h : IsGraphO
               (decode_of (slice_index text.words word)) e) in
               rw e (omega arith)
 
-      last_most : its_image last ≤ falls_code codes (edges_before graph.blocks k) (edges_of graph.blocks k)
+      last_most : its_image last ≤ falls_code codes (edges_before graph.blocks k) (edges_of graph.blocks [] k)
       last_most = by (is_transfer (decode_of (slice_index text.words last))) refl
         where
           by : (t : Bool) → is_transfer (decode_of (slice_index text.words last)) ≡ t
-              → its_image last ≤ falls_code codes (edges_before graph.blocks k) (edges_of graph.blocks k)
+              → its_image last ≤ falls_code codes (edges_before graph.blocks k) (edges_of graph.blocks [] k)
           by true e = rw e (omega arith)
           by false e =
               let home = block_home text graph h some k last l (omega (arith, room)) (omega (arith, room)) in
@@ -176,7 +177,7 @@ module _ (text : Words) (graph : Graph) (codes : ℕ → List ℕ) (h : IsGraphO
               ap (λ (n : Node). code_length codes (left_by graph n last (decode_of (slice_index text.words last)))) home
               ∙ ap (code_length codes) (left_last text graph h some k l (decode_of (slice_index text.words last)) refl e)
               ∙ ap length (append-nil (codes (edges_before graph.blocks k))) in
-              let falls : falls_code codes (edges_before graph.blocks k) (edges_of graph.blocks k)
+              let falls : falls_code codes (edges_before graph.blocks k) (edges_of graph.blocks [] k)
               ≡ length (codes (edges_before graph.blocks k)) + 0 =
               ap (falls_code codes (edges_before graph.blocks k))
               (only_fall text graph h some k l (decode_of (slice_index text.words last)) refl e) in
@@ -184,7 +185,7 @@ module _ (text : Words) (graph : Graph) (codes : ℕ → List ℕ) (h : IsGraphO
 
       block_images : sum_by its_image (below (begin_of graph.blocks (k + 1)))
           ≤ sum_by its_image (below (begin_of graph.blocks k))
-          + falls_code codes (edges_before graph.blocks k) (edges_of graph.blocks k)
+          + falls_code codes (edges_before graph.blocks k) (edges_of graph.blocks [] k)
       block_images =
           let inner : first + (last - first) ≡ last = omega (arith, room) in
           let inside = sum_up its_image 0 first (last - first)
@@ -202,7 +203,7 @@ module _ (text : Words) (graph : Graph) (codes : ℕ → List ℕ) (h : IsGraphO
 
     pub images_few : (k : ℕ) → k ≤ length graph.blocks.firsts → begin_of graph.blocks 0 ≡ 0
         → sum_by its_image (below (begin_of graph.blocks k))
-        ≤ falls_code codes 0 (flat_map (edges_of graph.blocks) (below k))
+        ≤ falls_code codes 0 (flat_map (edges_of graph.blocks []) (below k))
     unfolding edges_before
     images_few zero l begin =
         let none : sum_by its_image (below (begin_of graph.blocks 0)) ≡ 0 =
@@ -215,18 +216,18 @@ module _ (text : Words) (graph : Graph) (codes : ℕ → List ℕ) (h : IsGraphO
         let whole : sum_by its_image (below (begin_of graph.blocks (suc k)))
         ≡ sum_by its_image (below (begin_of graph.blocks (k + 1))) =
         ap (λ (n : ℕ). sum_by its_image (below (begin_of graph.blocks n))) next in
-        let edges : falls_code codes 0 (flat_map (edges_of graph.blocks) (below k ++ k ∷ []))
-        ≡ falls_code codes 0 (flat_map (edges_of graph.blocks) (below k))
-        + falls_code codes (0 + length (flat_map (edges_of graph.blocks) (below k))) (edges_of graph.blocks k) =
-        ap (falls_code codes 0) (flat_map-append (edges_of graph.blocks) (below k) (k ∷ []))
-        ∙ falls-append codes 0 (flat_map (edges_of graph.blocks) (below k)) (edges_of graph.blocks k ++ [])
-        ∙ ap (λ (es : List Edge). falls_code codes 0 (flat_map (edges_of graph.blocks) (below k))
-        + falls_code codes (0 + length (flat_map (edges_of graph.blocks) (below k))) es)
-        (append-nil (edges_of graph.blocks k)) in
-        let number : 0 + length (flat_map (edges_of graph.blocks) (below k)) ≡ edges_before graph.blocks k = omega arith in
-        let same : falls_code codes (0 + length (flat_map (edges_of graph.blocks) (below k))) (edges_of graph.blocks k)
-        ≡ falls_code codes (edges_before graph.blocks k) (edges_of graph.blocks k) =
-        ap (λ (n : ℕ). falls_code codes n (edges_of graph.blocks k)) number in
+        let edges : falls_code codes 0 (flat_map (edges_of graph.blocks []) (below k ++ k ∷ []))
+        ≡ falls_code codes 0 (flat_map (edges_of graph.blocks []) (below k))
+        + falls_code codes (0 + length (flat_map (edges_of graph.blocks []) (below k))) (edges_of graph.blocks [] k) =
+        ap (falls_code codes 0) (flat_map-append (edges_of graph.blocks []) (below k) (k ∷ []))
+        ∙ falls-append codes 0 (flat_map (edges_of graph.blocks []) (below k)) (edges_of graph.blocks [] k ++ [])
+        ∙ ap (λ (es : List Edge). falls_code codes 0 (flat_map (edges_of graph.blocks []) (below k))
+        + falls_code codes (0 + length (flat_map (edges_of graph.blocks []) (below k))) es)
+        (append-nil (edges_of graph.blocks [] k)) in
+        let number : 0 + length (flat_map (edges_of graph.blocks []) (below k)) ≡ edges_before graph.blocks k = omega arith in
+        let same : falls_code codes (0 + length (flat_map (edges_of graph.blocks []) (below k))) (edges_of graph.blocks [] k)
+        ≡ falls_code codes (edges_before graph.blocks k) (edges_of graph.blocks [] k) =
+        ap (λ (n : ℕ). falls_code codes n (edges_of graph.blocks [] k)) number in
         omega arith
 
     -- ---- landings, block by block
@@ -237,7 +238,7 @@ module _ (text : Words) (graph : Graph) (codes : ℕ → List ℕ) (h : IsGraphO
 
       pub landings_few : (k : ℕ) → k ≤ length graph.blocks.firsts → begin_of graph.blocks 0 ≡ 0
           → sum_by its_landing (below (begin_of graph.blocks k))
-          ≤ 22 * operations_from graph.blocks snips (length (own_edges graph)) (map landing_at (below k))
+          ≤ 22 * operations_from graph.blocks snips (length (own_edges graph)) (map block_landing (below k))
       landings_few zero l begin =
           let none : sum_by its_landing (below (begin_of graph.blocks 0)) ≡ 0 =
           ap (λ (n : ℕ). sum_by its_landing (below n)) begin in
@@ -259,19 +260,19 @@ module _ (text : Words) (graph : Graph) (codes : ℕ → List ℕ) (h : IsGraphO
           let start : sum_by its_landing (below (begin_of graph.blocks k))
           ≡ sum_by its_landing (below (slice_index graph.blocks.firsts k)) =
           ap (λ (n : ℕ). sum_by its_landing (below n)) (begin_at graph.blocks k low) in
-          let edges : operations_from graph.blocks snips (length (own_edges graph)) (map landing_at (below k ++ k ∷ []))
-          ≡ operations_from graph.blocks snips (length (own_edges graph)) (map landing_at (below k))
-          + operations_from graph.blocks snips (length (own_edges graph) + length (map landing_at (below k)))
-          (landing_at k ∷ []) =
-          ap (operations_from graph.blocks snips (length (own_edges graph))) (map-append landing_at (below k) (k ∷ []))
-          ∙ operations-append graph.blocks snips (length (own_edges graph)) (map landing_at (below k))
-          (landing_at k ∷ []) in
-          let number : length (own_edges graph) + length (map landing_at (below k)) ≡ length (own_edges graph) + k =
-          ap (λ (n : ℕ). length (own_edges graph) + n) (length-map (below k) landing_at ∙ length-below k) in
-          let last : operations_from graph.blocks snips (length (own_edges graph) + length (map landing_at (below k)))
-          (landing_at k ∷ [])
+          let edges : operations_from graph.blocks snips (length (own_edges graph)) (map block_landing (below k ++ k ∷ []))
+          ≡ operations_from graph.blocks snips (length (own_edges graph)) (map block_landing (below k))
+          + operations_from graph.blocks snips (length (own_edges graph) + length (map block_landing (below k)))
+          (block_landing k ∷ []) =
+          ap (operations_from graph.blocks snips (length (own_edges graph))) (map-append block_landing (below k) (k ∷ []))
+          ∙ operations-append graph.blocks snips (length (own_edges graph)) (map block_landing (below k))
+          (block_landing k ∷ []) in
+          let number : length (own_edges graph) + length (map block_landing (below k)) ≡ length (own_edges graph) + k =
+          ap (λ (n : ℕ). length (own_edges graph) + n) (length-map (below k) block_landing ∙ length-below k) in
+          let last : operations_from graph.blocks snips (length (own_edges graph) + length (map block_landing (below k)))
+          (block_landing k ∷ [])
           ≡ size_of graph.blocks k * length (snippet_on snips (length (own_edges graph) + k)) + 0 =
-          ap (λ (n : ℕ). operations_from graph.blocks snips n (landing_at k ∷ [])) number in
+          ap (λ (n : ℕ). operations_from graph.blocks snips n (block_landing k ∷ [])) number in
           omega arith
         where
           each_landing : (k : ℕ) → k < length graph.blocks.firsts → (word : ℕ)
@@ -303,27 +304,27 @@ module _ (text : Words) (graph : Graph) (codes : ℕ → List ℕ) (h : IsGraphO
       subst (λ (es : List Edge). sum_by (image_code text graph codes) (below (length text.words))
       ≤ falls_code codes 0 es) (sym own)
       (subst (λ (k : ℕ). sum_by (image_code text graph codes) (below k)
-      ≤ falls_code codes 0 (flat_map (edges_of graph.blocks) (below (length graph.blocks.firsts)))) end
+      ≤ falls_code codes 0 (flat_map (edges_of graph.blocks []) (below (length graph.blocks.firsts)))) end
       (images_few text graph codes h some (length graph.blocks.firsts) (omega arith) begin)) in
       let landings : sum_by (landing_code graph codes) (below (length text.words))
       ≤ 22 * operations_from graph.blocks snips (length (own_edges graph))
-      (map landing_at (below (length graph.blocks.firsts))) =
+      (map block_landing (below (length graph.blocks.firsts))) =
       subst (λ (k : ℕ). sum_by (landing_code graph codes) (below k)
       ≤ 22 * operations_from graph.blocks snips (length (own_edges graph))
-      (map landing_at (below (length graph.blocks.firsts)))) end
+      (map block_landing (below (length graph.blocks.firsts)))) end
       (landings_few text graph codes h some snips short (length graph.blocks.firsts) (omega arith) begin) in
       let both = both_few graph.blocks snips codes short 0 (own_edges graph) (own_no_landings text graph h) in
       let all : operations_in graph snips ≡ operations_from graph.blocks snips 0 (own_edges graph)
       + operations_from graph.blocks snips (0 + length (own_edges graph))
-      (map landing_at (below (length graph.blocks.firsts))) =
+      (map block_landing (below (length graph.blocks.firsts))) =
       ap (operations_from graph.blocks snips 0) (all_are text graph h)
       ∙ operations-append graph.blocks snips 0 (own_edges graph)
-      (map landing_at (below (length graph.blocks.firsts))) in
+      (map block_landing (below (length graph.blocks.firsts))) in
       let number : 0 + length (own_edges graph) ≡ length (own_edges graph) = omega arith in
       let same : operations_from graph.blocks snips (0 + length (own_edges graph))
-      (map landing_at (below (length graph.blocks.firsts)))
+      (map block_landing (below (length graph.blocks.firsts)))
       ≡ operations_from graph.blocks snips (length (own_edges graph))
-      (map landing_at (below (length graph.blocks.firsts))) =
-      ap (λ (k : ℕ). operations_from graph.blocks snips k (map landing_at (below (length graph.blocks.firsts))))
+      (map block_landing (below (length graph.blocks.firsts))) =
+      ap (λ (k : ℕ). operations_from graph.blocks snips k (map block_landing (below (length graph.blocks.firsts))))
       number in
       omega arith

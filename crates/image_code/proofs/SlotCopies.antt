@@ -14,12 +14,14 @@ use Rattle.v8_step.specs.Items.{is_transfer}
 use Rattle.v8_step.proofs.CopiedMoves.{goes_act}
 use Rattle.cfg_blocks.specs.declared.EdgeKind.{EdgeKind}
 use Rattle.cfg_blocks.specs.declared.EdgeKind.TheVariants as kinds
+use Rattle.cfg_blocks.specs.Blocks.{Blocks}
 use Rattle.cfg_blocks.proofs.Targets.{word_at-some}
 use Rattle.cfg_normal.specs.declared.Node.{Node}
-use Rattle.cfg_normal.specs.declared.Node.TheVariants.{Block, X}
-use Rattle.cfg_normal.specs.Graph.{Graph, node_of}
+use Rattle.cfg_normal.specs.declared.Node.TheVariants.{Block, Landed, X}
+use Rattle.cfg_normal.specs.Graph.{Graph, graph_of, node_of}
 use Rattle.cfg_walk.specs.Walk.{Point, landed, landing_at as edge_landing, node_after, point_of, same_kind}
-use Rattle.cfg_walk.specs.Matches.{Begins, IsOnItsWay, last_in, way_address}
+use Rattle.cfg_walk.specs.Matches.{Begins, last_in, way_address}
+use Rattle.cfg_walk.proofs.NoneOpen.{IsOnEdge, slot_none}
 use Rattle.addr_translate.specs.Halves.{found_in}
 use Rattle.code_runs.specs.Page.{page_word}
 use Rattle.code_runs.proofs.StoredWords.{memory_word-range}
@@ -46,6 +48,8 @@ goes_begins : (text : Words) (graph : Graph) (node : Node) (address : ℕ) (o : 
     → Begins graph node o → (word : ℕ) → o ≡ Some word → goes_on text graph node address ≡ jump_to word
 goes_begins text graph (Block k) address None h word e = absurd h
 goes_begins text graph (Block k) address (Some w) h word e = let q : w ≡ word = cc in ap jump_to (h ∙ q)
+goes_begins text graph (Landed k) address None h word e = absurd h
+goes_begins text graph (Landed k) address (Some w) h word e = let q : w ≡ word = cc in ap jump_to (h ∙ q)
 goes_begins text graph X address None h word e = absurd (cc)
 goes_begins text graph X address (Some w) h word e = absurd h
 
@@ -53,6 +57,8 @@ goes_out : (text : Words) (graph : Graph) (node : Node) (address : ℕ) (o : Opt
     → Begins graph node o → o ≡ None → goes_on text graph node address ≡ far_piece address
 goes_out text graph (Block k) address None h e = absurd h
 goes_out text graph (Block k) address (Some w) h e = absurd (cc)
+goes_out text graph (Landed k) address None h e = absurd h
+goes_out text graph (Landed k) address (Some w) h e = absurd (cc)
 goes_out text graph X address None h e = refl
 goes_out text graph X address (Some w) h e = absurd h
 
@@ -66,22 +72,23 @@ not_landed text graph kinds.Taken address e = refl
 not_landed text graph kinds.Untaken address e = refl
 not_landed text graph kinds.Call address e = refl
 not_landed text graph kinds.Land address e = refl
+not_landed text graph kinds.Case address e = refl
 
 -- at a word that of its block, and outside the text none
 abbrev landing_of : Graph → Option ℕ → List ℕ
 landing_of graph None = []
 landing_of graph (Some word) = edge_landing graph (node_of graph.blocks (Some word))
 
-landed_out : (text : Words) (graph : Graph) (address : ℕ) (o : Option ℕ) → word_at text address ≡ o
-    → landed text graph kinds.Out address ≡ landing_of graph o
-landed_out text graph address None e = rw e refl
-landed_out text graph address (Some word) e = rw e refl
+landed_out : (text : Words) (b : Blocks) (address : ℕ) (o : Option ℕ) → word_at text address ≡ o
+    → landed text (graph_of b []) kinds.Out address ≡ landing_of (graph_of b []) o
+landed_out text b address None e = rw e refl
+landed_out text b address (Some word) e = rw e refl
 
 module _ (g : Setting) (codes : ℕ → List ℕ) (is : IsText g.text) (p : Placement) (f : Frame) (base : ℕ)
     (place : ℕ → ℕ → ℕ) (tables : IsTableFor g.text (graph_in g) g.snips p f.table f.halves)
     (node : Node) (x : Point) (t : State) (here : Here g (l g codes is p f) base p f node x t)
     (slot : ℕ) (at : word_at g.text x.pc ≡ Some slot) (not : x.slot ≢ NoSlot)
-    (way : IsOnItsWay g.text (graph_in g) node x (way_in g codes is p f x)) where
+    (way : IsOnEdge g.text (graph_in g) node x (way_in g codes is p f x)) where
   abbrev piece : ℕ
   piece = length g.text.words + way.number
 
@@ -134,6 +141,7 @@ module _ (g : Setting) (codes : ℕ → List ℕ) (is : IsText g.text) (p : Plac
         → gone_at g node x v ≡ way.number ∷ landed g.text (graph_in g) (way_in g codes is p f x) v.pc
     gone_along v after live =
         slot_gone g codes is p f node x v not after live
+        ∙ slot_none g.text (graph_in g).blocks node (way_in g codes is p f x) v.pc
         ∙ ap (λ (edges : List ℕ). edges ++ landed g.text (graph_in g) (way_in g codes is p f x) v.pc) way.only
 
     -- ---- no JMPL's slot: the edge leads on
@@ -265,7 +273,7 @@ module _ (g : Setting) (codes : ℕ → List ℕ) (is : IsText g.text) (p : Plac
               (visited_at g (l g codes is p f) p f after (point_of v))
           by None none =
               inr (
-                landed_out g.text (graph_in g) x.npc None none,
+                landed_out g.text (graph_in g).blocks x.npc None none,
                 (
                   record { 0 = foreign_number g.text (graph_in g) },
                   slice_get_within (l g codes is p f).list _ _ (foreign_at g.text (graph_in g) f.table.base codes),
@@ -296,7 +304,7 @@ module _ (g : Setting) (codes : ℕ → List ℕ) (is : IsText g.text) (p : Plac
                     slice_get_within (l g codes is p f).list _ _ (image_at g.text (graph_in g) f.table.base codes to within),
                     led true e,
                     inr (
-                      ap (operations_on g.snips) (landed_out g.text (graph_in g) x.npc (Some to) some) ∙ eqb-true _ _ e,
+                      ap (operations_on g.snips) (landed_out g.text (graph_in g).blocks x.npc (Some to) some) ∙ eqb-true _ _ e,
                       visit,
                     ),
                   )
@@ -309,7 +317,7 @@ module _ (g : Setting) (codes : ℕ → List ℕ) (is : IsText g.text) (p : Plac
                     inl (inr (inl (
                       record { 0 = to },
                       there ∙ ap (λ (edges : List ℕ). Some (words_on (l g codes is p f) edges ++ jump_to to))
-                          (sym (landed_out g.text (graph_in g) x.npc (Some to) some)),
+                          (sym (landed_out g.text (graph_in g).blocks x.npc (Some to) some)),
                       visit,
                     ))),
                   )

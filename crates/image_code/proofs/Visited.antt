@@ -22,6 +22,7 @@ use Rattle.cfg_normal.specs.Graph.{IsSlotIn, node_of}
 use Rattle.cfg_walk.specs.Walk.{Point, completed, edge_from, gone, instr_at, left_at, left_by, point_of, same_kind, slot_left, unless_ended, way_of}
 use Rattle.cfg_walk.specs.Matches.{IsCarried, IsOnItsWay, MatchesBy}
 use Rattle.cfg_walk.proofs.Addresses.{word_at-address}
+use Rattle.cfg_walk.proofs.NoneOpen.{IsOnEdge, on_edge}
 use Rattle.addr_translate.specs.Lookup.{IsTable}
 use Rattle.layout.specs.Laid.{Placement}
 use Rattle.image_code.specs.Simulates.{Setting, gone_at, graph_in, word_of}
@@ -97,17 +98,17 @@ module _ (g : Setting) (codes : ℕ → List ℕ) (is : IsText g.text) (p : Plac
   way_in x = way_of (instr_at g.text (x.pc - 4)) x.slot
 
   pub on_its_way : (node : Node) (x : Point) (s : Slot) → x.slot ≡ s → s ≢ NoSlot
-      → MatchesBy g.text (graph_in g) node x s → IsOnItsWay g.text (graph_in g) node x (way_in x)
+      → MatchesBy g.text (graph_in g) node x s → IsOnEdge g.text (graph_in g) node x (way_in x)
   on_its_way node x NoSlot e n m = absurd (n refl)
-  on_its_way node x Taken e n m =
-      subst (λ (s : Slot). IsOnItsWay g.text (graph_in g) node x (way_of (instr_at g.text (x.pc - 4)) s)) (sym e) m
-  on_its_way node x Untaken e n m =
-      subst (λ (s : Slot). IsOnItsWay g.text (graph_in g) node x (way_of (instr_at g.text (x.pc - 4)) s)) (sym e) m
+  on_its_way node x Taken e n m = on_edge g.text b node x (way_in x)
+      (subst (λ (s : Slot). IsOnItsWay g.text (graph_in g) node x (way_of (instr_at g.text (x.pc - 4)) s)) (sym e) m)
+  on_its_way node x Untaken e n m = on_edge g.text b node x (way_in x)
+      (subst (λ (s : Slot). IsOnItsWay g.text (graph_in g) node x (way_of (instr_at g.text (x.pc - 4)) s)) (sym e) m)
 
   word_at_same : (word other : ℕ) → word_at g.text (address_of g.text word) ≡ Some other → word ≡ other
   word_at_same word other e = within_is (length g.text.words) word other (sym (word_at-address g.text word) ∙ e)
 
-  module _ (node : Node) (x : Point) (kind : EdgeKind) (way : IsOnItsWay g.text (graph_in g) node x kind) where
+  module _ (node : Node) (x : Point) (kind : EdgeKind) (way : IsOnEdge g.text (graph_in g) node x kind) where
     pub edge_is : IsAlong g is f.table.base node kind way.number way.edge
     edge_is = along g is f.table.base node kind way.number way.edge way.only way.is
 
@@ -161,7 +162,7 @@ module _ (g : Setting) (codes : ℕ → List ℕ) (is : IsText g.text) (p : Plac
 
   -- the way of the edge on which a slot is run leads to where that is visited
   pub enters : IsTable f.table → (node : Node) (x : Point) → x.slot ≢ NoSlot
-      → IsOnItsWay g.text (graph_in g) node x (way_in x) → (kind : EdgeKind) → way_in x ≡ kind
+      → IsOnEdge g.text (graph_in g) node x (way_in x) → (kind : EdgeKind) → way_in x ≡ kind
       → LeadsTo l p (record { 0 = way_out g.text (graph_in g) node kind }) [] (word_at g.text x.pc)
       (visited_at g l p f node x)
   enters whole node x slot way kind same = by (word_at g.text x.pc) refl

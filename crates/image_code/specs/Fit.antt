@@ -10,7 +10,7 @@ use Rattle.cfg_blocks.specs.Blocks.{Blocks, block_end}
 use Rattle.cfg_blocks.specs.declared.EdgeKind.TheVariants as kinds
 use Rattle.cfg_normal.specs.declared.Edge.{Edge}
 use Rattle.cfg_normal.specs.declared.Node.{Node}
-use Rattle.cfg_normal.specs.declared.Node.TheVariants.{Block, X}
+use Rattle.cfg_normal.specs.declared.Node.TheVariants.{Block, Landed, X}
 use Rattle.cfg_normal.specs.Graph.{Graph}
 use Rattle.cfg_walk.specs.Walk.{same_kind}
 use Rattle.snippets.specs.declared.snippet.Op.{Op}
@@ -32,6 +32,7 @@ marks_in items = count_by is_mark items
 -- How often the snippet of an edge is made: a landing's once for each word of its block, any other once.
 abbrev pub words_in : Blocks → Node → ℕ
 words_in b (Block block) = block_end b.firsts b.words block.0 - slice_index b.firsts block.0
+words_in b (Landed block) = block_end b.firsts b.words block.0 - slice_index b.firsts block.0
 words_in b X = 0
 
 abbrev pub copies_of : Blocks → Edge → ℕ

@@ -4,11 +4,10 @@ use Rattle.eel_base.specs.declared.numbers.Addr.{Addr}
 use Rattle.v8_step.specs.State.{State}
 use Rattle.cfg_normal.specs.declared.Node.{Node}
 use Rattle.cfg_walk.specs.Walk.{Point, point_of}
-use Rattle.cfg_walk.specs.Matches.{Matches}
 use Rattle.layout.specs.declared.items.Item.{Item}
 use Rattle.layout.specs.declared.items.Item.TheVariants as it
 use Rattle.layout.specs.Laid.{HasShortForms, Placement}
-use Rattle.image_code.specs.Simulates.{Setting, Simulates, does_at, graph_in, number_in}
+use Rattle.image_code.specs.Simulates.{MatchesIn, Setting, Simulates, does_at, number_in}
 use Rattle.image_code.specs.Images.{Pieces, Frame, Here, IsPlaced, visited_at}
 use Rattle.image_code.specs.Cases.{IsPlain, visits_it}
 use Rattle.image_code.specs.Couple.{IsCouple}
@@ -64,9 +63,9 @@ pub data IsVisited (g : Setting) (l : Pieces) (base : ℕ) (p : Placement) (f : 
 
 -- each point outside the pages that the walk's node matches has a place, and is one of the cases
 pub record IsImaged (g : Setting) (l : Pieces) (base : ℕ) (p : Placement) (place : ℕ → ℕ → ℕ) (f : Frame) : Type 0 where
-  pub visits : (node : Node) (x : Point) → Matches g.text (graph_in g) node x → IsOpen g x
+  pub visits : (node : Node) (x : Point) → MatchesIn g node x → IsOpen g x
       → IsVisited g l base p f node x
-  pub cases : (node : Node) (x : Point) (t : State) → Matches g.text (graph_in g) node x → IsOpen g x
+  pub cases : (node : Node) (x : Point) (t : State) → MatchesIn g node x → IsOpen g x
       → Here g l base p f node x t
       → ((does_at g x t).ending ≡ None → IsOpen g (point_of (does_at g x t))) → IsCase g l base p place f node x t
 

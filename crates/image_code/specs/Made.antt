@@ -16,7 +16,7 @@ use Rattle.cfg_blocks.specs.Blocks.{below}
 use Rattle.cfg_blocks.specs.Entries.{is_fall}
 use Rattle.cfg_normal.specs.declared.Edge.{Edge}
 use Rattle.cfg_normal.specs.declared.Node.{Node}
-use Rattle.cfg_normal.specs.declared.Node.TheVariants.{Block, X}
+use Rattle.cfg_normal.specs.declared.Node.TheVariants.{Block, Landed, X}
 use Rattle.cfg_normal.specs.declared.Slot.{Slot}
 use Rattle.cfg_normal.specs.declared.Slot.TheVariants as slots
 use Rattle.cfg_normal.specs.Graph.{Graph, node_of}
@@ -100,6 +100,7 @@ module _ (text : Words) (graph : Graph) where
   -- at a node control goes on to the block's first word, outside the text to the original's address
   abbrev pub goes_on : Node → ℕ → List Item
   goes_on (Block block) address = jump_to (slice_index graph.blocks.firsts block.0)
+  goes_on (Landed block) address = jump_to (slice_index graph.blocks.firsts block.0)
   goes_on X address = far_piece address
 
 -- The piece to which the table leads from a word: where some operation is made on the landing's edge that is the

@@ -28,7 +28,7 @@ use Rattle.image_code.specs.Made.{jump_to, next_to, nop_word, slot_copy, way_alo
 -- it is the graph of the text, whatever words lead besides
 pub record IsGraphOf (text : Words) (graph : Graph) : Type 0 where
   pub given : List ℕ
-  pub is : graph ≡ graph_of (blocks_of text given)
+  pub is : graph ≡ graph_of (blocks_of text given) []
 
 -- the words of the snippet on an edge, on the cells at `base`: as `expand` makes them by what is dead behind it
 unfoldable pub codes_of : ℕ → (ℕ → List Part) → List (List Op) → ℕ → List ℕ
@@ -50,7 +50,7 @@ branch_from address node cond first =
 
 -- how many edges leave the blocks before one
 unfoldable pub edges_before : Blocks → ℕ → ℕ
-edges_before b block = length (flat_map (edges_of b) (below block))
+edges_before b block = length (flat_map (edges_of b []) (below block))
 
 -- where a block begins; past the last one, the end of the text
 abbrev pub begin_of : Blocks → ℕ → ℕ

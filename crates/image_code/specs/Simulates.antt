@@ -18,7 +18,7 @@ use Rattle.cfg_blocks.specs.declared.EdgeKind.TheVariants as kinds
 use Rattle.cfg_blocks.specs.Blocks.{blocks_of}
 use Rattle.cfg_normal.specs.declared.Edge.{Edge}
 use Rattle.cfg_normal.specs.declared.Node.{Node}
-use Rattle.cfg_normal.specs.Graph.{Graph, graph_of}
+use Rattle.cfg_normal.specs.Graph.{Graph, IsNodeIn, graph_of}
 use Rattle.cfg_walk.specs.Walk.{Point, point_of, goes_on_at, gone, node_after, gone_in, instr_at, same_kind}
 use Rattle.cfg_walk.specs.Matches.{Matches}
 use Rattle.cfg_normal.specs.Numbers.{node_number}
@@ -69,7 +69,7 @@ pub record Setting : Type 0 where
   pub notes : Notes
 
 abbrev pub graph_in : Setting → Graph
-graph_in g = graph_of (blocks_of g.text g.given)
+graph_in g = graph_of (blocks_of g.text g.given) []
 
 -- the cells, where the notes say that they stand
 abbrev pub cells_in : Setting → State → List ℕ
@@ -81,6 +81,10 @@ number_in g node = node_number (graph_in g) node
 -- what a machine does that stands at this point of the original
 abbrev pub does_at : Setting → Point → State → State
 does_at g p t = on_word (at_point p t) (word_of g.text p.pc)
+
+-- the walk's node is one of the graph, and matches the point
+abbrev pub MatchesIn : Setting → Node → Point → Type 0
+MatchesIn g node p = Matches g.text (graph_in g) node p × IsNodeIn (graph_in g).blocks (graph_in g).opens node
 
 -- the edges that a step from there completes which led to v
 abbrev pub gone_at : Setting → Node → Point → State → List ℕ
@@ -207,9 +211,9 @@ pub record StepsOn (g : Setting) (Here : Node → Point → State → Type 0) (S
 -- to which points the pieces lead: those at words of the text at first, and then all.
 pub record Simulates (g : Setting) (Inside : Point → Type 0) (Here : Node → Point → State → Type 0)
     (Short : Type 0) : Type 0 where
-  pub visits : (node : Node) (p : Point) (t : State) → Matches g.text (graph_in g) node p → Inside p → Here node p t
+  pub visits : (node : Node) (p : Point) (t : State) → MatchesIn g node p → Inside p → Here node p t
       → (t.ending ≡ None) × (visit_of g.notes t ≡ Some p.pc) × (node_at g.notes t.pc ≡ Some (number_in g node))
-  pub steps : (node : Node) (p : Point) (t : State) → Matches g.text (graph_in g) node p → Inside p → Here node p t
+  pub steps : (node : Node) (p : Point) (t : State) → MatchesIn g node p → Inside p → Here node p t
       → AllApart (pages_of g.notes) (judged_in (at_point p t) (instr_of (word_of g.text p.pc)))
       → ((does_at g p t).ending ≡ None → Inside (point_of (does_at g p t)))
       → StepsOn g Here Short (gone_at g node p (does_at g p t)) node p t (does_at g p t)

@@ -121,7 +121,7 @@ fn code_on(
 fn own_edges(graph: &FlowGraph) -> &[Edge]
     requires { length graph.now.blocks.firsts ≤ length graph.now.edges }
     ensures edges { result.now ≡ own_edges_of graph.now }
-    ensures inside { All (IsEdgeIn graph.now.blocks) result.now }
+    ensures inside { All (IsEdgeIn graph.now.blocks graph.now.opens) result.now }
 {
     let edges = graph.edges();
     &edges[..edges.len() - graph.count() as usize]
@@ -192,7 +192,7 @@ fn last_word(graph: &FlowGraph, block: BlockNo) -> WordNo
 fn edges_out(text: &Text, graph: &FlowGraph, block: BlockNo) -> u32
     requires graph { IsGraphOf text.now graph.now }
     requires block { block.0 < length graph.now.blocks.firsts }
-    ensures count { result ≡ length (edges_of graph.now.blocks block.0) }
+    ensures count { result ≡ length (edges_of graph.now.blocks [] block.0) }
     ensures few { result ≤ 2 }
 {
     edges_after(text.word(last_word(graph, block)))
@@ -325,7 +325,7 @@ fn way(
     requires text { IsText text.now }
     requires graph { IsGraphOf text.now graph.now }
     requires table { table.0 % 4096 ≡ 0 }
-    requires edge { IsEdgeIn graph.now.blocks edge.now }
+    requires edge { IsEdgeIn graph.now.blocks graph.now.opens edge.now }
     ensures { IfOk result (λ p. p ≡ way_with text.now graph.now table.0 code.now edge.now) }
 {
     match (edge.kind, edge.slot) {
@@ -365,7 +365,7 @@ fn slot_copy(
     requires text { IsText text.now }
     requires graph { IsGraphOf text.now graph.now }
     requires table { table.0 % 4096 ≡ 0 }
-    requires edge { IsEdgeIn graph.now.blocks edge.now }
+    requires edge { IsEdgeIn graph.now.blocks graph.now.opens edge.now }
     ensures { IfOk result (λ p. p
         ≡ copy_with text.now graph.now table.0 code.now visit.address visit.node word edge.now) }
 {
@@ -382,12 +382,13 @@ fn slot_copy(
 fn next_along(text: &Text, graph: &FlowGraph, edge: &Edge) -> Next
     requires text { IsText text.now }
     requires graph { IsGraphOf text.now graph.now }
-    requires edge { IsEdgeIn graph.now.blocks edge.now }
+    requires edge { IsEdgeIn graph.now.blocks graph.now.opens edge.now }
     ensures { items_of result ≡ goes_on text.now graph.now edge.now.to
         (way_address text.now graph.now edge.now.from edge.now.kind) }
 {
     match edge.to {
         Node::Block(block) => Next::Piece(PieceNo(graph.first(block).0)),
+        Node::Landed(block) => Next::Piece(PieceNo(graph.first(block).0)),
         Node::X => Next::Far(address_along(text, graph, edge)),
     }
 }
@@ -396,7 +397,7 @@ fn next_along(text: &Text, graph: &FlowGraph, edge: &Edge) -> Next
 fn address_along(text: &Text, graph: &FlowGraph, edge: &Edge) -> Addr
     requires text { IsText text.now }
     requires graph { IsGraphOf text.now graph.now }
-    requires edge { IsEdgeIn graph.now.blocks edge.now }
+    requires edge { IsEdgeIn graph.now.blocks graph.now.opens edge.now }
     ensures { result.0 ≡ way_address text.now graph.now edge.now.from edge.now.kind }
 {
     let last = last_in(text, graph, edge.from);
@@ -407,12 +408,13 @@ fn address_along(text: &Text, graph: &FlowGraph, edge: &Edge) -> Addr
 fn last_in(text: &Text, graph: &FlowGraph, node: Node) -> WordNo
     requires text { IsText text.now }
     requires graph { IsGraphOf text.now graph.now }
-    requires node { IsNodeIn graph.now.blocks node }
+    requires node { IsNodeIn graph.now.blocks graph.now.opens node }
     ensures word { result.0 ≡ last_in_of graph.now node }
     ensures within { result.0 < length text.now.words }
 {
     match node {
         Node::Block(block) => last_word(graph, block),
+        Node::Landed(block) => last_word(graph, block),
         Node::X => WordNo(0),
     }
 }
@@ -439,13 +441,20 @@ fn displaced(address: Addr, displacement: i32) -> Addr
     Addr(address.0.wrapping_add(distance))
 }
 
-// The number of a node: a block's own, and the one after the last block's for all that lies outside.
+// The number of a node: a block's own, the one after the last block's for all that lies outside, and those behind it for
+// landed copies.
 fn node_number(graph: &FlowGraph, node: Node) -> u32
+    requires node { IsNodeIn graph.now.blocks graph.now.opens node }
     ensures { result ≡ node_number_of graph.now node }
 {
     match node {
         Node::Block(block) => block.0,
         Node::X => graph.count(),
+        Node::Landed(block) => {
+            // A graph has few blocks.
+            let _edges = graph.edges();
+            graph.count() + 1 + block.0
+        }
     }
 }
 

@@ -1,12 +1,11 @@
 -- The image of a JMPL that looks its target up follows the original's step.
 use Rattle.std.proofs.Common.{◌≡◌, ◌≢◌, ℕ, ◌+◌, ◌%◌, ◌⊎◌, inl, inr, Some, None, length, refl, ap, sym, ◌∙◌, subst, arith}
-use Rattle.std.specs.Prelude.{◌==◌, pos}
+use Rattle.std.specs.Prelude.{pos}
 use Rattle.v8_decode.specs.declared.Op2.{Op2}
-use Rattle.v8_decode.specs.declared.Op2.TheVariants.{Reg, Imm}
+use Rattle.v8_decode.specs.declared.Op2.TheVariants.{Imm}
 use Rattle.v8_memory.specs.Regions.{Memory, code_of}
 use Rattle.v8_alu.specs.Numbers.{wrapped}
 use Rattle.v8_step.specs.declared.Ending.{Ending}
-use Rattle.v8_step.specs.declared.Ending.TheVariants.{Trap}
 use Rattle.v8_step.specs.declared.Slot.TheVariants.{NoSlot}
 use Rattle.v8_step.specs.State.{State, register_of, with_register, sum_of}
 use Rattle.v8_step.specs.Traps.{mem_address_not_aligned}
@@ -16,7 +15,6 @@ use Rattle.code_runs.specs.Page.{page_word, of_page}
 use Rattle.code_runs.specs.Points.{moved}
 use Rattle.code_runs.specs.StoredWords.{store_word, Stores}
 use Rattle.code_runs.specs.TwoRegisters.{IsBetween, Works}
-use Rattle.code_runs.proofs.Acts.{jump_acts, jump_traps}
 use Rattle.code_runs.proofs.Hops.{equal_or_not, hops_through}
 use Rattle.code_runs.proofs.LongJump.{says_at}
 use Rattle.code_runs.proofs.StoredWords.{can_load, memory_word-range, still_stored, word_stored}
@@ -28,31 +26,23 @@ use Rattle.jump_code.specs.Finding.{ComesFound, EndsFinding, FindsSimulate, Foun
 use Rattle.jump_code.specs.Jumped.{jumped}
 use Rattle.jump_code.specs.Links.{past}
 use Rattle.jump_code.specs.PageWords.{IsPageWord, found_there}
-use Rattle.jump_code.proofs.Blocks.{four, not_four, scratch, word7}
+use Rattle.jump_code.proofs.Blocks.{four, scratch, word7}
 use Rattle.jump_code.proofs.Finding.{another, finds_act}
+use Rattle.jump_code.proofs.Jumping.{jump_aligned, jump_goes, jump_stops}
 use Rattle.jump_code.proofs.Swaps.{swap_first}
 
 module _ (x y rd rs1 : ℕ) (op2 : Op2) (address : ℕ) (t : TableAt) (s : State)
     (h : IsAboutToFind x y rd rs1 op2 address t s) where
-  -- the target doesn't depend on the place
-  sum_moved : (o : Op2) → sum_of (moved address (wrapped (address + 4)) NoSlot s) rs1 o ≡ sum_of s rs1 o
-  sum_moved (Reg r) = refl
-  sum_moved (Imm n) = refl
-
   abbrev gone_on : State
   gone_on =
       delayed (with_register (moved address (wrapped (address + 4)) NoSlot s) rd address) (sum_of s rs1 op2)
 
   pub goes : sum_of s rs1 op2 % 4 ≡ 0 → jumped address rd rs1 op2 s ≡ gone_on
-  goes e =
-      jump_acts (moved address (wrapped (address + 4)) NoSlot s) rd rs1 op2 (sum_of s rs1 op2) refl (sum_moved op2)
-      (four (sum_of s rs1 op2) e)
+  goes e = jump_goes address rd rs1 op2 s e
 
   pub stops : sum_of s rs1 op2 % 4 ≢ 0 → jumped address rd rs1 op2 s ≡ trapped
       (moved address (wrapped (address + 4)) NoSlot s) mem_address_not_aligned
-  stops ne =
-      jump_traps (moved address (wrapped (address + 4)) NoSlot s) rd rs1 op2 refl
-      (ap (λ z. z % 4 == 0) (sum_moved op2) ∙ not_four (sum_of s rs1 op2) ne)
+  stops ne = jump_stops address rd rs1 op2 s ne
 
   abbrev count : ℕ
   count = length (find_image x y rd rs1 op2 t.base address)
@@ -73,14 +63,7 @@ module _ (x y rd rs1 : ℕ) (op2 : Op2) (address : ℕ) (t : TableAt) (s : State
       }
 
   going : (jumped address rd rs1 op2 s).ending ≡ None → ComesFound x y rd rs1 op2 address t s count
-  going live = go (equal_or_not (sum_of s rs1 op2 % 4) 0)
-    where
-      never : Some (Trap mem_address_not_aligned) ≡ None → ⊥
-      never k = cc
-
-      go : (sum_of s rs1 op2 % 4 ≡ 0) ⊎ (sum_of s rs1 op2 % 4 ≢ 0) → ComesFound x y rd rs1 op2 address t s count
-      go (inl e) = comes e
-      go (inr ne) = absurd (never (sym (ap (λ (z : State). z.ending) (stops ne)) ∙ live))
+  going live = comes (jump_aligned address rd rs1 op2 s live)
 
   ending_alike : (ending : Ending) → (jumped address rd rs1 op2 s).ending ≡ Some ending → EndsFinding x y s ending
   ending_alike ending is = go (equal_or_not (sum_of s rs1 op2 % 4) 0)

@@ -1,7 +1,10 @@
 pub mod Blocks
+pub mod Choosing
 pub mod FindFollowing
 pub mod Finding
 pub mod Fitting
+pub mod Jumping
+pub mod Keeping
 pub mod Laid
 pub mod Leaving
 pub mod Linking

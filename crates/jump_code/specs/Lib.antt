@@ -1,6 +1,8 @@
+pub mod Choosing
 pub mod Finding
 pub mod FreeRegister
 pub mod Jumped
+pub mod Keeping
 pub mod Leaving
 pub mod Links
 pub mod PageWords

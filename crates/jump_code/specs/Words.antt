@@ -2,8 +2,10 @@
 use Rattle.std.specs.Prelude.{◌≡◌, [], ◌∷◌, map, Some, pos, refl}
 use Rattle.v8_decode.specs.declared.Op2.TheVariants.{Reg, Imm}
 use Rattle.v8_encode.specs.Encoding.{encode_of}
+use Rattle.jump_code.specs.Choosing.{choice_image}
 use Rattle.jump_code.specs.Finding.{find_image, go_found}
 use Rattle.jump_code.specs.FreeRegister.{free_register, other_register}
+use Rattle.jump_code.specs.Keeping.{keep_load}
 use Rattle.jump_code.specs.Leaving.{foreign}
 use Rattle.jump_code.specs.Links.{link}
 
@@ -37,3 +39,22 @@ goes_on = refl
 leaves : map encode_of foreign ≡ map Some (0xc2203008 ∷ 0xc2003004 ∷ 0x81c06000 ∷ 0xc2003008 ∷ [])
 unfolding encode_of
 leaves = refl
+
+-- ld [%o1 + %g2], %o1
+keeps : map encode_of (keep_load 9 (Reg 2)) ≡ map Some (0xc2203000 ∷ 0x82024002 ∷ 0xc2783000 ∷ [])
+unfolding encode_of
+keeps = refl
+
+-- jmpl %g1, %g0 at a switch, with the words 0xedcbc bytes below its table
+chooses : map encode_of (choice_image 0 0x10058 0xfff12344) ≡ map Some (
+    0xc2203008 ∷ 0xc420301c ∷ 0xc2003000 ∷ 0x053ffc48 ∷ 0x8400a344 ∷ 0xc2004002
+    ∷ 0xc400301c ∷ 0x81c06000 ∷ 0xc2003008 ∷ [])
+unfolding encode_of
+chooses = refl
+
+-- jmpl %g1, %o7 at 0x10a5c, with them 0x12344 bytes above it
+links_and_chooses : map encode_of (choice_image 15 0x10a5c 0x12344) ≡ map Some (
+    0x1f000042 ∷ 0x9e03e25c ∷ 0xc2203008 ∷ 0xc420301c ∷ 0xc2003000 ∷ 0x05000048
+    ∷ 0x8400a344 ∷ 0xc2004002 ∷ 0xc400301c ∷ 0x81c06000 ∷ 0xc2003008 ∷ [])
+unfolding encode_of
+links_and_chooses = refl

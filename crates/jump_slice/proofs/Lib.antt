@@ -13,3 +13,12 @@ pub mod Blocks
 pub mod Outside
 pub mod Whole
 pub mod Starts
+pub mod Opened
+pub mod About
+pub mod Branching
+pub mod Known
+pub mod Jumping
+pub mod Passing
+pub mod Quiet
+pub mod Walking
+pub mod Numbered

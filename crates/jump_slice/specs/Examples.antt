@@ -20,9 +20,12 @@ use Rattle.cfg_blocks.specs.Blocks.{blocks_of, leaders}
 use Rattle.cfg_blocks.specs.Ends.{end_at}
 use Rattle.cfg_blocks.specs.Entries.{Entered, entered_of, into_of}
 use Rattle.cfg_blocks.specs.Values.{after}
-use Rattle.cfg_blocks.specs.Switches.{approach_of, before_jump, switch_of}
+use Rattle.cfg_blocks.specs.Switches.{approach_of, before_jump, switch_of, switches_of}
 use Rattle.jump_slice.specs.Runs.{ComesAlong, IsInto}
-use Rattle.jump_slice.specs.Switches.{switches_of}
+use Rattle.cfg_normal.specs.Opens.{candidate, loads_here, opens_of, targets_of}
+use Rattle.cfg_normal.specs.Graph.{Graph, edges_in, graph_of}
+use Rattle.cfg_walk.specs.Walk.{end_of_walk, walk}
+use Rattle.v8_process.specs.Programs.{after as run_after}
 
 abbrev text_in : List ℕ → Words
 text_in words = record { start = 0x10054; words = words }
@@ -89,3 +92,14 @@ comes : ComesAlong (text_in switch_of_four) (approach_of (text_in switch_of_four
     12 false Untaken (run (start_of (file_of switch_of_four) [] []) 1)
 unfolding decode_of branch_or_sethi arithmetic memory blocks_of leaders end_at entered_of into_of start_of half_at word_at program_header program_headers mappings step_of act alu_step branch_step load_step alu_of holds_of fetch_of bytes_at with_bytes
 comes = record { compares = refl; goes = refl; live = refl }
+
+-- ---- the walk over the graph with its open switch: the branch isn't taken, the jump goes by case, and the block of its
+-- target falls into the last one
+
+unfoldable graph : Graph
+unfolding decode_of branch_or_sethi arithmetic memory blocks_of leaders end_at entered_of into_of after before_jump switch_of loads_here targets_of candidate opens_of edges_in
+graph = graph_of list.blocks (opens_of (text_in switch_of_four) list (switches_of (text_in switch_of_four) list 0))
+
+four_walk : walk (text_in switch_of_four) graph 0 (start_of (file_of switch_of_four) [] []) 12 ≡ 1 ∷ 4 ∷ 6 ∷ []
+unfolding graph decode_of branch_or_sethi arithmetic memory start_of half_at word_at program_header program_headers mappings run_after walk end_of_walk
+four_walk = refl

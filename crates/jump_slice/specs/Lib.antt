@@ -1,5 +1,4 @@
-pub mod Known
-pub mod Switches
 pub mod Held
 pub mod Runs
 pub mod Examples
+pub mod Cases

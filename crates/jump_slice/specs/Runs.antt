@@ -5,7 +5,7 @@ use Rattle.eel_base.specs.declared.numbers.BlockNo.{BlockNo}
 use Rattle.eel_base.specs.declared.numbers.WordNo.{WordNo}
 use Rattle.eel_base.specs.CodeText.{Words, IsText, address_of, word_at}
 use Rattle.v8_alu.specs.Conditions.{holds_of}
-use Rattle.v8_step.specs.State.{State}
+use Rattle.v8_step.specs.State.{State, register_of}
 use Rattle.v8_step.specs.Step.{step_of}
 use Rattle.v8_step.specs.Run.{run}
 use Rattle.v8_step.specs.Valid.{IsValid}
@@ -40,16 +40,16 @@ to_jump a runs = to_branch a + 1 + (if runs then 1 else 0) + (a.jump - a.first)
 
 -- The machine stands at the comparison. The branch behind it goes this way, and the run goes on for as many steps as
 -- there are to the jump.
-pub record ComesAlong (text : Words) (a : Approach) (cond : ℕ) (annul : Bool) (way : EdgeKind) (s : State) : Type 0 where
+pub record ComesAlong (text : Words) (a : Approach) (cond : ℕ) (annul : Bool) (way : EdgeKind) (s : State)
+    : Type 0 where
   pub compares : s.pc ≡ address_of text a.compare.word
   pub goes : holds_of cond (run s (to_branch a)).codes ≡ is_taken way
   pub live : (run s (to_jump a (runs_slot annul way))).ending ≡ None
 
--- The machine stands at the jump. Its step goes on, to the word whose address an entry of the table holds.
-pub record GoesIntoTable (text : Words) (switch : Switch) (s : State) : Type 0 where
+-- The machine stands at the jump. Its step goes on, to the word whose address the entry of the table of a number holds.
+pub record GoesIntoTable (text : Words) (switch : Switch) (number : ℕ) (s : State) : Type 0 where
   pub stands : s.pc ≡ address_of text switch.jump.0
   pub live : (step_of s).ending ≡ None
-  pub number : ℕ
   pub below : number < switch.count
   pub entry : ℕ
   pub is : word_at text (switch.table.0 + 4 * number) ≡ Some entry
@@ -57,7 +57,7 @@ pub record GoesIntoTable (text : Words) (switch : Switch) (s : State) : Type 0 w
   pub inside : is_some (word_at text (step_of s).npc) ≡ true
 
 -- On each run of a program that comes from the comparison of a switch along the edge into the jump's block, the jump
--- goes to an entry of the table. (The word where the run begins is free.)
+-- goes to the entry of the table whose number was compared. (The word where the run begins is free.)
 abbrev pub SwitchesHold : Type 0
 SwitchesHold = (text : Words) (given : List ℕ) (entry block : ℕ) (switch : Switch)
     → let list = entered_of text given in
@@ -68,4 +68,5 @@ SwitchesHold = (text : Words) (given : List ℕ) (entry block : ℕ) (switch : S
     → BeginsAt text start s0
     → let a = approach_of text list.blocks block from.0 annul way compare in
     let s = run s0 n in
-    ComesAlong text a cond annul way s → GoesIntoTable text switch (run s (to_jump a (runs_slot annul way)))
+    ComesAlong text a cond annul way s
+    → GoesIntoTable text switch (register_of s compare.register) (run s (to_jump a (runs_slot annul way)))

@@ -1,4 +1,5 @@
 pub mod Steps
+pub mod Written
 pub mod Numbers
 pub mod Registers
 pub mod Split

@@ -1,5 +1,5 @@
 -- Decimal numbers.
-use Rattle.std.proofs.Common.{◌≡◌, ℕ, zero, suc, ◌<◌, ◌^◌, ◌==◌, ◌&&◌, ◌||◌, not, true, false, nat_lt, List, length, slice_index, Some, None, Result, Ok, Err, decimal, refl, ap, sym, subst, ◌∙◌, arith, rules}
+use Rattle.std.proofs.Common.{◌≡◌, ℕ, zero, suc, ◌<◌, ◌≤◌, ◌^◌, ◌==◌, ◌&&◌, ◌||◌, not, true, false, nat_lt, List, length, slice_index, Some, None, Result, Ok, Err, decimal, refl, ap, sym, subst, ◌∙◌, arith, rules}
 use Rattle.std.specs.List.{list_all}
 use Rattle.std.specs.Result.{result_ok}
 use Rattle.std.specs.Str.{IsUtf8}
@@ -7,8 +7,9 @@ use Rattle.std.specs.Str.Parse.{digits_value, ParsesUnsigned}
 use Rattle.std.proofs.lemmas.Bool.{and_parts, lt-ltb, ltb-true, eqb-true, eq-eqb, ne_eqb, false_from_ne_true}
 use Rattle.std.proofs.lemmas.Str.{IsUtf8-from_ascii}
 use Rattle.std.proofs.lemmas.Str.Parse.{IsNumeralModel, numerals_by_value, parse_digits}
-use Rattle.std.proofs.lemmas.Fmt.{digits_decimal, digits_value-decimal, decimal_nonempty, first_decimal, decimal_digit, decimal-digits_value, IsAscii-from_digits}
-use Rattle.line_words.specs.Words.{is_digit, is_decimal, number_of}
+use Rattle.std.proofs.lemmas.Fmt.{decimal_digit, decimal_is_IsNumeral_wide, IsAscii-from_digits}
+use Rattle.line_words.specs.Words.{count_of, is_digit, is_decimal, number_below, number_of, sum_of}
+use Rattle.line_words.proofs.Written.{digits_written, first_digit}
 use Rattle.line_words.proofs.Steps.{tested}
 
 -- these digits and their value are the decimal numerals
@@ -33,52 +34,77 @@ pub decimal_utf8 : (word : List ℕ) → is_decimal word ≡ true → IsUtf8 wor
 decimal_utf8 word h = IsUtf8-from_ascii word (IsAscii-from_digits word (own.to word (decimal_parts word h).digits))
 
 -- what parsing gives
-pub number-parsed : {E : Type 0} (word : List ℕ) (r : Result ℕ E) → ParsesUnsigned 32 10 word r
-    → is_decimal word ≡ true → result_ok r ≡ number_of word
-unfolding number_of
-number-parsed {E} word (Ok n) parsed h =
-    let parts = decimal_parts word h in
-    let (fits, value) = parse_digits own {E = E} 32 word (Ok n) parsed parts.digits in
-    ap Some value ∙ sym (rw (h, lt-ltb (digits_value 10 word) (2 ^ 32) fits.1) refl)
-number-parsed {E} word (Err e) parsed h =
-    let parts = decimal_parts word h in
-    let refused = parse_digits own {E = E} 32 word (Err e) parsed parts.digits in
-    let over = false_from_ne_true _ (λ below. refused (parts.some, ltb-true (digits_value 10 word) (2 ^ 32) below)) in
-    sym (rw (h, over) refl)
+module _ {E : Type 0} (bits : ℕ) (word : List ℕ) where
+  pub number-parsed : (r : Result ℕ E) → ParsesUnsigned bits 10 word r → is_decimal word ≡ true
+      → result_ok r ≡ number_below (2 ^ bits) word
+  number-parsed (Ok n) parsed h =
+      let parts = decimal_parts word h in
+      let (fits, value) = parse_digits own {E = E} bits word (Ok n) parsed parts.digits in
+      ap Some value ∙ sym (rw (h, lt-ltb (digits_value 10 word) (2 ^ bits) fits.1) refl)
+  number-parsed (Err e) parsed h =
+      let parts = decimal_parts word h in
+      let refused = parse_digits own {E = E} bits word (Err e) parsed parts.digits in
+      let over = false_from_ne_true _ (λ below. refused (parts.some, ltb-true (digits_value 10 word) (2 ^ bits) below)) in
+      sym (rw (h, over) refl)
 
-pub number-not_decimal : (word : List ℕ) → is_decimal word ≡ false → number_of word ≡ None
-unfolding number_of
-number-not_decimal word h = rw h refl
+pub number-not_decimal : (limit : ℕ) (word : List ℕ) → is_decimal word ≡ false → number_below limit word ≡ None
+number-not_decimal limit word h = rw h refl
 
-front_right : (n : ℕ) → n < 2 ^ 64 → (not (slice_index (decimal n) 0 == 48) || (length (decimal n) == 1)) ≡ true
+-- ---- what is written is read
+
+front_right : (n : ℕ) → n < 10 ^ 64 → (not (slice_index (decimal n) 0 == 48) || (length (decimal n) == 1)) ≡ true
 front_right zero small = rw (decimal_digit 0 (omega arith)) refl
 front_right (suc n) small =
-    let first = first_decimal (suc n) (omega arith) small in
+    let first = (first_digit (suc n) small).1 (omega arith) in
     rw (ne_eqb (slice_index (decimal (suc n)) 0) 48 (λ is. absurd (omega arith))) refl
+
+below_back : (limit : ℕ) → limit ≤ 10 ^ 64 → (n : ℕ) → n < limit → number_below limit (decimal n) ≡ Some n
+below_back limit low n fits =
+    let small : n < 10 ^ 64 = omega arith in
+    let numeral = decimal_is_IsNumeral_wide n small in
+    let digits = own.from (decimal n) numeral.0.1 in
+    let value : digits_value 10 (decimal n) ≡ n = numeral.1 in
+    rw (digits, lt-ltb 0 (length (decimal n)) numeral.0.0, front_right n small, value, lt-ltb n limit fits) refl
 
 -- numbers that are written are read
 pub number_back : (n : ℕ) → n < 2 ^ 32 → number_of (decimal n) ≡ Some n
 unfolding number_of
-number_back n fits =
-    let small : n < 2 ^ 64 = omega arith in
-    let some = decimal_nonempty n small in
-    let digits = digits_decimal own n small in
-    let value = digits_value-decimal own n small in
-    rw (digits, lt-ltb 0 (length (decimal n)) some, front_right n small, value, lt-ltb n (2 ^ 32) fits) refl
+number_back = below_back (2 ^ 32) (omega arith)
+
+pub count_back : (n : ℕ) → n < 2 ^ 64 → count_of (decimal n) ≡ Some n
+unfolding count_of
+count_back = below_back (2 ^ 64) (omega arith)
+
+pub sum_back : (n : ℕ) → n < 2 ^ 128 → sum_of (decimal n) ≡ Some n
+unfolding sum_of
+sum_back = below_back (2 ^ 128) (omega arith)
+
+-- ---- and nothing else is
 
 lone_zero : (x n : ℕ) → (not (x == 48) || (n == 1)) ≡ true → x ≡ 48 → n ≡ 1
 lone_zero x n h is = eqb-true n 1 (sym (rw (eq-eqb x 48 is) refl) ∙ h)
 
--- and no other word is
+below_read : (limit : ℕ) → limit ≤ 10 ^ 64 → (word : List ℕ) (n : ℕ) → number_below limit word ≡ Some n
+    → (word ≡ decimal n) × (n < limit)
+below_read limit low word n h =
+    let found = tested (is_decimal word && nat_lt (digits_value 10 word) limit) (digits_value 10 word) n h in
+    let tests = and_parts (is_decimal word) (nat_lt (digits_value 10 word) limit) found.0 in
+    let parts = decimal_parts word tests.0 in
+    let fits = ltb-true (digits_value 10 word) limit tests.1 in
+    let small : digits_value 10 word < 10 ^ 64 = omega arith in
+    let text =
+    digits_written word (own.to word parts.digits) parts.some
+    (lone_zero (slice_index word 0) (length word) parts.front) small in
+    (sym text ∙ ap decimal found.1, subst (λ (m : ℕ). m < limit) found.1 fits)
+
 pub number_read : (word : List ℕ) (n : ℕ) → number_of word ≡ Some n → (word ≡ decimal n) × (n < 2 ^ 32)
 unfolding number_of
-number_read word n h =
-    let found = tested (is_decimal word && nat_lt (digits_value 10 word) (2 ^ 32)) (digits_value 10 word) n h in
-    let tests = and_parts (is_decimal word) (nat_lt (digits_value 10 word) (2 ^ 32)) found.0 in
-    let parts = decimal_parts word tests.0 in
-    let fits = ltb-true (digits_value 10 word) (2 ^ 32) tests.1 in
-    let small : digits_value 10 word < 2 ^ 64 = omega arith in
-    let text =
-    decimal-digits_value own word parts.digits parts.some
-    (lone_zero (slice_index word 0) (length word) parts.front) small in
-    (sym text ∙ ap decimal found.1, subst (λ (m : ℕ). m < 2 ^ 32) found.1 fits)
+number_read = below_read (2 ^ 32) (omega arith)
+
+pub count_read : (word : List ℕ) (n : ℕ) → count_of word ≡ Some n → (word ≡ decimal n) × (n < 2 ^ 64)
+unfolding count_of
+count_read = below_read (2 ^ 64) (omega arith)
+
+pub sum_read : (word : List ℕ) (n : ℕ) → sum_of word ≡ Some n → (word ≡ decimal n) × (n < 2 ^ 128)
+unfolding sum_of
+sum_read = below_read (2 ^ 128) (omega arith)

@@ -1,12 +1,11 @@
 -- Words, and a byte behind each.
 use Rattle.std.proofs.Common.{◌≡◌, ℕ, suc, ◌+◌, ◌^◌, ◌<◌, ◌==◌, not, Bool, true, false, List, [], ◌∷◌, ◌++◌, length, take, drop, get_or, Some, refl, ap, sym, subst, ◌∙◌, arith, decimal}
-use Rattle.std.specs.Prelude.{nat_le}
 use Rattle.std.specs.List.{list_all, position, position_or_len}
-use Rattle.std.proofs.lemmas.Bool.{and_parts, and_from, lt-ltb, leb-true, eqb-true, eq-eqb, ne_eqb}
+use Rattle.std.proofs.lemmas.Bool.{and_parts, and_from, lt-ltb, eqb-true, eq-eqb, ne_eqb}
 use Rattle.std.proofs.lemmas.List.{length-append, take-append-drop}
 use Rattle.std.proofs.lemmas.List.Quantifiers.{position-Some}
 use Rattle.std.proofs.Math.Seq.{take-append_seam, drop-append-add, drop-cons}
-use Rattle.std.proofs.lemmas.Fmt.{digits_decimal}
+use Rattle.std.proofs.lemmas.Fmt.{decimal_is_IsNumeral_wide}
 use Rattle.line_words.specs.Words.{is_digit, split_at}
 use Rattle.line_words.proofs.Steps.{mapped}
 use Rattle.line_words.proofs.Numbers.{own}
@@ -16,8 +15,11 @@ abbrev pub is_whole : ℕ → List ℕ → Bool
 is_whole mark word = list_all (λ byte. not (byte == mark)) word
 
 -- the digits of a number
+pub decimal_digits_wide : (n : ℕ) → n < 10 ^ 64 → list_all is_digit (decimal n) ≡ true
+decimal_digits_wide n fits = own.from (decimal n) (decimal_is_IsNumeral_wide n fits).0.1
+
 pub decimal_digits : (n : ℕ) → n < 2 ^ 32 → list_all is_digit (decimal n) ≡ true
-decimal_digits n fits = digits_decimal own n (omega arith)
+decimal_digits n fits = decimal_digits_wide n (omega arith)
 
 module _ (mark : ℕ) where
   digit_whole : is_digit mark ≡ false → (byte : ℕ) → is_digit byte ≡ true → not (byte == mark) ≡ true
@@ -29,8 +31,11 @@ module _ (mark : ℕ) where
       let parts = and_parts (is_digit byte) (list_all is_digit word) h in
       and_from (not (byte == mark)) (is_whole mark word) (digit_whole other byte parts.0) (digits_whole other word parts.1)
 
+  pub decimal_whole_wide : is_digit mark ≡ false → (n : ℕ) → n < 10 ^ 64 → is_whole mark (decimal n) ≡ true
+  decimal_whole_wide other n fits = digits_whole other (decimal n) (decimal_digits_wide n fits)
+
   pub decimal_whole : is_digit mark ≡ false → (n : ℕ) → n < 2 ^ 32 → is_whole mark (decimal n) ≡ true
-  decimal_whole other n fits = digits_whole other (decimal n) (decimal_digits n fits)
+  decimal_whole other n fits = decimal_whole_wide other n (omega arith)
 
   mark_after : (word rest : List ℕ) → is_whole mark word ≡ true
       → position_or_len (λ byte. byte == mark) (word ++ (mark ∷ rest)) ≡ length word

@@ -1,5 +1,5 @@
 -- The words of lines of text: numbers, the names of registers, and what stands before and behind a byte.
-use Rattle.std.specs.Prelude.{ℕ, ◌+◌, ◌*◌, ◌-◌, ◌/◌, ◌%◌, ◌^◌, Bool, ◌&&◌, ◌||◌, ◌==◌, not, nat_le, nat_lt, if◌then◌else◌, List, [], ◌∷◌, length, take, drop, slice_index, codes, Option, Some, None}
+use Rattle.std.specs.Prelude.{◌≡◌, true, ℕ, ◌+◌, ◌*◌, ◌-◌, ◌/◌, ◌%◌, ◌^◌, Bool, ◌&&◌, ◌||◌, ◌==◌, not, nat_le, nat_lt, if◌then◌else◌, List, [], ◌∷◌, length, take, drop, slice_index, codes, Option, Some, None}
 use Rattle.std.specs.List.{position, find, list_all, range_with_len}
 use Rattle.std.specs.Option.{option_map, option_and_then}
 use Rattle.std.specs.Str.{bytes_eq}
@@ -24,9 +24,24 @@ abbrev pub is_decimal : List ℕ → Bool
 is_decimal word =
     list_all is_digit word && nat_lt 0 (length word) && (not (slice_index word 0 == 48) || (length word == 1))
 
+-- the text of a word that is decimal
+abbrev pub IsDecimalText : List ℕ → List ℕ → Type 0
+IsDecimalText word text = (is_decimal word ≡ true) × (text ≡ word)
+
+-- a decimal number below a limit
+abbrev pub number_below : ℕ → List ℕ → Option ℕ
+number_below limit word =
+    if is_decimal word && nat_lt (digits_value 10 word) limit then Some (digits_value 10 word) else None
+
+-- numbers of 32 bits, of 64, as counts have, and of 128, as sums of counts have
 unfoldable pub number_of : List ℕ → Option ℕ
-number_of word =
-    if is_decimal word && nat_lt (digits_value 10 word) (2 ^ 32) then Some (digits_value 10 word) else None
+number_of word = number_below (2 ^ 32) word
+
+unfoldable pub count_of : List ℕ → Option ℕ
+count_of word = number_below (2 ^ 64) word
+
+unfoldable pub sum_of : List ℕ → Option ℕ
+sum_of word = number_below (2 ^ 128) word
 
 -- what a hexadecimal digit counts: 0 to 9, then a to f
 abbrev pub digit_of : ℕ → ℕ

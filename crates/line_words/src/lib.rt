@@ -5,7 +5,10 @@ ghost use Rattle.line_words.specs.Laws.{NothingElseReads, WordsReadBack};
 
 mod words;
 
-pub use words::{is_word, read_address, read_number, read_register, register_name, split_at};
+pub use words::{
+    is_word, read_address, read_count, read_number, read_register, read_sum, register_name,
+    split_at,
+};
 
 /// What is written in one of these spellings is read.
 pub fn words_read_back()

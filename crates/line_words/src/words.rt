@@ -1,10 +1,11 @@
 //! Reading words, and the names that are written.
-ghost use Rattle.std.specs.Prelude.{◌≡◌, ◌<◌, ◌==◌, ◌^◌, IfSome, length};
+ghost use Rattle.std.specs.Prelude.{◌≡◌, ◌<◌, ◌==◌, ◌^◌, false, IfSome, MatchOption, length};
 ghost use Rattle.std.specs.List.{list_all, position};
 ghost use Rattle.std.specs.Option.{option_map};
 ghost use Rattle.std.specs.Str.{bytes_eq};
-ghost use Rattle.line_words.specs.Words.{digit_of, hex_number_of, hex_value, is_decimal, is_digit, number_of};
-ghost use Rattle.line_words.specs.Words.{register_of, register_text, split_at};
+ghost use Rattle.line_words.specs.Words.{count_of, digit_of, hex_number_of, hex_value, is_decimal, is_digit, number_of};
+ghost use Rattle.line_words.specs.Words.{IsDecimalText};
+ghost use Rattle.line_words.specs.Words.{register_of, register_text, split_at, sum_of};
 
 use eel_base::hex8;
 use std::str;
@@ -42,11 +43,37 @@ pub fn is_word(word: &[u8], text: &str) -> bool
 pub fn read_number(word: &[u8]) -> Option<u32>
     ensures { result ≡ number_of word.now }
 {
+    let digits = decimal_text(word)?;
+    digits.parse().ok()
+}
+
+/// The same of a number below 2^64.
+#[tactic(auto, unfolding(crate::specs::Words::count_of))]
+pub fn read_count(word: &[u8]) -> Option<u64>
+    ensures { result ≡ count_of word.now }
+{
+    let digits = decimal_text(word)?;
+    digits.parse().ok()
+}
+
+/// The same of a number below 2^128.
+#[tactic(auto, unfolding(crate::specs::Words::sum_of))]
+pub fn read_sum(word: &[u8]) -> Option<u128>
+    ensures { result ≡ sum_of word.now }
+{
+    let digits = decimal_text(word)?;
+    digits.parse().ok()
+}
+
+/// The word, where it is decimal.
+fn decimal_text(word: &[u8]) -> Option<&str>
+    ensures { MatchOption result (is_decimal word.now ≡ false) (λ text. IsDecimalText word.now text.now) }
+{
     if !is_decimal(word) {
         return None;
     }
     match str::from_utf8(word) {
-        Ok(text) => text.parse().ok(),
+        Ok(text) => Some(text),
         Err(_) => None,
     }
 }

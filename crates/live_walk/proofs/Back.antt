@@ -20,14 +20,15 @@ use Rattle.v8_step.specs.Needed.{Reads, Writes, decoded, ReadsIn, WritesIn}
 use Rattle.v8_step.proofs.Alike.{live_step}
 use Rattle.v8_step.proofs.Executable.{code_stays}
 use Rattle.cfg_blocks.specs.Blocks.{blocks_of}
-use Rattle.cfg_normal.specs.Graph.{Graph, graph_of}
+use Rattle.cfg_normal.specs.Opens.{Open}
+use Rattle.cfg_normal.specs.Graph.{Graph, IsNodeIn, graph_of}
 use Rattle.cfg_blocks.specs.declared.EdgeKind.{EdgeKind}
 use Rattle.cfg_normal.specs.declared.Edge.{Edge}
 use Rattle.cfg_normal.specs.declared.Node.{Node}
 use Rattle.cfg_normal.specs.declared.Slot.{Slot as Carried}
 use Rattle.cfg_normal.specs.declared.Slot.TheVariants as carried
-use Rattle.cfg_walk.specs.Walk.{point_of, gone, gone_in, end_of_walk, edge_from, node_after, unless_ended}
-use Rattle.cfg_walk.specs.Matches.{FetchesOnly, BeginsAt, Matches, MatchesBy, IsOnItsWay, IsCarried}
+use Rattle.cfg_walk.specs.Walk.{point_of, gone, gone_in, end_of_walk, edge_along, node_after, way_to, unless_ended}
+use Rattle.cfg_walk.specs.Matches.{AreOpen, JumpsGoByCase, FetchesOnly, BeginsAt, Matches, MatchesBy, IsOnItsWay, IsCarried}
 use Rattle.cfg_blocks.proofs.Targets.{word_at-some}
 use Rattle.cfg_walk.proofs.Cut.{cut}
 use Rattle.cfg_walk.proofs.Walks.{live_before, walks_match}
@@ -53,10 +54,12 @@ reads_here s item h = by s.ending refl (fetch_of s.memory s.pc) refl h
     by None e None f h = absurd h
     by (Some ending) e o f h = absurd h
 
-module _ (text : Words) (given : List ℕ) (entry : ℕ) (s0 : State) (named : ℕ → List Part) (is : IsText text)
-    (fetches : FetchesOnly text s0) (begins : BeginsAt text entry s0) where
+module _ (text : Words) (given : List ℕ) (opens : List Open) (entry : ℕ) (s0 : State) (named : ℕ → List Part)
+    (is : IsText text) (fetches : FetchesOnly text s0) (begins : BeginsAt text entry s0)
+    (are : AreOpen (blocks_of text given) opens)
+    (cases : JumpsGoByCase text (graph_of (blocks_of text given) opens) entry s0) where
   abbrev graph : Graph
-  graph = graph_of (blocks_of text given)
+  graph = graph_of (blocks_of text given) opens
 
   abbrev at : ℕ → State
   at k = run s0 k
@@ -71,7 +74,10 @@ module _ (text : Words) (given : List ℕ) (entry : ℕ) (s0 : State) (named : �
   fetches_at k a = code_stays.1 s0 k a ∙ fetches a
 
   matches_at : (k : ℕ) → (at k).ending ≡ None → Matches text graph (node_at k) (point_of (at k))
-  matches_at k live = walks_match text given entry s0 k is fetches begins live
+  matches_at k live = (walks_match text given opens entry s0 k is fetches begins are cases live).0
+
+  inside_at : (k : ℕ) → (at k).ending ≡ None → IsNodeIn (blocks_of text given) opens (node_at k)
+  inside_at k live = (walks_match text given opens entry s0 k is fetches begins are cases live).1
 
   -- where the run stands before it carries out a word, and what that reads and writes
   record Standing (k word : ℕ) : Type 0 where
@@ -114,8 +120,8 @@ module _ (text : Words) (given : List ℕ) (entry : ℕ) (s0 : State) (named : �
           absurd (omega (arith, there.within, there.is, h))
 
       on_way : (x : Slot) → (at k).slot ≡ x → (way : EdgeKind) → IsOnItsWay text graph (node_at k) (point_of (at k)) way
-          → ((e : ℕ) → edge_from graph (node_at k) way ≡ e ∷ [] → IsPointBy text graph (node_at k) (point_of (at k)) x
-          (Along e)) → Standing k word
+          → ((e : ℕ) → edge_along graph (node_at k) (way_to text graph (node_at k) way (at k).npc) ≡ e ∷ []
+          → IsPointBy text graph (node_at k) (point_of (at k)) x (Along e)) → Standing k word
       on_way x e way h point =
           let carries = carried_word h.edge.slot h.carries in
           let is_edge : edge_at graph h.number ≡ h.edge = get_or_from_slice_get graph.edges h.number h.edge _ h.is in
@@ -178,8 +184,8 @@ module _ (text : Words) (given : List ℕ) (entry : ℕ) (s0 : State) (named : �
       (IsPoint text graph (node_after graph (node_at k) (gone_in text graph entry s0 k)) (at (suc k)))
       (gone_in text graph entry s0 k)
   trip_at k live after q p =
-      trip text is (blocks_of text given) (cut text given is.some) named (node_at k) (at k) live (fetches_at k)
-      (matches_at k live) after q p
+      trip text is (blocks_of text given) opens (cut text given is.some) are named (node_at k) (inside_at k live)
+      (at k) live (fetches_at k) (matches_at k live) after q p
 
   -- what reads all makes it live; else the window stays
   live_if : (k : ℕ) (p : Part) → is_member p ≡ true → (live : (at k).ending ≡ None) (after : (at (suc k)).ending ≡ None)
@@ -287,14 +293,15 @@ module _ (text : Words) (given : List ℕ) (entry : ℕ) (s0 : State) (named : �
       (is_item ∙ ap (λ w. item_of w p) (sym same)))
 
 pub needed_is_live : NeededIsLive
-needed_is_live text given entry s0 named is fetches begins n e front p m left needed =
+needed_is_live text given opens entry s0 named is fetches begins are cases n e front p m left needed =
     let later = needed.later in
-    behind_last text given entry s0 named is fetches begins n e front p m left
-    (back text given entry s0 named is fetches begins (needed.reader - suc n) (suc n) p m needed.reader
+    behind_last text given opens entry s0 named is fetches begins are cases n e front p m left
+    (back text given opens entry s0 named is fetches begins are cases (needed.reader - suc n) (suc n) p m needed.reader
     (omega arith) _ needed.reads needed.kept refl)
 
 pub named_is_live : NamedIsLive
-named_is_live text given entry s0 named is fetches begins n e front p m left k f q low c mq h same none =
-    behind_last text given entry s0 named is fetches begins n e front p m left
-    (back_named text given entry s0 named is fetches begins (k - suc n) (suc n) p m k f q (omega arith) c mq h _ same
-    (λ i a b. none i (omega arith) b) refl)
+named_is_live text given opens entry s0 named is fetches begins are cases n e front p m left k f q low c mq h same
+    none =
+    behind_last text given opens entry s0 named is fetches begins are cases n e front p m left
+    (back_named text given opens entry s0 named is fetches begins are cases (k - suc n) (suc n) p m k f q (omega arith)
+    c mq h _ same (λ i a b. none i (omega arith) b) refl)

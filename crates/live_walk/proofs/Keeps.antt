@@ -18,7 +18,8 @@ use Rattle.code_runs.specs.PointsAlike.{instr_of}
 use Rattle.cfg_blocks.specs.Blocks.{blocks_of}
 use Rattle.cfg_normal.specs.Graph.{Graph, graph_of}
 use Rattle.cfg_walk.specs.Walk.{gone_in}
-use Rattle.cfg_walk.specs.Matches.{FetchesOnly, BeginsAt}
+use Rattle.cfg_walk.specs.Matches.{AreOpen, FetchesOnly, BeginsAt, JumpsGoByCase}
+use Rattle.cfg_normal.specs.Opens.{Open}
 use Rattle.cfg_walk.proofs.Walks.{live_before}
 use Rattle.live_walk.specs.Keeps.{IsKeptAt, IsKeptBehind, WhatLivesIsKept, instr_after}
 use Rattle.live_walk.proofs.Back.{goes_live, live_below, named_is_live, needed_is_live, reads_here}
@@ -71,10 +72,12 @@ from_next P n to first rest k low high = elim (cases_eq n k) [
   | inr not ↦ rest k (omega arith) high
 ]
 
-module _ (text : Words) (given : List ℕ) (entry : ℕ) (s0 : State) (named : ℕ → List Part) (is : IsText text)
-    (fetches : FetchesOnly text s0) (begins : BeginsAt text entry s0) where
+module _ (text : Words) (given : List ℕ) (opens : List Open) (entry : ℕ) (s0 : State) (named : ℕ → List Part)
+    (is : IsText text) (fetches : FetchesOnly text s0) (begins : BeginsAt text entry s0)
+    (are : AreOpen (blocks_of text given) opens)
+    (cases : JumpsGoByCase text (graph_of (blocks_of text given) opens) entry s0) where
   abbrev graph : Graph
-  graph = graph_of (blocks_of text given)
+  graph = graph_of (blocks_of text given) opens
 
   abbrev at : ℕ → State
   at k = run s0 k
@@ -111,7 +114,8 @@ module _ (text : Words) (given : List ℕ) (entry : ℕ) (s0 : State) (named : �
   live_up_to : (n m : ℕ) → n ≤ m → (at m).ending ≡ None → (at n).ending ≡ None
   live_up_to n m low h =
       let e : n + (m - n) ≡ m = omega arith in
-      live_below text given entry s0 named is fetches begins n (m - n) (ap (λ (k : ℕ). (at k).ending) e ∙ h)
+      live_below text given opens entry s0 named is fetches begins are cases n (m - n)
+      (ap (λ (k : ℕ). (at k).ending) e ∙ h)
 
   kept_lives : (n : ℕ) (item : Item) → Kept n item → (at n).ending ≡ None
   kept_lives n item (inl needed) =
@@ -119,7 +123,7 @@ module _ (text : Words) (given : List ℕ) (entry : ℕ) (s0 : State) (named : �
   kept_lives n item (inr later) =
       live_up_to n later.step later.later
       (live_before (at later.step)
-      (goes_live text given entry s0 named is fetches begins later.step later.edge later.completed))
+      (goes_live text given opens entry s0 named is fetches begins are cases later.step later.edge later.completed))
 
   kept_before : (n : ℕ) (item : Item) → Kept (suc n) item → ¬ Writes (at n) item → Kept n item
   kept_before n item (inl needed) none =
@@ -160,11 +164,11 @@ module _ (text : Words) (given : List ℕ) (entry : ℕ) (s0 : State) (named : �
   live : (n : ℕ) (item : Item) → Kept (suc n) item
       → IsKeptBehind text graph named (gone_in text graph entry s0 n) (at (suc n)).window item
   live n item (inl needed) front e last p member dead same =
-      dead (needed_is_live text given entry s0 named is fetches begins n e front p member last
+      dead (needed_is_live text given opens entry s0 named is fetches begins are cases n e front p member last
       (subst (λ (i : Item). IsNeeded s0 (suc n) i) same needed))
   live n item (inr later) front e last p member dead same =
       let low = later.later in
-      dead (named_is_live text given entry s0 named is fetches begins n e front p member last
+      dead (named_is_live text given opens entry s0 named is fetches begins are cases n e front p member last
       later.step later.edge later.part (omega arith) later.completed later.is_part later.is_named
       (later.names ∙ same)
       (λ k from to. subst (λ (i : Item). ¬ Writes (at k) i) same (later.unwritten k (omega arith) to)))
@@ -176,7 +180,7 @@ module _ (text : Words) (given : List ℕ) (entry : ℕ) (s0 : State) (named : �
       by (written_or_not (instr_after text s0 n) (at n).window (item_of (at (suc n)).window p))
     where
       now : (at n).ending ≡ None
-      now = live_before (at n) (goes_live text given entry s0 named is fetches begins n e gone)
+      now = live_before (at n) (goes_live text given opens entry s0 named is fetches begins are cases n e gone)
 
       by : Written n (item_of (at (suc n)).window p) ⊎ (Written n (item_of (at (suc n)).window p) → ⊥)
           → Written n (item_of (at (suc n)).window p) ⊎ Kept n (item_of (at (suc n)).window p)
@@ -198,10 +202,10 @@ module _ (text : Words) (given : List ℕ) (entry : ℕ) (s0 : State) (named : �
           }))
 
 pub what_lives_is_kept : WhatLivesIsKept
-what_lives_is_kept text given entry s0 named is fetches begins = record {
-  reads = λ n item l i r. read_now text given entry s0 named is fetches begins n item l i r;
-  back = λ n item k. back text given entry s0 named is fetches begins n item k;
-  live = λ n item k. live text given entry s0 named is fetches begins n item k;
+what_lives_is_kept text given opens entry s0 named is fetches begins are cases = record {
+  reads = λ n item l i r. read_now text given opens entry s0 named is fetches begins are cases n item l i r;
+  back = λ n item k. back text given opens entry s0 named is fetches begins are cases n item k;
+  live = λ n item k. live text given opens entry s0 named is fetches begins are cases n item k;
   needed = λ n item k. inl k;
-  named_items = λ n e p c m h. named_items text given entry s0 named is fetches begins n e p c m h;
+  named_items = λ n e p c m h. named_items text given opens entry s0 named is fetches begins are cases n e p c m h;
 }

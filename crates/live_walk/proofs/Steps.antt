@@ -28,15 +28,18 @@ use Rattle.cfg_blocks.specs.declared.EdgeKind.{EdgeKind}
 use Rattle.cfg_blocks.specs.declared.EdgeKind.TheVariants as kinds
 use Rattle.cfg_blocks.specs.Ends.{Way, way, within, end_at, end_by, is_transfer as transfers, ways_of, branch_target, number_of, target_in, always}
 use Rattle.cfg_blocks.specs.Blocks.{Blocks, block_end, holding_of, last_word}
-use Rattle.cfg_normal.specs.Graph.{Graph, graph_of, node_of, runs_slot}
+use Rattle.cfg_normal.specs.Nodes.{home_of}
+use Rattle.cfg_normal.specs.Opens.{Open}
+use Rattle.cfg_normal.specs.Graph.{Graph, IsNodeIn, graph_of, node_of, runs_slot}
+use Rattle.cfg_blocks.specs.Switches.{is_jump}
 use Rattle.cfg_normal.specs.declared.Node.{Node}
-use Rattle.cfg_walk.specs.Walk.{Point as RunPoint, completed, point_of, gone, goes_on_at, node_after, edge_from, ends_block, left_at, left_by, slot_left, unless_ended, way_of, instr_at}
-use Rattle.cfg_walk.specs.Matches.{FetchesOnly, IsOnItsWay, Matches, MatchesBy}
+use Rattle.cfg_walk.specs.Walk.{Point as RunPoint, completed, point_of, gone, goes_on_at, node_after, edge_along, edge_from, ends_block, same_kind, way_to, left_at, left_by, slot_left, unless_ended, way_of, instr_at}
+use Rattle.cfg_walk.specs.Matches.{AreOpen, FetchesOnly, IsOnItsWay, Matches, MatchesBy}
 use Rattle.cfg_blocks.proofs.Targets.{word_at-some}
 use Rattle.cfg_walk.proofs.Addresses.{word_at-address, next_word, second_word}
 use Rattle.cfg_walk.proofs.Cut.{IsCut}
 use Rattle.cfg_walk.proofs.Edges.{block}
-use Rattle.cfg_walk.proofs.Leaving.{end_is, node_is, straight_end, straight_left, transfer_ends}
+use Rattle.cfg_walk.proofs.Leaving.{end_here, ends_home, no_cases, end_is, node_is, straight_end, straight_left, transfer_ends}
 use Rattle.cfg_walk.proofs.Points.{Stands, jumps_to, within_some}
 use Rattle.cfg_walk.proofs.States.{couples}
 use Rattle.cfg_walk.proofs.Slots.{LeadsIfThere}
@@ -100,22 +103,36 @@ next_leads b c word l last more = by (cases_lt (suc (holding_of b word)) (length
         let ends_at : block_end b.firsts b.words (holding_of b word) ≡ b.words = rw (le-ltb _ _ none) in
         absurd (omega arith)
 
+-- no transfer goes the way of a landing or a case
+way_own : (o : Option Instr) (x : Slot)
+    → (same_kind (way_of o x) kinds.Land ≡ false) × (same_kind (way_of o x) kinds.Case ≡ false)
+way_own (Some (i.Call disp30)) x = (refl, refl)
+way_own (Some (i.Jmpl rd rs1 op2)) x = (refl, refl)
+way_own None Untaken = (refl, refl)
+way_own None Taken = (refl, refl)
+way_own None NoSlot = (refl, refl)
+way_own (Some _) Untaken = (refl, refl)
+way_own (Some _) Taken = (refl, refl)
+way_own (Some _) NoSlot = (refl, refl)
+
 heads : {d e : ℕ} → d ∷ [] ≡ e ∷ [] → d ≡ e
 heads h = cc
 
-module _ (text : Words) (is : IsText text) (b : Blocks) (c : IsCut text b) (named : ℕ → List Part) where
+module _ (text : Words) (is : IsText text) (b : Blocks) (opens : List Open) (c : IsCut text b) (are : AreOpen b opens)
+    (named : ℕ → List Part) where
   abbrev graph : Graph
-  graph = graph_of b
+  graph = graph_of b opens
 
   -- ---- outside a slot, at a word of the text
-  module _ (before : RunPoint) (word : ℕ) (instr : Instr) (node : Node) (h : Stands text b node before word instr) where
+  module _ (before : RunPoint) (word : ℕ) (instr : Instr) (node : Node)
+      (h : Stands text b opens node before word instr) where
     low : word < b.words
     low = omega (arith, h.is.within, h.cut.words)
 
     at : word_at text before.pc ≡ Some word
     at = ap (word_at text) h.is.is ∙ word_at-address text word ∙ rw (lt-ltb _ _ h.is.within)
 
-    home : node ≡ block (holding_of b word)
+    home : home_of node ≡ block (holding_of b word)
     home = h.held ∙ ap (node_of b) at ∙ node_is b word low
 
     end : end_at text word ≡ end_by text word instr
@@ -130,20 +147,15 @@ module _ (text : Words) (is : IsText text) (b : Blocks) (c : IsCut text b) (name
 
     -- by the edge of a way
     by_way : (after : RunPoint) (w : Way) → word ≡ last_word b.firsts b.words (holding_of b word)
+        → is_jump (end_at text word) ≡ false → same_kind w.kind kinds.Land ≡ false → same_kind w.kind kinds.Case ≡ false
         → IsOne w (ways_of b.words word (end_at text word)) → runs_slot (end_at text word) w.kind ≡ false
         → left_by graph node word instr ≡ edge_from graph node w.kind
         → word_at text after.pc ≡ w.to → LeadsIfThere b w.to → Goal after NoSlot
-    by_way after w last one quiet left to leads =
-        go node home (left_at text graph node (word_at text before.pc)) (left_is ∙ left)
-      where
-        go : (n : Node) → n ≡ block (holding_of b word) → (es : List ℕ) → es ≡ edge_from graph n w.kind
-            → Trip text graph named (At n word) (IsPointBy text graph (node_after graph n es) after NoSlot) es
-        go n e es f =
-            subst
-            (λ (m : Node). Trip text graph named (At m word)
-            (IsPointBy text graph (node_after graph m es) after NoSlot) es) (sym e)
-            (edge_trip text b c named word low after last w one quiet es
-            (f ∙ ap (λ m. edge_from graph m w.kind) e) to leads)
+    by_way after w last no_jump k l one quiet left to leads =
+        edge_trip text b opens c are named word low node h.there home after last w
+        (no_cases b opens are node (holding_of b word) home
+        (ap is_jump (end_here text b opens c word low last) ∙ no_jump)) k l one quiet
+        (left_at text graph node (word_at text before.pc)) (left_is ∙ left) to leads
 
     second : word_at text ((before.pc + 8) % 2 ^ 32) ≡ within b.words (word + 2)
     second = second_word text before.pc word h.text_is h.is ∙ ap (λ count. within count (word + 2)) (sym h.cut.words)
@@ -166,22 +178,13 @@ module _ (text : Words) (is : IsText text) (b : Blocks) (c : IsCut text b) (name
             → left_by graph node word instr ≡ (if x then edge_from graph node kinds.Fall else [])
         left x e =
             straight_left graph node word instr t
-            ∙ ap (λ m. if ends_block graph m word then edge_from graph node kinds.Fall else []) home
-            ∙ ap (λ (y : Bool). if y then edge_from graph node kinds.Fall else []) e
-
-        go : (n : Node) → n ≡ block (holding_of b word) → (es : List ℕ) → es ≡ []
-            → (word ≡ last_word b.firsts b.words (holding_of b word) → ⊥)
-            → Trip text graph named (At n word) (IsPointBy text graph (node_after graph n es) after NoSlot) es
-        go n e es f inner =
-            subst
-            (λ (m : Node). Trip text graph named (At m word)
-            (IsPointBy text graph (node_after graph m es) after NoSlot) es) (sym e)
-            (block_trip text b c named word low after inner es f to)
+            ∙ ap (λ (y : Bool). if y then edge_from graph node kinds.Fall else [])
+            (ends_home b opens node (holding_of b word) word home ∙ e)
 
         by : (x : Bool) → (word == last_word b.firsts b.words (holding_of b word)) ≡ x → Goal after NoSlot
         by true e =
             let last : word ≡ last_word b.firsts b.words (holding_of b word) = eqb-true _ _ e in
-            by_way after (way kinds.Fall (within b.words (word + 1))) last
+            by_way after (way kinds.Fall (within b.words (word + 1))) last (ap is_jump fall) refl refl
             (subst (λ (x : BlockEnd). IsOne (way kinds.Fall (within b.words (word + 1))) (ways_of b.words word x))
             (sym fall) (fall_is_one b.words word))
             (ap (λ (x : BlockEnd). runs_slot x kinds.Fall) fall) (left true e) to
@@ -190,31 +193,24 @@ module _ (text : Words) (is : IsText text) (b : Blocks) (c : IsCut text b) (name
               subst (λ (x : ℕ). x < b.words) there.1 there.0,
               subst (λ (x : ℕ). Leads b.firsts x) there.1 (next_leads b c word low last there.0),
             ))
-        by false e = go node home (left_at text graph node (word_at text before.pc)) (left_is ∙ left false e)
-            (eqb-false _ _ e)
+        by false e =
+            block_trip text b opens c are named word low node h.there home after (eqb-false _ _ e)
+            (left_at text graph node (word_at text before.pc)) (left_is ∙ left false e) to
 
     into : (after : RunPoint) (now : Slot) → now ≢ NoSlot → is_transfer instr ≡ true → Goal after now
     into after now not t = by now not
       where
         last : word ≡ last_word b.firsts b.words (holding_of b word)
-        last = transfer_ends text b c word low (ap transfers end ∙ transfer_end text word instr t)
-
-        go : (n : Node) → n ≡ block (holding_of b word) → (Next : Node → Point → Type 0) (way : EdgeKind)
-            → ((m : Node) (r : Point) → Next m r → (e : ℕ) × (edge_from graph m way ≡ e ∷ []) × (r ≡ Along e))
-            → Trip text graph named (At n word) (Next n) []
-        go n e Next way next =
-            subst (λ (m : Node). Trip text graph named (At m word) (Next m) []) (sym e)
-            (into_trip text b c named word low (Next (block (holding_of b word))) last [] refl way
-            (next (block (holding_of b word))))
+        last = transfer_ends text b opens c word low (ap transfers end ∙ transfer_end text word instr t)
 
         by : (x : Slot) → x ≢ NoSlot → Goal after x
         by NoSlot no_slot = absurd (no_slot refl)
         by Taken no_slot =
-            go node home (λ m. IsPointBy text graph m after Taken) (way_of (instr_at text (after.pc - 4)) Taken)
-            (λ m r n. n)
+            into_trip text b opens c are named word low node h.there home (IsPointBy text graph node after Taken)
+            last [] refl (way_to text graph node (way_of (instr_at text (after.pc - 4)) Taken) after.npc) (λ r n. n)
         by Untaken no_slot =
-            go node home (λ m. IsPointBy text graph m after Untaken) (way_of (instr_at text (after.pc - 4)) Untaken)
-            (λ m r n. n)
+            into_trip text b opens c are named word low node h.there home (IsPointBy text graph node after Untaken)
+            last [] refl (way_to text graph node (way_of (instr_at text (after.pc - 4)) Untaken) after.npc) (λ r n. n)
 
   -- ---- the machine
   module _ (s : State) (node : Node) where
@@ -228,7 +224,7 @@ module _ (text : Words) (is : IsText text) (b : Blocks) (c : IsCut text b) (name
           subst (λ (x : Slot). TripBy text graph named node (point_of s) (point_of t) NoSlot x (At node word)) (sym f) h
 
       branch : (cond : ℕ) (annul : Bool) (disp22 : ℤ) (holds all : Bool)
-          → Stands text b node (point_of s) word (i.Branch cond annul disp22)
+          → Stands text b opens node (point_of s) word (i.Branch cond annul disp22)
           → holds_of cond s.codes ≡ holds → (cond == always) ≡ all
           → Out (branched holds all annul s (target_of s disp22))
       branch cond true disp22 true true h holds all =
@@ -243,7 +239,8 @@ module _ (text : Words) (is : IsText text) (b : Blocks) (c : IsCut text b) (name
           let goes = jumps_to h (point_of t) transfer target disp22 t.pc (ap target_in end_is_branch) is_target refl in
           slot_is t NoSlot e
           (by_way (point_of s) word (i.Branch cond true disp22) node h (point_of t) (way kinds.Taken (number_of target))
-          (transfer_ends text b c word (low (point_of s) word (i.Branch cond true disp22) node h) transfer)
+          (transfer_ends text b opens c word (low (point_of s) word (i.Branch cond true disp22) node h) transfer)
+          (ap is_jump end_is_branch) refl refl
           (subst (λ (x : BlockEnd). IsOne (way kinds.Taken (number_of target)) (ways_of b.words word x))
           (sym end_is_branch)
           (taken_is_one b.words word cond true target (not_never cond s.codes holds)))
@@ -267,7 +264,8 @@ module _ (text : Words) (is : IsText text) (b : Blocks) (c : IsCut text b) (name
           let w : Way = way kinds.Untaken (within b.words (word + 2)) in
           slot_is t NoSlot e
           (by_way (point_of s) word (i.Branch cond true disp22) node h (point_of t) w
-          (transfer_ends text b c word (low (point_of s) word (i.Branch cond true disp22) node h) transfer)
+          (transfer_ends text b opens c word (low (point_of s) word (i.Branch cond true disp22) node h) transfer)
+          (ap is_jump end_is_branch) refl refl
           (subst (λ (x : BlockEnd). IsOne w (ways_of b.words word x)) (sym end_is_branch)
           (untaken_is_one b.words word cond true target (not_always cond s.codes holds)))
           (ap (λ (x : BlockEnd). runs_slot x kinds.Untaken) end_is_branch)
@@ -284,7 +282,7 @@ module _ (text : Words) (is : IsText text) (b : Blocks) (c : IsCut text b) (name
           let t : State = branched false all false s (target_of s disp22) in
           slot_is t Untaken refl (into (point_of s) word _ node h (point_of t) Untaken (λ f. absurd (cc)) refl)
 
-      jump : (rd rs1 : ℕ) (op2 : Op2) → Stands text b node (point_of s) word (i.Jmpl rd rs1 op2)
+      jump : (rd rs1 : ℕ) (op2 : Op2) → Stands text b opens node (point_of s) word (i.Jmpl rd rs1 op2)
           → (jump_step s rd (sum_of s rs1 op2)).ending ≡ None → Out (jump_step s rd (sum_of s rs1 op2))
       unfolding jump_step
       jump rd rs1 op2 h =
@@ -294,14 +292,14 @@ module _ (text : Words) (is : IsText text) (b : Blocks) (c : IsCut text b) (name
           slot_is t Taken refl (into (point_of s) word _ node h (point_of t) Taken (λ f. absurd (cc)) refl))
           (λ _ live. absurd (cc))
 
-      plain : (instr : Instr) → Stands text b node (point_of s) word instr → is_transfer instr ≡ false
+      plain : (instr : Instr) → Stands text b opens node (point_of s) word instr → is_transfer instr ≡ false
           → (act s instr).ending ≡ None → Out (act s instr)
       plain instr h f live =
           let went = goes_act s instr f live in
           slot_is (act s instr) NoSlot went.2
           (straight (point_of s) word instr node h (point_of (act s instr)) f went.0)
 
-      outside : (instr : Instr) → Stands text b node (point_of s) word instr → (act s instr).ending ≡ None
+      outside : (instr : Instr) → Stands text b opens node (point_of s) word instr → (act s instr).ending ≡ None
           → Out (act s instr)
       unfolding act branch_step call_step
       outside (i.Branch cond annul disp22) h live =
@@ -319,21 +317,23 @@ module _ (text : Words) (is : IsText text) (b : Blocks) (c : IsCut text b) (name
       outside instr h live = plain instr h refl live
 
     -- in a slot
-    in_slot : (x : Slot) → x ≢ NoSlot → s.slot ≡ x → (instr : Instr) → MatchesBy text graph node (point_of s) x
-        → (act s instr).ending ≡ None → (q : Point) → IsPointBy text graph node (point_of s) x q
+    in_slot : IsNodeIn b opens node → (x : Slot) → x ≢ NoSlot → s.slot ≡ x → (instr : Instr)
+        → MatchesBy text graph node (point_of s) x → (act s instr).ending ≡ None → (q : Point)
+        → IsPointBy text graph node (point_of s) x q
         → TripBy text graph named node (point_of s) (point_of (act s instr)) x (act s instr).slot q
-    in_slot x not e instr m live q p = by (is_transfer instr) refl
+    in_slot there x not e instr m live q p = by (is_transfer instr) refl
       where
         t : State
         t = act s instr
 
-        goes : (way : EdgeKind) → s.npc ≡ s.npc → (act s instr).pc ≡ s.npc → IsOnItsWay text graph node (point_of s) way
-            → (d : ℕ) × (edge_from graph node way ≡ d ∷ []) × (q ≡ Along d)
+        goes : (way : EdgeKind) → same_kind way kinds.Land ≡ false → same_kind way kinds.Case ≡ false
+            → (act s instr).pc ≡ s.npc → IsOnItsWay text graph node (point_of s) way
+            → (d : ℕ) × (edge_along graph node (way_to text graph node way s.npc) ≡ d ∷ []) × (q ≡ Along d)
             → Trip text graph named q
             (IsPointBy text graph (node_after graph node (slot_left text graph node way (act s instr).pc))
             (point_of (act s instr)) NoSlot)
             (slot_left text graph node way (act s instr).pc)
-        goes way _ pc h (d, from, is) =
+        goes way k l pc h (d, from, is) =
             let same : h.number ≡ d = heads (sym h.only ∙ from) in
             subst
             (λ (a : ℕ). Trip text graph named q
@@ -345,14 +345,18 @@ module _ (text : Words) (is : IsText text) (b : Blocks) (c : IsCut text b) (name
             (IsPointBy text graph (node_after graph node (slot_left text graph node way s.npc))
             (point_of (act s instr)) NoSlot)
             (slot_left text graph node way s.npc)) (ap Along same ∙ sym is)
-            (out_trip text b c named node (point_of s) (point_of (act s instr)) pc way h))
+            (out_trip text b opens c are named node there (point_of s) (point_of (act s instr)) pc way k l h))
 
         slots : (x : Slot) → x ≢ NoSlot → MatchesBy text graph node (point_of s) x
             → IsPointBy text graph node (point_of s) x q → (act s instr).pc ≡ s.npc
             → TripBy text graph named node (point_of s) (point_of (act s instr)) x NoSlot q
         slots NoSlot not m p pc = absurd (not refl)
-        slots Taken not m p pc = goes (way_of (instr_at text (s.pc - 4)) Taken) refl pc m p
-        slots Untaken not m p pc = goes (way_of (instr_at text (s.pc - 4)) Untaken) refl pc m p
+        slots Taken not m p pc =
+            goes (way_of (instr_at text (s.pc - 4)) Taken) (way_own (instr_at text (s.pc - 4)) Taken).0
+            (way_own (instr_at text (s.pc - 4)) Taken).1 pc m p
+        slots Untaken not m p pc =
+            goes (way_of (instr_at text (s.pc - 4)) Untaken) (way_own (instr_at text (s.pc - 4)) Untaken).0
+            (way_own (instr_at text (s.pc - 4)) Untaken).1 pc m p
 
         by : (f : Bool) → is_transfer instr ≡ f → TripBy text graph named node (point_of s) (point_of (act s instr)) x
             (act s instr).slot q
@@ -364,72 +368,77 @@ module _ (text : Words) (is : IsText text) (b : Blocks) (c : IsCut text b) (name
             subst (λ (y : Slot). TripBy text graph named node (point_of s) (point_of (act s instr)) x y q)
             (sym went.2) (slots x not m p went.0)
 
-module _ (text : Words) (is : IsText text) (b : Blocks) (c : IsCut text b) (named : ℕ → List Part) (node : Node)
-    (s : State)
-    (live : s.ending ≡ None) (fetches : FetchesOnly text s) (m : Matches text (graph_of b) node (point_of s))
+module _ (text : Words) (is : IsText text) (b : Blocks) (opens : List Open) (c : IsCut text b) (are : AreOpen b opens)
+    (named : ℕ → List Part) (node : Node) (there : IsNodeIn b opens node) (s : State)
+    (live : s.ending ≡ None) (fetches : FetchesOnly text s) (m : Matches text (graph_of b opens) node (point_of s))
     (after : (step_of s).ending ≡ None) where
   abbrev pub es : List ℕ
-  es = gone text (graph_of b) node (point_of s) (goes_on_at (step_of s))
+  es = gone text (graph_of b opens) node (point_of s) (goes_on_at (step_of s))
 
   abbrev TripTo : Point → State → Type 0
   TripTo q t =
-      Trip text (graph_of b) named q
-      (IsPoint text (graph_of b)
-      (node_after (graph_of b) node (gone text (graph_of b) node (point_of s) (goes_on_at t))) t)
-      (gone text (graph_of b) node (point_of s) (goes_on_at t))
+      Trip text (graph_of b opens) named q
+      (IsPoint text (graph_of b opens)
+      (node_after (graph_of b opens) node (gone text (graph_of b opens) node (point_of s) (goes_on_at t))) t)
+      (gone text (graph_of b opens) node (point_of s) (goes_on_at t))
 
   -- of a live state
-  of_live : (q : Point) (t : State) → t.ending ≡ None → TripBy text (graph_of b) named node (point_of s)
+  of_live : (q : Point) (t : State) → t.ending ≡ None → TripBy text (graph_of b opens) named node (point_of s)
       (point_of t) s.slot t.slot q → TripTo q t
   of_live q t l h =
-      subst (λ (o : Option Ending). Trip text (graph_of b) named q
-      (IsPoint text (graph_of b)
-      (node_after (graph_of b) node (gone text (graph_of b) node (point_of s) (unless_ended o (point_of t)))) t)
-      (gone text (graph_of b) node (point_of s) (unless_ended o (point_of t)))) (sym l) h
+      subst (λ (o : Option Ending). Trip text (graph_of b opens) named q
+      (IsPoint text (graph_of b opens)
+      (node_after (graph_of b opens) node
+      (gone text (graph_of b opens) node (point_of s) (unless_ended o (point_of t)))) t)
+      (gone text (graph_of b opens) node (point_of s) (unless_ended o (point_of t)))) (sym l) h
 
-  pub trip : (q : Point) → IsPoint text (graph_of b) node s q
-      → Trip text (graph_of b) named q (IsPoint text (graph_of b) (node_after (graph_of b) node es) (step_of s)) es
+  pub trip : (q : Point) → IsPoint text (graph_of b opens) node s q
+      → Trip text (graph_of b opens) named q
+      (IsPoint text (graph_of b opens) (node_after (graph_of b opens) node es) (step_of s)) es
   trip q p = by (word_at text s.pc) refl (went s live after)
     where
       acts : (word : ℕ) → word_at text s.pc ≡ Some word → (x : Slot) → s.slot ≡ x
-          → MatchesBy text (graph_of b) node (point_of s) x
-          → IsPointBy text (graph_of b) node (point_of s) x q → (t : State)
+          → MatchesBy text (graph_of b opens) node (point_of s) x
+          → IsPointBy text (graph_of b opens) node (point_of s) x q → (t : State)
           → t ≡ act s (decode_of (slice_index text.words word)) → t.ending ≡ None
-          → TripBy text (graph_of b) named node (point_of s) (point_of t) s.slot t.slot q
+          → TripBy text (graph_of b opens) named node (point_of s) (point_of t) s.slot t.slot q
       acts word at x e m p t t_is l =
-          subst (λ (u : State). TripBy text (graph_of b) named node (point_of s) (point_of u) s.slot u.slot q)
+          subst (λ (u : State). TripBy text (graph_of b opens) named node (point_of s) (point_of u) s.slot u.slot q)
           (sym t_is)
           (subst
-          (λ (y : Slot). TripBy text (graph_of b) named node (point_of s)
+          (λ (y : Slot). TripBy text (graph_of b opens) named node (point_of s)
           (point_of (act s (decode_of (slice_index text.words word)))) y
           (act s (decode_of (slice_index text.words word))).slot q) (sym e)
           (slots x e m p (ap (λ (u : State). u.ending) (sym t_is) ∙ l)))
         where
-          slots : (x : Slot) → s.slot ≡ x → MatchesBy text (graph_of b) node (point_of s) x
-              → IsPointBy text (graph_of b) node (point_of s) x q
+          slots : (x : Slot) → s.slot ≡ x → MatchesBy text (graph_of b opens) node (point_of s) x
+              → IsPointBy text (graph_of b opens) node (point_of s) x q
               → (act s (decode_of (slice_index text.words word))).ending ≡ None
-              → TripBy text (graph_of b) named node (point_of s)
+              → TripBy text (graph_of b opens) named node (point_of s)
               (point_of (act s (decode_of (slice_index text.words word)))) x
               (act s (decode_of (slice_index text.words word))).slot q
           slots NoSlot e m p l =
               let same : Some p.0 ≡ Some word = sym p.1 ∙ at in
               let word_is : word ≡ p.0 = cc in
               subst
-              (λ (r : Point). TripBy text (graph_of b) named node (point_of s)
+              (λ (r : Point). TripBy text (graph_of b opens) named node (point_of s)
               (point_of (act s (decode_of (slice_index text.words word)))) NoSlot
               (act s (decode_of (slice_index text.words word))).slot r)
               (ap (At node) word_is ∙ sym p.2)
-              (outside text is b c named s node e word (decode_of (slice_index text.words word))
+              (outside text is b opens c are named s node e word (decode_of (slice_index text.words word))
               (record {
                 text_is = is;
                 cut = c;
                 is = word_at-some text s.pc word at;
                 npc = m.1;
                 decodes = refl;
+                are = are;
+                there = there;
                 held = m.0;
               }) l)
-          slots Taken e m p l = in_slot text is b c named s node Taken (λ f. absurd (cc)) e _ m l q p
-          slots Untaken e m p l = in_slot text is b c named s node Untaken (λ f. absurd (cc)) e _ m l q p
+          slots Taken e m p l = in_slot text is b opens c are named s node there Taken (λ f. absurd (cc)) e _ m l q p
+          slots Untaken e m p l =
+              in_slot text is b opens c are named s node there Untaken (λ f. absurd (cc)) e _ m l q p
 
       by : (o : Option ℕ) → word_at text s.pc ≡ o → (word : ℕ) × (fetch_of s.memory s.pc ≡ Some word)
           → TripTo q (step_of s)

@@ -1,12 +1,11 @@
 -- Each word of a text is held by one block.
-use Rattle.std.proofs.Common.{◌≡◌, ℕ, zero, suc, ◌+◌, ◌<◌, ◌≤◌, ◌⊎◌, List, length, slice_index, refl, ap, arith, inl, inr}
-use Rattle.std.proofs.lemmas.Bool.{cases_order, cases_lt, lt-ltb, le-ltb}
+use Rattle.std.proofs.Common.{◌≡◌, ℕ, zero, suc, ◌+◌, ◌-◌, ◌<◌, ◌≤◌, ◌⊎◌, true, false, nat_le, List, length, slice_index, count_by, refl, ap, arith, inl, inr}
+use Rattle.std.specs.List.Sorted.{IsPartitionPoint}
+use Rattle.std.proofs.lemmas.Bool.{cases_order, cases_lt, lt-ltb, le-ltb, le-leb, lt-leb}
+use Rattle.std.proofs.lemmas.Grind.{get_or_default_zero}
 use Rattle.std.specs.Prelude.{nat_lt, if◌then◌else◌}
 use Rattle.cfg_blocks.specs.Blocks.{AreFirsts, block_end}
-use Rattle.cfg_normal.specs.Graph.{Graph}
-use Rattle.cfg_normal.specs.declared.Node.{Node}
-use Rattle.cfg_normal.specs.declared.Node.TheVariants.{Block, X}
-use Rattle.liveness.specs.Live.{Holds}
+use Rattle.cfg_blocks.proofs.Counts.{count_at_point}
 
 -- where a block begins; past the last one, the end of the text
 abbrev pub start_of : ℕ → List ℕ → ℕ → ℕ
@@ -48,7 +47,35 @@ module _ (words : ℕ) (firsts : List ℕ) (f : AreFirsts words firsts) where
   pub apart : (i j : ℕ) → i < j → j < length firsts → block_end firsts words i ≤ slice_index firsts j
   apart i j l h = omega (arith, ends_at_next i (omega arith), ordered (suc i) j l h)
 
-  some_block : (word : ℕ) → word < words
+  -- the block that holds a word is found by counting
+  point : (word i : ℕ) → i < length firsts → slice_index firsts i ≤ word → word < block_end firsts words i
+      → IsPartitionPoint (λ first. nat_le first word ≡ true) (λ first. nat_le first word ≡ false) firsts (suc i)
+  point word i within above below = (
+    λ k d low l.
+        rw (get_or_default_zero firsts k d (omega (arith, within)))
+        (le-leb _ _ (omega (arith, ordered k i (omega arith) within, above))),
+    λ k d low l. rw (get_or_default_zero firsts k d l) (lt-leb _ _ (omega (arith, apart i k low l, below))),
+  )
+
+  pub is_held : (word i : ℕ) → i < length firsts → slice_index firsts i ≤ word → word < block_end firsts words i
+      → count_by (λ first. nat_le first word) firsts - 1 ≡ i
+  is_held word i within above below =
+      omega (arith, count_at_point (λ first. nat_le first word) firsts (suc i) within (point word i within above below))
+
+  -- no two blocks hold a word
+  pub same_number : (i j w : ℕ) → i < length firsts → j < length firsts
+      → slice_index firsts i ≤ w → w < block_end firsts words i
+      → slice_index firsts j ≤ w → w < block_end firsts words j → i ≡ j
+  same_number i j w li lj ai bi aj bj = elim (cases_order i j) [
+    | inl e ↦ e
+    | inr o ↦ elim o [
+      | inl less ↦ absurd (omega (arith, apart i j less lj))
+      | inr more ↦ absurd (omega (arith, apart j i more li))
+    ]
+  ]
+
+  -- and one does
+  pub some_block : (word : ℕ) → word < words
       → (i : ℕ) × (i < length firsts) × (slice_index firsts i ≤ word) × (word < block_end firsts words i)
   some_block zero l =
       (0, omega (arith, f.some), omega (arith, f.begin), omega (arith, f.begin, some_words 0 (omega (arith, f.some))))
@@ -65,32 +92,3 @@ module _ (words : ℕ) (firsts : List ℕ) (f : AreFirsts words firsts) where
       go i within above below (inr past) (inl more) =
           (suc i, more, omega (arith, ends_at_next i more), omega (arith, ends_at_next i more, some_words (suc i) more))
       go i within above below (inr past) (inr last) = absurd (omega (arith, ends_at_words i last))
-
-module _ (graph : Graph) (f : AreFirsts graph.blocks.words graph.blocks.firsts) where
-  -- a word of a block is one of the text
-  pub held_within : (node : Node) (w : ℕ) → Holds graph node w → w < graph.blocks.words
-  held_within (Block b) w h = omega (arith, ends_within graph.blocks.words graph.blocks.firsts f b.0 h.0, h.2)
-  held_within X w h = absurd h
-
-  same_number : (i j w : ℕ) → i < length graph.blocks.firsts → j < length graph.blocks.firsts
-      → slice_index graph.blocks.firsts i ≤ w → w < block_end graph.blocks.firsts graph.blocks.words i
-      → slice_index graph.blocks.firsts j ≤ w → w < block_end graph.blocks.firsts graph.blocks.words j → i ≡ j
-  same_number i j w li lj ai bi aj bj = elim (cases_order i j) [
-    | inl e ↦ e
-    | inr o ↦ elim o [
-      | inl less ↦ absurd (omega (arith, apart graph.blocks.words graph.blocks.firsts f i j less lj))
-      | inr more ↦ absurd (omega (arith, apart graph.blocks.words graph.blocks.firsts f j i more li))
-    ]
-  ]
-
-  -- and no other holds it
-  pub held_once : (one other : Node) (w : ℕ) → Holds graph one w → Holds graph other w → one ≡ other
-  held_once (Block a) (Block b) w h k =
-      ap (λ n. Block (record { 0 = n })) (same_number a.0 b.0 w h.0 k.0 h.1 h.2 k.1 k.2)
-  held_once X other w h k = absurd h
-  held_once (Block a) X w h k = absurd k
-
-  pub some_node : (w : ℕ) → w < graph.blocks.words → (node : Node) × Holds graph node w
-  some_node w l =
-      let found = some_block graph.blocks.words graph.blocks.firsts f w l in
-      (Block (record { 0 = found.0 }), (found.1, found.2, found.3))

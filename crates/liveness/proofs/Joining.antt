@@ -1,16 +1,19 @@
 -- What sets have after each step of the computation.
-use Rattle.std.proofs.Common.{◌≡◌, ◌↔◌, ℕ, ◌+◌, ◌<◌, ◌≤◌, ◌⊎◌, inl, inr, true, false, not, ◌&&◌, ◌||◌, List, [], ◌∷◌, ◌++◌, length, ap, sym, ◌∙◌, subst, arith}
-use Rattle.std.proofs.lemmas.Bool.{cases_lt, or_cases, or_left, or_right}
-use Rattle.std.proofs.lemmas.List.{get_or_append_left, get_or_push}
-use Rattle.eel_base.specs.CodeText.{Words}
+use Rattle.std.proofs.Common.{◌≡◌, ◌↔◌, ℕ, zero, suc, ◌+◌, ◌<◌, ◌≤◌, ◌⊎◌, inl, inr, true, false, not, ◌&&◌, ◌||◌, List, [], ◌∷◌, ◌++◌, length, length-take, map, take, ap, sym, ◌∙◌, subst, arith}
+use Rattle.std.proofs.lemmas.Bool.{cases_lt, false≢true, or_cases, or_left, or_right}
+use Rattle.std.proofs.lemmas.List.{get_or-take, get_or_append_left, get_or_push}
 use Rattle.v8_decode.specs.declared.Part.{Part}
 use Rattle.v8_decode.specs.Parts.{every_part, has, members, minus}
 use Rattle.v8_decode.proofs.Members.{has-every_part, members-same}
 use Rattle.flood.specs.Flood.{Sets, at}
+use Rattle.cfg_blocks.specs.Blocks.{AreFirsts}
 use Rattle.cfg_normal.specs.Graph.{Graph}
-use Rattle.cfg_normal.specs.declared.Edge.{Edge}
-use Rattle.liveness.specs.Live.{edge_at}
-use Rattle.liveness.specs.Search.{AreBegun, IsBegun, IsBegunBy}
+use Rattle.cfg_normal.specs.Opens.{is_copied}
+use Rattle.cfg_normal.specs.declared.Node.TheVariants.{Landed}
+use Rattle.liveness.specs.Live.{HoldsIn}
+use Rattle.liveness.specs.Search.{Adds, AreJoined, Between, In, LivesInCopy, nodes_from, place_of}
+use Rattle.liveness.proofs.Held.{same_number}
+use Rattle.liveness.proofs.Spots.{place_behind, place_within}
 
 -- everything but a set
 pub everything_less : (s : List Part) → minus every_part s ≡ members (λ x. not (has s x))
@@ -18,32 +21,31 @@ everything_less s =
     members-same (λ x. has every_part x && not (has s x)) (λ x. not (has s x))
     (λ x h. ap (λ b. b && not (has s x)) (has-every_part x ∙ h))
 
--- the union of some of the sets
-abbrev pub Among : Sets → ℕ → ℕ → Part → Type 0
-Among sets first end x = (w : ℕ) × (first ≤ w) × (w < end) × (has (at sets w) x ≡ true)
-
-pub among_none : (sets : Sets) (first : ℕ) (x : Part) → (has [] x ≡ true) ↔ Among sets first first x
-among_none sets first x = (λ h. absurd (false_is_true h), λ h. let a = h.1 in let b = h.2 in absurd (omega arith))
+-- the union of two sets
+pub adds_union : (live more grown : List Part) (Q : Part → Type 0)
+    → ((x : Part) → has grown x ≡ (has live x || has more x)) → ((x : Part) → (has more x ≡ true) ↔ Q x)
+    → Adds {A = Part} (λ x. has live x ≡ true) (λ x. has grown x ≡ true) Q
+adds_union live more grown Q union is = λ x. (λ k. to x (or_cases _ _ (sym (union x) ∙ k)), λ k. from x k)
   where
-    false_is_true : false ≡ true → ⊥
-    false_is_true h = cc
+    to : (x : Part) → (has live x ≡ true) ⊎ (has more x ≡ true) → (has live x ≡ true) ⊎ Q x
+    to x (inl k) = inl k
+    to x (inr k) = inr ((is x).0 k)
 
-pub among_more : (sets : Sets) (first word : ℕ) (live more grown : List Part) (x : Part) → first ≤ word
-    → ((has live x ≡ true) ↔ Among sets first word x) → more ≡ at sets word → has grown x ≡ (has live x || has more x)
-    → (has grown x ≡ true) ↔ Among sets first (word + 1) x
-among_more sets first word live more grown x low h is union =
-    (λ k. to (or_cases _ _ (sym union ∙ k)), λ k. from k (cases_lt k.0 word))
+    from : (x : Part) → (has live x ≡ true) ⊎ Q x → has grown x ≡ true
+    from x (inl k) = union x ∙ or_left _ _ k
+    from x (inr k) = union x ∙ or_right _ _ ((is x).1 k)
+
+-- that of all, from nothing on
+pub union_all : (live : List Part) (Q : ℕ → Part → Type 0) (first n end : ℕ)
+    → Adds {A = Part} (λ x. has [] x ≡ true) (λ x. has live x ≡ true) (Between Q first n) → n ≡ end
+    → (x : Part) → (has live x ≡ true) ↔ Between Q first end x
+union_all live Q first n end g e =
+    subst (λ (m : ℕ). (x : Part) → (has live x ≡ true) ↔ Between Q first m x) e
+    (λ x. (λ k. some x ((g x).0 k), λ k. (g x).1 (inr k)))
   where
-    to : (has live x ≡ true) ⊎ (has more x ≡ true) → Among sets first (word + 1) x
-    to (inl k) = let m = h.0 k in (m.0, m.1, omega (arith, m.2), m.3)
-    to (inr k) = (word, low, omega arith, sym (ap (λ s. has s x) is) ∙ k)
-
-    from : (k : Among sets first (word + 1) x) → (k.0 < word) ⊎ (word ≤ k.0) → has grown x ≡ true
-    from k (inl less) = union ∙ or_left _ _ (h.1 (k.0, k.1, less, k.3))
-    from k (inr more') =
-        let below = k.2 in
-        let same : k.0 ≡ word = omega arith in
-        union ∙ or_right _ _ (ap (λ s. has s x) is ∙ subst (λ (n : ℕ). has (at sets n) x ≡ true) same k.3)
+    some : (x : Part) → (has [] x ≡ true) ⊎ Between Q first n x → Between Q first n x
+    some x (inl k) = absurd (false≢true k)
+    some x (inr k) = k
 
 -- one set more
 pub pushed : (P : ℕ → List Part → Type 0) (xs : Sets) (y : List Part) (i : ℕ) → length xs ≡ i
@@ -59,38 +61,59 @@ pushed P xs y i len below here j l = by (cases_lt j i)
         subst (λ (k : ℕ). P k (at (xs ++ y ∷ []) k)) same
         (subst (λ (s : List Part). P i s) (sym (get_or_push xs y [] i len)) here)
 
--- one edge more
-pub begun_more : (text : Words) (graph : Graph) (named : ℕ → List Part) (e : ℕ) (edge : Edge) (names : List Part) (sets sets' : Sets)
-    → AreBegun text graph named e sets → length sets' ≡ length sets
-    → ((w : ℕ) (x : Part) → (has (at sets' w) x ≡ true) ↔ ((has (at sets w) x ≡ true) ⊎ IsBegunBy text graph edge names w x))
-    → edge ≡ edge_at graph e → names ≡ named e → AreBegun text graph named (e + 1) sets'
-begun_more text graph named e edge names sets sets' h len gained is name = record {
-  len = len ∙ h.len;
-  begun = λ w l x. (λ k. to w x (h.begun w l x) ((gained w x).0 k), λ k. (gained w x).1 (from w x (h.begun w l x) k));
+-- sets of nothing
+pub none_in : (ns : List ℕ) (p : ℕ) (x : Part) → has (at (map (λ n. []) ns) p) x ≡ true → ⊥
+none_in [] p x h = false≢true h
+none_in (n ∷ ns) zero x h = false≢true h
+none_in (n ∷ ns) (suc p) x h = none_in ns p x h
+
+-- what is live at a word of a block, where there is a copy of that, and where there is none
+module _ (graph : Graph) (f : AreFirsts graph.blocks.words graph.blocks.firsts) (sets : Sets) (b w : ℕ)
+    (holds : HoldsIn graph b w) where
+  pub live_copied : (here copy grown : List Part) → is_copied graph.opens b ≡ true → here ≡ at sets w
+      → copy ≡ at sets (place_of graph (Landed (record { 0 = b })) w)
+      → ((x : Part) → has grown x ≡ (has here x || has copy x))
+      → (x : Part) → (has grown x ≡ true) ↔ (In sets w x ⊎ LivesInCopy graph sets w x)
+  live_copied here copy grown copied h c union x = (λ k. to (or_cases _ _ (sym (union x) ∙ k)), λ k. from k)
+    where
+      to : (has here x ≡ true) ⊎ (has copy x ≡ true) → In sets w x ⊎ LivesInCopy graph sets w x
+      to (inl k) = inl (sym (ap (λ s. has s x) h) ∙ k)
+      to (inr k) = inr (b, copied, holds, sym (ap (λ s. has s x) c) ∙ k)
+
+      from : In sets w x ⊎ LivesInCopy graph sets w x → has grown x ≡ true
+      from (inl k) = union x ∙ or_left _ _ (ap (λ s. has s x) h ∙ k)
+      from (inr (d, copied, held, k)) =
+          let same : d ≡ b =
+          same_number graph.blocks.words graph.blocks.firsts f d b w held.0 holds.0 held.1 held.2 holds.1 holds.2 in
+          union x ∙ or_right _ _ (ap (λ s. has s x) c
+          ∙ subst (λ (n : ℕ). In sets (place_of graph (Landed (record { 0 = n })) w) x) same k)
+
+  pub live_plain : (here : List Part) → is_copied graph.opens b ≡ false → here ≡ at sets w
+      → (x : Part) → (has here x ≡ true) ↔ (In sets w x ⊎ LivesInCopy graph sets w x)
+  live_plain here none h x = (λ k. inl (sym (ap (λ s. has s x) h) ∙ k), λ k. from k)
+    where
+      from : In sets w x ⊎ LivesInCopy graph sets w x → has here x ≡ true
+      from (inl k) = ap (λ s. has s x) h ∙ k
+      from (inr (d, copied, held, k)) =
+          let same : d ≡ b =
+          same_number graph.blocks.words graph.blocks.firsts f d b w held.0 holds.0 held.1 held.2 holds.1 holds.2 in
+          absurd (false≢true (sym none ∙ subst (λ (n : ℕ). is_copied graph.opens n ≡ true) same copied))
+
+-- where no block has a copy, a word's own set has all
+pub joined_alone : (graph : Graph) (f : AreFirsts graph.blocks.words graph.blocks.firsts) (sets : Sets)
+    → nodes_from graph ≡ graph.blocks.words → nodes_from graph ≤ length sets
+    → AreJoined graph sets graph.blocks.words (take graph.blocks.words sets)
+joined_alone graph f sets none len = record {
+  len = simp length-take (omega arith);
+  joined = λ w l x.
+      let is : at (take graph.blocks.words sets) w ≡ at sets w = get_or-take graph.blocks.words sets w [] l in
+      (λ k. inl (sym (ap (λ s. has s x) is) ∙ k), λ k. from w x is k);
 }
   where
-    By : ℕ → ℕ → Part → Type 0
-    By n w x = IsBegunBy text graph (edge_at graph n) (named n) w x
-
-    to : (w : ℕ) (x : Part) → ((has (at sets w) x ≡ true) ↔ IsBegun text graph named e w x)
-        → (has (at sets w) x ≡ true) ⊎ IsBegunBy text graph edge names w x → IsBegun text graph named (e + 1) w x
-    to w x old (inl k) = later (old.0 k)
-      where
-        later : IsBegun text graph named e w x → IsBegun text graph named (e + 1) w x
-        later (inl m) = inl m
-        later (inr m) = inr (m.0, omega (arith, m.1), m.2)
-    to w x old (inr k) =
-        inr (e, omega arith, subst (λ (d : Edge). IsBegunBy text graph d (named e) w x) is (subst (λ (s : List Part). IsBegunBy text graph edge s w x) name k))
-
-    from : (w : ℕ) (x : Part) → ((has (at sets w) x ≡ true) ↔ IsBegun text graph named e w x)
-        → IsBegun text graph named (e + 1) w x → (has (at sets w) x ≡ true) ⊎ IsBegunBy text graph edge names w x
-    from w x old (inl k) = inl (old.1 (inl k))
-    from w x old (inr k) = by (cases_lt k.0 e)
-      where
-        by : (k.0 < e) ⊎ (e ≤ k.0) → (has (at sets w) x ≡ true) ⊎ IsBegunBy text graph edge names w x
-        by (inl less) = inl (old.1 (inr (k.0, less, k.2)))
-        by (inr more) =
-            let below = k.1 in
-            let same : k.0 ≡ e = omega arith in
-            inr (subst (λ (d : Edge). IsBegunBy text graph d names w x) (sym is)
-            (subst (λ (s : List Part). IsBegunBy text graph (edge_at graph e) s w x) (sym name) (subst (λ (n : ℕ). By n w x) same k.2)))
+    from : (w : ℕ) (x : Part) → at (take graph.blocks.words sets) w ≡ at sets w
+        → In sets w x ⊎ LivesInCopy graph sets w x → In (take graph.blocks.words sets) w x
+    from w x is (inl k) = ap (λ s. has s x) is ∙ k
+    from w x is (inr (b, copied, held, k)) =
+        let copy = Landed (record { 0 = b }) in
+        let low = place_within graph f copy w (copied, held) in
+        absurd (omega (arith, low, place_behind graph f b w, none))

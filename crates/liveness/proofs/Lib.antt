@@ -1,5 +1,5 @@
-pub mod Gaining
+pub mod Adding
 pub mod Held
 pub mod Joining
-pub mod Landings
-pub mod Places
+pub mod Reaching
+pub mod Spots

@@ -1,11 +1,12 @@
 //! What words and edges read and write.
-ghost use Rattle.std.specs.Prelude.{◌≡◌, ◌<◌, not, ◌&&◌, ◌||◌, length, IsTrue};
+ghost use Rattle.std.specs.Prelude.{◌≡◌, ◌^◌, ◌<◌, ◌≤◌, not, ◌&&◌, ◌||◌, ◌↔◌, length, slice_index, Some, IsTrue};
 ghost use Rattle.v8_decode.specs.declared.Part.{Part};
 ghost use Rattle.v8_decode.specs.Parts.{has};
 ghost use Rattle.v8_decode.specs.Ranges.{has_even_pair};
 ghost use Rattle.cfg_blocks.specs.Blocks.{last_word};
-ghost use Rattle.liveness.specs.Live.{beyond, instr_of, slot_reads, slot_writes};
-ghost use Rattle.liveness.specs.Search.{is_ahead, IsSlotWithin};
+ghost use Rattle.cfg_normal.specs.Graph.{lands, IsEdgeIn, IsGraph};
+ghost use Rattle.liveness.specs.Live.{beyond, edge_at, instr_of, is_outside, slot_reads, slot_writes};
+ghost use Rattle.liveness.specs.Search.{first_in, is_ahead, is_landing, last_in, IsInside, IsOf, IsSlotWithin};
 
 use cfg_blocks::EdgeKind;
 use cfg_normal::{Edge, FlowGraph, Node, Slot};
@@ -21,13 +22,87 @@ pub(crate) fn instr_at(text: &Text, word: u32) -> Instr
     decode(text.word(WordNo(word)))
 }
 
-/// The last word of a block.
-pub(crate) fn last_of(graph: &FlowGraph, block: BlockNo) -> u32
-    requires { block.0 < length graph.now.blocks.firsts }
-    ensures last { result ≡ last_word graph.now.blocks.firsts graph.now.blocks.words block.0 }
+/// The edge of a number.
+pub(crate) fn edge_at(graph: &FlowGraph, e: usize) -> Edge
+    requires { e < length graph.now.edges }
+    ensures edge { result ≡ edge_at graph.now e }
+    ensures inside { IsEdgeIn graph.now.blocks graph.now.opens result }
+    ensures graph { IsGraph graph.now }
+{
+    graph.edges()[e]
+}
+
+/// Whether a node is all that lies outside the text.
+pub(crate) fn is_outside(node: Node) -> bool
+    ensures { result ≡ is_outside node }
+{
+    match node {
+        Node::X => true,
+        _ => false,
+    }
+}
+
+/// Whether control lands at any word of the node to which an edge of the kind leads, and not at the first alone.
+pub(crate) fn is_landing(kind: EdgeKind) -> bool
+    ensures { result ≡ is_landing kind }
+{
+    match kind {
+        EdgeKind::Land => true,
+        EdgeKind::Case => true,
+        _ => false,
+    }
+}
+
+/// The first word of a node.
+pub(crate) fn first_of(graph: &FlowGraph, node: Node) -> u32
+    requires { IsInside graph.now node }
+    ensures first { result ≡ first_in graph.now node }
     ensures within { result < graph.now.blocks.words }
 {
+    match node {
+        Node::Block(block) => graph.first(block).0,
+        Node::Landed(block) => graph.first(block).0,
+        Node::X => 0,
+    }
+}
+
+/// The last word of a node.
+pub(crate) fn last_of(graph: &FlowGraph, node: Node) -> u32
+    requires { IsInside graph.now node }
+    ensures last { result ≡ last_in graph.now node }
+    ensures above { first_in graph.now node ≤ result }
+    ensures within { result < graph.now.blocks.words }
+    ensures few { graph.now.blocks.words ≤ 2 ^ 20 }
+{
+    match node {
+        Node::Block(block) => last_word(graph, block),
+        Node::Landed(block) => last_word(graph, block),
+        Node::X => 0,
+    }
+}
+
+/// The last word of a block.
+fn last_word(graph: &FlowGraph, block: BlockNo) -> u32
+    requires { block.0 < length graph.now.blocks.firsts }
+    ensures last { result ≡ last_word graph.now.blocks.firsts graph.now.blocks.words block.0 }
+    ensures above { slice_index graph.now.blocks.firsts block.0 ≤ result }
+    ensures within { result < graph.now.blocks.words }
+    ensures few { graph.now.blocks.words ≤ 2 ^ 20 }
+{
     graph.first(block).0 + graph.words(block) - 1
+}
+
+/// Whether control lands in the node that comes to its word from outside.
+#[inline]
+pub(crate) fn lands_at(graph: &FlowGraph, node: Node, word: u32) -> bool
+    requires graph { IsGraph graph.now }
+    requires of { IsOf graph.now node word }
+    ensures { IsTrue result ↔ (lands graph.now (Some word) ≡ node) }
+{
+    match node {
+        Node::Block(block) => !graph.is_copied(block) || graph.lands(WordNo(word)) == node,
+        _ => graph.lands(WordNo(word)) == node,
+    }
 }
 
 /// What is read on an edge whose snippet names these registers: by the slot, or, unless that writes it, by the snippet
@@ -49,6 +124,7 @@ pub(crate) fn beyond(edge: Edge) -> RegSet
         (EdgeKind::Out, _) => RegSet::all(),
         (_, Node::X) => RegSet::all(),
         (_, Node::Block(_)) => RegSet::empty(),
+        (_, Node::Landed(_)) => RegSet::empty(),
     }
 }
 

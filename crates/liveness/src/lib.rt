@@ -6,6 +6,8 @@
 mod effects;
 mod links;
 mod live_sets;
+mod places;
+mod reads;
 mod sets;
 
 pub use live_sets::{LiveSets, live};

@@ -1,11 +1,14 @@
 //! The live sets of a graph.
-ghost use Rattle.std.specs.Prelude.{◌≡◌, length, slice_index_or, IfOk};
+ghost use Rattle.std.specs.Prelude.{◌≡◌, ◌+◌, length, slice_index_or, IfOk};
 ghost use Rattle.v8_decode.specs.Parts.{every_part};
 ghost use Rattle.liveness.specs.Live.{named_on};
-ghost use Rattle.liveness.specs.Sets.{dead_on, edge_set, word_set, AreLive, AreLiveWords};
+ghost use Rattle.liveness.specs.Search.{nodes_from, AreLivePlaces, AreOnto, ArePlaces};
+ghost use Rattle.liveness.specs.Sets.{dead_on, edge_set, word_set, AreLive};
 
 use crate::links::all_links;
-use crate::sets::{all_reads, edge_sets};
+use crate::places::{Places, places_of};
+use crate::reads::all_reads;
+use crate::sets::{edge_sets, word_sets};
 use cfg_normal::FlowGraph;
 use eel_base::{EdgeNo, NoMemory, Text, WordNo};
 use flood::flood;
@@ -65,7 +68,7 @@ fn set_at(sets: &[RegSet], place: u32) -> RegSet
 /// What is live at the words and on the edges of a text's graph, where `snips` has the snippet of each edge.
 ///
 /// It takes time linear in the words and edges: a word is looked at once, and again each time that more is found to be
-/// live there, at most 34 times.
+/// live there, at most 34 times; and so are a word of a landed copy, and a node to which a jump goes.
 pub fn live(
     alloc: Global,
     text: &Text,
@@ -76,25 +79,30 @@ pub fn live(
     requires snips { length snips.now ≡ length graph.now.edges }
     ensures { IfOk result (λ sets. AreLive text.now graph.now (named_on snips.now) sets) }
 {
-    let words = word_sets(alloc, text, graph, snips)?;
-    let edges = edge_sets(alloc, &words, graph)?;
+    let places = places_of(alloc, text, graph)?;
+    let sets = place_sets(alloc, text, graph, &places, snips)?;
+    let edges = edge_sets(alloc, &sets, graph, &places)?;
+    let words = word_sets(alloc, text, graph, &places, sets)?;
     Ok(LiveSets { words, edges })
 }
 
-/// What is live at each word.
-fn word_sets(
+/// What is live at each place.
+fn place_sets(
     alloc: Global,
     text: &Text,
     graph: &FlowGraph,
+    places: &Places,
     snips: &[Snippet],
 ) -> Result<Vec<RegSet>, NoMemory>
     requires graph { graph.now.blocks.words ≡ length text.now.words }
     requires snips { length snips.now ≡ length graph.now.edges }
-    ensures len { IfOk result (λ v. length v.items ≡ length text.now.words) }
-    ensures live { IfOk result (λ v. AreLiveWords text.now graph.now (named_on snips.now) v.items) }
+    requires places { ArePlaces graph.now places.now.copies.items places.now.nodes places.now.marks.items }
+    ensures len { IfOk result (λ v. length v.items ≡ nodes_from graph.now + length places.now.marks.items) }
+    ensures live { IfOk result (λ v. AreLivePlaces text.now graph.now (named_on snips.now) v.items) }
+    ensures onto { IfOk result (λ v. AreOnto graph.now places.now.marks.items v.items) }
 {
-    let reads = all_reads(alloc, text, graph, snips)?;
-    let links = all_links(alloc, text, graph)?;
+    let reads = all_reads(alloc, text, graph, places, snips)?;
+    let links = all_links(alloc, text, graph, places)?;
     let sets = flood(alloc, reads, &links)?;
     Ok(sets)
 }

@@ -1,143 +1,192 @@
-//! What each word reads, with the edges that leave it, and what is live on edges.
-ghost use Rattle.std.specs.Prelude.{◌≡◌, ◌↔◌, ℕ, ◌<◌, ◌≤◌, ◌⊎◌, true, length, slice_index, IfOk};
+//! What is live behind the snippets of edges, and at words, where so much is live at places.
+ghost use Rattle.std.specs.Prelude.{◌≡◌, ◌↔◌, ◌⊎◌, ℕ, ◌+◌, ◌<◌, ◌≤◌, true, length, slice_index, IfOk, OnOk};
 ghost use Rattle.v8_decode.specs.declared.Part.{Part};
 ghost use Rattle.v8_decode.specs.Parts.{has};
 ghost use Rattle.flood.specs.Flood.{at};
-ghost use Rattle.cfg_blocks.specs.Blocks.{block_end};
-ghost use Rattle.cfg_normal.specs.Graph.{IsEdgeIn, IsGraph};
-ghost use Rattle.liveness.specs.Live.{edge_at, named_on, GoesOnAt};
-ghost use Rattle.liveness.specs.Search.{AreBegun, IsBegunBy, IsOnward, ReadsThere};
+ghost use Rattle.cfg_normal.specs.Graph.{IsEdgeIn};
+ghost use Rattle.liveness.specs.Live.{edge_at, HoldsIn};
+ghost use Rattle.liveness.specs.Search.{first_in, last_in, nodes_from, AreJoined, AreOnto, ArePlaces, In, IsInside, IsOf, IsOnward, LivesAtLanding, LivesInCopy, LivesOnto, LivesThere};
 
-use crate::effects::{ahead, beyond, instr_at, last_of};
-use cfg_blocks::EdgeKind;
+use crate::effects::{beyond, edge_at, first_of, is_landing, is_outside, lands_at, last_of};
+use crate::places::Places;
 use cfg_normal::{Edge, FlowGraph, Node};
 use eel_base::{BlockNo, Text};
-use snippets::Snippet;
 use std::alloc::{AllocError, Global};
-use v8_decode::{RegSet, reads, writes};
+use v8_decode::RegSet;
 
-/// For each word what it reads, or what is read on the edges that leave it and not written there.
-pub(crate) fn all_reads(
-    alloc: Global,
-    text: &Text,
-    graph: &FlowGraph,
-    snips: &[Snippet],
-) -> Result<Vec<RegSet>, AllocError>
-    requires words { graph.now.blocks.words ≡ length text.now.words }
-    requires snips { length snips.now ≡ length graph.now.edges }
-    ensures { IfOk result (λ v. AreBegun text.now graph.now (named_on snips.now) (length graph.now.edges) v.items) }
-{
-    let mut all = word_reads(alloc, text)?;
-    let edges = graph.edges();
-    for e in 0..edges.len() {
-        read_edge(&mut all, text, graph, edges[e], snips[e].names());
-    }
-    Ok(all)
-}
-
-/// What each word reads.
-fn word_reads(alloc: Global, text: &Text) -> Result<Vec<RegSet>, AllocError>
-    ensures { IfOk result (λ v. ReadsThere text.now (length text.now.words) v.items) }
-{
-    let mut all = Vec::with_capacity(alloc, text.len() as usize)?;
-    for word in 0..text.len() {
-        all.push(reads(instr_at(text, word)))?;
-    }
-    Ok(all)
-}
-
-/// Adds what is read on an edge to the word from which that leads on, but for what this writes.
-fn read_edge(all: &mut Vec<RegSet>, text: &Text, graph: &FlowGraph, edge: Edge, named: RegSet)
-    requires words { graph.now.blocks.words ≡ length text.now.words }
-    requires edge { IsEdgeIn graph.now.blocks edge }
-    requires len { length all.old.items ≡ length text.now.words }
-    ensures len { length all.new.items ≡ length all.old.items }
-    ensures gained { (w : ℕ) (x : Part) → (has (at all.new.items w) x ≡ true)
-        ↔ ((has (at all.old.items w) x ≡ true) ⊎ IsBegunBy text.now graph.now edge named w x) }
-{
-    match edge.from {
-        Node::Block(block) => {
-            let last = last_of(graph, block);
-            let read = ahead(text, edge, named).minus(writes(instr_at(text, last)));
-            add(all, last as usize, read);
-        }
-        Node::X => {}
-    }
-}
-
-/// Adds to the set of a place.
-fn add(all: &mut Vec<RegSet>, place: usize, more: RegSet)
-    requires { place < length all.old.items }
-    ensures len { length all.new.items ≡ length all.old.items }
-    ensures gained { (w : ℕ) (x : Part) → (has (at all.new.items w) x ≡ true)
-        ↔ ((has (at all.old.items w) x ≡ true) ⊎ ((w ≡ place) × (has more x ≡ true))) }
-{
-    all[place] = all[place].union(more);
-}
-
-/// For each edge what is live behind its snippet, where this is live at the words.
+/// For each edge what is live behind its snippet.
 pub(crate) fn edge_sets(
     alloc: Global,
-    words: &[RegSet],
+    sets: &[RegSet],
     graph: &FlowGraph,
+    places: &Places,
 ) -> Result<Vec<RegSet>, AllocError>
-    requires { length words.now ≡ graph.now.blocks.words }
+    requires places { ArePlaces graph.now places.now.copies.items places.now.nodes places.now.marks.items }
+    requires len { length sets.now ≡ nodes_from graph.now + length places.now.marks.items }
+    requires onto { AreOnto graph.now places.now.marks.items sets.now }
     ensures len { IfOk result (λ v. length v.items ≡ length graph.now.edges) }
     ensures onward { IfOk result (λ v. (e : ℕ) → e < length graph.now.edges → (x : Part) →
-        (has (at v.items e) x ≡ true) ↔ IsOnward graph.now (edge_at graph.now e) words.now x) }
-    ensures graph { IfOk result (λ v. IsGraph graph.now) }
+        In v.items e x ↔ IsOnward graph.now (edge_at graph.now e) sets.now x) }
 {
-    let edges = graph.edges();
-    let mut all = Vec::with_capacity(alloc, edges.len())?;
-    for e in 0..edges.len() {
-        all.push(onward(words, graph, edges[e]))?;
+    let count = graph.edges().len();
+    let mut all = Vec::with_capacity(alloc, count)?;
+    for e in 0..count {
+        all.push(onward(sets, graph, places, edge_at(graph, e)))?;
     }
     Ok(all)
 }
 
 /// What is live behind the snippet of an edge.
-fn onward(words: &[RegSet], graph: &FlowGraph, edge: Edge) -> RegSet
-    requires words { length words.now ≡ graph.now.blocks.words }
-    requires edge { IsEdgeIn graph.now.blocks edge }
-    ensures { (x : Part) → (has result x ≡ true) ↔ IsOnward graph.now edge words.now x }
+fn onward(sets: &[RegSet], graph: &FlowGraph, places: &Places, edge: Edge) -> RegSet
+    requires places { ArePlaces graph.now places.now.copies.items places.now.nodes places.now.marks.items }
+    requires len { length sets.now ≡ nodes_from graph.now + length places.now.marks.items }
+    requires onto { AreOnto graph.now places.now.marks.items sets.now }
+    requires edge { IsEdgeIn graph.now.blocks graph.now.opens edge }
+    ensures { (x : Part) → (has result x ≡ true) ↔ IsOnward graph.now edge sets.now x }
 {
     let beyond = beyond(edge);
-    match edge.to {
-        Node::Block(block) => {
-            let first = graph.first(block).0;
-            let end = stop(graph, edge.kind, block);
-            beyond.union(live_among(words, first, end))
-        }
-        Node::X => beyond,
+    if is_outside(edge.to) {
+        return beyond;
     }
+    beyond.union(live_there(sets, graph, places, edge))
 }
 
-/// Behind the words of a block at which an edge of the kind goes on.
-fn stop(graph: &FlowGraph, kind: EdgeKind, block: BlockNo) -> u32
-    requires { block.0 < length graph.now.blocks.firsts }
-    ensures above { slice_index graph.now.blocks.firsts block.0 ≤ result }
-    ensures within { result ≤ graph.now.blocks.words }
-    ensures goes { (w : ℕ) → GoesOnAt graph.now kind (Node.Block block) w
-        ↔ ((slice_index graph.now.blocks.firsts block.0 ≤ w) × (w < result)) }
+/// What is live where an edge goes on.
+fn live_there(sets: &[RegSet], graph: &FlowGraph, places: &Places, edge: Edge) -> RegSet
+    requires places { ArePlaces graph.now places.now.copies.items places.now.nodes places.now.marks.items }
+    requires len { length sets.now ≡ nodes_from graph.now + length places.now.marks.items }
+    requires onto { AreOnto graph.now places.now.marks.items sets.now }
+    requires to { IsInside graph.now edge.to }
+    ensures { (x : Part) → (has result x ≡ true) ↔ LivesThere graph.now edge sets.now x }
 {
-    let first = graph.first(block).0;
-    let size = graph.words(block);
-    match kind {
-        EdgeKind::Land => first + size,
-        _ => first + 1,
+    if is_landing(edge.kind) {
+        return live_onto(sets, graph, places, edge.to);
     }
+    let place = places.place(graph, edge.to, first_of(graph, edge.to));
+    sets[place as usize]
 }
 
-/// What is live at one of some words.
-fn live_among(words: &[RegSet], first: u32, end: u32) -> RegSet
-    requires first { first ≤ end }
-    requires end { end ≤ length words.now }
-    ensures { (x : Part) → (has result x ≡ true)
-        ↔ ((w : ℕ) × (first ≤ w) × (w < end) × (has (at words.now w) x ≡ true)) }
+/// What is live where control lands in a node.
+fn live_onto(sets: &[RegSet], graph: &FlowGraph, places: &Places, node: Node) -> RegSet
+    requires places { ArePlaces graph.now places.now.copies.items places.now.nodes places.now.marks.items }
+    requires len { length sets.now ≡ nodes_from graph.now + length places.now.marks.items }
+    requires onto { AreOnto graph.now places.now.marks.items sets.now }
+    requires node { IsInside graph.now node }
+    ensures { (x : Part) → (has result x ≡ true) ↔ LivesOnto graph.now node sets.now x }
+{
+    if places.has_node(graph, node) {
+        return sets[places.node(graph, node) as usize];
+    }
+    live_among(sets, graph, places, node)
+}
+
+/// The same, from word to word.
+fn live_among(sets: &[RegSet], graph: &FlowGraph, places: &Places, node: Node) -> RegSet
+    requires places { ArePlaces graph.now places.now.copies.items places.now.nodes places.now.marks.items }
+    requires len { nodes_from graph.now ≤ length sets.now }
+    requires node { IsInside graph.now node }
+    ensures { (x : Part) → (has result x ≡ true) ↔ LivesOnto graph.now node sets.now x }
 {
     let mut live = RegSet::empty();
-    for word in first..end {
-        live = live.union(words[word as usize]);
+    for word in first_of(graph, node)..last_of(graph, node) + 1 {
+        live = live.union(live_landing(sets, graph, places, node, word));
     }
     live
+}
+
+/// What is live at a word of a node, if control lands there.
+fn live_landing(
+    sets: &[RegSet],
+    graph: &FlowGraph,
+    places: &Places,
+    node: Node,
+    word: u32,
+) -> RegSet
+    requires places { ArePlaces graph.now places.now.copies.items places.now.nodes places.now.marks.items }
+    requires len { nodes_from graph.now ≤ length sets.now }
+    requires of { IsOf graph.now node word }
+    ensures { (x : Part) → (has result x ≡ true) ↔ LivesAtLanding graph.now node sets.now word x }
+{
+    if lands_at(graph, node, word) {
+        sets[places.place(graph, node, word) as usize]
+    } else {
+        RegSet::empty()
+    }
+}
+
+/// For each word what is live at it, in its block or in the copy of that.
+pub(crate) fn word_sets(
+    alloc: Global,
+    text: &Text,
+    graph: &FlowGraph,
+    places: &Places,
+    mut sets: Vec<RegSet>,
+) -> Result<Vec<RegSet>, AllocError>
+    requires words { graph.now.blocks.words ≡ length text.now.words }
+    requires places { ArePlaces graph.now places.now.copies.items places.now.nodes places.now.marks.items }
+    requires len { nodes_from graph.now ≤ length sets.items }
+    ensures { IfOk result (λ v. AreJoined graph.now sets.items graph.now.blocks.words v.items) }
+{
+    if places.nodes == text.len() {
+        sets.truncate(text.len() as usize);
+        return Ok(sets);
+    }
+    let mut words = Vec::with_capacity(alloc, text.len() as usize)?;
+    join_blocks(&mut words, &sets, graph, places)?;
+    Ok(words)
+}
+
+/// For those of all blocks.
+fn join_blocks(
+    words: &mut Vec<RegSet>,
+    sets: &[RegSet],
+    graph: &FlowGraph,
+    places: &Places,
+) -> Result<(), AllocError>
+    requires none { length words.old.items ≡ 0 }
+    requires places { ArePlaces graph.now places.now.copies.items places.now.nodes places.now.marks.items }
+    requires len { nodes_from graph.now ≤ length sets.now }
+    ensures { OnOk result (AreJoined graph.now sets.now graph.now.blocks.words words.new.items) }
+{
+    for block in 0..graph.count() {
+        join_block(words, sets, graph, places, BlockNo(block))?;
+    }
+    Ok(())
+}
+
+/// For those of a block.
+fn join_block(
+    words: &mut Vec<RegSet>,
+    sets: &[RegSet],
+    graph: &FlowGraph,
+    places: &Places,
+    block: BlockNo,
+) -> Result<(), AllocError>
+    requires places { ArePlaces graph.now places.now.copies.items places.now.nodes places.now.marks.items }
+    requires len { nodes_from graph.now ≤ length sets.now }
+    requires block { block.0 < length graph.now.blocks.firsts }
+    requires words { AreJoined graph.now sets.now (first_in graph.now (Node.Block block)) words.old.items }
+    ensures { OnOk result (AreJoined graph.now sets.now (last_in graph.now (Node.Block block) + 1) words.new.items) }
+{
+    let node = Node::Block(block);
+    for word in first_of(graph, node)..last_of(graph, node) + 1 {
+        words.push(live_at(sets, graph, places, block, word))?;
+    }
+    Ok(())
+}
+
+/// What is live at a word of a block, or of its copy.
+fn live_at(sets: &[RegSet], graph: &FlowGraph, places: &Places, block: BlockNo, word: u32) -> RegSet
+    requires places { ArePlaces graph.now places.now.copies.items places.now.nodes places.now.marks.items }
+    requires len { nodes_from graph.now ≤ length sets.now }
+    requires holds { HoldsIn graph.now block.0 word }
+    requires low { word < nodes_from graph.now }
+    ensures { (x : Part) → (has result x ≡ true) ↔ (In sets.now word x ⊎ LivesInCopy graph.now sets.now word x) }
+{
+    let here = sets[word as usize];
+    if graph.is_copied(block) {
+        here.union(sets[places.place(graph, Node::Landed(block), word) as usize])
+    } else {
+        here
+    }
 }

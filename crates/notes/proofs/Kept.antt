@@ -132,9 +132,9 @@ edge_rule blocks cells words taken notes at edge alike h =
     let to = parted (note_at notes (at + 8)) _ edge from.rest in
     let cell = parted (note_at notes (at + 12)) _ edge to.rest in
     let found = met _ at _ edge cell.rest in
-    let parts = and_parts (nat_le kind.got 5 && nat_le from.got blocks && nat_le to.got blocks) (is_cell cells words cell.got) found.met in
+    let parts = and_parts (nat_le kind.got 6 && nat_le from.got (2 * blocks) && nat_le to.got (2 * blocks)) (is_cell cells words cell.got) found.met in
     subst (λ (e : NoteEdge). is_edge blocks cells taken e ≡ true) found.same
-    (and_from (nat_le kind.got 5 && nat_le from.got blocks && nat_le to.got blocks) (is_free cells taken (cell_of cell.got)) parts.0 (free_cell cells words taken cell.got alike parts.1))
+    (and_from (nat_le kind.got 6 && nat_le from.got (2 * blocks) && nat_le to.got (2 * blocks)) (is_free cells taken (cell_of cell.got)) parts.0 (free_cell cells words taken cell.got alike parts.1))
 
 pub edges_kept : (blocks cells : ℕ) → cells ≤ 2 ^ 22 → (notes : List ℕ) (at : ℕ) (words taken : List ℕ) → Alike cells words taken → (count : ℕ) (rows : List NoteEdge) → edges_at blocks cells notes at words count ≡ Ok rows → Rows (are_edges blocks cells taken rows) count rows
 unfolding edges_at

@@ -63,8 +63,8 @@ unfolding edges_at
 edges_back blocks cells few notes at words taken alike [] has rule = refl
 edges_back blocks cells few notes at words taken alike (row ∷ rows) has rule =
     let parts = and_parts (is_edge blocks cells taken row) (are_edges blocks cells (with_cell row.cell taken) rows) rule in
-    let own = and_parts (nat_le row.kind 5 && nat_le row.from blocks && nat_le row.to blocks) (is_free cells taken row.cell) parts.0 in
-    let judged = and_from (nat_le row.kind 5 && nat_le row.from blocks && nat_le row.to blocks) (is_cell cells words (cell_word row.cell)) own.0 (free_word cells words taken row.cell alike own.1) in
+    let own = and_parts (nat_le row.kind 6 && nat_le row.from (2 * blocks) && nat_le row.to (2 * blocks)) (is_free cells taken row.cell) parts.0 in
+    let judged = and_from (nat_le row.kind 6 && nat_le row.from (2 * blocks) && nat_le row.to (2 * blocks)) (is_cell cells words (cell_word row.cell)) own.0 (free_word cells words taken row.cell alike own.1) in
     let second = move notes (row.to ∷ cell_word row.cell ∷ flat_map edge_words rows) (at + 4 + 4) (at + 8) (omega arith) has.1.1 in
     let third = move notes (cell_word row.cell ∷ flat_map edge_words rows) (at + 8 + 4) (at + 12) (omega arith) second.1 in
     let rest = edges_back blocks cells few notes (at + 16) (cell_word row.cell ∷ words) (with_cell row.cell taken) (alike_more cells few words taken row.cell alike) rows (move notes (flat_map edge_words rows) (at + 12 + 4) (at + 16) (omega arith) third.1) parts.1 in

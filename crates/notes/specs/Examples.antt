@@ -3,7 +3,7 @@ use Rattle.std.specs.Prelude.{◌≡◌, ℕ, ◌+◌, List, [], ◌∷◌, ◌+
 use Rattle.elf32_sparc.specs.Notes.{Notes, NoNotes, Bad, read_notes, segments_at, blocks_at, edges_at, ranges_at, node_at}
 use Rattle.notes.specs.Written.{words_bytes, notes_bytes}
 
--- Two pages, two blocks, three edges of which two have a cell, and three places with a gap before the last.
+-- Two pages, two blocks with their landed copies, three edges of which two have a cell, and three places with a gap before the last.
 abbrev small : Notes
 small = record {
   delta = 4096;
@@ -16,14 +16,14 @@ small = record {
   cells = 2;
   segments = record { start = 0x20000; length = 0x1000 } ∷ record { start = 0x30000; length = 8 } ∷ [];
   blocks = 0 ∷ 2 ∷ [];
-  edges = record { kind = 0; from = 0; to = 1; cell = Some 0 } ∷ record { kind = 4; from = 1; to = 2; cell = None } ∷ record { kind = 5; from = 2; to = 0; cell = Some 1 } ∷ [];
-  ranges = record { lo = 0x20000; hi = 0x20004; address = 0x10000; node = 0 } ∷ record { lo = 0x20004; hi = 0x2000c; address = 0x10004; node = 0 } ∷ record { lo = 0x20010; hi = 0x20014; address = 0x10008; node = 1 } ∷ [];
+  edges = record { kind = 6; from = 0; to = 4; cell = Some 0 } ∷ record { kind = 4; from = 1; to = 2; cell = None } ∷ record { kind = 5; from = 2; to = 0; cell = Some 1 } ∷ [];
+  ranges = record { lo = 0x20000; hi = 0x20004; address = 0x10000; node = 0 } ∷ record { lo = 0x20004; hi = 0x2000c; address = 0x10004; node = 0 } ∷ record { lo = 0x20010; hi = 0x20014; address = 0x10008; node = 3 } ∷ [];
 }
 
 abbrev words : List ℕ
 words = 4096 ∷ 16 ∷ 1 ∷ 0x10000 ∷ 4 ∷ 1 ∷ 0x30000 ∷ 2 ∷ 2 ∷ 0x20000 ∷ 0x1000 ∷ 0x30000 ∷ 8 ∷ 2 ∷ 0 ∷ 2
-    ∷ 3 ∷ 0 ∷ 0 ∷ 1 ∷ 0 ∷ 4 ∷ 1 ∷ 2 ∷ 0xffffffff ∷ 5 ∷ 2 ∷ 0 ∷ 1
-    ∷ 3 ∷ 0x20000 ∷ 0x20004 ∷ 0x10000 ∷ 0 ∷ 0x20004 ∷ 0x2000c ∷ 0x10004 ∷ 0 ∷ 0x20010 ∷ 0x20014 ∷ 0x10008 ∷ 1 ∷ []
+    ∷ 3 ∷ 6 ∷ 0 ∷ 4 ∷ 0 ∷ 4 ∷ 1 ∷ 2 ∷ 0xffffffff ∷ 5 ∷ 2 ∷ 0 ∷ 1
+    ∷ 3 ∷ 0x20000 ∷ 0x20004 ∷ 0x10000 ∷ 0 ∷ 0x20004 ∷ 0x2000c ∷ 0x10004 ∷ 0 ∷ 0x20010 ∷ 0x20014 ∷ 0x10008 ∷ 3 ∷ []
 
 written : notes_bytes small ≡ words_bytes words
 unfolding notes_bytes words_bytes
@@ -59,9 +59,9 @@ broken_rows = (40, 0, 36) ∷ (44, 0x20ffc, 44) ∷ (48, 0xfffd0001, 44)
     ∷ (52, 0, 20) ∷ (52, 5, 52)
     ∷ (56, 1, 56) ∷ (60, 0, 60) ∷ (60, 4, 60)
     ∷ (64, 0x1000000, 64)
-    ∷ (68, 6, 68) ∷ (72, 3, 68) ∷ (76, 3, 68) ∷ (80, 2, 68) ∷ (112, 0, 100)
+    ∷ (68, 7, 68) ∷ (72, 5, 68) ∷ (76, 5, 68) ∷ (80, 2, 68) ∷ (112, 0, 100)
     ∷ (116, 0x4000000, 116)
-    ∷ (120, 0x1fffe, 120) ∷ (124, 0x20002, 120) ∷ (128, 0x10002, 120) ∷ (132, 3, 120)
+    ∷ (120, 0x1fffe, 120) ∷ (124, 0x20002, 120) ∷ (128, 0x10002, 120) ∷ (132, 5, 120)
     ∷ (124, 0x20000, 120) ∷ (136, 0x20000, 136) ∷ (156, 0x21004, 152) ∷ []
 
 rows : map with_word broken_rows ≡ map named broken_rows
@@ -85,5 +85,5 @@ unfolding words_bytes read_notes segments_at blocks_at edges_at ranges_at
 left_over = refl
 
 -- A place's first and inner address, an address in a page and in no place, one outside all pages, and the last place's.
-nodes : map (node_at small) (0x20004 ∷ 0x20008 ∷ 0x2000c ∷ 0x21000 ∷ 0x20010 ∷ []) ≡ Some 0 ∷ Some 0 ∷ None ∷ Some 2 ∷ Some 1 ∷ []
+nodes : map (node_at small) (0x20004 ∷ 0x20008 ∷ 0x2000c ∷ 0x21000 ∷ 0x20010 ∷ []) ≡ Some 0 ∷ Some 0 ∷ None ∷ Some 2 ∷ Some 3 ∷ []
 nodes = refl

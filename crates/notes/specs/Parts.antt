@@ -85,7 +85,7 @@ edge_at blocks is_free notes at = do
   from ← note_at notes (at + 4)
   to ← note_at notes (at + 8)
   cell ← note_at notes (at + 12)
-  kept (nat_le kind 5 && nat_le from blocks && nat_le to blocks && is_free cell) at (record { kind = kind; from = from; to = to; cell = cell_of cell })
+  kept (nat_le kind 6 && nat_le from (2 * blocks) && nat_le to (2 * blocks) && is_free cell) at (record { kind = kind; from = from; to = to; cell = cell_of cell })
 
 unfoldable pub range_at : ℕ → List NoteSegment → ℕ → List ℕ → ℕ → Result NoteRange NoNotes
 range_at blocks segments end notes at = do

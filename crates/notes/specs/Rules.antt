@@ -22,9 +22,10 @@ abbrev pub is_free : ℕ → List ℕ → Option ℕ → Bool
 is_free cells taken None = true
 is_free cells taken (Some cell) = nat_lt cell cells && not (list_any (λ other. other == cell) taken)
 
--- An edge has one of the six kinds, and leads between nodes: the blocks, and one more.
+-- An edge has one of the seven kinds, and leads between nodes: the blocks, one more, and then landed copies of blocks.
 abbrev pub is_edge : ℕ → ℕ → List ℕ → NoteEdge → Bool
-is_edge blocks cells taken edge = nat_le edge.kind 5 && nat_le edge.from blocks && nat_le edge.to blocks && is_free cells taken edge.cell
+is_edge blocks cells taken edge =
+    nat_le edge.kind 6 && nat_le edge.from (2 * blocks) && nat_le edge.to (2 * blocks) && is_free cells taken edge.cell
 
 -- the cells that are taken, one more where the edge has one
 abbrev pub with_cell : Option ℕ → List ℕ → List ℕ
@@ -38,7 +39,7 @@ are_edges blocks cells taken (edge ∷ others) = is_edge blocks cells taken edge
 
 -- A place begins at `end` or above and isn't empty. It lies in a page, and all is a multiple of 4 but the node.
 abbrev pub is_range : ℕ → List NoteSegment → ℕ → NoteRange → Bool
-is_range blocks segments end range = (range.lo % 4 == 0) && (range.hi % 4 == 0) && (range.address % 4 == 0) && nat_lt range.lo range.hi && nat_le end range.lo && list_any (holds range.lo range.hi) segments && nat_le range.node blocks
+is_range blocks segments end range = (range.lo % 4 == 0) && (range.hi % 4 == 0) && (range.address % 4 == 0) && nat_lt range.lo range.hi && nat_le end range.lo && list_any (holds range.lo range.hi) segments && nat_le range.node (2 * blocks)
 
 -- places that ascend from `end` on
 abbrev pub are_ranges : ℕ → List NoteSegment → ℕ → List NoteRange → Bool

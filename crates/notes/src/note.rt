@@ -11,8 +11,8 @@ pub struct NoteSegment {
     pub length: u32,
 }
 
-/// An edge of the graph. Its kind is the number of the kind, and its nodes are numbers of blocks, or the number of
-/// blocks for all that lies outside the text.
+/// An edge of the graph. Its kind is the number of the kind. Its nodes are numbers of blocks, the number of blocks for all
+/// that lies outside the text, and behind that, in the order of the blocks, their landed copies.
 #[derive(Clone, Copy, Debug, PartialEq, Eq)]
 pub struct NoteEdge {
     pub kind: u32,

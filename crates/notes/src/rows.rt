@@ -1,5 +1,5 @@
 //! The words of notes, and the rows of their tables.
-ghost use Rattle.std.specs.Prelude.{◌≡◌, ◌≤◌, ◌<◌, ◌+◌, ◌^◌, MatchResult, length, map, true, false, ◌&&◌, nat_le, nat_lt};
+ghost use Rattle.std.specs.Prelude.{◌≡◌, ◌≤◌, ◌<◌, ◌+◌, ◌*◌, ◌^◌, MatchResult, length, map, true, false, ◌&&◌, nat_le, nat_lt};
 ghost use Rattle.std.specs.List.{list_any};
 ghost use Rattle.elf32_sparc.specs.Notes.{note_at, follows, cell_of, holds};
 ghost use Rattle.notes.specs.Seen.{Answers, segment_seen, edge_seen, range_seen};
@@ -104,11 +104,18 @@ pub(crate) fn edge_at(
     })
 }
 
-/// An edge of one of the six kinds, between nodes.
+/// An edge of one of the seven kinds, between nodes.
 fn is_between(kind: u32, from: u32, to: u32, blocks: u32) -> bool
-    ensures { result ≡ (nat_le kind 5 && nat_le from blocks && nat_le to blocks) }
+    ensures { result ≡ (nat_le kind 6 && nat_le from (2 * blocks) && nat_le to (2 * blocks)) }
 {
-    kind <= 5 && from <= blocks && to <= blocks
+    kind <= 6 && is_node(from, blocks) && is_node(to, blocks)
+}
+
+/// The nodes are the blocks, one more, and then landed copies of blocks.
+fn is_node(number: u32, blocks: u32) -> bool
+    ensures { result ≡ nat_le number (2 * blocks) }
+{
+    u64::from(number) <= 2 * u64::from(blocks)
 }
 
 fn cell_of(word: u32) -> Option<u32>
@@ -153,7 +160,7 @@ fn is_range(range: &Range, blocks: u32, segments: &[NoteSegment], end: Addr) -> 
         && range.lo.0 < range.hi.0
         && end.0 <= range.lo.0
         && lies_in(range, segments)
-        && range.node <= blocks
+        && is_node(range.node, blocks)
 }
 
 /// Some page holds the place.

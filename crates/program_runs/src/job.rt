@@ -2,7 +2,6 @@
 use cfg_view::look;
 use eel_base::{Failed, FetchFault, Files, MemSink, NoMemory};
 use elf32_sparc::ReadFault;
-use jump_slice::switches;
 use show_text::show;
 use std::alloc::{AllocError, AllocFailed, Global};
 use thiserror::Error;
@@ -116,7 +115,6 @@ impl Job {
     /// The lines that show the program.
     pub fn listing(&self, alloc: Global) -> Result<Vec<u8>, Refusal> {
         let view = look(alloc, &self.program, &[])?;
-        let switches = switches(alloc, &view.blocks, view.image.text(), view.image.entry())?;
-        Ok(show(alloc, &view, &switches)?)
+        Ok(show(alloc, &view, &view.switches)?)
     }
 }

@@ -13,7 +13,7 @@ use Rattle.cfg_normal.specs.declared.Node.{Node}
 use Rattle.cfg_normal.specs.declared.Node.TheVariants as nodes
 use Rattle.cfg_normal.specs.declared.Slot.{Slot}
 use Rattle.cfg_normal.specs.declared.Slot.TheVariants as slots
-use Rattle.cfg_view.specs.declared.View.{View}
+use Rattle.cfg_view.specs.View.{Seen}
 
 -- the words of a line, with spaces between them, and its end
 abbrev pub line : List (List ℕ) → List ℕ
@@ -53,9 +53,12 @@ kind_text kinds.Untaken = codes "untaken"
 kind_text kinds.Call = codes "call"
 kind_text kinds.Out = codes "out"
 kind_text kinds.Land = codes "land"
+kind_text kinds.Case = codes "case"
 
+-- a block by its address, and its landed copy with a plus behind that
 abbrev pub node_text : Words → Blocks → Node → List ℕ
 node_text text blocks (nodes.Block block) = block_text text blocks block.0
+node_text text blocks (nodes.Landed block) = block_text text blocks block.0 ++ codes "+"
 node_text text blocks nodes.X = codes "x"
 
 abbrev pub slot_text : Words → Slot → List ℕ
@@ -74,24 +77,24 @@ abbrev pub switch_line : Words → Switch → List ℕ
 switch_line text switch =
     line (codes "switch" ∷ address_text text switch.jump.0 ∷ hex_of switch.table.0 ∷ decimal switch.count ∷ [])
 
-abbrev pub routine_lines : View → List ℕ
+abbrev pub routine_lines : Seen → List ℕ
 routine_lines view = flat_map (routine_line view.image.text) view.routines
 
-abbrev pub block_lines : View → List ℕ
+abbrev pub block_lines : Seen → List ℕ
 block_lines view =
     flat_map (block_line view.image.text view.graph.blocks) (range_with_len 0 (length view.graph.blocks.firsts))
 
-abbrev pub edge_lines : View → List ℕ
+abbrev pub edge_lines : Seen → List ℕ
 edge_lines view = flat_map (edge_line view.image.text view.graph.blocks) (enumerate_from 0 view.graph.edges)
 
-abbrev pub totals_line : View → List ℕ
+abbrev pub totals_line : Seen → List ℕ
 totals_line view =
     line (codes "routines" ∷ decimal (length view.routines) ∷ codes "blocks"
     ∷ decimal (length view.graph.blocks.firsts) ∷ codes "edges" ∷ decimal (length view.graph.edges) ∷ [])
 
-abbrev pub switch_lines : View → List Switch → List ℕ
+abbrev pub switch_lines : Seen → List Switch → List ℕ
 switch_lines view switches = flat_map (switch_line view.image.text) switches
 
-unfoldable pub show_lines : View → List Switch → List ℕ
+unfoldable pub show_lines : Seen → List Switch → List ℕ
 show_lines view switches =
     routine_lines view ++ block_lines view ++ edge_lines view ++ switch_lines view switches ++ totals_line view

@@ -3,10 +3,10 @@ ghost use Rattle.std.specs.Prelude.{◌≡◌, ℕ, List, ◌++◌, length, slic
 ghost use Rattle.std.specs.List.{count_by, enumerate_from, flat_map, sum};
 ghost use Rattle.notes.specs.Rules.{AreNotes};
 ghost use Rattle.notes.specs.Seen.{edge_seen, notes_seen};
-ghost use Rattle.show_text.specs.CountLines.{count_line, count_lines, has_cell, kind_of, noted_node_text, sum_line};
+ghost use Rattle.show_text.specs.CountLines.{count_line, count_lines, has_cell, kind_of, noted_block_text, noted_node_text, sum_line};
 
 use crate::lines::put_line;
-use crate::words::{Digits, kind_text};
+use crate::words::{Digits, NodeBytes, kind_text, plus_text};
 use cfg_blocks::EdgeKind;
 use eel_base::{NoMemory, hex8};
 use itoa::Buffer;
@@ -55,8 +55,8 @@ fn put_count(
         return Ok(());
     }
     let mut digits = Buffer::new();
-    let mut from = [0; 8];
-    let mut to = [0; 8];
+    let mut from = [0; 9];
+    let mut to = [0; 9];
     let mut times = Buffer::new();
     let number = digits.format(number).as_bytes();
     let kind = kind_text(kind(edge.kind));
@@ -77,22 +77,37 @@ fn kind(number: u32) -> EdgeKind
         2 => EdgeKind::Untaken,
         3 => EdgeKind::Call,
         4 => EdgeKind::Out,
+        6 => EdgeKind::Case,
         _ => EdgeKind::Land,
     }
 }
 
-/// A node: the address of its block, or `x`.
-fn noted_node_text<'a>(n: &Notes, node: u32, digits: &'a mut Digits) -> &'a [u8]
+/// A node: the address of its block, with a plus behind it where it is the landed copy, or `x`.
+#[tactic(auto, unfolding(crate::specs::CountLines::noted_node_text))]
+fn noted_node_text<'a>(n: &Notes, node: u32, bytes: &'a mut NodeBytes) -> &'a [u8]
     requires { AreNotes (notes_seen n.now) }
     ensures { result.now ≡ noted_node_text (notes_seen n.now) node }
 {
-    match n.blocks.get(node as usize) {
-        Some(first) => {
-            *digits = hex8(n.start + 4 * *first);
-            digits
-        }
-        None => b"x",
+    let node = node as usize;
+    let outside = n.blocks.len();
+    if node < outside {
+        *bytes = plus_text(noted_block_text(n, node));
+        &bytes[..8]
+    } else if node > outside {
+        *bytes = plus_text(noted_block_text(n, node - (outside + 1)));
+        bytes
+    } else {
+        b"x"
     }
+}
+
+/// The address of a block's first word.
+fn noted_block_text(n: &Notes, block: usize) -> Digits
+    requires { AreNotes (notes_seen n.now) }
+    ensures { result ≡ noted_block_text (notes_seen n.now) block }
+{
+    let first = n.blocks.get(block).copied().unwrap_or(0);
+    hex8(n.start + 4 * first)
 }
 
 /// Adds the line that says how many edges there are, how many have a cell, and how often all were completed.

@@ -7,3 +7,4 @@ mod words;
 
 pub use counting::{counts, sum};
 pub use lines::{put_line, show};
+pub use words::{NodeBytes, kind_text, node_text};

@@ -2,7 +2,7 @@
 ghost use Rattle.std.specs.Prelude.{◌≡◌, ◌<◌, ◌++◌, ◌∷◌, length, map, IfOk, OnOk};
 ghost use Rattle.std.specs.List.{All};
 ghost use Rattle.cfg_normal.specs.Graph.{IsEdgeIn};
-ghost use Rattle.cfg_view.specs.View.{IsView};
+ghost use Rattle.cfg_view.specs.View.{view_seen, IsView};
 ghost use Rattle.show_text.specs.Lines.{block_line, block_lines, edge_line, edge_lines, line, routine_line, routine_lines, show_lines, switch_line, switch_lines, totals_line};
 
 use crate::words::{
@@ -22,7 +22,7 @@ use std::alloc::Global;
 pub fn show(alloc: Global, v: &View, switches: &[Switch]) -> Result<Vec<u8>, NoMemory>
     requires view { IsView v.now }
     requires jumps { All (λ switch. switch.jump.0 < length v.now.image.text.words) switches.now }
-    ensures { IfOk result (λ text. text.items ≡ show_lines v.now switches.now) }
+    ensures { IfOk result (λ text. text.items ≡ show_lines (view_seen v.now) switches.now) }
 {
     let mut text = Vec::new(alloc);
     put_routines(&mut text, v)?;
@@ -49,7 +49,7 @@ pub fn put_line(text: &mut Vec<u8>, first: &[u8], words: &[&[u8]]) -> Result<(),
 
 fn put_routines(text: &mut Vec<u8>, view: &View) -> Result<(), NoMemory>
     requires { IsView view.now }
-    ensures { OnOk result (text.new.items ≡ text.old.items ++ routine_lines view.now) }
+    ensures { OnOk result (text.new.items ≡ text.old.items ++ routine_lines (view_seen view.now)) }
 {
     for routine in view.routines.list() {
         put_routine(text, view, routine)?;
@@ -70,7 +70,7 @@ fn put_routine(text: &mut Vec<u8>, view: &View, routine: &Routine) -> Result<(),
 
 fn put_blocks(text: &mut Vec<u8>, view: &View) -> Result<(), NoMemory>
     requires { IsView view.now }
-    ensures { OnOk result (text.new.items ≡ text.old.items ++ block_lines view.now) }
+    ensures { OnOk result (text.new.items ≡ text.old.items ++ block_lines (view_seen view.now)) }
 {
     for block in 0..view.graph.count() {
         put_block(text, view, BlockNo(block))?;
@@ -95,7 +95,7 @@ fn put_block(text: &mut Vec<u8>, view: &View, block: BlockNo) -> Result<(), NoMe
 
 fn put_edges(text: &mut Vec<u8>, view: &View) -> Result<(), NoMemory>
     requires { IsView view.now }
-    ensures { OnOk result (text.new.items ≡ text.old.items ++ edge_lines view.now) }
+    ensures { OnOk result (text.new.items ≡ text.old.items ++ edge_lines (view_seen view.now)) }
 {
     for (number, edge) in view.graph.edges().iter().enumerate() {
         put_edge(text, view, number, edge)?;
@@ -105,13 +105,13 @@ fn put_edges(text: &mut Vec<u8>, view: &View) -> Result<(), NoMemory>
 
 fn put_edge(text: &mut Vec<u8>, view: &View, number: usize, edge: &Edge) -> Result<(), NoMemory>
     requires view { IsView view.now }
-    requires edge { IsEdgeIn view.now.graph.blocks edge.now }
+    requires edge { IsEdgeIn view.now.graph.blocks view.now.graph.opens edge.now }
     ensures { OnOk result (text.new.items
         ≡ text.old.items ++ edge_line view.now.image.text view.now.graph.blocks (number, edge.now)) }
 {
     let mut digits = Buffer::new();
-    let mut from = [0; 8];
-    let mut to = [0; 8];
+    let mut from = [0; 9];
+    let mut to = [0; 9];
     let mut slot = [0; 8];
     let number = digits.format(number).as_bytes();
     let kind = kind_text(edge.kind);
@@ -124,7 +124,7 @@ fn put_edge(text: &mut Vec<u8>, view: &View, number: usize, edge: &Edge) -> Resu
 
 fn put_switches(text: &mut Vec<u8>, view: &View, switches: &[Switch]) -> Result<(), NoMemory>
     requires { All (λ switch. switch.jump.0 < length view.now.image.text.words) switches.now }
-    ensures { OnOk result (text.new.items ≡ text.old.items ++ switch_lines view.now switches.now) }
+    ensures { OnOk result (text.new.items ≡ text.old.items ++ switch_lines (view_seen view.now) switches.now) }
 {
     for switch in switches {
         put_switch(text, view, *switch)?;
@@ -147,7 +147,7 @@ fn put_switch(text: &mut Vec<u8>, view: &View, switch: Switch) -> Result<(), NoM
 
 /// Adds the line that says how many routines, blocks and edges there are.
 fn put_totals(text: &mut Vec<u8>, view: &View) -> Result<(), NoMemory>
-    ensures { OnOk result (text.new.items ≡ text.old.items ++ totals_line view.now) }
+    ensures { OnOk result (text.new.items ≡ text.old.items ++ totals_line (view_seen view.now)) }
 {
     let mut routines = Buffer::new();
     let mut blocks = Buffer::new();

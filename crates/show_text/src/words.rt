@@ -1,5 +1,5 @@
 //! The words of lines.
-ghost use Rattle.std.specs.Prelude.{◌≡◌, ◌<◌, ◌≤◌, length};
+ghost use Rattle.std.specs.Prelude.{◌≡◌, ◌<◌, ◌≤◌, ◌++◌, ◌∷◌, [], length};
 ghost use Rattle.eel_base.specs.Fields.{hex_of};
 ghost use Rattle.cfg_normal.specs.Graph.{IsNodeIn, IsSlotIn};
 ghost use Rattle.cfg_view.specs.View.{IsView};
@@ -12,6 +12,9 @@ use eel_base::{Addr, BlockNo, WordNo, hex8};
 
 /// Room for an address.
 pub(crate) type Digits = [u8; 8];
+
+/// Room for a node: an address, and a plus.
+pub type NodeBytes = [u8; 9];
 
 /// Room for a name.
 pub(crate) type NameBytes = [u8; 255];
@@ -65,7 +68,8 @@ pub(crate) fn name_text<'a>(name: &[u8], bytes: &'a mut NameBytes) -> &'a [u8]
     &bytes[..name.len()]
 }
 
-pub(crate) fn kind_text(kind: EdgeKind) -> &'static [u8]
+/// The word of a kind.
+pub fn kind_text(kind: EdgeKind) -> &'static [u8]
     ensures { result.now ≡ kind_text kind }
 {
     match kind {
@@ -75,19 +79,33 @@ pub(crate) fn kind_text(kind: EdgeKind) -> &'static [u8]
         EdgeKind::Call => b"call",
         EdgeKind::Out => b"out",
         EdgeKind::Land => b"land",
+        EdgeKind::Case => b"case",
     }
 }
 
-/// A node: the address of its block, or `x`.
-pub(crate) fn node_text<'a>(view: &View, node: Node, digits: &'a mut Digits) -> &'a [u8]
+/// Digits, and a plus behind them.
+pub(crate) fn plus_text(digits: Digits) -> NodeBytes
+    ensures { result ≡ digits ++ 43 ∷ [] }
+{
+    let mut bytes = [b'+'; 9];
+    bytes[..8].copy_from_slice(&digits);
+    bytes
+}
+
+/// A node: the address of its block, with a plus behind it where it is the landed copy, or `x`.
+pub fn node_text<'a>(view: &View, node: Node, bytes: &'a mut NodeBytes) -> &'a [u8]
     requires view { IsView view.now }
-    requires node { IsNodeIn view.now.graph.blocks node }
+    requires node { IsNodeIn view.now.graph.blocks view.now.graph.opens node }
     ensures { result.now ≡ node_text view.now.image.text view.now.graph.blocks node }
 {
     match node {
         Node::Block(block) => {
-            *digits = block_text(view, block);
-            digits
+            *bytes = plus_text(block_text(view, block));
+            &bytes[..8]
+        }
+        Node::Landed(block) => {
+            *bytes = plus_text(block_text(view, block));
+            bytes
         }
         Node::X => b"x",
     }

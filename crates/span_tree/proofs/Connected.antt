@@ -1,109 +1,124 @@
--- The flow graph as a plain one: the list of links is the same, and the landings join all nodes.
-use Rattle.std.proofs.Common.{◌≡◌, ℕ, ◌+◌, ◌<◌, ◌≤◌, ◌⊎◌, inl, inr, true, List, length, map, get_or, refl, ap, sym, ◌∙◌, subst, arith}
-use Rattle.std.specs.List.{flat_map}
+-- The flow graph as a plain one: the list of links is the same, and its edges join all nodes.
+use Rattle.std.proofs.Common.{◌≡◌, ℕ, ◌+◌, ◌-◌, ◌<◌, ◌≤◌, ◌⊎◌, inl, inr, true, false, Bool, List, length, map, Some, refl, ap, sym, ◌∙◌, subst, arith}
 use Rattle.std.proofs.Math.ListN.{get_or-map}
-use Rattle.std.proofs.lemmas.Bool.{cases_lt}
-use Rattle.std.proofs.lemmas.List.{get_or-append-add, get_or-map as get_or_at, length-append, length-map}
-use Rattle.std.proofs.lemmas.List.Elements.{All-map, All-weaker}
+use Rattle.std.proofs.lemmas.Bool.{cases_lt, le-ltb, lt-ltb}
+use Rattle.std.proofs.lemmas.List.{length-map}
+use Rattle.std.proofs.lemmas.List.Elements.{All-from_get_or, All-get_or, All-map, All-weaker, recursion_from_All}
 use Rattle.flows.specs.Flows.{NodeSet}
 use Rattle.flows.specs.Links.{IsLinked, graph_of as plain_of}
-use Rattle.flows.specs.Trees.{IsConnected, NoneCrosses, all_nodes}
+use Rattle.flows.specs.Trees.{IsConnected, NoneCrosses}
 use Rattle.flows.specs.declared.Link.{Link}
-use Rattle.cfg_blocks.specs.Blocks.{Blocks, below}
-use Rattle.cfg_blocks.proofs.Below.{get_or-below, length-below}
+use Rattle.cfg_blocks.specs.Blocks.{Blocks}
 use Rattle.cfg_normal.specs.declared.Edge.{Edge}
 use Rattle.cfg_normal.specs.declared.Node.{Node}
-use Rattle.cfg_normal.specs.declared.Node.TheVariants.{Block, X}
-use Rattle.cfg_normal.specs.Graph.{Graph, IsEdgeIn, IsGraph, IsNodeIn, edges_in, edges_of, landing_at}
-use Rattle.cfg_normal.specs.Numbers.{node_number}
+use Rattle.cfg_normal.specs.declared.Node.TheVariants.{Block, Landed, X}
+use Rattle.cfg_normal.specs.Opens.{Open, is_copied, jumps_in, targets_in}
+use Rattle.cfg_normal.specs.Graph.{Graph, IsEdgeIn, IsGraph, IsNodeIn, edges_in, has_cases, lands_of}
+use Rattle.cfg_normal.specs.Numbers.{is_node, node_number, node_numbers}
 use Rattle.span_tree.specs.Links.{link_of, links_of, no_edge}
+use Rattle.span_tree.proofs.Landings.{Each, block, cased, copy, first_of, landed_block, landed_copy, lands_plain, targets_some}
 
 -- ---- the list of links
 
-links_are : (g : Graph) → plain_of (length g.blocks.firsts + 1) (map (link_of g) g.edges) ≡ links_of g
+links_are : (g : Graph) → plain_of (node_numbers g) (map (link_of g) g.edges) ≡ links_of g
 links_are g = λ i. record {
-  nodes = length g.blocks.firsts + 1;
+  nodes = node_numbers g;
   edges = length-map g.edges (link_of g) i;
   from = λ e. ap (λ (l : Link). l.from) (get_or-map (link_of g) g.edges e no_edge) i;
   to = λ e. ap (λ (l : Link). l.to) (get_or-map (link_of g) g.edges e no_edge) i;
 }
 
-pub plain_is : (g : Graph) (n : ℕ) (links : List Link) → n ≡ length g.blocks.firsts + 1
+pub plain_is : (g : Graph) (n : ℕ) (links : List Link) → n ≡ node_numbers g
     → links ≡ map (link_of g) g.edges → plain_of n links ≡ links_of g
 plain_is g n links nodes are = ap (λ (n : ℕ). plain_of n links) nodes
-    ∙ ap (plain_of (length g.blocks.firsts + 1)) are ∙ links_are g
+    ∙ ap (plain_of (node_numbers g)) are ∙ links_are g
 
-number_inside : (g : Graph) (node : Node) → IsNodeIn g.blocks node
-    → node_number g node < length g.blocks.firsts + 1
+pub number_inside : (g : Graph) (node : Node) → IsNodeIn g.blocks g.opens node → node_number g node < node_numbers g
 number_inside g (Block block) h = omega (arith, h)
+number_inside g (Landed block) h = omega (arith, h.0)
 number_inside g X h = omega arith
 
-linked : (g : Graph) → IsGraph g → IsLinked (length g.blocks.firsts + 1) (map (link_of g) g.edges)
+linked : (g : Graph) → IsGraph g → IsLinked (node_numbers g) (map (link_of g) g.edges)
 linked g is =
-    let n = length g.blocks.firsts + 1 in
+    let n = node_numbers g in
     All-map (λ (l : Link). (l.from < n) × (l.to < n)) (link_of g) g.edges
-    (All-weaker (IsEdgeIn g.blocks) (λ (edge : Edge). (node_number g edge.from < n) × (node_number g edge.to < n))
+    (All-weaker (IsEdgeIn g.blocks g.opens) (λ (edge : Edge). (node_number g edge.from < n) × (node_number g edge.to < n))
     (λ edge h. (number_inside g edge.from h.from, number_inside g edge.to h.to)) g.edges is.edges)
 
-pub linked_as : (g : Graph) (n : ℕ) (links : List Link) → IsGraph g → n ≡ length g.blocks.firsts + 1
+pub linked_as : (g : Graph) (n : ℕ) (links : List Link) → IsGraph g → n ≡ node_numbers g
     → links ≡ map (link_of g) g.edges → IsLinked n links
 linked_as g n links is nodes are =
     subst (λ (n : ℕ). IsLinked n links) (sym nodes)
-    (subst (IsLinked (length g.blocks.firsts + 1)) (sym are) (linked g is))
+    (subst (IsLinked (node_numbers g)) (sym are) (linked g is))
+
+-- ---- the numbers of nodes are those that pass the test
+
+numbered : (g : Graph) (node : Node) → IsNodeIn g.blocks g.opens node → is_node g (node_number g node) ≡ true
+numbered g (Block block) h = rw (le-ltb (length g.blocks.firsts) block.0 (omega (arith, h))) refl
+numbered g (Landed block) h =
+    let n = length g.blocks.firsts in
+    let same : n + 1 + block.0 - (n + 1) ≡ block.0 = omega arith in
+    rw (lt-ltb n (n + 1 + block.0) (omega arith)) (ap (is_copied g.opens) same ∙ h.1)
+numbered g X h = rw (le-ltb (length g.blocks.firsts) (length g.blocks.firsts) (omega arith)) refl
 
 -- ---- all nodes are joined
 
--- the landing at a block
-pub record IsLanding (edges : List Edge) (block : ℕ) : Type 0 where
-  number : ℕ
-  inside : number < length edges
-  is : get_or edges number no_edge ≡ landing_at block
-
-landing : (b : Blocks) (block : ℕ) → block < length b.firsts → IsLanding (edges_in b) block
-unfolding edges_in
-landing b block h =
-    let count = length b.firsts in
-    let ways = flat_map (edges_of b) (below count) in
-    record {
-      number = length ways + block;
-      inside = omega (
-        arith,
-        h,
-        length-append ways (map landing_at (below count)),
-        length-map (below count) landing_at,
-        length-below count,
-      );
-      is = get_or-append-add ways (map landing_at (below count)) block no_edge
-          ∙ at block h;
-    }
-  where
-    at : (block : ℕ) → block < length b.firsts
-        → get_or (map landing_at (below (length b.firsts))) block no_edge ≡ landing_at block
-    at block h = get_or_at landing_at (below (length b.firsts)) block 0 no_edge (omega (arith, h, length-below (length b.firsts)))
-        ∙ ap landing_at (get_or-below (length b.firsts) block 0 h)
-
 module _ (g : Graph) (is : IsGraph g) where
-  landing_in : (block : ℕ) → block < length g.blocks.firsts → IsLanding g.edges block
-  landing_in block h =
-      subst (λ (edges : List Edge). IsLanding edges block) (sym (ap (λ (g : Graph). g.edges) is.made)) (landing g.blocks block h)
+  abbrev b : Blocks
+  b = g.blocks
+
+  abbrev opens : List Open
+  opens = g.opens
+
+  abbrev outside : ℕ
+  outside = length b.firsts
 
   -- a set of nodes that no edge leaves has each node that X is like
-  like_outside : (s : NodeSet) → NoneCrosses (links_of g) (λ e. true) s
-      → (v : ℕ) → v < length g.blocks.firsts + 1 → s v ≡ s (length g.blocks.firsts)
-  like_outside s none v h = by (cases_lt v (length g.blocks.firsts))
-    where
-      by : (v < length g.blocks.firsts) ⊎ (length g.blocks.firsts ≤ v) → s v ≡ s (length g.blocks.firsts)
-      by (inl l) =
-          let at = landing_in v l in
-          let from : (links_of g).from at.number ≡ length g.blocks.firsts =
-          ap (λ (edge : Edge). node_number g edge.from) at.is in
-          let to : (links_of g).to at.number ≡ v = ap (λ (edge : Edge). node_number g edge.to) at.is in
-          ap s (sym to) ∙ sym (none at.number at.inside refl) ∙ ap s from
-      by (inr l) = ap s (omega (arith, h, l))
+  module _ (s : NodeSet) (none : NoneCrosses (links_of g) (λ e. true) s) where
+    abbrev Joins : Edge → Type 0
+    Joins edge = IsNodeIn b opens edge.to × (s (node_number g edge.from) ≡ s (node_number g edge.to))
 
-  pub connected : IsConnected (links_of g) all_nodes (length g.blocks.firsts)
+    all : Each Joins (edges_in b opens)
+    all =
+        subst (Each Joins) (ap (λ (g : Graph). g.edges) is.made)
+        (recursion_from_All Joins g.edges (All-from_get_or Joins g.edges no_edge
+        (λ e l. ((All-get_or (IsEdgeIn b opens) g.edges e no_edge l is.edges).to, none e l refl))))
+
+    -- where control can land
+    landed_like : (node : Node) → IsNodeIn b opens node → has_cases opens node ≡ false
+        → s (node_number g node) ≡ s outside
+    landed_like (Block k) l quiet = sym (landed_block b opens Joins all k.0 l quiet).1
+    landed_like (Landed k) l quiet = sym (landed_copy b opens Joins all k.0 l.0 l.1).1
+    landed_like X l quiet = refl
+
+    block_like : (k : ℕ) → k < outside → s k ≡ s outside
+    block_like k l = by (jumps_in opens k) refl
+      where
+        by : (x : Bool) → jumps_in opens k ≡ x → s k ≡ s outside
+        by false e = landed_like (block k) l e
+        by true e =
+            let some = first_of (targets_in opens k)
+            (targets_some opens k e (recursion_from_All (λ (o : Open). 1 ≤ length o.targets) opens is.targets)) in
+            let c = cased b opens Joins all k l e some.first some.rest some.is in
+            c.1 ∙ landed_like (lands_of b opens (Some some.first)) c.0 (lands_plain b opens some.first)
+
+    like_outside : (v : ℕ) → v < node_numbers g → is_node g v ≡ true → s v ≡ s outside
+    like_outside v h node = by (cases_lt v outside) (cases_lt outside v)
+      where
+        by : (v < outside) ⊎ (outside ≤ v) → (outside < v) ⊎ (v ≤ outside) → s v ≡ s outside
+        by (inl l) m = block_like v l
+        by (inr l) (inr m) = ap s (omega (arith, l, m))
+        by (inr l) (inl m) =
+            let j : ℕ = v - (outside + 1) in
+            let same : v ≡ outside + 1 + j = omega (arith, m) in
+            let copied : is_copied opens j ≡ true = rw (lt-ltb outside v m) at node in
+            ap s same ∙ landed_like (copy j) (omega (arith, m, h), copied) refl
+
+  pub connected : IsConnected (links_of g) (is_node g) (length g.blocks.firsts)
   connected = record {
-    root = refl;
-    ends = λ e l. (refl, refl);
-    joins = λ s none u v lu lv nu nv. like_outside s none u lu ∙ sym (like_outside s none v lv);
+    root = numbered g X tt;
+    ends = λ e l.
+        let h = All-get_or (IsEdgeIn b opens) g.edges e no_edge l is.edges in
+        (numbered g _ h.from, numbered g _ h.to);
+    joins = λ s none u v lu lv nu nv. like_outside s none u lu nu ∙ sym (like_outside s none v lv nv);
   }

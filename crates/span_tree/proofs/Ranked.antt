@@ -12,7 +12,7 @@ use Rattle.cfg_blocks.specs.Blocks.{Blocks, below}
 use Rattle.cfg_blocks.proofs.Below.{get_or-below, length-below}
 use Rattle.cfg_normal.specs.declared.Edge.{Edge}
 use Rattle.cfg_normal.specs.declared.Node.{Node}
-use Rattle.cfg_normal.specs.declared.Node.TheVariants.{Block, X}
+use Rattle.cfg_normal.specs.declared.Node.TheVariants.{Block, Landed, X}
 use Rattle.cfg_normal.specs.Graph.{Graph}
 use Rattle.span_tree.specs.Links.{edge_at}
 use Rattle.span_tree.specs.Ties.{is_behind_call, rank_of, tie_by}
@@ -31,6 +31,7 @@ tie_few b kinds.Land to = one_of_two (is_behind_call b to)
 tie_few b kinds.Fall to = omega arith
 tie_few b kinds.Taken to = omega arith
 tie_few b kinds.Untaken to = omega arith
+tie_few b kinds.Case to = omega arith
 
 -- ---- the list of ranks
 
@@ -56,6 +57,7 @@ module _ (g : Graph) (weights ranks : List ℕ) (n : ℕ) (are : ranks ≡ map (
 
 weight_most : (b : Blocks) (node : Node) → weight_from b node ≤ 2 ^ 32
 weight_most b (Block block) = omega arith
+weight_most b (Landed block) = omega arith
 weight_most b X = omega arith
 
 pub weights_most : (b : Blocks) (edges : List Edge) → All (λ weight. weight ≤ 2 ^ 32) (weights_of b edges)

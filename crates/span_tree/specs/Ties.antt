@@ -7,7 +7,7 @@ use Rattle.cfg_blocks.specs.declared.EdgeKind.TheVariants as kinds
 use Rattle.cfg_blocks.specs.Blocks.{Blocks, end_of}
 use Rattle.cfg_normal.specs.declared.Edge.{Edge}
 use Rattle.cfg_normal.specs.declared.Node.{Node}
-use Rattle.cfg_normal.specs.declared.Node.TheVariants.{Block, X}
+use Rattle.cfg_normal.specs.declared.Node.TheVariants.{Block, Landed, X}
 use Rattle.cfg_normal.specs.Graph.{Graph}
 use Rattle.span_tree.specs.Links.{edge_at}
 
@@ -16,8 +16,12 @@ is_call (ends.Call target) = true
 is_call _ = false
 
 -- a call comes back to the block: one ends the block before that of its slot
+abbrev pub follows_call : Blocks → ℕ → Bool
+follows_call b block = nat_le 2 block && is_call (end_of b (block - 2))
+
 abbrev pub is_behind_call : Blocks → Node → Bool
-is_behind_call b (Block block) = nat_le 2 block.0 && is_call (end_of b (block.0 - 2))
+is_behind_call b (Block block) = follows_call b block.0
+is_behind_call b (Landed block) = follows_call b block.0
 is_behind_call b X = false
 
 -- Calls and jumps come first, since all registers live behind them, then landings to which calls come back. The other

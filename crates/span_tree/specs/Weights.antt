@@ -9,7 +9,7 @@ use Rattle.cfg_blocks.specs.declared.BlockEnd.TheVariants as ends
 use Rattle.cfg_blocks.specs.Blocks.{Blocks, end_of, last_word}
 use Rattle.cfg_normal.specs.declared.Edge.{Edge}
 use Rattle.cfg_normal.specs.declared.Node.{Node}
-use Rattle.cfg_normal.specs.declared.Node.TheVariants.{Block, X}
+use Rattle.cfg_normal.specs.declared.Node.TheVariants.{Block, Landed, X}
 
 -- the word to which a branch leads, where the text has it; a branch on never leads nowhere
 abbrev pub branch_target : BlockEnd → Option WordNo
@@ -32,10 +32,15 @@ is_in_loop b word block = is_between (last_word b.firsts b.words block) word (br
 abbrev pub loops_at : Blocks → ℕ → ℕ
 loops_at b word = count_below (length b.firsts) (is_in_loop b word)
 
--- The weight of an edge that leaves a node, by the loops about the last word of a block, of which a thousand count. A
--- landing leaves X.
+-- The weight of an edge that leaves a block or its landed copy, by the loops about the last word of the block, of
+-- which a thousand count.
+abbrev pub block_weight : Blocks → ℕ → ℕ
+block_weight b block = 1 + 8 * min (loops_at b (last_word b.firsts b.words block)) 1000
+
+-- A landing leaves X.
 abbrev pub weight_from : Blocks → Node → ℕ
-weight_from b (Block block) = 1 + 8 * min (loops_at b (last_word b.firsts b.words block.0)) 1000
+weight_from b (Block block) = block_weight b block.0
+weight_from b (Landed block) = block_weight b block.0
 weight_from b X = 1
 
 abbrev pub weights_of : Blocks → List Edge → List ℕ

@@ -93,7 +93,7 @@ fn text_words(blocks: &BlockList) -> u32
 }
 
 /// The last word of a block.
-pub(crate) fn last_of(blocks: &BlockList, block: BlockNo) -> u32
+fn last_of(blocks: &BlockList, block: BlockNo) -> u32
     requires { block.0 < length blocks.now.blocks.firsts }
     ensures last { result ≡ last_word blocks.now.blocks.firsts blocks.now.blocks.words block.0 }
     ensures within { result < blocks.now.blocks.words }

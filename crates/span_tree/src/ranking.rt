@@ -3,7 +3,7 @@ ghost use Rattle.std.specs.Prelude.{◌≡◌, ◌^◌, ◌<◌, ◌≤◌, leng
 ghost use Rattle.std.specs.List.{All};
 ghost use Rattle.cfg_blocks.specs.Blocks.{below};
 ghost use Rattle.cfg_normal.specs.Graph.{IsNodeIn};
-ghost use Rattle.span_tree.specs.Ties.{is_behind_call, is_call, rank_of, tie_of};
+ghost use Rattle.span_tree.specs.Ties.{follows_call, is_behind_call, is_call, rank_of, tie_of};
 
 use cfg_blocks::{BlockEnd, EdgeKind};
 use cfg_normal::{Edge, FlowGraph, Node};
@@ -26,27 +26,36 @@ pub(crate) fn ranks(alloc: Global, graph: &FlowGraph, weights: &[u64]) -> Result
 
 /// Of edges that weigh the same, those whose counters would cost most come first.
 fn tie(graph: &FlowGraph, edge: Edge) -> u64
-    requires { IsNodeIn graph.now.blocks edge.to }
+    requires { IsNodeIn graph.now.blocks graph.now.opens edge.to }
     ensures tie { result ≡ tie_of graph.now.blocks edge }
     ensures few { result < 4 }
 {
     match edge.kind {
         EdgeKind::Call | EdgeKind::Out => 3,
         EdgeKind::Land if is_behind_call(graph, edge.to) => 2,
-        EdgeKind::Fall | EdgeKind::Taken | EdgeKind::Untaken => 1,
+        EdgeKind::Fall | EdgeKind::Taken | EdgeKind::Untaken | EdgeKind::Case => 1,
         EdgeKind::Land => 0,
     }
 }
 
-/// Whether a call comes back to a block.
+/// Whether a call comes back to a node.
 fn is_behind_call(graph: &FlowGraph, to: Node) -> bool
-    requires { IsNodeIn graph.now.blocks to }
+    requires { IsNodeIn graph.now.blocks graph.now.opens to }
     ensures { result ≡ is_behind_call graph.now.blocks to }
 {
     match to {
-        Node::Block(block) => block.0 >= 2 && is_call(graph.end(BlockNo(block.0 - 2))),
+        Node::Block(block) => follows_call(graph, block),
+        Node::Landed(block) => follows_call(graph, block),
         Node::X => false,
     }
+}
+
+/// Whether a call comes back to a block.
+fn follows_call(graph: &FlowGraph, block: BlockNo) -> bool
+    requires { block.0 < length graph.now.blocks.firsts }
+    ensures { result ≡ follows_call graph.now.blocks block.0 }
+{
+    block.0 >= 2 && is_call(graph.end(BlockNo(block.0 - 2)))
 }
 
 /// Whether control leaves by a call.

@@ -2,10 +2,10 @@
 ghost use Rattle.std.specs.Prelude.{◌≡◌, ◌^◌, ◌<◌, ◌≤◌, length, map, IfOk, IfSome};
 ghost use Rattle.std.specs.List.{All};
 ghost use Rattle.cfg_normal.specs.Graph.{Graph, IsGraph};
-ghost use Rattle.cfg_normal.specs.Numbers.{node_number};
+ghost use Rattle.cfg_normal.specs.Numbers.{is_node, node_number};
 ghost use Rattle.flows.specs.Flows.{IsLeast, rest};
 ghost use Rattle.flows.specs.Links.{marked, weight_in};
-ghost use Rattle.flows.specs.Trees.{IsSpanningTree, all_nodes};
+ghost use Rattle.flows.specs.Trees.{IsSpanningTree};
 ghost use Rattle.span_tree.specs.Cells.{cell_at, cell_count, cell_of, has_cell, AreNumbered};
 ghost use Rattle.span_tree.specs.Links.{link_of, links_of};
 ghost use Rattle.span_tree.specs.Ties.{rank_of};
@@ -64,7 +64,7 @@ pub fn tree(alloc: Global, graph: &FlowGraph, weights: &[u64]) -> Result<SpanTre
     requires most { All (λ weight. weight ≤ 2 ^ 32) weights.now }
     ensures len { IfOk result (λ tree. length tree ≡ length graph.now.edges) }
     ensures numbered { IfOk result AreNumbered }
-    ensures spans { IfOk result (λ tree. IsSpanningTree (links_of graph.now) all_nodes (rest (has_cell tree))) }
+    ensures spans { IfOk result (λ tree. IsSpanningTree (links_of graph.now) (is_node graph.now) (rest (has_cell tree))) }
     ensures least { IfOk result (λ tree. IsLeast (links_of graph.now) (weight_in weights.now) (has_cell tree)) }
     ensures ties { IfOk result (λ tree. IsLeast (links_of graph.now) (rank_of graph.now weights.now) (has_cell tree)) }
 {
@@ -79,7 +79,7 @@ fn counted_edges(alloc: Global, graph: &FlowGraph, weights: &[u64]) -> Result<Ve
     ensures len { IfOk result (λ counted. length counted.items ≡ length graph.now.edges) }
     ensures few { IfOk result (λ counted. length counted.items < 2 ^ 32) }
     ensures spans { IfOk result (λ counted.
-        IsSpanningTree (links_of graph.now) all_nodes (rest (marked counted.items))) }
+        IsSpanningTree (links_of graph.now) (is_node graph.now) (rest (marked counted.items))) }
     ensures least { IfOk result (λ counted.
         IsLeast (links_of graph.now) (weight_in weights.now) (marked counted.items)) }
     ensures ties { IfOk result (λ counted.
@@ -88,7 +88,7 @@ fn counted_edges(alloc: Global, graph: &FlowGraph, weights: &[u64]) -> Result<Ve
     let ranks = ranks(alloc, graph, weights)?;
     let links = links(alloc, graph)?;
     let outside = graph.count() as usize;
-    let counted = counted(alloc, outside + 1, &links, &ranks, outside)?;
+    let counted = counted(alloc, 2 * outside + 1, &links, &ranks, outside)?;
     Ok(counted)
 }
 
@@ -116,6 +116,7 @@ fn node_number(node: Node, outside: u32) -> usize
     match node {
         Node::Block(block) => block.0 as usize,
         Node::X => outside as usize,
+        Node::Landed(block) => outside as usize + 1 + block.0 as usize,
     }
 }
 

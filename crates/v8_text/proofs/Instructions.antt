@@ -11,12 +11,6 @@ use Rattle.line_words.proofs.Steps.{chosen, mapped, step, tested}
 use Rattle.v8_decode.specs.declared.Instr.{Instr}
 use Rattle.v8_decode.specs.declared.Instr.TheVariants as i
 use Rattle.v8_decode.specs.declared.Op2.{Op2}
-use Rattle.v8_decode.specs.declared.AluOp.{AluOp}
-use Rattle.v8_decode.specs.declared.AluOp.TheVariants as ops
-use Rattle.v8_decode.specs.declared.LoadKind.{LoadKind}
-use Rattle.v8_decode.specs.declared.LoadKind.TheVariants as loads
-use Rattle.v8_decode.specs.declared.StoreKind.{StoreKind}
-use Rattle.v8_decode.specs.declared.StoreKind.TheVariants as stores
 use Rattle.v8_decode.specs.Forms.{has_form}
 use Rattle.v8_decode.specs.Ranges.{has_even_pair, is_in_range, op2_in_range, operands_in_range}
 use Rattle.v8_encode.specs.Encoding.{fits_signed, has_word, op2_fits}
@@ -24,72 +18,12 @@ use Rattle.v8_text.specs.declared.names.Name.{Name}
 use Rattle.v8_text.specs.declared.names.Name.TheVariants as n
 use Rattle.v8_text.specs.Texts.{alu_text, branch_text, comma, instr_text, load_text, named, number_text, operands, loaded, sources, store_text, stored, target_of, trap_text}
 use Rattle.v8_text.specs.Parts.{displacement_of, instr_in, instr_of, loaded_of, name_of, op2_of, operands_of, read_y_of, sethi_of, sources_of, stored_of, with_operands, with_sources, write_y_of}
-use Rattle.v8_text.proofs.Found.{at_each, text_is}
+use Rattle.v8_text.proofs.Found.{text_is}
 use Rattle.v8_text.proofs.Integers.{op2_read}
 use Rattle.v8_text.proofs.Rows.{AreFit, loaded_back, loaded_read, operands_back, operands_read, read_y_back, sethi_back, sources_back, sources_read, stored_back, stored_read, write_y_back}
+use Rattle.v8_text.proofs.Plain.{alu_plain, branch_plain, is_plain, load_plain, plain_whole, store_plain, trap_plain}
 use Rattle.v8_text.proofs.Targets.{displacement_back, displacement_read}
 use Rattle.v8_text.proofs.Named.{alu_back, branch_back, load_back, name_read, name_text, singles, store_back, trap_back}
-
--- ---- names have no space
-
-branch_whole : (cond : ℕ) (annul : Bool) → cond < 16 → is_whole 32 (branch_text cond annul) ≡ true
-branch_whole cond true low = at_each (λ k. is_whole 32 (branch_text k true)) 16 refl cond low
-branch_whole cond false low = at_each (λ k. is_whole 32 (branch_text k false)) 16 refl cond low
-
-trap_whole : (cond : ℕ) → cond < 16 → is_whole 32 (trap_text cond) ≡ true
-trap_whole cond low = at_each (λ k. is_whole 32 (trap_text k)) 16 refl cond low
-
-alu_whole : (op : AluOp) (cc : Bool) → is_whole 32 (alu_text op cc) ≡ true
-alu_whole ops.ADD true = refl
-alu_whole ops.ADD false = refl
-alu_whole ops.AND true = refl
-alu_whole ops.AND false = refl
-alu_whole ops.OR true = refl
-alu_whole ops.OR false = refl
-alu_whole ops.XOR true = refl
-alu_whole ops.XOR false = refl
-alu_whole ops.SUB true = refl
-alu_whole ops.SUB false = refl
-alu_whole ops.ANDN true = refl
-alu_whole ops.ANDN false = refl
-alu_whole ops.ORN true = refl
-alu_whole ops.ORN false = refl
-alu_whole ops.XNOR true = refl
-alu_whole ops.XNOR false = refl
-alu_whole ops.ADDX true = refl
-alu_whole ops.ADDX false = refl
-alu_whole ops.UMUL true = refl
-alu_whole ops.UMUL false = refl
-alu_whole ops.SMUL true = refl
-alu_whole ops.SMUL false = refl
-alu_whole ops.SUBX true = refl
-alu_whole ops.SUBX false = refl
-alu_whole ops.UDIV true = refl
-alu_whole ops.UDIV false = refl
-alu_whole ops.SDIV true = refl
-alu_whole ops.SDIV false = refl
-alu_whole ops.TADDcc cc = refl
-alu_whole ops.TSUBcc cc = refl
-alu_whole ops.TADDccTV cc = refl
-alu_whole ops.TSUBccTV cc = refl
-alu_whole ops.MULScc cc = refl
-alu_whole ops.SLL cc = refl
-alu_whole ops.SRL cc = refl
-alu_whole ops.SRA cc = refl
-
-load_whole : (kind : LoadKind) → is_whole 32 (load_text kind) ≡ true
-load_whole loads.LD = refl
-load_whole loads.LDUB = refl
-load_whole loads.LDUH = refl
-load_whole loads.LDD = refl
-load_whole loads.LDSB = refl
-load_whole loads.LDSH = refl
-
-store_whole : (kind : StoreKind) → is_whole 32 (store_text kind) ≡ true
-store_whole stores.ST = refl
-store_whole stores.STB = refl
-store_whole stores.STH = refl
-store_whole stores.STD = refl
 
 -- ---- a text with operands
 
@@ -106,10 +40,11 @@ apart name rest whole = go (bytes_eq (named name rest) (codes "stbar")) refl
         let same = ap (split_at 32) (text_is (named name rest) (codes "stbar") is) in
         absurd (cc (sym (split_back 32 name rest whole) ∙ same ∙ one_word))
 
-named_back : (at : ℕ) (name rest : List ℕ) (what : Name) (instr : Instr) → is_whole 32 name ≡ true
+named_back : (at : ℕ) (name rest : List ℕ) (what : Name) (instr : Instr) → is_plain name ≡ true
     → name_of name ≡ Some what → instr_in at what rest ≡ Some instr → instr_of at (named name rest) ≡ Some instr
 unfolding instr_of
-named_back at name rest what instr whole is of =
+named_back at name rest what instr plain is of =
+    let whole = plain_whole 32 (omega arith) name plain in
     rw (apart name rest whole, split_back 32 name rest whole, is, of) refl
 
 fit : (rs1 : ℕ) (op2 : Op2) → operands_in_range rs1 op2 ≡ true → op2_fits op2 ≡ true → AreFit rs1 op2
@@ -160,14 +95,14 @@ instr_back at (i.Sethi rd imm22) low range has =
     (sethi_back rd imm22 (ltb-true rd 32 range) (ltb-true imm22 (2 ^ 22) has))
 instr_back at (i.Branch cond annul disp22) low range has =
     let small = ltb-true cond 16 range in
-    named_back at (branch_text cond annul) _ (n.Branch cond annul) _ (branch_whole cond annul small)
+    named_back at (branch_text cond annul) _ (n.Branch cond annul) _ (branch_plain cond annul small)
     (branch_back cond annul small)
     (ap (option_map (i.Branch cond annul)) (displacement_back at disp22 low (wider disp22 has)))
 instr_back at (i.Call disp30) low range has =
     named_back at (codes "call") _ n.Call _ refl singles.call (ap (option_map i.Call) (displacement_back at disp30 low has))
 instr_back at (i.Alu op cc rd rs1 op2) low range has =
     let parts = and_parts (has_form op cc) (op2_fits op2) has in
-    named_back at (alu_text op cc) _ (n.Alu op cc) _ (alu_whole op cc) (alu_back op cc parts.0)
+    named_back at (alu_text op cc) _ (n.Alu op cc) _ (alu_plain op cc) (alu_back op cc parts.0)
     (three (i.Alu op cc) rd rs1 op2 range parts.1)
 instr_back at (i.ReadY rd) low range has =
     named_back at (codes "rd") _ n.ReadY _ refl singles.read_y (read_y_back rd (ltb-true rd 32 range))
@@ -178,7 +113,7 @@ instr_back at (i.Jmpl rd rs1 op2) low range has =
 instr_back at (i.Ticc cond rs1 op2) low range has =
     let parts = and_parts (nat_lt cond 16) (operands_in_range rs1 op2) range in
     let small = ltb-true cond 16 parts.0 in
-    named_back at (trap_text cond) _ (n.Ticc cond) _ (trap_whole cond small) (trap_back cond small)
+    named_back at (trap_text cond) _ (n.Ticc cond) _ (trap_plain cond small) (trap_back cond small)
     (two (i.Ticc cond) rs1 op2 parts.1 has)
 instr_back at (i.Flush rs1 op2) low range has =
     named_back at (codes "flush") _ n.Flush _ refl singles.flush (two i.Flush rs1 op2 range has)
@@ -189,11 +124,11 @@ instr_back at (i.Restore rd rs1 op2) low range has =
     named_back at (codes "restore") _ n.Restore _ refl singles.restore (three i.Restore rd rs1 op2 range has)
 instr_back at (i.Load kind rd rs1 op2) low range has =
     let parts = and_parts (has_even_pair (i.Load kind rd rs1 op2)) (op2_fits op2) has in
-    named_back at (load_text kind) _ (n.Load kind) _ (load_whole kind) (load_back kind)
+    named_back at (load_text kind) _ (n.Load kind) _ (load_plain kind) (load_back kind)
     (from (i.Load kind) rd rs1 op2 range parts.1)
 instr_back at (i.Store kind rd rs1 op2) low range has =
     let parts = and_parts (has_even_pair (i.Store kind rd rs1 op2)) (op2_fits op2) has in
-    named_back at (store_text kind) _ (n.Store kind) _ (store_whole kind) (store_back kind)
+    named_back at (store_text kind) _ (n.Store kind) _ (store_plain kind) (store_back kind)
     (onto (i.Store kind) rd rs1 op2 range parts.1)
 instr_back at (i.Ldstub rd rs1 op2) low range has =
     named_back at (codes "ldstub") _ n.Ldstub _ refl singles.ldstub (from i.Ldstub rd rs1 op2 range has)

@@ -1,4 +1,5 @@
 pub mod Found
+pub mod Plain
 pub mod Integers
 pub mod Rows
 pub mod Targets
@@ -6,3 +7,4 @@ pub mod Named
 pub mod Instructions
 pub mod Words
 pub mod Put
+pub mod Listed

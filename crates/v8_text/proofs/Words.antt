@@ -3,7 +3,7 @@ use Rattle.std.proofs.Common.{◌≡◌, ◌≢◌, ℕ, ◌<◌, ◌^◌, Bool,
 use Rattle.std.specs.Str.{bytes_eq}
 use Rattle.std.proofs.lemmas.Bool.{eq-eqb, eqb-true}
 use Rattle.line_words.specs.Words.{◌>>=◌, split_at}
-use Rattle.line_words.proofs.Split.{split_back, split_read}
+use Rattle.line_words.proofs.Split.{is_whole, split_back, split_read}
 use Rattle.line_words.proofs.Steps.{step, tested}
 use Rattle.v8_decode.specs.declared.Instr.{Instr}
 use Rattle.v8_decode.specs.Words.{decode_of}
@@ -13,6 +13,7 @@ use Rattle.v8_text.specs.Texts.{instr_text, is_spelled, is_word, named, number_t
 use Rattle.v8_text.specs.Parts.{instr_of, number_in, raw_of, unspelled, word_in}
 use Rattle.v8_text.specs.Laws.{TextsReadBack}
 use Rattle.v8_text.proofs.Found.{text_is}
+use Rattle.v8_text.proofs.Plain.{hex_plain, instr_whole, named_whole}
 use Rattle.v8_text.proofs.Targets.{number_in_back, number_in_read}
 use Rattle.v8_text.proofs.Named.{singles}
 use Rattle.v8_text.proofs.Instructions.{instr_back, instr_read}
@@ -98,3 +99,15 @@ pub nothing_read : (at : ℕ) (text : List ℕ) → (instr_of at text >>= encode
     → word_in at text ≡ None
 unfolding word_in
 nothing_read at text a b = rw (a, b) refl
+
+-- ---- and no text has a newline
+
+whole_by : (at w : ℕ) (b : Bool) → is_spelled w ≡ b → is_whole 10 (word_text at w) ≡ true
+unfolding word_text
+whole_by at w true is =
+    let encoded = again_is w (encode_of (decode_of w)) is in
+    rw is (instr_whole at (decode_of w) (decode_of-ranges w).0 (has (decode_of w) w encoded))
+whole_by at w false is = rw is (named_whole (codes ".word") (number_text w) refl (hex_plain w))
+
+pub word_whole : (at w : ℕ) → is_whole 10 (word_text at w) ≡ true
+word_whole at w = whole_by at w (is_spelled w) refl

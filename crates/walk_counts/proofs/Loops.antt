@@ -1,13 +1,12 @@
 -- Each branch is the last word of its block, so that a sum over blocks is one over words.
-use Rattle.std.proofs.Common.{◌≡◌, ℕ, zero, suc, ◌+◌, ◌-◌, ◌<◌, ◌≤◌, ◌⊎◌, inl, inr, Bool, true, false, cond, List, length, slice_index, Option, Some, None, add-one, refl, ap, sym, ◌∙◌, subst, arith}
-use Rattle.std.proofs.lemmas.Bool.{cases_eq, cases_lt, le-ltb, lt-ltb}
+use Rattle.std.proofs.Common.{◌≡◌, ℕ, zero, suc, ◌+◌, ◌-◌, ◌<◌, ◌≤◌, Bool, true, false, cond, length, slice_index, None, add-one, refl, ap, ◌∙◌, subst, arith}
+use Rattle.std.proofs.lemmas.Bool.{le-ltb, lt-ltb}
 use Rattle.eel_base.specs.CodeText.{Words}
-use Rattle.eel_base.specs.declared.numbers.WordNo.{WordNo}
 use Rattle.flows.specs.Flows.{count_below}
 use Rattle.flows.proofs.Weights.{weight_same}
 use Rattle.cfg_blocks.specs.declared.BlockEnd.{BlockEnd}
 use Rattle.cfg_blocks.specs.declared.BlockEnd.TheVariants as ends
-use Rattle.cfg_blocks.specs.Blocks.{Blocks, block_end, blocks_of, end_of, last_word}
+use Rattle.cfg_blocks.specs.Blocks.{Blocks, block_end, blocks_of, last_word}
 use Rattle.cfg_blocks.specs.Ends.{end_at, is_transfer}
 use Rattle.cfg_walk.proofs.Cut.{IsCut, cut}
 use Rattle.cfg_walk.proofs.Holding.{IsIn, Leads, is_last, some_words}

@@ -1,8 +1,9 @@
 -- The walk of a run is a walk of the plain graph.
-use Rattle.std.proofs.Common.{◌≡◌, ℕ, zero, suc, ◌<◌, Bool, true, ◌&&◌, List, [], ◌∷◌, ◌++◌, length, Option, Some, None, refl, ap, sym, ◌∙◌, subst}
+use Rattle.std.specs.Prelude.{if◌then◌else◌}
+use Rattle.std.proofs.Common.{◌≡◌, ◌≢◌, ℕ, zero, suc, ◌<◌, Bool, true, false, ◌&&◌, List, [], ◌∷◌, ◌++◌, length, Option, Some, None, refl, ap, sym, ◌∙◌, subst}
 use Rattle.std.specs.List.{position, slice_get}
 use Rattle.std.specs.Option.{option_to_list}
-use Rattle.std.proofs.lemmas.Bool.{and_parts, cond_both, eqb-true, false≢true}
+use Rattle.std.proofs.lemmas.Bool.{and_parts, cond_both, false≢true}
 use Rattle.std.proofs.lemmas.List.Quantifiers.{position-Some}
 use Rattle.std.proofs.lemmas.Option.{slice_get-get_or}
 use Rattle.eel_base.specs.CodeText.{Words, word_at}
@@ -21,15 +22,17 @@ use Rattle.cfg_blocks.specs.declared.EdgeKind.{EdgeKind}
 use Rattle.cfg_blocks.specs.declared.EdgeKind.TheVariants as kinds
 use Rattle.cfg_normal.specs.declared.Edge.{Edge}
 use Rattle.cfg_normal.specs.declared.Node.{Node}
-use Rattle.cfg_normal.specs.declared.Node.TheVariants.{Block, X}
-use Rattle.cfg_normal.specs.Graph.{Graph, graph_of, node_of}
-use Rattle.cfg_walk.specs.Walk.{Point, completed, edge_from, end_of_walk, ends_block, gone, landed, landing_at, led_to, left_at, left_by, node_after, point_of, same_kind, same_node, slot_left, unless_ended, walk}
+use Rattle.cfg_normal.specs.declared.Node.TheVariants.{X}
+use Rattle.cfg_normal.specs.Opens.{Open}
+use Rattle.cfg_normal.specs.Graph.{Graph, graph_of, has_cases, lands_of}
+use Rattle.cfg_walk.specs.Walk.{Point, WayOut, by_kind, completed, edge_along, leads_along as is_to, way_to, edge_from, end_of_walk, ends_block, gone, landed, landing_at, led_to, left_at, left_by, node_after, point_of, same_kind, same_node, slot_left, unless_ended, walk}
 use Rattle.cfg_walk.specs.Matches.{IsOnItsWay, MatchesBy}
 use Rattle.cfg_normal.specs.Numbers.{node_number}
 use Rattle.span_tree.specs.Links.{edge_at, links_of}
 use Rattle.walk_counts.specs.Counts.{ExecutionsAreFlows, WalksArePaths}
 use Rattle.cfg_walk.proofs.Lists.{each_in}
-use Rattle.cfg_walk.proofs.Edges.{IsEdge, land_from, leads_along, out_to}
+use Rattle.cfg_walk.proofs.Edges.{land_from, leads_along, same_nodes}
+use Rattle.cfg_walk.proofs.States.{out_goes}
 use Rattle.cfg_walk.proofs.Walks.{live_before, walks_match}
 
 walk-append : (g : PlainGraph) (a b c : ℕ) (es more : List ℕ) → IsWalk g a es b → IsWalk g b more c
@@ -70,17 +73,15 @@ module _ (graph : Graph) where
             ap (λ o. node_number graph (led_to node o)) (sym (slice_get-get_or graph.edges k _ passes.0)),
           )
 
-  same_number : (one other : Node) → same_node one other ≡ true
-      → node_number graph one ≡ node_number graph other
-  same_number (Block one) (Block other) e = eqb-true one.0 other.0 e
-  same_number (Block one) X e = absurd (false≢true e)
-  same_number X (Block other) e = absurd (false≢true e)
-  same_number X X e = refl
+  pub along_path : (node : Node) (way : WayOut) → IsPath node (edge_along graph node way)
+  along_path node way =
+      first_path (λ edge. is_to way.to edge && (same_node edge.from node && same_kind edge.kind way.kind)) node
+      (λ k l passes. ap (node_number graph)
+      (same_nodes _ node (and_parts (same_node (edge_at graph k).from node) (same_kind (edge_at graph k).kind way.kind)
+      (and_parts (is_to way.to (edge_at graph k)) _ passes).1).0))
 
   pub edge_path : (node : Node) (kind : EdgeKind) → IsPath node (edge_from graph node kind)
-  edge_path node kind =
-      first_path (λ edge. same_node edge.from node && same_kind edge.kind kind) node
-      (λ k l passes. same_number _ node (and_parts _ _ passes).0)
+  edge_path node kind = along_path node (by_kind kind)
 
   left_path : (node : Node) (word : ℕ) (instr : Instr) → IsPath node (left_by graph node word instr)
   left_path node word (i.Branch cond annul disp22) = edge_path node _
@@ -91,9 +92,9 @@ module _ (graph : Graph) where
   path_at text node None = refl
   path_at text node (Some word) = left_path node word _
 
-module _ (text : Words) (b : Blocks) where
+module _ (text : Words) (b : Blocks) (opens : List Open) where
   abbrev graph : Graph
-  graph = graph_of b
+  graph = graph_of b opens
 
   -- ---- out of a slot
 
@@ -101,67 +102,101 @@ module _ (text : Words) (b : Blocks) where
   landing_path node =
       first_path graph (λ edge. same_node edge.to node && same_kind edge.kind kinds.Land) X
       (λ k l passes. ap (node_number graph)
-      (each_in _ graph.edges k _ (land_from b) l (and_parts _ _ passes).1))
+      (each_in (λ edge. same_kind edge.kind kinds.Land ≡ true → edge.from ≡ X) graph.edges k _ (land_from b opens) l
+      (and_parts (same_node (edge_at graph k).to node) (same_kind (edge_at graph k).kind kinds.Land) passes).1))
 
   landed_path : (address : ℕ) (o : Option ℕ) → word_at text address ≡ o
       → IsPath graph X (landed text graph kinds.Out address)
   landed_path address None e = rw e refl
-  landed_path address (Some word) e = rw e (landing_path (node_of b (Some word)))
+  landed_path address (Some word) e = rw e (landing_path (lands_of b opens (Some word)))
 
-  slot_path : (node : Node) (before : Point) (way : EdgeKind) (next : ℕ)
+  quiet : (kind : EdgeKind) (next : ℕ) → same_kind kind kinds.Out ≡ false → landed text graph kind next ≡ []
+  quiet kinds.Out next e = absurd (false≢true (sym e))
+  quiet _ next e = refl
+
+  slot_path : (node : Node) (before : Point) (way : EdgeKind) (next : ℕ) → next ≡ before.npc
       → IsOnItsWay text graph node before way → IsPath graph node (slot_left text graph node way next)
-  slot_path node before way next h =
-      path-append graph node (edge_from graph node way) (landed text graph way next)
-      (edge_path graph node way) (by way h)
+  slot_path node before way next same h =
+      path-append graph node (edge_along graph node w) (landed text graph w.kind next)
+      (along_path graph node w) (by (same_kind w.kind kinds.Out) refl)
     where
-      by : (way : EdgeKind) → IsOnItsWay text graph node before way
-          → IsPath graph (node_after graph node (edge_from graph node way)) (landed text graph way next)
-      by kinds.Out h =
-          let is : IsEdge graph (edge_from graph node kinds.Out) h.edge =
-          record { number = h.number; only = h.only; is = h.is } in
-          let out : node_after graph node (edge_from graph node kinds.Out) ≡ X =
-          leads_along graph node _ h.edge is ∙ out_to b node h.edge is in
-          subst (λ to. IsPath graph to (landed text graph kinds.Out next)) (sym out)
-          (landed_path next (word_at text next) refl)
-      by kinds.Fall h = refl
-      by kinds.Taken h = refl
-      by kinds.Untaken h = refl
-      by kinds.Call h = refl
-      by kinds.Land h = refl
+      w : WayOut
+      w = way_to text graph node way next
+
+      -- a way that goes out is that of a jump without Case edges
+      out_of : (way : EdgeKind) → same_kind (way_to text graph node way next).kind kinds.Out ≡ true
+          → (way ≡ kinds.Out) × (has_cases opens node ≡ false)
+      out_of kinds.Out e = (refl, plain (has_cases opens node) e)
+        where
+          plain : (x : Bool)
+              → same_kind (if x then record { kind = kinds.Case; to = Some (lands_of b opens (word_at text next)) } else by_kind kinds.Out).kind kinds.Out ≡ true
+              → x ≡ false
+          plain true e = absurd (false≢true e)
+          plain false e = refl
+      out_of kinds.Fall e = absurd (false≢true e)
+      out_of kinds.Taken e = absurd (false≢true e)
+      out_of kinds.Untaken e = absurd (false≢true e)
+      out_of kinds.Call e = absurd (false≢true e)
+      out_of kinds.Land e = absurd (false≢true e)
+      out_of kinds.Case e = absurd (false≢true e)
+
+      by : (x : Bool) → same_kind w.kind kinds.Out ≡ x
+          → IsPath graph (node_after graph node (edge_along graph node w)) (landed text graph w.kind next)
+      by false e = subst (IsPath graph (node_after graph node (edge_along graph node w))) (sym (quiet w.kind next e)) refl
+      by true e =
+          let out = out_of way e in
+          let h' : IsOnItsWay text graph node before kinds.Out =
+          subst (λ (k : EdgeKind). IsOnItsWay text graph node before k) out.0 h in
+          let is : w ≡ by_kind kinds.Out =
+          ap (λ k. way_to text graph node k next) out.0
+          ∙ ap (λ (x : Bool). if x then record { kind = kinds.Case; to = Some (lands_of b opens (word_at text next)) } else by_kind kinds.Out) out.1 in
+          let only : edge_along graph node w ≡ h'.number ∷ [] =
+          ap (λ k. edge_along graph node (way_to text graph node k next)) out.0
+          ∙ ap (λ a. edge_along graph node (way_to text graph node kinds.Out a)) same ∙ h'.only in
+          let to_x : node_after graph node (edge_along graph node w) ≡ X =
+          leads_along graph node _ h'.edge (record { number = h'.number; only = only; is = h'.is })
+          ∙ h'.lands_at refl
+          ∙ ap (λ (x : Bool). if x then lands_of b opens (word_at text before.npc) else X) out.1 in
+          subst (λ to. IsPath graph to (landed text graph w.kind next)) (sym to_x)
+          (subst (λ (v : WayOut). IsPath graph X (landed text graph v.kind next)) (sym is)
+          (landed_path next (word_at text next) refl))
 
   -- ---- a step
 
   step_path : (node : Node) (before after : Point) (was now : Slot) → MatchesBy text graph node before was
+      → (was ≢ NoSlot → now ≡ NoSlot → after.pc ≡ before.npc)
       → IsPath graph node (completed text graph node before after was now)
-  step_path node before after NoSlot NoSlot h = path_at graph text node (word_at text before.pc)
-  step_path node before after NoSlot Taken h = refl
-  step_path node before after NoSlot Untaken h = refl
-  step_path node before after Taken NoSlot h = slot_path node before _ after.pc h
-  step_path node before after Taken Taken h = refl
-  step_path node before after Taken Untaken h = refl
-  step_path node before after Untaken NoSlot h = slot_path node before _ after.pc h
-  step_path node before after Untaken Taken h = refl
-  step_path node before after Untaken Untaken h = refl
+  step_path node before after NoSlot NoSlot h goes = path_at graph text node (word_at text before.pc)
+  step_path node before after NoSlot Taken h goes = refl
+  step_path node before after NoSlot Untaken h goes = refl
+  step_path node before after Taken NoSlot h goes = slot_path node before _ after.pc (goes (λ e. absurd (cc)) refl) h
+  step_path node before after Taken Taken h goes = refl
+  step_path node before after Taken Untaken h goes = refl
+  step_path node before after Untaken NoSlot h goes = slot_path node before _ after.pc (goes (λ e. absurd (cc)) refl) h
+  step_path node before after Untaken Taken h goes = refl
+  step_path node before after Untaken Untaken h goes = refl
 
   pub gone_path : (node : Node) (s t : State) (o : Option Ending)
       → (o ≡ None → MatchesBy text graph node (point_of s) s.slot)
+      → (o ≡ None → s.slot ≢ NoSlot → t.slot ≡ NoSlot → t.pc ≡ s.npc)
       → IsPath graph node (gone text graph node (point_of s) (unless_ended o (point_of t)))
-  gone_path node s t None h = step_path node (point_of s) (point_of t) s.slot t.slot (h refl)
-  gone_path node s t (Some ending) h = refl
+  gone_path node s t None h goes = step_path node (point_of s) (point_of t) s.slot t.slot (h refl) (goes refl)
+  gone_path node s t (Some ending) h goes = refl
 
 pub walks_are_paths : WalksArePaths
 unfolding walk end_of_walk
-walks_are_paths text given entry s0 zero is fetches begins = refl
-walks_are_paths text given entry s0 (suc n) is fetches begins =
+walks_are_paths text given opens entry s0 zero is fetches begins are cases = refl
+walks_are_paths text given opens entry s0 (suc n) is fetches begins are cases =
     let b = blocks_of text given in
-    let node : Node = end_of_walk text (graph_of b) entry s0 n in
+    let node : Node = end_of_walk text (graph_of b opens) entry s0 n in
     let s : State = run s0 n in
     let t : State = run s0 (suc n) in
-    walk-append (links_of (graph_of b)) _ _ _ (walk text (graph_of b) entry s0 n) _
-    (walks_are_paths text given entry s0 n is fetches begins)
-    (gone_path text b node s t t.ending
-    (λ live. walks_match text given entry s0 n is fetches begins (live_before s live)))
+    walk-append (links_of (graph_of b opens)) _ _ _ (walk text (graph_of b opens) entry s0 n) _
+    (walks_are_paths text given opens entry s0 n is fetches begins are cases)
+    (gone_path text b opens node s t t.ending
+    (λ live. (walks_match text given opens entry s0 n is fetches begins are cases (live_before s live)).0)
+    (λ live was now. out_goes s live was))
 
 pub executions_are_flows : ExecutionsAreFlows
-executions_are_flows text given entry s0 n is fetches begins =
-    walk_is_flow _ _ _ _ (walks_are_paths text given entry s0 n is fetches begins)
+executions_are_flows text given opens entry s0 n is fetches begins are cases =
+    walk_is_flow _ _ _ _ (walks_are_paths text given opens entry s0 n is fetches begins are cases)

@@ -1,12 +1,13 @@
 -- How often a run completes each edge of the flow graph. Its walk is one of a plain graph, where nodes and
 -- edges are numbers, so that the counts are a flow (Ball and Larus, "Optimally Profiling and Tracing Programs",
 -- ACM TOPLAS 16 (4), 1994).
-use Rattle.std.specs.Prelude.{ℕ, Some, ℤ, pos}
+use Rattle.std.specs.Prelude.{ℕ, List, Some, ℤ, pos}
 use Rattle.eel_base.specs.CodeText.{Words}
 use Rattle.v8_step.specs.State.{State}
 use Rattle.flows.specs.Flows.{Agree, AgreeOn, Determines, EdgeSet, IsGraph, IsFlow}
 use Rattle.flows.specs.Walks.{IsWalk, times}
 use Rattle.cfg_blocks.specs.Blocks.{Blocks}
+use Rattle.cfg_normal.specs.Opens.{Open}
 use Rattle.cfg_normal.specs.Graph.{Graph, graph_of, node_of}
 use Rattle.cfg_walk.specs.Walk.{walk, end_of_walk}
 use Rattle.cfg_walk.specs.Matches.{OfEachRun}
@@ -14,9 +15,9 @@ use Rattle.cfg_normal.specs.Numbers.{node_number}
 use Rattle.span_tree.specs.Links.{links_of}
 use Rattle.walk_counts.specs.Files.{OfEachFile}
 
--- both ends of each edge are nodes
+-- both ends of each edge are nodes, with any open switches
 abbrev pub LinksAreAGraph : Type 0
-LinksAreAGraph = (b : Blocks) → IsGraph (links_of (graph_of b))
+LinksAreAGraph = (b : Blocks) (opens : List Open) → IsGraph (links_of (graph_of b opens))
 
 -- ---- the walk of the first n steps of a run, and its counts
 

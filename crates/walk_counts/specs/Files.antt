@@ -1,5 +1,5 @@
 -- The walk of the run of a file without a fault.
-use Rattle.std.specs.Prelude.{◌≡◌, ℕ, List, None}
+use Rattle.std.specs.Prelude.{◌≡◌, ℕ, List, [], None}
 use Rattle.eel_base.specs.CodeText.{Words}
 use Rattle.elf32_sparc.specs.FileFault.{fault}
 use Rattle.elf32_sparc.specs.Image.{text_of, image_of}
@@ -16,9 +16,9 @@ OnlyTextIsFetched =
     (file : List ℕ) (args : List (List ℕ)) (input : List ℕ) → fault file ≡ None → AreBytes file
     → FetchesOnly (text_of file) (start_of file args input)
 
--- the graph of a file's text, where these words lead besides
+-- the graph of a file's text, where these words lead besides; no switch is open
 abbrev pub graph_in : List ℕ → List ℕ → Graph
-graph_in file given = graph_of (blocks_of (text_of file) given)
+graph_in file given = graph_of (blocks_of (text_of file) given) []
 
 -- what holds of the walk of the run of each file, from its entry on
 abbrev pub OfEachFile : (Words → Graph → ℕ → State → ℕ → Type 0) → Type 0

@@ -17,7 +17,7 @@ text_with words = record { start = 0x10054; words = words }
 -- the graph of a program of these words, at some of which routines start
 unfoldable pub graph_with : List ℕ → List ℕ → Graph
 unfolding after blocks_of leaders end_at edges_in
-graph_with words starts = graph_of (blocks_of (text_with words) starts)
+graph_with words starts = graph_of (blocks_of (text_with words) starts) []
 
 -- the walk of a program's run of so many steps
 unfoldable pub walk_with : List ℕ → List ℕ → ℕ → List ℕ

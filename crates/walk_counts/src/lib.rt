@@ -18,15 +18,15 @@ pub fn walks_of_files_match()
     ensures { WalksOfFilesMatch }
 {}
 
-/// Both ends of each edge of a flow graph are nodes, where a block is the node of its own number, and all
-/// that lies outside is the node after the last block.
+/// Both ends of each edge of a flow graph are nodes, where a block is the node of its own number, all that lies
+/// outside is the node after the last block, and the landed copies of blocks come behind that.
 pub fn links_are_a_graph()
     ensures { LinksAreAGraph }
 {}
 
 /// The edges of a walk lead from the entry's block to the node where the walk stands, each from where the one
-/// before it ends. A jump's edge leads outside, and the landing after it leads in again. This also holds once
-/// the run has ended: the walk then stands where the last step before that left it.
+/// before it ends. A jump's edge leads outside, and the landing after it leads in again; a Case edge leads where the
+/// jump lands. This also holds once the run has ended: the walk then stands where the last step before that left it.
 pub fn walks_are_paths()
     ensures { WalksArePaths }
 {}

@@ -97,7 +97,8 @@ pub record TellCounts (file bytes lines : List ℕ) : Type 0 where
 pub record IsOfRun (original file : List ℕ) (notes : Notes) (dump : Dump) (args : List (List ℕ)) (input : List ℕ)
     (m : ℕ) : Type 0 where
   pub bytes : AreBytes original
-  pub profile : IsProfileOf original file
+  pub weights : List ℕ
+  pub profile : IsProfileOf weights original file
   pub arguments : AreArguments args
   pub given : AreBytes input
   pub untouched : IsUntouched (pages_of notes) (start_of original args input)

@@ -8,8 +8,7 @@ use Rattle.v8_step.specs.State.{State}
 use Rattle.v8_step.specs.Run.{run}
 use Rattle.v8_process.specs.Start.{start_of}
 use Rattle.v8_runner.specs.Runs.{AreMade}
-use Rattle.cfg_view.specs.declared.View.{View}
-use Rattle.cfg_view.specs.View.{view_of}
+use Rattle.cfg_view.specs.View.{Seen, view_of}
 use Rattle.cfg_walk.specs.Walk.{walk}
 use Rattle.show_text.specs.Lines.{line}
 use Rattle.workload.specs.Generated.{generated}
@@ -35,7 +34,7 @@ walk_alone file steps = walk (image_of file).text (graph_in file) (image_of file
 -- ---- the lines
 
 -- how many words, blocks and edges a program has
-abbrev pub size_in : View → Size
+abbrev pub size_in : Seen → Size
 size_in view = record {
   words = length view.image.text.words;
   blocks = length view.graph.blocks.firsts;

@@ -4,8 +4,9 @@ use Rattle.std.specs.Prelude.{◌≡◌, ℕ, List, [], ◌∷◌, length, map, 
 use Rattle.eel_base.specs.Outside.{IsMissing, stored}
 use Rattle.flows.specs.Flows.{IsLeast, rest}
 use Rattle.flows.specs.Links.{weight_in}
-use Rattle.flows.specs.Trees.{IsSpanningTree, all_nodes}
+use Rattle.flows.specs.Trees.{IsSpanningTree}
 use Rattle.cfg_normal.specs.Graph.{Graph}
+use Rattle.cfg_normal.specs.Numbers.{is_node}
 use Rattle.cfg_view.specs.View.{view_of}
 use Rattle.span_tree.specs.Cells.{AreNumbered, cell_count, has_cell}
 use Rattle.span_tree.specs.Links.{links_of}
@@ -27,15 +28,19 @@ use Rattle.eel.specs.Answers.Edit.{IsEditOf}
 
 -- The cells of the edges of a graph: those that have one have 0, 1, 2 and so on in edge order, and the others are a
 -- spanning tree of all nodes. So the counts of those that have one determine all counts, and no set of edges whose counts
--- do weighs less.
-pub record AreCells (graph : Graph) (cells : List (Option ℕ)) : Type 0 where
+-- do weighs less, by these weights of the edges.
+pub record AreCells (graph : Graph) (weights : List ℕ) (cells : List (Option ℕ)) : Type 0 where
   pub size : length cells ≡ length graph.edges
   pub numbered : AreNumbered cells
-  pub spans : IsSpanningTree (links_of graph) all_nodes (rest (has_cell cells))
-  pub least : IsLeast (links_of graph) (weight_in (weights_of graph.blocks graph.edges)) (has_cell cells)
+  pub spans : IsSpanningTree (links_of graph) (is_node graph) (rest (has_cell cells))
+  pub least : IsLeast (links_of graph) (weight_in weights) (has_cell cells)
 
 abbrev pub graph_in : List ℕ → Graph
 graph_in bytes = (view_of bytes []).graph
+
+-- the weights that are guessed, by the loops about each edge
+abbrev pub guessed : List ℕ → List ℕ
+guessed bytes = weights_of (graph_in bytes).blocks (graph_in bytes).edges
 
 -- ---- what the tool asks for
 
@@ -50,27 +55,28 @@ profile_plan cells =
 
 -- ---- refusals
 
--- why a profile of some bytes is refused
-abbrev pub ProfileRefuses : List ℕ → EditFault → Type 0
-ProfileRefuses bytes (faults.File first) = fault bytes ≡ Some first
-ProfileRefuses bytes (faults.Room needed had) =
-    (cells : List (Option ℕ)) × AreCells (graph_in bytes) cells × IsCramped needed had bytes (profile_plan cells)
-ProfileRefuses bytes faults.NoMemory = fault bytes ≡ None
+-- why a profile of some bytes by these weights is refused
+abbrev pub ProfileRefuses : List ℕ → List ℕ → EditFault → Type 0
+ProfileRefuses weights bytes (faults.File first) = fault bytes ≡ Some first
+ProfileRefuses weights bytes (faults.Room needed had) =
+    (cells : List (Option ℕ)) × AreCells (graph_in bytes) weights cells × IsCramped needed had bytes (profile_plan cells)
+ProfileRefuses weights bytes faults.NoMemory = fault bytes ≡ None
 
 -- IN was read, and no profile is made of it
 abbrev pub IsNotProfiled : List ℕ → List ℕ → Outcome → Type 0
 IsNotProfiled name bytes (BadFile named code) = (named ≡ name) × IsFaulty code bytes
 IsNotProfiled name bytes (NoRoom named needed had) =
-    (cells : List (Option ℕ)) × (named ≡ name) × AreCells (graph_in bytes) cells × IsCramped needed had bytes (profile_plan cells)
+    (cells : List (Option ℕ)) × (named ≡ name) × AreCells (graph_in bytes) (guessed bytes) cells
+    × IsCramped needed had bytes (profile_plan cells)
 IsNotProfiled name bytes OutOfMemory = IsSound bytes
 IsNotProfiled name bytes _ = ⊥
 
 -- ---- the edit
 
 -- a file that was made of another, with counters on the edges off a tree
-pub record IsProfileOf (bytes file : List ℕ) : Type 0 where
+pub record IsProfileOf (weights bytes file : List ℕ) : Type 0 where
   pub cells : List (Option ℕ)
-  pub are : AreCells (graph_in bytes) cells
+  pub are : AreCells (graph_in bytes) weights cells
   pub made : IsEditOf bytes (profile_plan cells) file
 
 -- How an edit with counters goes, step by step, and what comes of it.
@@ -84,7 +90,7 @@ pub data Profiles (input output : List ℕ) (old new : Store) (outcome : Outcome
       → Profiles input output old new outcome
   -- a file with counters was made of it, and was to be put as OUT
   put : (bytes : List ℕ) → WasRead old input edit_limit bytes
-      → (file : List ℕ) → IsProfileOf bytes file → IsPut old new output file outcome
+      → (file : List ℕ) → IsProfileOf (guessed bytes) bytes file → IsPut old new output file outcome
       → Profiles input output old new outcome
 
 -- the edit is done
@@ -92,7 +98,7 @@ pub record IsProfiled (input output : List ℕ) (old new : Store) : Type 0 where
   pub bytes : List ℕ
   pub read : WasRead old input edit_limit bytes
   pub file : List ℕ
-  pub made : IsProfileOf bytes file
+  pub made : IsProfileOf (guessed bytes) bytes file
   pub held : new.held ≡ stored old.held output file
 
 abbrev pub profile_means : List ℕ → List ℕ → Meaning

@@ -1,6 +1,6 @@
 -- `edit IN OUT script S`: the file IN and the script S are read, both are judged, and IN is edited as the lines of S
 -- say and written as OUT.
-use Rattle.std.specs.Prelude.{◌≡◌, ◌≤◌, ℕ, ◌*◌, ◌^◌, ◌⊎◌, List, [], get_or, length}
+use Rattle.std.specs.Prelude.{◌≡◌, ◌≤◌, ℕ, ◌*◌, ◌^◌, ◌⊎◌, List, [], get_or, length, Option, Some, None}
 use Rattle.eel_base.specs.Outside.{IsMissing, stored}
 use Rattle.snippets.specs.declared.snippet.Op.{Op}
 use Rattle.snippets.specs.declared.script.Script.{Script}
@@ -60,17 +60,19 @@ script_refusal_of name (script_faults.Cell number) = BadLine name number causes.
 script_refusal_of name (script_faults.Ops number) = BadLine name number causes.Operations
 script_refusal_of name script_faults.NoMemory = OutOfMemory
 
--- the fault of a line with this number
-abbrev pub line_fault : ℕ → LineCause → ScriptFault
-line_fault number causes.Grammar = script_faults.Line number
-line_fault number causes.Edge = script_faults.Edge number
-line_fault number causes.Cell = script_faults.Cell number
-line_fault number causes.Operations = script_faults.Ops number
+-- the number of the bad line that a fault names, and what is bad about it
+abbrev pub line_cause : ScriptFault → Option (ℕ × LineCause)
+line_cause (script_faults.Line number) = Some (number, causes.Grammar)
+line_cause (script_faults.Edge number) = Some (number, causes.Edge)
+line_cause (script_faults.Cell number) = Some (number, causes.Cell)
+line_cause (script_faults.Ops number) = Some (number, causes.Operations)
+line_cause script_faults.NoMemory = None
 
 -- the first bad line of a script, for a graph of so many edges
 abbrev pub HasBadLine : ℕ → List ℕ → ℕ → LineCause → Type 0
 HasBadLine edges lines number cause =
-    (said : _) × AllSay (lines_of lines) said × IsFirstFault edges said (line_fault number cause)
+    (said : _) × (fault : ScriptFault) × AllSay (lines_of lines) said × IsFirstFault edges said fault
+    × (line_cause fault ≡ Some (number, cause))
 
 -- a script was read for a graph of so many edges, and is refused
 abbrev pub IsBadScript : ℕ → List ℕ → List ℕ → Outcome → Type 0

@@ -1,5 +1,5 @@
-use Rattle.std.proofs.Common.{rules, ◌≡◌, ℕ, ◌+◌, ◌<◌, ◌∙◌, Option, ap, arith, sym, length, map, true, subst}
-use Rattle.std.specs.Prelude.{IfSome, replicate}
+use Rattle.std.proofs.Common.{rules, ◌≡◌, ℕ, ◌<◌, ◌∙◌, Option, ap, arith, sym, length, map, subst}
+use Rattle.std.specs.Prelude.{IfSome}
 use Rattle.std.proofs.lemmas.List.{length-map}
 use Rattle.flows.specs.Flows.{rest}
 use Rattle.flows.specs.Links.{graph_of, marked}
@@ -8,18 +8,19 @@ use Rattle.flow_tree.specs.Tree.{IsGrown, edges_of}
 use Rattle.flow_tree.specs.declared.Tree.{Tree}
 use Rattle.std.specs.Option.{is_some}
 use Rattle.std.proofs.lemmas.Bool.{false≢true}
-use Rattle.notes.specs.Seen.{edge_seen}
-use Rattle.count_rebuild.specs.Noted.{is_counted}
+use Rattle.notes.specs.Seen.{edge_seen, notes_seen}
+use Rattle.count_rebuild.specs.Noted.{AreNodes, is_counted}
 use Rattle.count_rebuild.proofs.Profile.{joins, length_links, rest_at, tree_from, tree_of}
 use Rattle.count_rebuild.proofs.rebuilding.profile_tree.Goals as goal
 
 pub span-requires-clause-nodes : goal.span-requires-clause-nodes
 span-requires-clause-nodes c =
-    joins c.args.n.now c.deref-2.result.now (search rules) c.args.links.now c.requires.links c.requires.notes
+    joins c.args.n.now c.deref-2.result.now
+    (subst (AreNodes (notes_seen c.args.n.now)) (sym c.deref-2.ensures.value) c.in_ok-is_node.ensures) c.args.links.now c.requires.links c.requires.notes
 
 pub returns-in-Some-clause-tree : goal.returns-in-Some-clause-tree
 returns-in-Some-clause-tree c =
-    let nodes : c.deref-2.result.now ≡ replicate (length c.args.n.now.blocks.items + 1) true = search rules in
+    let nodes = subst (AreNodes (notes_seen c.args.n.now)) (sym c.deref-2.ensures.value) c.in_ok-is_node.ensures in
     let marks : c.deref-3.result.now ≡ map (λ edge. is_counted (edge_seen edge)) c.args.n.now.edges.items = search rules in
     let same : c.in-Some.tree.reached.items ≡ c.deref-2.result.now =
     subst (λ (o : Option Tree). IfSome o (λ t. t.reached.items ≡ c.deref-2.result.now)) c.in-Some.is
@@ -33,7 +34,7 @@ returns-in-Some-clause-tree c =
       grown = subst (λ (k : ℕ). IsGrown (graph_of k c.args.links.now) c.in-Some.tree) (sym (ap length same))
           (subst (λ (o : Option Tree). IfSome o (IsGrown (graph_of (length c.deref-2.result.now) c.args.links.now))) c.in-Some.is
           c.in_ok-tree.ensures.grown);
-      reached = same ∙ nodes;
+      reached = subst (AreNodes (notes_seen c.args.n.now)) (sym same) nodes;
       edges = λ e l.
           subst (λ (o : Option Tree). IfSome o (λ t. (e : ℕ) → e < length c.args.links.now
           → on (edges_of t) e ≡ rest (marked c.deref-3.result.now) e)) c.in-Some.is c.in_ok-tree.ensures.edges e
@@ -44,7 +45,7 @@ returns-in-Some-clause-tree c =
 
 pub returns-clause-refused : goal.returns-clause-refused
 returns-clause-refused c =
-    let nodes : c.deref-2.result.now ≡ replicate (length c.args.n.now.blocks.items + 1) true = search rules in
+    let nodes = subst (AreNodes (notes_seen c.args.n.now)) (sym c.deref-2.ensures.value) c.in_ok-is_node.ensures in
     let marks : c.deref-3.result.now ≡ map (λ edge. is_counted (edge_seen edge)) c.args.n.now.edges.items = search rules in
     λ d profile. false≢true (sym (ap is_some c.in-None.is) ∙ c.in_ok-tree.ensures.exactly.1
     (tree_from c.args.n.now c.deref-2.result.now nodes c.args.links.now c.requires.links c.deref-3.result.now marks profile.tree))

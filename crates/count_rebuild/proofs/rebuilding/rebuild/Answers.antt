@@ -29,8 +29,8 @@ rebuild-requires-clause-ends c =
 
 pub rebuild-requires-clause-end : goal.rebuild-requires-clause-end
 rebuild-requires-clause-end c =
-    node_marked c.args.n.now c.in_ok-tree.tree.reached.items c.in_ok-tree.ensures.tree.reached c.in_ok-node.node
-    (stands_inside c.args.n.now c.args.d.now c.in_ok-node.node c.requires.notes c.in_ok-node.ensures.stands)
+    let inside = stands_inside c.args.n.now c.args.d.now c.in_ok-node.node c.requires.notes c.in_ok-node.ensures.stands in
+    node_marked c.args.n.now c.in_ok-tree.tree.reached.items c.in_ok-tree.ensures.tree.reached c.in_ok-node.node inside.0 inside.1
 
 pub whole_numbers-requires-clause-small : goal.whole_numbers-requires-clause-small
 whole_numbers-requires-clause-small c =

@@ -24,15 +24,15 @@ returns-then-had-needed-clause-refused g c =
       snips = c.in_ok-snips.field-0.items;
     } in
     let asked = asks g.F.Chooser.says c.args.tool.now c.args.bytes.now c.marks.result.now c.kind.result c.cells.result
-    c.in_ok-snips.field-0.items c.in_ok-view.view c.marks.ensures c.kind.ensures c.cells.ensures.cells
+    c.in_ok-snips.field-0.items _ c.marks.ensures c.kind.ensures c.cells.ensures.cells
     c.in_ok-view.ensures.view c.in_ok-snips.ensures.answers in
-    let seen = view_is c.args.bytes.now plan c.in_ok-view.view c.in_ok-view.ensures.view in (
+    let seen = view_is c.args.bytes.now plan _ c.in_ok-view.ensures.view in (
       plan,
       asked,
       record {
         sound = sym c.in_ok-view.ensures.fault;
         needed_is = c.bound-needed.ensures ∙ rw (c.text-text.ensures, c.deref.ensures.value)
-            (view_bound c.args.bytes.now plan c.in_ok-view.view c.in_ok-view.ensures.view);
+            (view_bound c.args.bytes.now plan _ c.in_ok-view.ensures.view);
         had_is = c.from-had.ensures ∙ c.room.ensures ∙ ap (λ (i : Program). i.room) seen.0;
         less = c.if-had-needed.true;
       },
@@ -47,16 +47,16 @@ edited-requires-clause-asked g c =
       snips = c.in_ok-snips.field-0.items;
     } in
     let asked = asks g.F.Chooser.says c.args.tool.now c.args.bytes.now c.marks.result.now c.kind.result c.cells.result
-    c.in_ok-snips.field-0.items c.in_ok-view.view c.marks.ensures c.kind.ensures c.cells.ensures.cells
+    c.in_ok-snips.field-0.items _ c.marks.ensures c.kind.ensures c.cells.ensures.cells
     c.in_ok-view.ensures.view c.in_ok-snips.ensures.answers in
-    let seen = view_is c.args.bytes.now plan c.in_ok-view.view c.in_ok-view.ensures.view in
+    let seen = view_is c.args.bytes.now plan _ c.in_ok-view.ensures.view in
     let needed : c.bound-needed.result ≡ bound_of c.in_ok-view.view.image.text c.in_ok-view.view.graph plan =
     c.bound-needed.ensures ∙ rw (c.text-text.ensures, c.deref.ensures.value) refl in
     let had = c.from-had.ensures ∙ c.room.ensures in
-    let can = can_edit c.args.bytes.now plan c.in_ok-view.view c.in_ok-view.ensures.view c.in_ok-view.ensures.fault
+    let can = can_edit c.args.bytes.now plan _ c.in_ok-view.ensures.view c.in_ok-view.ensures.fault
     (omega (arith, needed, had, c.if-had-needed.false)) in
     let work = can_do g.F.Chooser.says c.args.tool.now c.args.bytes.now c.marks.result.now c.kind.result c.cells.result
-    c.in_ok-snips.field-0.items c.in_ok-view.view c.marks.ensures c.kind.ensures c.cells.ensures.cells
+    c.in_ok-snips.field-0.items _ c.marks.ensures c.kind.ensures c.cells.ensures.cells
     c.in_ok-view.ensures.view c.in_ok-snips.ensures.answers
     c.in_ok-snips.ensures.good c.cells.ensures.sound.few c.requires.counters in
     (numbers c.marks.result.now, seen, can, work)
@@ -71,16 +71,16 @@ returns-clause-edited g c =
       snips = c.in_ok-snips.field-0.items;
     } in
     let asked = asks g.F.Chooser.says c.args.tool.now c.args.bytes.now c.marks.result.now c.kind.result c.cells.result
-    c.in_ok-snips.field-0.items c.in_ok-view.view c.marks.ensures c.kind.ensures c.cells.ensures.cells
+    c.in_ok-snips.field-0.items _ c.marks.ensures c.kind.ensures c.cells.ensures.cells
     c.in_ok-view.ensures.view c.in_ok-snips.ensures.answers in
-    let seen = view_is c.args.bytes.now plan c.in_ok-view.view c.in_ok-view.ensures.view in
+    let seen = view_is c.args.bytes.now plan _ c.in_ok-view.ensures.view in
     let needed : c.bound-needed.result ≡ bound_of c.in_ok-view.view.image.text c.in_ok-view.view.graph plan =
     c.bound-needed.ensures ∙ rw (c.text-text.ensures, c.deref.ensures.value) refl in
     let had = c.from-had.ensures ∙ c.room.ensures in
-    let can = can_edit c.args.bytes.now plan c.in_ok-view.view c.in_ok-view.ensures.view c.in_ok-view.ensures.fault
+    let can = can_edit c.args.bytes.now plan _ c.in_ok-view.ensures.view c.in_ok-view.ensures.fault
     (omega (arith, needed, had, c.if-had-needed.false)) in
     let work = can_do g.F.Chooser.says c.args.tool.now c.args.bytes.now c.marks.result.now c.kind.result c.cells.result
-    c.in_ok-snips.field-0.items c.in_ok-view.view c.marks.ensures c.kind.ensures c.cells.ensures.cells
+    c.in_ok-snips.field-0.items _ c.marks.ensures c.kind.ensures c.cells.ensures.cells
     c.in_ok-view.ensures.view c.in_ok-snips.ensures.answers
     c.in_ok-snips.ensures.good c.cells.ensures.sound.few c.requires.counters in
     let written = c.in_ok-file.ensures (numbers c.marks.result.now) seen in (

@@ -32,8 +32,20 @@ returns-in-Restore-clause-follows g c =
 
 pub returns-in-Show-clause-follows : goal.returns-in-Show-clause-follows
 returns-in-Show-clause-follows g c =
-    rw (← c.in-Show.ensures.command) (c.show_program.ensures.lists _ _, c.show_program.ensures.kept, refl)
+    rw (← c.in-Show.ensures.command) (c.show_program.ensures.prints _ _, c.show_program.ensures.kept, refl)
 
 pub returns-in-Demo-clause-follows : goal.returns-in-Demo-clause-follows
 returns-in-Demo-clause-follows g c =
     rw (← c.in-Demo.ensures.command) (c.demonstrate.ensures.tells _ _ _, refl, refl)
+
+pub returns-in-ListWords-clause-follows : goal.returns-in-ListWords-clause-follows
+returns-in-ListWords-clause-follows g c =
+    rw (← c.in-ListWords.ensures.command) (c.list_words.ensures.prints _ _, c.list_words.ensures.kept, refl)
+
+pub returns-in-PutWords-clause-follows : goal.returns-in-PutWords-clause-follows
+returns-in-PutWords-clause-follows g c =
+    rw (← c.in-PutWords.ensures.command) (c.assemble_words.ensures.assembles, refl, (refl, refl))
+
+pub returns-in-EditWeighed-clause-follows : goal.returns-in-EditWeighed-clause-follows
+returns-in-EditWeighed-clause-follows g c =
+    rw (← c.in-EditWeighed.ensures.command) (c.edit_by_weights.ensures.weighs, refl, (refl, refl))

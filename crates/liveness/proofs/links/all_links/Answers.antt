@@ -1,12 +1,20 @@
-use Rattle.std.proofs.Common.{List, length, subst}
+use Rattle.std.proofs.Common.{arith, [], List, subst}
+use Rattle.std.specs.List.{Contains}
 use Rattle.flood.specs.declared.Link.{Link}
-use Rattle.liveness.specs.Search.{Gains, InBlockBelow}
-use Rattle.liveness.proofs.Gaining.{all_links}
+use Rattle.liveness.specs.Search.{Adds, LinksAlongAny, LinksInAny, LinksOntoAny}
+use Rattle.liveness.proofs.Adding.{adds_up}
 use Rattle.liveness.proofs.links.all_links.Goals as goal
 
 pub returns-clause-links : goal.returns-clause-links
 returns-clause-links c =
-    all_links c.args.text.now c.args.graph.now c.link_blocks.new.links.items c.link_edges.new.links.items
-    (subst (λ (l : List Link). Gains l c.link_blocks.new.links.items (InBlockBelow c.args.text.now c.args.graph.now (length c.args.graph.now.blocks.firsts)))
-    c.in_ok-links.ensures.items c.in_ok-link_blocks.ensures.gained)
-    c.in_ok-link_edges.ensures.gained
+    let text = c.args.text.now in
+    let graph = c.args.graph.now in
+    record {
+      contained =
+          adds_up (Contains []) (Contains c.link_blocks.new.links.items) (Contains c.link_edges.new.links.items)
+          (Contains c.link_landings.new.links.items) (LinksInAny text graph) (LinksAlongAny text graph)
+          (LinksOntoAny graph c.args.places.now.marks.items) (λ l h. let none = h.1 in absurd (omega arith))
+          (subst (λ (l : List Link). Adds (Contains l) (Contains c.link_blocks.new.links.items) (LinksInAny text graph))
+          c.in_ok-links.ensures.items c.in_ok-link_blocks.ensures.added)
+          c.in_ok-link_edges.ensures.added c.in_ok-link_landings.ensures.added;
+    }

@@ -1,10 +1,13 @@
-use Rattle.std.proofs.Common.{◌+◌, ◌≤◌, length}
-use Rattle.liveness.specs.Search.{Gains, InBlockBelow}
+use Rattle.std.proofs.Common.{◌+◌, ◌*◌, ◌≤◌, length}
+use Rattle.std.specs.List.{Contains}
+use Rattle.liveness.specs.Search.{Adds, Between, LinksIn}
 use Rattle.liveness.proofs.Held.{start_of}
 use Rattle.liveness.proofs.links.link_blocks.Given as goal
 
 abbrev pub invariant-loop-block : goal.invariant-loop-block
 invariant-loop-block l = record {
-  gained : Gains l.fn.links.items l.links.items (InBlockBelow l.text l.graph l.block);
-  few : length l.links.items ≤ length l.fn.links.items + start_of l.graph.blocks.words l.graph.blocks.firsts l.block;
+  added : Adds (Contains l.fn.links.items) (Contains l.links.items) (Between (LinksIn l.text l.graph) 0 l.block);
+  few :
+      length l.links.items
+      ≤ length l.fn.links.items + 2 * start_of l.graph.blocks.words l.graph.blocks.firsts l.block;
 }

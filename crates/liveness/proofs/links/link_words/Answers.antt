@@ -1,14 +1,22 @@
-use Rattle.std.proofs.Common.{arith, ◌≤◌, suc, ap, ◌∙◌}
-use Rattle.v8_decode.specs.Effects.{write_set}
-use Rattle.liveness.proofs.Gaining.{more_words}
+use Rattle.std.proofs.Common.{arith, ◌+◌}
+use Rattle.std.specs.List.{Contains}
+use Rattle.liveness.specs.Search.{LinksLanding, first_in, last_in}
+use Rattle.liveness.proofs.Adding.{adds_all, adds_next}
 use Rattle.liveness.proofs.links.link_words.Goals as goal
 
 pub loop-word-preserved : goal.loop-word-preserved
 loop-word-preserved c = record {
-  gained =
-      let low : suc c.args.first ≤ c.loop-word.word = omega arith in
-      more_words c.args.text.now c.args.first c.loop-word.word c.args.links.now.items c.loop-word.links.items c.push.new.self.items _ low
-      c.loop-word.invariant.gained c.in_ok-push.ensures.items
-      (c.writes.ensures ∙ ap write_set c.instr_at.ensures.value);
-  few = omega (arith, c.in_ok-push.ensures.len, c.loop-word.invariant.few);
+  added =
+      adds_next (Contains c.args.links.now.items) (Contains c.loop-word.links.items)
+      (Contains c.link_word.new.links.items) (LinksLanding c.args.graph.now c.args.node)
+      (first_in c.args.graph.now c.args.node) c.loop-word.word (omega arith) c.loop-word.invariant.added
+      c.in_ok-link_word.ensures.added;
+  few = omega (arith, c.in_ok-link_word.ensures.few, c.loop-word.invariant.few);
 }
+
+pub returns-clause-added : goal.returns-clause-added
+returns-clause-added c =
+    adds_all (Contains c.args.links.now.items) (Contains c.loop-word.links.items)
+    (LinksLanding c.args.graph.now c.args.node) (first_in c.args.graph.now c.args.node)
+    c.loop-word.word (last_in c.args.graph.now c.args.node + 1)
+    c.loop-word.invariant.added (omega arith)

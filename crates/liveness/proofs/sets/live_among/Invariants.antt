@@ -1,8 +1,10 @@
-use Rattle.std.proofs.Common.{◌≡◌, ◌↔◌, true}
+use Rattle.std.proofs.Common.{◌≡◌, true, []}
 use Rattle.v8_decode.specs.declared.Part.{Part}
 use Rattle.v8_decode.specs.Parts.{has}
-use Rattle.liveness.proofs.Joining.{Among}
+use Rattle.liveness.specs.Search.{Adds, Between, LivesAtLanding, first_in}
 use Rattle.liveness.proofs.sets.live_among.Given as goal
 
 abbrev pub invariant-loop-word : goal.invariant-loop-word
-invariant-loop-word l = (x : Part) → (has l.live x ≡ true) ↔ Among l.words l.first l.word x
+invariant-loop-word l =
+    Adds {A = Part} (λ x. has [] x ≡ true) (λ x. has l.live x ≡ true)
+    (Between (LivesAtLanding l.graph l.node l.sets) (first_in l.graph l.node) l.word)

@@ -1,9 +1,10 @@
-use Rattle.std.proofs.Common.{◌≡◌, ℕ, List, ◌+◌, ◌∙◌, ap, length, subst, sym}
+use Rattle.std.proofs.Common.{◌≡◌, ℕ, List, ◌+◌, ◌*◌, ◌∙◌, ap, length, subst, sym}
 use Rattle.std.proofs.lemmas.List.{length-map}
 use Rattle.flows.specs.Flows.{Graph, IsLeast, rest}
 use Rattle.flows.specs.Links.{graph_of, marked, weight_in}
-use Rattle.flows.specs.Trees.{IsConnected, IsSpanningTree, all_nodes}
+use Rattle.flows.specs.Trees.{IsConnected, IsSpanningTree}
 use Rattle.flow_tree.specs.Tree.{RisesWith}
+use Rattle.cfg_normal.specs.Numbers.{is_node}
 use Rattle.span_tree.specs.Links.{link_of, links_of}
 use Rattle.span_tree.specs.Ties.{rank_of}
 use Rattle.span_tree.proofs.Connected.{connected, linked_as, plain_is}
@@ -12,8 +13,8 @@ use Rattle.span_tree.proofs.spanning.counted_edges.Goals as goal
 
 pub counted-requires-clause-linked : goal.counted-requires-clause-linked
 counted-requires-clause-linked c =
-    linked_as c.args.graph.now (c.count-outside.result + 1) c.deref.result.now c.in_ok-links.ensures.graph
-    (ap (λ (n : ℕ). n + 1) c.count-outside.ensures.count) (c.deref.ensures.value ∙ c.in_ok-links.ensures.links)
+    linked_as c.args.graph.now (2 * c.count-outside.result + 1) c.deref.result.now c.in_ok-links.ensures.graph
+    (ap (λ (n : ℕ). 2 * n + 1) c.count-outside.ensures.count) (c.deref.ensures.value ∙ c.in_ok-links.ensures.links)
 
 pub counted-requires-clause-ranks : goal.counted-requires-clause-ranks
 counted-requires-clause-ranks c =
@@ -21,16 +22,16 @@ counted-requires-clause-ranks c =
     ∙ sym (ap length (c.deref.ensures.value ∙ c.in_ok-links.ensures.links)
     ∙ length-map c.args.graph.now.edges (link_of c.args.graph.now))
 
-graph_is : (c : goal.After-drop-ranks-2) → graph_of (c.count-outside.result + 1) c.deref.result.now ≡ links_of c.args.graph.now
+graph_is : (c : goal.After-drop-ranks-2) → graph_of (2 * c.count-outside.result + 1) c.deref.result.now ≡ links_of c.args.graph.now
 graph_is c =
-    plain_is c.args.graph.now (c.count-outside.result + 1) c.deref.result.now
-    (ap (λ (n : ℕ). n + 1) c.count-outside.ensures.count) (c.deref.ensures.value ∙ c.in_ok-links.ensures.links)
+    plain_is c.args.graph.now (2 * c.count-outside.result + 1) c.deref.result.now
+    (ap (λ (n : ℕ). 2 * n + 1) c.count-outside.ensures.count) (c.deref.ensures.value ∙ c.in_ok-links.ensures.links)
 
 joined : (c : goal.After-drop-ranks-2)
-    → IsConnected (graph_of (c.count-outside.result + 1) c.deref.result.now) all_nodes c.count-outside.result
+    → IsConnected (graph_of (2 * c.count-outside.result + 1) c.deref.result.now) (is_node c.args.graph.now) c.count-outside.result
 joined c =
-    subst (λ (g : Graph). IsConnected g all_nodes c.count-outside.result) (sym (graph_is c))
-    (subst (IsConnected (links_of c.args.graph.now) all_nodes) (sym c.count-outside.ensures.count)
+    subst (λ (g : Graph). IsConnected g (is_node c.args.graph.now) c.count-outside.result) (sym (graph_is c))
+    (subst (IsConnected (links_of c.args.graph.now) (is_node c.args.graph.now)) (sym c.count-outside.ensures.count)
     (connected c.args.graph.now c.in_ok-links.ensures.graph))
 
 -- what counts least by a weight that rises with the ranks
@@ -39,15 +40,15 @@ least : (c : goal.After-drop-ranks-2) (weight : ℕ → ℕ)
     → IsLeast (links_of c.args.graph.now) weight (marked c.in_ok-counted.counted.items)
 least c weight rises =
     subst (λ (g : Graph). IsLeast g weight (marked c.in_ok-counted.counted.items)) (graph_is c)
-    (c.in_ok-counted.ensures.least all_nodes weight
+    (c.in_ok-counted.ensures.least (is_node c.args.graph.now) weight
     (subst (λ (xs : List ℕ). RisesWith (length c.deref.result.now) (weight_in xs) weight) (sym c.deref-2.ensures.value)
     (subst (λ (n : ℕ). RisesWith n (weight_in c.in_ok-ranks.ranks.items) weight) (sym (ap (λ (g : Graph). g.edges) (graph_is c))) rises))
     (joined c))
 
 pub returns-clause-spans : goal.returns-clause-spans
 returns-clause-spans c =
-    subst (λ (g : Graph). IsSpanningTree g all_nodes (rest (marked c.in_ok-counted.counted.items))) (graph_is c)
-    (c.in_ok-counted.ensures.spans all_nodes (joined c))
+    subst (λ (g : Graph). IsSpanningTree g (is_node c.args.graph.now) (rest (marked c.in_ok-counted.counted.items))) (graph_is c)
+    (c.in_ok-counted.ensures.spans (is_node c.args.graph.now) (joined c))
 
 pub returns-clause-least : goal.returns-clause-least
 returns-clause-least c =

@@ -1,0 +1,180 @@
+-- Which nodes have an edge from a jump's block is kept by marks.
+use Rattle.std.proofs.Common.{◌≡◌, ℕ, ◌+◌, ◌<◌, ◌≤◌, Bool, true, false, List, [], ◌∷◌, ◌++◌, length, map, refl, ap, sym, ◌∙◌, arith, cond, inl, inr, slice_index, Some, add-one, get_or, take}
+use Rattle.std.specs.Prelude.{◌==◌}
+use Rattle.std.specs.List.{All, filter, flat_map, list_any}
+use Rattle.std.proofs.lemmas.List.{append-nil, append_assoc, get_or-map, length-map, map-append, take_more}
+use Rattle.std.proofs.lemmas.List.Concat.{flat_map-append}
+use Rattle.std.proofs.lemmas.List.Elements.{filter-append}
+use Rattle.std.proofs.lemmas.Bool.{cases_eq, cases_Bool, eq-eqb, ne_eqb, or_right}
+use Rattle.eel_base.specs.declared.numbers.BlockNo.{BlockNo}
+use Rattle.eel_base.specs.declared.numbers.WordNo.{WordNo}
+use Rattle.cfg_blocks.specs.Blocks.{Blocks, below}
+use Rattle.cfg_normal.specs.declared.Edge.{Edge}
+use Rattle.cfg_normal.specs.declared.Node.{Node}
+use Rattle.cfg_normal.specs.declared.Node.TheVariants.{Block, Landed, X}
+use Rattle.cfg_normal.specs.Nodes.{same_node}
+use Rattle.cfg_normal.specs.Graph.{case_of, lands_of, once_onto}
+use Rattle.cfg_normal.specs.Landings.{IsNumbered, landed_once, number_in, seen_mark, unseen_case}
+use Rattle.cfg_normal.specs.Opens.{Open}
+use Rattle.cfg_normal.proofs.TableWords.{any_push, or_none}
+
+-- ---- nodes and their numbers
+
+block_is : (m n : BlockNo) → m.0 ≡ n.0 → m ≡ n
+block_is m n e = ap (λ (k : ℕ). record { 0 = k }) e
+
+number_one : (count : ℕ) (m n : Node) → IsNumbered count m → IsNumbered count n
+    → number_in count m ≡ number_in count n → m ≡ n
+number_one count (Block m) (Block n) h k e = ap Block (block_is m n e)
+number_one count (Landed m) (Landed n) h k e = ap Landed (block_is m n (omega arith))
+number_one count X X h k e = refl
+number_one count (Block m) X h k e = absurd (omega arith)
+number_one count (Block m) (Landed n) h k e = absurd (omega arith)
+number_one count X (Block n) h k e = absurd (omega arith)
+number_one count X (Landed n) h k e = absurd (omega arith)
+number_one count (Landed m) (Block n) h k e = absurd (omega arith)
+number_one count (Landed m) X h k e = absurd (omega arith)
+
+same_self : (m : Node) → same_node m m ≡ true
+same_self (Block m) = eq-eqb m.0 m.0 refl
+same_self (Landed m) = eq-eqb m.0 m.0 refl
+same_self X = refl
+
+not_same : (count : ℕ) (m n : Node) → (number_in count m ≡ number_in count n → ⊥) → same_node m n ≡ false
+not_same count (Block m) (Block n) h = ne_eqb m.0 n.0 h
+not_same count (Landed m) (Landed n) h = ne_eqb m.0 n.0 (λ e. h (ap (λ k. count + 1 + k) e))
+not_same count X X h = absurd (h refl)
+not_same count (Block m) X h = refl
+not_same count (Block m) (Landed n) h = refl
+not_same count X (Block n) h = refl
+not_same count X (Landed n) h = refl
+not_same count (Landed m) (Block n) h = refl
+not_same count (Landed m) X h = refl
+
+-- ---- each node once
+
+with_node : List Node → Node → List Node
+with_node seen node = cond (list_any (same_node node) seen) seen (seen ++ node ∷ [])
+
+once_more : (seen nodes : List Node) (node : Node)
+    → once_onto seen (nodes ++ node ∷ []) ≡ with_node (once_onto seen nodes) node
+unfolding with_node
+once_more seen [] node = refl
+once_more seen (x ∷ nodes) node = once_more (cond (list_any (same_node x) seen) seen (seen ++ x ∷ [])) nodes node
+
+-- ---- marks
+
+-- just these nodes have the mark, and no mark is above it
+pub record AreMarked (count mark : ℕ) (seen : List ℕ) (nodes : List Node) : Type 0 where
+  pub each : (node : Node) → IsNumbered count node
+      → (slice_index seen (number_in count node) == mark) ≡ list_any (same_node node) nodes
+  pub highest : (n : ℕ) → slice_index seen n ≤ mark
+
+module _ (count mark : ℕ) where
+  pub none_marked : (seen : List ℕ) → ((n : ℕ) → slice_index seen n < mark) → AreMarked count mark seen []
+  none_marked seen low = record {
+    each = λ node is. ne_eqb _ mark (λ e. omega (arith, low (number_in count node)));
+    highest = λ n. omega (arith, low n);
+  }
+
+  module _ (nodes : List Node) (node : Node) (is : IsNumbered count node) (before after : List ℕ)
+      (were : AreMarked count mark before nodes)
+      (set : (n : ℕ) → slice_index after n ≡ seen_mark (number_in count node) mark n (slice_index before n)) where
+    has_itself : list_any (same_node node) (with_node nodes node) ≡ true
+    unfolding with_node
+    has_itself = elim (cases_Bool (list_any (same_node node) nodes)) [
+      | inl t ↦ rw t t
+      | inr f ↦ rw f (any_push (same_node node) nodes node ∙ or_right _ _ (same_self node))
+    ]
+
+    has_other : (other : Node) → same_node other node ≡ false
+        → list_any (same_node other) (with_node nodes node) ≡ list_any (same_node other) nodes
+    unfolding with_node
+    has_other other apart = elim (cases_Bool (list_any (same_node node) nodes)) [
+      | inl t ↦ rw t refl
+      | inr f ↦ rw f (any_push (same_node other) nodes node ∙ rw apart (or_none _))
+    ]
+
+    marked_more : AreMarked count mark after (with_node nodes node)
+    marked_more = record {
+      each = λ other h. elim (cases_eq (number_in count other) (number_in count node)) [
+        | inl e ↦
+            let one : other ≡ node = number_one count other node h is e in
+            rw (set (number_in count other), eq-eqb _ _ e) (eq-eqb mark mark refl
+            ∙ sym (ap (λ (x : Node). list_any (same_node x) (with_node nodes node)) one ∙ has_itself))
+        | inr apart ↦
+            rw (set (number_in count other), ne_eqb _ _ apart)
+            (were.each other h ∙ sym (has_other other (not_same count other node apart)))
+      ];
+      highest = λ n. elim (cases_eq n (number_in count node)) [
+        | inl e ↦ rw (set n, eq-eqb _ _ e) (omega arith)
+        | inr apart ↦ rw (set n, ne_eqb _ _ apart) (were.highest n)
+      ];
+    }
+
+cases_more : (b : Blocks) (block : ℕ) (nodes : List Node) (node : Node) (edges : List Edge) (is_seen : Bool)
+    → is_seen ≡ list_any (same_node node) nodes
+    → (edges ++ map (case_of b block) nodes) ++ unseen_case b block node is_seen
+    ≡ edges ++ map (case_of b block) (with_node nodes node)
+unfolding with_node
+cases_more b block nodes node edges true e = rw (← e) (append-nil _)
+cases_more b block nodes node edges false e = rw (← e) (rw (map-append (case_of b block) nodes (node ∷ [])) (append_assoc edges _ _))
+
+-- ---- the loop over targets
+
+landed_more : (b : Blocks) (opens : List Open) (targets : List WordNo) (target : WordNo)
+    → landed_once b opens (targets ++ target ∷ [])
+    ≡ with_node (landed_once b opens targets) (lands_of b opens (Some target.0))
+landed_more b opens targets target =
+    ap (λ ws. once_onto [] (map (λ word. lands_of b opens (Some word)) ws))
+    (map-append (λ (w : WordNo). w.0) targets (target ∷ []))
+    ∙ ap (once_onto []) (map-append (λ word. lands_of b opens (Some word)) (map (λ (w : WordNo). w.0) targets) (target.0 ∷ []))
+    ∙ once_more [] (map (λ word. lands_of b opens (Some word)) (map (λ (w : WordNo). w.0) targets))
+    (lands_of b opens (Some target.0))
+
+module _ (b : Blocks) (opens : List Open) (block : ℕ) (targets : List WordNo) (i : ℕ) (d : WordNo) (l : i < length targets)
+    (node : Node) (lands : node ≡ lands_of b opens (Some (get_or targets i d).0)) where
+  abbrev so_far : List Node
+  so_far = landed_once b opens (take i targets)
+
+  next_is : landed_once b opens (take (i + 1) targets) ≡ with_node so_far node
+  next_is =
+      ap (landed_once b opens) (take_more targets i d l) ∙ landed_more b opens (take i targets) (get_or targets i d)
+      ∙ ap (with_node so_far) (sym lands)
+
+  pub edges_next : (before now later : List Edge) (seen : List ℕ)
+      → AreMarked (length b.firsts) (block + 1) seen so_far → IsNumbered (length b.firsts) node
+      → now ≡ before ++ map (case_of b block) so_far
+      → later ≡ now ++ unseen_case b block node (slice_index seen (number_in (length b.firsts) node) == block + 1)
+      → later ≡ before ++ map (case_of b block) (landed_once b opens (take (i + 1) targets))
+  edges_next before now later seen marks is e f =
+      f ∙ ap (λ es. es ++ unseen_case b block node (slice_index seen (number_in (length b.firsts) node) == block + 1)) e
+      ∙ cases_more b block so_far node before _ (marks.each node is)
+      ∙ ap (λ nodes. before ++ map (case_of b block) nodes) (sym next_is)
+
+  pub marks_next : (before after : List ℕ) → IsNumbered (length b.firsts) node
+      → AreMarked (length b.firsts) (block + 1) before so_far
+      → ((n : ℕ) → slice_index after n
+      ≡ seen_mark (number_in (length b.firsts) node) (block + 1) n (slice_index before n))
+      → AreMarked (length b.firsts) (block + 1) after (landed_once b opens (take (i + 1) targets))
+  marks_next before after is were set =
+      rw next_is (marked_more (length b.firsts) (block + 1) so_far node is before after were set)
+
+-- ---- lists of words
+
+pub words_within : (n : ℕ) (words : List WordNo) → All (λ word. word < n) (map (λ w. w.0) words)
+    → All (λ (w : WordNo). w.0 < n) words
+words_within n words within = λ k d l.
+    rw (← get_or-map (λ (w : WordNo). w.0) words k d 0 l)
+    (within k 0 (rw (length-map words (λ (w : WordNo). w.0)) l))
+
+-- ---- the loop over copies
+
+pub copies_more : (f : ℕ → List Edge) (p : ℕ → Bool) (edges : List Edge) (n : ℕ)
+    → (edges ++ flat_map f (filter p (below n))) ++ flat_map f (filter p (n ∷ []))
+    ≡ edges ++ flat_map f (filter p (below (n + 1)))
+copies_more f p edges n =
+    append_assoc edges (flat_map f (filter p (below n))) (flat_map f (filter p (n ∷ [])))
+    ∙ ap (λ es. edges ++ es) (sym (flat_map-append f (filter p (below n)) (filter p (n ∷ []))))
+    ∙ ap (λ ks. edges ++ flat_map f ks) (sym (filter-append p (below n) (n ∷ [])))
+    ∙ ap (λ m. edges ++ flat_map f (filter p (below m))) (sym (add-one n))

@@ -1,0 +1,351 @@
+-- The edges of a graph lie between its nodes, and their slots in its text; they are at most seven for each word.
+use Rattle.std.proofs.Common.{◌≡◌, ℕ, zero, suc, ◌+◌, ◌*◌, ◌<◌, ◌≤◌, ◌⊎◌, nat_le, nat_lt, Bool, true, false, ◌||◌, List, [], ◌∷◌, ◌++◌, length, map, Option, Some, None, refl, ap, ◌∙◌, arith, cond, get_or, inl, inr}
+use Rattle.std.specs.Prelude.{◌==◌, ◌&&◌, not}
+use Rattle.std.specs.List.{All, filter, flat_map, list_any, sum_by}
+use Rattle.std.proofs.lemmas.List.{length-append, length-map}
+use Rattle.std.proofs.lemmas.List.Concat.{flat_map-append}
+use Rattle.std.proofs.lemmas.List.Elements.{All-append, All-cons, All-filter, All-head, All-map, All-nil, All-tail, All-weaker, filter_passes}
+use Rattle.std.proofs.lemmas.List.Sums.{count_by-le-length, length-filter, sum_by-cons}
+use Rattle.std.proofs.lemmas.Bool.{and_parts, cases_eq, cond_both, eq-eqb, ne_eqb, or_cases, or_left, or_right}
+use Rattle.std.proofs.lemmas.Bool.Decides.{nat_tests}
+use Rattle.cfg_blocks.specs.Blocks.{Blocks, below, end_of, holding_of, last_word}
+use Rattle.cfg_blocks.specs.Ends.{Way, always, never, number_of, way, ways_of, within}
+use Rattle.cfg_blocks.specs.Entries.{Entered, IsBlockList, ways_from}
+use Rattle.cfg_blocks.specs.declared.BlockEnd.{BlockEnd}
+use Rattle.cfg_blocks.specs.declared.BlockEnd.TheVariants as ends
+use Rattle.cfg_blocks.specs.declared.EdgeKind.{EdgeKind}
+use Rattle.cfg_blocks.specs.declared.EdgeKind.TheVariants as kinds
+use Rattle.cfg_blocks.proofs.Below.{get_or-below, length-below}
+use Rattle.cfg_normal.specs.declared.Edge.{Edge}
+use Rattle.cfg_normal.specs.declared.Node.{Node}
+use Rattle.cfg_normal.specs.declared.Node.TheVariants.{Block, Landed, X}
+use Rattle.cfg_normal.specs.declared.Slot.TheVariants.{Nothing, Word, Off}
+use Rattle.cfg_normal.specs.Nodes.{same_node}
+use Rattle.cfg_normal.specs.Opens.{AreOpenIn, Open, compares_in, is_behind, is_copied, jumps_in, targets_in}
+use Rattle.cfg_normal.specs.Graph.{IsEdgeIn, IsGraph, IsNodeIn, IsSlotIn, case_nodes, case_of, copied_edges, directed, edge_of, edges_in, edges_of, is_compared, landing_at, landings_of, lands_of, node_of, once_onto, runs_slot, slot_behind, slot_on, ways_out}
+
+-- ---- lists
+
+All-flat_map : {X A : Type 0} (P : A → Type 0) (f : X → List A) (xs : List X) → All (λ x. All P (f x)) xs
+    → All P (flat_map f xs)
+All-flat_map P f [] each = All-nil P
+All-flat_map P f (x ∷ xs) each =
+    All-append P (f x) (flat_map f xs) (All-head (λ x. All P (f x)) x xs each)
+    (All-flat_map P f xs (All-tail (λ x. All P (f x)) x xs each))
+
+All-below : (P : ℕ → Type 0) (n : ℕ) → ((k : ℕ) → k < n → P k) → All P (below n)
+All-below P n each =
+    λ k d l.
+    let h : k < n = omega (arith, length-below n) in
+    rw get_or-below (each k h)
+
+-- ---- nodes and slots
+
+module _ (b : Blocks) (opens : List Open) (some : 1 ≤ length b.firsts) where
+  abbrev IsNode : Node → Type 0
+  IsNode = IsNodeIn b opens
+
+  held : (word : ℕ) → holding_of b word < length b.firsts
+  held word = omega (arith, count_by-le-length (λ first. nat_le first word) b.firsts)
+
+  node_of-in : (to : Option ℕ) → IsNode (node_of b to)
+  node_of-in None = tt
+  node_of-in (Some word) =
+      cond_both (nat_lt word b.words) (Block (record { 0 = holding_of b word })) X IsNode (λ h. held word) (λ h. tt)
+
+  behind_compares : (os : List Open) (block word : ℕ) → is_behind os block word ≡ true → compares_in os block ≡ true
+  behind_compares [] block word h = absurd (cc)
+  behind_compares (o ∷ os) block word h =
+      elim (or_cases ((o.switch.compare.0 == block) && nat_lt o.approach.compare.word word) (is_behind os block word) h) [
+        | inl here ↦ or_left (o.switch.compare.0 == block) (compares_in os block)
+            (and_parts (o.switch.compare.0 == block) (nat_lt o.approach.compare.word word) here).0
+        | inr later ↦ or_right (o.switch.compare.0 == block) (compares_in os block) (behind_compares os block word later)
+      ]
+
+  lands_of-in : (to : Option ℕ) → IsNode (lands_of b opens to)
+  lands_of-in None = tt
+  lands_of-in (Some word) =
+      let block = holding_of b word in
+      let there = jumps_in opens block || is_behind opens block word in
+      cond_both (nat_lt word b.words)
+      (cond there (Landed (record { 0 = block })) (Block (record { 0 = block }))) X IsNode
+      (λ _. cond_both there (Landed (record { 0 = block })) (Block (record { 0 = block })) IsNode
+      (λ h. (held word, copied block (or_cases (jumps_in opens block) (is_behind opens block word) h))) (λ _. held word))
+      (λ _. tt)
+    where
+      copied : (block : ℕ) → ((jumps_in opens block ≡ true) ⊎ (is_behind opens block word ≡ true))
+          → is_copied opens block ≡ true
+      copied block (inl h) = or_left (jumps_in opens block) (compares_in opens block) h
+      copied block (inr h) =
+          or_right (jumps_in opens block) (compares_in opens block) (behind_compares opens block word h)
+
+  directed-in : (from : Node) (kind : EdgeKind) (to : Node) → IsNode to → IsNode (directed opens from kind to)
+  directed-in from kind (Block to) is =
+      let jumps = jumps_in opens to.0 in
+      let other = not (is_compared opens from kind to.0) in
+      cond_both (jumps && other) (Landed to) (Block to) IsNode
+      (λ h. (is, or_left jumps (compares_in opens to.0) (and_parts jumps other h).0)) (λ _. is)
+  directed-in from kind (Landed to) is = is
+  directed-in from kind X is = tt
+
+  slot_behind-in : (word : ℕ) → IsSlotIn b (slot_behind b.words word)
+  slot_behind-in word =
+      cond_both (nat_lt (word + 1) b.words) (Word (record { 0 = word + 1 })) Off (IsSlotIn b)
+      (λ h. grind (arith, nat_tests)) (λ h. tt)
+
+  slot_on-in : (block : ℕ) (kind : EdgeKind) → IsSlotIn b (slot_on b block kind)
+  slot_on-in block kind =
+      let last = last_word b.firsts b.words block in
+      cond_both (runs_slot (end_of b block) kind) (slot_behind b.words last) Nothing (IsSlotIn b)
+      (λ h. slot_behind-in last) (λ h. tt)
+
+  -- ---- edges
+
+  abbrev AreEdges : List Edge → Type 0
+  AreEdges = All (IsEdgeIn b opens)
+
+  ways_out-in : (from : Node) (block : ℕ) → IsNode from → AreEdges (ways_out b opens from block)
+  ways_out-in from block is =
+      All-map (IsEdgeIn b opens) (edge_of b opens from block) (ways_from b block) (λ k d l. record {
+        from = is;
+        to = directed-in from _ _ (node_of-in _);
+        slot = slot_on-in block _;
+      })
+
+  once-in : (seen nodes : List Node) → All IsNode seen → All IsNode nodes → All IsNode (once_onto seen nodes)
+  once-in seen [] known each = known
+  once-in seen (node ∷ nodes) known each =
+      once-in (cond (list_any (same_node node) seen) seen (seen ++ node ∷ [])) nodes
+      (cond_both (list_any (same_node node) seen) seen (seen ++ node ∷ []) (All IsNode) (λ _. known)
+      (λ _. All-append IsNode seen (node ∷ []) known
+      (All-cons IsNode node [] (All-head IsNode node nodes each) (All-nil IsNode))))
+      (All-tail IsNode node nodes each)
+
+  cases-in : (block : ℕ) → block < length b.firsts → AreEdges (map (case_of b block) (case_nodes b opens block))
+  cases-in block h =
+      All-map (IsEdgeIn b opens) (case_of b block) (case_nodes b opens block)
+      (All-weaker IsNode (λ node. IsEdgeIn b opens (case_of b block node))
+      (λ node is. record { from = h; to = is; slot = slot_on-in block kinds.Case }) (case_nodes b opens block)
+      (once-in [] (map (λ word. lands_of b opens (Some word)) (targets_in opens block)) (All-nil IsNode)
+      (All-map IsNode (λ word. lands_of b opens (Some word)) (targets_in opens block)
+      (λ k d l. lands_of-in (Some (get_or (targets_in opens block) k d))))))
+
+  edges_of-in : (block : ℕ) → block < length b.firsts → AreEdges (edges_of b opens block)
+  edges_of-in block h =
+      cond_both (jumps_in opens block) (map (case_of b block) (case_nodes b opens block))
+      (ways_out b opens (Block (record { 0 = block })) block) AreEdges
+      (λ _. cases-in block h) (λ _. ways_out-in (Block (record { 0 = block })) block h)
+
+  copies-in : AreEdges (flat_map (copied_edges b opens) (filter (is_copied opens) (below (length b.firsts))))
+  copies-in =
+      let blocks = below (length b.firsts) in
+      let bounds = All-filter (is_copied opens) (λ k. k < length b.firsts) blocks
+      (All-below (λ k. k < length b.firsts) (length b.firsts) (λ k h. h)) in
+      let copied = filter_passes (is_copied opens) blocks in
+      All-flat_map (IsEdgeIn b opens) (copied_edges b opens) (filter (is_copied opens) blocks)
+      (λ k d l. ways_out-in (Landed (record { 0 = _ })) _ (bounds k d l, copied k d l))
+
+  landings-in : (block : ℕ) → block < length b.firsts
+      → All (λ node. IsEdgeIn b opens (landing_at node)) (landings_of opens block)
+  landings-in block h =
+      let P : Node → Type 0 = λ node. IsEdgeIn b opens (landing_at node) in
+      let home : Node = Block (record { 0 = block }) in
+      let copy : Node = Landed (record { 0 = block }) in
+      let at_home : P home = record { from = tt; to = h; slot = tt } in
+      cond_both (jumps_in opens block) (copy ∷ []) (cond (is_copied opens block) (home ∷ copy ∷ []) (home ∷ [])) (All P)
+      (λ j. All-cons P copy []
+      (record { from = tt; to = (h, or_left (jumps_in opens block) (compares_in opens block) j); slot = tt }) (All-nil P))
+      (λ _. cond_both (is_copied opens block) (home ∷ copy ∷ []) (home ∷ []) (All P)
+      (λ c. All-cons P home (copy ∷ []) at_home
+      (All-cons P copy [] (record { from = tt; to = (h, c); slot = tt }) (All-nil P)))
+      (λ _. All-cons P home [] at_home (All-nil P)))
+
+  edges_in-in : AreEdges (edges_in b opens)
+  unfolding edges_in
+  edges_in-in =
+      let n = length b.firsts in
+      let own = flat_map (edges_of b opens) (below n) in
+      let copied = flat_map (copied_edges b opens) (filter (is_copied opens) (below n)) in
+      let landed = flat_map (landings_of opens) (below n) in
+      All-append (IsEdgeIn b opens) (own ++ copied) (map landing_at landed)
+      (All-append (IsEdgeIn b opens) own copied
+      (All-flat_map (IsEdgeIn b opens) (edges_of b opens) (below n)
+      (All-below (λ block. AreEdges (edges_of b opens block)) n edges_of-in)) copies-in)
+      (All-map (IsEdgeIn b opens) landing_at landed
+      (All-flat_map (λ node. IsEdgeIn b opens (landing_at node)) (landings_of opens) (below n)
+      (All-below (λ block. All (λ node. IsEdgeIn b opens (landing_at node)) (landings_of opens block)) n landings-in)))
+
+-- ---- how many there are
+
+-- a block has at most two ways out of it
+ways_few : (count word : ℕ) (end : BlockEnd) → length (ways_of count word end) ≤ 2
+ways_few count word ends.Fall = omega arith
+ways_few count word (ends.Branch cond annul target) =
+    let taken : Way = way kinds.Taken (number_of target) in
+    let untaken : Way = way kinds.Untaken (within count (word + 2)) in
+    cond_both (cond == always) (taken ∷ []) _ (λ ways. length ways ≤ 2) (λ h. omega arith)
+    (λ h. cond_both (cond == never) (untaken ∷ []) (taken ∷ untaken ∷ []) (λ ways. length ways ≤ 2) (λ k. omega arith)
+    (λ k. omega arith))
+ways_few count word (ends.Call target) = omega arith
+ways_few count word ends.Jump = omega arith
+
+flat_few : {X A : Type 0} (f : X → List A) (xs : List X) → ((x : X) → length (f x) ≤ 2)
+    → length (flat_map f xs) ≤ 2 * length xs
+flat_few f [] each = omega arith
+flat_few f (x ∷ xs) each = omega (arith, each x, flat_few f xs each, length-append (f x) (flat_map f xs))
+
+-- sums over the numbers below one
+total : (ℕ → ℕ) → ℕ → ℕ
+total f zero = 0
+total f (suc n) = total f n + f n
+
+total_flat : {A : Type 0} (f : ℕ → List A) (n : ℕ) → length (flat_map f (below n)) ≡ total (λ k. length (f k)) n
+unfolding total
+total_flat f zero = refl
+total_flat f (suc n) =
+    ap length (flat_map-append f (below n) (n ∷ [])) ∙ length-append (flat_map f (below n)) (f n ++ [])
+    ∙ omega (arith, total_flat f n, length-append (f n) [])
+
+total_le : (f g : ℕ → ℕ) (n : ℕ) → ((k : ℕ) → f k ≤ 2 + g k) → total f n ≤ 2 * n + total g n
+unfolding total
+total_le f g zero each = omega arith
+total_le f g (suc n) each = omega (arith, total_le f g n each, each n)
+
+total_plus : (f g : ℕ → ℕ) (n : ℕ) → total (λ k. f k + g k) n ≡ total f n + total g n
+unfolding total
+total_plus f g zero = omega arith
+total_plus f g (suc n) = omega (arith, total_plus f g n)
+
+total_same : (f g : ℕ → ℕ) (n : ℕ) → ((k : ℕ) → f k ≡ g k) → total f n ≡ total g n
+unfolding total
+total_same f g zero each = refl
+total_same f g (suc n) each = omega (arith, total_same f g n each, each n)
+
+-- what stands at one number alone counts once at most
+total_at : (at m n : ℕ) → (n ≤ at → total (λ k. cond (at == k) m 0) n ≡ 0) × (total (λ k. cond (at == k) m 0) n ≤ m)
+unfolding total
+total_at at m zero = (λ h. refl, omega arith)
+total_at at m (suc n) =
+    let before = total_at at m n in
+    elim (cases_eq at n) [
+      | inl e ↦
+          let none : total (λ k. cond (at == k) m 0) n ≡ 0 = before.0 (omega arith) in
+          (λ h. absurd (omega arith), rw (eq-eqb at n e) (omega arith))
+      | inr other ↦
+          (λ h. rw (ne_eqb at n other) (omega (arith, before.0 (omega arith))), rw (ne_eqb at n other) (omega (arith, before.1)))
+    ]
+
+entries_of : List Open → ℕ
+entries_of opens = sum_by (λ (o : Open). length o.targets) opens
+
+targets_few : (opens : List Open) (n : ℕ) → total (λ k. length (targets_in opens k)) n ≤ entries_of opens
+unfolding total entries_of
+targets_few [] n = omega (arith, none n)
+  where
+    none : (n : ℕ) → total (λ k. 0) n ≡ 0
+    none zero = refl
+    none (suc n) = omega (arith, none n)
+targets_few (o ∷ opens) n =
+    let here : ℕ → ℕ = λ k. cond (o.block == k) (length o.targets) 0 in
+    let split : total (λ k. length (targets_in (o ∷ opens) k)) n
+    ≡ total (λ k. here k + length (targets_in opens k)) n =
+    total_same (λ k. length (targets_in (o ∷ opens) k)) (λ k. here k + length (targets_in opens k)) n
+    (λ k. length-append (cond (o.block == k) o.targets []) (targets_in opens k) ∙ omega (arith, cut (o.block == k))) in
+    let sum : sum_by (λ (o : Open). length o.targets) (o ∷ opens)
+    ≡ length o.targets + sum_by (λ (o : Open). length o.targets) opens =
+    sum_by-cons (λ (o : Open). length o.targets) o opens in
+    omega (
+      arith,
+      split,
+      total_plus here (λ k. length (targets_in opens k)) n,
+      (total_at o.block (length o.targets) n).1,
+      targets_few opens n,
+      sum,
+    )
+  where
+    cut : (t : Bool) → length (cond t o.targets []) ≡ cond t (length o.targets) 0
+    cut true = refl
+    cut false = refl
+
+once_few : (seen nodes : List Node) → length (once_onto seen nodes) ≤ length seen + length nodes
+once_few seen [] = omega arith
+once_few seen (node ∷ nodes) =
+    let next = cond (list_any (same_node node) seen) seen (seen ++ node ∷ []) in
+    let longer : length next ≤ length seen + 1 =
+    cond_both (list_any (same_node node) seen) seen (seen ++ node ∷ []) (λ xs. length xs ≤ length seen + 1)
+    (λ _. omega arith) (λ _. omega (arith, length-append seen (node ∷ []))) in
+    omega (arith, longer, once_few next nodes)
+
+module _ (b : Blocks) (opens : List Open) where
+  ways_out-few : (from : Node) (block : ℕ) → length (ways_out b opens from block) ≤ 2
+  ways_out-few from block =
+      let few = ways_few b.words (last_word b.firsts b.words block) (end_of b block) in
+      omega (arith, few, length-map (ways_from b block) (edge_of b opens from block))
+
+  edges_of-few : (block : ℕ) → length (edges_of b opens block) ≤ 2 + length (targets_in opens block)
+  edges_of-few block =
+      let nodes = map (λ word. lands_of b opens (Some word)) (targets_in opens block) in
+      cond_both (jumps_in opens block) (map (case_of b block) (case_nodes b opens block))
+      (ways_out b opens (Block (record { 0 = block })) block)
+      (λ es. length es ≤ 2 + length (targets_in opens block))
+      (λ _. omega (
+        arith,
+        length-map (case_nodes b opens block) (case_of b block),
+        once_few [] nodes,
+        length-map (targets_in opens block) (λ word. lands_of b opens (Some word)),
+      ))
+      (λ _. omega (arith, ways_out-few (Block (record { 0 = block })) block))
+
+  landings_of-few : (block : ℕ) → length (landings_of opens block) ≤ 2
+  landings_of-few block =
+      let home : Node = Block (record { 0 = block }) in
+      let copy : Node = Landed (record { 0 = block }) in
+      cond_both (jumps_in opens block) (copy ∷ []) (cond (is_copied opens block) (home ∷ copy ∷ []) (home ∷ []))
+      (λ ns. length ns ≤ 2) (λ _. omega arith)
+      (λ _. cond_both (is_copied opens block) (home ∷ copy ∷ []) (home ∷ []) (λ ns. length ns ≤ 2)
+      (λ _. omega arith) (λ _. omega arith))
+
+  edges_few : entries_of opens ≤ b.words → length b.firsts ≤ b.words → length (edges_in b opens) ≤ 7 * b.words
+  unfolding edges_in
+  edges_few entries firsts =
+      let n = length b.firsts in
+      let own = flat_map (edges_of b opens) (below n) in
+      let blocks = filter (is_copied opens) (below n) in
+      let copied = flat_map (copied_edges b opens) blocks in
+      let landed = flat_map (landings_of opens) (below n) in
+      let own_few : length own ≤ 2 * n + total (λ k. length (targets_in opens k)) n =
+      rw (total_flat (edges_of b opens) n)
+      (total_le (λ k. length (edges_of b opens k)) (λ k. length (targets_in opens k)) n edges_of-few) in
+      let copied_few : length copied ≤ 2 * length blocks =
+      flat_few (copied_edges b opens) blocks (λ block. ways_out-few (Landed (record { 0 = block })) block) in
+      let landed_few : length landed ≤ 2 * length (below n) = flat_few (landings_of opens) (below n) landings_of-few in
+      omega (
+        arith,
+        own_few,
+        targets_few opens n,
+        entries,
+        copied_few,
+        length-filter (is_copied opens) (below n),
+        count_by-le-length (is_copied opens) (below n),
+        length-below n,
+        landed_few,
+        length-map landed landing_at,
+        length-append own copied,
+        length-append (own ++ copied) (map landing_at landed),
+      )
+
+-- blocks and open switches, with their edges, are a graph
+pub is_graph : (list : Entered) (opens : List Open) (edges : List Edge) → IsBlockList list
+    → AreOpenIn list.blocks opens → edges ≡ edges_in list.blocks opens
+    → IsGraph (record { blocks = list.blocks; opens = opens; edges = edges })
+unfolding entries_of
+is_graph list opens edges blocks are all =
+    record {
+      made = ap (λ (edges : List Edge). record { blocks = list.blocks; opens = opens; edges = edges }) all;
+      firsts = blocks.firsts;
+      few = blocks.few;
+      targets = λ k d l. (are.each k d l).some;
+      opens = are;
+      edges = rw all (edges_in-in list.blocks opens blocks.firsts.some);
+      edge_count = rw all (edges_few list.blocks opens are.entries blocks.firsts.few);
+    }

@@ -1,0 +1,243 @@
+-- The words of tables.
+use Rattle.std.proofs.Common.{◌≡◌, ℕ, zero, suc, ◌+◌, ◌<◌, ◌≤◌, Bool, true, false, ◌||◌, List, [], ◌∷◌, ◌++◌, length, Option, Some, None, refl, ap, sym, ◌∙◌, arith, add-one, cond, slice_index, inl, inr, ◌*◌, ◌⊎◌, get_or, subst}
+use Rattle.std.specs.Prelude.{◌==◌, nat_le, nat_lt, ◌-◌, ◌/◌, ◌%◌, ◌&&◌}
+use Rattle.std.specs.List.{All, flat_map, list_any}
+use Rattle.std.specs.Option.{is_some, option_to_list}
+use Rattle.std.proofs.lemmas.List.{append-nil, length-append, map-append, get_or-map, length-map}
+use Rattle.std.proofs.lemmas.List.Concat.{flat_map-append}
+use Rattle.std.proofs.lemmas.List.Elements.{All-append, All-cons, All-nil, All-same}
+use Rattle.std.proofs.lemmas.List.Folds.{list_any-append}
+use Rattle.std.proofs.lemmas.List.Recursion.{or_at}
+use Rattle.std.proofs.lemmas.Bool.{and_parts, cases_eq, cond_both, eq-eqb, false≢true, ltb-true, ne_eqb, or_from, or_parts, both_ways, cases_lt, eqb-true, false_from_ne_true, leb-true}
+use Rattle.eel_base.specs.CodeText.{Words, word_at}
+use Rattle.cfg_blocks.specs.declared.switches.Switch.{Switch}
+use Rattle.cfg_blocks.specs.Blocks.{below}
+use Rattle.cfg_blocks.proofs.Below.{get_or-below, length-below}
+use Rattle.cfg_normal.specs.Opens.{IsTableIn, Open, is_tabled, table_words, targets_of, words_from}
+
+pub or_none : (b : Bool) → (b || false) ≡ b
+or_none true = refl
+or_none false = refl
+
+or_assoc : (a b c : Bool) → (a || (b || c)) ≡ ((a || b) || c)
+or_assoc true b c = refl
+or_assoc false b c = refl
+
+pub any_push : {X : Type 0} (p : X → Bool) (xs : List X) (x : X)
+    → list_any p (xs ++ x ∷ []) ≡ (list_any p xs || p x)
+any_push p xs x = list_any-append p xs (x ∷ []) ∙ ap (λ b. list_any p xs || b) (or_none (p x))
+
+words_next : (from n : ℕ) → words_from from (suc n) ≡ words_from from n ++ (from + n) ∷ []
+words_next from n = map-append (λ k. from + k) (below n) (n ∷ [])
+
+pub words_more : (from n : ℕ) → words_from from (n + 1) ≡ words_from from n ++ (from + n) ∷ []
+words_more from n = rw add-one (words_next from n)
+
+pub table_is : (text : Words) (switch : Switch) (from : ℕ) → word_at text switch.table.0 ≡ Some from
+    → table_words text switch ≡ words_from from switch.count
+table_is text switch from at =
+    ap (λ (o : Option ℕ). flat_map (λ from. words_from from switch.count) (option_to_list o)) at
+    ∙ append-nil (words_from from switch.count)
+
+-- the words to which an entry leads
+abbrev pub entry_in : Words → ℕ → List ℕ
+entry_in text word = option_to_list (word_at text (slice_index text.words word))
+
+pub targets_are : (text : Words) (switch : Switch) (from : ℕ) → word_at text switch.table.0 ≡ Some from
+    → targets_of text switch ≡ flat_map (entry_in text) (words_from from switch.count)
+unfolding targets_of
+targets_are text switch from at = ap (flat_map (entry_in text)) (table_is text switch from at)
+
+targets_next : (text : Words) (from n : ℕ)
+    → flat_map (entry_in text) (words_from from (suc n))
+    ≡ flat_map (entry_in text) (words_from from n) ++ entry_in text (from + n)
+targets_next text from n =
+    ap (flat_map (entry_in text)) (words_next from n)
+    ∙ flat_map-append (entry_in text) (words_from from n) ((from + n) ∷ [])
+    ∙ ap (λ xs. flat_map (entry_in text) (words_from from n) ++ xs) (append-nil (entry_in text (from + n)))
+
+pub targets_more : (text : Words) (from n : ℕ)
+    → flat_map (entry_in text) (words_from from (n + 1))
+    ≡ flat_map (entry_in text) (words_from from n) ++ entry_in text (from + n)
+targets_more text from n = rw add-one (targets_next text from n)
+
+-- ---- each entry leads to one word of the text
+
+entries_within : (text : Words) (address : ℕ) → All (λ w. w < length text.words) (option_to_list (word_at text address))
+entries_within text address =
+    let n = length text.words in
+    let word = (address - text.start) / 4 in
+    let front = nat_le text.start address && ((address - text.start) % 4 == 0) in
+    cond_both (front && nat_lt word n) (Some word) None
+    (λ (o : Option ℕ). All (λ w. w < n) (option_to_list o))
+    (λ h. All-cons (λ w. w < n) word [] (ltb-true word n (and_parts front (nat_lt word n) h).1) (All-nil (λ w. w < n)))
+    (λ h. All-nil (λ w. w < n))
+
+one_entry : (o : Option ℕ) → is_some o ≡ true → length (option_to_list o) ≡ 1
+one_entry None h = absurd (false≢true h)
+one_entry (Some word) h = refl
+
+module _ (text : Words) (from : ℕ) where
+  abbrev entries : ℕ → List ℕ
+  entries n = flat_map (entry_in text) (words_from from n)
+
+  all_entries : (n : ℕ) → All (λ w. w < length text.words) (entries n)
+  all_entries zero = All-nil (λ w. w < length text.words)
+  all_entries (suc n) =
+      All-same (λ w. w < length text.words) (entries (suc n)) (entries n ++ entry_in text (from + n))
+      (targets_next text from n)
+      (All-append (λ w. w < length text.words) (entries n) (entry_in text (from + n)) (all_entries n)
+      (entries_within text (slice_index text.words (from + n))))
+
+  count_entries : (n : ℕ) → ((k : ℕ) → k < n → is_some (word_at text (slice_index text.words (from + k))) ≡ true)
+      → length (entries n) ≡ n
+  count_entries zero leads = refl
+  count_entries (suc n) leads =
+      let before : length (entries n) ≡ n = count_entries n (λ k l. leads k (omega arith)) in
+      let last : length (entry_in text (from + n)) ≡ 1 = one_entry _ (leads n (omega arith)) in
+      ap length (targets_next text from n) ∙ length-append (entries n) (entry_in text (from + n)) ∙ omega arith
+
+-- what is known of the targets of a table
+pub record AreTargets (text : Words) (switch : Switch) (targets : List ℕ) : Type 0 where
+  pub count : length targets ≡ switch.count
+  pub within : All (λ w. w < length text.words) targets
+
+pub are_targets : (text : Words) (switch : Switch) → IsTableIn text switch → AreTargets text switch (targets_of text switch)
+are_targets text switch t =
+    let at = targets_are text switch t.begins t.at in
+    record {
+      count = ap length at ∙ count_entries text t.begins switch.count t.leads;
+      within = rw at (all_entries text t.begins switch.count);
+    }
+
+-- ---- numbers that pass a test, of those below one
+
+abbrev pub tally : (ℕ → Bool) → ℕ → ℕ
+tally p zero = 0
+tally p (suc n) = tally p n + cond (p n) 1 0
+
+pub tally_few : (p : ℕ → Bool) (n : ℕ) → tally p n ≤ n
+tally_few p zero = omega arith
+tally_few p (suc n) =
+    let one : cond (p n) 1 0 ≤ 1 = cond_both (p n) 1 0 (λ x. x ≤ 1) (λ _. omega arith) (λ _. omega arith) in
+    omega (arith, tally_few p n)
+
+pub tally_same : (p q : ℕ → Bool) (n : ℕ) → ((k : ℕ) → k < n → p k ≡ q k) → tally p n ≡ tally q n
+tally_same p q zero same = refl
+tally_same p q (suc n) same =
+    let before : tally p n ≡ tally q n = tally_same p q n (λ k l. same k (omega arith)) in
+    let last : p n ≡ q n = same n (omega arith) in
+    cc
+
+-- one number more
+tally_more : (p : ℕ → Bool) (x n : ℕ) → x < n → p x ≡ false → tally (λ k. p k || (x == k)) n ≡ tally p n + 1
+tally_more p x zero l none = absurd (omega arith)
+tally_more p x (suc n) l none = elim (cases_eq x n) [
+  | inl e ↦
+      let here : (x == n) ≡ true = eq-eqb x n e in
+      let p_is : p n ≡ false = rw (sym e) none in
+      let before : tally (λ k. p k || (x == k)) n ≡ tally p n =
+      tally_same (λ k. p k || (x == k)) p n (λ k h. rw (ne_eqb x k (λ f. omega arith)) (or_none (p k))) in
+      rw (here, p_is) (omega arith)
+  | inr other ↦
+      let there : (x == n) ≡ false = ne_eqb x n other in
+      let before : tally (λ k. p k || (x == k)) n ≡ tally p n + 1 = tally_more p x n (omega arith) none in
+      rw (there, or_none (p n)) (omega arith)
+]
+
+-- so many words from one on
+pub tally_table : (p : ℕ → Bool) (from c n : ℕ) → from + c ≤ n → list_any p (words_from from c) ≡ false
+    → tally (λ k. p k || list_any (λ x. x == k) (words_from from c)) n ≡ tally p n + c
+tally_table p from zero n l none =
+    tally_same (λ k. p k || false) p n (λ k h. or_none (p k)) ∙ omega arith
+tally_table p from (suc c) n l none =
+    let p_c : ℕ → Bool = λ k. p k || list_any (λ x. x == k) (words_from from c) in
+    let parts = or_parts (list_any p (words_from from c)) (p (from + c))
+    (sym (ap (list_any p) (words_next from c) ∙ any_push p (words_from from c) (from + c)) ∙ none) in
+    let before : tally p_c n ≡ tally p n + c = tally_table p from c n (omega arith) parts.0 in
+    let fresh : p_c (from + c) ≡ false =
+    or_from (p (from + c)) (list_any (λ x. x == from + c) (words_from from c)) parts.1 (smaller from c c (omega arith)) in
+    let more : tally (λ k. p_c k || ((from + c) == k)) n ≡ tally p_c n + 1 = tally_more p_c (from + c) n (omega arith) fresh in
+    tally_same (λ k. p k || list_any (λ x. x == k) (words_from from (suc c))) (λ k. p_c k || ((from + c) == k)) n
+    (λ k h. ap (λ b. p k || b) (ap (list_any (λ x. x == k)) (words_next from c)
+    ∙ any_push (λ x. x == k) (words_from from c) (from + c))
+    ∙ or_assoc (p k) (list_any (λ x. x == k) (words_from from c)) ((from + c) == k))
+    ∙ omega arith
+  where
+    smaller : (from c m : ℕ) → m ≤ c → list_any (λ x. x == from + c) (words_from from m) ≡ false
+    smaller from c zero l = refl
+    smaller from c (suc m) l =
+        ap (list_any (λ x. x == from + c)) (words_next from m)
+        ∙ any_push (λ x. x == from + c) (words_from from m) (from + m)
+        ∙ or_from _ _ (smaller from c m (omega arith)) (ne_eqb (from + m) (from + c) (λ e. omega arith))
+
+-- ---- tables that share no word
+
+none_at : {X : Type 0} (p : X → Bool) (xs : List X) (i : ℕ) (d : X) → i < length xs → list_any p xs ≡ false
+    → p (get_or xs i d) ≡ false
+none_at p xs i d l none =
+    false_from_ne_true (p (get_or xs i d)) (λ t. both_ways (list_any p xs) none
+    (or_at (list_any p) p refl (λ _ _. refl) xs i d l t))
+
+word_of : (from c k : ℕ) → k < c → get_or (words_from from c) k 0 ≡ from + k
+word_of from c k l =
+    get_or-map (λ j. from + j) (below c) k 0 0 (omega (arith, length-below c))
+    ∙ ap (λ j. from + j) (get_or-below c k 0 l)
+
+length-words : (from c : ℕ) → length (words_from from c) ≡ c
+length-words from c = length-map (below c) (λ j. from + j) ∙ length-below c
+
+in_table : (from c k : ℕ) → k < c → list_any (λ x. x == from + k) (words_from from c) ≡ true
+in_table from c k l =
+    or_at (list_any (λ x. x == from + k)) (λ x. x == from + k) refl (λ _ _. refl) (words_from from c) k 0
+    (omega (arith, length-words from c)) (eq-eqb (get_or (words_from from c) k 0) (from + k) (word_of from c k l))
+
+-- no word of a table is tabled
+pub none_tabled : (text : Words) (opens : List Open) (from c : ℕ)
+    → list_any (is_tabled text opens) (words_from from c) ≡ false → (i : ℕ) (d : Open) → i < length opens → (k : ℕ)
+    → k < c → list_any (λ x. x == from + k) (table_words text (get_or opens i d).switch) ≡ false
+none_tabled text opens from c none i d l k m =
+    none_at (λ (o : Open). list_any (λ x. x == from + k) (table_words text o.switch)) opens i d l
+    (sym (ap (is_tabled text opens) (word_of from c k m))
+    ∙ none_at (is_tabled text opens) (words_from from c) k 0 (omega (arith, length-words from c)) none)
+
+at_address : (text : Words) (address word : ℕ) → word_at text address ≡ Some word → address ≡ text.start + 4 * word
+at_address text address word =
+    let n = length text.words in
+    let at = (address - text.start) / 4 in
+    let above = nat_le text.start address in
+    let aligned = (address - text.start) % 4 == 0 in
+    cond_both (above && aligned && nat_lt at n) (Some at) None
+    (λ (o : Option ℕ). o ≡ Some word → address ≡ text.start + 4 * word)
+    (λ h e.
+    let front = and_parts (above && aligned) (nat_lt at n) h in
+    let two = and_parts above aligned front.0 in
+    let same : at ≡ word = cc in
+    let lower : text.start ≤ address = leb-true text.start address two.0 in
+    let whole : (address - text.start) % 4 ≡ 0 = eqb-true ((address - text.start) % 4) 0 two.1 in
+    omega arith)
+    (λ h e. absurd (cc))
+
+pub tables_apart : (text : Words) (one other : Switch) → IsTableIn text one → (t : IsTableIn text other)
+    → ((k : ℕ) → k < other.count → list_any (λ x. x == t.begins + k) (table_words text one) ≡ false)
+    → (one.table.0 + 4 * one.count ≤ other.table.0) ⊎ (other.table.0 + 4 * other.count ≤ one.table.0)
+tables_apart text one other s t none =
+    let a = at_address text one.table.0 s.begins s.at in
+    let b = at_address text other.table.0 t.begins t.at in
+    elim (cases_lt s.begins t.begins) [
+      | inl l ↦ elim (cases_lt t.begins (s.begins + one.count)) [
+        | inl m ↦ absurd (meet (t.begins - s.begins) 0 (omega arith) (omega arith) (omega (arith, t.some)))
+        | inr m ↦ inl (omega arith)
+      ]
+      | inr l ↦ elim (cases_lt s.begins (t.begins + other.count)) [
+        | inl m ↦ absurd (meet 0 (s.begins - t.begins) (omega arith) (omega (arith, s.some)) (omega arith))
+        | inr m ↦ inr (omega arith)
+      ]
+    ]
+  where
+    meet : (i k : ℕ) → s.begins + i ≡ t.begins + k → i < one.count → k < other.count → ⊥
+    meet i k e l m =
+        both_ways (list_any (λ x. x == t.begins + k) (table_words text one)) (none k m)
+        (ap (list_any (λ x. x == t.begins + k)) (table_is text one s.begins s.at)
+        ∙ subst (λ (w : ℕ). list_any (λ x. x == w) (words_from s.begins one.count) ≡ true) e
+        (in_table s.begins one.count i l))

@@ -1,0 +1,15 @@
+use Rattle.std.proofs.Common.{◌++◌, add-one, ap, ◌∙◌}
+use Rattle.std.proofs.lemmas.List.{flat_map_more}
+use Rattle.cfg_blocks.specs.Blocks.{below}
+use Rattle.cfg_normal.specs.Graph.{edges_of}
+use Rattle.cfg_normal.proofs.edges.leave_blocks.Goals as goal
+
+pub loop-block-preserved : goal.loop-block-preserved
+loop-block-preserved c =
+    let f = edges_of c.args.nodes.now.blocks c.args.nodes.now.opens in
+    let n = c.loop-block.block in
+    record {
+      edges = rw add-one (c.in_ok-leave.ensures.edges ∙ ap (λ es. es ++ f n) c.loop-block.invariant.edges
+          ∙ flat_map_more f c.args.edges.now.items (below n) n);
+      seen = c.in_ok-leave.ensures.seen;
+    }

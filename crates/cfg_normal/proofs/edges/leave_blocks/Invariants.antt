@@ -1,0 +1,11 @@
+use Rattle.std.proofs.Common.{◌≡◌, ℕ, ◌≤◌, ◌++◌, slice_index}
+use Rattle.std.specs.List.{flat_map}
+use Rattle.cfg_blocks.specs.Blocks.{below}
+use Rattle.cfg_normal.specs.Graph.{edges_of}
+use Rattle.cfg_normal.proofs.edges.leave_blocks.Given as goal
+
+abbrev pub invariant-loop-block : goal.invariant-loop-block
+invariant-loop-block l = record {
+  edges : l.edges.items ≡ l.initial.edges.items ++ flat_map (edges_of l.nodes.blocks l.nodes.opens) (below l.block);
+  seen : (n : ℕ) → slice_index l.seen n ≤ l.block;
+}

@@ -1,7 +1,0 @@
-use Rattle.std.proofs.Common.{◌≡◌, ◌++◌, map}
-use Rattle.cfg_blocks.specs.Blocks.{below}
-use Rattle.cfg_normal.specs.Graph.{landing_at}
-use Rattle.cfg_normal.proofs.flow.land_at_all.Given as goal
-
-abbrev pub invariant-loop-block : goal.invariant-loop-block
-invariant-loop-block l = l.edges.items ≡ l.initial.edges.items ++ map landing_at (below l.block)

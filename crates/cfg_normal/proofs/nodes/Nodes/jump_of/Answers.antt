@@ -1,0 +1,7 @@
+use Rattle.cfg_normal.proofs.LandingFacts.{jumps_at}
+use Rattle.cfg_normal.proofs.nodes.Nodes.jump_of.Goals as goal
+
+pub returns-in-Copied-clause-jump : goal.returns-in-Copied-clause-jump
+returns-in-Copied-clause-jump c =
+    let is = c.in-Copied.ensures.landing in
+    (is.0, jumps_at c.args.self.now.opens c.args.block.0 c.in-Copied.number is.0 is.1, is.1)

@@ -1,0 +1,10 @@
+use Rattle.std.proofs.Common.{◌≡◌, ℕ, ◌<◌, ◌||◌, length}
+use Rattle.std.specs.Prelude.{◌==◌}
+use Rattle.std.specs.List.{list_any}
+use Rattle.cfg_blocks.specs.Marks.{marked}
+use Rattle.cfg_normal.specs.Opens.{words_from}
+use Rattle.cfg_normal.proofs.tables.mark_table.Given as goal
+
+abbrev pub invariant-loop-n : goal.invariant-loop-n
+invariant-loop-n l = (k : ℕ) → k < length l.initial.marks
+    → marked l.marks k ≡ (marked l.initial.marks k || list_any (λ x. x == k) (words_from l.from l.n))

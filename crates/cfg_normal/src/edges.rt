@@ -1,0 +1,363 @@
+//! The edges of a flow graph, in the order of their numbers.
+ghost use Rattle.std.specs.Prelude.{◌≡◌, ℕ, ◌+◌, ◌*◌, ◌^◌, ◌<◌, ◌≤◌, ◌==◌, ◌++◌, if◌then◌else◌, [], ◌∷◌, length, map, slice_index, option_to_list, filter, IfOk, OnOk};
+ghost use Rattle.std.specs.List.{flat_map, All};
+ghost use Rattle.cfg_blocks.specs.Blocks.{below, end_of, last_word};
+ghost use Rattle.cfg_blocks.specs.Ends.{number_of, within};
+ghost use Rattle.cfg_normal.specs.Graph.{case_of, copied_edges, directed, edge_of, edges_in, edges_of, landing_at, landings_of, node_of, runs_slot, slot_behind, slot_on, ways_out};
+ghost use Rattle.cfg_normal.specs.Landings.{landed_once, number_in, seen_mark, unseen_case, IsNumbered};
+ghost use Rattle.cfg_normal.specs.Opens.{is_copied};
+
+use crate::nodes::Nodes;
+use crate::{Edge, Node, Slot};
+use cfg_blocks::{BlockEnd, EdgeKind};
+use eel_base::{BlockNo, NoMemory, WordNo};
+use std::alloc::Global;
+
+/// The conditions of `bn` and `ba`.
+const NEVER: u8 = 0;
+
+const ALWAYS: u8 = 8;
+
+/// One or two edges.
+type Ways = (Edge, Option<Edge>);
+
+// A word of so many, if it is one.
+fn within(count: u32, word: u32) -> Option<u32>
+    ensures { result ≡ within count word }
+{
+    if word < count { Some(word) } else { None }
+}
+
+fn number(target: Option<WordNo>) -> Option<u32>
+    ensures { result ≡ number_of target }
+{
+    match target {
+        Some(word) => Some(word.0),
+        None => None,
+    }
+}
+
+// Whether the word that ends a block runs its slot on an edge.
+fn runs_slot(end: BlockEnd, kind: EdgeKind) -> bool
+    ensures { result ≡ runs_slot end kind }
+{
+    match end {
+        BlockEnd::Fall => false,
+        BlockEnd::Branch { cond, annul, .. } => {
+            !annul || (kind == EdgeKind::Taken && cond.number() != ALWAYS)
+        }
+        BlockEnd::Call { .. } | BlockEnd::Jump => true,
+    }
+}
+
+// The slot of the word `last`.
+fn slot_behind(words: u32, last: u32) -> Slot
+    requires { last < words }
+    ensures { result ≡ slot_behind words last }
+{
+    if last + 1 < words {
+        Slot::Word(WordNo(last + 1))
+    } else {
+        Slot::Off
+    }
+}
+
+impl Nodes {
+    /// How many words the text has.
+    pub(crate) fn words(&self) -> u32
+        ensures words { result ≡ self.now.blocks.words }
+        ensures few { result ≤ 2 ^ 20 }
+    {
+        let last = BlockNo(self.blocks.count() - 1);
+        self.blocks.first(last).0 + self.blocks.words(last)
+    }
+
+    // The number of a node.
+    fn number(&self, node: Node) -> usize
+        requires { IsNumbered (length self.now.blocks.firsts) node }
+        ensures number { result ≡ number_in (length self.now.blocks.firsts) node }
+        ensures within { result < 2 * length self.now.blocks.firsts + 1 }
+        ensures few { length self.now.blocks.firsts ≤ 2 ^ 20 }
+    {
+        let _words = self.words();
+        let count = self.blocks.count() as usize;
+        match node {
+            Node::Block(block) => block.0 as usize,
+            Node::X => count,
+            Node::Landed(block) => count + 1 + block.0 as usize,
+        }
+    }
+
+    // The last word of a block.
+    fn last_of(&self, block: BlockNo) -> u32
+        requires { block.0 < length self.now.blocks.firsts }
+        ensures last { result ≡ last_word self.now.blocks.firsts self.now.blocks.words block.0 }
+        ensures within { result < self.now.blocks.words }
+    {
+        self.blocks.first(block).0 + self.blocks.words(block) - 1
+    }
+
+    // The slot that is run on an edge of a block.
+    fn slot_on(&self, block: BlockNo, kind: EdgeKind) -> Slot
+        requires { block.0 < length self.now.blocks.firsts }
+        ensures { result ≡ slot_on self.now.blocks block.0 kind }
+    {
+        if runs_slot(self.blocks.end(block), kind) {
+            slot_behind(self.words(), self.last_of(block))
+        } else {
+            Slot::Nothing
+        }
+    }
+
+    // The node to which an edge leads that goes to a word, or to none of the text.
+    fn target(&self, from: Node, kind: EdgeKind, to: Option<u32>) -> Node
+        ensures { result ≡ directed self.now.opens from kind (node_of self.now.blocks to) }
+    {
+        match to {
+            Some(word) => {
+                if word < self.words() {
+                    self.directed(from, kind, self.blocks.holding(WordNo(word)))
+                } else {
+                    Node::X
+                }
+            }
+            None => Node::X,
+        }
+    }
+
+    // The edge of a way out of a block, for the block or its landed copy.
+    fn edge(&self, from: Node, block: BlockNo, kind: EdgeKind, to: Option<u32>) -> Edge
+        requires { block.0 < length self.now.blocks.firsts }
+        ensures { result ≡ edge_of self.now.blocks self.now.opens from block.0 (record { kind = kind; to = to }) }
+    {
+        Edge {
+            from,
+            to: self.target(from, kind, to),
+            kind,
+            slot: self.slot_on(block, kind),
+        }
+    }
+
+    // The edges of the ways out of a block, for the block or its landed copy.
+    fn ways_out(&self, from: Node, block: BlockNo) -> Ways
+        requires { block.0 < length self.now.blocks.firsts }
+        ensures { ways_out self.now.blocks self.now.opens from block.0 ≡ result.0 ∷ option_to_list result.1 }
+    {
+        let words = self.words();
+        let last = self.last_of(block);
+        match self.blocks.end(block) {
+            BlockEnd::Fall => (
+                self.edge(from, block, EdgeKind::Fall, within(words, last + 1)),
+                None,
+            ),
+            BlockEnd::Call { target } => {
+                (self.edge(from, block, EdgeKind::Call, number(target)), None)
+            }
+            BlockEnd::Jump => (self.edge(from, block, EdgeKind::Out, None), None),
+            BlockEnd::Branch { cond, target, .. } => {
+                let taken = self.edge(from, block, EdgeKind::Taken, number(target));
+                let untaken = self.edge(from, block, EdgeKind::Untaken, within(words, last + 2));
+                match cond.number() {
+                    ALWAYS => (taken, None),
+                    NEVER => (untaken, None),
+                    _ => (taken, Some(untaken)),
+                }
+            }
+        }
+    }
+}
+
+// Adds the edges of the ways out of a block, for the block or its landed copy.
+fn leave_by_ways(
+    edges: &mut Vec<Edge>,
+    nodes: &Nodes,
+    from: Node,
+    block: BlockNo,
+) -> Result<(), NoMemory>
+    requires { block.0 < length nodes.now.blocks.firsts }
+    ensures { OnOk result (edges.new.items ≡ edges.old.items
+        ++ ways_out nodes.now.blocks nodes.now.opens from block.0) }
+{
+    let (one, other) = nodes.ways_out(from, block);
+    edges.push(one)?;
+    if let Some(edge) = other {
+        edges.push(edge)?;
+    }
+    Ok(())
+}
+
+// Adds the edge of a jump's block to a node, if the node hasn't the block's mark yet: its number and one.
+fn add_case(
+    edges: &mut Vec<Edge>,
+    seen: &mut [u32],
+    nodes: &Nodes,
+    block: BlockNo,
+    to: Node,
+) -> Result<(), NoMemory>
+    requires block { block.0 < length nodes.now.blocks.firsts }
+    requires seen { length seen.old ≡ 2 * length nodes.now.blocks.firsts + 1 }
+    requires to { IsNumbered (length nodes.now.blocks.firsts) to }
+    ensures edges { OnOk result (edges.new.items ≡ edges.old.items
+        ++ unseen_case nodes.now.blocks block.0 to
+        (slice_index seen.old (number_in (length nodes.now.blocks.firsts) to) == block.0 + 1)) }
+    ensures seen { OnOk result ((n : ℕ) → slice_index seen.new n
+        ≡ seen_mark (number_in (length nodes.now.blocks.firsts) to) (block.0 + 1) n (slice_index seen.old n)) }
+    ensures long { length seen.new ≡ length seen.old }
+{
+    let place = nodes.number(to);
+    let mark = block.0 + 1;
+    if seen[place] != mark {
+        seen[place] = mark;
+        edges.push(Edge {
+            from: Node::Block(block),
+            to,
+            kind: EdgeKind::Case,
+            slot: nodes.slot_on(block, EdgeKind::Case),
+        })?;
+    }
+    Ok(())
+}
+
+// Adds the edges of a jump's block, one to each node at which its targets land.
+fn leave_by_cases(
+    edges: &mut Vec<Edge>,
+    seen: &mut [u32],
+    nodes: &Nodes,
+    block: BlockNo,
+    targets: &[WordNo],
+) -> Result<(), NoMemory>
+    requires block { block.0 < length nodes.now.blocks.firsts }
+    requires seen { length seen.old ≡ 2 * length nodes.now.blocks.firsts + 1 }
+    requires fresh { (n : ℕ) → slice_index seen.old n ≤ block.0 }
+    requires targets { All (λ w. w.0 < nodes.now.blocks.words) targets.now }
+    ensures edges { OnOk result (edges.new.items ≡ edges.old.items
+        ++ map (case_of nodes.now.blocks block.0) (landed_once nodes.now.blocks nodes.now.opens targets.now)) }
+    ensures seen { OnOk result ((n : ℕ) → slice_index seen.new n ≤ block.0 + 1) }
+    ensures long { length seen.new ≡ length seen.old }
+{
+    for target in targets {
+        let to = nodes.lands(*target);
+        add_case(edges, seen, nodes, block, to)?;
+    }
+    Ok(())
+}
+
+// Adds the edges that leave a block.
+fn leave(
+    edges: &mut Vec<Edge>,
+    seen: &mut [u32],
+    nodes: &Nodes,
+    block: BlockNo,
+) -> Result<(), NoMemory>
+    requires block { block.0 < length nodes.now.blocks.firsts }
+    requires seen { length seen.old ≡ 2 * length nodes.now.blocks.firsts + 1 }
+    requires fresh { (n : ℕ) → slice_index seen.old n ≤ block.0 }
+    ensures edges { OnOk result (edges.new.items ≡ edges.old.items
+        ++ edges_of nodes.now.blocks nodes.now.opens block.0) }
+    ensures seen { OnOk result ((n : ℕ) → slice_index seen.new n ≤ block.0 + 1) }
+    ensures long { length seen.new ≡ length seen.old }
+{
+    match nodes.jump_targets(block) {
+        Some(targets) => leave_by_cases(edges, seen, nodes, block, targets)?,
+        None => leave_by_ways(edges, nodes, Node::Block(block), block)?,
+    }
+    Ok(())
+}
+
+// Adds the edges that leave blocks, by blocks, where no node has a mark yet.
+fn leave_blocks(edges: &mut Vec<Edge>, seen: &mut [u32], nodes: &Nodes) -> Result<(), NoMemory>
+    requires seen { length seen.old ≡ 2 * length nodes.now.blocks.firsts + 1 }
+    requires fresh { (n : ℕ) → slice_index seen.old n ≡ 0 }
+    ensures { OnOk result (edges.new.items ≡ edges.old.items
+        ++ flat_map (edges_of nodes.now.blocks nodes.now.opens) (below (length nodes.now.blocks.firsts))) }
+{
+    for block in 0..nodes.blocks.count() {
+        leave(edges, seen, nodes, BlockNo(block))?;
+    }
+    Ok(())
+}
+
+// Adds the edges that leave blocks.
+fn leave_all(alloc: Global, edges: &mut Vec<Edge>, nodes: &Nodes) -> Result<(), NoMemory>
+    ensures { OnOk result (edges.new.items ≡ edges.old.items
+        ++ flat_map (edges_of nodes.now.blocks nodes.now.opens) (below (length nodes.now.blocks.firsts))) }
+{
+    let mut seen = vec![in alloc; 0; 2 * nodes.blocks.count() as usize + 1]?;
+    leave_blocks(edges, &mut seen, nodes)?;
+    Ok(())
+}
+
+// Adds the edges that leave the landed copy of a block, if it has one.
+fn leave_copy(edges: &mut Vec<Edge>, nodes: &Nodes, block: BlockNo) -> Result<(), NoMemory>
+    requires { block.0 < length nodes.now.blocks.firsts }
+    ensures { OnOk result (edges.new.items ≡ edges.old.items
+        ++ flat_map (copied_edges nodes.now.blocks nodes.now.opens)
+        (filter (is_copied nodes.now.opens) (block.0 ∷ []))) }
+{
+    if nodes.is_copied(block) {
+        leave_by_ways(edges, nodes, Node::Landed(block), block)?;
+    }
+    Ok(())
+}
+
+// Adds the edges that leave landed copies, by blocks.
+fn leave_copies(edges: &mut Vec<Edge>, nodes: &Nodes) -> Result<(), NoMemory>
+    ensures { OnOk result (edges.new.items ≡ edges.old.items
+        ++ flat_map (copied_edges nodes.now.blocks nodes.now.opens)
+        (filter (is_copied nodes.now.opens) (below (length nodes.now.blocks.firsts)))) }
+{
+    for block in 0..nodes.blocks.count() {
+        leave_copy(edges, nodes, BlockNo(block))?;
+    }
+    Ok(())
+}
+
+// Adds a landing.
+fn land_at(edges: &mut Vec<Edge>, to: Node) -> Result<(), NoMemory>
+    ensures { OnOk result (edges.new.items ≡ edges.old.items ++ landing_at to ∷ []) }
+{
+    edges.push(Edge {
+        from: Node::X,
+        to,
+        kind: EdgeKind::Land,
+        slot: Slot::Nothing,
+    })?;
+    Ok(())
+}
+
+// Adds the landings at a block and its copy.
+fn land_in(edges: &mut Vec<Edge>, nodes: &Nodes, block: BlockNo) -> Result<(), NoMemory>
+    requires { block.0 < length nodes.now.blocks.firsts }
+    ensures { OnOk result (edges.new.items ≡ edges.old.items ++ map landing_at (landings_of nodes.now.opens block.0)) }
+{
+    if nodes.jump_of(block).is_none() {
+        land_at(edges, Node::Block(block))?;
+    }
+    if nodes.is_copied(block) {
+        land_at(edges, Node::Landed(block))?;
+    }
+    Ok(())
+}
+
+// Adds the landings from outside, by blocks.
+fn land_at_all(edges: &mut Vec<Edge>, nodes: &Nodes) -> Result<(), NoMemory>
+    ensures { OnOk result (edges.new.items ≡ edges.old.items
+        ++ map landing_at (flat_map (landings_of nodes.now.opens) (below (length nodes.now.blocks.firsts)))) }
+{
+    for block in 0..nodes.blocks.count() {
+        land_in(edges, nodes, BlockNo(block))?;
+    }
+    Ok(())
+}
+
+/// The edges: those that leave blocks, those that leave landed copies, and then the landings.
+#[tactic(auto, unfolding(crate::specs::Graph::edges_in))]
+pub(crate) fn edges_of(alloc: Global, nodes: &Nodes) -> Result<Vec<Edge>, NoMemory>
+    ensures { IfOk result (λ v. v.items ≡ edges_in nodes.now.blocks nodes.now.opens) }
+{
+    let mut edges = Vec::new(alloc);
+    leave_all(alloc, &mut edges, nodes)?;
+    leave_copies(&mut edges, nodes)?;
+    land_at_all(&mut edges, nodes)?;
+    Ok(edges)
+}

@@ -1,0 +1,52 @@
+-- Lines that are printed of a file, by the status.
+use Rattle.std.proofs.Common.{◌≡◌, ℕ, inl, inr, List, ap, ◌∙◌, lit≤}
+use Rattle.eel_base.specs.Outside.{IsMissing, appended}
+use Rattle.eel.specs.Outcome.{Outcome, BadFile, OutOfMemory, Stream, status_of, line_of}
+use Rattle.eel.specs.Answers.Shared.{Outside, with_err, edit_limit}
+use Rattle.eel.specs.Answers.Files.{IsNotSound}
+use Rattle.eel.specs.Answers.Print.{Prints, unread, refused, printed, WerePrinted, print_means}
+use Rattle.eel.proofs.Later.{appended-nil}
+use Rattle.eel.proofs.Meanings.{AnyRose, IsByStatus, IsBad, bad, refusal_is_bad, wanting_is_bad, unread_not_done, unread_failed, printed_done, printed_not_refused, printed_failed}
+
+not_sound : (name bytes : List ℕ) (outcome : Outcome) → IsNotSound name bytes outcome → IsBad (status_of outcome)
+not_sound name bytes (BadFile named code) is = bad 65 (lit≤ tt) (lit≤ tt)
+not_sound name bytes OutOfMemory is = bad 70 (lit≤ tt) (lit≤ tt)
+not_sound name bytes _ is = absurd is
+
+module _ (lines_of : List ℕ → List ℕ) where
+  done : (file : List ℕ) (old new : Outside) (err : Stream) (outcome : Outcome) → Prints lines_of file old (with_err new err) outcome
+      → status_of outcome ≡ 0 → new.err.taken ≡ appended err.taken (line_of outcome) → WerePrinted lines_of file old new
+  done file old new err outcome (unread is quiet) zero took = absurd (unread_not_done old.files new.files file edit_limit outcome is zero)
+  done file old new err outcome (refused bytes read is quiet) zero took = absurd ((not_sound file bytes outcome is).not_done zero)
+  done file old new err outcome (printed bytes read sound is same) zero took =
+      let (line, out) = printed_done old.out new.out (lines_of bytes) outcome is zero in
+      record {
+        bytes = bytes;
+        read = read;
+        sound = sound;
+        out = out;
+        err = took ∙ ap (appended err.taken) line ∙ appended-nil err.taken ∙ same;
+      }
+
+  silent : (file : List ℕ) (old new : Outside) (outcome : Outcome) → Prints lines_of file old new outcome
+      → IsBad (status_of outcome) → new.out.taken ≡ old.out.taken
+  silent file old new outcome (unread is quiet) other = ap (λ s. s.taken) quiet.0
+  silent file old new outcome (refused bytes read is quiet) other = ap (λ s. s.taken) quiet.0
+  silent file old new outcome (printed bytes read sound is same) other = absurd (printed_not_refused old.out new.out (lines_of bytes) outcome is other)
+
+  failed : (file : List ℕ) (old new : Outside) (outcome : Outcome) → Prints lines_of file old new outcome
+      → status_of outcome ≡ 74 → AnyRose old new (IsMissing old.files.held file)
+  failed file old new outcome (unread is quiet) fails =
+      elim (unread_failed old.files new.files file edit_limit outcome is fails) [ inl lacks ↦ inr (inr (inr (inr lacks))) | inr rose ↦ inl rose ]
+  failed file old new outcome (refused bytes read is quiet) fails = absurd ((not_sound file bytes outcome is).not_failed fails)
+  failed file old new outcome (printed bytes read sound is same) fails = inr (inr (inl (printed_failed old.out new.out (lines_of bytes) outcome is fails)))
+
+  pub print_by_status : (file : List ℕ) → IsByStatus (print_means lines_of file)
+  print_by_status file = record {
+    done = λ old new err outcome follows zero took. (done file old new err outcome follows.0 zero took, follows.1, follows.2);
+    refused = λ old new outcome follows refusal.
+        record { files = follows.1; out = silent file old new outcome follows.0 (refusal_is_bad _ refusal) };
+    wanting = λ old new err outcome follows wants.
+        (follows.1, silent file old (with_err new err) outcome follows.0 (wanting_is_bad _ wants));
+    failed = λ old new outcome follows fails. failed file old new outcome follows.0 fails;
+  }

@@ -1,0 +1,100 @@
+-- `edit IN OUT profile WEIGHTS`: the file IN and the lines WEIGHTS are read, both are judged, and IN is edited with counters
+-- on the edges off a spanning tree that weighs most by these lines, and written as OUT.
+use Rattle.std.specs.Prelude.{◌≡◌, ℕ, ◌*◌, ◌^◌, ◌⊎◌, List, [], Option, Some, None}
+use Rattle.eel_base.specs.Outside.{IsMissing, stored}
+use Rattle.cfg_view.specs.View.{Seen, view_of}
+use Rattle.weights_in.specs.Weights.{AreRefused, AreWeights}
+use Rattle.weights_in.specs.declared.reading.WeightFault.{WeightFault}
+use Rattle.weights_in.specs.declared.reading.WeightFault.TheVariants as weight_faults
+use Rattle.edit_core.specs.Taken.{IsCramped}
+use Rattle.eel.specs.declared.outcome.LineCause.{LineCause}
+use Rattle.eel.specs.declared.outcome.LineCause.TheVariants as causes
+use Rattle.eel.specs.Outcome.{Outcome, BadFile, BadLine, NoRoom, OutOfMemory}
+use Rattle.eel.specs.Answers.Files.{IsFaulty, IsSound}
+use Rattle.eel.specs.Answers.Shared.{Store, Meaning, WasRead, IsUnread, IsPut, IsUnused, IsQuiet, IsSilent, edit_limit}
+use Rattle.eel.specs.Answers.Profile.{AreCells, IsProfileOf, graph_in, profile_plan}
+
+-- how long the lines may be
+abbrev pub weights_limit : ℕ
+weights_limit = 256 * 2 ^ 20
+
+-- the lines have these weights for the edges of a file's graph
+abbrev pub AreWeightsOf : List ℕ → List ℕ → List ℕ → Type 0
+AreWeightsOf bytes lines weights = AreWeights (view_of bytes []) lines weights
+
+-- ---- refusals
+
+-- the number of the bad line that a fault names, and what is bad about it
+abbrev pub weight_cause : WeightFault → Option (ℕ × LineCause)
+weight_cause (weight_faults.Line number) = Some (number, causes.Grammar)
+weight_cause (weight_faults.Edge number) = Some (number, causes.Edge)
+weight_cause (weight_faults.Total number) = Some (number, causes.Total)
+weight_cause weight_faults.NoMemory = None
+
+-- the first bad line, for the edges of a program
+abbrev pub HasBadWeight : Seen → List ℕ → ℕ → LineCause → Type 0
+HasBadWeight view lines number cause =
+    (fault : WeightFault) × AreRefused view lines fault × (weight_cause fault ≡ Some (number, cause))
+
+-- the lines were read for a program, and are refused
+abbrev pub AreNotWeights : Seen → List ℕ → List ℕ → Outcome → Type 0
+AreNotWeights view name lines (BadLine named number cause) = (named ≡ name) × HasBadWeight view lines number cause
+AreNotWeights view name lines OutOfMemory = Unit {0}
+AreNotWeights view name lines _ = ⊥
+
+-- IN and WEIGHTS were read, and the edit is refused: IN is judged, then the lines, and then the room.
+abbrev pub IsNotWeighed : List ℕ → List ℕ → List ℕ → List ℕ → Outcome → Type 0
+IsNotWeighed input bytes name lines (BadFile named code) = (named ≡ input) × IsFaulty code bytes
+IsNotWeighed input bytes name lines (BadLine named number cause) =
+    (named ≡ name) × IsSound bytes × HasBadWeight (view_of bytes []) lines number cause
+IsNotWeighed input bytes name lines (NoRoom named needed had) =
+    (weights : List ℕ) × (cells : List (Option ℕ)) × (named ≡ input) × AreWeightsOf bytes lines weights
+    × AreCells (graph_in bytes) weights cells × IsCramped needed had bytes (profile_plan cells)
+IsNotWeighed input bytes name lines OutOfMemory = IsSound bytes
+IsNotWeighed input bytes name lines _ = ⊥
+
+-- ---- the edit
+
+-- a file that was made of another, with counters on the edges off a tree that weighs most by these lines
+abbrev pub IsWeighedEdit : List ℕ → List ℕ → List ℕ → Type 0
+IsWeighedEdit bytes lines file =
+    (weights : List ℕ) × AreWeightsOf bytes lines weights × IsProfileOf weights bytes file
+
+-- How such an edit goes, step by step, and what comes of it.
+pub data Weighs (input output name : List ℕ) (old new : Store) (outcome : Outcome) : Type 0 where
+  -- IN gave no bytes
+  unread : IsUnread old new input edit_limit outcome → new.held ≡ old.held
+      → Weighs input output name old new outcome
+  -- IN was read, and WEIGHTS gave no bytes
+  unweighed : (bytes : List ℕ) → WasRead old input edit_limit bytes
+      → IsUnread old new name weights_limit outcome → new.held ≡ old.held
+      → Weighs input output name old new outcome
+  -- both were read, and IN isn't edited
+  refused : (bytes : List ℕ) → WasRead old input edit_limit bytes
+      → (lines : List ℕ) → WasRead old name weights_limit lines
+      → IsNotWeighed input bytes name lines outcome → new.held ≡ old.held
+      → Weighs input output name old new outcome
+  -- a file with counters was made of IN, and was to be put as OUT
+  put : (bytes : List ℕ) → WasRead old input edit_limit bytes
+      → (lines : List ℕ) → WasRead old name weights_limit lines
+      → (file : List ℕ) → IsWeighedEdit bytes lines file → IsPut old new output file outcome
+      → Weighs input output name old new outcome
+
+-- the edit is done
+pub record WasWeighed (input output name : List ℕ) (old new : Store) : Type 0 where
+  pub bytes : List ℕ
+  pub read : WasRead old input edit_limit bytes
+  pub lines : List ℕ
+  pub lines_read : WasRead old name weights_limit lines
+  pub file : List ℕ
+  pub made : IsWeighedEdit bytes lines file
+  pub held : new.held ≡ stored old.held output file
+
+abbrev pub weighed_means : List ℕ → List ℕ → List ℕ → Meaning
+weighed_means input output name = record {
+  follows = λ old new outcome.
+      Weighs input output name old.files new.files outcome × IsUnused old new × IsQuiet old new;
+  does = λ old new. WasWeighed input output name old.files new.files × IsUnused old new × IsQuiet old new;
+  wants = IsSilent;
+  lacks = λ files. IsMissing files.held input ⊎ IsMissing files.held name;
+}

@@ -1,0 +1,69 @@
+//! The command `words`.
+ghost use Rattle.std.specs.Prelude.{◌≡◌, ◌≤◌, IfOk, IfErr};
+ghost use Rattle.elf32_write.specs.Bytes.{words_bytes};
+ghost use Rattle.v8_text.specs.Listings.{IsListing};
+ghost use Rattle.eel.specs.Outcome.{outcome_seen};
+ghost use Rattle.eel.specs.Answers.Shared.{store};
+ghost use Rattle.eel.specs.Answers.Words.{Assembles, IsAssembled, IsNotListing};
+
+use crate::outcome::{LineCause, Outcome};
+use crate::texts::{fetch_file, put_file};
+use eel_base::{Files, NoMemory};
+use elf32_write::put_words;
+use std::alloc::Global;
+use v8_text::{ListFault, read_listing};
+
+/// How many bytes a listing may have.
+const LISTING_LIMIT: u64 = 64 << 20;
+
+/// Reads `listing`, and writes its words as `output`.
+pub fn assemble_words<'a, F: Files>(
+    alloc: Global,
+    files: &mut F,
+    listing: &'a str,
+    output: &str,
+) -> Outcome<'a>
+    ensures assembles { Assembles listing.now output.now (store (F.held files.old) (F.faults files.old))
+        (store (F.held files.new) (F.faults files.new)) (outcome_seen result) }
+    ensures later { F.faults files.old ≤ F.faults files.new }
+{
+    let bytes = match fetch_file(alloc, files, listing, LISTING_LIMIT) {
+        Ok(bytes) => bytes,
+        Err(outcome) => return outcome,
+    };
+    match assembled(alloc, listing, &bytes) {
+        Ok(words) => put_file(files, output, &words),
+        Err(outcome) => outcome,
+    }
+}
+
+/// The words of the listing that the file `name` is, as bytes.
+fn assembled<'a>(alloc: Global, name: &'a str, bytes: &[u8]) -> Result<Vec<u8>, Outcome<'a>>
+    ensures words { IfOk result (λ file. IsAssembled bytes.now file.items) }
+    ensures refused { IfErr result (λ outcome. IsNotListing name.now bytes.now (outcome_seen outcome)) }
+{
+    let words = match read_listing(alloc, bytes) {
+        Ok(words) => words,
+        Err(ListFault::Line(number)) => {
+            return Err(Outcome::BadLine {
+                name,
+                number,
+                cause: LineCause::Grammar,
+            });
+        }
+        Err(ListFault::NoMemory) => return Err(Outcome::OutOfMemory),
+    };
+    match big_endian(alloc, &words) {
+        Ok(bytes) => Ok(bytes),
+        Err(NoMemory) => Err(Outcome::OutOfMemory),
+    }
+}
+
+/// Words as bytes, the highest byte of each first.
+fn big_endian(alloc: Global, words: &[u32]) -> Result<Vec<u8>, NoMemory>
+    ensures { IfOk result (λ bytes. bytes.items ≡ words_bytes words.now) }
+{
+    let mut bytes = Vec::new(alloc);
+    put_words(&mut bytes, words)?;
+    Ok(bytes)
+}

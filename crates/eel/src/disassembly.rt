@@ -1,0 +1,63 @@
+//! The command `list`.
+ghost use Rattle.std.specs.Prelude.{◌≡◌, ◌≤◌, IfOk, IfErr};
+ghost use Rattle.eel.specs.Outcome.{Stream, outcome_seen, stream};
+ghost use Rattle.eel.specs.Answers.Files.{IsNotSound, IsSound};
+ghost use Rattle.eel.specs.Answers.List.{listed_of};
+ghost use Rattle.eel.specs.Answers.Print.{Prints};
+ghost use Rattle.eel.specs.Answers.Shared.{Feed, outside, store};
+
+use crate::edit::EDIT_LIMIT;
+use crate::outcome::Outcome;
+use crate::texts::{fetch_file, print};
+use eel_base::{Files, NoMemory, Sink};
+use elf32_sparc::{ReadFault, read_image};
+use std::alloc::Global;
+use v8_text::listing;
+
+/// Reads the program, and prints the instructions of its text.
+pub fn list_words<'a, F: Files, O: Sink>(
+    alloc: Global,
+    file: &'a str,
+    files: &mut F,
+    out: &mut O,
+) -> Outcome<'a>
+    // Whatever the input and the error stream are, they stay so.
+    ensures prints { (feed : Feed) (err : Stream) → Prints listed_of file.now
+        (outside (store (F.held files.old) (F.faults files.old)) feed (stream (O.taken out.old) (O.faults out.old)) err)
+        (outside (store (F.held files.new) (F.faults files.new)) feed (stream (O.taken out.new) (O.faults out.new)) err)
+        (outcome_seen result) }
+    ensures kept { F.held files.new ≡ F.held files.old }
+    ensures files_faults { F.faults files.old ≤ F.faults files.new }
+    ensures out_faults { O.faults out.old ≤ O.faults out.new }
+{
+    let bytes = match fetch_file(alloc, files, file, EDIT_LIMIT) {
+        Ok(bytes) => bytes,
+        Err(outcome) => return outcome,
+    };
+    match disassembly(alloc, file, &bytes) {
+        Ok(lines) => print(out, &lines),
+        Err(outcome) => outcome,
+    }
+}
+
+/// The instructions of the text of the file `name`, a line each.
+fn disassembly<'a>(alloc: Global, name: &'a str, bytes: &[u8]) -> Result<Vec<u8>, Outcome<'a>>
+    ensures lines { IfOk result (λ lines. lines.items ≡ listed_of bytes.now) }
+    ensures sound { IfOk result (λ lines. IsSound bytes.now) }
+    ensures refused { IfErr result (λ outcome. IsNotSound name.now bytes.now (outcome_seen outcome)) }
+{
+    let image = match read_image(alloc, bytes) {
+        Ok(image) => image,
+        Err(ReadFault::File(fault)) => {
+            return Err(Outcome::BadFile {
+                name,
+                code: fault.code(),
+            });
+        }
+        Err(ReadFault::NoMemory) => return Err(Outcome::OutOfMemory),
+    };
+    match listing(alloc, image.text()) {
+        Ok(lines) => Ok(lines),
+        Err(NoMemory) => Err(Outcome::OutOfMemory),
+    }
+}

@@ -1,0 +1,212 @@
+-- The words of a switch's JMPL, one by one, and beside the original's step.
+use Rattle.std.proofs.Common.{◌≡◌, ℕ, zero, suc, ◌+◌, ◌*◌, ◌^◌, ◌<◌, inl, None, List, refl, ap, sym, ◌∙◌, subst, arith}
+use Rattle.std.specs.Prelude.{pos}
+use Rattle.v8_decode.specs.declared.Op2.{Op2}
+use Rattle.v8_decode.specs.declared.Op2.TheVariants.{Reg, Imm}
+use Rattle.v8_alu.specs.Numbers.{wrapped}
+use Rattle.v8_memory.specs.Regions.{Memory, Region, code_of}
+use Rattle.v8_step.specs.State.{State, register_of, with_register}
+use Rattle.v8_step.specs.Valid.{IsValid}
+use Rattle.v8_step.proofs.ValidStates.{register_of-range}
+use Rattle.v8_step.proofs.ValidSteps.{run-valid}
+use Rattle.code_runs.specs.Hops.{Hops, hopped}
+use Rattle.code_runs.specs.Leads.{Leads, IsSilent}
+use Rattle.code_runs.specs.Page.{page_word, of_page}
+use Rattle.code_runs.specs.StoredWords.{memory_word, store_word, CanLoad, CanStore, Stores}
+use Rattle.code_runs.specs.Straight.{StandIn}
+use Rattle.code_runs.specs.TwoRegisters.{BlockRules, HasScratch, IsBetween, Works}
+use Rattle.code_runs.proofs.Hops.{hops_through, works_state}
+use Rattle.code_runs.proofs.Leads.{leads_then, leads_weaker, silent_then}
+use Rattle.code_runs.proofs.LongJump.{says_at}
+use Rattle.code_runs.proofs.StoredWords.{word_stored, other_word_stored, other_loaded, loads_stored, still_stored, can_load, whole_of}
+use Rattle.code_runs.proofs.TwoRegisters.{block_rules, stores_none}
+use Rattle.jump_code.specs.Choosing.{ChoicesHop, ChoicesSimulate, ComesToCase, IsAboutToGo, choice_at, choose, chosen, chosen_memory}
+use Rattle.jump_code.specs.Jumped.{jumped}
+use Rattle.jump_code.specs.PageWords.{IsPageWord, kept_address}
+use Rattle.jump_code.specs.Links.{past}
+use Rattle.jump_code.proofs.Blocks.{four, scratch, addressed, memory_valid, word2, word7}
+use Rattle.jump_code.proofs.Finding.{another}
+use Rattle.jump_code.proofs.Jumping.{jump_aligned, jump_goes}
+
+module _ (distance : ℕ) (s : State) (h : IsAboutToGo distance s) where
+  abbrev code : List Region
+  code = code_of s.memory
+
+  abbrev g1 : ℕ
+  g1 = register_of s 1
+
+  abbrev g2 : ℕ
+  g2 = register_of s 2
+
+  abbrev m1 : Memory
+  m1 = store_word s.memory (page_word 2) (register_of s 1)
+
+  abbrev m2 : Memory
+  m2 = chosen_memory s
+
+  -- a word of the page, after each store
+  can1 : (n : ℕ) → n < 8 → CanStore m1 (page_word n)
+  can1 n few = still_stored s.memory (page_word n) (page_word 2) g1 (h.page n few)
+
+  can2 : (n : ℕ) → n < 8 → CanStore m2 (page_word n)
+  can2 n few = still_stored m1 (page_word n) (page_word 7) g2 (can1 n few)
+
+  kept_stays : memory_word m2 (page_word 0) ≡ kept_address s
+  kept_stays =
+      other_word_stored m1 (page_word 0) (page_word 7) g2 (can1 0 (omega arith)) (inl (omega arith))
+      ∙ other_word_stored s.memory (page_word 0) (page_word 2) g1 (h.page 0 (omega arith)) (inl (omega arith))
+
+  first_waits : memory_word m2 (page_word 2) ≡ g1
+  first_waits =
+      other_word_stored m1 (page_word 2) (page_word 7) g2 (can1 2 (omega arith)) (inl (omega arith))
+      ∙ word_stored s.memory (page_word 2) g1 (register_of-range s 1 h.valid) (h.page 2 (omega arith))
+
+  second_waits : memory_word m2 (page_word 7) ≡ g2
+  second_waits = word_stored m1 (page_word 7) g2 (register_of-range s 2 h.valid) (can1 7 (omega arith))
+
+  block : HasScratch s 9 1 2
+  block = scratch s 9 1 2 h.valid h.ready h.low (omega arith) (omega arith) (omega arith) (omega arith) (omega arith)
+
+  rules : BlockRules s 9 IsPageWord 1 2
+  rules = block_rules s 9 IsPageWord 1 2 block
+
+  one : Works s 9 IsPageWord 1 2 1 m1 g1 g2
+  one =
+      rules.st 0 s.memory g1 g2 1 0 (of_page 2) (page_word 2) g1 rules.none
+      (omega arith, says_at code _ _ _ (omega arith) h.words.0) (record { sums = λ u k. refl; aligned = refl })
+      (h.page 2 (omega arith)) (λ u k. k.first) word2
+
+  two : Works s 9 IsPageWord 1 2 2 m2 g1 g2
+  two =
+      rules.st 1 m1 g1 g2 2 0 (of_page 7) (page_word 7) g2 one
+      (omega arith, says_at code _ _ _ (omega arith) h.words.1.0) (record { sums = λ u k. refl; aligned = refl })
+      (can1 7 (omega arith)) (λ u k. k.second) word7
+
+  three : Works s 9 IsPageWord 1 2 3 m2 (kept_address s) g2
+  three =
+      rules.ld_first 2 m2 g1 g2 0 (of_page 0) (page_word 0) (kept_address s) two
+      (omega arith, says_at code _ _ _ (omega arith) h.words.1.1.0) (record { sums = λ u k. refl; aligned = refl })
+      (can_load m2 (page_word 0) (can2 0 (omega arith))) kept_stays
+
+  five : Works s 9 IsPageWord 1 2 5 m2 (kept_address s) distance
+  five =
+      addressed s 9 1 2 block 3 m2 (kept_address s) g2 distance three h.near (omega arith)
+      (says_at code _ _ _ (omega arith) h.words.1.1.1.0, (says_at code _ _ _ (omega arith) h.words.1.1.1.1.0, tt))
+
+  -- the word of the choice is none of the page's
+  choice_loads1 : CanLoad m1 (choice_at distance s)
+  choice_loads1 = loads_stored s.memory (choice_at distance s) (page_word 2) g1 h.choice.loads
+
+  choice_stays : memory_word m2 (choice_at distance s) ≡ chosen distance s
+  choice_stays =
+      let there = choice_at distance s in
+      let below = h.choice.below in
+      let k0 = h.choice.loads in
+      let k1 = choice_loads1 in
+      let v1 = memory_valid s 9 IsPageWord 1 2 1 m1 g1 g2 h.valid one in
+      other_loaded m1 there (page_word 7) g2 k1 (whole_of m1 there k1.region v1 k1.at) (inl (omega (arith, below)))
+      ∙ other_loaded s.memory there (page_word 2) g1 k0 (whole_of s.memory there k0.region h.valid.memory k0.at)
+      (inl (omega (arith, below)))
+
+  six : Works s 9 IsPageWord 1 2 6 m2 (chosen distance s) distance
+  six =
+      rules.ld_first 5 m2 (kept_address s) distance 1 (Reg 2) (choice_at distance s) (chosen distance s) five
+      (omega arith, says_at code _ _ _ (omega arith) h.words.1.1.1.1.1.0)
+      (record {
+        sums = λ u k. ap (λ z. wrapped (z + register_of u 2)) k.first ∙ ap (λ z. wrapped (kept_address s + z)) k.second;
+        aligned = four (choice_at distance s) h.choice.aligned;
+      })
+      (loads_stored m1 (choice_at distance s) (page_word 7) g2 choice_loads1) choice_stays
+
+  seven : Works s 9 IsPageWord 1 2 7 m2 (chosen distance s) g2
+  seven =
+      rules.ld_second 6 m2 (chosen distance s) distance 0 (of_page 7) (page_word 7) g2 six
+      (omega arith, says_at code _ _ _ (omega arith) h.words.1.1.1.1.1.1.0)
+      (record { sums = λ u k. refl; aligned = refl }) (can_load m2 (page_word 7) (can2 7 (omega arith))) second_waits
+
+  hops : Hops s 9 IsPageWord (chosen distance s) m2
+  hops =
+      let to = chosen distance s in
+      let small : to < 2 ^ 32 =
+      subst (λ z. z < 2 ^ 32) seven.alike.first
+      (register_of-range seven.after 1 (subst IsValid seven.path.steps (run-valid s 7 h.valid))) in
+      hops_through s 9 IsPageWord 1 2 block 7 m2 to to (Imm (pos 0)) (of_page 2) (page_word 2) seven
+      (omega arith) (omega arith) (four to h.choice.target)
+      (says_at code _ _ _ (omega arith) h.words.1.1.1.1.1.1.1.0)
+      (says_at code _ _ _ (omega arith) h.words.1.1.1.1.1.1.1.1.0)
+      (λ u k. ap (λ z. wrapped (z + 0)) k.first ∙ (let e : wrapped (to + 0) ≡ to = omega (arith, small) in e))
+      (λ u. refl) refl
+      (can_load m2 (page_word 2) (can2 2 (omega arith))) first_waits
+
+pub choices_hop : ChoicesHop
+choices_hop = hops
+
+-- ---- against the original's step
+
+-- what the link leaves is the original after its JMPL, but for the place
+comes : (rd rs1 : ℕ) (op2 : Op2) (address distance count : ℕ) (s : State) (m : Memory)
+    → (jumped address rd rs1 op2 s).ending ≡ None
+    → Leads (IsBetween s count IsPageWord) s (hopped (with_register s rd address) (chosen distance s) m) count
+    → IsSilent s count → Stores IsPageWord s.memory m
+    → ComesToCase distance s (jumped address rd rs1 op2 s) count
+comes rd rs1 op2 address distance count s m live path silent stores =
+    let goes = jump_goes address rd rs1 op2 s (jump_aligned address rd rs1 op2 s live) in
+    record {
+      memory = m;
+      path = subst (λ (z : State). Leads (IsBetween s count IsPageWord) s z count)
+          (ap (λ (z : State). hopped z (chosen distance s) m) (sym goes)) path;
+      silent = silent;
+      stores = stores;
+      same = ap (λ (z : State). z.memory) goes;
+    }
+
+pub choices_simulate : ChoicesSimulate
+choices_simulate zero rs1 op2 address distance s h live =
+    let low = h.low in
+    let hop = choices_hop distance s (record {
+      valid = h.valid;
+      ready = h.ready;
+      low = omega arith;
+      words = h.words;
+      near = h.near;
+      page = h.page;
+      choice = h.choice;
+    }) in
+    comes zero rs1 op2 address distance 9 s (chosen_memory s) live hop.path hop.silent hop.stores
+choices_simulate (suc r) rs1 op2 address distance s h live =
+    let low = h.low in
+    let o = another (suc r) in
+    let c = scratch s 11 o.0 (suc r) h.valid h.ready (omega arith) o.1 o.2 (omega arith) h.register (λ e. o.3 (sym e)) in
+    let w : Works s 11 IsPageWord o.0 (suc r) 2 s.memory (register_of s o.0) address =
+    addressed s 11 o.0 (suc r) c 0 s.memory (register_of s o.0) (register_of s (suc r)) address
+    (block_rules s 11 IsPageWord o.0 (suc r) c).none h.short (omega arith) (
+      says_at (code_of s.memory) _ _ _ (omega arith) h.words.0,
+      (says_at (code_of s.memory) _ _ _ (omega arith) h.words.1.0, tt),
+    ) in
+    let linked : State = past s 2 s.memory (with_register s (suc r) address) in
+    let path : Leads (IsBetween s 11 IsPageWord) s linked 2 =
+    subst (λ (z : State). Leads (IsBetween s 11 IsPageWord) s z 2)
+    (works_state s 11 IsPageWord o.0 (suc r) c 2 s.memory address w (omega arith)) w.path in
+    let hop : Hops linked 9 IsPageWord (chosen distance s) (chosen_memory linked) =
+    choices_hop distance linked (record {
+      valid = subst IsValid path.steps (run-valid s 2 h.valid);
+      ready = record { live = h.ready.live; npc = refl };
+      low = omega arith;
+      words = subst (λ z. StandIn (code_of s.memory) z (choose distance))
+          (let e : s.pc + 4 + 4 ≡ s.pc + 4 * 2 = omega arith in e) h.words.1.1;
+      near = h.near;
+      page = h.page;
+      choice = record {
+        aligned = h.choice.aligned;
+        below = h.choice.below;
+        loads = h.choice.loads;
+        target = h.choice.target;
+      };
+    }) in
+    comes (suc r) rs1 op2 address distance 11 s (chosen_memory linked) live
+    (leads_then (IsBetween s 11 IsPageWord) s linked _ 2 9 path
+    (leads_weaker (IsBetween linked 9 IsPageWord) (IsBetween s 11 IsPageWord) linked _ 9
+    (λ u z. let a1 = z.past in let a2 = z.before in record { past = omega arith; before = omega arith; stores = z.stores })
+    hop.path)
+    (λ _ _. record { past = omega arith; before = omega arith; stores = stores_none IsPageWord s.memory }))
+    (silent_then s linked 2 9 path.steps w.silent hop.silent) hop.stores

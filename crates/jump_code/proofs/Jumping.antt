@@ -1,0 +1,45 @@
+-- What a JMPL does at the original's address.
+use Rattle.std.proofs.Common.{◌≡◌, ◌≢◌, ℕ, ◌+◌, ◌%◌, ◌⊎◌, inl, inr, Some, None, refl, ap, sym, ◌∙◌}
+use Rattle.std.specs.Prelude.{◌==◌}
+use Rattle.v8_decode.specs.declared.Op2.{Op2}
+use Rattle.v8_decode.specs.declared.Op2.TheVariants.{Reg, Imm}
+use Rattle.v8_alu.specs.Numbers.{wrapped}
+use Rattle.v8_step.specs.declared.Ending.TheVariants.{Trap}
+use Rattle.v8_step.specs.declared.Slot.TheVariants.{NoSlot}
+use Rattle.v8_step.specs.State.{State, with_register, sum_of}
+use Rattle.v8_step.specs.Traps.{mem_address_not_aligned}
+use Rattle.v8_step.specs.Transfers.{delayed, trapped}
+use Rattle.code_runs.specs.Points.{moved}
+use Rattle.code_runs.proofs.Acts.{jump_acts, jump_traps}
+use Rattle.code_runs.proofs.Hops.{equal_or_not}
+use Rattle.jump_code.specs.Jumped.{jumped}
+use Rattle.jump_code.proofs.Blocks.{four, not_four}
+
+module _ (address rd rs1 : ℕ) (op2 : Op2) (s : State) where
+  -- the target doesn't depend on the place
+  sum_moved : (o : Op2) → sum_of (moved address (wrapped (address + 4)) NoSlot s) rs1 o ≡ sum_of s rs1 o
+  sum_moved (Reg r) = refl
+  sum_moved (Imm n) = refl
+
+  pub jump_goes : sum_of s rs1 op2 % 4 ≡ 0 → jumped address rd rs1 op2 s ≡ delayed
+      (with_register (moved address (wrapped (address + 4)) NoSlot s) rd address) (sum_of s rs1 op2)
+  jump_goes e =
+      jump_acts (moved address (wrapped (address + 4)) NoSlot s) rd rs1 op2 (sum_of s rs1 op2) refl (sum_moved op2)
+      (four (sum_of s rs1 op2) e)
+
+  pub jump_stops : sum_of s rs1 op2 % 4 ≢ 0 → jumped address rd rs1 op2 s ≡ trapped
+      (moved address (wrapped (address + 4)) NoSlot s) mem_address_not_aligned
+  jump_stops ne =
+      jump_traps (moved address (wrapped (address + 4)) NoSlot s) rd rs1 op2 refl
+      (ap (λ z. z % 4 == 0) (sum_moved op2) ∙ not_four (sum_of s rs1 op2) ne)
+
+  -- where it goes on, its target is aligned
+  pub jump_aligned : (jumped address rd rs1 op2 s).ending ≡ None → sum_of s rs1 op2 % 4 ≡ 0
+  jump_aligned live = go (equal_or_not (sum_of s rs1 op2 % 4) 0)
+    where
+      never : Some (Trap mem_address_not_aligned) ≡ None → ⊥
+      never k = cc
+
+      go : (sum_of s rs1 op2 % 4 ≡ 0) ⊎ (sum_of s rs1 op2 % 4 ≢ 0) → sum_of s rs1 op2 % 4 ≡ 0
+      go (inl e) = e
+      go (inr ne) = absurd (never (sym (ap (λ (z : State). z.ending) (jump_stops ne)) ∙ live))

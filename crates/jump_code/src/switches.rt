@@ -1,0 +1,43 @@
+//! The words of switches.
+
+ghost use Rattle.std.specs.Prelude.{◌≡◌, IsTrue, map};
+ghost use Rattle.v8_decode.specs.Words.{decode_of};
+ghost use Rattle.v8_encode.specs.Encoding.{op2_fits};
+ghost use Rattle.layout.specs.Emitting.{words_of};
+ghost use Rattle.jump_code.specs.Choosing.{choose};
+ghost use Rattle.jump_code.specs.Keeping.{keep_load};
+
+use crate::registers::register;
+use crate::single::{add, add_low, exchange, high_part, jump_by, keep, take, take_at};
+use v8_decode::{Op2, Reg};
+
+/// The words before a load with these operands, whose address they keep.
+pub fn keep_load_code(rs1: Reg, op2: Op2) -> [u32; 3]
+    requires fits { IsTrue (op2_fits op2) }
+    ensures words { result ≡ words_of (keep_load rs1 op2) }
+    ensures decodes { map decode_of result ≡ keep_load rs1 op2 }
+{
+    let g1 = register(1);
+    [keep(g1, 0), add(g1, rs1, op2), exchange(g1, 0)]
+}
+
+/// The words of a switch's JMPL, behind its link. From the address that was kept it is so far, modulo 2^32, to the word
+/// that says where they go on.
+pub fn choose_code(distance: u32) -> [u32; 9]
+    ensures words { result ≡ words_of (choose distance) }
+    ensures decodes { map decode_of result ≡ choose distance }
+{
+    let g1 = register(1);
+    let g2 = register(2);
+    [
+        keep(g1, 2),
+        keep(g2, 7),
+        take(g1, 0),
+        high_part(g2, distance),
+        add_low(g2, distance),
+        take_at(g1, g1, g2),
+        take(g2, 7),
+        jump_by(g1),
+        take(g1, 2),
+    ]
+}

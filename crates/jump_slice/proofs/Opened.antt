@@ -1,0 +1,242 @@
+-- What is known of each open switch of a text.
+use Rattle.std.proofs.Common.{◌≡◌, ℕ, suc, ◌+◌, ◌<◌, Bool, true, false, not, ◌&&◌, ◌||◌, nat_lt, List, [], ◌∷◌, ◌++◌, length, Option, Some, None, refl, ap, sym, ◌∙◌, subst, arith, slice_index}
+use Rattle.std.specs.Prelude.{if◌then◌else◌, ◌==◌, slice_index_or}
+use Rattle.std.specs.List.{Contains, list_any}
+use Rattle.std.specs.Option.{option_to_list}
+use Rattle.std.proofs.lemmas.Bool.{and_parts, cond_both, eq-eqb, eqb-true, false≢true}
+use Rattle.std.proofs.lemmas.Bool.Decides.{nat_tests}
+use Rattle.eel_base.specs.CodeText.{Words, IsText}
+use Rattle.eel_base.specs.declared.numbers.BlockNo.{BlockNo}
+use Rattle.eel_base.specs.declared.numbers.WordNo.{WordNo}
+use Rattle.cfg_blocks.specs.declared.BlockEnd.{BlockEnd}
+use Rattle.cfg_blocks.specs.declared.BlockEnd.TheVariants as ends
+use Rattle.cfg_blocks.specs.declared.EdgeKind.{EdgeKind}
+use Rattle.cfg_blocks.specs.declared.Into.{Into}
+use Rattle.cfg_blocks.specs.declared.Into.TheVariants as into
+use Rattle.cfg_blocks.specs.declared.switches.Approach.{Approach}
+use Rattle.cfg_blocks.specs.declared.switches.Compare.{Compare}
+use Rattle.cfg_blocks.specs.declared.switches.Switch.{Switch}
+use Rattle.cfg_blocks.specs.Blocks.{Blocks, below, blocks_of, end_of, holding_of, last_word}
+use Rattle.cfg_blocks.specs.Entries.{Entered, entered_of}
+use Rattle.cfg_blocks.specs.Switches.{approach_of, compare_of, switch_of, switches_of}
+use Rattle.cfg_normal.specs.Opens.{Open, candidate, candidate_behind, candidate_into, candidate_on, is_candidate, is_closed, loads_here, opened, opens_of, targets_of, with_switch}
+use Rattle.cfg_walk.specs.Matches.{AreOpen}
+use Rattle.cfg_walk.proofs.Cut.{cut}
+use Rattle.cfg_walk.proofs.Holding.{is_held, some_words}
+use Rattle.cfg_walk.proofs.Lists.{Each, each-append, each-below, each-flat_map}
+use Rattle.jump_slice.specs.Cases.{IsOpen}
+use Rattle.v8_decode.specs.declared.Instr.{Instr}
+use Rattle.v8_decode.specs.declared.Instr.TheVariants as i
+use Rattle.cfg_blocks.specs.declared.switches.Value.{Value}
+use Rattle.cfg_blocks.specs.declared.switches.Value.TheVariants.{Unknown, Const, Index, Place, Entry}
+use Rattle.cfg_blocks.specs.Switches.{bounds, is_jump, is_table, switch_at, switch_behind, switch_by, switch_into, switch_on}
+use Rattle.cfg_blocks.specs.Values.{instr_at, sum_in}
+use Rattle.cfg_blocks.specs.Switches.{before_jump}
+use Rattle.jump_slice.proofs.Parts.{if_some}
+
+-- ---- what a switch is made of
+
+pub record Found (text : Words) (list : Entered) (block : ℕ) (switch : Switch) : Type 0 where
+  pub from : BlockNo
+  pub way : EdgeKind
+  pub cond : ℕ
+  pub annul : Bool
+  pub target : Option WordNo
+  pub compare : Compare
+  pub edge : slice_index_or list.intos block into.Nothing ≡ into.One from way
+  pub branch : end_of list.blocks from.0 ≡ ends.Branch cond annul target
+  pub sets : compare_of text list.blocks from.0 ≡ Some compare
+  pub compare_is : switch.compare ≡ from
+  pub jump_is : switch.jump.0 ≡ last_word list.blocks.firsts list.blocks.words block
+
+-- what the switch has of its jump and its comparison
+abbrev Named : Approach → ℕ → Switch → Type 0
+Named a from switch = (switch.compare ≡ record { 0 = from }) × (switch.jump.0 ≡ a.jump)
+
+by_named : (text : Words) (a : Approach) (from : ℕ) (v : Value) (switch : Switch) → switch_by text a from v ≡ Some switch
+    → Named a from switch
+by_named text a from (Entry c) switch h =
+    let parts = if_some (is_table text c (a.compare.limit + 1)) _ switch h in
+    let made : Switch = record { jump = record { 0 = a.jump }; compare = record { 0 = from }; table = record { 0 = c }; count = a.compare.limit + 1 } in
+    let same : made ≡ switch = cc in
+    subst (λ (w : Switch). Named a from w) same (refl, refl)
+by_named text a from Unknown switch h = absurd (cc)
+by_named text a from (Const c) switch h = absurd (cc)
+by_named text a from Index switch h = absurd (cc)
+by_named text a from (Place c) switch h = absurd (cc)
+
+at_named : (text : Words) (a : Approach) (from : ℕ) (instr : Instr) (switch : Switch)
+    → switch_at text a from instr ≡ Some switch → Named a from switch
+at_named text a from (i.Jmpl rd rs1 op2) switch h = by_named text a from (sum_in (before_jump text a) rs1 op2) switch h
+at_named text a from _ switch h = absurd (cc)
+
+module _ (text : Words) (list : Entered) (block : ℕ) (switch : Switch) where
+  abbrev b : Blocks
+  b = list.blocks
+
+  found_on : (from : BlockNo) (way : EdgeKind) (cond : ℕ) (annul : Bool) (target : Option WordNo) (c : Option Compare)
+      → slice_index_or list.intos block into.Nothing ≡ into.One from way
+      → end_of b from.0 ≡ ends.Branch cond annul target → compare_of text b from.0 ≡ c
+      → switch_on text b block from.0 annul way c ≡ Some switch → Found text list block switch
+  found_on from way cond annul target None e f g h = absurd (cc)
+  found_on from way cond annul target (Some c) e f g h =
+      let named = at_named text (approach_of text b block from.0 annul way c) from.0
+      (instr_at text (last_word b.firsts b.words block)) switch h in
+      record {
+        from = from;
+        way = way;
+        cond = cond;
+        annul = annul;
+        target = target;
+        compare = c;
+        edge = e;
+        branch = f;
+        sets = g;
+        compare_is = named.0;
+        jump_is = named.1;
+      }
+
+  found_behind : (from : BlockNo) (way : EdgeKind) (end : BlockEnd)
+      → slice_index_or list.intos block into.Nothing ≡ into.One from way → end_of b from.0 ≡ end
+      → switch_behind text b block from.0 way end ≡ Some switch → Found text list block switch
+  found_behind from way (ends.Branch cond annul target) e f h =
+      found_on from way cond annul target (compare_of text b from.0) e f refl
+      (if_some (bounds cond way) (switch_on text b block from.0 annul way (compare_of text b from.0)) switch h).1
+  found_behind from way ends.Fall e f h = absurd (cc)
+  found_behind from way (ends.Call target) e f h = absurd (cc)
+  found_behind from way ends.Jump e f h = absurd (cc)
+
+  found_into : (x : Into) → slice_index_or list.intos block into.Nothing ≡ x
+      → switch_into text b block x ≡ Some switch → Found text list block switch
+  found_into (into.One from way) e h = found_behind from way (end_of b from.0) e refl h
+  found_into into.Nothing e h = absurd (cc)
+  found_into into.More e h = absurd (cc)
+
+  pub found_in : (entry : ℕ) → switch_of text list entry block ≡ Some switch
+      → Found text list block switch × (is_jump (end_of b block) ≡ true) × ((slice_index b.firsts block == entry) ≡ false)
+  unfolding switch_of
+  found_in entry h =
+      let outer = if_some (is_jump (end_of b block) && not (slice_index b.firsts block == entry)) _ switch h in
+      let both = and_parts (is_jump (end_of b block)) (not (slice_index b.firsts block == entry)) outer.0 in (
+        found_into (slice_index_or list.intos block into.Nothing) refl outer.1,
+        both.0,
+        turned (slice_index b.firsts block == entry) both.1,
+      )
+    where
+      turned : (x : Bool) → not x ≡ true → x ≡ false
+      turned true h = absurd (cc)
+      turned false h = refl
+
+-- ---- candidates
+
+candidate_is : (text : Words) (list : Entered) (entry block : ℕ) (switch : Switch)
+    → holding_of list.blocks switch.jump.0 ≡ block → switch_of text list entry block ≡ Some switch
+    → Found text list block switch → Each (IsOpen text list entry) (candidate text list switch)
+unfolding candidate
+candidate_is text list entry block switch held is f =
+    subst (λ (os : List Open). Each (IsOpen text list entry) os) (sym made)
+    (cond_both (is_candidate text a) (o ∷ []) [] (Each (IsOpen text list entry)) (λ h. (opens h, tt)) (λ _. tt))
+  where
+    b : Blocks
+    b = list.blocks
+
+    a : Approach
+    a = approach_of text list.blocks block f.from.0 f.annul f.way f.compare
+
+    o : Open
+    o = record { switch = switch; block = block; way = f.way; approach = a; targets = targets_of text switch }
+
+    made : candidate text list switch ≡ (if is_candidate text a then o ∷ [] else [])
+    made =
+        ap (λ k. candidate_into text list.blocks switch k (slice_index_or list.intos k into.Nothing)) held
+        ∙ ap (candidate_into text list.blocks switch block) f.edge
+        ∙ ap (λ t. if t then candidate_behind text list.blocks switch block f.from.0 f.way (end_of list.blocks f.from.0) else [])
+        (eq-eqb switch.compare.0 f.from.0 (ap (λ (n : BlockNo). n.0) f.compare_is))
+        ∙ ap (candidate_behind text list.blocks switch block f.from.0 f.way) f.branch
+        ∙ ap (candidate_on text list.blocks switch block f.from.0 f.way f.annul) f.sets
+
+    opens : is_candidate text a ≡ true → IsOpen text list entry o
+    opens h =
+        let one = and_parts (loads_here text a && nat_lt (a.jump + 1) (length text.words)) (nat_lt (a.last + 1) (length text.words)) h in
+        let two = and_parts (loads_here text a) (nat_lt (a.jump + 1) (length text.words)) one.0 in
+        record {
+          cond = f.cond;
+          annul = f.annul;
+          is_switch = is;
+          parts = record {
+            target = f.target;
+            edge = f.edge ∙ ap (λ (n : BlockNo). into.One n f.way) (sym f.compare_is);
+            branch = ap (λ (n : BlockNo). end_of list.blocks n.0) f.compare_is ∙ f.branch;
+            sets = ap (λ (n : BlockNo). compare_of text list.blocks n.0) f.compare_is ∙ f.sets;
+          };
+          approach = ap (λ (n : BlockNo). approach_of text list.blocks block n.0 f.annul f.way f.compare) (sym f.compare_is);
+          last = below one.1;
+          jump = below two.1;
+          targets = refl;
+        }
+      where
+        below : {m n : ℕ} → nat_lt m n ≡ true → m < n
+        below h = grind (arith, h, nat_tests)
+
+-- ---- all of them
+
+module _ (text : Words) (list : Entered) (entry : ℕ) where
+  abbrev AreIsOpen : List Open → Type 0
+  AreIsOpen = Each (IsOpen text list entry)
+
+  opened_are : (opens : List Open) (switches : List Switch) → AreIsOpen opens
+      → Each (λ switch. AreIsOpen (candidate text list switch)) switches → AreIsOpen (opened text list opens switches)
+  opened_are opens [] h g = h
+  opened_are opens (switch ∷ switches) h g =
+      opened_are (with_switch text list opens switch) switches
+      (cond_both (is_closed text list opens switch) opens (opens ++ candidate text list switch) AreIsOpen (λ _. h)
+      (λ _. each-append (IsOpen text list entry) opens (candidate text list switch) h g.0)) g.1
+
+  pub open_found : (opens : List Open) → AreIsOpen opens → (p : Open → Bool) → list_any p opens ≡ true
+      → (o : Open) × Contains opens o × (p o ≡ true) × IsOpen text list entry o
+  open_found [] h p any = absurd (false≢true any)
+  open_found (x ∷ xs) h p any = by (p x) refl any (open_found xs h.1 p)
+    where
+      by : (t : Bool) → p x ≡ t → (t || list_any p xs) ≡ true
+          → (list_any p xs ≡ true → (o : Open) × Contains xs o × (p o ≡ true) × IsOpen text list entry o)
+          → (o : Open) × Contains (x ∷ xs) o × (p o ≡ true) × IsOpen text list entry o
+      by true e any next = (x, (0, omega arith, refl), e, h.0)
+      by false e any next =
+          let rest = next any in
+          let at = rest.1 in
+          (rest.0, (suc at.0, omega (arith, at.1), at.2), rest.2, rest.3)
+
+  pub are_open : (opens : List Open) → AreIsOpen opens → AreOpen list.blocks opens
+  are_open opens h block jumps =
+      let o = open_found opens h (λ (o : Open). o.block == block) jumps in
+      let found = found_in text list o.0.block o.0.switch entry o.3.is_switch in
+      ap (λ k. is_jump (end_of list.blocks k)) (sym (eqb-true o.0.block block o.2)) ∙ found.1
+
+pub opens_are : (text : Words) (given : List ℕ) (entry : ℕ) → IsText text
+    → let list = entered_of text given in
+    Each (IsOpen text list entry) (opens_of text list (switches_of text list entry))
+unfolding opens_of entered_of
+opens_are text given entry is =
+    let list = entered_of text given in
+    opened_are text list entry [] (switches_of text list entry) tt
+    (each-flat_map (λ switch. Each (IsOpen text list entry) (candidate text list switch))
+    (λ block. option_to_list (switch_of text list entry block)) (below (length list.blocks.firsts))
+    (each-below (λ block. Each (λ switch. Each (IsOpen text list entry) (candidate text list switch))
+    (option_to_list (switch_of text list entry block))) (length list.blocks.firsts)
+    (λ block l. by block l (switch_of text list entry block) refl)))
+  where
+    by : (block : ℕ) → block < length (blocks_of text given).firsts → (o : Option Switch)
+        → switch_of text (entered_of text given) entry block ≡ o
+        → Each (λ switch. Each (IsOpen text (entered_of text given) entry) (candidate text (entered_of text given) switch))
+        (option_to_list o)
+    by block l None e = tt
+    by block l (Some switch) e =
+        let b = blocks_of text given in
+        let c = cut text given is.some in
+        let found = found_in text (entered_of text given) block switch entry e in
+        let some = some_words b.words b.firsts c.firsts block l in
+        let jump : switch.jump.0 ≡ last_word b.firsts b.words block = found.0.jump_is in
+        let held : holding_of b switch.jump.0 ≡ block =
+        is_held b.words b.firsts c.firsts switch.jump.0 block
+        (record { within = l; above = omega arith; below = omega arith }) in
+        (candidate_is text (entered_of text given) entry block switch held e found.0, tt)

@@ -1,0 +1,602 @@
+-- What is live at places, by links, is so at points, by paths, and back.
+use Rattle.std.proofs.Common.{◌≡◌, ◌↔◌, ℕ, suc, ◌+◌, ◌<◌, ◌⊎◌, Bool, true, false, not, ◌&&◌, ◌||◌, List, [], ◌∷◌, ◌++◌, length, refl, ap, sym, ◌∙◌, subst, arith, inl, inr}
+use Rattle.std.specs.Prelude.{Some}
+use Rattle.std.specs.List.{Contains}
+use Rattle.std.proofs.lemmas.Bool.{cases_lt, cond_both, false≢true, or_cases, or_left, or_right, and_parts, and_from, not-true, not_from_false}
+use Rattle.std.proofs.lemmas.List.{get_or_default}
+use Rattle.std.proofs.Math.ListN.{get_or-eq_default}
+use Rattle.std.proofs.lemmas.List.Elements.{All-get_or, Contains-get_or}
+use Rattle.eel_base.specs.CodeText.{Words}
+use Rattle.v8_decode.specs.declared.Part.{Part}
+use Rattle.v8_decode.specs.declared.Instr.{Instr}
+use Rattle.v8_decode.specs.Parts.{every_part, has, members, set_of}
+use Rattle.v8_decode.specs.Effects.{read_set, write_set, writes_of}
+use Rattle.v8_decode.proofs.Marks.{has-union, set_of-members}
+use Rattle.flood.specs.declared.Link.{Link}
+use Rattle.flood.specs.Flood.{Sets, link_at, AreLinks, IsLiveIn, Passes, Reaches}
+use Rattle.cfg_blocks.specs.Blocks.{AreFirsts}
+use Rattle.cfg_blocks.specs.declared.EdgeKind.{EdgeKind}
+use Rattle.cfg_blocks.specs.declared.EdgeKind.TheVariants as kinds
+use Rattle.cfg_normal.specs.Graph.{Graph, IsEdgeIn, IsGraph, lands}
+use Rattle.cfg_normal.specs.Numbers.{node_number}
+use Rattle.cfg_normal.specs.declared.Node.{Node}
+use Rattle.cfg_normal.specs.declared.Node.TheVariants.{Block, Landed, X}
+use Rattle.cfg_normal.specs.declared.Slot.{Slot}
+use Rattle.cfg_normal.specs.declared.Slot.TheVariants.{Nothing, Word, Off}
+use Rattle.liveness.specs.Paths.{ReadsFirst}
+use Rattle.liveness.specs.Live.{edge_at, Holds, HoldsIn, IsFirst, IsLast, LandsAt, GoesOnAt, instr_of, is_outside, slot_reads, slot_writes, beyond, Point, At, Along, Behind, After, reads_at, writes_at, Goes, IsLive, IsLiveAt, IsLiveOn}
+use Rattle.liveness.specs.Search.{AreLinksOf, AreLivePlaces, AreMarks, AreRead, In, IsInside, IsOf, IsOnward, LinksAlongAny, LinksInAny, LinksNext, LinksOnto, LinksOntoAny, LivesInCopy, LivesOnto, ReadsIn, ReadsOfAny, ReadsOnAny, edge_link, first_in, is_ahead, is_landing, is_marked, landing_link, last_in, next_link, node_place, nodes_from, place_of, target_of}
+use Rattle.liveness.proofs.Held.{some_block}
+use Rattle.liveness.proofs.Spots.{first_held, held_inside, held_of, inside_of, is_inside, last_held, number_once, of_held, place_once, place_within}
+
+-- ---- where edges go on
+
+pub goes_on_held : (graph : Graph) (kind : EdgeKind) (node : Node) (w : ℕ) → GoesOnAt graph kind node w
+    → Holds graph node w
+goes_on_held graph kinds.Land node w h = h.0
+goes_on_held graph kinds.Case node w h = h.0
+goes_on_held graph kinds.Fall node w h = h.0
+goes_on_held graph kinds.Taken node w h = h.0
+goes_on_held graph kinds.Untaken node w h = h.0
+goes_on_held graph kinds.Call node w h = h.0
+goes_on_held graph kinds.Out node w h = h.0
+
+-- where control lands, or at the first word
+goes_on_landing : (graph : Graph) (kind : EdgeKind) (node : Node) (w : ℕ) → is_landing kind ≡ true
+    → GoesOnAt graph kind node w → lands graph (Some w) ≡ node
+goes_on_landing graph kinds.Land node w l h = h.1
+goes_on_landing graph kinds.Case node w l h = h.1
+goes_on_landing graph kinds.Fall node w l h = absurd (false≢true l)
+goes_on_landing graph kinds.Taken node w l h = absurd (false≢true l)
+goes_on_landing graph kinds.Untaken node w l h = absurd (false≢true l)
+goes_on_landing graph kinds.Call node w l h = absurd (false≢true l)
+goes_on_landing graph kinds.Out node w l h = absurd (false≢true l)
+
+goes_on_first : (graph : Graph) (kind : EdgeKind) (node : Node) (w : ℕ) → is_landing kind ≡ false
+    → GoesOnAt graph kind node w → IsFirst graph node w
+goes_on_first graph kinds.Land node w n h = absurd (false≢true (sym n))
+goes_on_first graph kinds.Case node w n h = absurd (false≢true (sym n))
+goes_on_first graph kinds.Fall node w n h = h.1
+goes_on_first graph kinds.Taken node w n h = h.1
+goes_on_first graph kinds.Untaken node w n h = h.1
+goes_on_first graph kinds.Call node w n h = h.1
+goes_on_first graph kinds.Out node w n h = h.1
+
+landing_goes_on : (graph : Graph) (kind : EdgeKind) (node : Node) (w : ℕ) → is_landing kind ≡ true
+    → LandsAt graph node w → GoesOnAt graph kind node w
+landing_goes_on graph kinds.Land node w l h = h
+landing_goes_on graph kinds.Case node w l h = h
+landing_goes_on graph kinds.Fall node w l h = absurd (false≢true l)
+landing_goes_on graph kinds.Taken node w l h = absurd (false≢true l)
+landing_goes_on graph kinds.Untaken node w l h = absurd (false≢true l)
+landing_goes_on graph kinds.Call node w l h = absurd (false≢true l)
+landing_goes_on graph kinds.Out node w l h = absurd (false≢true l)
+
+first_goes_on : (graph : Graph) (kind : EdgeKind) (node : Node) (w : ℕ) → is_landing kind ≡ false
+    → Holds graph node w → IsFirst graph node w → GoesOnAt graph kind node w
+first_goes_on graph kinds.Land node w n h f = absurd (false≢true (sym n))
+first_goes_on graph kinds.Case node w n h f = absurd (false≢true (sym n))
+first_goes_on graph kinds.Fall node w n h f = (h, f)
+first_goes_on graph kinds.Taken node w n h f = (h, f)
+first_goes_on graph kinds.Untaken node w n h f = (h, f)
+first_goes_on graph kinds.Call node w n h f = (h, f)
+first_goes_on graph kinds.Out node w n h f = (h, f)
+
+first_is : (graph : Graph) (node : Node) (w : ℕ) → IsFirst graph node w → w ≡ first_in graph node
+first_is graph (Block b) w h = h
+first_is graph (Landed b) w h = h
+first_is graph X w h = absurd h
+
+is_first : (graph : Graph) (node : Node) → IsInside graph node → IsFirst graph node (first_in graph node)
+is_first graph (Block b) h = refl
+is_first graph (Landed b) h = refl
+is_first graph X h = absurd h
+
+last_is : (graph : Graph) (node : Node) (w : ℕ) → IsLast graph node w → w ≡ last_in graph node
+last_is graph (Block b) w h = h
+last_is graph (Landed b) w h = h
+last_is graph X w h = absurd h
+
+is_last : (graph : Graph) (node : Node) → IsInside graph node → IsLast graph node (last_in graph node)
+is_last graph (Block b) h = refl
+is_last graph (Landed b) h = refl
+is_last graph X h = absurd h
+
+-- ---- what is killed
+
+or_none : (a b : Bool) → (a || b) ≡ false → (a ≡ false) × (b ≡ false)
+or_none true b h = absurd (false≢true (sym h))
+or_none false b h = (refl, h)
+
+none_or : (a b : Bool) → a ≡ false → b ≡ false → (a || b) ≡ false
+none_or a b h k = ap (λ c. c || b) h ∙ k
+
+-- what a word or the slot behind it writes
+slot_set : (text : Words) (slot : Slot) → set_of (slot_writes text slot) ≡ slot_writes text slot
+unfolding every_part members
+slot_set text Nothing = refl
+slot_set text (Word word) = set_of-members (has (writes_of (instr_of text word.0)))
+slot_set text Off = refl
+
+has_both : (text : Words) (instr : Instr) (slot : Slot) (x : Part)
+    → has (set_of (write_set instr ++ slot_writes text slot)) x
+    ≡ (has (write_set instr) x || has (slot_writes text slot) x)
+has_both text instr slot x =
+    has-union (write_set instr) (slot_writes text slot) _ x (set_of-members (has (writes_of instr)))
+    (slot_set text slot) refl
+
+-- ---- links
+
+abbrev block : ℕ → Node
+block b = Block (record { 0 = b })
+
+abbrev copy : ℕ → Node
+copy b = Landed (record { 0 = b })
+
+pub marked_below : (marks : List Bool) (n : ℕ) → is_marked marks n ≡ true → n < length marks
+marked_below marks n h = elim (cases_lt n (length marks)) [
+  | inl less ↦ less
+  | inr more ↦ absurd (false≢true (sym (get_or-eq_default marks false more) ∙ h))
+]
+
+module _ (text : Words) (graph : Graph) (g : IsGraph graph) (marks : List Bool)
+    (m : AreMarks graph (length graph.edges) marks) where
+  edge_in : (e : ℕ) → e < length graph.edges → IsEdgeIn graph.blocks graph.opens (edge_at graph e)
+  edge_in e l =
+      All-get_or (IsEdgeIn graph.blocks graph.opens) graph.edges e
+      (record { from = X; to = X; kind = kinds.Land; slot = Nothing }) l g.edges
+
+  from_inside : (e : ℕ) → e < length graph.edges → is_outside (edge_at graph e).from ≡ false
+      → IsInside graph (edge_at graph e).from
+  from_inside e l o = inside_of graph g.firsts (edge_at graph e).from (edge_in e l).from o
+
+  to_inside : (e : ℕ) → e < length graph.edges → is_outside (edge_at graph e).to ≡ false
+      → IsInside graph (edge_at graph e).to
+  to_inside e l o = inside_of graph g.firsts (edge_at graph e).to (edge_in e l).to o
+
+  -- a link by what it is between
+  pub data IsStep (link : Link) : Type 0 where
+    next : (node : Node) (w : ℕ) → Holds graph node w → Holds graph node (w + 1)
+        → next_link text graph node w ≡ link → IsStep link
+    along : (e : ℕ) → e < length graph.edges → IsInside graph (edge_at graph e).from
+        → IsInside graph (edge_at graph e).to → edge_link text graph (edge_at graph e) ≡ link → IsStep link
+    onto : (node : Node) (w : ℕ) → LandsAt graph node w → is_marked marks (node_number graph node) ≡ true
+        → landing_link graph node w ≡ link → IsStep link
+
+  next_step : (link : Link) (node : Node) → IsInside graph node → LinksNext text graph node link → IsStep link
+  next_step link node inside (w, first, below, is) =
+      next node w
+      (held_of graph g.firsts node w (record { inside = inside; first = first; last = omega arith }))
+      (held_of graph g.firsts node (w + 1) (record { inside = inside; first = omega arith; last = omega arith })) is
+
+  onto_step : (link : Link) (node : Node) → IsInside graph node → LinksOnto graph marks node link → IsStep link
+  onto_step link node inside (mark, (w, first, below, (landing, is))) =
+      onto node w
+      (held_of graph g.firsts node w (record { inside = inside; first = first; last = omega arith }), landing) mark is
+
+  step_of : (link : Link)
+      → LinksInAny text graph link ⊎ (LinksAlongAny text graph link ⊎ LinksOntoAny graph marks link) → IsStep link
+  step_of link (inl (b, low, below, inl k)) = next_step link (block b) below k
+  step_of link (inl (b, low, below, inr (copied, k))) =
+      next_step link (copy b) (below, copied) k
+  step_of link (inr (inl (e, low, below, (from, to, is)))) =
+      along e below (from_inside e below from) (to_inside e below to) is
+  step_of link (inr (inr (b, low, below, inl k))) = onto_step link (block b) below k
+  step_of link (inr (inr (b, low, below, inr (copied, k)))) =
+      onto_step link (copy b) (below, copied) k
+
+  next_between : (node : Node) (w : ℕ) (link : Link) → Holds graph node w → Holds graph node (w + 1)
+      → next_link text graph node w ≡ link → LinksNext text graph node link
+  next_between node w link h k is =
+      let here = of_held graph g.firsts node w h in
+      let there = of_held graph g.firsts node (w + 1) k in
+      (w, here.first, omega (arith, there.last), is)
+
+  onto_between : (node : Node) (w : ℕ) (link : Link) → LandsAt graph node w
+      → is_marked marks (node_number graph node) ≡ true → landing_link graph node w ≡ link
+      → LinksOnto graph marks node link
+  onto_between node w link h mark is =
+      let here = of_held graph g.firsts node w h.0 in
+      (mark, (w, here.first, omega (arith, here.last), (h.1, is)))
+
+  of_step : (link : Link) → IsStep link
+      → LinksInAny text graph link ⊎ (LinksAlongAny text graph link ⊎ LinksOntoAny graph marks link)
+  of_step link (next (Block b) w h k is) =
+      inl (b.0, omega arith, h.0, inl (next_between (Block b) w link h k is))
+  of_step link (next (Landed b) w h k is) =
+      inl (b.0, omega arith, h.1.0, inr (h.0, next_between (Landed b) w link h k is))
+  of_step link (next X w h k is) = absurd h
+  of_step link (along e l from to is) =
+      inr (inl (e, omega arith, l, (is_inside graph g.firsts _ from, is_inside graph g.firsts _ to, is)))
+  of_step link (onto (Block b) w h mark is) =
+      inr (inr (b.0, omega arith, h.0.0, inl (onto_between (Block b) w link h mark is)))
+  of_step link (onto (Landed b) w h mark is) =
+      inr (inr (b.0, omega arith, h.0.1.0, inr (h.0.0, onto_between (Landed b) w link h mark is)))
+  of_step link (onto X w h mark is) = absurd h.0
+
+  -- ---- links are between places
+
+  marked_to : (e : ℕ) → e < length graph.edges → IsInside graph (edge_at graph e).from
+      → is_landing (edge_at graph e).kind ≡ true → is_marked marks (node_number graph (edge_at graph e).to) ≡ true
+  marked_to e l from landing = m.marked e l (is_inside graph g.firsts _ from) landing
+
+  step_within : (link : Link) → IsStep link
+      → (link.from < nodes_from graph + length marks) × (link.to < nodes_from graph + length marks)
+  step_within link (next node w h k is) =
+      let a = place_within graph g.firsts node w h in
+      let b = place_within graph g.firsts node (w + 1) k in
+      (omega (arith, a, ap (λ (l : Link). l.from) is), omega (arith, b, ap (λ (l : Link). l.to) is))
+  step_within link (along e l from to is) =
+      let a = place_within graph g.firsts _ _ (last_held graph g.firsts (edge_at graph e).from from) in
+      let b = place_within graph g.firsts _ _ (first_held graph g.firsts (edge_at graph e).to to) in
+      let there : target_of graph (edge_at graph e) < nodes_from graph + length marks =
+      cond_both (is_landing (edge_at graph e).kind) (node_place graph (edge_at graph e).to)
+      (place_of graph (edge_at graph e).to (first_in graph (edge_at graph e).to))
+      (λ p. p < nodes_from graph + length marks)
+      (λ landing. omega (arith, marked_below marks _ (marked_to e l from landing))) (λ _. omega (arith, b)) in
+      (omega (arith, a, ap (λ (l : Link). l.from) is), omega (arith, there, ap (λ (l : Link). l.to) is))
+  step_within link (onto node w h mark is) =
+      let b = place_within graph g.firsts node w h.0 in (
+        omega (arith, marked_below marks _ mark, ap (λ (l : Link). l.from) is),
+        omega (arith, b, ap (λ (l : Link). l.to) is),
+      )
+
+  module _ {links : List Link} (all : AreLinksOf text graph marks links) where
+    contained : (k : ℕ) → k < length links → Contains links (link_at links k)
+    contained k l = Contains-get_or links k (record { from = 0; to = 0; kills = [] }) l
+
+    steps : (k : ℕ) → k < length links → IsStep (link_at links k)
+    steps k l = step_of (link_at links k) ((all.contained (link_at links k)).0 (contained k l))
+
+    pub are_links : (places : ℕ) → places ≡ nodes_from graph + length marks → AreLinks places links
+    are_links places e k l =
+        let b = step_within (link_at links k) (steps k l) in
+        (omega (arith, b.0), omega (arith, b.1))
+
+    passes : (x : Part) (link : Link) → IsStep link → has link.kills x ≡ false → Passes links x link.from link.to
+    passes x link s u =
+        let c = (all.contained link).1 (of_step link s) in
+        let is : link_at links c.0 ≡ link =
+        get_or_default links c.0 (record { from = 0; to = 0; kills = [] }) link c.1 ∙ c.2 in
+        (c.0, c.1, ap (λ (k : Link). k.from) is, ap (λ (k : Link). k.to) is, ap (λ (k : Link). has k.kills x) is ∙ u)
+
+    -- ---- what is live
+
+    module _ {named : ℕ → List Part} {reads : Sets} (r : AreRead text graph named reads) (x : Part) where
+      abbrev Plain : ℕ → Type 0
+      Plain p = IsLiveIn reads links p x
+
+      abbrev Lives : Point → Type 0
+      Lives p = IsLive text graph named p x
+
+      -- what the last word before an edge writes isn't live before it
+      abbrev Unwritten : Node → Type 0
+      Unwritten node = has (write_set (instr_of text (last_in graph node))) x ≡ false
+
+      read : (p : Point) → has (reads_at text graph named p) x ≡ true → Lives p
+      read p h = ([], h)
+
+      step : (p q : Point) → has (writes_at text graph named p) x ≡ false → Goes text graph named p q → Lives q
+          → Lives p
+      step p q w f l = (q ∷ l.0, (w, f, l.1))
+
+      plain_step : (link : Link) → IsStep link → has link.kills x ≡ false → Plain link.to → Plain link.from
+      plain_step link s u l = (link.to ∷ l.0, (passes x link s u, l.1))
+
+      words_between : (node : Node) (w : ℕ) → Holds graph node w → has (read_set (instr_of text w)) x ≡ true
+          → ReadsIn text graph (place_of graph node w) node x
+      words_between node w h k =
+          let here = of_held graph g.firsts node w h in
+          (w, here.first, omega (arith, here.last), (refl, k))
+
+      plain_word : (node : Node) (w : ℕ) → Holds graph node w → has (read_set (instr_of text w)) x ≡ true
+          → Plain (place_of graph node w)
+      plain_word node w h k = ([], (r.read (place_of graph node w) x).1 (inl (by node h (words_between node w h k))))
+        where
+          by : (node : Node) → Holds graph node w → ReadsIn text graph (place_of graph node w) node x
+              → ReadsOfAny text graph (place_of graph node w) x
+          by (Block b) h i = (b.0, omega arith, h.0, inl i)
+          by (Landed b) h i = (b.0, omega arith, h.1.0, inr (h.0, i))
+          by X h i = absurd h
+
+      abbrev Leaving : ℕ → Type 0
+      Leaving e =
+          e < length graph.edges → IsInside graph (edge_at graph e).from → Unwritten (edge_at graph e).from
+          → Plain (place_of graph (edge_at graph e).from (last_in graph (edge_at graph e).from))
+
+      -- live behind the snippet of an edge
+      abbrev Onward : ℕ → Type 0
+      Onward e = (has (beyond (edge_at graph e)) x ≡ true)
+          ⊎ ((w : ℕ) × GoesOnAt graph (edge_at graph e).kind (edge_at graph e).to w
+          × Plain (place_of graph (edge_at graph e).to w))
+
+      -- from paths of points to paths of places
+      abbrev Numbered : Point → Type 0
+      Numbered (At node w) = Holds graph node w → Plain (place_of graph node w)
+      Numbered (Along e) = Leaving e
+      Numbered (Behind e) = has (slot_writes text (edge_at graph e).slot) x ≡ false → Leaving e
+      Numbered (After e) = Onward e
+
+      begun : (e : ℕ) → is_ahead text (edge_at graph e) (named e) x ≡ true → Leaving e
+      begun e h l from u = (
+        [],
+        (r.read (place_of graph (edge_at graph e).from (last_in graph (edge_at graph e).from)) x).1
+            (inr (e, omega arith, l, (is_inside graph g.firsts (edge_at graph e).from from, refl, u, h))),
+      )
+
+      ahead : (e : ℕ) → (has (named e) x || has (beyond (edge_at graph e)) x) ≡ true
+          → has (slot_writes text (edge_at graph e).slot) x ≡ false → Leaving e
+      ahead e h s = begun e (or_right _ _ (and_from _ _ h (not_from_false _ s)))
+
+      -- at the place at which the edge goes on, what is live at a word there is
+      plain_target : (e w : ℕ) → e < length graph.edges → IsInside graph (edge_at graph e).from
+          → GoesOnAt graph (edge_at graph e).kind (edge_at graph e).to w
+          → Plain (place_of graph (edge_at graph e).to w) → Plain (target_of graph (edge_at graph e))
+      plain_target e w l from goes k =
+          let edge = edge_at graph e in
+          cond_both (is_landing edge.kind) (node_place graph edge.to) (place_of graph edge.to (first_in graph edge.to))
+          Plain
+          (λ landing.
+          plain_step (landing_link graph edge.to w)
+          (onto edge.to w
+          (goes_on_held graph edge.kind edge.to w goes, goes_on_landing graph edge.kind edge.to w landing goes)
+          (marked_to e l from landing) refl) refl k)
+          (λ other.
+          subst (λ (v : ℕ). Plain (place_of graph edge.to v))
+          (first_is graph edge.to w (goes_on_first graph edge.kind edge.to w other goes)) k)
+
+      onward : (e : ℕ) → Onward e → has (slot_writes text (edge_at graph e).slot) x ≡ false → Leaving e
+      onward e (inl h) s = ahead e (or_right _ _ h) s
+      onward e (inr h) s = λ l from u.
+          plain_step (edge_link text graph (edge_at graph e))
+          (along e l from
+          (held_inside graph g.firsts (edge_at graph e).to h.0
+          (goes_on_held graph (edge_at graph e).kind (edge_at graph e).to h.0 h.1)) refl)
+          (has_both text (instr_of text (last_in graph (edge_at graph e).from)) (edge_at graph e).slot x
+          ∙ none_or _ _ u s)
+          (plain_target e h.0 l from h.1 h.2)
+
+      numbered_read : (p : Point) → has (reads_at text graph named p) x ≡ true → Numbered p
+      numbered_read (At node w) h = λ k. plain_word node w k h
+      numbered_read (Along e) h = begun e (or_left _ _ h)
+      numbered_read (Behind e) h = ahead e (or_left _ _ h)
+      numbered_read (After e) h = inl h
+
+      onto_next : (node : Node) (w v : ℕ) → has (write_set (instr_of text w)) x ≡ false → v ≡ suc w
+          → Holds graph node w → Holds graph node v → Plain (place_of graph node v) → Plain (place_of graph node w)
+      onto_next node w v u e h k l =
+          let one : v ≡ w + 1 = omega arith in
+          plain_step (next_link text graph node w)
+          (next node w h (subst (λ (n : ℕ). Holds graph node n) one k) refl) u
+          (subst (λ (n : ℕ). Plain (place_of graph node n)) one l)
+
+      onto_edge : (node : Node) (w e : ℕ) → has (write_set (instr_of text w)) x ≡ false → e < length graph.edges
+          → (edge_at graph e).from ≡ node → IsLast graph node w → Holds graph node w → Leaving e
+          → Plain (place_of graph node w)
+      onto_edge node w e u l from last h leaving =
+          let is : last_in graph node ≡ w = sym (last_is graph node w last) in
+          let here : IsInside graph node → Unwritten node → Plain (place_of graph node (last_in graph node)) =
+          subst (λ (n : Node). IsInside graph n → Unwritten n → Plain (place_of graph n (last_in graph n))) from
+          (leaving l) in
+          subst (λ (v : ℕ). has (write_set (instr_of text v)) x ≡ false → Plain (place_of graph node v)) is
+          (here (held_inside graph g.firsts node w h)) u
+
+      numbered_step : (p q : Point) → has (writes_at text graph named p) x ≡ false → Goes text graph named p q
+          → Numbered q → Numbered p
+      numbered_step (At node w) (At other v) u f h = λ k.
+          onto_next node w v u f.1 k f.2
+          (subst (λ (n : Node). Holds graph n v → Plain (place_of graph n v)) f.0 h f.2)
+      numbered_step (At node w) (Along e) u f h = λ k. onto_edge node w e u f.0 f.1 f.2 k h
+      numbered_step (At node w) (Behind e) u f h = absurd f
+      numbered_step (At node w) (After e) u f h = absurd f
+      numbered_step (Along e) (At node w) u f h = absurd f
+      numbered_step (Along e) (Along d) u f h = absurd f
+      numbered_step (Along e) (Behind d) u f h =
+          subst Leaving f (h (subst (λ (n : ℕ). has (slot_writes text (edge_at graph n).slot) x ≡ false) (sym f) u))
+      numbered_step (Along e) (After d) u f h = absurd f
+      numbered_step (Behind e) (At node w) u f h = absurd f
+      numbered_step (Behind e) (Along d) u f h = absurd f
+      numbered_step (Behind e) (Behind d) u f h = absurd f
+      numbered_step (Behind e) (After d) u f h = onward e (subst Onward f h)
+      numbered_step (After e) (At node w) u f h =
+          let edge = edge_at graph e in
+          inr (
+            w,
+            subst (λ (n : Node). GoesOnAt graph edge.kind n w) (sym f.0) f.1,
+            subst (λ (n : Node). Plain (place_of graph n w)) (sym f.0) (h (goes_on_held graph edge.kind node w f.1)),
+          )
+      numbered_step (After e) (Along d) u f h = absurd f
+      numbered_step (After e) (Behind d) u f h = absurd f
+      numbered_step (After e) (After d) u f h = absurd f
+
+      numbered : (path : List Point) (p : Point)
+          → ReadsFirst (reads_at text graph named) (writes_at text graph named) (Goes text graph named) x p path
+          → Numbered p
+      numbered [] p h = numbered_read p h
+      numbered (q ∷ path) p h = numbered_step p q h.0 h.1 (numbered path q h.2)
+
+      -- and back
+      pub record Pointed (p : ℕ) : Type 0 where
+        pub word : (node : Node) (w : ℕ) → Holds graph node w → p ≡ place_of graph node w → Lives (At node w)
+        pub landing : (node : Node) → IsInside graph node → p ≡ node_place graph node
+            → (w : ℕ) × LandsAt graph node w × Lives (At node w)
+
+      pointed_word : (node : Node) (w : ℕ) → Holds graph node w → Lives (At node w) → Pointed (place_of graph node w)
+      pointed_word node w h l = record {
+        word = λ other v k e.
+            let same = place_once graph g.firsts node other w v h k e in
+            subst (λ (n : Node). Lives (At n v)) same.0 (subst (λ (u : ℕ). Lives (At node u)) same.1 l);
+        landing = λ other k e. absurd (omega (arith, place_within graph g.firsts node w h, e));
+      }
+
+      pointed_node : (node : Node) (w : ℕ) → LandsAt graph node w → Lives (At node w)
+          → Pointed (node_place graph node)
+      pointed_node node w h l = record {
+        word = λ other v k e. absurd (omega (arith, place_within graph g.firsts other v k, e));
+        landing = λ other k e.
+            let same : node ≡ other =
+            number_once graph g.firsts node other (held_inside graph g.firsts node w h.0) k (omega (arith, e)) in
+            subst (λ (n : Node). (v : ℕ) × LandsAt graph n v × Lives (At n v)) same (w, h, l);
+      }
+
+      behind : (e : ℕ) → (has (named e) x || has (beyond (edge_at graph e)) x) ≡ true → Lives (Behind e)
+      behind e h = by (or_cases _ _ h)
+        where
+          by : (has (named e) x ≡ true) ⊎ (has (beyond (edge_at graph e)) x ≡ true) → Lives (Behind e)
+          by (inl k) = read (Behind e) k
+          by (inr k) = step (Behind e) (After e) refl refl (read (After e) k)
+
+      along_read : (e : ℕ) → is_ahead text (edge_at graph e) (named e) x ≡ true → Lives (Along e)
+      along_read e h = by (or_cases _ _ h)
+        where
+          by : (has (slot_reads text (edge_at graph e).slot) x ≡ true)
+              ⊎ (((has (named e) x || has (beyond (edge_at graph e)) x)
+              && not (has (slot_writes text (edge_at graph e).slot) x)) ≡ true) → Lives (Along e)
+          by (inl k) = read (Along e) k
+          by (inr k) =
+              let parts = and_parts _ _ k in
+              step (Along e) (Behind e) (not-true _ parts.1) refl (behind e parts.0)
+
+      after : (e : ℕ) → IsInside graph (edge_at graph e).to → Pointed (target_of graph (edge_at graph e))
+          → Lives (After e)
+      after e to h =
+          let edge = edge_at graph e in
+          cond_both (is_landing edge.kind) (node_place graph edge.to) (place_of graph edge.to (first_in graph edge.to))
+          (λ p. Pointed p → Lives (After e))
+          (λ landing t.
+          let there = t.landing edge.to to refl in
+          step (After e) (At edge.to there.0) refl
+          (refl, landing_goes_on graph edge.kind edge.to there.0 landing there.1) there.2)
+          (λ other t.
+          let held = first_held graph g.firsts edge.to to in
+          step (After e) (At edge.to (first_in graph edge.to)) refl
+          (refl, first_goes_on graph edge.kind edge.to (first_in graph edge.to) other held (is_first graph edge.to to))
+          (t.word edge.to (first_in graph edge.to) held refl))
+          h
+
+      -- at the last word before an edge
+      leaving : (e : ℕ) → e < length graph.edges → IsInside graph (edge_at graph e).from
+          → Unwritten (edge_at graph e).from → Lives (Along e)
+          → Pointed (place_of graph (edge_at graph e).from (last_in graph (edge_at graph e).from))
+      leaving e l from u k =
+          let node = (edge_at graph e).from in
+          pointed_word node (last_in graph node) (last_held graph g.firsts node from)
+          (step (At node (last_in graph node)) (Along e) u (l, refl, is_last graph node from) k)
+
+      pointed_step : (link : Link) → IsStep link → has link.kills x ≡ false → Pointed link.to → Pointed link.from
+      pointed_step link (next node w h k is) =
+          subst (λ (l : Link). has l.kills x ≡ false → Pointed l.to → Pointed l.from) is
+          (λ u t.
+          let one : w + 1 ≡ suc w = omega arith in
+          pointed_word node w h (step (At node w) (At node (w + 1)) u (refl, one, k) (t.word node (w + 1) k refl)))
+      pointed_step link (along e l from to is) =
+          subst (λ (l : Link). has l.kills x ≡ false → Pointed l.to → Pointed l.from) is
+          (λ u t.
+          let edge = edge_at graph e in
+          let none = or_none _ _ (sym (has_both text (instr_of text (last_in graph edge.from)) edge.slot x) ∙ u) in
+          leaving e l from none.0
+          (step (Along e) (Behind e) none.1 refl (step (Behind e) (After e) refl refl (after e to t))))
+      pointed_step link (onto node w h mark is) =
+          subst (λ (l : Link). has l.kills x ≡ false → Pointed l.to → Pointed l.from) is
+          (λ u t. pointed_node node w h (t.word node w h.0 refl))
+
+      word_read : (p : ℕ) (node : Node) → IsInside graph node → ReadsIn text graph p node x → Pointed p
+      word_read p node inside (w, first, below, (is, k)) =
+          let held = held_of graph g.firsts node w (record { inside = inside; first = first; last = omega arith }) in
+          subst Pointed (sym is) (pointed_word node w held (read (At node w) k))
+
+      pointed_read : (p : ℕ) → ReadsOfAny text graph p x ⊎ ReadsOnAny text graph named p x → Pointed p
+      pointed_read p (inl (b, low, below, inl k)) = word_read p (block b) below k
+      pointed_read p (inl (b, low, below, inr (copied, k))) = word_read p (copy b) (below, copied) k
+      pointed_read p (inr (e, low, l, (from, is, u, k))) =
+          subst Pointed (sym is) (leaving e l (from_inside e l from) u (along_read e k))
+
+      pointed : (path : List ℕ) (p : ℕ) → Reaches reads links x p path → Pointed p
+      pointed [] p h = pointed_read p ((r.read p x).0 h)
+      pointed (q ∷ path) p h =
+          let k = h.0 in
+          subst Pointed k.2
+          (pointed_step (link_at links k.0) (steps k.0 k.1) k.4 (subst Pointed (sym k.3) (pointed path q h.1)))
+
+      -- ---- both
+
+      pub word_is : (node : Node) (w : ℕ) → Holds graph node w
+          → Plain (place_of graph node w) ↔ IsLive text graph named (At node w) x
+      word_is node w h = (λ k. (pointed k.0 _ k.1).word node w h refl, λ k. numbered k.0 (At node w) k.1 h)
+
+      pub node_is : (node : Node) → IsInside graph node → is_marked marks (node_number graph node) ≡ true
+          → Plain (node_place graph node)
+          ↔ ((w : ℕ) × LandsAt graph node w × Plain (place_of graph node w))
+      node_is node inside mark = (
+        λ k.
+            let there = (pointed k.0 _ k.1).landing node inside refl in
+            (there.0, there.1, (word_is node there.0 there.1.0).1 there.2),
+        λ k. plain_step (landing_link graph node k.0) (onto node k.0 k.1 mark refl) refl k.2,
+      )
+
+-- the words where control lands in a node
+pub lands_between : (graph : Graph) (f : AreFirsts graph.blocks.words graph.blocks.firsts) (node : Node)
+    → IsInside graph node → (sets : Sets) (x : Part)
+    → LivesOnto graph node sets x ↔ ((w : ℕ) × LandsAt graph node w × In sets (place_of graph node w) x)
+lands_between graph f node inside sets x = (
+  λ k.
+      let last = k.2 in
+      let of : IsOf graph node k.0 = record { inside = inside; first = k.1; last = omega arith } in
+      (k.0, (held_of graph f node k.0 of, k.3.0), k.3.1),
+  λ k.
+      let of = of_held graph f node k.0 k.1.0 in
+      (k.0, of.first, omega (arith, of.last), (k.1.1, k.2)),
+)
+
+-- ---- what is live at places says what is so behind snippets, and at words
+
+module _ (text : Words) (graph : Graph) (named : ℕ → List Part) (sets : Sets)
+    (live : AreLivePlaces text graph named sets) where
+  after_read : (e : ℕ) (x : Part) → IsOnward graph (edge_at graph e) sets x → IsLiveOn text graph named e x
+  after_read e x (inl h) = ([], h)
+  after_read e x (inr (w, goes, k)) =
+      let edge = edge_at graph e in
+      let there = (live.live edge.to w (goes_on_held graph edge.kind edge.to w goes) x).0 k in
+      (At edge.to w ∷ there.0, (refl, (refl, goes), there.1))
+
+  after_goes : (e : ℕ) (x : Part) (path : List Point)
+      → ReadsFirst (reads_at text graph named) (writes_at text graph named) (Goes text graph named) x (After e) path
+      → IsOnward graph (edge_at graph e) sets x
+  after_goes e x [] h = inl h
+  after_goes e x (At node w ∷ path) h =
+      let edge = edge_at graph e in
+      let held = goes_on_held graph edge.kind node w h.1.1 in
+      let is : node ≡ edge.to = sym h.1.0 in
+      inr (
+        w,
+        subst (λ (n : Node). GoesOnAt graph edge.kind n w) is h.1.1,
+        subst (λ (n : Node). In sets (place_of graph n w) x) is ((live.live node w held x).1 (path, h.2)),
+      )
+  after_goes e x (Along d ∷ path) h = absurd h.1
+  after_goes e x (Behind d ∷ path) h = absurd h.1
+  after_goes e x (After d ∷ path) h = absurd h.1
+
+  pub onward_is : (e : ℕ) (x : Part) → IsOnward graph (edge_at graph e) sets x ↔ IsLiveOn text graph named e x
+  onward_is e x = (after_read e x, λ h. after_goes e x h.0 h.1)
+
+  word_there : (w : ℕ) (x : Part) → (b : ℕ) × HoldsIn graph b w → In sets w x ⊎ LivesInCopy graph sets w x
+      → IsLiveAt text graph named w x
+  word_there w x (b, held) (inl k) =
+      (block b, held, (live.live (block b) w held x).0 k)
+  word_there w x here (inr (b, copied, held, k)) =
+      (copy b, (copied, held), (live.live (copy b) w (copied, held) x).0 k)
+
+  word_lives : (w : ℕ) (x : Part) (node : Node) → Holds graph node w → IsLive text graph named (At node w) x
+      → In sets w x ⊎ LivesInCopy graph sets w x
+  word_lives w x (Block b) h l = inl ((live.live (Block b) w h x).1 l)
+  word_lives w x (Landed b) h l = inr (b.0, h.0, h.1, (live.live (Landed b) w h x).1 l)
+  word_lives w x X h l = absurd h
+
+  pub joined_is : IsGraph graph → (w : ℕ) (x : Part) → w < graph.blocks.words
+      → (In sets w x ⊎ LivesInCopy graph sets w x) ↔ IsLiveAt text graph named w x
+  joined_is g w x l = (
+    λ k.
+        let found = some_block graph.blocks.words graph.blocks.firsts g.firsts w l in
+        word_there w x (found.0, (found.1, found.2, found.3)) k,
+    λ k. word_lives w x k.0 k.1 k.2,
+  )

@@ -1,0 +1,9 @@
+use Rattle.std.proofs.Common.{◌≡◌}
+use Rattle.liveness.specs.Search.{AreCopies, copies_from}
+use Rattle.liveness.proofs.places.place_copies.Given as goal
+
+abbrev pub invariant-loop-block : goal.invariant-loop-block
+invariant-loop-block l = record {
+  copies : AreCopies l.graph l.block l.copies.items;
+  next : l.next ≡ copies_from l.graph l.block;
+}
