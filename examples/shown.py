@@ -1,0 +1,201 @@
+"""A program as `eel show` and `eel list` print it, and a run's counts of its edges, as `eel counts` prints them."""
+import bisect
+import os
+import struct
+import subprocess
+import sys
+from dataclasses import dataclass, field
+
+EEL = os.path.join(os.path.dirname(os.path.abspath(__file__)), '..', 'eel')
+COUNTS_HELP = 'what `eel counts` printed of a run of its profile'
+
+
+def refuse(line):
+    """Ends the script with one line on the error stream."""
+    sys.exit(f'{os.path.basename(sys.argv[0])}: {line}')
+
+
+def eel(*words):
+    """The lines that a call of `eel` prints."""
+    called = subprocess.run([EEL, *words], capture_output=True, text=True, errors='replace')
+    if called.returncode:
+        refuse(called.stderr.strip() or f'eel {words[0]}: status {called.returncode}')
+    return called.stdout.splitlines()
+
+
+def read_lines(name):
+    """The lines of a file of text."""
+    try:
+        with open(name, encoding='utf-8', errors='replace') as opened:
+            return opened.read().splitlines()
+    except OSError as error:
+        refuse(f'{name}: {error.strerror}')
+
+
+def print_lines(lines):
+    """Prints lines, as many as are wanted: a reader such as `head` may stop."""
+    try:
+        for line in lines:
+            print(line)
+        sys.stdout.flush()
+    except BrokenPipeError:
+        os.dup2(os.open(os.devnull, os.O_WRONLY), sys.stdout.fileno())
+
+
+def demangled(names):
+    """The names as C++ writes them, where `c++filt` of the binutils is there."""
+    names = list(names)
+    try:
+        filtered = subprocess.run(['c++filt'], input='\n'.join(names), capture_output=True, text=True)
+    except OSError:
+        return names
+    lines = filtered.stdout.splitlines()
+    return lines if len(lines) == len(names) else names
+
+
+@dataclass
+class Block:
+    """A basic block: the address of its first word, how many words it has, and the edges into it and out of it."""
+    first: int
+    words: int
+    into: list = field(default_factory=list)
+    out: list = field(default_factory=list)
+
+    def addresses(self):
+        return range(self.first, self.first + 4 * self.words, 4)
+
+    def last(self):
+        return self.first + 4 * self.words - 4
+
+
+def address_in(word):
+    """An address that `show` prints, or None for what lies outside the text or isn't there."""
+    return None if word in ('x', '-', 'off') else int(word, 16)
+
+
+class Edge:
+    """An edge from block to block, where None is all that lies outside, and the delay slot that is run on it."""
+
+    def __init__(self, number, kind, source, target, slot):
+        self.number, self.kind, self.printed = int(number), kind, (kind, source, target)
+        self.source, self.target, self.slot = address_in(source), address_in(target), address_in(slot)
+
+
+class Shown:
+    """The routines, blocks, edges and switches of the program of a file."""
+
+    def __init__(self, name):
+        lines = [line.split() for line in eel('show', name)]
+        rows = {kind: [words[1:] for words in lines if words[0] == kind] for kind in ('routine', 'block', 'edge', 'switch')}
+        self.name = name
+        names = demangled(row[1] for row in rows['routine'])
+        self.routines = {int(row[0], 16): f'at {row[0]}' if own == '-' else own for row, own in zip(rows['routine'], names)}
+        self.blocks = {int(row[1], 16): Block(int(row[1], 16), int(row[2])) for row in rows['block']}
+        self.edges = [Edge(*row) for row in rows['edge']]
+        self.switches = {int(row[0], 16): (int(row[1], 16), int(row[2])) for row in rows['switch']}
+        self.starts, self.firsts = sorted(self.routines), sorted(self.blocks)
+        for edge in self.edges:
+            if edge.source is not None:
+                self.blocks[edge.source].out.append(edge)
+            if edge.target is not None:
+                self.blocks[edge.target].into.append(edge)
+        with open(name, 'rb') as opened:
+            self.file = opened.read()
+        self.entry, = struct.unpack('>I', self.file[24:28])
+
+    def block_of(self, address):
+        """The block that holds a word of the text, or None."""
+        at = bisect.bisect(self.firsts, address)
+        block = self.blocks[self.firsts[at - 1]] if at else None
+        return block if block and address in block.addresses() else None
+
+    def routine_of(self, address):
+        """Where the routine that holds a word begins, or None before the first one."""
+        at = bisect.bisect(self.starts, address)
+        return self.starts[at - 1] if at else None
+
+    def name_of(self, start):
+        """The name of a routine, and of what stands before the first one."""
+        return self.routines.get(start, '?')
+
+    def routine_called(self, name):
+        """Where the routine of a name or an address in hexadecimal begins."""
+        found = [start for start, own in self.routines.items() if name == own or own.startswith(name + '(')]
+        found = found or [start for start in self.starts if f'{start:08x}' == name.removeprefix('0x').zfill(8)]
+        if len(found) != 1:
+            refuse(f'{self.name} has {"several routines" if found else "no routine"} {name}')
+        return found[0]
+
+    def word(self, address):
+        """The word of the file that is loaded at an address, or None."""
+        phoff, = struct.unpack('>I', self.file[28:32])
+        for at in range(phoff, phoff + 32 * struct.unpack('>H', self.file[44:46])[0], 32):
+            kind, offset, vaddr, _, size = struct.unpack('>5I', self.file[at:at + 20])
+            if kind == 1 and vaddr <= address <= vaddr + size - 4:
+                return struct.unpack('>I', self.file[offset + address - vaddr:][:4])[0]
+        return None
+
+    def leads_to(self, block):
+        """The addresses to which control may go from a block, calls that return and switches among them."""
+        for edge in block.out:
+            yield from (address for address in (edge.target, edge.slot) if address is not None)
+            if edge.kind == 'call' or edge.kind == 'out' and self.word(block.last()) >> 25 & 31:  # a jump that links
+                yield block.last() + 8
+        table, count = self.switches.get(block.last(), (0, 0))
+        yield from filter(None, (self.word(table + 4 * number) for number in range(count)))
+
+    def code(self):
+        """The blocks that hold code: to which the entry, routines and edges lead, and those to which they do."""
+        found, waiting = set(), [self.entry, *self.routines]
+        while waiting:
+            block = self.block_of(waiting.pop())
+            if block and block.first not in found:
+                found.add(block.first)
+                waiting.extend(self.leads_to(block))
+        return found
+
+
+def counts_of(shown, name):
+    """How often a run completed each edge of a program, by the lines of a file, which must be of this program."""
+    counts, total = {}, None
+    for at, line in enumerate(read_lines(name), 1):
+        words = line.split()
+        if total is not None or len(words) != 6 or words[0] not in ('edge', 'edges') or not words[5].isdecimal():
+            refuse(f'{name}: line {at}: not a line of eel counts')
+        if words[0] == 'edges':
+            total = words[1], int(words[5])
+            continue
+        number = int(words[1]) if words[1].isdecimal() else len(shown.edges)
+        if number >= len(shown.edges) or shown.edges[number].printed != tuple(words[2:5]):
+            refuse(f'{name}: line {at}: {shown.name} has no such edge')
+        counts[number] = int(words[5])
+    if total is None:
+        refuse(f'{name}: the last line is missing')
+    if total != (str(len(shown.edges)), sum(counts.values())):
+        refuse(f'{name}: these are not the counts of all edges of {shown.name}')
+    return counts
+
+
+class Executions:
+    """How often a run went into each block, and executed the word at each address, those in delay slots too.
+
+    A landing in the midst of a block, and the block in which the run ended, count for all words of the block.
+    """
+
+    def __init__(self, shown, counts):
+        self.edges = counts
+        self.blocks = {block.first: sum(self.edge(edge) for edge in block.into) for block in shown.blocks.values()}
+        self.blocks[shown.block_of(shown.entry).first] += 1
+        self.words = {address: self.blocks[block.first] for block in shown.blocks.values() for address in block.addresses()}
+        for edge in shown.edges:
+            if edge.slot is not None:
+                self.words[edge.slot] += self.edge(edge)
+        self.total = sum(self.words.values())
+
+    def edge(self, edge):
+        return self.edges.get(edge.number, 0)
+
+
+def share(part, whole):
+    """A share in per cent."""
+    return f'{100 * part / whole if whole else 0:.1f} %'

@@ -1,0 +1,220 @@
+#!/usr/bin/python3
+"""Prints how often a run reached each line of a program's sources.
+
+The program must be the original that was edited with `profile`, with debug information (gcc -g or clang -g). Lines are
+printed as gcov prints them: `count: line: text`, `#####` where never, and `-` where there is no code. A program without
+line tables gets its functions alone.
+"""
+import argparse
+import os
+from collections import Counter, defaultdict
+from dataclasses import dataclass
+
+from call_costs import CallCosts
+from debug_lines import DebugLines
+from shown import COUNTS_HELP, Executions, Shown, counts_of, print_lines, read_lines, refuse
+
+
+@dataclass
+class Called:
+    """A function or routine, where it stands, and how often it was called."""
+    name: str
+    line: object
+    calls: int
+
+
+class SourceCounts:
+    """How often a run reached lines, functions and branches."""
+
+    def __init__(self, shown, counts, debug):
+        self.shown, self.debug = shown, debug
+        self.run = Executions(shown, counts)
+        self.functions = self.called()
+        self.lines = self.reached()
+
+    def times(self, address):
+        return self.run.words.get(address, 0)
+
+    def marked(self):
+        """Lines by their statements' marks: a position in a line is as often reached as the blocks are in which its
+        marks stand, and a line as often as its most reached position."""
+        blocks = defaultdict(dict)
+        for row in self.debug.marks:
+            block = self.shown.block_of(row.address)
+            if block:
+                blocks[row.line, row.column][block.first] = self.times(row.address)
+        lines = defaultdict(int)
+        for (line, _), counts in blocks.items():
+            lines[line] = max(lines[line], sum(counts.values()))
+        return lines
+
+    def executed(self):
+        """Lines by their instructions: in each function, and each copy by inlining, that which was executed most."""
+        most = defaultdict(int)
+        for address, line in self.debug.line_at.items():
+            place = line, self.debug.body_at.get(address)
+            most[place] = max(most[place], self.times(address))
+        lines = Counter()
+        for (line, _), count in most.items():
+            lines[line] += count
+        return lines
+
+    def called(self):
+        """The functions of the debug information, and the routines that it doesn't know."""
+        functions = [Called(function.name, function.line,
+                            sum(map(self.times, function.starts + function.copies + function.lowest)))
+                     for function in self.debug.functions.values()]
+        known = {start for function in self.debug.functions.values() for start in function.starts}
+        code = self.shown.code()
+        return functions + [Called(name, self.debug.line_at.get(start), self.times(start))
+                            for start, name in self.shown.routines.items() if start not in known and start in code]
+
+    def reached(self):
+        """All lines; where a function's code has none of the line that names it, that one is reached by its calls."""
+        lines = self.executed() | self.marked()
+        body_at, line_at = self.debug.body_at, self.debug.line_at
+        known = {(line, body_at.get(address)) for address, line in line_at.items()}
+        known |= {(row.line, body_at.get(row.address)) for row in self.debug.marks}
+        for function in self.debug.functions.values():
+            for entered in function.starts + function.copies:
+                if (function.line, body_at.get(entered)) not in known:
+                    lines[function.line] = lines.get(function.line, 0) + self.times(entered)
+        return lines
+
+    def sources(self):
+        """The counts of each source, by numbers of lines."""
+        sources = defaultdict(dict)
+        for line, count in sorted(self.lines.items(), key=lambda item: (item[0].path, item[0].number)):
+            sources[line.path][line.number] = count
+        return sources
+
+
+def gcov_lines(counts):
+    for path, counted in counts.sources().items():
+        yield f'{"-":>9}:{0:>5}:Source:{path}'
+        texts = read_lines(path) if os.path.exists(path) else []
+        for number in range(1, max(len(texts), *counted) + 1):
+            count = str(counted[number] or '#####') if number in counted else '-'
+            yield f'{count:>9}:{number:>5}:{texts[number - 1] if number <= len(texts) else "/*EOF*/"}'
+
+
+def function_lines(counts):
+    for function in sorted(counts.functions, key=lambda function: -function.calls):
+        yield f'{function.calls or "#####":>9}: function {function.name}'
+
+
+def branches(counts):
+    """The branches with a condition, by line: how often each was taken and not, and whether it was reached."""
+    found = defaultdict(list)
+    for block in counts.shown.blocks.values():
+        line = counts.debug.line_at.get(block.last())
+        ways = {edge.kind: counts.run.edge(edge) for edge in block.out}
+        if line and {'taken', 'untaken'} <= ways.keys():
+            found[line].append((ways['taken'], ways['untaken']))
+    return found
+
+
+def lcov_functions(functions):
+    yield from (f'FN:{function.line.number},{function.name}' for function in functions)
+    yield from (f'FNDA:{function.calls},{function.name}' for function in functions)
+    yield f'FNF:{len(functions)}'
+    yield f'FNH:{sum(function.calls > 0 for function in functions)}'
+
+
+def lcov_branches(found, path):
+    ways = []
+    for line in sorted((line for line in found if line.path == path), key=lambda line: line.number):
+        for block, pair in enumerate(found[line]):
+            for way, count in enumerate(pair):
+                yield f'BRDA:{line.number},{block},{way},{count if any(pair) else "-"}'
+                ways.append(count)
+    yield f'BRF:{len(ways)}'
+    yield f'BRH:{sum(count > 0 for count in ways)}'
+
+
+def lcov_lines(counts):
+    """A record of each source, as `geninfo` of lcov writes them."""
+    found = branches(counts)
+    yield 'TN:'
+    for path, counted in counts.sources().items():
+        yield f'SF:{path}'
+        yield from lcov_functions([function for function in counts.functions if function.line and function.line.path == path])
+        yield from lcov_branches(found, path)
+        yield from (f'DA:{number},{count}' for number, count in counted.items())
+        yield f'LF:{len(counted)}'
+        yield f'LH:{sum(count > 0 for count in counted.values())}'
+        yield 'end_of_record'
+
+
+class Callgrind:
+    """A profile as `callgrind` writes it: the instructions that ran, in the functions that hold them, and their calls."""
+
+    def __init__(self, counts):
+        self.counts, self.shown, self.debug = counts, counts.shown, counts.debug
+        self.costs = CallCosts(self.shown, counts.run)
+        self.calls = {call.address: call for call in self.costs.calls}
+
+    def path(self, address, default='???'):
+        line = self.debug.line_at.get(address)
+        return line.path if line else default
+
+    def position(self, address):
+        line = self.debug.line_at.get(address)
+        return f'0x{address:08x} {line.number if line else 0}'
+
+    def instruction(self, address):
+        yield f'{self.position(address)} {self.counts.times(address)}'
+        if address in self.calls:
+            call = self.calls[address]
+            yield f'cfi={self.path(call.callee)}'
+            yield f'cfn={self.shown.name_of(call.callee)}'
+            yield f'calls={call.count} {self.position(call.callee)}'
+            yield f'{self.position(address)} {self.costs.cost(call)}'
+
+    def routine(self, start, addresses):
+        """What stands in another file than the routine begins in was inlined."""
+        own = path = self.path(start)
+        yield f'fl={own}'
+        yield f'fn={self.shown.name_of(start)}'
+        for address in addresses:
+            if self.path(address, own) != path:
+                path = self.path(address, own)
+                yield f'{"fe" if path == own else "fi"}={path}'
+            yield from self.instruction(address)
+        yield ''
+
+    def lines(self):
+        yield from ('# callgrind format', 'version: 1', 'creator: source_counts.py', f'cmd: {self.shown.name}',
+                    'positions: instr line', 'events: Ir', f'summary: {self.counts.run.total}', '',
+                    f'ob={os.path.abspath(self.shown.name)}')
+        routines = defaultdict(list)
+        for address, count in sorted(self.counts.run.words.items()):
+            if count:
+                routines[self.shown.routine_of(address)].append(address)
+        for start, addresses in routines.items():
+            yield from self.routine(start, addresses)
+        yield f'totals: {self.counts.run.total}'
+
+
+def printed(counts, words):
+    if words.callgrind:
+        return Callgrind(counts).lines()
+    if words.lcov and not counts.lines:
+        refuse(f'{words.file} has no line tables: compile it with -g')
+    return lcov_lines(counts) if words.lcov else gcov_lines(counts) if counts.lines else function_lines(counts)
+
+
+def main():
+    parser = argparse.ArgumentParser(description=__doc__, formatter_class=argparse.RawDescriptionHelpFormatter)
+    parser.add_argument('file', metavar='FILE', help='the program')
+    parser.add_argument('counts', metavar='COUNTS', help=COUNTS_HELP)
+    form = parser.add_mutually_exclusive_group()
+    form.add_argument('--lcov', action='store_true', help='print a tracefile, of which genhtml makes pages')
+    form.add_argument('--callgrind', action='store_true', help='print a profile for callgrind_annotate and KCachegrind')
+    words = parser.parse_args()
+    shown = Shown(words.file)
+    print_lines(printed(SourceCounts(shown, counts_of(shown, words.counts), DebugLines(words.file)), words))
+
+
+if __name__ == '__main__':
+    main()
