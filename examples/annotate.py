@@ -1,63 +1,82 @@
 #!/usr/bin/env python3
-"""Prints a program's instructions, block by block, with how often each block was run.
+"""Prints a program's instructions, routine by routine, with how often a run executed each.
 
-    examples/annotate.py FILE [COUNTS]
-
-COUNTS are the lines that `eel counts` prints of a run. A block was run as often as its edges lead into it, and once more
-where the program begins. Landings in the midst of a block count for the whole block. The instructions are those that
-`eel list` prints.
+With COUNTS the routines come hottest first, each with its share of all instructions that ran, and on a terminal in
+colours: red is hot, and grey never ran. What is no code is left out: the words to which no routine, no edge and not
+this run leads. A landing in the midst of a block counts for the whole block.
 """
+import argparse
 import os
-import subprocess
 import sys
+from collections import defaultdict
 
-from graph import read_counts
-from listing import Graph, Program
+from shown import COUNTS_HELP, Executions, Shown, counts_of, print_lines, share
 
-EEL = os.path.join(os.path.dirname(os.path.abspath(__file__)), '..', 'eel')
-
-
-def instructions(name):
-    """The text of each word of a file's program, by its address, as `eel list` prints them."""
-    listed = subprocess.run([EEL, 'list', name], capture_output=True, text=True)
-    if listed.returncode:
-        sys.exit(listed.stderr.strip())
-    return {int(line[:8], 16): line[9:] for line in listed.stdout.splitlines()}
+RED, YELLOW, GREY, PLAIN = '\x1b[1;31m', '\x1b[33m', '\x1b[90m', '\x1b[0m'
 
 
-def runs(graph, counts):
-    """How often each block was run."""
-    times = [0] * len(graph.firsts)
-    for number, edge in enumerate(graph.edges):
-        if edge.target is not None:
-            times[edge.target] += counts.get(number, 0)
-    entered = max(number for number, first in enumerate(graph.firsts) if first <= graph.entry)
-    times[entered] += 1
-    return times
+def code_words(shown, run):
+    """The addresses of a program's code, by routine, in address order."""
+    blocks = [shown.blocks[first] for first in shown.code(run)]
+    words = {address for block in blocks for address in block.addresses()}
+    words |= {slot for slot, _ in map(shown.slot_of, blocks) if slot is not None}
+    routines = defaultdict(list)
+    for address in sorted(words):
+        routines[shown.routine_of(address)].append(address)
+    return routines
 
 
-def lines(program, graph, times, texts):
-    width = max(len(str(count)) for count in times) if times else 0
-    for number, first in enumerate(graph.firsts):
-        if first in graph.routines:
-            yield f'\n{graph.routines[first].decode("ascii", "replace") or "routine"}:'
-        for word in range(first, graph.last(number) + 1):
-            address, value = program.start + 4 * word, program.words[word]
-            count = f'{times[number] if word == first else "":>{width}}  ' if times else ''
-            yield f'{count}{address:08x}:  {value:08x}  {texts[address]}'
+class Annotation:
+    def __init__(self, shown, run, coloured):
+        self.shown, self.run, self.texts = shown, run, shown.instructions()
+        self.most = max(run.words.values()) if run else 0
+        self.colours = {'hot': RED, 'warm': YELLOW, 'cold': GREY} if coloured else {}
+
+    def heat(self, count):
+        """How hot an instruction is beside the hottest one."""
+        return 'cold' if not count else 'hot' if 2 * count >= self.most else 'warm' if 10 * count >= self.most else ''
+
+    def heading(self, start, words):
+        if not self.run:
+            return f'{self.shown.name_of(start)}:'
+        executed = self.executed(words)
+        return f'{self.shown.name_of(start)}: {executed} of {self.run.total} instructions, {share(executed, self.run.total)}'
+
+    def executed(self, words):
+        return sum(self.run.words[address] for address in words) if self.run else 0
+
+    def line(self, address):
+        text = f'{address:08x}  {self.texts[address]}'
+        if not self.run:
+            return text
+        count = self.run.words[address]
+        line = f'{count:>{len(str(self.most))}} {share(count, self.run.total):>7}  {text}'
+        colour = self.colours.get(self.heat(count))
+        return f'{colour}{line}{PLAIN}' if colour else line
+
+    def lines(self, routines):
+        """All routines, the hottest first."""
+        for start, words in sorted(routines.items(), key=lambda item: -self.executed(item[1])):
+            yield self.heading(start, words)
+            yield from map(self.line, words)
+            yield ''
 
 
-def main(words):
-    if len(words) not in (1, 2):
-        print(__doc__, file=sys.stderr)
-        return 64
-    with open(words[0], 'rb') as opened:
-        program = Program(opened.read())
-    graph = Graph(program)
-    times = runs(graph, read_counts(words[1])) if len(words) == 2 else []
-    print('\n'.join(lines(program, graph, times, instructions(words[0]))).lstrip('\n'))
-    return 0
+def main():
+    parser = argparse.ArgumentParser(description=__doc__, formatter_class=argparse.RawDescriptionHelpFormatter)
+    parser.add_argument('file', metavar='FILE', help='the program')
+    parser.add_argument('counts', metavar='COUNTS', nargs='?', help=COUNTS_HELP)
+    parser.add_argument('--routine', metavar='NAME', help='this routine alone, by its name or its address in hexadecimal')
+    words = parser.parse_args()
+    shown = Shown(words.file)
+    run = Executions(shown, counts_of(shown, words.counts)) if words.counts else None
+    routines = code_words(shown, run)
+    if words.routine:
+        start = shown.routine_called(words.routine)
+        routines = {start: routines[start]}
+    coloured = sys.stdout.isatty() and 'NO_COLOR' not in os.environ
+    print_lines(Annotation(shown, run, coloured).lines(routines))
 
 
 if __name__ == '__main__':
-    sys.exit(main(sys.argv[1:]))
+    main()

@@ -1,112 +1,118 @@
 #!/usr/bin/env python3
-"""Draws the flow graph of a program, for Graphviz.
-
-    examples/graph.py FILE [COUNTS] [--routine ADDRESS] | dot -Tsvg > graph.svg
+"""Draws the flow graph of a program, for Graphviz: examples/graph.py FILE | dot -Tsvg > graph.svg
 
 Each routine is a cluster of its blocks. Landings aren't drawn, but for those that were completed, and edges out of the
-program lead to `x`. With COUNTS, the lines that `eel counts` prints of a run, each edge has its count, and is the
-heavier the more often it was completed; edges that weren't are grey. With an address, in hexadecimal, the routine that
-begins there is drawn alone, with the edges into it and out of it that were completed.
+program lead to `x`. With COUNTS each edge has its count, where a block has several ways out also its share of them, and
+is the heavier the more often it was completed; edges that weren't are grey. Of one routine the edges into it and out
+of it are drawn that were completed. What is no code is left out.
 """
-import bisect
+import argparse
 import math
-import sys
+from collections import defaultdict
 
-from listing import Graph, Program
-
-
-def read_counts(name):
-    """The counts by the edges' numbers."""
-    counts = {}
-    with open(name) as lines:
-        for line in lines:
-            words = line.split()
-            if words[:1] == ['edge']:
-                counts[int(words[1])] = int(words[5])
-    return counts
+from shown import COUNTS_HELP, Executions, Shown, counts_of, print_lines, share
 
 
 def quoted(text):
-    return '"' + text.replace('\\', '\\\\').replace('"', '\\"') + '"'
+    return '"' + text.replace('\\', '\\\\').replace('"', '\\"').replace('\n', '\\l') + '"'
+
+
+def node(address):
+    return '"x"' if address is None else f'"{address:08x}"'
 
 
 class Drawing:
-    def __init__(self, program, counts, routine):
-        self.program, self.counts, self.routine = program, counts, routine
-        self.graph = Graph(program)
-        self.most = max(counts.values(), default=0) if counts else 0
+    def __init__(self, shown, run, routine, with_code):
+        self.shown, self.run, self.routine = shown, run, routine
+        self.texts = shown.instructions() if with_code else None
+        self.most = max(map(run.edge, shown.edges)) if run else 0
+        self.clusters = defaultdict(list)
+        for first in sorted(shown.code(run)):
+            start = shown.routine_of(first)
+            if routine in (None, start):
+                self.clusters[start].append(first)
+        self.drawn = {first for blocks in self.clusters.values() for first in blocks}
 
-    def address(self, word):
-        return f'{self.program.start + 4 * word:08x}'
+    def instructions(self, block):
+        """The instructions of a block and that in its delay slot, a line each."""
+        for address in block.addresses():
+            yield f'{address:08x}  {self.texts[address]}'
+        slot, kinds = self.shown.slot_of(block)
+        if slot is not None:
+            condition = '' if len(kinds) == len(block.out) else f', if {kinds[0]}'
+            yield f'{slot:08x}    {self.texts[slot]}    (slot{condition})'
 
-    def node(self, block):
-        return quoted('x' if block is None else self.address(self.graph.firsts[block]))
-
-    def clusters(self):
-        """The routines in address order, with the numbers of their blocks."""
-        starts = sorted(self.graph.routines)
-        blocks = {start: [] for start in starts}
-        for number, first in enumerate(self.graph.firsts):
-            at = bisect.bisect(starts, first) - 1
-            blocks[starts[max(at, 0)]].append(number)
-        return [(start, own) for start, own in blocks.items()
-                if self.routine is None or self.address(start) == self.routine]
+    def block(self, block):
+        if self.texts:
+            label = ''.join(f'{line}\n' for line in self.instructions(block))
+        else:
+            label = f'{block.first:08x}, {block.words} {"word" if block.words == 1 else "words"}'
+        cold = self.run and not self.run.blocks[block.first]
+        return f'    {node(block.first)} [label={quoted(label)}{", color=gray, fontcolor=gray" if cold else ""}];'
 
     def cluster(self, start, blocks):
-        name = self.graph.routines[start].decode('ascii', 'replace') or self.address(start)
-        yield f'  subgraph {quoted("cluster_" + self.address(start))} {{'
-        yield f'    label={quoted(name)}; color=gray;'
-        for number in blocks:
-            words = self.graph.last(number) + 1 - self.graph.firsts[number]
-            label = f'{self.address(self.graph.firsts[number])}, {words} {"word" if words == 1 else "words"}'
-            yield f'    {self.node(number)} [label={quoted(label)}];'
+        yield f'  subgraph "cluster_{node(start)[1:-1]}" {{'
+        yield f'    label={quoted(self.shown.name_of(start))}; color=gray;'
+        yield from (self.block(self.shown.blocks[first]) for first in blocks)
         yield '  }'
 
-    def heat(self, count):
-        """The width and the colour of an edge: from 1 to 6, and from black to red, by the count's logarithm."""
-        share = math.log1p(count) / math.log1p(self.most)
-        return f'penwidth={1 + 5 * share:.1f}; color="0.0 {share:.2f} {0.8 * share:.2f}"'
+    def looks(self, edge, count):
+        """The label of a completed edge, its width and its colour: from 1 to 6, and from black to red, by the logarithm."""
+        heat = math.log1p(count) / math.log1p(self.most)
+        ways = self.shown.blocks[edge.source].out if edge.source is not None else []
+        part = f', {share(count, sum(map(self.run.edge, ways)))}' if len(ways) > 1 else ''
+        return f'label={quoted(f"{edge.kind} {count}{part}")}; penwidth={1 + 5 * heat:.1f}; color="0.0 {heat:.2f} {0.8 * heat:.2f}"'
 
-    def edge(self, number, edge):
+    def edge(self, edge):
         style = 'style=dashed; ' if edge.kind in ('out', 'land', 'call') else ''
-        if self.counts is None:
-            return f'  {self.node(edge.source)} -> {self.node(edge.target)} [{style}label={quoted(edge.kind)}];'
-        count = self.counts.get(number, 0)
-        looks = self.heat(count) + f'; label={quoted(f"{edge.kind} {count}")}' if count else 'color=lightgray'
-        return f'  {self.node(edge.source)} -> {self.node(edge.target)} [{style}{looks}];'
+        count = self.run.edge(edge) if self.run else 0
+        looks = f'label={quoted(edge.kind)}' if not self.run else self.looks(edge, count) if count else 'color=lightgray'
+        return f'  {node(edge.source)} -> {node(edge.target)} [{style}{looks}];'
 
-    def is_drawn(self, number, edge, drawn):
-        """Landings are drawn that were completed; of one routine, all edges within it, and others that were completed."""
-        completed = bool(self.counts and self.counts.get(number))
-        ends = sum(end in drawn for end in (edge.source, edge.target))
-        return completed and ends > 0 if edge.kind == 'land' or ends < 2 and self.routine else ends > 0
+    def around(self, edges):
+        """The blocks of other routines at the ends of edges, with the names of those."""
+        for address in sorted({end for edge in edges for end in (edge.source, edge.target)} - self.drawn - {None}):
+            label = f'{self.shown.name_of(self.shown.routine_of(address))} {address:08x}'
+            yield f'  {node(address)} [label={quoted(label)}, color=gray];'
+
+    def returns(self):
+        """Where calls return stands below them: edges that order the picture and aren't seen."""
+        for first in sorted(self.drawn):
+            block = self.shown.blocks[first]
+            if block.last() + 8 in self.drawn and self.shown.slot_of(block)[1] in (['call'], ['out']):
+                yield f'  {node(first)} -> {node(block.last() + 8)} [style=invis];'
+
+    def is_drawn(self, edge):
+        """Edges within what is drawn, and others that were completed; of the whole program all that aren't landings."""
+        ends = sum(end in self.drawn for end in (edge.source, edge.target))
+        if edge.source is not None and (ends == 2 or ends and edge.source in self.drawn and self.routine is None):
+            return True
+        return bool(ends and self.run and self.run.edge(edge))
 
     def lines(self):
         yield 'digraph program {'
-        yield '  node [shape=box, fontname=monospace]; edge [fontname=monospace, fontsize=10];'
-        drawn = set()
-        for start, blocks in self.clusters():
-            drawn.update(blocks)
+        yield '  node [shape=box, fontname=monospace, fontsize=11]; edge [fontname=monospace, fontsize=10];'
+        for start, blocks in self.clusters.items():
             yield from self.cluster(start, blocks)
-        for number, edge in enumerate(self.graph.edges):
-            if self.is_drawn(number, edge, drawn):
-                yield self.edge(number, edge)
+        edges = [edge for edge in self.shown.edges if self.is_drawn(edge)]
+        yield from self.around(edges)
+        yield from map(self.edge, edges)
+        yield from self.returns()
         yield '}'
 
 
-def main(words):
-    routine = None
-    if len(words) > 2 and words[-2] == '--routine':
-        *words, _, routine = words
-    if len(words) not in (1, 2):
-        print(__doc__, file=sys.stderr)
-        return 64
-    with open(words[0], 'rb') as opened:
-        program = Program(opened.read())
-    counts = read_counts(words[1]) if len(words) == 2 else None
-    print('\n'.join(Drawing(program, counts, routine).lines()))
-    return 0
+def main():
+    parser = argparse.ArgumentParser(description=__doc__, formatter_class=argparse.RawDescriptionHelpFormatter)
+    parser.add_argument('file', metavar='FILE', help='the program')
+    parser.add_argument('counts', metavar='COUNTS', nargs='?', help=COUNTS_HELP)
+    parser.add_argument('--routine', metavar='NAME', help='this routine alone, by its name or its address in hexadecimal')
+    parser.add_argument('--code', action='store_true', help='with the instructions in each block')
+    words = parser.parse_args()
+    shown = Shown(words.file)
+    run = Executions(shown, counts_of(shown, words.counts)) if words.counts else None
+    routine = shown.routine_called(words.routine) if words.routine else None
+    print_lines(Drawing(shown, run, routine, words.code).lines())
 
 
 if __name__ == '__main__':
-    sys.exit(main(sys.argv[1:]))
+    main()

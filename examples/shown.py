@@ -23,13 +23,18 @@ def eel(*words):
     return called.stdout.splitlines()
 
 
-def read_lines(name):
-    """The lines of a file of text."""
+def read_file(name):
+    """The bytes of a file."""
     try:
-        with open(name, encoding='utf-8', errors='replace') as opened:
-            return opened.read().splitlines()
+        with open(name, 'rb') as opened:
+            return opened.read()
     except OSError as error:
         refuse(f'{name}: {error.strerror}')
+
+
+def read_lines(name):
+    """The lines of a file of text."""
+    return read_file(name).decode('utf-8', 'replace').split('\n')
 
 
 def print_lines(lines):
@@ -85,9 +90,9 @@ class Shown:
     """The routines, blocks, edges and switches of the program of a file."""
 
     def __init__(self, name):
+        self.name, self.file = name, read_file(name)
         lines = [line.split() for line in eel('show', name)]
         rows = {kind: [words[1:] for words in lines if words[0] == kind] for kind in ('routine', 'block', 'edge', 'switch')}
-        self.name = name
         names = demangled(row[1] for row in rows['routine'])
         self.routines = {int(row[0], 16): f'at {row[0]}' if own == '-' else own for row, own in zip(rows['routine'], names)}
         self.blocks = {int(row[1], 16): Block(int(row[1], 16), int(row[2])) for row in rows['block']}
@@ -99,8 +104,6 @@ class Shown:
                 self.blocks[edge.source].out.append(edge)
             if edge.target is not None:
                 self.blocks[edge.target].into.append(edge)
-        with open(name, 'rb') as opened:
-            self.file = opened.read()
         self.entry, = struct.unpack('>I', self.file[24:28])
 
     def block_of(self, address):
@@ -138,15 +141,18 @@ class Shown:
     def leads_to(self, block):
         """The addresses to which control may go from a block, calls that return and switches among them."""
         for edge in block.out:
-            yield from (address for address in (edge.target, edge.slot) if address is not None)
+            if edge.target is not None:
+                yield edge.target
             if edge.kind == 'call' or edge.kind == 'out' and self.word(block.last()) >> 25 & 31:  # a jump that links
                 yield block.last() + 8
         table, count = self.switches.get(block.last(), (0, 0))
         yield from filter(None, (self.word(table + 4 * number) for number in range(count)))
 
-    def code(self):
-        """The blocks that hold code: to which the entry, routines and edges lead, and those to which they do."""
-        found, waiting = set(), [self.entry, *self.routines]
+    def code(self, run=None):
+        """The blocks that hold code: to which the entry, routines and a run lead, and those to which they do. What stands in
+        delay slots alone isn't among them."""
+        entered = [first for first, times in run.blocks.items() if times] if run else []
+        found, waiting = set(), [self.entry, *self.routines, *entered]
         while waiting:
             block = self.block_of(waiting.pop())
             if block and block.first not in found:
@@ -155,10 +161,20 @@ class Shown:
         return found
 
 
+    def slot_of(self, block):
+        """The delay slot behind a block, or None, and the kinds of the edges on which it is run."""
+        kinds = [edge.kind for edge in block.out if edge.slot is not None]
+        return next((edge.slot for edge in block.out if edge.slot is not None), None), kinds
+
+    def instructions(self):
+        """The text of each word by its address, as `eel list` prints it."""
+        return {int(line[:8], 16): line[9:] for line in eel('list', self.name)}
+
+
 def counts_of(shown, name):
     """How often a run completed each edge of a program, by the lines of a file, which must be of this program."""
     counts, total = {}, None
-    for at, line in enumerate(read_lines(name), 1):
+    for at, line in enumerate(read_file(name).decode('utf-8', 'replace').splitlines(), 1):
         words = line.split()
         if total is not None or len(words) != 6 or words[0] not in ('edge', 'edges') or not words[5].isdecimal():
             refuse(f'{name}: line {at}: not a line of eel counts')
@@ -176,10 +192,16 @@ def counts_of(shown, name):
     return counts
 
 
+def is_unimplemented(word):
+    """Whether a word is an UNIMP, as stands behind calls that return structs."""
+    return word is not None and word >> 30 == 0 and word >> 22 & 7 == 0
+
+
 class Executions:
     """How often a run went into each block, and executed the word at each address, those in delay slots too.
 
-    A landing in the midst of a block, and the block in which the run ended, count for all words of the block.
+    A landing in the midst of a block, and the block in which the run ended, count for all words of the block, but for
+    those that no run goes on from.
     """
 
     def __init__(self, shown, counts):
@@ -190,6 +212,7 @@ class Executions:
         for edge in shown.edges:
             if edge.slot is not None:
                 self.words[edge.slot] += self.edge(edge)
+        self.words |= {address: 0 for address, times in self.words.items() if times and is_unimplemented(shown.word(address))}
         self.total = sum(self.words.values())
 
     def edge(self, edge):

@@ -92,7 +92,7 @@ class SourceCounts:
 def gcov_lines(counts):
     for path, counted in counts.sources().items():
         yield f'{"-":>9}:{0:>5}:Source:{path}'
-        texts = read_lines(path) if os.path.exists(path) else []
+        texts = read_lines(path) if os.path.isfile(path) else []
         for number in range(1, max(len(texts), *counted) + 1):
             count = str(counted[number] or '#####') if number in counted else '-'
             yield f'{count:>9}:{number:>5}:{texts[number - 1] if number <= len(texts) else "/*EOF*/"}'
