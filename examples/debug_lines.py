@@ -1,4 +1,5 @@
 """The lines and functions of a program by its debug information (DWARF), read by pyelftools."""
+import io
 import os
 from dataclasses import dataclass, field
 
@@ -6,7 +7,7 @@ from shown import demangled, refuse
 
 try:
     from elftools.common.exceptions import DWARFError, ELFError
-    from elftools.construct import Array
+    from elftools.construct import Array, ConstructError
     from elftools.dwarf.ranges import BaseAddressEntry
     from elftools.elf.elffile import ELFFile
 except ImportError:
@@ -121,15 +122,19 @@ class Unit:
 class DebugLines:
     """All lines and functions of a program that have code."""
 
-    def __init__(self, name):
+    def __init__(self, shown):
         self.marks, self.line_at, self.body_at, self.functions = [], {}, {}, {}
+        self.start, self.end = shown.firsts[0], shown.blocks[shown.firsts[-1]].last() + 4
         try:
-            with open(name, 'rb') as opened:
-                file = ELFFile(opened)
-                if file.has_dwarf_info():
-                    self.read(file.get_dwarf_info())
-        except (DWARFError, ELFError, KeyError, IndexError, UnicodeDecodeError) as error:
-            refuse(f'{name}: its debug information cannot be read: {type(error).__name__} {error}')
+            file = ELFFile(io.BytesIO(shown.file))
+            if file.has_dwarf_info():
+                self.read(file.get_dwarf_info())
+        except (DWARFError, ELFError, ConstructError, LookupError, ValueError, TypeError, AttributeError) as error:
+            refuse(f'{shown.name}: its debug information cannot be read: {type(error).__name__}: {error}')
+
+    def words(self, low, high):
+        """The addresses of the text's words in a range."""
+        return range(max(low, self.start), min(high, self.end), 4)
 
     def read(self, dwarf):
         for unit in map(lambda found: Unit(dwarf, found), dwarf.iter_CUs()):
@@ -147,12 +152,12 @@ class DebugLines:
             self.marks += [row for row in rows if row.marks and row.line.number]
         for row, behind in zip(rows, [row.address for row in rows[1:]] + [end]):
             if row.line.number:
-                self.line_at.update((address, row.line) for address in range(row.address, behind, 4))
+                self.line_at.update((address, row.line) for address in self.words(row.address, behind))
 
     def add_body(self, unit, entry, ranges):
         """Inner bodies come after those in which they lie, and take their words."""
         for low, high in ranges:
-            self.body_at.update((address, entry.offset) for address in range(low, high, 4))
+            self.body_at.update((address, entry.offset) for address in self.words(low, high))
         named = unit.described(entry)
         number = unit.attribute(named, 'DW_AT_decl_line')
         if number and unit.program:

@@ -91,6 +91,8 @@ class Shown:
 
     def __init__(self, name):
         self.name, self.file = name, read_file(name)
+        if self.file[4032:4036] == b'EELN':
+            refuse(f'{name} is an edited file; its original is wanted, which `eel restore {name} OUT` writes')
         lines = [line.split() for line in eel('show', name)]
         rows = {kind: [words[1:] for words in lines if words[0] == kind] for kind in ('routine', 'block', 'edge', 'switch')}
         names = demangled(row[1] for row in rows['routine'])

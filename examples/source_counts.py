@@ -213,7 +213,7 @@ def main():
     form.add_argument('--callgrind', action='store_true', help='print a profile for callgrind_annotate and KCachegrind')
     words = parser.parse_args()
     shown = Shown(words.file)
-    print_lines(printed(SourceCounts(shown, counts_of(shown, words.counts), DebugLines(words.file)), words))
+    print_lines(printed(SourceCounts(shown, counts_of(shown, words.counts), DebugLines(shown)), words))
 
 
 if __name__ == '__main__':
