@@ -65,6 +65,7 @@ class Drawing:
 
     def edge(self, edge):
         style = 'style=dashed; ' if edge.kind in ('out', 'land', 'call') else ''
+        style += 'constraint=false; ' if edge.kind == 'land' else ''  # else dot 2.43 fails to rank some programs
         count = self.run.edge(edge) if self.run else 0
         looks = f'label={quoted(edge.kind)}' if not self.run else self.looks(edge, count) if count else 'color=lightgray'
         return f'  {node(edge.source)} -> {node(edge.target)} [{style}{looks}];'

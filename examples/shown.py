@@ -150,11 +150,22 @@ class Shown:
         table, count = self.switches.get(block.last(), (0, 0))
         yield from filter(None, (self.word(table + 4 * number) for number in range(count)))
 
+    def sections(self):
+        """The ranges of the file's sections that hold instructions, if it has a table of sections."""
+        shoff, = struct.unpack('>I', self.file[32:36])
+        size, count = struct.unpack('>2H', self.file[46:50])
+        table = self.file[shoff:shoff + 40 * count] if shoff and size == 40 else b''
+        for flags, start, _, length in (struct.unpack('>4I', table[at + 8:at + 24]) for at in range(0, len(table) // 40 * 40, 40)):
+            if flags & 4:
+                yield range(start, start + length)
+
     def code(self, run=None):
-        """The blocks that hold code: to which the entry, routines and a run lead, and those to which they do. What stands in
-        delay slots alone isn't among them."""
-        entered = [first for first, times in run.blocks.items() if times] if run else []
-        found, waiting = set(), [self.entry, *self.routines, *entered]
+        """The blocks that hold code: those in sections of instructions, those to which the entry, routines and a run lead,
+        and those to which they do. What is run as a delay slot alone isn't among them."""
+        sections, slots = list(self.sections()), {edge.slot for edge in self.edges}
+        waiting = [self.entry, *self.routines, *(first for first, times in (run.blocks if run else {}).items() if times)]
+        waiting += [first for first in self.firsts if first not in slots and any(first in section for section in sections)]
+        found = set()
         while waiting:
             block = self.block_of(waiting.pop())
             if block and block.first not in found:
