@@ -12,9 +12,9 @@ class Call:
     count: int
 
 
-def after_all_below(nodes, below):
-    """Nodes, each behind all that it leads to, but for those that lead to it."""
-    order, seen = [], set()
+def after_all_below(nodes, below, seen):
+    """The nodes and all that they lead to but what was seen, each behind those, except for what leads back to it."""
+    order = []
     for node in nodes:
         waiting = [] if node in seen else [(node, iter(below[node]))]
         seen.add(node)
@@ -29,22 +29,21 @@ def after_all_below(nodes, below):
 
 
 def components(nodes, edges):
-    """The strongly connected components of a graph, each behind all that lead to it."""
+    """The strongly connected components of a graph, each behind all that lead to it (Kosaraju's algorithm)."""
     below, above = defaultdict(set), defaultdict(set)
     for source, target in edges:
         below[source].add(target)
         above[target].add(source)
-    found = {}
-    for node in reversed(after_all_below(nodes, below)):
-        if node not in found:
-            members = after_all_below([node], defaultdict(set, {other: above[other] - found.keys() for other in above}))
-            found.update((member, node) for member in members)
-            yield members
+    seen = set()
+    for node in reversed(after_all_below(nodes, below, set())):
+        if node not in seen:
+            yield after_all_below([node], above, seen)
 
 
 class CallCosts:
     """Calls with inclusive costs: a routine's instructions and those of the routines that it calls. As in a profile of
-    samples, they are shared out among its callers by the numbers of their calls; calls in a recursion have no cost."""
+    samples, they are shared out among its callers by the numbers of their calls; calls in a recursion have no cost, and
+    calls through a register aren't known."""
 
     def __init__(self, shown, run):
         self.shown, self.run = shown, run
@@ -52,7 +51,9 @@ class CallCosts:
         self.own = Counter()
         for address, count in run.words.items():
             self.own[shown.routine_of(address)] += count
-        self.group, self.totals = {}, {}
+        self.group, self.totals, self.below = {}, {}, defaultdict(list)
+        for call in self.calls:
+            self.below[call.caller].append(call)
         pairs = [(call.caller, call.callee) for call in self.calls]
         for members in reversed(list(components(shown.starts, pairs))):
             self.group.update((member, members[0]) for member in members)
@@ -68,8 +69,8 @@ class CallCosts:
 
     def add_total(self, members):
         """What the routines of a recursion cost in all, and how often they are called from outside it."""
-        below = [call for call in self.calls if call.caller in members]
-        inner = sum(call.count for call in below if call.callee in members)
+        below = [call for member in members for call in self.below[member]]
+        inner = sum(call.count for call in below if self.group[call.callee] == members[0])
         cost = sum(self.own[member] for member in members) + sum(map(self.cost, below))
         self.totals[members[0]] = cost, sum(self.run.words[member] for member in members) - inner
 

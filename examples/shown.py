@@ -34,7 +34,8 @@ def read_file(name):
 
 def read_lines(name):
     """The lines of a file of text."""
-    return read_file(name).decode('utf-8', 'replace').split('\n')
+    lines = read_file(name).decode('utf-8', 'replace').split('\n')
+    return lines[:-1] if lines[-1] == '' else lines
 
 
 def print_lines(lines):
@@ -187,7 +188,7 @@ class Shown:
 def counts_of(shown, name):
     """How often a run completed each edge of a program, by the lines of a file, which must be of this program."""
     counts, total = {}, None
-    for at, line in enumerate(read_file(name).decode('utf-8', 'replace').splitlines(), 1):
+    for at, line in enumerate(read_lines(name), 1):
         words = line.split()
         if total is not None or len(words) != 6 or words[0] not in ('edge', 'edges') or not words[5].isdecimal():
             refuse(f'{name}: line {at}: not a line of eel counts')
