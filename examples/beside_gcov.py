@@ -86,7 +86,8 @@ def compare(program, folder, each):
         had = by_eel(program, *build, folder)
         both = sorted(had.keys() & wanted.keys())
         differing = [line for line in both if had[line] != wanted[line]]
-        print(f'{program} {" ".join(build)}: {len(both) - len(differing)} of {len(both)} lines; gcov has {len(wanted)}', flush=True)
+        agree = f'{len(both) - len(differing)} of {len(both)} lines; gcov has {len(wanted)}'
+        print(f'{program} {" ".join(build)}: {agree}', flush=True)
         for name, number in differing if each else ():
             print(f'    {name}:{number}: {had[name, number]}, gcov {wanted[name, number]}')
         yield build, len(both) - len(differing), len(both)
@@ -94,7 +95,7 @@ def compare(program, folder, each):
 
 def main():
     parser = argparse.ArgumentParser(description=__doc__, formatter_class=argparse.RawDescriptionHelpFormatter)
-    parser.add_argument('programs', metavar='PROGRAM', nargs='*', help=f'of {", ".join(PROGRAMS)}; all unless said otherwise')
+    parser.add_argument('programs', metavar='PROGRAM', nargs='*', help=f'of {", ".join(PROGRAMS)}; else all')
     parser.add_argument('--each', action='store_true', help='print each line that differs')
     words = parser.parse_args()
     sums = {}

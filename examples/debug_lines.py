@@ -84,7 +84,7 @@ class Unit:
 
     @staticmethod
     def marks_statements(rows):
-        """Whether rows mark where statements begin, as those of gcc's optimised code do: also where there is no word of them."""
+        """Whether rows mark where statements begin, also where no word of them stands, as in gcc's optimised code."""
         empty = any(row.marks and row.address == behind.address for row, behind in zip(rows, rows[1:]))
         return empty and not all(row.marks for row in rows)
 
@@ -155,9 +155,11 @@ class DebugLines:
                 self.line_at.update((address, row.line) for address in self.words(row.address, behind))
 
     def add_body(self, unit, entry, ranges):
-        """Inner bodies come after those in which they lie, and take their words."""
-        for low, high in ranges:
-            self.body_at.update((address, entry.offset) for address in self.words(low, high))
+        """Inner bodies come after those in which they lie, and take their words; what the linker left out has none."""
+        words = [address for low, high in ranges for address in self.words(low, high)]
+        if not words:
+            return
+        self.body_at.update(dict.fromkeys(words, entry.offset))
         named = unit.described(entry)
         number = unit.attribute(named, 'DW_AT_decl_line')
         if number and unit.program:

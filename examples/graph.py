@@ -61,7 +61,8 @@ class Drawing:
         heat = math.log1p(count) / math.log1p(self.most)
         ways = self.shown.blocks[edge.source].out if edge.source is not None else []
         part = f', {share(count, sum(map(self.run.edge, ways)))}' if len(ways) > 1 else ''
-        return f'label={quoted(f"{edge.kind} {count}{part}")}; penwidth={1 + 5 * heat:.1f}; color="0.0 {heat:.2f} {0.8 * heat:.2f}"'
+        label = quoted(f'{edge.kind} {count}{part}')
+        return f'label={label}; penwidth={1 + 5 * heat:.1f}; color="0.0 {heat:.2f} {0.8 * heat:.2f}"'
 
     def edge(self, edge):
         style = 'style=dashed; ' if edge.kind in ('out', 'land', 'call') else ''

@@ -156,7 +156,8 @@ class Shown:
         shoff, = struct.unpack('>I', self.file[32:36])
         size, count = struct.unpack('>2H', self.file[46:50])
         table = self.file[shoff:shoff + 40 * count] if shoff and size == 40 else b''
-        for flags, start, _, length in (struct.unpack('>4I', table[at + 8:at + 24]) for at in range(0, len(table) // 40 * 40, 40)):
+        for at in range(0, len(table) // 40 * 40, 40):
+            flags, start, _, length = struct.unpack('>4I', table[at + 8:at + 24])
             if flags & 4:
                 yield range(start, start + length)
 
@@ -226,7 +227,8 @@ class Executions:
         for edge in shown.edges:
             if edge.slot is not None:
                 self.words[edge.slot] += self.edge(edge)
-        self.words |= {address: 0 for address, times in self.words.items() if times and is_unimplemented(shown.word(address))}
+        executed = [address for address, times in self.words.items() if times]
+        self.words.update((address, 0) for address in executed if is_unimplemented(shown.word(address)))
         self.total = sum(self.words.values())
 
     def edge(self, edge):

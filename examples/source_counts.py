@@ -71,7 +71,7 @@ class SourceCounts:
 
     def reached(self):
         """All lines; where a function's code has none of the line that names it, that one is reached by its calls."""
-        lines = self.executed() | self.marked()
+        lines = {**self.executed(), **self.marked()}
         body_at, line_at = self.debug.body_at, self.debug.line_at
         known = {(line, body_at.get(address)) for address, line in line_at.items()}
         known |= {(row.line, body_at.get(row.address)) for row in self.debug.marks}
@@ -104,7 +104,7 @@ def function_lines(counts):
 
 
 def branches(counts):
-    """The branches with a condition, by line: how often each was taken and not, and whether it was reached."""
+    """The branches with a condition, by line: how often each was taken, and how often not."""
     found = defaultdict(list)
     for block in counts.shown.blocks.values():
         line = counts.debug.line_at.get(block.last())
@@ -138,7 +138,8 @@ def lcov_lines(counts):
     yield 'TN:'
     for path, counted in counts.sources().items():
         yield f'SF:{path}'
-        yield from lcov_functions([function for function in counts.functions if function.line and function.line.path == path])
+        own = [function for function in counts.functions if function.line and function.line.path == path]
+        yield from lcov_functions(own)
         yield from lcov_branches(found, path)
         yield from (f'DA:{number},{count}' for number, count in counted.items())
         yield f'LF:{len(counted)}'
