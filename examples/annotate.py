@@ -2,8 +2,8 @@
 """Prints a program's instructions, routine by routine, with how often a run executed each.
 
 With COUNTS the routines come hottest first, each with its share of all instructions that ran, and on a terminal in
-colours: red is hot, and grey never ran. What is no code is left out: the words to which no routine, no edge and not
-this run leads. A landing in the midst of a block counts for the whole block.
+colours: red is hot, and grey never ran. What is no code is left out: the words that stand in no section of instructions,
+and to which no routine, no edge and not this run leads. A landing in the midst of a block counts for the whole block.
 """
 import argparse
 import os

@@ -98,6 +98,8 @@ def main():
     parser.add_argument('programs', metavar='PROGRAM', nargs='*', help=f'of {", ".join(PROGRAMS)}; else all')
     parser.add_argument('--each', action='store_true', help='print each line that differs')
     words = parser.parse_args()
+    if set(words.programs) - set(PROGRAMS):
+        parser.error(f'the programs are {", ".join(PROGRAMS)}')
     sums = {}
     with tempfile.TemporaryDirectory() as folder:
         for program in words.programs or PROGRAMS:

@@ -4,6 +4,7 @@
 Commands are the lines that begin with `$`, and go on where they end with a backslash; what follows is what they print,
 where `...` stands for any lines. The packages aren't installed. The folder /tmp/walk must not be there.
 """
+import argparse
 import os
 import re
 import subprocess
@@ -27,6 +28,7 @@ def fits(printed, shown):
 
 
 def main():
+    argparse.ArgumentParser(description=__doc__, formatter_class=argparse.RawDescriptionHelpFormatter).parse_args()
     if os.path.exists('/tmp/walk'):
         sys.exit('walk.py: /tmp/walk is there already')
     with open(os.path.join(TOP, 'docs', 'TUTORIAL.md')) as opened:
