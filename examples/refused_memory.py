@@ -65,10 +65,13 @@ CALLS = {
     'edit carry_loop out plain': 'out',
     'edit carry_loop out script script': 'out',
     'edit carry_loop out profile': 'out',
+    'edit carry_loop out profile counts': 'out',
     'run carry_loop': None,
     'run profiled -d out': 'out',
     'counts profiled dump': None,
     'show carry_loop': None,
+    'list carry_loop': None,
+    'words listing out': 'out',
     'restore profiled out': 'out',
     'demo 1 1': None,
 }
@@ -128,8 +131,12 @@ def main():
         file.write(next(each for each in SMALL if each.name == 'carry_loop').file())
     with open('script', 'wb') as file:
         file.write(b'edge 1 add 0 3\nedge 1 top 1 %g2\nedge 2 keep 2 %o0\n')
-    for words in ('edit carry_loop profiled profile', 'run profiled -d dump'):
-        subprocess.run([program, *words.split()], check=True, capture_output=True)
+    for words, printed in (('edit carry_loop profiled profile', None), ('run profiled -d dump', None),
+                           ('counts profiled dump', 'counts'), ('list carry_loop', 'listing')):
+        ran = subprocess.run([program, *words.split()], check=True, capture_output=True)
+        if printed:
+            with open(printed, 'wb') as file:
+                file.write(ran.stdout)
     faults = sum(sweep(program, library, words, written) for words, written in CALLS.items())
     return 1 if faults else 0
 
