@@ -2,10 +2,10 @@
 """Runs the programs of programs.py by ./eel, each beside its edited file, and then random programs. Each edited file
 must have just the bytes that written.py makes, and its original again where it is restored.
 
-    examples/compare.py [COUNT [FIRST]]
+    examples/compare.py [--switches] [COUNT [FIRST]]
 
-COUNT is how many random programs there are: 300 unless said otherwise. Random program number N is the same in each
-run. Prints a line for each answer that differs.
+COUNT is how many random programs there are: 300 unless said otherwise. With --switches, they are those with switches.
+Random program number N is the same in each run. Prints a line for each answer that differs.
 """
 import collections
 import os
@@ -17,6 +17,7 @@ import tempfile
 
 from programs import C_PROGRAMS, SMALL
 from random_programs import random_program
+from random_switches import random_switches
 from written import written
 
 EEL = os.path.join(os.path.dirname(os.path.abspath(__file__)), '..', 'eel')
@@ -100,20 +101,20 @@ def compare_runs(steps):
     return 'went on', not begins(first, edited) or not (goes_on or edited == later)
 
 
-def compare_random(number):
+def compare_random(maker, number):
     """How random program N ends, and whether its edited file isn't as it must be."""
     random.seed(number)
-    file = random_program()
+    file = maker()
     put('f', file)
     fault = edit_fault(file)
     return (fault, True) if fault else compare_runs(STEPS)
 
 
-def compare_all_random(count, first):
+def compare_all_random(maker, count, first):
     ends = collections.Counter()
     faults = 0
     for number in range(first, first + count):
-        end, differs = compare_random(number)
+        end, differs = compare_random(maker, number)
         ends[end] += 1
         faults += differs
         if differs:
@@ -124,8 +125,10 @@ def compare_all_random(count, first):
 
 
 def main():
-    count = int(sys.argv[1]) if len(sys.argv) > 1 else 300
-    first = int(sys.argv[2]) if len(sys.argv) > 2 else 0
+    words, maker = sys.argv[1:], random_program
+    if words[:1] == ['--switches']:
+        words, maker = words[1:], random_switches
+    count, first = int(words[0]) if words else 300, int(words[1]) if len(words) > 1 else 0
     faults = 0
     os.chdir(tempfile.mkdtemp())
     programs = SMALL + C_PROGRAMS
@@ -133,7 +136,7 @@ def main():
         put('f', program.file())
         faults += compare_program(program)
     print(f'{len(programs)} programs, {faults} answers differ')
-    faults += compare_all_random(count, first)
+    faults += compare_all_random(maker, count, first)
     return 1 if faults else 0
 
 

@@ -148,10 +148,10 @@ def no_room(file, operations, cells):
 def profile_asks(file):
     """How many operations and cells the room of a profile is reckoned with."""
     graph = Graph(Program(file))
-    blocks = len(graph.firsts)
-    landings = sum(edge.kind == 'land' for edge in graph.edges)
-    assert landings == blocks
-    return len(graph.edges) - blocks + text_words(file), len(graph.edges) - blocks
+    # those of a landing are made for each word, those of a switch's edges for each entry of its table
+    once = sum(edge.kind != 'case' for edge in graph.own)
+    entries = sum(one.count for one in graph.opens)
+    return once + text_words(file) + entries, len(graph.edges) - len(graph.firsts) - len(graph.copied)
 
 
 def notes_fault(name, file):

@@ -2,8 +2,11 @@
 """Prints what `eel show FILE` must print of each program file, made apart from the proved program.
 
 With --compare, runs ./eel show of each file instead, and says for which the two differ. With --random COUNT, does so
-for that many files with random words, symbols and section tables.
+for that many files with random words, symbols and section tables, and with --switches COUNT for files with switches and
+what is nearly one. With --eel PROGRAM before these, that program is run.
 """
+import bisect
+import collections
 import os
 import random
 import struct
@@ -12,7 +15,8 @@ import sys
 import tempfile
 from dataclasses import dataclass
 
-from switches import switches
+from random_switches import near_switch, switch_words
+from switches import open_switches, switches, told_apart
 
 EEL = os.path.join(os.path.dirname(os.path.abspath(__file__)), '..', 'eel')
 
@@ -79,20 +83,32 @@ class Program:
         return 'fall', None, False, None
 
 
+@dataclass(frozen=True)
+class Landed:
+    """The landed copy of a block, which has this number."""
+    block: int
+
+
 @dataclass
 class Edge:
-    """An edge between blocks by their numbers, where None is all that lies outside."""
+    """An edge between nodes: a block is its number, and None is all that lies outside."""
     kind: str
-    source: int | None
-    target: int | None
+    source: int | Landed | None
+    target: int | Landed | None
     slot: int | None = None  # the word that is run on the edge, which may be the one behind the text
 
 
+def home(node):
+    """The number of a node's block, or None for all that lies outside."""
+    return node.block if isinstance(node, Landed) else node
+
+
 class Graph:
-    """The routines of a program with their names, the first words of its blocks, and its edges."""
+    """The routines of a program with their names, the first words of its blocks, its switches, and its edges between
+    blocks, their landed copies, and all that lies outside."""
 
     def __init__(self, program):
-        self.count = len(program.words)
+        self.start, self.count = program.start, len(program.words)
         self.ends = [program.end(word) for word in range(self.count)]
         self.entry = program.word_at(program.entry)
         self.routines = {self.entry: b''}
@@ -100,8 +116,17 @@ class Graph:
         self.routines |= dict(reversed(program.functions))
         self.firsts = sorted({word for word in self.leaders() if word < self.count})
         self.block_of = {first: number for number, first in enumerate(self.firsts)}
-        self.edges = [edge for number in range(len(self.firsts)) for edge in self.edges_from(number)]
-        self.edges += [Edge('land', None, number) for number in range(len(self.firsts))]
+        blocks = range(len(self.firsts))
+        # between blocks alone: to find the switches
+        self.direct = [edge for number in blocks for edge in self.edges_from(number)]
+        self.switches = switches(program, self)
+        self.opens = open_switches(program, self, self.switches)
+        self.jumps = {one.block: one for one in self.opens}
+        self.compares = {one.edge.source: one for one in self.opens}
+        self.copied = sorted({*self.jumps, *self.compares})
+        self.own = [edge for number in blocks for edge in self.leaving(number)]
+        self.own += [edge for number in self.copied for edge in self.leaving(Landed(number))]
+        self.edges = self.own + [Edge('land', None, node) for number in blocks for node in self.landings(number)]
 
     def leaders(self):
         yield 0
@@ -116,7 +141,53 @@ class Graph:
         """The last word of a block."""
         return (self.firsts[number + 1] if number + 1 < len(self.firsts) else self.count) - 1
 
+    def address(self, word):
+        return f'{self.start + 4 * word:08x}'
+
+    def node_text(self, node):
+        """The address of a node's block, with a sign for its landed copy; x for all that lies outside."""
+        return 'x' if node is None else self.address(self.firsts[home(node)]) + '+' * isinstance(node, Landed)
+
+    def holding(self, word):
+        """The block that holds a word."""
+        return bisect.bisect(self.firsts, word) - 1
+
+    def lands(self, word):
+        """The node at which control lands that comes to a word from outside, which may have no word of the text."""
+        if word is None:
+            return None
+        block = self.holding(word)
+        if block in self.jumps or block in self.compares and word > self.compares[block].compare:
+            return Landed(block)
+        return block
+
+    def landings(self, block):
+        """The nodes of a block at which control can land."""
+        if block in self.jumps:
+            return [Landed(block)]
+        return [block, Landed(block)] if block in self.compares else [block]
+
+    def leaving(self, node):
+        """The edges that leave a block or a landed copy."""
+        if node in self.jumps:
+            one = self.jumps[node]
+            targets = dict.fromkeys(self.lands(word) for word in one.targets)
+            return [Edge('case', node, target, one.jump + 1) for target in targets]
+        return [Edge(edge.kind, node, self.directed(node, edge), edge.slot) for edge in self.edges_from(home(node))]
+
+    def directed(self, node, edge):
+        """Where a direct edge leads: to an open switch's jump itself only from its comparison by the way to it."""
+        if edge.target in self.jumps:
+            way = self.jumps[edge.target].edge
+            if (node, edge.kind) != (way.source, way.kind):
+                return Landed(edge.target)
+        return edge.target
+
+    def words_of(self, number):
+        return range(self.firsts[number], self.last(number) + 1)
+
     def edges_from(self, number):
+        """The edges of a block to blocks."""
         last = self.last(number)
         kind, target, annul, cond = self.ends[last]
         slot = last + 1
@@ -135,14 +206,8 @@ class Graph:
 
 
 def listing(file):
-    program = Program(file)
-    graph = Graph(program)
-
-    def address(word):
-        return f'{program.start + 4 * word:08x}'
-
-    def node(block):
-        return 'x' if block is None else address(graph.firsts[block])
+    graph = Graph(Program(file))
+    address, node = graph.address, graph.node_text
 
     def slot(word):
         return '-' if word is None else address(word) if word < graph.count else 'off'
@@ -155,7 +220,7 @@ def listing(file):
         lines.append(f'block {number} {address(first)} {graph.last(number) + 1 - first}')
     for number, edge in enumerate(graph.edges):
         lines.append(f'edge {number} {edge.kind} {node(edge.source)} {node(edge.target)} {slot(edge.slot)}')
-    lines += [f'switch {address(jump)} {table:08x} {count}' for jump, table, count in switches(program, graph)]
+    lines += [f'switch {address(one.jump)} {one.table:08x} {one.count}' for one in graph.switches]
     lines.append(f'routines {len(graph.routines)} blocks {len(graph.firsts)} edges {len(graph.edges)}')
     return '\n'.join(lines) + '\n'
 
@@ -168,32 +233,20 @@ def random_word(count):
     return random.choice([branch, branch, call, 0x81c7e008, random.getrandbits(32), 0x01000000, 0x01000000])
 
 
-# Words that take the place of others in a switch: a nop, other comparisons, branches, sums, shifts, loads and jumps, a
-# SAVE, and a trap.
-EXCHANGED = [
-    0x01000000, 0x80a22002, 0x80a22005, 0x90a22003, 0x8092200f, 0x0880000c, 0x0880000d, 0x3880000c, 0x08800002, 0x28800002,
-    0x912a2003, 0x932a2002, 0x82006078, 0x82004008, 0x82020001, 0x82120000, 0x82806078, 0xc2004008, 0xc2020001, 0xd0004008,
-    0xc2184008, 0x81c06000, 0x81c04008, 0x81c20000, 0x9de3bfa0, 0x91d02003, 0x10bffff5]
-
-
-def near_switch(start):
-    """A switch of four entries, a few words of which are exchanged."""
-    table = start + 36
-    words = [0x90102003, 0x80a22003, 0x1880000c, 0x912a2002, 0x03000000 | table >> 10, 0x82106000 | table & 0x3ff, 0xc2004008,
-             0x81c04000, 0x01000000, *[start + 56] * 3, start + 52, 0x90102005, 0x82102001, 0x91d02010]
-    for _ in range(random.randrange(4)):
-        words[random.randrange(len(words))] = random.choice([*EXCHANGED, start + 4 * random.randrange(20)])
-    return words
-
-
-def random_file():
-    """A program without a fault whose section table can mostly be read, and mostly names functions."""
-    start = 0x10000 + 4 * random.randrange(100)
+def random_text(start):
+    """Words at an address, mostly transfers, and one at which the program is entered."""
     count = random.randrange(1, 40)
     words = [random_word(count) for _ in range(count)]
     if random.randrange(3) == 0:
         words = near_switch(start) + words[:random.randrange(9)]
-        count = len(words)
+    return words, random.randrange(len(words))
+
+
+def random_file(text_at):
+    """A program without a fault whose section table can mostly be read, and mostly names functions."""
+    start = 0x10000 + 4 * random.randrange(100)
+    words, entry = text_at(start)
+    count = len(words)
     text = struct.pack(f'>{count}I', *words)
     strings = b'\0main\0f\0' + bytes(random.choices(b' A~\x7f\xffa', k=random.randrange(400)))
     symbols = b''.join(
@@ -209,42 +262,51 @@ def random_file():
     table = b''.join(struct.pack('>10I', *section) for section in sections)
     table = table[:len(table) - random.choice([0, 0, 0, 0, 1])]
     shoff = random.choice([places[1] + len(symbols)] * 9 + [0])
-    header = struct.pack('>4sBBB9xHHIIIIIHHHHHH', b'\x7fELF', 1, 2, 1, 2, 2, 1, start + 4 * random.randrange(count), 52,
+    header = struct.pack('>4sBBB9xHHIIIIIHHHHHH', b'\x7fELF', 1, 2, 1, 2, 2, 1, start + 4 * entry, 52,
                          shoff, 0, 52, 32, 1, random.choice([40] * 9 + [44]), random.choice([3] * 8 + [0, 4]), 0)
     segment = struct.pack('>8I', 1, 84, start, start, len(text), len(text), 5, 0)
     return header + segment + text + strings + symbols + table
 
 
-def differs(name, wanted):
-    """Whether ./eel shows the file otherwise."""
-    return subprocess.run([EEL, 'show', name], capture_output=True).stdout.decode() != wanted
+def differs(eel, name, wanted):
+    """Whether the program shows the file otherwise."""
+    return subprocess.run([eel, 'show', name], capture_output=True).stdout.decode() != wanted
 
 
-def compare_random(count):
+def compare_random(eel, text_at, count):
+    sorts = collections.Counter()
     with tempfile.TemporaryDirectory() as folder:
+        name = os.path.join(folder, 'program')
         for number in range(count):
             random.seed(number)
-            name = os.path.join(folder, 'program')
+            file = random_file(text_at)
             with open(name, 'wb') as target:
-                target.write(random_file())
-            with open(name, 'rb') as source:
-                if differs(name, listing(source.read())):
-                    print(f'random file {number} differs')
-                    return 1
+                target.write(file)
+            if differs(eel, name, listing(file)):
+                print(f'random file {number} differs')
+                return 1
+            program = Program(file)
+            graph = Graph(program)
+            sorts.update(why or 'open' for _, why in told_apart(program, graph, graph.switches))
+    told = ', '.join(f'{number} {sort}' for sort, number in sorted(sorts.items()))
+    print(f'{count} random files, {sorts.total()} switches: {told}')
     return 0
 
 
 def main():
-    if sys.argv[1:2] == ['--random']:
-        return compare_random(int(sys.argv[2]))
+    words, eel = sys.argv[1:], EEL
+    if words[:1] == ['--eel']:
+        eel, words = words[1], words[2:]
+    if words[:1] in (['--random'], ['--switches']):
+        return compare_random(eel, random_text if words[0] == '--random' else switch_words, int(words[1]))
     fault = 0
-    for name in sys.argv[1:]:
+    for name in words:
         if name != '--compare':
             with open(name, 'rb') as source:
                 wanted = listing(source.read())
-            if '--compare' not in sys.argv:
+            if '--compare' not in words:
                 print(wanted, end='')
-            elif differs(name, wanted):
+            elif differs(eel, name, wanted):
                 print(f'{name} differs')
                 fault = 1
     return fault

@@ -3,6 +3,7 @@ import struct
 from dataclasses import dataclass
 
 from beside_qemu import form3, sethi
+from listing import Edge, Landed, home
 
 PAGE = 4096
 
@@ -11,7 +12,7 @@ COUPLE = 0x10800002  # ba to the word after the next one
 ALWAYS_OR_NEVER = (8, 0)
 ANNULLED = 16
 
-G0, G1, O7 = 0, 1, 15
+G0, G1, G2, O7 = 0, 1, 2, 15
 LD, ST, SWAP = 0, 4, 0xf
 ADD, SLL, SRL, JMPL = 0, 0x25, 0x26, 0x38
 
@@ -20,7 +21,8 @@ def words(*numbers):
     return struct.pack(f'>{len(numbers)}I', *numbers)
 
 
-# ---- words: those of the editor's page have numbers, 0 for jumps, 1 for the target, 2 for a register, 7 for what was found
+# ---- words: those of the editor's page have numbers, 0 for jumps and for the address of a switch's entry, 1 for the
+# target, 2 for a register, 7 for what was found and for another register
 
 def store(register, number):
     return form3(3, register, ST, G0, ('i', 4 * number - PAGE))
@@ -61,17 +63,31 @@ def link(register, address):
     return [sethi(register, address), operation(ADD, register, address & 0x3ff)] if register else []
 
 
+def second_operand(value):
+    return ('i', value & 0x1fff) if value >> 13 & 1 else ('r', value & 31)
+
+
 def jump_image(value, address, jumps):
     """The target of a JMPL is looked up in the table at `jumps`, by two registers that it doesn't name: first there is
     what leads from the target to its entry, and then the entry. Word 7 takes it. A misaligned target traps there."""
-    rd, rs1 = value >> 25 & 31, value >> 14 & 31
-    second = ('i', value & 0x1fff) if value >> 13 & 1 else ('r', value & 31)
+    rd, rs1, second = value >> 25 & 31, value >> 14 & 31, second_operand(value)
     named = (rd, rs1, 0 if second[0] == 'i' else second[1])
     one, other = [register for register in range(1, 6) if register not in named][:2]
     target = form3(2, one, ADD, rs1, second)
     return [store(one, 7), store(other, 2), target, store(one, 1), operation(SRL, other, 16, one), operation(SLL, other, 2),
             sethi(one, jumps), load_at(other, one, other), target, load_at(one, other, one),
             exchange(one, 7), load(other, 2), *link(rd, address)]
+
+
+def keep_load(value):
+    """Word 0 takes the address from which an LD loads."""
+    return [store(G1, 0), form3(2, G1, ADD, value >> 14 & 31, second_operand(value)), exchange(G1, 0)]
+
+
+def choose(distance):
+    """Goes to the piece whose address stands so far behind the entry whose address was kept."""
+    return [store(G1, 2), store(G2, 7), load(G1, 0), sethi(G2, distance), operation(ADD, G2, distance & 0x3ff),
+            load_at(G1, G1, G2), load(G2, 7), form3(2, G0, JMPL, G1, ('i', 0)), load(G1, 2)]
 
 
 # Goes on at what was found.
@@ -170,66 +186,157 @@ class Layout:
 
 
 class Pieces:
-    """An image of each word, the way along each edge but for the landings, a landing at each word, and the foreign
-    piece."""
+    """An image of each word for each node whose block holds it, the way along each edge but for the landings, a landing
+    at each word, the way along a Case edge for each entry of a switch's table, and the foreign piece."""
 
-    def __init__(self, program, graph, table):
-        self.program, self.graph, self.table = program, graph, table
-        own = [edge for edge in graph.edges if edge.kind != 'land']
-        self.ways = {(edge.source, edge.kind): graph.count + number for number, edge in enumerate(own)}
-        self.list = [self.image(word, block) for block, first in enumerate(graph.firsts)
-                     for word in range(first, graph.last(block) + 1)]
-        self.list += [self.way(edge) for edge in own]
-        self.list += [Piece(then=word) for word in range(graph.count)] + [Piece(words=FOREIGN)]
+    def __init__(self, program, graph, places):
+        self.program, self.graph, self.places = program, graph, places
+        self.ways = {(edge.source, edge.kind): number for number, edge in enumerate(graph.own)}
+        makers = {'image': self.image, 'way': self.way, 'landing': self.landing, 'keep': self.keep, 'case': self.case,
+                  'foreign': lambda: Piece(words=FOREIGN)}
+        named = list(self.names())
+        self.numbers = {name: number for number, name in enumerate(named)}
+        self.list = [makers[kind](*rest) for kind, *rest in named]
+
+    def names(self):
+        """What each piece is, in their order."""
+        words = range(self.graph.count)
+        yield from (('image', self.in_order(word), word) for word in words)
+        yield from (('way', number) for number in range(len(self.graph.own)))
+        yield from (('landing', word) for word in words)
+        for one in self.graph.opens:
+            yield from (('image', Landed(one.edge.source), word) for word in self.graph.words_of(one.edge.source))
+            for word in self.graph.words_of(one.block):
+                if word == one.loads[0]:
+                    yield 'keep', one.block
+                yield 'image', one.block, word
+        for one in self.graph.opens:
+            yield from (('case', one.block, entry) for entry in range(one.count))
+        yield 'foreign',
+
+    def in_order(self, word):
+        """The node of a word's image that the image of the word before falls into."""
+        block = self.graph.holding(word)
+        return Landed(block) if block in self.graph.jumps else block
 
     def address(self, word):
         return self.program.start + 4 * word
 
-    def image(self, word, block):
+    def node_number(self, node):
+        """Blocks have their numbers, all that lies outside the next one, and then come landed copies."""
+        outside = len(self.graph.firsts)
+        return outside if node is None else outside + 1 + node.block if isinstance(node, Landed) else node
+
+    def visit(self, word, node):
+        return self.address(word), self.node_number(node)
+
+    def enter(self, node, word):
+        """The piece where control comes to a word at a node: the load of an open switch has its address kept before."""
+        if node in self.graph.jumps and word == self.graph.jumps[node].loads[0]:
+            return self.numbers['keep', node]
+        return self.numbers['image', node, word]
+
+    def lands(self, word):
+        return self.enter(self.graph.lands(word), word)
+
+    def way_out(self, node, kind):
+        return self.numbers['way', self.ways[node, kind]]
+
+    def image(self, node, word):
         kind, _, _, condition = self.graph.ends[word]
-        value, visit = self.program.words[word], (self.address(word), block)
-        taken, untaken = self.ways.get((block, 'taken')), self.ways.get((block, 'untaken'))
+        value, visit = self.program.words[word], self.visit(word, node)
         if kind == 'branch' and condition in ALWAYS_OR_NEVER:
-            return Piece(visit, (NOP,), then=taken if condition else untaken)
+            return Piece(visit, (NOP,), then=self.way_out(node, 'taken' if condition else 'untaken'))
         if kind == 'branch':
-            return Piece(visit, branch=(condition, taken), then=untaken)
+            return Piece(visit, branch=(condition, self.way_out(node, 'taken')), then=self.way_out(node, 'untaken'))
         if kind == 'call':
-            return Piece(visit, link(O7, visit[0]), then=self.ways[block, 'call'])
+            return Piece(visit, link(O7, visit[0]), then=self.way_out(node, 'call'))
+        if kind == 'jump' and node in self.graph.jumps:
+            return Piece(visit, [*link(value >> 25 & 31, visit[0]), *choose(self.distance(node))])
         if kind == 'jump':
-            jumps = self.table + table_size(self.program)
-            return Piece(visit, jump_image(value, visit[0], jumps), then=self.ways[block, 'out'])
+            return Piece(visit, jump_image(value, visit[0], self.places.second), then=self.way_out(node, 'out'))
+        if node != self.in_order(word):
+            return Piece(visit, (value,))
         if word + 1 == self.graph.count:
             return Piece(visit, (value,), rest=jump(self.address(word + 1)))
         in_slot = word and self.graph.ends[word - 1][0] != 'fall'
-        return Piece(visit, (value,), then=word + 1 if in_slot else None)
+        behind = self.numbers['image', self.in_order(word + 1), word + 1]
+        return Piece(visit, (value,), then=behind if in_slot else None)
 
-    def way(self, edge):
-        if edge.kind == 'fall':
+    def distance(self, block):
+        """How far the word that leads to the piece of a table's first entry stands behind that entry."""
+        before = sum(one.count for one in self.graph.opens if one.block < block)
+        return (self.places.cases + 4 * before - self.graph.jumps[block].table) % 2**32
+
+    def keep(self, block):
+        return Piece(words=keep_load(self.program.words[self.graph.jumps[block].loads[0]]))
+
+    def landing(self, word):
+        return Piece(then=self.lands(word))
+
+    def way(self, number):
+        """The way along an edge. Where control falls to the next word there is none, and Case edges have theirs by
+        entries."""
+        edge = self.graph.own[number]
+        if edge.kind in ('fall', 'case'):
             return Piece(then=0)
+        return self.along(edge, None if edge.target is None else self.graph.firsts[home(edge.target)])
+
+    def case(self, block, entry):
+        """The way to where an entry leads, unless an earlier entry leads there."""
+        one = self.graph.jumps[block]
+        word = one.targets[entry]
+        if one.targets.index(word) < entry:
+            return Piece(then=0)
+        return self.along(Edge('case', block, self.graph.lands(word), one.jump + 1), word)
+
+    def along(self, edge, word):
+        """Along an edge, to a word at its target."""
         if edge.slot == self.graph.count:
-            return Piece(rest=jump(self.table))
+            return Piece(rest=jump(self.places.first))
         visit, copy = None, ()
         if edge.slot is not None:
-            visit, copy = (self.address(edge.slot), edge.source), (self.program.words[edge.slot],)
+            visit, copy = self.visit(edge.slot, edge.source), (self.program.words[edge.slot],)
             if self.graph.ends[edge.slot][0] != 'fall':
                 return Piece(visit, (COUPLE, COUPLE))
         if edge.kind == 'out':
             return Piece(visit, copy, rest=FOUND)
         if edge.target is not None:
-            return Piece(visit, copy, then=self.graph.firsts[edge.target])
-        last = self.graph.last(edge.source)
+            return Piece(visit, copy, then=self.enter(edge.target, word))
+        last = self.graph.last(home(edge.source))
         to = self.address(last + 2) if edge.kind == 'untaken' else self.program.target(last)
         return Piece(visit, copy, rest=jump(to))
 
-    def places(self, layout):
+    def cases(self):
+        """The pieces of Case edges, by all entries of the open switches' tables."""
+        for one in self.graph.opens:
+            yield from (self.numbers['case', one.block, one.targets.index(word)] for word in one.targets)
+
+    def ranges(self, layout):
         """Where visits stand. The first is that of a slot behind the text, in the table, if an edge runs one."""
-        end = self.graph.count
-        behind = [words(self.table, self.table + 4, self.address(end), edge.source)
+        table, end = self.places.first, self.graph.count
+        behind = [words(table, table + 4, *self.visit(end, edge.source))
                   for edge in self.graph.edges if edge.slot == end]
         return behind[:1] + [words(lo, hi, *visit) for lo, hi, visit in layout.visits()]
 
 
 # ---- the tables
+
+def up(number, size):
+    return (number + size - 1) // size * size
+
+
+class Places:
+    """Where both tables stand in their segment; the words behind them that have the addresses of pieces of Case edges,
+    one for each entry of an open switch's table; and the code, behind the segment's last page."""
+
+    def __init__(self, program, graph, base):
+        entries = sum(one.count for one in graph.opens)
+        self.first = base
+        self.second = base + table_size(program)
+        self.cases = self.second + second_size(program)
+        self.code = self.cases + up(4 * entries, PAGE)
+
 
 def pages_of(program, size):
     return range(program.start // size, (program.start + 4 * len(program.words) - 1) // size + 1)

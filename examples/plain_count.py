@@ -14,7 +14,7 @@ With --programs, runs the small programs of programs.py instead, and prints thos
 import struct
 import sys
 
-from listing import Graph, Program
+from listing import Graph, Program, home
 from programs import SMALL
 
 MASK = 0xffffffff
@@ -404,20 +404,25 @@ class Machine:
 
 
 class Counts:
-    """How often the edges of a program's graph are completed, and the block in which its walk stands, or None."""
+    """How often the edges of a program's graph are completed, and the node at which its walk stands."""
 
     def __init__(self, file):
         self.program = Program(file)
         self.graph = Graph(self.program)
         self.counts = [0] * len(self.graph.edges)
-        self.numbers = {(edge.kind, edge.source): number for number, edge in enumerate(self.graph.edges)
-                        if edge.kind != 'land'}
-        self.landings = {edge.target: number for number, edge in enumerate(self.graph.edges) if edge.kind == 'land'}
-        self.block_of_word = [number for number in range(len(self.graph.firsts))
-                              for _ in range(self.graph.firsts[number], self.graph.last(number) + 1)]
-        self.node = self.block_of_word[self.graph.entry]
+        # a node has one edge of a kind, but one for each target of landings and of a switch's jump
+        self.numbers = {self.way(edge.kind, edge.source, edge.target): number
+                        for number, edge in enumerate(self.graph.edges)}
+        self.lands = [self.graph.lands(word) for word in range(self.graph.count)]
+        self.node = self.graph.holding(self.graph.entry)
 
-    def complete(self, number):
+    @staticmethod
+    def way(kind, source, target):
+        return (kind, source, target) if kind in ('case', 'land') else (kind, source)
+
+    def complete(self, kind, target=None):
+        """Control leaves the walk's node by the edge of a kind, and of a target where the node has more of them."""
+        number = self.numbers[self.way(kind, self.node, target)]
         self.counts[number] += 1
         self.node = self.graph.edges[number].target
 
@@ -427,27 +432,34 @@ class Counts:
             self.left(self.program.word_at(pc))
         elif after is None:
             kind = self.graph.ends[self.program.word_at(pc - 4)][0]
-            self.complete(self.numbers[{'call': 'call', 'jump': 'out'}.get(kind, before), self.node])
-            landed = self.program.word_at(next_pc)
-            if kind == 'jump' and landed is not None:
-                self.complete(self.landings[self.block_of_word[landed]])
+            if kind == 'jump':
+                self.jumped(self.program.word_at(next_pc))
+            else:
+                self.complete('call' if kind == 'call' else before)
+
+    def jumped(self, word):
+        """A JMPL went on at a word, or outside the text."""
+        landed = None if word is None else self.lands[word]
+        if self.node in self.graph.jumps:
+            self.complete('case', landed)
+            return
+        self.complete('out')
+        if landed is not None:
+            self.complete('land', landed)
 
     def left(self, word):
         """Control left a word without a delay slot: a branch annulled it, or it may be the last of its block."""
         kind, _, _, cond = self.graph.ends[word]
         if kind == 'branch':
-            self.complete(self.numbers['taken' if cond == 8 else 'untaken', self.node])
-        elif self.node is not None and word == self.graph.last(self.node):
-            self.complete(self.numbers['fall', self.node])
+            self.complete('taken' if cond == 8 else 'untaken')
+        elif self.node is not None and word == self.graph.last(home(self.node)):
+            self.complete('fall')
 
     def lines(self):
-        def node(block):
-            return 'x' if block is None else f'{self.program.start + 4 * self.graph.firsts[block]:08x}'
-
-        edges = zip(self.graph.edges, self.counts)
+        node, edges = self.graph.node_text, zip(self.graph.edges, self.counts)
         lines = [f'edge {number} {edge.kind} {node(edge.source)} {node(edge.target)} {count}'
                  for number, (edge, count) in enumerate(edges) if count]
-        off_tree = len(self.counts) - len(self.graph.firsts)
+        off_tree = len(self.counts) - len(self.graph.firsts) - len(self.graph.copied)
         lines.append(f'edges {len(self.counts)} counted {off_tree} executions {sum(self.counts)}')
         return '\n'.join(lines) + '\n'
 

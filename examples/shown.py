@@ -76,7 +76,7 @@ class Block:
 
 def address_in(word):
     """An address that `show` prints, or None for what lies outside the text or isn't there."""
-    return None if word in ('x', '-', 'off') else int(word, 16)
+    return None if word in ('x', '-', 'off') else int(word.rstrip('+'), 16)
 
 
 class Edge:

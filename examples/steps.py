@@ -13,7 +13,7 @@ import subprocess
 import sys
 import tempfile
 
-from listing import Graph, Program
+from listing import Graph, Program, home
 
 EEL = os.path.join(os.path.dirname(os.path.abspath(__file__)), '..', 'eel')
 FIRST_KEPT = 0xfffff008 - 2**32
@@ -48,10 +48,11 @@ def sorts(original):
              if kind == 'branch' and target is not None and target <= word]
     for edge in graph.edges:
         if edge.kind == 'land':
-            call = edge.target > 1 and graph.ends[graph.last(edge.target - 2)][0] == 'call'
+            block = home(edge.target)
+            call = block > 1 and graph.ends[graph.last(block - 2)][0] == 'call'
             yield 'behind calls' if call else 'landings'
         else:
-            last = graph.last(edge.source)
+            last = graph.last(home(edge.source))
             yield 'in loops' if any(first <= last <= word for first, word in loops) else 'others'
 
 

@@ -5,6 +5,7 @@ plain_count.py, which shares nothing with the proved program.
 
     examples/stops.py [NAME ..]             programs of crates/program_runs: all of them unless some are named
     examples/stops.py --random COUNT [FIRST]  random programs, each the same in each run
+    examples/stops.py --switches COUNT [FIRST]  random programs with switches
 
 Prints a line for each program: how many stops there were, how many of them at visits, how many had counts, and how many
 were between places; and then each stop that differs.
@@ -20,9 +21,10 @@ import tempfile
 from plain_count import Counts, Ended, Machine
 from programs import C_PROGRAMS, SMALL
 from random_programs import random_program
+from random_switches import random_switches
 
 # What comes of the profiles that are stopped under the gate, as this script found it.
-KNOWN = {'carry_loop': (56, 23, 28, 28), 'inner_landings': (59, 10, 34, 25), 'switch_of_four': (32, 12, 24, 8),
+KNOWN = {'carry_loop': (56, 23, 28, 28), 'inner_landings': (59, 10, 34, 25), 'switch_of_four': (25, 12, 21, 4),
     'newline_count': (1000, 477, 605, 395)}
 
 EEL = os.path.join(os.path.dirname(os.path.abspath(__file__)), '..', 'eel')
@@ -144,12 +146,13 @@ def report(name, file, given):
 
 def main(words):
     os.chdir(tempfile.mkdtemp())
-    if words[:1] == ['--random']:
+    if words[:1] in (['--random'], ['--switches']):
+        maker = random_program if words[0] == '--random' else random_switches
         first = int(words[2]) if len(words) > 2 else 0
         faults = 0
         for number in range(first, first + int(words[1])):
             random.seed(number)
-            faults += report(f'random {number}', random_program(), b'a line, and another\nof them\n')
+            faults += report(f'random {number}', maker(), b'a line, and another\nof them\n')
         return 1 if faults else 0
     chosen = [program for program in SMALL + C_PROGRAMS if not words or program.name in words]
     return 1 if sum(report(program.name, program.file(), program.given) for program in chosen) else 0

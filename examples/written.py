@@ -2,23 +2,17 @@
 import struct
 
 from listing import Graph, Program
-from new_code import PAGE, Layout, Pieces, second_size, second_words, table_size, table_words, words
+from new_code import PAGE, Layout, Pieces, Places, second_words, table_words, up, words
 
 EDITOR_PAGE = 0xfffff000
-KINDS = ['fall', 'taken', 'untaken', 'call', 'out', 'land']
+KINDS = ['fall', 'taken', 'untaken', 'call', 'out', 'land', 'case']
 
 
-def up(number, size):
-    return (number + size - 1) // size * size
-
-
-def notes(graph, places, *head):
-    """The numbers at the head, blocks, edges without cells, and the places."""
-    outside = len(graph.firsts)
-    nodes = [(outside if edge.source is None else edge.source, outside if edge.target is None else edge.target)
+def notes(graph, pieces, ranges, *head):
+    """The numbers at the head, blocks, edges without cells, and the places of visits."""
+    edges = [words(KINDS.index(edge.kind), pieces.node_number(edge.source), pieces.node_number(edge.target), 0xffffffff)
              for edge in graph.edges]
-    edges = [words(KINDS.index(edge.kind), *node, 0xffffffff) for edge, node in zip(graph.edges, nodes)]
-    return b''.join([words(*head, outside, *graph.firsts, len(edges)), *edges, words(len(places)), *places])
+    return b''.join([words(*head, len(graph.firsts), *graph.firsts, len(edges)), *edges, words(len(ranges)), *ranges])
 
 
 def carried(header, delta):
@@ -50,22 +44,21 @@ def written(original):
     count, = struct.unpack_from('>H', original, 44)
     segments = [struct.unpack_from('>8I', original, at + 32 * number) for number in range(count)]
     loaded = [header for header in segments if header[0] == 1 and header[5]]
-    table = up(max(header[2] + header[5] for header in loaded), 0x10000)
-    second = table + table_size(program)
-    base = second + second_size(program)
-    pieces = Pieces(program, graph, table)
-    layout = Layout(pieces.list, base)
+    places = Places(program, graph, up(max(header[2] + header[5] for header in loaded), 0x10000))
+    pieces = Pieces(program, graph, places)
+    layout = Layout(pieces.list, places.code)
     at, code = layout.at, words(*layout.code())
     # nothing is done on the way from a landing to its image
-    landings = {pieces.address(word): at[word] for word in range(graph.count)}
+    landings = {pieces.address(word): at[pieces.lands(word)] for word in range(graph.count)}
     foreign = at[len(at) - 1]
-    tables = [*table_words(program, table, landings, foreign), *second_words(program, second, landings, foreign)]
-    added = [(table, 4, words(*tables)), (base, 5, code), (EDITOR_PAGE, 6, bytes(PAGE))]
+    tables = words(*table_words(program, places.first, landings, foreign),
+                   *second_words(program, places.second, landings, foreign), *(at[case] for case in pieces.cases()))
+    added = [(places.first, 4, tables.ljust(places.code - places.first, b'\0')), (places.code, 5, code),
+             (EDITOR_PAGE, 6, bytes(PAGE))]
     noted = [number for vaddr, _, content in added for number in (vaddr, len(content))]
     delta = max(PAGE, *(header[7] for header in loaded))
-    entry_block = [first <= graph.entry for first in graph.firsts].count(True) - 1
-    told = notes(graph, pieces.places(layout), delta, len(original), 0, program.start, graph.count, entry_block, table, 0,
-                 len(added), *noted)
+    told = notes(graph, pieces, pieces.ranges(layout), delta, len(original), 0, program.start, graph.count,
+                 graph.holding(graph.entry), places.first, 0, len(added), *noted)
     headers = [carried(header, delta) for header in segments
                if header[0] != 6 and (header[0] != 1 or header[5])]
     parts = [(delta, original)]
@@ -77,8 +70,8 @@ def written(original):
         end = place + len(content)
     notes_at = up(end, 4)
     sections, section_count, names = section_table(original, delta)
-    head = original[:16] + struct.pack('>HHIIII', 2, 2, 1, at[graph.entry], 52,
-                                       notes_at + len(told) if sections else 0)
+    entered = at[pieces.enter(graph.holding(graph.entry), graph.entry)]
+    head = original[:16] + struct.pack('>HHIIII', 2, 2, 1, entered, 52, notes_at + len(told) if sections else 0)
     head += original[36:40] + struct.pack('>6H', 52, 32, len(headers), 40, section_count, names)
     locator = words(0x45454c4e, 1, notes_at, len(told))
     file = b''

@@ -8,11 +8,11 @@ use Rattle.routines.specs.Routines.{routines_of}
 use Rattle.cfg_blocks.specs.Entries.{Entered, entered_of}
 use Rattle.cfg_blocks.specs.Switches.{switches_of}
 use Rattle.cfg_blocks.specs.declared.switches.Switch.{Switch}
-use Rattle.cfg_normal.specs.Opens.{IsTableIn}
+use Rattle.cfg_normal.specs.Opens.{IsTableIn, opens_of}
 use Rattle.cfg_normal.specs.Graph.{Graph, graph_of}
 use Rattle.cfg_view.specs.declared.View.{View}
 
--- a program's image, its routines, its blocks, its flow graph, where no switch is open, and its switches
+-- a program's image, its routines, its blocks, its flow graph with open switches, and all its switches
 pub record Seen : Type 0 where
   pub image : Program
   pub routines : List Routine
@@ -42,12 +42,16 @@ marks_in text marks = filter (λ mark. nat_lt mark (length text.words)) marks
 abbrev pub given_in : Program → List ℕ → List ℕ
 given_in program marks = starts_of (routines_of program) ++ marks_in program.text marks
 
+-- the flow graph of a text that was cut into blocks, with the open ones of its switches
+abbrev pub graph_with : Words → Entered → ℕ → Graph
+graph_with text list entry = graph_of list.blocks (opens_of text list (switches_of text list entry))
+
 abbrev pub view_with : Program → List ℕ → Seen
 view_with program given = record {
   image = program;
   routines = routines_of program;
   blocks = entered_of program.text given;
-  graph = graph_of (entered_of program.text given).blocks [];
+  graph = graph_with program.text (entered_of program.text given) program.entry;
   switches = switches_of program.text (entered_of program.text given) program.entry;
 }
 
@@ -59,7 +63,7 @@ view_of file marks = view_with (image_of file) (given_in (image_of file) marks)
 pub record IsView (view : View) : Type 0 where
   pub routines : view.routines ≡ routines_of view.image
   pub words : view.blocks.blocks.words ≡ length view.image.text.words
-  pub graph : view.graph ≡ graph_of view.blocks.blocks []
+  pub graph : view.graph ≡ graph_with view.image.text view.blocks view.image.entry
   pub switches : view.switches.items ≡ switches_of view.image.text view.blocks view.image.entry
   pub tables : All (IsTableIn view.image.text) view.switches.items
   pub jumps : All (λ switch. switch.jump.0 < length view.image.text.words) view.switches.items

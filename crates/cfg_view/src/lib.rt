@@ -16,8 +16,8 @@ use jump_slice::switches;
 use routines::{Routine, Routines, find};
 use std::alloc::Global;
 
-/// A program's image, its routines, its blocks, its flow graph, where no switch is open, and its switches in address
-/// order of their jumps.
+/// A program's image, its routines, its blocks, its flow graph with open switches, and all its switches in address order
+/// of their jumps.
 #[derive(Drop)]
 pub struct View {
     pub image: Image,
@@ -50,7 +50,7 @@ fn view_image(alloc: Global, image: Image, marks: &[WordNo]) -> Result<View, NoM
     let marks = marks_in(alloc, image.text(), marks)?;
     let blocks = blocks(alloc, image.text(), &starts, &marks)?;
     let switches = switches(alloc, &blocks, image.text(), image.entry())?;
-    let graph = graph(alloc, image.text(), &blocks, image.entry(), &[])?;
+    let graph = graph(alloc, image.text(), &blocks, image.entry(), &switches)?;
     Ok(View {
         image,
         routines,

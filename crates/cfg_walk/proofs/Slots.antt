@@ -2,7 +2,7 @@
 use Rattle.std.proofs.Common.{◌≡◌, ℕ, ◌+◌, ◌<◌, inl, inr, not, ◌&&◌, List, Bool, true, false, nat_lt, [], ◌++◌, Option, Some, None, refl, ap, sym, ◌∙◌, subst, arith, append-nil}
 use Rattle.std.specs.Prelude.{if◌then◌else◌, slice_index}
 use Rattle.std.specs.List.{list_any}
-use Rattle.std.proofs.lemmas.Bool.{cond_both}
+use Rattle.std.proofs.lemmas.Bool.{cond_both, false≢true}
 use Rattle.std.proofs.lemmas.Bool.Decides.{nat_tests}
 use Rattle.eel_base.specs.CodeText.{Words, address_of, word_at}
 use Rattle.v8_decode.specs.Words.{decode_of}
@@ -122,6 +122,7 @@ module _ (text : Words) (b : Blocks) (opens : List Open) (c : IsCut text b) wher
           lands_at = λ jump.
               ap (λ o. directed opens node w.kind (node_of b o)) (jumps jump).1
               ∙ sym (ap (λ (x : Bool). if x then lands_of b opens (word_at text point.npc) else X) quiet);
+          cases = λ jump cased. absurd (false≢true (sym quiet ∙ cased));
         }
 
     -- a jump by case
@@ -158,6 +159,7 @@ module _ (text : Words) (b : Blocks) (opens : List Open) (c : IsCut text b) wher
               carries = carries_on kinds.Case point.pc runs pc;
               leads = λ no_jump. absurd (cc);
               lands_at = λ _. sym (ap (λ (x : Bool). if x then to_node else X) cased);
+              cases = λ _ _. to;
             }
 
   -- ---- out of the slot

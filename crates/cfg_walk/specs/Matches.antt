@@ -59,6 +59,12 @@ abbrev pub way_address : Words → Graph → Node → EdgeKind → ℕ
 way_address text graph node way =
     target_along text (last_in graph node) way (decode_of (slice_index text.words (last_in graph node)))
 
+-- the address is that of a word to which the table of the node's switch leads
+abbrev pub IsTarget : Words → List Open → Node → ℕ → Type 0
+IsTarget text opens (Block block) address =
+    (word : ℕ) × (word_at text address ≡ Some word) × (list_any (λ x. x == word) (targets_in opens block.0) ≡ true)
+IsTarget text opens _ address = ⊥
+
 -- In a slot the walk's node has one edge of the way that the transfer goes. That edge carries the slot, and but for
 -- a jump it leads to where the machine goes on after it.
 pub record IsOnItsWay (text : Words) (graph : Graph) (node : Node) (point : Point) (way : EdgeKind) : Type 0 where
@@ -78,6 +84,9 @@ pub record IsOnItsWay (text : Words) (graph : Graph) (node : Node) (point : Poin
   -- a JMPL along a Case edge goes where it lands; along an Out edge, to X
   pub lands_at : same_kind way kinds.Out ≡ true
       → edge.to ≡ (if has_cases graph.opens node then lands graph (word_at text point.npc) else X)
+  -- that is a word to which the table leads
+  pub cases : same_kind way kinds.Out ≡ true → has_cases graph.opens node ≡ true
+      → IsTarget text graph.opens node point.npc
 
 abbrev pub MatchesBy : Words → Graph → Node → Point → Slot → Type 0
 MatchesBy text graph node point NoSlot =
@@ -105,12 +114,6 @@ pub record BeginsAt (text : Words) (entry : ℕ) (s0 : State) : Type 0 where
 -- the block of an open switch's jump ends in that
 abbrev pub AreOpen : Blocks → List Open → Type 0
 AreOpen b opens = (block : ℕ) → jumps_in opens block ≡ true → is_jump (end_of b block) ≡ true
-
--- the address is that of a word to which the table of the node's switch leads
-abbrev pub IsTarget : Words → List Open → Node → ℕ → Type 0
-IsTarget text opens (Block block) address =
-    (word : ℕ) × (word_at text address ≡ Some word) × (list_any (λ x. x == word) (targets_in opens block.0) ≡ true)
-IsTarget text opens _ address = ⊥
 
 -- where the walk's node has Case edges, a jump leads to a word of the table
 abbrev pub GoesByCase : Words → List Open → Node → Point → Point → Type 0

@@ -4,7 +4,6 @@ pub mod Hops
 pub mod Leads
 pub mod LongJump
 pub mod Ours
-pub mod Outside
 pub mod Points
 pub mod PointsAlike
 pub mod Stays

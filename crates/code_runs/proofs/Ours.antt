@@ -13,7 +13,7 @@ use Rattle.v8_step.specs.Step.{act}
 use Rattle.v8_step.specs.Judged.{judged_by}
 use Rattle.code_runs.specs.Ours.{HasNot, IsAmongWords, AreOwn, IsOurs, OursStay, OursAreStored}
 use Rattle.code_runs.specs.StoredWords.{store_word, store_all, AllAt}
-use Rattle.code_runs.proofs.Outside.{kept_act}
+use Rattle.v8_step.proofs.KeptOutside.{kept_act}
 use Rattle.code_runs.proofs.Stays.{not_heap, there_written, words_stay}
 
 has_not_written : (a b : ℕ) (bs : List ℕ) (o : Option Region) → HasNot a o → HasNot a (option_map (written b bs) o)

@@ -14,7 +14,7 @@ use Rattle.v8_step.specs.Step.{act}
 use Rattle.code_runs.specs.StoredWords.{word_in, memory_word, CanLoad, CanStore}
 use Rattle.code_runs.specs.Ours.{HasWordAt, IsIn, WordsStay}
 use Rattle.code_runs.proofs.StoredWords.{covered, covers_first, spliced_other}
-use Rattle.code_runs.proofs.Outside.{kept_act}
+use Rattle.v8_step.proofs.KeptOutside.{kept_act}
 
 pub record SameShape (r q : Region) : Type 0 where
   pub start : q.start ≡ r.start

@@ -1,7 +1,6 @@
 -- The room that an edit asks for is enough for the operations that are made.
 use Rattle.std.proofs.Common.{◌≡◌, ℕ, suc, ◌+◌, ◌≤◌, List, [], ◌∷◌, length, refl, ap, ◌∙◌, arith}
 use Rattle.std.proofs.lemmas.Nat.{mul-le}
-use Rattle.cfg_blocks.specs.Blocks.{Blocks}
 use Rattle.cfg_normal.specs.declared.Edge.{Edge}
 use Rattle.cfg_normal.specs.Graph.{Graph}
 use Rattle.cfg_walk.proofs.Lists.{Each, each}
@@ -31,37 +30,39 @@ all_counted tools.Plain snips are = each _ snips (λ ops. omega arith)
 all_counted tools.Profile snips are = few_counted 0 snips (are refl)
 all_counted tools.Script snips are = each _ snips (λ ops. omega arith)
 
-made : (kind : ToolKind) (b : Blocks) (all : List (List Op)) (number : ℕ) (edges : List Edge) (snips : List (List Op))
+made : (kind : ToolKind) (graph : Graph) (all : List (List Op)) (number : ℕ) (edges : List Edge) (snips : List (List
+    Op))
     → length snips ≡ length edges → ((k : ℕ) → snippet_on all (number + k) ≡ snippet_on snips k)
     → Each (λ ops. length ops ≤ counted_on kind ops) snips
-    → operations_from b all number edges ≤ operations_on kind b edges snips
-made kind b all number [] snips size same few = omega arith
-made kind b all number (edge ∷ edges) [] size same few = absurd (omega (arith, size))
-made kind b all number (edge ∷ edges) (ops ∷ snips) size same few =
+    → operations_from graph all number edges ≤ operations_on kind graph edges snips
+made kind graph all number [] snips size same few = omega arith
+made kind graph all number (edge ∷ edges) [] size same few = absurd (omega (arith, size))
+made kind graph all number (edge ∷ edges) (ops ∷ snips) size same few =
     let here : length (snippet_on all number) ≡ length ops =
     ap (λ (n : ℕ). length (snippet_on all n)) (let e : number ≡ number + 0 = omega arith in e)
     ∙ ap (λ (x : List Op). length x) (same 0) in
-    let first = mul-le (copies_of b edge) (length (snippet_on all number)) (copies_of b edge) (counted_on kind ops)
+    let first = mul-le (copies_of graph edge) (length (snippet_on all number)) (copies_of graph edge) (counted_on kind
+    ops)
     (omega arith) (omega (arith, here, few.0)) in
-    let later = made kind b all (suc number) edges snips (omega (arith, size))
+    let later = made kind graph all (suc number) edges snips (omega (arith, size))
     (λ k. ap (snippet_on all) (let e : suc number + k ≡ number + suc k = omega arith in e) ∙ same (suc k)) few.1 in
     omega (arith, first, later)
 
 pub operations_few : (graph : Graph) (kind : ToolKind) (cells : ℕ) (snips : List (List Op))
     → IsWorkable graph kind cells snips
-    → operations_in graph snips ≤ operations_on kind graph.blocks graph.edges snips
+    → operations_in graph snips ≤ operations_on kind graph graph.edges snips
 operations_few graph kind cells snips is =
-    made kind graph.blocks snips 0 graph.edges snips is.size
+    made kind graph snips 0 graph.edges snips is.size
     (λ k. ap (snippet_on snips) (let e : 0 + k ≡ k = omega arith in e)) (all_counted kind snips is.counters)
 
 -- where no edge or no snippet is left
-pub none_first : (kind : ToolKind) (b : Blocks) (edges : List Edge) (snips : List (List Op)) → length edges ≡ 0
-    → operations_on kind b edges snips ≡ 0
-none_first kind b [] snips none = refl
-none_first kind b (edge ∷ edges) snips none = absurd (omega (arith, none))
+pub none_first : (kind : ToolKind) (graph : Graph) (edges : List Edge) (snips : List (List Op)) → length edges ≡ 0
+    → operations_on kind graph edges snips ≡ 0
+none_first kind graph [] snips none = refl
+none_first kind graph (edge ∷ edges) snips none = absurd (omega (arith, none))
 
-pub none_second : (kind : ToolKind) (b : Blocks) (edges : List Edge) (snips : List (List Op)) → length snips ≡ 0
-    → operations_on kind b edges snips ≡ 0
-none_second kind b [] snips none = refl
-none_second kind b (edge ∷ edges) [] none = refl
-none_second kind b (edge ∷ edges) (ops ∷ snips) none = absurd (omega (arith, none))
+pub none_second : (kind : ToolKind) (graph : Graph) (edges : List Edge) (snips : List (List Op)) → length snips ≡ 0
+    → operations_on kind graph edges snips ≡ 0
+none_second kind graph [] snips none = refl
+none_second kind graph (edge ∷ edges) [] none = refl
+none_second kind graph (edge ∷ edges) (ops ∷ snips) none = absurd (omega (arith, none))

@@ -1,5 +1,5 @@
 -- What is written is an edit: its notes meet their rules, and the laws of written files give the rest.
-use Rattle.std.proofs.Common.{◌≡◌, ℕ, zero, suc, ◌+◌, ◌-◌, ◌*◌, ◌%◌, ◌^◌, ◌<◌, ◌≤◌, List, [], ◌∷◌, ◌++◌, length, length-append, length-take, replicate, nat_le, None, inl, inr, refl, ap, ◌∙◌, arith, All}
+use Rattle.std.proofs.Common.{◌≡◌, ℕ, zero, suc, ◌+◌, ◌*◌, ◌%◌, ◌^◌, ◌<◌, ◌≤◌, List, [], ◌∷◌, ◌++◌, length, length-append, replicate, nat_le, None, inl, inr, refl, ap, ◌∙◌, arith, All}
 use Rattle.std.specs.List.{sum_by}
 use Rattle.std.proofs.lemmas.List.{length-replicate}
 use Rattle.std.proofs.lemmas.List.Sums.{count_by-le-length}
@@ -25,12 +25,9 @@ use Rattle.elf32_write.proofs.Loads.{file_loads}
 use Rattle.elf32_write.proofs.WordsBytes.{length-words_bytes}
 use Rattle.v8_step.proofs.ValidNumbers.{high_first-bytes, flat_map-bytes}
 use Rattle.cfg_blocks.specs.Blocks.{Blocks, holding_of}
-use Rattle.cfg_walk.proofs.NoneOpen.{edges_lie_in}
 use Rattle.addr_translate.specs.Lookup.{TableAt}
 use Rattle.layout.specs.Laid.{Placement}
 use Rattle.image_code.specs.Fit.{AreFit}
-use Rattle.image_code.specs.Parts.{IsGraphOf}
-use Rattle.image_code.proofs.Numbers.{cut_of, own_few}
 use Rattle.edit_core.specs.Taken.{CanEdit}
 use Rattle.edit_core.specs.Faithful.{editor_page, page_size, tool_number}
 use Rattle.image_code.specs.Parts.{codes_of}
@@ -38,15 +35,17 @@ use Rattle.snippets.specs.Cells.{WorksBelow}
 use Rattle.tool_kit.specs.declared.edge_ref.ToolKind.{ToolKind}
 use Rattle.tool_kit.specs.declared.edge_ref.ToolKind.TheVariants as tools
 use Rattle.tool_kit.specs.Plans.{Plan}
-use Rattle.edit_core.specs.Written.{CanDo, IsNewCode, IsEdit, if_any, cells_at, cells_base, text_of, given_of, graph_in, table_base, code_base, pieces_of, entry_of, table_at, tables_size, code_segment, page_segment, added, notes_on, edit_file}
+use Rattle.edit_core.specs.Written.{CanDo, IsNewCode, IsEdit, if_any, cells_at, cells_base, text_of, graph_in, table_base, code_base, pieces_of, entry_of, table_at, segment_size, cases_at, entry_number, code_segment, page_segment, added, notes_on, edit_file}
 use Rattle.edit_core.proofs.Bounds.{operations_few}
 use Rattle.edit_core.proofs.Fronts.{any_length}
 use Rattle.edit_core.proofs.Counted.{ranges_few}
 use Rattle.edit_core.proofs.Eaches.{each_all}
+use Rattle.edit_core.proofs.Graphs.{edges_inside, entries_few, graph_cut, graph_facts, graph_is}
 use Rattle.edit_core.proofs.Originals.{image_text, image_room, base_above}
 use Rattle.edit_core.proofs.Views.{bound_is}
 use Rattle.edit_core.proofs.Ranges.{ranges_whole, some_code}
 use Rattle.edit_core.proofs.Room.{small_tables}
+use Rattle.edit_core.proofs.Steps.{segment_is}
 use Rattle.edit_core.proofs.Noted.{IsNoted, are_notes, are_words, few_bytes}
 
 -- ---- three segments
@@ -206,13 +205,15 @@ module _ (original : List ℕ) (plan : Plan) (limit : length original ≤ 2 ^ 26
   text_is : IsText (text_of original plan)
   text_is = image_text original can.sound
 
-  graph_is : IsGraphOf (text_of original plan) (graph_in original plan)
-  graph_is = record { given = given_of original plan; is = refl }
-
   code_some : 0 < length p.code
   code_some = some_code (text_of original plan) (graph_in original plan) (table_base original plan)
-      (codes_of (cells_base original plan) code.dead plan.snips) text_is graph_is
+      (cases_at (text_of original plan) (table_base original plan))
+      (codes_of (cells_base original plan) code.dead plan.snips) text_is (graph_is original plan)
       (code_base original plan) p place code.laid
+
+  -- how many bytes the tables have
+  size_is : length table.bytes ≡ segment_size (text_of original plan) (graph_in original plan)
+  size_is = segment_is (text_of original plan) (graph_in original plan) plan.snips p table code.leads
 
   abbrev cells : AddedSegment
   cells = cells_at (cells_base original plan) plan.cells
@@ -248,7 +249,8 @@ module _ (original : List ℕ) (plan : Plan) (limit : length original ≤ 2 ^ 26
   three =
       let base = (accepted-program original can.sound).base in
       let at = code.base in
-      let size = code.leads.size in
+      let size = size_is in
+      let entries = entries_few (text_of original plan) (graph_in original plan) text_is (graph_is original plan) in
       let small = small_tables (text_of original plan) text_is in
       let few = text_is.few in
       let some = code_some in
@@ -281,9 +283,10 @@ module _ (original : List ℕ) (plan : Plan) (limit : length original ≤ 2 ^ 26
       (can_write original plan.cells cells (table_at table) (code_segment original plan p) page_segment notes can.sound limit
       before three few)
 
-  noted : IsNoted (graph_in original plan) (tables_size (text_of original plan)) p (notes_on original plan p)
+  noted : IsNoted (graph_in original plan) (segment_size (text_of original plan) (graph_in original plan)) p (notes_on
+      original plan p)
   noted =
-      let cut = cut_of (text_of original plan) (graph_in original plan) graph_is text_is.some in
+      let cut = graph_cut (text_of original plan) (graph_in original plan) text_is (graph_is original plan) in
       let first = held [] (omega arith) in
       let base = (accepted-program original can.sound).base in
       record {
@@ -306,14 +309,13 @@ module _ (original : List ℕ) (plan : Plan) (limit : length original ≤ 2 ^ 26
         firsts = cut.firsts;
         blocks = refl;
         edge_count =
-            let own = own_few (text_of original plan) (graph_in original plan) graph_is text_is.some in
-            let taken = length-take (length (graph_in original plan).edges - length (graph_in original plan).blocks.firsts)
-            (graph_in original plan).edges in
-            let firsts = cut.firsts.few in
+            let most =
+            (graph_facts (text_of original plan) (graph_in original plan) text_is (graph_is original plan)).edge_count
+            in
             let words = cut.words in
             let few = text_is.few in
             omega arith;
-        edges_in = edges_lie_in (graph_in original plan).blocks [] cut.firsts.some;
+        edges_in = edges_inside (text_of original plan) (graph_in original plan) text_is (graph_is original plan);
         kind = plan.kind;
         snips = plan.snips;
         edges = refl;
@@ -326,15 +328,18 @@ module _ (original : List ℕ) (plan : Plan) (limit : length original ≤ 2 ^ 26
             omega arith;
         ascend = code.laid.ascend;
         whole = ranges_whole (text_of original plan) (graph_in original plan) (table_base original plan)
-            (codes_of (cells_base original plan) code.dead plan.snips) text_is graph_is
+            (cases_at (text_of original plan) (table_base original plan))
+            (codes_of (cells_base original plan) code.dead plan.snips) text_is (graph_is original plan)
             (code_base original plan) p place code.laid;
       }
 
   pub notes_meet_rules : AreNotes (notes_on original plan p)
-  notes_meet_rules = are_notes (graph_in original plan) (tables_size (text_of original plan)) p (notes_on original plan p) noted
+  notes_meet_rules = are_notes (graph_in original plan) (segment_size (text_of original plan) (graph_in original
+      plan)) p (notes_on original plan p) noted
 
   notes_few : length (notes_bytes (notes_on original plan p)) ≤ 2 ^ 28
-  notes_few = few_bytes (graph_in original plan) (tables_size (text_of original plan)) p (notes_on original plan p) noted
+  notes_few = few_bytes (graph_in original plan) (segment_size (text_of original plan) (graph_in original plan)) p
+      (notes_on original plan p) noted
 
   pub can_be_written : CanWrite original (added original plan p table) (notes_bytes (notes_on original plan p))
   can_be_written =
@@ -345,7 +350,10 @@ module _ (original : List ℕ) (plan : Plan) (limit : length original ≤ 2 ^ 26
   holds = held (notes_bytes (notes_on original plan p)) notes_few
 
   entry_low : entry_of original plan p < 2 ^ 32
-  entry_low = let a = (code.laid.aligned (image_of original).entry).1 in omega arith
+  entry_low =
+      let a = (code.laid.aligned (entry_number (text_of original plan) (graph_in original plan)
+      (image_of original).entry)).1 in
+      omega arith
 
   module _ (bytes : AreBytes original) where
     numbers : AreNumbers original (added original plan p table) (entry_of original plan p)
@@ -380,7 +388,8 @@ module _ (original : List ℕ) (plan : Plan) (limit : length original ≤ 2 ^ 26
           loads = file_loads original (added original plan p table) (entry_of original plan p) ns can_be_written numbers loadable;
           reads = notes_are_read original (added original plan p table) (entry_of original plan p) ns can_be_written
               ∙ written_back (notes_on original plan p) (length (edit_file original plan p table)) notes_meet_rules
-              (are_words (graph_in original plan) (tables_size (text_of original plan)) p (notes_on original plan p) noted) holds.inside;
+              (are_words (graph_in original plan) (segment_size (text_of original plan) (graph_in original plan)) p
+              (notes_on original plan p) noted) holds.inside;
           mapped = segments_are_mapped original (added original plan p table) (entry_of original plan p) ns can_be_written numbers
               loadable.filled;
           entered = entry_is_given original (added original plan p table) (entry_of original plan p) ns can_be_written numbers;

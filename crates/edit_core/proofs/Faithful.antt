@@ -1,8 +1,8 @@
 -- An edit is faithful.
-use Rattle.std.proofs.Common.{◌≡◌, ℕ, zero, suc, ◌+◌, ◌-◌, ◌*◌, ◌^◌, ◌<◌, ◌≤◌, Bool, true, cond, List, [], ◌∷◌, ◌++◌, length, map, slice_index, Some, None, refl, ap, sym, ◌∙◌, subst, arith, All}
+use Rattle.std.proofs.Common.{◌≡◌, ℕ, zero, suc, ◌+◌, ◌*◌, ◌^◌, ◌<◌, ◌≤◌, Bool, true, cond, List, [], ◌∷◌, ◌++◌, length, map, slice_index, Some, None, refl, ap, sym, ◌∙◌, subst, arith, All}
 use Rattle.std.specs.Prelude.{slice_get}
 use Rattle.std.specs.List.{list_any}
-use Rattle.std.proofs.lemmas.Bool.{le-leb, le-ltb, lt-ltb}
+use Rattle.std.proofs.lemmas.Bool.{le-leb, lt-ltb}
 use Rattle.std.proofs.lemmas.List.{append_assoc}
 use Rattle.std.proofs.lemmas.Option.{slice_get_within, get_or_from_slice_get}
 use Rattle.eel_base.specs.CodeText.{IsText, address_of, word_at}
@@ -14,27 +14,23 @@ use Rattle.elf32_write.specs.Headers.{AddedSegment}
 use Rattle.elf32_write.specs.Laws.{AreBytes, kept, mapping_added}
 use Rattle.cfg_blocks.specs.Blocks.{holding_of}
 use Rattle.cfg_normal.specs.declared.Edge.{Edge}
-use Rattle.cfg_normal.specs.declared.Node.{Node}
-use Rattle.cfg_normal.specs.declared.Node.TheVariants.{Block, Landed, X}
-use Rattle.cfg_normal.specs.Graph.{Graph, IsEdgeIn, IsNodeIn}
-use Rattle.cfg_normal.specs.Numbers.{is_node, node_number}
-use Rattle.cfg_normal.specs.Opens.{is_copied}
+use Rattle.cfg_normal.specs.Graph.{Graph, IsEdgeIn}
+use Rattle.cfg_normal.specs.Numbers.{is_node}
 use Rattle.cfg_walk.proofs.Addresses.{word_at-address}
 use Rattle.cfg_walk.proofs.Lists.{Each, each, each-append, each-then}
-use Rattle.cfg_walk.proofs.NoneOpen.{edges_lie_in}
 use Rattle.liveness.specs.Live.{named_on}
 use Rattle.addr_translate.specs.Lookup.{TableAt}
 use Rattle.layout.specs.Laid.{Placement, IsWordAt}
-use Rattle.image_code.specs.Parts.{IsGraphOf}
 use Rattle.image_code.specs.Fit.{AreFit, PlacesSay}
 use Rattle.image_code.specs.Parts.{codes_of}
-use Rattle.image_code.proofs.Numbers.{cut_of}
 use Rattle.tool_kit.specs.Plans.{Plan}
 use Rattle.edit_core.specs.Dead.{AreDead}
 use Rattle.edit_core.specs.Taken.{CanEdit}
 use Rattle.edit_core.specs.Faithful.{editor_page, page_size, IsFaithful, HasGraph, HasPages, IsInRoom, IsPlace, holds_cells, note_edges, note_of, word_mapped}
-use Rattle.edit_core.specs.Written.{CanDo, IsNewCode, IsEdit, EditsRunAlike, added, cells_at, cells_base, if_any, text_of, given_of, graph_in, table_base, code_base, pieces_of, off_range, off_ranges, table_at, code_segment, page_segment, notes_on, edit_file}
+use Rattle.edit_core.specs.Written.{CanDo, IsNewCode, IsEdit, EditsRunAlike, added, cases_at, cells_at, cells_base, if_any, segment_size, text_of, graph_in, table_base, code_base, pieces_of, off_range, off_ranges, table_at, code_segment, page_segment, notes_on, edit_file}
 use Rattle.edit_core.proofs.Eaches.{all_each, each_index}
+use Rattle.edit_core.proofs.Graphs.{edges_inside, entries_few, graph_is, number_of}
+use Rattle.edit_core.proofs.Steps.{segment_is}
 use Rattle.edit_core.proofs.Off.{off_each}
 use Rattle.edit_core.proofs.Ranges.{IsWhole, ranges_whole}
 use Rattle.edit_core.proofs.Originals.{image_text}
@@ -77,9 +73,6 @@ module _ (original : List ℕ) (plan : Plan) (p : Placement) (place : ℕ → �
   text_is : IsText (text_of original plan)
   text_is = image_text original is.taken.sound
 
-  is_graph : IsGraphOf (text_of original plan) (graph_in original plan)
-  is_graph = record { given = given_of original plan; is = refl }
-
   abbrev cells : AddedSegment
   cells = cells_at (cells_base original plan) plan.cells
 
@@ -91,27 +84,23 @@ module _ (original : List ℕ) (plan : Plan) (p : Placement) (place : ℕ → �
   abbrev IsAtNode : NoteRange → Type 0
   IsAtNode range = is_node its_graph range.node ≡ true
 
-  is_block : (number : ℕ) → number ≤ length its_graph.blocks.firsts → is_node its_graph number ≡ true
-  is_block number l =
-      ap (λ (b : Bool). cond b (is_copied [] (number - (length its_graph.blocks.firsts + 1))) true)
-      (le-ltb (length its_graph.blocks.firsts) number l)
-
-  is_one : (node : Node) → IsNodeIn its_graph.blocks [] node → is_node its_graph (node_number its_graph node) ≡ true
-  is_one (Block k) l = is_block k.0 (omega (arith, l))
-  is_one (Landed k) l = let none = l.1 in absurd (cc)
-  is_one X l = is_block (length its_graph.blocks.firsts) (omega arith)
-
   nodes_are : All IsAtNode (notes_on original plan p).ranges
   nodes_are =
-      let some = (cut_of (text_of original plan) its_graph is_graph text_is.some).firsts.some in
       all_each IsAtNode (off_ranges (text_of original plan) its_graph (table_base original plan) ++ p.ranges)
       (each-append IsAtNode (off_ranges (text_of original plan) its_graph (table_base original plan)) p.ranges
-      (off_each (text_of original plan) its_graph (table_base original plan) (IsEdgeIn its_graph.blocks []) (Each IsAtNode)
-      (edges_lie_in its_graph.blocks [] some) tt (λ edge inside. (is_one edge.from inside.from, tt)))
-      (each-then (IsWhole (length its_graph.blocks.firsts)) IsAtNode p.ranges (λ r whole. is_block r.node whole.node)
+      (off_each (text_of original plan) its_graph (table_base original plan)
+      (IsEdgeIn its_graph.blocks its_graph.opens) (Each IsAtNode)
+      (edges_inside (text_of original plan) its_graph text_is (graph_is original plan)) tt
+      (λ edge inside. ((number_of its_graph edge.from inside.from).is, tt)))
+      (each-then (IsWhole its_graph) IsAtNode p.ranges (λ r whole. whole.node.is)
       (ranges_whole (text_of original plan) its_graph (table_base original plan)
-      (codes_of (cells_base original plan) is.code.dead plan.snips) text_is is_graph (code_base original plan) p place
+      (cases_at (text_of original plan) (table_base original plan))
+      (codes_of (cells_base original plan) is.code.dead plan.snips) text_is (graph_is original plan)
+      (code_base original plan) p place
       is.code.laid)))
+
+  size_is : length table.bytes ≡ segment_size (text_of original plan) (graph_in original plan)
+  size_is = segment_is (text_of original plan) (graph_in original plan) plan.snips p table is.code.leads
 
   -- the pages in the room
   abbrev room_pages : List Mapping
@@ -129,7 +118,7 @@ module _ (original : List ℕ) (plan : Plan) (p : Placement) (place : ℕ → �
   pages_noted : map note_of (room_pages ++ mapping_added page_segment ∷ []) ≡ (notes_on original plan p).segments
   pages_noted =
       let base = is.code.base in
-      let long = is.code.leads.size in
+      let long = size_is in
       ap (map note_of) (append_assoc (if_any plan.cells (mapping_added cells))
       (mapping_added (table_at table) ∷ mapping_added (code_segment original plan p) ∷ [])
       (mapping_added page_segment ∷ []))
@@ -150,7 +139,8 @@ module _ (original : List ℕ) (plan : Plan) (p : Placement) (place : ℕ → �
       let few = fit.bytes in
       let size = is.code.size in
       let base = is.code.base in
-      let long = is.code.leads.size in
+      let long = size_is in
+      let entries = entries_few (text_of original plan) (graph_in original plan) text_is (graph_is original plan) in
       let small = small_tables (text_of original plan) text_is in
       let made = operations_few (graph_in original plan) plan.kind plan.cells plan.snips is.workable in
       let bound = bound_is original plan in
@@ -180,11 +170,13 @@ module _ (original : List ℕ) (plan : Plan) (p : Placement) (place : ℕ → �
       ∙ word_here original plan word l in
       let at : IsWordAt (code_base original plan) p.code r.lo (slice_index (text_of original plan).words word) =
       say (text_of original plan) (graph_in original plan) (table_base original plan)
-      (codes_of (cells_base original plan) is.code.dead plan.snips) (code_base original plan) p place text_is is_graph
+      (cases_at (text_of original plan) (table_base original plan))
+      (codes_of (cells_base original plan) is.code.dead plan.snips) (code_base original plan) p place text_is
+      (graph_is original plan)
       is.code.laid n r e word here plain in
       let inside = slice_get_within p.code at.0 (slice_index (text_of original plan).words word) at.2 in
       let base = is.code.base in
-      let size = is.code.leads.size in
+      let size = size_is in
       ap (word_mapped file) at.1
       ∙ code_mapped original file p.code plan.cells (mapping_added cells) (mapping_added (table_at table))
       (mapping_added (code_segment original plan p)) (mapping_added page_segment ∷ [])

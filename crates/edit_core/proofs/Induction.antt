@@ -7,12 +7,22 @@ use Rattle.v8_memory.specs.Regions.{Memory, Region, fetch_of}
 use Rattle.v8_memory.specs.Spans.{Span, AllApart, IsSameOutside, IsSameRegion}
 use Rattle.v8_step.specs.declared.Ending.{Ending}
 use Rattle.v8_step.specs.declared.Slot.{Slot}
-use Rattle.v8_step.specs.State.{State}
+use Rattle.v8_step.specs.State.{State, sum_of}
 use Rattle.v8_step.specs.Step.{step_of, puts_of, on_word, puts_on_word, unless_ended, puts_unless_ended}
 use Rattle.v8_step.specs.Run.{run, run_puts}
-use Rattle.v8_step.specs.Items.{Item, Register, Codes, YRegister, IsItem, IsSameAt}
+use Rattle.v8_step.specs.Items.{AreSameAt, IsAmong, Item, Register, Codes, YRegister, IsItem, IsSameAt}
+use Rattle.v8_step.proofs.Reading.{same_sum}
+use Rattle.v8_windows.specs.Registers.{place_of}
+use Rattle.v8_windows.proofs.Places.{place_of-below, place_of-some}
+use Rattle.v8_decode.specs.Effects.{op2_parts, reg}
+use Rattle.v8_decode.specs.declared.Op2.{Op2}
+use Rattle.v8_decode.specs.declared.Op2.TheVariants.{Reg, Imm}
+use Rattle.v8_decode.specs.declared.Instr.TheVariants as i
+use Rattle.v8_decode.specs.declared.LoadKind.TheVariants as loads
+use Rattle.std.specs.Option.{option_map}
+use Rattle.std.specs.Prelude.{slice_get, slice_index}
 use Rattle.v8_step.specs.Alike.{IsSameWorld}
-use Rattle.v8_step.specs.Needed.{decoded, instr_at, judged_in, WritesIn, IsUntouched}
+use Rattle.v8_step.specs.Needed.{ReadsIn, decoded, instr_at, judged_in, WritesIn, IsUntouched}
 use Rattle.v8_step.specs.Visits.{visit_of, pages_of}
 use Rattle.v8_step.specs.TwoRuns.{HasSameOutside, GoesOn, Ends, MatchesBy, Matches}
 use Rattle.v8_step.specs.Follows.{IsWay}
@@ -22,15 +32,14 @@ use Rattle.v8_step.proofs.Outside.{byte_outside, heap_end_same}
 use Rattle.v8_step.proofs.ValidSteps.{run-valid}
 use Rattle.cfg_normal.specs.declared.Node.{Node}
 use Rattle.cfg_walk.specs.Walk.{Point, point_of, goes_on_at, gone, gone_in, node_after, end_of_walk, unless_ended as point_unless}
-use Rattle.cfg_blocks.specs.Blocks.{blocks_of}
-use Rattle.cfg_walk.proofs.NoneOpen.{jumps_none, open_none}
 use Rattle.cfg_walk.proofs.Walks.{walks_match}
 use Rattle.code_runs.proofs.Leads.{run_add, puts_add, split_below}
 use Rattle.code_runs.specs.PointsAlike.{AreAlikeOn, AreAtOnePoint, instr_of}
 use Rattle.code_runs.proofs.PointsAlike.{points_act_alike}
-use Rattle.image_code.specs.Simulates.{IsFollowedBy, IsKept, IsOnWay, IsSparing, IsThere, MatchesIn, Setting, StepsOn, at_point, cells_in, does_at, graph_in, number_in, store_of, updates, word_of}
+use Rattle.image_code.specs.Simulates.{CaseTable, IsAtWord, IsChosen, IsNoLoad, KeepsAddress, Steps, IsFollowedBy, IsKept, IsOnWay, IsSparing, IsThere, MatchesIn, Setting, StepsOn, at_point, cells_in, does_at, graph_in, number_in, store_of, updates, word_of}
+use Rattle.jump_code.specs.PageWords.{kept_address}
 use Rattle.edit_core.specs.RunsAlike.{EndsAtNode, TellsStep}
-use Rattle.edit_core.specs.Runs.{AreTogether, Closed, Follows, Linked, Rests, Spares, StaysInside, Tells, instr_in, limits_in}
+use Rattle.edit_core.specs.Runs.{KeepsLoaded, AreTogether, Closed, Follows, Linked, Rests, Spares, StaysInside, Tells, instr_in, limits_in}
 use Rattle.edit_core.proofs.Stays.{ended_stays}
 use Rattle.edit_core.proofs.Places.{node_of_place, placed_between, step_stays, there_node, visited_address}
 
@@ -113,6 +122,28 @@ one_point s u h =
     ∙ ap (λ (z : ℕ). record { pc = u.pc; npc = z; slot = s.slot }) h.npc
     ∙ ap (λ (z : Slot). record { pc = u.pc; npc = u.npc; slot = z }) h.slot
 
+-- a load's operands are read
+load_sum : (rs1 : ℕ) (op2 : Op2) (s u : State) → s.window ≡ u.window
+    → ((item : Item) → IsItem item → IsAmong item s.window (reg rs1 ++ op2_parts op2) → IsSameAt item s u)
+    → sum_of s rs1 op2 ≡ sum_of u rs1 op2
+load_sum rs1 op2 s u w f =
+    same_sum rs1 op2 s u w (first rs1 f) (second rs1 op2 f)
+  where
+    register : (r : ℕ) → IsItem (Register (place_of s.window (suc r)))
+    register r = (place_of-some s.window (suc r) (λ e. absurd (cc)), place_of-below s.window (suc r))
+
+    first : (r : ℕ) → ((item : Item) → IsItem item → IsAmong item s.window (reg r ++ op2_parts op2) → IsSameAt item s u)
+        → AreSameAt (reg r) s u
+    first zero f = tt
+    first (suc r) f = (f (Register (place_of s.window (suc r))) (register r) (inl refl), tt)
+
+    second : (r : ℕ) (o : Op2) → ((item : Item) → IsItem item → IsAmong item s.window (reg r ++ op2_parts o) → IsSameAt item s u)
+        → AreSameAt (op2_parts o) s u
+    second r (Imm n) f = tt
+    second r (Reg zero) f = tt
+    second zero (Reg (suc q)) f = (f (Register (place_of s.window (suc q))) (register q) (inl refl), tt)
+    second (suc r) (Reg (suc q)) f = (f (Register (place_of s.window (suc q))) (register q) (inr (inl refl)), tt)
+
 -- ---- one step
 
 pub record IsNext (g : Setting) (entry : ℕ) (Here : Node → Point → State → Type 0) (Short : Type 0)
@@ -120,8 +151,11 @@ pub record IsNext (g : Setting) (entry : ℕ) (Here : Node → Point → State �
   pub alike : AreAlikeOn (pages_of g.notes) (word_of g.text (run s0 n).pc) (run s0 n)
       (at_point (point_of (run s0 n)) (run t0 m))
       (run s0 (suc n)) (does_at g (point_of (run s0 n)) (run t0 m))
-  pub on : StepsOn g Here Short (gone_in g.text (graph_in g) entry s0 n) (end_of_walk g.text (graph_in g) entry s0 n)
+  pub on : StepsOn g Here (Short × IsNoLoad g (does_at g (point_of (run s0 n)) (run t0 m))) 64
+      (gone_in g.text (graph_in g) entry s0 n) (end_of_walk g.text (graph_in g) entry s0 n)
       (point_of (run s0 n)) (run t0 m) (does_at g (point_of (run s0 n)) (run t0 m))
+  pub keeps : KeepsAddress g (gone_in g.text (graph_in g) entry s0 n) (end_of_walk g.text (graph_in g) entry s0 n)
+      (point_of (run s0 n)) (run t0 m) (does_at g (point_of (run s0 n)) (run t0 m)) on.after
   -- also where it ends the run
   pub pc : (run s0 (suc n)).pc ≡ (does_at g (point_of (run s0 n)) (run t0 m)).pc
   pub visit : visit_of g.notes (run t0 m) ≡ Some (run s0 n).pc
@@ -142,8 +176,7 @@ module _ (g : Setting) (entry : ℕ) (Inside : Point → Type 0) (Here : Node �
   matched : (n : ℕ) → (run s0 n).ending ≡ None
       → MatchesIn g (end_of_walk g.text (graph_in g) entry s0 n) (point_of (run s0 n))
   matched n live =
-      walks_match g.text g.given [] entry s0 n r.text r.fetches r.begins (open_none (blocks_of g.text g.given))
-      (jumps_none g.text (blocks_of g.text g.given) entry s0) live
+      walks_match g.text g.given g.switches entry s0 n r.text r.fetches r.begins r.opened r.by_case live
 
   end_next : (n : ℕ) → node_after (graph_in g) (end_of_walk g.text (graph_in g) entry s0 n)
       (gone_in g.text (graph_in g) entry s0 n)
@@ -192,25 +225,46 @@ module _ (g : Setting) (entry : ℕ) (Inside : Point → Type 0) (Here : Node �
       (run s0 (suc n)) (does_at g (point_of (run s0 n)) (run t0 m)) =
       subst (λ (z : State). AreAlikeOn (pages_of g.notes) (word_of g.text (run s0 n).pc) (run s0 n)
       (at_point (point_of (run s0 n)) (run t0 m)) z (does_at g (point_of (run s0 n)) (run t0 m))) (sym stepped) a in
+      let whole = subst (λ (z : Option Point). Steps g Here Short
+      (gone g.text (graph_in g) (end_of_walk g.text (graph_in g) entry s0 n) (point_of (run s0 n)) z)
+      (end_of_walk g.text (graph_in g) entry s0 n) (point_of (run s0 n)) (run t0 m)
+      (does_at g (point_of (run s0 n)) (run t0 m)))
+      (goes_same (run s0 (suc n)).ending (run s0 (suc n))
+      (does_at g (point_of (run s0 n)) (run t0 m)) refl b.ending
+      (λ live. one_point (run s0 (suc n)) (does_at g (point_of (run s0 n)) (run t0 m)) (b.point live)))
+      (r.simulates.steps (end_of_walk g.text (graph_in g) entry s0 n) (point_of (run s0 n)) (run t0 m)
+      (matched n h.live) within h.here b.judged
+      (λ live. let on : (run s0 (suc n)).ending ≡ None = b.ending
+      ∙ live in subst Inside (one_point (run s0 (suc n)) (does_at g (point_of (run s0 n)) (run t0 m))
+      (b.point on)) (inside on))
+      (λ k o is at. chosen k o is at b)) in
       record {
         alike = b;
-        on = subst (λ (z : Option Point). StepsOn g Here Short
-            (gone g.text (graph_in g) (end_of_walk g.text (graph_in g) entry s0 n) (point_of (run s0 n)) z)
-            (end_of_walk g.text (graph_in g) entry s0 n) (point_of (run s0 n)) (run t0 m)
-            (does_at g (point_of (run s0 n)) (run t0 m)))
-            (goes_same (run s0 (suc n)).ending (run s0 (suc n))
-            (does_at g (point_of (run s0 n)) (run t0 m)) refl b.ending
-            (λ live. one_point (run s0 (suc n)) (does_at g (point_of (run s0 n)) (run t0 m)) (b.point live)))
-            (r.simulates.steps (end_of_walk g.text (graph_in g) entry s0 n) (point_of (run s0 n)) (run t0 m)
-            (matched n h.live) within h.here b.judged
-            (λ live. let on : (run s0 (suc n)).ending ≡ None = b.ending
-            ∙ live in subst Inside (one_point (run s0 (suc n)) (does_at g (point_of (run s0 n)) (run t0 m))
-            (b.point on)) (inside on)));
+        on = whole.on;
+        keeps = whole.keeps;
         pc = pc_by (run s0 (suc n)).ending refl stepped visits.0 b;
         visit = visits.1;
         node = visits.2;
       }
     where
+      -- the jump of an open switch goes by the entry whose address is kept
+      chosen : (k : ℕ) (o : CaseTable) → slice_get g.opens k ≡ Some o
+          → IsAtWord g o (end_of_walk g.text (graph_in g) entry s0 n) (point_of (run s0 n)) o.jump
+          → AreAlikeOn (pages_of g.notes) (word_of g.text (run s0 n).pc) (run s0 n)
+          (at_point (point_of (run s0 n)) (run t0 m))
+          (run s0 (suc n)) (does_at g (point_of (run s0 n)) (run t0 m))
+          → IsChosen g o (run t0 m) (does_at g (point_of (run s0 n)) (run t0 m))
+      chosen k o is at b =
+          let c = r.by_table n h.live k o is at in
+          let order = (r.opens.each k o is).order in
+          record {
+            entry = c.number;
+            below = c.below;
+            kept = h.kept k o is c.start (o.jump - o.load) c.since (omega (arith, order)) c.came ∙ c.loaded;
+            goes = sym (b.point c.live).npc ∙ c.goes;
+            live = sym b.ending ∙ c.live;
+          }
+
       pc_by : (e : Option Ending) → (run s0 (suc n)).ending ≡ e
           → run s0 (suc n) ≡ on_word (run s0 n) (word_of g.text (run s0 n).pc) → (run t0 m).ending ≡ None
           → AreAlikeOn (pages_of g.notes) (word_of g.text (run s0 n).pc) (run s0 n)
@@ -254,6 +308,61 @@ module _ (g : Setting) (entry : ℕ) (Inside : Point → Type 0) (Here : Node �
   before n m h item is (inl a) = inl a
   before n m h item is (inr a) = inr (same_moved item (run s0 n) (run t0 m) (point_of (run s0 n)) (h.items item is a))
 
+  items_next : (n m : ℕ) → Linked g entry Here K s0 t0 n m → (x : IsNext g entry Here Short s0 t0 n m)
+      → (run s0 (suc n)).ending ≡ None → (item : Item) → IsItem item → K (suc n) item
+      → IsSameAt item (run s0 (suc n)) x.on.after
+  items_next n m h x live item is k =
+      let go : (does_at g (point_of (run s0 n)) (run t0 m)).ending ≡ None = sym x.alike.ending ∙ live in
+      same_trans item (run s0 (suc n)) (does_at g (point_of (run s0 n)) (run t0 m)) x.on.after
+      (x.alike.items live item is (before n m h item is (r.keeping.back n item k)))
+      (x.on.followed.items go item is
+      (subst (λ (z : ℕ). IsKept g (gone_in g.text (graph_in g) entry s0 n) z item) x.alike.world.window
+      (r.keeping.live n item k)))
+
+  -- at a load both compute the same address
+  sums_next : (n m : ℕ) → Linked g entry Here K s0 t0 n m → (x : IsNext g entry Here Short s0 t0 n m)
+      → (run s0 (suc n)).ending ≡ None → (k : ℕ) (o : CaseTable) → slice_get g.opens k ≡ Some o
+      → word_at g.text (run s0 (suc n)).pc ≡ Some o.load
+      → sum_of (run s0 (suc n)) o.rs1 o.op2 ≡ sum_of x.on.after o.rs1 o.op2
+  sums_next n m h x live k o is at =
+      let c = r.opens.each k o is in
+      let instr : instr_in g s0 (suc n) ≡ Some (i.Load loads.LD c.rd o.rs1 o.op2) =
+      ap (λ (z : Option ℕ). instr_of (option_map (λ w. slice_index g.text.words w) z)) at
+      ∙ ap (λ (z : Instr). Some z) c.loads in
+      load_sum o.rs1 o.op2 (run s0 (suc n)) x.on.after
+      (x.alike.world.window ∙ sym x.on.followed.window)
+      (λ item is among. items_next n m h x live item is
+      (r.keeping.reads (suc n) item is live
+      (subst (λ (z : Option Instr). ReadsIn z (run s0 (suc n)).window item) (sym instr) (inr among))))
+
+  kept_next : (n m : ℕ) → Linked g entry Here K s0 t0 n m → (x : IsNext g entry Here Short s0 t0 n m)
+      → (run s0 (suc n)).ending ≡ None → KeepsLoaded g entry s0 (suc n) (run t0 (x.on.count + m))
+  kept_next n m h x live k o is start zero e low came =
+      let now : suc n ≡ start = omega (arith, e) in
+      let first : IsAtWord g o (end_of_walk g.text (graph_in g) entry s0 (suc n)) (point_of (run s0 (suc n))) o.load =
+      (let q : o.load + 0 ≡ o.load = omega arith in let z : 0 + start ≡ suc n = omega (arith, now) in
+      subst (λ w. IsAtWord g o (end_of_walk g.text (graph_in g) entry s0 (suc n)) (point_of (run s0 (suc n))) w) q
+      (subst (λ a. IsAtWord g o (end_of_walk g.text (graph_in g) entry s0 a) (point_of (run s0 a)) (o.load + 0)) z
+      (came 0 (omega arith)))) in
+      let go : (does_at g (point_of (run s0 n)) (run t0 m)).ending ≡ None = sym x.alike.ending ∙ live in
+      ap (λ (z : State). kept_address z) (arrived n m x)
+      ∙ x.keeps.loaded go k o is
+      (subst (λ (z : Point). IsAtWord g o (node_after (graph_in g) (end_of_walk g.text (graph_in g) entry s0 n)
+      (gone_in g.text (graph_in g) entry s0 n)) z o.load)
+      (one_point (run s0 (suc n)) (does_at g (point_of (run s0 n)) (run t0 m)) (x.alike.point live))
+      (subst (λ (z : Node). IsAtWord g o z (point_of (run s0 (suc n))) o.load) (sym (end_next n)) first))
+      ∙ sym (sums_next n m h x live k o is first.stands)
+      ∙ ap (λ a. sum_of (run s0 a) o.rs1 o.op2) now
+  kept_next n m h x live k o is start (suc more) e low came =
+      let before_it : n ≡ more + start = omega (arith, e) in
+      let go : (does_at g (point_of (run s0 n)) (run t0 m)).ending ≡ None = sym x.alike.ending ∙ live in
+      ap (λ (z : State). kept_address z) (arrived n m x)
+      ∙ x.keeps.carried go k o is (o.load + more)
+      (subst (λ a. IsAtWord g o (end_of_walk g.text (graph_in g) entry s0 a) (point_of (run s0 a)) (o.load + more))
+      (sym before_it) (came more (omega arith)))
+      (omega arith) (omega (arith, low))
+      ∙ h.kept k o is start more before_it (omega (arith, low)) (λ j less. came j (omega (arith, less)))
+
   pub linked_next : (n m : ℕ) → Linked g entry Here K s0 t0 n m → (x : IsNext g entry Here Short s0 t0 n m)
       → (run s0 (suc n)).ending ≡ None → Linked g entry Here K s0 t0 (suc n) (x.on.count + m)
   linked_next n m h x live =
@@ -269,11 +378,8 @@ module _ (g : Setting) (entry : ℕ) (Inside : Point → Type 0) (Here : Node �
             (subst (λ (z : Node). Here z (point_of (does_at g (point_of (run s0 n)) (run t0 m))) x.on.after)
             (end_next n) (x.on.here go)));
         items = λ item is k. subst (λ (z : State). IsSameAt item (run s0 (suc n)) z) (sym at)
-            (same_trans item (run s0 (suc n)) v x.on.after
-            (x.alike.items live item is (before n m h item is (r.keeping.back n item k)))
-            (x.on.followed.items go item is
-            (subst (λ (z : ℕ). IsKept g (gone_in g.text (graph_in g) entry s0 n) z item) x.alike.world.window
-            (r.keeping.live n item k))));
+            (items_next n m h x live item is k);
+        kept = kept_next n m h x live;
         together = record {
           world = world_next n m x;
           puts = puts_next n m h x;
@@ -294,20 +400,23 @@ module _ (g : Setting) (entry : ℕ) (Inside : Point → Type 0) (Here : Node �
         inside = subst (λ (z : ℕ). word_at g.text z ≢ None) x.pc watched.inside;
       }) in
       let all : x.on.count ≡ x.on.count + m - m = omega arith in
-      subst (λ (z : ℕ). IsSparing g (((run s0 n).ending ≡ None) × Short) (gone_in g.text (graph_in g) entry s0 n)
+      subst (λ (z : ℕ). IsSparing g (((run s0 n).ending ≡ None) × Short × IsNoLoad g (run s0 (suc n))) (gone_in g.text (graph_in g) entry s0 n)
       (point_of (run s0 n)) (run t0 m) z) all
       (record {
         spills = sparing.spills;
-        first = λ short. sparing.first short.1;
-        alone = λ short. sparing.alone short.1;
-        few = λ short. sparing.few short.1;
+        first = λ short. sparing.first (short.1, no_load short.2);
+        alone = λ short. sparing.alone (short.1, no_load short.2);
+        few = λ short. sparing.few (short.1, no_load short.2);
       })
+    where
+      no_load : IsNoLoad g (run s0 (suc n)) → IsNoLoad g (does_at g (point_of (run s0 n)) (run t0 m))
+      no_load none k o is at = none k o is (ap (word_at g.text) x.pc ∙ at)
 
   -- nothing, once it has ended
   spares_ended : (n m : ℕ) (d : Ending) → (run s0 n).ending ≡ Some d → Spares g entry Short s0 t0 n m m
   spares_ended n m d over watched =
       let none : 0 ≡ m - m = omega arith in
-      subst (λ (z : ℕ). IsSparing g (((run s0 n).ending ≡ None) × Short) (gone_in g.text (graph_in g) entry s0 n)
+      subst (λ (z : ℕ). IsSparing g (((run s0 n).ending ≡ None) × Short × IsNoLoad g (run s0 (suc n))) (gone_in g.text (graph_in g) entry s0 n)
       (point_of (run s0 n)) (run t0 m) z) none
       (record {
         spills = omega arith;

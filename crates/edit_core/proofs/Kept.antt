@@ -13,8 +13,6 @@ use Rattle.v8_step.specs.State.{State, register_of}
 use Rattle.v8_step.specs.Items.{IsAmong, IsItem, IsSameAt, Item, Register, item_of}
 use Rattle.v8_step.specs.Needed.{WritesIn}
 use Rattle.v8_step.specs.Run.{run}
-use Rattle.cfg_blocks.specs.Blocks.{blocks_of}
-use Rattle.cfg_walk.proofs.NoneOpen.{jumps_none, open_none}
 use Rattle.cfg_walk.specs.Walk.{end_of_walk, goes_on_at, gone_in, point_of}
 use Rattle.liveness.specs.Live.{IsLiveOn, named_on}
 use Rattle.live_walk.specs.Keeps.{IsKeptBehind, Keeps}
@@ -129,10 +127,9 @@ module _ (g : Setting) (dead : AreDead g.text (graph_in g) (named_on g.snips) g.
       (first, (second, tt))
 
 pub keeps_what_lives : KeepsWhatLives
-keeps_what_lives g entry s0 text fetches begins dead are =
+keeps_what_lives g entry s0 text fetches begins opened jumps dead are =
     let keeps : Keeps g.text (graph_in g) (named_on g.snips) entry s0 =
-    what_lives_is_kept g.text g.given [] entry s0 (named_on g.snips) text fetches begins
-    (open_none (blocks_of g.text g.given)) (jumps_none g.text (blocks_of g.text g.given) entry s0) in
+    what_lives_is_kept g.text g.given g.switches entry s0 (named_on g.snips) text fetches begins opened jumps in
     record {
       reads = λ n item is live r. keeps.reads n item live is r;
       back = λ n item k. keeps.back n item k;

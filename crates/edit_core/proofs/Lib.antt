@@ -12,7 +12,11 @@ pub mod Tools
 pub mod Eaches
 pub mod Fronts
 pub mod Bounds
+pub mod Counting
 pub mod Snippets
+pub mod Graphs
+pub mod Entering
+pub mod ByTable
 pub mod Shapes
 pub mod Counted
 pub mod Ranges

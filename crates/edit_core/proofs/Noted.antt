@@ -184,16 +184,16 @@ edges_fit graph kind cells (e ∷ es) (ops ∷ snips) few cells_few each below =
       edges_fit graph kind cells es snips few cells_few each.1 below.1,
     )
 
-ranges_fit : (nodes from to : ℕ) (rs : List NoteRange) → nodes ≤ 2 ^ 20 → to ≤ 2 ^ 31 → Ascend from to rs
-    → Each (IsWhole nodes) rs
+ranges_fit : (graph : Graph) (from to : ℕ) (rs : List NoteRange) → length graph.blocks.firsts ≤ 2 ^ 20 → to ≤ 2 ^ 31
+    → Ascend from to rs → Each (IsWhole graph) rs
     → Each (λ range. Each Fits (range_words range)) rs
-ranges_fit nodes from to [] few low a each = tt
-ranges_fit nodes from to (r ∷ rs) few low a each =
+ranges_fit graph from to [] few low a each = tt
+ranges_fit graph from to (r ∷ rs) few low a each =
     let past = ends_by r.hi to rs a.2 in
     let wide = a.1 in
     let address = each.0.low in
-    let node = each.0.node in
-    ((omega arith, (omega arith, (omega arith, (omega arith, tt)))), ranges_fit nodes r.hi to rs few low a.2 each.1)
+    let node = each.0.node.few in
+    ((omega arith, (omega arith, (omega arith, (omega arith, tt)))), ranges_fit graph r.hi to rs few low a.2 each.1)
 
 -- ---- all of the notes
 
@@ -217,7 +217,7 @@ pub record IsNoted (graph : Graph) (size : ℕ) (p : Placement) (n : Notes) : Ty
   pub segments : n.segments ≡ segments_noted n.base n.cells size p.code
   pub firsts : AreFirsts graph.blocks.words graph.blocks.firsts
   pub blocks : n.blocks ≡ graph.blocks.firsts
-  pub edge_count : length graph.edges ≤ 3 * 2 ^ 20
+  pub edge_count : length graph.edges ≤ 7 * 2 ^ 20
   pub edges_in : Each (IsEdgeIn graph.blocks graph.opens) graph.edges
   pub kind : ToolKind
   pub snips : List (List Op)
@@ -228,7 +228,7 @@ pub record IsNoted (graph : Graph) (size : ℕ) (p : Placement) (n : Notes) : Ty
   pub range_count : length p.ranges ≤ 2 ^ 23
   pub ascend : Ascend (table_after n.base n.cells + size) (table_after n.base n.cells + size + 4 * length p.code)
       p.ranges
-  pub whole : Each (IsWhole (length graph.blocks.firsts)) p.ranges
+  pub whole : Each (IsWhole graph) p.ranges
 
 module _ (graph : Graph) (size : ℕ) (p : Placement) (n : Notes) (is : IsNoted graph size p n) where
   abbrev nodes : ℕ
@@ -298,7 +298,8 @@ module _ (graph : Graph) (size : ℕ) (p : Placement) (n : Notes) (is : IsNoted 
 
   code_rule : (end : ℕ) → end ≤ table + size → are_ranges nodes (segments_noted n.base n.cells size p.code) end p.ranges ≡ true
   code_rule end l =
-      ranges_rule nodes (segments_noted n.base n.cells size p.code) end (table + size) (table + size + 4 * length p.code)
+      ranges_rule graph (segments_noted n.base n.cells size p.code) end (table + size) (table + size + 4 * length
+      p.code)
       p.ranges
       is.ascend is.whole l code_holds
 
@@ -434,7 +435,7 @@ module _ (graph : Graph) (size : ℕ) (p : Placement) (n : Notes) (is : IsNoted 
           each-append _ (off_ranges is.text graph table) p.ranges
           (off_each is.text graph table (IsEdgeIn graph.blocks graph.opens) (Each (λ range. Each Fits (range_words range)))
           is.edges_in tt off_fits)
-          (ranges_fit nodes (table + size) (table + size + 4 * length p.code) p.ranges nodes_few is.low is.ascend
+          (ranges_fit graph (table + size) (table + size + 4 * length p.code) p.ranges nodes_few is.low is.ascend
           is.whole)
 
       first_words : Each Fits graph.blocks.firsts

@@ -1,24 +1,25 @@
 -- The place of a slot behind the text: that of each edge which runs one.
-use Rattle.std.proofs.Common.{◌≡◌, ℕ, zero, suc, ◌+◌, ◌-◌, ◌<◌, ◌≤◌, ◌⊎◌, inl, inr, Bool, true, false, ◌&&◌, cond, nat_le, nat_lt, List, [], ◌∷◌, ◌++◌, length, map, Option, Some, None, refl, ap, sym, ◌∙◌, subst, arith}
+use Rattle.std.proofs.Common.{◌≡◌, ℕ, zero, suc, ◌+◌, ◌-◌, ◌<◌, ◌≤◌, ◌⊎◌, inl, inr, Bool, true, false, ◌&&◌, cond, nat_le, nat_lt, List, [], ◌∷◌, ◌++◌, filter, length, map, Option, Some, None, refl, ap, sym, ◌∙◌, subst, arith}
 use Rattle.std.specs.Prelude.{slice_get}
-use Rattle.std.specs.List.{find}
+use Rattle.std.specs.List.{find, flat_map}
 use Rattle.std.specs.Option.{option_map, option_or, option_to_list}
-use Rattle.std.proofs.lemmas.Bool.{and_from, cases_lt, le-leb, lt-ltb}
+use Rattle.std.proofs.lemmas.Bool.{and_from, cases_lt, cond_both, false≢true, le-leb, lt-ltb}
 use Rattle.std.proofs.lemmas.Bool.Decides.{nat_tests}
 use Rattle.std.proofs.lemmas.List.Folds.{find-append}
 use Rattle.eel_base.specs.CodeText.{Words}
 use Rattle.elf32_sparc.specs.Notes.{NoteRange}
-use Rattle.cfg_blocks.specs.Ends.{Way}
+use Rattle.cfg_blocks.specs.declared.EdgeKind.{EdgeKind}
+use Rattle.cfg_blocks.specs.declared.EdgeKind.TheVariants as kinds
 use Rattle.cfg_blocks.specs.Blocks.{AreFirsts, Blocks, below, end_of, last_word}
 use Rattle.cfg_blocks.specs.Entries.{ways_from}
 use Rattle.cfg_normal.specs.declared.Edge.{Edge}
 use Rattle.cfg_normal.specs.declared.Node.{Node}
 use Rattle.cfg_normal.specs.declared.Node.TheVariants.{Block}
 use Rattle.cfg_normal.specs.declared.Slot.TheVariants as slots
-use Rattle.cfg_normal.specs.Graph.{Graph, edge_of, edges_in, edges_of, runs_slot, slot_behind}
-use Rattle.cfg_walk.proofs.Edges.{block as block_at}
+use Rattle.cfg_normal.specs.Graph.{Graph, case_nodes, case_of, copied_edges, edge_of, edges_in, edges_of, landing_at, landings_of, runs_slot, slot_behind, slot_on, ways_out}
+use Rattle.cfg_normal.specs.Opens.{Open, is_copied, jumps_in}
+use Rattle.cfg_walk.proofs.Edges.{block as block_at, copy, each_edge}
 use Rattle.cfg_walk.proofs.Lists.{Each, each, each-append, each-below, each-flat_map, each-map, each_at}
-use Rattle.cfg_walk.proofs.NoneOpen.{block_landing, edges_none}
 use Rattle.layout.specs.Laid.{range_in}
 use Rattle.edit_core.specs.Written.{is_behind, is_off, off_range, off_ranges}
 
@@ -82,20 +83,57 @@ module _ (b : Blocks) (firsts : AreFirsts b.words b.firsts) where
       by true is e = absurd (cc)
       by false is e = last_block block l is
 
-  way_last : (block : ℕ) → block < length b.firsts → (w : Way) → IsLast (edge_of b [] (block_at block) block w)
-  way_last block l w e =
-      ap (λ (n : ℕ). Block (record { 0 = n })) (slot_last block l (runs_slot (end_of b block) w.kind) e)
+  -- an edge of a block, with the slot behind it
+  edge_last : (edge : Edge) (block : ℕ) (kind : EdgeKind) → block < length b.firsts → edge.from ≡ block_at block
+      → edge.slot ≡ slot_on b block kind → IsLast edge
+  edge_last edge block kind l from slot e =
+      from ∙ ap (λ (n : ℕ). Block (record { 0 = n }))
+      (slot_last block l (runs_slot (end_of b block) kind) (ap is_behind (sym slot) ∙ e))
 
-  pub all_last : Each IsLast (edges_in b [])
-  all_last =
-      subst (Each IsLast) (sym (edges_none b))
-      (each-append IsLast _ (map block_landing (below (length b.firsts)))
-      (each-flat_map IsLast (edges_of b []) (below (length b.firsts))
-      (each-below (λ block. Each IsLast (edges_of b [] block)) (length b.firsts)
-      (λ block l. each-map IsLast (edge_of b [] (block_at block) block) (ways_from b block)
-      (each _ (ways_from b block) (way_last block l)))))
-      (each-map IsLast block_landing (below (length b.firsts))
-      (each _ (below (length b.firsts)) (λ block e. absurd (cc)))))
+  -- behind the last word of a block that has a copy the text goes on
+  module _ (opens : List Open) (goes_on : (block : ℕ) → is_copied opens block ≡ true
+      → last_word b.firsts b.words block + 1 < b.words) where
+    no_slot : (block : ℕ) → is_copied opens block ≡ true → (runs : Bool)
+        → is_behind (cond runs (slot_behind b.words (last_word b.firsts b.words block)) slots.Nothing) ≡ true → ⊥
+    no_slot block copied false e = absurd (cc)
+    no_slot block copied true e =
+        let more : nat_lt (last_word b.firsts b.words block + 1) b.words ≡ true = lt-ltb _ _ (goes_on block copied) in
+        false≢true (ap (λ (inside : Bool). is_behind (cond inside
+        (slots.Word (record { 0 = last_word b.firsts b.words block + 1 })) slots.Off)) (sym more) ∙ e)
+
+    own_last : (block : ℕ) → block < length b.firsts → Each IsLast (edges_of b opens block)
+    own_last block l =
+        cond_both (jumps_in opens block) (map (case_of b block) (case_nodes b opens block))
+        (ways_out b opens (block_at block) block) (Each IsLast)
+        (λ _. each-map IsLast (case_of b block) (case_nodes b opens block)
+        (each _ (case_nodes b opens block) (λ node. edge_last (case_of b block node) block kinds.Case l refl refl)))
+        (λ _. each-map IsLast (edge_of b opens (block_at block) block) (ways_from b block)
+        (each _ (ways_from b block) (λ w. edge_last (edge_of b opens (block_at block) block w) block w.kind l refl
+        refl)))
+
+    copied_last : (blocks : List ℕ) → Each IsLast (flat_map (copied_edges b opens) (filter (is_copied opens) blocks))
+    copied_last [] = tt
+    copied_last (block ∷ blocks) = by (is_copied opens block) refl (copied_last blocks)
+      where
+        by : (t : Bool) → is_copied opens block ≡ t
+            → Each IsLast (flat_map (copied_edges b opens) (filter (is_copied opens) blocks))
+            → Each IsLast (flat_map (copied_edges b opens)
+            (cond t (block ∷ filter (is_copied opens) blocks) (filter (is_copied opens) blocks)))
+        by false e rest = rest
+        by true e rest =
+            each-append IsLast (copied_edges b opens block)
+            (flat_map (copied_edges b opens) (filter (is_copied opens) blocks))
+            (each-map IsLast (edge_of b opens (copy block) block) (ways_from b block)
+            (each _ (ways_from b block) (λ w f. absurd (no_slot block e (runs_slot (end_of b block) w.kind) f)))) rest
+
+    pub all_last : Each IsLast (edges_in b opens)
+    all_last =
+        each_edge b opens IsLast
+        (each-flat_map IsLast (edges_of b opens) (below (length b.firsts))
+        (each-below (λ block. Each IsLast (edges_of b opens block)) (length b.firsts) own_last))
+        (copied_last (below (length b.firsts)))
+        (each-map IsLast landing_at (flat_map (landings_of opens) (below (length b.firsts)))
+        (each _ (flat_map (landings_of opens) (below (length b.firsts))) (λ node e. absurd (cc))))
 
 -- ---- their place
 
@@ -105,13 +143,15 @@ module _ (text : Words) (graph : Graph) (table : ℕ) where
       (record { from = n; to = e.to; kind = e.kind; slot = e.slot })) same
 
   -- the one place is that of each such edge
-  pub off_is : graph.edges ≡ edges_in graph.blocks [] → AreFirsts graph.blocks.words graph.blocks.firsts
+  pub off_is : graph.edges ≡ edges_in graph.blocks graph.opens → AreFirsts graph.blocks.words graph.blocks.firsts
+      → ((block : ℕ) → is_copied graph.opens block ≡ true
+      → last_word graph.blocks.firsts graph.blocks.words block + 1 < graph.blocks.words)
       → (number : ℕ) (edge : Edge)
       → slice_get graph.edges number ≡ Some edge → edge.slot ≡ slots.Off
       → off_ranges text graph table ≡ off_range text graph table edge ∷ []
-  off_is edges firsts number edge at off =
+  off_is edges firsts goes_on number edge at off =
       let all : Each (IsLast graph.blocks firsts) graph.edges = subst (Each (IsLast graph.blocks firsts)) (sym edges)
-      (all_last graph.blocks firsts) in
+      (all_last graph.blocks firsts graph.opens goes_on) in
       let here : is_off edge ≡ true = ap is_behind off in
       let one = found_in is_off (IsLast graph.blocks firsts) graph.edges number edge all at here in
       ap (λ o. option_to_list (option_map (off_range text graph table) o)) one.at

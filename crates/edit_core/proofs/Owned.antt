@@ -5,7 +5,7 @@ use Rattle.std.specs.Option.{option_map, option_or}
 use Rattle.std.proofs.lemmas.Bool.{and_from, and_parts, cases_lt, le-leb, leb-true, lt-leb}
 use Rattle.std.proofs.lemmas.Bool.Decides.{nat_tests}
 use Rattle.std.specs.Int.{from_be_bytes, w32}
-use Rattle.std.proofs.lemmas.List.{append-nil, append_assoc, drop-replicate, take-replicate, length-replicate, map-append}
+use Rattle.std.proofs.lemmas.List.{append-nil, append_assoc, drop-replicate, length-drop, take-replicate, length-replicate, map-append}
 use Rattle.std.proofs.lemmas.List.Folds.{find-append}
 use Rattle.eel_base.specs.CodeText.{Words}
 use Rattle.elf32_sparc.specs.Mapping.{Mapping, mappings}
@@ -31,11 +31,11 @@ use Rattle.v8_step.specs.Visits.{pages_of}
 use Rattle.snippet_code.specs.Cells.{cell_at}
 use Rattle.tool_kit.specs.Plans.{Plan}
 use Rattle.edit_core.specs.Faithful.{editor_page, page_size}
-use Rattle.edit_core.specs.Written.{IsEdit, LeadsTo, added, cells_at, cells_base, code_base, code_segment, first_table, foreign_of, graph_in, if_any, landings_of, notes_on, page_segment, second_table, table_at, table_base, tables_size, text_of}
+use Rattle.edit_core.specs.Written.{IsEdit, LeadsTo, added, cells_at, cells_base, code_base, code_segment, cases_table, first_table, graph_in, if_any, notes_on, page_segment, second_table, segment_size, table_at, table_base, tables_size, text_of}
 use Rattle.edit_core.proofs.Fronts.{any-map, any_none, any_some}
 use Rattle.edit_core.proofs.Mapped.{original_covers}
-use Rattle.edit_core.proofs.Room.{tables_low}
-use Rattle.edit_core.proofs.Tables.{second_word}
+use Rattle.edit_core.proofs.Steps.{segment_is}
+use Rattle.edit_core.proofs.Tables.{cases_word, second_word}
 
 -- the words that new code stores: eight of the page, and the cells
 abbrev pub own_page : List ℕ
@@ -133,8 +133,12 @@ cell_is_own base cells cell l =
     (among_cells base 0 cells cell (omega arith) (omega (arith, l)))
 
 abbrev pub frame : Words → ℕ → ℕ → TableAt → Frame
-frame text base cells tables =
-    record { table = first_table text tables; halves = second_table text tables; own = own_words base cells }
+frame text base cells tables = record {
+  table = first_table text tables;
+  halves = second_table text tables;
+  cases = cases_table text tables;
+  own = own_words base cells;
+}
 
 -- ---- pages behind that of the cells
 
@@ -166,14 +170,18 @@ module _ (original : List ℕ) (plan : Plan) (p : Placement) where
 
   abbrev behind_spans : List Span
   behind_spans =
-      record { from = table_base original plan; count = tables_size (text_of original plan) }
+      record { from = table_base original plan; count = segment_size (text_of original plan) (graph_in original plan) }
       ∷ record { from = code_base original plan; count = 4 * length p.code }
       ∷ record { from = editor_page; count = page_size } ∷ []
 
   pub spans_are : pages_of (notes_on original plan p) ≡ if_any plan.cells cells_span ++ behind_spans
   spans_are =
       any-map segment_span plan.cells (record { start = cells_base original plan; length = 4 * plan.cells })
-      (record { start = table_base original plan; length = tables_size (text_of original plan) }
+      (record {
+        start = table_base original plan;
+        length = segment_size (text_of original plan) (graph_in original
+            plan);
+      }
       ∷ record { start = code_base original plan; length = 4 * length p.code }
       ∷ record { start = editor_page; length = page_size } ∷ [])
 
@@ -185,8 +193,14 @@ pub is_framed : (original : List ℕ) (plan : Plan) (p : Placement) (table : Tab
 is_framed original plan p table g same base leads = record {
   own = subst (λ (n : Notes). AreOwn (pages_of n) own) (sym same) (record { first = inl refl; within = within });
   page = λ n l. among_first own_page (own_cells (cells_base original plan) plan.cells) (page_word n) (among_words n l);
-  table = λ a from to. subst (λ (n : Notes). IsIn (pages_of n) a) (sym same) (in_table a from to);
-  apart = λ a among. beside a (own_either (cells_base original plan) plan.cells a among);
+  table = record {
+    within = λ a from to. subst (λ (n : Notes). IsIn (pages_of n) a) (sym same) (in_table a from to);
+    apart = λ a among. beside a (own_either (cells_base original plan) plan.cells a among);
+  };
+  cases = record {
+    within = λ a from to. subst (λ (n : Notes). IsIn (pages_of n) a) (sym same) (in_cases a from to);
+    apart = λ a among. beside_cases a (own_either (cells_base original plan) plan.cells a among);
+  };
   whole = leads.second.whole;
 }
   where
@@ -198,6 +212,15 @@ is_framed original plan p table g same base leads = record {
 
     low : second.base + length second.bytes ≤ 2 ^ 31
     low = leads.second.whole.below
+
+    size : length table.bytes ≡ segment_size (text_of original plan) (graph_in original plan)
+    size = segment_is (text_of original plan) (graph_in original plan) plan.snips p table leads
+
+    last : TableAt
+    last = cases_table (text_of original plan) table
+
+    last_long : length last.bytes ≡ length table.bytes - tables_size (text_of original plan)
+    last_long = length-drop (tables_size (text_of original plan)) table.bytes
 
     own : List ℕ
     own = own_words (cells_base original plan) plan.cells
@@ -228,6 +251,17 @@ is_framed original plan p table g same base leads = record {
         → (a + 4 ≤ second.base) ⊎ (second.base + length second.bytes ≤ a)
     beside a (inl is) = inr (omega (arith, is.from, low))
     beside a (inr is) = inl (omega (arith, is.to, base))
+
+    in_cases : (a : ℕ) → last.base ≤ a → a + 4 ≤ last.base + length last.bytes
+        → IsIn (pages_of (notes_on original plan p)) a
+    in_cases a from to =
+        there a (in_any plan.cells (cells_span original plan p) (behind_spans original plan p) a
+        (inl (omega (arith, from, base), omega (arith, to, base, last_long, size))))
+
+    beside_cases : (a : ℕ) → IsEither (cells_base original plan) plan.cells a
+        → (a + 4 ≤ last.base) ⊎ (last.base + length last.bytes ≤ a)
+    beside_cases a (inl is) = let below = leads.low in inr (omega (arith, is.from, below, last_long, size))
+    beside_cases a (inr is) = inl (omega (arith, is.to, base))
 
 -- ---- regions
 
@@ -365,8 +399,7 @@ module _ (original : List ℕ) (plan : Plan) (p : Placement) (place : ℕ → �
   -- ---- the tables
 
   table_below : table.base + length table.bytes ≤ 2 ^ 31
-  table_below = tables_low (text_of original plan) (landings_of (text_of original plan) (graph_in original plan) plan.snips p)
-      (foreign_of (text_of original plan) (graph_in original plan) p) table is.code.leads
+  table_below = is.code.leads.low
 
   module _ (a : ℕ) (from : table.base ≤ a) (to : a + 4 ≤ table.base + length table.bytes) where
     cells_below : 0 < plan.cells → covers a 4 cells_region ≡ false
@@ -414,7 +447,18 @@ module _ (original : List ℕ) (plan : Plan) (p : Placement) (place : ℕ → �
       let begin : table.base ≤ a = omega (arith, from) in
       let end : a + 4 ≤ table.base + length table.bytes = omega (arith, to, size, long) in (
         word_of_table a begin end,
-        stands.same a begin end aligned ∙ second_word (text_of original plan) table a from,
+        stands.same a begin end aligned
+            ∙ second_word (text_of original plan) table a from (omega (arith, to, long)) (omega (arith, size)),
+      )
+
+  -- and so can each of the words with the pieces of Case edges
+  pub has_cases : HasTable (cases_table (text_of original plan) table) (start_memory file texts)
+  has_cases a from to aligned =
+      let long = length-drop (tables_size (text_of original plan)) table.bytes in
+      let begin : table.base ≤ a = omega (arith, from) in
+      let end : a + 4 ≤ table.base + length table.bytes = omega (arith, from, to, long) in (
+        word_of_table a begin end,
+        stands.same a begin end aligned ∙ cases_word (text_of original plan) table a from,
       )
 
   -- ---- the editor's page

@@ -1,7 +1,7 @@
 -- What laid code has: words, and ranges that notes may have.
 use Rattle.std.proofs.Common.{◌≡◌, ℕ, zero, suc, ◌+◌, ◌*◌, ◌%◌, ◌^◌, ◌<◌, ◌≤◌, Bool, true, false, ◌&&◌, cond, nat_lt, nat_le, Option, Some, None, List, [], ◌∷◌, ◌++◌, length, map, refl, ap, sym, ◌∙◌, subst, arith}
 use Rattle.std.specs.Prelude.{slice_get}
-use Rattle.std.specs.List.{list_any}
+use Rattle.std.specs.List.{flat_map, list_any}
 use Rattle.std.proofs.lemmas.Bool.{and_from, le-leb, le-ltb, lt-ltb, eq-eqb}
 use Rattle.std.proofs.lemmas.Option.{slice_get_within}
 use Rattle.eel_base.specs.CodeText.{Words, IsText}
@@ -10,15 +10,18 @@ use Rattle.elf32_sparc.specs.Notes.{NoteSegment, NoteRange, holds}
 use Rattle.notes.specs.Rules.{are_ranges}
 use Rattle.cfg_blocks.specs.Blocks.{below}
 use Rattle.cfg_normal.specs.Graph.{Graph}
+use Rattle.cfg_normal.specs.Opens.{Open}
 use Rattle.cfg_walk.proofs.Lists.{Each, each_at}
 use Rattle.layout.specs.declared.items.Item.{Item}
 use Rattle.layout.specs.declared.items.Item.TheVariants as it
 use Rattle.layout.specs.Laid.{Ascend, IsLaid, IsRangeOf, Placement, Stands, BranchStands, branch_short, branch_long, item_at, item_in, items_in, range_in, range_of, open_in, end_from}
 use Rattle.jump_code.specs.Pieces.{foreign_piece}
 use Rattle.image_code.specs.Imaged.{TakesWords}
-use Rattle.image_code.specs.Made.{image, jumps_at, landing, own_edges, piece_list, ways_from}
-use Rattle.image_code.specs.Parts.{IsGraphOf}
+use Rattle.image_code.specs.Made.{cases_from, images_in_order, landing, open_pieces, piece_list, ways_from}
+use Rattle.image_code.specs.Numbered.{own_edges}
+use Rattle.image_code.specs.Graphs.{IsGraphOf}
 use Rattle.edit_core.proofs.Eaches.{each_index}
+use Rattle.edit_core.proofs.Graphs.{IsNumber}
 use Rattle.edit_core.proofs.Shapes.{IsMark, NoMarks, MarksFirst, all_marked}
 
 -- ---- ranges one after the other
@@ -54,20 +57,20 @@ found from to (x ∷ rs) a (suc n) r e =
 
 -- ---- ranges of whole words
 
-pub record IsWhole (nodes : ℕ) (r : NoteRange) : Type 0 where
+pub record IsWhole (graph : Graph) (r : NoteRange) : Type 0 where
   pub lo : r.lo % 4 ≡ 0
   pub hi : r.hi % 4 ≡ 0
   pub address : r.address % 4 ≡ 0
   pub low : r.address < 2 ^ 31
-  pub node : r.node ≤ nodes
+  pub node : IsNumber graph r.node
 
 -- they meet the rules of notes, where a page holds them
-pub ranges_rule : (nodes : ℕ) (segments : List NoteSegment) (end from to : ℕ) (rs : List NoteRange)
-    → Ascend from to rs → Each (IsWhole nodes) rs → end ≤ from
+pub ranges_rule : (graph : Graph) (segments : List NoteSegment) (end from to : ℕ) (rs : List NoteRange)
+    → Ascend from to rs → Each (IsWhole graph) rs → end ≤ from
     → ((lo hi : ℕ) → from ≤ lo → hi ≤ to → list_any (holds lo hi) segments ≡ true)
-    → are_ranges nodes segments end rs ≡ true
-ranges_rule nodes segments end from to [] a w e held = refl
-ranges_rule nodes segments end from to (r ∷ rs) a w e held =
+    → are_ranges (length graph.blocks.firsts) segments end rs ≡ true
+ranges_rule graph segments end from to [] a w e held = refl
+ranges_rule graph segments end from to (r ∷ rs) a w e held =
     let f = a.0 in
     let l = a.1 in
     let past : r.hi ≤ to = ends_by r.hi to rs a.2 in
@@ -80,9 +83,9 @@ ranges_rule nodes segments end from to (r ∷ rs) a w e held =
       le-leb end r.lo
           (omega arith),
       held r.lo r.hi f past,
-      le-leb r.node (2 * nodes) (omega (arith, w.0.node)),
+      le-leb r.node (2 * length graph.blocks.firsts) w.0.node.few,
     ) refl)
-    (ranges_rule nodes segments r.hi r.hi to rs a.2 w.1 (omega arith)
+    (ranges_rule graph segments r.hi r.hi to rs a.2 w.1 (omega arith)
     (λ lo hi from_hi to_end. held lo hi (omega arith) to_end))
 
 -- ---- the ranges of laid pieces
@@ -101,32 +104,32 @@ none_marked (it.Jump to ∷ items) h (suc n) address node e = none_marked items 
 none_marked (it.Branch c to ∷ items) h (suc n) address node e = none_marked items h n address node e
 none_marked (it.EndMark ∷ items) h (suc n) address node e = none_marked items h n address node e
 
-pub record IsHead (nodes : ℕ) (address : Addr) (node n : ℕ) (items : List Item) : Type 0 where
+pub record IsHead (graph : Graph) (address : Addr) (node n : ℕ) (items : List Item) : Type 0 where
   pub rest : List Item
   pub is : items ≡ it.Mark address node ∷ rest
   pub first : n ≡ 0
-  pub mark : IsMark nodes address node rest
+  pub mark : IsMark graph address node rest
 
-marked_first : (nodes : ℕ) (items : List Item) → MarksFirst nodes items → (n : ℕ) (address : Addr) (node : ℕ)
-    → slice_get items n ≡ Some (it.Mark address node) → IsHead nodes address node n items
-marked_first nodes [] h n address node e = absurd (cc)
-marked_first nodes (it.Mark a m ∷ items) h zero address node e =
+marked_first : (graph : Graph) (items : List Item) → MarksFirst graph items → (n : ℕ) (address : Addr) (node : ℕ)
+    → slice_get items n ≡ Some (it.Mark address node) → IsHead graph address node n items
+marked_first graph [] h n address node e = absurd (cc)
+marked_first graph (it.Mark a m ∷ items) h zero address node e =
     let same : a ≡ address = cc in
     let also : m ≡ node = cc in
     record {
       rest = items;
       is = rw (same, also) refl;
       first = refl;
-      mark = subst (λ z. IsMark nodes z node items) same
-          (subst (λ z. IsMark nodes a z items) also h.0);
+      mark = subst (λ z. IsMark graph z node items) same
+          (subst (λ z. IsMark graph a z items) also h.0);
     }
-marked_first nodes (it.Mark a m ∷ items) h (suc n) address node e = absurd (none_marked items h.1 n address node e)
-marked_first nodes (it.Word w ∷ items) h n address node e = absurd (none_marked (it.Word w ∷ items) h n address node e)
-marked_first nodes (it.Jump to ∷ items) h n address node e =
+marked_first graph (it.Mark a m ∷ items) h (suc n) address node e = absurd (none_marked items h.1 n address node e)
+marked_first graph (it.Word w ∷ items) h n address node e = absurd (none_marked (it.Word w ∷ items) h n address node e)
+marked_first graph (it.Jump to ∷ items) h n address node e =
     absurd (none_marked (it.Jump to ∷ items) h n address node e)
-marked_first nodes (it.Branch c to ∷ items) h n address node e =
+marked_first graph (it.Branch c to ∷ items) h n address node e =
     absurd (none_marked (it.Branch c to ∷ items) h n address node e)
-marked_first nodes (it.EndMark ∷ items) h n address node e =
+marked_first graph (it.EndMark ∷ items) h n address node e =
     absurd (none_marked (it.EndMark ∷ items) h n address node e)
 
 -- an item that takes words ends behind where it begins
@@ -141,13 +144,11 @@ covers base p (it.Jump to) a b t s = absurd t
 covers base p (it.Mark x m) a b t s = absurd t
 covers base p it.EndMark a b t s = absurd t
 
-module _ (text : Words) (graph : Graph) (table : ℕ) (codes : ℕ → List ℕ) (is : IsText text) (h : IsGraphOf text graph)
-    (base : ℕ) (p : Placement) (place : ℕ → ℕ → ℕ) (laid : IsLaid (piece_list text graph table codes) base p place) where
+module _ (text : Words) (graph : Graph) (table cases : ℕ) (codes : ℕ → List ℕ) (is : IsText text)
+    (h : IsGraphOf text graph) (base : ℕ) (p : Placement) (place : ℕ → ℕ → ℕ)
+    (laid : IsLaid (piece_list text graph table cases codes) base p place) where
   abbrev pieces : List (List Item)
-  pieces = piece_list text graph table codes
-
-  abbrev count : ℕ
-  count = length graph.blocks.firsts
+  pieces = piece_list text graph table cases codes
 
   some_piece : (k n : ℕ) (x : Item) → (o : Option (List Item)) → slice_get pieces k ≡ o → item_in o n ≡ Some x
       → (items : List Item) × (slice_get pieces k ≡ Some items) × (slice_get items n ≡ Some x)
@@ -156,8 +157,8 @@ module _ (text : Words) (graph : Graph) (table : ℕ) (codes : ℕ → List ℕ)
 
   whole_here : (r : NoteRange) (k : ℕ) (address : Addr) (rest : List Item)
       → slice_get pieces k ≡ Some (it.Mark address r.node ∷ rest)
-      → IsMark count address r.node rest → r.address ≡ address.0 → r.lo ≡ place k 1 → range_in p.ranges r.lo ≡ Some r
-      → IsWhole count r
+      → IsMark graph address r.node rest → r.address ≡ address.0 → r.lo ≡ place k 1 → range_in p.ranges r.lo ≡ Some r
+      → IsWhole graph r
   whole_here r k address rest piece m says lo is_found =
       let inside : k < length pieces = slice_get_within pieces k _ piece in
       let item : item_at pieces k 1 ≡ Some m.item = ap (λ o. item_in o 1) piece
@@ -184,24 +185,25 @@ module _ (text : Words) (graph : Graph) (table : ℕ) (codes : ℕ → List ℕ)
       some_same : {a b : NoteRange} → Some a ≡ Some b → a ≡ b
       some_same e = cc
 
-      opens : (xs : List Item) → IsMark count address r.node xs
+      opens : (xs : List Item) → IsMark graph address r.node xs
           → range_of (place k) (open_in (Some (it.Mark address r.node ∷ xs)) 1)
           ≡ Some (record { lo = place k 1; hi = place k (end_from xs 1); address = address.0; node = r.node })
       opens [] m = absurd (let e = m.is in cc)
       opens (x ∷ xs) m = refl
 
-  whole_at : (n : ℕ) (r : NoteRange) → slice_get p.ranges n ≡ Some r → IsWhole count r
+  whole_at : (n : ℕ) (r : NoteRange) → slice_get p.ranges n ≡ Some r → IsWhole graph r
   whole_at n r e =
       let m : IsRangeOf pieces place r = laid.marks n r e in
       let piece = some_piece m.piece m.item (it.Mark m.address r.node) (slice_get pieces m.piece) refl m.mark in
-      let marks : MarksFirst count piece.0 = each_at _ pieces m.piece piece.0 (all_marked text graph table codes is h)
+      let marks : MarksFirst graph piece.0 = each_at _ pieces m.piece piece.0 (all_marked text graph table cases codes
+      is h)
       piece.1 in
-      let head = marked_first count piece.0 marks m.item m.address r.node piece.2 in
+      let head = marked_first graph piece.0 marks m.item m.address r.node piece.2 in
       whole_here r m.piece m.address head.rest (piece.1 ∙ ap (λ (xs : List Item). Some xs) head.is) head.mark m.says
       (m.lo ∙ ap (λ z. place m.piece (suc z)) head.first)
       (found base (base + 4 * length p.code) p.ranges laid.ascend n r e)
 
-  pub ranges_whole : Each (IsWhole count) p.ranges
+  pub ranges_whole : Each (IsWhole graph) p.ranges
   ranges_whole = each_index _ p.ranges whole_at
 
   -- ---- how many words there are
@@ -213,9 +215,10 @@ module _ (text : Words) (graph : Graph) (table : ℕ) (codes : ℕ → List ℕ)
   last_piece : (k : ℕ) × (word : ℕ) × (item_at pieces k 0 ≡ Some (it.Word word))
   unfolding piece_list
   last_piece =
-      let xs = map (image text graph (jumps_at text table) codes) (below (length text.words))
-      ++ ways_from text graph table codes 0 (own_edges graph)
-      ++ map (landing text graph codes) (below (length text.words)) in
+      let xs = images_in_order text graph table cases codes ++ ways_from text graph table codes 0 (own_edges graph)
+      ++ map (landing text graph codes) (below (length text.words))
+      ++ flat_map (open_pieces text graph table cases codes) graph.opens
+      ++ flat_map (λ (o : Open). cases_from text graph table codes o 0 o.targets) graph.opens in
       (length xs, _, ap (λ o. item_in o 0) (last_is xs foreign_piece))
 
   pub some_code : 0 < length p.code

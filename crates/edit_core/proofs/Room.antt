@@ -1,11 +1,9 @@
--- How many bytes the tables have at most, and that they stand below 2^31.
-use Rattle.std.proofs.Common.{◌+◌, ◌*◌, ◌^◌, ◌≤◌, List, length, arith}
+-- How many bytes the tables have at most.
+use Rattle.std.proofs.Common.{ℕ, ◌+◌, ◌*◌, ◌^◌, ◌≤◌, length, arith}
 use Rattle.eel_base.specs.CodeText.{Words, IsText}
-use Rattle.eel_base.specs.declared.numbers.Addr.{Addr}
-use Rattle.addr_translate.specs.Lookup.{TableAt}
 use Rattle.addr_translate.specs.Table.{size_of}
 use Rattle.addr_translate.specs.Halves.{halves_size}
-use Rattle.edit_core.specs.Written.{AreTablesOf, tables_size}
+use Rattle.edit_core.specs.Written.{cells_size, tables_size}
 
 first_small : (t : Words) → IsText t → size_of t ≤ 28672 + 4 * length t.words
 first_small t text =
@@ -25,10 +23,9 @@ small_tables t text =
     let second = second_small t text in
     omega arith
 
-pub tables_low : (t : Words) (targets : List Addr) (foreign : Addr) (tables : TableAt)
-    → AreTablesOf t targets foreign tables → tables.base + length tables.bytes ≤ 2 ^ 31
-tables_low t targets foreign tables are =
-    let size = are.size in
-    let second = are.second.size in
-    let below = are.second.whole.below in
-    omega arith
+-- so they do with the words behind them that have the pieces of Case edges, in whole pages: one for each entry of a table,
+-- and no word of the text stands in two
+pub room_with_cases : (cells words entries size long more : ℕ) → entries ≤ words → size ≤ 425984 + 8 * words
+    → long ≤ 2 ^ 19 + 500 * words + 128 * more
+    → cells_size cells + size + cells_size entries + long ≤ 2 ^ 20 + 512 * words + 4 * cells + 128 * more
+room_with_cases cells words entries size long more few small fit = omega (arith, few, small, fit)

@@ -17,6 +17,7 @@ use Rattle.v8_decode.specs.declared.Part.{Part}
 use Rattle.v8_decode.specs.Parts.{every_part, has, is_member, members, set_of}
 use Rattle.v8_decode.proofs.Marks.{same_sets}
 use Rattle.v8_step.specs.State.{State}
+use Rattle.v8_step.specs.Run.{run}
 use Rattle.v8_step.specs.declared.Slot.TheVariants.{NoSlot}
 use Rattle.v8_step.specs.Items.{IsSameAt, Item, Register, Codes, YRegister}
 use Rattle.v8_step.specs.Needed.{IsUntouched}
@@ -24,16 +25,20 @@ use Rattle.v8_step.specs.Valid.{AreBytes}
 use Rattle.v8_step.specs.Visits.{in_pages, pages_of}
 use Rattle.v8_process.specs.Arguments.{AreArguments}
 use Rattle.v8_process.specs.Start.{program_name, start_of}
-use Rattle.cfg_blocks.specs.Blocks.{below}
+use Rattle.cfg_blocks.specs.Blocks.{below, blocks_of, is_among}
 use Rattle.cfg_blocks.proofs.Targets.{word_at-some}
 use Rattle.cfg_blocks.specs.declared.EdgeKind.TheVariants as kinds
 use Rattle.cfg_normal.specs.declared.Edge.{Edge}
 use Rattle.cfg_normal.specs.declared.Node.{Node}
-use Rattle.cfg_walk.specs.Matches.{FetchesOnly, BeginsAt}
-use Rattle.cfg_walk.specs.Walk.{point_of, same_kind}
+use Rattle.cfg_normal.specs.declared.Node.TheVariants.{Block}
+use Rattle.cfg_normal.specs.Graph.{node_of}
+use Rattle.cfg_walk.specs.Matches.{AreOpen, BeginsAt, FetchesOnly, JumpsGoByCase}
+use Rattle.cfg_walk.specs.Walk.{end_of_walk, point_of, same_kind}
 use Rattle.liveness.specs.Live.{edge_at, is_call_or_jump, is_outside, is_unknown, named_on}
 use Rattle.walk_counts.proofs.Fetching.{only_text_is_fetched}
-use Rattle.walk_counts.proofs.Files.{begins, entry_is}
+use Rattle.walk_counts.proofs.Files.{begins, by_case, entry_is, opened}
+use Rattle.jump_slice.specs.Held.{HoldsText}
+use Rattle.jump_slice.proofs.Starts.{text_is_held}
 use Rattle.addr_translate.specs.Halves.{found_in}
 use Rattle.addr_translate.specs.Lookup.{TableAt}
 use Rattle.addr_translate.specs.Table.{target_of}
@@ -42,31 +47,36 @@ use Rattle.code_runs.specs.StoredWords.{memory_word}
 use Rattle.snippet_code.specs.Cells.{cell_at, words_at}
 use Rattle.tool_kit.specs.Plans.{Plan}
 use Rattle.image_code.specs.Fit.{PiecesFit}
-use Rattle.image_code.specs.Simulates.{Setting, Simulates, is_out, snippet_on}
+use Rattle.image_code.specs.Simulates.{CaseTable, IsAtWord, Setting, Simulates, is_out, snippet_on}
 use Rattle.image_code.specs.Images.{AreNoted, Frame, HasCells, Here, IsPlaced, Pieces, visited_by}
 use Rattle.image_code.specs.Parts.{codes_of}
 use Rattle.image_code.specs.Made.{IsOffNoted, IsTableFor, PiecesMakeImages, lands_at, piece_list, pieces_in}
 use Rattle.image_code.specs.Outside.{IsOpen}
-use Rattle.image_code.proofs.Numbers.{cut_of}
+use Rattle.image_code.proofs.CaseTables.{are_tables, table_of}
+use Rattle.image_code.proofs.Opened.{cased}
 use Rattle.edit_core.specs.Faithful.{editor_page, page_size}
-use Rattle.edit_core.specs.Runs.{Linked, Rests}
+use Rattle.edit_core.specs.Runs.{CameFrom, Linked, Rests}
 use Rattle.edit_core.specs.RunsAlike.{AreRunsAlike, IsAnswered, edit_of, short_bound, visits_by}
 use Rattle.edit_core.specs.Taken.{bound_in}
 use Rattle.edit_core.specs.Whole.{Answered, KeptIn}
-use Rattle.edit_core.specs.Written.{EditsRunAlike, IsEdit, LeadsTo, addr, cells_base, code_base, first_table, foreign_of, given_of, graph_in, landings_of, notes_on, second_table, table_base, tables_size, text_of}
+use Rattle.edit_core.specs.Written.{EditsRunAlike, IsEdit, LeadsTo, addr, cases_at, cells_base, code_base, first_table, foreign_of, given_of, graph_in, landings_of, notes_on, second_table, segment_size, table_base, text_of}
 use Rattle.edit_core.proofs.Bounds.{operations_few}
+use Rattle.edit_core.proofs.ByTable.{by_table}
 use Rattle.edit_core.proofs.Completed.{jump_kind, unknown_lives}
 use Rattle.edit_core.proofs.Kept.{keeps_what_lives}
 use Rattle.edit_core.proofs.CodeFetched.{has_code, only_code}
+use Rattle.edit_core.proofs.Entering.{entry_enters, entry_given, entry_outside}
 use Rattle.edit_core.proofs.Faithful.{word_here}
+use Rattle.edit_core.proofs.Graphs.{copied_inside, graph_cut, graph_is}
 use Rattle.edit_core.proofs.Landings.{map_below}
 use Rattle.edit_core.proofs.Off.{off_here, off_is, ranges_beside}
 use Rattle.edit_core.proofs.Fronts.{any_past, past_fails}
 use Rattle.edit_core.proofs.Originals.{image_room, image_text}
 use Rattle.edit_core.proofs.Snippets.{cells_in_range, code_short, good_on, snippet_does}
 use Rattle.elf32_sparc.proofs.Images.{accepted-program}
-use Rattle.edit_core.proofs.Owned.{cell_is_own, cell_zero, frame, has_table, is_framed, owned}
+use Rattle.edit_core.proofs.Owned.{cell_is_own, cell_zero, frame, has_cases, has_table, is_framed, owned}
 use Rattle.edit_core.proofs.Ranges.{ends_by}
+use Rattle.edit_core.proofs.Tables.{cases_for}
 use Rattle.edit_core.proofs.Starts.{file_valid, memory_alike, original_valid}
 use Rattle.edit_core.proofs.Steps.{original_fit}
 use Rattle.edit_core.proofs.Views.{bound_is}
@@ -92,7 +102,7 @@ setting original plan dead p = edit_of original plan dead (notes_on original pla
 
 abbrev pieces : List ℕ → Plan → (ℕ → List Part) → TableAt → Pieces
 pieces original plan dead table =
-    pieces_in (text_of original plan) (graph_in original plan) table.base
+    pieces_in (text_of original plan) (graph_in original plan) table.base (cases_at (text_of original plan) table.base)
     (codes_of (cells_base original plan) dead plan.snips)
 
 abbrev its_frame : List ℕ → Plan → TableAt → Frame
@@ -136,7 +146,7 @@ none_beside base p a ascend (inr past) = none_past base (base + 4 * length p.cod
 -- what the notes say of the code, behind the table
 module _ (original : List ℕ) (plan : Plan) (dead : ℕ → List Part) (p : Placement) where
   abbrev size : ℕ
-  size = tables_size (text_of original plan)
+  size = segment_size (text_of original plan) (graph_in original plan)
 
   abbrev code_end : ℕ
   code_end = code_base original plan + 4 * length p.code
@@ -190,10 +200,11 @@ module _ (original : List ℕ) (plan : Plan) (dead : ℕ → List Part) (p : Pla
   -- the place of a slot behind the text
   off_noted : IsText (text_of original plan) → IsOffNoted (setting original plan dead p) (table_base original plan)
   off_noted text number edge at off =
-      let cut = cut_of (text_of original plan) (graph_in original plan) (record { given = given_of original plan; is = refl })
-      text.some in
+      let cut = graph_cut (text_of original plan) (graph_in original plan) text (graph_is original plan) in
       ap (λ offs. range_in (offs ++ p.ranges) (table_base original plan))
-      (off_is (text_of original plan) (graph_in original plan) (table_base original plan) refl cut.firsts number edge at off)
+      (off_is (text_of original plan) (graph_in original plan) (table_base original plan) refl cut.firsts
+      (copied_inside (text_of original plan) (given_of original plan) (image_of original).entry text) number edge at
+      off)
       ∙ off_here (text_of original plan) (graph_in original plan) (table_base original plan) edge p.ranges
 
   -- where the table leads
@@ -290,7 +301,8 @@ module _ (original : List ℕ) (plan : Plan) (p : Placement) (place : ℕ → �
       (its_frame original plan table)
   placed = record {
     laid = subst (λ (a : ℕ). IsLaid (piece_list (text_of original plan) (graph_in original plan) a
-        (codes_of (cells_base original plan) dead plan.snips)) (code_base original plan) p place)
+        (cases_at (text_of original plan) a) (codes_of (cells_base original plan) dead plan.snips)) (code_base
+        original plan) p place)
         (sym is.code.base) is.code.laid;
     noted = are_noted original plan dead p is.code.laid.ascend;
     frame = is_framed original plan p table its refl is.code.base is.code.leads;
@@ -315,7 +327,8 @@ module _ (original : List ℕ) (plan : Plan) (p : Placement) (place : ℕ → �
   small_short fits small =
       let few : 4 * length p.code < short_bound = in_bound in
       subst (λ (a : ℕ). HasShortForms (piece_list (text_of original plan) (graph_in original plan) a
-      (codes_of (cells_base original plan) dead plan.snips)) place) (sym is.code.base) (is.code.short few)
+      (cases_at (text_of original plan) a) (codes_of (cells_base original plan) dead plan.snips)) place) (sym
+      is.code.base) (is.code.short few)
     where
       in_bound : 4 * length p.code < short_bound
       in_bound =
@@ -332,8 +345,13 @@ module _ (original : List ℕ) (plan : Plan) (p : Placement) (place : ℕ → �
   simulates make =
       let base = is.code.base in
       make its (codes_of (cells_base original plan) dead plan.snips) (code_base original plan) p place
-      (its_frame original plan table) text_is placed
-      (table_for original plan dead p table is.code.leads) (omega (arith, base)) off_noted_here
+      (its_frame original plan table) text_is (graph_is original plan) refl placed
+      (table_for original plan dead p table is.code.leads)
+      (cases_for (text_of original plan) (graph_in original plan) p
+      (landings_of (text_of original plan) (graph_in original plan) plan.snips p)
+      (foreign_of (text_of original plan) (graph_in original plan) p) table is.code.leads
+      (omega (arith, base, base_aligned)) (λ k. (is.code.laid.aligned k).1))
+      (omega (arith, base)) off_noted_here
 
   module _ (make : PiecesMakeImages) (fits : PiecesFit) (args : List (List ℕ)) (input : List ℕ) (given : AreArguments args)
       (read : AreBytes input) where
@@ -354,14 +372,24 @@ module _ (original : List ℕ) (plan : Plan) (p : Placement) (place : ℕ → �
     entry_here : word_at (text_of original plan) s0.pc ≡ Some entry
     entry_here = ap (word_at (text_of original plan)) begins_at.pc ∙ word_here original plan entry begins_at.within
 
-    here : (node : Node)
-        → Here its (pieces original plan dead table) (code_base original plan) p (its_frame original plan table) node (point_of s0) t0
+    -- a routine starts at the entry
+    entry_among : is_among (given_of original plan) entry ≡ true
+    entry_among = entry_given (image_of original) plan.marks begins_at.within
+
+    abbrev entry_at : Node
+    entry_at = node_of (graph_in original plan).blocks (Some entry)
+
+    here : Here its (pieces original plan dead table) (code_base original plan) p (its_frame original plan table)
+        entry_at
+        (point_of s0) t0
     unfolding start_of
-    here node = record {
+    here = record {
       valid = file_valid original plan p place table file is args input given read;
       live = refl;
       at = is.entered
-          ∙ ap (λ found. visited_by its (pieces original plan dead table) p (its_frame original plan table) node
+          ∙ ap (slice_index p.at)
+          (entry_enters (text_of original plan) (given_of original plan) entry text_is entry_among begins_at.within)
+          ∙ ap (λ found. visited_by its (pieces original plan dead table) p (its_frame original plan table) entry_at
           (point_of s0) found NoSlot)
           (sym entry_here);
       npc = refl;
@@ -371,6 +399,7 @@ module _ (original : List ℕ) (plan : Plan) (p : Placement) (place : ℕ → �
         only = only_code original plan p place table file is (program_name ∷ args);
         ours = owned original plan p place table file is (program_name ∷ args);
         table = has_table original plan p place table file is (program_name ∷ args);
+        cases = has_cases original plan p place table file is (program_name ∷ args);
       };
       waits = λ taken way. absurd (cc);
     }
@@ -396,14 +425,31 @@ module _ (original : List ℕ) (plan : Plan) (p : Placement) (place : ℕ → �
         ∙ cell_zero original plan p place table file is (program_name ∷ args) i within
         ∙ sym (get_or-replicate plan.cells i 0 0 within))
 
+    -- no open switch has its load there
+    entry_unloaded : (k : ℕ) (o : CaseTable) → slice_get its.opens k ≡ Some o → (start more : ℕ) → 0 ≡ more + start
+        → o.load + more ≤ o.jump → CameFrom its entry s0 o start more → ⊥
+    unfolding end_of_walk
+    entry_unloaded k o some start more e low came =
+        let t = table_of its refl k o some in
+        let none : 0 + start ≡ 0 = omega (arith, e) in
+        let first : IsAtWord its o (end_of_walk (text_of original plan) (graph_in original plan) entry s0 0) (point_of
+        s0)
+        (o.load + 0) =
+        subst (λ (n : ℕ). IsAtWord its o (end_of_walk (text_of original plan) (graph_in original plan) entry s0 n)
+        (point_of (run s0 n)) (o.load + 0)) none (came 0 (omega arith)) in
+        entry_outside (text_of original plan) (given_of original plan) entry text_is entry_among begins_at.within k
+        t.o t.is
+        (first.itself ∙ ap (λ (c : CaseTable). Block (record { 0 = c.block })) (sym t.same))
+
     linked : Linked its entry
         (Here its (pieces original plan dead table) (code_base original plan) p (its_frame original plan table))
         (KeptIn its entry s0) s0 t0 0 0
-    unfolding start_of
+    unfolding start_of end_of_walk
     linked = record {
       live = refl;
-      here = here _;
+      here = here;
       items = λ item is_item kept. same_items item;
+      kept = λ k o some start more e low came. absurd (entry_unloaded k o some start more e low came);
       together = record {
         world = record {
           window = refl;
@@ -417,6 +463,22 @@ module _ (original : List ℕ) (plan : Plan) (p : Placement) (place : ℕ → �
       };
     }
 
+    are_opened : AreOpen (blocks_of (text_of original plan) (given_of original plan)) its.switches
+    unfolding image_of
+    are_opened =
+        opened original args input (given_of original plan) is.taken.sound is.given
+        (original_valid original plan p place table file is args input given read) entry_among
+
+    by_cases : JumpsGoByCase (text_of original plan) (graph_in original plan) entry s0
+    unfolding image_of
+    by_cases =
+        by_case original args input (given_of original plan) is.taken.sound is.given
+        (original_valid original plan p place table file is args input given read) entry_among
+
+    holds_text : HoldsText (text_of original plan) s0.memory
+    unfolding image_of
+    holds_text = text_is_held original args input is.taken.sound is.given
+
     rests : Rests its entry (IsOpen its)
         (Here its (pieces original plan dead table) (code_base original plan) p (its_frame original plan table)) Short
         (KeptIn its entry s0) s0 t0
@@ -427,8 +489,14 @@ module _ (original : List ℕ) (plan : Plan) (p : Placement) (place : ℕ → �
       fetches = fetches;
       begins = begins_at;
       simulates = simulates make;
-      keeping = keeps_what_lives its entry s0 text_is fetches begins_at is.code.exact
+      keeping = keeps_what_lives its entry s0 text_is fetches begins_at are_opened by_cases is.code.exact
           (λ k d l. (is.workable.good k d l).are_ops);
+      opened = are_opened;
+      by_case = by_cases;
+      opens = are_tables its refl text_is (cased its text_is (graph_is original plan));
+      by_table = by_table its entry s0 refl refl text_is
+          (original_valid original plan p place table file is args input given read) fetches holds_text begins_at
+          entry_among;
       begin = 0;
       soon = omega arith;
       first = linked;
@@ -460,9 +528,9 @@ module _ (original : List ℕ) (plan : Plan) (p : Placement) (place : ℕ → �
           let sparing = (answers (suc n) untouched).spared n (omega arith) m k first next watched in
           record {
             spills = sparing.spills;
-            first = λ small. sparing.first (small.0, small_short fits small.1);
-            alone = λ small. sparing.alone (small.0, small_short fits small.1);
-            few = λ small. sparing.few (small.0, small_short fits small.1);
+            first = λ small. sparing.first (small.0, small_short fits small.1, small.2);
+            alone = λ small. sparing.alone (small.0, small_short fits small.1, small.2);
+            few = λ small. sparing.few (small.0, small_short fits small.1, small.2);
           };
       stops = λ m untouched. (answers (visits_by (notes_on original plan p) t0 m) untouched).stops m refl;
     }

@@ -22,7 +22,8 @@ use Rattle.addr_translate.specs.Lookup.{TableAt}
 use Rattle.layout.specs.Laid.{Placement}
 use Rattle.edit_core.specs.Faithful.{editor_page, page_size}
 use Rattle.tool_kit.specs.Plans.{Plan}
-use Rattle.edit_core.specs.Written.{IsEdit, added, cells_at, cells_base, code_base, code_segment, if_any, notes_on, page_segment, table_at, table_base, text_of, tables_size}
+use Rattle.edit_core.specs.Written.{IsEdit, added, cells_at, cells_base, code_base, code_segment, if_any, notes_on, graph_in, page_segment, segment_size, table_at, table_base, text_of}
+use Rattle.edit_core.proofs.Steps.{segment_is}
 use Rattle.edit_core.proofs.Fronts.{any-map}
 use Rattle.elf32_sparc.specs.Notes.{NoteSegment}
 
@@ -65,7 +66,7 @@ module _ (original : List ℕ) (plan : Plan) (p : Placement) (place : ℕ → �
   -- what is added is what the notes say
   pages_are : map span_of (map mapping_added (added original plan p table)) ≡ pages_of (notes_on original plan p)
   pages_are =
-      let size = is.code.leads.size in
+      let size = segment_is (text_of original plan) (graph_in original plan) plan.snips p table is.code.leads in
       ap (map span_of) (any-map mapping_added plan.cells (cells_at (cells_base original plan) plan.cells)
       (table_at table ∷ code_segment original plan p ∷ page_segment ∷ []))
       ∙ any-map span_of plan.cells (mapping_added (cells_at (cells_base original plan) plan.cells))
@@ -75,7 +76,11 @@ module _ (original : List ℕ) (plan : Plan) (p : Placement) (place : ℕ → �
       ∙ ap (λ (n : ℕ). span (table_base original plan) n ∷ behind) size)
       ∙ sym (any-map (λ (s : NoteSegment). span s.start s.length) plan.cells
       (record { start = cells_base original plan; length = 4 * plan.cells })
-      (record { start = table_base original plan; length = tables_size (text_of original plan) }
+      (record {
+        start = table_base original plan;
+        length = segment_size (text_of original plan) (graph_in original
+            plan);
+      }
       ∷ record { start = code_base original plan; length = 4 * length p.code }
       ∷ record { start = editor_page; length = page_size } ∷ []))
     where

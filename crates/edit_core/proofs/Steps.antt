@@ -1,33 +1,36 @@
 -- What the parts of an edit give it.
-use Rattle.std.proofs.Common.{◌≡◌, ℕ, ◌+◌, ◌-◌, ◌*◌, ◌%◌, ◌^◌, ◌<◌, ◌≤◌, min, List, length, Err, refl, ap, sym, ◌∙◌, subst, arith, All}
+use Rattle.std.proofs.Common.{◌≡◌, ℕ, ◌+◌, ◌-◌, ◌*◌, ◌%◌, ◌^◌, ◌<◌, ◌≤◌, min, List, [], ◌∷◌, ◌++◌, length, Err, refl, ap, sym, ◌∙◌, subst, arith, All}
+use Rattle.std.specs.Prelude.{slice_index}
 use Rattle.std.proofs.lemmas.List.{length-map}
 use Rattle.eel_base.specs.CodeText.{IsText, Words}
-use Rattle.eel_base.specs.declared.numbers.Addr.{Addr}
 use Rattle.elf32_sparc.specs.Image.{Program, image_of}
 use Rattle.elf32_sparc.proofs.Images.{accepted-program}
 use Rattle.v8_decode.specs.declared.Part.{Part}
 use Rattle.cfg_normal.specs.Graph.{Graph}
 use Rattle.liveness.specs.Live.{named_on}
 use Rattle.elf32_write.specs.Laws.{AreBytes}
+use Rattle.addr_translate.specs.Lookup.{TableAt}
 use Rattle.layout.specs.declared.items.Placed.{Placed}
 use Rattle.layout.specs.declared.items.Item.{Item}
 use Rattle.layout.specs.declared.items.LayoutFault.{LayoutFault}
 use Rattle.layout.specs.declared.items.LayoutFault.TheVariants.{Room}
-use Rattle.layout.specs.Laid.{ArePieces, HasShortForms, IsLaid, long_bytes}
+use Rattle.layout.specs.Laid.{ArePieces, HasShortForms, IsLaid, Placement, long_bytes}
 use Rattle.layout.specs.Compact.{RoomIs}
 use Rattle.layout.proofs.Needed.{long_is_enough}
 use Rattle.image_code.specs.Fit.{AreFit, PiecesFit}
-use Rattle.image_code.specs.Parts.{IsGraphOf, codes_of}
-use Rattle.image_code.proofs.Numbers.{words_are}
+use Rattle.image_code.specs.Graphs.{IsGraphOf}
+use Rattle.image_code.specs.Numbered.{case_numbers}
+use Rattle.image_code.specs.Parts.{codes_of}
 use Rattle.snippets.specs.declared.snippet.Op.{Op}
 use Rattle.tool_kit.specs.declared.edge_ref.ToolKind.{ToolKind}
 use Rattle.tool_kit.specs.Plans.{Plan}
 use Rattle.edit_core.specs.Dead.{AreDead}
 use Rattle.edit_core.specs.RunsAlike.{short_bound}
 use Rattle.edit_core.specs.Taken.{CanEdit, bound_by, bound_of}
-use Rattle.edit_core.specs.Written.{CanDo, IsBuilt, IsNewCode, IsViewOf, IsWorkable, LeadsTo, cells_base, cells_size, code_base, given_of, graph_in, pieces_by, pieces_of, placement_in, table_after, table_base, tables_size, text_of}
+use Rattle.edit_core.specs.Written.{added, cells_at, code_at, if_any, page_segment, table_at, CanDo, IsBuilt, IsNewCode, IsViewOf, IsWorkable, LeadsTo, cases_at, cells_base, cells_size, code_base, entry_number, entry_of, graph_in, pieces_by, pieces_of, placement_in, segment_size, table_after, table_base, tables_size, text_of}
 use Rattle.edit_core.proofs.Bounds.{operations_few}
-use Rattle.edit_core.proofs.Room.{small_tables}
+use Rattle.edit_core.proofs.Graphs.{entries_few, graph_cut, graph_is}
+use Rattle.edit_core.proofs.Room.{room_with_cases, small_tables}
 use Rattle.edit_core.proofs.Snippets.{short_codes}
 use Rattle.edit_core.proofs.Views.{bound_is}
 use Rattle.edit_core.proofs.Originals.{image_text, image_room}
@@ -47,9 +50,10 @@ pub original_fit : PiecesFit → (original : List ℕ) (plan : Plan) → CanEdit
     → (dead : ℕ → List Part)
     → AreFit (text_of original plan) (graph_in original plan) plan.snips (pieces_of original plan dead)
 original_fit fits original plan can work dead =
-    fits (text_of original plan) (graph_in original plan) (table_base original plan) plan.snips
+    fits (text_of original plan) (graph_in original plan) (table_base original plan)
+    (cases_at (text_of original plan) (table_base original plan)) plan.snips
     (codes_of (cells_base original plan) dead plan.snips) (image_text original can.sound)
-    (record { given = given_of original plan; is = refl })
+    (graph_is original plan)
     (under (cells_base original plan) (image_of original).room plan.cells (length (text_of original plan).words) _
     (image_room original) work.few can.room)
     (short_codes (cells_base original plan) plan.cells dead plan.snips work.good)
@@ -65,16 +69,27 @@ module _ (fits : PiecesFit) (text : Words) (graph : Graph) (base room : ℕ) (ki
   pub new_fit : AreFit text graph snips (pieces_by text graph base cells dead snips)
   new_fit =
       let few = work.few in
-      fits text graph (table_after base cells) snips (codes_of base dead snips) is h (omega arith)
+      fits text graph (table_after base cells) (cases_at text (table_after base cells)) snips (codes_of base dead
+      snips) is h (omega arith)
       (short_codes base cells dead snips work.good)
 
-  pub new_room : cells_size cells + tables_size text + long_bytes (pieces_by text graph base cells dead snips) ≤ room
+  pub new_room : cells_size cells + segment_size text graph + long_bytes (pieces_by text graph base cells dead snips)
+      ≤ room
   new_room =
       let fit = new_fit in
       let bytes = fit.bytes in
       let made = operations_few graph kind cells snips work in
       let small = small_tables text is in
+      let most = room_with_cases cells (length text.words) (length (case_numbers text graph)) (tables_size text)
+      (long_bytes (pieces_by text graph base cells dead snips)) _ (entries_few text graph is h) small bytes in
       omega arith
+
+-- how many bytes they have
+pub segment_is : (text : Words) (graph : Graph) (snips : List (List Op)) (p : Placement) (table : TableAt)
+    → LeadsTo text graph snips p table → length table.bytes ≡ segment_size text graph
+segment_is text graph snips p table leads =
+    leads.size ∙ ap (λ n. tables_size text + cells_size n)
+    (length-map (case_numbers text graph) (λ number. slice_index p.at number))
 
 module _ (original : List ℕ) (plan : Plan) (image : Program) (graph : Graph) (is : IsViewOf original plan image graph) where
   pub view_text : CanEdit original plan → IsText image.text
@@ -82,7 +97,7 @@ module _ (original : List ℕ) (plan : Plan) (image : Program) (graph : Graph) (
 
   pub view_graph : IsGraphOf image.text graph
   view_graph = subst (λ (i : Program). IsGraphOf i.text graph) (sym is.0)
-      (subst (IsGraphOf (text_of original plan)) (sym is.1) (record { given = given_of original plan; is = refl }))
+      (subst (IsGraphOf (text_of original plan)) (sym is.1) (graph_is original plan))
 
   pub view_low : CanEdit original plan → image.base + image.room ≤ 2 ^ 31
   view_low can = subst (λ (i : Program). i.base + i.room ≤ 2 ^ 31) (sym is.0)
@@ -105,7 +120,7 @@ module _ (original : List ℕ) (plan : Plan) (image : Program) (graph : Graph) (
   view_work work = subst (λ (g : Graph). IsWorkable g plan.kind plan.cells plan.snips) (sym is.1) work
 
   pub view_words : CanEdit original plan → graph.blocks.words ≡ length image.text.words
-  view_words can = words_are image.text graph view_graph
+  view_words can = (graph_cut image.text graph (view_text can) view_graph).words
 
   abbrev own_pieces : (ℕ → List Part) → List (List Item)
   own_pieces dead = pieces_by image.text graph image.base plan.cells dead plan.snips
@@ -116,8 +131,34 @@ module _ (original : List ℕ) (plan : Plan) (image : Program) (graph : Graph) (
       ap (λ (i : Program). pieces_by i.text graph i.base plan.cells dead plan.snips) is.0
       ∙ ap (λ (g : Graph). pieces_by (text_of original plan) g (cells_base original plan) plan.cells dead plan.snips) is.1
 
-  view_base : table_after image.base plan.cells + tables_size image.text ≡ code_base original plan
-  view_base = ap (λ (i : Program). table_after i.base plan.cells + tables_size i.text) is.0
+  view_base : table_after image.base plan.cells + segment_size image.text graph ≡ code_base original plan
+  view_base =
+      ap (λ (i : Program). table_after i.base plan.cells + segment_size i.text graph) is.0
+      ∙ ap (λ (g : Graph). table_base original plan + segment_size (text_of original plan) g) is.1
+
+  -- and so are the segments that are added
+  pub view_added : (p : Placement) (tables : List ℕ) → length tables ≡ segment_size image.text graph
+      → (if_any plan.cells (cells_at image.base plan.cells)
+      ++ table_at (record { base = table_after image.base plan.cells; bytes = tables })
+      ∷ code_at (table_after image.base plan.cells + length tables) p.code ∷ page_segment ∷ [])
+      ≡ added original plan p (record { base = table_base original plan; bytes = tables })
+  view_added p tables size =
+      ap (λ n. if_any plan.cells (cells_at image.base plan.cells)
+      ++ table_at (record { base = table_after image.base plan.cells; bytes = tables })
+      ∷ code_at (table_after image.base plan.cells + n) p.code ∷ page_segment ∷ []) size
+      ∙ ap (λ a. if_any plan.cells (cells_at image.base plan.cells)
+      ++ table_at (record { base = table_after image.base plan.cells; bytes = tables })
+      ∷ code_at a p.code ∷ page_segment ∷ []) view_base
+      ∙ ap (λ (i : Program). if_any plan.cells (cells_at i.base plan.cells)
+      ++ table_at (record { base = table_after i.base plan.cells; bytes = tables })
+      ∷ code_at (code_base original plan) p.code ∷ page_segment ∷ []) is.0
+
+  -- and so is the piece at which it begins
+  pub view_entry : (p : Placement) → slice_index p.at (entry_number image.text graph image.entry) ≡ entry_of original
+      plan p
+  view_entry p =
+      ap (λ (i : Program). slice_index p.at (entry_number i.text graph i.entry)) is.0
+      ∙ ap (λ (g : Graph). slice_index p.at (entry_number (text_of original plan) g (image_of original).entry)) is.1
 
   module _ (placed : Placed) (tables : List ℕ)
       (built : IsBuilt image.text graph image.base plan.cells plan.snips (placement_in placed))
@@ -133,7 +174,7 @@ module _ (original : List ℕ) (plan : Plan) (image : Program) (graph : Graph) (
             (subst (λ (g : Graph). AreDead image.text g (named_on plan.snips) built.dead) is.1 built.exact);
         laid = subst (λ (a : ℕ). IsLaid (pieces_of original plan built.dead) a (placement_in placed) built.place) view_base
             (subst (λ (xs : List (List Item)). IsLaid xs
-            (table_after image.base plan.cells + tables_size image.text)
+            (table_after image.base plan.cells + segment_size image.text graph)
             (placement_in placed) built.place) (view_pieces built.dead) built.are.laid);
         size = subst (λ (xs : List (List Item)). 4 * length placed.code.items ≤ long_bytes xs) (view_pieces built.dead)
             built.are.size;
@@ -147,13 +188,3 @@ module _ (original : List ℕ) (plan : Plan) (image : Program) (graph : Graph) (
             (record { base = table_after image.base plan.cells; bytes = tables })) is.1 leads);
         bytes = bytes;
       }
-
-      pub entry_inside : AreFit (text_of original plan) (graph_in original plan) plan.snips
-          (pieces_of original plan built.dead) → (entry : ℕ) → entry < length image.text.words → entry < length placed.at.items
-      entry_inside fit entry l =
-          let many = fit.images in
-          let pieces = ap length (view_pieces built.dead) in
-          let words = ap (λ (i : Program). length i.text.words) is.0 in
-          let count = built.are.laid.count in
-          let same = length-map placed.at.items (λ (a : Addr). a.0) in
-          omega arith

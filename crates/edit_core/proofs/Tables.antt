@@ -1,38 +1,152 @@
--- Two tables, one behind the other.
-use Rattle.std.proofs.Common.{◌≡◌, ℕ, ◌+◌, ◌-◌, ◌≤◌, List, ◌++◌, length, length-append, take, drop, ap, sym, ◌∙◌, subst, arith}
+-- Tables, one behind the other.
+use Rattle.std.proofs.Common.{◌≡◌, ℕ, zero, suc, ◌+◌, ◌-◌, ◌*◌, ◌%◌, ◌^◌, ◌<◌, ◌≤◌, List, [], ◌∷◌, ◌++◌, length, length-append, replicate, take, drop, refl, ap, sym, ◌∙◌, subst, arith}
+use Rattle.std.specs.Prelude.{slice_index}
 use Rattle.std.specs.Int.{w32, from_be_bytes}
-use Rattle.std.proofs.lemmas.List.{drop-drop}
+use Rattle.std.proofs.lemmas.List.{append_assoc, drop-drop, get_or-map, length-map, length-replicate}
+use Rattle.std.proofs.lemmas.Nat.{from_be_bytes-to_be_bytes_4}
+use Rattle.std.proofs.lemmas.Option.{get_or_from_slice_get, slice_get_within}
 use Rattle.std.proofs.Math.Seq.{drop-append_seam, take-append_seam}
 use Rattle.eel_base.specs.CodeText.{Words}
 use Rattle.eel_base.specs.declared.numbers.Addr.{Addr}
+use Rattle.elf32_write.specs.Bytes.{words_bytes}
+use Rattle.elf32_write.proofs.WordsBytes.{length-words_bytes}
+use Rattle.cfg_normal.specs.Graph.{Graph}
 use Rattle.addr_translate.specs.Lookup.{TableAt, table_word}
 use Rattle.addr_translate.specs.Table.{IsTableOf, size_of}
-use Rattle.addr_translate.specs.Halves.{IsHalvesOf}
-use Rattle.image_code.specs.Made.{jumps_at}
-use Rattle.edit_core.specs.Written.{AreTablesOf, second_table}
+use Rattle.addr_translate.specs.Halves.{IsHalvesOf, halves_size}
+use Rattle.layout.specs.Laid.{Placement}
+use Rattle.image_code.specs.Made.{AreCasesFor, jumps_at}
+use Rattle.image_code.specs.Numbered.{case_numbers}
+use Rattle.edit_core.specs.Written.{AreTablesOf, case_places, cases_at, cases_table, cells_size, second_table, tables_size, whole_pages}
 
-module _ (text : Words) (targets : List Addr) (foreign : Addr) (base : ℕ) (first second : List ℕ) where
-  pub tables_joined : IsTableOf text targets foreign (record { base = base; bytes = first })
-      → IsHalvesOf text targets foreign (record { base = base + size_of text; bytes = second })
-      → AreTablesOf text targets foreign (record { base = base; bytes = first ++ second })
-  tables_joined one two =
-      let size : length first ≡ size_of text = one.size in
-      let more = two.size in
-      record {
-        size = length-append first second ∙ ap (λ n. n + length second) size ∙ ap (λ n. size_of text + n) more;
-        first = subst (λ (bytes : List ℕ). IsTableOf text targets foreign (record { base = base; bytes = bytes }))
-            (sym (ap (λ n. take n (first ++ second)) (sym size) ∙ take-append_seam first second)) one;
-        second = subst (λ (bytes : List ℕ). IsHalvesOf text targets foreign
-            (record { base = jumps_at text base; bytes = bytes }))
-            (sym (ap (λ n. drop n (first ++ second)) (sym size) ∙ drop-append_seam first second)) two;
-      }
+pages_length : (words : List ℕ) → length (whole_pages words) ≡ cells_size (length words)
+pages_length words =
+    let zeros : length {A = ℕ} (replicate (cells_size (length words) - 4 * length words) 0)
+    ≡ cells_size (length words) - 4 * length words = length-replicate (cells_size (length words) - 4 * length words) 0
+    in
+    omega (
+      arith,
+      length-append (words_bytes words) (replicate (cells_size (length words) - 4 * length words) 0),
+      length-words_bytes words,
+      zeros,
+    )
 
--- a word of the second is one of both
+module _ (text : Words) (targets : List Addr) (foreign : Addr) (places : List ℕ) (base : ℕ) (first second : List ℕ)
+  where
+    abbrev pages : List ℕ
+    pages = whole_pages places
+
+    pub tables_joined : IsTableOf text targets foreign (record { base = base; bytes = first })
+        → IsHalvesOf text targets foreign (record { base = base + size_of text; bytes = second })
+        → base + tables_size text + cells_size (length places) ≤ 2 ^ 31
+        → AreTablesOf text targets foreign places (record { base = base; bytes = first ++ second ++ whole_pages places })
+    tables_joined one two low =
+        let size : length first ≡ size_of text = one.size in
+        let more : length second ≡ halves_size text = two.size in
+        let both : length (first ++ second) ≡ tables_size text =
+        length-append first second ∙ ap (λ n. n + length second) size ∙ ap (λ n. size_of text + n) more in
+        let all : length (first ++ second ++ pages) ≡ tables_size text + cells_size (length places) =
+        length-append (first ++ second) pages ∙ ap (λ n. n + length pages) both
+        ∙ ap (λ n. tables_size text + n) (pages_length places) in
+        record {
+          size = all;
+          low = omega (arith, all, low);
+          first = subst (λ (bytes : List ℕ). IsTableOf text targets foreign (record { base = base; bytes = bytes }))
+              (sym (ap (take (size_of text)) (append_assoc first second pages)
+              ∙ ap (λ n. take n (first ++ (second ++ pages))) (sym size) ∙ take-append_seam first (second ++ pages))) one;
+          second = subst (λ (bytes : List ℕ). IsHalvesOf text targets foreign
+              (record { base = jumps_at text base; bytes = bytes }))
+              (sym (ap (λ (bytes : List ℕ). take (halves_size text) (drop (size_of text) bytes)) (append_assoc first
+              second pages)
+              ∙ ap (λ n. take (halves_size text) (drop n (first ++ (second ++ pages)))) (sym size)
+              ∙ ap (take (halves_size text)) (drop-append_seam first (second ++ pages))
+              ∙ ap (λ n. take n (second ++ pages)) (sym more) ∙ take-append_seam second pages)) two;
+          cases = ap (λ n. drop n (first ++ second ++ pages)) (sym both) ∙ drop-append_seam (first ++ second) pages;
+        }
+
+-- ---- words of the tables
+
+-- a word of the second is one of all
 pub second_word : (text : Words) (tables : TableAt) (a : ℕ) → jumps_at text tables.base ≤ a
+    → a + 4 ≤ jumps_at text tables.base + halves_size text → tables_size text ≤ length tables.bytes
     → table_word tables a ≡ table_word (second_table text tables) a
 unfolding table_word
-second_word text tables a from =
-    sym (ap (λ (z : List ℕ). from_be_bytes w32 (take 4 z))
-    (drop-drop (a - jumps_at text tables.base) (size_of text) tables.bytes
+second_word text tables a from to long =
+    sym (ap (from_be_bytes w32)
+    (taken (halves_size text) (a - jumps_at text tables.base) (drop (size_of text) tables.bytes) (omega (
+      arith,
+      from,
+      to,
+    ))
+    ∙ ap (take 4) (drop-drop (a - jumps_at text tables.base) (size_of text) tables.bytes
     ∙ ap (λ n. drop n tables.bytes)
-    (let e : size_of text + (a - jumps_at text tables.base) ≡ a - tables.base = omega (arith, from) in e)))
+    (let e : size_of text + (a - jumps_at text tables.base) ≡ a - tables.base = omega (arith, from) in e))))
+  where
+    -- four bytes among the first of some
+    four : (n : ℕ) (xs : List ℕ) → 4 ≤ n → take 4 (take n xs) ≡ take 4 xs
+    four zero xs l = absurd (omega (arith, l))
+    four (suc zero) xs l = absurd (omega (arith, l))
+    four (suc (suc zero)) xs l = absurd (omega (arith, l))
+    four (suc (suc (suc zero))) xs l = absurd (omega (arith, l))
+    four (suc (suc (suc (suc n)))) [] l = refl
+    four (suc (suc (suc (suc n)))) (a ∷ []) l = refl
+    four (suc (suc (suc (suc n)))) (a ∷ b ∷ []) l = refl
+    four (suc (suc (suc (suc n)))) (a ∷ b ∷ c ∷ []) l = refl
+    four (suc (suc (suc (suc n)))) (a ∷ b ∷ c ∷ d ∷ xs) l = refl
+
+    taken : (n k : ℕ) (xs : List ℕ) → k + 4 ≤ n → take 4 (drop k (take n xs)) ≡ take 4 (drop k xs)
+    taken n zero xs l = four n xs (omega (arith, l))
+    taken zero (suc k) xs l = absurd (omega (arith, l))
+    taken (suc n) (suc k) [] l = refl
+    taken (suc n) (suc k) (x ∷ xs) l = taken n k xs (omega (arith, l))
+
+-- and so is one of the last
+pub cases_word : (text : Words) (tables : TableAt) (a : ℕ) → cases_at text tables.base ≤ a
+    → table_word tables a ≡ table_word (cases_table text tables) a
+unfolding table_word
+cases_word text tables a from =
+    sym (ap (λ (z : List ℕ). from_be_bytes w32 (take 4 z))
+    (drop-drop (a - cases_at text tables.base) (tables_size text) tables.bytes
+    ∙ ap (λ n. drop n tables.bytes)
+    (let e : tables_size text + (a - cases_at text tables.base) ≡ a - tables.base = omega (arith, from) in e)))
+
+-- a word among words as bytes, with zeros behind
+word_among : (words : List ℕ) (n count : ℕ) → n < length words → slice_index words n < 2 ^ 32
+    → from_be_bytes w32 (take 4 (drop (4 * n) (words_bytes words ++ replicate count 0))) ≡ slice_index words n
+unfolding words_bytes
+word_among [] n count below small = absurd (omega (arith, below))
+word_among (w ∷ words) zero count below small = from_be_bytes-to_be_bytes_4 w small
+word_among (w ∷ words) (suc n) count below small =
+    let e : 4 * suc n ≡ suc (suc (suc (suc (4 * n)))) = omega arith in
+    ap (λ z. from_be_bytes w32 (take 4 (drop z (words_bytes (w ∷ words) ++ replicate count 0)))) e
+    ∙ word_among words n count (omega (arith, below)) small
+
+-- ---- the words with the places of the pieces of Case edges
+
+pub cases_for : (text : Words) (graph : Graph) (p : Placement) (targets : List Addr) (foreign : Addr) (tables : TableAt)
+    → AreTablesOf text targets foreign (case_places text graph p) tables → tables.base % 4096 ≡ 0
+    → ((k : ℕ) → slice_index p.at k ≤ 2 ^ 31) → AreCasesFor text graph p (cases_table text tables)
+unfolding table_word
+cases_for text graph p targets foreign tables are aligned small =
+    let many : length (case_places text graph p) ≡ length (case_numbers text graph) =
+    length-map (case_numbers text graph) (λ number. slice_index p.at number) in
+    let long : length (cases_table text tables).bytes ≡ cells_size (length (case_places text graph p)) =
+    ap length are.cases ∙ pages_length (case_places text graph p) in
+    let size = are.size in
+    let low = are.low in
+    record {
+      aligned = omega (arith, aligned);
+      low = omega (arith, long, size, low);
+      long = omega (arith, long, many);
+      words = λ entry number e.
+          let within = slice_get_within (case_numbers text graph) entry number e in
+          let here : slice_index (case_places text graph p) entry ≡ slice_index p.at number =
+          get_or-map (λ n. slice_index p.at n) (case_numbers text graph) entry 0 0 within
+          ∙ ap (λ n. slice_index p.at n) (get_or_from_slice_get (case_numbers text graph) entry number 0 e) in
+          let l = small number in
+          let at : cases_at text tables.base + 4 * entry - cases_at text tables.base ≡ 4 * entry = omega arith in
+          ap (λ n. from_be_bytes w32 (take 4 (drop n (cases_table text tables).bytes))) at
+          ∙ ap (λ (bytes : List ℕ). from_be_bytes w32 (take 4 (drop (4 * entry) bytes))) are.cases
+          ∙ word_among (case_places text graph p) entry _ (omega (arith, within, many)) (omega (arith, here, l))
+          ∙ here;
+    }

@@ -1,10 +1,10 @@
 -- What a run of a written file rests on, and what follows for it as a whole.
-use Rattle.std.specs.Prelude.{◌≡◌, ◌≢◌, ℕ, zero, suc, ◌-◌, ◌<◌, ◌≤◌, ◌⊎◌, List, Option, Some, None}
-use Rattle.eel_base.specs.CodeText.{IsText}
+use Rattle.std.specs.Prelude.{◌≡◌, ◌≢◌, ℕ, zero, suc, ◌+◌, ◌-◌, ◌<◌, ◌≤◌, ◌⊎◌, List, Option, Some, None, slice_get, slice_index}
+use Rattle.eel_base.specs.CodeText.{IsText, address_of}
 use Rattle.elf32_sparc.specs.Notes.{NoteRange, node_at, range_at}
 use Rattle.v8_decode.specs.declared.Instr.{Instr}
 use Rattle.v8_step.specs.declared.Ending.{Ending}
-use Rattle.v8_step.specs.State.{State}
+use Rattle.v8_step.specs.State.{State, sum_of}
 use Rattle.v8_step.specs.Run.{run, run_puts}
 use Rattle.v8_step.specs.Items.{Item, IsItem, IsSameAt}
 use Rattle.v8_step.specs.Alike.{IsSameWorld}
@@ -15,9 +15,12 @@ use Rattle.v8_step.specs.Follows.{IsFollowed}
 use Rattle.cfg_normal.specs.declared.Node.{Node}
 use Rattle.code_runs.specs.PointsAlike.{instr_of}
 use Rattle.cfg_walk.specs.Walk.{Point, point_of, end_of_walk, gone_in}
-use Rattle.cfg_walk.specs.Matches.{FetchesOnly, BeginsAt}
+use Rattle.cfg_blocks.specs.Blocks.{blocks_of}
+use Rattle.cfg_walk.specs.Matches.{AreOpen, BeginsAt, FetchesOnly, JumpsGoByCase}
 use Rattle.edit_core.specs.RunsAlike.{EndsAtNode, TellsStep}
-use Rattle.image_code.specs.Simulates.{IsKept, IsSparing, IsWatched, Setting, Simulates, cells_in, graph_in, limit_on, number_in, store_of, updates, word_of}
+use Rattle.image_code.specs.Keeping.{AreCaseTables}
+use Rattle.image_code.specs.Simulates.{CaseTable, IsAtWord, IsNoLoad, IsKept, IsSparing, IsWatched, Setting, Simulates, cells_in, graph_in, limit_on, number_in, store_of, updates, word_of}
+use Rattle.jump_code.specs.PageWords.{kept_address}
 
 -- ---- the items that are kept equal, step by step
 
@@ -43,6 +46,38 @@ pub record Keeping (g : Setting) (entry : ℕ) (s0 : State) (K : ℕ → Item �
       → updates g.snips (gone_in g.text (graph_in g) entry s0 n) cells (run s0 (suc n))
       ≡ updates g.snips (gone_in g.text (graph_in g) entry s0 n) cells v
 
+-- ---- from the load of an open switch to its jump
+
+-- From step `start` on, `more` steps stood at the words from the load on, each at the jump's block itself.
+abbrev pub CameFrom : Setting → ℕ → State → CaseTable → ℕ → ℕ → Type 0
+CameFrom g entry s0 o start more =
+    (j : ℕ) → j ≤ more → IsAtWord g o (end_of_walk g.text (graph_in g) entry s0 (j + start))
+    (point_of (run s0 (j + start))) (o.load + j)
+
+-- The jump of step n goes to what the entry has that was loaded before.
+pub record GoesByTable (g : Setting) (entry : ℕ) (s0 : State) (o : CaseTable) (n : ℕ) : Type 0 where
+  pub start : ℕ
+  pub since : n ≡ o.jump - o.load + start
+  pub came : CameFrom g entry s0 o start (o.jump - o.load)
+  pub number : ℕ
+  pub below : number < o.count
+  pub loaded : sum_of (run s0 start) o.rs1 o.op2 ≡ address_of g.text (o.from + number)
+  pub live : (run s0 (suc n)).ending ≡ None
+  pub goes : (run s0 (suc n)).npc ≡ slice_index g.text.words (o.from + number)
+
+-- the law of open switches: at the jump's block itself each jump does
+abbrev pub JumpsGoByTable : Setting → ℕ → State → Type 0
+JumpsGoByTable g entry s0 =
+    (n : ℕ) → (run s0 n).ending ≡ None → (k : ℕ) (o : CaseTable) → slice_get g.opens k ≡ Some o
+    → IsAtWord g o (end_of_walk g.text (graph_in g) entry s0 n) (point_of (run s0 n)) o.jump
+    → GoesByTable g entry s0 o n
+
+-- word 0 of the page has the address that was loaded
+abbrev pub KeepsLoaded : Setting → ℕ → State → ℕ → State → Type 0
+KeepsLoaded g entry s0 n t =
+    (k : ℕ) (o : CaseTable) → slice_get g.opens k ≡ Some o → (start more : ℕ) → n ≡ more + start
+    → o.load + more ≤ o.jump → CameFrom g entry s0 o start more → kept_address t ≡ sum_of (run s0 start) o.rs1 o.op2
+
 -- ---- the two runs
 
 -- what both have alike, going on or at the end
@@ -57,6 +92,7 @@ pub record Linked (g : Setting) (entry : ℕ) (Here : Node → Point → State �
   pub live : (run s0 n).ending ≡ None
   pub here : Here (end_of_walk g.text (graph_in g) entry s0 n) (point_of (run s0 n)) (run t0 m)
   pub items : (item : Item) → IsItem item → K n item → IsSameAt item (run s0 n) (run t0 m)
+  pub kept : KeepsLoaded g entry s0 n (run t0 m)
   pub together : AreTogether g entry s0 t0 n m
 
 -- both are over; the written file's pc is then in a place of the node where the original's walk ended, and of the last
@@ -78,6 +114,10 @@ pub record Rests (g : Setting) (entry : ℕ) (Inside : Point → Type 0)
   pub begins : BeginsAt g.text entry s0
   pub simulates : Simulates g Inside Here Short
   pub keeping : Keeping g entry s0 K
+  pub opened : AreOpen (blocks_of g.text g.given) g.switches
+  pub by_case : JumpsGoByCase g.text (graph_in g) entry s0
+  pub opens : AreCaseTables g
+  pub by_table : JumpsGoByTable g entry s0
   -- from the entry to the first visit, with no visit and in no place before
   pub begin : ℕ
   pub soon : begin ≤ 64
@@ -102,8 +142,8 @@ Tells g entry s0 t0 n m = node_at g.notes (run t0 m).pc ≢ None → TellsStep g
 abbrev pub Spares : Setting → ℕ → Type 0 → State → State → ℕ → ℕ → ℕ → Type 0
 Spares g entry Short s0 t0 n m k =
     IsWatched g (gone_in g.text (graph_in g) entry s0 n) (point_of (run s0 n)) (run s0 (suc n))
-    → IsSparing g (((run s0 n).ending ≡ None) × Short) (gone_in g.text (graph_in g) entry s0 n) (point_of (run s0 n))
-    (run t0 m) (k - m)
+    → IsSparing g (((run s0 n).ending ≡ None) × Short × IsNoLoad g (run s0 (suc n)))
+    (gone_in g.text (graph_in g) entry s0 n) (point_of (run s0 n)) (run t0 m) (k - m)
 
 -- what follows
 pub record Follows (g : Setting) (entry : ℕ) (Short : Type 0) (s0 t0 : State) (last : ℕ) : Type 0 where

@@ -1,5 +1,5 @@
 -- What a run of a written file has to do with the run of its original, with the same arguments and input.
-use Rattle.std.specs.Prelude.{◌≡◌, ◌≢◌, ℕ, suc, ◌-◌, ◌*◌, ◌^◌, ◌<◌, ◌≤◌, List, length, Some, None}
+use Rattle.std.specs.Prelude.{◌≡◌, ◌≢◌, ℕ, suc, ◌-◌, ◌*◌, ◌^◌, ◌<◌, ◌≤◌, List, length, map, Some, None}
 use Rattle.elf32_sparc.specs.Image.{image_of}
 use Rattle.elf32_sparc.specs.Notes.{NoteRange, Notes, node_at, range_at}
 use Rattle.v8_decode.specs.declared.Part.{Part}
@@ -11,11 +11,18 @@ use Rattle.v8_step.specs.Valid.{AreBytes}
 use Rattle.v8_step.specs.Visits.{pages_of, trail_of}
 use Rattle.v8_process.specs.Arguments.{AreArguments}
 use Rattle.v8_process.specs.Start.{start_of}
+use Rattle.cfg_normal.specs.Opens.{Open}
 use Rattle.cfg_view.specs.View.{given_in}
 use Rattle.cfg_walk.specs.Walk.{end_of_walk, gone_in, point_of}
-use Rattle.image_code.specs.Simulates.{IsSparing, IsWatched, Setting, cells_in, graph_in, limit_on, number_in, store_of}
+use Rattle.image_code.specs.Graphs.{case_table, opens_in}
+use Rattle.image_code.specs.Simulates.{IsNoLoad, IsSparing, IsWatched, Setting, cells_in, graph_in, limit_on, number_in, store_of}
 use Rattle.tool_kit.specs.Plans.{Plan}
 use Rattle.edit_core.specs.Taken.{bound_in}
+
+-- the open switches of an original
+abbrev pub switches_in : List ℕ → Plan → List Open
+switches_in original plan =
+    opens_in (image_of original).text (given_in (image_of original) plan.marks) (image_of original).entry
 
 -- an edit of an original by a plan, with these notes, and with what is dead behind each edge's snippet
 abbrev pub edit_of : List ℕ → Plan → (ℕ → List Part) → Notes → Setting
@@ -24,6 +31,8 @@ edit_of original plan dead notes = record {
   given = given_in (image_of original) plan.marks;
   snips = plan.snips;
   dead = dead;
+  switches = switches_in original plan;
+  opens = map (case_table (image_of original).text) (switches_in original plan);
   notes = notes;
 }
 
@@ -80,13 +89,14 @@ pub record AreRunsAlike (g : Setting) (bound entry : ℕ) (s0 t0 : State) : Type
   pub soon : IsUntouched (pages_of g.notes) s0 0 → (m : ℕ) → IsLeast (Answers g.notes s0 t0 0) m → m ≤ first_limit
   pub bounded : (n : ℕ) → IsUntouched (pages_of g.notes) s0 (suc n)
       → IsBounded g.notes s0 t0 n (limit_on g (gone_in g.text (graph_in g) entry s0 n))
-  -- Spills: from the first of these moments for a step to the first for the next, what is stored in the pages but for cells
-  -- and word 0 of the editor's page is registers that snippets spill; and what is so besides where nothing is long.
+  -- Spills: from the first of these moments for a step to the first for the next, what is stored in the pages but for
+  -- cells and word 0 of the editor's page is registers that snippets spill; and what is so besides where nothing is long
+  -- and the original doesn't go on at the load of an open switch, before which its address is kept.
   pub spared : (n : ℕ) → IsUntouched (pages_of g.notes) s0 (suc n)
       → IsWatched g (gone_in g.text (graph_in g) entry s0 n) (point_of (run s0 n)) (run s0 (suc n))
       → (m k : ℕ) → IsLeast (Answers g.notes s0 t0 n) m → IsLeast (Answers g.notes s0 t0 (suc n)) k
-      → IsSparing g (((run s0 n).ending ≡ None) × (bound ≤ short_bound)) (gone_in g.text (graph_in g) entry s0 n)
-      (point_of (run s0 n)) (run t0 m) (k - m)
+      → IsSparing g (((run s0 n).ending ≡ None) × (bound ≤ short_bound) × IsNoLoad g (run s0 (suc n)))
+      (gone_in g.text (graph_in g) entry s0 n) (point_of (run s0 n)) (run t0 m) (k - m)
   -- Stops: wherever the run is stopped, with no touch in as many steps as it made visits.
   pub stops : (m : ℕ) → IsUntouched (pages_of g.notes) s0 (visits_by g.notes t0 m)
       → IsStop g entry s0 t0 m (visits_by g.notes t0 m)

@@ -1,13 +1,15 @@
 -- Which files are edited, and why others are not.
-use Rattle.std.specs.Prelude.{◌≡◌, ℕ, ◌+◌, ◌*◌, ◌^◌, ◌<◌, ◌≤◌, List, ◌∷◌, length, Some, None}
+use Rattle.std.specs.Prelude.{◌≡◌, ℕ, ◌+◌, ◌*◌, ◌^◌, ◌<◌, ◌≤◌, Bool, nat_eq, List, ◌∷◌, length, Option, Some, None}
+use Rattle.std.specs.List.{count_by, sum_by}
 use Rattle.eel_base.specs.CodeText.{Words}
 use Rattle.elf32_sparc.specs.FileFault.{fault}
 use Rattle.elf32_sparc.specs.Image.{image_of}
 use Rattle.elf32_sparc.specs.declared.fault.ReadFault.{ReadFault}
 use Rattle.elf32_sparc.specs.declared.fault.ReadFault.TheVariants as reads
-use Rattle.cfg_blocks.specs.Blocks.{Blocks}
 use Rattle.cfg_normal.specs.declared.Edge.{Edge}
-use Rattle.cfg_normal.specs.Graph.{Graph}
+use Rattle.cfg_normal.specs.Graph.{Graph, lands}
+use Rattle.cfg_normal.specs.Numbers.{node_number}
+use Rattle.cfg_normal.specs.Opens.{Open}
 use Rattle.cfg_view.specs.View.{view_of}
 use Rattle.image_code.specs.Fit.{copies_of}
 use Rattle.snippets.specs.declared.snippet.Op.{Op}
@@ -17,7 +19,7 @@ use Rattle.tool_kit.specs.Plans.{Plan}
 use Rattle.edit_core.specs.declared.taking.EditFault.{EditFault}
 use Rattle.edit_core.specs.declared.taking.EditFault.TheVariants as faults
 
--- ---- how much room an edit asks for
+-- ---- operations
 
 -- How many operations an edge is taken to have. In a profile it is one, so that they are as many for every choice of
 -- counted edges.
@@ -26,15 +28,38 @@ counted_on tools.Profile ops = 1
 counted_on _ ops = length ops
 
 -- the operations on some edges, counted as often as they are made
-abbrev pub operations_on : ToolKind → Blocks → List Edge → List (List Op) → ℕ
-operations_on kind b (edge ∷ edges) (ops ∷ snips) =
-    copies_of b edge * counted_on kind ops + operations_on kind b edges snips
-operations_on kind b _ _ = 0
+abbrev pub operations_on : ToolKind → Graph → List Edge → List (List Op) → ℕ
+operations_on kind graph (edge ∷ edges) (ops ∷ snips) =
+    copies_of graph edge * counted_on kind ops + operations_on kind graph edges snips
+operations_on kind graph _ _ = 0
+
+-- ---- the entries of tables, counted by the edges along which they lead
+
+-- a Case edge by the block that it leaves and the number of its node
+abbrev pub case_key : ℕ → ℕ → ℕ
+case_key from to = from * 2 ^ 32 + to
+
+abbrev pub count_of : Option ℕ → ℕ
+count_of None = 0
+count_of (Some n) = n
+
+-- an entry that leads to a word, from a block, leads along the edge with this key
+abbrev pub is_entry : Graph → ℕ → ℕ → ℕ → Bool
+is_entry graph block key word = nat_eq (case_key block (node_number graph (lands graph (Some word)))) key
+
+abbrev pub entries_with : Graph → ℕ → List Open → ℕ
+entries_with graph key opens = sum_by (λ (o : Open). count_by (is_entry graph o.block key) o.targets) opens
+
+-- a table has under each key how many entries do
+abbrev pub AreCounts : Graph → (ℕ → Option ℕ) → Type 0
+AreCounts graph get = (key : ℕ) → count_of (get key) ≡ entries_with graph key graph.opens
+
+-- ---- how much room an edit asks for
 
 -- in bytes
 abbrev pub bound_by : Words → Graph → ToolKind → ℕ → List (List Op) → ℕ
 bound_by text graph kind cells snips =
-    2 ^ 20 + 512 * length text.words + 4 * cells + 128 * operations_on kind graph.blocks graph.edges snips
+    2 ^ 20 + 512 * length text.words + 4 * cells + 128 * operations_on kind graph graph.edges snips
 
 abbrev pub bound_of : Words → Graph → Plan → ℕ
 bound_of text graph plan = bound_by text graph plan.kind plan.cells plan.snips

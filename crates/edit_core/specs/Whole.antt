@@ -7,7 +7,8 @@ use Rattle.v8_step.specs.Items.{Item}
 use Rattle.v8_step.specs.Needed.{IsUntouched}
 use Rattle.v8_step.specs.Visits.{pages_of}
 use Rattle.v8_step.specs.TwoRuns.{Answers, IsLeast, IsBounded}
-use Rattle.cfg_walk.specs.Matches.{BeginsAt, FetchesOnly}
+use Rattle.cfg_blocks.specs.Blocks.{blocks_of}
+use Rattle.cfg_walk.specs.Matches.{AreOpen, BeginsAt, FetchesOnly, JumpsGoByCase}
 use Rattle.snippets.specs.Grammar.{IsOp}
 use Rattle.layout.specs.Laid.{HasShortForms, Placement}
 use Rattle.image_code.specs.Simulates.{Setting, cells_in, graph_in, store_of}
@@ -27,6 +28,7 @@ KeptIn g entry s0 n item = IsKeptAt g.text (graph_in g) (named_on g.snips) entry
 abbrev pub KeepsWhatLives : Type 0
 KeepsWhatLives =
     (g : Setting) (entry : ℕ) (s0 : State) → IsText g.text → FetchesOnly g.text s0 → BeginsAt g.text entry s0
+    → AreOpen (blocks_of g.text g.given) g.switches → JumpsGoByCase g.text (graph_in g) entry s0
     → AreDead g.text (graph_in g) (named_on g.snips) g.dead → All (All IsOp) g.snips
     → Keeping g entry s0 (KeptIn g entry s0)
 

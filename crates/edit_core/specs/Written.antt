@@ -1,6 +1,6 @@
 -- What is written of an original: cells, tables of addresses, new code and a page for the editor, as segments, and
 -- notes of them.
-use Rattle.std.specs.Prelude.{◌≡◌, ℕ, zero, suc, ◌+◌, ◌*◌, ◌/◌, ◌^◌, ◌<◌, ◌≤◌, Bool, true, false, List, [], ◌∷◌, ◌++◌, length, map, replicate, slice_index, take, drop, None, Ok, All}
+use Rattle.std.specs.Prelude.{◌≡◌, ℕ, zero, suc, ◌+◌, ◌-◌, ◌*◌, ◌/◌, ◌^◌, ◌<◌, ◌≤◌, Bool, true, false, List, [], ◌∷◌, ◌++◌, length, map, replicate, slice_index, take, drop, Some, None, Ok, All}
 use Rattle.std.specs.List.{find}
 use Rattle.std.specs.Option.{option_map, option_to_list}
 use Rattle.eel_base.specs.CodeText.{Words, address_of}
@@ -20,7 +20,7 @@ use Rattle.cfg_blocks.specs.Blocks.{below, blocks_of, holding_of}
 use Rattle.cfg_normal.specs.declared.Edge.{Edge}
 use Rattle.cfg_normal.specs.declared.Slot.{Slot}
 use Rattle.cfg_normal.specs.declared.Slot.TheVariants as slots
-use Rattle.cfg_normal.specs.Graph.{Graph, graph_of}
+use Rattle.cfg_normal.specs.Graph.{Graph, graph_of, node_of}
 use Rattle.cfg_view.specs.View.{given_in}
 use Rattle.cfg_normal.specs.Numbers.{node_number}
 use Rattle.liveness.specs.Live.{named_on}
@@ -30,7 +30,9 @@ use Rattle.addr_translate.specs.Table.{IsTableOf, size_of}
 use Rattle.layout.specs.declared.items.Item.{Item}
 use Rattle.layout.specs.declared.items.Placed.{Placed}
 use Rattle.layout.specs.Laid.{HasShortForms, IsLaid, Placement, long_bytes, placement_of}
-use Rattle.image_code.specs.Made.{foreign_number, jumps_at, lands_at, piece_list}
+use Rattle.image_code.specs.Graphs.{opens_in}
+use Rattle.image_code.specs.Made.{jumps_at, lands_at, piece_list}
+use Rattle.image_code.specs.Numbered.{case_numbers, enter_number, foreign_number}
 use Rattle.image_code.specs.Parts.{codes_of}
 use Rattle.snippets.specs.declared.snippet.Op.{Op}
 use Rattle.tool_kit.specs.Good.{IsGood}
@@ -66,7 +68,7 @@ if_any (suc count) one = one ∷ []
 abbrev pub cells_at : ℕ → ℕ → AddedSegment
 cells_at base cells = record { vaddr = base; memsz = 4 * cells; flags = 6; bytes = [] }
 
--- how much room they take, in whole pages
+-- how much room so many words take, in whole pages
 abbrev pub cells_size : ℕ → ℕ
 cells_size cells = (4 * cells + 4095) / 4096 * 4096
 
@@ -104,24 +106,45 @@ off_range text graph table edge = record {
 abbrev pub off_ranges : Words → Graph → ℕ → List NoteRange
 off_ranges text graph table = option_to_list (option_map (off_range text graph table) (find is_off graph.edges))
 
--- ---- two tables, one right behind the other: that of all addresses, and that of two levels, in which jumps look up
+-- ---- tables, one right behind the other: that of all addresses, that of two levels, in which jumps look up, and the
+-- words with the places of the pieces of Case edges, up to a whole page
 
 abbrev pub tables_size : Words → ℕ
 tables_size text = size_of text + halves_size text
+
+-- where the words stand
+abbrev pub cases_at : Words → ℕ → ℕ
+cases_at text table = table + tables_size text
 
 abbrev pub first_table : Words → TableAt → TableAt
 first_table text tables = record { base = tables.base; bytes = take (size_of text) tables.bytes }
 
 abbrev pub second_table : Words → TableAt → TableAt
-second_table text tables = record { base = jumps_at text tables.base; bytes = drop (size_of text) tables.bytes }
+second_table text tables = record {
+  base = jumps_at text tables.base;
+  bytes = take (halves_size text) (drop (size_of text) tables.bytes);
+}
 
-pub record AreTablesOf (text : Words) (targets : List Addr) (foreign : Addr) (tables : TableAt) : Type 0 where
-  pub size : length tables.bytes ≡ tables_size text
+abbrev pub cases_table : Words → TableAt → TableAt
+cases_table text tables = record {
+  base = cases_at text tables.base;
+  bytes = drop (tables_size text) tables.bytes;
+}
+
+-- words, and zeros up to a whole page
+abbrev pub whole_pages : List ℕ → List ℕ
+whole_pages words = words_bytes words ++ replicate (cells_size (length words) - 4 * length words) 0
+
+pub record AreTablesOf (text : Words) (targets : List Addr) (foreign : Addr) (places : List ℕ) (tables : TableAt)
+    : Type 0 where
+  pub size : length tables.bytes ≡ tables_size text + cells_size (length places)
+  pub low : tables.base + length tables.bytes ≤ 2 ^ 31
   pub first : IsTableOf text targets foreign (first_table text tables)
   pub second : IsHalvesOf text targets foreign (second_table text tables)
+  pub cases : (cases_table text tables).bytes ≡ whole_pages places
 
 -- ---- where they lead: from each word of the text to its landing, or to its image where nothing is done on the way, and
--- from all else to the foreign piece
+-- from all else to the foreign piece; and from each entry of a switch's table to the piece of its Case edge
 
 abbrev pub addr : ℕ → Addr
 addr a = record { 0 = a }
@@ -133,14 +156,27 @@ landings_of text graph snips p =
 abbrev pub foreign_of : Words → Graph → Placement → Addr
 foreign_of text graph p = addr (slice_index p.at (foreign_number text graph))
 
+abbrev pub case_places : Words → Graph → Placement → List ℕ
+case_places text graph p = map (λ number. slice_index p.at number) (case_numbers text graph)
+
+-- the piece at which the program begins, which is entered at a word
+abbrev pub entry_number : Words → Graph → ℕ → ℕ
+entry_number text graph entry = enter_number text graph (node_of graph.blocks (Some entry)) entry
+
 abbrev pub LeadsTo : Words → Graph → List (List Op) → Placement → TableAt → Type 0
 LeadsTo text graph snips p table =
-    AreTablesOf text (landings_of text graph snips p) (foreign_of text graph p) table
+    AreTablesOf text (landings_of text graph snips p) (foreign_of text graph p) (case_places text graph p) table
+
+-- how many bytes the tables have
+abbrev pub segment_size : Words → Graph → ℕ
+segment_size text graph = tables_size text + cells_size (length (case_numbers text graph))
 
 -- ---- the pieces of new code, with the snippets on the cells at `base`, by what is dead behind them
 
 abbrev pub pieces_by : Words → Graph → ℕ → ℕ → (ℕ → List Part) → List (List Op) → List (List Item)
-pieces_by text graph base cells dead snips = piece_list text graph (table_after base cells) (codes_of base dead snips)
+pieces_by text graph base cells dead snips =
+    let table = table_after base cells in
+    piece_list text graph table (cases_at text table) (codes_of base dead snips)
 
 -- Pieces were laid from an address on, in no more bytes than their long forms take. Where these are few, no form is long.
 pub record AreLaid (pieces : List (List Item)) (base : ℕ) (p : Placement) (place : ℕ → ℕ → ℕ) : Type 0 where
@@ -153,7 +189,8 @@ pub record IsBuilt (text : Words) (graph : Graph) (base cells : ℕ) (snips : Li
   pub dead : ℕ → List Part
   pub exact : AreDead text graph (named_on snips) dead
   pub place : ℕ → ℕ → ℕ
-  pub are : AreLaid (pieces_by text graph base cells dead snips) (table_after base cells + tables_size text) p place
+  pub are : AreLaid (pieces_by text graph base cells dead snips) (table_after base cells + segment_size text graph) p
+      place
 
 -- ---- of an original, by what a tool asks of it
 
@@ -166,7 +203,7 @@ module _ (original : List ℕ) (plan : Plan) where
   given_of = given_in (image_of original) plan.marks
 
   abbrev pub graph_in : Graph
-  graph_in = graph_of (blocks_of text_of given_of) []
+  graph_in = graph_of (blocks_of text_of given_of) (opens_in text_of given_of (image_of original).entry)
 
   -- where the cells stand, the tables behind them, and the code right behind those
   abbrev pub cells_base : ℕ
@@ -176,14 +213,14 @@ module _ (original : List ℕ) (plan : Plan) where
   table_base = table_after cells_base plan.cells
 
   abbrev pub code_base : ℕ
-  code_base = table_base + tables_size text_of
+  code_base = table_base + segment_size text_of graph_in
 
   abbrev pub pieces_of : (ℕ → List Part) → List (List Item)
   pieces_of dead = pieces_by text_of graph_in cells_base plan.cells dead plan.snips
 
-  -- where the program is entered: the image of its entry
+  -- where the program is entered: the piece of its entry
   abbrev pub entry_of : Placement → ℕ
-  entry_of p = slice_index p.at (image_of original).entry
+  entry_of p = slice_index p.at (entry_number text_of graph_in (image_of original).entry)
 
   -- ---- the segments that are added
 
@@ -206,7 +243,7 @@ module _ (original : List ℕ) (plan : Plan) where
     entry = holding_of graph_in.blocks (image_of original).entry;
     base = cells_base;
     cells = plan.cells;
-    segments = segments_noted cells_base plan.cells (tables_size text_of) p.code;
+    segments = segments_noted cells_base plan.cells (segment_size text_of graph_in) p.code;
     blocks = graph_in.blocks.firsts;
     edges = note_edges graph_in plan.kind graph_in.edges plan.snips;
     ranges = off_ranges text_of graph_in table_base ++ p.ranges;

@@ -1,26 +1,28 @@
 //! The new code of a program, and the tables that lead to it.
-ghost use Rattle.std.specs.Prelude.{◌≡◌, ◌+◌, ◌*◌, ◌%◌, ◌^◌, ◌<◌, ◌≤◌, ℕ, length, map, slice_index, All, IfOk};
+ghost use Rattle.std.specs.Prelude.{◌≡◌, ◌+◌, ◌-◌, ◌*◌, ◌%◌, ◌^◌, ◌<◌, ◌≤◌, ◌++◌, ℕ, length, map, slice_index, All, IfOk, OnOk};
 ghost use Rattle.eel_base.specs.CodeText.{IsText};
 ghost use Rattle.layout.specs.Laid.{ArePieces, long_bytes};
-ghost use Rattle.image_code.specs.Parts.{IsGraphOf};
+ghost use Rattle.image_code.specs.Graphs.{IsGraphOf};
 ghost use Rattle.edit_core.specs.Taken.{bound_by};
-ghost use Rattle.edit_core.specs.Written.{addr, cells_size as cells_size_of, placement_in, table_after, tables_size as tables_size_of, AreLaid, AreTablesOf, IsBuilt, IsWorkable, LeadsTo};
+ghost use Rattle.edit_core.specs.Written.{addr, cases_at, cells_size as cells_size_of, entry_number, placement_in, segment_size as segment_size_of, table_after, tables_size as tables_size_of, whole_pages, AreLaid, AreTablesOf, IsBuilt, IsWorkable, LeadsTo};
 
-use crate::segments::PAGE_SIZE;
+use crate::segments::{PAGE_SIZE, zeros};
 use crate::taking::Asked;
 use addr_translate::{build, build_halves, halves_size, table_size};
 use cfg_normal::FlowGraph;
 use eel_base::{Addr, NoMemory, PieceNo, Text};
 use elf32_sparc::Image;
+use elf32_write::put_words;
 use image_code::{Frame, pieces};
 use layout::{LayoutFault, Piece, Placed, place};
 use liveness::live;
 use std::alloc::Global;
 
-/// Code, and the bytes of the tables that lead to it.
+/// Code, where it is entered, and the bytes of the tables that lead to it.
 #[derive(Drop)]
 pub(crate) struct NewCode {
     pub placed: Placed,
+    pub entry: Addr,
     pub tables: Vec<u8>,
 }
 
@@ -41,6 +43,8 @@ pub(crate) fn new_code(
     requires low { image.now.base + image.now.room ≤ 2 ^ 31 }
     ensures built { IfOk result (λ new. IsBuilt image.now.text graph.now image.now.base asked.now.cells
         asked.now.snips.items (placement_in new.placed)) }
+    ensures entry { IfOk result (λ new. new.entry.0 ≡ slice_index (placement_in new.placed).at
+        (entry_number image.now.text graph.now image.now.entry)) }
     ensures leads { IfOk result (λ new.
         LeadsTo image.now.text graph.now asked.now.snips.items (placement_in new.placed)
         (record { base = table_after image.now.base asked.now.cells; bytes = new.tables.items })) }
@@ -50,6 +54,7 @@ pub(crate) fn new_code(
     let frame = Frame {
         cells: image.base(),
         table,
+        cases: cases_base(text, table),
     };
     let live = live(alloc, text, graph, &asked.snips)?;
     let pieces = pieces(
@@ -61,44 +66,84 @@ pub(crate) fn new_code(
         &live,
         frame,
     )?;
-    let placed = laid(alloc, &pieces.list, image, asked.cells)?;
+    let size = segment_size(text, &pieces.cases);
+    let placed = laid(alloc, &pieces.list, image, asked.cells, size)?;
     let targets = places_of(alloc, &placed.at, &pieces.landing)?;
     let foreign = place_of(&placed.at, pieces.foreign);
-    let tables = tables_for(alloc, text, &targets, foreign, table)?;
-    Ok(NewCode { placed, tables })
+    let cases = words_of(alloc, &placed.at, &pieces.cases)?;
+    let tables = tables_for(alloc, text, &targets, foreign, &cases, table)?;
+    let entry = place_of(&placed.at, pieces.entry);
+    Ok(NewCode {
+        placed,
+        entry,
+        tables,
+    })
 }
 
-// The table of all addresses, to stand at `base`, and right behind it that of two levels.
+// The table of all addresses, to stand at `base`, right behind it that of two levels, and then the words with the
+// places of the pieces of Case edges.
 fn tables_for(
     alloc: Global,
     text: &Text,
     targets: &[Addr],
     foreign: Addr,
+    cases: &[u32],
     base: Addr,
 ) -> Result<Vec<u8>, NoMemory>
     requires targets { length targets.now ≡ length text.now.words }
+    requires cases { length cases.now ≤ 2 ^ 22 }
     requires aligned { base.0 % 4096 ≡ 0 }
-    requires room { base.0 + tables_size_of text.now ≤ 2 ^ 31 }
-    ensures { IfOk result (λ v. AreTablesOf text.now targets.now foreign
+    requires room { base.0 + tables_size_of text.now + cells_size_of (length cases.now) ≤ 2 ^ 31 }
+    ensures { IfOk result (λ v. AreTablesOf text.now targets.now foreign cases.now
         (record { base = base.0; bytes = v.items })) }
 {
     let first = build(alloc, text, targets, foreign, base)?;
     let behind = Addr(base.0 + table_size(text));
     let second = build_halves(alloc, text, targets, foreign, behind)?;
-    let mut both = Vec::new(alloc);
-    both.extend_from_slice(first.bytes())?;
-    both.extend_from_slice(&second)?;
-    Ok(both)
+    let mut tables = Vec::new(alloc);
+    tables.extend_from_slice(first.bytes())?;
+    tables.extend_from_slice(&second)?;
+    put_pages(alloc, &mut tables, cases)?;
+    Ok(tables)
 }
 
-/// How many bytes the tables of a text have.
-pub(crate) fn tables_size(text: &Text) -> u32
+// Adds words, and zeros up to a whole page.
+fn put_pages(alloc: Global, out: &mut Vec<u8>, words: &[u32]) -> Result<(), NoMemory>
+    requires { length words.now ≤ 2 ^ 22 }
+    ensures { OnOk result (out.new.items ≡ out.old.items ++ whole_pages words.now) }
+{
+    let count = words.len() as u32;
+    let zeros = zeros(alloc, cells_size(count) - 4 * count)?;
+    put_words(out, words)?;
+    out.extend_from_slice(&zeros)?;
+    Ok(())
+}
+
+// How many bytes the two tables of a text have.
+fn tables_size(text: &Text) -> u32
     ensures { result ≡ tables_size_of text.now }
 {
     table_size(text) + halves_size(text)
 }
 
-// How much room cells take: whole pages.
+// How many bytes the tables have, with a word for each of these pieces.
+fn segment_size(text: &Text, cases: &[PieceNo]) -> u32
+    requires cases { length cases.now ≤ 2 ^ 22 }
+    requires fits { tables_size_of text.now + cells_size_of (length cases.now) < 2 ^ 32 }
+    ensures { result ≡ tables_size_of text.now + cells_size_of (length cases.now) }
+{
+    tables_size(text) + cells_size(cases.len() as u32)
+}
+
+// Where the words with the places of pieces stand, behind the two tables.
+fn cases_base(text: &Text, table: Addr) -> Addr
+    requires { table.0 + tables_size_of text.now < 2 ^ 32 }
+    ensures { result.0 ≡ cases_at text.now table.0 }
+{
+    Addr(table.0 + tables_size(text))
+}
+
+// How much room so many words take: whole pages.
 fn cells_size(cells: u32) -> u32
     requires { cells ≤ 2 ^ 22 }
     ensures { result ≡ cells_size_of cells }
@@ -115,26 +160,33 @@ pub(crate) fn table_base(image: &Image, cells: u32) -> Addr
     Addr(image.base().0 + cells_size(cells))
 }
 
-/// Where code stands: right behind the tables.
-pub(crate) fn code_base(image: &Image, cells: u32) -> Addr
+/// Where code stands: right behind the tables, which have so many bytes.
+pub(crate) fn code_base(image: &Image, cells: u32, size: u32) -> Addr
     requires few { cells ≤ 2 ^ 22 }
-    requires fits { table_after image.now.base cells + tables_size_of image.now.text < 2 ^ 32 }
-    ensures address { result.0 ≡ table_after image.now.base cells + tables_size_of image.now.text }
+    requires fits { table_after image.now.base cells + size < 2 ^ 32 }
+    ensures address { result.0 ≡ table_after image.now.base cells + size }
 {
-    Addr(table_base(image, cells).0 + tables_size(image.text()))
+    Addr(table_base(image, cells).0 + size)
 }
 
-// Pieces that need no more room than an edit asks for, placed behind the tables.
-fn laid(alloc: Global, list: &[Piece], image: &Image, cells: u32) -> Result<Placed, NoMemory>
+// Pieces that need no more room than an edit asks for, placed behind tables of so many bytes.
+fn laid(
+    alloc: Global,
+    list: &[Piece],
+    image: &Image,
+    cells: u32,
+    size: u32,
+) -> Result<Placed, NoMemory>
     requires pieces { ArePieces list.now }
     requires cells { cells ≤ 2 ^ 22 }
-    requires room { cells_size_of cells + tables_size_of image.now.text + long_bytes list.now ≤ image.now.room }
+    requires whole { size % 4096 ≡ 0 }
+    requires room { cells_size_of cells + size + long_bytes list.now ≤ image.now.room }
     requires base { image.now.base % 4096 ≡ 0 }
     requires low { image.now.base + image.now.room ≤ 2 ^ 31 }
     ensures { IfOk result (λ placed. (p : ℕ → ℕ → ℕ)
-        × AreLaid list.now (table_after image.now.base cells + tables_size_of image.now.text) (placement_in placed) p) }
+        × AreLaid list.now (table_after image.now.base cells + size) (placement_in placed) p) }
 {
-    let code = code_base(image, cells);
+    let code = code_base(image, cells, size);
     let room = image.room() - (code.0 - image.base().0);
     match place(alloc, list, code, room) {
         Ok(placed) => Ok(placed),
@@ -154,6 +206,19 @@ fn places_of(alloc: Global, at: &[Addr], pieces: &[PieceNo]) -> Result<Vec<Addr>
         places.push(place_of(at, *piece))?;
     }
     Ok(places)
+}
+
+// The places of pieces as words.
+fn words_of(alloc: Global, at: &[Addr], pieces: &[PieceNo]) -> Result<Vec<u32>, NoMemory>
+    requires { All (λ piece. piece.0 < length at.now) pieces.now }
+    ensures { IfOk result (λ v. v.items
+        ≡ map (λ piece. slice_index (map (λ a. a.0) at.now) piece.0) pieces.now) }
+{
+    let mut words = Vec::new(alloc);
+    for piece in pieces {
+        words.push(place_of(at, *piece).0)?;
+    }
+    Ok(words)
 }
 
 // Where a piece was placed.

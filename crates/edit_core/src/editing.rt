@@ -1,11 +1,11 @@
 //! The edit of a file.
-ghost use Rattle.std.specs.Prelude.{◌≡◌, ℕ, List, [], ◌∷◌, ◌++◌, ◌+◌, ◌*◌, ◌<◌, ◌≤◌, ◌^◌, length, map, slice_index, All, IfErr, IfOk, OnOk};
+ghost use Rattle.std.specs.Prelude.{◌≡◌, ℕ, List, [], ◌∷◌, ◌++◌, ◌+◌, ◌*◌, ◌<◌, ◌≤◌, ◌^◌, length, map, All, IfErr, IfOk, OnOk};
 ghost use Rattle.elf32_write.specs.Headers.{segment_seen};
 ghost use Rattle.elf32_write.specs.Laws.{AreBytes};
 ghost use Rattle.tool_kit.specs.Plans.{Plan};
 ghost use Rattle.edit_core.specs.Taken.{CanEdit, EditRefuses};
 ghost use Rattle.edit_core.specs.Faithful.{AsksOf, CountsEdges, IsFaithful};
-ghost use Rattle.edit_core.specs.Written.{cells_at, code_at, if_any, page_segment as page_segment_of, plan_of, table_after, table_at, tables_size};
+ghost use Rattle.edit_core.specs.Written.{cells_at, code_at, if_any, page_segment as page_segment_of, plan_of, table_after, table_at};
 ghost use Rattle.edit_core.specs.Written.{CanDo, IsTheEdit, IsViewOf, IsWritten};
 
 use crate::building::{NewCode, code_base, new_code, table_base};
@@ -14,7 +14,7 @@ use crate::segments::{cells_segment, code_segment, page_segment, tables_segment}
 use crate::taking::{Asked, EditFault, bound};
 use cfg_normal::FlowGraph;
 use cfg_view::look;
-use eel_base::{Addr, NoMemory, WordNo};
+use eel_base::NoMemory;
 use elf32_sparc::Image;
 use elf32_write::{NewSegment, write_around};
 use notes::write_notes;
@@ -41,7 +41,14 @@ pub fn edit_bytes<F: Chooser>(
         snips: snips(alloc, tool, &view.graph)?,
     };
     let text = view.image.text();
-    let needed = bound(text, &view.graph, asked.kind, asked.cells, &asked.snips);
+    let needed = bound(
+        alloc,
+        text,
+        &view.graph,
+        asked.kind,
+        asked.cells,
+        &asked.snips,
+    )?;
     let had = u64::from(view.image.room());
     if had < needed {
         return Err(EditFault::Room { needed, had });
@@ -65,11 +72,11 @@ fn edited(
         → IfOk result (λ file. IsWritten bytes.now (plan_of marks asked.now) file.items) }
 {
     let new = new_code(alloc, image, graph, asked)?;
-    let entry = image_of(&new.placed.at, image.entry());
     let added = added(alloc, image, asked.cells, &new)?;
-    let notes = notes(alloc, bytes, image, graph, asked, new.placed)?;
+    let size = new.tables.len() as u32;
+    let notes = notes(alloc, bytes, image, graph, asked, new.placed, size)?;
     let notes = write_notes(alloc, &notes)?;
-    let file = write_around(alloc, bytes, image, &added, entry, &notes)?;
+    let file = write_around(alloc, bytes, image, &added, new.entry, &notes)?;
     Ok(file)
 }
 
@@ -81,13 +88,12 @@ fn added(
     new: &NewCode,
 ) -> Result<Vec<NewSegment>, NoMemory>
     requires few { cells ≤ 2 ^ 22 }
-    requires tables { length new.now.tables.items ≡ tables_size image.now.text }
-    requires low { table_after image.now.base cells + tables_size image.now.text
+    requires low { table_after image.now.base cells + length new.now.tables.items
         + 4 * length new.now.placed.code.items ≤ 2 ^ 31 }
     ensures segments { IfOk result (λ v. map segment_seen v.items
         ≡ if_any cells (cells_at image.now.base cells)
         ++ table_at (record { base = table_after image.now.base cells; bytes = new.now.tables.items })
-        ∷ code_at (table_after image.now.base cells + tables_size image.now.text) new.now.placed.code.items
+        ∷ code_at (table_after image.now.base cells + length new.now.tables.items) new.now.placed.code.items
         ∷ page_segment_of ∷ []) }
     ensures tables { OnOk result (AreBytes new.now.tables.items) }
     ensures code { OnOk result (All (λ word. word < 2 ^ 32) new.now.placed.code.items) }
@@ -96,16 +102,9 @@ fn added(
     if cells > 0 {
         added.push(cells_segment(alloc, image.base(), cells))?;
     }
+    let code = code_base(image, cells, new.tables.len() as u32);
     added.push(tables_segment(alloc, table_base(image, cells), &new.tables)?)?;
-    added.push(code_segment(alloc, code_base(image, cells), &new.placed.code)?)?;
+    added.push(code_segment(alloc, code, &new.placed.code)?)?;
     added.push(page_segment(alloc)?)?;
     Ok(added)
-}
-
-// Where the image of a word stands: the pieces of the words come first.
-fn image_of(at: &[Addr], word: WordNo) -> Addr
-    requires { word.0 < length at.now }
-    ensures { result.0 ≡ slice_index (map (λ a. a.0) at.now) word.0 }
-{
-    at[word.0 as usize]
 }

@@ -7,9 +7,9 @@ ghost use Rattle.eel_base.specs.CodeText.{IsText};
 ghost use Rattle.notes.specs.Seen.{notes_seen, edge_seen, range_seen, segment_seen};
 ghost use Rattle.cfg_normal.specs.Numbers.{node_number as node_number_of};
 ghost use Rattle.edit_core.specs.Faithful.{cell_noted as cell_noted_of, kind_number as kind_number_of, note_edge as note_edge_of, note_edges as note_edges_of, tool_number as tool_number_of};
-ghost use Rattle.edit_core.specs.Written.{is_off as is_off_of, notes_on, off_range as off_range_of, off_ranges, segments_noted, placement_in, plan_of, table_after, tables_size as tables_size_of, IsViewOf};
+ghost use Rattle.edit_core.specs.Written.{is_off as is_off_of, notes_on, off_range as off_range_of, off_ranges, segments_noted, placement_in, plan_of, segment_size, table_after, IsViewOf};
 
-use crate::building::{code_base, table_base, tables_size};
+use crate::building::{code_base, table_base};
 use crate::segments::{EDITOR_PAGE, PAGE_SIZE};
 use crate::taking::Asked;
 use cfg_blocks::EdgeKind;
@@ -23,7 +23,7 @@ use snippets::Snippet;
 use std::alloc::Global;
 use tool_kit::ToolKind;
 
-/// The notes on new code.
+/// The notes on new code, behind tables of so many bytes.
 pub(crate) fn notes(
     alloc: Global,
     bytes: &[u8],
@@ -31,13 +31,14 @@ pub(crate) fn notes(
     graph: &FlowGraph,
     asked: &Asked,
     placed: Placed,
+    size: u32,
 ) -> Result<Notes, NoMemory>
     requires limit { length bytes.now ≤ 2 ^ 26 }
     requires words { graph.now.blocks.words ≡ length image.now.text.words }
     requires text { IsText image.now.text }
     requires few { asked.now.cells ≤ 2 ^ 22 }
-    requires low { table_after image.now.base asked.now.cells + tables_size_of image.now.text
-        + 4 * length placed.code.items ≤ 2 ^ 31 }
+    requires size { size ≡ segment_size image.now.text graph.now }
+    requires low { table_after image.now.base asked.now.cells + size + 4 * length placed.code.items ≤ 2 ^ 31 }
     ensures { (marks : List ℕ) → IsViewOf bytes.now (plan_of marks asked.now) image.now graph.now
         → IfOk result (λ n. notes_seen n ≡ notes_on bytes.now (plan_of marks asked.now) (placement_in placed)) }
 {
@@ -52,7 +53,7 @@ pub(crate) fn notes(
         entry: graph.holding(image.entry()).0,
         base: image.base().0,
         cells: asked.cells,
-        segments: note_segments(alloc, image, asked.cells, &placed.code)?,
+        segments: note_segments(alloc, image, asked.cells, size, &placed.code)?,
         blocks: firsts(alloc, graph)?,
         edges: note_edges(alloc, graph, asked)?,
         ranges: places(alloc, text, graph, table, &placed.ranges)?,
@@ -75,12 +76,12 @@ fn note_segments(
     alloc: Global,
     image: &Image,
     cells: u32,
+    size: u32,
     code: &[u32],
 ) -> Result<Vec<NoteSegment>, NoMemory>
     requires few { cells ≤ 2 ^ 22 }
-    requires low { table_after image.now.base cells + tables_size_of image.now.text + 4 * length code.now ≤ 2 ^ 31 }
-    ensures { IfOk result (λ v. map segment_seen v.items
-        ≡ segments_noted image.now.base cells (tables_size_of image.now.text) code.now) }
+    requires low { table_after image.now.base cells + size + 4 * length code.now ≤ 2 ^ 31 }
+    ensures { IfOk result (λ v. map segment_seen v.items ≡ segments_noted image.now.base cells size code.now) }
 {
     let mut segments = Vec::new(alloc);
     if cells > 0 {
@@ -91,10 +92,10 @@ fn note_segments(
     }
     segments.push(NoteSegment {
         start: table_base(image, cells).0,
-        length: tables_size(image.text()),
+        length: size,
     })?;
     segments.push(NoteSegment {
-        start: code_base(image, cells).0,
+        start: code_base(image, cells, size).0,
         length: 4 * code.len() as u32,
     })?;
     segments.push(NoteSegment {
@@ -213,8 +214,8 @@ fn kind_number(kind: EdgeKind) -> u32
     }
 }
 
-// A block's own number, the number of blocks for all that lies outside, and those behind it for landed copies.
-fn node_number(graph: &FlowGraph, node: Node) -> u32
+/// A block's own number, the number of blocks for all that lies outside, and those behind it for landed copies.
+pub(crate) fn node_number(graph: &FlowGraph, node: Node) -> u32
     requires { IsNodeIn graph.now.blocks graph.now.opens node }
     ensures { result ≡ node_number_of graph.now node }
 {

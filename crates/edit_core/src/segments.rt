@@ -90,7 +90,8 @@ pub(crate) fn page_segment(alloc: Global) -> Result<NewSegment, NoMemory>
     })
 }
 
-fn zeros(alloc: Global, count: u32) -> Result<Vec<u8>, NoMemory>
+/// So many zeros.
+pub(crate) fn zeros(alloc: Global, count: u32) -> Result<Vec<u8>, NoMemory>
     ensures { IfOk result (λ bytes. bytes.items ≡ replicate count 0) }
 {
     let bytes = vec![in alloc; 0; count as usize]?;

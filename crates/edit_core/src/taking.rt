@@ -1,14 +1,21 @@
 //! Which files are edited, and why others are not.
-ghost use Rattle.std.specs.Prelude.{◌≡◌, ◌*◌, ◌^◌, ◌<◌, ◌≤◌, length};
-ghost use Rattle.cfg_normal.specs.Graph.{IsEdgeIn};
-ghost use Rattle.image_code.specs.Fit.{copies_of};
-ghost use Rattle.edit_core.specs.Taken.{bound_by, counted_on as counted_on_of, operations_on};
+ghost use Rattle.std.specs.Prelude.{◌≡◌, ℕ, if◌then◌else◌, ◌+◌, ◌*◌, ◌^◌, ◌<◌, ◌≤◌, length, map, nat_eq, slice_index, IfOk, OnOk};
+ghost use Rattle.std.specs.List.{count_by, range_with_len};
+ghost use Rattle.indexmap.specs.IndexMap.{get};
+ghost use Rattle.cfg_blocks.specs.Blocks.{size_of};
+ghost use Rattle.cfg_normal.specs.Graph.{IsEdgeIn, IsNodeIn};
+ghost use Rattle.cfg_normal.specs.Nodes.{same_node as same_node_of};
+ghost use Rattle.image_code.specs.Fit.{copies_of, is_at, targets_from, words_at};
+ghost use Rattle.edit_core.specs.Taken.{bound_by, case_key as case_key_of, count_of, counted_on as counted_on_of, is_entry, operations_on, AreCounts};
 
+use crate::noting::node_number;
 use cfg_blocks::EdgeKind;
 use cfg_normal::{Edge, FlowGraph, Node};
-use eel_base::{NoMemory, Text};
+use eel_base::{BlockNo, NoMemory, Text, WordNo};
 use elf32_sparc::{FileFault, ReadFault};
+use indexmap::IndexMap;
 use snippets::Snippet;
+use std::alloc::Global;
 use tool_kit::ToolKind;
 
 /// Why a file was not edited.
@@ -55,42 +62,178 @@ pub(crate) struct Asked {
 
 /// How many bytes of room an edit asks for.
 pub(crate) fn bound(
+    alloc: Global,
     text: &Text,
     graph: &FlowGraph,
     kind: ToolKind,
     cells: u32,
     snips: &[Snippet],
-) -> u64
-    ensures { result ≡ bound_by text.now graph.now kind cells snips.now }
+) -> Result<u64, NoMemory>
+    ensures { IfOk result (λ n. n ≡ bound_by text.now graph.now kind cells snips.now) }
 {
-    let operations = operations(graph, kind, snips);
-    (1 << 20) + 512 * u64::from(text.len()) + 4 * u64::from(cells) + 128 * operations
+    let operations = operations(alloc, graph, kind, snips)?;
+    Ok((1 << 20) + 512 * u64::from(text.len()) + 4 * u64::from(cells) + 128 * operations)
 }
 
 // How many operations are made.
-fn operations(graph: &FlowGraph, kind: ToolKind, snips: &[Snippet]) -> u64
-    ensures sum { result ≡ operations_on kind graph.now.blocks graph.now.edges snips.now }
-    ensures few { result ≤ 2 ^ 47 }
+fn operations(
+    alloc: Global,
+    graph: &FlowGraph,
+    kind: ToolKind,
+    snips: &[Snippet],
+) -> Result<u64, NoMemory>
+    ensures sum { IfOk result (λ n. n ≡ operations_on kind graph.now graph.now.edges snips.now) }
+    ensures few { IfOk result (λ n. n ≤ 2 ^ 47) }
 {
+    let cases = case_counts(alloc, graph)?;
     let mut sum = 0;
     for (edge, snippet) in graph.edges().iter().zip(snips) {
-        sum += u64::from(copies(graph, edge)) * counted_on(kind, snippet);
+        sum += u64::from(copies(graph, &cases, edge)) * counted_on(kind, snippet);
     }
-    sum
+    Ok(sum)
 }
 
-// How often the snippet of an edge is made.
-fn copies(graph: &FlowGraph, edge: &Edge) -> u32
-    requires { IsEdgeIn graph.now.blocks graph.now.opens edge.now }
-    ensures copies { result ≡ copies_of graph.now.blocks edge.now }
+// How often the snippet of an edge is made, where a table has the counts of Case edges.
+fn copies(graph: &FlowGraph, cases: &IndexMap<u64, u32>, edge: &Edge) -> u32
+    requires edge { IsEdgeIn graph.now.blocks graph.now.opens edge.now }
+    requires cases { AreCounts graph.now (get nat_eq cases.now) }
+    ensures copies { result ≡ copies_of graph.now edge.now }
     ensures few { result ≤ 2 ^ 20 }
 {
-    match (edge.kind, edge.to) {
-        (EdgeKind::Land, Node::Block(block)) => graph.words(block),
-        (EdgeKind::Land, Node::Landed(block)) => graph.words(block),
-        (EdgeKind::Land, Node::X) => 0,
+    match edge.kind {
+        EdgeKind::Land => landed(graph, edge.to),
+        EdgeKind::Case => led(graph, cases, edge),
         _ => 1,
     }
+}
+
+// How many words land at a node.
+fn landed(graph: &FlowGraph, node: Node) -> u32
+    requires node { IsNodeIn graph.now.blocks graph.now.opens node }
+    ensures words { result ≡ count_by (is_at graph.now node) (words_at graph.now node) }
+    ensures few { result ≤ 2 ^ 20 }
+{
+    match node {
+        Node::Block(block) => landed_in(graph, node, block),
+        Node::Landed(block) => landed_in(graph, node, block),
+        Node::X => 0,
+    }
+}
+
+// How many words of a block do.
+fn landed_in(graph: &FlowGraph, node: Node, block: BlockNo) -> u32
+    requires block { block.0 < length graph.now.blocks.firsts }
+    ensures words { result ≡ count_by (is_at graph.now node)
+        (range_with_len (slice_index graph.now.blocks.firsts block.0) (size_of graph.now.blocks block.0)) }
+    ensures few { result ≤ 2 ^ 20 }
+{
+    let first = graph.first(block).0;
+    let mut count = 0;
+    for word in first..first + graph.words(block) {
+        count += lands_at(graph, node, WordNo(word));
+    }
+    count
+}
+
+// One, if a word does.
+fn lands_at(graph: &FlowGraph, node: Node, word: WordNo) -> u32
+    ensures one { result ≡ (if is_at graph.now node word.0 then 1 else 0) }
+    ensures few { result ≤ 1 }
+{
+    if same_node(graph.lands(word), node) {
+        1
+    } else {
+        0
+    }
+}
+
+fn same_node(one: Node, other: Node) -> bool
+    ensures { result ≡ same_node_of one other }
+{
+    match (one, other) {
+        (Node::Block(a), Node::Block(b)) => a.0 == b.0,
+        (Node::Landed(a), Node::Landed(b)) => a.0 == b.0,
+        (Node::X, Node::X) => true,
+        _ => false,
+    }
+}
+
+// ---- Case edges
+
+// Counts one more under a key. Where they are more than a `u32` has, memory holds no list of them.
+fn count_key(cases: &mut IndexMap<u64, u32>, key: u64) -> Result<(), NoMemory>
+    ensures { OnOk result ((other : ℕ) → count_of (get nat_eq cases.new other)
+        ≡ (if nat_eq key other then 1 else 0) + count_of (get nat_eq cases.old other)) }
+{
+    let count = counted(cases, key);
+    if count == u32::MAX {
+        return Err(NoMemory);
+    }
+    cases.insert(key, count + 1)?;
+    Ok(())
+}
+
+// How many entries of a table lead along a Case edge.
+fn led(graph: &FlowGraph, cases: &IndexMap<u64, u32>, edge: &Edge) -> u32
+    requires edge { IsEdgeIn graph.now.blocks graph.now.opens edge.now }
+    requires cases { AreCounts graph.now (get nat_eq cases.now) }
+    ensures entries { result ≡ count_by (is_at graph.now edge.now.to) (targets_from graph.now edge.now.from) }
+    ensures few { result ≤ 2 ^ 20 }
+{
+    // A graph has few entries.
+    let _edges = graph.edges();
+    match edge.from {
+        Node::Block(block) => counted(cases, case_key(block, node_number(graph, edge.to))),
+        _ => 0,
+    }
+}
+
+// What is counted under a key.
+fn counted(cases: &IndexMap<u64, u32>, key: u64) -> u32
+    ensures { result ≡ count_of (get nat_eq cases.now key) }
+{
+    match cases.get(&key) {
+        Some(count) => *count,
+        None => 0,
+    }
+}
+
+// A Case edge by the block that it leaves and the number of its node.
+fn case_key(from: BlockNo, to: u32) -> u64
+    ensures { result ≡ case_key_of from.0 to }
+{
+    u64::from(from.0) * 0x1_0000_0000 + u64::from(to)
+}
+
+// The entries of all tables, counted by the edges along which they lead.
+fn case_counts(alloc: Global, graph: &FlowGraph) -> Result<IndexMap<u64, u32>, NoMemory>
+    ensures { IfOk result (λ cases. AreCounts graph.now (get nat_eq cases)) }
+{
+    let mut cases = IndexMap::new(alloc);
+    for found in graph.opens() {
+        count_entries(&mut cases, graph, found.block(), found.targets())?;
+    }
+    Ok(cases)
+}
+
+// Counts the entries of a switch's table.
+fn count_entries(
+    cases: &mut IndexMap<u64, u32>,
+    graph: &FlowGraph,
+    block: BlockNo,
+    targets: &[WordNo],
+) -> Result<(), NoMemory>
+    ensures { OnOk result ((key : ℕ) → count_of (get nat_eq cases.new key)
+        ≡ count_by (is_entry graph.now block.0 key) (map (λ (w : WordNo). w.0) targets.now)
+        + count_of (get nat_eq cases.old key)) }
+{
+    // A word lands at a node of the graph.
+    let _edges = graph.edges();
+    for word in targets {
+        let key = case_key(block, node_number(graph, graph.lands(*word)));
+        count_key(cases, key)?;
+    }
+    Ok(())
 }
 
 // How many operations an edge is taken to have.

@@ -30,7 +30,7 @@ use Rattle.v8_step.specs.Run.{run}
 use Rattle.v8_step.specs.Judged.{judged_by}
 use Rattle.v8_process.specs.Start.{program_name, stack_region, start_memory, start_of}
 use Rattle.code_runs.specs.StoredWords.{CanLoad, memory_word, word_in}
-use Rattle.code_runs.proofs.Outside.{kept_act}
+use Rattle.v8_step.proofs.KeptOutside.{kept_act}
 use Rattle.code_runs.proofs.Stays.{shape}
 use Rattle.snippet_code.specs.Cells.{cell_at, words_at}
 use Rattle.edit_core.specs.Faithful.{holds_cells}

@@ -4,6 +4,7 @@ pub mod Counted
 pub mod Dumping
 pub mod Editing
 pub mod ExactProfiles
+pub mod Few
 pub mod Missed
 pub mod Later
 pub mod Lines

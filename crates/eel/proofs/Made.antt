@@ -59,7 +59,6 @@ made_is_tame number count some few =
       size = omega (arith, size, few);
       sound = none.0;
       loads = none.1;
-      some = omega (arith, words);
       room = omega (arith, words, all, few);
       ending = Exit (total number count % 256);
       steps = step_count number count;

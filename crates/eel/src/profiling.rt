@@ -68,7 +68,8 @@ fn tree_of(alloc: Global, bytes: &[u8]) -> Result<SpanTree, EditFault>
 
 /// A spanning tree of the graph, grown heaviest first by the weights that are guessed.
 fn heaviest_tree(alloc: Global, view: &View) -> Result<SpanTree, NoMemory>
-    requires { IsView view.now }
+    requires view { IsView view.now }
+    requires few { length view.now.graph.edges ≤ 2 ^ 22 }
     ensures cells { IfOk result (AreCells view.now.graph (weights_of view.now.graph.blocks view.now.graph.edges)) }
     ensures few { IfOk result (λ cells. cell_count cells ≤ 2 ^ 22) }
 {
@@ -78,15 +79,13 @@ fn heaviest_tree(alloc: Global, view: &View) -> Result<SpanTree, NoMemory>
 
 /// A spanning tree of the graph, grown heaviest first by these weights of its edges.
 pub fn tree_by(alloc: Global, view: &View, weights: &[u64]) -> Result<SpanTree, NoMemory>
-    requires view { IsView view.now }
+    requires few { length view.now.graph.edges ≤ 2 ^ 22 }
     requires len { length weights.now ≡ length view.now.graph.edges }
     requires most { All (λ weight. weight ≤ 2 ^ 32) weights.now }
     ensures cells { IfOk result (AreCells view.now.graph weights.now) }
     ensures few { IfOk result (λ cells. cell_count cells ≤ 2 ^ 22) }
 {
     let tree = tree(alloc, &view.graph, weights)?;
-    // Each edge has one cell at most, and a graph has few edges.
-    let _edges = view.graph.edges();
     Ok(tree)
 }
 

@@ -1,6 +1,9 @@
--- What the real objects are seen as: their counts alone.
-use Rattle.std.specs.Prelude.{ℕ}
+-- What errors of the system come to.
+use Rattle.std.specs.declared.io.ErrorKind.{ErrorKind}
+use Rattle.eel_base.specs.declared.outside.PutFault.{PutFault}
+use Rattle.eel_base.specs.declared.outside.PutFault.TheVariants as faults
 
-pub record Counts : Type 0 where
-  pub faults : ℕ
-  pub reads : ℕ
+-- where a file is put
+abbrev pub put_fault_of : ErrorKind → PutFault
+put_fault_of ErrorKind.OutOfMemory = faults.NoMemory
+put_fault_of _ = faults.Failed

@@ -1,7 +1,9 @@
 //! The real outside: files, a reader and a writer of std. They tell nothing of what they hold, and count
 //! their faults. What the system does behind them is trusted.
-ghost use Rattle.std.specs.Prelude.{◌≡◌, None};
-ghost use Rattle.eel_base.specs.Real.{Counts};
+ghost use Rattle.std.specs.Prelude.{◌≡◌, ◌≤◌, ◌<◌, take, length, None, IfOk, OnOk, OnErr};
+ghost use Rattle.std.specs.Io.KnownBytes.{Appends, Consumes, IsAtEnd as NothingRemains, Keeps};
+ghost use Rattle.eel_base.specs.Outside.{IsAtEnd, Rose, appended, preceded, raised};
+ghost use Rattle.eel_base.specs.Real.{put_fault_of};
 
 use crate::outside::{Failed, FetchFault, Files, PutFault, Sink, Source};
 use crate::whole::{CHUNK, read_onto};
@@ -62,14 +64,24 @@ impl<R: rt::Files + Alloc> Files for RealFiles<R> {
     }
 
     fn put(&mut self, name: &str, bytes: &[u8]) -> Result<(), PutFault> {
-        match put_file(&self.rt, name, bytes) {
-            Ok(()) => Ok(()),
-            Err(error) if error.kind() == ErrorKind::OutOfMemory => Err(PutFault::NoMemory),
-            Err(_) => {
-                self.faults = self.faults.saturating_add(1);
-                Err(PutFault::Failed)
-            }
+        let Err(error) = put_file(&self.rt, name, bytes) else {
+            return Ok(());
+        };
+        let fault = put_fault(error.kind());
+        if fault == PutFault::Failed {
+            self.faults = self.faults.saturating_add(1);
         }
+        Err(fault)
+    }
+}
+
+/// What an error of the system comes to where a file is put.
+fn put_fault(kind: ErrorKind) -> PutFault
+    ensures { result ≡ put_fault_of kind }
+{
+    match kind {
+        ErrorKind::OutOfMemory => PutFault::NoMemory,
+        _ => PutFault::Failed,
     }
 }
 
@@ -81,17 +93,11 @@ pub struct StdSource<R> {
     reads: u64,
 }
 
-impl<R> Model for StdSource<R> {
-    ghost use Rattle.eel_base.specs.Real.{Counts};
-
-    ghost Value = { Counts };
-
-    ghost view = { λ s. record { faults = s.faults; reads = s.reads } };
-}
-
 impl<R> StdSource<R> {
     pub fn new(reader: R) -> StdSource<R>
-        ensures { result ≡ record { faults = 0; reads = 0 } }
+        ensures reader { result.reader ≡ reader }
+        ensures faults { result.faults ≡ 0 }
+        ensures reads { result.reads ≡ 0 }
     {
         StdSource {
             reader,
@@ -108,8 +114,22 @@ impl<R: Read> Source for StdSource<R> {
 
     ghost reads = { λ s. s.reads };
 
-    // Through a chunk, since a reader that fails may have written into what it was given.
-    fn read(&mut self, buf: &mut [u8]) -> Result<usize, Failed> {
+    // Through a chunk, since a reader that fails may have written into what it was given. Where the reader tells what it
+    // has left, that is what was moved, 0 comes only at its end, and a failed read moved nothing.
+    fn read(&mut self, buf: &mut [u8]) -> Result<usize, Failed>
+        ensures within { IfOk result (λ count. count ≤ length buf.new) }
+        ensures moved { IfOk result (λ count. None ≡ preceded (take count buf.new) None) }
+        ensures unfilled { OnErr result (buf.new ≡ buf.old) }
+        ensures failed { OnErr result (Rose self.old.faults self.new.faults) }
+        ensures later { self.old.faults ≤ self.new.faults }
+        ensures counted { OnOk result (self.new.reads ≡ raised self.old.reads) }
+        ensures uncounted { OnErr result (self.new.reads ≡ self.old.reads) }
+        ensures given { IfOk result (λ count.
+            Consumes (R.remaining self.old.reader) (R.remaining self.new.reader) (take count buf.new)) }
+        ensures ended { IfOk result (λ count.
+            count ≡ 0 → 0 < length buf.old → NothingRemains (R.remaining self.new.reader)) }
+        ensures kept { OnErr result (Keeps (R.remaining self.old.reader) (R.remaining self.new.reader)) }
+    {
         let mut chunk = [0; CHUNK];
         let want = buf.len().min(CHUNK);
         match self.reader.read(&mut chunk[..want]) {
@@ -133,17 +153,10 @@ pub struct StdSink<W> {
     faults: u64,
 }
 
-impl<W> Model for StdSink<W> {
-    ghost use Rattle.std.specs.Prelude.{ℕ};
-
-    ghost Value = { ℕ };
-
-    ghost view = { λ s. s.faults };
-}
-
 impl<W> StdSink<W> {
     pub fn new(writer: W) -> StdSink<W>
-        ensures { result ≡ 0 }
+        ensures writer { result.writer ≡ writer }
+        ensures faults { result.faults ≡ 0 }
     {
         StdSink { writer, faults: 0 }
     }
@@ -152,9 +165,17 @@ impl<W> StdSink<W> {
 impl<W: Write> Sink for StdSink<W> {
     ghost taken = { λ _. None };
 
-    ghost faults = { λ count. count };
+    ghost faults = { λ s. s.faults };
 
-    fn write(&mut self, bytes: &[u8]) -> Result<usize, Failed> {
+    // Where the writer tells what it holds, that grows by just what was taken.
+    fn write(&mut self, bytes: &[u8]) -> Result<usize, Failed>
+        ensures within { IfOk result (λ count. count ≤ length bytes.now) }
+        ensures some { IfOk result (λ count. 0 < length bytes.now → 0 < count) }
+        ensures failed { OnErr result (Rose self.old.faults self.new.faults) }
+        ensures later { self.old.faults ≤ self.new.faults }
+        ensures given { IfOk result (λ count.
+            Appends (W.contents self.old.writer) (W.contents self.new.writer) (take count bytes.now)) }
+    {
         match self.writer.write(bytes) {
             Ok(count) if count > 0 || bytes.is_empty() => Ok(count),
             _ => {

@@ -3,7 +3,7 @@ use Rattle.std.proofs.Common.{◌≡◌, ℕ, List, [], ◌∷◌, ◌++◌, Ok,
 use Rattle.std.specs.Int.{w32, to_be_bytes}
 use Rattle.std.specs.List.{flat_map}
 use Rattle.elf32_sparc.specs.Header.{word_at}
-use Rattle.elf32_sparc.specs.Notes.{Notes, Absent, Bad, notes_of, segments_at, blocks_at, edges_at, ranges_at, read_notes}
+use Rattle.elf32_sparc.specs.Notes.{Notes, Absent, Bad, notes_of, segments_at, blocks_at, edges_at, ranges_at, read_notes, head_of, tables_of, block_count_at}
 
 abbrev bytes : List ℕ → List ℕ
 bytes words = flat_map (to_be_bytes w32) words
@@ -28,46 +28,46 @@ notes_read = record {
 }
 
 reads : read_notes 77940 noted ≡ Ok notes_read
-unfolding read_notes segments_at blocks_at edges_at ranges_at
+unfolding read_notes head_of tables_of block_count_at segments_at blocks_at edges_at ranges_at
 reads = refl
 
 -- a file that ends before the original does
 short_file : read_notes 65631 noted ≡ Err (Bad 4)
-unfolding read_notes segments_at blocks_at edges_at ranges_at
+unfolding read_notes head_of tables_of block_count_at segments_at blocks_at edges_at ranges_at
 short_file = refl
 
 -- cut in the last row
 cut : read_notes 77940 (take 112 noted) ≡ Err (Bad 112)
-unfolding read_notes segments_at blocks_at edges_at ranges_at
+unfolding read_notes head_of tables_of block_count_at segments_at blocks_at edges_at ranges_at
 cut = refl
 
 -- with a byte left over
 left_over : read_notes 77940 (noted ++ 0 ∷ []) ≡ Err (Bad 116)
-unfolding read_notes segments_at blocks_at edges_at ranges_at
+unfolding read_notes head_of tables_of block_count_at segments_at blocks_at edges_at ranges_at
 left_over = refl
 
 -- no block
 no_block : read_notes 77940 (take 52 noted ++ bytes (0 ∷ [])) ≡ Err (Bad 20)
-unfolding read_notes segments_at blocks_at edges_at ranges_at
+unfolding read_notes head_of tables_of block_count_at segments_at blocks_at edges_at ranges_at
 no_block = refl
 
 -- an address of the cells that is no multiple of 4, before the number of cells, and after it
 odd_base : read_notes 77940 (take 24 noted ++ bytes (2 ∷ [])) ≡ Err (Bad 28)
-unfolding read_notes segments_at blocks_at edges_at ranges_at
+unfolding read_notes head_of tables_of block_count_at segments_at blocks_at edges_at ranges_at
 odd_base = refl
 
 odd_base_of_cells : read_notes 77940 (take 24 noted ++ bytes (2 ∷ 0xffffffff ∷ [])) ≡ Err (Bad 24)
-unfolding read_notes segments_at blocks_at edges_at ranges_at
+unfolding read_notes head_of tables_of block_count_at segments_at blocks_at edges_at ranges_at
 odd_base_of_cells = refl
 
 -- a page that begins before the one before it ends
 overlap : read_notes 77940 (take 36 noted ++ bytes (0x20000 ∷ 12 ∷ 0x20008 ∷ 4 ∷ [])) ≡ Err (Bad 44)
-unfolding read_notes segments_at blocks_at edges_at ranges_at
+unfolding read_notes head_of tables_of block_count_at segments_at blocks_at edges_at ranges_at
 overlap = refl
 
 -- a place outside the pages
 outside : read_notes 77940 (take 68 noted ++ bytes (0x2000c ∷ 0x20010 ∷ 0x10054 ∷ 0 ∷ [])) ≡ Err (Bad 68)
-unfolding read_notes segments_at blocks_at edges_at ranges_at
+unfolding read_notes head_of tables_of block_count_at segments_at blocks_at edges_at ranges_at
 outside = refl
 
 -- a whole file, of which only the locator and the notes are looked at
@@ -78,7 +78,7 @@ abbrev small_file : ℕ → List ℕ
 small_file version = replicate 4032 0 ++ bytes (0x45454c4e ∷ version ∷ 4096 ∷ 116 ∷ []) ++ replicate 48 0 ++ small_notes
 
 located : notes_of (small_file 1) ≡ Ok (record notes_read { delta = 4096; length = 0 })
-unfolding word_at notes_of read_notes segments_at blocks_at edges_at ranges_at
+unfolding word_at notes_of read_notes head_of tables_of block_count_at segments_at blocks_at edges_at ranges_at
 located = refl
 
 other_version : notes_of (small_file 2) ≡ Err Absent

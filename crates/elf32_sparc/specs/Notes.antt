@@ -138,10 +138,21 @@ ranges_at blocks segments notes at end (suc count) = do
   others ← ranges_at blocks segments notes (at + 16) hi count
   Ok (range ∷ others)
 
--- The notes in these bytes, which end with the last place, in a file of this size. The rule of the entry
--- waits for the number of blocks, and that of the cells' address for the number of cells.
-unfoldable pub read_notes : ℕ → List ℕ → Result Notes NoNotes
-read_notes size notes = do
+-- The numbers before the tables.
+pub record NoteHead : Type 0 where
+  pub delta : ℕ
+  pub length : ℕ
+  pub tool : ℕ
+  pub start : ℕ
+  pub words : ℕ
+  pub entry : ℕ
+  pub base : ℕ
+  pub cells : ℕ
+  pub segment_count : ℕ
+
+-- They are the first nine words, in a file of this size. The rule of the cells' address waits for the number of cells.
+unfoldable pub head_of : ℕ → List ℕ → Result NoteHead NoNotes
+head_of size notes = do
   delta ← note_that (λ delta. nat_le 4096 delta) notes 0
   length ← note_that (λ length. nat_le (delta + length) size) notes 4
   tool ← note_that (λ tool. nat_le tool 2) notes 8
@@ -153,33 +164,59 @@ read_notes size notes = do
   base ← kept ((base_read % 4 == 0) && nat_le (base_read + 4 * cells_read) (2 ^ 32)) 24 base_read
   cells ← kept (nat_le cells_read (2 ^ 22)) 28 cells_read
   segment_count ← note_that (λ count. nat_le count 8) notes 32
-  segments ← segments_at notes 36 0 segment_count
-  let blocks_place = 36 + 8 * segment_count
-  count_read ← note_at notes blocks_place
-  entry_block ← kept (nat_lt entry count_read) 20 entry
-  block_count ← kept (nat_le 1 count_read && nat_le count_read words) blocks_place count_read
-  blocks ← blocks_at words notes (blocks_place + 4) None block_count
-  let edges_place = blocks_place + 4 + 4 * block_count
-  edge_count ← note_that (λ count. nat_lt count (2 ^ 24)) notes edges_place
-  edges ← edges_at block_count cells notes (edges_place + 4) [] edge_count
-  let ranges_place = edges_place + 4 + 16 * edge_count
-  range_count ← note_that (λ count. nat_lt count (2 ^ 26)) notes ranges_place
-  ranges ← ranges_at block_count segments notes (ranges_place + 4) 0 range_count
-  let notes_end = ranges_place + 4 + 16 * range_count
-  kept (byte_count notes == notes_end) notes_end (record {
+  Ok (record {
     delta = delta;
     length = length;
     tool = tool;
     start = start;
     words = words;
-    entry = entry_block;
+    entry = entry;
     base = base;
     cells = cells;
+    segment_count = segment_count;
+  })
+
+-- The number of blocks, of a text of so many words that is entered at the block `entry`, whose rule waits for it.
+unfoldable pub block_count_at : ℕ → ℕ → List ℕ → ℕ → Result ℕ NoNotes
+block_count_at entry words notes at = do
+  count ← note_at notes at
+  below ← kept (nat_lt entry count) 20 entry
+  kept (nat_le 1 count && nat_le count words) at count
+
+-- What comes after the numbers: the tables, and nothing behind the last place.
+unfoldable pub tables_of : List ℕ → NoteHead → Result Notes NoNotes
+tables_of notes head = do
+  segments ← segments_at notes 36 0 head.segment_count
+  let blocks_place = 36 + 8 * head.segment_count
+  block_count ← block_count_at head.entry head.words notes blocks_place
+  blocks ← blocks_at head.words notes (blocks_place + 4) None block_count
+  let edges_place = blocks_place + 4 + 4 * block_count
+  edge_count ← note_that (λ count. nat_lt count (2 ^ 24)) notes edges_place
+  edges ← edges_at block_count head.cells notes (edges_place + 4) [] edge_count
+  let ranges_place = edges_place + 4 + 16 * edge_count
+  range_count ← note_that (λ count. nat_lt count (2 ^ 26)) notes ranges_place
+  ranges ← ranges_at block_count segments notes (ranges_place + 4) 0 range_count
+  let notes_end = ranges_place + 4 + 16 * range_count
+  kept (byte_count notes == notes_end) notes_end (record {
+    delta = head.delta;
+    length = head.length;
+    tool = head.tool;
+    start = head.start;
+    words = head.words;
+    entry = head.entry;
+    base = head.base;
+    cells = head.cells;
     segments = segments;
     blocks = blocks;
     edges = edges;
     ranges = ranges;
   })
+
+-- The notes in these bytes, in a file of this size.
+unfoldable pub read_notes : ℕ → List ℕ → Result Notes NoNotes
+read_notes size notes = do
+  head ← head_of size notes
+  tables_of notes head
 
 -- Where they stand: four words at 4032 say it.
 

@@ -1,15 +1,19 @@
 -- What is rebuilt from the dump of a run, wherever it is stopped, is how often the original's run completes each edge.
-use Rattle.std.proofs.Common.{◌≡◌, ℕ, suc, ◌-◌, ◌<◌, Bool, true, cond, List, [], length, None, refl, ap, sym, ◌∙◌, subst, arith}
+use Rattle.std.proofs.Common.{◌≡◌, ℕ, suc, ◌-◌, ◌<◌, Bool, true, cond, List, length, None, refl, ap, sym, ◌∙◌, subst, arith}
 use Rattle.std.specs.Prelude.{pos}
 use Rattle.std.specs.List.{All}
 use Rattle.std.proofs.lemmas.Bool.{lt-ltb}
 use Rattle.elf32_sparc.specs.FileFault.{fault}
 use Rattle.elf32_sparc.specs.Image.{image_of}
 use Rattle.elf32_sparc.specs.Notes.{Notes}
+use Rattle.elf32_sparc.proofs.Accepted.{accepted}
 use Rattle.v8_decode.specs.declared.Part.{Part}
 use Rattle.v8_step.specs.State.{State}
-use Rattle.v8_step.specs.Valid.{AreBytes}
+use Rattle.v8_step.specs.Valid.{AreBytes, IsValid}
+use Rattle.v8_process.specs.Arguments.{AreArguments}
 use Rattle.v8_process.specs.Start.{start_of}
+use Rattle.v8_process.proofs.Arguments.{arguments_fit}
+use Rattle.v8_process.proofs.Valid.{mappings_have_room, starts_valid}
 use Rattle.flows.specs.Flows.{IsFlow, rest}
 use Rattle.flows.specs.Trees.{IsSpanningTree}
 use Rattle.snippets.specs.Cells.{WorksBelow}
@@ -20,10 +24,10 @@ use Rattle.cfg_normal.specs.Graph.{Graph}
 use Rattle.cfg_normal.specs.Numbers.{is_node, node_number}
 use Rattle.cfg_walk.proofs.Cut.{cut}
 use Rattle.cfg_walk.proofs.Lists.{Each}
-use Rattle.cfg_walk.proofs.NoneOpen.{edges_lie_in}
 use Rattle.tool_kit.specs.declared.edge_ref.ToolKind.{ToolKind}
 use Rattle.tool_kit.specs.Plans.{Plan}
-use Rattle.cfg_view.specs.View.{given_in, view_of}
+use Rattle.cfg_view.specs.View.{view_of}
+use Rattle.cfg_view.proofs.Given.{entry_leads}
 use Rattle.span_tree.specs.Links.{links_of}
 use Rattle.walk_counts.specs.Counts.{executions, first_node}
 use Rattle.walk_counts.proofs.Files.{begins, entry_is, executions_of_files_are_flows}
@@ -64,22 +68,28 @@ module _ (original : List ℕ) (plan : Plan) (dead : ℕ → List Part) (notes :
   -- ---- the flow of the original's run, over the graph of the notes
 
   module _ (args : List (List ℕ)) (input : List ℕ) (sound : fault original ≡ None) (bytes : AreBytes original)
-      (n : ℕ) where
+      (given : AreArguments args) (read : AreBytes input) (n : ℕ) where
     abbrev entry : ℕ
     entry = (image_of original).entry
 
     abbrev s0 : State
     s0 = start_of original args input
 
-    own_flow : IsFlow (links_of (graph_in g)) (first_node g.text (graph_in g) entry s0 n) (node_in g entry s0 n)
-        (λ e. pos (made_in g entry s0 n e))
-    unfolding image_of
-    own_flow =
-        executions_of_files_are_flows original args input (given_in (image_of original) plan.marks) n sound bytes
+    valid : IsValid s0
+    valid =
+        starts_valid original args input bytes given.bytes read
+        (mappings_have_room original (accepted original sound).segment_file) (arguments_fit args given)
 
     entry_within : entry < length g.text.words
     unfolding image_of
     entry_within = (begins original args input (entry_is original sound)).within
+
+    own_flow : IsFlow (links_of (graph_in g)) (first_node g.text (graph_in g) entry s0 n) (node_in g entry s0 n)
+        (λ e. pos (made_in g entry s0 n e))
+    unfolding image_of entered_of
+    own_flow =
+        executions_of_files_are_flows original args input g.given n sound bytes valid
+        (entry_leads (image_of original) plan.marks entry_within)
 
     entry_node : first_node g.text (graph_in g) entry s0 n ≡ holding_of (graph_in g).blocks entry
     unfolding blocks_of
@@ -118,7 +128,7 @@ counts_are_exact original plan file notes args input m is given read untouched s
       profile = record {
         tool = is.graph.tool ∙ ap tool_number counts.kind;
         tree = tree_noted (graph_in g) plan.snips notes are refl
-            (edges_lie_in (graph_in g).blocks [] (cut g.text g.given (image_text original is.sound).some).firsts.some)
+            (cut g.text g.given (image_text original is.sound).some).firsts.some
             (subst (λ (graph : Graph). IsSpanningTree (links_of graph) (is_node graph) (rest (counted_by plan.snips)))
             (view_graph original plan is.dead notes) counts.tree);
       };
@@ -127,7 +137,7 @@ counts_are_exact original plan file notes args input m is given read untouched s
       are = are;
       short = short;
       few = omega (arith, few, short);
-      flow = noted_flow original plan is.dead notes args input is.sound is.bytes n are is.graph;
+      flow = noted_flow original plan is.dead notes args input is.sound is.bytes given read n are is.graph;
       tells = stop.tells;
       placed = stop.placed;
     } in

@@ -9,3 +9,4 @@ pub mod Gone
 pub mod Totals
 pub mod Soon
 pub mod Little
+mod Copies

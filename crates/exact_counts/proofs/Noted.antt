@@ -1,10 +1,9 @@
 -- The graph that notes tell is the original's.
-use Rattle.std.proofs.Common.{◌≡◌, ℕ, zero, suc, ◌+◌, ◌-◌, ◌*◌, ◌<◌, ◌≤◌, ◌⊎◌, inl, inr, Bool, true, false, not, ◌||◌, nat_le, List, [], ◌∷◌, length, get_or, refl, ap, sym, ◌∙◌, subst, arith}
+use Rattle.std.proofs.Common.{◌≡◌, ℕ, zero, suc, ◌+◌, ◌-◌, ◌*◌, ◌<◌, ◌≤◌, inl, inr, Bool, true, false, not, nat_le, List, [], ◌∷◌, length, get_or, refl, ap, sym, ◌∙◌, subst, arith}
 use Rattle.std.specs.Prelude.{◌==◌, if◌then◌else◌, IsTrue, ℤ, pos, ◌+ℤ◌}
 use Rattle.std.specs.Option.{is_some}
-use Rattle.std.specs.List.{list_any}
-use Rattle.std.proofs.lemmas.Bool.{cases_lt, eqb-true, false≢true, le-leb, le-ltb, lt-leb, lt-ltb, or_left}
-use Rattle.std.proofs.lemmas.Bool.Decides.{nat_tests}
+use Rattle.std.specs.List.{AllByRecursion, list_any}
+use Rattle.std.proofs.lemmas.Bool.{cases_lt, eq-eqb, eqb-true, false≢true, le-leb, le-ltb, lt-leb, lt-ltb, or_left, or_right}
 use Rattle.elf32_sparc.specs.Notes.{NoteEdge, NoteRange, Notes}
 use Rattle.flows.specs.Flows.{EdgeSet, NodeSet, Graph as PlainGraph, IsFlow, count_below, one_at, rest, total}
 use Rattle.flows.specs.Trees.{IsSpanningTree}
@@ -13,16 +12,18 @@ use Rattle.flows.proofs.Weights.{weight_same}
 use Rattle.snippets.specs.declared.snippet.Op.{Op}
 use Rattle.cfg_normal.specs.declared.Edge.{Edge}
 use Rattle.cfg_normal.specs.declared.Node.{Node}
-use Rattle.cfg_normal.specs.declared.Node.TheVariants.{Block, Landed, X}
-use Rattle.cfg_normal.specs.Graph.{Graph, IsEdgeIn, IsNodeIn}
-use Rattle.cfg_normal.specs.Numbers.{is_node, node_number}
-use Rattle.cfg_normal.specs.Opens.{Open, is_copied}
+use Rattle.cfg_normal.specs.Graph.{Graph, IsEdgeIn, IsNodeIn, edges_in}
+use Rattle.cfg_normal.specs.Numbers.{is_node, node_number, node_numbers}
+use Rattle.cfg_normal.specs.Opens.{is_copied}
 use Rattle.tool_kit.specs.declared.edge_ref.ToolKind.{ToolKind}
 use Rattle.tool_kit.specs.declared.edge_ref.ToolKind.TheVariants as tools
 use Rattle.span_tree.specs.Links.{edge_at as own_edge, links_of}
+use Rattle.span_tree.proofs.Connected.{numbered}
+use Rattle.span_tree.proofs.Landings.{landed_copy}
 use Rattle.image_code.specs.Simulates.{snippet_on}
 use Rattle.edit_core.specs.Faithful.{cell_noted, note_edge, note_edges}
 use Rattle.cfg_walk.proofs.Lists.{Each}
+use Rattle.cfg_walk.proofs.NoneOpen.{edges_lie_in}
 use Rattle.count_rebuild.specs.Noted.{edge_at, ends_at, has_cell, is_node as is_noted, lies_at, no_edge, noted_graph}
 use Rattle.exact_counts.specs.Profiles.{counted_by, is_counter}
 
@@ -126,7 +127,7 @@ module _ (graph : Graph) (snips : List (List Op)) (notes : Notes) (are : AreNote
   pub has_cell_is : (e : ℕ) → e < length graph.edges → has_cell notes e ≡ counted_by snips e
   has_cell_is e l = ap (λ (edge : NoteEdge). is_some edge.cell) (edge_is e l) ∙ noted_cell (snippet_on snips e)
 
-  -- ---- its nodes, where no switch is open: the blocks and X
+  -- ---- its nodes: the blocks, X, and the landed copies, to each of which an edge leads
 
   is_block : (v : ℕ) → v ≤ length graph.blocks.firsts → is_node graph v ≡ true
   is_block v l =
@@ -139,20 +140,30 @@ module _ (graph : Graph) (snips : List (List Op)) (notes : Notes) (are : AreNote
       or_left _ _ (or_left (nat_le v (length notes.blocks)) (list_any (ends_at v) notes.edges)
       (le-leb v (length notes.blocks) (omega (arith, same, l))))
 
-  module _ (none : graph.opens ≡ []) (inside : Each (IsEdgeIn graph.blocks graph.opens) graph.edges) (v : ℕ)
-      (past : length graph.blocks.firsts < v) where
-    no_copy : is_node graph v ≡ false
-    no_copy =
-        ap (λ (b : Bool). if b then is_copied graph.opens (v - (length graph.blocks.firsts + 1)) else true)
-        (lt-ltb (length graph.blocks.firsts) v past)
-        ∙ ap (λ (opens : List Open). is_copied opens (v - (length graph.blocks.firsts + 1))) none
+  -- an edge is noted with the node to which it leads
+  ends_noted : (v : ℕ) (edges : List Edge) (snips : List (List Op)) (noted : Bool) → length snips ≡ length edges
+      → (list_any (ends_at v) (note_edges graph tools.Profile edges snips) ≡ true → noted ≡ true)
+      → AllByRecursion (λ edge. node_number graph edge.to ≡ v → noted ≡ true) edges
+  ends_noted v [] snips noted size found = tt
+  ends_noted v (edge ∷ edges) [] noted size found = absurd (omega (arith, size))
+  ends_noted v (edge ∷ edges) (ops ∷ snips) noted size found = (
+    λ same. found (or_left _ _ (or_right (node_number graph edge.from == v) _
+        (eq-eqb (node_number graph edge.to) v same))),
+    ends_noted v edges snips noted (omega (arith, size)) (λ later. found (or_right _ _ later)),
+  )
 
-    -- the end of an edge is another
+  -- a number that is no node's
+  module _ (inside : Each (IsEdgeIn graph.blocks graph.opens) graph.edges) (v : ℕ)
+      (none : is_node graph v ≡ false) where
+    other_number : (number : ℕ) → is_node graph number ≡ true → (number == v) ≡ false
+    other_number number there = by (number == v) refl
+      where
+        by : (b : Bool) → (number == v) ≡ b → (number == v) ≡ false
+        by true e = absurd (false≢true (sym none ∙ ap (is_node graph) (sym (eqb-true number v e)) ∙ there))
+        by false e = e
+
     other_node : (node : Node) → IsNodeIn graph.blocks graph.opens node → (node_number graph node == v) ≡ false
-    other_node (Block k) l = grind (l, past, arith, nat_tests)
-    other_node (Landed k) l =
-        absurd (false≢true (ap (λ (opens : List Open). is_copied opens k.0) (sym none) ∙ l.1))
-    other_node X l = grind (past, arith, nat_tests)
+    other_node node there = other_number (node_number graph node) (numbered graph node there)
 
     no_end : (edges : List Edge) (snips : List (List Op)) → Each (IsEdgeIn graph.blocks graph.opens) edges
         → list_any (ends_at v) (note_edges graph tools.Profile edges snips) ≡ false
@@ -164,37 +175,66 @@ module _ (graph : Graph) (snips : List (List Op)) (notes : Notes) (are : AreNote
     no_place : (ranges : List NoteRange) → Each (λ range. is_node graph range.node ≡ true) ranges
         → list_any (lies_at v) ranges ≡ false
     no_place [] each = refl
-    no_place (range ∷ ranges) each = rw (another (range.node == v) refl) (no_place ranges each.1)
-      where
-        another : (b : Bool) → (range.node == v) ≡ b → (range.node == v) ≡ false
-        another true e = absurd (false≢true (sym no_copy ∙ ap (is_node graph) (sym (eqb-true range.node v e)) ∙ each.0))
-        another false e = e
+    no_place (range ∷ ranges) each = rw (other_number range.node each.0) (no_place ranges each.1)
+
+    past_blocks : length graph.blocks.firsts < v
+    past_blocks = elim (cases_lt (length graph.blocks.firsts) v) [
+      | inl past ↦ past
+      | inr low ↦ absurd (false≢true (sym none ∙ is_block v low))
+    ]
 
     noted_none : is_noted notes v ≡ false
     noted_none =
         let same = ap (λ (firsts : List ℕ). length firsts) are.blocks in
-        let far : nat_le v (length notes.blocks) ≡ false = lt-leb v (length notes.blocks) (omega (arith, same, past)) in
+        let far : nat_le v (length notes.blocks) ≡ false =
+        lt-leb v (length notes.blocks) (omega (arith, same, past_blocks)) in
         let ends : list_any (ends_at v) notes.edges ≡ false =
         ap (list_any (ends_at v)) are.edges ∙ no_end graph.edges snips inside in
         rw (far, ends) (no_place notes.ranges are.places)
 
-  nodes_alike : graph.opens ≡ [] → Each (IsEdgeIn graph.blocks graph.opens) graph.edges → (v : ℕ)
-      → is_node graph v ≡ is_noted notes v
-  nodes_alike none inside v = elim (cases_lt (length graph.blocks.firsts) v) [
-    | inl past ↦ no_copy none inside v past ∙ sym (noted_none none inside v past)
-    | inr below ↦ is_block v below ∙ sym (noted_block v below)
-  ]
+  module _ (made : graph.edges ≡ edges_in graph.blocks graph.opens) (some : 1 ≤ length graph.blocks.firsts) where
+    lie_in : Each (IsEdgeIn graph.blocks graph.opens) graph.edges
+    lie_in = subst (Each (IsEdgeIn graph.blocks graph.opens)) (sym made) (edges_lie_in graph.blocks graph.opens some)
 
-  pub tree_noted : graph.opens ≡ [] → Each (IsEdgeIn graph.blocks graph.opens) graph.edges
-      → IsSpanningTree (links_of graph) (is_node graph) (rest (counted_by snips))
-      → IsSpanningTree (noted_graph notes) (is_noted notes) (rest (has_cell notes))
-  tree_noted none inside =
-      let same = ap (λ (firsts : List ℕ). length firsts) are.blocks in
-      let count : 2 * length graph.blocks.firsts + 1 ≡ 2 * length notes.blocks + 1 = omega (arith, same) in
-      tree_alike (links_of graph) (noted_graph notes) graphs_alike (is_node graph) (is_noted notes)
-      (λ v l there. subst IsTrue (sym (nodes_alike none inside v)) there)
-      (ap (λ n. count_below n (is_node graph)) count
-      ∙ weight_same (2 * length notes.blocks + 1) (λ e. 1) (is_node graph) (is_noted notes)
-      (λ v l. nodes_alike none inside v))
-      (rest (counted_by snips)) (rest (has_cell notes))
-      (λ e l. ap not (sym (has_cell_is e l)))
+    -- the landing at a copied block's copy
+    noted_copy : (k : ℕ) → k < length graph.blocks.firsts → is_copied graph.opens k ≡ true
+        → is_noted notes (length graph.blocks.firsts + 1 + k) ≡ true
+    noted_copy k l is =
+        let v : ℕ = length graph.blocks.firsts + 1 + k in
+        or_left _ _ (or_right _ _ (landed_copy graph.blocks graph.opens
+        (λ edge. node_number graph edge.to ≡ v → list_any (ends_at v) notes.edges ≡ true)
+        (subst (AllByRecursion (λ edge. node_number graph edge.to ≡ v → list_any (ends_at v) notes.edges ≡ true)) made
+        (ends_noted v graph.edges snips (list_any (ends_at v) notes.edges) are.size
+        (λ found. ap (list_any (ends_at v)) are.edges ∙ found)))
+        k l is refl))
+
+    noted_some : (v : ℕ) → v < node_numbers graph → is_node graph v ≡ true → is_noted notes v ≡ true
+    noted_some v l is = elim (cases_lt (length graph.blocks.firsts) v) [
+      | inl past ↦
+          let k : ℕ = v - (length graph.blocks.firsts + 1) in
+          let same : length graph.blocks.firsts + 1 + k ≡ v = omega (arith, past) in
+          let copied : is_copied graph.opens k ≡ true =
+          ap (λ (b : Bool). if b then is_copied graph.opens k else true)
+          (sym (lt-ltb (length graph.blocks.firsts) v past)) ∙ is in
+          ap (is_noted notes) (sym same) ∙ noted_copy k (omega (arith, past, l)) copied
+      | inr low ↦ noted_block v low
+    ]
+
+    nodes_alike : (v : ℕ) → v < node_numbers graph → is_node graph v ≡ is_noted notes v
+    nodes_alike v l = by (is_node graph v) refl
+      where
+        by : (b : Bool) → is_node graph v ≡ b → is_node graph v ≡ is_noted notes v
+        by true is = is ∙ sym (noted_some v l is)
+        by false is = is ∙ sym (noted_none lie_in v is)
+
+    pub tree_noted : IsSpanningTree (links_of graph) (is_node graph) (rest (counted_by snips))
+        → IsSpanningTree (noted_graph notes) (is_noted notes) (rest (has_cell notes))
+    tree_noted =
+        let same = ap (λ (firsts : List ℕ). length firsts) are.blocks in
+        let count : node_numbers graph ≡ 2 * length notes.blocks + 1 = omega (arith, same) in
+        tree_alike (links_of graph) (noted_graph notes) graphs_alike (is_node graph) (is_noted notes)
+        (λ v l there. subst IsTrue (sym (nodes_alike v (omega (arith, l, count)))) there)
+        (weight_same (node_numbers graph) (λ e. 1) (is_node graph) (is_noted notes) nodes_alike
+        ∙ ap (λ n. count_below n (is_noted notes)) count)
+        (rest (counted_by snips)) (rest (has_cell notes))
+        (λ e l. ap not (sym (has_cell_is e l)))

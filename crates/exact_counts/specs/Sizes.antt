@@ -2,6 +2,7 @@
 use Rattle.std.specs.Prelude.{◌≡◌, ◌≢◌, ℕ, ◌+◌, ◌*◌, ◌^◌, ◌<◌, ◌≤◌, List, length, slice_index, None}
 use Rattle.std.specs.List.{sum}
 use Rattle.eel_base.specs.CodeText.{Words}
+use Rattle.elf32_sparc.specs.FileFault.{fault}
 use Rattle.elf32_sparc.specs.Image.{image_of}
 use Rattle.v8_step.specs.State.{State}
 use Rattle.v8_step.specs.Run.{run}
@@ -17,13 +18,13 @@ use Rattle.edit_core.specs.Taken.{bound_in}
 use Rattle.edit_core.specs.RunsAlike.{AreRunsAlike}
 use Rattle.exact_counts.specs.Profiles.{original_graph}
 
--- A profile with a cell for each edge at most asks for 1 MiB and 908 bytes for each word: a block has two edges at most
--- and a landing, whose counter is made once for each of its words.
+-- A profile of a file without a fault, with a cell for each edge at most, asks for 1 MiB and 1,040 bytes for each word: for
+-- each word there are four edges at most, and counters on edges are made four times at most.
 abbrev pub ProfilesNeedLittle : Type 0
 ProfilesNeedLittle =
-    (original : List ℕ) (plan : Plan) → 1 ≤ length (image_of original).text.words → plan.kind ≡ tools.Profile
+    (original : List ℕ) (plan : Plan) → fault original ≡ None → plan.kind ≡ tools.Profile
     → plan.cells ≤ length (original_graph original plan).edges
-    → bound_in original plan ≤ 2 ^ 20 + 908 * length (image_of original).text.words
+    → bound_in original plan ≤ 2 ^ 20 + 1040 * length (image_of original).text.words
 
 -- the run has ended after so many steps, or fewer
 pub record HasEndedBy (t0 : State) (limit : ℕ) : Type 0 where

@@ -13,7 +13,6 @@ use Rattle.cfg_blocks.specs.declared.EdgeKind.{EdgeKind}
 use Rattle.cfg_blocks.specs.declared.EdgeKind.TheVariants as kinds
 use Rattle.cfg_blocks.specs.Entries.{is_fall}
 use Rattle.cfg_normal.specs.declared.Edge.{Edge}
-use Rattle.cfg_normal.specs.declared.Slot.{Slot}
 use Rattle.cfg_normal.specs.declared.Slot.TheVariants as slots
 use Rattle.cfg_normal.specs.Graph.{Graph, IsEdgeIn, IsSlotIn}
 use Rattle.cfg_walk.specs.Walk.{same_kind}
@@ -24,13 +23,9 @@ use Rattle.jump_code.specs.Pieces.{found_piece}
 use Rattle.image_code.specs.declared.parts.Next.{Next}
 use Rattle.image_code.specs.Cases.{plain_piece}
 use Rattle.image_code.specs.Couple.{couple_piece}
-use Rattle.image_code.specs.Made.{couple_word, goes_along, goes_on, jump_to, past_slot, snippet_items, way_along, way_by, ways_from}
-use Rattle.image_code.specs.Parts.{IsGraphOf, copy_with, items_of, way_with}
-use Rattle.image_code.proofs.Numbers.{words_are}
-
-no_fall : (kind : EdgeKind) → (kind ≡ kinds.Fall → ⊥) → is_fall kind ≡ false
-no_fall kinds.Fall n = absurd (n refl)
-no_fall _ n = refl
+use Rattle.image_code.specs.Lookups.{IsSource}
+use Rattle.image_code.specs.Made.{couple_word, goes_along, goes_on, jump_to, past_slot, slot_copy, snippet_items, way_along, way_by, ways_from}
+use Rattle.image_code.specs.Parts.{items_of}
 
 no_out : (kind : EdgeKind) → (kind ≡ kinds.Out → ⊥) → same_kind kind kinds.Out ≡ false
 no_out kinds.Out n = absurd (n refl)
@@ -41,70 +36,70 @@ no_out kinds.Call n = refl
 no_out kinds.Land n = refl
 no_out kinds.Case n = refl
 
+-- any edge but a Fall or a Case edge has its way
+pub way_is : (text : Words) (graph : Graph) (table : ℕ) (codes : ℕ → List ℕ) (number : ℕ) (edge : Edge) (items : List Item)
+    → (edge.kind ≡ kinds.Fall → ⊥) → (edge.kind ≡ kinds.Case → ⊥)
+    → (if is_fall edge.kind then jump_to 0 else if same_kind edge.kind kinds.Case then jump_to 0 else items) ≡ items
+way_is text graph table codes number edge items fall case = go edge.kind fall case
+  where
+    go : (kind : EdgeKind) → (kind ≡ kinds.Fall → ⊥) → (kind ≡ kinds.Case → ⊥)
+        → (if is_fall kind then jump_to 0 else if same_kind kind kinds.Case then jump_to 0 else items) ≡ items
+    go kinds.Fall n m = absurd (n refl)
+    go kinds.Case n m = absurd (m refl)
+    go kinds.Taken n m = refl
+    go kinds.Untaken n m = refl
+    go kinds.Call n m = refl
+    go kinds.Out n m = refl
+    go kinds.Land n m = refl
+
 -- What is made is what it should be, where it goes on as the edge does.
 module _ (text : Words) (graph : Graph) (table : ℕ) (edge : Edge) (made : Result (List Item) NoMemory)
-    (code : List ℕ) where
-  abbrev codes : ℕ → List ℕ
-  codes number = code
+    (code : List ℕ) (codes : ℕ → List ℕ) (number : ℕ) (code_is : code ≡ codes number) (to : ℕ) where
+  alone : map it.Word code ≡ snippet_items codes (number ∷ [])
+  alone = ap (map it.Word) (code_is ∙ sym (append-nil (codes number)))
 
-  alone : map it.Word code ≡ snippet_items codes (0 ∷ [])
-  alone = ap (map it.Word) (sym (append-nil code))
-
-  pub out_copy : (address : Addr) (number word : ℕ) → is_transfer (decode_of word) ≡ false
+  pub out_copy : (address : Addr) (node word : ℕ) → is_transfer (decode_of word) ≡ false
       → edge.kind ≡ kinds.Out
-      → IfOk made (λ p. p ≡ found_piece address number word (map it.Word code) 1)
-      → IfOk made (λ p. p ≡ copy_with text graph table code address number word edge)
-  out_copy address number word straight kind is =
+      → IfOk made (λ p. p ≡ found_piece address node word (map it.Word code) 1)
+      → IfOk made (λ p. p ≡ slot_copy text graph table codes address node word number edge to)
+  out_copy address node word straight kind is =
       subst (λ (items : List Item). IfOk made (λ p. p ≡ items))
-      (ap (λ (items : List Item). found_piece address number word items 1) alone ∙ sym (
-      ap (λ (b : Bool). if b then couple_piece address number couple_word []
-      else past_slot text graph table codes address number word 0 edge) straight
+      (ap (λ (items : List Item). found_piece address node word items 1) alone ∙ sym (
+      ap (λ (b : Bool). if b then couple_piece address node couple_word []
+      else past_slot text graph table codes address node word number edge to) straight
       ∙ ap (λ (b : Bool). if b
-      then found_piece address number word (snippet_items codes (0 ∷ [])) 1
-      else plain_piece address number word (goes_along text graph codes 0 edge))
+      then found_piece address node word (snippet_items codes (number ∷ [])) 1
+      else plain_piece address node word (goes_along text graph codes number edge to))
       (ap (λ (k : EdgeKind). same_kind k kinds.Out) kind))) is
 
   module _ (next : Next)
-      (goes : items_of next ≡ goes_on text graph edge.to (way_address text graph edge.from edge.kind)) where
-    along_is : map it.Word code ++ items_of next ≡ goes_along text graph codes 0 edge
+      (goes : items_of next ≡ goes_on text graph edge.to to (way_address text graph edge.from edge.kind)) where
+    along_is : map it.Word code ++ items_of next ≡ goes_along text graph codes number edge to
     along_is =
         ap (λ (items : List Item). items ++ items_of next) alone
-        ∙ ap (λ (items : List Item). snippet_items codes (0 ∷ []) ++ items) goes
+        ∙ ap (λ (items : List Item). snippet_items codes (number ∷ []) ++ items) goes
 
-    pub bare_way : edge.slot ≡ slots.Nothing → (edge.kind ≡ kinds.Fall → ⊥)
+    pub bare_way : edge.slot ≡ slots.Nothing
         → IfOk made (λ p. p ≡ map it.Word code ++ items_of next)
-        → IfOk made (λ p. p ≡ way_with text graph table code edge)
-    bare_way slot other is =
+        → IfOk made (λ p. p ≡ way_by text graph table codes number edge to edge.slot)
+    bare_way slot is =
         subst (λ (items : List Item). IfOk made (λ p. p ≡ items)) (along_is ∙ sym (
-        ap (λ (b : Bool). if b then jump_to 0 else way_by text graph table codes 0 edge edge.slot) (no_fall edge.kind other)
-        ∙ ap (way_by text graph table codes 0 edge) slot)) is
+        ap (way_by text graph table codes number edge to) slot)) is
 
-    pub plain_copy : (address : Addr) (number word : ℕ) → is_transfer (decode_of word) ≡ false
+    pub plain_copy : (address : Addr) (node word : ℕ) → is_transfer (decode_of word) ≡ false
         → (edge.kind ≡ kinds.Out → ⊥)
-        → IfOk made (λ p. p ≡ plain_piece address number word (map it.Word code ++ items_of next))
-        → IfOk made (λ p. p ≡ copy_with text graph table code address number word edge)
-    plain_copy address number word straight other is =
+        → IfOk made (λ p. p ≡ plain_piece address node word (map it.Word code ++ items_of next))
+        → IfOk made (λ p. p ≡ slot_copy text graph table codes address node word number edge to)
+    plain_copy address node word straight other is =
         subst (λ (items : List Item). IfOk made (λ p. p ≡ items))
-        (ap (plain_piece address number word) along_is ∙ sym (
-        ap (λ (b : Bool). if b then couple_piece address number couple_word []
-        else past_slot text graph table codes address number word 0 edge) straight
+        (ap (plain_piece address node word) along_is ∙ sym (
+        ap (λ (b : Bool). if b then couple_piece address node couple_word []
+        else past_slot text graph table codes address node word number edge to) straight
         ∙ ap (λ (b : Bool). if b
-        then found_piece address number word (snippet_items codes (0 ∷ [])) 1
-        else plain_piece address number word (goes_along text graph codes 0 edge)) (no_out edge.kind other))) is
+        then found_piece address node word (snippet_items codes (number ∷ [])) 1
+        else plain_piece address node word (goes_along text graph codes number edge to)) (no_out edge.kind other))) is
 
 -- ---- ways by the numbers of their edges
-
-way_by_same : (text : Words) (graph : Graph) (table : ℕ) (codes : ℕ → List ℕ) (number : ℕ) (edge : Edge) (slot : Slot)
-    → way_by text graph table (λ n. codes number) 0 edge slot ≡ way_by text graph table codes number edge slot
-way_by_same text graph table codes number edge slots.Nothing = refl
-way_by_same text graph table codes number edge (slots.Word word) = refl
-way_by_same text graph table codes number edge slots.Off = refl
-
-pub way_same : (text : Words) (graph : Graph) (table : ℕ) (codes : ℕ → List ℕ) (number : ℕ) (edge : Edge)
-    → way_with text graph table (codes number) edge ≡ way_along text graph table codes number edge
-way_same text graph table codes number edge =
-    ap (λ (items : List Item). if is_fall edge.kind then jump_to 0 else items)
-    (way_by_same text graph table codes number edge edge.slot)
 
 pub ways_more : (text : Words) (graph : Graph) (table : ℕ) (codes : ℕ → List ℕ) (number : ℕ) (edges : List Edge)
     (edge : Edge) → ways_from text graph table codes number (edges ++ edge ∷ [])
@@ -123,33 +118,31 @@ ways_more text graph table codes number (first ∷ edges) edge =
 pub ways_next : (text : Words) (graph : Graph) (table : ℕ) (codes : ℕ → List ℕ) (edges : List Edge) (n : ℕ) (d : Edge)
     → n < length edges → ways_from text graph table codes 0 (take (n + 1) edges)
     ≡ ways_from text graph table codes 0 (take n edges)
-    ++ way_with text graph table (codes n) (get_or edges n d) ∷ []
+    ++ way_along text graph table codes n (get_or edges n d) ∷ []
 ways_next text graph table codes edges n d l =
     let count : 0 + length (take n edges) ≡ n = omega (arith, length-take n edges) in
     ap (ways_from text graph table codes 0) (take_more edges n d l)
     ∙ ways_more text graph table codes 0 (take n edges) (get_or edges n d)
     ∙ ap (λ (k : ℕ). ways_from text graph table codes 0 (take n edges)
     ++ way_along text graph table codes k (get_or edges n d) ∷ []) count
-    ∙ ap (λ (items : List Item). ways_from text graph table codes 0 (take n edges) ++ items ∷ [])
-    (sym (way_same text graph table codes n (get_or edges n d)))
 
 pub ways_pushed : (text : Words) (graph : Graph) (table : ℕ) (codes : ℕ → List ℕ) (edges : List Edge) (n : ℕ) (d : Edge)
-    (before list new : List (List Item)) (piece : List Item) (code : List ℕ) → n < length edges
-    → new ≡ list ++ piece ∷ [] → piece ≡ way_with text graph table code (get_or edges n d) → code ≡ codes n
+    (before list new : List (List Item)) (piece : List Item) → n < length edges
+    → new ≡ list ++ piece ∷ [] → piece ≡ way_along text graph table codes n (get_or edges n d)
     → list ≡ before ++ ways_from text graph table codes 0 (take n edges)
     → new ≡ before ++ ways_from text graph table codes 0 (take (n + 1) edges)
-ways_pushed text graph table codes edges n d before list new piece code l pushed made is held =
+ways_pushed text graph table codes edges n d before list new piece l pushed made held =
     pushed
-    ∙ ap (λ (items : List Item). list ++ items ∷ [])
-    (made ∙ ap (λ (c : List ℕ). way_with text graph table c (get_or edges n d)) is)
-    ∙ ap (λ (pieces : List (List Item)). pieces ++ way_with text graph table (codes n) (get_or edges n d) ∷ []) held
+    ∙ ap (λ (items : List Item). list ++ items ∷ []) made
+    ∙ ap (λ (pieces : List (List Item)). pieces ++ way_along text graph table codes n (get_or edges n d) ∷ []) held
     ∙ append_assoc before (ways_from text graph table codes 0 (take n edges))
-    (way_with text graph table (codes n) (get_or edges n d) ∷ [])
+    (way_along text graph table codes n (get_or edges n d) ∷ [])
     ∙ ap (λ (ways : List (List Item)). before ++ ways) (sym (ways_next text graph table codes edges n d l))
 
 -- a slot that an edge carries stands in the text
-pub slot_within : (text : Words) (graph : Graph) → IsGraphOf text graph → (edge : Edge) → IsEdgeIn graph.blocks graph.opens edge
-    → (slot : WordNo) → edge.slot ≡ slots.Word slot → slot.0 < length text.words
+pub slot_within : (text : Words) (graph : Graph) → IsSource text graph → (edge : Edge)
+    → IsEdgeIn graph.blocks graph.opens edge → (slot : WordNo) → edge.slot ≡ slots.Word slot
+    → slot.0 < length text.words
 slot_within text graph h edge inside slot is =
     let low : slot.0 < graph.blocks.words = subst (IsSlotIn graph.blocks) is inside.slot in
-    omega (arith, words_are text graph h)
+    omega (arith, h.words)

@@ -1,7 +1,7 @@
 -- The images of branches: each way leads into a slot, to a word's image, or out of the text.
 use Rattle.std.proofs.Common.{◌≡◌, ℕ, ◌+◌, ◌%◌, ◌^◌, ◌<◌, inl, inr, Bool, true, false, not, Option, Some, None, List, [], ◌∷◌, ◌++◌, length, refl, ap, sym, ◌∙◌, subst, arith}
 use Rattle.std.specs.Prelude.{if◌then◌else◌, ◌&&◌, ◌||◌, slice_get, slice_index, ◌==◌, ℤ}
-use Rattle.eel_base.specs.CodeText.{IsText, address_of, word_at, numbered, target_of}
+use Rattle.eel_base.specs.CodeText.{Words, address_of, word_at, numbered, target_of}
 use Rattle.eel_base.specs.declared.numbers.Addr.{Addr}
 use Rattle.v8_decode.specs.declared.Instr.{Instr}
 use Rattle.v8_decode.specs.declared.Instr.TheVariants as i
@@ -20,19 +20,23 @@ use Rattle.cfg_blocks.specs.declared.EdgeKind.TheVariants as kinds
 use Rattle.cfg_blocks.specs.Ends.{Way, always, branch_target, never, end_at, is_transfer as transfers, number_of, target_in, way, ways_of, within}
 use Rattle.cfg_blocks.specs.Blocks.{Blocks, blocks_of, end_of, holding_of, last_word}
 use Rattle.cfg_blocks.specs.Entries.{is_fall}
+use Rattle.cfg_blocks.specs.Switches.{is_jump}
+use Rattle.std.proofs.lemmas.Bool.{cond_both}
 use Rattle.cfg_blocks.proofs.Targets.{word_at-some}
+use Rattle.cfg_normal.specs.declared.Edge.{Edge}
 use Rattle.cfg_normal.specs.declared.Node.{Node}
+use Rattle.cfg_normal.specs.Nodes.{home_of}
+use Rattle.cfg_normal.specs.Opens.{Open, jumps_in}
 use Rattle.cfg_normal.specs.declared.Slot.TheVariants as carried
-use Rattle.cfg_normal.specs.Graph.{node_of, edge_of, runs_slot, slot_behind, slot_on}
+use Rattle.cfg_normal.specs.Graph.{IsNodeIn, directed, edge_of, graph_of, has_cases, is_compared, node_of, runs_slot, slot_behind, slot_on}
 use Rattle.cfg_walk.specs.Walk.{Point, edge_from, node_after, point_of, same_kind}
-use Rattle.cfg_walk.specs.Matches.{target_along}
+use Rattle.cfg_walk.specs.Matches.{last_in, target_along}
 use Rattle.cfg_walk.proofs.Addresses.{second_address}
 use Rattle.cfg_walk.proofs.Cut.{IsCut}
-use Rattle.cfg_walk.proofs.Edges.{IsEdge, block}
+use Rattle.cfg_walk.proofs.Edges.{IsEdge, block, copy, leads_along, node_at}
 use Rattle.cfg_walk.proofs.Holding.{first_held}
 use Rattle.cfg_walk.proofs.Leaving.{end_is, is_in, node_is, transfer_ends, way_found}
-use Rattle.cfg_walk.proofs.NoneOpen.{directed_none, open_none}
-use Rattle.cfg_walk.proofs.Points.{Stands, jumps_along, jumps_to, passes}
+use Rattle.cfg_walk.proofs.Points.{Stands, jumps_along, jumps_to, passes, quiet}
 use Rattle.cfg_walk.proofs.Slots.{LeadsIfThere}
 use Rattle.cfg_walk.proofs.Transfers.{taken_delayed, untaken_delayed}
 use Rattle.cfg_walk.proofs.Ways.{IsOne, always_holds, never_holds, not_always, not_never, taken_is_one, untaken_is_one}
@@ -41,17 +45,20 @@ use Rattle.jump_code.specs.Pieces.{far_piece}
 use Rattle.layout.specs.declared.items.Item.{Item}
 use Rattle.layout.specs.Laid.{Placement}
 use Rattle.image_code.specs.Simulates.{Setting, at_point, does_at, gone_at, graph_in, number_in}
-use Rattle.image_code.specs.Images.{Frame, visited_at}
-use Rattle.image_code.specs.Cases.{LeadsTo, branch_piece, next_visit, plain_piece, word_ahead, words_on}
+use Rattle.image_code.specs.Images.{Frame, entered_at}
+use Rattle.image_code.specs.Cases.{LeadsTo, branch_piece, next_entry, plain_piece, word_ahead, words_on}
 use Rattle.image_code.specs.Imaged.{IsCase, turn, idle}
 use Rattle.image_code.specs.Turns.{IsNoJumpsSlot}
-use Rattle.image_code.specs.Made.{first_way, goes_on, jump_to, nop_word, way_by, way_out}
+use Rattle.image_code.specs.Numbered.{enter_number, image_number}
+use Rattle.image_code.specs.Made.{first_way, first_word, goes_on, jump_to, nop_word, way_by, way_out}
+use Rattle.image_code.proofs.CaseTables.{IsKnown}
 use Rattle.image_code.proofs.EdgePieces.{along_far, cut_in}
+use Rattle.image_code.proofs.ImageNumbers.{HasImage}
 use Rattle.image_code.proofs.Branches.{nop_says, small}
 use Rattle.std.proofs.lemmas.Option.{slice_get_within}
 use Rattle.image_code.proofs.IntoSlots.{LeadsThere, entered, entered_untaken, no_jump, stands}
 use Rattle.image_code.proofs.Listed.{own_at, way_at}
-use Rattle.image_code.proofs.Visited.{image_items, l, left_gone, visited_none, visited_word, word_is}
+use Rattle.image_code.proofs.Visited.{entered_none, entered_word, has_its_image, image_items, l, left_gone, visited_word, word_is}
 
 -- a branch comes to a taken transfer's slot only at the next instruction
 slot_next : (flag all annul : Bool) (s : State) (to : ℕ) → s.slot ≡ NoSlot
@@ -63,9 +70,30 @@ slot_next true false false s to none e = refl
 slot_next false all true s to none e = let q : NoSlot ≡ Taken = sym none ∙ e in absurd (cc)
 slot_next false all false s to none e = refl
 
-module _ (g : Setting) (codes : ℕ → List ℕ) (is : IsText g.text) (p : Placement) (f : Frame) (whole : IsTable f.table)
+-- a node's block begins with the word to which an edge leads
+goes_there : (text : Words) (b : Blocks) (opens : List Open) (from : Node) (kind : EdgeKind) (k to address : ℕ)
+    → slice_index b.firsts k ≡ to
+    → goes_on text (graph_of b opens) (directed opens from kind (block k))
+    (first_word (graph_of b opens) (directed opens from kind (block k))) address
+    ≡ jump_to (enter_number text (graph_of b opens) (directed opens from kind (block k)) to)
+goes_there text b opens from kind k to address e =
+    cond_both (jumps_in opens k && not (is_compared opens from kind k)) (copy k) (block k)
+    (λ (n : Node). goes_on text (graph_of b opens) n (first_word (graph_of b opens) n) address
+    ≡ jump_to (enter_number text (graph_of b opens) n to))
+    (λ _. ap (λ (w : ℕ). jump_to (enter_number text (graph_of b opens) (copy k) w)) e)
+    (λ _. ap (λ (w : ℕ). jump_to (enter_number text (graph_of b opens) (block k) w)) e)
+
+pub last_home : (b : Blocks) (opens : List Open) (node : Node) (k : ℕ) → home_of node ≡ block k
+    → last_in (graph_of b opens) node ≡ last_word b.firsts b.words k
+last_home b opens node k h = elim (node_at node k h) [
+  | inl here ↦ ap (last_in (graph_of b opens)) here
+  | inr there ↦ ap (last_in (graph_of b opens)) there
+]
+
+module _ (g : Setting) (codes : ℕ → List ℕ) (is : IsKnown g) (p : Placement) (f : Frame) (whole : IsTable f.table)
     (node : Node) (x : Point) (word : ℕ) (at : word_at g.text x.pc ≡ Some word) (none : x.slot ≡ NoSlot)
-    (held : node ≡ node_of (blocks_of g.text g.given) (word_at g.text x.pc)) (npc : x.npc ≡ (x.pc + 4) % 2 ^ 32)
+    (held : home_of node ≡ node_of (blocks_of g.text g.given) (word_at g.text x.pc))
+    (there : IsNodeIn (blocks_of g.text g.given) g.switches node) (npc : x.npc ≡ (x.pc + 4) % 2 ^ 32)
     (cond : ℕ) (annul : Bool) (disp : ℤ)
     (says : decode_of (slice_index g.text.words word) ≡ i.Branch cond annul disp) where
   abbrev b : Blocks
@@ -75,10 +103,10 @@ module _ (g : Setting) (codes : ℕ → List ℕ) (is : IsText g.text) (p : Plac
   branch = i.Branch cond annul disp
 
   cut : IsCut g.text b
-  cut = cut_in g is f.table.base
+  cut = cut_in g is f.table.base f.cases.base
 
-  here : Stands g.text b [] node x word branch
-  here = stands g codes is p f whole node x word at none held npc branch says
+  here : Stands g.text b g.switches node x word branch
+  here = stands g codes is p f whole node x word at none held there npc branch says
 
   end : end_at g.text word ≡ ends.Branch cond annul (branch_target g.text word cond disp)
   end = end_is g.text word branch says
@@ -92,14 +120,25 @@ module _ (g : Setting) (codes : ℕ → List ℕ) (is : IsText g.text) (p : Plac
   low : word < b.words
   low = omega (arith, inside, cut.words)
 
-  node_home : node ≡ block (holding_of b word)
-  node_home = held ∙ ap (node_of b) at ∙ node_is b word low
+  home : home_of node ≡ block (holding_of b word)
+  home = held ∙ ap (node_of b) at ∙ node_is b word low
+
+  -- no open switch's jump is a branch
+  caseless : has_cases g.switches node ≡ false
+  caseless = quiet here transfer (ap is_jump end)
+
+  has : HasImage g.text b g.switches node word
+  has = has_its_image g codes is p f node x word at held there
+
+  -- the piece of its image
+  abbrev number : ℕ
+  number = image_number g.text (graph_in g) node word
 
   -- ---- the way of an edge on which no slot is run
 
   module _ (w : Way) (one : IsOne w (ways_of b.words word (end_at g.text word)))
       (bare : runs_slot (end_at g.text word) w.kind ≡ false) (fall : is_fall w.kind ≡ false)
-      (land : same_kind w.kind kinds.Land ≡ false) where
+      (land : same_kind w.kind kinds.Land ≡ false) (no_case : same_kind w.kind kinds.Case ≡ false) where
     abbrev goal_address : ℕ
     goal_address = target_along g.text word w.kind branch
 
@@ -107,70 +146,89 @@ module _ (g : Setting) (codes : ℕ → List ℕ) (is : IsText g.text) (p : Plac
     k = holding_of b word
 
     last : word ≡ last_word b.firsts b.words k
-    last = transfer_ends g.text b [] cut word low transfer
+    last = transfer_ends g.text b g.switches cut word low transfer
 
-    found : IsEdge (graph_in g) (edge_from (graph_in g) (block k) w.kind) (edge_of b [] (block k) k w)
-    found = way_found g.text b [] cut word low (open_none b) (block k) (is_in g.text b [] cut word low).within refl w last
-        refl one
+    abbrev edge : Edge
+    edge = edge_of b g.switches node k w
+
+    found : IsEdge (graph_in g) (edge_from (graph_in g) node w.kind) edge
+    found = way_found g.text b g.switches cut word low is.cased.jumps node there home w last caseless one
 
     abbrev its_code : List Item
     its_code = words_on (l g codes is p f) (found.number ∷ [])
 
-    bare_items : slice_get (l g codes is p f).list (way_out g.text (graph_in g) node w.kind)
-        ≡ Some (its_code ++ goes_on g.text (graph_in g) (node_of b w.to) goal_address)
+    abbrev way_items : Node → List Item
+    way_items to = its_code ++ goes_on g.text (graph_in g) to (first_word (graph_in g) to) goal_address
+
+    bare_items : slice_get (l g codes is p f).list (way_out g.text (graph_in g) node w.kind) ≡ Some (way_items edge.to)
     bare_items =
         let ended : end_of b k ≡ end_at g.text word =
-        cut.ends k (is_in g.text b [] cut word low).within ∙ ap (end_at g.text) (sym last) in
+        cut.ends k (is_in g.text b g.switches cut word low).within ∙ ap (end_at g.text) (sym last) in
         let number : way_out g.text (graph_in g) node w.kind ≡ length g.text.words + found.number =
-        ap (λ (n : Node). way_out g.text (graph_in g) n w.kind) node_home
-        ∙ ap (first_way g.text (graph_in g)) found.only in
+        ap (first_way g.text (graph_in g)) found.only in
+        let last_there : last_in (graph_in g) node ≡ word = last_home b g.switches node k home ∙ sym last in
+        let goes_by = (λ (address : ℕ). its_code ++ goes_on g.text (graph_in g) edge.to
+        (first_word (graph_in g) edge.to) address) in
         ap (slice_get (l g codes is p f).list) number
-        ∙ way_at g.text (graph_in g) f.table.base codes found.number (edge_of b [] (block k) k w)
-        (own_at b found.number (edge_of b [] (block k) k w) found.is land)
-        ∙ ap (λ (t : Bool). Some (if t then jump_to 0 else way_by g.text (graph_in g) f.table.base codes found.number
-        (edge_of b [] (block k) k w) (slot_on b k w.kind))) fall
-        ∙ ap (λ (r : Bool). Some (way_by g.text (graph_in g) f.table.base codes found.number (edge_of b [] (block k) k w)
+        ∙ way_at g.text b g.switches is.cased f.table.base f.cases.base codes found.number edge
+        (own_at b g.switches found.number edge found.is land)
+        ∙ ap (λ (t : Bool). Some (if t then jump_to 0 else if same_kind w.kind kinds.Case then jump_to 0 else
+        way_by g.text (graph_in g) f.table.base codes found.number edge (first_word (graph_in g) edge.to)
+        (slot_on b k w.kind))) fall
+        ∙ ap (λ (t : Bool). Some (if t then jump_to 0 else
+        way_by g.text (graph_in g) f.table.base codes found.number edge (first_word (graph_in g) edge.to)
+        (slot_on b k w.kind))) no_case
+        ∙ ap (λ (r : Bool). Some (way_by g.text (graph_in g) f.table.base codes found.number edge
+        (first_word (graph_in g) edge.to)
         (if r then slot_behind b.words (last_word b.firsts b.words k) else carried.Nothing)))
         (ap (λ (d : BlockEnd). runs_slot d w.kind) ended ∙ bare)
-        ∙ ap (λ (n : Node). Some (its_code ++ goes_on g.text (graph_in g) n
-        (target_along g.text (last_word b.firsts b.words k) w.kind
-        (decode_of (slice_index g.text.words (last_word b.firsts b.words k))))))
-        (directed_none (block k) w.kind (node_of b w.to))
-        ∙ ap (λ (n : ℕ). Some (its_code ++ goes_on g.text (graph_in g) (node_of b w.to)
-        (target_along g.text n w.kind (decode_of (slice_index g.text.words n))))) (sym last)
-        ∙ ap (λ (d : Instr). Some (its_code ++ goes_on g.text (graph_in g) (node_of b w.to)
-        (target_along g.text word w.kind d))) says
+        ∙ ap (λ (n : ℕ). Some (goes_by (target_along g.text n w.kind
+        (decode_of (slice_index g.text.words n))))) last_there
+        ∙ ap (λ (d : Instr). Some (goes_by (target_along g.text word w.kind d))) says
 
     bare_in : LeadsIfThere b w.to → (to : ℕ) → w.to ≡ Some to
-        → slice_get (l g codes is p f).list (way_out g.text (graph_in g) node w.kind) ≡ Some (its_code ++ jump_to to)
+        → slice_get (l g codes is p f).list (way_out g.text (graph_in g) node w.kind)
+        ≡ Some (its_code ++ jump_to (enter_number g.text (graph_in g) edge.to to))
     bare_in leads to e =
         let target = leads to e in
+        let same : edge.to ≡ directed g.switches node w.kind (block (holding_of b to)) =
+        ap (λ (o : Option ℕ). directed g.switches node w.kind (node_of b o)) e
+        ∙ ap (directed g.switches node w.kind) (node_is b to target.0) in
         bare_items
-        ∙ ap (λ (o : Option ℕ). Some (its_code ++ goes_on g.text (graph_in g) (node_of b o) goal_address)) e
-        ∙ ap (λ (n : Node). Some (its_code ++ goes_on g.text (graph_in g) n goal_address)) (node_is b to target.0)
-        ∙ ap (λ (n : ℕ). Some (its_code ++ jump_to n)) (first_held b.words b.firsts cut.firsts to target.1)
+        ∙ ap (λ (n : Node). Some (way_items n)) same
+        ∙ ap (λ (r : List Item). Some (its_code ++ r))
+        (goes_there g.text b g.switches node w.kind (holding_of b to) to goal_address
+        (first_held b.words b.firsts cut.firsts to target.1))
+        ∙ ap (λ (n : Node). Some (its_code ++ jump_to (enter_number g.text (graph_in g) n to))) (sym same)
 
     bare_out : w.to ≡ None
         → slice_get (l g codes is p f).list (way_out g.text (graph_in g) node w.kind)
         ≡ Some (its_code ++ far_piece goal_address)
     bare_out e =
         bare_items
-        ∙ ap (λ (o : Option ℕ). Some (its_code ++ goes_on g.text (graph_in g) (node_of b o) goal_address)) e
+        ∙ ap (λ (o : Option ℕ). Some (way_items (directed g.switches node w.kind (node_of b o)))) e
 
     -- past a slot that is annulled
     past : (if cond == always then kinds.Taken else kinds.Untaken) ≡ w.kind → (v : State) → v.ending ≡ None
         → v.slot ≡ NoSlot → word_at g.text v.pc ≡ w.to → LeadsIfThere b w.to → v.pc ≡ goal_address
-        → LeadsThere g codes is p f whole node x word at none held npc branch says w.kind v
+        → LeadsThere g codes is p f whole node x word at none held there npc branch says w.kind v
     past kind_is v live slot to leads pc = by (word_at g.text v.pc) refl
       where
         after : Node
         after = node_after (graph_in g) node (gone_at g node x v)
 
-        completes : gone_at g node x v ≡ found.number ∷ []
-        completes =
-            left_gone g codes is p f node x v none slot live word at branch says
+        goes_along : gone_at g node x v ≡ edge_from (graph_in g) node w.kind
+        goes_along =
+            left_gone g node x v none slot live word at branch says
             ∙ ap (edge_from (graph_in g) node) kind_is
-            ∙ ap (λ (n : Node). edge_from (graph_in g) n w.kind) node_home ∙ found.only
+
+        completes : gone_at g node x v ≡ found.number ∷ []
+        completes = goes_along ∙ found.only
+
+        after_is : after ≡ edge.to
+        after_is =
+            ap (node_after (graph_in g) node) goes_along
+            ∙ leads_along (graph_in g) node (edge_from (graph_in g) node w.kind) edge found
 
         with_code : (rest : List Item)
             → slice_get (l g codes is p f).list (way_out g.text (graph_in g) node w.kind) ≡ Some (its_code ++ rest)
@@ -181,16 +239,18 @@ module _ (g : Setting) (codes : ℕ → List ℕ) (is : IsText g.text) (p : Plac
 
         by : (o : Option ℕ) → word_at g.text v.pc ≡ o
             → LeadsTo (l g codes is p f) p (record { 0 = way_out g.text (graph_in g) node w.kind })
-            (gone_at g node x v) (word_at g.text v.pc) (visited_at g (l g codes is p f) p f after (point_of v))
+            (gone_at g node x v) (word_at g.text v.pc) (entered_at g (l g codes is p f) p f after (point_of v))
         by None e =
             subst (LeadsTo (l g codes is p f) p (record { 0 = way_out g.text (graph_in g) node w.kind })
-            (gone_at g node x v) (word_at g.text v.pc)) (sym (visited_none g codes is p f after (point_of v) e slot ∙ pc))
-            (inr (inr (e, along_far g.text word w.kind branch is inside, with_code _ (bare_out (sym to ∙ e)))))
+            (gone_at g node x v) (word_at g.text v.pc))
+            (sym (entered_none g codes is p f after (point_of v) e slot ∙ pc))
+            (inr (inr (e, along_far g.text word w.kind branch is.text inside, with_code _ (bare_out (sym to ∙ e)))))
         by (Some other) e =
             inr (inl (
-              record { 0 = other },
+              record { 0 = enter_number g.text (graph_in g) edge.to other },
               with_code _ (bare_in leads other (sym to ∙ e)),
-              sym (visited_word g codes is p f after (point_of v) other e slot),
+              sym (entered_word g codes is p f after (point_of v) other e slot
+                  ∙ ap (λ (n : Node). slice_index p.at (enter_number g.text (graph_in g) n other)) after_is),
             ))
 
   -- ---- each way that the branch goes
@@ -200,18 +260,19 @@ module _ (g : Setting) (codes : ℕ → List ℕ) (is : IsText g.text) (p : Plac
     to = target_from (at_point x t) disp
 
     abbrev Goes : EdgeKind → State → Type 0
-    Goes kind v = LeadsThere g codes is p f whole node x word at none held npc branch says kind v
+    Goes kind v = LeadsThere g codes is p f whole node x word at none held there npc branch says kind v
 
     into_taken : holds_of cond t.codes ≡ true → (not annul || not (cond == always)) ≡ true → (v : State)
         → v.ending ≡ None → v.pc ≡ x.npc → v.npc ≡ to → v.slot ≡ Taken → Goes kinds.Taken v
     into_taken holds runs v live pc next slot =
-        entered g codes is p f whole node x word at none held npc branch says v live pc slot
+        entered g codes is p f whole node x word at none held there npc branch says v live pc slot (λ out. absurd (cc))
         (taken_delayed cond annul disp t.codes here (point_of v) holds runs pc next)
 
     into_untaken : holds_of cond t.codes ≡ false → annul ≡ false → (v : State)
         → v.ending ≡ None → v.pc ≡ x.npc → v.npc ≡ wrapped (x.npc + 4) → v.slot ≡ Untaken → Goes kinds.Untaken v
     into_untaken holds kept v live pc next slot =
-        entered_untaken g codes is p f whole node x word at none held npc branch says v live pc slot
+        entered_untaken g codes is p f whole node x word at none held there npc branch says v live pc slot
+        (λ out. absurd (cc))
         (untaken_delayed cond annul disp t.codes here (point_of v) holds kept pc next)
 
     past_taken : holds_of cond t.codes ≡ true → annul ≡ true → (cond == always) ≡ true → (v : State)
@@ -227,7 +288,7 @@ module _ (g : Setting) (codes : ℕ → List ℕ) (is : IsText g.text) (p : Plac
         ∙ ap (λ (a : Bool). not a || (true && not (cond == always))) ann ∙ ap not all in
         let there = jumps_to here (point_of v) transfer target disp v.pc (ap target_in end)
         (ap (λ (n : Bool). if n then None else numbered (target_of g.text word disp)) some) pc in
-        past (way kinds.Taken (number_of (branch_target g.text word cond disp))) one bare refl refl
+        past (way kinds.Taken (number_of (branch_target g.text word cond disp))) one bare refl refl refl
         (ap (λ (z : Bool). if z then kinds.Taken else kinds.Untaken) all) v live slot
         there.0 there.1 (jumps_along here (point_of v) transfer disp v.pc pc)
 
@@ -242,11 +303,11 @@ module _ (g : Setting) (codes : ℕ → List ℕ) (is : IsText g.text) (p : Plac
         ap (λ (e : BlockEnd). runs_slot e kinds.Untaken) end ∙ ap (λ (a : Bool). not a || false) ann in
         let there = passes here (record { pc = x.pc; npc = (x.npc + 4) % 2 ^ 32; slot = NoSlot }) transfer refl in
         let far : v.pc ≡ (x.npc + 4) % 2 ^ 32 = omega arith in
-        past (way kinds.Untaken (within b.words (word + 2))) one bare refl refl
+        past (way kinds.Untaken (within b.words (word + 2))) one bare refl refl refl
         (ap (λ (z : Bool). if z then kinds.Taken else kinds.Untaken) (not_always cond t.codes holds)) v live slot
         (ap (word_at g.text) far ∙ there.0) there.1
         (pc ∙ ap (λ (a : ℕ). (a + 8) % 2 ^ 32) (word_at-some g.text x.pc word at).is
-        ∙ second_address g.text word is inside)
+        ∙ second_address g.text word is.text inside)
 
     goes : (flag all ann : Bool) → holds_of cond t.codes ≡ flag → (cond == always) ≡ all → annul ≡ ann
         → t.ending ≡ None → (v : State) → v ≡ branched flag all ann (at_point x t) to
@@ -278,7 +339,7 @@ module _ (g : Setting) (codes : ℕ → List ℕ) (is : IsText g.text) (p : Plac
     acts : does_at g x t ≡ branched (holds_of cond t.codes) (cond == always) annul (at_point x t) to
     unfolding act branch_step
     acts =
-        ap (on_word (at_point x t)) (word_is g codes is p f x word at) ∙ ap (act (at_point x t)) says
+        ap (on_word (at_point x t)) (word_is g x word at) ∙ ap (act (at_point x t)) says
         ∙ ap (λ (z : Slot). unless_couple z (at_point x t)
         (branched (holds_of cond t.codes) (cond == 8) annul (at_point x t) to)) none
 
@@ -290,7 +351,7 @@ module _ (g : Setting) (codes : ℕ → List ℕ) (is : IsText g.text) (p : Plac
 
     no_jumps_slot : IsNoJumpsSlot g (does_at g x t)
     no_jumps_slot =
-        no_jump g codes is p f whole node x word at none held npc branch says (does_at g x t)
+        no_jump g codes is p f whole node x word at none held there npc branch says (does_at g x t)
         (λ slot. ap (λ (z : State). z.pc) acts
         ∙ slot_next (holds_of cond t.codes) (cond == always) annul (at_point x t) to none
         (sym (ap (λ (z : State). z.slot) acts) ∙ slot)) refl
@@ -313,20 +374,20 @@ module _ (g : Setting) (codes : ℕ → List ℕ) (is : IsText g.text) (p : Plac
         branch_piece address (number_in g node) cond taken untaken
 
     made : (always_is never_is : Bool) → (cond == always) ≡ always_is → (cond == never) ≡ never_is
-        → slice_get (l g codes is p f).list word ≡ Some (image_if always_is never_is)
+        → slice_get (l g codes is p f).list number ≡ Some (image_if always_is never_is)
     made always_is never_is a n =
-        image_items g codes is p f node x word at held branch says
+        image_items g codes is p f node x word at has branch says
         ∙ ap (λ (z : Bool). Some (image_if z (cond == never))) a ∙ ap (λ (z : Bool). Some (image_if always_is z)) n
 
     module _ (base : ℕ) (place : ℕ → ℕ → ℕ) where
       one_way : (kind : EdgeKind)
-          → slice_get (l g codes is p f).list word ≡ Some (plain_piece address (number_in g node) nop_word
+          → slice_get (l g codes is p f).list number ≡ Some (plain_piece address (number_in g node) nop_word
           (jump_to (way_out g.text (graph_in g) node kind)))
           → Goes kind (does_at g x t) → IsCase g (l g codes is p f) base p place f node x t
       one_way kind found leads_there = idle (record {
         none = none;
-        piece = word;
-        within = slice_get_within (l g codes is p f).list word _ found;
+        piece = number;
+        within = slice_get_within (l g codes is p f).list number _ found;
         here = visited_word g codes is p f node x word at none;
         address = address;
         original = sym (word_at-some g.text x.pc word at).is;
@@ -334,7 +395,7 @@ module _ (g : Setting) (codes : ℕ → List ℕ) (is : IsText g.text) (p : Plac
         annul = annul;
         disp = disp;
         original_word = slice_index g.text.words word;
-        is_word = word_is g codes is p f x word at;
+        is_word = word_is g x word at;
         says = says;
         word = nop_word;
         idle = nop_says;
@@ -346,16 +407,18 @@ module _ (g : Setting) (codes : ℕ → List ℕ) (is : IsText g.text) (p : Plac
 
       either : t.ending ≡ None → (flag : Bool) → holds_of cond t.codes ≡ flag
           → LeadsTo (l g codes is p f) p (record { 0 = if holds_of cond t.codes then taken else untaken })
-          (gone_at g node x (does_at g x t)) (word_ahead g x t) (next_visit g (l g codes is p f) p f node x t)
+          (gone_at g node x (does_at g x t)) (word_ahead g x t) (next_entry g (l g codes is p f) p f node x t)
       either live true e =
           subst (λ (h : Bool). LeadsTo (l g codes is p f) p (record { 0 = if h then taken else untaken })
-          (gone_at g node x (does_at g x t)) (word_ahead g x t) (next_visit g (l g codes is p f) p f node x t)) (sym e) (leads live true e)
+          (gone_at g node x (does_at g x t)) (word_ahead g x t) (next_entry g (l g codes is p f) p f node x t))
+          (sym e) (leads live true e)
       either live false e =
           subst (λ (h : Bool). LeadsTo (l g codes is p f) p (record { 0 = if h then taken else untaken })
-          (gone_at g node x (does_at g x t)) (word_ahead g x t) (next_visit g (l g codes is p f) p f node x t)) (sym e) (leads live false e)
+          (gone_at g node x (does_at g x t)) (word_ahead g x t) (next_entry g (l g codes is p f) p f node x t))
+          (sym e) (leads live false e)
 
       two_ways : t.ending ≡ None
-          → slice_get (l g codes is p f).list word ≡ Some (branch_piece address (number_in g node) cond taken untaken)
+          → slice_get (l g codes is p f).list number ≡ Some (branch_piece address (number_in g node) cond taken untaken)
           → IsCase g (l g codes is p f) base p place f node x t
       two_ways live found = turn (record {
         none = none;
@@ -366,11 +429,11 @@ module _ (g : Setting) (codes : ℕ → List ℕ) (is : IsText g.text) (p : Plac
         annul = annul;
         disp = disp;
         word = slice_index g.text.words word;
-        is_word = word_is g codes is p f x word at;
+        is_word = word_is g x word at;
         says = says;
         address = address;
         original = sym (word_at-some g.text x.pc word at).is;
-        within = slice_get_within (l g codes is p f).list word _ found;
+        within = slice_get_within (l g codes is p f).list number _ found;
         taken = taken;
         untaken = untaken;
         items = found;

@@ -26,10 +26,9 @@ use Rattle.cfg_normal.specs.Numbers.{node_number}
 use Rattle.layout.specs.declared.items.Item.{Item}
 use Rattle.layout.specs.declared.items.Item.TheVariants as it
 use Rattle.layout.specs.Laid.{nop}
-use Rattle.image_code.specs.Images.{along_first}
 use Rattle.image_code.specs.Cases.{plain_piece}
 use Rattle.image_code.specs.Imaged.{TakesWords}
-use Rattle.image_code.specs.Made.{couple_word, nop_word, first_way, image_by, pieces_in, rest_after}
+use Rattle.image_code.specs.Made.{couple_word, nop_word, image_by, rest_after}
 
 -- ---- words
 
@@ -55,14 +54,18 @@ branched_lives false all false s to e = e
 
 -- ---- ways
 
--- the way that a transfer goes is no fall and no landing
-pub way_is_own : (o : Option Instr) (slot : Slot)
-    → (is_fall (way_of o slot) ≡ false) × (same_kind (way_of o slot) kinds.Land ≡ false)
-way_is_own (Some (i.Call disp30)) slot = (refl, refl)
-way_is_own (Some (i.Jmpl rd rs1 op2)) slot = (refl, refl)
-way_is_own _ Untaken = (refl, refl)
-way_is_own _ NoSlot = (refl, refl)
-way_is_own _ Taken = (refl, refl)
+-- the way that a transfer goes is no fall, no landing and no case
+pub record IsTransfersWay (kind : EdgeKind) : Type 0 where
+  pub fall : is_fall kind ≡ false
+  pub land : same_kind kind kinds.Land ≡ false
+  pub caseless : same_kind kind kinds.Case ≡ false
+
+pub way_is_own : (o : Option Instr) (slot : Slot) → IsTransfersWay (way_of o slot)
+way_is_own (Some (i.Call disp30)) slot = record { fall = refl; land = refl; caseless = refl }
+way_is_own (Some (i.Jmpl rd rs1 op2)) slot = record { fall = refl; land = refl; caseless = refl }
+way_is_own _ Untaken = record { fall = refl; land = refl; caseless = refl }
+way_is_own _ NoSlot = record { fall = refl; land = refl; caseless = refl }
+way_is_own _ Taken = record { fall = refl; land = refl; caseless = refl }
 
 pub same_is : (k j : EdgeKind) → same_kind k j ≡ true → k ≡ j
 same_is kinds.Fall kinds.Fall e = refl
@@ -84,19 +87,15 @@ node_same (Landed one) (Landed other) e =
 node_same X X e = refl
 node_same _ _ e = absurd (cc)
 
-pub image_straight : (text : Words) (graph : Graph) (jumps : ℕ) (codes : ℕ → List ℕ) (address : Addr) (node : Node) (word : ℕ)
-    (instr : Instr) → is_transfer instr ≡ false
-    → image_by text graph jumps codes address node word instr ≡ plain_piece address (node_number graph node)
+pub image_straight : (text : Words) (graph : Graph) (jumps cases : ℕ) (codes : ℕ → List ℕ) (address : Addr)
+    (node : Node)
+    (word : ℕ) (instr : Instr) → is_transfer instr ≡ false
+    → image_by text graph jumps cases codes address node word instr ≡ plain_piece address (node_number graph node)
     (slice_index text.words word) (rest_after text graph codes node word instr)
-image_straight text graph jumps codes address node word (i.Branch cond annul disp) e = absurd (cc)
-image_straight text graph jumps codes address node word (i.Call disp) e = absurd (cc)
-image_straight text graph jumps codes address node word (i.Jmpl rd rs1 op2) e = absurd (cc)
-image_straight text graph jumps codes address node word _ e = refl
-
-pub first_along : (text : Words) (graph : Graph) (table : ℕ) (codes : ℕ → List ℕ) (edges : List ℕ)
-    → first_way text graph edges ≡ along_first (pieces_in text graph table codes) edges
-first_along text graph table codes [] = refl
-first_along text graph table codes (edge ∷ edges) = refl
+image_straight text graph jumps cases codes address node word (i.Branch cond annul disp) e = absurd (cc)
+image_straight text graph jumps cases codes address node word (i.Call disp) e = absurd (cc)
+image_straight text graph jumps cases codes address node word (i.Jmpl rd rs1 op2) e = absurd (cc)
+image_straight text graph jumps cases codes address node word _ e = refl
 
 pub within_some : (count word other : ℕ) → within count word ≡ Some other → (word < count) × (word ≡ other)
 within_some count word other e = cond_both (nat_lt word count) _ _

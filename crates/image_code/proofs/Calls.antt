@@ -23,8 +23,8 @@ use Rattle.jump_code.specs.Links.{IsAboutToCall, link, past}
 use Rattle.jump_code.specs.PageWords.{IsPageWord}
 use Rattle.jump_code.proofs.Laid.{pieces_are_laid}
 use Rattle.jump_code.proofs.Linking.{calls_act, calls_store}
-use Rattle.image_code.specs.Simulates.{Setting, StepsOn, at_point, does_at, gone_at, graph_in, number_in}
-use Rattle.image_code.specs.Images.{Pieces, Frame, Here, IsPlaced, visited_at}
+use Rattle.image_code.specs.Simulates.{Setting, at_point, does_at, gone_at, graph_in, number_in, Enters}
+use Rattle.image_code.specs.Images.{Pieces, Frame, Here, IsPlaced, entered_at, Entered}
 use Rattle.image_code.specs.Cases.{LeadsTo}
 use Rattle.image_code.specs.Turns.{IsNoJumpsSlot}
 use Rattle.image_code.specs.Calls.{IsCall, CallsStep}
@@ -70,9 +70,9 @@ module _ (g : Setting) (l : Pieces) (base : ℕ) (p : Placement) (place : ℕ �
       short = let o = c.original in let low = c.low in omega arith
 
   steps : (edges : List ℕ) → LastDead g edges
-      → LeadsTo l p c.way edges (word_at g.text (called x c.disp t).pc) (visited_at g l p f (node_after (graph_in g) node edges) (point_of (called x c.disp t)))
+      → LeadsTo l p c.way edges (word_at g.text (called x c.disp t).pc) (entered_at g l p f (node_after (graph_in g) node edges) (point_of (called x c.disp t)))
       → IsNoJumpsSlot g (called x c.disp t)
-      → StepsOn g (Here g l base p f) (HasShortForms l.list place) edges node x t (called x c.disp t)
+      → Enters g (Entered g l base p f) (HasShortForms l.list place) edges node x t (called x c.disp t)
   steps edges last leads never =
       let acts = calls_act c.address.0 t about in
       goes_through g l base p place f h node x t here c.piece c.within c.here image c.address c.way c.items
@@ -95,9 +95,9 @@ module _ (g : Setting) (l : Pieces) (base : ℕ) (p : Placement) (place : ℕ �
 pub calls_step : CallsStep
 calls_step g l base p place f node x t h here c =
     let is = does_is g l base p place f h node x t here c in
-    subst (λ (z : State). StepsOn g (Here g l base p f) (HasShortForms l.list place) (gone_at g node x z) node x t z) (sym is)
+    subst (λ (z : State). Enters g (Entered g l base p f) (HasShortForms l.list place) (gone_at g node x z) node x t z) (sym is)
     (steps g l base p place f h node x t here c (gone_at g node x (called x c.disp t))
     (gone_last g l f h.cells node x (called x c.disp t))
     (subst (λ (z : State). LeadsTo l p c.way (gone_at g node x z) (word_at g.text z.pc)
-    (visited_at g l p f (node_after (graph_in g) node (gone_at g node x z)) (point_of z))) is c.leads)
+    (entered_at g l p f (node_after (graph_in g) node (gone_at g node x z)) (point_of z))) is c.leads)
     (subst (IsNoJumpsSlot g) is c.never))

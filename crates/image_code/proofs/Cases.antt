@@ -1,5 +1,5 @@
 -- A word in its Mark at the head of a piece, and the images of plain words: they are one step each.
-use Rattle.std.proofs.Common.{◌≡◌, ◌≢◌, ℕ, suc, ◌+◌, ◌*◌, ◌^◌, ◌<◌, ◌≤◌, Bool, false, Option, Some, None, List, [], ◌++◌, length, append-nil, refl, ap, sym, ◌∙◌, subst, arith}
+use Rattle.std.proofs.Common.{◌≡◌, ◌≢◌, ℕ, suc, ◌+◌, ◌*◌, ◌^◌, ◌<◌, ◌≤◌, Bool, true, false, Option, Some, None, List, [], ◌++◌, length, append-nil, refl, ap, sym, ◌∙◌, subst, arith}
 use Rattle.std.specs.Prelude.{slice_get, slice_index, ℤ}
 use Rattle.elf32_sparc.specs.Notes.{Notes, range_at}
 use Rattle.v8_decode.specs.declared.Instr.{Instr}
@@ -11,7 +11,7 @@ use Rattle.v8_memory.specs.Spans.{AllApart, IsSameOutside}
 use Rattle.v8_step.specs.declared.Ending.{Ending}
 use Rattle.v8_step.specs.State.{State, register_of}
 use Rattle.v8_step.specs.Step.{act, step_of, on_word, puts_by, puts_on_word}
-use Rattle.v8_step.specs.Run.{run_puts}
+use Rattle.v8_step.specs.Run.{run, run_puts}
 use Rattle.v8_step.specs.Items.{is_transfer}
 use Rattle.v8_step.specs.Judged.{judged_by}
 use Rattle.v8_step.specs.Valid.{IsValid}
@@ -20,7 +20,7 @@ use Rattle.v8_step.proofs.Alike.{live_puts}
 use Rattle.v8_step.proofs.JudgedAlike.{judged_alike}
 use Rattle.v8_step.proofs.CopiedMoves.{goes_act}
 use Rattle.v8_step.proofs.ValidSteps.{run-valid}
-use Rattle.cfg_walk.specs.Walk.{Point, point_of, node_after}
+use Rattle.cfg_walk.specs.Walk.{Point, instr_at, point_of, node_after}
 use Rattle.cfg_normal.specs.declared.Node.{Node}
 use Rattle.code_runs.specs.Counted.{count_stores, stores_in_step}
 use Rattle.code_runs.specs.Straight.{Says}
@@ -37,9 +37,11 @@ use Rattle.layout.specs.declared.items.Item.TheVariants as it
 use Rattle.layout.specs.Laid.{HasShortForms, Placement, item_at, item_in, items_in, size_of, open_in, range_in, range_of, IsWordAt}
 use Rattle.layout.specs.Running.{CanRun}
 use Rattle.layout.proofs.Going.{words_stand}
-use Rattle.image_code.specs.Simulates.{updates, Setting, cells_in, StepsOn, IsFollowedBy, IsWatched, in_first_word, is_spill, IsKept, at_point, does_at, gone_at, graph_in, number_in, word_of}
-use Rattle.image_code.specs.Images.{Pieces, Frame, HasImages, Here, IsPlaced, visited_at}
-use Rattle.image_code.specs.Cases.{next_visit, visits_it, plain_piece, IsPlain, PlainsVisit, PlainsStep, word_ahead}
+use Rattle.image_code.specs.Simulates.{updates, Setting, NoneIsOut, cells_in, is_jmpl, is_transfer_at, IsFollowedBy, IsWatched, in_first_word, is_spill, IsKept, at_point, does_at, gone_at, graph_in, number_in, word_of, Enters}
+use Rattle.image_code.specs.Images.{Pieces, Frame, HasImages, Here, IsPlaced, visited_at, entered_at, Entered}
+use Rattle.image_code.specs.Cases.{next_entry, visits_it, plain_piece, IsPlain, PlainsVisit, PlainsStep, word_ahead}
+use Rattle.code_runs.proofs.Stays.{words_stay}
+use Rattle.code_runs.specs.StoredWords.{memory_word}
 use Rattle.image_code.proofs.Ended.{stops_act}
 use Rattle.image_code.proofs.Sparing.{uncounted}
 use Rattle.image_code.proofs.Memories.{fetch_is, images_stay, images_stored, same_stored}
@@ -48,6 +50,12 @@ pub use Rattle.image_code.proofs.Arrives.{Arrives, Tail, IsBare, IsFit, arrive, 
 pub use Rattle.image_code.proofs.Dead.{LastDead, alike_hopped, alike_itself, followed_alike, gone_last}
 use Rattle.image_code.proofs.Dead.{IsAlike}
 use Rattle.image_code.proofs.Cells.{cells_stay, updates_same}
+
+-- what is no transfer is no JMPL
+no_jump : (o : Option Instr) → is_transfer_at o ≡ false → is_jmpl o ≡ false
+no_jump None e = refl
+no_jump (Some (i.Jmpl rd rs1 op2)) e = absurd (cc)
+no_jump (Some instr) e = refl
 
 -- The piece of a point begins with its word, which is no transfer, in a Mark.
 pub record IsMarkedWord (g : Setting) (l : Pieces) (p : Placement) (f : Frame) (node : Node) (x : Point) : Type 0 where
@@ -180,32 +188,35 @@ module _ (g : Setting) (l : Pieces) (base : ℕ) (p : Placement) (place : ℕ �
 
     ends : (d : Ending) → (act (at_point x t) (decode_of c.word)).ending ≡ Some d
         → AllApart (pages_of g.notes) (judged_by t (decode_of c.word))
-        → StepsOn g (Here g l base p f) (HasShortForms l.list place) [] node x t (act (at_point x t) (decode_of c.word))
+        → Enters g (Entered g l base p f) (HasShortForms l.list place) [] node x t (act (at_point x t) (decode_of c.word))
     ends d over apart =
         let stopped : (act t (decode_of c.word)).ending ≡ Some d = ap (λ (z : State). z.ending) same ∙ over in
         record {
-          count = 1;
-          after = act t (decode_of c.word);
-          path = record { steps = stands.one; some = omega arith; few = omega arith; quiet = λ j a b. absurd (omega arith) };
-          puts = puts_one;
-          followed = followed [] (act t (decode_of c.word)) (alike_itself g [] (act t (decode_of c.word)))
-              (outside_refl (pages_of g.notes) _);
-          cells = still apart;
-          here = λ live. absurd (cc);
-          place = λ _.
-              let stays = stops_act t (decode_of c.word) c.straight here.live d stopped in
-              record { range = ap (range_at g.notes) stays; page = ap (in_pages g.notes) stays };
-          sparing = λ w.
-              let none : (counted : ℕ → Bool) → stores_in_step counted t ≡ 0 =
-              λ counted. ends_stores counted t d (ap (λ (z : State). z.ending) stands.one ∙ stopped) in
-              let spills = none (is_spill g.notes) in
-              let first = none in_first_word in
-              record {
-                spills = omega (arith, spills);
-                first = λ _. omega (arith, first);
-                alone = λ _ _ _. refl;
-                few = λ _ _. omega arith;
-              };
+          on = record {
+            count = 1;
+            after = act t (decode_of c.word);
+            path = record { steps = stands.one; some = omega arith; few = omega arith; quiet = λ j a b. absurd (omega arith) };
+            puts = puts_one;
+            followed = followed [] (act t (decode_of c.word)) (alike_itself g [] (act t (decode_of c.word)))
+                (outside_refl (pages_of g.notes) _);
+            cells = still apart;
+            here = λ live. absurd (cc);
+            place = λ _.
+                let stays = stops_act t (decode_of c.word) c.straight here.live d stopped in
+                record { range = ap (range_at g.notes) stays; page = ap (in_pages g.notes) stays };
+            sparing = λ w.
+                let none : (counted : ℕ → Bool) → stores_in_step counted t ≡ 0 =
+                λ counted. ends_stores counted t d (ap (λ (z : State). z.ending) stands.one ∙ stopped) in
+                let spills = none (is_spill g.notes) in
+                let first = none in_first_word in
+                record {
+                  spills = omega (arith, spills);
+                  first = λ _. omega (arith, first);
+                  alone = λ _ _ _. refl;
+                  few = λ _ _. omega arith;
+                };
+          };
+          first = λ live _ _ _. absurd (cc);
         }
 
     -- the word stores nothing that is counted
@@ -224,10 +235,10 @@ module _ (g : Setting) (l : Pieces) (base : ℕ) (p : Placement) (place : ℕ �
         → AllApart (pages_of g.notes) (judged_by (at_point x t) (decode_of c.word))
         → AllApart (pages_of g.notes) (judged_by t (decode_of c.word))
         → (IsFit g l base p place f h (act t (decode_of c.word)) → (act t (decode_of c.word)).pc ≡ place c.piece 3
-        → Tail g l base p place f h next edges (act t (decode_of c.word)) (visited_at g l p f
+        → Tail g l base p place f h next edges (act t (decode_of c.word)) (entered_at g l p f
         (node_after (graph_in g) node edges) (point_of (act (at_point x t) (decode_of c.word)))) 24)
         → (IsWatched g edges x (act (at_point x t) (decode_of c.word)) → next ≢ None)
-        → StepsOn g (Here g l base p f) (HasShortForms l.list place) edges node x t (act (at_point x t) (decode_of c.word))
+        → Enters g (Entered g l base p f) (HasShortForms l.list place) edges node x t (act (at_point x t) (decode_of c.word))
     goes next edges last live apart' apart onward watched =
         let a : State = act t (decode_of c.word) in
         let alive : (act t (decode_of c.word)).ending ≡ None = ap (λ (z : State). z.ending) same ∙ live in
@@ -243,7 +254,7 @@ module _ (g : Setting) (l : Pieces) (base : ℕ) (p : Placement) (place : ℕ �
         let w1 = went.1 in
         let pc : (act t (decode_of c.word)).pc ≡ place c.piece 3 = omega arith in
         let onpc : (act t (decode_of c.word)).npc ≡ (act t (decode_of c.word)).pc + 4 = omega arith in
-        let to = visited_at g l p f (node_after (graph_in g) node edges)
+        let to = entered_at g l p f (node_after (graph_in g) node edges)
         (point_of (act (at_point x t) (decode_of c.word))) in
         let valid : IsValid (act t (decode_of c.word)) = subst IsValid stands.one (run-valid t 1 here.valid) in
         let has : HasImages g base p f (act t (decode_of c.word)).memory =
@@ -262,51 +273,62 @@ module _ (g : Setting) (l : Pieces) (base : ℕ) (p : Placement) (place : ℕ �
         let stores = rest.stores in
         let lives : rest.other.ending ≡ None = rest.alike.ending ∙ alive in
         record {
-          count = 1 + rest.count;
-          after = hopped rest.other to rest.memory;
-          path = record {
-            steps = way.steps;
-            some = omega arith;
-            few = omega (arith, few);
-            quiet = λ j p1 p2. quiet_of g l base p place f h t _ (1 + rest.count) (IsBare g l base p place f h) way
-                lives (bare_on g l base p place f h t) j p1 p2;
+          on = record {
+            count = 1 + rest.count;
+            after = hopped rest.other to rest.memory;
+            path = record {
+              steps = way.steps;
+              some = omega arith;
+              few = omega (arith, few);
+              quiet = λ j p1 p2. quiet_of g l base p place f h t _ (1 + rest.count) (IsBare g l base p place f h) way
+                  lives (bare_on g l base p place f h t) j p1 p2;
+            };
+            puts = λ descriptor.
+                ap (λ n. run_puts t n descriptor) (let e : 1 + rest.count ≡ rest.count + 1 = omega arith in e)
+                ∙ puts_add t 1 rest.count descriptor
+                ∙ ap (λ (z : State). run_puts t 1 descriptor ++ run_puts z rest.count descriptor) stands.one
+                ∙ ap (λ z. run_puts t 1 descriptor ++ z) (rest.silent descriptor) ∙ append-nil (run_puts t 1 descriptor)
+                ∙ puts_one descriptor;
+            followed = followed edges (hopped rest.other to rest.memory)
+                (alike_hopped g edges (act t (decode_of c.word)) rest.other to rest.memory rest.alike)
+                (same_stored g f h.frame base p _ rest.memory has stores);
+            cells = rest.cells last
+                ∙ updates_same g.snips edges (cells_in g (act t (decode_of c.word))) (act t (decode_of c.word))
+                (act (at_point x t) (decode_of c.word)) (ap (λ (z : State). register_of z) same)
+                ∙ ap (λ z. updates g.snips edges z (act (at_point x t) (decode_of c.word))) (still apart);
+            here = λ _. record {
+              valid = subst IsValid way.steps (run-valid t (1 + rest.count) here.valid);
+              live = lives;
+              at = refl;
+              npc = refl;
+              slot = refl;
+              memory = images_stored g f h.frame base p (act t (decode_of c.word)) _ rest.count rest.path.steps stores has;
+              waits = λ e. let none = vwent.2 in absurd (cc);
+            };
+            place = λ e. absurd (e live);
+            sparing = λ w.
+                let there = watched w in
+                let first_word = spared.0 in
+                let more = rest.spares there in
+                let both = count_add (is_spill g.notes) t (act t (decode_of c.word)) 1 stands.one rest.count in
+                record {
+                  spills = omega (arith, first_word, more, both);
+                  first = λ short.
+                      none_then in_first_word t (act t (decode_of c.word)) 1 rest.count stands.one spared.1
+                      (rest.leaves_first there short);
+                  alone = λ short none _. let nothing = tail.1 there none in omega (arith, nothing);
+                  few = λ short none. let brief = rest.brief there short in omega (arith, none, brief);
+                };
           };
-          puts = λ descriptor.
-              ap (λ n. run_puts t n descriptor) (let e : 1 + rest.count ≡ rest.count + 1 = omega arith in e)
-              ∙ puts_add t 1 rest.count descriptor
-              ∙ ap (λ (z : State). run_puts t 1 descriptor ++ run_puts z rest.count descriptor) stands.one
-              ∙ ap (λ z. run_puts t 1 descriptor ++ z) (rest.silent descriptor) ∙ append-nil (run_puts t 1 descriptor)
-              ∙ puts_one descriptor;
-          followed = followed edges (hopped rest.other to rest.memory)
-              (alike_hopped g edges (act t (decode_of c.word)) rest.other to rest.memory rest.alike)
-              (same_stored g f h.frame base p _ rest.memory has stores);
-          cells = rest.cells last
-              ∙ updates_same g.snips edges (cells_in g (act t (decode_of c.word))) (act t (decode_of c.word))
-              (act (at_point x t) (decode_of c.word)) (ap (λ (z : State). register_of z) same)
-              ∙ ap (λ z. updates g.snips edges z (act (at_point x t) (decode_of c.word))) (still apart);
-          here = λ _. record {
-            valid = subst IsValid way.steps (run-valid t (1 + rest.count) here.valid);
-            live = lives;
-            at = refl;
-            npc = refl;
-            slot = refl;
-            memory = images_stored g f h.frame base p (act t (decode_of c.word)) _ rest.count rest.path.steps stores has;
-            waits = λ e. let none = vwent.2 in absurd (cc);
-          };
-          place = λ e. absurd (e live);
-          sparing = λ w.
-              let there = watched w in
-              let first_word = spared.0 in
-              let more = rest.spares there in
-              let both = count_add (is_spill g.notes) t (act t (decode_of c.word)) 1 stands.one rest.count in
-              record {
-                spills = omega (arith, first_word, more, both);
-                first = λ short.
-                    none_then in_first_word t (act t (decode_of c.word)) 1 rest.count stands.one spared.1
-                    (rest.leaves_first there short);
-                alone = λ short none _. let nothing = tail.1 there none in omega (arith, nothing);
-                few = λ short none. let brief = rest.brief there short in omega (arith, none, brief);
-              };
+          first = λ _ none straight inside.
+              let there = watched (record { jump = no_jump (instr_at g.text x.pc) straight; out = subst (NoneIsOut (graph_in g)) (sym none) tt; inside = inside }) in
+              let nothing = tail.1 there none in
+              let same_memory : rest.memory ≡ (act t (decode_of c.word)).memory =
+              ap (λ (z : State). z.memory) (sym rest.path.steps ∙ ap (run (act t (decode_of c.word))) nothing) in
+              ap (λ (m : Memory). memory_word m (page_word 0)) same_memory
+              ∙ (words_stay (pages_of g.notes) (page_word 0) true t (decode_of c.word)
+              (h.frame.own.within (page_word 0) h.frame.own.first) apart
+              (here.memory.ours.words (page_word 0) h.frame.own.first)).1;
         }
 
 pub plains_visit : PlainsVisit
@@ -335,15 +357,15 @@ pub marked_step : (next : Option ℕ) (g : Setting) (l : Pieces) (base : ℕ) (p
     → ((does_at g x t).ending ≡ None → IsFit g l base p place f h (act t (decode_of c.word))
     → (act t (decode_of c.word)).pc ≡ place c.piece 3
     → Tail g l base p place f h next (gone_at g node x (does_at g x t)) (act t (decode_of c.word))
-    (next_visit g l p f node x t) 24)
+    (next_entry g l p f node x t) 24)
     → ((does_at g x t).ending ≡ None → IsWatched g (gone_at g node x (does_at g x t)) x (does_at g x t) → next ≢ None)
-    → StepsOn g (Here g l base p f) (HasShortForms l.list place) (gone_at g node x (does_at g x t)) node x t (does_at g x t)
+    → Enters g (Entered g l base p f) (HasShortForms l.list place) (gone_at g node x (does_at g x t)) node x t (does_at g x t)
 marked_step next g l base p place f node x t h here c apart onward watched =
     let is : does_at g x t ≡ act (at_point x t) (decode_of c.word) = ap (on_word (at_point x t)) c.is_word in
-    subst (λ (z : State). StepsOn g (Here g l base p f) (HasShortForms l.list place) (gone_at g node x z) node x t z) (sym is)
+    subst (λ (z : State). Enters g (Entered g l base p f) (HasShortForms l.list place) (gone_at g node x z) node x t z) (sym is)
     (by (act (at_point x t) (decode_of c.word)).ending refl
     (subst (λ (z : State). z.ending ≡ None → Onward (gone_at g node x z)
-    (visited_at g l p f (node_after (graph_in g) node (gone_at g node x z)) (point_of z))) is onward)
+    (entered_at g l p f (node_after (graph_in g) node (gone_at g node x z)) (point_of z))) is onward)
     (subst (λ (z : State). z.ending ≡ None → IsWatched g (gone_at g node x z) x z → next ≢ None) is watched))
   where
     Onward : List ℕ → ℕ → Type 0
@@ -353,19 +375,19 @@ marked_step next g l base p place f node x t h here c apart onward watched =
 
     by : (e : Option Ending) → (act (at_point x t) (decode_of c.word)).ending ≡ e
         → ((act (at_point x t) (decode_of c.word)).ending ≡ None
-        → Onward (gone_at g node x (act (at_point x t) (decode_of c.word))) (visited_at g l p f
+        → Onward (gone_at g node x (act (at_point x t) (decode_of c.word))) (entered_at g l p f
         (node_after (graph_in g) node (gone_at g node x (act (at_point x t) (decode_of c.word))))
         (point_of (act (at_point x t) (decode_of c.word)))))
         → ((act (at_point x t) (decode_of c.word)).ending ≡ None
         → IsWatched g (gone_at g node x (act (at_point x t) (decode_of c.word))) x (act (at_point x t) (decode_of c.word))
         → next ≢ None)
-        → StepsOn g (Here g l base p f) (HasShortForms l.list place) (gone_at g node x (act (at_point x t) (decode_of c.word))) node x t
+        → Enters g (Entered g l base p f) (HasShortForms l.list place) (gone_at g node x (act (at_point x t) (decode_of c.word))) node x t
         (act (at_point x t) (decode_of c.word))
     by None e onward watched = goes g l base p place f h node x t here c next _
         (gone_last g l f h.cells node x (act (at_point x t) (decode_of c.word))) e apart
         (judged_moved g.notes x t (decode_of c.word) apart) (onward e) (watched e)
     by (Some d) e onward watched =
-        subst (λ z. StepsOn g (Here g l base p f) (HasShortForms l.list place) z node x t (act (at_point x t) (decode_of c.word)))
+        subst (λ z. Enters g (Entered g l base p f) (HasShortForms l.list place) z node x t (act (at_point x t) (decode_of c.word)))
         (sym (ended_none g node x (act (at_point x t) (decode_of c.word)) d e))
         (ends g l base p place f h node x t here c d e (judged_moved g.notes x t (decode_of c.word) apart))
 
@@ -374,9 +396,9 @@ plains_step g l base p place f node x t h here c apart =
     marked_step (word_ahead g x t) g l base p place f node x t h here (marked g l p place f node x t c) apart
     (λ live fit pc.
     weaker_tail g l base p place f h (gone_at g node x (does_at g x t)) (act t (decode_of c.word))
-    (next_visit g l p f node x t) 8 24 (omega arith)
+    (next_entry g l p f node x t) 8 24 (omega arith)
     (tail g l base p place f h c.piece c.rest c.address (number_in g node) (it.Word c.word) c.items
-    (gone_at g node x (does_at g x t)) (act t (decode_of c.word)) (word_ahead g x t) (next_visit g l p f node x t) fit pc
+    (gone_at g node x (does_at g x t)) (act t (decode_of c.word)) (word_ahead g x t) (next_entry g l p f node x t) fit pc
     (c.leads live))) (λ live w. w.inside)
 
 -- ---- branches

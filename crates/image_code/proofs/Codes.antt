@@ -1,13 +1,13 @@
 -- The words of snippets do what they should.
-use Rattle.std.proofs.Common.{◌≡◌, ℕ, ◌+◌, ◌-◌, ◌*◌, ◌%◌, ◌<◌, ◌≤◌, List, [], length, Result, Ok, Err, refl, sym, subst, arith, inl, inr}
+use Rattle.std.proofs.Common.{◌≡◌, ℕ, zero, suc, ◌+◌, ◌*◌, ◌%◌, ◌<◌, ◌≤◌, List, [], ◌∷◌, ◌++◌, length, Result, Ok, Err, refl, ap, sym, ◌∙◌, subst, arith, inl, inr}
+use Rattle.std.specs.declared.vec.Vec.{Vec}
+use Rattle.std.specs.declared.alloc.Global.{Global}
 use Rattle.std.specs.Result.{IfOk}
 use Rattle.std.proofs.Math.ListN.{get_or-eq_default}
 use Rattle.std.proofs.lemmas.Bool.{cases_lt}
 use Rattle.std.proofs.lemmas.List.{length-map}
-use Rattle.eel_base.specs.CodeText.{Words}
 use Rattle.v8_decode.specs.declared.Part.{Part}
 use Rattle.v8_encode.specs.Encoding.{word_of}
-use Rattle.cfg_normal.specs.Graph.{Graph}
 use Rattle.snippets.specs.declared.snippet.Op.{Op}
 use Rattle.snippets.specs.Cells.{named_by}
 use Rattle.snippet_code.specs.Laws.{CanExpand}
@@ -17,9 +17,7 @@ use Rattle.snippet_code.proofs.Lengths.{costs_hold}
 use Rattle.snippet_code.proofs.WholeCode.{snippet_code_runs}
 use Rattle.image_code.specs.Simulates.{snippet_on}
 use Rattle.image_code.specs.Codes.{CodeDoes}
-use Rattle.image_code.specs.Made.{own_edges}
-use Rattle.image_code.specs.Parts.{IsGraphOf, codes_of}
-use Rattle.image_code.proofs.Numbers.{count_of, own_count}
+use Rattle.image_code.specs.Parts.{code_at, codes_of}
 
 pub if_both : {A E : Type 0} (P Q R : A → Type 0) (r : Result A E) → ((a : A) → P a → Q a → R a) → IfOk r P → IfOk r Q
     → IfOk r R
@@ -48,6 +46,16 @@ module _ (base : ℕ) (dead : ℕ → List Part) (snips : List (List Op)) where
         (spills_of (dead edge) (named_by (snippet_on snips edge)) (snippet_on snips edge)) (snippet_on snips edge)) same just;
   }
 
+  empty : (xs : List ℕ) → length xs ≤ 0 → xs ≡ []
+  empty [] l = refl
+  empty (x ∷ xs) l = absurd (omega (arith, l))
+
+  -- behind the last edge there is no word
+  pub no_code : (edge : ℕ) → length snips ≤ edge → codes_of base dead snips edge ≡ []
+  no_code edge past =
+      let none : length (snippet_on snips edge) ≡ 0 = ap length (get_or-eq_default snips [] past) in
+      empty (codes_of base dead snips edge) (omega (arith, codes_short edge, none))
+
   module _ (aligned : base % 4 ≡ 0) where
     nothing : CanExpand base []
     nothing = record {
@@ -58,7 +66,7 @@ module _ (base : ℕ) (dead : ℕ → List Part) (snips : List (List Op)) where
     }
 
     -- behind the last edge there are no operations
-    beyond : (edge : ℕ) → length snips ≤ edge → CodeDoes base dead snips edge
+    pub beyond : (edge : ℕ) → length snips ≤ edge → CodeDoes base dead snips edge
     unfolding codes_of
     beyond edge past =
         let can : CanExpand base (snippet_on snips edge) =
@@ -66,27 +74,44 @@ module _ (base : ℕ) (dead : ℕ → List Part) (snips : List (List Op)) where
         code_does edge (codes_of base dead snips edge) can.few refl
         (snippet_code_runs base (dead edge) (snippet_on snips edge) can).1
 
-    -- so those of all edges do, where those of the own ones and of the landings do
-    pub all_do : (text : Words) (graph : Graph) → IsGraphOf text graph → length snips ≡ length graph.edges
-        → ((edge : ℕ) → edge < length (own_edges graph) → CodeDoes base dead snips edge)
-        → ((block : ℕ) → block < length graph.blocks.firsts → CodeDoes base dead snips (length (own_edges graph) + block))
-        → (edge : ℕ) → CodeDoes base dead snips edge
-    all_do text graph h many own landings edge = elim (cases_lt edge (length (own_edges graph))) [
-      | inl l ↦ own edge l
-      | inr m ↦ elim (cases_lt (edge - length (own_edges graph)) (length graph.blocks.firsts)) [
-        | inl l ↦
-            let same : length (own_edges graph) + (edge - length (own_edges graph)) ≡ edge = omega arith in
-            subst (CodeDoes base dead snips) same (landings (edge - length (own_edges graph)) l)
-        | inr n ↦ beyond edge (omega (arith, count_of text graph h, own_count text graph h))
-      ]
-    ]
-
-  -- one number more
-  pub one_more : (from number : ℕ) → ((edge : ℕ) → edge < number → CodeDoes base dead snips (from + edge))
-      → CodeDoes base dead snips (from + number) → (edge : ℕ) → edge < number + 1 → CodeDoes base dead snips (from + edge)
-  one_more from number before this edge l = elim (cases_lt edge number) [
+  -- one edge more
+  pub does_more : (number : ℕ) → ((edge : ℕ) → edge < number → CodeDoes base dead snips edge)
+      → CodeDoes base dead snips number → (edge : ℕ) → edge < number + 1 → CodeDoes base dead snips edge
+  does_more number before this edge l = elim (cases_lt edge number) [
     | inl less ↦ before edge less
     | inr more ↦
-        let same : from + number ≡ from + edge = omega arith in
+        let same : number ≡ edge = omega (arith, more, l) in
         subst (CodeDoes base dead snips) same this
   ]
+
+-- ---- the words of all edges
+
+code_before : (codes : List (Vec ℕ Global)) (code : Vec ℕ Global) (edge : ℕ) → edge < length codes
+    → code_at (codes ++ code ∷ []) edge ≡ code_at codes edge
+code_before [] code edge l = absurd (omega (arith, l))
+code_before (first ∷ codes) code zero l = refl
+code_before (first ∷ codes) code (suc edge) l = code_before codes code edge (omega (arith, l))
+
+code_here : (codes : List (Vec ℕ Global)) (code : Vec ℕ Global) → code_at (codes ++ code ∷ []) (length codes) ≡ code.items
+code_here [] code = refl
+code_here (first ∷ codes) code = code_here codes code
+
+pub code_past : (codes : List (Vec ℕ Global)) (edge : ℕ) → length codes ≤ edge → code_at codes edge ≡ []
+code_past [] edge l = refl
+code_past (first ∷ codes) zero l = absurd (omega (arith, l))
+code_past (first ∷ codes) (suc edge) l = code_past codes edge (omega (arith, l))
+
+-- one edge more
+pub codes_more : (f : ℕ → List ℕ) (codes new : List (Vec ℕ Global)) (code : Vec ℕ Global) (n : ℕ)
+    → length codes ≡ n → new ≡ codes ++ code ∷ [] → code.items ≡ f n
+    → ((edge : ℕ) → edge < n → code_at codes edge ≡ f edge) → (edge : ℕ) → edge < n + 1 → code_at new edge ≡ f edge
+codes_more f codes new code n long pushed made held edge l = elim (cases_lt edge n) [
+  | inl less ↦
+      ap (λ (cs : List (Vec ℕ Global)). code_at cs edge) pushed
+      ∙ code_before codes code edge (omega (arith, less, long)) ∙ held edge less
+  | inr more ↦
+      let here : edge ≡ length codes = omega (arith, more, l, long) in
+      let same : n ≡ edge = omega (arith, more, l) in
+      ap (λ (cs : List (Vec ℕ Global)). code_at cs edge) pushed
+      ∙ ap (code_at (codes ++ code ∷ [])) here ∙ code_here codes code ∙ made ∙ ap f same
+]

@@ -26,8 +26,8 @@ use Rattle.layout.specs.declared.items.Item.{Item}
 use Rattle.layout.specs.declared.items.Item.TheVariants as it
 use Rattle.layout.specs.Laid.{HasShortForms, Placement, item_at, item_in, items_in, size_of, open_in, range_in, range_of, IsWordAt}
 use Rattle.layout.proofs.Going.{taken_acts, word_is}
-use Rattle.image_code.specs.Simulates.{Setting, StepsOn, IsOnWay, in_first_word, is_spill, at_point, does_at, gone_at, number_in}
-use Rattle.image_code.specs.Images.{Pieces, Frame, Here, IsPlaced}
+use Rattle.image_code.specs.Simulates.{Setting, IsOnWay, in_first_word, is_spill, at_point, does_at, gone_at, number_in, Enters}
+use Rattle.image_code.specs.Images.{Pieces, Frame, Here, IsPlaced, Entered}
 use Rattle.image_code.specs.Couple.{couple_piece, IsCouple, CouplesStep}
 use Rattle.image_code.proofs.Memories.{fetch_is}
 use Rattle.image_code.proofs.Sparing.{transfers}
@@ -181,57 +181,60 @@ module _ (g : Setting) (l : Pieces) (base : ℕ) (p : Placement) (place : ℕ �
       (no_stores counted mid (i.Branch 8 false c.disp) here.live
       (record { word = c.ba; fetched = fetched_mid; decodes = c.says }) refl)
 
-  steps : StepsOn g (Here g l base p f) (HasShortForms l.list place) [] node x t (ended (at_point x t) Couple)
+  steps : Enters g (Entered g l base p f) (HasShortForms l.list place) [] node x t (ended (at_point x t) Couple)
   unfolding mid
   steps = record {
-    count = 2;
-    after = ended (record t { pc = t.npc; npc = target_of t c.disp; slot = Taken }) Couple;
-    path = record {
-      steps = ap step_of one ∙ two;
-      some = omega arith;
-      few = omega arith;
-      quiet = λ j a b. subst (λ (n : ℕ). IsOnWay g t (run t n)) (let e : 1 ≡ j = omega arith in e)
-          (subst (IsOnWay g t) (sym one) on_way);
+    on = record {
+      count = 2;
+      after = ended (record t { pc = t.npc; npc = target_of t c.disp; slot = Taken }) Couple;
+      path = record {
+        steps = ap step_of one ∙ two;
+        some = omega arith;
+        few = omega arith;
+        quiet = λ j a b. subst (λ (n : ℕ). IsOnWay g t (run t n)) (let e : 1 ≡ j = omega arith in e)
+            (subst (IsOnWay g t) (sym one) on_way);
+      };
+      puts = λ descriptor. silent descriptor
+          ∙ sym (ap (λ (o : Option ℕ). puts_on_word (at_point x t) o descriptor) c.is_word
+          ∙ quiet_transfer (at_point x t) (decode_of c.word) descriptor c.transfer);
+      followed = record {
+        ending = refl;
+        window = refl;
+        valid = refl;
+        registers = refl;
+        input = refl;
+        memory = outside_refl (pages_of g.notes) t.memory;
+        items = λ live thing _ _. absurd (cc);
+      };
+      cells = refl;
+      here = λ live. absurd (cc);
+      place = λ _.
+          let n = npc in
+          let a = at in
+          let u = first.0 in
+          let w = second.0 in
+          let i0 = inside.0 in
+          let i1 = inside.1 in
+          there_in g l base p place f h t (ended mid Couple)
+          (record { lo = place c.piece 1; hi = place c.piece 3; address = c.address.0; node = number_in g node })
+          (omega arith) (omega arith) (omega arith) (omega arith) (in_first t.pc (omega arith) (omega arith))
+          (in_range t.npc (omega arith) (omega arith));
+      sparing = λ w.
+          let none = stores_none (is_spill g.notes) in
+          let moves = transfers g.text x.pc c.word c.is_word c.transfer in
+          record {
+            spills = omega (arith, none);
+            first = λ _. stores_none in_first_word;
+            alone = λ _ _ straight. absurd (cc);
+            few = λ _ _. omega arith;
+          };
     };
-    puts = λ descriptor. silent descriptor
-        ∙ sym (ap (λ (o : Option ℕ). puts_on_word (at_point x t) o descriptor) c.is_word
-        ∙ quiet_transfer (at_point x t) (decode_of c.word) descriptor c.transfer);
-    followed = record {
-      ending = refl;
-      window = refl;
-      valid = refl;
-      registers = refl;
-      input = refl;
-      memory = outside_refl (pages_of g.notes) t.memory;
-      items = λ live thing _ _. absurd (cc);
-    };
-    cells = refl;
-    here = λ live. absurd (cc);
-    place = λ _.
-        let n = npc in
-        let a = at in
-        let u = first.0 in
-        let w = second.0 in
-        let i0 = inside.0 in
-        let i1 = inside.1 in
-        there_in g l base p place f h t (ended mid Couple)
-        (record { lo = place c.piece 1; hi = place c.piece 3; address = c.address.0; node = number_in g node })
-        (omega arith) (omega arith) (omega arith) (omega arith) (in_first t.pc (omega arith) (omega arith))
-        (in_range t.npc (omega arith) (omega arith));
-    sparing = λ w.
-        let none = stores_none (is_spill g.notes) in
-        let moves = transfers g.text x.pc c.word c.is_word c.transfer in
-        record {
-          spills = omega (arith, none);
-          first = λ _. stores_none in_first_word;
-          alone = λ _ _ straight. absurd (cc);
-          few = λ _ _. omega arith;
-        };
+    first = λ live _ _ _. absurd (cc);
   }
 
 pub couples_step : CouplesStep
 couples_step g l base p place f node x t h here c =
-    subst (λ (z : State). StepsOn g (Here g l base p f) (HasShortForms l.list place) (gone_at g node x z) node x t z)
+    subst (λ (z : State). Enters g (Entered g l base p f) (HasShortForms l.list place) (gone_at g node x z) node x t z)
     (sym (does_is g l base p place f h node x t here c))
-    (subst (λ z. StepsOn g (Here g l base p f) (HasShortForms l.list place) z node x t (ended (at_point x t) Couple))
+    (subst (λ z. Enters g (Entered g l base p f) (HasShortForms l.list place) z node x t (ended (at_point x t) Couple))
     (sym (ended_none g node x (ended (at_point x t) Couple) Couple refl)) (steps g l base p place f h node x t here c))

@@ -4,7 +4,7 @@ use Rattle.std.proofs.Common.{◌≡◌, ℕ, ◌<◌, ◌≤◌, ◌⊎◌, inl
 use Rattle.std.specs.Prelude.{if◌then◌else◌, ◌-◌, get_or, slice_get, slice_index}
 use Rattle.std.specs.List.{position}
 use Rattle.std.specs.Option.{option_to_list}
-use Rattle.std.proofs.lemmas.Bool.{and_parts, false≢true}
+use Rattle.std.proofs.lemmas.Bool.{and_parts, cond_both, false≢true}
 use Rattle.std.proofs.lemmas.List.Quantifiers.{position-Some}
 use Rattle.std.proofs.lemmas.Option.{slice_get_cases, get_or_from_slice_get}
 use Rattle.eel_base.specs.CodeText.{Words, word_at}
@@ -25,12 +25,11 @@ use Rattle.v8_step.specs.Items.{Item as Thing, Register, Codes, YRegister, IsSam
 use Rattle.cfg_blocks.specs.declared.EdgeKind.{EdgeKind}
 use Rattle.cfg_blocks.specs.declared.EdgeKind.TheVariants as kinds
 use Rattle.cfg_normal.specs.declared.Edge.{Edge}
-use Rattle.cfg_normal.specs.Graph.{Graph}
+use Rattle.cfg_normal.specs.Graph.{Graph, has_cases, lands}
 use Rattle.cfg_normal.specs.declared.Node.{Node}
 use Rattle.cfg_normal.specs.declared.Node.TheVariants.{X}
 use Rattle.cfg_normal.specs.declared.Slot.TheVariants.{Nothing}
-use Rattle.cfg_walk.proofs.NoneOpen.{slot_none}
-use Rattle.cfg_walk.specs.Walk.{Point, completed, gone, instr_at, landed, leads_along, left_at, left_by, point_of, same_kind, same_node, slot_left, unless_ended, way_of}
+use Rattle.cfg_walk.specs.Walk.{Point, WayOut, completed, gone, instr_at, landed, leads_along, left_along, left_at, left_by, point_of, same_kind, same_node, slot_left, unless_ended, way_of}
 use Rattle.code_runs.specs.Hops.{hopped}
 use Rattle.image_code.specs.Simulates.{IsFollowedBy, IsKept, Setting, gone_at, graph_in, is_out}
 use Rattle.image_code.specs.Images.{Frame, HasCells, Pieces}
@@ -212,7 +211,11 @@ module _ (g : Setting) (l : Pieces) (f : Frame) (has : HasCells g l f) where
 
   by_kind : (node : Node) (kind : EdgeKind) (next : ℕ) → LastDead g (slot_left g.text (graph_in g) node kind next)
   by_kind node kinds.Out next =
-      subst (LastDead g) (sym (slot_none g.text (graph_in g).blocks node kinds.Out next)) (of_jump node next _ refl)
+      cond_both (has_cases g.switches node)
+      (record { kind = kinds.Case; to = Some (lands (graph_in g) (word_at g.text next)) })
+      (record { kind = kinds.Out; to = None })
+      (λ (way : WayOut). LastDead g (left_along g.text (graph_in g) node way next))
+      (λ _. alone _) (λ _. of_jump node next _ refl)
   by_kind node kinds.Fall next = alone _
   by_kind node kinds.Taken next = alone _
   by_kind node kinds.Untaken next = alone _

@@ -1,9 +1,9 @@
 -- The edges of a text's graph, and the pieces of the ways along them.
-use Rattle.std.proofs.Common.{◌≡◌, ℕ, ◌+◌, ◌*◌, ◌%◌, ◌^◌, ◌<◌, Bool, true, false, Some, List, [], ◌∷◌, length, ap, sym, ◌∙◌, arith}
+use Rattle.std.proofs.Common.{◌≡◌, ℕ, ◌+◌, ◌*◌, ◌%◌, ◌^◌, ◌<◌, Bool, true, Some, List, [], ◌∷◌, length, refl, ap, sym, ◌∙◌, arith}
 use Rattle.std.specs.Prelude.{if◌then◌else◌, ◌&&◌, slice_get}
 use Rattle.std.specs.Int.{w32, cast_unsigned}
 use Rattle.std.specs.List.{position}
-use Rattle.std.proofs.lemmas.Bool.{and_parts}
+use Rattle.std.proofs.lemmas.Bool.{and_parts, eq-eqb}
 use Rattle.std.proofs.lemmas.List.Quantifiers.{position-Some}
 use Rattle.std.proofs.lemmas.Option.{get_or_from_slice_get}
 use Rattle.eel_base.specs.CodeText.{Words, IsText, address_of}
@@ -16,16 +16,21 @@ use Rattle.cfg_blocks.specs.Entries.{is_fall}
 use Rattle.cfg_normal.specs.declared.Edge.{Edge}
 use Rattle.cfg_normal.specs.declared.Node.{Node}
 use Rattle.cfg_normal.specs.declared.Slot.{Slot as Carried}
-use Rattle.cfg_normal.specs.Graph.{IsSlotIn, edges_in}
-use Rattle.cfg_walk.specs.Walk.{edge_from, same_kind, same_node}
+use Rattle.cfg_normal.specs.Opens.{Open}
+use Rattle.cfg_normal.specs.Graph.{Graph, IsSlotIn, edges_in, lands}
+use Rattle.cfg_walk.specs.Walk.{WayOut, edge_along, leads_along, same_kind, same_node}
 use Rattle.cfg_walk.specs.Matches.{target_along}
 use Rattle.cfg_walk.proofs.Cut.{IsCut, cut}
+use Rattle.cfg_walk.proofs.Edges.{block}
 use Rattle.cfg_walk.proofs.NoneOpen.{edge_lies_in}
 use Rattle.image_code.specs.Simulates.{Setting, graph_in}
 use Rattle.image_code.specs.Cases.{IsFar}
-use Rattle.image_code.specs.Made.{jump_to, piece_list, way_by}
-use Rattle.image_code.proofs.Branches.{node_same, number_of_list, same_is}
-use Rattle.image_code.proofs.Listed.{own_at, way_at}
+use Rattle.image_code.specs.Made.{case_by, first_word, jump_to, piece_list, way_by}
+use Rattle.image_code.specs.Numbered.{case_piece, place_in}
+use Rattle.image_code.proofs.CaseTables.{IsKnown}
+use Rattle.layout.specs.declared.items.Item.{Item}
+use Rattle.image_code.proofs.Branches.{IsTransfersWay, node_same, number_of_list, same_is}
+use Rattle.image_code.proofs.Listed.{case_entry_at, own_at, place_is, way_at}
 
 -- ---- addresses to which a long jump can lead
 
@@ -48,49 +53,81 @@ along_far text word kind instr is l = past_far text word is l
 
 -- ---- edges
 
-module _ (g : Setting) (is : IsText g.text) (table : ℕ) where
+-- the way along a Case edge to a node
+abbrev pub by_case : Node → WayOut
+by_case to = record { kind = kinds.Case; to = Some to }
+
+case_by_is : (text : Words) (graph : Graph) (table : ℕ) (codes : ℕ → List ℕ) (word number : ℕ) (edge : Edge)
+    → slice_get graph.edges number ≡ Some edge
+    → case_by text graph table codes word (number ∷ []) ≡ way_by text graph table codes number edge word edge.slot
+case_by_is text graph table codes word number edge e = rw e refl
+
+module _ (g : Setting) (is : IsKnown g) (table cases : ℕ) where
   abbrev b : Blocks
   b = blocks_of g.text g.given
 
   pub cut_in : IsCut g.text b
-  cut_in = cut g.text g.given is.some
+  cut_in = cut g.text g.given is.text.some
 
-  -- the one edge of a kind that leaves a node
-  pub record IsAlong (node : Node) (way : EdgeKind) (number : ℕ) (edge : Edge) : Type 0 where
-    pub only : edge_from (graph_in g) node way ≡ number ∷ []
-    pub found : slice_get (edges_in b []) number ≡ Some edge
+  -- the one edge along which a way leaves a node
+  pub record IsAlong (node : Node) (way : WayOut) (number : ℕ) (edge : Edge) : Type 0 where
+    pub only : edge_along (graph_in g) node way ≡ number ∷ []
+    pub found : slice_get (edges_in b g.switches) number ≡ Some edge
     pub leaves : edge.from ≡ node
-    pub same : edge.kind ≡ way
+    pub same : edge.kind ≡ way.kind
 
-  pub along : (node : Node) (way : EdgeKind) (number : ℕ) (edge : Edge) → edge_from (graph_in g) node way ≡ number ∷ []
-      → slice_get (edges_in b []) number ≡ Some edge → IsAlong node way number edge
+  pub along : (node : Node) (way : WayOut) (number : ℕ) (edge : Edge) → edge_along (graph_in g) node way ≡ number ∷ []
+      → slice_get (edges_in b g.switches) number ≡ Some edge → IsAlong node way number edge
   along node way number edge only found =
-      let at : position (λ (edge : Edge). same_node edge.from node && same_kind edge.kind way) (edges_in b [])
-      ≡ Some number = number_of_list _ number only in
-      let passes : (same_node edge.from node && same_kind edge.kind way) ≡ true =
-      ap (λ (e : Edge). same_node e.from node && same_kind e.kind way)
-      (sym (get_or_from_slice_get (edges_in b []) number edge edge found))
-      ∙ (position-Some (λ (e : Edge). same_node e.from node && same_kind e.kind way) (edges_in b []) number edge at).1 in
-      let parts = and_parts (same_node edge.from node) (same_kind edge.kind way) passes in
+      let p : Edge → Bool =
+      (λ (edge : Edge). leads_along way.to edge && (same_node edge.from node && same_kind edge.kind way.kind)) in
+      let at : position p (edges_in b g.switches) ≡ Some number = number_of_list _ number only in
+      let passes : p edge ≡ true =
+      ap p (sym (get_or_from_slice_get (edges_in b g.switches) number edge edge found))
+      ∙ (position-Some p (edges_in b g.switches) number edge at).1 in
+      let parts = and_parts (same_node edge.from node) (same_kind edge.kind way.kind)
+      (and_parts (leads_along way.to edge) (same_node edge.from node && same_kind edge.kind way.kind) passes).1 in
       record {
         only = only;
         found = found;
         leaves = node_same edge.from node parts.0;
-        same = same_is edge.kind way parts.1;
+        same = same_is edge.kind way.kind parts.1;
       }
 
   -- the piece of its way
-  pub items_along : (codes : ℕ → List ℕ) (node : Node) (way : EdgeKind) (number : ℕ) (edge : Edge)
-      → IsAlong node way number edge → is_fall way ≡ false → same_kind way kinds.Land ≡ false → (to : Carried) → edge.slot ≡ to
-      → slice_get (piece_list g.text (graph_in g) table codes) (length g.text.words + number)
-      ≡ Some (way_by g.text (graph_in g) table codes number edge to)
-  items_along codes node way number edge k fall land to e =
-      way_at g.text (graph_in g) table codes number edge
-      (own_at b number edge k.found (ap (λ (j : EdgeKind). same_kind j kinds.Land) k.same ∙ land))
-      ∙ ap (λ (t : Bool). Some (if t then jump_to 0 else way_by g.text (graph_in g) table codes number edge edge.slot))
-      (ap is_fall k.same ∙ fall)
-      ∙ ap (λ (s : Carried). Some (way_by g.text (graph_in g) table codes number edge s)) e
+  pub items_along : (codes : ℕ → List ℕ) (node : Node) (way : WayOut) (number : ℕ) (edge : Edge)
+      → IsAlong node way number edge → IsTransfersWay way.kind → (to : Carried) → edge.slot ≡ to
+      → slice_get (piece_list g.text (graph_in g) table cases codes) (length g.text.words + number)
+      ≡ Some (way_by g.text (graph_in g) table codes number edge (first_word (graph_in g) edge.to) to)
+  items_along codes node way number edge k own to e =
+      let its_way = way_by g.text (graph_in g) table codes number edge (first_word (graph_in g) edge.to) in
+      way_at g.text b g.switches is.cased table cases codes number edge
+      (own_at b g.switches number edge k.found (ap (λ (j : EdgeKind). same_kind j kinds.Land) k.same ∙ own.land))
+      ∙ ap (λ (t : Bool). Some (if t then jump_to 0 else
+      if same_kind edge.kind kinds.Case then jump_to 0 else its_way edge.slot))
+      (ap is_fall k.same ∙ own.fall)
+      ∙ ap (λ (t : Bool). Some (if t then jump_to 0 else its_way edge.slot))
+      (ap (λ (j : EdgeKind). same_kind j kinds.Case) k.same ∙ own.caseless)
+      ∙ ap (λ (s : Carried). Some (its_way s)) e
+
+  -- the piece of a Case edge, where control goes on at a target
+  pub items_case : (codes : ℕ → List ℕ) (k : ℕ) (o : Open) → slice_get g.switches k ≡ Some o → (entry word : ℕ)
+      → slice_get o.targets entry ≡ Some word → (number : ℕ) (edge : Edge)
+      → IsAlong (block o.block) (by_case (lands (graph_in g) (Some word))) number edge
+      → (to : Carried) → edge.slot ≡ to
+      → slice_get (piece_list g.text (graph_in g) table cases codes) (case_piece g.text (graph_in g) k o word)
+      ≡ Some (way_by g.text (graph_in g) table codes number edge word to)
+  items_case codes k o e entry word at number edge along to slot =
+      let place = place_in g.text (graph_in g) o.targets word in
+      let way : WayOut = by_case (lands (graph_in g) (Some word)) in
+      case_entry_at g.text b g.switches is.cased table cases codes k o e place word
+      (place_is g.text (graph_in g) o.targets entry word at)
+      ∙ ap (λ (t : Bool). Some (if t then case_by g.text (graph_in g) table codes word
+      (edge_along (graph_in g) (block o.block) way) else jump_to 0)) (eq-eqb place place refl)
+      ∙ ap (λ (ns : List ℕ). Some (case_by g.text (graph_in g) table codes word ns)) along.only
+      ∙ ap (λ (xs : List Item). Some xs) (case_by_is g.text (graph_in g) table codes word number edge along.found)
+      ∙ ap (λ (s : Carried). Some (way_by g.text (graph_in g) table codes number edge word s)) slot
 
   -- the slot that an edge carries stands in the text, or behind its end
-  pub slot_in : (number : ℕ) (edge : Edge) → slice_get (edges_in b []) number ≡ Some edge → IsSlotIn b edge.slot
-  slot_in number edge found = (edge_lies_in b [] cut_in.firsts.some number edge found).slot
+  pub slot_in : (number : ℕ) (edge : Edge) → slice_get (edges_in b g.switches) number ≡ Some edge → IsSlotIn b edge.slot
+  slot_in number edge found = (edge_lies_in b g.switches cut_in.firsts.some number edge found).slot

@@ -1,9 +1,10 @@
 -- Each point outside the pages has a place: its piece begins with its Mark, or it lies outside the text.
-use Rattle.std.proofs.Common.{◌≡◌, ◌≢◌, ℕ, ◌+◌, ◌-◌, ◌/◌, ◌<◌, inl, false, Option, Some, None, List, length, refl, ap, sym, ◌∙◌}
-use Rattle.std.specs.Prelude.{slice_get, slice_index, ◌==◌}
+use Rattle.std.proofs.Common.{◌≡◌, ◌≢◌, ℕ, zero, suc, ◌+◌, ◌/◌, ◌<◌, inl, Bool, true, false, Option, Some, None, List, length, refl, ap, sym, ◌∙◌, subst}
+use Rattle.std.specs.Prelude.{if◌then◌else◌, slice_get, slice_index, ◌==◌}
 use Rattle.std.proofs.lemmas.Bool.{cond_both}
-use Rattle.eel_base.specs.CodeText.{Words, IsText, address_of, word_at}
+use Rattle.eel_base.specs.CodeText.{Words, address_of, word_at}
 use Rattle.eel_base.specs.declared.numbers.Addr.{Addr}
+use Rattle.v8_decode.specs.declared.Op2.{Op2}
 use Rattle.v8_decode.specs.declared.Instr.{Instr}
 use Rattle.v8_decode.specs.declared.Instr.TheVariants as i
 use Rattle.v8_decode.specs.declared.StoreKind.TheVariants as stores
@@ -15,37 +16,99 @@ use Rattle.v8_step.specs.Items.{is_transfer}
 use Rattle.cfg_blocks.specs.declared.EdgeKind.TheVariants as kinds
 use Rattle.cfg_blocks.specs.Blocks.{Blocks, blocks_of}
 use Rattle.cfg_blocks.specs.Ends.{always, never}
-use Rattle.cfg_blocks.specs.Entries.{is_fall}
 use Rattle.cfg_blocks.proofs.Targets.{word_at-some}
 use Rattle.cfg_normal.specs.declared.Edge.{Edge}
 use Rattle.cfg_normal.specs.declared.Node.{Node}
+use Rattle.cfg_normal.specs.declared.Node.TheVariants.{Block, Landed, X}
 use Rattle.cfg_normal.specs.declared.Slot.TheVariants as carried
 use Rattle.cfg_normal.specs.Nodes.{home_of}
-use Rattle.cfg_normal.specs.Graph.{Graph, node_of}
-use Rattle.cfg_walk.specs.Walk.{Point, instr_at, same_kind}
+use Rattle.cfg_normal.specs.Opens.{Open, jumps_in}
+use Rattle.cfg_normal.specs.Graph.{Graph, graph_of, has_cases, node_of}
+use Rattle.cfg_walk.specs.Walk.{Point, same_kind}
 use Rattle.cfg_normal.specs.Numbers.{node_number}
-use Rattle.cfg_walk.specs.Matches.{MatchesBy}
-use Rattle.cfg_walk.proofs.NoneOpen.{IsOnEdge, home_none}
+use Rattle.cfg_walk.specs.Matches.{IsOnItsWay, MatchesBy}
 use Rattle.code_runs.specs.Page.{of_page}
 use Rattle.jump_code.specs.FreeRegister.{free_register}
 use Rattle.layout.specs.declared.items.Item.{Item}
 use Rattle.layout.specs.declared.items.Item.TheVariants as it
 use Rattle.layout.specs.Laid.{Placement}
 use Rattle.image_code.specs.Simulates.{MatchesIn, Setting, graph_in, number_in}
-use Rattle.image_code.specs.Images.{Frame, along_first, visited_at}
+use Rattle.image_code.specs.Choices.{choice_piece}
+use Rattle.image_code.specs.Images.{Frame, slot_piece, visited_at}
 use Rattle.image_code.specs.Imaged.{IsHead, IsVisited, head, outside, beyond}
-use Rattle.image_code.specs.Made.{IsOffNoted, couple_word, image_by, jumps_at, nop_word, slot_copy, way_out}
+use Rattle.image_code.specs.Made.{IsOffNoted, choice_of, couple_word, distance_of, first_word, image_by, jump_by, jump_image_by, jumps_at, nop_word, slot_copy, way_by, way_out}
+use Rattle.image_code.specs.Numbered.{case_piece, first_entry, jump_number, or_zero}
 use Rattle.image_code.specs.Outside.{IsForeign, IsOff, IsOpen}
-use Rattle.image_code.proofs.EdgePieces.{items_along}
-use Rattle.image_code.proofs.Branches.{HeadOf, way_is_own}
+use Rattle.image_code.proofs.Branches.{HeadOf}
+use Rattle.image_code.proofs.CaseTables.{IsKnown}
+use Rattle.image_code.proofs.ImageNumbers.{jump_numbered}
 use Rattle.image_code.proofs.Cases.{get_below}
-use Rattle.image_code.proofs.Visited.{edge_is, image_items, l, off, off_address, on, on_its_way, visited_slot, visited_word, way_in}
+use Rattle.image_code.proofs.Visited.{case_items, case_piece_is, edge_is, has_its_image, image_items, l, off, off_address, on, on_its_way, plain_items, plain_piece_is, target, visited_slot, visited_word, way_in}
 
 -- ---- what pieces begin with
 
-module _ (text : Words) (graph : Graph) (jumps : ℕ) (codes : ℕ → List ℕ) where
+choice_head : (rd : ℕ) (address : Addr) (number distance : ℕ)
+    → HeadOf address number (choice_piece rd address number distance)
+choice_head zero address number distance = record {
+  item = it.Word (word_for (i.Store stores.ST 1 0 (of_page 2)));
+  takes = tt;
+  rest = _;
+  is = refl;
+}
+choice_head (suc r) address number distance = record {
+  item = it.Word (word_for (i.Sethi (suc r) (address.0 / 1024)));
+  takes = tt;
+  rest = _;
+  is = refl;
+}
+
+-- no Case edges leave the node by which a jump goes, or it goes along one of them
+pub by_cases : (A : Type 0) (out cased : Bool) → ((out ≡ true → cased ≡ false) → A) → (out ≡ true → cased ≡ true → A)
+    → A
+by_cases A true true plain along = along refl refl
+by_cases A true false plain along = plain (λ _. refl)
+by_cases A false cased plain along = plain (λ e. absurd (cc))
+
+module _ (text : Words) (b : Blocks) (opens : List Open) (jumps cases : ℕ) (codes : ℕ → List ℕ) where
+  abbrev graph : Graph
+  graph = graph_of b opens
+
+  abbrev Begins : Addr → Node → List Item → Type 0
+  Begins address node xs = HeadOf address (node_number graph node) xs
+
+  find_head : (address : Addr) (node : Node) (rd rs1 : ℕ) (op2 : Op2)
+      → Begins address node (jump_by text graph jumps cases address node rd rs1 op2)
+  find_head address node rd rs1 op2 = record {
+    item = it.Word (word_for (i.Store stores.ST (free_register rd rs1 op2) 0 (of_page 7)));
+    takes = tt;
+    rest = _;
+    is = refl;
+  }
+
+  jump_head : (address : Addr) (node : Node) (rd rs1 : ℕ) (op2 : Op2)
+      → Begins address node (jump_image_by text graph jumps cases address node rd rs1 op2)
+  jump_head address (Block k) rd rs1 op2 = by (jumps_in opens k.0) refl
+    where
+      by : (t : Bool) → jumps_in opens k.0 ≡ t
+          → Begins address (Block k) (if t then choice_of text graph jumps cases address (Block k) rd
+          (jump_number text graph k.0)
+          (slice_get opens (or_zero (jump_number text graph k.0))) else jump_by text graph jumps cases address
+          (Block k) rd rs1 op2)
+      by false e = find_head address (Block k) rd rs1 op2
+      by true e =
+          let found = jump_numbered text b opens k.0 e in
+          let number : jump_number text graph k.0 ≡ Some found.0 = ap (jump_number text graph) (sym found.4)
+          ∙ found.2 in
+          subst (λ (n : Option ℕ). Begins address (Block k)
+          (choice_of text graph jumps cases address (Block k) rd n (slice_get opens (or_zero n)))) (sym number)
+          (subst (λ (o : Option Open). Begins address (Block k)
+          (choice_of text graph jumps cases address (Block k) rd (Some found.0) o)) (sym found.3)
+          (choice_head rd address k.0 (distance_of cases (first_entry text graph found.0) found.1.switch.table.0)))
+  jump_head address (Landed k) rd rs1 op2 = find_head address (Landed k) rd rs1 op2
+  jump_head address X rd rs1 op2 = find_head address X rd rs1 op2
+
   image_head : (address : Addr) (node : Node) (word : ℕ) (instr : Instr)
-      → HeadOf address (node_number graph node) (image_by text graph jumps codes address node word instr)
+      → HeadOf address (node_number graph node) (image_by text graph jumps cases codes address node word instr)
   image_head address node word (i.Branch cond annul disp) =
       cond_both (cond == always) _ _ (HeadOf address (node_number graph node))
       (λ _. record { item = it.Word nop_word; takes = tt; rest = _; is = refl })
@@ -63,12 +126,7 @@ module _ (text : Words) (graph : Graph) (jumps : ℕ) (codes : ℕ → List ℕ)
     rest = _;
     is = refl;
   }
-  image_head address node word (i.Jmpl rd rs1 op2) = record {
-    item = it.Word (word_for (i.Store stores.ST (free_register rd rs1 op2) 0 (of_page 7)));
-    takes = tt;
-    rest = _;
-    is = refl;
-  }
+  image_head address node word (i.Jmpl rd rs1 op2) = jump_head address node rd rs1 op2
   image_head address node word instr = record {
     item = it.Word (slice_index text.words word);
     takes = tt;
@@ -76,55 +134,85 @@ module _ (text : Words) (graph : Graph) (jumps : ℕ) (codes : ℕ → List ℕ)
     is = refl;
   }
 
-  copy_head : (table : ℕ) (address : Addr) (node word number : ℕ) (edge : Edge)
-      → HeadOf address node (slot_copy text graph table codes address node word number edge)
-  copy_head table address node word number edge =
+  copy_head : (table : ℕ) (address : Addr) (node word number : ℕ) (edge : Edge) (to : ℕ)
+      → HeadOf address node (slot_copy text graph table codes address node word number edge to)
+  copy_head table address node word number edge to =
       cond_both (is_transfer (decode_of word)) _ _ (HeadOf address node)
       (λ _. record { item = it.Word couple_word; takes = tt; rest = _; is = refl })
       (λ _. cond_both (same_kind edge.kind kinds.Out) _ _ (HeadOf address node)
       (λ _. record { item = it.Word word; takes = tt; rest = _; is = refl })
       (λ _. record { item = it.Word word; takes = tt; rest = _; is = refl }))
 
-module _ (g : Setting) (codes : ℕ → List ℕ) (is : IsText g.text) (p : Placement) (f : Frame) where
+home_outside : (node : Node) → home_of node ≡ X → node ≡ X
+home_outside (Block k) e = absurd (cc)
+home_outside (Landed k) e = absurd (cc)
+home_outside X e = refl
+
+module _ (g : Setting) (codes : ℕ → List ℕ) (is : IsKnown g) (p : Placement) (f : Frame) where
   abbrev b : Blocks
   b = blocks_of g.text g.given
 
   -- ---- the copy of a slot's word
 
   module _ (node : Node) (x : Point) (slot : ℕ) (at : word_at g.text x.pc ≡ Some slot)
-      (way : IsOnEdge g.text (graph_in g) node x (way_in g codes is p f x)) where
-    own : (is_fall (way_in g codes is p f x) ≡ false) × (same_kind (way_in g codes is p f x) kinds.Land ≡ false)
-    own = way_is_own (instr_at g.text (x.pc - 4)) x.slot
+      (way : IsOnItsWay g.text (graph_in g) node x (way_in g codes is p f x)) where
+    -- its piece, from which control goes on to a word at the edge's node
+    pub record HasCopy (piece to : ℕ) : Type 0 where
+      pub here : slot_piece g (l g codes is p f) node x ≡ piece
+      pub items : slice_get (l g codes is p f).list piece
+          ≡ Some (slot_copy g.text (graph_in g) f.table.base codes (record { 0 = address_of g.text slot })
+          (number_in g node) (slice_index g.text.words slot) way.number way.edge to)
 
-    pub copy_items : slice_get (l g codes is p f).list (length g.text.words + way.number)
-        ≡ Some (slot_copy g.text (graph_in g) f.table.base codes (record { 0 = address_of g.text slot })
-        (number_in g node) (slice_index g.text.words slot) way.number way.edge)
-    copy_items =
-        let k = edge_is g codes is p f node x (way_in g codes is p f x) way in
-        items_along g is f.table.base codes node (way_in g codes is p f x) way.number way.edge k own.0 own.1
-        (carried.Word (record { 0 = slot })) (on g codes is p f node x (way_in g codes is p f x) way slot at)
-        ∙ ap (λ (n : Node). Some (slot_copy g.text (graph_in g) f.table.base codes
-        (record { 0 = address_of g.text slot }) (number_in g n) (slice_index g.text.words slot) way.number way.edge)) k.leaves
+    leaves : (to : ℕ)
+        → way_by g.text (graph_in g) f.table.base codes way.number way.edge to (carried.Word (record { 0 = slot }))
+        ≡ slot_copy g.text (graph_in g) f.table.base codes (record { 0 = address_of g.text slot })
+        (number_in g node) (slice_index g.text.words slot) way.number way.edge to
+    leaves to =
+        ap (λ (n : Node). slot_copy g.text (graph_in g) f.table.base codes
+        (record { 0 = address_of g.text slot }) (number_in g n) (slice_index g.text.words slot) way.number way.edge to)
+        (edge_is g codes is p f node x way).leaves
 
-    pub copy_visited : x.slot ≢ NoSlot
-        → visited_at g (l g codes is p f) p f node x ≡ slice_index p.at (length g.text.words + way.number)
-    copy_visited not =
-        visited_slot g codes is p f node x slot at not
-        ∙ ap (λ (ns : List ℕ). slice_index p.at (along_first (l g codes is p f) ns)) way.only
+    pub plain_copy : (same_kind (way_in g codes is p f x) kinds.Out ≡ true → has_cases g.switches node ≡ false)
+        → HasCopy (length g.text.words + way.number) (first_word (graph_in g) way.edge.to)
+    plain_copy caseless = record {
+      here = plain_piece_is g codes is p f node x way caseless;
+      items =
+          plain_items g codes is p f node x way caseless (carried.Word (record { 0 = slot }))
+          (on g codes is p f node x way slot at)
+          ∙ ap (λ (xs : List Item). Some xs) (leaves (first_word (graph_in g) way.edge.to));
+    }
+
+    pub case_copy : (out : same_kind (way_in g codes is p f x) kinds.Out ≡ true)
+        (cased : has_cases g.switches node ≡ true)
+        → let to = target g codes is p f node x way out cased in
+        HasCopy (case_piece g.text (graph_in g) to.k to.o to.word) to.word
+    case_copy out cased =
+        let to = target g codes is p f node x way out cased in
+        record {
+          here = case_piece_is g codes is p f node x way out cased;
+          items =
+              case_items g codes is p f node x way out cased (carried.Word (record { 0 = slot }))
+              (on g codes is p f node x way slot at)
+              ∙ ap (λ (xs : List Item). Some xs) (leaves to.word);
+        }
+
+    pub copy_visited : (piece to : ℕ) → HasCopy piece to → x.slot ≢ NoSlot
+        → visited_at g (l g codes is p f) p f node x ≡ slice_index p.at piece
+    copy_visited piece to copy not = visited_slot g codes is p f node x slot at not ∙ ap (slice_index p.at) copy.here
 
   -- ---- outside the text
 
   pub foreign_is : (node : Node) (x : Point) → x.slot ≡ NoSlot → word_at g.text x.pc ≡ None
-      → node ≡ node_of b (word_at g.text x.pc) → IsOpen g x → IsForeign g node x
+      → home_of node ≡ node_of b (word_at g.text x.pc) → IsOpen g x → IsForeign g node x
   foreign_is node x slot none held open_there = record {
     slot = slot;
     none = none;
-    beyond = held ∙ ap (node_of b) none;
+    beyond = home_outside node (held ∙ ap (node_of b) none);
     apart = open_there;
   }
 
   pub off_is : (base : ℕ) → f.table.base < base → IsOffNoted g f.table.base → (node : Node) (x : Point)
-      → x.slot ≢ NoSlot → word_at g.text x.pc ≡ None → IsOnEdge g.text (graph_in g) node x (way_in g codes is p f x)
+      → x.slot ≢ NoSlot → word_at g.text x.pc ≡ None → IsOnItsWay g.text (graph_in g) node x (way_in g codes is p f x)
       → IsOff g base p f node x
   off_is base below noted node x slot none way = record {
     slot = slot;
@@ -135,10 +223,10 @@ module _ (g : Setting) (codes : ℕ → List ℕ) (is : IsText g.text) (p : Plac
       address = address_of g.text (length g.text.words);
       node = number_in g way.edge.from;
     };
-    noted = noted way.number way.edge way.is (off g codes is p f node x (way_in g codes is p f x) way none);
+    noted = noted way.number way.edge way.is (off g codes is p f node x way none);
     lo = refl;
-    address = sym (off_address g codes is p f node x (way_in g codes is p f x) way none);
-    number = ap (number_in g) (edge_is g codes is p f node x (way_in g codes is p f x) way).leaves;
+    address = sym (off_address g codes is p f node x way none);
+    number = ap (number_in g) (edge_is g codes is p f node x way).leaves;
     beside = inl below;
   }
 
@@ -164,31 +252,37 @@ module _ (g : Setting) (codes : ℕ → List ℕ) (is : IsText g.text) (p : Plac
       → MatchesIn g node x → IsOpen g x → IsVisited g (l g codes is p f) base p f node x
   visits base below noted node x m open_there = by x.slot refl m.0 (word_at g.text x.pc) refl
     where
-      held : home_of node ≡ node_of b (word_at g.text x.pc) → node ≡ node_of b (word_at g.text x.pc)
-      held e = sym (home_none b node m.1) ∙ e
+      copied : x.slot ≢ NoSlot → (way : IsOnItsWay g.text (graph_in g) node x (way_in g codes is p f x)) → (slot : ℕ)
+          → (e : word_at g.text x.pc ≡ Some slot) → (piece to : ℕ) → HasCopy node x slot e way piece to
+          → IsVisited g (l g codes is p f) base p f node x
+      copied not way slot e piece to copy =
+          head (head_of node x piece _ (record { 0 = address_of g.text slot })
+          (copy_visited node x slot e way piece to copy not) (sym (word_at-some g.text x.pc slot e).is) copy.items
+          (copy_head g.text b g.switches 0 f.cases.base codes f.table.base (record { 0 = address_of g.text slot })
+          (number_in g node) (slice_index g.text.words slot) way.number way.edge to))
 
-      in_slot : x.slot ≢ NoSlot → IsOnEdge g.text (graph_in g) node x (way_in g codes is p f x) → (o : Option ℕ)
+      in_slot : x.slot ≢ NoSlot → IsOnItsWay g.text (graph_in g) node x (way_in g codes is p f x) → (o : Option ℕ)
           → word_at g.text x.pc ≡ o → IsVisited g (l g codes is p f) base p f node x
       in_slot not way None e = beyond (off_is base below noted node x not e way)
       in_slot not way (Some slot) e =
-          head (head_of node x (length g.text.words + way.number) _ (record { 0 = address_of g.text slot })
-          (copy_visited node x slot e way not) (sym (word_at-some g.text x.pc slot e).is)
-          (copy_items node x slot e way)
-          (copy_head g.text (graph_in g) 0 codes f.table.base (record { 0 = address_of g.text slot }) (number_in g node)
-          (slice_index g.text.words slot) way.number way.edge))
+          by_cases (IsVisited g (l g codes is p f) base p f node x) (same_kind (way_in g codes is p f x) kinds.Out)
+          (has_cases g.switches node)
+          (λ caseless. copied not way slot e _ _ (plain_copy node x slot e way caseless))
+          (λ out cased. copied not way slot e _ _ (case_copy node x slot e way out cased))
 
       by : (s : Slot) → x.slot ≡ s → MatchesBy g.text (graph_in g) node x s → (o : Option ℕ) → word_at g.text x.pc ≡ o
           → IsVisited g (l g codes is p f) base p f node x
-      by NoSlot none m None e = outside (foreign_is node x none e (held m.0) open_there)
-      by NoSlot none m (Some word) e =
-          head (head_of node x word _ (record { 0 = address_of g.text word })
+      by NoSlot none m0 None e = outside (foreign_is node x none e m0.0 open_there)
+      by NoSlot none m0 (Some word) e =
+          head (head_of node x _ _ (record { 0 = address_of g.text word })
           (visited_word g codes is p f node x word e none) (sym (word_at-some g.text x.pc word e).is)
-          (image_items g codes is p f node x word e (held m.0) (decode_of (slice_index g.text.words word)) refl)
-          (image_head g.text (graph_in g) (jumps_at g.text f.table.base) codes (record { 0 = address_of g.text word }) node word
-          (decode_of (slice_index g.text.words word))))
-      by Taken some m o e =
+          (image_items g codes is p f node x word e (has_its_image g codes is p f node x word e m0.0 m.1)
+          (decode_of (slice_index g.text.words word)) refl)
+          (image_head g.text b g.switches (jumps_at g.text f.table.base) f.cases.base codes
+          (record { 0 = address_of g.text word }) node word (decode_of (slice_index g.text.words word))))
+      by Taken some m0 o e =
           let not : x.slot ≢ NoSlot = λ n. let q : Taken ≡ NoSlot = sym some ∙ n in absurd (cc) in
-          in_slot not (on_its_way g codes is p f node x Taken some (λ q. absurd (cc)) m) o e
-      by Untaken some m o e =
+          in_slot not (on_its_way g codes is p f node x Taken some (λ q. absurd (cc)) m0) o e
+      by Untaken some m0 o e =
           let not : x.slot ≢ NoSlot = λ n. let q : Untaken ≡ NoSlot = sym some ∙ n in absurd (cc) in
-          in_slot not (on_its_way g codes is p f node x Untaken some (λ q. absurd (cc)) m) o e
+          in_slot not (on_its_way g codes is p f node x Untaken some (λ q. absurd (cc)) m0) o e

@@ -22,8 +22,8 @@ use Rattle.code_runs.proofs.Counted.{count_add, no_stores, none_then}
 use Rattle.code_runs.proofs.Leads.{leads_one, leads_then, puts_add}
 use Rattle.layout.specs.declared.items.Item.TheVariants as it
 use Rattle.layout.specs.Laid.{HasShortForms, nop, Placement}
-use Rattle.image_code.specs.Simulates.{Setting, StepsOn, in_first_word, is_spill, at_point, cells_in, does_at, gone_at, graph_in, number_in}
-use Rattle.image_code.specs.Images.{Pieces, Frame, Here, IsPlaced, visited_at}
+use Rattle.image_code.specs.Simulates.{Setting, in_first_word, is_spill, at_point, cells_in, does_at, gone_at, graph_in, number_in, Enters}
+use Rattle.image_code.specs.Images.{Pieces, Frame, Here, IsPlaced, entered_at, Entered}
 use Rattle.image_code.specs.Cases.{word_ahead}
 use Rattle.image_code.specs.Idle.{IsIdle, IdlesStep}
 use Rattle.image_code.proofs.Arrives.{rest_marked}
@@ -59,7 +59,7 @@ module _ (g : Setting) (l : Pieces) (base : ℕ) (p : Placement) (place : ℕ �
   first_none counted =
       no_stores counted t nop here.live (record { word = c.word; fetched = stands.fetched; decodes = c.idle }) refl
 
-  steps : StepsOn g (Here g l base p f) (HasShortForms l.list place) (gone_at g node x (does_at g x t)) node x t (does_at g x t)
+  steps : Enters g (Entered g l base p f) (HasShortForms l.list place) (gone_at g node x (does_at g x t)) node x t (does_at g x t)
   steps =
       let npc = stands.ready.ready.npc in
       let i0 = stands.inside.0 in
@@ -70,7 +70,7 @@ module _ (g : Setting) (l : Pieces) (base : ℕ) (p : Placement) (place : ℕ �
       let v : State = does_at g x t in
       let m = branch_moves g x t c.none c.original_word c.is_word c.cond c.annul c.disp c.says in
       let same : does_at g x t ≡ moved m.pc m.npc m.slot t = m.is in
-      let to = visited_at g l p f (node_after (graph_in g) node (gone_at g node x (does_at g x t)))
+      let to = entered_at g l p f (node_after (graph_in g) node (gone_at g node x (does_at g x t)))
       (point_of (does_at g x t)) in
       let on : wrapped (t.npc + 4) ≡ t.npc + 4 = omega arith in
       let pc : t.npc ≡ place c.piece 3 = omega arith in
@@ -108,64 +108,67 @@ module _ (g : Setting) (l : Pieces) (base : ℕ) (p : Placement) (place : ℕ �
       let stores = rest.stores in
       let lives : rest.other.ending ≡ None = rest.alike.ending ∙ here.live in
       record {
-        count = 1 + rest.count;
-        after = hopped rest.other to rest.memory;
-        path = record {
-          steps = way.steps;
-          some = omega arith;
-          few = omega (arith, few);
-          quiet = λ j p1 p2. quiet_of g l base p place f h t _ (1 + rest.count)
-              (IsBare g l base p place f h) way lives (bare_on g l base p place f h t) j p1 p2;
+        on = record {
+          count = 1 + rest.count;
+          after = hopped rest.other to rest.memory;
+          path = record {
+            steps = way.steps;
+            some = omega arith;
+            few = omega (arith, few);
+            quiet = λ j p1 p2. quiet_of g l base p place f h t _ (1 + rest.count)
+                (IsBare g l base p place f h) way lives (bare_on g l base p place f h t) j p1 p2;
+          };
+          puts = λ descriptor.
+              ap (λ n. run_puts t n descriptor) (let e : 1 + rest.count ≡ rest.count + 1 = omega arith in e)
+              ∙ puts_add t 1 rest.count descriptor
+              ∙ ap (λ (z : State). run_puts t 1 descriptor ++ run_puts z rest.count descriptor) idle_step
+              ∙ ap (λ z. run_puts t 1 descriptor ++ z) (rest.silent descriptor) ∙ append-nil (run_puts t 1 descriptor)
+              ∙ puts_first descriptor
+              ∙ sym (ap (λ (o : Option ℕ). puts_on_word (at_point x t) o descriptor) c.is_word
+              ∙ ap (λ (q : Instr). puts_by (at_point x t) q descriptor) c.says
+              ∙ no_puts (at_point x t) c.cond c.annul c.disp descriptor);
+          followed = followed_alike g (gone_at g node x (does_at g x t)) (does_at g x t)
+              (record t { pc = t.npc; npc = wrapped (t.npc + 4); slot = NoSlot }) (hopped rest.other to rest.memory)
+              (ap (λ (z : State). z.ending) same) (ap (λ (z : State). z.window) same) (ap (λ (z : State). z.valid) same)
+              (ap (λ (z : State). z.registers) same) (ap (λ (z : State). z.codes) same) (ap (λ (z : State). z.y) same)
+              (ap (λ (z : State). z.input) same)
+              (subst (λ (z : Memory). IsSameOutside (pages_of g.notes) z rest.memory)
+              (sym (ap (λ (z : State). z.memory) same))
+              (same_stored g f h.frame base p t.memory rest.memory here.memory stores))
+              (alike_hopped g (gone_at g node x (does_at g x t))
+              (record t { pc = t.npc; npc = wrapped (t.npc + 4); slot = NoSlot }) rest.other to rest.memory rest.alike);
+          cells = rest.cells (gone_last g l f h.cells node x (does_at g x t))
+              ∙ updates_same g.snips (gone_at g node x (does_at g x t)) (cells_in g t)
+              (record t { pc = t.npc; npc = wrapped (t.npc + 4); slot = NoSlot }) (does_at g x t)
+              (sym (ap (λ (z : State). register_of z) same));
+          here = λ _. record {
+            valid = subst IsValid way.steps (run-valid t (1 + rest.count) here.valid);
+            live = lives;
+            at = refl;
+            npc = refl;
+            slot = refl;
+            memory = images_stored g f h.frame base p (record t { pc = t.npc; npc = wrapped (t.npc + 4); slot = NoSlot }) _
+                rest.count rest.path.steps stores here.memory;
+            waits = λ a b _. absurd (c.never a b);
+          };
+          place = λ e. absurd (e (ap (λ (z : State). z.ending) same ∙ here.live));
+          sparing = λ w.
+              let none = first_none (is_spill g.notes) in
+              let more = rest.spares w.inside in
+              let both = count_add (is_spill g.notes) t
+              (record t { pc = t.npc; npc = wrapped (t.npc + 4); slot = NoSlot }) 1 idle_step rest.count in
+              let moves = transfers g.text x.pc c.original_word c.is_word (ap is_transfer c.says) in
+              record {
+                spills = omega (arith, none, more, both);
+                first = λ short.
+                    none_then in_first_word t (record t { pc = t.npc; npc = wrapped (t.npc + 4); slot = NoSlot }) 1 rest.count
+                    idle_step (first_none in_first_word) (rest.leaves_first w.inside short);
+                alone = λ _ _ straight. absurd (cc);
+                few = λ short no_operations.
+                    let brief = rest.brief w.inside short in omega (arith, no_operations, brief);
+              };
         };
-        puts = λ descriptor.
-            ap (λ n. run_puts t n descriptor) (let e : 1 + rest.count ≡ rest.count + 1 = omega arith in e)
-            ∙ puts_add t 1 rest.count descriptor
-            ∙ ap (λ (z : State). run_puts t 1 descriptor ++ run_puts z rest.count descriptor) idle_step
-            ∙ ap (λ z. run_puts t 1 descriptor ++ z) (rest.silent descriptor) ∙ append-nil (run_puts t 1 descriptor)
-            ∙ puts_first descriptor
-            ∙ sym (ap (λ (o : Option ℕ). puts_on_word (at_point x t) o descriptor) c.is_word
-            ∙ ap (λ (q : Instr). puts_by (at_point x t) q descriptor) c.says
-            ∙ no_puts (at_point x t) c.cond c.annul c.disp descriptor);
-        followed = followed_alike g (gone_at g node x (does_at g x t)) (does_at g x t)
-            (record t { pc = t.npc; npc = wrapped (t.npc + 4); slot = NoSlot }) (hopped rest.other to rest.memory)
-            (ap (λ (z : State). z.ending) same) (ap (λ (z : State). z.window) same) (ap (λ (z : State). z.valid) same)
-            (ap (λ (z : State). z.registers) same) (ap (λ (z : State). z.codes) same) (ap (λ (z : State). z.y) same)
-            (ap (λ (z : State). z.input) same)
-            (subst (λ (z : Memory). IsSameOutside (pages_of g.notes) z rest.memory)
-            (sym (ap (λ (z : State). z.memory) same))
-            (same_stored g f h.frame base p t.memory rest.memory here.memory stores))
-            (alike_hopped g (gone_at g node x (does_at g x t))
-            (record t { pc = t.npc; npc = wrapped (t.npc + 4); slot = NoSlot }) rest.other to rest.memory rest.alike);
-        cells = rest.cells (gone_last g l f h.cells node x (does_at g x t))
-            ∙ updates_same g.snips (gone_at g node x (does_at g x t)) (cells_in g t)
-            (record t { pc = t.npc; npc = wrapped (t.npc + 4); slot = NoSlot }) (does_at g x t)
-            (sym (ap (λ (z : State). register_of z) same));
-        here = λ _. record {
-          valid = subst IsValid way.steps (run-valid t (1 + rest.count) here.valid);
-          live = lives;
-          at = refl;
-          npc = refl;
-          slot = refl;
-          memory = images_stored g f h.frame base p (record t { pc = t.npc; npc = wrapped (t.npc + 4); slot = NoSlot }) _
-              rest.count rest.path.steps stores here.memory;
-          waits = λ a b. absurd (c.never a b);
-        };
-        place = λ e. absurd (e (ap (λ (z : State). z.ending) same ∙ here.live));
-        sparing = λ w.
-            let none = first_none (is_spill g.notes) in
-            let more = rest.spares w.inside in
-            let both = count_add (is_spill g.notes) t
-            (record t { pc = t.npc; npc = wrapped (t.npc + 4); slot = NoSlot }) 1 idle_step rest.count in
-            let moves = transfers g.text x.pc c.original_word c.is_word (ap is_transfer c.says) in
-            record {
-              spills = omega (arith, none, more, both);
-              first = λ short.
-                  none_then in_first_word t (record t { pc = t.npc; npc = wrapped (t.npc + 4); slot = NoSlot }) 1 rest.count
-                  idle_step (first_none in_first_word) (rest.leaves_first w.inside short);
-              alone = λ _ _ straight. absurd (cc);
-              few = λ short no_operations.
-                  let brief = rest.brief w.inside short in omega (arith, no_operations, brief);
-            };
+        first = λ _ _ straight _. let moves = transfers g.text x.pc c.original_word c.is_word (ap is_transfer c.says) in absurd (cc);
       }
 
 pub idles_step : IdlesStep

@@ -12,14 +12,16 @@ use Rattle.cfg_walk.specs.Walk.{Point}
 use Rattle.layout.specs.declared.items.Item.{Item}
 use Rattle.layout.specs.declared.items.Item.TheVariants as it
 use Rattle.layout.specs.Laid.{HasShortForms, Placement, Stands, BranchStands, branch_short, branch_long, item_in, items_in, size_of, open_in, range_of, end_from}
-use Rattle.image_code.specs.Simulates.{StepsOn, at_point, does_at, gone_at, number_in, word_of}
+use Rattle.image_code.specs.Simulates.{at_point, does_at, gone_at, number_in, word_of, Enters}
 use Rattle.code_runs.specs.PointsAlike.{instr_of}
-use Rattle.image_code.specs.Images.{Here}
+use Rattle.image_code.specs.Images.{Here, Entered}
 use Rattle.image_code.specs.Cases.{visits_it}
 use Rattle.image_code.specs.Calls.{CallsStep, JumpsStep}
 use Rattle.image_code.specs.Landings.{JumpSlotsStep}
-use Rattle.image_code.specs.Imaged.{TakesWords, HeadsVisit, IsCase, plain, couple, turn, idle, call, jump, landing, foreign, off, IsVisited, head, outside, beyond, ImagesSimulate}
+use Rattle.image_code.specs.Imaged.{TakesWords, HeadsVisit, IsCase, plain, couple, turn, idle, call, jump, landing, choice, foreign, off, IsVisited, head, outside, beyond, ImagesSimulate}
 use Rattle.image_code.proofs.Cases.{at_range, plains_step}
+use Rattle.image_code.proofs.Choices.{choices_step}
+use Rattle.image_code.proofs.Keeping.{next_steps}
 use Rattle.image_code.proofs.Couple.{couples_step}
 use Rattle.image_code.proofs.Turns.{turns_step}
 use Rattle.image_code.proofs.Idle.{idles_step}
@@ -69,7 +71,9 @@ module _ (calls : CallsStep) (jumps : JumpsStep) (slots : JumpSlotsStep) where
       at.0,
       at.1,
     );
-    steps = λ node x t matches clear here apart on. by node x t here apart (c.cases node x t matches clear here on);
+    steps = λ node x t matches clear here apart on chooses.
+        next_steps g l base p place f h c.opens c.enters node x t matches.0
+        (by node x t here apart (c.cases node x t matches clear here on chooses));
   }
     where
       there : (node : Node) (x : Point) (t : State) → Here g l base p f node x t → IsVisited g l base p f node x
@@ -87,7 +91,7 @@ module _ (calls : CallsStep) (jumps : JumpsStep) (slots : JumpSlotsStep) where
       by : (node : Node) (x : Point) (t : State) → Here g l base p f node x t
           → AllApart (pages_of g.notes) (judged_in (at_point x t) (instr_of (word_of g.text x.pc)))
           → IsCase g l base p place f node x t
-          → StepsOn g (Here g l base p f) (HasShortForms l.list place) (gone_at g node x (does_at g x t)) node x t (does_at g x t)
+          → Enters g (Entered g l base p f) (HasShortForms l.list place) (gone_at g node x (does_at g x t)) node x t (does_at g x t)
       by node x t here apart (plain k) =
           plains_step g l base p place f node x t h here k (judged x t k.word k.is_word apart)
       by node x t here apart (couple k) = couples_step g l base p place f node x t h here k
@@ -97,5 +101,6 @@ module _ (calls : CallsStep) (jumps : JumpsStep) (slots : JumpSlotsStep) where
       by node x t here apart (jump k) = jumps g l base p place f node x t h here k
       by node x t here apart (landing k) =
           slots g l base p place f node x t h here k (judged x t k.word k.is_word apart)
+      by node x t here apart (choice k) = choices_step g l base p place f node x t h here k
       by node x t here apart (foreign k) = (foreign_step g l base p place f node x t h here k).1
       by node x t here apart (off k) = (offs_step g l base p place f node x t h here k).1

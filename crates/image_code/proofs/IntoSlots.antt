@@ -1,9 +1,9 @@
 -- A transfer at a word goes into its slot, where the way of its edge leads.
-use Rattle.std.proofs.Common.{◌≡◌, ◌≢◌, ℕ, ◌+◌, ◌-◌, ◌%◌, ◌^◌, ◌<◌, false, Option, Some, None, List, [], ap, sym, ◌∙◌, subst, arith}
+use Rattle.std.proofs.Common.{◌≡◌, ◌≢◌, ℕ, ◌+◌, ◌-◌, ◌%◌, ◌^◌, ◌<◌, true, false, Option, Some, None, List, ap, sym, ◌∙◌, subst, arith}
 use Rattle.std.specs.Prelude.{slice_index}
 use Rattle.std.specs.Option.{option_map}
 use Rattle.std.proofs.lemmas.Bool.{false≢true}
-use Rattle.eel_base.specs.CodeText.{IsText, word_at}
+use Rattle.eel_base.specs.CodeText.{word_at}
 use Rattle.v8_decode.specs.declared.Instr.{Instr}
 use Rattle.v8_decode.specs.Words.{decode_of}
 use Rattle.v8_step.specs.declared.Slot.{Slot}
@@ -15,39 +15,39 @@ use Rattle.cfg_blocks.specs.Blocks.{Blocks, blocks_of}
 use Rattle.cfg_blocks.proofs.Targets.{word_at-some}
 use Rattle.cfg_normal.specs.declared.Node.{Node}
 use Rattle.cfg_normal.specs.Nodes.{home_of}
-use Rattle.cfg_normal.specs.Graph.{IsNodeIn, node_of}
+use Rattle.cfg_normal.specs.Graph.{IsNodeIn, has_cases, node_of}
 use Rattle.cfg_walk.specs.Walk.{Point, instr_at, node_after, point_of, same_kind, way_of}
 use Rattle.cfg_walk.specs.Matches.{MatchesBy}
-use Rattle.cfg_walk.proofs.Nodes.{home_of_node, node_in}
-use Rattle.cfg_walk.proofs.NoneOpen.{open_none}
 use Rattle.cfg_walk.proofs.Points.{Stands, StepsTo}
 use Rattle.addr_translate.specs.Lookup.{IsTable}
 use Rattle.layout.specs.Laid.{Placement}
 use Rattle.image_code.specs.Simulates.{Setting, gone_at, graph_in}
-use Rattle.image_code.specs.Images.{Frame, visited_at}
+use Rattle.image_code.specs.Images.{Frame, entered_at}
 use Rattle.image_code.specs.Cases.{LeadsTo}
 use Rattle.image_code.specs.Turns.{IsNoJumpsSlot}
 use Rattle.image_code.specs.Made.{way_out}
+use Rattle.image_code.proofs.CaseTables.{IsKnown}
 use Rattle.image_code.proofs.EdgePieces.{cut_in}
 use Rattle.image_code.proofs.Visited.{enters, l, nothing_gone, on_its_way}
 
-module _ (g : Setting) (codes : ℕ → List ℕ) (is : IsText g.text) (p : Placement) (f : Frame) (whole : IsTable f.table)
+module _ (g : Setting) (codes : ℕ → List ℕ) (is : IsKnown g) (p : Placement) (f : Frame) (whole : IsTable f.table)
     (node : Node) (x : Point) (word : ℕ) (at : word_at g.text x.pc ≡ Some word) (none : x.slot ≡ NoSlot)
-    (held : node ≡ node_of (blocks_of g.text g.given) (word_at g.text x.pc)) (npc : x.npc ≡ (x.pc + 4) % 2 ^ 32)
+    (held : home_of node ≡ node_of (blocks_of g.text g.given) (word_at g.text x.pc))
+    (there : IsNodeIn (blocks_of g.text g.given) g.switches node) (npc : x.npc ≡ (x.pc + 4) % 2 ^ 32)
     (instr : Instr) (says : decode_of (slice_index g.text.words word) ≡ instr) where
   abbrev b : Blocks
   b = blocks_of g.text g.given
 
-  pub stands : Stands g.text b [] node x word instr
+  pub stands : Stands g.text b g.switches node x word instr
   stands = record {
-    text_is = is;
-    cut = cut_in g is f.table.base;
+    text_is = is.text;
+    cut = cut_in g is f.table.base f.cases.base;
     is = word_at-some g.text x.pc word at;
     npc = npc;
     decodes = says;
-    are = open_none b;
-    there = subst (IsNodeIn b []) (sym held) (node_in b [] (cut_in g is f.table.base).firsts.some (word_at g.text x.pc));
-    held = ap home_of held ∙ home_of_node b (word_at g.text x.pc);
+    are = is.cased.jumps;
+    there = there;
+    held = held;
   }
 
   address_low : x.pc + 4 < 2 ^ 32
@@ -55,10 +55,10 @@ module _ (g : Setting) (codes : ℕ → List ℕ) (is : IsText g.text) (p : Plac
       let w = word_at-some g.text x.pc word at in
       let l = w.within in
       let i = w.is in
-      let h = is.below in
+      let h = is.text.below in
       omega arith
 
-  before : (v : State) → v.pc ≡ x.npc → instr_at g.text (v.pc - 4) ≡ Some instr
+  pub before : (v : State) → v.pc ≡ x.npc → instr_at g.text (v.pc - 4) ≡ Some instr
   before v pc =
       let back : v.pc - 4 ≡ x.pc = (let low = address_low in omega arith) in
       ap (instr_at g.text) back ∙ ap (option_map (λ w. decode_of (slice_index g.text.words w))) at
@@ -69,27 +69,32 @@ module _ (g : Setting) (codes : ℕ → List ℕ) (is : IsText g.text) (p : Plac
   LeadsThere kind v =
       LeadsTo (l g codes is p f) p (record { 0 = way_out g.text (graph_in g) node kind }) (gone_at g node x v)
       (word_at g.text v.pc)
-      (visited_at g (l g codes is p f) p f (node_after (graph_in g) node (gone_at g node x v)) (point_of v))
+      (entered_at g (l g codes is p f) p f (node_after (graph_in g) node (gone_at g node x v)) (point_of v))
 
   in_slot : (v : State) → v.ending ≡ None → v.pc ≡ x.npc → (now : Slot) → v.slot ≡ now → now ≢ NoSlot
+      → (same_kind (way_of (Some instr) now) kinds.Out ≡ true → has_cases g.switches node ≡ false)
       → MatchesBy g.text (graph_in g) node (point_of v) now → LeadsThere (way_of (Some instr) now) v
-  in_slot v live pc now slot some m =
+  in_slot v live pc now slot some caseless m =
       let not : v.slot ≢ NoSlot = λ n. some (sym slot ∙ n) in
+      let same : way_of (instr_at g.text (v.pc - 4)) v.slot ≡ way_of (Some instr) now =
+      ap (λ (o : Option Instr). way_of o v.slot) (before v pc) ∙ ap (way_of (Some instr)) slot in
       subst (λ (edges : List ℕ). LeadsTo (l g codes is p f) p
       (record { 0 = way_out g.text (graph_in g) node (way_of (Some instr) now) }) edges (word_at g.text v.pc)
-      (visited_at g (l g codes is p f) p f (node_after (graph_in g) node edges) (point_of v)))
-      (sym (nothing_gone g codes is p f node x v none not live))
+      (entered_at g (l g codes is p f) p f (node_after (graph_in g) node edges) (point_of v)))
+      (sym (nothing_gone g node x v none not live))
       (enters g codes is p f whole node (point_of v) not (on_its_way g codes is p f node (point_of v) now slot some m)
-      (way_of (Some instr) now)
-      (ap (λ (o : Option Instr). way_of o v.slot) (before v pc) ∙ ap (way_of (Some instr)) slot))
+      (λ out. caseless (ap (λ (k : EdgeKind). same_kind k kinds.Out) (sym same) ∙ out))
+      (way_of (Some instr) now) same)
 
   pub entered : (v : State) → v.ending ≡ None → v.pc ≡ x.npc → v.slot ≡ Taken
+      → (same_kind (way_of (Some instr) Taken) kinds.Out ≡ true → has_cases g.switches node ≡ false)
       → StepsTo g.text (graph_in g) node x (point_of v) NoSlot Taken → LeadsThere (way_of (Some instr) Taken) v
-  entered v live pc slot m = in_slot v live pc Taken slot (λ n. absurd (cc)) m
+  entered v live pc slot caseless m = in_slot v live pc Taken slot (λ n. absurd (cc)) caseless m
 
   pub entered_untaken : (v : State) → v.ending ≡ None → v.pc ≡ x.npc → v.slot ≡ Untaken
+      → (same_kind (way_of (Some instr) Untaken) kinds.Out ≡ true → has_cases g.switches node ≡ false)
       → StepsTo g.text (graph_in g) node x (point_of v) NoSlot Untaken → LeadsThere (way_of (Some instr) Untaken) v
-  entered_untaken v live pc slot m = in_slot v live pc Untaken slot (λ n. absurd (cc)) m
+  entered_untaken v live pc slot caseless m = in_slot v live pc Untaken slot (λ n. absurd (cc)) caseless m
 
   -- it is no JMPL's
   pub no_jump : (v : State) → (v.slot ≡ Taken → v.pc ≡ x.npc) → same_kind (way_of (Some instr) Taken) kinds.Out ≡ false

@@ -33,8 +33,8 @@ use Rattle.jump_code.specs.Links.{link}
 use Rattle.jump_code.specs.PageWords.{IsPageWord}
 use Rattle.jump_code.proofs.FindFollowing.{goes, stops, finds_simulate}
 use Rattle.jump_code.proofs.Laid.{pieces_are_laid}
-use Rattle.image_code.specs.Simulates.{Setting, StepsOn, IsOnWay, is_jmpl, at_point, does_at, gone_at, graph_in, number_in, word_of}
-use Rattle.image_code.specs.Images.{Pieces, Frame, Here, IsPlaced, visited_at}
+use Rattle.image_code.specs.Simulates.{Setting, IsOnWay, is_jmpl, at_point, does_at, gone_at, graph_in, number_in, word_of, Enters}
+use Rattle.image_code.specs.Images.{Pieces, Frame, Here, IsPlaced, entered_at, Entered}
 use Rattle.image_code.specs.Cases.{LeadsTo}
 use Rattle.image_code.specs.Calls.{IsJump, JumpsStep}
 use Rattle.image_code.proofs.Memories.{same_stored}
@@ -151,9 +151,9 @@ module _ (g : Setting) (l : Pieces) (base : ℕ) (p : Placement) (place : ℕ �
   jumping e = let is = ap is_jmpl (instr_is g.text x.pc c.word c.is_word ∙ ap (λ (z : Instr). Some z) c.says) in cc
 
   going : (edges : List ℕ) → LastDead g edges → after_jump.ending ≡ None
-      → LeadsTo l p c.way edges (word_at g.text after_jump.pc) (visited_at g l p f (node_after (graph_in g) node edges)
+      → LeadsTo l p c.way edges (word_at g.text after_jump.pc) (entered_at g l p f (node_after (graph_in g) node edges)
       (point_of after_jump))
-      → StepsOn g (Here g l base p f) (HasShortForms l.list place) edges node x t after_jump
+      → Enters g (Entered g l base p f) (HasShortForms l.list place) edges node x t after_jump
   going edges last live leads =
       let on = (finds_simulate c.scratch c.second c.rd c.rs1 c.op2 c.address.0 f.halves t about).0 live in
       let n = many in
@@ -172,7 +172,7 @@ module _ (g : Setting) (l : Pieces) (base : ℕ) (p : Placement) (place : ℕ �
         stored = λ other. absurd (jumping other);
       }) leads
 
-  ends : (d : Ending) → after_jump.ending ≡ Some d → StepsOn g (Here g l base p f) (HasShortForms l.list place) [] node x t after_jump
+  ends : (d : Ending) → after_jump.ending ≡ Some d → Enters g (Entered g l base p f) (HasShortForms l.list place) [] node x t after_jump
   ends d over =
       let end = (finds_simulate c.scratch c.second c.rd c.rs1 c.op2 c.address.0 f.halves t about).1 d over in
       let traps = end.traps in
@@ -181,32 +181,35 @@ module _ (g : Setting) (l : Pieces) (base : ℕ) (p : Placement) (place : ℕ �
       let pc = traps.pc in
       let valid : IsValid traps.after = subst IsValid traps.path.steps (run-valid t 10 here.valid) in
       record {
-        count = 10;
-        after = traps.after;
-        path = record {
-          steps = traps.path.steps;
-          some = omega arith;
-          few = omega arith;
-          quiet = λ j some below. on_way traps.live j some below (traps.path.during j some below);
+        on = record {
+          count = 10;
+          after = traps.after;
+          path = record {
+            steps = traps.path.steps;
+            some = omega arith;
+            few = omega arith;
+            quiet = λ j some below. on_way traps.live j some below (traps.path.during j some below);
+          };
+          puts = λ descriptor. traps.silent descriptor ∙ sym (quiet descriptor);
+          followed = record {
+            ending = end.same ∙ sym over;
+            window = traps.window ∙ sym (ap (λ (z : State). z.window) same);
+            valid = traps.valid ∙ sym (ap (λ (z : State). z.valid) same);
+            registers = valid.registers.count
+                ∙ sym (ap (λ (z : State). length z.registers) same ∙ here.valid.registers.count);
+            input = traps.input ∙ sym (ap (λ (z : State). z.input) same);
+            memory = subst (λ (z : Memory). IsSameOutside (pages_of g.notes) z traps.after.memory) (sym memory_is)
+                (same_stored g f h.frame base p t.memory traps.after.memory here.memory
+                (own_stored g f h.frame t.memory traps.after.memory traps.stores));
+            items = λ live thing _ _. absurd (cc);
+          };
+          cells = page_cells g l base p place f h node x t here c.piece c.within c.here image c.address c.way c.items
+              traps.after.memory traps.stores;
+          here = λ live. absurd (cc);
+          place = λ _. ahead.there traps.after (omega arith) (omega arith);
+          sparing = λ watched. absurd (jumping watched.jump);
         };
-        puts = λ descriptor. traps.silent descriptor ∙ sym (quiet descriptor);
-        followed = record {
-          ending = end.same ∙ sym over;
-          window = traps.window ∙ sym (ap (λ (z : State). z.window) same);
-          valid = traps.valid ∙ sym (ap (λ (z : State). z.valid) same);
-          registers = valid.registers.count
-              ∙ sym (ap (λ (z : State). length z.registers) same ∙ here.valid.registers.count);
-          input = traps.input ∙ sym (ap (λ (z : State). z.input) same);
-          memory = subst (λ (z : Memory). IsSameOutside (pages_of g.notes) z traps.after.memory) (sym memory_is)
-              (same_stored g f h.frame base p t.memory traps.after.memory here.memory
-              (own_stored g f h.frame t.memory traps.after.memory traps.stores));
-          items = λ live thing _ _. absurd (cc);
-        };
-        cells = page_cells g l base p place f h node x t here c.piece c.within c.here image c.address c.way c.items
-            traps.after.memory traps.stores;
-        here = λ live. absurd (cc);
-        place = λ _. ahead.there traps.after (omega arith) (omega arith);
-        sparing = λ watched. absurd (jumping watched.jump);
+        first = λ live _ _ _. absurd (cc);
       }
     where
       on_way : (run t 9).ending ≡ None → (j : ℕ) → 0 < j → j < 10 → IsBetween t 10 IsPageWord (run t j)
@@ -219,19 +222,19 @@ module _ (g : Setting) (l : Pieces) (base : ℕ) (p : Placement) (place : ℕ �
           between.past (omega arith) between.stores
 
   steps : (e : Option Ending) → after_jump.ending ≡ e
-      → (after_jump.ending ≡ None → LeadsTo l p c.way (gone_at g node x after_jump) (word_at g.text after_jump.pc) (visited_at g l p f
+      → (after_jump.ending ≡ None → LeadsTo l p c.way (gone_at g node x after_jump) (word_at g.text after_jump.pc) (entered_at g l p f
       (node_after (graph_in g) node (gone_at g node x after_jump)) (point_of after_jump)))
-      → StepsOn g (Here g l base p f) (HasShortForms l.list place) (gone_at g node x after_jump) node x t after_jump
+      → Enters g (Entered g l base p f) (HasShortForms l.list place) (gone_at g node x after_jump) node x t after_jump
   steps None e leads = going (gone_at g node x after_jump) (gone_last g l f h.cells node x after_jump) e (leads e)
   steps (Some d) e leads =
-      subst (λ z. StepsOn g (Here g l base p f) (HasShortForms l.list place) z node x t after_jump)
+      subst (λ z. Enters g (Entered g l base p f) (HasShortForms l.list place) z node x t after_jump)
       (sym (ended_none g node x after_jump d e)) (ends d e)
 
 pub jumps_step : JumpsStep
 jumps_step g l base p place f node x t h here c =
     let is = does_is g l base p place f h node x t here c in
-    subst (λ (z : State). StepsOn g (Here g l base p f) (HasShortForms l.list place) (gone_at g node x z) node x t z) (sym is)
+    subst (λ (z : State). Enters g (Entered g l base p f) (HasShortForms l.list place) (gone_at g node x z) node x t z) (sym is)
     (steps g l base p place f h node x t here c _ refl
     (subst (λ (z : State). z.ending ≡ None
     → LeadsTo l p c.way (gone_at g node x z) (word_at g.text z.pc)
-    (visited_at g l p f (node_after (graph_in g) node (gone_at g node x z)) (point_of z))) is c.leads))
+    (entered_at g l p f (node_after (graph_in g) node (gone_at g node x z)) (point_of z))) is c.leads))

@@ -38,8 +38,8 @@ use Rattle.layout.specs.declared.items.Item.TheVariants as it
 use Rattle.layout.specs.Emitting.{words_of}
 use Rattle.layout.specs.Laid.{Placement}
 use Rattle.image_code.specs.Simulates.{NoneIsOut, Setting, at_point, does_at, gone_at, graph_in, number_in, operations_on}
-use Rattle.image_code.specs.Images.{Pieces, Frame, Here, IsPlaced, visited_by}
-use Rattle.image_code.specs.Cases.{LeadsTo, next_visit, words_on}
+use Rattle.image_code.specs.Images.{Pieces, Frame, Here, IsPlaced, place_by}
+use Rattle.image_code.specs.Cases.{LeadsTo, next_entry, words_on}
 use Rattle.image_code.specs.Landings.{IsJumpsSlot, JumpSlotsStep, Lands}
 use Rattle.image_code.proofs.Arrives.{Arrives, IsBare, IsFit, Rest, arrive, arrived, bare_here, length_words, on_then, rest_behind, rest_marked, rest_whole, second_there, snippets_run, unwatched, stood, stood_low, weaker_arrives, words_unmarked}
 use Rattle.image_code.proofs.Cases.{IsMarkedWord, judged_moved, marked_step}
@@ -165,7 +165,7 @@ module _ (g : Setting) (l : Pieces) (base : ℕ) (p : Placement) (place : ℕ �
         let own = h.frame.page 1 (omega arith) in
         (words_stay (pages_of g.notes) (page_word 1) true t (decode_of c.word)
         (h.frame.own.within (page_word 1) own) apart (here.memory.ours.words (page_word 1) own)).1
-        ∙ (here.waits c.slot c.out).0
+        ∙ (here.waits c.slot c.out c.caseless).0
 
     -- so does what was found
     found_waits : found_there (act t (decode_of c.word)) ≡ found_in f.halves x.npc
@@ -173,7 +173,7 @@ module _ (g : Setting) (l : Pieces) (base : ℕ) (p : Placement) (place : ℕ �
         let own = h.frame.page 7 (omega arith) in
         (words_stay (pages_of g.notes) (page_word 7) true t (decode_of c.word)
         (h.frame.own.within (page_word 7) own) apart (here.memory.ours.words (page_word 7) own)).1
-        ∙ (here.waits c.slot c.out).2 (there (word_at g.text x.pc) c.is_word)
+        ∙ (here.waits c.slot c.out c.caseless).2 (there (word_at g.text x.pc) c.is_word)
       where
         there : (o : Option ℕ) → option_map (λ word. slice_index g.text.words word) o ≡ Some c.word → o ≢ None
         there None e = λ _. cc
@@ -245,15 +245,15 @@ module _ (g : Setting) (l : Pieces) (base : ℕ) (p : Placement) (place : ℕ �
         onward to fit at multiple (omega (arith, found, low)) (λ b fit2 there waits.
         subst (λ z. Arrives g l base p place f h None z b to 4) (sym no_landing)
         (subst (λ z. Arrives g l base p place f h None [] b z 4) (sym (out none))
-        (leaves piece.0 is b fit2 (there ∙ found ∙ h.laid.starts piece.0 within) x.npc waits (here.waits c.slot c.out).1)))
+        (leaves piece.0 is b fit2 (there ∙ found ∙ h.laid.starts piece.0 within) x.npc waits (here.waits c.slot c.out c.caseless).1)))
 
 pub jump_slots_step : JumpSlotsStep
 jump_slots_step g l base p place f node x t h here c apart =
     marked_step None g l base p place f node x t h here word apart (λ live fit at. (
-      subst (λ z. Arrives g l base p place f h None z (act t (decode_of c.word)) (next_visit g l p f node x t) 24)
+      subst (λ z. Arrives g l base p place f h None z (act t (decode_of c.word)) (next_entry g l p f node x t) 24)
           (sym (c.completes live))
           (lands g l base p place f h node x t here c (judged_moved g.notes x t (decode_of c.word) apart)
-          (next_visit g l p f node x t) fit at (c.lands live) (out live)),
+          (next_entry g l p f node x t) fit at (c.lands live) (out live)),
       λ there none. absurd (there refl),
     )) (λ live w. absurd (unwatched_out live w.out))
   where
@@ -279,7 +279,7 @@ jump_slots_step g l base p place f node x t h here c apart =
     }
 
     -- outside the text the next visit is at the target itself
-    out : (does_at g x t).ending ≡ None → word_at g.text x.npc ≡ None → next_visit g l p f node x t ≡ x.npc
+    out : (does_at g x t).ending ≡ None → word_at g.text x.npc ≡ None → next_entry g l p f node x t ≡ x.npc
     out live none =
         let is : does_at g x t ≡ act (at_point x t) (decode_of c.word) = ap (on_word (at_point x t)) c.is_word in
         let went = goes_act (at_point x t) (decode_of c.word) c.straight (ap (λ (z : State). z.ending) (sym is) ∙ live) in
@@ -287,6 +287,6 @@ jump_slots_step g l base p place f node x t h here c apart =
         let slot : (does_at g x t).slot ≡ NoSlot = ap (λ (z : State). z.slot) is ∙ went.2 in
         let next = node_after (graph_in g) node (gone_at g node x (does_at g x t)) in
         let v = point_of (does_at g x t) in
-        ap (λ z. visited_by g l p f next v (word_at g.text z) (does_at g x t).slot) pc
-        ∙ ap (λ (o : Option ℕ). visited_by g l p f next v o (does_at g x t).slot) none
-        ∙ ap (λ (s : Slot). visited_by g l p f next v None s) slot ∙ pc
+        ap (λ z. place_by l.enter g l p f next v (word_at g.text z) (does_at g x t).slot) pc
+        ∙ ap (λ (o : Option ℕ). place_by l.enter g l p f next v o (does_at g x t).slot) none
+        ∙ ap (λ (s : Slot). place_by l.enter g l p f next v None s) slot ∙ pc

@@ -18,7 +18,7 @@ use Rattle.code_runs.proofs.StoredWords.{other_loaded}
 use Rattle.addr_translate.specs.Lookup.{TableAt}
 use Rattle.layout.specs.Laid.{Placement}
 use Rattle.image_code.specs.Simulates.{Setting}
-use Rattle.image_code.specs.Images.{Frame, HasImages, HasTable, IsFramed}
+use Rattle.image_code.specs.Images.{Frame, HasImages, HasTable, IsFramed, IsTableIn}
 
 pub fetch_is : (m : Memory) (a : ℕ) → fetch_of m a ≡ fetch_from (code_of m) a
 unfolding fetch_of
@@ -46,24 +46,25 @@ table_beside table m b v apart has a from to aligned =
     apart_word (inl below) = inr (omega arith)
     apart_word (inr above) = inl (omega arith)
 
-module _ (g : Setting) (f : Frame) (framed : IsFramed g f) where
-  table_after_all : (ws : List (ℕ × ℕ)) (m : Memory) → AllAt (IsAmongWords f.own) ws → HasTable f.halves m
-      → HasTable f.halves (store_all ws m)
+module _ (g : Setting) (own : List ℕ) (table : TableAt) (framed : IsTableIn g own table) where
+  table_after_all : (ws : List (ℕ × ℕ)) (m : Memory) → AllAt (IsAmongWords own) ws → HasTable table m
+      → HasTable table (store_all ws m)
   table_after_all [] m each has = has
   table_after_all (w ∷ ws) m each has =
-      table_after_all ws (store_word m w.0 w.1) each.1 (table_beside f.halves m w.0 w.1 (framed.apart w.0 each.0) has)
+      table_after_all ws (store_word m w.0 w.1) each.1 (table_beside table m w.0 w.1 (framed.apart w.0 each.0) has)
 
-  table_stored : (m n : Memory) → Stores (IsAmongWords f.own) m n → HasTable f.halves m → HasTable f.halves n
+  table_stored : (m n : Memory) → Stores (IsAmongWords own) m n → HasTable table m → HasTable table n
   table_stored m n stores has =
-      subst (HasTable f.halves) (sym stores.result) (table_after_all stores.writes m stores.each has)
+      subst (HasTable table) (sym stores.result) (table_after_all stores.writes m stores.each has)
 
-  table_stays : (s : State) (x : Instr) → AllApart (pages_of g.notes) (judged_by s x) → HasTable f.halves s.memory
-      → HasTable f.halves (act s x).memory
+  table_stays : (s : State) (x : Instr) → AllApart (pages_of g.notes) (judged_by s x) → HasTable table s.memory
+      → HasTable table (act s x).memory
   table_stays s x apart has a from to aligned =
       let old = has a from to aligned in
-      let new = words_stay (pages_of g.notes) a false s x (framed.table a from to) apart old.0 in
+      let new = words_stay (pages_of g.notes) a false s x (framed.within a from to) apart old.0 in
       (new.0, new.1 ∙ old.1)
 
+module _ (g : Setting) (f : Frame) (framed : IsFramed g f) where
   module _ (base : ℕ) (p : Placement) where
     -- so many steps that stored the editor's words alone
     pub images_stored : (t after : State) (count : ℕ) → run t count ≡ after → Stores (IsAmongWords f.own) t.memory after.memory
@@ -75,7 +76,8 @@ module _ (g : Setting) (f : Frame) (framed : IsFramed g f) where
           code = λ n word at. ap (λ code. fetch_from code (base + 4 * n)) same ∙ has.code n word at;
           only = λ a beside. ap (λ code. fetch_from code a) same ∙ has.only a beside;
           ours = (ours_are_stored (pages_of g.notes) f.own t.memory after.memory has.ours stores).0;
-          table = table_stored t.memory after.memory stores has.table;
+          table = table_stored g f.own f.halves framed.table t.memory after.memory stores has.table;
+          cases = table_stored g f.own f.cases framed.cases t.memory after.memory stores has.cases;
         }
 
     pub same_stored : (m n : Memory) → HasImages g base p f m → Stores (IsAmongWords f.own) m n
@@ -92,5 +94,6 @@ module _ (g : Setting) (f : Frame) (framed : IsFramed g f) where
           code = λ n word at. ap (λ code. fetch_from code (base + 4 * n)) same ∙ has.code n word at;
           only = λ a beside. ap (λ code. fetch_from code a) same ∙ has.only a beside;
           ours = ours_stay (pages_of g.notes) f.own t x framed.own has.ours apart;
-          table = table_stays t x apart has.table;
+          table = table_stays g f.own f.halves framed.table t x apart has.table;
+          cases = table_stays g f.own f.cases framed.cases t x apart has.cases;
         }

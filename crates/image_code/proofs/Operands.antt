@@ -1,10 +1,11 @@
--- The second operand of a JMPL that a word is has a word.
+-- The second operand of a JMPL or of a load that a word is has a word.
 use Rattle.std.proofs.Common.{◌≡◌, ℕ, ◌%◌, Bool, true, false, ◌==◌, [], ◌∷◌, refl, ap, sym, ◌∙◌}
 use Rattle.std.specs.Prelude.{if◌then◌else◌}
 use Rattle.std.proofs.lemmas.Bool.{cond_both}
 use Rattle.v8_decode.specs.declared.Op2.{Op2}
 use Rattle.v8_decode.specs.declared.Instr.{Instr}
 use Rattle.v8_decode.specs.declared.Instr.TheVariants as i
+use Rattle.v8_decode.specs.declared.LoadKind.{LoadKind}
 use Rattle.v8_decode.specs.declared.LoadKind.TheVariants as loads
 use Rattle.v8_decode.specs.declared.StoreKind.TheVariants as stores
 use Rattle.v8_decode.specs.Words.{field, rd_of, op3_of, rs1_of, op2_of, op2_rows, arithmetic_rows, memory_rows, branch_or_sethi, arithmetic, memory, call, load, store, read_state, write_state, even_rd, decode_of}
@@ -12,12 +13,13 @@ use Rattle.v8_decode.proofs.Rows.{Each, row_by_row}
 use Rattle.v8_encode.specs.Encoding.{op2_fits}
 use Rattle.v8_encode.proofs.Fields.{op2_fits-op2_of}
 
-abbrev jump_fits : Instr → Bool
-jump_fits (i.Jmpl rd rs1 op2) = op2_fits op2
-jump_fits _ = true
+abbrev second_fits : Instr → Bool
+second_fits (i.Jmpl rd rs1 op2) = op2_fits op2
+second_fits (i.Load kind rd rs1 op2) = op2_fits op2
+second_fits _ = true
 
 abbrev Fits : Instr → Type 0
-Fits instr = jump_fits instr ≡ true
+Fits instr = second_fits instr ≡ true
 
 read_state_fits : (w : ℕ) → Fits (read_state w)
 read_state_fits w = go (rs1_of w == 0) (rs1_of w == 15) (rd_of w == 0)
@@ -48,7 +50,7 @@ memory_fits : (w : ℕ) → Fits (memory w)
 unfolding memory Each
 memory_fits w =
     row_by_row Fits (op3_of w) w memory_rows refl
-    (search (even_fits (load loads.LDD) w refl, even_fits (store stores.STD) w refl))
+    (search (even_fits (load loads.LDD) w (op2_fits-op2_of w), even_fits (store stores.STD) w refl, op2_fits-op2_of))
 
 format2_fits : (w : ℕ) → Fits (branch_or_sethi w)
 unfolding branch_or_sethi Each
@@ -62,4 +64,8 @@ decoded_fits w =
     ((λ _. format2_fits w), ((λ _. refl), ((λ _. arithmetic_fits w), ((λ _. memory_fits w), tt))))
 
 pub operand_fits : (w rd rs1 : ℕ) (op2 : Op2) → decode_of w ≡ i.Jmpl rd rs1 op2 → op2_fits op2 ≡ true
-operand_fits w rd rs1 op2 says = ap jump_fits (sym says) ∙ decoded_fits w
+operand_fits w rd rs1 op2 says = ap second_fits (sym says) ∙ decoded_fits w
+
+pub load_fits : (w : ℕ) (kind : LoadKind) (rd rs1 : ℕ) (op2 : Op2) → decode_of w ≡ i.Load kind rd rs1 op2
+    → op2_fits op2 ≡ true
+load_fits w kind rd rs1 op2 says = ap second_fits (sym says) ∙ decoded_fits w

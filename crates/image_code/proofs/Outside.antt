@@ -18,8 +18,8 @@ use Rattle.v8_step.specs.Visits.{if_live, in_pages, pages_of, visited}
 use Rattle.cfg_normal.specs.declared.Node.{Node}
 use Rattle.cfg_walk.specs.Walk.{Point}
 use Rattle.layout.specs.Laid.{HasShortForms, Placement}
-use Rattle.image_code.specs.Simulates.{Setting, StepsOn, at_point, does_at, gone_at, number_in, word_of}
-use Rattle.image_code.specs.Images.{Pieces, Frame, Here, IsBeside, IsPlaced, visited_by}
+use Rattle.image_code.specs.Simulates.{Setting, at_point, does_at, gone_at, number_in, word_of, Enters}
+use Rattle.image_code.specs.Images.{Pieces, Frame, Here, IsBeside, IsPlaced, visited_by, Entered}
 use Rattle.image_code.specs.Cases.{visits_it}
 use Rattle.image_code.specs.Outside.{IsForeign, IsOff, ForeignStep, OffsStep}
 use Rattle.image_code.proofs.Memories.{fetch_is}
@@ -56,36 +56,39 @@ module _ (g : Setting) (l : Pieces) (base : ℕ) (p : Placement) (place : ℕ �
   does_is : does_at g x t ≡ trapped (at_point x t) instruction_access_exception
   does_is = ap (on_word (at_point x t)) no_word
 
-  steps : StepsOn g (Here g l base p f) (HasShortForms l.list place) [] node x t (trapped (at_point x t) instruction_access_exception)
+  steps : Enters g (Entered g l base p f) (HasShortForms l.list place) [] node x t (trapped (at_point x t) instruction_access_exception)
   steps = record {
-    count = 1;
-    after = trapped t instruction_access_exception;
-    path = record {
-      steps = unfetched_step t here.live fetched;
-      some = omega arith;
-      few = omega arith;
-      quiet = λ j a b. absurd (omega arith);
+    on = record {
+      count = 1;
+      after = trapped t instruction_access_exception;
+      path = record {
+        steps = unfetched_step t here.live fetched;
+        some = omega arith;
+        few = omega arith;
+        quiet = λ j a b. absurd (omega arith);
+      };
+      puts = λ descriptor. unfetched_puts t descriptor here.live fetched
+          ∙ sym (ap (λ (o : Option ℕ). puts_on_word (at_point x t) o descriptor) no_word);
+      followed = record {
+        ending = refl;
+        window = refl;
+        valid = refl;
+        registers = refl;
+        input = refl;
+        memory = outside_refl (pages_of g.notes) t.memory;
+        items = λ live thing _ _. absurd (cc);
+      };
+      cells = refl;
+      here = λ live. absurd (cc);
+      place = λ _. record { range = refl; page = refl };
+      sparing = λ w. absurd (w.inside none);
     };
-    puts = λ descriptor. unfetched_puts t descriptor here.live fetched
-        ∙ sym (ap (λ (o : Option ℕ). puts_on_word (at_point x t) o descriptor) no_word);
-    followed = record {
-      ending = refl;
-      window = refl;
-      valid = refl;
-      registers = refl;
-      input = refl;
-      memory = outside_refl (pages_of g.notes) t.memory;
-      items = λ live thing _ _. absurd (cc);
-    };
-    cells = refl;
-    here = λ live. absurd (cc);
-    place = λ _. record { range = refl; page = refl };
-    sparing = λ w. absurd (w.inside none);
+    first = λ live _ _ _. absurd (cc);
   }
 
-  ends : StepsOn g (Here g l base p f) (HasShortForms l.list place) (gone_at g node x (does_at g x t)) node x t (does_at g x t)
-  ends = subst (λ (z : State). StepsOn g (Here g l base p f) (HasShortForms l.list place) (gone_at g node x z) node x t z) (sym does_is)
-      (subst (λ z. StepsOn g (Here g l base p f) (HasShortForms l.list place) z node x t (trapped (at_point x t) instruction_access_exception))
+  ends : Enters g (Entered g l base p f) (HasShortForms l.list place) (gone_at g node x (does_at g x t)) node x t (does_at g x t)
+  ends = subst (λ (z : State). Enters g (Entered g l base p f) (HasShortForms l.list place) (gone_at g node x z) node x t z) (sym does_is)
+      (subst (λ z. Enters g (Entered g l base p f) (HasShortForms l.list place) z node x t (trapped (at_point x t) instruction_access_exception))
       (sym (ended_none g node x (trapped (at_point x t) instruction_access_exception) _ refl)) steps)
 
 -- ---- outside a slot

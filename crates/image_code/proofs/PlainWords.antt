@@ -5,7 +5,8 @@ use Rattle.std.specs.List.{flat_map}
 use Rattle.std.specs.Option.{option_map}
 use Rattle.std.proofs.lemmas.Bool.{and_parts, cases_lt, le-ltb, lt-ltb, ltb-true}
 use Rattle.std.proofs.lemmas.List.{length-map}
-use Rattle.eel_base.specs.CodeText.{IsText, Words, address_of, word_at}
+use Rattle.std.proofs.lemmas.Option.{slice_get_within}
+use Rattle.eel_base.specs.CodeText.{Words, address_of, word_at}
 use Rattle.v8_decode.specs.declared.Instr.{Instr}
 use Rattle.v8_decode.specs.declared.Instr.TheVariants as i
 use Rattle.v8_decode.specs.Words.{decode_of}
@@ -14,14 +15,16 @@ use Rattle.v8_step.specs.State.{State}
 use Rattle.v8_step.specs.Step.{act, on_word}
 use Rattle.v8_step.specs.Items.{is_transfer}
 use Rattle.v8_step.proofs.CopiedMoves.{goes_act}
-use Rattle.cfg_blocks.specs.Blocks.{blocks_of, holding_of, last_word}
+use Rattle.cfg_blocks.specs.Blocks.{Blocks, blocks_of, holding_of, last_word}
 use Rattle.cfg_blocks.specs.Ends.{end_at, end_by, is_transfer as ends_block_after, within}
 use Rattle.cfg_blocks.proofs.Targets.{word_at-some}
 use Rattle.cfg_normal.specs.declared.Node.{Node}
-use Rattle.cfg_normal.specs.Graph.{node_of}
+use Rattle.cfg_normal.specs.Nodes.{home_of, same_node}
+use Rattle.cfg_normal.specs.Graph.{IsNodeIn, node_of}
 use Rattle.cfg_walk.specs.Walk.{Point, left_by, node_after, point_of}
 use Rattle.cfg_walk.proofs.Addresses.{next_address, next_word}
-use Rattle.cfg_walk.proofs.Edges.{block}
+use Rattle.cfg_walk.proofs.Cut.{IsCut}
+use Rattle.cfg_walk.proofs.Edges.{block, same_itself}
 use Rattle.cfg_walk.proofs.Holding.{Leads, is_last}
 use Rattle.cfg_walk.proofs.Leaving.{end_is, is_in, node_is}
 use Rattle.jump_code.specs.Pieces.{far_piece}
@@ -29,16 +32,18 @@ use Rattle.layout.specs.declared.items.Item.{Item}
 use Rattle.layout.specs.declared.items.Item.TheVariants as it
 use Rattle.layout.specs.Laid.{Placement, IsLaid, item_at, item_in, items_in, is_jump, size_of}
 use Rattle.image_code.specs.Simulates.{Setting, at_point, does_at, gone_at, graph_in, number_in}
-use Rattle.image_code.specs.Images.{Frame, visited_at}
+use Rattle.image_code.specs.Images.{Frame, entered_at}
 use Rattle.image_code.specs.Cases.{IsFar, IsPlain, JumpsOn, LeadsOn, plain_piece, words_on}
-use Rattle.image_code.specs.Made.{is_slots, jump_to, jumps_at, rest_after}
-use Rattle.image_code.specs.Parts.{edges_before}
+use Rattle.image_code.specs.Made.{is_slots, jump_to, jumps_at, next_at, next_to}
+use Rattle.image_code.specs.Numbered.{enter_number, image_number, node_in_order}
 use Rattle.image_code.proofs.Branches.{image_straight, within_some}
-use Rattle.std.proofs.lemmas.Option.{slice_get_within}
+use Rattle.image_code.proofs.CaseTables.{IsKnown}
 use Rattle.image_code.proofs.EdgePieces.{cut_in}
-use Rattle.image_code.proofs.Listed.{image_at}
-use Rattle.image_code.proofs.Numbers.{left_last}
-use Rattle.image_code.proofs.Visited.{image_items, l, left_gone, visited_none, visited_word, word_is}
+use Rattle.image_code.proofs.Following.{compare_apart, compare_inner, held_next, inner_edges, jump_apart, jump_inner, next_in_order, next_low, some_edge}
+use Rattle.image_code.proofs.ImageNumbers.{HasImage, at_compare, at_jump, enters_in_order, in_order}
+use Rattle.image_code.proofs.ImagePieces.{compare_next, enter_at, jump_next}
+use Rattle.image_code.proofs.Listed.{order_at}
+use Rattle.image_code.proofs.Visited.{entered_none, entered_word, has_its_image, image_items, l, left_gone, visited_word, word_is}
 
 last_one : (n count : ℕ) → within count n ≡ None → count ≤ n
 last_one n count e = elim (cases_lt n count) [
@@ -62,187 +67,282 @@ transfer_end text word (i.Call disp30) e = refl
 transfer_end text word (i.Jmpl rd rs1 op2) e = refl
 transfer_end text word _ e = absurd (cc)
 
-module _ (g : Setting) (codes : ℕ → List ℕ) (is : IsText g.text) (p : Placement) (f : Frame) (base : ℕ)
+module _ (g : Setting) (codes : ℕ → List ℕ) (is : IsKnown g) (p : Placement) (f : Frame) (base : ℕ)
     (place : ℕ → ℕ → ℕ) (laid : IsLaid (l g codes is p f).list base p place)
     (node : Node) (x : Point) (t : State) (word : ℕ) (at : word_at g.text x.pc ≡ Some word) (none : x.slot ≡ NoSlot)
-    (held : node ≡ node_of (blocks_of g.text g.given) (word_at g.text x.pc)) (npc : x.npc ≡ (x.pc + 4) % 2 ^ 32)
+    (held : home_of node ≡ node_of (blocks_of g.text g.given) (word_at g.text x.pc))
+    (there : IsNodeIn (blocks_of g.text g.given) g.switches node) (npc : x.npc ≡ (x.pc + 4) % 2 ^ 32)
     (straight : is_transfer (decode_of (slice_index g.text.words word)) ≡ false) where
-  abbrev rest : List Item
-  rest = rest_after g.text (graph_in g) codes node word (decode_of (slice_index g.text.words word))
+  abbrev b : Blocks
+  b = blocks_of g.text g.given
+
+  abbrev instr : Instr
+  instr = decode_of (slice_index g.text.words word)
 
   -- the edge to the next word, at the end of a block, and its snippet
   abbrev edges : List ℕ
-  edges = left_by (graph_in g) node word (decode_of (slice_index g.text.words word))
+  edges = left_by (graph_in g) node word instr
 
   abbrev code : List Item
   code = words_on (l g codes is p f) edges
 
+  -- the piece of the word's image
+  abbrev number : ℕ
+  number = image_number g.text (graph_in g) node word
+
   low : word < length g.text.words
   low = (word_at-some g.text x.pc word at).within
 
-  found : slice_get (l g codes is p f).list word ≡ Some (plain_piece (record { 0 = address_of g.text word })
-      (number_in g node) (slice_index g.text.words word) rest)
+  cut : IsCut g.text b
+  cut = cut_in g is f.table.base f.cases.base
+
+  in_text : word < b.words
+  in_text = omega (arith, low, cut.words)
+
+  home : home_of node ≡ block (holding_of b word)
+  home = held ∙ ap (node_of b) at ∙ node_is b word in_text
+
+  has : HasImage g.text b g.switches node word
+  has = has_its_image g codes is p f node x word at held there
+
+  abbrev image : List Item → List Item
+  image rest = plain_piece (record { 0 = address_of g.text word }) (number_in g node)
+      (slice_index g.text.words word) rest
+
+  found : slice_get (l g codes is p f).list number
+      ≡ Some (image (code ++ next_at g.text (graph_in g) node word))
   found =
-      image_items g codes is p f node x word at held (decode_of (slice_index g.text.words word)) refl
-      ∙ ap (λ z. Some z) (image_straight g.text (graph_in g) (jumps_at g.text f.table.base) codes
-      (record { 0 = address_of g.text word }) node word (decode_of (slice_index g.text.words word)) straight)
+      image_items g codes is p f node x word at has instr refl
+      ∙ ap (λ z. Some z) (image_straight g.text (graph_in g) (jumps_at g.text f.table.base) f.cases.base codes
+      (record { 0 = address_of g.text word }) node word instr straight)
 
-  -- whether there is a next word, and whether it is reached by a Jump
-  abbrev on : Bool → Bool → List Item
-  on more jumps =
-      if more then (if jumps then jump_to (word + 1) else []) else far_piece (address_of g.text (length g.text.words))
+  -- ---- the next piece
 
-  with_rest : (more jumps : Bool) → nat_lt (word + 1) (length g.text.words) ≡ more → is_slots g.text word ≡ jumps
-      → slice_get (l g codes is p f).list word ≡ Some (plain_piece (record { 0 = address_of g.text word })
-      (number_in g node) (slice_index g.text.words word) (code ++ on more jumps))
-  with_rest more jumps e s =
-      found ∙ ap (λ (t : Bool). Some (plain_piece (record { 0 = address_of g.text word }) (number_in g node)
-      (slice_index g.text.words word) (code ++ on t (is_slots g.text word)))) e
-      ∙ ap (λ (t : Bool). Some (plain_piece (record { 0 = address_of g.text word }) (number_in g node)
-      (slice_index g.text.words word) (code ++ on more t))) s
-
-  ends : word + 1 < length g.text.words → is_slots g.text word ≡ false → slice_get (l g codes is p f).list word
-      ≡ Some (plain_piece (record { 0 = address_of g.text word }) (number_in g node)
-      (slice_index g.text.words word) code)
-  ends more alone =
-      with_rest true false (lt-ltb _ _ more) alone
-      ∙ ap (λ (r : List Item). Some (plain_piece (record { 0 = address_of g.text word }) (number_in g node)
-      (slice_index g.text.words word) r)) (append-nil code)
-
-  -- a slot's word ends its block
-  slot_ends : is_slots g.text word ≡ true → edges ≢ []
-  slot_ends slots none =
-      let before = decode_of (slice_index g.text.words (word - 1)) in
-      let two = and_parts (nat_lt 0 word) (is_transfer (decode_of (slice_index g.text.words (word - 1)))) slots in
-      let some : 0 < word = ltb-true 0 word two.0 in
-      let cut = cut_in g is f.table.base in
-      let words = cut.words in
-      let inside : word < (graph_in g).blocks.words = omega (arith, low, words) in
-      let held_in = is_in g.text (graph_in g).blocks [] cut word inside in
-      let transfer : ends_block_after (end_at g.text (word - 1)) ≡ true =
-      ap ends_block_after (end_is g.text (word - 1) before refl) ∙ transfer_end g.text (word - 1) before two.1 in
-      let next : word - 1 + 2 ≡ suc word = omega (arith, some) in
-      let last : word ≡ last_word (graph_in g).blocks.firsts (graph_in g).blocks.words (holding_of (graph_in g).blocks word) =
-      is_last (graph_in g).blocks.words (graph_in g).blocks.firsts cut.firsts word (holding_of (graph_in g).blocks word) held_in
-      (λ more. subst (λ (n : ℕ). Leads (graph_in g).blocks.firsts n) next
-      (cut.second (word - 1) transfer (omega (arith, more, some)))) in
-      let left : edges ≡ edges_before (graph_in g).blocks (holding_of (graph_in g).blocks word) ∷ [] =
-      ap (λ (n : Node). left_by (graph_in g) n word (decode_of (slice_index g.text.words word)))
-      (held ∙ ap (node_of (graph_in g).blocks) at ∙ node_is (graph_in g).blocks word inside)
-      ∙ ap (λ (n : ℕ). left_by (graph_in g) (block (holding_of (graph_in g).blocks word)) n
-      (decode_of (slice_index g.text.words word))) last
-      ∙ left_last g.text (graph_in g) (record { given = g.given; is = refl }) is.some
-      (holding_of (graph_in g).blocks word) held_in.within (decode_of (slice_index g.text.words word))
-      (ap (λ (n : ℕ). decode_of (slice_index g.text.words n)) (sym last)) straight in
-      cc
-
-  -- so its image may end in a Jump
-  jumps_on : word + 1 < length g.text.words → is_slots g.text word ≡ true → (next : Option ℕ) (to : ℕ)
-      → slice_index p.at (word + 1) ≡ to → JumpsOn (l g codes is p f) p word 3 edges next to
-  jumps_on more slots next to there = record {
-    first = edges;
-    others = [];
-    all = sym (append-nil edges);
-    some = slot_ends slots;
-    apart = inr refl;
-    piece = record { 0 = word + 1 };
-    rest = ap (option_map (drop 3)) (with_rest true true (lt-ltb _ _ more) slots);
-    leads = inl (refl, there);
-  }
-
-  falls : word + 1 < length g.text.words → is_slots g.text word ≡ false
-      → place word (3 + length (flat_map codes edges)) ≡ slice_index p.at (word + 1)
-  falls more alone =
-      let next : word + 1 ≡ suc word = omega arith in
-      let after : suc word < length (l g codes is p f).list = slice_get_within (l g codes is p f).list (suc word) _
-      (image_at g.text (graph_in g) f.table.base codes (suc word) (omega arith)) in
+  -- a piece that ends behind the words of its snippets goes on in the next one
+  next_begins : (k : ℕ) → slice_get (l g codes is p f).list k ≡ Some (image code)
+      → suc k < length (l g codes is p f).list
+      → place k (3 + length (flat_map codes edges)) ≡ slice_index p.at (suc k)
+  next_begins k ends after =
       let many : length code ≡ length (flat_map codes edges) = length-map (flat_map codes edges) it.Word in
-      let size : size_of (l g codes is p f).list word ≡ 3 + length (flat_map codes edges) =
-      ap (λ (v : Option (List Item)). items_in v) (ends more alone)
+      let size : size_of (l g codes is p f).list k ≡ 3 + length (flat_map codes edges) =
+      ap (λ (v : Option (List Item)). items_in v) ends
       ∙ (let e : suc (suc (suc (length code))) ≡ 3 + length (flat_map codes edges) = omega arith in e) in
       let last : 3 + length (flat_map codes edges) - 1 ≡ suc (suc (length (flat_map codes edges))) = omega arith in
-      let closed : is_jump (item_at (l g codes is p f).list word (size_of (l g codes is p f).list word - 1)) ≡ false =
-      ap (λ n. is_jump (item_at (l g codes is p f).list word (n - 1))) size
-      ∙ ap (λ n. is_jump (item_at (l g codes is p f).list word n)) last
-      ∙ ap (λ (v : Option (List Item)). is_jump (item_in v (suc (suc (length (flat_map codes edges)))))) (ends more alone)
+      let closed : is_jump (item_at (l g codes is p f).list k (size_of (l g codes is p f).list k - 1)) ≡ false =
+      ap (λ n. is_jump (item_at (l g codes is p f).list k (n - 1))) size
+      ∙ ap (λ n. is_jump (item_at (l g codes is p f).list k n)) last
+      ∙ ap (λ (v : Option (List Item)). is_jump (item_in v (suc (suc (length (flat_map codes edges)))))) ends
       ∙ ends_without_jump it.EndMark (flat_map codes edges) refl in
-      ap (place word) (sym size) ∙ laid.falls word after closed ∙ sym (laid.starts (suc word) after)
-      ∙ ap (slice_index p.at) (sym next)
+      ap (place k) (sym size) ∙ laid.falls k after closed ∙ sym (laid.starts (suc k) after)
 
-  leaves : length g.text.words ≤ word + 1
-      → option_map (drop 3) (slice_get (l g codes is p f).list word)
-      ≡ Some (code ++ far_piece (address_of g.text (length g.text.words)))
-  leaves last = ap (option_map (drop 3)) (with_rest false (is_slots g.text word) (le-ltb _ _ last) refl)
+  -- where the step leads
+  record Goes (v : State) : Type 0 where
+    pc : v.pc ≡ x.npc
+    slot : v.slot ≡ NoSlot
+    completes : gone_at g node x v ≡ edges
+    reaches : word_at g.text v.pc ≡ within (length g.text.words) (word + 1)
 
-  end_far : IsFar (address_of g.text (length g.text.words))
-  end_far =
-      let a = is.aligned in
-      let h = is.below in
-      (omega arith, omega arith)
+  goes_to : (v : State) → does_at g x t ≡ v → v.ending ≡ None → Goes v
+  goes_to v e live =
+      let same : v ≡ act (at_point x t) instr = sym e ∙ ap (on_word (at_point x t)) (word_is g x word at) in
+      let w = goes_act (at_point x t) instr straight (ap (λ (z : State). z.ending) (sym same) ∙ live) in
+      let pc : v.pc ≡ x.npc = ap (λ (z : State). z.pc) same ∙ w.0 in
+      let slot : v.slot ≡ NoSlot = ap (λ (z : State). z.slot) same ∙ w.2 in
+      record {
+        pc = pc;
+        slot = slot;
+        completes = left_gone g node x v none slot live word at instr refl;
+        reaches = ap (word_at g.text) (pc ∙ npc) ∙ next_word g.text x.pc word is.text
+            (word_at-some g.text x.pc word at);
+      }
 
-  goes : (v : State) → does_at g x t ≡ v → v.ending ≡ None
-      → LeadsOn (l g codes is p f) p place word 3 (gone_at g node x v) (word_at g.text v.pc)
-      (visited_at g (l g codes is p f) p f (node_after (graph_in g) node (gone_at g node x v)) (point_of v))
+  abbrev LeadsFrom : ℕ → List ℕ → State → Type 0
+  LeadsFrom k gone v = LeadsOn (l g codes is p f) p place k 3 gone (word_at g.text v.pc)
+      (entered_at g (l g codes is p f) p f (node_after (graph_in g) node gone) (point_of v))
+
+  -- ---- in the order of the text
+
+  module _ (same : node ≡ node_in_order (graph_in g) word) (is_number : number ≡ word) where
+    -- whether there is a next word, and whether it is reached by a Jump
+    abbrev on : Bool → Bool → List Item
+    on more jumps =
+        if more then (if jumps then jump_to (word + 1) else []) else far_piece (address_of g.text (length g.text.words))
+
+    found_in_order : slice_get (l g codes is p f).list number ≡ Some (image (code ++ next_to g.text word))
+    found_in_order =
+        found ∙ ap (λ (t : Bool). Some (image (code ++ (if t then next_to g.text word else []))))
+        (ap (same_node node) (sym same) ∙ same_itself node)
+
+    with_rest : (more jumps : Bool) → nat_lt (word + 1) (length g.text.words) ≡ more → is_slots g.text word ≡ jumps
+        → slice_get (l g codes is p f).list number ≡ Some (image (code ++ on more jumps))
+    with_rest more jumps e s =
+        found_in_order ∙ ap (λ (t : Bool). Some (image (code ++ on t (is_slots g.text word)))) e
+        ∙ ap (λ (t : Bool). Some (image (code ++ on more t))) s
+
+    ends : word + 1 < length g.text.words → is_slots g.text word ≡ false
+        → slice_get (l g codes is p f).list number ≡ Some (image code)
+    ends more alone =
+        with_rest true false (lt-ltb _ _ more) alone
+        ∙ ap (λ (r : List Item). Some (image r)) (append-nil code)
+
+    -- a slot's word ends its block
+    slot_ends : is_slots g.text word ≡ true → edges ≢ []
+    slot_ends slots =
+        let before = decode_of (slice_index g.text.words (word - 1)) in
+        let two = and_parts (nat_lt 0 word) (is_transfer (decode_of (slice_index g.text.words (word - 1)))) slots in
+        let some : 0 < word = ltb-true 0 word two.0 in
+        let words = cut.words in
+        let held_in = is_in g.text b g.switches cut word in_text in
+        let transfer : ends_block_after (end_at g.text (word - 1)) ≡ true =
+        ap ends_block_after (end_is g.text (word - 1) before refl) ∙ transfer_end g.text (word - 1) before two.1 in
+        let next : word - 1 + 2 ≡ suc word = omega (arith, some) in
+        let last : word ≡ last_word b.firsts b.words (holding_of b word) =
+        is_last b.words b.firsts cut.firsts word (holding_of b word) held_in
+        (λ more. subst (λ (n : ℕ). Leads b.firsts n) next
+        (cut.second (word - 1) transfer (omega (arith, more, some)))) in
+        some_edge g is node word in_text home there straight last
+
+    -- so its image may end in a Jump
+    jumps_on : word + 1 < length g.text.words → is_slots g.text word ≡ true → (next : Option ℕ) (to : ℕ)
+        → slice_index p.at (word + 1) ≡ to → JumpsOn (l g codes is p f) p number 3 edges next to
+    jumps_on more slots next to leads = record {
+      first = edges;
+      others = [];
+      all = sym (append-nil edges);
+      some = slot_ends slots;
+      apart = inr refl;
+      piece = record { 0 = word + 1 };
+      rest = ap (option_map (drop 3)) (with_rest true true (lt-ltb _ _ more) slots);
+      leads = inl (refl, leads);
+    }
+
+    falls : word + 1 < length g.text.words → is_slots g.text word ≡ false
+        → place number (3 + length (flat_map codes edges)) ≡ slice_index p.at (word + 1)
+    falls more alone =
+        let next : suc number ≡ word + 1 = omega (arith, is_number) in
+        let after : suc number < length (l g codes is p f).list =
+        subst (λ (n : ℕ). n < length (l g codes is p f).list) (sym next)
+        (slice_get_within (l g codes is p f).list (word + 1) _
+        (order_at g.text b g.switches is.cased f.table.base f.cases.base codes (word + 1) more)) in
+        next_begins number (ends more alone) after ∙ ap (slice_index p.at) next
+
+    leaves : length g.text.words ≤ word + 1
+        → option_map (drop 3) (slice_get (l g codes is p f).list number)
+        ≡ Some (code ++ far_piece (address_of g.text (length g.text.words)))
+    leaves last = ap (option_map (drop 3)) (with_rest false (is_slots g.text word) (le-ltb _ _ last) refl)
+
+    end_far : IsFar (address_of g.text (length g.text.words))
+    end_far =
+        let a = is.text.aligned in
+        let h = is.text.below in
+        (omega arith, omega arith)
+
+    order_goes : (v : State) → Goes v → LeadsFrom number edges v
+    order_goes v w = by (word_at g.text v.pc) refl
+      where
+        after : Node
+        after = node_after (graph_in g) node edges
+
+        by : (o : Option ℕ) → word_at g.text v.pc ≡ o → LeadsFrom number edges v
+        by None none_there =
+            let last = last_one (word + 1) (length g.text.words) (sym w.reaches ∙ none_there) in
+            let end : word + 1 ≡ length g.text.words = omega (arith, low) in
+            let pc : v.pc ≡ address_of g.text (length g.text.words) =
+            w.pc ∙ npc ∙ ap (λ (a : ℕ). (a + 4) % 2 ^ 32) (word_at-some g.text x.pc word at).is
+            ∙ next_address g.text word is.text low ∙ ap (address_of g.text) end in
+            subst (LeadsOn (l g codes is p f) p place number 3 edges (word_at g.text v.pc))
+            (sym (entered_none g codes is p f after (point_of v) none_there w.slot ∙ pc))
+            (inr (inr (none_there, end_far, leaves last)))
+        by (Some other) some =
+            let next = within_some (length g.text.words) (word + 1) other (sym w.reaches ∙ some) in
+            let on_word : word_at g.text v.pc ≡ Some (word + 1) = some ∙ ap (λ (z : ℕ). Some z) (sym next.1) in
+            let to : slice_index p.at (word + 1) ≡ entered_at g (l g codes is p f) p f after (point_of v) =
+            sym (entered_word g codes is p f after (point_of v) (word + 1) on_word w.slot
+            ∙ ap (λ (n : Node). slice_index p.at (enter_number g.text (graph_in g) n (word + 1)))
+            (next_in_order g is node word in_text home there straight (omega (arith, next.0, cut.words)) same)
+            ∙ ap (slice_index p.at) (enters_in_order g.text b g.switches is.cased (word + 1))) in
+            to_next next.0 to (is_slots g.text word) refl
+          where
+            to_next : word + 1 < length g.text.words
+                → slice_index p.at (word + 1) ≡ entered_at g (l g codes is p f) p f after (point_of v)
+                → (slots : Bool) → is_slots g.text word ≡ slots → LeadsFrom number edges v
+            to_next more to true slots = inr (inl (jumps_on more slots _ _ to))
+            to_next more to false alone = inl (ap (option_map (drop 3)) (ends more alone), falls more alone ∙ to)
+
+  -- ---- apart from it: within its block a word goes on to the next
+
+  module _ (inner : word ≡ last_word b.firsts b.words (holding_of b word) → ⊥)
+      (apart : same_node node (node_in_order (graph_in g) word) ≡ false)
+      (follows : enter_number g.text (graph_in g) node (word + 1) ≡ suc number)
+      (next_has : HasImage g.text b g.switches node (word + 1)) where
+    nothing : edges ≡ []
+    nothing = inner_edges g is node word in_text home there straight inner
+
+    more : word + 1 < length g.text.words
+    more = omega (arith, next_low g is node word in_text home there straight inner, cut.words)
+
+    ends_apart : slice_get (l g codes is p f).list number ≡ Some (image code)
+    ends_apart =
+        found ∙ ap (λ (t : Bool). Some (image (code ++ (if t then next_to g.text word else [])))) apart
+        ∙ ap (λ (r : List Item). Some (image r)) (append-nil code)
+
+    falls_apart : place number (3 + length (flat_map codes edges))
+        ≡ slice_index p.at (enter_number g.text (graph_in g) node (word + 1))
+    falls_apart =
+        let next = enter_at g is f.table.base f.cases.base codes node (word + 1) more next_has in
+        let after : suc number < length (l g codes is p f).list =
+        slice_get_within (l g codes is p f).list (suc number) _
+        (ap (slice_get (l g codes is p f).list) (sym follows) ∙ next.1) in
+        next_begins number ends_apart after ∙ ap (slice_index p.at) (sym follows)
+
+    apart_goes : (v : State) → Goes v → LeadsFrom number edges v
+    apart_goes v w =
+        let on_word : word_at g.text v.pc ≡ Some (word + 1) =
+        w.reaches ∙ ap (λ (t : Bool). if t then Some (word + 1) else None) (lt-ltb _ _ more) in
+        inl (
+          ap (option_map (drop 3)) ends_apart,
+          falls_apart
+              ∙ ap (λ (n : Node). slice_index p.at (enter_number g.text (graph_in g) n (word + 1)))
+              (sym (ap (node_after (graph_in g) node) nothing))
+              ∙ sym (entered_word g codes is p f (node_after (graph_in g) node edges) (point_of v)
+              (word + 1) on_word w.slot),
+        )
+
+  by_image : HasImage g.text b g.switches node word → (v : State) → Goes v → LeadsFrom number edges v
+  by_image (in_order same is_number enter) v w = order_goes same is_number v w
+  by_image (at_jump k o numbered e here block_is) v w =
+      let inner = jump_inner g is node word in_text home there straight k o e block_is in
+      let inside = is_in g.text b g.switches cut word in_text in
+      apart_goes inner
+      (jump_apart g is node word in_text home there straight k o e here block_is)
+      (jump_next g is f.table.base f.cases.base codes k o node word numbered e here
+      (subst (λ (n : ℕ). slice_index b.firsts n ≤ word) block_is inside.above))
+      (at_jump k o numbered e here (held_next g is node word in_text home there straight inner ∙ block_is)) v w
+  by_image (at_compare k o numbered e here block_is) v w =
+      let inner = compare_inner g is node word in_text home there straight k o e block_is in
+      let inside = is_in g.text b g.switches cut word in_text in
+      apart_goes inner
+      (compare_apart g is node word in_text home there straight k o e here block_is)
+      (compare_next g is f.table.base f.cases.base codes k o node word numbered e here
+      (subst (λ (n : ℕ). slice_index b.firsts n ≤ word) block_is inside.above))
+      (at_compare k o numbered e here (held_next g is node word in_text home there straight inner ∙ block_is)) v w
+
+  goes : (v : State) → does_at g x t ≡ v → v.ending ≡ None → LeadsFrom number (gone_at g node x v) v
   goes v e live =
-      subst (λ (gone : List ℕ). LeadsOn (l g codes is p f) p place word 3 gone (word_at g.text v.pc)
-      (visited_at g (l g codes is p f) p f (node_after (graph_in g) node (gone_at g node x v)) (point_of v)))
-      (sym completes) (by (word_at g.text v.pc) refl)
-    where
-      same : v ≡ act (at_point x t) (decode_of (slice_index g.text.words word))
-      same = sym e ∙ ap (on_word (at_point x t)) (word_is g codes is p f x word at)
-
-      went : (v.pc ≡ x.npc) × (v.slot ≡ NoSlot)
-      went =
-          let w = goes_act (at_point x t) (decode_of (slice_index g.text.words word)) straight
-          (ap (λ (z : State). z.ending) (sym same) ∙ live) in
-          (ap (λ (z : State). z.pc) same ∙ w.0, ap (λ (z : State). z.slot) same ∙ w.2)
-
-      there : word_at g.text v.pc ≡ within (length g.text.words) (word + 1)
-      there = ap (word_at g.text) (went.0 ∙ npc) ∙ next_word g.text x.pc word is (word_at-some g.text x.pc word at)
-
-      after : Node
-      after = node_after (graph_in g) node (gone_at g node x v)
-
-      completes : gone_at g node x v ≡ edges
-      completes =
-          left_gone g codes is p f node x v none went.1 live word at (decode_of (slice_index g.text.words word)) refl
-
-      by : (o : Option ℕ) → word_at g.text v.pc ≡ o
-          → LeadsOn (l g codes is p f) p place word 3 edges (word_at g.text v.pc) (visited_at g (l g codes is p f) p f after (point_of v))
-      by None none_there =
-          let last = last_one (word + 1) (length g.text.words) (sym there ∙ none_there) in
-          let end : word + 1 ≡ length g.text.words = omega (arith, low) in
-          let pc : v.pc ≡ address_of g.text (length g.text.words) =
-          went.0 ∙ npc ∙ ap (λ (a : ℕ). (a + 4) % 2 ^ 32) (word_at-some g.text x.pc word at).is
-          ∙ next_address g.text word is low ∙ ap (address_of g.text) end in
-          subst (LeadsOn (l g codes is p f) p place word 3 edges (word_at g.text v.pc))
-          (sym (visited_none g codes is p f after (point_of v) none_there went.1 ∙ pc))
-          (inr (inr (none_there, end_far, leaves last)))
-      by (Some other) some =
-          let next = within_some (length g.text.words) (word + 1) other (sym there ∙ some) in
-          let to : slice_index p.at (word + 1) ≡ visited_at g (l g codes is p f) p f after (point_of v) =
-          ap (slice_index p.at) next.1 ∙ sym (visited_word g codes is p f after (point_of v) other some went.1) in
-          to_next next.0 to (is_slots g.text word) refl
-        where
-          to_next : word + 1 < length g.text.words
-              → slice_index p.at (word + 1) ≡ visited_at g (l g codes is p f) p f after (point_of v)
-              → (slots : Bool) → is_slots g.text word ≡ slots
-              → LeadsOn (l g codes is p f) p place word 3 edges (word_at g.text v.pc)
-              (visited_at g (l g codes is p f) p f after (point_of v))
-          to_next more to true slots = inr (inl (jumps_on more slots _ _ to))
-          to_next more to false alone = inl (ap (option_map (drop 3)) (ends more alone), falls more alone ∙ to)
+      let w = goes_to v e live in
+      subst (λ (gone : List ℕ). LeadsFrom number gone v) (sym w.completes) (by_image has v w)
 
   pub plain_is : IsPlain g (l g codes is p f) p place f node x t
   plain_is = record {
-    piece = word;
-    within = slice_get_within (l g codes is p f).list word _ found;
+    piece = number;
+    within = slice_get_within (l g codes is p f).list number _ found;
     here = visited_word g codes is p f node x word at none;
     address = record { 0 = address_of g.text word };
     original = sym (word_at-some g.text x.pc word at).is;
     word = slice_index g.text.words word;
-    is_word = word_is g codes is p f x word at;
+    is_word = word_is g x word at;
     straight = straight;
-    rest = rest;
+    rest = code ++ next_at g.text (graph_in g) node word;
     items = found;
     leads = λ live. goes (does_at g x t) refl live;
   }

@@ -1,330 +1,470 @@
--- How many of the pieces' words are those of snippets: each edge's once, but a landing's once for each word of its
--- block.
-use Rattle.std.proofs.Common.{◌≡◌, ℕ, zero, suc, ◌+◌, ◌-◌, ◌*◌, ◌<◌, ◌≤◌, Bool, true, false, Some, List, [], ◌∷◌, ◌++◌, append-nil, length, map, refl, ap, sym, ◌∙◌, subst, arith}
+-- How many of the pieces' words are those of snippets: each edge's once, but a landing's once for each word that lands
+-- there, and a Case edge's once for each entry that does.
+use Rattle.std.proofs.Common.{◌≡◌, ℕ, zero, suc, ◌+◌, ◌*◌, ◌<◌, ◌≤◌, Bool, true, false, ◌&&◌, ◌==◌, cond, Some, List, [], ◌∷◌, ◌++◌, length, map, take, refl, ap, sym, ◌∙◌, subst, arith, inl, inr}
 use Rattle.std.specs.Prelude.{if◌then◌else◌, slice_index}
-use Rattle.std.specs.List.{flat_map, sum_by}
-use native.Mathlib.Nat.{suc-mul}
-use Rattle.std.proofs.lemmas.Grind.{flat_map-append}
-use Rattle.std.proofs.lemmas.List.Sums.{sum_by-append}
-use Rattle.std.proofs.lemmas.List.{length-map, map-append}
-use Rattle.cfg_blocks.proofs.Below.{length-below}
+use Rattle.std.specs.List.{count_by, position, sum_by}
+use Rattle.std.specs.Option.{option_to_list}
+use native.Mathlib.Nat.{mul-le-mul_left, mul-le-mul_right, mul_left_comm}
+use Rattle.std.proofs.lemmas.Bool.{and_parts, and_right, cases_eq, cases_lt, eqb-true, false≢true, le-ltb, ne_eqb}
+use Rattle.std.proofs.lemmas.List.Sums.{sum_by-append, sum_by-cons}
 use Rattle.eel_base.specs.CodeText.{Words}
 use Rattle.v8_decode.specs.declared.Instr.{Instr}
 use Rattle.v8_decode.specs.Words.{decode_of}
 use Rattle.v8_step.specs.Items.{is_transfer}
+use Rattle.cfg_blocks.specs.declared.EdgeKind.{EdgeKind}
 use Rattle.cfg_blocks.specs.declared.EdgeKind.TheVariants as kinds
-use Rattle.cfg_blocks.specs.Blocks.{Blocks, below, block_end, last_word, size_of}
+use Rattle.cfg_blocks.specs.Blocks.{below, holding_of, last_word, size_of}
 use Rattle.cfg_blocks.specs.Entries.{is_fall}
 use Rattle.cfg_normal.specs.declared.Edge.{Edge}
 use Rattle.cfg_normal.specs.declared.Node.{Node}
-use Rattle.cfg_normal.specs.Graph.{Graph, edges_of, node_of}
-use Rattle.cfg_walk.specs.Walk.{landing_at as landing_from, left_by, same_kind}
-use Rattle.cfg_walk.proofs.Holding.{some_words}
-use Rattle.cfg_walk.proofs.Lists.{Each}
-use Rattle.cfg_walk.proofs.NoneOpen.{block_landing}
+use Rattle.cfg_normal.specs.declared.Node.TheVariants.{Block, Landed, X}
+use Rattle.cfg_normal.specs.Nodes.{same_kind, same_node}
+use Rattle.cfg_normal.specs.Opens.{Open, targets_in}
+use Rattle.cfg_normal.specs.Graph.{Graph, IsNodeIn, lands}
+use Rattle.cfg_walk.specs.Walk.{edge_along, edge_from, ends_block, landing_at, left_by}
+use Rattle.cfg_walk.proofs.Edges.{block, copy, same_itself, same_nodes}
+use Rattle.cfg_walk.proofs.Holding.{IsIn, ends_within, in_held, some_words}
+use Rattle.cfg_walk.proofs.Leaving.{straight_left}
+use Rattle.cfg_walk.proofs.Lists.{Each, each, each-below}
+use Rattle.cfg_walk.proofs.Nodes.{lands_as}
 use Rattle.snippets.specs.declared.snippet.Op.{Op}
 use Rattle.image_code.specs.Simulates.{snippet_on}
-use Rattle.image_code.specs.Made.{own_edges}
-use Rattle.image_code.specs.Parts.{IsGraphOf, begin_of, edges_before}
-use Rattle.image_code.specs.Fit.{AreShort, copies_of, operations_from, operations_in, words_in}
-use Rattle.image_code.proofs.Numbers.{all_are, begin_after, begin_at, begin_first, begin_last, block_home, cut_of, landing_edge, left_inside, left_last, only_fall, own_are, own_no_landings}
-
-abbrev pub code_length : (ℕ → List ℕ) → List ℕ → ℕ
-code_length codes edges = length (flat_map codes edges)
+use Rattle.image_code.specs.Numbered.{node_in_order, own_edges}
+use Rattle.image_code.specs.Fit.{AreShort, copies_of, is_at, operations_from, operations_in, targets_from, words_at}
+use Rattle.image_code.proofs.OpenBlocks.{IsTextGraph}
+use Rattle.image_code.proofs.OpenSums.{code_length, count_le, count_none, count_one, count_within, uses, uses_cover}
 
 -- ---- the words of snippets in the pieces
 
-abbrev pub code_by : Graph → (ℕ → List ℕ) → ℕ → Instr → ℕ
-code_by graph codes word instr =
-    if is_transfer instr then 0
-    else code_length codes (left_by graph (node_of graph.blocks (Some word)) word instr)
+-- in the image of a word at a node
+abbrev pub code_by : Graph → (ℕ → List ℕ) → Node → ℕ → Instr → ℕ
+code_by graph codes node word instr =
+    if is_transfer instr then 0 else code_length codes (left_by graph node word instr)
 
--- in the image of a word
-abbrev pub image_code : Words → Graph → (ℕ → List ℕ) → ℕ → ℕ
-image_code text graph codes word = code_by graph codes word (decode_of (slice_index text.words word))
+abbrev pub image_code : Words → Graph → (ℕ → List ℕ) → Node → ℕ → ℕ
+image_code text graph codes node word = code_by graph codes node word (decode_of (slice_index text.words word))
+
+-- among the images in the order of the text
+abbrev pub order_code : Words → Graph → (ℕ → List ℕ) → ℕ → ℕ
+order_code text graph codes word = image_code text graph codes (node_in_order graph word) word
 
 -- at a landing
 abbrev pub landing_code : Graph → (ℕ → List ℕ) → ℕ → ℕ
-landing_code graph codes word = code_length codes (landing_from graph (node_of graph.blocks (Some word)))
+landing_code graph codes word = code_length codes (landing_at graph (lands graph (Some word)))
 
--- on the way along an edge, and in the image before an edge
+-- on the way along an edge
+abbrev way_kind : EdgeKind → ℕ → ℕ
+way_kind kind words = if is_fall kind then 0 else if same_kind kind kinds.Case then 0 else words
+
 abbrev pub way_code : (ℕ → List ℕ) → ℕ → Edge → ℕ
-way_code codes number edge = if is_fall edge.kind then 0 else length (codes number)
-
-abbrev fall_code : (ℕ → List ℕ) → ℕ → Edge → ℕ
-fall_code codes number edge = if is_fall edge.kind then length (codes number) else 0
+way_code codes number edge = way_kind edge.kind (length (codes number))
 
 abbrev pub ways_code : (ℕ → List ℕ) → ℕ → List Edge → ℕ
 ways_code codes number [] = 0
 ways_code codes number (edge ∷ edges) = way_code codes number edge + ways_code codes (suc number) edges
 
-abbrev pub falls_code : (ℕ → List ℕ) → ℕ → List Edge → ℕ
-falls_code codes number [] = 0
-falls_code codes number (edge ∷ edges) = fall_code codes number edge + falls_code codes (suc number) edges
+-- along the Case edge of a switch to a word
+abbrev pub case_edge : Graph → Open → ℕ → List ℕ
+case_edge graph o word =
+    edge_along graph (block o.block) (record { kind = kinds.Case; to = Some (lands graph (Some word)) })
 
-one_of_both : (fall : Bool) (n : ℕ) → (if fall then n else 0) + (if fall then 0 else n) ≡ n
-one_of_both true n = omega arith
-one_of_both false n = omega arith
+abbrev pub case_code : Graph → (ℕ → List ℕ) → Open × ℕ → ℕ
+case_code graph codes entry = code_length codes (case_edge graph entry.0 entry.1)
 
-module _ (b : Blocks) (snips : List (List Op)) (codes : ℕ → List ℕ) (short : AreShort snips codes) where
-  pub both_few : (number : ℕ) (edges : List Edge) → Each (λ edge. same_kind edge.kind kinds.Land ≡ false) edges
-      → falls_code codes number edges + ways_code codes number edges ≤ 22 * operations_from b snips number edges
-  both_few number [] own = omega arith
-  both_few number (edge ∷ edges) own =
-      let one : copies_of b edge * length (snippet_on snips number) ≡ length (snippet_on snips number) =
-      ap (λ (t : Bool). (if t then words_in b edge.to else 1) * length (snippet_on snips number)) own.0
-      ∙ (let e : 1 * length (snippet_on snips number) ≡ length (snippet_on snips number) = omega arith in e) in
+-- the entries of some switches
+abbrev pub entries_in : List Open → List (Open × ℕ)
+entries_in [] = []
+entries_in (o ∷ opens) = map (λ word. (o, word)) o.targets ++ entries_in opens
+
+same_turned : (one other : Node) → same_node one other ≡ true → same_node other one ≡ true
+same_turned one other e = ap (same_node other) (same_nodes one other e) ∙ same_itself other
+
+count-map : {A B : Type 0} (p : B → Bool) (f : A → B) (xs : List A) → count_by p (map f xs) ≡ count_by (λ x. p (f x)) xs
+count-map p f [] = refl
+count-map p f (x ∷ xs) =
+    omega (
+      arith,
+      sum_by-cons (λ y. cond (p y) 1 0) (f x) (map f xs),
+      sum_by-cons (λ y. cond (p (f y)) 1 0) x xs,
+      count-map p f xs,
+    )
+
+eqb-turned : (m n : ℕ) → (m == n) ≡ (n == m)
+eqb-turned m n = elim (cases_eq m n) [
+  | inl e ↦ rw e refl
+  | inr other ↦ ne_eqb m n other ∙ sym (ne_eqb n m (λ e. other (sym e)))
+]
+
+-- ---- how often an edge is found
+
+module _ (text : Words) (graph : Graph) (codes : ℕ → List ℕ) where
+  -- ---- behind the last word of a block
+
+  abbrev falls : ℕ → Edge → Bool
+  falls word edge =
+      ends_block graph (node_in_order graph word) word
+      && (same_node edge.from (node_in_order graph word) && same_kind edge.kind kinds.Fall)
+
+  order_cover : (word : ℕ)
+      → order_code text graph codes word ≤ code_length codes (option_to_list (position (falls word) graph.edges))
+  order_cover word =
+      by (decode_of (slice_index text.words word)) (is_transfer (decode_of (slice_index text.words word))) refl
+    where
+      found : (t : Bool)
+          → code_length codes (if t then edge_from graph (node_in_order graph word) kinds.Fall else [])
+          ≤ code_length codes (option_to_list (position (λ (edge : Edge). t
+          && (same_node edge.from (node_in_order graph word) && same_kind edge.kind kinds.Fall)) graph.edges))
+      found true = omega arith
+      found false = omega arith
+
+      by : (instr : Instr) (t : Bool) → is_transfer instr ≡ t
+          → code_by graph codes (node_in_order graph word) word instr
+          ≤ code_length codes (option_to_list (position (falls word) graph.edges))
+      by instr true e = rw e (omega arith)
+      by instr false e =
+          rw (e, straight_left graph (node_in_order graph word) word instr e)
+          (found (ends_block graph (node_in_order graph word) word))
+
+  last_of : Node → ℕ
+  last_of (Block k) = last_word graph.blocks.firsts graph.blocks.words k.0
+  last_of (Landed k) = last_word graph.blocks.firsts graph.blocks.words k.0
+  last_of X = 0
+
+  ends_last : (node : Node) (word : ℕ) → ends_block graph node word ≡ true → (word == last_of node) ≡ true
+  unfolding last_of
+  ends_last (Block k) word e = e
+  ends_last (Landed k) word e = e
+  ends_last X word e = absurd (false≢true e)
+
+  falls_count : (edge : Edge) → count_by (λ word. falls word edge) (below (length text.words))
+      ≤ (if same_kind edge.kind kinds.Fall then 1 else 0)
+  falls_count edge = by (same_kind edge.kind kinds.Fall) refl
+    where
+      by : (t : Bool) → same_kind edge.kind kinds.Fall ≡ t
+          → count_by (λ word. falls word edge) (below (length text.words)) ≤ (if t then 1 else 0)
+      by false e =
+          omega (
+            arith,
+            count_none (λ word. falls word edge) (below (length text.words))
+                (each _ (below (length text.words)) (λ word.
+                and_right (ends_block graph (node_in_order graph word) word)
+                (same_node edge.from (node_in_order graph word) && same_kind edge.kind kinds.Fall)
+                (and_right (same_node edge.from (node_in_order graph word)) (same_kind edge.kind kinds.Fall) e))),
+          )
+      by true e =
+          omega (
+            arith,
+            count_le (λ word. falls word edge) (λ word. word == last_of edge.from) (below (length text.words))
+                (λ word h.
+                let one = and_parts (ends_block graph (node_in_order graph word) word)
+                (same_node edge.from (node_in_order graph word) && same_kind edge.kind kinds.Fall) h in
+                let two = and_parts (same_node edge.from (node_in_order graph word))
+                (same_kind edge.kind kinds.Fall) one.1 in
+                ap (λ (n : Node). word == last_of n) (same_nodes edge.from (node_in_order graph word) two.0)
+                ∙ ends_last (node_in_order graph word) word one.0),
+            (count_one (last_of edge.from) (length text.words)).1,
+          )
+
+  -- ---- at landings
+
+  abbrev lands_there : ℕ → Edge → Bool
+  lands_there word edge = same_node edge.to (lands graph (Some word)) && same_kind edge.kind kinds.Land
+
+  module _ (g : IsTextGraph text graph) where
+    -- where a run lands at a node, the word stands in the node's block
+    outside : (word : ℕ) → length text.words ≤ word → lands graph (Some word) ≡ X
+    outside word past =
+        rw (le-ltb word graph.blocks.words (omega (arith, past, g.cut.words))) refl
+
+    -- the word stands in the block
+    abbrev StandsIn : ℕ → ℕ → Type 0
+    StandsIn k word =
+        (slice_index graph.blocks.firsts k ≤ word)
+        × (word < slice_index graph.blocks.firsts k + size_of graph.blocks k)
+
+    in_block : (k word : ℕ) → IsIn graph.blocks.words graph.blocks.firsts word k → StandsIn k word
+    in_block k word is = (is.above, omega (arith, is.above, is.below))
+
+    at_block : (k word : ℕ) → same_node (lands graph (Some word)) (block k) ≡ true → StandsIn k word
+    at_block k word e = elim (cases_lt word (length text.words)) [
+      | inl l ↦
+          let low : word < graph.blocks.words = omega (arith, g.cut.words) in
+          let held = in_held graph.blocks.words graph.blocks.firsts g.cut.firsts word low in
+          lands_as graph.blocks graph.opens word low (λ (n : Node). same_node n (block k) ≡ true → StandsIn k word)
+          (λ _ h. absurd (false≢true h))
+          (λ _ h. in_block k word (subst (λ (j : ℕ). IsIn graph.blocks.words graph.blocks.firsts word j)
+          (eqb-true (holding_of graph.blocks word) k h) held)) e
+      | inr m ↦ absurd (false≢true (sym (ap (λ (n : Node). same_node n (block k)) (outside word m)) ∙ e))
+    ]
+
+    at_copy : (k word : ℕ) → same_node (lands graph (Some word)) (copy k) ≡ true → StandsIn k word
+    at_copy k word e = elim (cases_lt word (length text.words)) [
+      | inl l ↦
+          let low : word < graph.blocks.words = omega (arith, g.cut.words) in
+          let held = in_held graph.blocks.words graph.blocks.firsts g.cut.firsts word low in
+          lands_as graph.blocks graph.opens word low (λ (n : Node). same_node n (copy k) ≡ true → StandsIn k word)
+          (λ _ h. in_block k word (subst (λ (j : ℕ). IsIn graph.blocks.words graph.blocks.firsts word j)
+          (eqb-true (holding_of graph.blocks word) k h) held))
+          (λ _ h. absurd (false≢true h)) e
+      | inr m ↦ absurd (false≢true (sym (ap (λ (n : Node). same_node n (copy k)) (outside word m)) ∙ e))
+    ]
+
+    block_end_within : (k : ℕ) → k < length graph.blocks.firsts
+        → slice_index graph.blocks.firsts k + size_of graph.blocks k ≤ length text.words
+    block_end_within k l =
+        omega (
+          arith,
+          some_words graph.blocks.words graph.blocks.firsts g.cut.firsts k l,
+          ends_within graph.blocks.words graph.blocks.firsts g.cut.firsts k l,
+          g.cut.words,
+        )
+
+    node_count : (node : Node) → IsNodeIn graph.blocks graph.opens node
+        → count_by (is_at graph node) (below (length text.words)) ≤ count_by (is_at graph node) (words_at graph node)
+    node_count (Block k) l =
+        count_within (is_at graph (Block k)) (length text.words) (slice_index graph.blocks.firsts k.0)
+        (size_of graph.blocks k.0) (block_end_within k.0 l) (at_block k.0)
+    node_count (Landed k) l =
+        count_within (is_at graph (Landed k)) (length text.words) (slice_index graph.blocks.firsts k.0)
+        (size_of graph.blocks k.0) (block_end_within k.0 l.0) (at_copy k.0)
+    node_count X l =
+        omega (
+          arith,
+          count_none (is_at graph X) (below (length text.words)) (each-below (λ word. is_at graph X word ≡ false)
+              (length text.words) (λ word low.
+              lands_as graph.blocks graph.opens word (omega (arith, low, g.cut.words))
+              (λ (n : Node). same_node n X ≡ false)
+              (λ _. refl) (λ _. refl))),
+        )
+
+    landings_count : (edge : Edge) → IsNodeIn graph.blocks graph.opens edge.to
+        → count_by (λ word. lands_there word edge) (below (length text.words))
+        ≤ (if same_kind edge.kind kinds.Land then count_by (is_at graph edge.to) (words_at graph edge.to) else 0)
+    landings_count edge inside = by (same_kind edge.kind kinds.Land) refl
+      where
+        by : (t : Bool) → same_kind edge.kind kinds.Land ≡ t
+            → count_by (λ word. lands_there word edge) (below (length text.words))
+            ≤ (if t then count_by (is_at graph edge.to) (words_at graph edge.to) else 0)
+        by false e =
+            omega (
+              arith,
+              count_none (λ word. lands_there word edge) (below (length text.words))
+                  (each _ (below (length text.words)) (λ word.
+                  and_right (same_node edge.to (lands graph (Some word))) (same_kind edge.kind kinds.Land) e)),
+            )
+        by true e =
+            omega (
+              arith,
+              count_le (λ word. lands_there word edge) (is_at graph edge.to) (below (length text.words)) (λ word h.
+                  same_turned edge.to (lands graph (Some word))
+                  (and_parts (same_node edge.to (lands graph (Some word))) (same_kind edge.kind kinds.Land) h).0),
+              node_count edge.to inside,
+            )
+
+  -- ---- by entries
+
+  abbrev leads_there : Node → Node → Bool → Open × ℕ → Bool
+  leads_there from to is_case entry =
+      same_node to (lands graph (Some entry.1)) && (same_node from (block entry.0.block) && is_case)
+
+  abbrev chooses : Open × ℕ → Edge → Bool
+  chooses entry edge = leads_there edge.from edge.to (same_kind edge.kind kinds.Case) entry
+
+  cases_from_block : (k : ℕ) (to : Node) (opens : List Open)
+      → count_by (leads_there (block k) to true) (entries_in opens) ≤ count_by (is_at graph to) (targets_in opens k)
+  cases_from_block k to [] = omega arith
+  cases_from_block k to (o ∷ opens) =
       omega (
         arith,
-        one,
-        one_of_both (is_fall edge.kind) (length (codes number)),
-        short.short number,
-        both_few (suc number) edges own.1,
+        sum_by-append (λ (x : Open × ℕ). cond (leads_there (block k) to true x) 1 0) (map (λ word. (o, word)) o.targets)
+            (entries_in opens),
+        sum_by-append (λ word. cond (is_at graph to word) 1 0) (if o.block == k then o.targets else [])
+            (targets_in opens k),
+        count-map (leads_there (block k) to true) (λ (word : ℕ). (o, word)) o.targets,
+        here (o.block == k) refl,
+        cases_from_block k to opens,
       )
+    where
+      here : (t : Bool) → (o.block == k) ≡ t → count_by (λ word. leads_there (block k) to true (o, word)) o.targets
+          ≤ count_by (is_at graph to) (if t then o.targets else [])
+      here true e =
+          count_le (λ word. leads_there (block k) to true (o, word)) (is_at graph to) o.targets (λ word h.
+          same_turned to (lands graph (Some word)) (and_parts (same_node to (lands graph (Some word))) _ h).0)
+      here false e =
+          omega (
+            arith,
+            count_none (λ word. leads_there (block k) to true (o, word)) o.targets (each _ o.targets (λ word.
+                and_right (same_node to (lands graph (Some word))) ((k == o.block) && true)
+                (ap (λ (t : Bool). t && true) (eqb-turned k o.block ∙ e)))),
+          )
 
-pub operations-append : (b : Blocks) (snips : List (List Op)) (number : ℕ) (edges others : List Edge)
-    → operations_from b snips number (edges ++ others)
-    ≡ operations_from b snips number edges + operations_from b snips (number + length edges) others
-operations-append b snips number [] others =
-    let e : number ≡ number + 0 = omega arith in
-    ap (λ (n : ℕ). operations_from b snips n others) e
-    ∙ (let z : operations_from b snips (number + 0) others ≡ 0 + operations_from b snips (number + 0) others =
-    omega arith in z)
-operations-append b snips number (edge ∷ edges) others =
-    let next : suc number + length edges ≡ number + suc (length edges) = omega arith in
-    let rest = operations-append b snips (suc number) edges others in
-    let same : operations_from b snips (suc number + length edges) others
-    ≡ operations_from b snips (number + suc (length edges)) others =
-    ap (λ (n : ℕ). operations_from b snips n others) next in
-    omega arith
+  cases_count : (edge : Edge) → count_by (λ entry. chooses entry edge) (entries_in graph.opens)
+      ≤ (if same_kind edge.kind kinds.Case then count_by (is_at graph edge.to) (targets_from graph edge.from) else 0)
+  cases_count edge = by (same_kind edge.kind kinds.Case)
+    where
+      none : (from : Node) → ((o : Open) → same_node from (block o.block) ≡ false)
+          → count_by (leads_there from edge.to true) (entries_in graph.opens) ≡ 0
+      none from apart =
+          count_none (leads_there from edge.to true) (entries_in graph.opens) (each _ (entries_in graph.opens) (λ entry.
+          and_right (same_node edge.to (lands graph (Some entry.1))) (same_node from (block entry.0.block) && true)
+          (ap (λ (t : Bool). t && true) (apart entry.0))))
 
-falls-append : (codes : ℕ → List ℕ) (number : ℕ) (edges others : List Edge)
-    → falls_code codes number (edges ++ others)
-    ≡ falls_code codes number edges + falls_code codes (number + length edges) others
-falls-append codes number [] others =
-    let e : number ≡ number + 0 = omega arith in
-    ap (λ (n : ℕ). falls_code codes n others) e
-    ∙ (let z : falls_code codes (number + 0) others ≡ 0 + falls_code codes (number + 0) others = omega arith in z)
-falls-append codes number (edge ∷ edges) others =
-    let next : suc number + length edges ≡ number + suc (length edges) = omega arith in
-    let rest = falls-append codes (suc number) edges others in
-    let same : falls_code codes (suc number + length edges) others
-    ≡ falls_code codes (number + suc (length edges)) others = ap (λ (n : ℕ). falls_code codes n others) next in
-    omega arith
+      leaving : (from : Node) → count_by (leads_there from edge.to true) (entries_in graph.opens)
+          ≤ count_by (is_at graph edge.to) (targets_from graph from)
+      leaving (Block k) = cases_from_block k.0 edge.to graph.opens
+      leaving (Landed k) = omega (arith, none (Landed k) (λ o. refl))
+      leaving X = omega (arith, none X (λ o. refl))
 
--- ---- sums over words
+      by : (t : Bool) → count_by (leads_there edge.from edge.to t) (entries_in graph.opens)
+          ≤ (if t then count_by (is_at graph edge.to) (targets_from graph edge.from) else 0)
+      by true = leaving edge.from
+      by false =
+          omega (
+            arith,
+            count_none (leads_there edge.from edge.to false) (entries_in graph.opens)
+                (each _ (entries_in graph.opens) (λ entry.
+                and_right (same_node edge.to (lands graph (Some entry.1)))
+                (same_node edge.from (block entry.0.block) && false)
+                (and_right (same_node edge.from (block entry.0.block)) false refl))),
+          )
 
-one_more : (m : ℕ → ℕ) (n : ℕ) → sum_by m (below (suc n)) ≡ sum_by m (below n) + m n
-one_more m n =
-    let s : sum_by m (n ∷ []) ≡ m n = omega arith in
-    let all = sum_by-append m (below n) (n ∷ []) in
-    omega arith
+-- ---- no more often than it is counted
 
-sum_up : (m : ℕ → ℕ) (c a n : ℕ) → ((word : ℕ) → a ≤ word → word < a + n → m word ≤ 22 * c)
-    → sum_by m (below (a + n)) ≤ sum_by m (below a) + 22 * (n * c)
-sum_up m c a zero few =
-    let e : a + 0 ≡ a = omega arith in
-    subst (λ (k : ℕ). sum_by m (below k) ≤ sum_by m (below a) + 22 * (0 * c)) (sym e) (omega arith)
-sum_up m c a (suc n) few =
-    let e : a + suc n ≡ suc (a + n) = omega arith in
-    let rest = sum_up m c a n (λ word l u. few word l (omega arith)) in
-    let last = few (a + n) (omega arith) (omega arith) in
-    let more = one_more m (a + n) in
-    let product : suc n * c ≡ n * c + c = suc-mul n c in
-    subst (λ (k : ℕ). sum_by m (below k) ≤ sum_by m (below a) + 22 * (suc n * c)) (sym e) (omega arith)
+-- on the ways along all edges but landings
+abbrev own_kind : EdgeKind → ℕ → ℕ
+own_kind kind words = if same_kind kind kinds.Land then 0 else way_kind kind words
 
--- ---- images, block by block
+abbrev own_code : (ℕ → List ℕ) → ℕ → List Edge → ℕ
+own_code codes number [] = 0
+own_code codes number (edge ∷ edges) = own_kind edge.kind (length (codes number)) + own_code codes (suc number) edges
 
-module _ (text : Words) (graph : Graph) (codes : ℕ → List ℕ) (h : IsGraphOf text graph) (some : 1 ≤ length text.words)
-  where
-    abbrev its_image : ℕ → ℕ
-    its_image = image_code text graph codes
+kinds_few : (kind : EdgeKind) (a b c l m n : ℕ) → a ≤ (if same_kind kind kinds.Fall then 1 else 0)
+    → b ≤ (if same_kind kind kinds.Land then m else 0) → c ≤ (if same_kind kind kinds.Case then n else 0)
+    → a * l + own_kind kind l + b * l + c * l
+    ≤ (if same_kind kind kinds.Land then m else if same_kind kind kinds.Case then n else 1) * l
+kinds_few kinds.Fall a b c l m n f g h =
+    omega (
+      arith,
+      mul-le-mul_right {m = a} {n = 1} l f,
+      mul-le-mul_right {m = b} {n = 0} l g,
+      mul-le-mul_right {m = c} {n = 0} l h,
+    )
+kinds_few kinds.Taken a b c l m n f g h =
+    omega (
+      arith,
+      mul-le-mul_right {m = a} {n = 0} l f,
+      mul-le-mul_right {m = b} {n = 0} l g,
+      mul-le-mul_right {m = c} {n = 0} l h,
+    )
+kinds_few kinds.Untaken a b c l m n f g h =
+    omega (
+      arith,
+      mul-le-mul_right {m = a} {n = 0} l f,
+      mul-le-mul_right {m = b} {n = 0} l g,
+      mul-le-mul_right {m = c} {n = 0} l h,
+    )
+kinds_few kinds.Call a b c l m n f g h =
+    omega (
+      arith,
+      mul-le-mul_right {m = a} {n = 0} l f,
+      mul-le-mul_right {m = b} {n = 0} l g,
+      mul-le-mul_right {m = c} {n = 0} l h,
+    )
+kinds_few kinds.Out a b c l m n f g h =
+    omega (
+      arith,
+      mul-le-mul_right {m = a} {n = 0} l f,
+      mul-le-mul_right {m = b} {n = 0} l g,
+      mul-le-mul_right {m = c} {n = 0} l h,
+    )
+kinds_few kinds.Land a b c l m n f g h =
+    omega (
+      arith,
+      mul-le-mul_right {m = a} {n = 0} l f,
+      mul-le-mul_right {m = b} {n = m} l g,
+      mul-le-mul_right {m = c} {n = 0} l h,
+    )
+kinds_few kinds.Case a b c l m n f g h =
+    omega (
+      arith,
+      mul-le-mul_right {m = a} {n = 0} l f,
+      mul-le-mul_right {m = b} {n = 0} l g,
+      mul-le-mul_right {m = c} {n = n} l h,
+    )
 
-    module _ (k : ℕ) (l : k < length graph.blocks.firsts) where
-      abbrev first : ℕ
-      first = slice_index graph.blocks.firsts k
+ways_own : (codes : ℕ → List ℕ) (number count : ℕ) (edges : List Edge)
+    → Each (λ edge. same_kind edge.kind kinds.Land ≡ false) (take count edges)
+    → ways_code codes number (take count edges) ≤ own_code codes number edges
+ways_own codes number zero edges own = omega arith
+ways_own codes number (suc count) [] own = omega arith
+ways_own codes number (suc count) (edge ∷ edges) own =
+    let here : own_kind edge.kind (length (codes number)) ≡ way_code codes number edge =
+    ap (λ (t : Bool). if t then 0 else way_kind edge.kind (length (codes number))) own.0 in
+    omega (arith, ways_own codes (suc number) count edges own.1)
 
-      abbrev last : ℕ
-      last = last_word graph.blocks.firsts graph.blocks.words k
+module _ (text : Words) (graph : Graph) (codes : ℕ → List ℕ) (g : IsTextGraph text graph) (snips : List (List Op))
+    (short : AreShort snips codes) where
+  edges_few : (number : ℕ) (edges : List Edge) → Each (λ edge. IsNodeIn graph.blocks graph.opens edge.to) edges
+      → uses (falls text graph codes) codes (below (length text.words)) number edges + own_code codes number edges
+      + uses (lands_there text graph codes) codes (below (length text.words)) number edges
+      + uses (chooses text graph codes) codes (entries_in graph.opens) number edges
+      ≤ 22 * operations_from graph snips number edges
+  edges_few number [] leads = omega arith
+  edges_few number (edge ∷ edges) leads =
+      let one = kinds_few edge.kind
+      (count_by (λ word. falls text graph codes word edge) (below (length text.words)))
+      (count_by (λ word. lands_there text graph codes word edge) (below (length text.words)))
+      (count_by (λ entry. chooses text graph codes entry edge) (entries_in graph.opens))
+      (length (codes number))
+      (count_by (is_at graph edge.to) (words_at graph edge.to))
+      (count_by (is_at graph edge.to) (targets_from graph edge.from))
+      (falls_count text graph codes edge) (landings_count text graph codes g edge leads.0)
+      (cases_count text graph codes edge) in
+      let most : copies_of graph edge * length (codes number)
+      ≤ copies_of graph edge * (22 * length (snippet_on snips number)) =
+      mul-le-mul_left (copies_of graph edge) (short.short number) in
+      let turned : copies_of graph edge * (22 * length (snippet_on snips number))
+      ≡ 22 * (copies_of graph edge * length (snippet_on snips number)) =
+      mul_left_comm (copies_of graph edge) 22 (length (snippet_on snips number)) in
+      omega (arith, one, most, turned, edges_few (suc number) edges leads.1)
 
-      room : first < block_end graph.blocks.firsts graph.blocks.words k
-      room = some_words graph.blocks.words graph.blocks.firsts (cut_of text graph h some).firsts k l
-
-      inside_none : (word : ℕ) → first ≤ word → word < last → its_image word ≤ 22 * 0
-      inside_none word above inner = by (is_transfer (decode_of (slice_index text.words word))) refl
-        where
-          by : (t : Bool) → is_transfer (decode_of (slice_index text.words word)) ≡ t → its_image word ≤ 22 * 0
-          by true e = rw e (omega arith)
-          by false e =
-              let home = block_home text graph h some k word l above (omega (arith, room)) in
-              let none : code_length codes (left_by graph (node_of graph.blocks (Some word)) word
-              (decode_of (slice_index text.words word))) ≡ 0 =
-              ap (λ (n : Node). code_length codes (left_by graph n word (decode_of (slice_index text.words word)))) home
-              ∙ ap (code_length codes) (left_inside text graph h some k l word inner
-              (decode_of (slice_index text.words word)) e) in
-              rw e (omega arith)
-
-      last_most : its_image last ≤ falls_code codes (edges_before graph.blocks k) (edges_of graph.blocks [] k)
-      last_most = by (is_transfer (decode_of (slice_index text.words last))) refl
-        where
-          by : (t : Bool) → is_transfer (decode_of (slice_index text.words last)) ≡ t
-              → its_image last ≤ falls_code codes (edges_before graph.blocks k) (edges_of graph.blocks [] k)
-          by true e = rw e (omega arith)
-          by false e =
-              let home = block_home text graph h some k last l (omega (arith, room)) (omega (arith, room)) in
-              let its : code_length codes (left_by graph (node_of graph.blocks (Some last)) last
-              (decode_of (slice_index text.words last))) ≡ length (codes (edges_before graph.blocks k)) =
-              ap (λ (n : Node). code_length codes (left_by graph n last (decode_of (slice_index text.words last)))) home
-              ∙ ap (code_length codes) (left_last text graph h some k l (decode_of (slice_index text.words last)) refl e)
-              ∙ ap length (append-nil (codes (edges_before graph.blocks k))) in
-              let falls : falls_code codes (edges_before graph.blocks k) (edges_of graph.blocks [] k)
-              ≡ length (codes (edges_before graph.blocks k)) + 0 =
-              ap (falls_code codes (edges_before graph.blocks k))
-              (only_fall text graph h some k l (decode_of (slice_index text.words last)) refl e) in
-              rw e (omega arith)
-
-      block_images : sum_by its_image (below (begin_of graph.blocks (k + 1)))
-          ≤ sum_by its_image (below (begin_of graph.blocks k))
-          + falls_code codes (edges_before graph.blocks k) (edges_of graph.blocks [] k)
-      block_images =
-          let inner : first + (last - first) ≡ last = omega (arith, room) in
-          let inside = sum_up its_image 0 first (last - first)
-          (λ word above under. inside_none word above (omega (arith, room))) in
-          let upto : sum_by its_image (below (first + (last - first))) ≡ sum_by its_image (below last) =
-          ap (λ (n : ℕ). sum_by its_image (below n)) inner in
-          let more = one_more its_image last in
-          let end : begin_of graph.blocks (k + 1) ≡ suc last = omega (arith, begin_after text graph h some k l) in
-          let whole : sum_by its_image (below (begin_of graph.blocks (k + 1))) ≡ sum_by its_image (below (suc last)) =
-          ap (λ (n : ℕ). sum_by its_image (below n)) end in
-          let start : sum_by its_image (below (begin_of graph.blocks k)) ≡ sum_by its_image (below first) =
-          ap (λ (n : ℕ). sum_by its_image (below n)) (begin_at graph.blocks k l) in
-          let none : 22 * ((last - first) * 0) ≡ 0 = omega arith in
-          omega (arith, last_most)
-
-    pub images_few : (k : ℕ) → k ≤ length graph.blocks.firsts → begin_of graph.blocks 0 ≡ 0
-        → sum_by its_image (below (begin_of graph.blocks k))
-        ≤ falls_code codes 0 (flat_map (edges_of graph.blocks []) (below k))
-    unfolding edges_before
-    images_few zero l begin =
-        let none : sum_by its_image (below (begin_of graph.blocks 0)) ≡ 0 =
-        ap (λ (n : ℕ). sum_by its_image (below n)) begin in
-        omega arith
-    images_few (suc k) l begin =
-        let next : suc k ≡ k + 1 = omega arith in
-        let before = images_few k (omega arith) begin in
-        let step = block_images k (omega arith) in
-        let whole : sum_by its_image (below (begin_of graph.blocks (suc k)))
-        ≡ sum_by its_image (below (begin_of graph.blocks (k + 1))) =
-        ap (λ (n : ℕ). sum_by its_image (below (begin_of graph.blocks n))) next in
-        let edges : falls_code codes 0 (flat_map (edges_of graph.blocks []) (below k ++ k ∷ []))
-        ≡ falls_code codes 0 (flat_map (edges_of graph.blocks []) (below k))
-        + falls_code codes (0 + length (flat_map (edges_of graph.blocks []) (below k))) (edges_of graph.blocks [] k) =
-        ap (falls_code codes 0) (flat_map-append (edges_of graph.blocks []) (below k) (k ∷ []))
-        ∙ falls-append codes 0 (flat_map (edges_of graph.blocks []) (below k)) (edges_of graph.blocks [] k ++ [])
-        ∙ ap (λ (es : List Edge). falls_code codes 0 (flat_map (edges_of graph.blocks []) (below k))
-        + falls_code codes (0 + length (flat_map (edges_of graph.blocks []) (below k))) es)
-        (append-nil (edges_of graph.blocks [] k)) in
-        let number : 0 + length (flat_map (edges_of graph.blocks []) (below k)) ≡ edges_before graph.blocks k = omega arith in
-        let same : falls_code codes (0 + length (flat_map (edges_of graph.blocks []) (below k))) (edges_of graph.blocks [] k)
-        ≡ falls_code codes (edges_before graph.blocks k) (edges_of graph.blocks [] k) =
-        ap (λ (n : ℕ). falls_code codes n (edges_of graph.blocks [] k)) number in
-        omega arith
-
-    -- ---- landings, block by block
-
-    module _ (snips : List (List Op)) (short : AreShort snips codes) where
-      abbrev its_landing : ℕ → ℕ
-      its_landing = landing_code graph codes
-
-      pub landings_few : (k : ℕ) → k ≤ length graph.blocks.firsts → begin_of graph.blocks 0 ≡ 0
-          → sum_by its_landing (below (begin_of graph.blocks k))
-          ≤ 22 * operations_from graph.blocks snips (length (own_edges graph)) (map block_landing (below k))
-      landings_few zero l begin =
-          let none : sum_by its_landing (below (begin_of graph.blocks 0)) ≡ 0 =
-          ap (λ (n : ℕ). sum_by its_landing (below n)) begin in
-          omega arith
-      landings_few (suc k) l begin =
-          let low : k < length graph.blocks.firsts = omega arith in
-          let next : suc k ≡ k + 1 = omega arith in
-          let before = landings_few k (omega arith) begin in
-          let step = sum_up its_landing (length (snippet_on snips (length (own_edges graph) + k)))
-          (slice_index graph.blocks.firsts k) (size_of graph.blocks k) (each_landing k low) in
-          let room = some_words graph.blocks.words graph.blocks.firsts (cut_of text graph h some).firsts k low in
-          let end : begin_of graph.blocks (suc k) ≡ slice_index graph.blocks.firsts k + size_of graph.blocks k =
-          ap (begin_of graph.blocks) next ∙ (let e : begin_of graph.blocks (k + 1)
-          ≡ slice_index graph.blocks.firsts k + size_of graph.blocks k =
-          omega (arith, begin_after text graph h some k low) in e) in
-          let whole : sum_by its_landing (below (begin_of graph.blocks (suc k)))
-          ≡ sum_by its_landing (below (slice_index graph.blocks.firsts k + size_of graph.blocks k)) =
-          ap (λ (n : ℕ). sum_by its_landing (below n)) end in
-          let start : sum_by its_landing (below (begin_of graph.blocks k))
-          ≡ sum_by its_landing (below (slice_index graph.blocks.firsts k)) =
-          ap (λ (n : ℕ). sum_by its_landing (below n)) (begin_at graph.blocks k low) in
-          let edges : operations_from graph.blocks snips (length (own_edges graph)) (map block_landing (below k ++ k ∷ []))
-          ≡ operations_from graph.blocks snips (length (own_edges graph)) (map block_landing (below k))
-          + operations_from graph.blocks snips (length (own_edges graph) + length (map block_landing (below k)))
-          (block_landing k ∷ []) =
-          ap (operations_from graph.blocks snips (length (own_edges graph))) (map-append block_landing (below k) (k ∷ []))
-          ∙ operations-append graph.blocks snips (length (own_edges graph)) (map block_landing (below k))
-          (block_landing k ∷ []) in
-          let number : length (own_edges graph) + length (map block_landing (below k)) ≡ length (own_edges graph) + k =
-          ap (λ (n : ℕ). length (own_edges graph) + n) (length-map (below k) block_landing ∙ length-below k) in
-          let last : operations_from graph.blocks snips (length (own_edges graph) + length (map block_landing (below k)))
-          (block_landing k ∷ [])
-          ≡ size_of graph.blocks k * length (snippet_on snips (length (own_edges graph) + k)) + 0 =
-          ap (λ (n : ℕ). operations_from graph.blocks snips n (block_landing k ∷ [])) number in
-          omega arith
-        where
-          each_landing : (k : ℕ) → k < length graph.blocks.firsts → (word : ℕ)
-              → slice_index graph.blocks.firsts k ≤ word
-              → word < slice_index graph.blocks.firsts k + size_of graph.blocks k
-              → its_landing word ≤ 22 * length (snippet_on snips (length (own_edges graph) + k))
-          each_landing k low word above under =
-              let room = some_words graph.blocks.words graph.blocks.firsts (cut_of text graph h some).firsts k low in
-              let home = block_home text graph h some k word low above (omega arith) in
-              let its : its_landing word ≡ length (codes (length (own_edges graph) + k)) =
-              ap (λ (n : Node). code_length codes (landing_from graph n)) home
-              ∙ ap (code_length codes) (landing_edge text graph h k low)
-              ∙ ap length (append-nil (codes (length (own_edges graph) + k))) in
-              omega (arith, short.short (length (own_edges graph) + k))
-
--- ---- all of them
-
-module _ (text : Words) (graph : Graph) (codes : ℕ → List ℕ) (h : IsGraphOf text graph) (some : 1 ≤ length text.words)
-    (snips : List (List Op)) (short : AreShort snips codes) where
-  pub snippets_few : sum_by (image_code text graph codes) (below (length text.words))
-      + ways_code codes 0 (own_edges graph) + sum_by (landing_code graph codes) (below (length text.words))
+  pub snippets_few : sum_by (order_code text graph codes) (below (length text.words)) + ways_code codes 0
+      (own_edges graph)
+      + sum_by (landing_code graph codes) (below (length text.words))
+      + sum_by (case_code graph codes) (entries_in graph.opens)
       ≤ 22 * operations_in graph snips
   snippets_few =
-      let begin = begin_first text graph h some in
-      let own = own_are text graph h in
-      let end = begin_last text graph h (length graph.blocks.firsts) (omega arith) in
-      let images : sum_by (image_code text graph codes) (below (length text.words))
-      ≤ falls_code codes 0 (own_edges graph) =
-      subst (λ (es : List Edge). sum_by (image_code text graph codes) (below (length text.words))
-      ≤ falls_code codes 0 es) (sym own)
-      (subst (λ (k : ℕ). sum_by (image_code text graph codes) (below k)
-      ≤ falls_code codes 0 (flat_map (edges_of graph.blocks []) (below (length graph.blocks.firsts)))) end
-      (images_few text graph codes h some (length graph.blocks.firsts) (omega arith) begin)) in
-      let landings : sum_by (landing_code graph codes) (below (length text.words))
-      ≤ 22 * operations_from graph.blocks snips (length (own_edges graph))
-      (map block_landing (below (length graph.blocks.firsts))) =
-      subst (λ (k : ℕ). sum_by (landing_code graph codes) (below k)
-      ≤ 22 * operations_from graph.blocks snips (length (own_edges graph))
-      (map block_landing (below (length graph.blocks.firsts)))) end
-      (landings_few text graph codes h some snips short (length graph.blocks.firsts) (omega arith) begin) in
-      let both = both_few graph.blocks snips codes short 0 (own_edges graph) (own_no_landings text graph h) in
-      let all : operations_in graph snips ≡ operations_from graph.blocks snips 0 (own_edges graph)
-      + operations_from graph.blocks snips (0 + length (own_edges graph))
-      (map block_landing (below (length graph.blocks.firsts))) =
-      ap (operations_from graph.blocks snips 0) (all_are text graph h)
-      ∙ operations-append graph.blocks snips 0 (own_edges graph)
-      (map block_landing (below (length graph.blocks.firsts))) in
-      let number : 0 + length (own_edges graph) ≡ length (own_edges graph) = omega arith in
-      let same : operations_from graph.blocks snips (0 + length (own_edges graph))
-      (map block_landing (below (length graph.blocks.firsts)))
-      ≡ operations_from graph.blocks snips (length (own_edges graph))
-      (map block_landing (below (length graph.blocks.firsts))) =
-      ap (λ (k : ℕ). operations_from graph.blocks snips k (map block_landing (below (length graph.blocks.firsts))))
-      number in
-      omega arith
+      let images = uses_cover (falls text graph codes) codes graph.edges (order_code text graph codes)
+      (below (length text.words)) (each _ (below (length text.words)) (order_cover text graph codes)) in
+      let landings = uses_cover (lands_there text graph codes) codes graph.edges (landing_code graph codes)
+      (below (length text.words)) (each _ (below (length text.words)) (λ word. omega arith)) in
+      let chosen = uses_cover (chooses text graph codes) codes graph.edges (case_code graph codes)
+      (entries_in graph.opens) (each _ (entries_in graph.opens) (λ entry. omega arith)) in
+      let ways : ways_code codes 0 (own_edges graph) ≤ own_code codes 0 graph.edges =
+      ways_own codes 0 _ graph.edges g.no_landings in
+      omega (arith, images, landings, chosen, ways, edges_few 0 graph.edges g.leads)
+
+-- ---- where a block ends in a transfer no snippet stands in its images
+
+pub no_code : (text : Words) (graph : Graph) (codes : ℕ → List ℕ) (node : Node) (k word : ℕ)
+    → ends_block graph node word ≡ (word == last_word graph.blocks.firsts graph.blocks.words k)
+    → is_transfer (decode_of (slice_index text.words (last_word graph.blocks.firsts graph.blocks.words k))) ≡ true
+    → image_code text graph codes node word ≡ 0
+no_code text graph codes node k word at ends =
+    by (decode_of (slice_index text.words word)) refl (is_transfer (decode_of (slice_index text.words word))) refl
+  where
+    by : (instr : Instr) → decode_of (slice_index text.words word) ≡ instr → (t : Bool)
+        → is_transfer (decode_of (slice_index text.words word)) ≡ t → code_by graph codes node word instr ≡ 0
+    by instr says true e = rw (sym (ap is_transfer says) ∙ e) refl
+    by instr says false e =
+        let straight : is_transfer instr ≡ false = sym (ap is_transfer says) ∙ e in
+        let inner : (word == last_word graph.blocks.firsts graph.blocks.words k) ≡ false =
+        not_last (word == last_word graph.blocks.firsts graph.blocks.words k) refl in
+        rw (straight, straight_left graph node word instr straight, at, inner) refl
+      where
+        not_last : (t : Bool) → (word == last_word graph.blocks.firsts graph.blocks.words k) ≡ t
+            → (word == last_word graph.blocks.firsts graph.blocks.words k) ≡ false
+        not_last false h = h
+        not_last true h =
+            absurd (false≢true (sym e ∙ ap (λ (w : ℕ). is_transfer (decode_of (slice_index text.words w)))
+            (eqb-true word (last_word graph.blocks.firsts graph.blocks.words k) h) ∙ ends))

@@ -1,10 +1,10 @@
--- The copies of slots' words: a transfer ends the run, behind a JMPL its target is looked up, and else the copy goes
--- on to where the edge leads.
-use Rattle.std.proofs.Common.{◌≡◌, ◌≢◌, ℕ, ◌+◌, ◌%◌, ◌^◌, ◌<◌, inl, inr, Bool, true, false, Option, Some, None, List, [], ◌∷◌, ◌++◌, drop, length, refl, ap, sym, ◌∙◌, subst, arith}
-use Rattle.std.specs.Prelude.{◌==◌, if◌then◌else◌, pos, slice_get, slice_index}
-use Rattle.std.proofs.lemmas.Bool.{eqb-true}
+-- The copies of slots' words: a transfer ends the run, behind a JMPL without Case edges its target is looked up, and
+-- else the copy goes on to where the edge leads.
+use Rattle.std.proofs.Common.{◌≡◌, ◌≢◌, ℕ, ◌%◌, ◌^◌, ◌<◌, inl, inr, Bool, true, false, Option, Some, None, List, [], ◌∷◌, ◌++◌, drop, length, refl, ap, sym, ◌∙◌, subst, arith}
+use Rattle.std.specs.Prelude.{◌⊎◌, ◌==◌, if◌then◌else◌, pos, slice_get, slice_index}
+use Rattle.std.proofs.lemmas.Bool.{eqb-true, false≢true}
 use Rattle.std.specs.Option.{option_map}
-use Rattle.eel_base.specs.CodeText.{Words, IsText, address_of, word_at}
+use Rattle.eel_base.specs.CodeText.{Words, address_of, word_at}
 use Rattle.eel_base.specs.declared.numbers.Addr.{Addr}
 use Rattle.v8_decode.specs.Words.{decode_of}
 use Rattle.v8_step.specs.declared.Slot.TheVariants.{NoSlot}
@@ -14,53 +14,64 @@ use Rattle.v8_step.specs.Items.{is_transfer}
 use Rattle.v8_step.proofs.CopiedMoves.{goes_act}
 use Rattle.cfg_blocks.specs.declared.EdgeKind.{EdgeKind}
 use Rattle.cfg_blocks.specs.declared.EdgeKind.TheVariants as kinds
-use Rattle.cfg_blocks.specs.Blocks.{Blocks}
+use Rattle.cfg_blocks.specs.Blocks.{Blocks, blocks_of}
 use Rattle.cfg_blocks.proofs.Targets.{word_at-some}
 use Rattle.cfg_normal.specs.declared.Node.{Node}
 use Rattle.cfg_normal.specs.declared.Node.TheVariants.{Block, Landed, X}
-use Rattle.cfg_normal.specs.Graph.{Graph, graph_of, node_of}
-use Rattle.cfg_walk.specs.Walk.{Point, landed, landing_at as edge_landing, node_after, point_of, same_kind}
-use Rattle.cfg_walk.specs.Matches.{Begins, last_in, way_address}
-use Rattle.cfg_walk.proofs.NoneOpen.{IsOnEdge, slot_none}
+use Rattle.cfg_normal.specs.Graph.{Graph, has_cases, lands}
+use Rattle.cfg_walk.specs.Walk.{Point, landed, landing_at as edge_landing, led_to, node_after, point_of, same_kind, slot_left}
+use Rattle.cfg_walk.specs.Matches.{Begins, IsOnItsWay, last_in, way_address}
+use Rattle.cfg_walk.proofs.Edges.{block}
+use Rattle.cfg_walk.proofs.Nodes.{home_lands, lands_as, lands_in}
+use Rattle.cfg_walk.proofs.Slots.{jump_lands}
 use Rattle.addr_translate.specs.Halves.{found_in}
 use Rattle.code_runs.specs.Page.{page_word}
 use Rattle.code_runs.proofs.StoredWords.{memory_word-range}
 use Rattle.jump_code.specs.Pieces.{far_piece, found_piece}
 use Rattle.layout.specs.declared.items.Item.{Item}
 use Rattle.layout.specs.Laid.{Placement}
-use Rattle.image_code.specs.Simulates.{Setting, at_point, does_at, gone_at, graph_in, number_in, is_out, operations_on}
-use Rattle.image_code.specs.Images.{Frame, Here, visited_at}
+use Rattle.image_code.specs.Simulates.{CaseTable, Setting, at_point, does_at, gone_at, graph_in, number_in, is_out, operations_on}
+use Rattle.image_code.specs.Images.{Frame, Here, HasNoCases, entered_at, visited_at}
 use Rattle.image_code.specs.Cases.{IsFar, LeadsOn, plain_piece, words_on}
 use Rattle.image_code.specs.Couple.{couple_piece}
 use Rattle.image_code.specs.Landings.{Lands}
 use Rattle.image_code.specs.Imaged.{IsCase, plain, couple, landing as jumps_slot}
-use Rattle.image_code.specs.Made.{IsTableFor, couple_word, foreign_number, goes_along, goes_on, jump_to, landing_number, past_slot}
-use Rattle.image_code.proofs.EdgePieces.{along_far}
+use Rattle.image_code.specs.Made.{IsTableFor, couple_word, first_word, goes_along, goes_on, jump_to, past_slot}
+use Rattle.image_code.specs.Numbered.{enter_number, foreign_number, landing_number}
+use Rattle.image_code.proofs.CaseTables.{IsKnown, table_of}
+use Rattle.image_code.proofs.EdgePieces.{IsAlong, along_far, cut_in}
 use Rattle.image_code.proofs.Branches.{couple_says, same_is}
 use Rattle.std.proofs.lemmas.Option.{slice_get_within}
-use Rattle.image_code.proofs.Heads.{copy_items, copy_visited}
-use Rattle.image_code.proofs.Listed.{foreign_at, image_at, landing_at}
-use Rattle.image_code.proofs.Visited.{edge_is, l, slot_gone, visited_none, visited_word, way_in, word_is}
+use Rattle.image_code.proofs.Heads.{HasCopy, by_cases, case_copy, copy_visited, plain_copy}
+use Rattle.image_code.proofs.ImageNumbers.{jump_of}
+use Rattle.image_code.proofs.ImagePieces.{enter_at, stands_at}
+use Rattle.image_code.proofs.Listed.{foreign_at, landing_at}
+use Rattle.image_code.proofs.Visited.{case_kind, edge_is, entered_none, entered_word, kind_is, l, slot_gone, target, way_in, way_now, word_is}
 
 -- ---- where control goes on at a node
 
 goes_begins : (text : Words) (graph : Graph) (node : Node) (address : ℕ) (o : Option ℕ)
-    → Begins graph node o → (word : ℕ) → o ≡ Some word → goes_on text graph node address ≡ jump_to word
+    → Begins graph node o → (word : ℕ) → o ≡ Some word
+    → goes_on text graph node (first_word graph node) address ≡ jump_to (enter_number text graph node word)
 goes_begins text graph (Block k) address None h word e = absurd h
-goes_begins text graph (Block k) address (Some w) h word e = let q : w ≡ word = cc in ap jump_to (h ∙ q)
+goes_begins text graph (Block k) address (Some w) h word e =
+    let q : w ≡ word = cc in
+    ap (λ (n : ℕ). jump_to (enter_number text graph (Block k) n)) (h ∙ q)
 goes_begins text graph (Landed k) address None h word e = absurd h
-goes_begins text graph (Landed k) address (Some w) h word e = let q : w ≡ word = cc in ap jump_to (h ∙ q)
+goes_begins text graph (Landed k) address (Some w) h word e =
+    let q : w ≡ word = cc in
+    ap (λ (n : ℕ). jump_to (enter_number text graph (Landed k) n)) (h ∙ q)
 goes_begins text graph X address None h word e = absurd (cc)
 goes_begins text graph X address (Some w) h word e = absurd h
 
-goes_out : (text : Words) (graph : Graph) (node : Node) (address : ℕ) (o : Option ℕ)
-    → Begins graph node o → o ≡ None → goes_on text graph node address ≡ far_piece address
-goes_out text graph (Block k) address None h e = absurd h
-goes_out text graph (Block k) address (Some w) h e = absurd (cc)
-goes_out text graph (Landed k) address None h e = absurd h
-goes_out text graph (Landed k) address (Some w) h e = absurd (cc)
-goes_out text graph X address None h e = refl
-goes_out text graph X address (Some w) h e = absurd h
+goes_out : (text : Words) (graph : Graph) (node : Node) (word address : ℕ) (o : Option ℕ)
+    → Begins graph node o → o ≡ None → goes_on text graph node word address ≡ far_piece address
+goes_out text graph (Block k) word address None h e = absurd h
+goes_out text graph (Block k) word address (Some w) h e = absurd (cc)
+goes_out text graph (Landed k) word address None h e = absurd h
+goes_out text graph (Landed k) word address (Some w) h e = absurd (cc)
+goes_out text graph X word address None h e = refl
+goes_out text graph X word address (Some w) h e = absurd h
 
 -- ---- landings
 
@@ -74,23 +85,33 @@ not_landed text graph kinds.Call address e = refl
 not_landed text graph kinds.Land address e = refl
 not_landed text graph kinds.Case address e = refl
 
--- at a word that of its block, and outside the text none
+-- at a word that at which a run lands there, and outside the text none
 abbrev landing_of : Graph → Option ℕ → List ℕ
 landing_of graph None = []
-landing_of graph (Some word) = edge_landing graph (node_of graph.blocks (Some word))
+landing_of graph (Some word) = edge_landing graph (lands graph (Some word))
 
-landed_out : (text : Words) (b : Blocks) (address : ℕ) (o : Option ℕ) → word_at text address ≡ o
-    → landed text (graph_of b []) kinds.Out address ≡ landing_of (graph_of b []) o
-landed_out text b address None e = rw e refl
-landed_out text b address (Some word) e = rw e refl
+landed_out : (text : Words) (graph : Graph) (address : ℕ) (o : Option ℕ) → word_at text address ≡ o
+    → landed text graph kinds.Out address ≡ landing_of graph o
+landed_out text graph address None e = rw e refl
+landed_out text graph address (Some word) e = rw e refl
 
-module _ (g : Setting) (codes : ℕ → List ℕ) (is : IsText g.text) (p : Placement) (f : Frame) (base : ℕ)
+-- a node without Case edges is no jump's block of an open switch
+pub no_cases : (g : Setting) → IsKnown g → (node : Node) → has_cases g.switches node ≡ false → HasNoCases g node
+no_cases g is node none k table e same =
+    let t = table_of g is.known k table e in
+    let here : node ≡ block t.o.block =
+    same ∙ ap (λ (c : CaseTable). block c.block) (sym t.same) in
+    false≢true (sym none ∙ ap (has_cases g.switches) here
+    ∙ jump_of g.text (blocks_of g.text g.given) g.switches k t.o t.is)
+
+module _ (g : Setting) (codes : ℕ → List ℕ) (is : IsKnown g) (p : Placement) (f : Frame) (base : ℕ)
     (place : ℕ → ℕ → ℕ) (tables : IsTableFor g.text (graph_in g) g.snips p f.table f.halves)
     (node : Node) (x : Point) (t : State) (here : Here g (l g codes is p f) base p f node x t)
     (slot : ℕ) (at : word_at g.text x.pc ≡ Some slot) (not : x.slot ≢ NoSlot)
-    (way : IsOnEdge g.text (graph_in g) node x (way_in g codes is p f x)) where
-  abbrev piece : ℕ
-  piece = length g.text.words + way.number
+    (way : IsOnItsWay g.text (graph_in g) node x (way_in g codes is p f x)) (piece to : ℕ)
+    (copy : HasCopy g codes is p f node x slot at way piece to) where
+  abbrev b : Blocks
+  b = blocks_of g.text g.given
 
   abbrev address : Addr
   address = record { 0 = address_of g.text slot }
@@ -100,19 +121,25 @@ module _ (g : Setting) (codes : ℕ → List ℕ) (is : IsText g.text) (p : Plac
 
   -- where the machine is after the step
   abbrev Visit : State → ℕ
-  Visit v = visited_at g (l g codes is p f) p f (node_after (graph_in g) node (gone_at g node x v)) (point_of v)
+  Visit v = entered_at g (l g codes is p f) p f (node_after (graph_in g) node (gone_at g node x v)) (point_of v)
 
   abbrev copy_by : Bool → List Item
   copy_by transfer =
       if transfer then couple_piece address (number_in g node) couple_word []
-      else past_slot g.text (graph_in g) f.table.base codes address (number_in g node) word way.number way.edge
+      else past_slot g.text (graph_in g) f.table.base codes address (number_in g node) word way.number way.edge to
 
   -- the snippet of the edge
   abbrev code : List Item
   code = words_on (l g codes is p f) (way.number ∷ [])
 
+  its_edge : IsAlong g is f.table.base f.cases.base node (way_now g codes is p f node x) way.number way.edge
+  its_edge = edge_is g codes is p f node x way
+
   made : (b : Bool) → is_transfer (decode_of word) ≡ b → slice_get (l g codes is p f).list piece ≡ Some (copy_by b)
-  made b e = copy_items g codes is p f node x slot at way ∙ ap (λ (z : Bool). Some (copy_by z)) e
+  made b e = copy.items ∙ ap (λ (z : Bool). Some (copy_by z)) e
+
+  stands : visited_at g (l g codes is p f) p f node x ≡ slice_index p.at piece
+  stands = copy_visited g codes is p f node x slot at way piece to copy not
 
   -- ---- a word that is no transfer
 
@@ -120,48 +147,137 @@ module _ (g : Setting) (codes : ℕ → List ℕ) (is : IsText g.text) (p : Plac
     abbrev past_by : Bool → List Item
     past_by out =
         if out then found_piece address (number_in g node) word code 1
-        else plain_piece address (number_in g node) word (goes_along g.text (graph_in g) codes way.number way.edge)
+        else plain_piece address (number_in g node) word (goes_along g.text (graph_in g) codes way.number way.edge to)
 
-    past : (b : Bool) → same_kind (way_in g codes is p f x) kinds.Out ≡ b
+    past : (b : Bool) → same_kind way.edge.kind kinds.Out ≡ b
         → slice_get (l g codes is p f).list piece ≡ Some (past_by b)
-    past b e =
-        made false straight
-        ∙ ap (λ (z : Bool). Some (past_by z))
-        (ap (λ (k : EdgeKind). same_kind k kinds.Out)
-        (edge_is g codes is p f node x (way_in g codes is p f x) way).same ∙ e)
+    past b e = made false straight ∙ ap (λ (z : Bool). Some (past_by z)) e
 
     went : (v : State) → does_at g x t ≡ v → v.ending ≡ None → (v.pc ≡ x.npc) × (v.slot ≡ NoSlot)
     went v e live =
         let same : v ≡ act (at_point x t) (decode_of word) =
-        sym e ∙ ap (on_word (at_point x t)) (word_is g codes is p f x slot at) in
+        sym e ∙ ap (on_word (at_point x t)) (word_is g x slot at) in
         let w = goes_act (at_point x t) (decode_of word) straight (ap (λ (z : State). z.ending) (sym same) ∙ live) in
         (ap (λ (z : State). z.pc) same ∙ w.0, ap (λ (z : State). z.slot) same ∙ w.2)
 
-    gone_along : (v : State) → v.slot ≡ NoSlot → v.ending ≡ None
-        → gone_at g node x v ≡ way.number ∷ landed g.text (graph_in g) (way_in g codes is p f x) v.pc
-    gone_along v after live =
-        slot_gone g codes is p f node x v not after live
-        ∙ slot_none g.text (graph_in g).blocks node (way_in g codes is p f x) v.pc
-        ∙ ap (λ (edges : List ℕ). edges ++ landed g.text (graph_in g) (way_in g codes is p f x) v.pc) way.only
+    gone_left : (v : State) → v.pc ≡ x.npc → v.slot ≡ NoSlot → v.ending ≡ None
+        → gone_at g node x v ≡ slot_left g.text (graph_in g) node (way_in g codes is p f x) x.npc
+    gone_left v pc after live =
+        slot_gone g node x v not after live
+        ∙ ap (slot_left g.text (graph_in g) node (way_in g codes is p f x)) pc
 
-    -- ---- no JMPL's slot: the edge leads on
+    gone_along : (v : State) → v.pc ≡ x.npc → v.slot ≡ NoSlot → v.ending ≡ None
+        → gone_at g node x v ≡ way.number ∷ landed g.text (graph_in g) way.edge.kind x.npc
+    gone_along v pc after live =
+        gone_left v pc after live
+        ∙ ap (λ (edges : List ℕ). edges ++ landed g.text (graph_in g)
+        (way_now g codes is p f node x).kind x.npc) way.only
+        ∙ ap (λ (k : EdgeKind). way.number ∷ landed g.text (graph_in g) k x.npc) (sym its_edge.same)
 
-    module _ (other : same_kind (way_in g codes is p f x) kinds.Out ≡ false) where
-      goes_there : goes_along g.text (graph_in g) codes way.number way.edge
-          ≡ code ++ goes_on g.text (graph_in g) way.edge.to x.npc
-      goes_there =
-          let k = edge_is g codes is p f node x (way_in g codes is p f x) way in
-          ap (λ (n : Node). code ++ goes_on g.text (graph_in g) way.edge.to
-          (way_address g.text (graph_in g) n way.edge.kind)) k.leaves
-          ∙ ap (λ (k : EdgeKind). code ++ goes_on g.text (graph_in g) way.edge.to
-          (way_address g.text (graph_in g) node k)) k.same
-          ∙ ap (λ (a : ℕ). code ++ goes_on g.text (graph_in g) way.edge.to a) (sym (way.goes other))
+    -- ---- the edge leads on
 
-      items : (rest : List Item) → goes_on g.text (graph_in g) way.edge.to x.npc ≡ rest
+    -- to where the machine goes: out of the text, or to the word's image at the edge's node
+    abbrev on_there : List Item
+    on_there = goes_on g.text (graph_in g) way.edge.to to (way_address g.text (graph_in g) way.edge.from way.edge.kind)
+
+    abbrev Ends : Type 0
+    Ends =
+        ((word_at g.text x.npc ≡ None) × IsFar x.npc × (on_there ≡ far_piece x.npc))
+        ⊎ ((w : ℕ) × (word_at g.text x.npc ≡ Some w) × (on_there
+        ≡ jump_to (enter_number g.text (graph_in g) way.edge.to w)))
+
+    module _ (other : same_kind way.edge.kind kinds.Out ≡ false) (ends : Ends) where
+      items : (rest : List Item) → on_there ≡ rest
           → slice_get (l g codes is p f).list piece ≡ Some (plain_piece address (number_in g node) word (code ++ rest))
       items rest e = past false other
-          ∙ ap (λ (r : List Item). Some (plain_piece address (number_in g node) word r)) goes_there
           ∙ ap (λ (r : List Item). Some (plain_piece address (number_in g node) word (code ++ r))) e
+
+      after_is : node_after (graph_in g) node (way.number ∷ []) ≡ way.edge.to
+      after_is = ap (led_to node) way.is
+
+      goes : (v : State) → does_at g x t ≡ v → v.ending ≡ None
+          → LeadsOn (l g codes is p f) p place piece 3 (gone_at g node x v) (word_at g.text v.pc) (Visit v)
+      goes v e live =
+          let w = went v e live in
+          let completes : gone_at g node x v ≡ way.number ∷ [] =
+          gone_along v w.0 w.1 live
+          ∙ ap (λ (edges : List ℕ). way.number ∷ edges) (not_landed g.text (graph_in g) way.edge.kind x.npc other) in
+          subst (λ (gone : List ℕ). LeadsOn (l g codes is p f) p place piece 3 gone (word_at g.text v.pc)
+          (entered_at g (l g codes is p f) p f (node_after (graph_in g) node gone) (point_of v))) (sym completes)
+          (elim ends [ inl out ↦ leaves w out | inr on ↦ goes_to w on ])
+        where
+          after : Node
+          after = node_after (graph_in g) node (way.number ∷ [])
+
+          Leads : Type 0
+          Leads = LeadsOn (l g codes is p f) p place piece 3 (way.number ∷ []) (word_at g.text v.pc)
+              (entered_at g (l g codes is p f) p f after (point_of v))
+
+          leaves : (v.pc ≡ x.npc) × (v.slot ≡ NoSlot)
+              → (word_at g.text x.npc ≡ None) × IsFar x.npc × (on_there ≡ far_piece x.npc) → Leads
+          leaves w (none, far, there) =
+              subst (LeadsOn (l g codes is p f) p place piece 3 (way.number ∷ []) (word_at g.text v.pc))
+              (sym (entered_none g codes is p f after (point_of v) (ap (word_at g.text) w.0 ∙ none) w.1 ∙ w.0))
+              (inr (inr (
+                ap (word_at g.text) w.0 ∙ none,
+                far,
+                ap (option_map (drop 3)) (items (far_piece x.npc) there),
+              )))
+
+          goes_to : (v.pc ≡ x.npc) × (v.slot ≡ NoSlot)
+              → (n : ℕ) × (word_at g.text x.npc ≡ Some n)
+              × (on_there ≡ jump_to (enter_number g.text (graph_in g) way.edge.to n)) → Leads
+          goes_to w (n, some, there) =
+              inr (inl (record {
+                first = way.number ∷ [];
+                others = [];
+                all = refl;
+                some = λ e. absurd (cc);
+                apart = inr refl;
+                piece = record { 0 = enter_number g.text (graph_in g) way.edge.to n };
+                rest = ap (option_map (drop 3)) (items (jump_to
+                    (enter_number g.text (graph_in g) way.edge.to n)) there);
+                leads = inl (
+                  refl,
+                  sym (entered_word g codes is p f after (point_of v) n (ap (word_at g.text) w.0 ∙ some) w.1
+                      ∙ ap (λ (m : Node). slice_index p.at (enter_number g.text (graph_in g) m n)) after_is),
+                );
+              }))
+
+      plain_case : IsCase g (l g codes is p f) base p place f node x t
+      plain_case = plain (record {
+        piece = piece;
+        within = slice_get_within (l g codes is p f).list piece _ (items _ refl);
+        here = stands;
+        address = address;
+        original = sym (word_at-some g.text x.pc slot at).is;
+        word = word;
+        is_word = word_is g x slot at;
+        straight = straight;
+        rest = code ++ on_there;
+        items = items _ refl;
+        leads = λ live. goes (does_at g x t) refl live;
+      })
+
+    -- the ways but for a JMPL's
+    module _ (other : same_kind (way_in g codes is p f x) kinds.Out ≡ false)
+        (first : to ≡ first_word (graph_in g) way.edge.to) where
+      quiet : same_kind (way_in g codes is p f x) kinds.Out ≡ true → has_cases g.switches node ≡ false
+      quiet out = absurd (false≢true (sym other ∙ out))
+
+      kind : way.edge.kind ≡ way_in g codes is p f x
+      kind = kind_is g codes is p f node x way quiet
+
+      there : on_there ≡ goes_on g.text (graph_in g) way.edge.to (first_word (graph_in g) way.edge.to) x.npc
+      there =
+          ap (λ (n : ℕ). goes_on g.text (graph_in g) way.edge.to n
+          (way_address g.text (graph_in g) way.edge.from way.edge.kind)) first
+          ∙ ap (λ (n : Node). goes_on g.text (graph_in g) way.edge.to (first_word (graph_in g) way.edge.to)
+          (way_address g.text (graph_in g) n way.edge.kind)) its_edge.leaves
+          ∙ ap (λ (k : EdgeKind). goes_on g.text (graph_in g) way.edge.to (first_word (graph_in g) way.edge.to)
+          (way_address g.text (graph_in g) node k)) kind
+          ∙ ap (λ (a : ℕ). goes_on g.text (graph_in g) way.edge.to (first_word (graph_in g) way.edge.to) a)
+          (sym (way.goes other))
 
       npc_far : IsFar x.npc
       npc_far =
@@ -172,95 +288,103 @@ module _ (g : Setting) (codes : ℕ → List ℕ) (is : IsText g.text) (p : Plac
           let low : last_in (graph_in g) node < length g.text.words = omega arith in
           subst IsFar (sym (way.goes other))
           (along_far g.text (last_in (graph_in g) node) (way_in g codes is p f x)
-          (decode_of (slice_index g.text.words (last_in (graph_in g) node))) is low)
+          (decode_of (slice_index g.text.words (last_in (graph_in g) node))) is.text low)
 
-      goes : (v : State) → does_at g x t ≡ v → v.ending ≡ None
-          → LeadsOn (l g codes is p f) p place piece 3 (gone_at g node x v) (word_at g.text v.pc) (Visit v)
-      goes v e live =
-          subst (λ (gone : List ℕ). LeadsOn (l g codes is p f) p place piece 3 gone
-          (word_at g.text v.pc) (Visit v)) (sym completes)
-          (by (word_at g.text x.npc) refl)
+      plain_ends : Ends
+      plain_ends = by (word_at g.text x.npc) refl
         where
-          after : Node
-          after = node_after (graph_in g) node (gone_at g node x v)
-
-          w : (v.pc ≡ x.npc) × (v.slot ≡ NoSlot)
-          w = went v e live
-
-          completes : gone_at g node x v ≡ way.number ∷ []
-          completes =
-              gone_along v w.1 live
-              ∙ ap (λ (edges : List ℕ). way.number ∷ edges)
-              (not_landed g.text (graph_in g) (way_in g codes is p f x) v.pc other)
-
-          by : (o : Option ℕ) → word_at g.text x.npc ≡ o
-              → LeadsOn (l g codes is p f) p place piece 3 (way.number ∷ []) (word_at g.text v.pc)
-              (visited_at g (l g codes is p f) p f after (point_of v))
-          by None none =
-              subst (LeadsOn (l g codes is p f) p place piece 3 (way.number ∷ []) (word_at g.text v.pc))
-              (sym (visited_none g codes is p f after (point_of v) (ap (word_at g.text) w.0 ∙ none) w.1 ∙ w.0))
-              (inr (inr (
-                ap (word_at g.text) w.0 ∙ none,
+          by : (o : Option ℕ) → word_at g.text x.npc ≡ o → Ends
+          by None e =
+              inl (
+                e,
                 npc_far,
-                ap (option_map (drop 3)) (items (far_piece x.npc)
-                    (goes_out g.text (graph_in g) way.edge.to x.npc (word_at g.text x.npc)
-                    (way.leads other).0 none)),
-              )))
-          by (Some to) some =
-              inr (inl (record {
-                first = way.number ∷ [];
-                others = [];
-                all = refl;
-                some = λ e. absurd (cc);
-                apart = inr refl;
-                piece = record { 0 = to };
-                rest = ap (option_map (drop 3)) (items (jump_to to)
-                    (goes_begins g.text (graph_in g) way.edge.to x.npc (word_at g.text x.npc)
-                    (way.leads other).0 to some));
-                leads = inl (
-                  refl,
-                  sym (visited_word g codes is p f after (point_of v) to (ap (word_at g.text) w.0 ∙ some) w.1),
-                );
-              }))
+                there ∙ goes_out g.text (graph_in g) way.edge.to (first_word (graph_in g) way.edge.to) x.npc
+                    (word_at g.text x.npc) (way.leads other).0 e,
+              )
+          by (Some w) e =
+              inr (
+                w,
+                e,
+                there ∙ goes_begins g.text (graph_in g) way.edge.to x.npc (word_at g.text x.npc)
+                    (way.leads other).0 w e,
+              )
 
-      plain_case : IsCase g (l g codes is p f) base p place f node x t
-      plain_case = plain (record {
-        piece = piece;
-        within = slice_get_within (l g codes is p f).list piece _ (items _ refl);
-        here = copy_visited g codes is p f node x slot at way not;
-        address = address;
-        original = sym (word_at-some g.text x.pc slot at).is;
-        word = word;
-        is_word = word_is g codes is p f x slot at;
-        straight = straight;
-        rest = code ++ goes_on g.text (graph_in g) way.edge.to x.npc;
-        items = items _ refl;
-        leads = λ live. goes (does_at g x t) refl live;
-      })
+      other_case : IsCase g (l g codes is p f) base p place f node x t
+      other_case = plain_case (ap (λ (k : EdgeKind). same_kind k kinds.Out) kind ∙ other) plain_ends
+
+    -- ---- a Case edge leads to where a run lands
+
+    module _ (out : same_kind (way_in g codes is p f x) kinds.Out ≡ true) (cased : has_cases g.switches node ≡ true)
+        (goes_there : word_at g.text x.npc ≡ Some to) where
+      lands_at_it : way.edge.to ≡ lands (graph_in g) (Some to)
+      lands_at_it =
+          way.lands_at out
+          ∙ ap (λ (c : Bool). if c then lands (graph_in g) (word_at g.text x.npc) else X) cased
+          ∙ ap (lands (graph_in g)) goes_there
+
+      on_case : on_there ≡ jump_to (enter_number g.text (graph_in g) way.edge.to to)
+      on_case =
+          let a = way_address g.text (graph_in g) way.edge.from way.edge.kind in
+          let low : to < b.words = omega (
+            arith,
+            (word_at-some g.text x.npc to goes_there).within,
+            (cut_in g is f.table.base f.cases.base).words,
+          ) in
+          subst (λ (n : Node). goes_on g.text (graph_in g) n to a ≡ jump_to (enter_number g.text (graph_in g) n to))
+          (sym lands_at_it)
+          (lands_as b g.switches to low
+          (λ (n : Node). goes_on g.text (graph_in g) n to a ≡ jump_to (enter_number g.text (graph_in g) n to))
+          (λ _. refl) (λ _. refl))
+
+      along_case : IsCase g (l g codes is p f) base p place f node x t
+      along_case =
+          plain_case (ap (λ (k : EdgeKind). same_kind k kinds.Out) (case_kind g codes is p f node x way out cased))
+          (inr (to, goes_there, on_case))
 
     -- ---- a JMPL's slot: the table leads on
 
-    module _ (out : same_kind (way_in g codes is p f x) kinds.Out ≡ true) where
+    module _ (out : same_kind (way_in g codes is p f x) kinds.Out ≡ true)
+        (quiet : has_cases g.switches node ≡ false) where
+      caseless : HasNoCases g node
+      caseless = no_cases g is node quiet
+
+      kind_out : way.edge.kind ≡ kinds.Out
+      kind_out = kind_is g codes is p f node x way (λ _. quiet) ∙ same_is (way_in g codes is p f x) kinds.Out out
+
+      edge_out : same_kind way.edge.kind kinds.Out ≡ true
+      edge_out = ap (λ (k : EdgeKind). same_kind k kinds.Out) kind_out
+
       waits : (x.npc < 2 ^ 32) × (x.npc % 4 ≡ 0)
       waits =
-          let w = here.waits (way.jumps out) out in
+          let w = here.waits (way.jumps out) out caseless in
           (subst (λ (z : ℕ). z < 2 ^ 32) w.0 (memory_word-range t.memory (page_word 1) here.valid.memory), w.1)
 
-      -- the landing of the block to which the jump leads
+      -- the landing at the node to which the jump leads
       abbrev lands_on : List ℕ
       lands_on = landed g.text (graph_in g) kinds.Out x.npc
 
       completes : (v : State) → does_at g x t ≡ v → v.ending ≡ None → gone_at g node x v ≡ way.number ∷ lands_on
       completes v e live =
           let w = went v e live in
-          gone_along v w.1 live
-          ∙ ap (λ (a : ℕ). way.number ∷ landed g.text (graph_in g) (way_in g codes is p f x) a) w.0
-          ∙ ap (λ (k : EdgeKind). way.number ∷ landed g.text (graph_in g) k x.npc)
-          (same_is (way_in g codes is p f x) kinds.Out out)
+          gone_along v w.0 w.1 live
+          ∙ ap (λ (k : EdgeKind). way.number ∷ landed g.text (graph_in g) k x.npc) kind_out
 
-      lands : (v : State) → does_at g x t ≡ v → v.ending ≡ None
+      goes_out_by : IsOnItsWay g.text (graph_in g) node x kinds.Out
+      goes_out_by = subst (λ (k : EdgeKind). IsOnItsWay g.text (graph_in g) node x k)
+          (same_is (way_in g codes is p f x) kinds.Out out) way
+
+      lands_to : (v : State) → does_at g x t ≡ v → v.ending ≡ None
+          → node_after (graph_in g) node (gone_at g node x v) ≡ lands (graph_in g) (word_at g.text x.npc)
+      lands_to v e live =
+          let w = went v e live in
+          ap (node_after (graph_in g) node) (gone_left v w.0 w.1 live
+          ∙ ap (λ (k : EdgeKind). slot_left g.text (graph_in g) node k x.npc)
+          (same_is (way_in g codes is p f x) kinds.Out out))
+          ∙ jump_lands g.text b g.switches (cut_in g is f.table.base f.cases.base) node x goes_out_by
+
+      landed_at : (v : State) → does_at g x t ≡ v → v.ending ≡ None
           → Lands g (l g codes is p f) p f lands_on x.npc (Visit v)
-      lands v e live = by (word_at g.text x.npc) refl
+      landed_at v e live = by (word_at g.text x.npc) refl
         where
           after : Node
           after = node_after (graph_in g) node (gone_at g node x v)
@@ -270,15 +394,16 @@ module _ (g : Setting) (codes : ℕ → List ℕ) (is : IsText g.text) (p : Plac
 
           by : (o : Option ℕ) → word_at g.text x.npc ≡ o
               → Lands g (l g codes is p f) p f (landed g.text (graph_in g) kinds.Out x.npc) x.npc
-              (visited_at g (l g codes is p f) p f after (point_of v))
+              (entered_at g (l g codes is p f) p f after (point_of v))
           by None none =
+              let there = foreign_at g.text b g.switches is.cased f.table.base f.cases.base codes in
               inr (
-                landed_out g.text (graph_in g).blocks x.npc None none,
+                landed_out g.text (graph_in g) x.npc None none,
                 (
                   record { 0 = foreign_number g.text (graph_in g) },
-                  slice_get_within (l g codes is p f).list _ _ (foreign_at g.text (graph_in g) f.table.base codes),
+                  slice_get_within (l g codes is p f).list _ _ there,
                   tables.others x.npc waits.0 waits.1 none,
-                  foreign_at g.text (graph_in g) f.table.base codes,
+                  there,
                   none,
                 ),
               )
@@ -287,37 +412,54 @@ module _ (g : Setting) (codes : ℕ → List ℕ) (is : IsText g.text) (p : Plac
               within : to < length g.text.words
               within = (word_at-some g.text x.npc to some).within
 
-              led : (b : Bool) → (operations_on g.snips (landing_of (graph_in g) (Some to)) == 0) ≡ b
-                  → found_in f.halves x.npc ≡ slice_index p.at (if b then to else landing_number g.text (graph_in g) to)
-              led b e = tables.words x.npc to waits.0 waits.1 some
-                  ∙ ap (λ (z : Bool). slice_index p.at (if z then to else landing_number g.text (graph_in g) to)) e
+              there : Node
+              there = lands (graph_in g) (Some to)
 
-              visit : slice_index p.at to ≡ visited_at g (l g codes is p f) p f after (point_of v)
-              visit = sym (visited_word g codes is p f after (point_of v) to (ap (word_at g.text) w.0 ∙ some) w.1)
+              entry : ℕ
+              entry = enter_number g.text (graph_in g) (lands (graph_in g) (Some to)) to
+
+              image_there : (xs : List Item) × (slice_get (l g codes is p f).list entry ≡ Some xs)
+              image_there =
+                  let some_blocks = (cut_in g is f.table.base f.cases.base).firsts.some in
+                  enter_at g is f.table.base f.cases.base codes (lands (graph_in g) (Some to)) to within
+                  (stands_at g is f.table.base f.cases.base codes (lands (graph_in g) (Some to)) to within
+                  (home_lands b g.switches (Some to)) (lands_in b g.switches some_blocks (Some to)))
+
+              led : (b : Bool) → (operations_on g.snips (landing_of (graph_in g) (Some to)) == 0) ≡ b
+                  → found_in f.halves x.npc ≡ slice_index p.at
+                  (if b then entry else landing_number g.text (graph_in g) to)
+              led b e = tables.words x.npc to waits.0 waits.1 some
+                  ∙ ap (λ (z : Bool). slice_index p.at (if z then entry else landing_number g.text (graph_in g) to)) e
+
+              visit : slice_index p.at entry ≡ entered_at g (l g codes is p f) p f after (point_of v)
+              visit = sym (entered_word g codes is p f after (point_of v) to (ap (word_at g.text) w.0 ∙ some) w.1
+                  ∙ ap (λ (n : Node). slice_index p.at (enter_number g.text (graph_in g) n to))
+                  (lands_to v e live ∙ ap (lands (graph_in g)) some))
 
               lands_by : (b : Bool) → (operations_on g.snips (landing_of (graph_in g) (Some to)) == 0) ≡ b
                   → Lands g (l g codes is p f) p f (landed g.text (graph_in g) kinds.Out x.npc) x.npc
-                  (visited_at g (l g codes is p f) p f after (point_of v))
+                  (entered_at g (l g codes is p f) p f after (point_of v))
               lands_by true e =
                   inl (
-                    record { 0 = to },
-                    slice_get_within (l g codes is p f).list _ _ (image_at g.text (graph_in g) f.table.base codes to within),
+                    record { 0 = entry },
+                    slice_get_within (l g codes is p f).list entry _ image_there.1,
                     led true e,
                     inr (
-                      ap (operations_on g.snips) (landed_out g.text (graph_in g).blocks x.npc (Some to) some) ∙ eqb-true _ _ e,
+                      ap (operations_on g.snips) (landed_out g.text (graph_in g) x.npc (Some to) some) ∙ eqb-true _ _ e,
                       visit,
                     ),
                   )
               lands_by false e =
-                  let there = landing_at g.text (graph_in g) f.table.base codes to within in
+                  let landing_there =
+                  landing_at g.text b g.switches is.cased f.table.base f.cases.base codes to within in
                   inl (
                     record { 0 = landing_number g.text (graph_in g) to },
-                    slice_get_within (l g codes is p f).list _ _ there,
+                    slice_get_within (l g codes is p f).list _ _ landing_there,
                     led false e,
                     inl (inr (inl (
-                      record { 0 = to },
-                      there ∙ ap (λ (edges : List ℕ). Some (words_on (l g codes is p f) edges ++ jump_to to))
-                          (sym (landed_out g.text (graph_in g).blocks x.npc (Some to) some)),
+                      record { 0 = entry },
+                      landing_there ∙ ap (λ (edges : List ℕ). Some (words_on (l g codes is p f) edges ++ jump_to entry))
+                          (sym (landed_out g.text (graph_in g) x.npc (Some to) some)),
                       visit,
                     ))),
                   )
@@ -326,41 +468,36 @@ module _ (g : Setting) (codes : ℕ → List ℕ) (is : IsText g.text) (p : Plac
       jump_case = jumps_slot (record {
         slot = way.jumps out;
         out = out;
+        caseless = caseless;
         piece = piece;
-        within = slice_get_within (l g codes is p f).list piece _ (past true out);
-        here = copy_visited g codes is p f node x slot at way not;
+        within = slice_get_within (l g codes is p f).list piece _ (past true edge_out);
+        here = stands;
         address = address;
         original = sym (word_at-some g.text x.pc slot at).is;
         word = word;
-        is_word = word_is g codes is p f x slot at;
+        is_word = word_is g x slot at;
         straight = straight;
         through = 1;
         some = omega arith;
         below = omega arith;
         edge = way.number;
-        outward = ap is_out way.is ∙ ap (λ (k : EdgeKind). same_kind k kinds.Out)
-            (edge_is g codes is p f node x (way_in g codes is p f x) way).same ∙ out;
+        outward = ap is_out way.is ∙ edge_out;
         landing = lands_on;
         completes = λ live. completes (does_at g x t) refl live;
-        items = past true out;
-        lands = λ live. lands (does_at g x t) refl live;
+        items = past true edge_out;
+        lands = λ live. landed_at (does_at g x t) refl live;
       })
 
-    straight_case : (b : Bool) → same_kind (way_in g codes is p f x) kinds.Out ≡ b
-        → IsCase g (l g codes is p f) base p place f node x t
-    straight_case true e = jump_case e
-    straight_case false e = plain_case e
-
-  by_word : (b : Bool) → is_transfer (decode_of word) ≡ b → IsCase g (l g codes is p f) base p place f node x t
-  by_word true e = couple (record {
+  couple_case : is_transfer (decode_of word) ≡ true → IsCase g (l g codes is p f) base p place f node x t
+  couple_case e = couple (record {
     slot = not;
     piece = piece;
     within = slice_get_within (l g codes is p f).list piece _ (made true e);
-    here = copy_visited g codes is p f node x slot at way not;
+    here = stands;
     address = address;
     original = sym (word_at-some g.text x.pc slot at).is;
     word = word;
-    is_word = word_is g codes is p f x slot at;
+    is_word = word_is g x slot at;
     transfer = e;
     ba = couple_word;
     disp = pos 2;
@@ -368,7 +505,45 @@ module _ (g : Setting) (codes : ℕ → List ℕ) (is : IsText g.text) (p : Plac
     rest = [];
     items = made true e;
   })
-  by_word false e = straight_case e (same_kind (way_in g codes is p f x) kinds.Out) refl
 
-  pub copy_case : IsCase g (l g codes is p f) base p place f node x t
-  copy_case = by_word (is_transfer (decode_of word)) refl
+  -- ---- whatever the word
+
+  by_word : ((straight : is_transfer (decode_of word) ≡ false) → IsCase g (l g codes is p f) base p place f node x t)
+      → (c : Bool) → is_transfer (decode_of word) ≡ c → IsCase g (l g codes is p f) base p place f node x t
+  by_word otherwise true e = couple_case e
+  by_word otherwise false e = otherwise e
+
+  -- along an edge of which the node has one
+  pub plain_copy_case : (same_kind (way_in g codes is p f x) kinds.Out ≡ true → has_cases g.switches node ≡ false)
+      → to ≡ first_word (graph_in g) way.edge.to → IsCase g (l g codes is p f) base p place f node x t
+  plain_copy_case caseless first =
+      by_word (λ straight. by straight (same_kind (way_in g codes is p f x) kinds.Out) refl)
+      (is_transfer (decode_of word)) refl
+    where
+      by : (straight : is_transfer (decode_of word) ≡ false) → (c : Bool)
+          → same_kind (way_in g codes is p f x) kinds.Out ≡ c → IsCase g (l g codes is p f) base p place f node x t
+      by straight true out = jump_case straight out (caseless out)
+      by straight false other = other_case straight other first
+
+  -- along a Case edge
+  pub case_copy_case : same_kind (way_in g codes is p f x) kinds.Out ≡ true → has_cases g.switches node ≡ true
+      → word_at g.text x.npc ≡ Some to → IsCase g (l g codes is p f) base p place f node x t
+  case_copy_case out cased goes_there =
+      by_word (λ straight. along_case straight out cased goes_there) (is_transfer (decode_of word)) refl
+
+-- each slot at a word
+pub copy_case : (g : Setting) (codes : ℕ → List ℕ) (is : IsKnown g) (p : Placement) (f : Frame) (base : ℕ)
+    (place : ℕ → ℕ → ℕ) → IsTableFor g.text (graph_in g) g.snips p f.table f.halves
+    → (node : Node) (x : Point) (t : State) → Here g (l g codes is p f) base p f node x t
+    → (slot : ℕ) → word_at g.text x.pc ≡ Some slot → x.slot ≢ NoSlot
+    → IsOnItsWay g.text (graph_in g) node x (way_in g codes is p f x)
+    → IsCase g (l g codes is p f) base p place f node x t
+copy_case g codes is p f base place tables node x t here slot at not way =
+    by_cases (IsCase g (l g codes is p f) base p place f node x t) (same_kind (way_in g codes is p f x) kinds.Out)
+    (has_cases g.switches node)
+    (λ caseless.
+    plain_copy_case g codes is p f base place tables node x t here slot at not way _ _
+    (plain_copy g codes is p f node x slot at way caseless) caseless refl)
+    (λ out cased.
+    case_copy_case g codes is p f base place tables node x t here slot at not way _ _
+    (case_copy g codes is p f node x slot at way out cased) out cased (target g codes is p f node x way out cased).goes)

@@ -33,8 +33,8 @@ use Rattle.addr_translate.specs.Halves.{found_in}
 use Rattle.jump_code.specs.Links.{past}
 use Rattle.jump_code.specs.PageWords.{IsPageWord}
 use Rattle.jump_code.specs.Pieces.{marked_piece}
-use Rattle.image_code.specs.Simulates.{Setting, StepsOn, IsOnWay, IsThere, in_first_word, is_jmpl, is_spill, is_transfer_at, cells_in, updates, at_point, graph_in, number_in, word_of}
-use Rattle.image_code.specs.Images.{Pieces, Frame, HasImages, Here, IsFramed, IsPlaced, visited_at}
+use Rattle.image_code.specs.Simulates.{Setting, IsOnWay, IsThere, in_first_word, is_jmpl, is_spill, is_transfer_at, cells_in, updates, at_point, graph_in, number_in, word_of, Enters}
+use Rattle.image_code.specs.Images.{Pieces, Frame, HasImages, Here, IsFramed, IsPlaced, visited_at, entered_at, Entered}
 use Rattle.image_code.specs.Cases.{LeadsTo}
 use Rattle.snippet_code.specs.Runs.{words_at}
 use Rattle.image_code.proofs.Cells.{cells_above, page_above, updates_same}
@@ -151,14 +151,14 @@ module _ (g : Setting) (l : Pieces) (base : ℕ) (p : Placement) (place : ℕ �
       one) refl leads)
 
   pub goes_through : (v : State) (m : Memory) (edges : List ℕ) → LastDead g edges → 0 < length xs → length xs ≤ 14 → Through v m
-      → LeadsTo l p way edges (word_at g.text v.pc) (visited_at g l p f (node_after (graph_in g) node edges) (point_of v))
-      → StepsOn g (Here g l base p f) (HasShortForms l.list place) edges node x t v
+      → LeadsTo l p way edges (word_at g.text v.pc) (entered_at g l p f (node_after (graph_in g) node edges) (point_of v))
+      → Enters g (Entered g l base p f) (HasShortForms l.list place) edges node x t v
   unfolding On
   goes_through v m edges last some short w leads =
-      let rest = on_along v m edges (visited_at g l p f (node_after (graph_in g) node edges) (point_of v)) w leads in
+      let rest = on_along v m edges (entered_at g l p f (node_after (graph_in g) node edges) (point_of v)) w leads in
       let few = rest.few in
       let path = leads_then On t (past t (length xs) m v)
-      (hopped rest.other (visited_at g l p f (node_after (graph_in g) node edges) (point_of v)) rest.memory)
+      (hopped rest.other (entered_at g l p f (node_after (graph_in g) node edges) (point_of v)) rest.memory)
       (length xs) rest.count
       (leads_weaker _ On t (past t (length xs) m v) (length xs) (λ u q. inl q) w.path)
       (leads_weaker _ On (past t (length xs) m v) _ rest.count (λ u q. inr q) rest.path)
@@ -169,50 +169,53 @@ module _ (g : Setting) (l : Pieces) (base : ℕ) (p : Placement) (place : ℕ �
       let still : memory_word rest.memory (page_word 1) ≡ memory_word m (page_word 1) = rest.waits in
       let lives : rest.other.ending ≡ None = rest.alike.ending ∙ w.live in
       record {
-        count = length xs + rest.count;
-        after = hopped rest.other (visited_at g l p f (node_after (graph_in g) node edges) (point_of v)) rest.memory;
-        path = record {
-          steps = path.steps;
-          some = omega arith;
-          few = omega (arith, few, short);
-          quiet = quiet_of g l base p place f h t _ (length xs + rest.count) On path lives on_way;
+        on = record {
+          count = length xs + rest.count;
+          after = hopped rest.other (entered_at g l p f (node_after (graph_in g) node edges) (point_of v)) rest.memory;
+          path = record {
+            steps = path.steps;
+            some = omega arith;
+            few = omega (arith, few, short);
+            quiet = quiet_of g l base p place f h t _ (length xs + rest.count) On path lives on_way;
+          };
+          puts = λ descriptor.
+              silent_then t (past t (length xs) m v) (length xs) rest.count w.path.steps w.silent rest.silent descriptor
+              ∙ sym (w.quiet descriptor);
+          followed = followed_alike g edges v (past t (length xs) m v) (hopped rest.other (entered_at g l p f
+              (node_after (graph_in g) node edges) (point_of v)) rest.memory) refl refl refl refl refl refl refl
+              (subst (λ (z : Memory). IsSameOutside (pages_of g.notes) z rest.memory) (sym w.memory)
+              (same_stored g f h.frame base p t.memory rest.memory here.memory stores))
+              (alike_hopped g edges (past t (length xs) m v) rest.other (entered_at g l p f
+              (node_after (graph_in g) node edges) (point_of v)) rest.memory rest.alike);
+          cells = rest.cells last
+              ∙ updates_same g.snips edges (words_at g.notes.base g.notes.cells m) (past t (length xs) m v) v refl
+              ∙ ap (λ z. updates g.snips edges z v) (page_cells m w.stores);
+          here = λ _. record {
+            valid = subst IsValid path.steps (run-valid t (length xs + rest.count) here.valid);
+            live = lives;
+            at = refl;
+            npc = refl;
+            slot = refl;
+            memory = images_stored g f h.frame base p t _ (length xs + rest.count) path.steps stores here.memory;
+            waits = λ a b _. let z = w.waits a b in (still ∙ z.0, z.1, λ there. rest.found there ∙ z.2 there);
+          };
+          place = λ e. absurd (e w.live);
+          sparing = λ watched.
+              let none = w.stored watched.jump (is_spill g.notes) in
+              let more = rest.spares watched.inside in
+              let both = count_add (is_spill g.notes) t (past t (length xs) m v) (length xs) w.path.steps rest.count in
+              let moves = w.transfer in
+              record {
+                spills = omega (arith, none, more, both);
+                first = λ forms.
+                    none_then in_first_word t (past t (length xs) m v) (length xs) rest.count w.path.steps
+                    (w.stored watched.jump in_first_word) (rest.leaves_first watched.inside forms);
+                alone = λ _ _ straight. absurd (cc);
+                few = λ forms no_operations.
+                    let brief = rest.brief watched.inside forms in
+                    let two = w.two watched.jump in
+                    omega (arith, no_operations, brief, two);
+              };
         };
-        puts = λ descriptor.
-            silent_then t (past t (length xs) m v) (length xs) rest.count w.path.steps w.silent rest.silent descriptor
-            ∙ sym (w.quiet descriptor);
-        followed = followed_alike g edges v (past t (length xs) m v) (hopped rest.other (visited_at g l p f
-            (node_after (graph_in g) node edges) (point_of v)) rest.memory) refl refl refl refl refl refl refl
-            (subst (λ (z : Memory). IsSameOutside (pages_of g.notes) z rest.memory) (sym w.memory)
-            (same_stored g f h.frame base p t.memory rest.memory here.memory stores))
-            (alike_hopped g edges (past t (length xs) m v) rest.other (visited_at g l p f
-            (node_after (graph_in g) node edges) (point_of v)) rest.memory rest.alike);
-        cells = rest.cells last
-            ∙ updates_same g.snips edges (words_at g.notes.base g.notes.cells m) (past t (length xs) m v) v refl
-            ∙ ap (λ z. updates g.snips edges z v) (page_cells m w.stores);
-        here = λ _. record {
-          valid = subst IsValid path.steps (run-valid t (length xs + rest.count) here.valid);
-          live = lives;
-          at = refl;
-          npc = refl;
-          slot = refl;
-          memory = images_stored g f h.frame base p t _ (length xs + rest.count) path.steps stores here.memory;
-          waits = λ a b. let z = w.waits a b in (still ∙ z.0, z.1, λ there. rest.found there ∙ z.2 there);
-        };
-        place = λ e. absurd (e w.live);
-        sparing = λ watched.
-            let none = w.stored watched.jump (is_spill g.notes) in
-            let more = rest.spares watched.inside in
-            let both = count_add (is_spill g.notes) t (past t (length xs) m v) (length xs) w.path.steps rest.count in
-            let moves = w.transfer in
-            record {
-              spills = omega (arith, none, more, both);
-              first = λ forms.
-                  none_then in_first_word t (past t (length xs) m v) (length xs) rest.count w.path.steps
-                  (w.stored watched.jump in_first_word) (rest.leaves_first watched.inside forms);
-              alone = λ _ _ straight. absurd (cc);
-              few = λ forms no_operations.
-                  let brief = rest.brief watched.inside forms in
-                  let two = w.two watched.jump in
-                  omega (arith, no_operations, brief, two);
-            };
+        first = λ _ _ straight _. let moves = w.transfer in absurd (cc);
       }

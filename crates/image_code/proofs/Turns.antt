@@ -34,8 +34,8 @@ use Rattle.layout.specs.declared.items.Item.TheVariants as it
 use Rattle.layout.specs.Laid.{HasShortForms, Placement, item_at, item_in, items_in, size_of, open_in, range_in, range_of}
 use Rattle.layout.specs.Running.{CanRun, Goes}
 use Rattle.layout.proofs.Going.{branches_hop}
-use Rattle.image_code.specs.Simulates.{Setting, StepsOn, IsOnWay, in_first_word, is_spill, spills_on, at_point, cells_in, does_at, gone_at, graph_in, number_in, operations_on, updates}
-use Rattle.image_code.specs.Images.{Pieces, Frame, Here, IsPlaced, visited_at, visited_by}
+use Rattle.image_code.specs.Simulates.{Setting, IsOnWay, in_first_word, is_spill, spills_on, at_point, cells_in, does_at, gone_at, graph_in, number_in, operations_on, updates, Enters}
+use Rattle.image_code.specs.Images.{Pieces, Frame, Here, IsPlaced, visited_by, entered_at, Entered}
 use Rattle.image_code.specs.Cases.{LeadsTo, branch_piece, word_ahead}
 use Rattle.image_code.specs.Turns.{IsTurn, TurnsStep}
 use Rattle.image_code.proofs.BranchMoves.{IsMoved, branch_moves}
@@ -235,10 +235,10 @@ module _ (g : Setting) (l : Pieces) (base : ℕ) (p : Placement) (place : ℕ �
       (of_hop_fit (place (l.image node c.number) 2) (omega arith) j) (sym b_closes) leads)
 
   turned : (edges : List ℕ) → LastDead g edges → (to most : ℕ) (v : State) → IsMoved (at_point x t) v
-      → Comes (word_at g.text v.pc) edges to most → most ≤ 64
-      → to ≡ visited_at g l p f (node_after (graph_in g) node edges) (point_of v)
+      → Comes (word_at g.text v.pc) edges to most → most ≤ 61
+      → to ≡ entered_at g l p f (node_after (graph_in g) node edges) (point_of v)
       → (v.slot ≡ Taken → same_kind (way_of (instr_at g.text (v.pc - 4)) v.slot) kinds.Out ≡ true → ⊥)
-      → StepsOn g (Here g l base p f) (HasShortForms l.list place) edges node x t v
+      → Enters g (Entered g l base p f) (HasShortForms l.list place) edges node x t v
   turned edges last to most v m j bound is never =
       let few = j.few in
       let stores = j.stores in
@@ -246,52 +246,55 @@ module _ (g : Setting) (l : Pieces) (base : ℕ) (p : Placement) (place : ℕ �
       let same : v ≡ moved m.pc m.npc m.slot t = m.is in
       let lives : j.other.ending ≡ None = j.alike.ending ∙ here.live in
       record {
-        count = j.count;
-        after = hopped j.other to j.memory;
-        path = record {
-          steps = j.path.steps;
-          some = j.some;
-          few = omega (arith, few, bound);
-          quiet = quiet_of g l base p place f h t _ j.count IsOn j.path lives on_way;
+        on = record {
+          count = j.count;
+          after = hopped j.other to j.memory;
+          path = record {
+            steps = j.path.steps;
+            some = j.some;
+            few = omega (arith, few, bound);
+            quiet = quiet_of g l base p place f h t _ j.count IsOn j.path lives on_way;
+          };
+          puts = λ descriptor. j.silent descriptor
+              ∙ sym (ap (λ (o : Option ℕ). puts_on_word (at_point x t) o descriptor) c.is_word
+              ∙ ap (λ (q : Instr). puts_by (at_point x t) q descriptor) c.says
+              ∙ no_puts (at_point x t) c.cond c.annul c.disp descriptor);
+          followed = followed_alike g edges v t (hopped j.other to j.memory)
+              (ap (λ (z : State). z.ending) same) (ap (λ (z : State). z.window) same) (ap (λ (z : State). z.valid) same)
+              (ap (λ (z : State). z.registers) same) (ap (λ (z : State). z.codes) same) (ap (λ (z : State). z.y) same)
+              (ap (λ (z : State). z.input) same)
+              (subst (λ (z : Memory). IsSameOutside (pages_of g.notes) z j.memory)
+              (sym (ap (λ (z : State). z.memory) same))
+              (same_stored g f h.frame base p t.memory j.memory here.memory stores))
+              (alike_hopped g edges t j.other to j.memory j.alike);
+          cells = j.cells last
+              ∙ updates_same g.snips edges (cells_in g t) t v (sym (ap (λ (z : State). register_of z) same));
+          here = λ _. record {
+            valid = subst IsValid j.path.steps (run-valid t j.count here.valid);
+            live = lives;
+            at = is;
+            npc = refl;
+            slot = refl;
+            memory = images_stored g f h.frame base p t (hopped j.other to j.memory) j.count j.path.steps stores here.memory;
+            waits = λ a b _. absurd (never a b);
+          };
+          place = λ e. absurd (e (ap (λ (z : State). z.ending) same ∙ here.live));
+          sparing = λ w.
+              let moves = transfers g.text x.pc c.word c.is_word (ap is_transfer c.says) in
+              record {
+                spills = j.spares w.inside;
+                first = j.leaves_first w.inside;
+                alone = λ _ _ straight. absurd (cc);
+                few = j.brief w.inside;
+              };
         };
-        puts = λ descriptor. j.silent descriptor
-            ∙ sym (ap (λ (o : Option ℕ). puts_on_word (at_point x t) o descriptor) c.is_word
-            ∙ ap (λ (q : Instr). puts_by (at_point x t) q descriptor) c.says
-            ∙ no_puts (at_point x t) c.cond c.annul c.disp descriptor);
-        followed = followed_alike g edges v t (hopped j.other to j.memory)
-            (ap (λ (z : State). z.ending) same) (ap (λ (z : State). z.window) same) (ap (λ (z : State). z.valid) same)
-            (ap (λ (z : State). z.registers) same) (ap (λ (z : State). z.codes) same) (ap (λ (z : State). z.y) same)
-            (ap (λ (z : State). z.input) same)
-            (subst (λ (z : Memory). IsSameOutside (pages_of g.notes) z j.memory)
-            (sym (ap (λ (z : State). z.memory) same))
-            (same_stored g f h.frame base p t.memory j.memory here.memory stores))
-            (alike_hopped g edges t j.other to j.memory j.alike);
-        cells = j.cells last
-            ∙ updates_same g.snips edges (cells_in g t) t v (sym (ap (λ (z : State). register_of z) same));
-        here = λ _. record {
-          valid = subst IsValid j.path.steps (run-valid t j.count here.valid);
-          live = lives;
-          at = is;
-          npc = refl;
-          slot = refl;
-          memory = images_stored g f h.frame base p t (hopped j.other to j.memory) j.count j.path.steps stores here.memory;
-          waits = λ a b. absurd (never a b);
-        };
-        place = λ e. absurd (e (ap (λ (z : State). z.ending) same ∙ here.live));
-        sparing = λ w.
-            let moves = transfers g.text x.pc c.word c.is_word (ap is_transfer c.says) in
-            record {
-              spills = j.spares w.inside;
-              first = j.leaves_first w.inside;
-              alone = λ _ _ straight. absurd (cc);
-              few = j.brief w.inside;
-            };
+        first = λ _ _ straight _. let moves = transfers g.text x.pc c.word c.is_word (ap is_transfer c.says) in absurd (cc);
       }
 
   b_step : (flag : Bool) → holds_of c.cond t.codes ≡ flag
-      → StepsOn g (Here g l base p f) (HasShortForms l.list place) (gone_at g node x (does_at g x t)) node x t (does_at g x t)
+      → Enters g (Entered g l base p f) (HasShortForms l.list place) (gone_at g node x (does_at g x t)) node x t (does_at g x t)
   b_step true e =
-      let to = visited_at g l p f (node_after (graph_in g) node (gone_at g node x (does_at g x t)))
+      let to = entered_at g l p f (node_after (graph_in g) node (gone_at g node x (does_at g x t)))
       (point_of (does_at g x t)) in
       let way = subst (λ (b : Bool). Goes t (if b then slice_index p.at c.taken else place (l.image node c.number) 2)
       (place (l.image node c.number) 2) 1 6 2) e hop in
@@ -301,7 +304,7 @@ module _ (g : Setting) (l : Pieces) (base : ℕ) (p : Placement) (place : ℕ �
       c.leads))
       (omega arith) refl c.never
   b_step false e =
-      let to = visited_at g l p f (node_after (graph_in g) node (gone_at g node x (does_at g x t)))
+      let to = entered_at g l p f (node_after (graph_in g) node (gone_at g node x (does_at g x t)))
       (point_of (does_at g x t)) in
       let way = subst (λ (b : Bool). Goes t (if b then slice_index p.at c.taken else place (l.image node c.number) 2)
       (place (l.image node c.number) 2) 1 6 2) e hop in

@@ -1,9 +1,11 @@
 -- Where the points of a text are visited, and what stands there.
-use Rattle.std.proofs.Common.{◌≡◌, ◌≢◌, ℕ, ◌+◌, ◌-◌, ◌<◌, inl, inr, Bool, false, Option, Some, None, List, [], length, refl, ap, sym, ◌∙◌, subst, arith}
-use Rattle.std.specs.Prelude.{if◌then◌else◌, slice_get, slice_index}
+use Rattle.std.proofs.Common.{◌≡◌, ◌≢◌, ℕ, ◌+◌, ◌-◌, ◌<◌, inl, inr, Bool, true, false, Option, Some, None, List, [], ◌∷◌, ◌||◌, suc, length, refl, ap, sym, ◌∙◌, subst, arith}
+use Rattle.std.specs.Prelude.{◌==◌, if◌then◌else◌, slice_get, slice_index}
+use Rattle.std.specs.List.{list_any}
 use Rattle.std.specs.Option.{option_map}
-use Rattle.std.proofs.lemmas.Bool.{lt-ltb}
-use Rattle.eel_base.specs.CodeText.{IsText, address_of, word_at}
+use Rattle.std.proofs.lemmas.Bool.{eqb-true, false≢true, lt-ltb}
+use Rattle.std.proofs.lemmas.List.Folds.{list_any-append}
+use Rattle.eel_base.specs.CodeText.{address_of, word_at}
 use Rattle.v8_decode.specs.declared.Instr.{Instr}
 use Rattle.v8_decode.specs.Words.{decode_of}
 use Rattle.v8_step.specs.declared.Ending.{Ending}
@@ -13,190 +15,89 @@ use Rattle.v8_step.specs.State.{State}
 use Rattle.cfg_blocks.specs.declared.EdgeKind.{EdgeKind}
 use Rattle.cfg_blocks.specs.declared.EdgeKind.TheVariants as kinds
 use Rattle.cfg_blocks.specs.Blocks.{Blocks, blocks_of}
-use Rattle.cfg_blocks.specs.Entries.{is_fall}
 use Rattle.cfg_blocks.proofs.Targets.{word_at-some}
+use Rattle.cfg_normal.specs.declared.Edge.{Edge}
 use Rattle.cfg_normal.specs.declared.Node.{Node}
+use Rattle.cfg_normal.specs.declared.Node.TheVariants.{Block, Landed, X}
 use Rattle.cfg_normal.specs.declared.Slot.{Slot as Carried}
 use Rattle.cfg_normal.specs.declared.Slot.TheVariants as carried
-use Rattle.cfg_normal.specs.Graph.{IsSlotIn, node_of}
-use Rattle.cfg_walk.specs.Walk.{Point, completed, edge_from, gone, instr_at, left_at, left_by, point_of, same_kind, slot_left, unless_ended, way_of}
-use Rattle.cfg_walk.specs.Matches.{IsCarried, IsOnItsWay, MatchesBy}
+use Rattle.cfg_normal.specs.Nodes.{home_of}
+use Rattle.cfg_normal.specs.Opens.{Open, targets_in}
+use Rattle.cfg_normal.specs.Graph.{IsNodeIn, IsSlotIn, has_cases, lands, node_of}
+use Rattle.cfg_walk.specs.Walk.{Point, WayOut, by_kind, completed, edge_along, gone, instr_at, left_at, left_by, point_of, same_kind, slot_left, unless_ended, way_of, way_to}
+use Rattle.cfg_walk.specs.Matches.{IsCarried, IsOnItsWay, IsTarget, MatchesBy}
 use Rattle.cfg_walk.proofs.Addresses.{word_at-address}
-use Rattle.cfg_walk.proofs.NoneOpen.{IsOnEdge, on_edge}
+use Rattle.cfg_walk.proofs.Edges.{block}
 use Rattle.addr_translate.specs.Lookup.{IsTable}
 use Rattle.layout.specs.Laid.{Placement}
 use Rattle.image_code.specs.Simulates.{Setting, gone_at, graph_in, word_of}
-use Rattle.image_code.specs.Images.{Pieces, Frame, slot_piece, visited_at, visited_by}
+use Rattle.image_code.specs.Images.{Pieces, Frame, along_first, entered_at, place_by, slot_piece, visited_at}
 use Rattle.image_code.specs.Cases.{IsFar, LeadsTo}
-use Rattle.image_code.specs.Made.{first_way, image_by, jumps_at, pieces_in, way_out}
-use Rattle.image_code.proofs.EdgePieces.{IsAlong, along, cut_in, items_along, slot_in}
-use Rattle.image_code.proofs.Branches.{first_along, way_is_own, within_is}
-use Rattle.image_code.proofs.Listed.{image_at}
+use Rattle.image_code.specs.Made.{first_way, first_word, image_by, jumps_at, pieces_in, way_by, way_out}
+use Rattle.image_code.specs.Numbered.{along_case, along_number, case_piece, enter_number, image_number, jump_number, way_piece}
+use Rattle.image_code.proofs.CaseTables.{IsKnown}
+use Rattle.image_code.proofs.EdgePieces.{IsAlong, along, by_case, cut_in, items_along, items_case, slot_in}
+use Rattle.image_code.proofs.Positions.{placed}
+use Rattle.image_code.proofs.Branches.{IsTransfersWay, same_is, way_is_own, within_is}
+use Rattle.image_code.proofs.ImageNumbers.{HasImage, jump_numbered, open_is}
+use Rattle.image_code.proofs.ImagePieces.{image_at, stands_at}
 
-module _ (g : Setting) (codes : ℕ → List ℕ) (is : IsText g.text) (p : Placement) (f : Frame) where
-  abbrev b : Blocks
-  b = blocks_of g.text g.given
+-- the open switch among whose targets a word is
+record IsAmongTargets (opens : List Open) (block word : ℕ) : Type 0 where
+  number : ℕ
+  o : Open
+  is : slice_get opens number ≡ Some o
+  itself : o.block ≡ block
+  entry : ℕ
+  at : slice_get o.targets entry ≡ Some word
 
-  abbrev pub l : Pieces
-  l = pieces_in g.text (graph_in g) f.table.base codes
+among_words : (words : List ℕ) (word : ℕ) → list_any (λ x. x == word) words ≡ true
+    → (entry : ℕ) × (slice_get words entry ≡ Some word)
+among_words words word any =
+    let found = placed (λ (x : ℕ). x == word) words any in
+    let same : found.item ≡ word = eqb-true found.item word found.passes in
+    (found.number, found.is ∙ ap (λ (z : ℕ). Some z) same)
 
-  -- ---- where a machine stands that visits a point
+among_targets : (opens : List Open) (block word : ℕ) → list_any (λ x. x == word) (targets_in opens block) ≡ true
+    → IsAmongTargets opens block word
+among_targets [] block word any = absurd (false≢true any)
+among_targets (o ∷ opens) block word any =
+    by (o.block == block) refl
+    (sym (list_any-append (λ x. x == word) (if o.block == block then o.targets else []) (targets_in opens block)) ∙ any)
+    (among_targets opens block word)
+  where
+    later : IsAmongTargets opens block word → IsAmongTargets (o ∷ opens) block word
+    later rest = record {
+      number = suc rest.number;
+      o = rest.o;
+      is = rest.is;
+      itself = rest.itself;
+      entry = rest.entry;
+      at = rest.at;
+    }
 
-  pub visited_word : (node : Node) (x : Point) (word : ℕ) → word_at g.text x.pc ≡ Some word → x.slot ≡ NoSlot
-      → visited_at g l p f node x ≡ slice_index p.at word
-  visited_word node x word e n =
-      ap (λ (o : Option ℕ). visited_by g l p f node x o x.slot) e
-      ∙ ap (λ (s : Slot). visited_by g l p f node x (Some word) s) n
+    first : o.block ≡ block → (t : Bool) → list_any (λ x. x == word) o.targets ≡ t
+        → (t || list_any (λ x. x == word) (targets_in opens block)) ≡ true
+        → (list_any (λ x. x == word) (targets_in opens block) ≡ true → IsAmongTargets opens block word)
+        → IsAmongTargets (o ∷ opens) block word
+    first same true e any next =
+        let found = among_words o.targets word e in
+        record { number = 0; o = o; is = refl; itself = same; entry = found.0; at = found.1 }
+    first same false e any next = later (next any)
 
-  pub visited_none : (node : Node) (x : Point) → word_at g.text x.pc ≡ None → x.slot ≡ NoSlot
-      → visited_at g l p f node x ≡ x.pc
-  visited_none node x e n =
-      ap (λ (o : Option ℕ). visited_by g l p f node x o x.slot) e
-      ∙ ap (λ (s : Slot). visited_by g l p f node x None s) n
+    by : (t : Bool) → (o.block == block) ≡ t
+        → (list_any (λ x. x == word) (if t then o.targets else []) || list_any (λ x. x == word)
+        (targets_in opens block)) ≡ true
+        → (list_any (λ x. x == word) (targets_in opens block) ≡ true → IsAmongTargets opens block word)
+        → IsAmongTargets (o ∷ opens) block word
+    by true e any next =
+        first (eqb-true o.block block e) (list_any (λ x. x == word) o.targets) refl any next
+    by false e any next = later (next any)
 
-  pub visited_slot : (node : Node) (x : Point) (word : ℕ) → word_at g.text x.pc ≡ Some word → x.slot ≢ NoSlot
-      → visited_at g l p f node x ≡ slice_index p.at (slot_piece g l node x)
-  visited_slot node x word e n = ap (λ (o : Option ℕ). visited_by g l p f node x o x.slot) e ∙ by x.slot n
-    where
-      by : (s : Slot) → s ≢ NoSlot → visited_by g l p f node x (Some word) s ≡ slice_index p.at
-          (slot_piece g l node x)
-      by NoSlot n = absurd (n refl)
-      by Taken n = refl
-      by Untaken n = refl
-
-  pub visited_off : (node : Node) (x : Point) → word_at g.text x.pc ≡ None → x.slot ≢ NoSlot
-      → visited_at g l p f node x ≡ f.table.base
-  visited_off node x e n = ap (λ (o : Option ℕ). visited_by g l p f node x o x.slot) e ∙ by x.slot n
-    where
-      by : (s : Slot) → s ≢ NoSlot → visited_by g l p f node x None s ≡ f.table.base
-      by NoSlot n = absurd (n refl)
-      by Taken n = refl
-      by Untaken n = refl
-
+module _ (g : Setting) where
   pub word_is : (x : Point) (word : ℕ) → word_at g.text x.pc ≡ Some word
       → word_of g.text x.pc ≡ Some (slice_index g.text.words word)
   word_is x word e = ap (option_map (λ n. slice_index g.text.words n)) e
-
-  -- ---- the image of a word
-
-  pub image_items : (node : Node) (x : Point) (word : ℕ) → word_at g.text x.pc ≡ Some word
-      → node ≡ node_of b (word_at g.text x.pc) → (instr : Instr) → decode_of (slice_index g.text.words word) ≡ instr
-      → slice_get l.list word ≡ Some (image_by g.text (graph_in g) (jumps_at g.text f.table.base) codes
-      (record { 0 = address_of g.text word }) node word instr)
-  image_items node x word at held instr e =
-      image_at g.text (graph_in g) f.table.base codes word (word_at-some g.text x.pc word at).within
-      ∙ ap (λ (n : Node). Some (image_by g.text (graph_in g) (jumps_at g.text f.table.base) codes (record { 0 = address_of g.text word }) n
-      word (decode_of (slice_index g.text.words word))))
-      (sym (held ∙ ap (node_of b) at))
-      ∙ ap (λ (d : Instr). Some (image_by g.text (graph_in g) (jumps_at g.text f.table.base) codes
-      (record { 0 = address_of g.text word }) node word d)) e
-
-  -- ---- in a slot
-
-  -- the way of the transfer before
-  abbrev pub way_in : Point → EdgeKind
-  way_in x = way_of (instr_at g.text (x.pc - 4)) x.slot
-
-  pub on_its_way : (node : Node) (x : Point) (s : Slot) → x.slot ≡ s → s ≢ NoSlot
-      → MatchesBy g.text (graph_in g) node x s → IsOnEdge g.text (graph_in g) node x (way_in x)
-  on_its_way node x NoSlot e n m = absurd (n refl)
-  on_its_way node x Taken e n m = on_edge g.text b node x (way_in x)
-      (subst (λ (s : Slot). IsOnItsWay g.text (graph_in g) node x (way_of (instr_at g.text (x.pc - 4)) s)) (sym e) m)
-  on_its_way node x Untaken e n m = on_edge g.text b node x (way_in x)
-      (subst (λ (s : Slot). IsOnItsWay g.text (graph_in g) node x (way_of (instr_at g.text (x.pc - 4)) s)) (sym e) m)
-
-  word_at_same : (word other : ℕ) → word_at g.text (address_of g.text word) ≡ Some other → word ≡ other
-  word_at_same word other e = within_is (length g.text.words) word other (sym (word_at-address g.text word) ∙ e)
-
-  module _ (node : Node) (x : Point) (kind : EdgeKind) (way : IsOnEdge g.text (graph_in g) node x kind) where
-    pub edge_is : IsAlong g is f.table.base node kind way.number way.edge
-    edge_is = along g is f.table.base node kind way.number way.edge way.only way.is
-
-    carried_by : (s : Carried) → way.edge.slot ≡ s → IsCarried g.text s x.pc
-    carried_by s e = subst (λ (s : Carried). IsCarried g.text s x.pc) e way.carries
-
-    -- behind the text
-    pub off : word_at g.text x.pc ≡ None → way.edge.slot ≡ carried.Off
-    off none = by way.edge.slot refl
-      where
-        by : (s : Carried) → way.edge.slot ≡ s → way.edge.slot ≡ carried.Off
-        by carried.Nothing e = absurd (carried_by carried.Nothing e)
-        by carried.Off e = e
-        by (carried.Word w) e =
-            let low : w.0 < length g.text.words = omega (
-              arith,
-              subst (IsSlotIn b) e (slot_in g is f.table.base way.number way.edge way.is),
-              (cut_in g is f.table.base).words,
-            ) in
-            let some : word_at g.text x.pc ≡ Some w.0 =
-            ap (word_at g.text) (carried_by (carried.Word w) e) ∙ word_at-address g.text w.0
-            ∙ ap (λ (t : Bool). if t then Some w.0 else None) (lt-ltb _ _ low) in
-            absurd (cc)
-
-    pub off_address : word_at g.text x.pc ≡ None → x.pc ≡ address_of g.text (length g.text.words)
-    off_address none = carried_by carried.Off (off none)
-
-    -- at a word
-    pub on : (slot : ℕ) → word_at g.text x.pc ≡ Some slot → way.edge.slot ≡ carried.Word (record { 0 = slot })
-    on slot at = by way.edge.slot refl
-      where
-        by : (s : Carried) → way.edge.slot ≡ s → way.edge.slot ≡ carried.Word (record { 0 = slot })
-        by carried.Nothing e = absurd (carried_by carried.Nothing e)
-        by carried.Off e =
-            let past : length g.text.words ≡ slot = word_at_same (length g.text.words) slot
-            (sym (ap (word_at g.text) (carried_by carried.Off e)) ∙ at) in
-            let low = (word_at-some g.text x.pc slot at).within in
-            absurd (omega arith)
-        by (carried.Word w) e =
-            let same : w.0 ≡ slot = word_at_same w.0 slot
-            (sym (ap (word_at g.text) (carried_by (carried.Word w) e)) ∙ at) in
-            e ∙ ap (λ (n : ℕ). carried.Word (record { 0 = n })) same
-
-  -- ---- into a slot
-
-  pub table_far : IsTable f.table → IsFar f.table.base
-  table_far whole =
-      let a = whole.aligned in
-      let h = whole.below in
-      (omega arith, omega arith)
-
-  -- the way of the edge on which a slot is run leads to where that is visited
-  pub enters : IsTable f.table → (node : Node) (x : Point) → x.slot ≢ NoSlot
-      → IsOnEdge g.text (graph_in g) node x (way_in x) → (kind : EdgeKind) → way_in x ≡ kind
-      → LeadsTo l p (record { 0 = way_out g.text (graph_in g) node kind }) [] (word_at g.text x.pc)
-      (visited_at g l p f node x)
-  enters whole node x slot way kind same = by (word_at g.text x.pc) refl
-    where
-      own : (is_fall (way_in x) ≡ false) × (same_kind (way_in x) kinds.Land ≡ false)
-      own = way_is_own (instr_at g.text (x.pc - 4)) x.slot
-
-      number : way_out g.text (graph_in g) node kind ≡ length g.text.words + way.number
-      number =
-          ap (λ (k : EdgeKind). way_out g.text (graph_in g) node k) (sym same)
-          ∙ ap (first_way g.text (graph_in g)) way.only
-
-      by : (o : Option ℕ) → word_at g.text x.pc ≡ o
-          → LeadsTo l p (record { 0 = way_out g.text (graph_in g) node kind }) [] (word_at g.text x.pc)
-          (visited_at g l p f node x)
-      by (Some word) e =
-          inl (
-            refl,
-            ap (slice_index p.at)
-                (ap (λ (k : EdgeKind). way_out g.text (graph_in g) node k) (sym same)
-                ∙ first_along g.text (graph_in g) f.table.base codes (edge_from (graph_in g) node (way_in x)))
-                ∙ sym (visited_slot node x word e slot),
-          )
-      by None e =
-          subst (LeadsTo l p (record { 0 = way_out g.text (graph_in g) node kind }) [] (word_at g.text x.pc))
-          (sym (visited_off node x e slot))
-          (inr (inr (
-            e,
-            table_far whole,
-            ap (slice_get l.list) number
-                ∙ items_along g is f.table.base codes node (way_in x) way.number way.edge
-                (edge_is node x (way_in x) way) own.0 own.1 carried.Off
-                (off node x (way_in x) way e),
-          )))
 
   -- ---- the edges of a step: into a slot none
 
@@ -225,7 +126,7 @@ module _ (g : Setting) (codes : ℕ → List ℕ) (is : IsText g.text) (p : Plac
 
   -- one from a slot completes the edge of the transfer before, and after a jump a landing
   pub slot_gone : (node : Node) (x : Point) (v : State) → x.slot ≢ NoSlot → v.slot ≡ NoSlot → v.ending ≡ None
-      → gone_at g node x v ≡ slot_left g.text (graph_in g) node (way_in x) v.pc
+      → gone_at g node x v ≡ slot_left g.text (graph_in g) node (way_of (instr_at g.text (x.pc - 4)) x.slot) v.pc
   slot_gone node x v slot after live =
       ap (λ (e : Option Ending). gone g.text (graph_in g) node x (unless_ended e (point_of v))) live
       ∙ ap (completed g.text (graph_in g) node x (point_of v) x.slot) after ∙ by x.slot slot
@@ -235,3 +136,336 @@ module _ (g : Setting) (codes : ℕ → List ℕ) (is : IsText g.text) (p : Plac
       by NoSlot n = absurd (n refl)
       by Taken n = refl
       by Untaken n = refl
+
+module _ (g : Setting) (codes : ℕ → List ℕ) (is : IsKnown g) (p : Placement) (f : Frame) where
+  abbrev b : Blocks
+  b = blocks_of g.text g.given
+
+  abbrev pub l : Pieces
+  l = pieces_in g.text (graph_in g) f.table.base f.cases.base codes
+
+  -- ---- where a machine stands that visits a point, or enters it
+
+  module _ (image : Node → ℕ → ℕ) where
+    abbrev placed_at : Node → Point → ℕ
+    placed_at node x = place_by image g l p f node x (word_at g.text x.pc) x.slot
+
+    placed_word : (node : Node) (x : Point) (word : ℕ) → word_at g.text x.pc ≡ Some word → x.slot ≡ NoSlot
+        → placed_at node x ≡ slice_index p.at (image node word)
+    placed_word node x word e n =
+        ap (λ (o : Option ℕ). place_by image g l p f node x o x.slot) e
+        ∙ ap (λ (s : Slot). place_by image g l p f node x (Some word) s) n
+
+    placed_none : (node : Node) (x : Point) → word_at g.text x.pc ≡ None → x.slot ≡ NoSlot → placed_at node x ≡ x.pc
+    placed_none node x e n =
+        ap (λ (o : Option ℕ). place_by image g l p f node x o x.slot) e
+        ∙ ap (λ (s : Slot). place_by image g l p f node x None s) n
+
+    placed_slot : (node : Node) (x : Point) (word : ℕ) → word_at g.text x.pc ≡ Some word → x.slot ≢ NoSlot
+        → placed_at node x ≡ slice_index p.at (slot_piece g l node x)
+    placed_slot node x word e n = ap (λ (o : Option ℕ). place_by image g l p f node x o x.slot) e ∙ by x.slot n
+      where
+        by : (s : Slot) → s ≢ NoSlot → place_by image g l p f node x (Some word) s ≡ slice_index p.at
+            (slot_piece g l node x)
+        by NoSlot n = absurd (n refl)
+        by Taken n = refl
+        by Untaken n = refl
+
+    placed_off : (node : Node) (x : Point) → word_at g.text x.pc ≡ None → x.slot ≢ NoSlot
+        → placed_at node x ≡ f.table.base
+    placed_off node x e n = ap (λ (o : Option ℕ). place_by image g l p f node x o x.slot) e ∙ by x.slot n
+      where
+        by : (s : Slot) → s ≢ NoSlot → place_by image g l p f node x None s ≡ f.table.base
+        by NoSlot n = absurd (n refl)
+        by Taken n = refl
+        by Untaken n = refl
+
+  pub visited_word : (node : Node) (x : Point) (word : ℕ) → word_at g.text x.pc ≡ Some word → x.slot ≡ NoSlot
+      → visited_at g l p f node x ≡ slice_index p.at (image_number g.text (graph_in g) node word)
+  visited_word = placed_word l.image
+
+  pub visited_slot : (node : Node) (x : Point) (word : ℕ) → word_at g.text x.pc ≡ Some word → x.slot ≢ NoSlot
+      → visited_at g l p f node x ≡ slice_index p.at (slot_piece g l node x)
+  visited_slot = placed_slot l.image
+
+  pub entered_word : (node : Node) (x : Point) (word : ℕ) → word_at g.text x.pc ≡ Some word → x.slot ≡ NoSlot
+      → entered_at g l p f node x ≡ slice_index p.at (enter_number g.text (graph_in g) node word)
+  entered_word = placed_word l.enter
+
+  pub entered_none : (node : Node) (x : Point) → word_at g.text x.pc ≡ None → x.slot ≡ NoSlot
+      → entered_at g l p f node x ≡ x.pc
+  entered_none = placed_none l.enter
+
+  pub entered_slot : (node : Node) (x : Point) (word : ℕ) → word_at g.text x.pc ≡ Some word → x.slot ≢ NoSlot
+      → entered_at g l p f node x ≡ slice_index p.at (slot_piece g l node x)
+  entered_slot = placed_slot l.enter
+
+  entered_off : (node : Node) (x : Point) → word_at g.text x.pc ≡ None → x.slot ≢ NoSlot
+      → entered_at g l p f node x ≡ f.table.base
+  entered_off = placed_off l.enter
+
+  -- outside the words' images control comes to the visit itself
+  pub enters_itself : (node : Node) (x : Point)
+      → ((word : ℕ) → word_at g.text x.pc ≡ Some word → x.slot ≡ NoSlot
+      → enter_number g.text (graph_in g) node word ≡ image_number g.text (graph_in g) node word)
+      → entered_at g l p f node x ≡ visited_at g l p f node x
+  enters_itself node x same = by (word_at g.text x.pc) refl x.slot refl
+    where
+      by : (o : Option ℕ) → word_at g.text x.pc ≡ o → (s : Slot) → x.slot ≡ s
+          → place_by l.enter g l p f node x o s ≡ place_by l.image g l p f node x o s
+      by (Some word) e NoSlot n = ap (slice_index p.at) (same word e n)
+      by None e NoSlot n = refl
+      by (Some word) e Taken n = refl
+      by None e Taken n = refl
+      by (Some word) e Untaken n = refl
+      by None e Untaken n = refl
+
+  -- ---- the image of a word
+
+  pub image_items : (node : Node) (x : Point) (word : ℕ) → word_at g.text x.pc ≡ Some word
+      → HasImage g.text b g.switches node word → (instr : Instr) → decode_of (slice_index g.text.words word) ≡ instr
+      → slice_get l.list (image_number g.text (graph_in g) node word)
+      ≡ Some (image_by g.text (graph_in g) (jumps_at g.text f.table.base) f.cases.base codes
+      (record { 0 = address_of g.text word }) node word instr)
+  image_items node x word at has instr e =
+      image_at g is f.table.base f.cases.base codes node word (word_at-some g.text x.pc word at).within has
+      ∙ ap (λ (d : Instr). Some (image_by g.text (graph_in g) (jumps_at g.text f.table.base) f.cases.base codes
+      (record { 0 = address_of g.text word }) node word d)) e
+
+  pub has_its_image : (node : Node) (x : Point) (word : ℕ) → word_at g.text x.pc ≡ Some word
+      → home_of node ≡ node_of b (word_at g.text x.pc) → IsNodeIn b g.switches node
+      → HasImage g.text b g.switches node word
+  has_its_image node x word at home there =
+      stands_at g is f.table.base f.cases.base codes node word (word_at-some g.text x.pc word at).within
+      (home ∙ ap (node_of b) at) there
+
+  -- ---- in a slot
+
+  -- the way of the transfer before
+  abbrev pub way_in : Point → EdgeKind
+  way_in x = way_of (instr_at g.text (x.pc - 4)) x.slot
+
+  abbrev pub way_now : Node → Point → WayOut
+  way_now node x = way_to g.text (graph_in g) node (way_in x) x.npc
+
+  pub on_its_way : (node : Node) (x : Point) (s : Slot) → x.slot ≡ s → s ≢ NoSlot
+      → MatchesBy g.text (graph_in g) node x s → IsOnItsWay g.text (graph_in g) node x (way_in x)
+  on_its_way node x NoSlot e n m = absurd (n refl)
+  on_its_way node x Taken e n m =
+      subst (λ (s : Slot). IsOnItsWay g.text (graph_in g) node x (way_of (instr_at g.text (x.pc - 4)) s)) (sym e) m
+  on_its_way node x Untaken e n m =
+      subst (λ (s : Slot). IsOnItsWay g.text (graph_in g) node x (way_of (instr_at g.text (x.pc - 4)) s)) (sym e) m
+
+  word_at_same : (word other : ℕ) → word_at g.text (address_of g.text word) ≡ Some other → word ≡ other
+  word_at_same word other e = within_is (length g.text.words) word other (sym (word_at-address g.text word) ∙ e)
+
+  way_to_plain : (node : Node) (kind : EdgeKind) (next : ℕ)
+      → (same_kind kind kinds.Out ≡ true → has_cases g.switches node ≡ false)
+      → way_to g.text (graph_in g) node kind next ≡ by_kind kind
+  way_to_plain node kinds.Out next h =
+      ap (λ (t : Bool). if t then by_case (lands (graph_in g) (word_at g.text next))
+      else by_kind kinds.Out) (h refl)
+  way_to_plain node kinds.Fall next h = refl
+  way_to_plain node kinds.Taken next h = refl
+  way_to_plain node kinds.Untaken next h = refl
+  way_to_plain node kinds.Call next h = refl
+  way_to_plain node kinds.Land next h = refl
+  way_to_plain node kinds.Case next h = refl
+
+  module _ (node : Node) (x : Point) (way : IsOnItsWay g.text (graph_in g) node x (way_in x)) where
+    pub edge_is : IsAlong g is f.table.base f.cases.base node (way_now node x) way.number way.edge
+    edge_is = along g is f.table.base f.cases.base node (way_now node x) way.number way.edge way.only way.is
+
+    carried_by : (s : Carried) → way.edge.slot ≡ s → IsCarried g.text s x.pc
+    carried_by s e = subst (λ (s : Carried). IsCarried g.text s x.pc) e way.carries
+
+    -- behind the text
+    pub off : word_at g.text x.pc ≡ None → way.edge.slot ≡ carried.Off
+    off none = by way.edge.slot refl
+      where
+        by : (s : Carried) → way.edge.slot ≡ s → way.edge.slot ≡ carried.Off
+        by carried.Nothing e = absurd (carried_by carried.Nothing e)
+        by carried.Off e = e
+        by (carried.Word w) e =
+            let low : w.0 < length g.text.words = omega (
+              arith,
+              subst (IsSlotIn b) e (slot_in g is f.table.base f.cases.base way.number way.edge way.is),
+              (cut_in g is f.table.base f.cases.base).words,
+            ) in
+            let some : word_at g.text x.pc ≡ Some w.0 =
+            ap (word_at g.text) (carried_by (carried.Word w) e) ∙ word_at-address g.text w.0
+            ∙ ap (λ (t : Bool). if t then Some w.0 else None) (lt-ltb _ _ low) in
+            absurd (cc)
+
+    pub off_address : word_at g.text x.pc ≡ None → x.pc ≡ address_of g.text (length g.text.words)
+    off_address none = carried_by carried.Off (off none)
+
+    -- at a word
+    pub on : (slot : ℕ) → word_at g.text x.pc ≡ Some slot → way.edge.slot ≡ carried.Word (record { 0 = slot })
+    on slot at = by way.edge.slot refl
+      where
+        by : (s : Carried) → way.edge.slot ≡ s → way.edge.slot ≡ carried.Word (record { 0 = slot })
+        by carried.Nothing e = absurd (carried_by carried.Nothing e)
+        by carried.Off e =
+            let past : length g.text.words ≡ slot = word_at_same (length g.text.words) slot
+            (sym (ap (word_at g.text) (carried_by carried.Off e)) ∙ at) in
+            let low = (word_at-some g.text x.pc slot at).within in
+            absurd (omega arith)
+        by (carried.Word w) e =
+            let same : w.0 ≡ slot = word_at_same w.0 slot
+            (sym (ap (word_at g.text) (carried_by (carried.Word w) e)) ∙ at) in
+            e ∙ ap (λ (n : ℕ). carried.Word (record { 0 = n })) same
+
+    -- the number of the piece at which its slot stands
+    piece_along : slot_piece g l node x
+        ≡ along_number g.text (graph_in g) way.number (Some way.edge) x.npc
+    piece_along =
+        ap (λ (ns : List ℕ). along_first l ns x.npc) way.only
+        ∙ ap (λ (o : Option Edge). along_number g.text (graph_in g) way.number o x.npc) way.is
+
+    -- ---- an edge of which the node has one
+
+    module _ (caseless : same_kind (way_in x) kinds.Out ≡ true → has_cases g.switches node ≡ false) where
+      pub way_is : way_now node x ≡ by_kind (way_in x)
+      way_is = way_to_plain node (way_in x) x.npc caseless
+
+      pub kind_is : way.edge.kind ≡ way_in x
+      kind_is = edge_is.same ∙ ap (λ (w : WayOut). w.kind) way_is
+
+      own : IsTransfersWay (way_in x)
+      own = way_is_own (instr_at g.text (x.pc - 4)) x.slot
+
+      pub plain_piece_is : slot_piece g l node x ≡ length g.text.words + way.number
+      plain_piece_is =
+          piece_along
+          ∙ ap (λ (t : Bool). if t then along_case g.text (graph_in g) way.edge.from way.number (word_at g.text x.npc)
+          else way_piece g.text (graph_in g) way.number)
+          (ap (λ (k : EdgeKind). same_kind k kinds.Case) kind_is ∙ own.caseless)
+
+      pub plain_items : (to : Carried) → way.edge.slot ≡ to
+          → slice_get l.list (length g.text.words + way.number)
+          ≡ Some (way_by g.text (graph_in g) f.table.base codes way.number way.edge
+          (first_word (graph_in g) way.edge.to) to)
+      plain_items to e =
+          items_along g is f.table.base f.cases.base codes node (way_now node x) way.number way.edge edge_is
+          (subst IsTransfersWay (sym (ap (λ (w : WayOut). w.kind) way_is)) own) to e
+
+    -- ---- a Case edge
+
+    module _ (out : same_kind (way_in x) kinds.Out ≡ true) (cased : has_cases g.switches node ≡ true) where
+      pub case_way : way_now node x ≡ by_case (lands (graph_in g) (word_at g.text x.npc))
+      case_way =
+          ap (λ (k : EdgeKind). way_to g.text (graph_in g) node k x.npc) (same_is (way_in x) kinds.Out out)
+          ∙ ap (λ (t : Bool). if t then by_case (lands (graph_in g) (word_at g.text x.npc))
+          else by_kind kinds.Out) cased
+
+      pub case_kind : way.edge.kind ≡ kinds.Case
+      case_kind = edge_is.same ∙ ap (λ (w : WayOut). w.kind) case_way
+
+      -- the target, and the open switch
+      pub record IsTargetOf : Type 0 where
+        pub k : ℕ
+        pub o : Open
+        pub among : slice_get g.switches k ≡ Some o
+        pub itself : node ≡ block o.block
+        pub numbered : jump_number g.text (graph_in g) o.block ≡ Some k
+        pub entry : ℕ
+        pub word : ℕ
+        pub at : slice_get o.targets entry ≡ Some word
+        pub goes : word_at g.text x.npc ≡ Some word
+
+      pub target : IsTargetOf
+      target = by node refl (way.cases out cased) cased
+        where
+          by : (n : Node) → node ≡ n → IsTarget g.text g.switches n x.npc → has_cases g.switches n ≡ true → IsTargetOf
+          by (Block k) same to has =
+              let found = among_targets g.switches k.0 to.0 to.2 in
+              let one = jump_numbered g.text b g.switches k.0 has in
+              let equal : found.o ≡ one.1 = is.cased.one found.number one.0 found.o one.1 found.is one.3
+              (found.itself ∙ sym one.4) in
+              record {
+                k = one.0;
+                o = one.1;
+                among = one.3;
+                itself = same ∙ ap block (sym one.4);
+                numbered = one.2;
+                entry = found.entry;
+                word = to.0;
+                at = ap (λ (o : Open). slice_get o.targets found.entry) (sym equal) ∙ found.at;
+                goes = to.1;
+              }
+          by (Landed k) same to has = absurd to
+          by X same to has = absurd to
+
+      pub case_piece_is : slot_piece g l node x ≡ case_piece g.text (graph_in g) target.k target.o target.word
+      case_piece_is =
+          piece_along
+          ∙ ap (λ (t : Bool). if t then along_case g.text (graph_in g) way.edge.from way.number (word_at g.text x.npc)
+          else way_piece g.text (graph_in g) way.number)
+          (ap (λ (k : EdgeKind). same_kind k kinds.Case) case_kind)
+          ∙ ap (λ (n : Node). along_case g.text (graph_in g) n way.number (word_at g.text x.npc))
+          (edge_is.leaves ∙ target.itself)
+          ∙ ap (along_case g.text (graph_in g) (block target.o.block) way.number) target.goes
+          ∙ open_is g.text b g.switches (case_piece g.text (graph_in g)) target.k target.o
+          (jump_number g.text (graph_in g) target.o.block) target.word target.numbered target.among
+
+      pub case_items : (to : Carried) → way.edge.slot ≡ to
+          → slice_get l.list (case_piece g.text (graph_in g) target.k target.o target.word)
+          ≡ Some (way_by g.text (graph_in g) f.table.base codes way.number way.edge target.word to)
+      case_items to e =
+          items_case g is f.table.base f.cases.base codes target.k target.o target.among target.entry target.word
+          target.at way.number way.edge
+          (record {
+            only = ap (λ (n : Node). edge_along (graph_in g) n
+                (by_case (lands (graph_in g) (Some target.word)))) (sym target.itself)
+                ∙ ap (λ (o : Option ℕ). edge_along (graph_in g) node
+                (by_case (lands (graph_in g) o)))
+                (sym target.goes)
+                ∙ ap (edge_along (graph_in g) node) (sym case_way) ∙ edge_is.only;
+            found = edge_is.found;
+            leaves = edge_is.leaves ∙ target.itself;
+            same = case_kind;
+          })
+          to e
+
+  -- ---- into a slot
+
+  pub table_far : IsTable f.table → IsFar f.table.base
+  table_far whole =
+      let a = whole.aligned in
+      let h = whole.below in
+      (omega arith, omega arith)
+
+  -- the way of the edge on which a slot is run leads to where that is visited
+  pub enters : IsTable f.table → (node : Node) (x : Point) → x.slot ≢ NoSlot
+      → (way : IsOnItsWay g.text (graph_in g) node x (way_in x))
+      → (same_kind (way_in x) kinds.Out ≡ true → has_cases g.switches node ≡ false)
+      → (kind : EdgeKind) → way_in x ≡ kind
+      → LeadsTo l p (record { 0 = way_out g.text (graph_in g) node kind }) [] (word_at g.text x.pc)
+      (entered_at g l p f node x)
+  enters whole node x slot way caseless kind same = by (word_at g.text x.pc) refl
+    where
+      number : way_out g.text (graph_in g) node kind ≡ length g.text.words + way.number
+      number =
+          ap (λ (k : EdgeKind). way_out g.text (graph_in g) node k) (sym same)
+          ∙ ap (λ (w : WayOut). first_way g.text (graph_in g) (edge_along (graph_in g) node w))
+          (sym (way_is node x way caseless))
+          ∙ ap (first_way g.text (graph_in g)) way.only
+
+      by : (o : Option ℕ) → word_at g.text x.pc ≡ o
+          → LeadsTo l p (record { 0 = way_out g.text (graph_in g) node kind }) [] (word_at g.text x.pc)
+          (entered_at g l p f node x)
+      by (Some word) e =
+          inl (
+            refl,
+            ap (slice_index p.at) (number ∙ sym (plain_piece_is node x way caseless))
+                ∙ sym (entered_slot node x word e slot),
+          )
+      by None e =
+          subst (LeadsTo l p (record { 0 = way_out g.text (graph_in g) node kind }) [] (word_at g.text x.pc))
+          (sym (entered_off node x e slot))
+          (inr (inr (
+            e,
+            table_far whole,
+            ap (slice_get l.list) number ∙ plain_items node x way caseless carried.Off (off node x way e),
+          )))

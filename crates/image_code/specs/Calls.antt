@@ -15,9 +15,9 @@ use Rattle.cfg_walk.specs.Walk.{Point}
 use Rattle.jump_code.specs.FreeRegister.{IsApart}
 use Rattle.jump_code.specs.Pieces.{call_piece, find_piece}
 use Rattle.layout.specs.Laid.{HasShortForms, Placement}
-use Rattle.image_code.specs.Simulates.{Setting, StepsOn, does_at, gone_at, number_in, word_of}
-use Rattle.image_code.specs.Images.{Pieces, Frame, Here, IsPlaced, visited_at}
-use Rattle.image_code.specs.Cases.{LeadsTo, next_visit, word_ahead}
+use Rattle.image_code.specs.Simulates.{Setting, does_at, gone_at, number_in, word_of, Enters}
+use Rattle.image_code.specs.Images.{Pieces, Frame, Here, IsPlaced, visited_at, Entered}
+use Rattle.image_code.specs.Cases.{LeadsTo, next_entry, word_ahead}
 use Rattle.image_code.specs.Turns.{IsNoJumpsSlot}
 
 -- ---- a CALL
@@ -37,7 +37,7 @@ pub record IsCall (g : Setting) (l : Pieces) (p : Placement) (f : Frame)
   pub says : decode_of word ≡ i.Call disp
   pub way : PieceNo
   pub items : slice_get l.list piece ≡ Some (call_piece address (number_in g node) way)
-  pub leads : LeadsTo l p way (gone_at g node x (does_at g x t)) (word_ahead g x t) (next_visit g l p f node x t)
+  pub leads : LeadsTo l p way (gone_at g node x (does_at g x t)) (word_ahead g x t) (next_entry g l p f node x t)
   pub never : IsNoJumpsSlot g (does_at g x t)
 
 abbrev pub CallsStep : Type 0
@@ -45,7 +45,7 @@ CallsStep =
     (g : Setting) (l : Pieces) (base : ℕ) (p : Placement) (place : ℕ → ℕ → ℕ) (f : Frame)
     (node : Node) (x : Point) (t : State)
     → IsPlaced g l base p place f → Here g l base p f node x t → IsCall g l p f node x t
-    → StepsOn g (Here g l base p f) (HasShortForms l.list place) (gone_at g node x (does_at g x t)) node x t (does_at g x t)
+    → Enters g (Entered g l base p f) (HasShortForms l.list place) (gone_at g node x (does_at g x t)) node x t (does_at g x t)
 
 -- ---- a JMPL, by a register that it doesn't name
 
@@ -76,11 +76,11 @@ pub record IsJump (g : Setting) (l : Pieces) (p : Placement) (f : Frame)
   pub items : slice_get l.list piece
       ≡ Some (find_piece scratch second rd rs1 op2 f.halves.base address (number_in g node) way)
   pub leads : (does_at g x t).ending ≡ None
-      → LeadsTo l p way (gone_at g node x (does_at g x t)) (word_ahead g x t) (next_visit g l p f node x t)
+      → LeadsTo l p way (gone_at g node x (does_at g x t)) (word_ahead g x t) (next_entry g l p f node x t)
 
 abbrev pub JumpsStep : Type 0
 JumpsStep =
     (g : Setting) (l : Pieces) (base : ℕ) (p : Placement) (place : ℕ → ℕ → ℕ) (f : Frame)
     (node : Node) (x : Point) (t : State)
     → IsPlaced g l base p place f → Here g l base p f node x t → IsJump g l p f node x t
-    → StepsOn g (Here g l base p f) (HasShortForms l.list place) (gone_at g node x (does_at g x t)) node x t (does_at g x t)
+    → Enters g (Entered g l base p f) (HasShortForms l.list place) (gone_at g node x (does_at g x t)) node x t (does_at g x t)

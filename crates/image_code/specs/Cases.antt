@@ -18,17 +18,17 @@ use Rattle.layout.specs.declared.items.Item.{Item}
 use Rattle.layout.specs.declared.items.Item.TheVariants as it
 use Rattle.layout.specs.Laid.{HasShortForms, Placement}
 use Rattle.jump_code.specs.Pieces.{far_piece}
-use Rattle.image_code.specs.Simulates.{Setting, StepsOn, at_point, does_at, gone_at, graph_in, number_in, word_of}
-use Rattle.image_code.specs.Images.{Pieces, Frame, Here, IsPlaced, visited_at}
+use Rattle.image_code.specs.Simulates.{Setting, at_point, does_at, gone_at, graph_in, number_in, word_of, Enters}
+use Rattle.image_code.specs.Images.{Pieces, Frame, Here, IsPlaced, visited_at, entered_at, Entered}
 
 abbrev pub visits_it : Setting → Node → Point → State → Type 0
 visits_it g node x t = (visit_of g.notes t ≡ Some x.pc) × (node_at g.notes t.pc ≡ Some (number_in g node))
 
--- where the written file visits the point to which the original goes on
-abbrev pub next_visit : Setting → Pieces → Placement → Frame → Node → Point → State → ℕ
-next_visit g l p f node x t =
+-- where control enters the piece of the point to which the original goes on
+abbrev pub next_entry : Setting → Pieces → Placement → Frame → Node → Point → State → ℕ
+next_entry g l p f node x t =
     let v = does_at g x t in
-    visited_at g l p f (node_after (graph_in g) node (gone_at g node x v)) (point_of v)
+    entered_at g l p f (node_after (graph_in g) node (gone_at g node x v)) (point_of v)
 
 -- and at which word of the text that goes on, if at any
 abbrev pub word_ahead : Setting → Point → State → Option ℕ
@@ -98,7 +98,7 @@ pub record IsPlain (g : Setting) (l : Pieces) (p : Placement) (place : ℕ → �
   pub items : slice_get l.list piece ≡ Some (plain_piece address (number_in g node) word rest)
   -- where the walk goes on, there the piece leads
   pub leads : (does_at g x t).ending ≡ None
-      → LeadsOn l p place piece 3 (gone_at g node x (does_at g x t)) (word_ahead g x t) (next_visit g l p f node x t)
+      → LeadsOn l p place piece 3 (gone_at g node x (does_at g x t)) (word_ahead g x t) (next_entry g l p f node x t)
 
 abbrev pub PlainsVisit : Type 0
 PlainsVisit =
@@ -112,7 +112,7 @@ PlainsStep =
     (node : Node) (x : Point) (t : State)
     → IsPlaced g l base p place f → Here g l base p f node x t → (c : IsPlain g l p place f node x t)
     → AllApart (pages_of g.notes) (judged_by (at_point x t) (decode_of c.word))
-    → StepsOn g (Here g l base p f) (HasShortForms l.list place) (gone_at g node x (does_at g x t)) node x t (does_at g x t)
+    → Enters g (Entered g l base p f) (HasShortForms l.list place) (gone_at g node x (does_at g x t)) node x t (does_at g x t)
 
 -- ---- a branch on a condition
 

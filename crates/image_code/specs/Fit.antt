@@ -1,24 +1,26 @@
 -- The pieces that are made can be placed, in so many bytes, and wherever they are placed the word of each place is the
 -- original's.
-use Rattle.std.specs.Prelude.{◌≡◌, ℕ, suc, ◌+◌, ◌-◌, ◌*◌, ◌^◌, ◌<◌, ◌≤◌, Bool, true, false, if◌then◌else◌, List, [], ◌∷◌, length, Some, slice_get, slice_index}
-use Rattle.std.specs.List.{count_by, sum_by}
+use Rattle.std.specs.Prelude.{◌≡◌, ℕ, suc, ◌+◌, ◌*◌, ◌^◌, ◌<◌, ◌≤◌, Bool, true, false, if◌then◌else◌, List, [], ◌∷◌, length, Some, slice_get, slice_index}
+use Rattle.std.specs.List.{count_by, range_with_len, sum_by}
 use Rattle.eel_base.specs.CodeText.{Words, IsText, word_at}
 use Rattle.elf32_sparc.specs.Notes.{NoteRange}
 use Rattle.v8_decode.specs.Words.{decode_of}
 use Rattle.v8_step.specs.Items.{is_transfer}
-use Rattle.cfg_blocks.specs.Blocks.{Blocks, block_end}
+use Rattle.cfg_blocks.specs.Blocks.{size_of}
 use Rattle.cfg_blocks.specs.declared.EdgeKind.TheVariants as kinds
 use Rattle.cfg_normal.specs.declared.Edge.{Edge}
 use Rattle.cfg_normal.specs.declared.Node.{Node}
 use Rattle.cfg_normal.specs.declared.Node.TheVariants.{Block, Landed, X}
-use Rattle.cfg_normal.specs.Graph.{Graph}
-use Rattle.cfg_walk.specs.Walk.{same_kind}
+use Rattle.cfg_normal.specs.Nodes.{same_kind, same_node}
+use Rattle.cfg_normal.specs.Opens.{targets_in}
+use Rattle.cfg_normal.specs.Graph.{Graph, lands}
 use Rattle.snippets.specs.declared.snippet.Op.{Op}
 use Rattle.layout.specs.declared.items.Item.{Item}
 use Rattle.layout.specs.declared.items.Item.TheVariants as it
 use Rattle.layout.specs.Laid.{ArePieces, IsLaid, IsWordAt, Placement, long_bytes}
-use Rattle.image_code.specs.Made.{foreign_number, landing_number, piece_list}
-use Rattle.image_code.specs.Parts.{IsGraphOf}
+use Rattle.image_code.specs.Numbered.{case_numbers, foreign_number}
+use Rattle.image_code.specs.Graphs.{IsGraphOf}
+use Rattle.image_code.specs.Made.{lands_at, piece_list}
 use Rattle.image_code.specs.Simulates.{snippet_on}
 
 abbrev pub is_mark : Item → Bool
@@ -29,51 +31,65 @@ is_mark _ = false
 abbrev pub marks_in : List Item → ℕ
 marks_in items = count_by is_mark items
 
--- How often the snippet of an edge is made: a landing's once for each word of its block, any other once.
-abbrev pub words_in : Blocks → Node → ℕ
-words_in b (Block block) = block_end b.firsts b.words block.0 - slice_index b.firsts block.0
-words_in b (Landed block) = block_end b.firsts b.words block.0 - slice_index b.firsts block.0
-words_in b X = 0
+-- How often the snippet of an edge is made: a landing's once for each word that lands at its node, a Case edge's once for
+-- each entry that does, any other once.
+abbrev pub is_at : Graph → Node → ℕ → Bool
+is_at graph node word = same_node (lands graph (Some word)) node
 
-abbrev pub copies_of : Blocks → Edge → ℕ
-copies_of b edge = if same_kind edge.kind kinds.Land then words_in b edge.to else 1
+abbrev pub words_at : Graph → Node → List ℕ
+words_at graph (Block block) =
+    range_with_len (slice_index graph.blocks.firsts block.0) (size_of graph.blocks block.0)
+words_at graph (Landed block) =
+    range_with_len (slice_index graph.blocks.firsts block.0) (size_of graph.blocks block.0)
+words_at graph X = []
+
+abbrev pub targets_from : Graph → Node → List ℕ
+targets_from graph (Block block) = targets_in graph.opens block.0
+targets_from graph _ = []
+
+abbrev pub copies_of : Graph → Edge → ℕ
+copies_of graph edge =
+    if same_kind edge.kind kinds.Land then count_by (is_at graph edge.to) (words_at graph edge.to) else
+    if same_kind edge.kind kinds.Case then count_by (is_at graph edge.to) (targets_from graph edge.from) else 1
 
 -- the operations on some edges, the first of which has this number, counted as often as they are made
-abbrev pub operations_from : Blocks → List (List Op) → ℕ → List Edge → ℕ
-operations_from b snips number [] = 0
-operations_from b snips number (edge ∷ edges) =
-    copies_of b edge * length (snippet_on snips number) + operations_from b snips (suc number) edges
+abbrev pub operations_from : Graph → List (List Op) → ℕ → List Edge → ℕ
+operations_from graph snips number [] = 0
+operations_from graph snips number (edge ∷ edges) =
+    copies_of graph edge * length (snippet_on snips number) + operations_from graph snips (suc number) edges
 
 abbrev pub operations_in : Graph → List (List Op) → ℕ
-operations_in graph snips = operations_from graph.blocks snips 0 graph.edges
+operations_in graph snips = operations_from graph snips 0 graph.edges
 
 -- At most eight operations on each edge, and 22 words for each of them.
 pub record AreShort (snips : List (List Op)) (codes : ℕ → List ℕ) : Type 0 where
   pub short : (edge : ℕ) → length (codes edge) ≤ 22 * length (snippet_on snips edge)
   pub few : (edge : ℕ) → length (snippet_on snips edge) ≤ 8
 
--- They can be placed. There is an image and a landing for each word, not too many Marks for notes, and no more bytes
--- than this, each item in its long form.
+-- They can be placed. There is a piece for all that leads to one, not too many Marks for notes, and no more bytes than
+-- this, each item in its long form.
 pub record AreFit (text : Words) (graph : Graph) (snips : List (List Op)) (list : List (List Item)) : Type 0 where
   pub pieces : ArePieces list
   pub images : length text.words < length list
-  pub landings : (word : ℕ) → word < length text.words → landing_number text graph word < length list
+  pub landings : (word : ℕ) → word < length text.words → lands_at text graph snips word < length list
+  pub cases : (entry number : ℕ) → slice_get (case_numbers text graph) entry ≡ Some number → number < length list
   pub foreign : foreign_number text graph < length list
   pub marks : sum_by marks_in list ≤ 2 ^ 23
   pub bytes : long_bytes list ≤ 2 ^ 19 + 500 * length text.words + 128 * operations_in graph snips
 
 abbrev pub PiecesFit : Type 0
 PiecesFit =
-    (text : Words) (graph : Graph) (table : ℕ) (snips : List (List Op)) (codes : ℕ → List ℕ) → IsText text
+    (text : Words) (graph : Graph) (table cases : ℕ) (snips : List (List Op)) (codes : ℕ → List ℕ) → IsText text
     → IsGraphOf text graph → table < 2 ^ 31 → AreShort snips codes
-    → AreFit text graph snips (piece_list text graph table codes)
+    → AreFit text graph snips (piece_list text graph table cases codes)
 
 -- Wherever they are placed, the first word of a range whose address is that of a word of the text is that word, unless
 -- it is a transfer.
 abbrev pub PlacesSay : Type 0
 PlacesSay =
-    (text : Words) (graph : Graph) (table : ℕ) (codes : ℕ → List ℕ) (base : ℕ) (p : Placement) (place : ℕ → ℕ → ℕ)
-    → IsText text → IsGraphOf text graph → IsLaid (piece_list text graph table codes) base p place
+    (text : Words) (graph : Graph) (table cases : ℕ) (codes : ℕ → List ℕ) (base : ℕ) (p : Placement)
+    (place : ℕ → ℕ → ℕ) → IsText text → IsGraphOf text graph
+    → IsLaid (piece_list text graph table cases codes) base p place
     → (n : ℕ) (r : NoteRange) → slice_get p.ranges n ≡ Some r
     → (word : ℕ) → word_at text r.address ≡ Some word → is_transfer (decode_of (slice_index text.words word)) ≡ false
     → IsWordAt base p.code r.lo (slice_index text.words word)

@@ -10,9 +10,9 @@ use Rattle.cfg_normal.specs.declared.Node.{Node}
 use Rattle.cfg_walk.specs.Walk.{Point}
 use Rattle.layout.specs.declared.items.Item.TheVariants as it
 use Rattle.layout.specs.Laid.{HasShortForms, Placement, nop}
-use Rattle.image_code.specs.Simulates.{Setting, StepsOn, does_at, gone_at, number_in, word_of}
-use Rattle.image_code.specs.Images.{Pieces, Frame, Here, IsPlaced, visited_at}
-use Rattle.image_code.specs.Cases.{LeadsTo, next_visit, plain_piece, word_ahead}
+use Rattle.image_code.specs.Simulates.{Setting, does_at, gone_at, number_in, word_of, Enters}
+use Rattle.image_code.specs.Images.{Pieces, Frame, Here, IsPlaced, visited_at, Entered}
+use Rattle.image_code.specs.Cases.{LeadsTo, next_entry, plain_piece, word_ahead}
 use Rattle.image_code.specs.Turns.{IsNoJumpsSlot}
 
 pub record IsIdle (g : Setting) (l : Pieces) (p : Placement) (f : Frame)
@@ -33,7 +33,7 @@ pub record IsIdle (g : Setting) (l : Pieces) (p : Placement) (f : Frame)
   pub idle : decode_of word ≡ nop
   pub way : PieceNo
   pub items : slice_get l.list piece ≡ Some (plain_piece address (number_in g node) word (it.Jump way ∷ []))
-  pub leads : LeadsTo l p way (gone_at g node x (does_at g x t)) (word_ahead g x t) (next_visit g l p f node x t)
+  pub leads : LeadsTo l p way (gone_at g node x (does_at g x t)) (word_ahead g x t) (next_entry g l p f node x t)
   pub never : IsNoJumpsSlot g (does_at g x t)
 
 abbrev pub IdlesStep : Type 0
@@ -41,4 +41,4 @@ IdlesStep =
     (g : Setting) (l : Pieces) (base : ℕ) (p : Placement) (place : ℕ → ℕ → ℕ) (f : Frame)
     (node : Node) (x : Point) (t : State)
     → IsPlaced g l base p place f → Here g l base p f node x t → IsIdle g l p f node x t
-    → StepsOn g (Here g l base p f) (HasShortForms l.list place) (gone_at g node x (does_at g x t)) node x t (does_at g x t)
+    → Enters g (Entered g l base p f) (HasShortForms l.list place) (gone_at g node x (does_at g x t)) node x t (does_at g x t)

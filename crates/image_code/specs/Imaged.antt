@@ -7,13 +7,15 @@ use Rattle.cfg_walk.specs.Walk.{Point, point_of}
 use Rattle.layout.specs.declared.items.Item.{Item}
 use Rattle.layout.specs.declared.items.Item.TheVariants as it
 use Rattle.layout.specs.Laid.{HasShortForms, Placement}
-use Rattle.image_code.specs.Simulates.{MatchesIn, Setting, Simulates, does_at, number_in}
+use Rattle.image_code.specs.Simulates.{Chooses, MatchesIn, Setting, Simulates, does_at, number_in}
+use Rattle.image_code.specs.Keeping.{AreCaseTables, IsEntered}
 use Rattle.image_code.specs.Images.{Pieces, Frame, Here, IsPlaced, visited_at}
 use Rattle.image_code.specs.Cases.{IsPlain, visits_it}
 use Rattle.image_code.specs.Couple.{IsCouple}
 use Rattle.image_code.specs.Turns.{IsTurn}
 use Rattle.image_code.specs.Idle.{IsIdle}
 use Rattle.image_code.specs.Calls.{IsCall, IsJump}
+use Rattle.image_code.specs.Choices.{IsChoice}
 use Rattle.image_code.specs.Landings.{IsJumpsSlot}
 use Rattle.image_code.specs.Outside.{IsForeign, IsOff, IsOpen}
 
@@ -51,6 +53,7 @@ pub data IsCase (g : Setting) (l : Pieces) (base : ℕ) (p : Placement) (place :
   call : IsCall g l p f node x t → IsCase g l base p place f node x t
   jump : IsJump g l p f node x t → IsCase g l base p place f node x t
   landing : IsJumpsSlot g l p f node x t → IsCase g l base p place f node x t
+  choice : IsChoice g l p f node x t → IsCase g l base p place f node x t
   foreign : IsForeign g node x → IsCase g l base p place f node x t
   off : IsOff g base p f node x → IsCase g l base p place f node x t
 
@@ -67,7 +70,11 @@ pub record IsImaged (g : Setting) (l : Pieces) (base : ℕ) (p : Placement) (pla
       → IsVisited g l base p f node x
   pub cases : (node : Node) (x : Point) (t : State) → MatchesIn g node x → IsOpen g x
       → Here g l base p f node x t
-      → ((does_at g x t).ending ≡ None → IsOpen g (point_of (does_at g x t))) → IsCase g l base p place f node x t
+      → ((does_at g x t).ending ≡ None → IsOpen g (point_of (does_at g x t)))
+      → Chooses g node x t (does_at g x t) → IsCase g l base p place f node x t
+  -- control enters each where it is visited, but for the loads of open switches
+  pub opens : AreCaseTables g
+  pub enters : (node : Node) (x : Point) → IsEntered g l p place f node x
 
 abbrev pub ImagesSimulate : Type 0
 ImagesSimulate =

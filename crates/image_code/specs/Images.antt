@@ -11,7 +11,8 @@ use Rattle.v8_step.specs.Valid.{IsValid}
 use Rattle.v8_step.specs.Visits.{in_pages, pages_of}
 use Rattle.cfg_blocks.specs.declared.EdgeKind.TheVariants as kinds
 use Rattle.cfg_normal.specs.declared.Node.{Node}
-use Rattle.cfg_walk.specs.Walk.{Point, edge_from, instr_at, same_kind, way_of}
+use Rattle.cfg_normal.specs.declared.Node.TheVariants.{Block}
+use Rattle.cfg_walk.specs.Walk.{Point, edge_along, instr_at, same_kind, way_of, way_to}
 use Rattle.code_runs.specs.StoredWords.{memory_word}
 use Rattle.code_runs.specs.Ours.{AreOwn, HasWordAt, IsAmongWords, IsIn, IsOurs}
 use Rattle.code_runs.specs.Page.{page_word}
@@ -21,43 +22,55 @@ use Rattle.layout.specs.declared.items.Item.{Item}
 use Rattle.layout.specs.Laid.{Placement, IsLaid, range_in}
 use Rattle.layout.specs.Running.{HasCode}
 use Rattle.snippet_code.specs.Runs.{DoesJust, IsCellOf, cell_at}
-use Rattle.image_code.specs.Simulates.{Setting, graph_in, is_out, snippet_on, spills_at}
+use Rattle.image_code.specs.Simulates.{CaseTable, Setting, graph_in, is_out, snippet_on, spills_at}
 
 -- ---- pieces by what they are for
 
 pub record Pieces : Type 0 where
   pub list : List (List Item)
-  -- the image of a word at a node, and the way along an edge, by its number
+  -- the image of a word at a node, and where control enters that; the way along an edge, by its number, to an address: a
+  -- Case edge has one for each target
   pub image : Node → ℕ → ℕ
-  pub along : ℕ → ℕ
+  pub enter : Node → ℕ → ℕ
+  pub along : ℕ → ℕ → ℕ
   -- the words of the snippet on an edge
   pub codes : ℕ → List ℕ
 
--- the table that leads from addresses of the original to new code, that of two levels by which jumps look up, and which
--- words the editor's code may store
+-- the table that leads from addresses of the original to new code, that of two levels by which jumps look up, the words
+-- that have the pieces of Case edges, and which words the editor's code may store
 pub record Frame : Type 0 where
   pub table : TableAt
   pub halves : TableAt
+  pub cases : TableAt
   pub own : List ℕ
 
-abbrev pub along_first : Pieces → List ℕ → ℕ
-along_first l [] = 0
-along_first l (edge ∷ edges) = l.along edge
+abbrev pub along_first : Pieces → List ℕ → ℕ → ℕ
+along_first l [] next = 0
+along_first l (edge ∷ edges) next = l.along edge next
 
 -- the piece of the edge on which the slot at this point is run
 abbrev pub slot_piece : Setting → Pieces → Node → Point → ℕ
-slot_piece g l node x = along_first l (edge_from (graph_in g) node (way_of (instr_at g.text (x.pc - 4)) x.slot))
+slot_piece g l node x =
+    let way = way_to g.text (graph_in g) node (way_of (instr_at g.text (x.pc - 4)) x.slot) x.npc in
+    along_first l (edge_along (graph_in g) node way) x.npc
 
 -- a slot that is off the text has its place where the table begins
+abbrev pub place_by : (Node → ℕ → ℕ) → Setting → Pieces → Placement → Frame → Node → Point → Option ℕ → Slot → ℕ
+place_by image g l p f node x (Some word) NoSlot = slice_index p.at (image node word)
+place_by image g l p f node x None NoSlot = x.pc
+place_by image g l p f node x (Some word) slot = slice_index p.at (slot_piece g l node x)
+place_by image g l p f node x None slot = f.table.base
+
 abbrev pub visited_by : Setting → Pieces → Placement → Frame → Node → Point → Option ℕ → Slot → ℕ
-visited_by g l p f node x (Some word) NoSlot = slice_index p.at (l.image node word)
-visited_by g l p f node x None NoSlot = x.pc
-visited_by g l p f node x (Some word) slot = slice_index p.at (slot_piece g l node x)
-visited_by g l p f node x None slot = f.table.base
+visited_by g l = place_by l.image g l
 
 -- the address at which the written file visits the point
 abbrev pub visited_at : Setting → Pieces → Placement → Frame → Node → Point → ℕ
-visited_at g l p f node x = visited_by g l p f node x (word_at g.text x.pc) x.slot
+visited_at g l p f node x = place_by l.image g l p f node x (word_at g.text x.pc) x.slot
+
+-- the address at which control enters the piece of the point: before the load of an open switch its address is kept
+abbrev pub entered_at : Setting → Pieces → Placement → Frame → Node → Point → ℕ
+entered_at g l p f node x = place_by l.enter g l p f node x (word_at g.text x.pc) x.slot
 
 -- ---- what its memory has all the while
 
@@ -77,22 +90,36 @@ pub record HasImages (g : Setting) (base : ℕ) (p : Placement) (f : Frame) (m :
   pub only : (a : ℕ) → IsBeside base p.code a → fetch_from (code_of m) a ≡ None
   pub ours : IsOurs (pages_of g.notes) f.own m
   pub table : HasTable f.halves m
+  pub cases : HasTable f.cases m
 
--- ---- a machine at the visit of a point
+-- the node is the jump's block itself of no open switch
+abbrev pub HasNoCases : Setting → Node → Type 0
+HasNoCases g node =
+    (k : ℕ) (o : CaseTable) → slice_get g.opens k ≡ Some o → node ≡ Block (record { 0 = o.block }) → ⊥
 
-pub record Here (g : Setting) (l : Pieces) (base : ℕ) (p : Placement) (f : Frame)
+-- ---- a machine at a point, whose images stand or are entered at these pieces
+
+pub record HereBy (image : Node → ℕ → ℕ) (g : Setting) (l : Pieces) (base : ℕ) (p : Placement) (f : Frame)
     (node : Node) (x : Point) (t : State) : Type 0 where
   pub valid : IsValid t
   pub live : t.ending ≡ None
-  pub at : t.pc ≡ visited_at g l p f node x
+  pub at : t.pc ≡ place_by image g l p f node x (word_at g.text x.pc) x.slot
   pub npc : t.npc ≡ wrapped (t.pc + 4)
   pub slot : t.slot ≡ NoSlot
   pub memory : HasImages g base p f t.memory
-  -- in the slot of a JMPL, its target, a multiple of 4, waits in word 1 of the page, and what the table has for it in
-  -- word 7
+  -- in the slot of a JMPL without Case edges, its target, a multiple of 4, waits in word 1 of the page, and what the
+  -- table has for it in word 7
   pub waits : x.slot ≡ Taken → same_kind (way_of (instr_at g.text (x.pc - 4)) x.slot) kinds.Out ≡ true
-      → (memory_word t.memory (page_word 1) ≡ x.npc) × (x.npc % 4 ≡ 0)
+      → HasNoCases g node → (memory_word t.memory (page_word 1) ≡ x.npc) × (x.npc % 4 ≡ 0)
       × (word_at g.text x.pc ≢ None → memory_word t.memory (page_word 7) ≡ found_in f.halves x.npc)
+
+-- at its visit
+abbrev pub Here : Setting → Pieces → ℕ → Placement → Frame → Node → Point → State → Type 0
+Here g l base p f node x t = HereBy l.image g l base p f node x t
+
+-- where control comes to it
+abbrev pub Entered : Setting → Pieces → ℕ → Placement → Frame → Node → Point → State → Type 0
+Entered g l base p f node x t = HereBy l.enter g l base p f node x t
 
 -- ---- what the notes say of placed code
 
@@ -103,12 +130,17 @@ pub record AreNoted (g : Setting) (base : ℕ) (p : Placement) : Type 0 where
   pub outside : (a : ℕ) → in_pages g.notes a ≡ false → range_at g.notes a ≡ None
   pub blocks : length g.notes.blocks ≡ length (graph_in g).blocks.firsts
 
--- the words of the editor's page that its code stores, and the table, which they leave alone
+-- a table lies in the pages, and apart from the words that the editor's code may store
+pub record IsTableIn (g : Setting) (own : List ℕ) (table : TableAt) : Type 0 where
+  pub within : (a : ℕ) → table.base ≤ a → a + 4 ≤ table.base + length table.bytes → IsIn (pages_of g.notes) a
+  pub apart : (a : ℕ) → IsAmongWords own a → (a + 4 ≤ table.base) ⊎ (table.base + length table.bytes ≤ a)
+
+-- the words of the editor's page that its code stores, and the tables, which they leave alone
 pub record IsFramed (g : Setting) (f : Frame) : Type 0 where
   pub own : AreOwn (pages_of g.notes) f.own
   pub page : (n : ℕ) → n < 8 → IsAmongWords f.own (page_word n)
-  pub table : (a : ℕ) → f.halves.base ≤ a → a + 4 ≤ f.halves.base + length f.halves.bytes → IsIn (pages_of g.notes) a
-  pub apart : (a : ℕ) → IsAmongWords f.own a → (a + 4 ≤ f.halves.base) ⊎ (f.halves.base + length f.halves.bytes ≤ a)
+  pub table : IsTableIn g f.own f.halves
+  pub cases : IsTableIn g f.own f.cases
   pub whole : IsTwoLevel f.halves
 
 -- The cells stand below the heap, among the words that the editor's code may store, and the words of each snippet do just

@@ -17,9 +17,9 @@ use Rattle.cfg_walk.specs.Walk.{Point, instr_at, same_kind, way_of}
 use Rattle.addr_translate.specs.Halves.{found_in}
 use Rattle.jump_code.specs.Pieces.{foreign_piece, found_piece}
 use Rattle.layout.specs.Laid.{HasShortForms, Placement}
-use Rattle.image_code.specs.Simulates.{Setting, StepsOn, at_point, does_at, gone_at, graph_in, is_out, number_in, operations_on, word_of}
-use Rattle.image_code.specs.Images.{Pieces, Frame, Here, IsPlaced, visited_at}
-use Rattle.image_code.specs.Cases.{LeadsTo, next_visit, words_on}
+use Rattle.image_code.specs.Simulates.{Enters, Setting, at_point, does_at, gone_at, graph_in, is_out, number_in, operations_on, word_of}
+use Rattle.image_code.specs.Images.{Pieces, Frame, Here, Entered, HasNoCases, IsPlaced, visited_at}
+use Rattle.image_code.specs.Cases.{LeadsTo, next_entry, words_on}
 
 -- What the table has for a target: the piece of a landing, which leads to the next visit through the snippets of some
 -- edges; where these have no operation it may be the piece of that visit itself. Outside the text it is the foreign
@@ -37,6 +37,7 @@ pub record IsJumpsSlot (g : Setting) (l : Pieces) (p : Placement) (f : Frame)
     (node : Node) (x : Point) (t : State) : Type 0 where
   pub slot : x.slot ≡ Taken
   pub out : same_kind (way_of (instr_at g.text (x.pc - 4)) x.slot) kinds.Out ≡ true
+  pub caseless : HasNoCases g node
   pub piece : ℕ
   pub within : piece < length l.list
   pub here : visited_at g l p f node x ≡ slice_index p.at piece
@@ -56,7 +57,7 @@ pub record IsJumpsSlot (g : Setting) (l : Pieces) (p : Placement) (f : Frame)
   pub items : slice_get l.list piece
       ≡ Some (found_piece address (number_in g node) word (words_on l (edge ∷ [])) through)
   -- where the walk goes on, there the table leads
-  pub lands : (does_at g x t).ending ≡ None → Lands g l p f landing x.npc (next_visit g l p f node x t)
+  pub lands : (does_at g x t).ending ≡ None → Lands g l p f landing x.npc (next_entry g l p f node x t)
 
 abbrev pub JumpSlotsStep : Type 0
 JumpSlotsStep =
@@ -64,4 +65,4 @@ JumpSlotsStep =
     (node : Node) (x : Point) (t : State)
     → IsPlaced g l base p place f → Here g l base p f node x t → (c : IsJumpsSlot g l p f node x t)
     → AllApart (pages_of g.notes) (judged_by (at_point x t) (decode_of c.word))
-    → StepsOn g (Here g l base p f) (HasShortForms l.list place) (gone_at g node x (does_at g x t)) node x t (does_at g x t)
+    → Enters g (Entered g l base p f) (HasShortForms l.list place) (gone_at g node x (does_at g x t)) node x t (does_at g x t)

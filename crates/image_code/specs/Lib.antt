@@ -6,10 +6,16 @@ pub mod Couple
 pub mod Turns
 pub mod Idle
 pub mod Imaged
+pub mod Keeping
+pub mod Loads
+pub mod Numbered
+pub mod Graphs
 pub mod Made
+pub mod Lookups
 pub mod Parts
 pub mod Fit
 pub mod Codes
 pub mod Calls
+pub mod Choices
 pub mod Landings
 pub mod Outside

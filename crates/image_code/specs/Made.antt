@@ -1,10 +1,12 @@
--- The pieces that are made of a text: an image of each word, the way along each edge but for the landings, a landing at
--- each word, and last the foreign piece, to which the table leads every address outside the text.
-use Rattle.std.specs.Prelude.{◌≡◌, ℕ, suc, ◌+◌, ◌-◌, ◌%◌, ◌^◌, ◌<◌, ◌==◌, nat_lt, if◌then◌else◌, Bool, ◌&&◌, List, [], ◌∷◌, ◌++◌, length, map, take, slice_get, slice_index, Some, None}
-use Rattle.std.specs.List.{flat_map}
+-- The pieces that are made of a text: an image of each word for each node whose block holds it, the way along each edge but
+-- for the landings, a landing at each word, a way for each entry of a switch's table, and last the foreign piece, to which
+-- the table leads every address outside the text.
+use Rattle.std.specs.Prelude.{◌≡◌, ℕ, suc, ◌+◌, ◌-◌, ◌*◌, ◌%◌, ◌^◌, ◌<◌, ◌≤◌, ◌==◌, nat_lt, if◌then◌else◌, Bool, ◌&&◌, List, [], ◌∷◌, ◌++◌, length, map, slice_get, slice_index, Option, Some, None}
+use Rattle.std.specs.List.{flat_map, range_with_len}
 use Rattle.eel_base.specs.CodeText.{Words, IsText, address_of, word_at}
 use Rattle.elf32_sparc.specs.Notes.{range_at}
 use Rattle.eel_base.specs.declared.numbers.Addr.{Addr}
+use Rattle.v8_decode.specs.declared.Op2.{Op2}
 use Rattle.v8_decode.specs.declared.Instr.{Instr}
 use Rattle.v8_decode.specs.declared.Instr.TheVariants as i
 use Rattle.v8_decode.specs.Words.{decode_of}
@@ -12,22 +14,25 @@ use Rattle.v8_step.specs.Items.{is_transfer}
 use Rattle.cfg_blocks.specs.declared.EdgeKind.{EdgeKind}
 use Rattle.cfg_blocks.specs.declared.EdgeKind.TheVariants as kinds
 use Rattle.cfg_blocks.specs.Ends.{always, never}
-use Rattle.cfg_blocks.specs.Blocks.{below}
+use Rattle.cfg_blocks.specs.Blocks.{below, size_of as block_size}
 use Rattle.cfg_blocks.specs.Entries.{is_fall}
 use Rattle.cfg_normal.specs.declared.Edge.{Edge}
 use Rattle.cfg_normal.specs.declared.Node.{Node}
 use Rattle.cfg_normal.specs.declared.Node.TheVariants.{Block, Landed, X}
 use Rattle.cfg_normal.specs.declared.Slot.{Slot}
 use Rattle.cfg_normal.specs.declared.Slot.TheVariants as slots
-use Rattle.cfg_normal.specs.Graph.{Graph, node_of}
-use Rattle.cfg_walk.specs.Walk.{edge_from, landing_at, left_by, same_kind}
+use Rattle.cfg_normal.specs.Nodes.{same_kind, same_node}
+use Rattle.cfg_normal.specs.Opens.{Open, jumps_in}
+use Rattle.cfg_normal.specs.Graph.{Graph, lands}
+use Rattle.cfg_walk.specs.Walk.{edge_along, edge_from, landing_at, left_by}
 use Rattle.cfg_walk.specs.Matches.{way_address}
 use Rattle.cfg_normal.specs.Numbers.{node_number}
 use Rattle.addr_translate.specs.Halves.{found_in}
-use Rattle.addr_translate.specs.Lookup.{TableAt, IsTable}
+use Rattle.addr_translate.specs.Lookup.{TableAt, IsTable, table_word}
 use Rattle.addr_translate.specs.Table.{size_of}
 use Rattle.jump_code.specs.FreeRegister.{free_register, other_register}
-use Rattle.jump_code.specs.Pieces.{call_piece, far_piece, find_piece, foreign_piece, found_piece}
+use Rattle.jump_code.specs.Keeping.{keep_load}
+use Rattle.jump_code.specs.Pieces.{call_piece, far_piece, find_piece, foreign_piece, found_piece, word_items}
 use Rattle.layout.specs.Laid.{HasShortForms, Placement}
 use Rattle.snippets.specs.declared.snippet.Op.{Op}
 use Rattle.layout.specs.declared.items.Item.{Item}
@@ -37,6 +42,10 @@ use Rattle.image_code.specs.Images.{Frame, Here, IsPlaced, Pieces}
 use Rattle.image_code.specs.Cases.{plain_piece, branch_piece}
 use Rattle.image_code.specs.Couple.{couple_piece}
 use Rattle.image_code.specs.Outside.{IsOpen}
+use Rattle.image_code.specs.Choices.{choice_piece}
+use Rattle.image_code.specs.Loads.{load_of}
+use Rattle.image_code.specs.Numbered.{along_number, case_numbers, enter_number, first_entry, foreign_number, image_number, jump_number, landing_number, node_in_order, or_zero, own_edges, place_in, way_piece}
+use Rattle.image_code.specs.Graphs.{IsGraphOf, case_table}
 
 -- ---- words
 
@@ -47,10 +56,6 @@ nop_word = 0x01000000
 -- `ba` to the word after the next one (B.21)
 abbrev pub couple_word : ℕ
 couple_word = 0x10800002
-
--- the edges but for the landings, which come last, one at each block
-abbrev pub own_edges : Graph → List Edge
-own_edges graph = take (length graph.edges - length graph.blocks.firsts) graph.edges
 
 abbrev pub jump_to : ℕ → List Item
 jump_to piece = it.Jump (record { 0 = piece }) ∷ []
@@ -66,22 +71,10 @@ next_to text word =
     if nat_lt (word + 1) (length text.words) then (if is_slots text word then jump_to (word + 1) else [])
     else far_piece (address_of text (length text.words))
 
--- ---- the numbers of pieces: first come the images of the words, by words, then the ways along edges, by edges, then the
--- landings, by words, and last the foreign piece
-
 module _ (text : Words) (graph : Graph) where
-  abbrev pub way_piece : ℕ → ℕ
-  way_piece edge = length text.words + edge
-
-  abbrev pub landing_number : ℕ → ℕ
-  landing_number word = length text.words + length (own_edges graph) + word
-
-  abbrev pub foreign_number : ℕ
-  foreign_number = length text.words + length (own_edges graph) + length text.words
-
   abbrev pub first_way : List ℕ → ℕ
   first_way [] = 0
-  first_way (edge ∷ edges) = way_piece edge
+  first_way (edge ∷ edges) = way_piece text graph edge
 
   -- the way along the edge of a kind that leaves a node
   abbrev pub way_out : Node → EdgeKind → ℕ
@@ -97,18 +90,22 @@ module _ (text : Words) (graph : Graph) where
       if cond == never then plain_piece address number nop_word (jump_to untaken) else
       branch_piece address number cond taken untaken
 
-  -- at a node control goes on to the block's first word, outside the text to the original's address
-  abbrev pub goes_on : Node → ℕ → List Item
-  goes_on (Block block) address = jump_to (slice_index graph.blocks.firsts block.0)
-  goes_on (Landed block) address = jump_to (slice_index graph.blocks.firsts block.0)
-  goes_on X address = far_piece address
+  -- at a node control goes on to a word of its block, outside the text to the original's address
+  abbrev pub goes_on : Node → ℕ → ℕ → List Item
+  goes_on X word address = far_piece address
+  goes_on node word address = jump_to (enter_number text graph node word)
+
+  -- Where control goes on after a word that is no transfer. At the comparison's landed copy and at the block itself of an
+  -- open switch's jump, whose last words are transfers, that is within the block.
+  abbrev pub next_at : Node → ℕ → List Item
+  next_at node word = if same_node node (node_in_order graph word) then next_to text word else []
 
 -- The piece to which the table leads from a word: where some operation is made on the landing's edge that is the
--- landing, and else the word's image itself.
+-- landing, and else where control enters the word's image.
 abbrev pub lands_at : Words → Graph → List (List Op) → ℕ → ℕ
 lands_at text graph snips word =
-    if operations_on snips (landing_at graph (node_of graph.blocks (Some word))) == 0 then word
-    else landing_number text graph word
+    if operations_on snips (landing_at graph (lands graph (Some word))) == 0
+    then enter_number text graph (lands graph (Some word)) word else landing_number text graph word
 
 -- Below, `codes` has the words of the snippet on each edge.
 
@@ -121,93 +118,176 @@ module _ (text : Words) (graph : Graph) (codes : ℕ → List ℕ) where
 
   -- behind the last word of a block comes the snippet of the edge to the next word
   abbrev pub rest_after : Node → ℕ → Instr → List Item
-  rest_after node word instr = snippet_items codes (left_by graph node word instr) ++ next_to text word
+  rest_after node word instr = snippet_items codes (left_by graph node word instr) ++ next_at text graph node word
 
 -- where the jumps' table stands: behind the other one
 abbrev pub jumps_at : Words → ℕ → ℕ
 jumps_at text table = table + size_of text
 
--- Jumps look up in the table at `jumps`.
-module _ (text : Words) (graph : Graph) (jumps : ℕ) (codes : ℕ → List ℕ) where
+-- how far the word with the piece of a switch's first entry lies from that entry
+abbrev pub distance_of : ℕ → ℕ → ℕ → ℕ
+distance_of cases first table = (cases + 4 * first + 2 ^ 32 - table) % 2 ^ 32
+
+-- Jumps look up in the table at `jumps`, and `cases` is where the words stand that have the pieces of Case edges.
+module _ (text : Words) (graph : Graph) (jumps cases : ℕ) where
+  abbrev pub choice_of : Addr → Node → ℕ → Option ℕ → Option Open → List Item
+  choice_of address node rd (Some k) (Some o) =
+      choice_piece rd address (node_number graph node) (distance_of cases (first_entry text graph k) o.switch.table.0)
+  choice_of address node rd _ _ = []
+
+  abbrev pub jump_by : Addr → Node → ℕ → ℕ → Op2 → List Item
+  jump_by address node rd rs1 op2 =
+      find_piece (free_register rd rs1 op2) (other_register rd rs1 op2) rd rs1 op2 jumps address (node_number graph node)
+      (record { 0 = way_out text graph node kinds.Out })
+
+  -- at the block itself of an open switch's jump a Case edge is chosen
+  abbrev pub jump_image_by : Addr → Node → ℕ → ℕ → Op2 → List Item
+  jump_image_by address (Block block) rd rs1 op2 =
+      if jumps_in graph.opens block.0
+      then choice_of address (Block block) rd (jump_number text graph block.0)
+      (slice_get graph.opens (or_zero (jump_number text graph block.0)))
+      else jump_by address (Block block) rd rs1 op2
+  jump_image_by address node rd rs1 op2 = jump_by address node rd rs1 op2
+
+module _ (text : Words) (graph : Graph) (jumps cases : ℕ) (codes : ℕ → List ℕ) where
   abbrev pub image_by : Addr → Node → ℕ → Instr → List Item
   image_by address node word (i.Branch cond annul disp22) = branch_image text graph address node cond
   image_by address node word (i.Call disp30) =
       call_piece address (node_number graph node) (record { 0 = way_out text graph node kinds.Call })
-  image_by address node word (i.Jmpl rd rs1 op2) =
-      find_piece (free_register rd rs1 op2) (other_register rd rs1 op2) rd rs1 op2 jumps address
-      (node_number graph node)
-      (record { 0 = way_out text graph node kinds.Out })
+  image_by address node word (i.Jmpl rd rs1 op2) = jump_image_by text graph jumps cases address node rd rs1 op2
   image_by address node word instr =
       plain_piece address (node_number graph node) (slice_index text.words word)
       (rest_after text graph codes node word instr)
 
-  -- the image of a word, at its address, for the block that holds it
-  abbrev pub image : ℕ → List Item
-  image word =
-      image_by (record { 0 = address_of text word }) (node_of graph.blocks (Some word)) word
-      (decode_of (slice_index text.words word))
+  -- the image of a word, at its address, for a node whose block holds it
+  abbrev pub image : Node → ℕ → List Item
+  image node word =
+      image_by (record { 0 = address_of text word }) node word (decode_of (slice_index text.words word))
 
 module _ (text : Words) (graph : Graph) (codes : ℕ → List ℕ) where
   -- ---- landings
 
-  -- at a landing the snippet of its block's landing edge runs, and control goes on to the word's image
+  -- at a landing the snippet of its node's landing edge runs, and control goes on to the word's image there
   abbrev pub landing : ℕ → List Item
   landing word =
-      snippet_items codes (landing_at graph (node_of graph.blocks (Some word))) ++ jump_to word
+      snippet_items codes (landing_at graph (lands graph (Some word)))
+      ++ jump_to (enter_number text graph (lands graph (Some word)) word)
 
   -- ---- ways along edges
 
-  -- along an edge, by its number: its snippet, and on
-  abbrev pub goes_along : ℕ → Edge → List Item
-  goes_along number edge =
-      snippet_items codes (number ∷ []) ++ goes_on text graph edge.to (way_address text graph edge.from edge.kind)
+  -- along an edge, by its number, to a word at its node: its snippet, and on
+  abbrev pub goes_along : ℕ → Edge → ℕ → List Item
+  goes_along number edge word =
+      snippet_items codes (number ∷ [])
+      ++ goes_on text graph edge.to word (way_address text graph edge.from edge.kind)
+
+-- the first word of a node's block
+abbrev pub first_word : Graph → Node → ℕ
+first_word graph (Block block) = slice_index graph.blocks.firsts block.0
+first_word graph (Landed block) = slice_index graph.blocks.firsts block.0
+first_word graph X = 0
 
 module _ (text : Words) (graph : Graph) (table : ℕ) (codes : ℕ → List ℕ) where
   -- Behind the copy of a slot's word, and the snippet, a JMPL goes on at what was found; along any other edge control
-  -- goes on.
-  abbrev pub past_slot : Addr → ℕ → ℕ → ℕ → Edge → List Item
-  past_slot address node word number edge =
+  -- goes on to a word at the edge's node.
+  abbrev pub past_slot : Addr → ℕ → ℕ → ℕ → Edge → ℕ → List Item
+  past_slot address node word number edge to =
       if same_kind edge.kind kinds.Out
       then found_piece address node word (snippet_items codes (number ∷ [])) 1
-      else plain_piece address node word (goes_along text graph codes number edge)
+      else plain_piece address node word (goes_along text graph codes number edge to)
 
   -- a transfer in a slot ends the run
-  abbrev pub slot_copy : Addr → ℕ → ℕ → ℕ → Edge → List Item
-  slot_copy address node word number edge =
+  abbrev pub slot_copy : Addr → ℕ → ℕ → ℕ → Edge → ℕ → List Item
+  slot_copy address node word number edge to =
       if is_transfer (decode_of word) then couple_piece address node couple_word []
-      else past_slot address node word number edge
+      else past_slot address node word number edge to
 
   -- A slot that is run is a visit at the block that the edge leaves. One behind the text is where the table begins.
-  abbrev pub way_by : ℕ → Edge → Slot → List Item
-  way_by number edge slots.Nothing = goes_along text graph codes number edge
-  way_by number edge (slots.Word slot) =
+  abbrev pub way_by : ℕ → Edge → ℕ → Slot → List Item
+  way_by number edge to slots.Nothing = goes_along text graph codes number edge to
+  way_by number edge to (slots.Word slot) =
       slot_copy (record { 0 = address_of text slot.0 }) (node_number graph edge.from) (slice_index text.words slot.0)
-      number edge
-  way_by number edge slots.Off = far_piece table
+      number edge to
+  way_by number edge to slots.Off = far_piece table
 
-  -- To the next word control falls without a way. The piece that stands for it is never run; it ends in a Jump, as the
-  -- ways do.
+  -- To the next word control falls without a way, and Case edges have theirs by entries. The piece that stands for it is
+  -- never run; it ends in a Jump, as the ways do.
   abbrev pub way_along : ℕ → Edge → List Item
-  way_along number edge = if is_fall edge.kind then jump_to 0 else way_by number edge edge.slot
+  way_along number edge =
+      if is_fall edge.kind then jump_to 0 else
+      if same_kind edge.kind kinds.Case then jump_to 0 else way_by number edge (first_word graph edge.to) edge.slot
 
   -- the ways along some edges, the first of which has this number
   abbrev pub ways_from : ℕ → List Edge → List (List Item)
   ways_from number [] = []
   ways_from number (edge ∷ edges) = way_along number edge ∷ ways_from (suc number) edges
 
+  -- ---- Case edges: where an earlier entry leads to the same word, a piece that is never run
+
+  abbrev pub case_by : ℕ → List ℕ → List Item
+  case_by word [] = jump_to 0
+  case_by word (number ∷ numbers) = on (slice_get graph.edges number)
+    where
+      on : Option Edge → List Item
+      on None = jump_to 0
+      on (Some edge) = way_by number edge word edge.slot
+
+  abbrev pub case_at : Open → ℕ → ℕ → List Item
+  case_at o entry word =
+      if place_in text graph o.targets word == entry
+      then case_by word (edge_along graph (Block (record { 0 = o.block }))
+      (record { kind = kinds.Case; to = Some (lands graph (Some word)) })) else jump_to 0
+
+  -- the pieces of some entries, the first of which has this number
+  abbrev pub cases_from : Open → ℕ → List ℕ → List (List Item)
+  cases_from o entry [] = []
+  cases_from o entry (word ∷ words) = case_at o entry word ∷ cases_from o (suc entry) words
+
+-- ---- open switches
+
+-- the words that keep the address of a load
+abbrev pub keep_by : Instr → List Item
+keep_by (i.Load kind rd rs1 op2) = word_items (keep_load rs1 op2)
+keep_by _ = []
+
+module _ (text : Words) (graph : Graph) (table cases : ℕ) (codes : ℕ → List ℕ) where
+  -- the images of so many words at a node
+  abbrev pub images_of : Node → ℕ → ℕ → List (List Item)
+  images_of node from count = map (image text graph (jumps_at text table) cases codes node) (range_with_len from count)
+
+  -- the landed copy of the comparison's block, and the block itself of the jump
+  abbrev pub open_pieces : Open → List (List Item)
+  open_pieces o =
+      let compare = o.switch.compare.0 in
+      let first = slice_index graph.blocks.firsts o.block in
+      let load = load_of text o in
+      images_of (Landed (record { 0 = compare })) (slice_index graph.blocks.firsts compare) (block_size graph.blocks compare)
+      ++ images_of (Block (record { 0 = o.block })) first (load - first)
+      ++ keep_by (decode_of (slice_index text.words load))
+      ∷ images_of (Block (record { 0 = o.block })) load (first + block_size graph.blocks o.block - load)
+
   -- ---- all pieces
+
+  abbrev pub images_in_order : List (List Item)
+  images_in_order =
+      map (λ word. image text graph (jumps_at text table) cases codes (node_in_order graph word) word)
+      (below (length text.words))
 
   unfoldable pub piece_list : List (List Item)
   piece_list =
-      map (image text graph (jumps_at text table) codes) (below (length text.words)) ++ ways_from 0 (own_edges graph)
-      ++ map (landing text graph codes) (below (length text.words)) ++ foreign_piece ∷ []
+      images_in_order ++ ways_from text graph table codes 0 (own_edges graph)
+      ++ map (landing text graph codes) (below (length text.words))
+      ++ flat_map open_pieces graph.opens
+      ++ flat_map (λ (o : Open). cases_from text graph table codes o 0 o.targets) graph.opens
+      ++ foreign_piece ∷ []
 
--- the pieces by what they are for: a word has one image, whatever the node
-abbrev pub pieces_in : Words → Graph → ℕ → (ℕ → List ℕ) → Pieces
-pieces_in text graph table codes = record {
-  list = piece_list text graph table codes;
-  image = λ node word. word;
-  along = way_piece text graph;
+-- the pieces by what they are for
+abbrev pub pieces_in : Words → Graph → ℕ → ℕ → (ℕ → List ℕ) → Pieces
+pieces_in text graph table cases codes = record {
+  list = piece_list text graph table cases codes;
+  image = image_number text graph;
+  enter = enter_number text graph;
+  along = λ edge next. along_number text graph edge (slice_get graph.edges edge) next;
   codes = codes;
 }
 
@@ -224,6 +304,14 @@ pub record IsTableFor (text : Words) (graph : Graph) (snips : List (List Op)) (p
   pub others : (a : ℕ) → a < 2 ^ 32 → a % 4 ≡ 0 → word_at text a ≡ None
       → found_in jumps a ≡ slice_index p.at (foreign_number text graph)
 
+-- The words at `cases` have the places of the pieces of Case edges, by all entries.
+pub record AreCasesFor (text : Words) (graph : Graph) (p : Placement) (cases : TableAt) : Type 0 where
+  pub aligned : cases.base % 4 ≡ 0
+  pub low : cases.base + length cases.bytes ≤ 2 ^ 31
+  pub long : 4 * length (case_numbers text graph) ≤ length cases.bytes
+  pub words : (entry number : ℕ) → slice_get (case_numbers text graph) entry ≡ Some number
+      → table_word cases (cases.base + 4 * entry) ≡ slice_index p.at number
+
 -- the place of a slot behind the text, where some edge has one, is where the table begins
 abbrev pub IsOffNoted : Setting → ℕ → Type 0
 IsOffNoted g table =
@@ -235,11 +323,17 @@ IsOffNoted g table =
       node = number_in g edge.from;
     })
 
+-- the pieces of an edit
+abbrev pub edit_pieces : Setting → Frame → (ℕ → List ℕ) → Pieces
+edit_pieces g f codes = pieces_in g.text (graph_in g) f.table.base f.cases.base codes
+
 -- However they are placed, each image is one step of the original, at every point outside the pages.
 abbrev pub PiecesMakeImages : Type 0
 PiecesMakeImages =
     (g : Setting) (codes : ℕ → List ℕ) (base : ℕ) (p : Placement) (place : ℕ → ℕ → ℕ) (f : Frame) → IsText g.text
-    → IsPlaced g (pieces_in g.text (graph_in g) f.table.base codes) base p place f
-    → IsTableFor g.text (graph_in g) g.snips p f.table f.halves → f.table.base < base → IsOffNoted g f.table.base
-    → Simulates g (IsOpen g) (Here g (pieces_in g.text (graph_in g) f.table.base codes) base p f)
-    (HasShortForms (piece_list g.text (graph_in g) f.table.base codes) place)
+    → IsGraphOf g.text (graph_in g) → g.opens ≡ map (case_table g.text) g.switches
+    → IsPlaced g (edit_pieces g f codes) base p place f
+    → IsTableFor g.text (graph_in g) g.snips p f.table f.halves → AreCasesFor g.text (graph_in g) p f.cases
+    → f.table.base < base → IsOffNoted g f.table.base
+    → Simulates g (IsOpen g) (Here g (edit_pieces g f codes) base p f)
+    (HasShortForms (piece_list g.text (graph_in g) f.table.base f.cases.base codes) place)

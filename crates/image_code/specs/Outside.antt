@@ -10,8 +10,8 @@ use Rattle.cfg_normal.specs.declared.Node.{Node}
 use Rattle.cfg_normal.specs.declared.Node.TheVariants.{X}
 use Rattle.cfg_walk.specs.Walk.{Point}
 use Rattle.layout.specs.Laid.{HasShortForms, Placement}
-use Rattle.image_code.specs.Simulates.{Setting, StepsOn, does_at, gone_at, number_in}
-use Rattle.image_code.specs.Images.{Pieces, Frame, Here, IsBeside, IsPlaced}
+use Rattle.image_code.specs.Simulates.{Setting, does_at, gone_at, number_in, Enters}
+use Rattle.image_code.specs.Images.{Pieces, Frame, Here, IsBeside, IsPlaced, Entered}
 use Rattle.image_code.specs.Cases.{visits_it}
 
 -- the point lies outside the pages
@@ -42,7 +42,7 @@ ForeignStep =
     (node : Node) (x : Point) (t : State)
     → IsPlaced g l base p place f → Here g l base p f node x t → IsForeign g node x
     → visits_it g node x t
-    × StepsOn g (Here g l base p f) (HasShortForms l.list place) (gone_at g node x (does_at g x t)) node x t (does_at g x t)
+    × Enters g (Entered g l base p f) (HasShortForms l.list place) (gone_at g node x (does_at g x t)) node x t (does_at g x t)
 
 abbrev pub OffsStep : Type 0
 OffsStep =
@@ -50,4 +50,4 @@ OffsStep =
     (node : Node) (x : Point) (t : State)
     → IsPlaced g l base p place f → Here g l base p f node x t → IsOff g base p f node x
     → visits_it g node x t
-    × StepsOn g (Here g l base p f) (HasShortForms l.list place) (gone_at g node x (does_at g x t)) node x t (does_at g x t)
+    × Enters g (Entered g l base p f) (HasShortForms l.list place) (gone_at g node x (does_at g x t)) node x t (does_at g x t)

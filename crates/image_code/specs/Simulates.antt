@@ -2,13 +2,15 @@
 -- a few steps lead to what the original does there, along the edges that its step completes.
 use Rattle.std.specs.Prelude.{◌≡◌, ◌≢◌, ℕ, zero, suc, ◌+◌, ◌*◌, ◌<◌, ◌≤◌, Bool, true, false, not, ◌&&◌, nat_le, nat_lt, List, [], ◌∷◌, length, get_or, replicate, slice_get, slice_index, Option, Some, None}
 use Rattle.std.specs.Option.{option_map}
-use Rattle.eel_base.specs.CodeText.{Words, word_at}
+use Rattle.eel_base.specs.CodeText.{Words, address_of, word_at}
 use Rattle.elf32_sparc.specs.Notes.{NoteRange, Notes, node_at, range_at}
 use Rattle.v8_decode.specs.declared.Instr.{Instr}
 use Rattle.v8_decode.specs.declared.Instr.TheVariants as i
+use Rattle.v8_decode.specs.declared.Op2.{Op2}
 use Rattle.v8_decode.specs.declared.Part.{Part}
 use Rattle.v8_memory.specs.Spans.{Span, AllApart, IsSameOutside}
-use Rattle.v8_step.specs.State.{State, register_of}
+use Rattle.v8_step.specs.declared.Slot.TheVariants.{NoSlot}
+use Rattle.v8_step.specs.State.{State, register_of, sum_of}
 use Rattle.v8_step.specs.Step.{on_word, puts_on_word}
 use Rattle.v8_step.specs.Run.{run, run_puts}
 use Rattle.v8_step.specs.Items.{Item, IsAmong, IsItem, IsSameAt, is_transfer}
@@ -18,6 +20,8 @@ use Rattle.cfg_blocks.specs.declared.EdgeKind.TheVariants as kinds
 use Rattle.cfg_blocks.specs.Blocks.{blocks_of}
 use Rattle.cfg_normal.specs.declared.Edge.{Edge}
 use Rattle.cfg_normal.specs.declared.Node.{Node}
+use Rattle.cfg_normal.specs.declared.Node.TheVariants.{Block}
+use Rattle.cfg_normal.specs.Opens.{Open}
 use Rattle.cfg_normal.specs.Graph.{Graph, IsNodeIn, graph_of}
 use Rattle.cfg_walk.specs.Walk.{Point, point_of, goes_on_at, gone, node_after, gone_in, instr_at, same_kind}
 use Rattle.cfg_walk.specs.Matches.{Matches}
@@ -30,6 +34,7 @@ use Rattle.code_runs.specs.Counted.{count_stores}
 use Rattle.code_runs.specs.Page.{page_word}
 use Rattle.code_runs.specs.Points.{moved}
 use Rattle.code_runs.specs.PointsAlike.{instr_of}
+use Rattle.jump_code.specs.PageWords.{kept_address}
 
 -- ---- the original at a point
 
@@ -58,6 +63,17 @@ operations_on snips (edge ∷ edges) = length (snippet_on snips edge) + operatio
 
 -- ---- an edit
 
+-- What the code has to know of an open switch: the block of its jump, and in it the words of the load of an entry and
+-- of the jump; the load's operands; and the first word of the table, with the number of its words.
+pub record CaseTable : Type 0 where
+  pub block : ℕ
+  pub load : ℕ
+  pub jump : ℕ
+  pub rs1 : ℕ
+  pub op2 : Op2
+  pub from : ℕ
+  pub count : ℕ
+
 pub record Setting : Type 0 where
   pub text : Words
   -- words that lead besides
@@ -66,10 +82,13 @@ pub record Setting : Type 0 where
   pub snips : List (List Op)
   -- the registers, the codes and Y, as far as they are dead behind the snippet of each edge
   pub dead : ℕ → List Part
+  -- the open switches, in address order of their jumps, and what the code has to know of them
+  pub switches : List Open
+  pub opens : List CaseTable
   pub notes : Notes
 
 abbrev pub graph_in : Setting → Graph
-graph_in g = graph_of (blocks_of g.text g.given) []
+graph_in g = graph_of (blocks_of g.text g.given) g.switches
 
 -- the cells, where the notes say that they stand
 abbrev pub cells_in : Setting → State → List ℕ
@@ -190,15 +209,18 @@ pub record IsSparing (g : Setting) (Short : Type 0) (edges : List ℕ) (p : Poin
   pub few : Short → operations_on g.snips edges ≡ 0 → count ≤ 8
 
 -- how many steps a way takes at most
-abbrev pub limit_on : Setting → List ℕ → ℕ
-limit_on g edges = 64 + 32 * operations_on g.snips edges
+abbrev pub limit_by : ℕ → Setting → List ℕ → ℕ
+limit_by most g edges = most + 32 * operations_on g.snips edges
 
--- `Short` says that no jump and no branch between pieces is long.
-pub record StepsOn (g : Setting) (Here : Node → Point → State → Type 0) (Short : Type 0)
+abbrev pub limit_on : Setting → List ℕ → ℕ
+limit_on g edges = limit_by 64 g edges
+
+-- `Short` says that no jump and no branch between pieces is long, and `most` is the limit without operations.
+pub record StepsOn (g : Setting) (Here : Node → Point → State → Type 0) (Short : Type 0) (most : ℕ)
     (edges : List ℕ) (node : Node) (p : Point) (t v : State) : Type 0 where
   pub count : ℕ
   pub after : State
-  pub path : Onward g (limit_on g edges) t after count
+  pub path : Onward g (limit_by most g edges) t after count
   pub puts : (descriptor : ℕ)
       → run_puts t count descriptor ≡ puts_on_word (at_point p t) (word_of g.text p.pc) descriptor
   pub followed : IsFollowedBy (pages_of g.notes) (IsKept g edges v.window) v after
@@ -206,6 +228,55 @@ pub record StepsOn (g : Setting) (Here : Node → Point → State → Type 0) (S
   pub here : v.ending ≡ None → Here (node_after (graph_in g) node edges) (point_of v) after
   pub place : v.ending ≢ None → IsThere g t after
   pub sparing : IsWatched g edges p v → IsSparing g Short edges p t count
+
+-- ---- the address that word 0 of the page keeps from the load of an open switch to its jump
+
+-- at a word of the jump's block itself, outside slots
+pub record IsAtWord (g : Setting) (o : CaseTable) (node : Node) (p : Point) (word : ℕ) : Type 0 where
+  pub itself : node ≡ Block (record { 0 = o.block })
+  pub outside : p.slot ≡ NoSlot
+  pub stands : word_at g.text p.pc ≡ Some word
+
+-- At the load it has the address at which that loads, and it stays so up to the jump.
+pub record KeepsAddress (g : Setting) (edges : List ℕ) (node : Node) (p : Point) (t v after : State) : Type 0 where
+  pub loaded : v.ending ≡ None → (k : ℕ) (o : CaseTable) → slice_get g.opens k ≡ Some o
+      → IsAtWord g o (node_after (graph_in g) node edges) (point_of v) o.load
+      → kept_address after ≡ sum_of after o.rs1 o.op2
+  pub carried : v.ending ≡ None → (k : ℕ) (o : CaseTable) → slice_get g.opens k ≡ Some o → (word : ℕ)
+      → IsAtWord g o node p word → o.load ≤ word → word < o.jump → kept_address after ≡ kept_address t
+
+-- At the jump it is the address of an entry of the table, and the jump goes to what that entry has.
+pub record IsChosen (g : Setting) (o : CaseTable) (t v : State) : Type 0 where
+  pub entry : ℕ
+  pub below : entry < o.count
+  pub kept : kept_address t ≡ address_of g.text (o.from + entry)
+  pub goes : v.npc ≡ slice_index g.text.words (o.from + entry)
+  pub live : v.ending ≡ None
+
+abbrev pub Chooses : Setting → Node → Point → State → State → Type 0
+Chooses g node p t v =
+    (k : ℕ) (o : CaseTable) → slice_get g.opens k ≡ Some o → IsAtWord g o node p o.jump → IsChosen g o t v
+
+-- ---- what one image does, up to where control enters the next one
+
+-- `Entered` says that a machine is where control comes to a point. Three steps are left, in which an address may be kept.
+-- Within a block word 0 of the page stays as it is.
+pub record Enters (g : Setting) (Entered : Node → Point → State → Type 0) (Short : Type 0)
+    (edges : List ℕ) (node : Node) (p : Point) (t v : State) : Type 0 where
+  pub on : StepsOn g Entered Short 61 edges node p t v
+  pub first : v.ending ≡ None → edges ≡ [] → is_transfer_at (instr_at g.text p.pc) ≡ false → word_at g.text v.pc ≢ None
+      → kept_address on.after ≡ kept_address t
+
+-- ---- and up to the next visit, behind what is run before a load
+
+-- the original doesn't go on at the load of an open switch
+abbrev pub IsNoLoad : Setting → State → Type 0
+IsNoLoad g v = (k : ℕ) (o : CaseTable) → slice_get g.opens k ≡ Some o → word_at g.text v.pc ≡ Some o.load → ⊥
+
+pub record Steps (g : Setting) (Here : Node → Point → State → Type 0) (Short : Type 0)
+    (edges : List ℕ) (node : Node) (p : Point) (t v : State) : Type 0 where
+  pub on : StepsOn g Here (Short × IsNoLoad g v) 64 edges node p t v
+  pub keeps : KeepsAddress g edges node p t v on.after
 
 -- What the pieces promise. `Here` says that a machine is at the visit of a point at a node of the walk. `Inside` says
 -- to which points the pieces lead: those at words of the text at first, and then all.
@@ -216,4 +287,5 @@ pub record Simulates (g : Setting) (Inside : Point → Type 0) (Here : Node → 
   pub steps : (node : Node) (p : Point) (t : State) → MatchesIn g node p → Inside p → Here node p t
       → AllApart (pages_of g.notes) (judged_in (at_point p t) (instr_of (word_of g.text p.pc)))
       → ((does_at g p t).ending ≡ None → Inside (point_of (does_at g p t)))
-      → StepsOn g Here Short (gone_at g node p (does_at g p t)) node p t (does_at g p t)
+      → Chooses g node p t (does_at g p t)
+      → Steps g Here Short (gone_at g node p (does_at g p t)) node p t (does_at g p t)

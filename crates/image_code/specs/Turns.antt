@@ -11,9 +11,9 @@ use Rattle.cfg_blocks.specs.declared.EdgeKind.TheVariants as kinds
 use Rattle.cfg_normal.specs.declared.Node.{Node}
 use Rattle.cfg_walk.specs.Walk.{Point, instr_at, way_of, same_kind}
 use Rattle.layout.specs.Laid.{HasShortForms, Placement}
-use Rattle.image_code.specs.Simulates.{Setting, StepsOn, does_at, gone_at, number_in, word_of}
-use Rattle.image_code.specs.Images.{Pieces, Frame, Here, IsPlaced}
-use Rattle.image_code.specs.Cases.{LeadsTo, branch_piece, next_visit, word_ahead}
+use Rattle.image_code.specs.Simulates.{Setting, does_at, gone_at, number_in, word_of, Enters}
+use Rattle.image_code.specs.Images.{Pieces, Frame, Here, IsPlaced, Entered}
+use Rattle.image_code.specs.Cases.{LeadsTo, branch_piece, next_entry, word_ahead}
 
 -- the machine doesn't come to a jump's slot
 abbrev pub IsNoJumpsSlot : Setting → State → Type 0
@@ -39,7 +39,7 @@ pub record IsTurn (g : Setting) (l : Pieces) (p : Placement) (f : Frame)
   pub untaken : ℕ
   pub items : slice_get l.list (l.image node number) ≡ Some (branch_piece address (number_in g node) cond taken untaken)
   pub leads : LeadsTo l p (record { 0 = if holds_of cond t.codes then taken else untaken })
-      (gone_at g node x (does_at g x t)) (word_ahead g x t) (next_visit g l p f node x t)
+      (gone_at g node x (does_at g x t)) (word_ahead g x t) (next_entry g l p f node x t)
   pub never : IsNoJumpsSlot g (does_at g x t)
 
 abbrev pub TurnsStep : Type 0
@@ -47,4 +47,4 @@ TurnsStep =
     (g : Setting) (l : Pieces) (base : ℕ) (p : Placement) (place : ℕ → ℕ → ℕ) (f : Frame)
     (node : Node) (x : Point) (t : State)
     → IsPlaced g l base p place f → Here g l base p f node x t → IsTurn g l p f node x t
-    → StepsOn g (Here g l base p f) (HasShortForms l.list place) (gone_at g node x (does_at g x t)) node x t (does_at g x t)
+    → Enters g (Entered g l base p f) (HasShortForms l.list place) (gone_at g node x (does_at g x t)) node x t (does_at g x t)

@@ -3,6 +3,7 @@
 
 ghost use Rattle.image_code.specs.Calls.{CallsStep, JumpsStep};
 ghost use Rattle.image_code.specs.Cases.{PlainsStep, PlainsVisit};
+ghost use Rattle.image_code.specs.Choices.{ChoicesStep};
 ghost use Rattle.image_code.specs.Couple.{CouplesStep};
 ghost use Rattle.image_code.specs.Fit.{PiecesFit, PlacesSay};
 ghost use Rattle.image_code.specs.Idle.{IdlesStep};
@@ -12,8 +13,17 @@ ghost use Rattle.image_code.specs.Made.{PiecesMakeImages};
 ghost use Rattle.image_code.specs.Outside.{ForeignStep, OffsStep};
 ghost use Rattle.image_code.specs.Turns.{TurnsStep};
 
+mod expansion;
+mod firsts;
+mod images;
+mod landing;
+mod loads;
+mod lookups;
 mod making;
+mod numbering;
 mod parts;
+mod switches;
+mod ways;
 
 pub use making::{Frame, PieceList, pieces};
 
@@ -65,6 +75,11 @@ pub fn calls_step()
 /// The image of a JMPL keeps its target in the page and goes on so, or ends the run as the JMPL does.
 pub fn jumps_step()
     ensures { JumpsStep }
+{}
+
+/// The link of a switch's JMPL, and then the choice of its edge's piece, are its step.
+pub fn choices_step()
+    ensures { ChoicesStep }
 {}
 
 /// A machine at a piece that begins with the Mark of a point visits the point.

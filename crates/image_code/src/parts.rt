@@ -3,9 +3,11 @@
 ghost use Rattle.std.specs.Prelude.{◌≡◌, ◌<◌, IfOk, OnOk, IsTrue, [], ◌++◌, ◌+◌, ◌%◌, ◌^◌, ◌≤◌, map};
 ghost use Rattle.image_code.specs.Cases.{branch_piece, plain_piece};
 ghost use Rattle.image_code.specs.Couple.{couple_piece};
-ghost use Rattle.image_code.specs.Made.{couple_word};
-ghost use Rattle.image_code.specs.Parts.{branch_from, branch_ways as branch_ways_of, edges_after as edges_after_of, image_from, items_of};
+ghost use Rattle.image_code.specs.Choices.{choice_piece};
+ghost use Rattle.image_code.specs.Made.{couple_word, keep_by};
+ghost use Rattle.image_code.specs.Parts.{branch_by, items_of};
 ghost use Rattle.jump_code.specs.FreeRegister.{free_register as free_register_of, other_register as other_register_of};
+ghost use Rattle.jump_code.specs.Keeping.{keep_load};
 ghost use Rattle.jump_code.specs.Links.{link};
 ghost use Rattle.jump_code.specs.Pieces.{call_piece, find_piece, foreign_piece, found_piece, word_items};
 ghost use Rattle.v8_decode.specs.Words.{decode_of};
@@ -15,8 +17,8 @@ ghost use Rattle.layout.specs.declared.items.Item.TheVariants as it;
 
 use eel_base::{Addr, NoMemory, PieceNo};
 use jump_code::{
-    call_code, far_code, find_code, foreign_code, found_code, free_register, link_code,
-    other_register,
+    call_code, choose_code, far_code, find_code, foreign_code, found_code, free_register,
+    keep_load_code, link_code, other_register,
 };
 use layout::{Item, Piece};
 use std::alloc::Global;
@@ -167,19 +169,25 @@ fn turn(
     Ok(Piece { items })
 }
 
-// A branch in a block whose edges have their ways from the piece `first` on.
-fn branch(alloc: Global, visit: Visit, cond: Cond, first: PieceNo) -> Result<Piece, NoMemory>
-    requires low { first.0 + 1 < 2 ^ 32 }
-    ensures { IfOk result (λ p. p ≡ branch_from visit.address visit.node cond first.0) }
+/// A branch, with the ways along its edges; `ba` and `bn` go one of them.
+pub fn branch(
+    alloc: Global,
+    visit: Visit,
+    cond: Cond,
+    taken: PieceNo,
+    untaken: PieceNo,
+) -> Result<Piece, NoMemory>
+    ensures { IfOk result (λ p. p ≡ branch_by visit.address visit.node cond taken.0 untaken.0) }
 {
     match cond.number() {
-        ALWAYS | NEVER => plain(alloc, visit, NOP, &[], Next::Piece(first)),
-        _ => turn(alloc, visit, cond, first, PieceNo(first.0 + 1)),
+        ALWAYS => plain(alloc, visit, NOP, &[], Next::Piece(taken)),
+        NEVER => plain(alloc, visit, NOP, &[], Next::Piece(untaken)),
+        _ => turn(alloc, visit, cond, taken, untaken),
     }
 }
 
-// A CALL: its link, and the way along its edge.
-fn call(alloc: Global, visit: Visit, way: PieceNo) -> Result<Piece, NoMemory>
+/// A CALL: its link, and the way along its edge.
+pub fn call(alloc: Global, visit: Visit, way: PieceNo) -> Result<Piece, NoMemory>
     ensures { IfOk result (λ p. p ≡ call_piece visit.address visit.node way) }
 {
     let mut items = vec![in alloc; visit.mark()]?;
@@ -189,8 +197,8 @@ fn call(alloc: Global, visit: Visit, way: PieceNo) -> Result<Piece, NoMemory>
     Ok(Piece { items })
 }
 
-// A JMPL: its target, what the table at `jumps` has for it, its link, and the way along its edge.
-fn jump(
+/// A JMPL: its target, what the table at `jumps` has for it, its link, and the way along its edge.
+pub fn jump(
     alloc: Global,
     visit: Visit,
     rd: Reg,
@@ -213,47 +221,37 @@ fn jump(
     Ok(Piece { items })
 }
 
-/// The image of a word in a block whose edges have their ways from the piece `first` on. Where it is no transfer,
-/// control goes on at `next`, behind the code of a snippet.
-pub fn image(
-    alloc: Global,
-    visit: Visit,
-    word: u32,
-    first: PieceNo,
-    jumps: Addr,
-    code: &[u32],
-    next: Next,
-) -> Result<Piece, NoMemory>
-    requires low { first.0 + 1 < 2 ^ 32 }
-    ensures { IfOk result (λ p. p ≡ image_from jumps.0 visit.address visit.node word first
-        (map it.Word code.now ++ items_of next) (decode_of word)) }
+/// The JMPL of an open switch: its link, and the choice of the piece of its edge, by a word that lies so far from the
+/// address that was kept.
+pub fn choice(alloc: Global, visit: Visit, rd: Reg, distance: u32) -> Result<Piece, NoMemory>
+    ensures { IfOk result (λ p. p ≡ choice_piece rd visit.address visit.node distance) }
 {
-    match decode(word) {
-        Instr::Branch { cond, .. } => branch(alloc, visit, cond, first),
-        Instr::Call { .. } => call(alloc, visit, first),
-        Instr::Jmpl { rd, rs1, op2 } => jump(alloc, visit, rd, rs1, op2, jumps, first),
-        _ => plain(alloc, visit, word, code, next),
-    }
+    let mut items = vec![in alloc; visit.mark()]?;
+    push_link(&mut items, rd, visit.address)?;
+    push_words(&mut items, &choose_code(distance))?;
+    items.push(Item::EndMark)?;
+    Ok(Piece { items })
 }
 
-/// How many edges leave a block with this last word: two where it is a branch on a condition.
-pub fn edges_after(word: u32) -> u32
-    ensures count { result ≡ edges_after_of (decode_of word) }
-    ensures few { result ≤ 2 }
+// The words before a load with these operands, whose address they keep.
+fn kept(alloc: Global, rs1: Reg, op2: Op2) -> Result<Piece, NoMemory>
+    requires fits { IsTrue (op2_fits op2) }
+    ensures { IfOk result (λ p. p ≡ word_items (keep_load rs1 op2)) }
 {
-    match decode(word) {
-        Instr::Branch { cond, .. } => branch_ways(cond),
-        _ => 1,
-    }
+    let mut items = Vec::new(alloc);
+    push_words(&mut items, &keep_load_code(rs1, op2))?;
+    Ok(Piece { items })
 }
 
-fn branch_ways(cond: Cond) -> u32
-    ensures value { result ≡ branch_ways_of cond }
-    ensures few { result ≤ 2 }
+/// The words before a load, whose address they keep.
+pub fn keep(alloc: Global, word: u32) -> Result<Piece, NoMemory>
+    ensures { IfOk result (λ p. p ≡ keep_by (decode_of word)) }
 {
-    match cond.number() {
-        ALWAYS | NEVER => 1,
-        _ => 2,
+    match decode(word) {
+        Instr::Load { rs1, op2, .. } => kept(alloc, rs1, op2),
+        _ => Ok(Piece {
+            items: Vec::new(alloc),
+        }),
     }
 }
 

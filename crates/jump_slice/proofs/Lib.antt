@@ -22,3 +22,7 @@ pub mod Passing
 pub mod Quiet
 pub mod Walking
 pub mod Numbered
+pub mod Loading
+pub mod CaseBlocks
+pub mod Stood
+pub mod Joined

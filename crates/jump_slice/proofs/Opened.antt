@@ -170,6 +170,7 @@ candidate_is text list entry block switch held is f =
             sets = ap (λ (n : BlockNo). compare_of text list.blocks n.0) f.compare_is ∙ f.sets;
           };
           approach = ap (λ (n : BlockNo). approach_of text list.blocks block n.0 f.annul f.way f.compare) (sym f.compare_is);
+          loads = two.0;
           last = below one.1;
           jump = below two.1;
           targets = refl;

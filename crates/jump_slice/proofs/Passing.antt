@@ -43,7 +43,7 @@ use Rattle.jump_slice.proofs.Branching.{branch_tells}
 use Rattle.jump_slice.proofs.Known.{Carries, Compared, IsRun, Passed, Passing, Tells, block_number, carried, heads, holds_word, known_outside, sets_transfer}
 
 -- one of them passes
-any_of : (xs : List Open) (o : Open) (p : Open → Bool) → Contains xs o → p o ≡ true → list_any p xs ≡ true
+pub any_of : (xs : List Open) (o : Open) (p : Open → Bool) → Contains xs o → p o ≡ true → list_any p xs ≡ true
 any_of [] o p (k, l, e) h = absurd (omega arith)
 any_of (x ∷ xs) o p (zero, l, e) h = or_left _ _ (ap p e ∙ h)
 any_of (x ∷ xs) o p (suc k, l, e) h = or_right _ _ (any_of xs o p (k, omega (arith, l), e) h)

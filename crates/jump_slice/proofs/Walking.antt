@@ -192,7 +192,7 @@ module _ {text : Words} {given : List ℕ} {entry : ℕ} {opens : List Open} {s0
 
 -- ---- the laws
 
-run_of : (text : Words) (given : List ℕ) (entry : ℕ) (s0 : State) → IsText text → IsValid s0 → FetchesOnly text s0
+pub run_of : (text : Words) (given : List ℕ) (entry : ℕ) (s0 : State) → IsText text → IsValid s0 → FetchesOnly text s0
     → HoldsText text s0.memory → BeginsAt text entry s0
     → let list = entered_of text given in
     IsRun text given entry (opens_of text list (switches_of text list entry)) s0

@@ -18,7 +18,7 @@ use Rattle.cfg_blocks.specs.Blocks.{is_among}
 use Rattle.cfg_blocks.specs.Entries.{Entered, entered_of}
 use Rattle.cfg_blocks.specs.Switches.{approach_of, before_jump, is_taken, switch_of, switches_of}
 use Rattle.cfg_normal.specs.declared.Node.TheVariants.{Block}
-use Rattle.cfg_normal.specs.Opens.{Open, opens_of, targets_of}
+use Rattle.cfg_normal.specs.Opens.{Open, loads_here, opens_of, targets_of}
 use Rattle.cfg_normal.specs.Graph.{Graph, graph_of, has_cases}
 use Rattle.cfg_walk.specs.Walk.{end_of_walk}
 use Rattle.cfg_walk.specs.Matches.{BeginsAt, FetchesOnly, JumpsGoByCase, MatchesRun}
@@ -33,6 +33,7 @@ pub record IsOpen (text : Words) (list : Entered) (entry : ℕ) (o : Open) : Typ
   pub is_switch : switch_of text list entry o.block ≡ Some o.switch
   pub parts : IsInto text list o.block o.switch.compare o.way cond annul o.approach.compare
   pub approach : o.approach ≡ approach_of text list.blocks o.block o.switch.compare.0 annul o.way o.approach.compare
+  pub loads : loads_here text o.approach ≡ true
   pub last : o.approach.last + 1 < length text.words
   pub jump : o.approach.jump + 1 < length text.words
   pub targets : o.targets ≡ targets_of text o.switch

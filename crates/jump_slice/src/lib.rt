@@ -6,7 +6,7 @@ mod slices;
 
 pub use cfg_blocks::Switch;
 pub use laws::{
-    jumps_are_cases, numbers_are_compared, opens_are_one, switch_walks_match,
-    switches_are_compared, switches_hold, text_is_held,
+    case_blocks, jumps_are_cases, jumps_go_by_table, numbers_are_compared, opens_are_one,
+    switch_walks_match, switches_are_compared, switches_hold, text_is_held,
 };
 pub use slices::{slice, switches};

@@ -4,9 +4,9 @@ use Rattle.std.specs.Prelude.{nat_le, nat_lt}
 use Rattle.std.specs.List.{list_any}
 use Rattle.std.proofs.lemmas.Bool.{and_parts, and_from, leb-true, ltb-true, eqb-true, cond_both, ne_eqb}
 use Rattle.elf32_sparc.specs.Notes.{NoteSegment, NoteEdge, NoteRange, Notes, NoNotes, ◌>>=◌, note_at, note_that, kept, follows, is_cell, no_cell, cell_of, segments_at, blocks_at, edges_at, ranges_at, read_notes}
-use Rattle.notes.specs.declared.reading.Head.{Head}
+use Rattle.elf32_sparc.specs.Notes.{NoteHead as Head, block_count_at, head_of, tables_of}
 use Rattle.notes.specs.Rules.{is_segment, are_segments, are_blocks, is_free, is_edge, with_cell, are_edges, is_range, are_ranges, AreNotes}
-use Rattle.notes.specs.Parts.{head_of, tables_of, block_count_at, segment_at, block_at, edge_at, range_at}
+use Rattle.notes.specs.Parts.{segment_at, block_at, edge_at, range_at}
 use Rattle.notes.specs.Written.{cell_word}
 use Rattle.notes.proofs.TableRows.{segments-next, blocks-next, edges-next, ranges-next}
 use Rattle.notes.proofs.Whole.{in_parts}

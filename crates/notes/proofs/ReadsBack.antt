@@ -7,9 +7,8 @@ use Rattle.std.proofs.lemmas.List.{length-append}
 use Rattle.byteorder.specs.Endian.{big_bytes}
 use Rattle.byteorder.specs.Numbers.{length-bytes_high_first}
 use Rattle.elf32_sparc.specs.Notes.{NoteSegment, NoteEdge, NoteRange, Notes, note_at, follows, no_cell, cell_of, is_cell, byte_count, segments_at, blocks_at, edges_at, ranges_at, read_notes}
-use Rattle.notes.specs.declared.reading.Head.{Head}
+use Rattle.elf32_sparc.specs.Notes.{NoteHead as Head, block_count_at, head_of, tables_of}
 use Rattle.notes.specs.Rules.{AreNotes, is_segment, are_segments, are_blocks, is_free, is_edge, with_cell, are_edges, is_range, are_ranges}
-use Rattle.notes.specs.Parts.{head_of, tables_of, block_count_at}
 use Rattle.notes.specs.Written.{words_bytes, cell_word, segment_words, edge_words, range_words, notes_words, notes_bytes}
 use Rattle.notes.proofs.Kept.{Alike, alike_more}
 use Rattle.notes.proofs.Whole.{in_parts}

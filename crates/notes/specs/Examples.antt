@@ -1,6 +1,6 @@
 -- The notes of a text of four words in two blocks, and each rule broken once: they compute.
 use Rattle.std.specs.Prelude.{◌≡◌, ℕ, ◌+◌, List, [], ◌∷◌, ◌++◌, take, drop, map, Some, None, Result, Ok, Err, refl}
-use Rattle.elf32_sparc.specs.Notes.{Notes, NoNotes, Bad, read_notes, segments_at, blocks_at, edges_at, ranges_at, node_at}
+use Rattle.elf32_sparc.specs.Notes.{Notes, NoNotes, Bad, read_notes, segments_at, blocks_at, edges_at, ranges_at, node_at, head_of, tables_of, block_count_at}
 use Rattle.notes.specs.Written.{words_bytes, notes_bytes}
 
 -- Two pages, two blocks with their landed copies, three edges of which two have a cell, and three places with a gap before the last.
@@ -37,7 +37,7 @@ abbrev named : ℕ × ℕ × ℕ → Result Notes NoNotes
 named change = Err (Bad change.2)
 
 read : read_notes 8192 (words_bytes words) ≡ Ok small
-unfolding words_bytes read_notes segments_at blocks_at edges_at ranges_at
+unfolding words_bytes read_notes head_of tables_of block_count_at segments_at blocks_at edges_at ranges_at
 read = refl
 
 -- The offset of a word, what it becomes, and the offset that is named.
@@ -51,7 +51,7 @@ broken_numbers = (0, 4095, 0) ∷ (4, 4097, 4) ∷ (8, 3, 8)
     ∷ (28, 0x400001, 28) ∷ (32, 9, 32) ∷ []
 
 numbers : map with_word broken_numbers ≡ map named broken_numbers
-unfolding words_bytes read_notes segments_at blocks_at edges_at ranges_at
+unfolding words_bytes read_notes head_of tables_of block_count_at segments_at blocks_at edges_at ranges_at
 numbers = refl
 
 abbrev broken_rows : List (ℕ × ℕ × ℕ)
@@ -65,7 +65,7 @@ broken_rows = (40, 0, 36) ∷ (44, 0x20ffc, 44) ∷ (48, 0xfffd0001, 44)
     ∷ (124, 0x20000, 120) ∷ (136, 0x20000, 136) ∷ (156, 0x21004, 152) ∷ []
 
 rows : map with_word broken_rows ≡ map named broken_rows
-unfolding words_bytes read_notes segments_at blocks_at edges_at ranges_at
+unfolding words_bytes read_notes head_of tables_of block_count_at segments_at blocks_at edges_at ranges_at
 rows = refl
 
 -- the first bytes alone, and the offset of the word that is missing
@@ -76,12 +76,12 @@ abbrev missing : List (ℕ × ℕ)
 missing = (0, 0) ∷ (24, 24) ∷ (30, 28) ∷ (40, 40) ∷ (55, 52) ∷ (116, 116) ∷ (167, 164) ∷ []
 
 missing_word : map cut missing ≡ map (λ ending. Err (Bad ending.1)) missing
-unfolding words_bytes read_notes segments_at blocks_at edges_at ranges_at
+unfolding words_bytes read_notes head_of tables_of block_count_at segments_at blocks_at edges_at ranges_at
 missing_word = refl
 
 -- a byte after the last place
 left_over : read_notes 8192 (words_bytes words ++ 0 ∷ []) ≡ Err (Bad 168)
-unfolding words_bytes read_notes segments_at blocks_at edges_at ranges_at
+unfolding words_bytes read_notes head_of tables_of block_count_at segments_at blocks_at edges_at ranges_at
 left_over = refl
 
 -- A place's first and inner address, an address in a page and in no place, one outside all pages, and the last place's.

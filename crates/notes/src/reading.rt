@@ -1,10 +1,10 @@
 //! Reading notes.
 ghost use Rattle.std.specs.Prelude.{◌≡◌, ◌≤◌, ◌<◌, ◌+◌, ◌*◌, ◌%◌, ◌^◌, ◌&&◌, ◌==◌, nat_le, nat_lt, IfOk, MatchResult, length};
 ghost use Rattle.elf32_sparc.specs.Header.{word_at};
-ghost use Rattle.elf32_sparc.specs.Notes.{byte_count, note_that, has_locator, notes_of, read_notes};
+ghost use Rattle.elf32_sparc.specs.Notes.{block_count_at, byte_count, head_of, note_that, has_locator, notes_of, read_notes, tables_of};
 ghost use Rattle.notes.specs.Seen.{Answers, IsFault, notes_seen};
+ghost use Rattle.notes.specs.Heads.{head_seen};
 ghost use Rattle.notes.specs.Rules.{AreNotes};
-ghost use Rattle.notes.specs.Parts.{head_of, block_count_at, tables_of};
 
 use crate::note::{Notes, NotesFault};
 use crate::rows::{keep, word_at};
@@ -89,9 +89,9 @@ struct Head {
 }
 
 /// The numbers before the tables, in a file of this size.
-#[tactic(auto, unfolding(crate::specs::Parts::head_of))]
+#[tactic(auto, unfolding(elf32_sparc::specs::Notes::head_of))]
 fn read_head(notes: &[u8], size: usize) -> Result<Head, NotesFault>
-    ensures head { Answers (λ head. head) result (head_of size notes.now) }
+    ensures head { Answers head_seen result (head_of size notes.now) }
     ensures inside { IfOk result (λ head. head.delta + head.length ≤ size) }
     ensures cells { IfOk result (λ head. head.cells ≤ 2 ^ 22) }
     ensures words { IfOk result (λ head. head.words ≤ 2 ^ 20) }
@@ -149,7 +149,7 @@ fn end_at(notes: &[u8], end: u32) -> bool
 }
 
 /// The number of blocks, of a text of so many words that is entered at the block `entry`.
-#[tactic(auto, unfolding(crate::specs::Parts::block_count_at))]
+#[tactic(auto, unfolding(elf32_sparc::specs::Notes::block_count_at))]
 fn block_count_at(notes: &[u8], at: u32, entry: u32, words: u32) -> Result<u32, NotesFault>
     ensures count { Answers (λ count. count) result (block_count_at entry words notes.now at) }
     ensures few { IfOk result (λ count. count ≤ words) }
@@ -171,12 +171,12 @@ fn count_at(notes: &[u8], at: u32, limit: u32) -> Result<u32, NotesFault>
 }
 
 /// What comes after the numbers: the tables, and no more.
-#[tactic(auto, unfolding(crate::specs::Parts::tables_of))]
+#[tactic(auto, unfolding(elf32_sparc::specs::Notes::tables_of))]
 fn read_tables(alloc: Global, notes: &[u8], head: &Head) -> Result<Notes, NotesFault>
     requires cells { head.now.cells ≤ 2 ^ 22 }
     requires words { head.now.words ≤ 2 ^ 20 }
     requires segments { head.now.segment_count ≤ 8 }
-    ensures read { Answers notes_seen result (tables_of notes.now head.now) }
+    ensures read { Answers notes_seen result (tables_of notes.now (head_seen head.now)) }
     ensures delta { IfOk result (λ notes. notes.delta ≡ head.now.delta) }
     ensures length { IfOk result (λ notes. notes.length ≡ head.now.length) }
 {

@@ -90,74 +90,64 @@ module _ {s : State} {count : ℕ} {May : ℕ → Type 0} {r : ℕ → ℕ} {wan
       → q < 32 → ((k : ℕ) → k < want → q ≢ r k) → register_of u q ≡ register_of s q
   unpicked_is u zero h low ne = refl
   unpicked_is u (suc q) h low ne =
-      ap (λ w. slice_index u.registers (place_of w (suc q))) h.window
-      ∙ h.others (place_of s.window (suc q))
+      ap (λ w. slice_index u.registers (place_of w (suc q))) h.same.window
+      ∙ h.held.others (place_of s.window (suc q))
       (λ k b. places_differ s.window (suc q) (r k) c.valid.window low (c.below k b) (ne k b))
 
   -- a picked register written
   alike_put : {g : ℕ → ℕ} {codes : Codes} {f : ℕ → ℕ} (j v : ℕ) (u : State) → j < want
       → IsAlike s May r want g codes f u → IsAlike s May r want g codes (put j v f) (with_register u (r j) v)
   alike_put {f = f} j v u b h = record {
-    live = h.live;
-    window = h.window;
-    valid = h.valid;
-    input = h.input;
-    y_register = h.y_register;
+    same = h.same;
     codes_are = h.codes_are;
-    registers = length-register_set u.registers u.window (r j) v ∙ h.registers;
-    picked = λ k bk. go k bk (equal_or_not k j);
-    others = λ p ne. set_stays u.registers u.window (r j) v p
-        (subst (λ w. p ≢ place_of w (r j)) (sym h.window) (ne j b)) ∙ h.others p ne;
-    can = h.can;
-    words = h.words;
-    range = h.range;
-    stores = h.stores;
-    code = h.code;
+    held = record {
+      count = length-register_set u.registers u.window (r j) v ∙ h.held.count;
+      picked = λ k bk. go k bk (equal_or_not k j);
+      others = λ p ne. set_stays u.registers u.window (r j) v p
+          (subst (λ w. p ≢ place_of w (r j)) (sym h.same.window) (ne j b)) ∙ h.held.others p ne;
+    };
+    memory = h.memory;
   }
     where
       go : (k : ℕ) → k < want → (k ≡ j) ⊎ (k ≢ j) → register_of (with_register u (r j) v) (r k) ≡ put j v f k
       go k bk (inl e) =
           ap (λ z. register_of (with_register u (r j) v) (r z)) e
-          ∙ register_in-set u.registers u.window (r j) v h.registers (c.some j b)
+          ∙ register_in-set u.registers u.window (r j) v h.held.count (c.some j b)
           ∙ sym (put_same j v f) ∙ ap (put j v f) (sym e)
       go k bk (inr n) =
           register_in-other u.registers u.window (r j) v u.window (r k)
-          (subst (λ w. place_of w (r j) ≢ place_of w (r k)) (sym h.window)
+          (subst (λ w. place_of w (r j) ≢ place_of w (r k)) (sym h.same.window)
           (places_differ s.window (r j) (r k) c.valid.window (c.below j b) (c.below k bk)
           (c.differ j k b bk (λ e. n (sym e)))))
-          ∙ h.picked k bk ∙ sym (put_other j v f k n)
+          ∙ h.held.picked k bk ∙ sym (put_other j v f k n)
 
   -- a word stored
   alike_store : {g : ℕ → ℕ} {codes : Codes} {f : ℕ → ℕ} (a v : ℕ) (u : State) → May a → v < 2 ^ 32
       → IsAlike s May r want g codes f u
       → IsAlike s May r want (put a v g) codes f (record u { memory = store_word u.memory a v })
   alike_store {g = g} a v u ok small h = record {
-    live = h.live;
-    window = h.window;
-    valid = h.valid;
-    input = h.input;
-    y_register = h.y_register;
+    same = h.same;
     codes_are = h.codes_are;
-    registers = h.registers;
-    picked = h.picked;
-    others = h.others;
-    can = λ b m. still_stored u.memory b a v (h.can b m);
-    words = λ b m. word b m (equal_or_not b a);
-    range = λ b m. range b m (equal_or_not b a);
-    stores = stores_more May s.memory u.memory a v h.stores ok;
-    code = code-store_word u.memory a v ∙ h.code;
+    held = h.held;
+    memory = record {
+      can = λ b m. still_stored u.memory b a v (h.memory.can b m);
+      words = λ b m. word b m (equal_or_not b a);
+      range = λ b m. range b m (equal_or_not b a);
+      stores = stores_more May s.memory u.memory a v h.memory.stores ok;
+      code = code-store_word u.memory a v ∙ h.memory.code;
+    };
   }
     where
       word : (b : ℕ) → May b → (b ≡ a) ⊎ (b ≢ a) → memory_word (store_word u.memory a v) b ≡ put a v g b
-      word b m (inl e) = ap (memory_word (store_word u.memory a v)) e ∙ word_stored u.memory a v small (h.can a ok)
+      word b m (inl e) = ap (memory_word (store_word u.memory a v)) e ∙ word_stored u.memory a v small (h.memory.can a ok)
           ∙ sym (put_same a v g) ∙ ap (put a v g) (sym e)
       word b m (inr n) =
-          other_word_stored u.memory b a v (h.can b m) (words_apart b a n (c.aligned b m) (c.aligned a ok))
-          ∙ h.words b m ∙ sym (put_other a v g b n)
+          other_word_stored u.memory b a v (h.memory.can b m) (words_apart b a n (c.aligned b m) (c.aligned a ok))
+          ∙ h.memory.words b m ∙ sym (put_other a v g b n)
 
       range : (b : ℕ) → May b → (b ≡ a) ⊎ (b ≢ a) → put a v g b < 2 ^ 32
       range b m (inl e) = subst (λ z. z < 2 ^ 32) (sym (ap (put a v g) e ∙ put_same a v g)) small
-      range b m (inr n) = subst (λ z. z < 2 ^ 32) (sym (put_other a v g b n)) (h.range b m)
+      range b m (inr n) = subst (λ z. z < 2 ^ 32) (sym (put_other a v g b n)) (h.memory.range b m)
 
 module _ {s : State} {count : ℕ} {May : ℕ → Type 0} {counted : ℕ → Bool} {r : ℕ → ℕ} {want : ℕ}
     (c : HasBlock s count May r want) where
@@ -174,20 +164,16 @@ module _ {s : State} {count : ℕ} {May : ℕ → Type 0} {counted : ℕ → Boo
       pc = omega arith;
       npc = (let e = c.ready.npc in omega arith);
       alike = record {
-        live = c.ready.live;
-        window = refl;
-        valid = refl;
-        input = refl;
-        y_register = refl;
+        same = record { live = c.ready.live; window = refl; valid = refl; input = refl; y_register = refl };
         codes_are = refl;
-        registers = c.valid.registers.count;
-        picked = λ k h. refl;
-        others = λ p h. refl;
-        can = c.can;
-        words = λ a h. refl;
-        range = λ a h. memory_word-range s.memory a c.valid.memory;
-        stores = stores_none May s.memory;
-        code = refl;
+        held = record { count = c.valid.registers.count; picked = λ k h. refl; others = λ p h. refl };
+        memory = record {
+          can = c.can;
+          words = λ a h. refl;
+          range = λ a h. memory_word-range s.memory a c.valid.memory;
+          stores = stores_none May s.memory;
+          code = refl;
+        };
       };
     };
     slot = c.slot;
@@ -198,7 +184,7 @@ module _ {s : State} {count : ℕ} {May : ℕ → Type 0} {counted : ℕ → Boo
       (w : Reaches s count May counted r want n t g codes f) → Says (code_of s.memory) (s.pc + 4 * n) instr
       → Says (code_of w.after.memory) w.after.pc instr
   says_here {n} instr w says =
-      subst (λ (z : List Region). Says z w.after.pc instr) (sym w.alike.code)
+      subst (λ (z : List Region). Says z w.after.pc instr) (sym w.alike.memory.code)
       (subst (λ z. Says (code_of s.memory) z instr) (sym w.pc) says)
 
   -- one word more, by what it does beside going on
@@ -214,10 +200,10 @@ module _ {s : State} {count : ℕ} {May : ℕ → Type 0} {counted : ℕ → Boo
       let q = w.npc in
       let few = w.few in
       let here = says_here instr w says in
-      let one : step_of w.after ≡ next v = says_step w.after instr w.alike.live here ∙ acts in
+      let one : step_of w.after ≡ next v = says_step w.after instr w.alike.same.live here ∙ acts in
       let fewer = w.stored in
       let last : stores_in_step counted w.after ≤ one_if counted (stores_at w.after instr) =
-      says_stores counted w.after instr w.alike.live here in
+      says_stores counted w.after instr w.alike.same.live here in
       let joined : count_stores counted s (w.steps + 1) ≡ count_stores counted s w.steps +
       (0 + stores_in_step counted w.after) = count_add counted s w.after w.steps w.path.steps 1 in
       record {
@@ -231,7 +217,7 @@ module _ {s : State} {count : ℕ} {May : ℕ → Type 0} {counted : ℕ → Boo
                 past = (let x : 0 < w.steps = some in omega arith);
                 before = omega arith;
                 stores =
-                    w.alike.stores;
+                    w.alike.memory.stores;
               });
           silent = silent_then s w.after w.steps 1 w.path.steps w.silent
               (silent_one w.after (says_puts w.after instr plain here));
@@ -239,20 +225,10 @@ module _ {s : State} {count : ℕ} {May : ℕ → Type 0} {counted : ℕ → Boo
           pc = (let z : v.npc ≡ s.pc + 4 * suc n = omega arith in z);
           npc = (let z : wrapped (v.npc + 4) ≡ s.pc + 4 * suc n + 4 = omega arith in z);
           alike = record {
-            live = alike.live;
-            window = alike.window;
-            valid = alike.valid;
-            input = alike.input;
-            y_register = alike.y_register;
+            same = alike.same;
             codes_are = alike.codes_are;
-            registers = alike.registers;
-            picked = alike.picked;
-            others = alike.others;
-            can = alike.can;
-            words = alike.words;
-            range = alike.range;
-            stores = alike.stores;
-            code = alike.code;
+            held = alike.held;
+            memory = alike.memory;
           };
         };
         slot = refl;
@@ -294,22 +270,7 @@ module _ {s : State} {count : ℕ} {May : ℕ → Type 0} {counted : ℕ → Boo
       works_step t g codes' f (i.Alu op true 0 rs1 op2) w.reach below (λ cond q k z. cc) says
       (record w.reach.after { codes = codes' })
       (codes_acts w.reach.after op rs1 op2 v codes' (e w.reach.after w.reach.alike)) refl refl
-      (record {
-        live = h.live;
-        window = h.window;
-        valid = h.valid;
-        input = h.input;
-        y_register = h.y_register;
-        codes_are = refl;
-        registers = h.registers;
-        picked = h.picked;
-        others = h.others;
-        can = h.can;
-        words = h.words;
-        range = h.range;
-        stores = h.stores;
-        code = h.code;
-      }) (omega arith)
+      (record { same = h.same; codes_are = refl; held = h.held; memory = h.memory }) (omega arith)
 
   -- ---- loads and stores
   pub ld : {n t : ℕ} {g : ℕ → ℕ} {codes : Codes} {f : ℕ → ℕ} (j rs1 : ℕ) (op2 : Op2) (a : ℕ)
@@ -321,8 +282,8 @@ module _ {s : State} {count : ℕ} {May : ℕ → Type 0} {counted : ℕ → Boo
       works_step t g codes (put j (g a) f) (i.Load loads.LD (r j) rs1 op2) w.reach below (λ cond q k z. cc) says
       (with_register w.reach.after (r j) (g a))
       (ld_acts w.reach.after (r j) rs1 op2 a (sums w.reach.after w.reach.alike) (ap (λ z. z == 0) (c.aligned a ok))
-      (can_load w.reach.after.memory a (w.reach.alike.can a ok))
-      ∙ ap (λ z. next (with_register w.reach.after (r j) z)) (w.reach.alike.words a ok)) refl refl
+      (can_load w.reach.after.memory a (w.reach.alike.memory.can a ok))
+      ∙ ap (λ z. next (with_register w.reach.after (r j) z)) (w.reach.alike.memory.words a ok)) refl refl
       (alike_put c j (g a) w.reach.after b w.reach.alike) (omega arith)
 
   pub st : {n t : ℕ} {g : ℕ → ℕ} {codes : Codes} {f : ℕ → ℕ} (t' rd rs1 : ℕ) (op2 : Op2) (a v : ℕ)
@@ -335,7 +296,7 @@ module _ {s : State} {count : ℕ} {May : ℕ → Type 0} {counted : ℕ → Boo
       works_step t' (put a v g) codes f (i.Store stores.ST rd rs1 op2) w.reach below (λ cond q k z. cc) says
       (record w.reach.after { memory = store_word w.reach.after.memory a v })
       (st_acts w.reach.after rd rs1 op2 a (sums w.reach.after w.reach.alike) (ap (λ z. z == 0) (c.aligned a ok))
-      (w.reach.alike.can a ok)
+      (w.reach.alike.memory.can a ok)
       ∙ ap (λ z. next (record w.reach.after { memory = store_word w.reach.after.memory a z }))
       (value w.reach.after w.reach.alike)) refl refl (alike_store c a v w.reach.after ok small w.reach.alike)
       (subst (λ z. t + one_if counted (Some z) ≤ t') (sym (sums w.reach.after w.reach.alike)) more)
@@ -358,10 +319,10 @@ module _ {s : State} {count : ℕ} {May : ℕ → Type 0} {counted : ℕ → Boo
       let h = x.alike in
       let here = says_here (i.Branch cond true (pos 2)) x branch in
       let there : step_of u ≡ delayed u (wrapped (u.pc + 8)) =
-      says_step u (i.Branch cond true (pos 2)) h.live here
+      says_step u (i.Branch cond true (pos 2)) h.same.live here
       ∙ branch_acts u cond true w.slot other (ap (holds_of cond) h.codes_are ∙ holds) in
       let fewer = x.stored in
-      let last : stores_in_step counted u ≤ 0 = says_stores counted u (i.Branch cond true (pos 2)) h.live here in
+      let last : stores_in_step counted u ≤ 0 = says_stores counted u (i.Branch cond true (pos 2)) h.same.live here in
       let joined : count_stores counted s (x.steps + 1) ≡ count_stores counted s x.steps +
       (0 + stores_in_step counted u) = count_add counted s u x.steps x.path.steps 1 in
       let y : Reaches s count May counted r want (suc n) t g codes f = record {
@@ -371,32 +332,17 @@ module _ {s : State} {count : ℕ} {May : ℕ → Type 0} {counted : ℕ → Boo
         path = leads_then (IsBetween s count May) s u (delayed u (wrapped (u.pc + 8))) x.steps 1 x.path
             (leads_one _ u _ there)
             (λ some _. record
-            { past = (let z : 0 < x.steps = some in omega arith); before = omega arith; stores = h.stores });
+            { past = (let z : 0 < x.steps = some in omega arith); before = omega arith; stores = h.memory.stores });
         silent = silent_then s u x.steps 1 x.path.steps x.silent
             (silent_one u (says_puts u (i.Branch cond true (pos 2)) (λ k l m z. cc) here));
         stored = omega arith;
         pc = (let z : u.npc ≡ s.pc + 4 * suc n = omega arith in z);
         npc = (let z : wrapped (u.pc + 8) ≡ s.pc + 4 * suc n + 4 = omega arith in z);
-        alike = record {
-          live = h.live;
-          window = h.window;
-          valid = h.valid;
-          input = h.input;
-          y_register = h.y_register;
-          codes_are = h.codes_are;
-          registers = h.registers;
-          picked = h.picked;
-          others = h.others;
-          can = h.can;
-          words = h.words;
-          range = h.range;
-          stores = h.stores;
-          code = h.code;
-        };
+        alike = record { same = h.same; codes_are = h.codes_are; held = h.held; memory = h.memory };
       } in
       works_step t (put a v g) codes f (i.Store stores.ST rd rs1 op2) y (omega arith) (λ k l m z. cc) store
       (record y.after { memory = store_word y.after.memory a v })
-      (st_acts y.after rd rs1 op2 a (sums y.after y.alike) (ap (λ z. z == 0) (c.aligned a ok)) (y.alike.can a ok)
+      (st_acts y.after rd rs1 op2 a (sums y.after y.alike) (ap (λ z. z == 0) (c.aligned a ok)) (y.alike.memory.can a ok)
       ∙ ap (λ z. next (record y.after { memory = store_word y.after.memory a z })) (value y.after y.alike)) refl
       refl (alike_store c a v y.after ok small y.alike)
       (subst (λ z. t + one_if counted (Some z) ≤ t) (sym (sums y.after y.alike))
@@ -412,10 +358,10 @@ module _ {s : State} {count : ℕ} {May : ℕ → Type 0} {counted : ℕ → Boo
       let here = says_here (i.Branch cond true (pos 2)) x branch in
       let over : State = record u { pc = wrapped (u.pc + 8); npc = wrapped (u.pc + 12) } in
       let there : step_of u ≡ over =
-      says_step u (i.Branch cond true (pos 2)) h.live here
+      says_step u (i.Branch cond true (pos 2)) h.same.live here
       ∙ branch_acts u cond false w.slot other (ap (holds_of cond) h.codes_are ∙ holds) in
       let fewer = x.stored in
-      let last : stores_in_step counted u ≤ 0 = says_stores counted u (i.Branch cond true (pos 2)) h.live here in
+      let last : stores_in_step counted u ≤ 0 = says_stores counted u (i.Branch cond true (pos 2)) h.same.live here in
       let joined : count_stores counted s (x.steps + 1) ≡ count_stores counted s x.steps +
       (0 + stores_in_step counted u) = count_add counted s u x.steps x.path.steps 1 in
       record {
@@ -425,28 +371,13 @@ module _ {s : State} {count : ℕ} {May : ℕ → Type 0} {counted : ℕ → Boo
           few = omega arith;
           path = leads_then (IsBetween s count May) s u over x.steps 1 x.path (leads_one _ u _ there)
               (λ some _. record
-              { past = (let z : 0 < x.steps = some in omega arith); before = omega arith; stores = h.stores });
+              { past = (let z : 0 < x.steps = some in omega arith); before = omega arith; stores = h.memory.stores });
           silent = silent_then s u x.steps 1 x.path.steps x.silent
               (silent_one u (says_puts u (i.Branch cond true (pos 2)) (λ k l m z. cc) here));
           stored = omega arith;
           pc = (let z : wrapped (u.pc + 8) ≡ s.pc + 4 * suc (suc n) = omega arith in z);
           npc = (let z : wrapped (u.pc + 12) ≡ s.pc + 4 * suc (suc n) + 4 = omega arith in z);
-          alike = record {
-            live = h.live;
-            window = h.window;
-            valid = h.valid;
-            input = h.input;
-            y_register = h.y_register;
-            codes_are = h.codes_are;
-            registers = h.registers;
-            picked = h.picked;
-            others = h.others;
-            can = h.can;
-            words = h.words;
-            range = h.range;
-            stores = h.stores;
-            code = h.code;
-          };
+          alike = record { same = h.same; codes_are = h.codes_are; held = h.held; memory = h.memory };
         };
         slot = w.slot;
       }

@@ -126,17 +126,17 @@ module _ {s : State} {count : ℕ} {May : ℕ → Type 0} {counted : ℕ → Boo
       (difference_overflows x (g a) (wrapped (2 ^ 33 + x - (g a + 0)))) (nat_lt x (g a + 0)) in
       let w1 = sethi c 0 (a / 1024) (1024 * (a / 1024)) w (omega arith) (omega arith) stand.0 (high_is a below) in
       let w2 = ld c 1 (r 0) (o.Imm (pos (a % 1024))) a w1 (omega arith) (omega arith) (at stand.1.0 (omega arith))
-      (λ u h. sum_low u (r 0) a (h.picked 0 (omega arith)) below) ok in
+      (λ u h. sum_low u (r 0) a (h.held.picked 0 (omega arith)) below) ok in
       let w3 = compares c ops.SUB q (o.Reg (r 1)) v k w2 (omega arith) (at stand.1.1.0 (omega arith))
       (λ u h. ap (λ z. alu_of ops.SUB true z (register_of u (r 1)) u.codes u.y)
       (unpicked_is c u q h reg unpicked ∙ value)
-      ∙ ap (λ z. alu_of ops.SUB true x z u.codes u.y) (h.picked 1 (omega arith)) ∙ compared x (g a) u.codes u.y)
+      ∙ ap (λ z. alu_of ops.SUB true x z u.codes u.y) (h.held.picked 1 (omega arith)) ∙ compared x (g a) u.codes u.y)
       in
       works_words (put a (max (g a) x) g) (stored_or_not a x g (nat_lt (g a) x) refl)
       (branches c 12 q (r 0) (o.Imm (pos (a % 1024))) a x (nat_lt (g a) x) w3 (omega arith) refl
       (is_greater x (g a) (difference_overflows x (g a) v) fits small)
       (at stand.1.1.1.0 (omega arith)) (at stand.1.1.1.1.0 (omega arith))
-      (λ u h. sum_low u (r 0) a (h.picked 0 (omega arith)) below) ok
+      (λ u h. sum_low u (r 0) a (h.held.picked 0 (omega arith)) below) ok
       (λ u h. unpicked_is c u q h reg unpicked ∙ value) fits free)
 
   pub tops_long : (a q x : ℕ) → n + 11 ≤ count → 5 ≤ want → May a → counted a ≡ false → a < 2 ^ 32 → g a < 2 ^ 32
@@ -161,43 +161,43 @@ module _ {s : State} {count : ℕ} {May : ℕ → Type 0} {counted : ℕ → Boo
       let v = is ops.SUB (g a) k in
       let w1 = sethi c 0 (a / 1024) (1024 * (a / 1024)) w (omega arith) (omega arith) stand.0 (high_is a below) in
       let w2 = ld c 1 (r 0) (o.Imm (pos (a % 1024))) a w1 (omega arith) (omega arith) (at stand.1.0 (omega arith))
-      (λ u h. sum_low u (r 0) a (h.picked 0 (omega arith)) below) ok in
+      (λ u h. sum_low u (r 0) a (h.held.picked 0 (omega arith)) below) ok in
       let w3 = alu c 2 ops.SUB (r 1) (o.Reg q) d w2 (omega arith) (omega arith) (at stand.1.1.0 (omega arith))
-      (λ u h. gives u ops.SUB (r 1) (o.Reg q) (g a) x d (h.picked 1 (omega arith))
+      (λ u h. gives u ops.SUB (r 1) (o.Reg q) (g a) x d (h.held.picked 1 (omega arith))
       (unpicked_is c u q h reg unpicked ∙ value) (value_sub (g a) x s.codes s.y)) in
       let w4 = alu c 3 ops.ORN q (o.Reg (r 1)) e w3 (omega arith) (omega arith) (at stand.1.1.1.0 (omega arith))
       (λ u h. gives u ops.ORN q (o.Reg (r 1)) x (g a) e (unpicked_is c u q h reg unpicked ∙ value)
-      (h.picked 1 (omega arith)) (value_orn x (g a) s.codes s.y)) in
+      (h.held.picked 1 (omega arith)) (value_orn x (g a) s.codes s.y)) in
       let w5 = alu c 3 ops.AND (r 3) (o.Reg (r 2)) l w4 (omega arith) (omega arith) (at stand.1.1.1.1.0 (omega arith))
-      (λ u h. gives u ops.AND (r 3) (o.Reg (r 2)) e d l (h.picked 3 (omega arith)) (h.picked 2 (omega arith))
+      (λ u h. gives u ops.AND (r 3) (o.Reg (r 2)) e d l (h.held.picked 3 (omega arith)) (h.held.picked 2 (omega arith))
       (value_and e d s.codes s.y)) in
       let w6 = alu c 4 ops.ANDN q (o.Reg (r 1)) b w5 (omega arith) (omega arith) (at stand.1.1.1.1.1.0 (omega arith))
       (λ u h. gives u ops.ANDN q (o.Reg (r 1)) x (g a) b (unpicked_is c u q h reg unpicked ∙ value)
-      (h.picked 1 (omega arith)) (value_andn x (g a) s.codes s.y)) in
+      (h.held.picked 1 (omega arith)) (value_andn x (g a) s.codes s.y)) in
       let w7 = alu c 3 ops.OR (r 3) (o.Reg (r 4)) o1 w6 (omega arith) (omega arith)
       (at stand.1.1.1.1.1.1.0 (omega arith))
-      (λ u h. gives u ops.OR (r 3) (o.Reg (r 4)) l b o1 (h.picked 3 (omega arith)) (h.picked 4 (omega arith))
+      (λ u h. gives u ops.OR (r 3) (o.Reg (r 4)) l b o1 (h.held.picked 3 (omega arith)) (h.held.picked 4 (omega arith))
       (value_or l b s.codes s.y)) in
       let w8 = alu c 3 ops.SRA (r 3) (o.Imm (pos 31)) m w7 (omega arith) (omega arith)
       (at stand.1.1.1.1.1.1.1.0 (omega arith))
-      (λ u h. gives u ops.SRA (r 3) (o.Imm (pos 31)) o1 31 m (h.picked 3 (omega arith)) refl
+      (λ u h. gives u ops.SRA (r 3) (o.Imm (pos 31)) o1 31 m (h.held.picked 3 (omega arith)) refl
       (value_sra o1 31 s.codes s.y)) in
       let w9 = alu c 3 ops.AND (r 3) (o.Reg (r 2)) k w8 (omega arith) (omega arith)
       (at stand.1.1.1.1.1.1.1.1.0 (omega arith))
-      (λ u h. gives u ops.AND (r 3) (o.Reg (r 2)) m d k (h.picked 3 (omega arith)) (h.picked 2 (omega arith))
+      (λ u h. gives u ops.AND (r 3) (o.Reg (r 2)) m d k (h.held.picked 3 (omega arith)) (h.held.picked 2 (omega arith))
       (value_and m d s.codes s.y)) in
       let w10 =
       alu c 1 ops.SUB (r 1) (o.Reg (r 3)) (max (g a) x) w9 (omega arith) (omega arith)
       (at stand.1.1.1.1.1.1.1.1.1.0 (omega arith))
-      (λ u h. gives u ops.SUB (r 1) (o.Reg (r 3)) (g a) k (max (g a) x) (h.picked 1 (omega arith))
-      (h.picked 3 (omega arith))
+      (λ u h. gives u ops.SUB (r 1) (o.Reg (r 3)) (g a) k (max (g a) x) (h.held.picked 1 (omega arith))
+      (h.held.picked 3 (omega arith))
       (λ codes' z. value_sub (g a) k s.codes s.y codes' z
       ∙ ap (λ y. Ok (record { value = y; codes = codes'; y = z })) (top_is s.codes s.y (g a) x small fits))) in
       let w11 =
       st c t (r 1) (r 0) (o.Imm (pos (a % 1024))) a (max (g a) x) w10 (omega arith)
-      (at stand.1.1.1.1.1.1.1.1.1.1.0 (omega arith)) (λ u h. sum_low u (r 0) a (h.picked 0 (omega arith)) below)
+      (at stand.1.1.1.1.1.1.1.1.1.1.0 (omega arith)) (λ u h. sum_low u (r 0) a (h.held.picked 0 (omega arith)) below)
       ok
-      (λ u h. h.picked 1 (omega arith)) (omega arith) (free_store counted t a free) in (
+      (λ u h. h.held.picked 1 (omega arith)) (omega arith) (free_store counted t a free) in (
         _,
         as_many
             (let z : suc (suc (suc (suc (suc (suc (suc (suc (suc (suc (suc n)))))))))) ≡ n + 11 = omega arith in z) w11,
@@ -224,12 +224,12 @@ module _ {s : State} {count : ℕ} {May : ℕ → Type 0} {counted : ℕ → Boo
           picked = _;
           works = as_many (let z : suc (suc (suc (suc (suc n)))) ≡ n + 5 = omega arith in z)
               (tops_short (cell_at cells cell) reg (register_of s reg) room' enough (h.cell) (h.free) below
-              (w.reach.alike.range (cell_at cells cell) (h.cell)) h.numbers.1 (λ k b. h.unpicked reg k refl b)
+              (w.reach.alike.memory.range (cell_at cells cell) (h.cell)) h.numbers.1 (λ k b. h.unpicked reg k refl b)
               refl stand');
           kept = λ z. absurd (cc);
         }
         go false e enough room' stand' =
             let p = tops_long (cell_at cells cell) reg (register_of s reg) room' enough (h.cell) (h.free) below
-            (w.reach.alike.range (cell_at cells cell) (h.cell)) h.numbers.1 (λ k b. h.unpicked reg k refl b)
+            (w.reach.alike.memory.range (cell_at cells cell) (h.cell)) h.numbers.1 (λ k b. h.unpicked reg k refl b)
             refl stand' in
             record { codes = codes; picked = p.0; works = p.1; kept = kept }

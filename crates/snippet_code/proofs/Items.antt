@@ -80,19 +80,19 @@ item_stays {s} {want = want} {dead = dead} {regs = regs} {spilled = spilled} {f 
         absurd (ne (subst (λ z. IsAmong (Register z) s.window dead) (sym e)
         (among s.window dead (slice_index regs k) (p.dead_first k l))))
     same k b (inr l) e =
-        let g : register_of u (slice_index regs k) ≡ register_of s (slice_index regs k) = h.picked k b ∙ back k l b in
+        let g : register_of u (slice_index regs k) ≡ register_of s (slice_index regs k) = h.held.picked k b ∙ back k l b in
         ap (slice_index s.registers) e ∙ sym (in_place s.registers s.window (slice_index regs k) (p.some k b)) ∙ sym g
-        ∙ ap (λ w. register_in u.registers w (slice_index regs k)) h.window
+        ∙ ap (λ w. register_in u.registers w (slice_index regs k)) h.same.window
         ∙ in_place u.registers s.window (slice_index regs k) (p.some k b) ∙ ap (slice_index u.registers) (sym e)
 
     go : ((k : ℕ) × (k < want) × (n ≡ place_of s.window (slice_index regs k)))
         ⊎ ((k : ℕ) → k < want → n ≢ place_of s.window (slice_index regs k))
         → slice_index s.registers n ≡ slice_index u.registers n
     go (inl (k, b, e)) = same k b (split_below k (want - spilled)) e
-    go (inr none) = sym (h.others n none)
+    go (inr none) = sym (h.held.others n none)
 item_stays {s} {dead = dead} c p back u h kept CodesItem ne = go (has dead parts.Icc) refl
   where
     go : (b : Bool) → has dead parts.Icc ≡ b → s.codes ≡ u.codes
     go true e = absurd (ne (codes_among s.window dead e))
     go false e = sym (h.codes_are ∙ kept e)
-item_stays c p back u h kept YRegister ne = sym h.y_register
+item_stays c p back u h kept YRegister ne = sym h.same.y_register

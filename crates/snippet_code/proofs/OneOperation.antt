@@ -82,20 +82,16 @@ module _ {s : State} {count : ℕ} {May : ℕ → Type 0} {counted : ℕ → Boo
           pc = x.pc;
           npc = x.npc;
           alike = record {
-            live = h.live;
-            window = h.window;
-            valid = h.valid;
-            input = h.input;
-            y_register = h.y_register;
+            same = h.same;
             codes_are = h.codes_are;
-            registers = h.registers;
-            picked = h.picked;
-            others = h.others;
-            can = h.can;
-            words = λ b m. h.words b m ∙ same b;
-            range = λ b m. subst (λ z. z < 2 ^ 32) (same b) (h.range b m);
-            stores = h.stores;
-            code = h.code;
+            held = h.held;
+            memory = record {
+              can = h.memory.can;
+              words = λ b m. h.memory.words b m ∙ same b;
+              range = λ b m. subst (λ z. z < 2 ^ 32) (same b) (h.memory.range b m);
+              stores = h.memory.stores;
+              code = h.memory.code;
+            };
           };
         };
         slot = w.slot;
@@ -119,14 +115,14 @@ module _ {s : State} {count : ℕ} {May : ℕ → Type 0} {counted : ℕ → Boo
   adds_small a amount room enough ok free below fits stand =
       let w1 = sethi c 0 (a / 1024) (1024 * (a / 1024)) w (omega arith) (omega arith) stand.0 (high_is a below) in
       let w2 = ld c 1 (r 0) (o.Imm (pos (a % 1024))) a w1 (omega arith) (omega arith) (at stand.1.0 (omega arith))
-      (λ u h. sum_low u (r 0) a (h.picked 0 (omega arith)) below) ok in
+      (λ u h. sum_low u (r 0) a (h.held.picked 0 (omega arith)) below) ok in
       let w3 = alu c 1 ops.ADD (r 1) (o.Imm (small amount)) (wrapped (g a + amount)) w2 (omega arith) (omega arith)
       (at stand.1.1.0 (omega arith))
       (λ u h. gives u ops.ADD (r 1) (o.Imm (small amount)) (g a) amount (wrapped (g a + amount))
-      (h.picked 1 (omega arith)) (small_is amount fits) (add_is (g a) amount _ refl)) in
+      (h.held.picked 1 (omega arith)) (small_is amount fits) (add_is (g a) amount _ refl)) in
       st c t (r 1) (r 0) (o.Imm (pos (a % 1024))) a (wrapped (g a + amount)) w3 (omega arith)
-      (at stand.1.1.1.0 (omega arith)) (λ u h. sum_low u (r 0) a (h.picked 0 (omega arith)) below) ok
-      (λ u h. h.picked 1 (omega arith)) (omega arith) (free_store counted t a free)
+      (at stand.1.1.1.0 (omega arith)) (λ u h. sum_low u (r 0) a (h.held.picked 0 (omega arith)) below) ok
+      (λ u h. h.held.picked 1 (omega arith)) (omega arith) (free_store counted t a free)
 
   adds_other : (a amount : ℕ) → n + 6 ≤ count → 3 ≤ want → May a → counted a ≡ false → a < 2 ^ 32 → amount < 2 ^ 32
       → StandIn (code_of s.memory) (s.pc + 4 * n)
@@ -140,21 +136,21 @@ module _ {s : State} {count : ℕ} {May : ℕ → Type 0} {counted : ℕ → Boo
   adds_other a amount room enough ok free below fits stand =
       let w1 = sethi c 0 (a / 1024) (1024 * (a / 1024)) w (omega arith) (omega arith) stand.0 (high_is a below) in
       let w2 = ld c 1 (r 0) (o.Imm (pos (a % 1024))) a w1 (omega arith) (omega arith) (at stand.1.0 (omega arith))
-      (λ u h. sum_low u (r 0) a (h.picked 0 (omega arith)) below) ok in
+      (λ u h. sum_low u (r 0) a (h.held.picked 0 (omega arith)) below) ok in
       let w3 = sethi c 2 (amount / 1024) (1024 * (amount / 1024)) w2 (omega arith) (omega arith)
       (at stand.1.1.0 (omega arith)) (high_is amount fits) in
       let w4 = alu c 2 ops.ADD (r 2) (o.Imm (pos (low amount))) amount w3 (omega arith) (omega arith)
       (at stand.1.1.1.0 (omega arith))
       (λ u h. gives u ops.ADD (r 2) (o.Imm (pos (low amount))) (1024 * (amount / 1024)) (wrapped (low amount))
-      amount (h.picked 2 (omega arith)) refl
+      amount (h.held.picked 2 (omega arith)) refl
       (add_is (1024 * (amount / 1024)) (wrapped (low amount)) amount (omega arith))) in
       let w5 = alu c 1 ops.ADD (r 1) (o.Reg (r 2)) (wrapped (g a + amount)) w4 (omega arith) (omega arith)
       (at stand.1.1.1.1.0 (omega arith))
-      (λ u h. gives u ops.ADD (r 1) (o.Reg (r 2)) (g a) amount (wrapped (g a + amount)) (h.picked 1 (omega arith))
-      (h.picked 2 (omega arith)) (add_is (g a) amount _ refl)) in
+      (λ u h. gives u ops.ADD (r 1) (o.Reg (r 2)) (g a) amount (wrapped (g a + amount)) (h.held.picked 1 (omega arith))
+      (h.held.picked 2 (omega arith)) (add_is (g a) amount _ refl)) in
       st c t (r 1) (r 0) (o.Imm (pos (a % 1024))) a (wrapped (g a + amount)) w5 (omega arith)
-      (at stand.1.1.1.1.1.0 (omega arith)) (λ u h. sum_low u (r 0) a (h.picked 0 (omega arith)) below) ok
-      (λ u h. h.picked 1 (omega arith)) (omega arith) (free_store counted t a free)
+      (at stand.1.1.1.1.1.0 (omega arith)) (λ u h. sum_low u (r 0) a (h.held.picked 0 (omega arith)) below) ok
+      (λ u h. h.held.picked 1 (omega arith)) (omega arith) (free_store counted t a free)
 
   -- a register's value, of one that isn't picked
   puts_register : (a q v : ℕ) → n + 2 ≤ count → 1 ≤ want → May a → counted a ≡ false → a < 2 ^ 32 → q < 32
@@ -164,7 +160,7 @@ module _ {s : State} {count : ℕ} {May : ℕ → Type 0} {counted : ℕ → Boo
   puts_register a q v room enough ok free below reg unpicked value stand =
       let w1 = sethi c 0 (a / 1024) (1024 * (a / 1024)) w (omega arith) (omega arith) stand.0 (high_is a below) in
       st c t q (r 0) (o.Imm (pos (a % 1024))) a v w1 (omega arith) (at stand.1.0 (omega arith))
-      (λ u h. sum_low u (r 0) a (h.picked 0 (omega arith)) below) ok
+      (λ u h. sum_low u (r 0) a (h.held.picked 0 (omega arith)) below) ok
       (λ u h. unpicked_is c u q h reg unpicked ∙ value)
       (subst (λ z. z < 2 ^ 32) value (register_of-range s q c.valid)) (free_store counted t a free)
 
@@ -180,10 +176,10 @@ module _ {s : State} {count : ℕ} {May : ℕ → Type 0} {counted : ℕ → Boo
       let w3 = alu c 1 ops.ADD (r 1) (o.Imm (pos (low v))) v w2 (omega arith) (omega arith)
       (at stand.1.1.0 (omega arith))
       (λ u h. gives u ops.ADD (r 1) (o.Imm (pos (low v))) (1024 * (v / 1024)) (wrapped (low v)) v
-      (h.picked 1 (omega arith)) refl (add_is (1024 * (v / 1024)) (wrapped (low v)) v (omega arith))) in
+      (h.held.picked 1 (omega arith)) refl (add_is (1024 * (v / 1024)) (wrapped (low v)) v (omega arith))) in
       st c t (r 1) (r 0) (o.Imm (pos (a % 1024))) a v w3 (omega arith) (at stand.1.1.1.0 (omega arith))
-      (λ u h. sum_low u (r 0) a (h.picked 0 (omega arith)) below) ok
-      (λ u h. h.picked 1 (omega arith)) fits (free_store counted t a free)
+      (λ u h. sum_low u (r 0) a (h.held.picked 0 (omega arith)) below) ok
+      (λ u h. h.held.picked 1 (omega arith)) fits (free_store counted t a free)
 
   -- ---- as operations
   module _ (cells : ℕ) (d : Bool) (kept : d ≡ false → codes ≡ s.codes) where

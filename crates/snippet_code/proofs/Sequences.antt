@@ -168,7 +168,7 @@ module _ {s : State} {count : ℕ} {May : ℕ → Type 0} {counted : ℕ → Boo
       let one =
       st c (t + cost) q 0 (of_page (m + 2)) (kept_word m) (register_of s q) w (omega arith) stand.0
       (λ u h. page_sum u m page.0) page.1
-      (λ u h. ap (register_of u) picked.1 ∙ h.picked k picked.0 ∙ ap (register_of s) (sym picked.1))
+      (λ u h. ap (register_of u) picked.1 ∙ h.held.picked k picked.0 ∙ ap (register_of s) (sym picked.1))
       (register_of-range s q c.valid) (omega (arith, paid)) in
       let more =
       saves cost is (suc k) (suc m) qs one picked.2 page.2 (omega arith)

@@ -291,21 +291,21 @@ module _ (counted : ℕ → Bool) (base : ℕ) (dead avoid : List Part) (ops : L
         pc = x.pc;
         npc = x.npc;
         slot = w4.slot;
-        live = a.live;
-        window = a.window;
-        windows = a.valid;
-        input = a.input;
-        registers = a.registers;
+        live = a.same.live;
+        window = a.same.window;
+        windows = a.same.valid;
+        input = a.same.input;
+        registers = a.held.count;
         items = items;
-        all = λ none. nothing_dead s x.after (s.pc + 4 * length words) h.valid.registers.count a.registers
+        all = λ none. nothing_dead s x.after (s.pc + 4 * length words) h.valid.registers.count a.held.count
             (subst (λ (z : List Part). (item : Item) → (IsAmong item s.window z → ⊥) → IsSameAt item s x.after) none
             items)
-            x.pc x.npc (omega arith) w4.slot a.window a.valid a.input (a.live ∙ sym h.ready.live);
-        cells = cells_are regs_of out x.after low h a.words
+            x.pc x.npc (omega arith) w4.slot a.same.window a.same.valid a.same.input (a.same.live ∙ sym h.ready.live);
+        cells = cells_are regs_of out x.after low h a.memory.words
             (λ k n other below far. word_unmoved (MayStore base ops) s.memory x.after.memory (cell_at base k)
-            h.valid.memory a.stores (cell_apart k n other below far));
-        stores = a.stores;
-        code = a.code;
+            h.valid.memory a.memory.stores (cell_apart k n other below far));
+        stores = a.memory.stores;
+        code = a.memory.code;
       }
 
 pub snippets_run : SnippetsRun

@@ -1,10 +1,11 @@
 -- What is kept of code that works in a few picked registers and in some words of memory, where branches only lead
 -- forward.
-use Rattle.std.proofs.Common.{◌≡◌, ◌≢◌, ℕ, suc, ◌+◌, ◌*◌, ◌-◌, ◌%◌, ◌^◌, ◌<◌, ◌≤◌, ◌==◌, Bool, false, List, [], ◌∷◌, length, None}
+use Rattle.std.proofs.Common.{◌≡◌, ◌≢◌, ℕ, suc, ◌+◌, ◌*◌, ◌-◌, ◌%◌, ◌^◌, ◌<◌, ◌≤◌, ◌==◌, Bool, false, Option, None, List, [], ◌∷◌, length}
 use Rattle.std.specs.Prelude.{slice_index, if◌then◌else◌}
 use Rattle.v8_alu.specs.declared.Codes.{Codes}
-use Rattle.v8_memory.specs.Regions.{code_of}
-use Rattle.v8_windows.specs.Registers.{place_of}
+use Rattle.v8_memory.specs.Regions.{Memory, code_of}
+use Rattle.v8_windows.specs.Registers.{place_of, register_in}
+use Rattle.v8_step.specs.declared.Ending.{Ending}
 use Rattle.v8_step.specs.declared.Slot.TheVariants.{NoSlot}
 use Rattle.v8_step.specs.State.{State, register_of}
 use Rattle.v8_step.specs.Valid.{IsValid}
@@ -39,24 +40,36 @@ pub record HasBlock (s : State) (count : ℕ) (May : ℕ → Type 0) (r : ℕ �
   pub aligned : (a : ℕ) → May a → a % 4 ≡ 0
   pub can : (a : ℕ) → May a → CanStore s.memory a
 
+-- what no word of a block changes
+pub record IsSameBeside (s : State) (ending : Option Ending) (current windows : ℕ) (left : List ℕ) (y : ℕ) : Type 0 where
+  pub live : ending ≡ None
+  pub window : current ≡ s.window
+  pub valid : windows ≡ s.valid
+  pub input : left ≡ s.input
+  pub y_register : y ≡ s.y
+
+-- the picked registers hold f, and the others what they held
+pub record AreHeld (s : State) (r : ℕ → ℕ) (want : ℕ) (f : ℕ → ℕ) (registers : List ℕ) (window : ℕ) : Type 0 where
+  pub count : length registers ≡ 136
+  pub picked : (k : ℕ) → k < want → register_in registers window (r k) ≡ f k
+  pub others : (p : ℕ) → ((k : ℕ) → k < want → p ≢ place_of s.window (r k))
+      → slice_index registers p ≡ slice_index s.registers p
+
+-- these words of memory hold g, and may be stored; no others were stored
+pub record AreStored (s : State) (May : ℕ → Type 0) (g : ℕ → ℕ) (memory : Memory) : Type 0 where
+  pub can : (a : ℕ) → May a → CanStore memory a
+  pub words : (a : ℕ) → May a → memory_word memory a ≡ g a
+  pub range : (a : ℕ) → May a → g a < 2 ^ 32
+  pub stores : Stores May s.memory memory
+  pub code : code_of memory ≡ code_of s.memory
+
 -- u is s but for the picked registers, which hold f, the codes, and these words of memory, which hold g
 pub record IsAlike (s : State) (May : ℕ → Type 0) (r : ℕ → ℕ) (want : ℕ) (g : ℕ → ℕ) (codes : Codes) (f : ℕ → ℕ)
     (u : State) : Type 0 where
-  pub live : u.ending ≡ None
-  pub window : u.window ≡ s.window
-  pub valid : u.valid ≡ s.valid
-  pub input : u.input ≡ s.input
-  pub y_register : u.y ≡ s.y
+  pub same : IsSameBeside s u.ending u.window u.valid u.input u.y
   pub codes_are : u.codes ≡ codes
-  pub registers : length u.registers ≡ 136
-  pub picked : (k : ℕ) → k < want → register_of u (r k) ≡ f k
-  pub others : (p : ℕ) → ((k : ℕ) → k < want → p ≢ place_of s.window (r k))
-      → slice_index u.registers p ≡ slice_index s.registers p
-  pub can : (a : ℕ) → May a → CanStore u.memory a
-  pub words : (a : ℕ) → May a → memory_word u.memory a ≡ g a
-  pub range : (a : ℕ) → May a → g a < 2 ^ 32
-  pub stores : Stores May s.memory u.memory
-  pub code : code_of u.memory ≡ code_of s.memory
+  pub held : AreHeld s r want f u.registers u.window
+  pub memory : AreStored s May g u.memory
 
 -- Where n words lead, in no more steps than words, of which at most t are stores that are counted.
 pub record Reaches (s : State) (count : ℕ) (May : ℕ → Type 0) (counted : ℕ → Bool) (r : ℕ → ℕ) (want n t : ℕ)

@@ -53,7 +53,7 @@ linked_as g n links is nodes are =
 
 -- ---- the numbers of nodes are those that pass the test
 
-numbered : (g : Graph) (node : Node) → IsNodeIn g.blocks g.opens node → is_node g (node_number g node) ≡ true
+pub numbered : (g : Graph) (node : Node) → IsNodeIn g.blocks g.opens node → is_node g (node_number g node) ≡ true
 numbered g (Block block) h = rw (le-ltb (length g.blocks.firsts) block.0 (omega (arith, h))) refl
 numbered g (Landed block) h =
     let n = length g.blocks.firsts in

@@ -6,6 +6,7 @@ pub mod Follows
 pub mod FrameWords
 pub mod JudgedAlike
 pub mod Kept
+pub mod KeptOutside
 pub mod Ops
 pub mod Outside
 pub mod Puts

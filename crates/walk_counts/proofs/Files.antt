@@ -9,19 +9,22 @@ use Rattle.elf32_sparc.proofs.Images.{accepted-program}
 use Rattle.v8_process.specs.Start.{start_of}
 use Rattle.flows.specs.Flows.{Graph as PlainGraph, IsGraph}
 use Rattle.flows.specs.Walks.{IsWalk}
-use Rattle.std.proofs.lemmas.Bool.{false≢true}
 use Rattle.v8_step.specs.State.{State}
-use Rattle.cfg_blocks.specs.Blocks.{Blocks, blocks_of}
-use Rattle.cfg_normal.specs.declared.Node.{Node}
-use Rattle.cfg_normal.specs.declared.Node.TheVariants.{Block, Landed, X}
-use Rattle.cfg_normal.specs.Graph.{graph_of, has_cases, node_of}
+use Rattle.v8_step.specs.Valid.{AreBytes, IsValid}
+use Rattle.cfg_blocks.specs.Blocks.{blocks_of, is_among}
+use Rattle.cfg_blocks.specs.Entries.{entered_of}
+use Rattle.cfg_blocks.specs.Switches.{switches_of}
+use Rattle.cfg_normal.specs.Opens.{Open, opens_of}
+use Rattle.cfg_normal.specs.Graph.{graph_of, node_of}
 use Rattle.cfg_normal.specs.Numbers.{node_numbers}
-use Rattle.cfg_walk.specs.Matches.{AreOpen, BeginsAt, JumpsGoByCase}
-use Rattle.cfg_walk.specs.Walk.{end_of_walk}
+use Rattle.cfg_walk.specs.Matches.{AreOpen, BeginsAt, FetchesOnly, JumpsGoByCase, MatchesRun}
 use Rattle.walk_counts.specs.Files.{WalksOfFilesMatch}
 use Rattle.cfg_normal.specs.Numbers.{node_number}
 use Rattle.span_tree.specs.Links.{links_of}
-use Rattle.walk_counts.specs.Counts.{CountsAreEnough, ExecutionsOfFilesAreFlows}
+use Rattle.walk_counts.specs.Counts.{AreFlows, CountsAreEnough, ExecutionsOfFilesAreFlows, IsPath}
+use Rattle.jump_slice.proofs.Opened.{are_open, opens_are}
+use Rattle.jump_slice.proofs.Starts.{text_is_held}
+use Rattle.jump_slice.proofs.Walking.{jumps_are_cases}
 use Rattle.walk_counts.proofs.Texts.{HasText, text_found, text_from-start}
 use Rattle.walk_counts.proofs.Fetching.{only_text_is_fetched}
 use Rattle.cfg_walk.proofs.Walks.{walks_match}
@@ -65,41 +68,66 @@ begins file args input entry =
       slot = refl;
     }
 
--- ---- where no switch is open, no jump goes by case
-
-pub none_open : (b : Blocks) → AreOpen b []
-none_open b block h = absurd (false≢true h)
-
-no_cases : (node : Node) → has_cases [] node ≡ true → ⊥
-no_cases (Block block) h = false≢true h
-no_cases (Landed block) h = false≢true h
-no_cases X h = false≢true h
-
-pub none_by_case : (text : Words) (b : Blocks) (entry : ℕ) (s0 : State) → JumpsGoByCase text (graph_of b []) entry s0
-none_by_case text b entry s0 n live cased slot taken =
-    absurd (no_cases (end_of_walk text (graph_of b []) entry s0 n) cased)
-
 -- ---- the laws of files
 
+-- the open switches of a file's text, where these words lead besides
+abbrev pub opens_in : List ℕ → List ℕ → ℕ → List Open
+opens_in file given entry =
+    let list = entered_of (text_of file) given in
+    opens_of (text_of file) list (switches_of (text_of file) list entry)
+
+module _ (file : List ℕ) (args : List (List ℕ)) (input given : List ℕ) (sound : fault file ≡ None)
+    (bytes : AreBytes file) (valid : IsValid (start_of file args input))
+    (among : is_among given (word_number (text_of file) (e_entry file)) ≡ true) where
+  abbrev text : Words
+  text = text_of file
+
+  abbrev number : ℕ
+  number = word_number text (e_entry file)
+
+  abbrev s0 : State
+  s0 = start_of file args input
+
+  abbrev opens : List Open
+  opens = opens_in file given number
+
+  entry : IsEntry text (e_entry file)
+  entry = entry_is file sound
+
+  fetches : FetchesOnly text s0
+  fetches = only_text_is_fetched file args input sound bytes
+
+  starts : BeginsAt text number s0
+  starts = begins file args input entry
+
+  pub opened : AreOpen (blocks_of text given) opens
+  unfolding entered_of
+  opened = are_open text (entered_of text given) number opens (opens_are text given number entry.text_is)
+
+  pub by_case : JumpsGoByCase text (graph_of (blocks_of text given) opens) number s0
+  unfolding entered_of
+  by_case =
+      jumps_are_cases text given number s0 entry.text_is valid fetches (text_is_held file args input sound bytes) starts
+      among
+
+  pub matching : (n : ℕ) → MatchesRun text (graph_of (blocks_of text given) opens) number s0 n
+  matching n = walks_match text given opens number s0 n entry.text_is fetches starts opened by_case
+
+  pub paths : (n : ℕ) → IsPath text (graph_of (blocks_of text given) opens) number s0 n
+  paths n = walks_are_paths text given opens number s0 n entry.text_is fetches starts opened by_case
+
+  pub flow : (n : ℕ) → AreFlows text (graph_of (blocks_of text given) opens) number s0 n
+  flow n = executions_are_flows text given opens number s0 n entry.text_is fetches starts opened by_case
+
 pub walks_of_files_match : WalksOfFilesMatch
-unfolding image_of
-walks_of_files_match file args input given n sound bytes live =
-    let entry : IsEntry (text_of file) (e_entry file) = entry_is file sound in
-    let b : Blocks = blocks_of (text_of file) given in
-    let number : ℕ = word_number (text_of file) (e_entry file) in
-    walks_match (text_of file) given [] number (start_of file args input) n entry.text_is
-    (only_text_is_fetched file args input sound bytes) (begins file args input entry) (none_open b)
-    (none_by_case (text_of file) b number (start_of file args input)) live
+unfolding image_of entered_of
+walks_of_files_match file args input given n sound bytes valid among =
+    matching file args input given sound bytes valid among n
 
 pub executions_of_files_are_flows : ExecutionsOfFilesAreFlows
-unfolding image_of
-executions_of_files_are_flows file args input given n sound bytes =
-    let entry : IsEntry (text_of file) (e_entry file) = entry_is file sound in
-    let b : Blocks = blocks_of (text_of file) given in
-    let number : ℕ = word_number (text_of file) (e_entry file) in
-    executions_are_flows (text_of file) given [] number (start_of file args input) n entry.text_is
-    (only_text_is_fetched file args input sound bytes) (begins file args input entry) (none_open b)
-    (none_by_case (text_of file) b number (start_of file args input))
+unfolding image_of entered_of
+executions_of_files_are_flows file args input given n sound bytes valid among =
+    flow file args input given sound bytes valid among n
 
 -- a walk of a graph from one of its nodes ends at one
 ends_inside : (g : PlainGraph) (a : ℕ) (es : List ℕ) (b : ℕ) → IsGraph g → a < g.nodes → IsWalk g a es b → b < g.nodes
@@ -107,21 +135,16 @@ ends_inside g a [] b is inside walk = subst (λ (v : ℕ). v < g.nodes) walk ins
 ends_inside g a (e ∷ es) b is inside (below, leaves, walk) = ends_inside g (g.to e) es b is (is e below).1 walk
 
 pub counts_are_enough : CountsAreEnough
-unfolding image_of
-counts_are_enough file args input given n sound bytes edges flow determines is_flow agrees =
-    let text = text_of file in
-    let number = word_number text (e_entry file) in
-    let s0 = start_of file args input in
-    let entry : IsEntry text (e_entry file) = entry_is file sound in
-    let fetches = only_text_is_fetched file args input sound bytes in
-    let starts = begins file args input entry in
-    let b = blocks_of text given in
-    let g = graph_of b [] in
-    let some = (cut text given entry.text_is.some).firsts.some in
-    let cases = none_by_case text b number s0 in
+unfolding image_of entered_of
+counts_are_enough file args input given n sound bytes valid among edges flow_of determines is_flow agrees =
+    let number = word_number (text_of file) (e_entry file) in
+    let b = blocks_of (text_of file) given in
+    let opens = opens_in file given number in
+    let g = graph_of b opens in
+    let some = (cut (text_of file) given (entry_is file sound).text_is.some).firsts.some in
     let first_inside : node_number g (node_of b (Some number)) < node_numbers g =
-    number_inside g (node_of b (Some number)) (node_in b [] some (Some number)) in
-    determines _ _ flow _ first_inside
-    (ends_inside (links_of g) _ _ _ (links_are_a_graph b []) first_inside
-    (walks_are_paths text given [] number s0 n entry.text_is fetches starts (none_open b) cases))
-    is_flow (executions_are_flows text given [] number s0 n entry.text_is fetches starts (none_open b) cases) agrees
+    number_inside g (node_of b (Some number)) (node_in b opens some (Some number)) in
+    determines _ _ flow_of _ first_inside
+    (ends_inside (links_of g) _ _ _ (links_are_a_graph b opens) first_inside
+    (paths file args input given sound bytes valid among n))
+    is_flow (flow file args input given sound bytes valid among n) agrees

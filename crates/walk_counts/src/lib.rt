@@ -12,8 +12,8 @@ pub fn only_text_is_fetched()
     ensures { OnlyTextIsFetched }
 {}
 
-/// The walk of a file without a fault, from its entry over the graph of its text, matches the file's run at
-/// each step, as long as that goes on, whatever the arguments, the input and the words that lead besides.
+/// The walk of a file without a fault, from its entry over the graph of its text with its open switches, matches the
+/// file's run at each step, as long as that goes on, whatever words lead besides its entry.
 pub fn walks_of_files_match()
     ensures { WalksOfFilesMatch }
 {}

@@ -31,7 +31,7 @@ returns-then-had-needed-clause-refused g c =
       asked,
       record {
         sound = sym c.in_ok-view.ensures.fault;
-        needed_is = c.bound-needed.ensures ∙ rw (c.text-text.ensures, c.deref.ensures.value)
+        needed_is = c.in_ok-needed.ensures ∙ rw (c.text-text.ensures, c.deref.ensures.value)
             (view_bound c.args.bytes.now plan _ c.in_ok-view.ensures.view);
         had_is = c.from-had.ensures ∙ c.room.ensures ∙ ap (λ (i : Program). i.room) seen.0;
         less = c.if-had-needed.true;
@@ -50,8 +50,8 @@ edited-requires-clause-asked g c =
     c.in_ok-snips.field-0.items _ c.marks.ensures c.kind.ensures c.cells.ensures.cells
     c.in_ok-view.ensures.view c.in_ok-snips.ensures.answers in
     let seen = view_is c.args.bytes.now plan _ c.in_ok-view.ensures.view in
-    let needed : c.bound-needed.result ≡ bound_of c.in_ok-view.view.image.text c.in_ok-view.view.graph plan =
-    c.bound-needed.ensures ∙ rw (c.text-text.ensures, c.deref.ensures.value) refl in
+    let needed : c.in_ok-needed.needed ≡ bound_of c.in_ok-view.view.image.text c.in_ok-view.view.graph plan =
+    c.in_ok-needed.ensures ∙ rw (c.text-text.ensures, c.deref.ensures.value) refl in
     let had = c.from-had.ensures ∙ c.room.ensures in
     let can = can_edit c.args.bytes.now plan _ c.in_ok-view.ensures.view c.in_ok-view.ensures.fault
     (omega (arith, needed, had, c.if-had-needed.false)) in
@@ -74,8 +74,8 @@ returns-clause-edited g c =
     c.in_ok-snips.field-0.items _ c.marks.ensures c.kind.ensures c.cells.ensures.cells
     c.in_ok-view.ensures.view c.in_ok-snips.ensures.answers in
     let seen = view_is c.args.bytes.now plan _ c.in_ok-view.ensures.view in
-    let needed : c.bound-needed.result ≡ bound_of c.in_ok-view.view.image.text c.in_ok-view.view.graph plan =
-    c.bound-needed.ensures ∙ rw (c.text-text.ensures, c.deref.ensures.value) refl in
+    let needed : c.in_ok-needed.needed ≡ bound_of c.in_ok-view.view.image.text c.in_ok-view.view.graph plan =
+    c.in_ok-needed.ensures ∙ rw (c.text-text.ensures, c.deref.ensures.value) refl in
     let had = c.from-had.ensures ∙ c.room.ensures in
     let can = can_edit c.args.bytes.now plan _ c.in_ok-view.ensures.view c.in_ok-view.ensures.fault
     (omega (arith, needed, had, c.if-had-needed.false)) in

@@ -1,7 +1,7 @@
 use Rattle.std.proofs.Common.{refl, ◌∙◌}
 use Rattle.image_code.proofs.Fit.{pieces_fit}
-use Rattle.edit_core.specs.Written.{plan_of}
-use Rattle.edit_core.proofs.Steps.{code_is, entry_inside, original_fit, view_aligned, view_low, view_room, view_text, view_words}
+use Rattle.edit_core.specs.Written.{placement_in, plan_of, table_after}
+use Rattle.edit_core.proofs.Steps.{code_is, original_fit, segment_is, view_added, view_aligned, view_entry, view_low, view_room, view_text, view_words}
 use Rattle.edit_core.proofs.Edits.{notes_meet_rules, can_be_written}
 use Rattle.edit_core.proofs.editing.edited.Goals as goal
 
@@ -29,19 +29,6 @@ pub notes-requires-clause-text : goal.notes-requires-clause-text
 notes-requires-clause-text c =
     view_text c.args.bytes.now (plan_of c.requires.asked.0 c.args.asked.now) c.args.image.now c.args.graph.now c.requires.asked.1 c.requires.asked.2
 
-pub image_of-entry-requires : goal.image_of-entry-requires
-image_of-entry-requires c =
-    let marks = c.requires.asked.0 in
-    let view = c.requires.asked.1 in
-    let can = c.requires.asked.2 in
-    let work = c.requires.asked.3 in
-    let plan = plan_of marks c.args.asked.now in
-    let new = c.in_ok-new.new in
-    rw c.deref.ensures.value (entry_inside c.args.bytes.now plan c.args.image.now c.args.graph.now view new.placed new.tables.items
-    c.in_ok-new.ensures.built c.in_ok-new.ensures.leads
-    (original_fit pieces_fit c.args.bytes.now plan can work c.in_ok-new.ensures.built.dead) c.entry.result.0
-    (rw c.entry.ensures.word c.entry.ensures.inside))
-
 pub write_notes-requires : goal.write_notes-requires
 write_notes-requires c =
     let marks = c.requires.asked.0 in
@@ -67,13 +54,18 @@ write_around-requires-clause-original c =
     let code = code_is c.args.bytes.now plan c.args.image.now c.args.graph.now view new.placed new.tables.items
     c.in_ok-new.ensures.built c.in_ok-new.ensures.leads c.in_ok-added.ensures.code
     c.in_ok-added.ensures.tables in
+    let size = segment_is c.args.image.now.text c.args.graph.now plan.snips (placement_in new.placed)
+    (record { base = table_after c.args.image.now.base plan.cells; bytes = new.tables.items })
+    c.in_ok-new.ensures.leads in
+    let segments = c.in_ok-added.ensures.segments
+    ∙ view_added c.args.bytes.now plan c.args.image.now c.args.graph.now view (placement_in new.placed)
+    new.tables.items size in
     rw (
+      c.deref.ensures.value,
+      segments,
       c.deref-2.ensures.value,
-      c.in_ok-added.ensures.segments,
-      c.deref-3.ensures.value,
       c.in_ok-notes-2.ensures,
       c.in_ok-notes.ensures marks view,
-      c.requires.asked.1.0,
     )
     (can_be_written c.args.bytes.now plan c.requires.limit can work _ _ _ code
     (original_fit pieces_fit c.args.bytes.now plan can work code.dead))
@@ -85,6 +77,14 @@ returns c = λ marks view.
     let code = code_is c.args.bytes.now plan c.args.image.now c.args.graph.now view new.placed new.tables.items
     c.in_ok-new.ensures.built c.in_ok-new.ensures.leads c.in_ok-added.ensures.code
     c.in_ok-added.ensures.tables in
+    let size = segment_is c.args.image.now.text c.args.graph.now plan.snips (placement_in new.placed)
+    (record { base = table_after c.args.image.now.base plan.cells; bytes = new.tables.items })
+    c.in_ok-new.ensures.leads in
+    let segments = c.in_ok-added.ensures.segments
+    ∙ view_added c.args.bytes.now plan c.args.image.now c.args.graph.now view (placement_in new.placed)
+    new.tables.items size in
+    let entry = c.in_ok-new.ensures.entry
+    ∙ view_entry c.args.bytes.now plan c.args.image.now c.args.graph.now view (placement_in new.placed) in
     record {
       p = _;
       place = _;
@@ -92,14 +92,11 @@ returns c = λ marks view.
       code = code;
       is = c.in_ok-file.ensures
           ∙ rw (
+            c.deref.ensures.value,
+            segments,
             c.deref-2.ensures.value,
-            c.in_ok-added.ensures.segments,
-            c.deref-3.ensures.value,
             c.in_ok-notes-2.ensures,
             c.in_ok-notes.ensures marks view,
-            c.image_of-entry.ensures,
-            c.deref.ensures.value,
-            c.entry.ensures.word,
-            c.requires.asked.1.0,
+            entry,
           ) refl;
     }

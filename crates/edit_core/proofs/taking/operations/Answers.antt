@@ -8,14 +8,14 @@ returns-clause-sum c = elim c.in-None.ensures.steps [
       omega (
         arith,
         c.loop-edge.invariant.both,
-        none_first c.args.kind c.args.graph.now.blocks c.loop-edge.edge-iterator.a.rest.now
+        none_first c.args.kind c.args.graph.now c.loop-edge.edge-iterator.a.rest.now
             c.loop-edge.edge-iterator.b.rest.now h.1.0,
       )
   | inr h ↦
       omega (
         arith,
         c.loop-edge.invariant.both,
-        none_second c.args.kind c.args.graph.now.blocks c.loop-edge.edge-iterator.a.rest.now
+        none_second c.args.kind c.args.graph.now c.loop-edge.edge-iterator.a.rest.now
             c.loop-edge.edge-iterator.b.rest.now h.1.0,
       )
 ]

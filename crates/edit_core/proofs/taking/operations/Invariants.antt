@@ -9,5 +9,6 @@ pub record IsSum (whole sum rest left : ℕ) : Type 0 where
 
 abbrev pub invariant-loop-edge : goal.invariant-loop-edge
 invariant-loop-edge l =
-    IsSum (operations_on l.kind l.graph.blocks l.graph.edges l.snips) l.sum
-    (operations_on l.kind l.graph.blocks l.edge-iterator.a.rest.now l.edge-iterator.b.rest.now) (length l.edge-iterator.a.rest.now)
+    IsSum (operations_on l.kind l.graph l.graph.edges l.snips) l.sum
+    (operations_on l.kind l.graph l.edge-iterator.a.rest.now l.edge-iterator.b.rest.now) (length
+    l.edge-iterator.a.rest.now)

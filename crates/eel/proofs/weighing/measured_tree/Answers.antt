@@ -1,8 +1,13 @@
-use Rattle.std.proofs.Common.{◌≡◌, [], subst}
+use Rattle.std.proofs.Common.{◌≡◌, [], subst, sym}
 use Rattle.cfg_view.specs.View.{Seen, view_of, view_seen}
 use Rattle.weights_in.specs.Weights.{AreWeights}
 use Rattle.eel.specs.Answers.Profile.{AreCells}
+use Rattle.eel.proofs.Few.{few_edges}
 use Rattle.eel.proofs.weighing.measured_tree.Goals as goal
+
+pub tree_by-requires-clause-few : goal.tree_by-requires-clause-few
+tree_by-requires-clause-few c =
+    few_edges c.args.bytes.now _ c.in-Ok.ensures.view (sym c.in-Ok.ensures.fault)
 
 pub returns-in-Ok-tree_by-clause-cells : goal.returns-in-Ok-tree_by-clause-cells
 returns-in-Ok-tree_by-clause-cells c =

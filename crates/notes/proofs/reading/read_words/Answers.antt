@@ -1,6 +1,6 @@
 use Rattle.std.proofs.Common.{sym, subst}
 use Rattle.notes.specs.Seen.{IsFault}
-use Rattle.notes.specs.Parts.{head_of, tables_of}
+use Rattle.elf32_sparc.specs.Notes.{head_of, tables_of}
 use Rattle.notes.proofs.Steps.{fault_out, through}
 use Rattle.notes.proofs.Whole.{in_parts}
 use Rattle.notes.proofs.reading.read_words.Goals as goal

@@ -1,0 +1,134 @@
+-- The jumps of an original's open switches go by their tables.
+use Rattle.std.proofs.Common.{◌≡◌, ℕ, ◌+◌, ◌-◌, ◌*◌, true, List, map, Some, refl, ap, sym, ◌∙◌, subst, arith}
+use Rattle.std.specs.Prelude.{slice_get, slice_index}
+use Rattle.std.specs.List.{find, range_with_len}
+use Rattle.std.proofs.lemmas.Bool.{eqb-true}
+use Rattle.eel_base.specs.CodeText.{Words, IsText, address_of, word_at}
+use Rattle.v8_decode.specs.declared.Instr.{Instr}
+use Rattle.v8_decode.specs.declared.Instr.TheVariants as i
+use Rattle.v8_decode.specs.declared.LoadKind.TheVariants as loads
+use Rattle.v8_step.specs.State.{State, sum_of}
+use Rattle.v8_step.specs.Run.{run}
+use Rattle.v8_step.specs.Valid.{IsValid}
+use Rattle.cfg_blocks.specs.declared.switches.Value.{Value}
+use Rattle.cfg_blocks.specs.declared.switches.Value.TheVariants.{Place}
+use Rattle.cfg_blocks.specs.Blocks.{Blocks, blocks_of, is_among}
+use Rattle.cfg_blocks.specs.Entries.{entered_of}
+use Rattle.cfg_blocks.specs.Values.{instr_at}
+use Rattle.cfg_blocks.proofs.Targets.{word_at-some}
+use Rattle.cfg_normal.specs.declared.Node.TheVariants.{Block}
+use Rattle.cfg_normal.specs.Opens.{Open}
+use Rattle.cfg_normal.specs.Graph.{Graph, graph_of}
+use Rattle.cfg_walk.specs.Walk.{end_of_walk, point_of}
+use Rattle.cfg_walk.specs.Matches.{BeginsAt, FetchesOnly}
+use Rattle.jump_slice.specs.Cases.{LoadsEntry}
+use Rattle.jump_slice.specs.Held.{HoldsText}
+use Rattle.jump_slice.specs.Joined.{IsCaseBlock, StandsAt}
+use Rattle.jump_slice.proofs.CaseBlocks.{case_blocks}
+use Rattle.jump_slice.proofs.Joined.{jumps_go_by_table}
+use Rattle.image_code.specs.Graphs.{case_table, opens_in}
+use Rattle.image_code.specs.Loads.{first_operand, is_place, load_of, loads_by, or_first, second_operand}
+use Rattle.image_code.specs.Numbered.{or_zero}
+use Rattle.image_code.specs.Simulates.{CaseTable, IsAtWord, Setting, graph_in}
+use Rattle.image_code.proofs.CaseTables.{table_of}
+use Rattle.image_code.proofs.Opened.{load_is, load_passes}
+use Rattle.image_code.proofs.Positions.{contains, found_in_range}
+use Rattle.edit_core.specs.Runs.{GoesByTable, JumpsGoByTable}
+
+-- ---- the load whose address is kept loads an entry
+
+place_is : (table : ℕ) (v : Value) → is_place table v ≡ true → v ≡ Place table
+place_is table (Place c) h = ap (λ n. Place n) (eqb-true c table h)
+place_is table _ h = absurd (cc)
+
+loads_here : (text : Words) (o : Open) (word : ℕ) (instr : Instr) → instr_at text word ≡ instr
+    → loads_by text o word instr ≡ true → LoadsEntry text o word
+loads_here text o word (i.Load loads.LD rd rs1 op2) e h =
+    record { rd = rd; rs1 = rs1; op2 = op2; is = e; place = place_is o.switch.table.0 _ h }
+loads_here text o word _ e h = absurd (cc)
+
+load_loads : (text : Words) (b : Blocks) (o : Open) → IsCaseBlock text b o → LoadsEntry text o (load_of text o)
+unfolding load_of
+load_loads text b o c =
+    let h = c.loaded in
+    let above = h.above in
+    let below = h.below in
+    let here : o.approach.first + (h.load - o.approach.first) ≡ h.load = omega (arith, above) in
+    let found = found_in_range (λ (word : ℕ). loads_by text o word (instr_at text word)) o.approach.first
+    (o.approach.jump - o.approach.first) (h.load - o.approach.first) (omega (arith, above, below))
+    (ap (λ (word : ℕ). loads_by text o word (instr_at text word)) here ∙ load_passes text o h.load h.loads) in
+    let at : or_first o (find (λ (word : ℕ). loads_by text o word (instr_at text word))
+    (range_with_len o.approach.first (o.approach.jump - o.approach.first))) ≡ found.0 =
+    ap (or_first o) found.1.is in
+    subst (LoadsEntry text o) (sym at) (loads_here text o found.0 (instr_at text found.0) refl found.1.passes)
+
+-- ---- the law, by what the code knows of the switches
+
+module _ (g : Setting) (entry : ℕ) (s0 : State) (same : g.switches ≡ opens_in g.text g.given entry)
+    (known : g.opens ≡ map (case_table g.text) g.switches) (is_text : IsText g.text) (valid : IsValid s0)
+    (fetches : FetchesOnly g.text s0) (holds : HoldsText g.text s0.memory) (begins : BeginsAt g.text entry s0)
+    (among : is_among g.given entry ≡ true) where
+  abbrev opened : List Open
+  opened = opens_in g.text g.given entry
+
+  abbrev its_graph : Graph
+  its_graph = graph_of (blocks_of g.text g.given) opened
+
+  goes : (o : Open) (k n : ℕ) → slice_get opened k ≡ Some o
+      → StandsAt g.text its_graph entry s0 o.block n o.approach.jump
+      → ((m word : ℕ) → StandsAt g.text its_graph entry s0 o.block m word
+      → IsAtWord g (case_table g.text o) (end_of_walk g.text (graph_in g) entry s0 m) (point_of (run s0 m)) word)
+      → GoesByTable g entry s0 (case_table g.text o) n
+  unfolding entered_of
+  goes o k n e at stands =
+      let c : IsCaseBlock g.text (blocks_of g.text g.given) o =
+      (case_blocks g.text g.given entry is_text o (contains opened k o e)).0 in
+      let load = load_is g.text (blocks_of g.text g.given) o c in
+      let above = load.above in
+      let below = load.below in
+      let l : LoadsEntry g.text o (load_of g.text o) = load_loads g.text (blocks_of g.text g.given) o c in
+      let h = jumps_go_by_table g.text g.given entry s0 is_text valid fetches holds begins among o (contains opened k
+      o e)
+      n (load_of g.text o) l at above (omega (arith, below)) in
+      let table = (word_at-some g.text o.switch.table.0 c.table.begins c.table.at).is in
+      let from : or_zero (word_at g.text o.switch.table.0) ≡ c.table.begins = ap or_zero c.table.at in
+      let there = (word_at-some g.text (o.switch.table.0 + 4 * h.number) h.jumps.entry h.jumps.is).is in
+      let word : h.jumps.entry ≡ c.table.begins + h.number = omega (arith, table, there) in
+      record {
+        start = h.start;
+        since = omega (arith, h.ago);
+        came = λ j less.
+            let k : h.start + j ≡ j + h.start = omega arith in
+            stands (j + h.start) (load_of g.text o + j)
+            (subst (λ (m : ℕ). StandsAt g.text its_graph entry s0 o.block m (load_of g.text o + j)) k (h.stood j less));
+        number = h.number;
+        below = h.jumps.below;
+        loaded =
+            ap (λ (x : Instr). sum_of (run s0 h.start) (first_operand x) (second_operand x)) l.is
+            ∙ (let e : sum_of (run s0 h.start) l.rs1 l.op2
+            ≡ address_of g.text (or_zero (word_at g.text o.switch.table.0) + h.number) =
+            omega (arith, h.loaded, table, from) in e);
+        live = h.jumps.live;
+        goes = h.jumps.goes
+            ∙ ap (slice_index g.text.words) (word ∙ ap (λ (x : ℕ). x + h.number) (sym from));
+      }
+
+  pub by_table : JumpsGoByTable g entry s0
+  by_table n live k table some at =
+      let t = table_of g known k table some in
+      subst (λ (c : CaseTable). GoesByTable g entry s0 c n) t.same
+      (goes t.o k n (ap (λ (os : List Open). slice_get os k) (sym same) ∙ t.is)
+      (record {
+        live = live;
+        outside = at.outside;
+        itself = ap (λ (os : List Open). end_of_walk g.text (graph_of (blocks_of g.text g.given) os) entry s0 n) (sym
+            same)
+            ∙ at.itself ∙ ap (λ (c : CaseTable). Block (record { 0 = c.block })) (sym t.same);
+        at = at.stands ∙ ap (λ (c : CaseTable). Some c.jump) (sym t.same);
+      })
+      (λ m word s. record {
+        itself = ap (λ (os : List Open). end_of_walk g.text (graph_of (blocks_of g.text g.given) os) entry s0 m) same
+            ∙ s.itself;
+        outside = s.outside;
+        stands = s.at;
+      }))

@@ -1,0 +1,192 @@
+-- The graph of an original, with its open switches.
+use Rattle.std.proofs.Common.{◌≡◌, ℕ, zero, suc, ◌+◌, ◌-◌, ◌*◌, ◌<◌, ◌≤◌, ◌==◌, inl, inr, true, false, Bool, ◌||◌, cond, Some, List, [], ◌∷◌, length, length-append, map, refl, ap, sym, ◌∙◌, subst, arith}
+use Rattle.std.specs.Prelude.{slice_get, slice_index}
+use Rattle.std.specs.List.{list_any, sum_by}
+use Rattle.std.proofs.lemmas.Bool.{cond_both, eq-eqb, eqb-true, false≢true, le-ltb, lt-ltb, or_cases, or_left, or_right}
+use Rattle.std.proofs.lemmas.List.{length-map}
+use Rattle.std.proofs.lemmas.List.Sums.{sum_by-cons}
+use Rattle.eel_base.specs.CodeText.{Words, IsText}
+use Rattle.elf32_sparc.specs.Image.{image_of}
+use Rattle.cfg_blocks.specs.Blocks.{AreFirsts, Blocks, blocks_of, holding_of, is_among, last_word}
+use Rattle.cfg_blocks.specs.Entries.{entered_of}
+use Rattle.cfg_normal.specs.declared.Node.{Node}
+use Rattle.cfg_normal.specs.declared.Node.TheVariants.{Block, Landed, X}
+use Rattle.cfg_normal.specs.Graph.{Graph, IsEdgeIn, IsGraph, IsNodeIn, edges_in}
+use Rattle.cfg_normal.specs.Numbers.{is_node, node_number}
+use Rattle.cfg_normal.specs.Opens.{Open, compares_in, is_copied, jumps_in}
+use Rattle.cfg_normal.proofs.GraphFacts.{is_graph}
+use Rattle.cfg_walk.proofs.Cut.{IsCut, cut, entry_leads}
+use Rattle.cfg_walk.proofs.Holding.{first_held, in_held}
+use Rattle.cfg_walk.proofs.Lists.{Each, each-then}
+use Rattle.cfg_walk.proofs.NoneOpen.{edges_lie_in}
+use Rattle.jump_slice.specs.Cases.{IsOpen}
+use Rattle.jump_slice.proofs.About.{about}
+use Rattle.jump_slice.proofs.Opened.{opens_are}
+use Rattle.image_code.specs.Graphs.{IsGraphOf, opens_in}
+use Rattle.image_code.specs.Numbered.{case_numbers, case_piece, cases_of, node_in_order}
+use Rattle.image_code.proofs.OpenBlocks.{are_open, is_list, text_graph}
+use Rattle.tool_kit.specs.Plans.{Plan}
+use Rattle.edit_core.proofs.Eaches.{each_index}
+use Rattle.edit_core.specs.Written.{given_of, graph_in, text_of}
+
+pub graph_is : (original : List ℕ) (plan : Plan) → IsGraphOf (text_of original plan) (graph_in original plan)
+graph_is original plan = record { given = given_of original plan; entry = (image_of original).entry; is = refl }
+
+-- the number of a node
+pub record IsNumber (graph : Graph) (number : ℕ) : Type 0 where
+  pub few : number ≤ 2 * length graph.blocks.firsts
+  pub is : is_node graph number ≡ true
+
+first_number : (graph : Graph) (number : ℕ) → number ≤ length graph.blocks.firsts → is_node graph number ≡ true
+first_number graph number l =
+    ap (λ (b : Bool). cond b (is_copied graph.opens (number - (length graph.blocks.firsts + 1))) true)
+    (le-ltb (length graph.blocks.firsts) number l)
+
+pub number_of : (graph : Graph) (node : Node) → IsNodeIn graph.blocks graph.opens node
+    → IsNumber graph (node_number graph node)
+number_of graph (Block k) l = record { few = omega (arith, l); is = first_number graph k.0 (omega (arith, l)) }
+number_of graph (Landed k) l = record {
+  few = omega (arith, l.0);
+  is = ap (λ (b : Bool). cond b (is_copied graph.opens
+      (length graph.blocks.firsts + 1 + k.0 - (length graph.blocks.firsts + 1))) true)
+      (lt-ltb (length graph.blocks.firsts) (length graph.blocks.firsts + 1 + k.0) (omega arith))
+      ∙ ap (is_copied graph.opens)
+      (let e : length graph.blocks.firsts + 1 + k.0 - (length graph.blocks.firsts + 1) ≡ k.0 = omega arith in e) ∙ l.1;
+}
+number_of graph X l = record { few = omega arith; is = first_number graph (length graph.blocks.firsts) (omega arith) }
+
+-- the node of a word's image in the order of the text
+pub in_order : (graph : Graph) → AreFirsts graph.blocks.words graph.blocks.firsts → (word : ℕ) → word <
+    graph.blocks.words
+    → IsNodeIn graph.blocks graph.opens (node_in_order graph word)
+in_order graph firsts word l =
+    let held = in_held graph.blocks.words graph.blocks.firsts firsts word l in
+    cond_both (jumps_in graph.opens (holding_of graph.blocks word)) _ _ (IsNodeIn graph.blocks graph.opens)
+    (λ h. (held.within, or_left _ _ h)) (λ _. held.within)
+
+pub any_at : {A : Type 0} (p : A → Bool) (xs : List A) (k : ℕ) (x : A) → slice_get xs k ≡ Some x → p x ≡ true
+    → list_any p xs ≡ true
+any_at p [] k x e h = absurd (cc)
+any_at p (y ∷ xs) zero x e h = or_left (p y) (list_any p xs) (let same : y ≡ x = cc in ap p same ∙ h)
+any_at p (y ∷ xs) (suc k) x e h = or_right (p y) (list_any p xs) (any_at p xs k x e h)
+
+-- the comparison of an open switch stands in a block that has a copy
+pub compares_copied : (opens : List Open) → Each (λ (o : Open). is_copied opens o.switch.compare.0 ≡ true) opens
+compares_copied opens =
+    each_index _ opens (λ k o e.
+    or_right (jumps_in opens o.switch.compare.0) (compares_in opens o.switch.compare.0)
+    (any_at (λ (x : Open). x.switch.compare.0 == o.switch.compare.0) opens k o e (eq-eqb _ _ refl)))
+
+module _ (text : Words) (graph : Graph) (is_text : IsText text) (h : IsGraphOf text graph) where
+  pub graph_cut : IsCut text graph.blocks
+  graph_cut = (text_graph text graph is_text h).cut
+
+  pub graph_facts : IsGraph graph
+  unfolding entered_of
+  graph_facts =
+      subst IsGraph (sym h.is)
+      (is_graph (entered_of text h.given) (opens_in text h.given h.entry)
+      (edges_in (blocks_of text h.given) (opens_in text h.given h.entry)) (is_list text h.given h.entry is_text)
+      (are_open text h.given h.entry is_text) refl)
+
+  pub edges_inside : Each (IsEdgeIn graph.blocks graph.opens) graph.edges
+  edges_inside =
+      let f = graph_facts in
+      subst (Each (IsEdgeIn graph.blocks graph.opens)) (sym (ap (λ (g : Graph). g.edges) f.made))
+      (edges_lie_in graph.blocks graph.opens f.firsts.some)
+
+  -- ---- entries
+
+  cases_count : (k : ℕ) (opens : List Open) → length (cases_of text graph k opens)
+      ≡ sum_by (λ (o : Open). length o.targets) opens
+  cases_count k [] = refl
+  cases_count k (o ∷ opens) =
+      omega (
+        arith,
+        length-append (map (case_piece text graph k o) o.targets) (cases_of text graph (suc k) opens),
+        length-map o.targets (case_piece text graph k o),
+        cases_count (suc k) opens,
+        sum_by-cons (λ (o : Open). length o.targets) o opens,
+      )
+
+  -- there are no more entries than words
+  pub entries_few : length (case_numbers text graph) ≤ length text.words
+  entries_few = let few = (text_graph text graph is_text h).entries in omega (arith, cases_count 0 graph.opens)
+
+-- ---- blocks of open switches
+
+record IsFound {A : Type 0} (p : A → Bool) (Q : A → Type 0) : Type 0 where
+  found : A
+  passes : p found ≡ true
+  is : Q found
+
+any_found : {A : Type 0} (p : A → Bool) (Q : A → Type 0) (xs : List A) → Each Q xs → list_any p xs ≡ true → IsFound p Q
+any_found p Q [] each any = absurd (cc)
+any_found p Q (x ∷ xs) each any = by (p x) refl any (any_found p Q xs each.1)
+  where
+    by : (t : Bool) → p x ≡ t → (t || list_any p xs) ≡ true → (list_any p xs ≡ true → IsFound p Q) → IsFound p Q
+    by true e h later = record { found = x; passes = e; is = each.0 }
+    by false e h later = later h
+
+-- behind both blocks comes a word, and the program isn't entered at the jump's
+record IsInside (b : Blocks) (entry : ℕ) (o : Open) : Type 0 where
+  compare : last_word b.firsts b.words o.switch.compare.0 + 1 < b.words
+  jump : last_word b.firsts b.words o.block + 1 < b.words
+  apart : (slice_index b.firsts o.block == entry) ≡ false
+
+are_inside : (text : Words) (given : List ℕ) (entry : ℕ) → IsText text
+    → Each (IsInside (blocks_of text given) entry) (opens_in text given entry)
+unfolding entered_of
+are_inside text given entry is_text =
+    each-then (IsOpen text (entered_of text given) entry) (IsInside (blocks_of text given) entry)
+    (opens_in text given entry) inside (opens_are text given entry is_text)
+  where
+    inside : (o : Open) → IsOpen text (entered_of text given) entry o → IsInside (blocks_of text given) entry o
+    inside o is =
+        let a = about text given entry is_text o is in
+        let words = (cut text given is_text.some).words in
+        let last = is.last in
+        let jump = is.jump in
+        record {
+          compare = omega (arith, words, last, a.last);
+          jump = omega (arith, words, jump, a.jump);
+          apart = a.apart;
+        }
+
+module _ (text : Words) (given : List ℕ) (entry : ℕ) (is_text : IsText text) where
+  abbrev its : Blocks
+  its = blocks_of text given
+
+  abbrev opened : List Open
+  opened = opens_in text given entry
+
+  -- behind the last word of a block that has a copy comes a word
+  pub copied_inside : (block : ℕ) → is_copied opened block ≡ true → last_word its.firsts its.words block + 1 < its.words
+  copied_inside block copied = elim (or_cases (jumps_in opened block) (compares_in opened block) copied) [
+    | inl any ↦
+        let f = any_found (λ (o : Open). o.block == block) (IsInside its entry) opened (are_inside text given entry
+        is_text) any in
+        let same : f.found.block ≡ block = eqb-true f.found.block block f.passes in
+        subst (λ (k : ℕ). last_word its.firsts its.words k + 1 < its.words) same f.is.jump
+    | inr any ↦
+        let f = any_found (λ (o : Open). o.switch.compare.0 == block) (IsInside its entry) opened
+        (are_inside text given entry is_text) any in
+        let same : f.found.switch.compare.0 ≡ block = eqb-true f.found.switch.compare.0 block f.passes in
+        subst (λ (k : ℕ). last_word its.firsts its.words k + 1 < its.words) same f.is.compare
+  ]
+
+  -- the program is entered at the block of no open switch's jump
+  pub entry_apart : is_among given entry ≡ true → entry < length text.words
+      → jumps_in opened (holding_of its entry) ≡ false
+  entry_apart among low = by (jumps_in opened (holding_of its entry)) refl
+    where
+      by : (t : Bool) → jumps_in opened (holding_of its entry) ≡ t → t ≡ false
+      by false e = refl
+      by true e =
+          let f = any_found (λ (o : Open). o.block == holding_of its entry) (IsInside its entry) opened
+          (are_inside text given entry is_text) e in
+          let same : f.found.block ≡ holding_of its entry = eqb-true f.found.block (holding_of its entry) f.passes in
+          let c = cut text given is_text.some in
+          let begins : slice_index its.firsts (holding_of its entry) ≡ entry =
+          first_held its.words its.firsts c.firsts entry (entry_leads text given entry among low) in
+          absurd (false≢true (sym f.is.apart ∙ eq-eqb _ _ (ap (slice_index its.firsts) same ∙ begins)))

@@ -1,0 +1,6 @@
+use Rattle.std.proofs.Common.{◌≡◌, map, slice_index, take}
+use Rattle.edit_core.proofs.building.words_of.Given as goal
+
+abbrev pub invariant-loop-piece : goal.invariant-loop-piece
+invariant-loop-piece l =
+    l.words.items ≡ map (λ piece. slice_index (map (λ a. a.0) l.at) piece.0) (take l.piece-index l.pieces)

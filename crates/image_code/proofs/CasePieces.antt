@@ -1,0 +1,135 @@
+-- The pieces of the entries of tables, and their numbers, as they are added.
+use Rattle.std.proofs.Common.{◌≡◌, ℕ, suc, ◌+◌, ◌<◌, ◌==◌, List, [], ◌∷◌, ◌++◌, Option, length, length-take, map, take, ap, sym, ◌∙◌, arith, append_assoc}
+use Rattle.std.specs.Prelude.{slice_index_or}
+use Rattle.std.specs.List.{position}
+use Rattle.std.specs.Option.{option_or}
+use Rattle.std.proofs.lemmas.List.{append-nil, length-map, map-append, take_more}
+use Rattle.eel_base.specs.CodeText.{Words}
+use Rattle.eel_base.specs.declared.numbers.PieceNo.{PieceNo}
+use Rattle.eel_base.specs.declared.numbers.WordNo.{WordNo}
+use Rattle.cfg_normal.specs.Opens.{Open}
+use Rattle.cfg_normal.specs.Graph.{Graph}
+use Rattle.layout.specs.declared.items.Item.{Item}
+use Rattle.image_code.specs.Lookups.{number_where}
+use Rattle.image_code.specs.Made.{case_at, cases_from}
+use Rattle.image_code.specs.Numbered.{case_piece, cases_of, first_entry, open_begin, or_zero, place_in}
+use Rattle.image_code.proofs.FirstPlaces.{position_more}
+
+abbrev word_of : WordNo → ℕ
+word_of w = w.0
+
+abbrev piece_of : PieceNo → ℕ
+piece_of n = n.0
+
+words_more : (targets : List WordNo) (n : ℕ) (d : WordNo) → n < length targets
+    → map word_of (take (n + 1) targets) ≡ map word_of (take n targets) ++ (slice_index_or targets n d).0 ∷ []
+words_more targets n d l =
+    ap (map word_of) (take_more targets n d l) ∙ map-append word_of (take n targets) (slice_index_or targets n d ∷ [])
+
+words_many : (targets : List WordNo) (n : ℕ) → n < length targets → length (map word_of (take n targets)) ≡ n
+words_many targets n l = omega (arith, length-map (take n targets) word_of, length-take n targets, l)
+
+-- the first entries that lead to words
+pub entries_more : (targets : List WordNo) (n : ℕ) (d : WordNo) (word entry : ℕ) (was now : Option ℕ) → n < length targets
+    → entry ≡ n → was ≡ position (λ t. t == word) (map word_of (take n targets))
+    → now ≡ option_or was (number_where ((slice_index_or targets n d).0 == word) entry)
+    → now ≡ position (λ t. t == word) (map word_of (take (n + 1) targets))
+entries_more targets n d word entry was now l is held next =
+    next
+    ∙ ap (λ (m : ℕ). option_or was (number_where ((slice_index_or targets n d).0 == word) m)) is
+    ∙ ap (λ (o : Option ℕ). option_or o (number_where ((slice_index_or targets n d).0 == word) n)) held
+    ∙ ap (λ (m : ℕ). option_or (position (λ t. t == word) (map word_of (take n targets)))
+    (number_where ((slice_index_or targets n d).0 == word) m)) (sym (words_many targets n l))
+    ∙ sym (position_more (λ t. t == word) (map word_of (take n targets)) (slice_index_or targets n d).0)
+    ∙ ap (position (λ t. t == word)) (sym (words_more targets n d l))
+
+-- the number of the piece of an entry that leads to a word
+pub entry_number : (text : Words) (graph : Graph) (k : ℕ) (o : Open) (items : List WordNo) (word place first number : ℕ)
+    (found : Option ℕ) → map word_of items ≡ o.targets → place ≡ or_zero found
+    → found ≡ position (λ t. t == word) (map word_of items) → number ≡ first + place
+    → first ≡ open_begin text graph (length graph.opens) + first_entry text graph k
+    → number ≡ case_piece text graph k o word
+entry_number text graph k o items word place first number found are is at made begins =
+    let where_it : place ≡ place_in text graph o.targets word =
+    is ∙ ap or_zero (at ∙ ap (position (λ t. t == word)) are) in
+    omega (arith, where_it, made, begins)
+
+module _ (text : Words) (graph : Graph) where
+  cases_more : (table : ℕ) (codes : ℕ → List ℕ) (o : Open) (entry : ℕ) (words : List ℕ) (word : ℕ)
+      → cases_from text graph table codes o entry (words ++ word ∷ [])
+      ≡ cases_from text graph table codes o entry words ++ case_at text graph table codes o (entry + length words) word ∷ []
+  cases_more table codes o entry [] word =
+      let here : entry ≡ entry + 0 = omega arith in
+      ap (λ (n : ℕ). case_at text graph table codes o n word ∷ []) here
+  cases_more table codes o entry (first ∷ words) word =
+      let next : suc entry + length words ≡ entry + suc (length words) = omega arith in
+      ap (λ (pieces : List (List Item)). case_at text graph table codes o entry first ∷ pieces)
+      (cases_more table codes o (suc entry) words word
+      ∙ ap (λ (n : ℕ). cases_from text graph table codes o (suc entry) words
+      ++ case_at text graph table codes o n word ∷ []) next)
+
+  pub case_pushed : (table : ℕ) (codes : ℕ → List ℕ) (o : Open) (targets : List WordNo) (n : ℕ) (d : WordNo)
+      (before list new : List (List Item)) (piece : List Item) → n < length targets → new ≡ list ++ piece ∷ []
+      → piece ≡ case_at text graph table codes o n (slice_index_or targets n d).0
+      → list ≡ before ++ cases_from text graph table codes o 0 (map word_of (take n targets))
+      → new ≡ before ++ cases_from text graph table codes o 0 (map word_of (take (n + 1) targets))
+  case_pushed table codes o targets n d before list new piece l pushed made held =
+      let word = (slice_index_or targets n d).0 in
+      let many : 0 + length (map word_of (take n targets)) ≡ n = omega (arith, words_many targets n l) in
+      pushed
+      ∙ ap (λ (items : List Item). list ++ items ∷ []) made
+      ∙ ap (λ (pieces : List (List Item)). pieces ++ case_at text graph table codes o n word ∷ []) held
+      ∙ append_assoc before (cases_from text graph table codes o 0 (map word_of (take n targets)))
+      (case_at text graph table codes o n word ∷ [])
+      ∙ ap (λ (m : ℕ). before ++ (cases_from text graph table codes o 0 (map word_of (take n targets))
+      ++ case_at text graph table codes o m word ∷ [])) (sym many)
+      ∙ ap (λ (pieces : List (List Item)). before ++ pieces)
+      (sym (cases_more table codes o 0 (map word_of (take n targets)) word))
+      ∙ ap (λ (words : List ℕ). before ++ cases_from text graph table codes o 0 words) (sym (words_more targets n d l))
+
+  -- the number of an entry
+  pub number_pushed : (k : ℕ) (o : Open) (targets : List WordNo) (n : ℕ) (d : WordNo) (before list new : List PieceNo)
+      (piece : PieceNo) → n < length targets → new ≡ list ++ piece ∷ []
+      → piece.0 ≡ case_piece text graph k o (slice_index_or targets n d).0
+      → map piece_of list ≡ map piece_of before ++ map (case_piece text graph k o) (map word_of (take n targets))
+      → map piece_of new ≡ map piece_of before ++ map (case_piece text graph k o) (map word_of (take (n + 1) targets))
+  number_pushed k o targets n d before list new piece l pushed made held =
+      let word = (slice_index_or targets n d).0 in
+      let number = case_piece text graph k o in
+      ap (map piece_of) pushed ∙ map-append piece_of list (piece ∷ [])
+      ∙ ap (λ (m : ℕ). map piece_of list ++ m ∷ []) made
+      ∙ ap (λ (ms : List ℕ). ms ++ number word ∷ []) held
+      ∙ append_assoc (map piece_of before) (map number (map word_of (take n targets))) (number word ∷ [])
+      ∙ ap (λ (ms : List ℕ). map piece_of before ++ ms)
+      (sym (map-append number (map word_of (take n targets)) (word ∷ [])))
+      ∙ ap (λ (ws : List ℕ). map piece_of before ++ map number ws) (sym (words_more targets n d l))
+
+  cases_of_more : (k : ℕ) (opens : List Open) (o : Open)
+      → cases_of text graph k (opens ++ o ∷ [])
+      ≡ cases_of text graph k opens ++ map (case_piece text graph (k + length opens) o) o.targets
+  cases_of_more k [] o =
+      let here : k ≡ k + 0 = omega arith in
+      append-nil (map (case_piece text graph k o) o.targets)
+      ∙ ap (λ (n : ℕ). map (case_piece text graph n o) o.targets) here
+  cases_of_more k (first ∷ opens) o =
+      let next : suc k + length opens ≡ k + suc (length opens) = omega arith in
+      ap (λ (ns : List ℕ). map (case_piece text graph k first) first.targets ++ ns)
+      (cases_of_more (suc k) opens o
+      ∙ ap (λ (n : ℕ). cases_of text graph (suc k) opens ++ map (case_piece text graph n o) o.targets) next)
+      ∙ sym (append_assoc (map (case_piece text graph k first) first.targets) (cases_of text graph (suc k) opens)
+      (map (case_piece text graph (k + suc (length opens)) o) o.targets))
+
+  -- the numbers of one open switch more
+  pub numbers_pushed : (opens : List Open) (n : ℕ) (d : Open) (list new : List PieceNo) → n < length opens
+      → map piece_of new ≡ map piece_of list
+      ++ map (case_piece text graph n (slice_index_or opens n d)) (slice_index_or opens n d).targets
+      → map piece_of list ≡ cases_of text graph 0 (take n opens)
+      → map piece_of new ≡ cases_of text graph 0 (take (n + 1) opens)
+  numbers_pushed opens n d list new l pushed held =
+      let o = slice_index_or opens n d in
+      let many : 0 + length (take n opens) ≡ n = omega (arith, length-take n opens, l) in
+      pushed
+      ∙ ap (λ (ns : List ℕ). ns ++ map (case_piece text graph n o) o.targets) held
+      ∙ ap (λ (m : ℕ). cases_of text graph 0 (take n opens) ++ map (case_piece text graph m o) o.targets) (sym many)
+      ∙ sym (cases_of_more 0 (take n opens) o)
+      ∙ ap (cases_of text graph 0) (sym (take_more opens n d l))

@@ -1,0 +1,89 @@
+-- What the code knows of the open switches is true of the text.
+use Rattle.std.proofs.Common.{◌≡◌, ℕ, Option, Some, None, List, map, refl, ap, sym, ◌∙◌, subst, arith}
+use Rattle.std.specs.Prelude.{nat_lt, slice_get}
+use Rattle.std.specs.Option.{option_map}
+use Rattle.std.proofs.lemmas.Bool.{and_parts}
+use Rattle.std.proofs.lemmas.Option.{slice_get-map}
+use Rattle.eel_base.specs.CodeText.{IsText}
+use Rattle.v8_decode.specs.declared.Instr.TheVariants as i
+use Rattle.v8_decode.specs.declared.LoadKind.TheVariants as loads
+use Rattle.v8_decode.specs.Ranges.{operands_in_range}
+use Rattle.v8_decode.proofs.Rows.{decoded_range}
+use Rattle.cfg_blocks.specs.Blocks.{blocks_of}
+use Rattle.cfg_blocks.specs.Values.{instr_at}
+use Rattle.cfg_normal.specs.Opens.{Open}
+use Rattle.image_code.specs.Graphs.{case_table}
+use Rattle.image_code.specs.Keeping.{AreCaseTables, IsCaseTable}
+use Rattle.image_code.specs.Loads.{first_operand, load_of, second_operand}
+use Rattle.image_code.specs.Simulates.{CaseTable, Setting}
+use Rattle.image_code.proofs.Opened.{AreCased, load_is}
+use Rattle.image_code.proofs.Operands.{load_fits}
+use Rattle.std.specs.Prelude.{slice_index}
+
+-- The graph of a setting is that of its text, with the open switches of which the code knows.
+pub record IsKnown (g : Setting) : Type 0 where
+  pub text : IsText g.text
+  pub cased : AreCased g.text (blocks_of g.text g.given) g.switches
+  pub known : g.opens ≡ map (case_table g.text) g.switches
+
+-- the open switch of which the code knows this
+pub record IsTableOf (g : Setting) (k : ℕ) (table : CaseTable) : Type 0 where
+  pub o : Open
+  pub is : slice_get g.switches k ≡ Some o
+  pub same : case_table g.text o ≡ table
+
+inverted : {A B : Type 0} (f : A → B) (x : Option A) (y : B) → option_map f x ≡ Some y → (a : A) × (x ≡ Some a)
+    × (f a ≡ y)
+inverted f None y e = absurd (cc)
+inverted f (Some a) y e = (a, refl, (let same : f a ≡ y = cc in same))
+
+module _ (g : Setting) (known : g.opens ≡ map (case_table g.text) g.switches) where
+  pub table_of : (k : ℕ) (table : CaseTable) → slice_get g.opens k ≡ Some table → IsTableOf g k table
+  table_of k table e =
+      let found = inverted (case_table g.text) (slice_get g.switches k) table
+      (sym (slice_get-map (case_table g.text) g.switches k)
+      ∙ ap (λ (ts : List CaseTable). slice_get ts k) (sym known) ∙ e) in
+      record { o = found.0; is = found.1; same = found.2 }
+
+  pub known_at : (k : ℕ) (o : Open) → slice_get g.switches k ≡ Some o → slice_get g.opens k ≡ Some (case_table g.text o)
+  known_at k o e =
+      ap (λ (ts : List CaseTable). slice_get ts k) known ∙ slice_get-map (case_table g.text) g.switches k
+      ∙ ap (option_map (case_table g.text)) e
+
+  module _ (is_text : IsText g.text) (cased : AreCased g.text (blocks_of g.text g.given) g.switches) where
+    table_is : (k : ℕ) (o : Open) → slice_get g.switches k ≡ Some o → IsCaseTable g (case_table g.text o)
+    table_is k o e =
+        let c = cased.each k o e in
+        let l = load_is g.text (blocks_of g.text g.given) o c in
+        let behind = c.behind in
+        let load = instr_at g.text (load_of g.text o) in
+        record {
+          order = l.below;
+          within = omega (arith, behind);
+          last = sym c.last;
+          rd = l.rd;
+          loads = l.is;
+          in_range =
+              (and_parts (nat_lt l.rd 32) (operands_in_range (first_operand load) (second_operand load))
+              (decoded_range (i.Load loads.LD l.rd (first_operand load) (second_operand load))
+              (slice_index g.text.words (load_of g.text o)) (sym l.is))).1;
+          fits = load_fits (slice_index g.text.words (load_of g.text o)) loads.LD l.rd (first_operand load)
+              (second_operand load) l.is;
+          straight = λ word above below.
+              let low = l.above in
+              c.straight word (omega (arith, low, above)) below;
+        }
+
+    pub are_tables : AreCaseTables g
+    are_tables = record {
+      text = is_text;
+      each = λ k table e.
+          let t = table_of k table e in
+          subst (IsCaseTable g) t.same (table_is k t.o t.is);
+      apart = λ k j one other e d same.
+          let t = table_of k one e in
+          let u = table_of j other d in
+          let blocks : t.o.block ≡ u.o.block =
+          ap (λ (x : CaseTable). x.block) t.same ∙ same ∙ ap (λ (x : CaseTable). x.block) (sym u.same) in
+          sym t.same ∙ ap (case_table g.text) (cased.one k j t.o u.o t.is u.is blocks) ∙ u.same;
+    }

@@ -1,0 +1,360 @@
+-- The image of an open switch's jump, at the jump's block itself: the Case edge that it chooses leads to the slot.
+use Rattle.std.proofs.Common.{◌≡◌, ◌≢◌, ℕ, zero, suc, ◌+◌, ◌*◌, ◌%◌, ◌^◌, ◌<◌, Bool, true, Option, Some, None, List, [], ◌∷◌, ◌++◌, length, map, take, refl, ap, sym, ◌∙◌, subst, arith}
+use Rattle.std.specs.Prelude.{◌==◌, if◌then◌else◌, slice_get, slice_index}
+use Rattle.std.specs.List.{sum_by}
+use Rattle.std.specs.Option.{option_map}
+use Rattle.std.proofs.lemmas.Bool.{and_parts, eq-eqb, lt-ltb, ltb-true}
+use Rattle.std.proofs.lemmas.List.{length-map}
+use Rattle.std.proofs.lemmas.List.Sums.{sum_by-cons}
+use Rattle.std.proofs.lemmas.Option.{slice_get-map, slice_get_within}
+use Rattle.eel_base.specs.CodeText.{Words, address_of, word_at}
+use Rattle.eel_base.specs.declared.numbers.Addr.{Addr}
+use Rattle.v8_decode.specs.declared.Op2.{Op2}
+use Rattle.v8_decode.specs.declared.Instr.TheVariants as i
+use Rattle.v8_decode.specs.Ranges.{operands_in_range}
+use Rattle.v8_decode.specs.Words.{decode_of}
+use Rattle.v8_decode.proofs.Rows.{decoded_range}
+use Rattle.std.specs.Prelude.{nat_lt}
+use Rattle.v8_step.specs.declared.Slot.TheVariants.{NoSlot, Taken}
+use Rattle.v8_step.specs.State.{State}
+use Rattle.cfg_blocks.specs.declared.EdgeKind.{EdgeKind}
+use Rattle.cfg_blocks.specs.declared.EdgeKind.TheVariants as kinds
+use Rattle.cfg_blocks.specs.Blocks.{Blocks, blocks_of, holding_of, last_word}
+use Rattle.cfg_blocks.specs.Ends.{is_transfer as ends_block_after}
+use Rattle.cfg_blocks.proofs.Targets.{word_at-some}
+use Rattle.cfg_normal.specs.declared.Node.{Node}
+use Rattle.cfg_normal.specs.declared.Node.TheVariants.{Block}
+use Rattle.cfg_normal.specs.Nodes.{home_of}
+use Rattle.cfg_normal.specs.Opens.{Open, jumps_in}
+use Rattle.cfg_normal.specs.Graph.{Graph, IsNodeIn, has_cases, node_of}
+use Rattle.cfg_walk.specs.Walk.{Point, node_after, point_of, same_kind, way_of}
+use Rattle.cfg_walk.specs.Matches.{IsOnItsWay, IsTarget}
+use Rattle.cfg_walk.proofs.Addresses.{next_word}
+use Rattle.cfg_walk.proofs.Cut.{IsCut}
+use Rattle.cfg_walk.proofs.Edges.{block}
+use Rattle.cfg_walk.proofs.Leaving.{end_is, node_is, transfer_ends}
+use Rattle.cfg_walk.proofs.Transfers.{jump_delayed}
+use Rattle.addr_translate.specs.Lookup.{IsTable, table_word}
+use Rattle.jump_code.specs.Choosing.{choice_at}
+use Rattle.jump_code.specs.PageWords.{kept_address}
+use Rattle.jump_slice.proofs.About.{in_targets}
+use Rattle.jump_slice.proofs.CaseBlocks.{some_of}
+use Rattle.jump_slice.specs.Joined.{IsCaseBlock}
+use Rattle.layout.specs.declared.items.Item.{Item}
+use Rattle.layout.specs.Laid.{Placement}
+use Rattle.image_code.specs.Cases.{next_entry}
+use Rattle.image_code.specs.Choices.{IsChoice, choice_piece}
+use Rattle.image_code.specs.Graphs.{case_table}
+use Rattle.image_code.specs.Images.{Frame, entered_at, slot_piece}
+use Rattle.image_code.specs.Made.{AreCasesFor, choice_of, distance_of, jump_by, jump_image_by, jumps_at}
+use Rattle.image_code.specs.Numbered.{case_numbers, case_piece, cases_of, entries_of, first_entry, image_number, jump_number, or_zero}
+use Rattle.image_code.specs.Simulates.{CaseTable, Chooses, IsChosen, Setting, does_at, gone_at, graph_in, number_in}
+use Rattle.image_code.proofs.CaseTables.{IsKnown, known_at}
+use Rattle.image_code.proofs.EdgePieces.{cut_in}
+use Rattle.image_code.proofs.ImageNumbers.{HasImage, block_of}
+use Rattle.image_code.proofs.IntoSlots.{before, stands}
+use Rattle.image_code.proofs.JumpImages.{goes, jump_acts}
+use Rattle.image_code.proofs.Positions.{any_at, contains, get_behind, get_first}
+use Rattle.image_code.proofs.Visited.{IsTargetOf, case_piece_is, entered_slot, has_its_image, image_items, l, nothing_gone, on_its_way, target, visited_word, way_in, word_is}
+
+-- ---- the numbers of Case edges' pieces, by entries
+
+case_number_at : (text : Words) (graph : Graph) (opens : List Open) (begin k : ℕ) (o : Open) → slice_get opens k
+    ≡ Some o
+    → (entry word : ℕ) → slice_get o.targets entry ≡ Some word
+    → slice_get (cases_of text graph begin opens) (sum_by (entries_of text graph) (take k opens) + entry)
+    ≡ Some (case_piece text graph (begin + k) o word)
+case_number_at text graph [] begin k o e entry word at = absurd (cc)
+case_number_at text graph (q ∷ opens) begin zero o e entry word at =
+    let same : q ≡ o = cc in
+    let here : begin ≡ begin + 0 = omega arith in
+    let there : 0 + entry ≡ entry = omega arith in
+    get_first (map (case_piece text graph begin q) q.targets) (cases_of text graph (suc begin) opens) (0 + entry) _
+    (ap (slice_get (map (case_piece text graph begin q) q.targets)) there
+    ∙ ap (λ (z : Open). slice_get (map (case_piece text graph begin z) z.targets) entry) same
+    ∙ slice_get-map (case_piece text graph begin o) o.targets entry
+    ∙ ap (option_map (case_piece text graph begin o)) at
+    ∙ ap (λ (n : ℕ). Some (case_piece text graph n o word)) here)
+case_number_at text graph (q ∷ opens) begin (suc k) o e entry word at =
+    let sum : sum_by (entries_of text graph) (q ∷ take k opens)
+    ≡ length q.targets + sum_by (entries_of text graph) (take k opens) =
+    sum_by-cons (entries_of text graph) q (take k opens) in
+    let there : sum_by (entries_of text graph) (q ∷ take k opens) + entry
+    ≡ length q.targets + (sum_by (entries_of text graph) (take k opens) + entry) = omega (arith, sum) in
+    let next : suc begin + k ≡ begin + suc k = omega arith in
+    ap (slice_get (map (case_piece text graph begin q) q.targets ++ cases_of text graph (suc begin) opens)) there
+    ∙ get_behind (map (case_piece text graph begin q) q.targets) (cases_of text graph (suc begin) opens)
+    (length q.targets)
+    (sum_by (entries_of text graph) (take k opens) + entry) _ (length-map q.targets (case_piece text graph begin q))
+    (case_number_at text graph opens (suc begin) k o e entry word at)
+    ∙ ap (λ (n : ℕ). Some (case_piece text graph n o word)) next
+
+-- where the word of an entry stands
+word_place : (cases first table entry : ℕ) → table < 2 ^ 32 → cases + 4 * (first + entry) < 2 ^ 32
+    → (table + 4 * entry + distance_of cases first table) % 2 ^ 32 ≡ cases + 4 * (first + entry)
+word_place cases first table entry low high = omega arith
+
+-- at the block of an open switch's jump
+choice_is : (text : Words) (graph : Graph) (jumps cases : ℕ) (codes : ℕ → List ℕ) (address : Addr) (block k : ℕ)
+    (o : Open)
+    (rd rs1 : ℕ) (op2 : Op2) → jumps_in graph.opens block ≡ true → jump_number text graph block ≡ Some k
+    → slice_get graph.opens k ≡ Some o
+    → jump_image_by text graph jumps cases address (Block (record { 0 = block })) rd rs1 op2
+    ≡ choice_piece rd address block (distance_of cases (first_entry text graph k) o.switch.table.0)
+choice_is text graph jumps cases codes address block k o rd rs1 op2 jumping numbered is =
+    let node : Node = Block (record { 0 = block }) in
+    ap (λ (t : Bool). if t then choice_of text graph jumps cases address node rd (jump_number text graph block)
+    (slice_get graph.opens
+    (or_zero (jump_number text graph block))) else jump_by text graph jumps cases address node rd rs1 op2)
+    jumping
+    ∙ ap (λ (n : Option ℕ). choice_of text graph jumps cases address node rd n
+    (slice_get graph.opens (or_zero n))) numbered
+    ∙ ap (choice_of text graph jumps cases address node rd (Some k)) is
+
+module _ (g : Setting) (codes : ℕ → List ℕ) (is : IsKnown g) (p : Placement) (f : Frame) (whole : IsTable f.table)
+    (cases : AreCasesFor g.text (graph_in g) p f.cases)
+    (node : Node) (x : Point) (word : ℕ) (at : word_at g.text x.pc ≡ Some word) (none : x.slot ≡ NoSlot)
+    (held : home_of node ≡ node_of (blocks_of g.text g.given) (word_at g.text x.pc))
+    (there : IsNodeIn (blocks_of g.text g.given) g.switches node) (npc : x.npc ≡ (x.pc + 4) % 2 ^ 32)
+    (t : State) (behind : f.halves.base ≡ jumps_at g.text f.table.base) (rd rs1 : ℕ) (op2 : Op2)
+    (says : decode_of (slice_index g.text.words word) ≡ i.Jmpl rd rs1 op2)
+    (chooses : Chooses g node x t (does_at g x t))
+    (k : ℕ) (o : Open) (among : slice_get g.switches k ≡ Some o)
+    (numbered : jump_number g.text (graph_in g) o.block ≡ Some k)
+    (jumping : jumps_in g.switches o.block ≡ true) (itself : node ≡ block o.block) where
+  abbrev b : Blocks
+  b = blocks_of g.text g.given
+
+  cut : IsCut g.text b
+  cut = cut_in g is f.table.base f.cases.base
+
+  abbrev table : CaseTable
+  table = case_table g.text o
+
+  abbrev v : State
+  v = does_at g x t
+
+  block_is : IsCaseBlock g.text b o
+  block_is = is.cased.each k o among
+
+  in_text : word < length g.text.words
+  in_text = (word_at-some g.text x.pc word at).within
+
+  low : word < b.words
+  low = omega (arith, in_text, cut.words)
+
+  -- it is the jump that ends the block
+  held_in : holding_of b word ≡ o.block
+  held_in = ap block_of (sym (node_is b word low) ∙ ap (node_of b) (sym at) ∙ sym held ∙ ap home_of itself)
+
+  jump_is : word ≡ o.approach.jump
+  jump_is =
+      transfer_ends g.text b g.switches cut word low
+      (ap ends_block_after (end_is g.text word (i.Jmpl rd rs1 op2) says))
+      ∙ ap (last_word b.firsts b.words) held_in ∙ sym block_is.last
+
+  chosen : IsChosen g table t v
+  chosen =
+      chooses k table (known_at g is.known k o among)
+      (record { itself = itself; outside = none; stands = at ∙ ap (λ (n : ℕ). Some n) jump_is })
+
+  abbrev entry : ℕ
+  entry = chosen.entry
+
+  abbrev begins : ℕ
+  begins = block_is.table.begins
+
+  from_is : table.from ≡ begins
+  from_is = ap or_zero block_is.table.at
+
+  its_target : (to : ℕ) × (word_at g.text (slice_index g.text.words (begins + entry)) ≡ Some to)
+  its_target = some_of (word_at g.text (slice_index g.text.words (begins + entry)))
+      (block_is.table.leads entry chosen.below)
+
+  abbrev to : ℕ
+  to = its_target.0
+
+  targeted : slice_get o.targets entry ≡ Some to
+  targeted = block_is.targets entry chosen.below ∙ its_target.1
+
+  goes_to : word_at g.text v.npc ≡ Some to
+  goes_to =
+      ap (word_at g.text) (chosen.goes ∙ ap (λ (n : ℕ). slice_index g.text.words (n + entry)) from_is) ∙ its_target.1
+
+  -- ---- the word that has the piece's address
+
+  abbrev first : ℕ
+  first = first_entry g.text (graph_in g) k
+
+  abbrev distance : ℕ
+  distance = distance_of f.cases.base first o.switch.table.0
+
+  number_at : slice_get (case_numbers g.text (graph_in g)) (first + entry)
+      ≡ Some (case_piece g.text (graph_in g) k o to)
+  number_at =
+      let here : 0 + k ≡ k = omega arith in
+      case_number_at g.text (graph_in g) g.switches 0 k o among entry to targeted
+      ∙ ap (λ (n : ℕ). Some (case_piece g.text (graph_in g) n o to)) here
+
+  many : first + entry < length (case_numbers g.text (graph_in g))
+  many = slice_get_within (case_numbers g.text (graph_in g)) (first + entry) _ number_at
+
+  kept : kept_address t ≡ o.switch.table.0 + 4 * entry
+  kept =
+      let table_at = (word_at-some g.text o.switch.table.0 begins block_is.table.at).is in
+      let same = from_is in
+      let at = chosen.kept in
+      omega arith
+
+  table_low : o.switch.table.0 < 2 ^ 32
+  table_low =
+      let w = word_at-some g.text o.switch.table.0 begins block_is.table.at in
+      let within = w.within in
+      let at = w.is in
+      let high = is.text.below in
+      omega arith
+
+  place_is : choice_at distance t ≡ f.cases.base + 4 * (first + entry)
+  place_is =
+      let low = cases.low in
+      let long = cases.long in
+      ap (λ (n : ℕ). (n + distance) % 2 ^ 32) kept
+      ∙ word_place f.cases.base first o.switch.table.0 entry table_low (omega (arith, many))
+
+  -- ---- into the slot, along the Case edge
+
+  acts : (v.pc ≡ x.npc) × (v.slot ≡ Taken)
+  acts =
+      goes g codes is p f whole node x word at none held there npc t behind rd rs1 op2 says v
+      (jump_acts g codes is p f whole node x word at none held there npc t behind rd rs1 op2 says) chosen.live
+
+  not : v.slot ≢ NoSlot
+  not n = let q : Taken ≡ NoSlot = sym acts.1 ∙ n in absurd (cc)
+
+  is_target : IsTarget g.text g.switches node v.npc
+  is_target =
+      subst (λ (n : Node). IsTarget g.text g.switches n v.npc) (sym itself) (
+        to,
+        goes_to,
+        in_targets (λ (y : ℕ). y == to) g.switches o o.block (contains g.switches k o among) refl
+            (any_at (λ (y : ℕ). y == to) o.targets entry to targeted (eq-eqb to to refl)),
+      )
+
+  cased : has_cases g.switches node ≡ true
+  cased = ap (has_cases g.switches) itself ∙ jumping
+
+  jumps_so : way_in g codes is p f (point_of v) ≡ kinds.Out
+  jumps_so =
+      ap (λ instr. way_of instr v.slot)
+      (before g codes is p f whole node x word at none held there npc (i.Jmpl rd rs1 op2) says v acts.0)
+
+  way : IsOnItsWay g.text (graph_in g) node (point_of v) (way_in g codes is p f (point_of v))
+  way =
+      on_its_way g codes is p f node (point_of v) Taken acts.1 (λ q. absurd (cc))
+      (jump_delayed rd rs1 op2 (point_of v)
+      (stands g codes is p f whole node x word at none held there npc (i.Jmpl rd rs1 op2) says) acts.0 acts.1
+      (λ _. is_target))
+
+  out : same_kind (way_in g codes is p f (point_of v)) kinds.Out ≡ true
+  out = ap (λ (kind : EdgeKind). same_kind kind kinds.Out) jumps_so
+
+  its_piece : slot_piece g (l g codes is p f) node (point_of v) ≡ case_piece g.text (graph_in g) k o to
+  its_piece = case_piece_is g codes is p f node (point_of v) way out cased
+      ∙ same_piece (target g codes is p f node (point_of v) way out cased)
+    where
+      same_piece : (r : IsTargetOf g codes is p f node (point_of v) way out cased)
+          → case_piece g.text (graph_in g) r.k r.o r.word ≡ case_piece g.text (graph_in g) k o to
+      same_piece r =
+          let one : r.o ≡ o = is.cased.one r.k k r.o o r.among among (ap block_of (sym r.itself ∙ itself)) in
+          let number : Some r.k ≡ Some k = sym r.numbered
+          ∙ ap (λ (q : Open). jump_number g.text (graph_in g) q.block) one ∙ numbered in
+          let same_k : r.k ≡ k = cc in
+          let goes : Some r.word ≡ Some to = sym r.goes ∙ goes_to in
+          let same_word : r.word ≡ to = cc in
+          ap (λ (n : ℕ). case_piece g.text (graph_in g) n r.o r.word) same_k
+          ∙ ap (λ (q : Open). case_piece g.text (graph_in g) k q r.word) one
+          ∙ ap (case_piece g.text (graph_in g) k o) same_word
+
+  slot_there : word_at g.text v.pc ≡ Some (word + 1)
+  slot_there =
+      let more = block_is.behind in
+      ap (word_at g.text) (acts.0 ∙ npc) ∙ next_word g.text x.pc word is.text (word_at-some g.text x.pc word at)
+      ∙ ap (λ (c : Bool). if c then Some (word + 1) else None) (lt-ltb _ _ (omega (arith, jump_is, more)))
+
+  gone_nothing : gone_at g node x v ≡ []
+  gone_nothing = nothing_gone g node x v none not chosen.live
+
+  leads : slice_index p.at (case_piece g.text (graph_in g) k o to) ≡ next_entry g (l g codes is p f) p f node x t
+  leads =
+      ap (slice_index p.at) (sym its_piece)
+      ∙ sym (entered_slot g codes is p f node (point_of v) (word + 1) slot_there not)
+      ∙ ap (λ (edges : List ℕ). entered_at g (l g codes is p f) p f (node_after (graph_in g) node edges) (point_of v))
+      (sym gone_nothing)
+
+  -- ---- its image
+
+  abbrev address : Addr
+  address = record { 0 = address_of g.text word }
+
+  has : HasImage g.text b g.switches node word
+  has = has_its_image g codes is p f node x word at held there
+
+  abbrev piece : ℕ
+  piece = image_number g.text (graph_in g) node word
+
+  items : slice_get (l g codes is p f).list piece ≡ Some (choice_piece rd address (number_in g node) distance)
+  items =
+      image_items g codes is p f node x word at has (i.Jmpl rd rs1 op2) says
+      ∙ ap (λ (n : Node). Some (jump_image_by g.text (graph_in g)
+      (jumps_at g.text f.table.base) f.cases.base address n
+      rd rs1 op2)) itself
+      ∙ ap (λ (xs : List Item). Some xs) (choice_is g.text (graph_in g)
+      (jumps_at g.text f.table.base) f.cases.base codes address
+      o.block k o rd rs1 op2 jumping numbered among)
+      ∙ ap (λ (n : Node). Some (choice_piece rd address (number_in g n) distance)) (sym itself)
+
+  pub choice_case : IsChoice g (l g codes is p f) p f node x t
+  choice_case =
+      let w = word_at-some g.text x.pc word at in
+      let here = w.is in
+      let inside = w.within in
+      let high = is.text.below in
+      let aligned = cases.aligned in
+      let low = cases.low in
+      let long = cases.long in
+      let place = place_is in
+      let few = many in
+      record {
+        none = none;
+        next = npc;
+        number = k;
+        open_switch = table;
+        among = known_at g is.known k o among;
+        itself = itself;
+        piece = piece;
+        within = slice_get_within (l g codes is p f).list piece _ items;
+        here = visited_word g codes is p f node x word at none;
+        address = address;
+        original = sym here;
+        low = omega (arith, here, inside, high);
+        word = slice_index g.text.words word;
+        is_word = word_is g x word at;
+        rd = rd;
+        rs1 = rs1;
+        op2 = op2;
+        says = says;
+        register = ltb-true rd 32 (and_parts (nat_lt rd 32) (operands_in_range rs1 op2)
+            (decoded_range (i.Jmpl rd rs1 op2) (slice_index g.text.words word) (sym says))).0;
+        distance = distance;
+        near = omega arith;
+        items = items;
+        aligned = omega (arith, place, aligned);
+        from = omega (arith, place);
+        to = omega (arith, place, long, few);
+        below = omega (arith, place, long, few, low);
+        way = case_piece g.text (graph_in g) k o to;
+        has = ap (table_word f.cases) place ∙ cases.words (first + entry) _ number_at;
+        live = chosen.live;
+        nothing = gone_nothing;
+        leads = leads;
+      }

@@ -1,0 +1,355 @@
+-- The words of an open switch's JMPL lead to the piece of a Case edge.
+use Rattle.std.proofs.Common.{◌≡◌, ℕ, zero, suc, ◌+◌, ◌-◌, ◌*◌, ◌%◌, ◌^◌, ◌<◌, ◌≤◌, false, Option, Some, None, List, [], ◌∷◌, ◌++◌, length, refl, ap, sym, ◌∙◌, subst, arith}
+use Rattle.std.specs.Prelude.{◌/◌, slice_get, slice_index}
+use Rattle.std.proofs.lemmas.List.{length-append}
+use Rattle.eel_base.specs.declared.numbers.Addr.{Addr}
+use Rattle.elf32_sparc.specs.Notes.{NoteRange}
+use Rattle.v8_decode.specs.declared.Instr.{Instr}
+use Rattle.v8_decode.specs.declared.Instr.TheVariants as i
+use Rattle.v8_decode.specs.Words.{decode_of}
+use Rattle.v8_alu.specs.Numbers.{wrapped}
+use Rattle.v8_memory.specs.Regions.{Memory, code_of}
+use Rattle.v8_memory.specs.Spans.{IsSameOutside}
+use Rattle.v8_step.specs.declared.Slot.{Slot}
+use Rattle.v8_step.specs.declared.Slot.TheVariants.{NoSlot}
+use Rattle.v8_step.specs.State.{State}
+use Rattle.v8_step.specs.Step.{act, on_word, puts_on_word}
+use Rattle.v8_step.specs.Items.{is_transfer}
+use Rattle.v8_step.specs.Valid.{IsValid}
+use Rattle.v8_step.specs.Visits.{pages_of}
+use Rattle.v8_step.proofs.ValidSteps.{run-valid}
+use Rattle.cfg_normal.specs.declared.Node.{Node}
+use Rattle.cfg_walk.specs.Walk.{Point, instr_at, node_after, point_of}
+use Rattle.code_runs.specs.Hops.{hopped}
+use Rattle.code_runs.specs.Ours.{HasWordAt}
+use Rattle.addr_translate.specs.Lookup.{table_word}
+use Rattle.code_runs.specs.Page.{page_word}
+use Rattle.code_runs.specs.Points.{moved}
+use Rattle.code_runs.specs.Straight.{StandIn}
+use Rattle.code_runs.specs.StoredWords.{Stores, memory_word}
+use Rattle.code_runs.specs.TwoRegisters.{IsBetween}
+use Rattle.code_runs.proofs.Stays.{loads_there, stores_there}
+use Rattle.snippet_code.specs.Runs.{words_at}
+use Rattle.jump_code.specs.Jumped.{jumped}
+use Rattle.jump_code.specs.Links.{link}
+use Rattle.jump_code.specs.PageWords.{IsPageWord}
+use Rattle.jump_code.specs.Pieces.{word_items}
+use Rattle.jump_code.proofs.Fitting.{Fit, link_fits, lt}
+use Rattle.jump_code.proofs.Laid.{words_after}
+use Rattle.jump_code.specs.Choosing.{choice_at, ComesToCase, IsAboutToChoose, choice_image, choose, chosen}
+use Rattle.jump_code.proofs.Choosing.{choices_simulate}
+use Rattle.layout.specs.declared.items.Item.{Item}
+use Rattle.layout.specs.declared.items.Item.TheVariants as it
+use Rattle.layout.specs.Laid.{HasShortForms, IsLaid, IsWordAt, Open, Placement, end_from, item_at, item_in, items_in, open_from, open_in, range_in, range_of, size_of}
+use Rattle.layout.specs.Running.{HasCode}
+use Rattle.eel_base.specs.CodeText.{IsText}
+use Rattle.image_code.proofs.Keeping.{distance_leads, distance_of}
+use Rattle.image_code.specs.Simulates.{CaseTable, IsChosen, Enters, IsOnWay, Setting, at_point, cells_in, does_at, gone_at, graph_in, is_jmpl, number_in}
+use Rattle.image_code.specs.Images.{Entered, Frame, Here, IsPlaced, Pieces, entered_at}
+use Rattle.image_code.specs.Choices.{ChoicesStep, IsChoice}
+use Rattle.image_code.proofs.Between.{on_range, quiet_of}
+use Rattle.image_code.proofs.Cells.{cells_above, page_above}
+use Rattle.image_code.proofs.Couple.{quiet_transfer}
+use Rattle.image_code.proofs.Dead.{alike_itself, alike_hopped, followed_alike}
+use Rattle.image_code.proofs.Memories.{images_stored, same_stored}
+use Rattle.image_code.proofs.Sparing.{instr_is, transfers}
+use Rattle.image_code.proofs.Through.{own_stored}
+
+-- ---- words in one Mark, which is all of a piece
+
+word_item : (xs : List Instr) (rest : List Item) (j : ℕ) → j < length xs
+    → (word : ℕ) × (slice_get (word_items xs ++ rest) j ≡ Some (it.Word word))
+word_item [] rest j low = absurd (omega (arith, low))
+word_item (x ∷ xs) rest zero low = (_, refl)
+word_item (x ∷ xs) rest (suc j) low = word_item xs rest j (omega (arith, low))
+
+items_more : (xs : List Instr) (rest : List Item) → length (word_items xs ++ rest) ≡ length xs + length rest
+items_more [] rest = omega arith
+items_more (x ∷ xs) rest = let more = items_more xs rest in omega arith
+
+ends_at : (xs : List Instr) (rest : List Item) (n : ℕ)
+    → end_from (word_items xs ++ it.EndMark ∷ rest) n ≡ n + length xs
+ends_at [] rest n = omega arith
+ends_at (x ∷ xs) rest n =
+    ends_at xs rest (suc n) ∙ (let e : suc n + length xs ≡ n + suc (length xs) = omega arith in e)
+
+open_at : (xs : List Instr) (rest : List Item) (n j : ℕ) (o : Option Open) → j < length xs
+    → open_from (word_items xs ++ rest) n j o ≡ o
+open_at [] rest n j o low = absurd (omega (arith, low))
+open_at (x ∷ xs) rest n zero o low = refl
+open_at (x ∷ xs) rest n (suc j) o low = open_at xs rest (suc n) j o (omega (arith, low))
+
+get_first : (xs ys : List Item) (j : ℕ) (y : Item) → slice_get xs j ≡ Some y → slice_get (xs ++ ys) j ≡ Some y
+get_first [] ys j y e = absurd (cc)
+get_first (x ∷ xs) ys zero y e = e
+get_first (x ∷ xs) ys (suc j) y e = get_first xs ys j y e
+
+module _ (l : List (List Item)) (base : ℕ) (p : Placement) (place : ℕ → ℕ → ℕ) (laid : IsLaid l base p place)
+    (k : ℕ) (within : k < length l) (xs : List Instr) (address : Addr) (node : ℕ)
+    (is : slice_get l k ≡ Some (it.Mark address node ∷ (word_items xs ++ it.EndMark ∷ []))) where
+  item : (n : ℕ) → item_at l k n ≡ slice_get (it.Mark address node ∷ (word_items xs ++ it.EndMark ∷ [])) n
+  item n = ap (λ (v : Option (List Item)). item_in v n) is
+
+  size : size_of l k ≡ 2 + length xs
+  size = ap (λ (v : Option (List Item)). items_in v) is ∙ ap suc (items_more xs (it.EndMark ∷ []))
+      ∙ (let e : suc (length xs + 1) ≡ 2 + length xs = omega arith in e)
+
+  word : (j : ℕ) → j < length xs → (w : ℕ) × (item_at l k (suc j) ≡ Some (it.Word w))
+  word j low = let w = word_item xs (it.EndMark ∷ []) j low in (w.0, item (suc j) ∙ w.1)
+
+  stands : (j : ℕ) → j ≤ length xs → place k (suc j) ≡ place k 1 + 4 * j
+  stands zero low = omega arith
+  stands (suc j) low =
+      let w = word j (omega (arith, low)) in
+      let one : (place k (suc (suc j)) ≡ place k (suc j) + 4) × IsWordAt base p.code (place k (suc j)) w.0 =
+      laid.items k (suc j) (it.Word w.0) w.1 in
+      let before = stands j (omega (arith, low)) in
+      let step = one.0 in
+      omega arith
+
+  open_word : (j : ℕ) → j < length xs → open_in (slice_get l k) (suc j)
+      ≡ Some (record { first = 1; last = suc (length xs); address = address.0; node = node })
+  open_word j low =
+      ap (λ (v : Option (List Item)). open_in v (suc j)) is
+      ∙ open_at xs (it.EndMark ∷ []) 1 j _ low
+      ∙ ap (λ n. Some (record { first = 1; last = n; address = address.0; node = node }))
+      (ends_at xs [] 1 ∙ (let e : 1 + length xs ≡ suc (length xs) = omega arith in e))
+
+  record StandHere : Type 0 where
+    pub mark : place k 1 ≡ place k 0
+    pub begins : base ≤ place k 1
+    pub ends : place k 1 + 4 * length xs ≤ base + 4 * length p.code
+    pub low : place k 1 + 4 * length xs ≤ 2 ^ 31
+    pub range : (a : ℕ) → place k 1 ≤ a → a < place k 1 + 4 * length xs
+        → range_in p.ranges a ≡ Some
+        (record { lo = place k 1; hi = place k (suc (length xs)); address = address.0; node = node })
+
+  stand_here : StandHere
+  stand_here =
+      let s = size in
+      let last = stands (length xs) (omega arith) in
+      let ends = (laid.within k (suc (length xs)) within (omega arith)).ends in
+      let low = laid.low in
+      record {
+        mark = laid.items k 0 (it.Mark address node) (item 0);
+        begins = (laid.within k 1 within (omega arith)).begins;
+        ends = omega (arith, last, ends);
+        low = omega (arith, last, ends, low);
+        range = λ a from below.
+            let few : (a - place k 1) / 4 < length xs = omega arith in
+            let w = word ((a - place k 1) / 4) few in
+            let begin = stands ((a - place k 1) / 4) (omega (arith, few)) in
+            let end = stands (suc ((a - place k 1) / 4)) (omega (arith, few)) in
+            laid.ranges k (suc ((a - place k 1) / 4)) a (it.Word w.0) w.1 (omega arith) (omega arith)
+            ∙ ap (range_of (place k)) (open_word ((a - place k 1) / 4) few);
+      }
+
+  stand_words : Fit xs → (m : Memory) → HasCode base p.code m → StandIn (code_of m) (place k 1) xs
+  stand_words fit m has =
+      words_after l base p place laid m has k 1 xs fit
+      (λ i x e. (let q : 1 + i ≡ suc i = omega arith in ap (item_at l k) q) ∙ item (suc i)
+      ∙ get_first (word_items xs) (it.EndMark ∷ []) i x e)
+
+-- ---- the words have words
+
+and_fits : (xs ys : List Instr) → Fit xs → Fit ys → Fit (xs ++ ys)
+and_fits [] ys f h = h
+and_fits (x ∷ xs) ys f h = (f.0, f.1, and_fits xs ys f.2 h)
+
+choose_fits : (distance : ℕ) → distance < 2 ^ 32 → Fit (choose distance)
+choose_fits distance short = (
+  refl,
+  refl,
+  (
+    refl,
+    refl,
+    (
+      refl,
+      refl,
+      (
+        refl,
+        lt (distance / 1024) (2 ^ 22) (omega arith),
+        (refl, lt (distance % 1024) 4096 (omega arith), (refl, refl, (refl, refl, (refl, refl, (refl, refl, tt))))),
+      ),
+    ),
+  ),
+)
+
+link_few : (rd address : ℕ) → length (link rd address) ≤ 2
+link_few zero address = omega arith
+link_few (suc rd) address = omega arith
+
+-- ---- the step
+
+module _ (g : Setting) (l : Pieces) (base : ℕ) (p : Placement) (place : ℕ → ℕ → ℕ) (f : Frame)
+    (h : IsPlaced g l base p place f)
+    (node : Node) (x : Point) (t : State) (here : Here g l base p f node x t) (c : IsChoice g l p f node x t) where
+  abbrev after_jump : State
+  after_jump = jumped c.address.0 c.rd c.rs1 c.op2 t
+
+  abbrev image : List Instr
+  image = choice_image c.rd c.address.0 c.distance
+
+  count_is : length image ≡ length (link c.rd c.address.0) + 9
+  count_is = length-append (link c.rd c.address.0) (choose c.distance)
+
+  few : length image ≤ 11
+  few = let n = link_few c.rd c.address.0 in let m = count_is in omega (arith, n, m)
+
+  some : 9 ≤ length image
+  some = let m = count_is in omega (arith, m)
+
+  point_is : at_point x t ≡ moved c.address.0 (wrapped (c.address.0 + 4)) NoSlot t
+  point_is =
+      ap (λ (z : Slot). moved x.pc x.npc z t) c.none ∙ ap (λ z. moved x.pc z NoSlot t) c.next
+      ∙ ap (λ z. moved z (wrapped (z + 4)) NoSlot t) (sym c.original)
+
+  does_is : does_at g x t ≡ after_jump
+  does_is =
+      ap (on_word (at_point x t)) c.is_word ∙ ap (act (at_point x t)) c.says
+      ∙ ap (λ (z : State). act z (i.Jmpl c.rd c.rs1 c.op2)) point_is
+
+  live : (jumped c.address.0 c.rd c.rs1 c.op2 t).ending ≡ None
+  live = ap (λ (z : State). z.ending) (sym does_is) ∙ c.live
+
+  there : StandHere l.list base p place h.laid c.piece c.within image c.address (number_in g node) c.items
+  there = stand_here l.list base p place h.laid c.piece c.within image c.address (number_in g node) c.items
+
+  at : t.pc ≡ place c.piece 1
+  at = here.at ∙ c.here ∙ h.laid.starts c.piece c.within ∙ sym there.mark
+
+  loaded : HasWordAt (choice_at c.distance t) false t.memory
+      × (memory_word t.memory (choice_at c.distance t) ≡ table_word f.cases (choice_at c.distance t))
+  loaded = here.memory.cases (choice_at c.distance t) c.from c.to c.aligned
+
+  about : IsAboutToChoose c.rd c.address.0 c.distance t
+  about =
+      let low = there.low in
+      let a = at in
+      let s = some in
+      let q = few in
+      let n = here.npc in
+      let small : wrapped (t.pc + 4) ≡ t.pc + 4 = omega (arith, a, low, s) in
+      let o = c.original in
+      let below = c.low in
+      record {
+        valid = here.valid;
+        ready = record { live = here.live; npc = n ∙ small };
+        low = omega (arith, a, low, s, q);
+        words = subst (λ z. StandIn (code_of t.memory) z image) (sym at)
+            (stand_words l.list base p place h.laid c.piece c.within image c.address (number_in g node) c.items
+            (and_fits (link c.rd c.address.0) (choose c.distance)
+            (link_fits c.rd c.address.0 c.register (omega (arith, o, below))) (choose_fits c.distance c.near))
+            t.memory here.memory.code);
+        register = c.register;
+        short = omega (arith, o, below);
+        near = c.near;
+        page = λ n less. stores_there (page_word n) t.memory
+            (here.memory.ours.words (page_word n) (h.frame.page n (omega (arith, less))));
+        choice = record {
+          aligned = c.aligned;
+          below = c.below;
+          loads = loads_there _ false t.memory loaded.0;
+          target = ap (λ z. z % 4) (loaded.1 ∙ c.has) ∙ (h.laid.aligned c.way).0;
+        };
+      }
+
+  comes : ComesToCase c.distance t after_jump (length image)
+  comes = choices_simulate c.rd c.rs1 c.op2 c.address.0 c.distance t about live
+
+  -- the piece of the edge
+  target : chosen c.distance t ≡ slice_index p.at c.way
+  target = loaded.1 ∙ c.has
+
+  abbrev after : State
+  after = hopped after_jump (chosen c.distance t) comes.memory
+
+  page_cells : (m : Memory) → Stores IsPageWord t.memory m → words_at g.notes.base g.notes.cells m ≡ cells_in g t
+  page_cells m stores = cells_above g l f h.frame h.cells IsPageWord page_above t.memory m here.memory.ours stores
+
+  on : (u : State) → u.ending ≡ None → IsBetween t (length image) IsPageWord u → IsOnWay g t u
+  on u running z =
+      let a = at in
+      let low = there.begins in
+      let high = there.ends in
+      let q1 = z.past in
+      let q2 = z.before in
+      let range : NoteRange =
+      record { lo = place c.piece 1; hi = place c.piece (suc (length image)); address = c.address.0; node = number_in g node } in
+      let s = some in
+      on_range g l base p place f h t u range running (omega (arith, a, low)) q1 (omega (arith, a, high, q2))
+      (there.range t.pc (omega (arith, a)) (omega (arith, a, s))) (there.range u.pc (omega (arith, a, q1)) (omega (arith, a, q2)))
+      (sym at) (page_cells u.memory z.stores)
+
+  goes : entered_at g l p f (node_after (graph_in g) node []) (point_of after_jump) ≡ chosen c.distance t
+      → Enters g (Entered g l base p f) (HasShortForms l.list place) [] node x t after_jump
+  goes arrives =
+      let k = comes in
+      let q = few in
+      let s = some in
+      let own = own_stored g f h.frame t.memory k.memory k.stores in
+      record {
+        on = record {
+          count = length image;
+          after = hopped after_jump (chosen c.distance t) k.memory;
+          path = record {
+            steps = k.path.steps;
+            some = omega (arith, s);
+            few = omega (arith, q);
+            quiet = quiet_of g l base p place f h t _ (length image) (IsBetween t (length image) IsPageWord) k.path live on;
+          };
+          puts = λ descriptor. k.silent descriptor
+              ∙ sym (ap (λ (o : Option ℕ). puts_on_word (at_point x t) o descriptor) c.is_word
+              ∙ quiet_transfer (at_point x t) (decode_of c.word) descriptor (ap is_transfer c.says));
+          followed = followed_alike g [] after_jump after_jump (hopped after_jump (chosen c.distance t) k.memory)
+              refl refl refl refl refl refl refl
+              (subst (λ (z : Memory). IsSameOutside (pages_of g.notes) z k.memory) (sym k.same)
+              (same_stored g f h.frame base p t.memory k.memory here.memory own))
+              (alike_hopped g [] after_jump after_jump (chosen c.distance t) k.memory (alike_itself g [] after_jump));
+          cells = page_cells k.memory k.stores;
+          here = λ _. record {
+            valid = subst IsValid k.path.steps (run-valid t (length image) here.valid);
+            live = live;
+            at = sym arrives;
+            npc = refl;
+            slot = refl;
+            memory = images_stored g f h.frame base p t _ (length image) k.path.steps own here.memory;
+            waits = λ _ _ plain. absurd (plain c.number c.open_switch c.among c.itself);
+          };
+          place = λ over. absurd (over live);
+          sparing = λ watched. absurd (jumping watched.jump);
+        };
+        first = λ _ _ straight _.
+            let moves = transfers g.text x.pc c.word c.is_word (ap is_transfer c.says) in absurd (cc);
+      }
+    where
+      jumping : is_jmpl (instr_at g.text x.pc) ≡ false → ⊥
+      jumping e = let is = ap is_jmpl (instr_is g.text x.pc c.word c.is_word ∙ ap (λ (z : Instr). Some z) c.says) in cc
+
+  steps : Enters g (Entered g l base p f) (HasShortForms l.list place) (gone_at g node x (does_at g x t)) node x t (does_at g x t)
+  steps =
+      subst (λ edges. Enters g (Entered g l base p f) (HasShortForms l.list place) edges node x t (does_at g x t)) (sym c.nothing)
+      (subst (λ (z : State). Enters g (Entered g l base p f) (HasShortForms l.list place) [] node x t z) (sym does_is)
+      (goes (ap (λ (z : State). entered_at g l p f node (point_of z)) (sym does_is)
+      ∙ ap (λ edges. entered_at g l p f (node_after (graph_in g) node edges) (point_of (does_at g x t))) (sym c.nothing)
+      ∙ sym c.leads ∙ sym target)))
+
+pub choices_step : ChoicesStep
+choices_step g l base p place f node x t h here c = steps g l base p place f h node x t here c
+
+-- ---- where the word stands that has the piece's address
+
+-- what was kept at the load leads to the word of the same entry
+pub choice_stands : (g : Setting) (o : CaseTable) (t v : State) (c : IsChosen g o t v) (cases first entries : ℕ)
+    → IsText g.text → o.from + o.count ≤ length g.text.words → first + o.count ≤ entries → cases % 4 ≡ 0
+    → cases + 4 * entries ≤ 2 ^ 31
+    → (choice_at (distance_of cases first g.text o.from) t ≡ cases + 4 * (first + c.entry))
+    × (choice_at (distance_of cases first g.text o.from) t % 4 ≡ 0)
+    × (choice_at (distance_of cases first g.text o.from) t + 4 ≤ cases + 4 * entries)
+choice_stands g o t v c cases first entries text within among aligned low =
+    let below = c.below in
+    let there : choice_at (distance_of cases first g.text o.from) t ≡ cases + 4 * (first + c.entry) =
+    ap (λ z. wrapped (z + distance_of cases first g.text o.from)) c.kept
+    ∙ distance_leads cases first g.text o.from c.entry text (omega (arith, below, within))
+    (omega (arith, below, among, low)) in
+    (there, omega (arith, there, aligned), omega (arith, there, below, among))

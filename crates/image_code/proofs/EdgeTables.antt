@@ -1,0 +1,280 @@
+-- The tables of first edges say which edges there are.
+use Rattle.std.proofs.Common.{◌≡◌, ℕ, ◌+◌, ◌*◌, ◌^◌, ◌<◌, Bool, true, false, ◌&&◌, ◌||◌, ◌==◌, List, [], ◌∷◌, suc, Option, Some, None, length, refl, ap, sym, ◌∙◌, arith, nat_lt}
+use Rattle.std.specs.Prelude.{if◌then◌else◌, slice_index}
+use Rattle.std.specs.List.{list_any, position}
+use Rattle.std.specs.Option.{is_some, option_map, option_to_list}
+use Rattle.std.proofs.lemmas.Bool.{cond_both, eq-eqb, eqb-true, false≢true, ltb-true, ne_eqb}
+use Rattle.eel_base.specs.declared.numbers.BlockNo.{BlockNo}
+use Rattle.cfg_blocks.specs.declared.EdgeKind.{EdgeKind}
+use Rattle.cfg_blocks.specs.declared.EdgeKind.TheVariants as kinds
+use Rattle.cfg_blocks.specs.Blocks.{holding_of}
+use Rattle.cfg_normal.specs.declared.Edge.{Edge}
+use Rattle.cfg_normal.specs.declared.Node.{Node}
+use Rattle.cfg_normal.specs.declared.Node.TheVariants.{Block, Landed, X}
+use Rattle.cfg_normal.specs.Opens.{is_behind, jumps_in}
+use Rattle.cfg_normal.specs.Graph.{Graph, IsEdgeIn, IsGraph, IsNodeIn, lands as lands_at}
+use Rattle.cfg_normal.specs.Landings.{IsNumbered}
+use Rattle.cfg_normal.specs.Nodes.{same_kind, same_node}
+use Rattle.cfg_normal.specs.Numbers.{node_number, node_numbers}
+use Rattle.cfg_walk.proofs.Holding.{in_held}
+use Rattle.cfg_walk.specs.Walk.{edge_along, edge_from, landing_at}
+use Rattle.image_code.specs.Lookups.{AreFirst, case_key, edge_place, has_key, is_land, kind_number, mark_of, place_of}
+use Rattle.image_code.proofs.FirstPlaces.{first_is, position-cons, position-same}
+
+-- ---- numbers by which nodes and kinds are told apart
+
+eqb-same : (a b c d : ℕ) → (a ≡ b → c ≡ d) → (c ≡ d → a ≡ b) → (a == b) ≡ (c == d)
+eqb-same a b c d to from = go (c == d) refl
+  where
+    go : (t : Bool) → (c == d) ≡ t → (a == b) ≡ (c == d)
+    go true e = eq-eqb a b (from (eqb-true c d e)) ∙ sym e
+    go false e = ne_eqb a b (λ h. false≢true (sym e ∙ eq-eqb c d (to h))) ∙ sym e
+
+pub kinds_same : (one other : EdgeKind) → (kind_number one == kind_number other) ≡ same_kind one other
+kinds_same kinds.Fall kinds.Fall = refl
+kinds_same kinds.Fall _ = refl
+kinds_same kinds.Taken kinds.Taken = refl
+kinds_same kinds.Taken _ = refl
+kinds_same kinds.Untaken kinds.Untaken = refl
+kinds_same kinds.Untaken _ = refl
+kinds_same kinds.Call kinds.Call = refl
+kinds_same kinds.Call _ = refl
+kinds_same kinds.Out kinds.Out = refl
+kinds_same kinds.Out _ = refl
+kinds_same kinds.Land kinds.Land = refl
+kinds_same kinds.Land _ = refl
+kinds_same kinds.Case kinds.Case = refl
+kinds_same kinds.Case _ = refl
+
+kind_low : (kind : EdgeKind) → kind_number kind < 7
+kind_low kinds.Fall = omega arith
+kind_low kinds.Taken = omega arith
+kind_low kinds.Untaken = omega arith
+kind_low kinds.Call = omega arith
+kind_low kinds.Out = omega arith
+kind_low kinds.Land = omega arith
+kind_low kinds.Case = omega arith
+
+kind_is : (one other : EdgeKind) → same_kind one other ≡ true → one ≡ other
+kind_is kinds.Fall kinds.Fall e = refl
+kind_is kinds.Taken kinds.Taken e = refl
+kind_is kinds.Untaken kinds.Untaken e = refl
+kind_is kinds.Call kinds.Call e = refl
+kind_is kinds.Out kinds.Out e = refl
+kind_is kinds.Land kinds.Land e = refl
+kind_is kinds.Case kinds.Case e = refl
+kind_is one other e = absurd (cc)
+
+abbrev IsOneOf : Graph → Node → Type 0
+IsOneOf graph node = IsNumbered (length graph.blocks.firsts) node
+
+pub numbered : (graph : Graph) (node : Node) → IsNodeIn graph.blocks graph.opens node → IsOneOf graph node
+numbered graph (Block block) h = h
+numbered graph (Landed block) h = h.0
+numbered graph X h = tt
+
+pub number_low : (graph : Graph) (node : Node) → IsOneOf graph node → node_number graph node < node_numbers graph
+number_low graph (Block block) h = omega (arith, h)
+number_low graph (Landed block) h = omega (arith, h)
+number_low graph X h = omega arith
+
+pub nodes_same : (graph : Graph) (one other : Node) → IsOneOf graph one → IsOneOf graph other
+    → (node_number graph one == node_number graph other) ≡ same_node one other
+nodes_same graph (Block one) (Block other) h k = refl
+nodes_same graph (Landed one) (Landed other) h k =
+    eqb-same _ _ one.0 other.0 (λ e. omega (arith, e)) (λ e. omega (arith, e))
+nodes_same graph X X h k = eq-eqb _ _ refl
+nodes_same graph (Block one) X h k = ne_eqb _ _ (λ e. absurd (omega (arith, h, e)))
+nodes_same graph (Block one) (Landed other) h k = ne_eqb _ _ (λ e. absurd (omega (arith, h, e)))
+nodes_same graph X (Block other) h k = ne_eqb _ _ (λ e. absurd (omega (arith, k, e)))
+nodes_same graph X (Landed other) h k = ne_eqb _ _ (λ e. absurd (omega (arith, e)))
+nodes_same graph (Landed one) (Block other) h k = ne_eqb _ _ (λ e. absurd (omega (arith, k, e)))
+nodes_same graph (Landed one) X h k = ne_eqb _ _ (λ e. absurd (omega (arith, e)))
+
+and-swap : (a b : Bool) → (a && b) ≡ (b && a)
+and-swap true true = refl
+and-swap true false = refl
+and-swap false true = refl
+and-swap false false = refl
+
+pairs_same : (m n i j : ℕ) → i < 7 → j < 7 → (7 * m + i == 7 * n + j) ≡ ((m == n) && (i == j))
+pairs_same m n i j h k = go (m == n) (i == j) refl refl
+  where
+    go : (s t : Bool) → (m == n) ≡ s → (i == j) ≡ t → (7 * m + i == 7 * n + j) ≡ ((m == n) && (i == j))
+    go true true e f =
+        let one : m ≡ n = eqb-true m n e in
+        let other : i ≡ j = eqb-true i j f in
+        eq-eqb _ _ (omega (arith, one, other)) ∙ sym (rw (e, f) refl)
+    go true false e f =
+        let one : m ≡ n = eqb-true m n e in
+        ne_eqb _ _ (λ same. false≢true (sym f ∙ eq-eqb i j (omega (arith, one, same)))) ∙ sym (rw (e, f) refl)
+    go false t e f =
+        ne_eqb _ _ (λ same. false≢true (sym e ∙ eq-eqb m n (omega (arith, h, k, same)))) ∙ sym (rw e refl)
+
+-- an edge has the place of a node and a kind where it is such an edge
+places_same : (graph : Graph) (one other : Node) (kind kind2 : EdgeKind) → IsOneOf graph one → IsOneOf graph other
+    → (place_of (node_number graph one) kind == place_of (node_number graph other) kind2)
+    ≡ (same_node one other && same_kind kind kind2)
+places_same graph one other kind kind2 h k =
+    pairs_same (node_number graph one) (node_number graph other) (kind_number kind) (kind_number kind2) (kind_low kind)
+    (kind_low kind2)
+    ∙ ap (λ (t : Bool). t && (kind_number kind == kind_number kind2)) (nodes_same graph one other h k)
+    ∙ ap (λ (t : Bool). same_node one other && t) (kinds_same kind kind2)
+
+-- ---- edges that leave a node, and landings
+
+lands_apart : (k : EdgeKind) → is_land k ≡ false → same_kind kinds.Land k ≡ false
+lands_apart kinds.Land h = absurd (cc)
+lands_apart kinds.Fall h = refl
+lands_apart kinds.Taken h = refl
+lands_apart kinds.Untaken h = refl
+lands_apart kinds.Call h = refl
+lands_apart kinds.Out h = refl
+lands_apart kinds.Case h = refl
+
+module _ (graph : Graph) (g : IsGraph graph) (table : List ℕ)
+    (first : AreFirst (7 * node_numbers graph) (edge_place graph) graph.edges table) (node : Node)
+    (here : IsOneOf graph node) (found : Option ℕ) where
+  found_at : (kind : EdgeKind) → mark_of found ≡ slice_index table (place_of (node_number graph node) kind)
+      → found ≡ position (λ edge. edge_place graph edge == place_of (node_number graph node) kind) graph.edges
+  found_at kind is =
+      first_is (7 * node_numbers graph) (edge_place graph) graph.edges table (place_of (node_number graph node) kind) found
+      first (omega (arith, number_low graph node here, kind_low kind)) is
+
+  leaves : (kind : EdgeKind) → is_land kind ≡ false → (edge : Edge) → IsEdgeIn graph.blocks graph.opens edge
+      → (edge_place graph edge == place_of (node_number graph node) kind)
+      ≡ (same_node edge.from node && same_kind edge.kind kind)
+  leaves kind other edge inside = go (is_land edge.kind) refl
+    where
+      go : (t : Bool) → is_land edge.kind ≡ t → (edge_place graph edge == place_of (node_number graph node) kind)
+          ≡ (same_node edge.from node && same_kind edge.kind kind)
+      go false e =
+          ap (λ (t : Bool). (place_of (if t then node_number graph edge.to else node_number graph edge.from) edge.kind)
+          == place_of (node_number graph node) kind) e
+          ∙ places_same graph edge.from node edge.kind kind (numbered graph edge.from inside.from) here
+      go true e =
+          let land : edge.kind ≡ kinds.Land = kind_is edge.kind kinds.Land e in
+          let apart : same_kind edge.kind kind ≡ false = ap (λ k. same_kind k kind) land ∙ lands_apart kind other in
+          ap (λ (t : Bool). (place_of (if t then node_number graph edge.to else node_number graph edge.from) edge.kind)
+          == place_of (node_number graph node) kind) e
+          ∙ places_same graph edge.to node edge.kind kind (numbered graph edge.to inside.to) here
+          ∙ ap (λ (t : Bool). same_node edge.to node && t) apart
+          ∙ and-swap (same_node edge.to node) false
+          ∙ sym (ap (λ (t : Bool). same_node edge.from node && t) apart ∙ and-swap (same_node edge.from node) false)
+
+  pub leaving_is : (kind : EdgeKind) → is_land kind ≡ false
+      → mark_of found ≡ slice_index table (place_of (node_number graph node) kind)
+      → option_to_list found ≡ edge_from graph node kind
+  leaving_is kind other is =
+      ap option_to_list (found_at kind is
+      ∙ position-same (IsEdgeIn graph.blocks graph.opens) _ (λ edge. same_node edge.from node && same_kind edge.kind kind)
+      graph.edges g.edges (leaves kind other))
+
+  lands : (edge : Edge) → IsEdgeIn graph.blocks graph.opens edge
+      → (edge_place graph edge == place_of (node_number graph node) kinds.Land)
+      ≡ (same_node edge.to node && same_kind edge.kind kinds.Land)
+  lands edge inside = go (is_land edge.kind) refl
+    where
+      go : (t : Bool) → is_land edge.kind ≡ t → (edge_place graph edge == place_of (node_number graph node) kinds.Land)
+          ≡ (same_node edge.to node && same_kind edge.kind kinds.Land)
+      go true e =
+          ap (λ (t : Bool). (place_of (if t then node_number graph edge.to else node_number graph edge.from) edge.kind)
+          == place_of (node_number graph node) kinds.Land) e
+          ∙ places_same graph edge.to node edge.kind kinds.Land (numbered graph edge.to inside.to) here
+      go false e =
+          ap (λ (t : Bool). (place_of (if t then node_number graph edge.to else node_number graph edge.from) edge.kind)
+          == place_of (node_number graph node) kinds.Land) e
+          ∙ places_same graph edge.from node edge.kind kinds.Land (numbered graph edge.from inside.from) here
+          ∙ ap (λ (t : Bool). same_node edge.from node && t) e
+          ∙ and-swap (same_node edge.from node) false
+          ∙ sym (ap (λ (t : Bool). same_node edge.to node && t) e ∙ and-swap (same_node edge.to node) false)
+
+  pub landing_is : mark_of found ≡ slice_index table (place_of (node_number graph node) kinds.Land)
+      → option_to_list found ≡ landing_at graph node
+  landing_is is =
+      ap option_to_list (found_at kinds.Land is
+      ∙ position-same (IsEdgeIn graph.blocks graph.opens) _
+      (λ edge. same_node edge.to node && same_kind edge.kind kinds.Land) graph.edges g.edges lands)
+
+-- ---- Case edges
+
+keys_same : (m n i j : ℕ) → i < 2 ^ 32 → j < 2 ^ 32 → (case_key m i == case_key n j) ≡ ((m == n) && (i == j))
+keys_same m n i j h k = go (m == n) (i == j) refl refl
+  where
+    go : (s t : Bool) → (m == n) ≡ s → (i == j) ≡ t → (case_key m i == case_key n j) ≡ ((m == n) && (i == j))
+    go true true e f =
+        let one : m ≡ n = eqb-true m n e in
+        let other : i ≡ j = eqb-true i j f in
+        eq-eqb _ _ (omega (arith, one, other)) ∙ sym (rw (e, f) refl)
+    go true false e f =
+        let one : m ≡ n = eqb-true m n e in
+        ne_eqb _ _ (λ same. false≢true (sym f ∙ eq-eqb i j (omega (arith, one, same)))) ∙ sym (rw (e, f) refl)
+    go false t e f =
+        ne_eqb _ _ (λ same. false≢true (sym e ∙ eq-eqb m n (omega (arith, h, k, same)))) ∙ sym (rw e refl)
+
+number_short : (graph : Graph) → IsGraph graph → (node : Node) → IsOneOf graph node → node_number graph node < 2 ^ 32
+number_short graph g node h = omega (arith, number_low graph node h, g.firsts.few, g.few)
+
+pub case_is : (graph : Graph) → IsGraph graph → (block : BlockNo) (to : Node) → block.0 < length graph.blocks.firsts
+    → IsOneOf graph to
+    → position (has_key graph (case_key block.0 (node_number graph to))) graph.edges
+    ≡ position (λ edge. same_node edge.to to && (same_node edge.from (Block block) && same_kind edge.kind kinds.Case)) graph.edges
+case_is graph g block to l h =
+    position-same (IsEdgeIn graph.blocks graph.opens) _ _ graph.edges g.edges same
+  where
+    shuffle : (a b c : Bool) → (a && (b && c)) ≡ (c && (b && a))
+    shuffle true true true = refl
+    shuffle true true false = refl
+    shuffle true false true = refl
+    shuffle true false false = refl
+    shuffle false true true = refl
+    shuffle false true false = refl
+    shuffle false false true = refl
+    shuffle false false false = refl
+
+    same : (edge : Edge) → IsEdgeIn graph.blocks graph.opens edge
+        → has_key graph (case_key block.0 (node_number graph to)) edge
+        ≡ (same_node edge.to to && (same_node edge.from (Block block) && same_kind edge.kind kinds.Case))
+    same edge inside =
+        ap (λ (t : Bool). same_kind edge.kind kinds.Case && t)
+        (keys_same (node_number graph edge.from) block.0 (node_number graph edge.to) (node_number graph to)
+        (number_short graph g edge.to (numbered graph edge.to inside.to)) (number_short graph g to h)
+        ∙ ap (λ (t : Bool). t && (node_number graph edge.to == node_number graph to))
+        (nodes_same graph edge.from (Block block) (numbered graph edge.from inside.from) l)
+        ∙ ap (λ (t : Bool). same_node edge.from (Block block) && t)
+        (nodes_same graph edge.to to (numbered graph edge.to inside.to) h))
+        ∙ shuffle (same_kind edge.kind kinds.Case) (same_node edge.from (Block block)) (same_node edge.to to)
+
+pub case_edge_is : (graph : Graph) → IsGraph graph → (block : BlockNo) (to : Node)
+    → block.0 < length graph.blocks.firsts → IsOneOf graph to → (found : Option ℕ)
+    → found ≡ position (has_key graph (case_key block.0 (node_number graph to))) graph.edges
+    → option_to_list found ≡ edge_along graph (Block block) (record { kind = kinds.Case; to = Some to })
+case_edge_is graph g block to l h found is = ap option_to_list (is ∙ case_is graph g block to l h)
+
+-- ---- where control lands
+
+pub lands_numbered : (graph : Graph) → IsGraph graph → (word : ℕ) → IsOneOf graph (lands_at graph (Some word))
+lands_numbered graph g word =
+    cond_both (nat_lt word graph.blocks.words) _ X (IsOneOf graph)
+    (λ e.
+    let held = (in_held graph.blocks.words graph.blocks.firsts g.firsts word (ltb-true _ _ e)).within in
+    cond_both (jumps_in graph.opens (holding_of graph.blocks word)
+    || is_behind graph.opens (holding_of graph.blocks word) word) _ _ (IsOneOf graph) (λ _. held) (λ _. held))
+    (λ _. tt)
+
+-- ---- whether there is one
+
+pub some_is_any : {A : Type 0} (p : A → Bool) (xs : List A) → is_some (position p xs) ≡ list_any p xs
+some_is_any p [] = refl
+some_is_any p (x ∷ xs) =
+    ap is_some (position-cons p x xs) ∙ by (p x) (position p xs) ∙ ap (λ t. if p x then true else t) (some_is_any p xs)
+    ∙ last (p x) (list_any p xs)
+  where
+    by : (t : Bool) (o : Option ℕ) → is_some (if t then Some 0 else option_map suc o) ≡ (if t then true else is_some o)
+    by true o = refl
+    by false (Some n) = refl
+    by false None = refl
+
+    last : (t u : Bool) → (if t then true else u) ≡ (t || u)
+    last true u = refl
+    last false u = refl

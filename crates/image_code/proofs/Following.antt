@@ -1,0 +1,195 @@
+-- Where a word that is no transfer goes on: to the next word, and at which node.
+use Rattle.std.proofs.Common.{◌≡◌, ◌≢◌, ℕ, ◌+◌, ◌<◌, Bool, true, false, not, Some, List, [], ◌∷◌, refl, ap, sym, ◌∙◌, subst, arith}
+use Rattle.std.specs.Prelude.{◌==◌, ◌&&◌, if◌then◌else◌, slice_get, slice_index}
+use Rattle.std.proofs.lemmas.Bool.{and_parts, eqb-true, eq-eqb, false≢true}
+use Rattle.v8_decode.specs.declared.Instr.{Instr}
+use Rattle.v8_decode.specs.Words.{decode_of}
+use Rattle.v8_step.specs.Items.{is_transfer}
+use Rattle.cfg_blocks.specs.declared.BlockEnd.{BlockEnd}
+use Rattle.cfg_blocks.specs.declared.BlockEnd.TheVariants as ends
+use Rattle.cfg_blocks.specs.declared.EdgeKind.{EdgeKind}
+use Rattle.cfg_blocks.specs.declared.EdgeKind.TheVariants as kinds
+use Rattle.cfg_blocks.specs.Blocks.{Blocks, block_end, blocks_of, end_of, holding_of, last_word}
+use Rattle.cfg_blocks.specs.Ends.{end_at, is_transfer as ends_block_after, way, within, ways_of}
+use Rattle.cfg_blocks.specs.Switches.{is_jump}
+use Rattle.cfg_normal.specs.declared.Node.{Node}
+use Rattle.cfg_normal.specs.declared.Node.TheVariants.{Block, Landed, X}
+use Rattle.cfg_normal.specs.Nodes.{home_of}
+use Rattle.cfg_normal.specs.Opens.{Open, jumps_in}
+use Rattle.cfg_normal.specs.Graph.{IsNodeIn, directed, edge_of, has_cases, is_compared}
+use Rattle.cfg_walk.specs.Walk.{edge_from, left_by, node_after, same_kind, same_node}
+use Rattle.cfg_walk.proofs.Cut.{IsCut}
+use Rattle.cfg_walk.proofs.Edges.{IsEdge, block, copy}
+use Rattle.cfg_walk.proofs.Holding.{IsIn, ends_within, is_held}
+use Rattle.cfg_walk.proofs.Leaving.{end_here, end_is, ends_home, falls_to, is_in, no_cases, node_within, straight_end, straight_left, way_found}
+use Rattle.cfg_walk.proofs.Ways.{IsOne, fall_is_one}
+use Rattle.image_code.specs.Numbered.{node_in_order}
+use Rattle.image_code.specs.Simulates.{Setting, graph_in}
+use Rattle.image_code.proofs.CaseTables.{IsKnown}
+use Rattle.image_code.proofs.EdgePieces.{cut_in}
+use Rattle.image_code.proofs.ImageNumbers.{block_of, jump_of}
+use Rattle.image_code.proofs.Positions.{placed}
+
+module _ (g : Setting) (is : IsKnown g) where
+  abbrev b : Blocks
+  b = blocks_of g.text g.given
+
+  cut : IsCut g.text b
+  cut = cut_in g is 0 0
+
+  -- ---- nodes to which edges lead
+
+  -- from a block that ends in no branch
+  not_compared : (node : Node) (k : ℕ) → home_of node ≡ block k → ends_block_after (end_of b k) ≡ false
+      → (kind : EdgeKind) (to : ℕ) → is_compared g.switches node kind to ≡ false
+  not_compared (Block from) k home plain kind to = by (is_compared g.switches (Block from) kind to) refl
+    where
+      by : (t : Bool) → is_compared g.switches (Block from) kind to ≡ t → t ≡ false
+      by false e = refl
+      by true e =
+          let p = (λ (o : Open). (o.block == to) && (o.switch.compare.0 == from.0) && same_kind kind o.way) in
+          let found = placed p g.switches e in
+          let o = found.item in
+          let parts = and_parts ((o.block == to) && (o.switch.compare.0 == from.0))
+          (same_kind kind o.way) found.passes in
+          let compares : o.switch.compare.0 ≡ from.0 =
+          eqb-true o.switch.compare.0 from.0 (and_parts (o.block == to) (o.switch.compare.0 == from.0) parts.0).1 in
+          let here : from.0 ≡ k = ap block_of home in
+          let ends : ends_block_after (end_of b k) ≡ true =
+          ap (λ (n : ℕ). ends_block_after (end_of b n)) (sym (compares ∙ here))
+          ∙ (is.cased.branches found.number o found.is).0 in
+          absurd (false≢true (sym plain ∙ ends))
+  not_compared (Landed from) k home plain kind to = refl
+  not_compared X k home plain kind to = refl
+
+  pub directed_order : (node : Node) (kind : EdgeKind) (to : ℕ) → is_compared g.switches node kind to ≡ false
+      → directed g.switches node kind (block to) ≡ (if jumps_in g.switches to then copy to else block to)
+  directed_order node kind to e =
+      ap (λ (t : Bool). if jumps_in g.switches to && not t then copy to else block to) e ∙ by (jumps_in g.switches to)
+    where
+      by : (t : Bool) → (if t && true then copy to else block to) ≡ (if t then copy to else block to)
+      by true = refl
+      by false = refl
+
+  module _ (node : Node) (word : ℕ) (low : word < b.words) (home : home_of node ≡ block (holding_of b word))
+      (there : IsNodeIn b g.switches node) (straight : is_transfer (decode_of (slice_index g.text.words word))
+      ≡ false) where
+    abbrev its_block : ℕ
+    its_block = holding_of b word
+
+    abbrev instr : Instr
+    instr = decode_of (slice_index g.text.words word)
+
+    abbrev edges : List ℕ
+    edges = left_by (graph_in g) node word instr
+
+    inside : IsIn b.words b.firsts word its_block
+    inside = is_in g.text b g.switches cut word low
+
+    falls : end_at g.text word ≡ ends.Fall
+    falls = end_is g.text word instr refl ∙ straight_end g.text word instr straight
+
+    pub ended : word ≡ last_word b.firsts b.words its_block → end_of b its_block ≡ ends.Fall
+    ended last = end_here g.text b g.switches cut word low last ∙ falls
+
+    edges_if : (t : Bool) → (word == last_word b.firsts b.words its_block) ≡ t
+        → edges ≡ (if t then edge_from (graph_in g) node kinds.Fall else [])
+    edges_if t e =
+        straight_left (graph_in g) node word instr straight
+        ∙ ap (λ (x : Bool). if x then edge_from (graph_in g) node kinds.Fall else [])
+        (ends_home b g.switches node its_block word home ∙ e)
+
+    pub last_edges : word ≡ last_word b.firsts b.words its_block → edges ≡ edge_from (graph_in g) node kinds.Fall
+    last_edges last = edges_if true (eq-eqb word (last_word b.firsts b.words its_block) last)
+
+    not_eq : (word ≡ last_word b.firsts b.words its_block → ⊥) → (t : Bool)
+        → (word == last_word b.firsts b.words its_block) ≡ t → t ≡ false
+    not_eq inner true e = absurd (inner (eqb-true word (last_word b.firsts b.words its_block) e))
+    not_eq inner false e = refl
+
+    pub inner_edges : (word ≡ last_word b.firsts b.words its_block → ⊥) → edges ≡ []
+    inner_edges inner =
+        edges_if false (not_eq inner (word == last_word b.firsts b.words its_block) refl)
+
+    -- the edge to the next block
+    pub some_edge : word ≡ last_word b.firsts b.words its_block → edges ≢ []
+    some_edge last none =
+        let w = way kinds.Fall (within b.words (word + 1)) in
+        let quiet : has_cases g.switches node ≡ false =
+        no_cases b g.switches is.cased.jumps node its_block home (ap is_jump (ended last)) in
+        let found : IsEdge (graph_in g) (edge_from (graph_in g) node kinds.Fall)
+        (edge_of b g.switches node its_block w) =
+        way_found g.text b g.switches cut word low is.cased.jumps node there home w last quiet
+        (subst (λ (end : BlockEnd). IsOne w (ways_of b.words word end)) (sym falls) (fall_is_one b.words word)) in
+        let one : found.number ∷ [] ≡ [] = sym found.only ∙ sym (last_edges last) ∙ none in
+        absurd (cc)
+
+    pub more_words : (word ≡ last_word b.firsts b.words its_block → ⊥) → word + 1 < block_end b.firsts b.words its_block
+    more_words inner = omega (arith, inside.below, inner)
+
+    pub held_next : (word ≡ last_word b.firsts b.words its_block → ⊥) → holding_of b (word + 1) ≡ its_block
+    held_next inner =
+        is_held b.words b.firsts cut.firsts (word + 1) its_block
+        (record { within = inside.within; above = omega (arith, inside.above); below = more_words inner })
+
+    pub next_low : (word ≡ last_word b.firsts b.words its_block → ⊥) → word + 1 < b.words
+    next_low inner = omega (arith, more_words inner, ends_within b.words b.firsts cut.firsts its_block inside.within)
+
+    -- ---- in the order of the text
+
+    pub next_in_order : word + 1 < b.words → node ≡ node_in_order (graph_in g) word
+        → node_after (graph_in g) node edges ≡ node_in_order (graph_in g) (word + 1)
+    next_in_order more same = by (word == last_word b.firsts b.words its_block) refl
+      where
+        by : (t : Bool) → (word == last_word b.firsts b.words its_block) ≡ t
+            → node_after (graph_in g) node edges ≡ node_in_order (graph_in g) (word + 1)
+        by true e =
+            let last = eqb-true word (last_word b.firsts b.words its_block) e in
+            ap (node_after (graph_in g) node) (last_edges last)
+            ∙ falls_to g.text b g.switches cut word low is.cased.jumps node there home falls last
+            ∙ ap (directed g.switches node kinds.Fall) (node_within b (word + 1) more)
+            ∙ directed_order node kinds.Fall (holding_of b (word + 1))
+            (not_compared node its_block home (ap ends_block_after (ended last)) kinds.Fall (holding_of b (word + 1)))
+        by false e =
+            let inner : word ≡ last_word b.firsts b.words its_block → ⊥ =
+            λ last. absurd (false≢true (sym e ∙ eq-eqb word (last_word b.firsts b.words its_block) last)) in
+            ap (node_after (graph_in g) node) (inner_edges inner) ∙ same
+            ∙ ap (λ (k : ℕ). if jumps_in g.switches k then copy k else block k) (sym (held_next inner))
+
+    -- ---- at the block itself of a jump, and at the landed copy of a comparison's
+
+    pub jump_inner : (k : ℕ) (o : Open) → slice_get g.switches k ≡ Some o → its_block ≡ o.block
+        → word ≡ last_word b.firsts b.words its_block → ⊥
+    jump_inner k o e held last =
+        let jumps : is_jump (end_of b its_block) ≡ true =
+        is.cased.jumps its_block (ap (jumps_in g.switches) held ∙ jump_of g.text b g.switches k o e) in
+        false≢true (sym (ap is_jump (ended last)) ∙ jumps)
+
+    pub compare_inner : (k : ℕ) (o : Open) → slice_get g.switches k ≡ Some o → its_block ≡ o.switch.compare.0
+        → word ≡ last_word b.firsts b.words its_block → ⊥
+    compare_inner k o e held last =
+        let transfers : ends_block_after (end_of b its_block) ≡ true =
+        ap (λ (n : ℕ). ends_block_after (end_of b n)) held ∙ (is.cased.branches k o e).0 in
+        false≢true (sym (ap ends_block_after (ended last)) ∙ transfers)
+
+    -- neither is the node in the order of the text
+    pub jump_apart : (k : ℕ) (o : Open) → slice_get g.switches k ≡ Some o → node ≡ block o.block → its_block ≡ o.block
+        → same_node node (node_in_order (graph_in g) word) ≡ false
+    jump_apart k o e here held =
+        ap (λ (n : Node). same_node n (node_in_order (graph_in g) word)) here
+        ∙ ap (λ (t : Bool). same_node (block o.block) (if t then copy its_block else block its_block))
+        (ap (jumps_in g.switches) held ∙ jump_of g.text b g.switches k o e)
+
+    pub compare_apart : (k : ℕ) (o : Open) → slice_get g.switches k ≡ Some o → node ≡ copy o.switch.compare.0
+        → its_block ≡ o.switch.compare.0 → same_node node (node_in_order (graph_in g) word) ≡ false
+    compare_apart k o e here held =
+        ap (λ (n : Node). same_node n (node_in_order (graph_in g) word)) here
+        ∙ ap (λ (t : Bool). same_node (copy o.switch.compare.0) (if t then copy its_block else block its_block))
+        (no_jump (jumps_in g.switches its_block) refl)
+      where
+        no_jump : (t : Bool) → jumps_in g.switches its_block ≡ t → jumps_in g.switches its_block ≡ false
+        no_jump false e = e
+        no_jump true j =
+            let plain : is_jump (end_of b its_block) ≡ false =
+            ap (λ (n : ℕ). is_jump (end_of b n)) held ∙ (is.cased.branches k o e).1 in
+            absurd (false≢true (sym plain ∙ is.cased.jumps its_block j))

@@ -1,0 +1,122 @@
+-- The pieces of the images of words, by nodes.
+use Rattle.std.proofs.Common.{◌≡◌, ℕ, suc, ◌+◌, ◌-◌, ◌<◌, ◌≤◌, Bool, true, false, Some, List, length, refl, ap, sym, ◌∙◌, subst, arith}
+use Rattle.std.specs.Prelude.{◌==◌, if◌then◌else◌, slice_get, slice_index}
+use Rattle.std.proofs.lemmas.Bool.{eqb-true}
+use Rattle.cfg_blocks.specs.Blocks.{Blocks, blocks_of, holding_of}
+use Rattle.cfg_blocks.specs.Values.{instr_at}
+use Rattle.cfg_normal.specs.declared.Node.{Node}
+use Rattle.cfg_normal.specs.Nodes.{home_of}
+use Rattle.cfg_normal.specs.Opens.{Open}
+use Rattle.cfg_normal.specs.Graph.{IsNodeIn, node_of}
+use Rattle.cfg_walk.proofs.Cut.{IsCut}
+use Rattle.cfg_walk.proofs.Edges.{block, copy}
+use Rattle.cfg_walk.proofs.Holding.{IsIn}
+use Rattle.cfg_walk.proofs.Leaving.{is_in, node_is}
+use Rattle.layout.specs.declared.items.Item.{Item}
+use Rattle.image_code.specs.Loads.{load_of}
+use Rattle.image_code.specs.Made.{image, jumps_at, keep_by, piece_list}
+use Rattle.image_code.specs.Numbered.{compare_image, compare_number, enter_number, image_number, jump_enter, jump_image, jump_number}
+use Rattle.image_code.specs.Simulates.{Setting, graph_in}
+use Rattle.image_code.proofs.CaseTables.{IsKnown}
+use Rattle.image_code.proofs.EdgePieces.{cut_in}
+use Rattle.image_code.proofs.ImageNumbers.{HasImage, at_compare, at_jump, compare_enter_is, compare_image_is, has_image, in_order, jump_enter_is, jump_image_is}
+use Rattle.image_code.proofs.Listed.{compare_at, enter_next, jump_at, keep_at, order_at}
+
+module _ (g : Setting) (is : IsKnown g) (table cases : ℕ) (codes : ℕ → List ℕ) where
+  abbrev b : Blocks
+  b = blocks_of g.text g.given
+
+  abbrev all : List (List Item)
+  all = piece_list g.text (graph_in g) table cases codes
+
+  abbrev image_of : Node → ℕ → List Item
+  image_of = image g.text (graph_in g) (jumps_at g.text table) cases codes
+
+  cut : IsCut g.text b
+  cut = cut_in g is table cases
+
+  -- a node whose block holds a word has an image of it
+  pub stands_at : (node : Node) (word : ℕ) → word < length g.text.words → home_of node ≡ node_of b (Some word)
+      → IsNodeIn b g.switches node → HasImage g.text b g.switches node word
+  stands_at node word low home there =
+      has_image g.text b g.switches node word (home ∙ node_is b word (omega (arith, low, cut.words))) there
+
+  in_block : (word : ℕ) → word < length g.text.words → (k : ℕ) → holding_of b word ≡ k → IsIn b.words b.firsts word k
+  in_block word low k held =
+      subst (λ (n : ℕ). IsIn b.words b.firsts word n) held
+      (is_in g.text b g.switches cut word (omega (arith, low, cut.words)))
+
+  pub image_at : (node : Node) (word : ℕ) → word < length g.text.words → HasImage g.text b g.switches node word
+      → slice_get all (image_number g.text (graph_in g) node word) ≡ Some (image_of node word)
+  image_at node word low (in_order same number enter) =
+      ap (slice_get all) number
+      ∙ order_at g.text b g.switches is.cased table cases codes word low
+      ∙ ap (λ (n : Node). Some (image_of n word)) (sym same)
+  image_at node word low (at_jump k o at e here held) =
+      let inside = in_block word low o.block held in
+      ap (slice_get all) (jump_image_is g.text b g.switches k o node word at e here)
+      ∙ jump_at g.text b g.switches is.cased table cases codes k o e word inside.above inside.below
+      ∙ ap (λ (n : Node). Some (image_of n word)) (sym here)
+  image_at node word low (at_compare k o at e here held) =
+      let inside = in_block word low o.switch.compare.0 held in
+      ap (slice_get all) (compare_image_is g.text b g.switches k o node word at e here)
+      ∙ compare_at g.text b g.switches is.cased table cases codes k o e word inside.above inside.below
+      ∙ ap (λ (n : Node). Some (image_of n word)) (sym here)
+
+  -- where control enters stands some piece
+  pub enter_at : (node : Node) (word : ℕ) → word < length g.text.words → HasImage g.text b g.switches node word
+      → (xs : List Item) × (slice_get all (enter_number g.text (graph_in g) node word) ≡ Some xs)
+  enter_at node word low (in_order same number enter) = (
+    image_of node word,
+    ap (slice_get all) (enter ∙ sym number) ∙ image_at node word low (in_order same number enter),
+  )
+  enter_at node word low (at_jump k o at e here held) = by (word == load_of g.text o) refl
+    where
+      by : (t : Bool) → (word == load_of g.text o) ≡ t
+          → (xs : List Item) × (slice_get all (enter_number g.text (graph_in g) node word) ≡ Some xs)
+      by true same = (
+        keep_by (instr_at g.text (load_of g.text o)),
+        ap (slice_get all) (jump_enter_is g.text b g.switches k o node word at e here
+            ∙ ap (jump_enter g.text (graph_in g) k o) (eqb-true word (load_of g.text o) same))
+            ∙ keep_at g.text b g.switches is.cased table cases codes k o e,
+      )
+      by false other = (
+        image_of node word,
+        ap (slice_get all) (jump_enter_is g.text b g.switches k o node word at e here
+            ∙ ap (λ (t : Bool). if t then jump_image g.text (graph_in g) k o word - 1 else jump_image g.text
+            (graph_in g) k o word) other
+            ∙ sym (jump_image_is g.text b g.switches k o node word at e here))
+            ∙ image_at node word low (at_jump k o at e here held),
+      )
+  enter_at node word low (at_compare k o at e here held) = (
+    image_of node word,
+    ap (slice_get all) (compare_enter_is g.text b g.switches k o node word at e here
+        ∙ sym (compare_image_is g.text b g.switches k o node word at e here))
+        ∙ image_at node word low (at_compare k o at e here held),
+  )
+
+  -- within such a block the pieces follow each other
+  pub jump_next : (k : ℕ) (o : Open) (node : Node) (word : ℕ) → jump_number g.text (graph_in g) o.block ≡ Some k
+      → slice_get g.switches k ≡ Some o
+      → node ≡ block o.block → slice_index b.firsts o.block ≤ word
+      → enter_number g.text (graph_in g) node (word + 1) ≡ suc (image_number g.text (graph_in g) node word)
+  jump_next k o node word at e here above =
+      let next : word + 1 ≡ suc word = omega arith in
+      ap (enter_number g.text (graph_in g) node) next
+      ∙ jump_enter_is g.text b g.switches k o node (suc word) at e here
+      ∙ enter_next g.text b g.switches is.cased table cases codes k o e word above
+      ∙ ap suc (sym (jump_image_is g.text b g.switches k o node word at e here))
+
+  pub compare_next : (k : ℕ) (o : Open) (node : Node) (word : ℕ)
+      → compare_number g.text (graph_in g) o.switch.compare.0 ≡ Some k
+      → slice_get g.switches k ≡ Some o → node ≡ copy o.switch.compare.0
+      → slice_index b.firsts o.switch.compare.0 ≤ word
+      → enter_number g.text (graph_in g) node (word + 1) ≡ suc (image_number g.text (graph_in g) node word)
+  compare_next k o node word at e here above =
+      let next : word + 1 ≡ suc word = omega arith in
+      let more : compare_image g.text (graph_in g) k o (suc word) ≡ suc (compare_image g.text (graph_in g) k o word) =
+      omega (arith, above) in
+      ap (enter_number g.text (graph_in g) node) next
+      ∙ compare_enter_is g.text b g.switches k o node (suc word) at e here
+      ∙ more
+      ∙ ap suc (sym (compare_image_is g.text b g.switches k o node word at e here))

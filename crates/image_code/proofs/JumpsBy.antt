@@ -1,0 +1,37 @@
+-- Which image a JMPL has at a block itself.
+use Rattle.std.proofs.Common.{◌≡◌, ℕ, Bool, ◌==◌, List, Option, Some, None, ap, sym, ◌∙◌}
+use Rattle.std.specs.Prelude.{if◌then◌else◌, slice_get}
+use Rattle.std.specs.Option.{is_some}
+use Rattle.eel_base.specs.CodeText.{Words}
+use Rattle.eel_base.specs.declared.numbers.Addr.{Addr}
+use Rattle.eel_base.specs.declared.numbers.BlockNo.{BlockNo}
+use Rattle.v8_decode.specs.declared.Op2.{Op2}
+use Rattle.cfg_normal.specs.declared.Node.TheVariants.{Block}
+use Rattle.cfg_normal.specs.Graph.{Graph}
+use Rattle.cfg_normal.specs.Opens.{Open, jumps_in}
+use Rattle.layout.specs.declared.items.Item.{Item}
+use Rattle.image_code.specs.Made.{choice_of, jump_by, jump_image_by}
+use Rattle.image_code.specs.Numbered.{jump_number, or_zero}
+use Rattle.image_code.proofs.EdgeTables.{some_is_any}
+
+module _ (text : Words) (graph : Graph) (jumps cases : ℕ) (address : Addr) (block : BlockNo) (rd rs1 : ℕ) (op2 : Op2) where
+  abbrev chosen : Option ℕ → List Item
+  chosen number =
+      choice_of text graph jumps cases address (Block block) rd number (slice_get graph.opens (or_zero number))
+
+  abbrev out : List Item
+  out = jump_by text graph jumps cases address (Block block) rd rs1 op2
+
+  is_jumps : (number : Option ℕ) → jump_number text graph block.0 ≡ number → jumps_in graph.opens block.0 ≡ is_some number
+  is_jumps number e = sym (some_is_any (λ (o : Open). o.block == block.0) graph.opens) ∙ ap is_some e
+
+  pub chosen_is : (number : ℕ) → jump_number text graph block.0 ≡ Some number
+      → jump_image_by text graph jumps cases address (Block block) rd rs1 op2
+      ≡ choice_of text graph jumps cases address (Block block) rd (Some number) (slice_get graph.opens number)
+  chosen_is number e =
+      ap (λ (t : Bool). if t then chosen (jump_number text graph block.0) else out) (is_jumps (Some number) e)
+      ∙ ap chosen e
+
+  pub out_is : jump_number text graph block.0 ≡ None
+      → jump_image_by text graph jumps cases address (Block block) rd rs1 op2 ≡ out
+  out_is e = ap (λ (t : Bool). if t then chosen (jump_number text graph block.0) else out) (is_jumps None e)

@@ -1,0 +1,478 @@
+-- From where control comes to a point, on to its visit: nothing is run between, but before the load of an open switch
+-- its address is kept.
+use Rattle.std.proofs.Common.{◌≡◌, ℕ, suc, ◌+◌, ◌-◌, ◌*◌, ◌%◌, ◌^◌, ◌<◌, ◌≤◌, ◌⊎◌, inl, inr, Bool, true, false, Option, Some, None, List, [], ◌++◌, length, append-nil, refl, ap, sym, ◌∙◌, subst, arith}
+use Rattle.std.specs.Prelude.{if◌then◌else◌, ◌==◌, slice_get, slice_index}
+use Rattle.std.proofs.lemmas.Bool.{and_parts, cases_lt, lt-ltb, ltb-true}
+use Rattle.std.proofs.lemmas.Bool.Decides.{nat_tests}
+use Rattle.eel_base.specs.CodeText.{IsText, Words, address_of, word_at}
+use Rattle.v8_decode.specs.declared.Instr.{Instr}
+use Rattle.v8_decode.specs.declared.Instr.TheVariants as i
+use Rattle.v8_decode.specs.declared.Op2.{Op2}
+use Rattle.v8_decode.specs.declared.Op2.TheVariants.{Reg, Imm}
+use Rattle.v8_decode.specs.Ranges.{op2_in_range, operands_in_range}
+use Rattle.v8_decode.specs.Words.{decode_of}
+use Rattle.v8_encode.specs.Encoding.{op2_fits}
+use Rattle.v8_alu.specs.Numbers.{wrapped}
+use Rattle.v8_memory.specs.Regions.{Memory, Region, code_of}
+use Rattle.v8_memory.specs.Spans.{IsSameOutside, IsSameRegion, Span}
+use Rattle.v8_step.specs.declared.Ending.{Ending}
+use Rattle.v8_step.specs.declared.Slot.{Slot}
+use Rattle.v8_step.specs.declared.Slot.TheVariants.{NoSlot}
+use Rattle.v8_step.specs.State.{State, sum_of}
+use Rattle.v8_step.specs.Items.{Item as Thing, Register, Codes, YRegister, IsSameAt, is_transfer}
+use Rattle.v8_step.specs.Step.{act, on_word}
+use Rattle.v8_step.specs.Run.{run, run_puts}
+use Rattle.v8_step.specs.Valid.{IsValid}
+use Rattle.v8_step.specs.Visits.{pages_of}
+use Rattle.v8_step.proofs.CopiedMoves.{goes_act}
+use Rattle.v8_step.proofs.ValidSteps.{run-valid}
+use Rattle.cfg_blocks.specs.Ends.{within}
+use Rattle.cfg_blocks.proofs.Targets.{word_at-some}
+use Rattle.cfg_normal.specs.declared.Node.{Node}
+use Rattle.cfg_normal.specs.declared.Node.TheVariants.{Block, Landed, X}
+use Rattle.cfg_normal.specs.Graph.{Graph}
+use Rattle.cfg_walk.specs.Walk.{Point, edge_from, ends_block, instr_at, left_by, node_after, point_of}
+use Rattle.cfg_walk.specs.Matches.{Matches, MatchesBy}
+use Rattle.cfg_blocks.specs.declared.EdgeKind.TheVariants as kinds
+use Rattle.cfg_walk.proofs.Addresses.{next_word}
+use Rattle.code_runs.specs.Counted.{count_stores}
+use Rattle.code_runs.specs.Page.{page_word}
+use Rattle.code_runs.specs.Ours.{IsAmongWords}
+use Rattle.code_runs.specs.StoredWords.{Stores, memory_word}
+use Rattle.snippet_code.specs.Runs.{words_at}
+use Rattle.code_runs.specs.Straight.{StandIn}
+use Rattle.code_runs.proofs.Counted.{count_add}
+use Rattle.code_runs.proofs.Leads.{run_add, puts_add}
+use Rattle.code_runs.proofs.Stays.{stores_there}
+use Rattle.jump_code.specs.FreeRegister.{second_register}
+use Rattle.jump_code.specs.Links.{past}
+use Rattle.jump_code.specs.PageWords.{kept_address}
+use Rattle.jump_code.specs.Pieces.{word_items}
+use Rattle.jump_code.proofs.Fitting.{Fit, words_mean}
+use Rattle.jump_code.specs.Keeping.{KeepsLoad, keep_load, kept_memory}
+use Rattle.jump_code.proofs.Keeping.{loads_are_kept}
+use Rattle.layout.specs.declared.items.Item.{Item}
+use Rattle.layout.specs.Emitting.{words_of}
+use Rattle.layout.specs.Laid.{HasShortForms, IsLaid, Placement, is_jump, item_at, item_in, items_in, size_of}
+use Rattle.image_code.specs.Simulates.{CaseTable, Enters, IsAtWord, IsNoLoad, IsOnWay, Setting, Steps, StepsOn, at_point, cells_in, does_at, gone_at, graph_in, is_spill, is_transfer_at, word_of}
+use Rattle.image_code.specs.Images.{Entered, Frame, Here, IsPlaced, Pieces, entered_at, visited_at}
+use Rattle.image_code.specs.Keeping.{AreCaseTables, IsEntered, IsKeeping, at_once, keeping}
+use Rattle.image_code.proofs.Arrives.{AreUnmarked, IsFit, Rest, Stood, bare_on, first_kept, rest_whole, stood, stood_low}
+use Rattle.image_code.proofs.Between.{can_run, live_before}
+use Rattle.image_code.proofs.Memories.{images_stored, same_stored}
+use Rattle.image_code.proofs.Sparing.{instr_is, spill_first}
+use Rattle.image_code.proofs.Visited.{left_gone, word_is}
+
+-- ---- memory outside the pages, twice the same
+
+region_trans : (x y z : Option Region) → IsSameRegion x y → IsSameRegion y z → IsSameRegion x z
+region_trans None None None h k = tt
+region_trans (Some a) (Some b) (Some c) h k = h ∙ k
+region_trans None (Some b) z h k = absurd h
+region_trans (Some a) None z h k = absurd h
+region_trans None None (Some c) h k = absurd k
+region_trans (Some a) (Some b) None h k = absurd k
+
+outside_trans : (pages : List Span) (m n o : Memory) → IsSameOutside pages m n → IsSameOutside pages n o
+    → IsSameOutside pages m o
+outside_trans pages m n o h k = record {
+  heap = h.heap ∙ k.heap;
+  outside = λ address count some apart. region_trans _ _ _ (h.outside address count some apart)
+      (k.outside address count some apart);
+}
+
+-- the operands of a state that is elsewhere
+sum_past : (s : State) (count : ℕ) (m : Memory) (rs1 : ℕ) (op2 : Op2) → sum_of (past s count m s) rs1 op2 ≡ sum_of s rs1 op2
+sum_past s count m rs1 (Reg r) = refl
+sum_past s count m rs1 (Imm n) = refl
+
+same_past : (thing : Thing) (v s : State) (count : ℕ) (m : Memory) → IsSameAt thing v s
+    → IsSameAt thing v (past s count m s)
+same_past (Register n) v s count m e = e
+same_past Codes v s count m e = e
+same_past YRegister v s count m e = e
+
+-- ---- within a switch's block
+
+abbrev block_in : Node → ℕ
+block_in (Block block) = block.0
+block_in (Landed block) = 0
+block_in X = 0
+
+-- a word before the jump goes on to the next one, and completes no edge
+record IsInner (g : Setting) (node : Node) (x : Point) (v : State) (word : ℕ) : Type 0 where
+  pub none : gone_at g node x v ≡ []
+  pub straight : is_transfer_at (instr_at g.text x.pc) ≡ false
+  pub next : word_at g.text v.pc ≡ Some (word + 1)
+
+module _ (g : Setting) (are : AreCaseTables g) where
+  graph : Graph
+  graph = graph_in g
+
+  inner : (node : Node) (x : Point) (t : State) → Matches g.text (graph_in g) node x → (k : ℕ) (o : CaseTable)
+      → slice_get g.opens k ≡ Some o → (word : ℕ) → IsAtWord g o node x word → o.load ≤ word → word < o.jump
+      → (does_at g x t).ending ≡ None → IsInner g node x (does_at g x t) word
+  inner node x t matches k o is word at from below live =
+      let c = are.each k o is in
+      let straight = c.straight word from below in
+      let here : word_of g.text x.pc ≡ Some (slice_index g.text.words word) =
+      word_is g x word at.stands in
+      let v_is : does_at g x t ≡ act (at_point x t) (decode_of (slice_index g.text.words word)) =
+      ap (on_word (at_point x t)) here in
+      let went = goes_act (at_point x t) (decode_of (slice_index g.text.words word)) straight
+      (ap (λ (z : State). z.ending) (sym v_is) ∙ live) in
+      let slot : (does_at g x t).slot ≡ NoSlot = ap (λ (z : State). z.slot) v_is ∙ went.2 in
+      let pc : (does_at g x t).pc ≡ x.npc = ap (λ (z : State). z.pc) v_is ∙ went.0 in
+      let match : MatchesBy g.text (graph_in g) node x NoSlot =
+      subst (λ (s : Slot). MatchesBy g.text (graph_in g) node x s) at.outside matches in
+      let w = word_at-some g.text x.pc word at.stands in
+      let inside = c.within in
+      record {
+        none = left_gone g node x (does_at g x t) at.outside slot live word at.stands
+            (decode_of (slice_index g.text.words word)) refl
+            ∙ left_none (decode_of (slice_index g.text.words word)) straight
+            (ap (λ (n : Node). ends_block (graph_in g) n word) at.itself ∙ ap (λ z. word == z) c.last ∙ before word o.jump below);
+        straight = ap is_transfer_at (instr_is g.text x.pc (slice_index g.text.words word) here) ∙ straight;
+        next = ap (word_at g.text) (pc ∙ match.1) ∙ next_word g.text x.pc word are.text w
+            ∙ ap (λ (b : Bool). if b then Some (word + 1) else None) (lt-ltb _ _ (omega (arith, below, inside)));
+      }
+    where
+      before : (a b : ℕ) → a < b → (a == b) ≡ false
+      before a b l = grind (l, arith, nat_tests)
+
+      left_none : (instr : Instr) → is_transfer instr ≡ false → ends_block (graph_in g) node word ≡ false
+          → left_by (graph_in g) node word instr ≡ []
+      left_none (i.Branch cond annul disp) e f = absurd (cc)
+      left_none (i.Call disp) e f = ap (λ (b : Bool). if b then edge_from (graph_in g) node kinds.Fall else []) f
+      left_none (i.Jmpl rd rs1 op2) e f = ap (λ (b : Bool). if b then edge_from (graph_in g) node kinds.Fall else []) f
+      left_none instr e f = ap (λ (b : Bool). if b then edge_from (graph_in g) node kinds.Fall else []) f
+
+  -- so that isn't a load's address to be kept
+  no_load : (node : Node) (x y : Point) (k j : ℕ) (o q : CaseTable) → slice_get g.opens k ≡ Some o
+      → slice_get g.opens j ≡ Some q → (word : ℕ) → IsAtWord g o node x word → o.load ≤ word
+      → word_at g.text y.pc ≡ Some (word + 1) → IsAtWord g q node y q.load → ⊥
+  no_load node x y k j o q is iq word at from next there =
+      let same_block : o.block ≡ q.block = ap block_in (sym at.itself ∙ there.itself) in
+      let same : o ≡ q = are.apart k j o q is iq same_block in
+      let load : q.load ≡ word + 1 = let e = sym there.stands ∙ next in cc in
+      let equal : o.load ≡ q.load = ap (λ (z : CaseTable). z.load) same in
+      omega (arith, from, load, equal)
+
+-- ---- the words that keep an address
+
+second_below : (op2 : Op2) → op2_in_range op2 ≡ true → second_register op2 < 32
+second_below (Reg rs2) e = ltb-true rs2 32 e
+second_below (Imm simm13) e = omega arith
+
+keep_fits : (rs1 : ℕ) (op2 : Op2) → operands_in_range rs1 op2 ≡ true → op2_fits op2 ≡ true → Fit (keep_load rs1 op2)
+keep_fits rs1 op2 in_range fits = (refl, refl, (in_range, fits, (refl, refl, tt)))
+
+module _ (g : Setting) (l : Pieces) (base : ℕ) (p : Placement) (place : ℕ → ℕ → ℕ) (f : Frame)
+    (h : IsPlaced g l base p place f) (are : AreCaseTables g) where
+  abbrev Forms : Type 0
+  Forms = HasShortForms l.list place
+
+  -- ---- where nothing is run between
+
+  stays_on : (node : Node) (x : Point) (t v : State) (edges : List ℕ)
+      → (e : Enters g (Entered g l base p f) Forms edges node x t v)
+      → (v.ending ≡ None → entered_at g l p f (node_after (graph_in g) node edges) (point_of v)
+      ≡ visited_at g l p f (node_after (graph_in g) node edges) (point_of v))
+      → StepsOn g (Here g l base p f) (Forms × IsNoLoad g v) 64 edges node x t v
+  stays_on node x t v edges e same =
+      let s = e.on in
+      let few = s.path.few in
+      record {
+        count = s.count;
+        after = s.after;
+        path = record {
+          steps = s.path.steps;
+          some = s.path.some;
+          few = omega (arith, few);
+          quiet = s.path.quiet;
+        };
+        puts = s.puts;
+        followed = s.followed;
+        cells = s.cells;
+        here = λ live.
+            let k = s.here live in
+            record {
+              valid = k.valid;
+              live = k.live;
+              at = k.at ∙ same live;
+              npc = k.npc;
+              slot = k.slot;
+              memory = k.memory;
+              waits = k.waits;
+            };
+        place = s.place;
+        sparing = λ w.
+            let q = s.sparing w in
+            record {
+              spills = q.spills;
+              first = λ both. q.first both.0;
+              alone = λ both. q.alone both.0;
+              few = λ both. q.few both.0;
+            };
+      }
+
+  -- ---- where an address is kept
+
+  module _ (node : Node) (x : Point) (t v : State) (edges : List ℕ)
+      (e : Enters g (Entered g l base p f) Forms edges node x t v) (live : v.ending ≡ None) (k : ℕ) (o : CaseTable)
+      (is : slice_get g.opens k ≡ Some o)
+      (at : IsAtWord g o (node_after (graph_in g) node edges) (point_of v) o.load)
+      (c : IsKeeping g l p place f (node_after (graph_in g) node edges) (point_of v) o) where
+    a : State
+    a = e.on.after
+
+    here : Entered g l base p f (node_after (graph_in g) node edges) (point_of v) e.on.after
+    here = e.on.here live
+
+    unmarked : AreUnmarked (word_items (keep_load o.rs1 o.op2))
+    unmarked = (tt, (tt, (tt, tt)))
+
+    whole : Rest l c.piece 0 (word_items (keep_load o.rs1 o.op2) ++ [])
+    whole = subst (Rest l c.piece 0) (sym (append-nil (word_items (keep_load o.rs1 o.op2))))
+        (rest_whole l c.piece (word_items (keep_load o.rs1 o.op2)) unmarked c.items)
+
+    stands : Stood g l base p place f h e.on.after.memory c.piece 0 (words_of (keep_load o.rs1 o.op2))
+    stands = stood g l base p place f h e.on.after.memory here.memory.code c.piece 0 (words_of (keep_load o.rs1 o.op2)) [] whole
+
+    begin : e.on.after.pc ≡ place c.piece 0
+    begin = here.at ∙ c.here ∙ h.laid.starts c.piece whole.within
+
+    end : place c.piece 3 ≡ place c.piece 0 + 12
+    end = stands.end
+
+    low : place c.piece 3 ≤ 2 ^ 31
+    low = stood_low g l base p place f h c.piece 0 (words_of (keep_load o.rs1 o.op2)) [] whole
+
+    npc : e.on.after.npc ≡ e.on.after.pc + 4
+    npc =
+        let n = here.npc in
+        let b = begin in
+        let z = end in
+        let w = low in
+        let small : wrapped (e.on.after.pc + 4) ≡ e.on.after.pc + 4 = omega (arith, b, z, w) in
+        n ∙ small
+
+    fit : IsFit g l base p place f h e.on.after
+    fit = record {
+      valid = here.valid;
+      has = here.memory;
+      runs = can_run g l base p place f h e.on.after here.valid here.live npc here.slot here.memory;
+    }
+
+    keeps : KeepsLoad o.rs1 o.op2 e.on.after
+    keeps =
+        let q = are.each k o is in
+        let b = begin in
+        let z = end in
+        let w = low in
+        loads_are_kept o.rs1 o.op2 e.on.after (record {
+          valid = here.valid;
+          ready = record { live = here.live; npc = npc };
+          low = omega (arith, b, z, w);
+          words = subst (λ z. StandIn (code_of e.on.after.memory) z (keep_load o.rs1 o.op2)) (sym begin)
+              (words_mean (code_of e.on.after.memory) (place c.piece 0) (keep_load o.rs1 o.op2)
+              (keep_fits o.rs1 o.op2 q.in_range q.fits) stands.words);
+          rs1_below = ltb-true o.rs1 32 (and_parts _ _ q.in_range).0;
+          op2_below = second_below o.op2 (and_parts _ _ q.in_range).1;
+          page = λ n less. stores_there (page_word n) e.on.after.memory
+              (here.memory.ours.words (page_word n) (h.frame.page n (omega (arith, less))));
+        })
+
+    abbrev m : Memory
+    m = kept_memory e.on.after o.rs1 o.op2
+
+    abbrev after : State
+    after = past e.on.after 3 (kept_memory e.on.after o.rs1 o.op2) e.on.after
+
+    stored : Stores (IsAmongWords f.own) e.on.after.memory (kept_memory e.on.after o.rs1 o.op2)
+        × ((memory_word (kept_memory e.on.after o.rs1 o.op2) (page_word 1) ≡ memory_word e.on.after.memory (page_word 1))
+        × (words_at g.notes.base g.notes.cells (kept_memory e.on.after o.rs1 o.op2) ≡ cells_in g e.on.after))
+    stored = first_kept g l base p place f h e.on.after (kept_memory e.on.after o.rs1 o.op2) fit keeps.stores
+
+    steps : run t (3 + e.on.count) ≡ past e.on.after 3 (kept_memory e.on.after o.rs1 o.op2) e.on.after
+    steps = run_add t e.on.count 3 ∙ ap (λ (z : State). run z 3) e.on.path.steps ∙ keeps.path.steps
+
+    on_way : (j : ℕ) → j < 3 → IsOnWay g t (run e.on.after j)
+    on_way j less = by (cases_lt 0 j)
+      where
+        bare : (u : State) → u.ending ≡ None → e.on.after.pc ≤ u.pc → u.pc < e.on.after.pc + 12 → IsOnWay g t u
+        bare u running from to =
+            let b = begin in
+            bare_on g l base p place f h t u running (stands.bare u (omega (arith, b, from)) (omega (arith, b, to)))
+
+        running : (run e.on.after j).ending ≡ None
+        running =
+            live_before e.on.after (3 - j) j (ap (λ z. (run e.on.after z).ending) (let q : 3 - j + j ≡ 3 = omega (arith, less) in q)
+            ∙ ap (λ (z : State). z.ending) keeps.path.steps ∙ here.live)
+
+        by : (0 < j) ⊎ (j ≤ 0) → IsOnWay g t (run e.on.after j)
+        by (inl some) =
+            let z = keeps.path.during j some less in
+            let p1 = z.past in
+            let p2 = z.before in
+            bare (run e.on.after j) running (omega (arith, p1)) p2
+        by (inr none) =
+            let zero : j ≡ 0 = omega (arith, none) in
+            subst (λ n. IsOnWay g t (run e.on.after n)) (sym zero)
+            (bare e.on.after here.live (omega arith) (omega arith))
+
+    keeps_on : StepsOn g (Here g l base p f) (Forms × IsNoLoad g v) 64 edges node x t v
+    keeps_on =
+        let s = e.on in
+        let few = s.path.few in
+        let b = begin in
+        let z = end in
+        let w = low in
+        record {
+          count = 3 + s.count;
+          after = past s.after 3 (kept_memory s.after o.rs1 o.op2) s.after;
+          path = record {
+            steps = steps;
+            some = omega arith;
+            few = omega (arith, few);
+            quiet = λ j some less. elim (cases_lt j s.count) [
+              | inl before ↦ s.path.quiet j some before
+              | inr behind ↦
+                  let there : run t j ≡ run s.after (j - s.count) =
+                  (let q : j ≡ j - s.count + s.count = omega (arith, behind) in ap (run t) q)
+                  ∙ run_add t s.count (j - s.count) ∙ ap (λ (z : State). run z (j - s.count)) s.path.steps in
+                  subst (λ (z : State). IsOnWay g t z) (sym there) (on_way (j - s.count) (omega (arith, behind, less)))
+            ];
+          };
+          puts = λ descriptor.
+              puts_add t s.count 3 descriptor
+              ∙ ap (λ (z : State). run_puts t s.count descriptor ++ run_puts z 3 descriptor) s.path.steps
+              ∙ ap (λ z. run_puts t s.count descriptor ++ z) (keeps.silent descriptor)
+              ∙ append-nil (run_puts t s.count descriptor) ∙ s.puts descriptor;
+          followed = record {
+            ending = s.followed.ending;
+            window = s.followed.window;
+            valid = s.followed.valid;
+            registers = s.followed.registers;
+            input = s.followed.input;
+            memory = outside_trans (pages_of g.notes) v.memory s.after.memory (kept_memory s.after o.rs1 o.op2) s.followed.memory
+                (same_stored g f h.frame base p s.after.memory (kept_memory s.after o.rs1 o.op2) here.memory stored.0);
+            items = λ running thing good kept.
+                same_past thing v s.after 3 (kept_memory s.after o.rs1 o.op2) (s.followed.items running thing good kept);
+          };
+          cells = stored.1.1 ∙ s.cells;
+          here = λ _. record {
+            valid = subst IsValid keeps.path.steps (run-valid s.after 3 here.valid);
+            live = here.live;
+            at = (let q : s.after.pc + 12 ≡ place c.piece 3 = omega (arith, b, z) in q) ∙ c.behind;
+            npc = (let q : s.after.pc + 12 + 4 ≡ wrapped (s.after.pc + 12 + 4) = omega (arith, b, z, w) in q);
+            slot = refl;
+            memory = images_stored g f h.frame base p s.after (past s.after 3 (kept_memory s.after o.rs1 o.op2) s.after) 3
+                keeps.path.steps stored.0 here.memory;
+            waits = λ taken _. let none = at.outside in absurd (cc);
+          };
+          place = λ over. absurd (over live);
+          sparing = λ watched.
+              let q = s.sparing watched in
+              let spills = q.spills in
+              let none = keeps.elsewhere (is_spill g.notes) (spill_first g.notes) in
+              let all = count_add (is_spill g.notes) t s.after s.count s.path.steps 3 in
+              let same_count : 3 + s.count ≡ s.count + 3 = omega arith in
+              let total = ap (count_stores (is_spill g.notes) t) same_count in
+              record {
+                spills = omega (arith, spills, none, all, total);
+                first = λ forms. absurd (forms.1 k o is at.stands);
+                alone = λ forms. absurd (forms.1 k o is at.stands);
+                few = λ forms. absurd (forms.1 k o is at.stands);
+              };
+        }
+
+    address_kept : kept_address keeps_on.after ≡ sum_of keeps_on.after o.rs1 o.op2
+    unfolding keeps_on
+    address_kept = keeps.kept ∙ sym (sum_past e.on.after 3 (kept_memory e.on.after o.rs1 o.op2) o.rs1 o.op2)
+
+  -- ---- whatever the next point is
+
+  carries : (node : Node) (x : Point) (t : State) → Matches g.text (graph_in g) node x
+      → (e : Enters g (Entered g l base p f) Forms (gone_at g node x (does_at g x t)) node x t (does_at g x t))
+      → (after : State) → kept_address after ≡ kept_address e.on.after → (does_at g x t).ending ≡ None
+      → (k : ℕ) (o : CaseTable) → slice_get g.opens k ≡ Some o → (word : ℕ) → IsAtWord g o node x word → o.load ≤ word
+      → word < o.jump → kept_address after ≡ kept_address t
+  carries node x t matches e after same live k o is word at from below =
+      let i = inner g are node x t matches k o is word at from below live in
+      same ∙ e.first live i.none i.straight (λ none. let some = i.next in cc)
+
+  by_next : (node : Node) (x : Point) (t : State) → Matches g.text (graph_in g) node x
+      → (e : Enters g (Entered g l base p f) Forms (gone_at g node x (does_at g x t)) node x t (does_at g x t))
+      → IsEntered g l p place f (node_after (graph_in g) node (gone_at g node x (does_at g x t))) (point_of (does_at g x t))
+      → (does_at g x t).ending ≡ None
+      → Steps g (Here g l base p f) Forms (gone_at g node x (does_at g x t)) node x t (does_at g x t)
+  unfolding stays_on
+  by_next node x t matches e (at_once same none) live = record {
+    on = stays_on node x t (does_at g x t) (gone_at g node x (does_at g x t)) e (λ _. same);
+    keeps = record {
+      loaded = λ _ k o is at. absurd (none k o is at);
+      carried = carries node x t matches e e.on.after refl;
+    };
+  }
+  by_next node x t matches e (keeping k o is at c) live = record {
+    on = keeps_on node x t (does_at g x t) (gone_at g node x (does_at g x t)) e live k o is at c;
+    keeps = record {
+      loaded = λ _ j q iq there.
+          let same : o ≡ q = are.apart k j o q is iq (ap block_in (sym at.itself ∙ there.itself)) in
+          subst (λ (z : CaseTable). kept_address (keeps_on node x t (does_at g x t) (gone_at g node x (does_at g x t)) e live k o is at c).after
+          ≡ sum_of (keeps_on node x t (does_at g x t) (gone_at g node x (does_at g x t)) e live k o is at c).after z.rs1 z.op2) same
+          (address_kept node x t (does_at g x t) (gone_at g node x (does_at g x t)) e live k o is at c);
+      carried = λ running j q iq word here from below.
+          let i = inner g are node x t matches j q iq word here from below running in
+          let same_node : node_after (graph_in g) node (gone_at g node x (does_at g x t)) ≡ node =
+          ap (node_after (graph_in g) node) i.none in
+          let there : IsAtWord g o node (point_of (does_at g x t)) o.load =
+          record { itself = sym same_node ∙ at.itself; outside = at.outside; stands = at.stands } in
+          absurd (no_load g are node x (point_of (does_at g x t)) j k q o iq is word here from i.next there);
+    };
+  }
+
+  by_ending : (node : Node) (x : Point) (t : State) → Matches g.text (graph_in g) node x
+      → Enters g (Entered g l base p f) Forms (gone_at g node x (does_at g x t)) node x t (does_at g x t)
+      → ((node : Node) (x : Point) → IsEntered g l p place f node x) → (d : Option Ending) → (does_at g x t).ending ≡ d
+      → Steps g (Here g l base p f) Forms (gone_at g node x (does_at g x t)) node x t (does_at g x t)
+  by_ending node x t matches e enters None live =
+      by_next node x t matches e (enters (node_after (graph_in g) node (gone_at g node x (does_at g x t)))
+      (point_of (does_at g x t))) live
+  by_ending node x t matches e enters (Some d) over = record {
+    on = stays_on node x t (does_at g x t) (gone_at g node x (does_at g x t)) e (λ live. absurd (cc));
+    keeps = record {
+      loaded = λ live k o is at. absurd (cc);
+      carried = λ live k o is word at from below. absurd (cc);
+    };
+  }
+
+  pub next_steps : ((node : Node) (x : Point) → IsEntered g l p place f node x) → (node : Node) (x : Point) (t : State)
+      → Matches g.text (graph_in g) node x
+      → Enters g (Entered g l base p f) Forms (gone_at g node x (does_at g x t)) node x t (does_at g x t)
+      → Steps g (Here g l base p f) Forms (gone_at g node x (does_at g x t)) node x t (does_at g x t)
+  next_steps enters node x t matches e = by_ending node x t matches e enters (does_at g x t).ending refl
+
+-- ---- what a list of pieces has to give
+
+-- the words that keep an address fall through to the next piece
+pub keep_falls : (pieces : List (List Item)) (base : ℕ) (p : Placement) (place : ℕ → ℕ → ℕ) → IsLaid pieces base p place
+    → (k rs1 : ℕ) (op2 : Op2) → slice_get pieces k ≡ Some (word_items (keep_load rs1 op2)) → suc k < length pieces
+    → place k 3 ≡ slice_index p.at (suc k)
+keep_falls pieces base p place laid k rs1 op2 is more =
+    let size : size_of pieces k ≡ 3 = ap (λ (v : Option (List Item)). items_in v) is in
+    let closed : is_jump (item_at pieces k (size_of pieces k - 1)) ≡ false =
+    ap (λ n. is_jump (item_at pieces k (n - 1))) size ∙ ap (λ (v : Option (List Item)). is_jump (item_in v 2)) is in
+    ap (place k) (sym size) ∙ laid.falls k more closed ∙ sym (laid.starts (suc k) more)
+
+-- How far the word with a piece's address lies from the entry of the table: the same for all entries of one table.
+abbrev pub distance_of : ℕ → ℕ → Words → ℕ → ℕ
+distance_of cases first text from = (cases + 4 * first + 2 ^ 32 - address_of text from) % 2 ^ 32
+
+pub distance_leads : (cases first : ℕ) (text : Words) (from entry : ℕ) → IsText text → from + entry < length text.words
+    → cases + 4 * (first + entry) < 2 ^ 32
+    → wrapped (address_of text (from + entry) + distance_of cases first text from) ≡ cases + 4 * (first + entry)
+distance_leads cases first text from entry is within low =
+    let below = is.below in
+    omega (arith, below, within, low)

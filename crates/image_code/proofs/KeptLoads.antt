@@ -1,0 +1,188 @@
+-- Before the load of an open switch control comes to a piece that keeps its address; everywhere else it comes to the
+-- visit itself.
+use Rattle.std.proofs.Common.{◌≡◌, ℕ, suc, ◌-◌, ◌<◌, Bool, true, false, Option, Some, None, List, length, refl, ap, sym, ◌∙◌, arith}
+use Rattle.std.specs.Prelude.{◌==◌, slice_get, slice_index}
+use Rattle.std.proofs.lemmas.Bool.{eqb-true, eq-eqb, false≢true}
+use Rattle.std.proofs.lemmas.Option.{slice_get_within}
+use Rattle.eel_base.specs.CodeText.{word_at}
+use Rattle.v8_step.specs.declared.Slot.{Slot}
+use Rattle.v8_step.specs.declared.Slot.TheVariants.{NoSlot, Taken, Untaken}
+use Rattle.cfg_blocks.specs.Blocks.{Blocks, blocks_of}
+use Rattle.cfg_blocks.specs.Values.{instr_at}
+use Rattle.cfg_normal.specs.declared.Node.{Node}
+use Rattle.cfg_normal.specs.declared.Node.TheVariants.{Block, Landed, X}
+use Rattle.cfg_normal.specs.Opens.{Open, jumps_in}
+use Rattle.cfg_walk.specs.Walk.{Point}
+use Rattle.cfg_walk.proofs.Edges.{block}
+use Rattle.jump_code.specs.Keeping.{keep_load}
+use Rattle.jump_code.specs.Pieces.{word_items}
+use Rattle.layout.specs.declared.items.Item.{Item}
+use Rattle.layout.specs.Laid.{IsLaid, Placement, is_jump, item_at, item_in, items_in, size_of}
+use Rattle.image_code.specs.Graphs.{case_table}
+use Rattle.image_code.specs.Images.{Frame}
+use Rattle.image_code.specs.Keeping.{IsEntered, at_once, keeping}
+use Rattle.image_code.specs.Loads.{first_operand, load_of, second_operand}
+use Rattle.image_code.specs.Made.{keep_by}
+use Rattle.image_code.specs.Numbered.{at_open, enter_number, image_number, jump_enter, jump_image, jump_number}
+use Rattle.image_code.specs.Simulates.{CaseTable, IsAtWord, Setting, graph_in}
+use Rattle.image_code.proofs.CaseTables.{IsKnown, known_at, table_of}
+use Rattle.image_code.proofs.ImageNumbers.{block_of, jump_enter_is, jump_image_is, jump_numbered, jump_of}
+use Rattle.image_code.proofs.Listed.{enter_load, enter_other, jump_at, keep_at, load_in}
+use Rattle.image_code.proofs.Opened.{load_is}
+use Rattle.image_code.proofs.Positions.{not_placed}
+use Rattle.image_code.proofs.Visited.{entered_word, enters_itself, l, visited_word}
+
+module _ (g : Setting) (codes : ℕ → List ℕ) (is : IsKnown g) (p : Placement) (f : Frame) (base : ℕ)
+    (place : ℕ → ℕ → ℕ) (laid : IsLaid (l g codes is p f).list base p place) (node : Node) (x : Point) where
+  abbrev b : Blocks
+  b = blocks_of g.text g.given
+
+  abbrev NotAtLoad : Type 0
+  NotAtLoad = (k : ℕ) (o : CaseTable) → slice_get g.opens k ≡ Some o → IsAtWord g o node x o.load → ⊥
+
+  -- ---- at the load
+
+  module _ (k : ℕ) (o : Open) (among : slice_get g.switches k ≡ Some o)
+      (numbered : jump_number g.text (graph_in g) o.block ≡ Some k) (itself : node ≡ block o.block)
+      (none : x.slot ≡ NoSlot) (at : word_at g.text x.pc ≡ Some (load_of g.text o)) where
+    abbrev load : ℕ
+    load = load_of g.text o
+
+    abbrev piece : ℕ
+    piece = jump_enter g.text (graph_in g) k o load
+
+    abbrev kept : List Item
+    kept = word_items (keep_load (first_operand (instr_at g.text load)) (second_operand (instr_at g.text load)))
+
+    items : slice_get (l g codes is p f).list piece ≡ Some kept
+    items =
+        keep_at g.text b g.switches is.cased f.table.base f.cases.base codes k o among
+        ∙ ap (λ i. Some (keep_by i)) (load_is g.text b o (is.cased.each k o among)).is
+
+    next : suc piece ≡ jump_image g.text (graph_in g) k o load
+    next = enter_load g.text b g.switches is.cased f.table.base f.cases.base codes k o among
+
+    next_within : suc piece < length (l g codes is p f).list
+    next_within =
+        let low = load_in g.text b g.switches is.cased f.table.base f.cases.base codes k o among in
+        let before = low.before in
+        slice_get_within (l g codes is p f).list (suc piece) _
+        (ap (slice_get (l g codes is p f).list) next
+        ∙ jump_at g.text b g.switches is.cased f.table.base f.cases.base codes k o among load low.above (omega arith))
+
+    falls : place piece 3 ≡ slice_index p.at (suc piece)
+    falls =
+        let size : size_of (l g codes is p f).list piece ≡ 3 = ap (λ (v : Option (List Item)). items_in v) items in
+        let closed : is_jump (item_at (l g codes is p f).list piece (size_of (l g codes is p f).list piece - 1))
+        ≡ false =
+        ap (λ n. is_jump (item_at (l g codes is p f).list piece (n - 1))) size
+        ∙ ap (λ (v : Option (List Item)). is_jump (item_in v 2)) items in
+        ap (place piece) (sym size) ∙ laid.falls piece next_within closed ∙ sym (laid.starts (suc piece) next_within)
+
+    pub keeps : IsEntered g (l g codes is p f) p place f node x
+    keeps =
+        keeping k (case_table g.text o) (known_at g is.known k o among)
+        (record { itself = itself; outside = none; stands = at })
+        (record {
+          piece = piece;
+          here =
+              entered_word g codes is p f node x load at none
+              ∙ ap (slice_index p.at) (jump_enter_is g.text b g.switches k o node load numbered among itself);
+          items = items;
+          behind =
+              falls ∙ ap (slice_index p.at) (next
+              ∙ sym (jump_image_is g.text b g.switches k o node load numbered among itself))
+              ∙ sym (visited_word g codes is p f node x load at none);
+        })
+
+  -- ---- anywhere else
+
+  comes_itself : ((word : ℕ) → word_at g.text x.pc ≡ Some word → x.slot ≡ NoSlot
+      → enter_number g.text (graph_in g) node word ≡ image_number g.text (graph_in g) node word) → NotAtLoad
+      → IsEntered g (l g codes is p f) p place f node x
+  comes_itself same not = at_once (enters_itself g codes is p f node x same) not
+
+  -- no open switch's jump ends the block
+  other_block : (k : ℕ) → node ≡ block k → jumps_in g.switches k ≡ false
+      → IsEntered g (l g codes is p f) p place f node x
+  other_block k here quiet =
+      comes_itself
+      (λ word _ _.
+      ap (λ (n : Node). enter_number g.text (graph_in g) n word) here
+      ∙ ap (λ (n : Option ℕ). at_open g.text (graph_in g) (jump_enter g.text (graph_in g)) n word)
+      (not_placed (λ (o : Open). o.block == k) g.switches quiet)
+      ∙ sym (ap (λ (n : Node). image_number g.text (graph_in g) n word) here
+      ∙ ap (λ (n : Option ℕ). at_open g.text (graph_in g) (jump_image g.text (graph_in g)) n word)
+      (not_placed (λ (o : Open). o.block == k) g.switches quiet)))
+      (λ j table e a.
+      let t = table_of g is.known j table e in
+      let same : k ≡ t.o.block =
+      ap block_of (sym here ∙ a.itself) ∙ sym (ap (λ (c : CaseTable). c.block) t.same) in
+      false≢true (sym quiet ∙ ap (jumps_in g.switches) same ∙ jump_of g.text b g.switches j t.o t.is))
+
+  -- at a word of the jump's block that isn't its load
+  other_word : (k : ℕ) (o : Open) → slice_get g.switches k ≡ Some o → jump_number g.text (graph_in g) o.block ≡ Some k
+      → node ≡ block o.block
+      → ((word : ℕ) → word_at g.text x.pc ≡ Some word → x.slot ≡ NoSlot → word ≡ load_of g.text o → ⊥)
+      → IsEntered g (l g codes is p f) p place f node x
+  other_word k o among numbered itself not =
+      comes_itself
+      (λ word at none.
+      jump_enter_is g.text b g.switches k o node word numbered among itself
+      ∙ enter_other g.text b g.switches is.cased f.table.base f.cases.base codes k o among word (not word at none)
+      ∙ sym (jump_image_is g.text b g.switches k o node word numbered among itself))
+      (λ j table e a.
+      let t = table_of g is.known j table e in
+      let same : t.o.block ≡ o.block =
+      ap (λ (c : CaseTable). c.block) t.same ∙ sym (ap block_of (sym itself ∙ a.itself)) in
+      let equal : t.o ≡ o = is.cased.one j k t.o o t.is among same in
+      let load : table.load ≡ load_of g.text o = sym (ap (λ (c : CaseTable). c.load) t.same)
+      ∙ ap (load_of g.text) equal in
+      not table.load a.stands a.outside load)
+
+  pub entered_so : IsEntered g (l g codes is p f) p place f node x
+  entered_so = by node refl
+    where
+      at_word : (k : ℕ) (o : Open) → slice_get g.switches k ≡ Some o → jump_number g.text (graph_in g) o.block ≡ Some k
+          → node ≡ block o.block → (w : Option ℕ) → word_at g.text x.pc ≡ w → (s : Slot) → x.slot ≡ s
+          → IsEntered g (l g codes is p f) p place f node x
+      at_word k o among numbered itself (Some word) at NoSlot none = same (word == load_of g.text o) refl
+        where
+          same : (t : Bool) → (word == load_of g.text o) ≡ t → IsEntered g (l g codes is p f) p place f node x
+          same true e =
+              keeps k o among numbered itself none
+              (at ∙ ap (λ (n : ℕ). Some n) (eqb-true word (load_of g.text o) e))
+          same false e =
+              other_word k o among numbered itself
+              (λ other there _ q.
+              let one : word ≡ other = (let s : Some word ≡ Some other = sym at ∙ there in cc) in
+              false≢true (sym e ∙ eq-eqb word (load_of g.text o) (one ∙ q)))
+      at_word k o among numbered itself None at NoSlot none =
+          other_word k o among numbered itself
+          (λ other there _ _. let s : None ≡ Some other = sym at ∙ there in absurd (cc))
+      at_word k o among numbered itself w at Taken some =
+          other_word k o among numbered itself
+          (λ other _ outside _. let s : Taken ≡ NoSlot = sym some ∙ outside in absurd (cc))
+      at_word k o among numbered itself w at Untaken some =
+          other_word k o among numbered itself
+          (λ other _ outside _. let s : Untaken ≡ NoSlot = sym some ∙ outside in absurd (cc))
+
+      in_block : (k : ℕ) → node ≡ block k → (t : Bool) → jumps_in g.switches k ≡ t
+          → IsEntered g (l g codes is p f) p place f node x
+      in_block k here false e = other_block k here e
+      in_block k here true e =
+          let found = jump_numbered g.text b g.switches k e in
+          at_word found.0 found.1 found.3 found.2 (here ∙ ap block (sym found.4)) (word_at g.text x.pc) refl x.slot refl
+
+      by : (n : Node) → node ≡ n → IsEntered g (l g codes is p f) p place f node x
+      by (Block k) here = in_block k.0 here (jumps_in g.switches k.0) refl
+      by (Landed k) here =
+          comes_itself
+          (λ word _ _. ap (λ (n : Node). enter_number g.text (graph_in g) n word) here
+          ∙ sym (ap (λ (n : Node). image_number g.text (graph_in g) n word) here))
+          (λ j table e a. let s : Landed k ≡ block table.block = sym here ∙ a.itself in absurd (cc))
+      by X here =
+          comes_itself
+          (λ word _ _. ap (λ (n : Node). enter_number g.text (graph_in g) n word) here
+          ∙ sym (ap (λ (n : Node). image_number g.text (graph_in g) n word) here))
+          (λ j table e a. let s : X ≡ block table.block = sym here ∙ a.itself in absurd (cc))

@@ -1,0 +1,63 @@
+-- The numbers of the pieces of open switches, and where they stand.
+use Rattle.std.proofs.Common.{◌≡◌, ℕ, zero, suc, ◌+◌, ◌-◌, ◌<◌, ◌≤◌, Bool, true, false, cond, List, Option, Some, None, length, refl, ap, ◌∙◌, subst, arith}
+use Rattle.std.specs.Prelude.{slice_index, slice_index_or}
+use Rattle.std.specs.List.{find, range_with_len}
+use Rattle.eel_base.specs.CodeText.{Words}
+use Rattle.cfg_blocks.specs.Blocks.{Blocks, last_word, size_of}
+use Rattle.cfg_blocks.specs.Values.{instr_at}
+use Rattle.cfg_normal.specs.Graph.{Graph}
+use Rattle.cfg_normal.specs.Opens.{Open}
+use Rattle.image_code.specs.Loads.{load_of, loads_by, or_first}
+use Rattle.image_code.specs.Lookups.{IsCase}
+use Rattle.image_code.specs.Numbered.{entries_of, first_entry, open_begin, pieces_of}
+use Rattle.image_code.proofs.Pushed.{sum_more}
+
+-- where the pieces of the next open switch begin
+pub open_more : (text : Words) (graph : Graph) (opens : List Open) → opens ≡ graph.opens → (n : ℕ) (o : Open)
+    → n < length opens → o ≡ slice_index_or opens n o → (begin count : ℕ) → begin ≡ open_begin text graph n
+    → count ≡ size_of graph.blocks o.switch.compare.0 + size_of graph.blocks o.block + 1
+    → begin + count ≡ open_begin text graph (n + 1)
+open_more text graph opens same n o l is begin count here many =
+    let low : n < length graph.opens = subst (λ (os : List Open). n < length os) same l in
+    let next = sum_more (pieces_of text graph) graph.opens n o low in
+    let its : pieces_of text graph o ≡ pieces_of text graph (slice_index_or graph.opens n o) =
+    ap (pieces_of text graph) (is ∙ ap (λ (os : List Open). slice_index_or os n o) same) in
+    omega (arith, next, its, here, many)
+
+-- the number of its first entry
+pub entry_more : (text : Words) (graph : Graph) (opens : List Open) → opens ≡ graph.opens → (n : ℕ) (o : Open)
+    → n < length opens → o ≡ slice_index_or opens n o → (entry count : ℕ) → entry ≡ first_entry text graph n
+    → count ≡ length o.targets → entry + count ≡ first_entry text graph (n + 1)
+entry_more text graph opens same n o l is entry count here many =
+    let low : n < length graph.opens = subst (λ (os : List Open). n < length os) same l in
+    let next = sum_more (entries_of text graph) graph.opens n o low in
+    let its : entries_of text graph o ≡ entries_of text graph (slice_index_or graph.opens n o) =
+    ap (entries_of text graph) (is ∙ ap (λ (os : List Open). slice_index_or os n o) same) in
+    omega (arith, next, its, here, many)
+
+-- ---- the load stands in the jump's block
+
+found_within : (p : ℕ → Bool) (a n word : ℕ) → find p (range_with_len a n) ≡ Some word → (a ≤ word) × (word < a + n)
+found_within p a zero word e = absurd (cc)
+found_within p a (suc n) word e = by (p a) (λ h. found_within p (a + 1) n word h) e
+  where
+    by : (t : Bool) → (find p (range_with_len (a + 1) n) ≡ Some word → (a + 1 ≤ word) × (word < a + 1 + n))
+        → cond t (Some a) (find p (range_with_len (a + 1) n)) ≡ Some word → (a ≤ word) × (word < a + suc n)
+    by true next h = let same : a ≡ word = cc in (omega (arith, same), omega (arith, same))
+    by false next h = let later = next h in (omega (arith, later.0), omega (arith, later.1))
+
+pub load_within : (text : Words) (b : Blocks) (o : Open) → IsCase text b o
+    → (slice_index b.firsts o.block ≤ load_of text o) × (load_of text o ≤ last_word b.firsts b.words o.block)
+unfolding load_of
+load_within text b o case =
+    go (find (λ word. loads_by text o word (instr_at text word))
+    (range_with_len o.approach.first (o.approach.jump - o.approach.first))) refl
+  where
+    go : (found : Option ℕ) → find (λ word. loads_by text o word (instr_at text word))
+        (range_with_len o.approach.first (o.approach.jump - o.approach.first)) ≡ found
+        → (slice_index b.firsts o.block ≤ or_first o found) × (or_first o found ≤ last_word b.firsts b.words o.block)
+    go None e = (omega (arith, case.first), omega (arith, case.first, case.jump, case.ordered))
+    go (Some word) e =
+        let h = found_within (λ word. loads_by text o word (instr_at text word)) o.approach.first
+        (o.approach.jump - o.approach.first) word e in
+        (omega (arith, h.0, case.first), omega (arith, h.1, case.jump, case.ordered))

@@ -1,0 +1,580 @@
+-- What is known of the graph of a text with its open switches: where their blocks lie, that no two share one, and so
+-- how many words, entries and edges there are.
+use Rattle.std.proofs.Common.{◌≡◌, ℕ, zero, suc, ◌+◌, ◌-◌, ◌*◌, ◌<◌, ◌≤◌, Bool, true, false, ◌&&◌, ◌==◌, cond, Option, Some, None, List, [], ◌∷◌, ◌++◌, length, map, take, refl, ap, sym, ◌∙◌, subst, arith, inl, inr}
+use Rattle.std.specs.Prelude.{◌⊎◌, IfSome, if◌then◌else◌, slice_get, slice_index}
+use Rattle.std.specs.List.{All, filter, find, flat_map, list_any, range_with_len, sum_by}
+use Rattle.std.specs.Option.{option_to_list}
+use Rattle.std.proofs.lemmas.Bool.{and_parts, cond_both, eq-eqb, eqb-true, false≢true, or_cases, or_parts}
+use Rattle.std.proofs.lemmas.List.{length-append, length-map}
+use Rattle.std.proofs.lemmas.List.Elements.{All-map}
+use Rattle.std.proofs.lemmas.List.Sums.{count_by-le-length, length-filter, sum_by-cons}
+use Rattle.eel_base.specs.CodeText.{Words, IsText, numbered, target_of, word_at}
+use Rattle.v8_decode.specs.declared.Instr.{Instr}
+use Rattle.v8_decode.specs.declared.Instr.TheVariants as i
+use Rattle.v8_decode.specs.Words.{decode_of}
+use Rattle.v8_step.specs.Items.{is_transfer}
+use Rattle.cfg_blocks.specs.declared.BlockEnd.{BlockEnd}
+use Rattle.cfg_blocks.specs.declared.BlockEnd.TheVariants as ends
+use Rattle.cfg_blocks.specs.declared.EdgeKind.{EdgeKind}
+use Rattle.cfg_blocks.specs.declared.EdgeKind.TheVariants as kinds
+use Rattle.cfg_blocks.specs.declared.switches.Switch.{Switch}
+use Rattle.cfg_blocks.specs.Ends.{TargetsWithin, Way, always, end_at, end_by, never, number_of, ways_of, within}
+use Rattle.cfg_blocks.specs.Blocks.{AreFirsts, Blocks, below, blocks_of, end_of, holding_of, last_word, leaders, size_of}
+use Rattle.cfg_blocks.specs.Entries.{IsBlockList, entered_of, ways_from}
+use Rattle.cfg_blocks.specs.Switches.{is_jump, is_taken, is_untaken, switch_of, switches_of}
+use Rattle.cfg_blocks.specs.Values.{instr_at}
+use Rattle.cfg_blocks.proofs.Below.{length-below}
+use Rattle.cfg_blocks.proofs.Targets.{word_at-some}
+use Rattle.cfg_normal.specs.declared.Edge.{Edge}
+use Rattle.cfg_normal.specs.declared.Node.{Node}
+use Rattle.cfg_normal.specs.Nodes.{same_kind, same_node}
+use Rattle.cfg_normal.specs.Opens.{AreOne, AreOpenIn, IsOpenIn, IsTableIn, Open, is_copied, jumps_in, targets_in}
+use Rattle.cfg_normal.specs.Graph.{Graph, IsNodeIn, case_nodes, case_of, copied_edges, edge_of, edges_in, edges_of, graph_of, landing_at, landings_of, lands_of, once_onto, ways_out}
+use Rattle.cfg_normal.proofs.Candidates.{opens_are as open_in_blocks}
+use Rattle.cfg_walk.proofs.Cut.{IsCut, cut}
+use Rattle.cfg_walk.proofs.Edges.{block, copy}
+use Rattle.cfg_walk.proofs.Holding.{ends_at_next, ends_at_words, ends_within, is_held, some_words}
+use Rattle.cfg_walk.proofs.Lists.{Each, each, each-append, each-below, each-flat_map, each-map, each-then, each_at, each_in}
+use Rattle.cfg_walk.proofs.Nodes.{edges_lead_in}
+use Rattle.cfg_walk.proofs.Ways.{IsOwn, ways_are_own}
+use Rattle.jump_slice.specs.Cases.{IsOpen}
+use Rattle.jump_slice.proofs.About.{about}
+use Rattle.jump_slice.proofs.Into.{LeadsIn, leads_in}
+use Rattle.jump_slice.proofs.Opened.{found_in, opens_are}
+use Rattle.jump_slice.proofs.Parts.{IsSwitch, switch_of-is, table_in}
+use Rattle.jump_slice.proofs.Whole.{ends_count}
+use Rattle.image_code.specs.Loads.{load_of, loads_by, or_first}
+use Rattle.image_code.specs.Numbered.{or_zero, own_edges}
+use Rattle.image_code.specs.Graphs.{IsGraphOf, opens_in}
+use Rattle.image_code.proofs.OpenSums.{AreDistinct, distinct_sum, total, total_at, total_flat, total_le, total_plus, total_same}
+
+-- ---- the targets of blocks are words
+
+numbered_within : (text : Words) (address : ℕ) → IfSome (numbered (word_at text address))
+    (λ word. word.0 < length text.words)
+numbered_within text address = by (word_at text address) refl
+  where
+    by : (o : Option ℕ) → word_at text address ≡ o → IfSome (numbered o) (λ word. word.0 < length text.words)
+    by None e = tt
+    by (Some word) e = (word_at-some text address word e).within
+
+end_within : (text : Words) (word : ℕ) (instr : Instr) → TargetsWithin (length text.words) (end_by text word instr)
+end_within text word (i.Branch c annul disp22) =
+    cond_both (c == never) None (numbered (target_of text word disp22))
+    (λ to. IfSome to (λ other. other.0 < length text.words)) (λ h. tt) (λ h. numbered_within text _)
+end_within text word (i.Call disp30) = numbered_within text _
+end_within text word (i.Jmpl rd rs1 op2) = tt
+end_within text word _ = tt
+
+end_at_within : (text : Words) (word : ℕ) → TargetsWithin (length text.words) (end_at text word)
+unfolding end_at
+end_at_within text word = end_within text word (decode_of (slice_index text.words word))
+
+-- ---- one open switch
+
+-- The word to which a block's branch leads on the one way that an open switch takes: untaken for `bgu`, taken for
+-- `bleu`.
+abbrev led_by : ℕ → ℕ → BlockEnd → ℕ
+led_by count last (ends.Branch c annul target) = or_zero (if c == 12 then within count (last + 2) else number_of target)
+led_by count last _ = 0
+
+abbrev led_word : Blocks → ℕ → ℕ
+led_word b k = led_by b.words (last_word b.firsts b.words k) (end_of b k)
+
+-- Its blocks are blocks of the text that end in transfers, one in a branch and one in a jump. The branch leads to one
+-- jump alone, and the load stands in the jump's block.
+pub record IsSwitchIn (text : Words) (b : Blocks) (o : Open) : Type 0 where
+  pub compare_in : o.switch.compare.0 < length b.firsts
+  pub block_in : o.block < length b.firsts
+  pub branches : is_transfer (decode_of (slice_index text.words (last_word b.firsts b.words o.switch.compare.0))) ≡ true
+  pub jumps : is_transfer (decode_of (slice_index text.words (last_word b.firsts b.words o.block))) ≡ true
+  pub branch : is_jump (end_of b o.switch.compare.0) ≡ false
+  pub jump : is_jump (end_of b o.block) ≡ true
+  pub led : o.block ≡ holding_of b (led_word b o.switch.compare.0)
+  pub above : slice_index b.firsts o.block ≤ load_of text o
+  pub below : load_of text o ≤ last_word b.firsts b.words o.block
+
+find_within : (p : ℕ → Bool) (a n w : ℕ) → find p (range_with_len a n) ≡ Some w → (a ≤ w) × (w < a + n)
+find_within p a zero w e = absurd (cc)
+find_within p a (suc n) w e = by (p a) e (find_within p (a + 1) n w)
+  where
+    by : (t : Bool) → cond t (Some a) (find p (range_with_len (a + 1) n)) ≡ Some w
+        → (find p (range_with_len (a + 1) n) ≡ Some w → (a + 1 ≤ w) × (w < a + 1 + n)) → (a ≤ w) × (w < a + suc n)
+    by true e rest = let same : a ≡ w = cc in (omega arith, omega arith)
+    by false e rest = let r = rest e in (omega (arith, r.0), omega (arith, r.1))
+
+load_within : (text : Words) (o : Open) → o.approach.first ≤ o.approach.jump
+    → (o.approach.first ≤ load_of text o) × (load_of text o ≤ o.approach.jump)
+unfolding load_of
+load_within text o l =
+    by (find (λ word. loads_by text o word (instr_at text word))
+    (range_with_len o.approach.first (o.approach.jump - o.approach.first))) refl
+  where
+    by : (x : Option ℕ)
+        → find (λ word. loads_by text o word (instr_at text word))
+        (range_with_len o.approach.first (o.approach.jump - o.approach.first)) ≡ x
+        → (o.approach.first ≤ or_first o x) × (or_first o x ≤ o.approach.jump)
+    by None e = (omega arith, l)
+    by (Some w) e =
+        let inside = find_within _ o.approach.first (o.approach.jump - o.approach.first) w e in
+        (inside.0, omega (arith, inside.1))
+
+untaken_is : (kind : EdgeKind) → is_untaken kind ≡ true → kind ≡ kinds.Untaken
+untaken_is kinds.Untaken e = refl
+untaken_is _ e = absurd (cc)
+
+taken_is : (kind : EdgeKind) → is_taken kind ≡ true → kind ≡ kinds.Taken
+taken_is kinds.Taken e = refl
+taken_is _ e = absurd (cc)
+
+first_is : (x : Option ℕ) (first : ℕ) → x ≡ Some first → or_zero x ≡ first
+first_is x first e = ap or_zero e
+
+module _ (text : Words) (given : List ℕ) (entry : ℕ) (is_text : IsText text) where
+  abbrev its : Blocks
+  its = blocks_of text given
+
+  parts : IsCut text its
+  parts = cut text given is_text.some
+
+  led_first : (o : Open) → IsOpen text (entered_of text given) entry o
+      → led_word its o.switch.compare.0 ≡ slice_index its.firsts o.block
+  unfolding entered_of
+  led_first o is =
+      let a = about text given entry is_text o is in
+      let leads : LeadsIn its o.switch.compare.0 o.block o.way is.parts.target =
+      leads_in text given o.block o.switch.compare o.way a.block_in is.parts.edge is.cond is.annul is.parts.target
+      is.parts.branch in
+      ap (led_by its.words (last_word its.firsts its.words o.switch.compare.0)) is.parts.branch
+      ∙ by (is.cond == 12) refl (or_cases ((is.cond == 12) && is_untaken o.way)
+      ((is.cond == 4) && is_taken o.way) a.bounded) leads
+    where
+      by : (t : Bool) → (is.cond == 12) ≡ t
+          → (((is.cond == 12) && is_untaken o.way) ≡ true) ⊎ (((is.cond == 4) && is_taken o.way) ≡ true)
+          → LeadsIn its o.switch.compare.0 o.block o.way is.parts.target
+          → or_zero (if is.cond == 12 then within its.words (last_word its.firsts its.words o.switch.compare.0 + 2)
+          else number_of is.parts.target) ≡ slice_index its.firsts o.block
+      by true e (inl one) leads =
+          let way = untaken_is o.way (and_parts (is.cond == 12) (is_untaken o.way) one).1 in
+          rw e (first_is _ (slice_index its.firsts o.block) (leads.untaken way))
+      by true e (inr other) leads =
+          let twelve : is.cond ≡ 12 = eqb-true is.cond 12 e in
+          let four : is.cond ≡ 4 = eqb-true is.cond 4 (and_parts (is.cond == 4) (is_taken o.way) other).0 in
+          absurd (omega arith)
+      by false e (inl one) leads =
+          absurd (false≢true (sym e ∙ (and_parts (is.cond == 12) (is_untaken o.way) one).0))
+      by false e (inr other) leads =
+          let way = taken_is o.way (and_parts (is.cond == 4) (is_taken o.way) other).1 in
+          rw e (first_is _ (slice_index its.firsts o.block) (leads.taken way))
+
+  switch_in : (o : Open) → IsOpen text (entered_of text given) entry o → IsSwitchIn text its o
+  unfolding entered_of
+  switch_in o is =
+      let a = about text given entry is_text o is in
+      let s : IsSwitch text (entered_of text given) o.block o.switch.compare o.way is.cond is.annul o.approach.compare
+      o.switch =
+      switch_of-is text (entered_of text given) entry o.block o.switch is.is_switch o.switch.compare o.way is.cond
+      is.annul is.parts.target o.approach.compare is.parts.edge is.parts.branch is.parts.sets in
+      let some = some_words its.words its.firsts parts.firsts o.block a.block_in in
+      let load = load_within text o (omega (arith, a.first, a.jump)) in
+      record {
+        compare_in = a.from_in;
+        block_in = a.block_in;
+        branches = ap (λ (w : ℕ). is_transfer (instr_at text w)) (sym a.last) ∙ ap is_transfer a.branch;
+        jumps = ap is_transfer s.jumps.is;
+        branch = ap is_jump is.parts.branch;
+        jump = (found_in text (entered_of text given) o.block o.switch entry is.is_switch).1;
+        led = sym (is_held its.words its.firsts parts.firsts (slice_index its.firsts o.block) o.block
+            (record { within = a.block_in; above = omega arith; below = some }))
+            ∙ ap (holding_of its) (sym (led_first o is));
+        above = omega (arith, load.0, a.first);
+        below = omega (arith, load.1, a.jump);
+      }
+
+  -- ---- the list of blocks, and the tables
+
+  ends_within_text : All (TargetsWithin (length text.words)) its.ends
+  unfolding blocks_of
+  ends_within_text =
+      All-map (TargetsWithin (length text.words))
+      (λ k. end_at text (last_word (leaders text given) (length text.words) k)) (below (length (leaders text given)))
+      (λ k d l. end_at_within text _)
+
+  words_are : its.words ≡ length text.words
+  words_are = parts.words
+
+  pub is_list : IsBlockList (entered_of text given)
+  unfolding entered_of
+  is_list = record {
+    firsts = parts.firsts;
+    ends = ends_count text given;
+    targets = subst (λ (n : ℕ). All (TargetsWithin n) its.ends) (sym words_are) ends_within_text;
+    intos = length-map (below (length its.firsts)) _ ∙ length-below (length its.firsts);
+    few = omega (arith, words_are, is_text.few);
+  }
+
+  table_of : (k : ℕ) (switch : Switch) → k < length its.firsts → switch_of text (entered_of text given) entry k
+      ≡ Some switch
+      → IsTableIn text switch
+  unfolding entered_of
+  table_of k switch l e =
+      let f = (found_in text (entered_of text given) k switch entry e).0 in
+      let s = switch_of-is text (entered_of text given) entry k switch e f.from f.way f.cond f.annul f.target f.compare
+      f.edge f.branch f.sets in
+      let some = some_words its.words its.firsts parts.firsts k l in
+      let inside = ends_within its.words its.firsts parts.firsts k l in
+      table_in text switch (omega (arith, f.jump_is, words_are)) (omega (arith, s.jumps.count))
+      (rw s.jumps.count s.jumps.table)
+
+  tables : Each (IsTableIn text) (switches_of text (entered_of text given) entry)
+  unfolding entered_of
+  tables =
+      each-flat_map (IsTableIn text) (λ k. option_to_list (switch_of text (entered_of text given) entry k))
+      (below (length its.firsts))
+      (each-below (λ k. Each (IsTableIn text) (option_to_list (switch_of text (entered_of text given) entry k)))
+      (length its.firsts) (λ k l. by k l (switch_of text (entered_of text given) entry k) refl))
+    where
+      by : (k : ℕ) → k < length its.firsts → (o : Option Switch) → switch_of text (entered_of text given) entry k ≡ o
+          → Each (IsTableIn text) (option_to_list o)
+      by k l None e = tt
+      by k l (Some switch) e = (table_of k switch l e, tt)
+
+  pub are_switches : Each (IsSwitchIn text its) (opens_in text given entry)
+  are_switches =
+      each-then (IsOpen text (entered_of text given) entry) (IsSwitchIn text its) (opens_in text given entry) switch_in
+      (opens_are text given entry is_text)
+
+  pub are_open : AreOpenIn its (opens_in text given entry)
+  unfolding entered_of
+  are_open =
+      open_in_blocks text (entered_of text given) words_are is_list (switches_of text (entered_of text given) entry)
+      (λ k d l. each_in (IsTableIn text) (switches_of text (entered_of text given) entry) k d tables l)
+
+-- ---- their blocks differ
+
+-- the blocks of each, its comparison's first
+abbrev keys : List Open → List ℕ
+keys [] = []
+keys (o ∷ opens) = o.switch.compare.0 ∷ o.block ∷ keys opens
+
+module _ (text : Words) (b : Blocks) where
+  abbrev AreIn : List Open → Type 0
+  AreIn = Each (IsSwitchIn text b)
+
+  keys_low : (opens : List Open) → AreIn opens → Each (λ k. k < length b.firsts) (keys opens)
+  keys_low [] are = tt
+  keys_low (o ∷ opens) are = (are.0.compare_in, (are.0.block_in, keys_low opens are.1))
+
+  no_compare : (o : Open) → IsSwitchIn text b o → (opens : List Open) → AreIn opens → jumps_in opens o.block ≡ false
+      → Each (λ (j : ℕ). j ≡ o.switch.compare.0 → ⊥) (keys opens)
+  no_compare o is [] are new = tt
+  no_compare o is (p ∷ opens) are new =
+      let apart = or_parts (p.block == o.block) (jumps_in opens o.block) new in (
+        λ e.
+            false≢true (sym apart.0 ∙ eq-eqb p.block o.block
+            (are.0.led ∙ ap (λ k. holding_of b (led_word b k)) e ∙ sym is.led)),
+        (
+          λ e. false≢true (sym is.branch ∙ ap (λ k. is_jump (end_of b k)) (sym e) ∙ are.0.jump),
+          no_compare o is opens are.1 apart.1,
+        ),
+      )
+
+  no_block : (o : Open) → IsSwitchIn text b o → (opens : List Open) → AreIn opens → jumps_in opens o.block ≡ false
+      → Each (λ (j : ℕ). j ≡ o.block → ⊥) (keys opens)
+  no_block o is [] are new = tt
+  no_block o is (p ∷ opens) are new =
+      let apart = or_parts (p.block == o.block) (jumps_in opens o.block) new in (
+        λ e. false≢true (sym are.0.branch ∙ ap (λ k. is_jump (end_of b k)) e ∙ is.jump),
+        (λ e. false≢true (sym apart.0 ∙ eq-eqb p.block o.block e), no_block o is opens are.1 apart.1),
+      )
+
+  keys_apart : (opens : List Open) → AreIn opens → AreOne opens → AreDistinct (keys opens)
+  keys_apart [] are one = tt
+  keys_apart (o ∷ opens) are one = (
+    (
+      λ e. false≢true (sym are.0.branch ∙ ap (λ k. is_jump (end_of b k)) (sym e) ∙ are.0.jump),
+      no_compare o are.0 opens are.1 one.0,
+    ),
+    (no_block o are.0 opens are.1 one.0, keys_apart opens are.1 one.1),
+  )
+
+-- the words of both blocks
+abbrev pub words_of : Blocks → Open → ℕ
+words_of b o = size_of b o.switch.compare.0 + size_of b o.block
+
+keys_sum : (b : Blocks) (opens : List Open) → sum_by (size_of b) (keys opens) ≡ sum_by (words_of b) opens
+keys_sum b [] = refl
+keys_sum b (o ∷ opens) =
+    omega (
+      arith,
+      sum_by-cons (size_of b) o.switch.compare.0 (o.block ∷ keys opens),
+      sum_by-cons (size_of b) o.block (keys opens),
+      sum_by-cons (words_of b) o opens,
+      keys_sum b opens,
+    )
+
+-- ---- the blocks follow one another
+
+sizes_before : (b : Blocks) → AreFirsts b.words b.firsts → (k : ℕ) → k < length b.firsts
+    → total (size_of b) k ≡ slice_index b.firsts k
+sizes_before b f zero l = omega (arith, f.begin)
+sizes_before b f (suc k) l =
+    omega (
+      arith,
+      sizes_before b f k (omega (arith, l)),
+      some_words b.words b.firsts f k (omega (arith, l)),
+      ends_at_next b.words b.firsts f k l,
+    )
+
+pub sizes_all : (b : Blocks) → AreFirsts b.words b.firsts → (n : ℕ) → n ≡ length b.firsts → total (size_of b) n ≡ b.words
+sizes_all b f zero e = absurd (omega (arith, f.some))
+sizes_all b f (suc k) e =
+    omega (
+      arith,
+      sizes_before b f k (omega (arith, e)),
+      some_words b.words b.firsts f k (omega (arith, e)),
+      ends_at_words b.words b.firsts f k (omega (arith, e)),
+    )
+
+room_of : (text : Words) (b : Blocks) → AreFirsts b.words b.firsts → (opens : List Open) → Each
+    (IsSwitchIn text b) opens
+    → AreOne opens → sum_by (words_of b) opens ≤ b.words
+room_of text b f opens are one =
+    omega (
+      arith,
+      keys_sum b opens,
+      distinct_sum (size_of b) (length b.firsts) (keys opens) (keys_apart text b opens are one)
+          (keys_low text b opens are),
+      sizes_all b f (length b.firsts) refl,
+    )
+
+-- each has a word at least
+few_of : (text : Words) (b : Blocks) → AreFirsts b.words b.firsts → (opens : List Open) → Each (IsSwitchIn text b) opens
+    → length opens ≤ sum_by (words_of b) opens
+few_of text b f [] are = omega arith
+few_of text b f (o ∷ opens) are =
+    omega (
+      arith,
+      sum_by-cons (words_of b) o opens,
+      some_words b.words b.firsts f o.block are.0.block_in,
+      few_of text b f opens are.1,
+    )
+
+-- ---- edges
+
+unfoldable pub entries_of : List Open → ℕ
+entries_of opens = sum_by (λ (o : Open). length o.targets) opens
+
+pub targets_few : (opens : List Open) (n : ℕ) → total (λ k. length (targets_in opens k)) n ≤ entries_of opens
+unfolding entries_of
+targets_few [] n = omega (arith, none n)
+  where
+    none : (n : ℕ) → total (λ k. 0) n ≡ 0
+    none zero = refl
+    none (suc n) = omega (arith, none n)
+targets_few (o ∷ opens) n =
+    let here : ℕ → ℕ = λ k. cond (o.block == k) (length o.targets) 0 in
+    let split : total (λ k. length (targets_in (o ∷ opens) k)) n
+    ≡ total (λ k. here k + length (targets_in opens k)) n =
+    total_same (λ k. length (targets_in (o ∷ opens) k)) (λ k. here k + length (targets_in opens k)) n
+    (λ k. length-append (cond (o.block == k) o.targets []) (targets_in opens k) ∙ omega (arith, cut (o.block == k))) in
+    let sum : sum_by (λ (o : Open). length o.targets) (o ∷ opens)
+    ≡ length o.targets + sum_by (λ (o : Open). length o.targets) opens =
+    sum_by-cons (λ (o : Open). length o.targets) o opens in
+    omega (
+      arith,
+      split,
+      total_plus here (λ k. length (targets_in opens k)) n,
+      (total_at o.block (length o.targets) n).1,
+      targets_few opens n,
+      sum,
+    )
+  where
+    cut : (t : Bool) → length (cond t o.targets []) ≡ cond t (length o.targets) 0
+    cut true = refl
+    cut false = refl
+
+pub once_few : (seen nodes : List Node) → length (once_onto seen nodes) ≤ length seen + length nodes
+once_few seen [] = omega arith
+once_few seen (node ∷ nodes) =
+    let next = cond (list_any (same_node node) seen) seen (seen ++ node ∷ []) in
+    let longer : length next ≤ length seen + 1 =
+    cond_both (list_any (same_node node) seen) seen (seen ++ node ∷ []) (λ xs. length xs ≤ length seen + 1)
+    (λ _. omega arith) (λ _. omega (arith, length-append seen (node ∷ []))) in
+    omega (arith, longer, once_few next nodes)
+
+pub ways_few : (count word : ℕ) (end : BlockEnd) → length (ways_of count word end) ≤ 2
+ways_few count word ends.Fall = omega arith
+ways_few count word (ends.Branch c annul target) =
+    cond_both (c == always) _ _ (λ (ways : List Way). length ways ≤ 2) (λ h. omega arith)
+    (λ h. cond_both (c == never) _ _ (λ (ways : List Way). length ways ≤ 2) (λ k. omega arith) (λ k. omega arith))
+ways_few count word (ends.Call target) = omega arith
+ways_few count word ends.Jump = omega arith
+
+flat_few : {A : Type 0} (f : ℕ → List A) (xs : List ℕ) → ((x : ℕ) → length (f x) ≤ 2)
+    → length (flat_map f xs) ≤ 2 * length xs
+flat_few f [] each = omega arith
+flat_few f (x ∷ xs) each = omega (arith, each x, flat_few f xs each, length-append (f x) (flat_map f xs))
+
+take_first : {A : Type 0} (xs ys : List A) → take (length xs) (xs ++ ys) ≡ xs
+take_first [] ys = refl
+take_first (x ∷ xs) ys = ap (λ zs. x ∷ zs) (take_first xs ys)
+
+get_taken : {A : Type 0} (n k : ℕ) (xs : List A) (x : A) → slice_get (take n xs) k ≡ Some x → slice_get xs k ≡ Some x
+get_taken zero k xs x e = absurd (cc)
+get_taken (suc n) k [] x e = absurd (cc)
+get_taken (suc n) zero (y ∷ xs) x e = e
+get_taken (suc n) (suc k) (y ∷ xs) x e = get_taken n k xs x e
+
+-- an edge that is no landing stands before the landings
+before_landings : (xs : List Edge) (nodes : List Node) (number : ℕ) (edge : Edge)
+    → slice_get (xs ++ map landing_at nodes) number ≡ Some edge → same_kind edge.kind kinds.Land ≡ false
+    → number < length xs
+before_landings [] nodes number edge e other =
+    absurd (false≢true (sym other ∙ each_at (λ (x : Edge). same_kind x.kind kinds.Land ≡ true)
+    (map landing_at nodes) number edge
+    (each-map _ landing_at nodes (each _ nodes (λ n. refl))) e))
+before_landings (x ∷ xs) nodes zero edge e other = omega arith
+before_landings (x ∷ xs) nodes (suc number) edge e other = omega (arith, before_landings xs nodes number edge e other)
+
+module _ (b : Blocks) (opens : List Open) where
+  abbrev blocks_edges : List Edge
+  blocks_edges = flat_map (edges_of b opens) (below (length b.firsts))
+
+  abbrev copies_edges : List Edge
+  copies_edges = flat_map (copied_edges b opens) (filter (is_copied opens) (below (length b.firsts)))
+
+  abbrev nodes : List Node
+  nodes = flat_map (landings_of opens) (below (length b.firsts))
+
+  own_are : own_edges (graph_of b opens) ≡ blocks_edges ++ copies_edges
+  unfolding edges_in
+  own_are =
+      let many : length (blocks_edges ++ copies_edges ++ map landing_at nodes) - length nodes
+      ≡ length (blocks_edges ++ copies_edges) =
+      omega (
+        arith,
+        length-append (blocks_edges ++ copies_edges) (map landing_at nodes),
+        length-map nodes landing_at,
+      ) in
+      ap (λ n. take n (blocks_edges ++ copies_edges ++ map landing_at nodes)) many
+      ∙ take_first (blocks_edges ++ copies_edges) (map landing_at nodes)
+
+  ways_out-few : (from : Node) (k : ℕ) → length (ways_out b opens from k) ≤ 2
+  ways_out-few from k =
+      omega (
+        arith,
+        ways_few b.words (last_word b.firsts b.words k) (end_of b k),
+        length-map (ways_from b k) (edge_of b opens from k),
+      )
+
+  edges_of-few : (k : ℕ) → length (edges_of b opens k) ≤ 2 + length (targets_in opens k)
+  edges_of-few k =
+      cond_both (jumps_in opens k) (map (case_of b k) (case_nodes b opens k)) (ways_out b opens (block k) k)
+      (λ es. length es ≤ 2 + length (targets_in opens k))
+      (λ _. omega (
+        arith,
+        length-map (case_nodes b opens k) (case_of b k),
+        once_few [] (map (λ word. lands_of b opens (Some word)) (targets_in opens k)),
+        length-map (targets_in opens k) (λ word. lands_of b opens (Some word)),
+      ))
+      (λ _. omega (arith, ways_out-few (block k) k))
+
+  own_few : entries_of opens ≤ b.words → length b.firsts ≤ b.words → length (own_edges (graph_of b opens)) ≤ 5 * b.words
+  own_few entries firsts =
+      let own : length blocks_edges ≤ 2 * length b.firsts + total (λ k. length (targets_in opens k)) (length b.firsts) =
+      rw (total_flat (edges_of b opens) (length b.firsts))
+      (total_le (λ k. length (edges_of b opens k)) (λ k. length (targets_in opens k)) (length b.firsts) edges_of-few) in
+      let copied : length copies_edges ≤ 2 * length (filter (is_copied opens) (below (length b.firsts))) =
+      flat_few (copied_edges b opens) (filter (is_copied opens) (below (length b.firsts)))
+      (λ k. ways_out-few (copy k) k) in
+      omega (
+        arith,
+        own,
+        targets_few opens (length b.firsts),
+        entries,
+        copied,
+        length-filter (is_copied opens) (below (length b.firsts)),
+        count_by-le-length (is_copied opens) (below (length b.firsts)),
+        length-below (length b.firsts),
+        length-append blocks_edges copies_edges,
+        ap length own_are,
+      )
+
+  abbrev NoLanding : Edge → Type 0
+  NoLanding edge = same_kind edge.kind kinds.Land ≡ false
+
+  ways_no_landings : (from : Node) (k : ℕ) → Each NoLanding (ways_out b opens from k)
+  ways_no_landings from k =
+      each-map NoLanding (edge_of b opens from k) (ways_from b k)
+      (each-then IsOwn (λ (w : Way). same_kind w.kind kinds.Land ≡ false) (ways_from b k) (λ w own. own.0)
+      (ways_are_own b.words (last_word b.firsts b.words k) (end_of b k)))
+
+  no_landings : Each NoLanding (own_edges (graph_of b opens))
+  no_landings =
+      subst (Each NoLanding) (sym own_are)
+      (each-append NoLanding blocks_edges copies_edges
+      (each-flat_map NoLanding (edges_of b opens) (below (length b.firsts)) (each _ (below (length b.firsts)) (λ k.
+      cond_both (jumps_in opens k) (map (case_of b k) (case_nodes b opens k)) (ways_out b opens (block k) k)
+      (Each NoLanding)
+      (λ _. each-map NoLanding (case_of b k) (case_nodes b opens k) (each _ (case_nodes b opens k) (λ n. refl)))
+      (λ _. ways_no_landings (block k) k))))
+      (each-flat_map NoLanding (copied_edges b opens) (filter (is_copied opens) (below (length b.firsts)))
+      (each _ (filter (is_copied opens) (below (length b.firsts))) (λ k. ways_no_landings (copy k) k))))
+
+  own_before : (number : ℕ) (edge : Edge) → slice_get (edges_in b opens) number ≡ Some edge → NoLanding edge
+      → number < length (own_edges (graph_of b opens))
+  unfolding edges_in
+  own_before number edge e other =
+      omega (arith, before_landings (blocks_edges ++ copies_edges) nodes number edge e other, ap length own_are)
+
+-- ---- the graph
+
+pub record IsTextGraph (text : Words) (graph : Graph) : Type 0 where
+  pub cut : IsCut text graph.blocks
+  pub switches : Each (IsSwitchIn text graph.blocks) graph.opens
+  pub room : sum_by (words_of graph.blocks) graph.opens ≤ length text.words
+  pub few : length graph.opens ≤ length text.words
+  pub entries : sum_by (λ (o : Open). length o.targets) graph.opens ≤ length text.words
+  pub targets : Each (λ (o : Open). Each (λ word. word < length text.words) o.targets) graph.opens
+  pub own_few : length (own_edges graph) ≤ 5 * length text.words
+  pub no_landings : Each (λ edge. same_kind edge.kind kinds.Land ≡ false) (own_edges graph)
+  pub own : (number : ℕ) (edge : Edge) → slice_get (own_edges graph) number ≡ Some edge
+      → slice_get graph.edges number ≡ Some edge
+  pub before : (number : ℕ) (edge : Edge) → slice_get graph.edges number ≡ Some edge
+      → same_kind edge.kind kinds.Land ≡ false → number < length (own_edges graph)
+  pub leads : Each (λ edge. IsNodeIn graph.blocks graph.opens edge.to) graph.edges
+
+each_from : {A : Type 0} (P : A → Type 0) (xs : List A) → All P xs → Each P xs
+each_from P [] h = tt
+each_from P (x ∷ xs) h = (h 0 x (omega arith), each_from P xs (λ k d l. h (suc k) d (omega (arith, l))))
+
+pub text_graph : (text : Words) (graph : Graph) → IsText text → IsGraphOf text graph → IsTextGraph text graph
+unfolding entries_of
+text_graph text graph is_text h =
+    let b = blocks_of text h.given in
+    let opens = opens_in text h.given h.entry in
+    let c = cut text h.given is_text.some in
+    let switches = are_switches text h.given h.entry is_text in
+    let are = are_open text h.given h.entry is_text in
+    let words = c.words in
+    let room = room_of text b c.firsts opens switches are.one in
+    let entries : sum_by (λ (o : Open). length o.targets) (opens_in text h.given h.entry) ≤
+    (blocks_of text h.given).words = are.entries in
+    let own = own_few b opens are.entries c.firsts.few in
+    subst (IsTextGraph text) (sym h.is) (record {
+      cut = c;
+      switches = switches;
+      room = omega arith;
+      few = omega (arith, few_of text b c.firsts opens switches);
+      entries = omega arith;
+      targets = each-then (IsOpenIn b) (λ (o : Open). Each (λ word. word < length text.words) o.targets) opens
+          (λ o is. each-then (λ word. word < b.words) (λ word. word < length text.words) o.targets
+          (λ word l. omega (arith, l)) (each_from (λ word. word < b.words) o.targets is.targets))
+          (each_from (IsOpenIn b) opens are.each);
+      own_few = omega arith;
+      no_landings = no_landings b opens;
+      own = λ number edge e. get_taken _ number (edges_in b opens) edge e;
+      before = own_before b opens;
+      leads = edges_lead_in b opens c.firsts.some;
+    })

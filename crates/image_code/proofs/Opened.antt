@@ -1,0 +1,124 @@
+-- What is known of the open switches of a setting's graph, each by its number.
+use Rattle.std.proofs.Common.{◌≡◌, ℕ, ◌+◌, ◌-◌, ◌<◌, ◌≤◌, true, false, Some, List, refl, ap, sym, ◌∙◌, subst, arith}
+use Rattle.std.specs.Prelude.{slice_get}
+use Rattle.std.specs.List.{find, range_with_len}
+use Rattle.std.proofs.lemmas.Bool.{eq-eqb, eqb-true}
+use Rattle.eel_base.specs.CodeText.{Words, IsText}
+use Rattle.v8_decode.specs.declared.Instr.{Instr}
+use Rattle.v8_decode.specs.declared.Instr.TheVariants as i
+use Rattle.v8_decode.specs.declared.LoadKind.TheVariants as loads
+use Rattle.cfg_blocks.specs.Blocks.{Blocks, blocks_of, end_of}
+use Rattle.cfg_blocks.specs.Ends.{is_transfer}
+use Rattle.cfg_blocks.specs.Entries.{entered_of}
+use Rattle.cfg_blocks.specs.Switches.{before_jump, is_jump}
+use Rattle.cfg_blocks.specs.declared.switches.Value.{Value}
+use Rattle.cfg_blocks.specs.declared.switches.Value.TheVariants.{Place}
+use Rattle.cfg_blocks.specs.Values.{instr_at, sum_in}
+use Rattle.cfg_normal.specs.Opens.{Open}
+use Rattle.cfg_normal.specs.Graph.{Graph}
+use Rattle.cfg_walk.specs.Matches.{AreOpen}
+use Rattle.cfg_walk.proofs.Lists.{Each}
+use Rattle.jump_slice.specs.Cases.{IsOpen, LoadsEntry, approach_to}
+use Rattle.jump_slice.specs.Joined.{IsCaseBlock}
+use Rattle.jump_slice.proofs.CaseBlocks.{case_block, open_in}
+use Rattle.jump_slice.proofs.Numbered.{opens_are_one}
+use Rattle.jump_slice.proofs.Opened.{are_open, opens_are}
+use Rattle.image_code.specs.Graphs.{IsGraphOf, opens_in}
+use Rattle.image_code.specs.Loads.{first_operand, is_place, load_of, loads_by, or_first, second_operand}
+use Rattle.image_code.specs.Simulates.{Setting, graph_in}
+use Rattle.image_code.proofs.Positions.{contains, found_in_range}
+
+-- the load whose address is kept
+pub record IsLoad (text : Words) (o : Open) : Type 0 where
+  pub above : o.approach.first ≤ load_of text o
+  pub below : load_of text o < o.approach.jump
+  pub rd : ℕ
+  pub is : instr_at text (load_of text o)
+      ≡ i.Load loads.LD rd (first_operand (instr_at text (load_of text o)))
+      (second_operand (instr_at text (load_of text o)))
+  pub place : sum_in (before_jump text (approach_to o (load_of text o)))
+      (first_operand (instr_at text (load_of text o))) (second_operand (instr_at text (load_of text o)))
+      ≡ Place o.switch.table.0
+
+place_is : (table : ℕ) (v : Value) → is_place table v ≡ true → v ≡ Place table
+place_is table (Place c) e = ap (λ (n : ℕ). Place n) (eqb-true c table e)
+place_is table _ e = absurd (cc)
+
+is_load : (text : Words) (o : Open) (word : ℕ) (instr : Instr) → loads_by text o word instr ≡ true
+    → (rd : ℕ) × (instr ≡ i.Load loads.LD rd (first_operand instr) (second_operand instr))
+    × (sum_in (before_jump text (approach_to o word)) (first_operand instr) (second_operand instr)
+    ≡ Place o.switch.table.0)
+is_load text o word (i.Load loads.LD rd rs1 op2) e =
+    (rd, refl, place_is o.switch.table.0 (sum_in (before_jump text (approach_to o word)) rs1 op2) e)
+is_load text o word _ e = absurd (cc)
+
+pub load_passes : (text : Words) (o : Open) (word : ℕ) → LoadsEntry text o word
+    → loads_by text o word (instr_at text word) ≡ true
+load_passes text o word l =
+    ap (loads_by text o word) l.is ∙ ap (is_place o.switch.table.0) l.place
+    ∙ eq-eqb o.switch.table.0 o.switch.table.0 refl
+
+pub load_is : (text : Words) (b : Blocks) (o : Open) → IsCaseBlock text b o → IsLoad text o
+unfolding load_of
+load_is text b o c =
+    let h = c.loaded in
+    let above = h.above in
+    let below = h.below in
+    let here : o.approach.first + (h.load - o.approach.first) ≡ h.load = omega (arith, above) in
+    let found = found_in_range (λ (word : ℕ). loads_by text o word (instr_at text word)) o.approach.first
+    (o.approach.jump - o.approach.first) (h.load - o.approach.first) (omega (arith, above, below))
+    (ap (λ (word : ℕ). loads_by text o word (instr_at text word)) here ∙ load_passes text o h.load h.loads) in
+    let at : or_first o (find (λ (word : ℕ). loads_by text o word (instr_at text word))
+    (range_with_len o.approach.first (o.approach.jump - o.approach.first))) ≡ found.0 =
+    ap (or_first o) found.1.is in
+    let is = is_load text o found.0 (instr_at text found.0) found.1.passes in
+    record {
+      above = omega (arith, at, found.1.above);
+      below = omega (arith, at, found.1.below, c.ordered);
+      rd = is.0;
+      is = subst (λ (n : ℕ). instr_at text n
+          ≡ i.Load loads.LD is.0 (first_operand (instr_at text n)) (second_operand (instr_at text n))) (sym at) is.1;
+      place = subst (λ (n : ℕ). sum_in (before_jump text (approach_to o n)) (first_operand (instr_at text n))
+          (second_operand (instr_at text n)) ≡ Place o.switch.table.0) (sym at) is.2;
+    }
+
+-- Each open switch has a block of its own, which ends in its jump; and a comparison's block ends in a branch.
+pub record AreCased (text : Words) (b : Blocks) (opens : List Open) : Type 0 where
+  pub each : (k : ℕ) (o : Open) → slice_get opens k ≡ Some o → IsCaseBlock text b o
+  pub one : (k j : ℕ) (o other : Open) → slice_get opens k ≡ Some o → slice_get opens j ≡ Some other
+      → o.block ≡ other.block → o ≡ other
+  pub branches : (k : ℕ) (o : Open) → slice_get opens k ≡ Some o
+      → (is_transfer (end_of b o.switch.compare.0) ≡ true) × (is_jump (end_of b o.switch.compare.0) ≡ false)
+  pub jumps : AreOpen b opens
+
+cased_of : (text : Words) (given : List ℕ) (entry : ℕ) → IsText text
+    → AreCased text (blocks_of text given) (opens_in text given entry)
+unfolding entered_of
+cased_of text given entry is_text = record {
+  each = λ k o e. case_block text given entry is_text o (is_open k o e);
+  one = λ k j o other e d. opens_are_one text (entered_of text given) entry o other (is_open k o e) (is_open j other d);
+  branches = λ k o e.
+      let is = is_open k o e in (
+        ap is_transfer is.parts.branch,
+        ap is_jump is.parts.branch,
+      );
+  jumps = are_open text (entered_of text given) entry (opens_in text given entry) all;
+}
+  where
+    all : Each (IsOpen text (entered_of text given) entry) (opens_in text given entry)
+    all = opens_are text given entry is_text
+
+    is_open : (k : ℕ) (o : Open) → slice_get (opens_in text given entry) k ≡ Some o
+        → IsOpen text (entered_of text given) entry o
+    is_open k o e =
+        open_in (IsOpen text (entered_of text given) entry) (opens_in text given entry) o all
+        (contains (opens_in text given entry) k o e)
+
+pub cased : (g : Setting) → IsText g.text → IsGraphOf g.text (graph_in g)
+    → AreCased g.text (blocks_of g.text g.given) g.switches
+cased g is_text h =
+    let same_blocks : blocks_of g.text g.given ≡ blocks_of g.text h.given = ap (λ (x : Graph). x.blocks) h.is in
+    let same_opens : g.switches ≡ opens_in g.text h.given h.entry = ap (λ (x : Graph). x.opens) h.is in
+    subst (λ (b : Blocks). AreCased g.text b g.switches) (sym same_blocks)
+    (subst (λ (os : List Open). AreCased g.text (blocks_of g.text h.given) os) (sym same_opens)
+    (cased_of g.text h.given h.entry is_text))

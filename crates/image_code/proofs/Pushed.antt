@@ -1,0 +1,121 @@
+-- Lists that grow by one item in each turn of a loop.
+use Rattle.std.proofs.Common.{◌≡◌, ℕ, zero, suc, ◌+◌, ◌-◌, ◌<◌, ◌≤◌, List, [], ◌∷◌, ◌++◌, Some, length, length-append, map, take, refl, ap, sym, ◌∙◌, arith, append_assoc}
+use Rattle.std.specs.Prelude.{slice_get, slice_index_or}
+use Rattle.std.specs.List.{Contains, flat_map, fold, range_with_len, sum_by}
+use Rattle.std.proofs.lemmas.Grind.{flat_map-append}
+use Rattle.std.proofs.lemmas.List.{append-nil, get_or-map, map-append, take_more}
+use Rattle.std.proofs.lemmas.List.FromFn.{map-range_with_len_more}
+use Rattle.cfg_blocks.specs.Blocks.{below}
+use Rattle.cfg_blocks.proofs.Below.{get_or-below, length-below}
+use Rattle.eel_base.specs.declared.numbers.PieceNo.{PieceNo}
+
+pub below_next : {A : Type 0} (f : ℕ → A) (n : ℕ) → map f (below (n + 1)) ≡ map f (below n) ++ f n ∷ []
+below_next f n = let e : n + 1 ≡ suc n = omega arith in ap (λ k. map f (below k)) e ∙ map-append f (below n) (n ∷ [])
+
+-- what is made of the numbers in order
+pub pushed_below : {A : Type 0} (f : ℕ → A) (n : ℕ) (before list new : List A) (x : A) → new ≡ list ++ x ∷ []
+    → x ≡ f n → list ≡ before ++ map f (below n) → new ≡ before ++ map f (below (n + 1))
+pushed_below f n before list new x pushed made held =
+    pushed ∙ ap (λ y. list ++ y ∷ []) made ∙ ap (λ ys. ys ++ f n ∷ []) held
+    ∙ append_assoc before (map f (below n)) (f n ∷ [])
+    ∙ ap (λ ys. before ++ ys) (sym (below_next f n))
+
+pub pushed_alone : {A : Type 0} (f : ℕ → A) (n : ℕ) (list new : List A) (x : A) → new ≡ list ++ x ∷ [] → x ≡ f n
+    → list ≡ map f (below n) → new ≡ map f (below (n + 1))
+pushed_alone f n list new x pushed made held = pushed_below f n [] list new x pushed made held
+
+pub pushed_number : (f : ℕ → ℕ) (n : ℕ) (list new : List PieceNo) (x : PieceNo) → new ≡ list ++ x ∷ [] → x.0 ≡ f n
+    → map (λ (k : PieceNo). k.0) list ≡ map f (below n) → map (λ (k : PieceNo). k.0) new ≡ map f (below (n + 1))
+pushed_number f n list new x pushed made held =
+    ap (map (λ (k : PieceNo). k.0)) pushed ∙ map-append (λ (k : PieceNo). k.0) list (x ∷ [])
+    ∙ ap (λ (k : ℕ). map (λ (k : PieceNo). k.0) list ++ k ∷ []) made
+    ∙ ap (λ (ks : List ℕ). ks ++ f n ∷ []) held
+    ∙ sym (below_next f n)
+
+-- of the numbers from one on
+pub pushed_range : {A : Type 0} (f : ℕ → A) (first word : ℕ) (before list new : List A) (x : A) → first ≤ word
+    → new ≡ list ++ x ∷ [] → x ≡ f word → list ≡ before ++ map f (range_with_len first (word - first))
+    → new ≡ before ++ map f (range_with_len first (word + 1 - first))
+pushed_range f first word before list new x above pushed made held =
+    let here : first + (word - first) ≡ word = omega arith in
+    let next : word - first + 1 ≡ word + 1 - first = omega arith in
+    pushed ∙ ap (λ y. list ++ y ∷ []) made ∙ ap (λ ys. ys ++ f word ∷ []) held
+    ∙ append_assoc before (map f (range_with_len first (word - first))) (f word ∷ [])
+    ∙ ap (λ ys. before ++ ys)
+    (sym (map-range_with_len_more f first (word - first) word here)
+    ∙ ap (λ (n : ℕ). map f (range_with_len first n)) next)
+
+-- of the items of a list
+pub pushed_all : {A B : Type 0} (f : A → List B) (xs : List A) (n : ℕ) (d : A) (before list new : List B) → n < length xs
+    → new ≡ list ++ f (slice_index_or xs n d) → list ≡ before ++ flat_map f (take n xs)
+    → new ≡ before ++ flat_map f (take (n + 1) xs)
+pushed_all f xs n d before list new l pushed held =
+    pushed ∙ ap (λ ys. ys ++ f (slice_index_or xs n d)) held
+    ∙ append_assoc before (flat_map f (take n xs)) (f (slice_index_or xs n d))
+    ∙ ap (λ ys. before ++ (flat_map f (take n xs) ++ ys)) (sym (append-nil (f (slice_index_or xs n d))))
+    ∙ ap (λ ys. before ++ ys) (sym (flat_map-append f (take n xs) (slice_index_or xs n d ∷ [])))
+    ∙ ap (λ ys. before ++ flat_map f ys) (sym (take_more xs n d l))
+
+pub mapped_more : {A B : Type 0} (f : A → B) (xs : List A) (n : ℕ) (d : A) (list new : List B) (x : B) → n < length xs
+    → new ≡ list ++ x ∷ [] → x ≡ f (slice_index_or xs n d) → list ≡ map f (take n xs) → new ≡ map f (take (n + 1) xs)
+mapped_more f xs n d list new x l pushed made held =
+    pushed ∙ ap (λ y. list ++ y ∷ []) made ∙ ap (λ ys. ys ++ f (slice_index_or xs n d) ∷ []) held
+    ∙ sym (map-append f (take n xs) (slice_index_or xs n d ∷ []))
+    ∙ ap (map f) (sym (take_more xs n d l))
+
+-- ---- counts and sums
+
+pub flat_count : {A : Type 0} (f : ℕ → List A) (n : ℕ)
+    → length (flat_map f (below (n + 1))) ≡ length (flat_map f (below n)) + length (f n)
+flat_count f n =
+    let e : n + 1 ≡ suc n = omega arith in
+    ap (λ k. length (flat_map f (below k))) e
+    ∙ ap length (flat_map-append f (below n) (n ∷ []))
+    ∙ length-append (flat_map f (below n)) (flat_map f (n ∷ []))
+    ∙ ap (λ ys. length (flat_map f (below n)) + length ys) (append-nil (f n))
+
+fold_more : {A B : Type 0} (g : B → A → B) (a : B) (xs : List A) (x : A)
+    → fold g a (xs ++ x ∷ []) ≡ g (fold g a xs) x
+fold_more g a [] x = refl
+fold_more g a (y ∷ ys) x = fold_more g (g a y) ys x
+
+pub sum_more : {A : Type 0} (f : A → ℕ) (xs : List A) (n : ℕ) (d : A) → n < length xs
+    → sum_by f (take (n + 1) xs) ≡ sum_by f (take n xs) + f (slice_index_or xs n d)
+sum_more f xs n d l =
+    ap (sum_by f) (take_more xs n d l) ∙ fold_more (λ a x. a + f x) 0 (take n xs) (slice_index_or xs n d)
+
+-- ---- what stands at a place
+
+pub at_below : (f : ℕ → ℕ) (n k : ℕ) → k < n → slice_index_or (map f (below n)) k 0 ≡ f k
+at_below f n k l =
+    get_or-map f (below n) k 0 0 (omega (arith, l, length-below n)) ∙ ap f (get_or-below n k 0 l)
+
+pub gets : {A : Type 0} (xs : List A) (k : ℕ) (d : A) → k < length xs → slice_get xs k ≡ Some (slice_index_or xs k d)
+gets [] k d l = absurd (omega arith)
+gets (x ∷ xs) zero d l = refl
+gets (x ∷ xs) (suc k) d l = gets xs k d (omega (arith, l))
+
+pub map_at : {A : Type 0} (f : A → ℕ) (xs : List A) (k : ℕ) (x : A) → slice_get xs k ≡ Some x
+    → slice_index_or (map f xs) k 0 ≡ f x
+map_at f [] k x e = absurd (cc)
+map_at f (y ∷ ys) zero x e = let same : y ≡ x = cc in ap f same
+map_at f (y ∷ ys) (suc k) x e = map_at f ys k x e
+
+pub gets_within : {A : Type 0} (xs : List A) (k : ℕ) (x : A) → slice_get xs k ≡ Some x → k < length xs
+gets_within [] k x e = absurd (cc)
+gets_within (y ∷ ys) zero x e = omega arith
+gets_within (y ∷ ys) (suc k) x e = omega (arith, gets_within ys k x e)
+
+pub gets_is : {A : Type 0} (xs : List A) (k : ℕ) (x d : A) → slice_get xs k ≡ Some x → slice_index_or xs k d ≡ x
+gets_is [] k x d e = absurd (cc)
+gets_is (y ∷ ys) zero x d e = cc
+gets_is (y ∷ ys) (suc k) x d e = gets_is ys k x d e
+
+pub gets_in : {A : Type 0} (xs : List A) (k : ℕ) (x : A) → slice_get xs k ≡ Some x → Contains xs x
+gets_in xs k x e = (k, gets_within xs k x e, gets_is xs k x x e)
+
+pub take_whole : {A : Type 0} (xs : List A) (n : ℕ) → length xs ≤ n → take n xs ≡ xs
+take_whole [] zero l = refl
+take_whole [] (suc n) l = refl
+take_whole (x ∷ xs) zero l = absurd (omega (arith, l))
+take_whole (x ∷ xs) (suc n) l = ap (λ ys. x ∷ ys) (take_whole xs n (omega (arith, l)))

@@ -1,0 +1,371 @@
+-- Pieces by how large they are: what may be placed, and how many words it takes.
+use Rattle.std.proofs.Common.{◌≡◌, ℕ, zero, suc, ◌+◌, ◌<◌, ◌≤◌, true, false, nat_lt, cond, Option, Some, List, [], ◌∷◌, ◌++◌, length, map, ap, sym, ◌∙◌, arith}
+use Rattle.std.specs.Prelude.{if◌then◌else◌, slice_get, slice_index}
+use Rattle.std.proofs.lemmas.Bool.{cond_both}
+use Rattle.std.proofs.lemmas.List.Sums.{sum_by-cons}
+use Rattle.eel_base.specs.CodeText.{Words, address_of, word_at}
+use Rattle.eel_base.specs.declared.numbers.Addr.{Addr}
+use Rattle.eel_base.specs.declared.numbers.PieceNo.{PieceNo}
+use Rattle.v8_decode.specs.declared.Op2.{Op2}
+use Rattle.v8_decode.specs.declared.Instr.{Instr}
+use Rattle.v8_decode.specs.declared.Instr.TheVariants as i
+use Rattle.v8_decode.specs.Words.{decode_of}
+use Rattle.v8_step.specs.Items.{is_transfer}
+use Rattle.cfg_blocks.specs.Ends.{within}
+use Rattle.cfg_walk.proofs.Addresses.{word_at-address}
+use Rattle.code_runs.specs.LongJump.{long_jump}
+use Rattle.jump_code.specs.Choosing.{choice_image}
+use Rattle.jump_code.specs.Finding.{find_image, go_found}
+use Rattle.jump_code.specs.Keeping.{keep_load}
+use Rattle.jump_code.specs.Leaving.{foreign}
+use Rattle.jump_code.specs.Links.{link}
+use Rattle.jump_code.specs.Pieces.{call_piece, far_piece, find_piece, foreign_piece, word_items}
+use Rattle.layout.specs.Emitting.{words_of}
+use Rattle.layout.specs.declared.items.Item.{Item}
+use Rattle.layout.specs.declared.items.Item.TheVariants as it
+use Rattle.layout.specs.Laid.{AreMarked, LeadsBelow, long_words, piece_words}
+use Rattle.image_code.specs.Cases.{branch_piece, plain_piece}
+use Rattle.image_code.specs.Choices.{choice_piece}
+use Rattle.image_code.specs.Couple.{couple_piece}
+use Rattle.image_code.specs.Made.{jump_to, keep_by}
+use Rattle.image_code.specs.Fit.{is_mark, marks_in}
+
+-- the item behind a Mark at such an address is the word there, unless that is a transfer
+pub record SaysWord (text : Words) (address : ℕ) (items : List Item) : Type 0 where
+  pub says : (word : ℕ) → word_at text address ≡ Some word
+      → is_transfer (decode_of (slice_index text.words word)) ≡ false
+      → slice_get items 0 ≡ Some (it.Word (slice_index text.words word))
+
+abbrev pub MarksSay : Words → List Item → Type 0
+MarksSay text [] = Unit {0}
+MarksSay text (it.Mark address node ∷ items) = SaysWord text address.0 items × MarksSay text items
+MarksSay text (x ∷ items) = MarksSay text items
+
+abbrev pub ItemsLead : ℕ → List Item → Type 0
+ItemsLead count [] = Unit {0}
+ItemsLead count (x ∷ items) = LeadsBelow count (Some x) × ItemsLead count items
+
+-- Items outside Marks, of which at most so many are a snippet's words.
+pub record IsTail (text : Words) (count most : ℕ) (items : List Item) : Type 0 where
+  pub few : length items ≤ 4 + most
+  pub words : piece_words items ≤ 4 + most
+  pub marks : marks_in items ≤ 0
+  pub marked : AreMarked false items
+  pub leads : ItemsLead count items
+  pub says : MarksSay text items
+
+-- A whole piece of at most so many words, besides those of a snippet.
+pub record IsSmall (text : Words) (count base most : ℕ) (items : List Item) : Type 0 where
+  pub few : length items ≤ 21 + most
+  pub words : piece_words items ≤ base + most
+  pub marks : marks_in items ≤ 1
+  pub marked : AreMarked false items
+  pub leads : ItemsLead count items
+  pub says : MarksSay text items
+
+words_lead : (count : ℕ) (ws : List ℕ) (rest : List Item) → ItemsLead count rest
+    → ItemsLead count (map it.Word ws ++ rest)
+words_lead count [] rest l = l
+words_lead count (w ∷ ws) rest l = (tt, words_lead count ws rest l)
+
+only_words_lead : (count : ℕ) (ws : List ℕ) → ItemsLead count (map it.Word ws)
+only_words_lead count [] = tt
+only_words_lead count (w ∷ ws) = (tt, only_words_lead count ws)
+
+words_more : (x : Item) (rest : List Item) → piece_words (x ∷ rest) ≡ long_words x + piece_words rest
+words_more x rest = sum_by-cons long_words x rest
+
+marks_more : (x : Item) (rest : List Item) → marks_in (x ∷ rest) ≡ (if is_mark x then 1 else 0) + marks_in rest
+marks_more x rest = sum_by-cons (λ (y : Item). cond (is_mark y) 1 0) x rest
+
+module _ (text : Words) (count : ℕ) where
+  -- ---- outside Marks
+
+  pub tail_empty : IsTail text count 0 []
+  tail_empty = record {
+    few = omega arith;
+    words = omega arith;
+    marks = omega arith;
+    marked = tt;
+    leads = tt;
+    says = tt;
+  }
+
+  pub tail_jump : (to : ℕ) → to < count → IsTail text count 0 (jump_to to)
+  tail_jump to l = record {
+    few = omega arith;
+    words = omega arith;
+    marks = omega arith;
+    marked = tt;
+    leads = (l, tt);
+    says = tt;
+  }
+
+  pub tail_far : (to : ℕ) → IsTail text count 0 (far_piece to)
+  tail_far to = record {
+    few = omega arith;
+    words = omega arith;
+    marks = omega arith;
+    marked = tt;
+    leads = only_words_lead count (words_of (long_jump to));
+    says = tt;
+  }
+
+  pub tail_found : (x : ℕ) → IsTail text count 0 (word_items (go_found x))
+  tail_found x = record {
+    few = omega arith;
+    words = omega arith;
+    marks = omega arith;
+    marked = tt;
+    leads = only_words_lead count (words_of (go_found x));
+    says = tt;
+  }
+
+  -- the words that keep a load's address
+  pub tail_keep : (instr : Instr) → IsTail text count 0 (keep_by instr)
+  tail_keep (i.Load kind rd rs1 op2) = record {
+    few = omega arith;
+    words = omega arith;
+    marks = omega arith;
+    marked = tt;
+    leads = only_words_lead count (words_of (keep_load rs1 op2));
+    says = tt;
+  }
+  tail_keep _ = tail_empty
+
+  -- behind a snippet's words
+  pub tail_behind : (most : ℕ) (ws : List ℕ) (rest : List Item) → IsTail text count most rest
+      → IsTail text count (length ws + most) (map it.Word ws ++ rest)
+  tail_behind most [] rest t = record {
+    few = omega (arith, t.few);
+    words = omega (arith, t.words);
+    marks = t.marks;
+    marked = t.marked;
+    leads = t.leads;
+    says = t.says;
+  }
+  tail_behind most (w ∷ ws) rest t =
+      let r = tail_behind most ws rest t in
+      record {
+        few = omega (arith, r.few);
+        words = omega (arith, r.words, words_more (it.Word w) (map it.Word ws ++ rest));
+        marks = omega (arith, r.marks, marks_more (it.Word w) (map it.Word ws ++ rest));
+        marked = r.marked;
+        leads = (tt, r.leads);
+        says = r.says;
+      }
+
+  pub tail_more : (most other : ℕ) (items : List Item) → most ≤ other → IsTail text count most items
+      → IsTail text count other items
+  tail_more most other items l t = record {
+    few = omega (arith, t.few);
+    words = omega (arith, t.words);
+    marks = t.marks;
+    marked = t.marked;
+    leads = t.leads;
+    says = t.says;
+  }
+
+  -- ---- pieces
+
+  pub small_tail : (most : ℕ) (items : List Item) → IsTail text count most items → IsSmall text count 8 most items
+  small_tail most items t = record {
+    few = omega (arith, t.few);
+    words = omega (arith, t.words);
+    marks = omega (arith, t.marks);
+    marked = t.marked;
+    leads = t.leads;
+    says = t.says;
+  }
+
+  pub small_more : (base most large other : ℕ) (items : List Item) → base ≤ large → most ≤ other
+      → IsSmall text count base most items → IsSmall text count large other items
+  small_more base most large other items m l s = record {
+    few = omega (arith, s.few);
+    words = omega (arith, s.words);
+    marks = s.marks;
+    marked = s.marked;
+    leads = s.leads;
+    says = s.says;
+  }
+
+  -- an image's piece is the largest
+  pub small_wide : (most : ℕ) (items : List Item) → IsSmall text count 8 most items → IsSmall text count 19 most items
+  small_wide most items s = small_more 8 most 19 most items (omega arith) (omega arith) s
+
+  pub small_plain : (most : ℕ) (address : Addr) (node word : ℕ) (rest : List Item) → IsTail text count most rest
+      → SaysWord text address.0 (it.Word word ∷ it.EndMark ∷ rest)
+      → IsSmall text count 8 most (plain_piece address node word rest)
+  small_plain most address node word rest t says = record {
+    few = omega (arith, t.few);
+    words = omega (
+      arith,
+      t.words,
+      words_more (it.Mark address node) (it.Word word ∷ it.EndMark ∷ rest),
+      words_more (it.Word word) (it.EndMark ∷ rest),
+      words_more it.EndMark rest,
+    );
+    marks = omega (
+      arith,
+      t.marks,
+      marks_more (it.Mark address node) (it.Word word ∷ it.EndMark ∷ rest),
+      marks_more (it.Word word) (it.EndMark ∷ rest),
+      marks_more it.EndMark rest,
+    );
+    marked = t.marked;
+    leads = (tt, (tt, (tt, t.leads)));
+    says = (says, t.says);
+  }
+
+  pub small_foreign : IsSmall text count 8 0 foreign_piece
+  small_foreign = record {
+    few = omega arith;
+    words = omega arith;
+    marks = omega arith;
+    marked = tt;
+    leads = only_words_lead count (words_of foreign);
+    says = tt;
+  }
+
+  pub small_branch : (address : Addr) (node c taken untaken : ℕ) → taken < count → untaken < count
+      → SaysWord text address.0 (it.Branch c (record { 0 = taken }) ∷ it.EndMark ∷ it.Jump
+      (record { 0 = untaken }) ∷ [])
+      → IsSmall text count 19 0 (branch_piece address node c taken untaken)
+  small_branch address node c taken untaken l m says = record {
+    few = omega arith;
+    words = omega arith;
+    marks = omega arith;
+    marked = tt;
+    leads = (tt, (l, (tt, (m, tt))));
+    says = (says, tt);
+  }
+
+  pub small_call : (address : Addr) (node : ℕ) (way : PieceNo) → way.0 < count
+      → SaysWord text address.0 (word_items (link 15 address.0) ++ it.EndMark ∷ it.Jump way ∷ [])
+      → IsSmall text count 19 0 (call_piece address node way)
+  small_call address node way l says = record {
+    few = omega arith;
+    words = omega arith;
+    marks = omega arith;
+    marked = tt;
+    leads = (tt, words_lead count (words_of (link 15 address.0)) (it.EndMark ∷ it.Jump way ∷ []) (tt, (l, tt)));
+    says = (says, tt);
+  }
+
+  pub small_jmpl : (x y rd rs1 : ℕ) (op2 : Op2) (jumps : ℕ) (address : Addr) (node : ℕ) (way : PieceNo) → way.0 < count
+      → SaysWord text address.0
+      (word_items (find_image x y rd rs1 op2 jumps address.0) ++ it.EndMark ∷ it.Jump way ∷ [])
+      → IsSmall text count 19 0 (find_piece x y rd rs1 op2 jumps address node way)
+  small_jmpl x y zero rs1 op2 jumps address node way l says = record {
+    few = omega arith;
+    words = omega arith;
+    marks = omega arith;
+    marked = tt;
+    leads = (
+      tt,
+      words_lead count (words_of (find_image x y zero rs1 op2 jumps address.0)) (it.EndMark ∷ it.Jump way ∷ [])
+          (tt, (l, tt)),
+    );
+    says = (says, tt);
+  }
+  small_jmpl x y (suc r) rs1 op2 jumps address node way l says = record {
+    few = omega arith;
+    words = omega arith;
+    marks = omega arith;
+    marked = tt;
+    leads = (
+      tt,
+      words_lead count (words_of (find_image x y (suc r) rs1 op2 jumps address.0)) (it.EndMark ∷ it.Jump way ∷ [])
+          (tt, (l, tt)),
+    );
+    says = (says, tt);
+  }
+
+  pub small_choice : (rd : ℕ) (address : Addr) (node distance : ℕ)
+      → SaysWord text address.0 (word_items (choice_image rd address.0 distance) ++ it.EndMark ∷ [])
+      → IsSmall text count 19 0 (choice_piece rd address node distance)
+  small_choice zero address node distance says = record {
+    few = omega arith;
+    words = omega arith;
+    marks = omega arith;
+    marked = tt;
+    leads = (tt, words_lead count (words_of (choice_image zero address.0 distance)) (it.EndMark ∷ []) (tt, tt));
+    says = (says, tt);
+  }
+  small_choice (suc r) address node distance says = record {
+    few = omega arith;
+    words = omega arith;
+    marks = omega arith;
+    marked = tt;
+    leads = (tt, words_lead count (words_of (choice_image (suc r) address.0 distance)) (it.EndMark ∷ []) (tt, tt));
+    says = (says, tt);
+  }
+
+  pub small_couple : (address : Addr) (node word : ℕ) → SaysWord text address.0
+      (it.Word word ∷ it.Word word ∷ it.EndMark ∷ []) → IsSmall text count 8 0 (couple_piece address node word [])
+  small_couple address node word says = record {
+    few = omega arith;
+    words = omega arith;
+    marks = omega arith;
+    marked = tt;
+    leads = (tt, (tt, (tt, (tt, tt))));
+    says = (says, tt);
+  }
+
+-- ---- what stands behind a Mark
+
+within_is : (count word other : ℕ) → within count word ≡ Some other → word ≡ other
+within_is count word other e = cond_both (nat_lt word count) _ _ (λ (o : Option ℕ). o ≡ Some other → word ≡ other)
+    (λ _ q. cc) (λ _ q. absurd (cc)) e
+
+at_same : (text : Words) (word other : ℕ) → word_at text (address_of text word) ≡ Some other → word ≡ other
+at_same text word other e = within_is (length text.words) word other (sym (word_at-address text word) ∙ e)
+
+-- a transfer may have anything in its place
+pub transfer_says : (text : Words) (word : ℕ) (items : List Item)
+    → is_transfer (decode_of (slice_index text.words word)) ≡ true → SaysWord text (address_of text word) items
+transfer_says text word items t = record { says = λ other e f. none other e f }
+  where
+    none : (other : ℕ) → word_at text (address_of text word) ≡ Some other
+        → is_transfer (decode_of (slice_index text.words other)) ≡ false
+        → slice_get items 0 ≡ Some (it.Word (slice_index text.words other))
+    none other e f =
+        let same : word ≡ other = at_same text word other e in
+        let g : is_transfer (decode_of (slice_index text.words word)) ≡ false = ap
+        (λ n. is_transfer (decode_of (slice_index text.words n))) same ∙ f in
+        absurd (cc)
+
+pub word_says : (text : Words) (word : ℕ) (items : List Item)
+    → SaysWord text (address_of text word) (it.Word (slice_index text.words word) ∷ items)
+word_says text word items = record {
+  says = λ other e f. ap (λ n. Some (it.Word (slice_index text.words n)))
+      (at_same text word other e);
+}
+
+pub any_says : (text : Words) (items : List Item) → MarksSay text items → (n : ℕ) (address : Addr) (node : ℕ)
+    → slice_get items n ≡ Some (it.Mark address node)
+    → (word : ℕ) → word_at text address.0 ≡ Some word → is_transfer (decode_of (slice_index text.words word)) ≡ false
+    → slice_get items (suc n) ≡ Some (it.Word (slice_index text.words word))
+any_says text [] says n address node e word at plain = absurd (cc)
+any_says text (it.Mark a m ∷ items) says zero address node e word at plain =
+    let same : a ≡ address = cc in
+    says.0.says word (ap (λ (z : Addr). word_at text z.0) same ∙ at) plain
+any_says text (it.Word w ∷ items) says zero address node e word at plain = absurd (cc)
+any_says text (it.Jump to ∷ items) says zero address node e word at plain = absurd (cc)
+any_says text (it.Branch c to ∷ items) says zero address node e word at plain = absurd (cc)
+any_says text (it.EndMark ∷ items) says zero address node e word at plain = absurd (cc)
+any_says text (it.Mark a m ∷ items) says
+    (suc n) address node e word at plain = any_says text items says.1 n address node e word at plain
+any_says text (it.Word w ∷ items) says
+    (suc n) address node e word at plain = any_says text items says n address node e word at plain
+any_says text (it.Jump to ∷ items) says
+    (suc n) address node e word at plain = any_says text items says n address node e word at plain
+any_says text (it.Branch c to ∷ items) says
+    (suc n) address node e word at plain = any_says text items says n address node e word at plain
+any_says text (it.EndMark ∷ items) says
+    (suc n) address node e word at plain = any_says text items says n address node e word at plain
+
+pub any_leads : (count n : ℕ) (items : List Item) → ItemsLead count items → LeadsBelow count (slice_get items n)
+any_leads count n [] l = tt
+any_leads count zero (x ∷ items) l = l.0
+any_leads count (suc n) (x ∷ items) l = any_leads count n items l.1

@@ -1,0 +1,86 @@
+-- What is known of a text, its graph and its open switches.
+use Rattle.std.proofs.Common.{◌≡◌, ℕ, ◌<◌, ◌≤◌, Bool, true, false, List, zero, suc, Some, refl, ap, sym, ◌∙◌, subst, arith}
+use Rattle.std.specs.Prelude.{if◌then◌else◌, slice_get, slice_index, pos}
+use Rattle.std.specs.List.{Contains}
+use Rattle.eel_base.specs.CodeText.{Words, IsText}
+use Rattle.v8_decode.specs.declared.Op2.TheVariants as operand
+use Rattle.v8_decode.specs.Ranges.{is_in_range}
+use Rattle.v8_decode.proofs.Rows.{decoded_range}
+use Rattle.cfg_blocks.specs.Blocks.{Blocks, blocks_of, size_of}
+use Rattle.cfg_blocks.specs.Entries.{entered_of}
+use Rattle.cfg_blocks.specs.Switches.{runs_slot}
+use Rattle.cfg_normal.specs.Opens.{Open}
+use Rattle.cfg_normal.specs.Graph.{Graph, IsGraph}
+use Rattle.cfg_walk.proofs.Cut.{IsCut, cut}
+use Rattle.cfg_walk.proofs.Holding.{some_words}
+use Rattle.jump_slice.specs.Cases.{IsOpen}
+use Rattle.jump_slice.proofs.About.{About, about}
+use Rattle.jump_slice.proofs.Acts.{operands}
+use Rattle.jump_slice.proofs.CaseBlocks.{open_in}
+use Rattle.jump_slice.proofs.Compared.{Compares, compare_at-is}
+use Rattle.jump_slice.proofs.Opened.{opens_are}
+use Rattle.image_code.specs.Graphs.{IsGraphOf, opens_in}
+use Rattle.image_code.specs.Lookups.{IsCase, IsSource}
+use Rattle.image_code.proofs.Numbers.{words_are}
+use Rattle.image_code.proofs.Pushed.{gets_in}
+
+slot_few : (t : Bool) → (if t then 1 else 0) ≤ 1
+slot_few true = omega arith
+slot_few false = omega arith
+
+positive : (n : ℕ) → (n ≡ 0 → ⊥) → 0 < n
+positive zero h = absurd (h refl)
+positive (suc n) h = omega arith
+
+module _ (text : Words) (given : List ℕ) (entry : ℕ) (is_text : IsText text) (o : Open)
+    (is : IsOpen text (entered_of text given) entry o) where
+  abbrev b : Blocks
+  b = blocks_of text given
+
+  parts : IsCut text b
+  parts = cut text given is_text.some
+
+  a : About text b entry o is.cond is.annul
+  a = about text given entry is_text o is
+
+  made : Compares text (slice_index b.firsts o.switch.compare.0) (size_of b o.switch.compare.0) o.approach.compare
+  unfolding entered_of
+  made = compare_at-is text (slice_index b.firsts o.switch.compare.0) (size_of b o.switch.compare.0) o.approach.compare is.parts.sets
+
+  in_range : o.approach.compare.register < 32
+  in_range =
+      (operands made.is.rd o.approach.compare.register (operand.Imm (pos o.approach.compare.limit))
+      (ap is_in_range (sym made.is.is)
+      ∙ decoded_range _ (slice_index text.words o.approach.compare.word) refl)).first
+
+  pub case_is : IsCase text b o
+  case_is = record {
+    some = positive o.approach.compare.register made.is.some;
+    register = in_range;
+    compare = omega (arith, a.below, is.last);
+    branch = omega (arith, is.last, a.slot, slot_few (runs_slot is.annul o.way));
+    from = a.from_in;
+    block = a.block_in;
+    first = a.first;
+    jump = a.jump;
+    ordered = omega (arith, a.first, a.jump, some_words b.words b.firsts parts.firsts o.block a.block_in);
+    behind = omega (arith, is.jump);
+  }
+
+pub source_is : (text : Words) (graph : Graph) → IsText text → IsGraph graph → IsGraphOf text graph → IsSource text graph
+source_is text graph is_text is_graph h = record {
+  is_text = is_text;
+  is_graph = is_graph;
+  words = words_are text graph h;
+  cases = λ o among.
+      subst (λ (g : Graph). IsCase text g.blocks o) (sym h.is)
+      (case_is text h.given h.entry is_text o
+      (open_in (IsOpen text (entered_of text h.given) h.entry) (opens_in text h.given h.entry) o
+      (opens_are text h.given h.entry is_text)
+      (subst (λ (g : Graph). Contains g.opens o) h.is among)));
+}
+
+-- an open switch of a graph
+pub case_at : (text : Words) (graph : Graph) → IsSource text graph → (k : ℕ) (o : Open) → slice_get graph.opens k ≡ Some o
+    → IsCase text graph.blocks o
+case_at text graph h k o e = h.cases o (gets_in graph.opens k o e)

@@ -1,0 +1,23 @@
+use Rattle.std.proofs.Common.{◌==◌, ℕ, length, ap, ◌∙◌}
+use Rattle.std.specs.Prelude.{slice_index}
+use Rattle.cfg_blocks.specs.declared.switches.Switch.{Switch}
+use Rattle.cfg_normal.specs.Opens.{Open}
+use Rattle.image_code.specs.Lookups.{first_mark, compare_place}
+use Rattle.image_code.proofs.FirstPlaces.{first_more, none_first}
+use Rattle.image_code.proofs.firsts.note_compares.Goals as goal
+
+pub loop-number-init : goal.loop-number-init
+loop-number-init c =
+    none_first (length c.args.graph.now.blocks.firsts) compare_place c.opens-found-items.result.now c.args.table.now
+    c.requires.long c.requires.fresh
+
+pub loop-number-preserved : goal.loop-number-preserved
+loop-number-preserved c =
+    first_more (length c.args.graph.now.blocks.firsts) compare_place c.opens-found-items.result.now
+    c.loop-number.number c.found-item.result c.loop-number.table c.note_first.new.table c.loop-number-test.true
+    c.loop-number.invariant c.note_first.ensures.long
+    (λ k. c.note_first.ensures.marks k
+    ∙ ap (λ (n : ℕ). first_mark (c.switch.result.compare.0 == k) n (slice_index c.loop-number.table k)) c.in_ok-number.ensures.same
+    ∙ ap (λ (place : ℕ). first_mark (place == k) c.loop-number.number (slice_index c.loop-number.table k))
+    (ap (λ (s : Switch). s.compare.0) c.switch.ensures
+    ∙ ap (λ (o : Open). o.switch.compare.0) c.found-item.is))

@@ -1,0 +1,11 @@
+use Rattle.std.proofs.Common.{◌≡◌, ◌+◌, ◌^◌, ◌<◌, map}
+use Rattle.cfg_blocks.specs.Blocks.{below}
+use Rattle.image_code.specs.Numbered.{first_entry}
+use Rattle.image_code.proofs.lookups.entries_of.Given as goal
+
+abbrev pub invariant-loop-found : goal.invariant-loop-found
+invariant-loop-found l = record {
+  entries : l.entries.items ≡ map (first_entry l.text l.graph) (below (l.found-index + 1));
+  here : l.entry ≡ first_entry l.text l.graph l.found-index;
+  few : l.entry < 2 ^ 32;
+}

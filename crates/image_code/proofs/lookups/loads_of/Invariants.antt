@@ -1,0 +1,6 @@
+use Rattle.std.proofs.Common.{◌≡◌, map, take}
+use Rattle.image_code.specs.Loads.{load_of}
+use Rattle.image_code.proofs.lookups.loads_of.Given as goal
+
+abbrev pub invariant-loop-found : goal.invariant-loop-found
+invariant-loop-found l = l.loads.items ≡ map (load_of l.text) (take l.found-index l.found-items)

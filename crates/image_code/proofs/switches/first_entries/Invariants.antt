@@ -1,0 +1,8 @@
+use Rattle.std.proofs.Common.{◌≡◌, ℕ, ◌==◌, map, nat_eq, take}
+use Rattle.std.specs.List.{position}
+use Rattle.indexmap.specs.IndexMap.{get}
+use Rattle.image_code.proofs.switches.first_entries.Given as goal
+
+abbrev pub invariant-loop-entry : goal.invariant-loop-entry
+invariant-loop-entry l =
+    (word : ℕ) → get nat_eq l.places word ≡ position (λ t. t == word) (map (λ w. w.0) (take l.entry l.targets))

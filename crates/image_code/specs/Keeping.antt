@@ -1,0 +1,54 @@
+-- Where control comes to the load of an open switch, its address is kept before; everywhere else control comes to the
+-- visit itself.
+use Rattle.std.specs.Prelude.{◌≡◌, ℕ, ◌<◌, ◌≤◌, true, false, length, Some, slice_get, slice_index}
+use Rattle.eel_base.specs.CodeText.{IsText}
+use Rattle.v8_decode.specs.declared.Instr.TheVariants as i
+use Rattle.v8_decode.specs.declared.LoadKind.TheVariants as loads
+use Rattle.v8_decode.specs.Ranges.{operands_in_range}
+use Rattle.v8_decode.specs.Words.{decode_of}
+use Rattle.v8_encode.specs.Encoding.{op2_fits}
+use Rattle.v8_step.specs.Items.{is_transfer}
+use Rattle.cfg_blocks.specs.Blocks.{last_word}
+use Rattle.cfg_normal.specs.declared.Node.{Node}
+use Rattle.cfg_walk.specs.Walk.{Point}
+use Rattle.jump_code.specs.Pieces.{word_items}
+use Rattle.jump_code.specs.Keeping.{keep_load}
+use Rattle.layout.specs.Laid.{Placement}
+use Rattle.image_code.specs.Simulates.{CaseTable, IsAtWord, Setting, graph_in}
+use Rattle.image_code.specs.Images.{Frame, Pieces, entered_at, visited_at}
+
+-- The words from the load to the jump: an LD with these operands, and no transfer before the jump, with which the block
+-- ends.
+pub record IsCaseTable (g : Setting) (o : CaseTable) : Type 0 where
+  pub order : o.load < o.jump
+  pub within : o.jump < length g.text.words
+  pub last : last_word (graph_in g).blocks.firsts (graph_in g).blocks.words o.block ≡ o.jump
+  pub rd : ℕ
+  pub loads : decode_of (slice_index g.text.words o.load) ≡ i.Load loads.LD rd o.rs1 o.op2
+  pub in_range : operands_in_range o.rs1 o.op2 ≡ true
+  pub fits : op2_fits o.op2 ≡ true
+  pub straight : (word : ℕ) → o.load ≤ word → word < o.jump
+      → is_transfer (decode_of (slice_index g.text.words word)) ≡ false
+
+pub record AreCaseTables (g : Setting) : Type 0 where
+  pub text : IsText g.text
+  pub each : (k : ℕ) (o : CaseTable) → slice_get g.opens k ≡ Some o → IsCaseTable g o
+  -- a block has one at most
+  pub apart : (k j : ℕ) (o q : CaseTable) → slice_get g.opens k ≡ Some o → slice_get g.opens j ≡ Some q
+      → o.block ≡ q.block → o ≡ q
+
+-- a piece that keeps the load's address, and behind which the visit stands
+pub record IsKeeping (g : Setting) (l : Pieces) (p : Placement) (place : ℕ → ℕ → ℕ) (f : Frame)
+    (node : Node) (x : Point) (o : CaseTable) : Type 0 where
+  pub piece : ℕ
+  pub here : entered_at g l p f node x ≡ slice_index p.at piece
+  pub items : slice_get l.list piece ≡ Some (word_items (keep_load o.rs1 o.op2))
+  pub behind : place piece 3 ≡ visited_at g l p f node x
+
+pub data IsEntered (g : Setting) (l : Pieces) (p : Placement) (place : ℕ → ℕ → ℕ) (f : Frame)
+    (node : Node) (x : Point) : Type 0 where
+  at_once : entered_at g l p f node x ≡ visited_at g l p f node x
+      → ((k : ℕ) (o : CaseTable) → slice_get g.opens k ≡ Some o → IsAtWord g o node x o.load → ⊥)
+      → IsEntered g l p place f node x
+  keeping : (k : ℕ) (o : CaseTable) → slice_get g.opens k ≡ Some o → IsAtWord g o node x o.load
+      → IsKeeping g l p place f node x o → IsEntered g l p place f node x

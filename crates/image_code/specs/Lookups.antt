@@ -1,0 +1,140 @@
+-- The tables by which the numbers of edges and of pieces are found.
+use Rattle.std.specs.Prelude.{◌≡◌, ℕ, suc, ◌+◌, ◌-◌, ◌*◌, ◌^◌, ◌<◌, ◌≤◌, Bool, false, ◌&&◌, ◌==◌, nat_eq, if◌then◌else◌, List, length, map, slice_index, Option, Some, None}
+use Rattle.std.specs.List.{Contains, find, position, range_with_len}
+use Rattle.indexmap.specs.IndexMap.{get}
+use Rattle.eel_base.specs.CodeText.{Words, IsText}
+use Rattle.v8_decode.specs.declared.Op2.{Op2}
+use Rattle.v8_decode.specs.declared.Instr.{Instr}
+use Rattle.v8_decode.specs.declared.Instr.TheVariants as i
+use Rattle.v8_decode.specs.declared.LoadKind.{LoadKind}
+use Rattle.v8_decode.specs.declared.LoadKind.TheVariants as loads
+use Rattle.cfg_blocks.specs.declared.EdgeKind.{EdgeKind}
+use Rattle.cfg_blocks.specs.declared.EdgeKind.TheVariants as kinds
+use Rattle.cfg_blocks.specs.declared.switches.Approach.{Approach}
+use Rattle.cfg_blocks.specs.declared.switches.Value.{Value}
+use Rattle.cfg_blocks.specs.Blocks.{Blocks, below, last_word}
+use Rattle.cfg_blocks.specs.Values.{followed, instr_at, sum_in}
+use Rattle.cfg_normal.specs.declared.Edge.{Edge}
+use Rattle.cfg_normal.specs.Graph.{Graph, IsGraph}
+use Rattle.cfg_normal.specs.Nodes.{same_kind}
+use Rattle.cfg_normal.specs.Numbers.{node_number, node_numbers}
+use Rattle.cfg_normal.specs.Opens.{Open}
+use Rattle.image_code.specs.declared.lookups.Lookups.{Lookups}
+use Rattle.image_code.specs.Loads.{is_place, load_of}
+use Rattle.image_code.specs.Numbered.{first_entry, landing_count, open_begin}
+
+-- ---- what is known of a text and its graph
+
+-- The words of an open switch stand in the text: its comparison, the branch behind that with the slot, and the jump's
+-- block.
+pub record IsCase (text : Words) (b : Blocks) (o : Open) : Type 0 where
+  pub some : 0 < o.approach.compare.register
+  pub register : o.approach.compare.register < 32
+  pub compare : o.approach.compare.word < length text.words
+  pub branch : o.approach.last + o.approach.slot < length text.words
+  pub from : o.switch.compare.0 < length b.firsts
+  pub block : o.block < length b.firsts
+  pub first : o.approach.first ≡ slice_index b.firsts o.block
+  pub jump : o.approach.jump ≡ last_word b.firsts b.words o.block
+  pub ordered : o.approach.first ≤ o.approach.jump
+  pub behind : o.approach.jump < length text.words
+
+pub record IsSource (text : Words) (graph : Graph) : Type 0 where
+  pub is_text : IsText text
+  pub is_graph : IsGraph graph
+  pub words : graph.blocks.words ≡ length text.words
+  pub cases : (o : Open) → Contains graph.opens o → IsCase text graph.blocks o
+
+-- ---- the load of an open switch
+
+-- from the table at four times the index, where registers have these values
+abbrev pub loads_entry : ℕ → List Value → LoadKind → ℕ → Op2 → Bool
+loads_entry table values loads.LD rs1 op2 = is_place table (sum_in values rs1 op2)
+loads_entry table values kind rs1 op2 = false
+
+abbrev pub is_load : ℕ → List Value → Instr → Bool
+is_load table values (i.Load kind rd rs1 op2) = loads_entry table values kind rs1 op2
+is_load table values _ = false
+
+abbrev pub or_word : ℕ → Option ℕ → ℕ
+or_word first None = first
+or_word first (Some word) = word
+
+-- a word of the jump's block does, which has these values at its first word
+abbrev pub loads_at : Words → List Value → Approach → ℕ → ℕ → Bool
+loads_at text values a table word =
+    is_load table (followed text values a.first (word - a.first)) (instr_at text word)
+
+-- the first such word
+unfoldable pub load_after : Words → List Value → Approach → ℕ → ℕ
+load_after text values a table =
+    or_word a.first (find (loads_at text values a table) (range_with_len a.first (a.jump - a.first)))
+
+-- ---- tables of what comes first
+
+-- what a table has for a number that was found: one more, and 0 where none was
+abbrev pub mark_of : Option ℕ → ℕ
+mark_of None = 0
+mark_of (Some n) = suc n
+
+abbrev pub first_mark : Bool → ℕ → ℕ → ℕ
+first_mark is_here number before = if is_here && (before == 0) then suc number else before
+
+-- A table has for each place the number of the first item there.
+pub record AreFirst {A : Type 0} (count : ℕ) (place_of : A → ℕ) (items : List A) (table : List ℕ) : Type 0 where
+  pub long : length table ≡ count
+  pub each : (place : ℕ) → place < count
+      → slice_index table place ≡ mark_of (position (λ item. place_of item == place) items)
+
+-- ---- edges
+
+abbrev pub kind_number : EdgeKind → ℕ
+kind_number kinds.Fall = 0
+kind_number kinds.Taken = 1
+kind_number kinds.Untaken = 2
+kind_number kinds.Call = 3
+kind_number kinds.Out = 4
+kind_number kinds.Land = 5
+kind_number kinds.Case = 6
+
+-- the place of the edges of a kind that leave the node with this number, of landings that lead to it
+abbrev pub place_of : ℕ → EdgeKind → ℕ
+place_of number kind = 7 * number + kind_number kind
+
+abbrev pub is_land : EdgeKind → Bool
+is_land kind = same_kind kind kinds.Land
+
+abbrev pub node_of_edge : Graph → Edge → ℕ
+node_of_edge graph edge = if is_land edge.kind then node_number graph edge.to else node_number graph edge.from
+
+abbrev pub edge_place : Graph → Edge → ℕ
+edge_place graph edge = place_of (node_of_edge graph edge) edge.kind
+
+-- a Case edge by its two nodes
+abbrev pub case_key : ℕ → ℕ → ℕ
+case_key from to = from * 2 ^ 32 + to
+
+abbrev pub has_key : Graph → ℕ → Edge → Bool
+has_key graph key edge =
+    same_kind edge.kind kinds.Case && (case_key (node_number graph edge.from) (node_number graph edge.to) == key)
+
+abbrev pub number_where : Bool → ℕ → Option ℕ
+number_where is_here number = if is_here then Some number else None
+
+-- ---- all of them
+
+abbrev pub jump_place : Open → ℕ
+jump_place o = o.block
+
+abbrev pub compare_place : Open → ℕ
+compare_place o = o.switch.compare.0
+
+pub record AreLookups (text : Words) (graph : Graph) (l : Lookups) : Type 0 where
+  pub edges : AreFirst (7 * node_numbers graph) (edge_place graph) graph.edges l.edges.items
+  pub cases : (key : ℕ) → get nat_eq l.cases key ≡ position (has_key graph key) graph.edges
+  pub jumps : AreFirst (length graph.blocks.firsts) jump_place graph.opens l.jumps.items
+  pub compares : AreFirst (length graph.blocks.firsts) compare_place graph.opens l.compares.items
+  pub own : l.own ≡ length graph.edges - landing_count graph
+  pub begins : l.begins.items ≡ map (open_begin text graph) (below (length graph.opens + 1))
+  pub loads : l.loads.items ≡ map (load_of text) graph.opens
+  pub entries : l.entries.items ≡ map (first_entry text graph) (below (length graph.opens + 1))

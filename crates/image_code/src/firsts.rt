@@ -1,0 +1,218 @@
+//! Tables of what comes first: of the first edge of a node, and of the first open switch of a block.
+
+ghost use Rattle.std.specs.Prelude.{◌≡◌, ℕ, ◌+◌, ◌*◌, ◌^◌, ◌<◌, ◌≤◌, ◌==◌, [], length, nat_eq, slice_index, IfOk, OnOk};
+ghost use Rattle.std.specs.List.{position};
+ghost use Rattle.std.specs.Option.{option_or};
+ghost use Rattle.indexmap.specs.IndexMap.{get};
+ghost use Rattle.cfg_normal.specs.Graph.{IsEdgeIn};
+ghost use Rattle.cfg_normal.specs.Landings.{IsNumbered};
+ghost use Rattle.cfg_normal.specs.Numbers.{node_number as node_number_of, node_numbers};
+ghost use Rattle.image_code.specs.Lookups.{AreFirst, case_key as case_key_of, compare_place, edge_place as edge_place_of, first_mark, has_key, jump_place, kind_number as kind_number_of, mark_of, node_of_edge as node_of_edge_in, number_where};
+
+use cfg_blocks::EdgeKind;
+use cfg_normal::{Edge, FlowGraph, Node};
+use eel_base::NoMemory;
+use indexmap::IndexMap;
+use std::alloc::Global;
+
+/// The number of a node: a block's own, the one after the last block's for all that lies outside, and those behind it for
+/// landed copies.
+pub(crate) fn node_number(graph: &FlowGraph, node: Node) -> u32
+    requires node { IsNumbered (length graph.now.blocks.firsts) node }
+    ensures number { result ≡ node_number_of graph.now node }
+    ensures within { result < node_numbers graph.now }
+    ensures few { node_numbers graph.now ≤ 2 ^ 22 }
+{
+    // A graph has few blocks.
+    let _edges = graph.edges();
+    match node {
+        Node::Block(block) => block.0,
+        Node::X => graph.count(),
+        Node::Landed(block) => graph.count() + 1 + block.0,
+    }
+}
+
+// ---- tables of what comes first
+
+// Notes the number of an item, if it is the first at its place.
+fn note_first(table: &mut [u32], place: usize, number: u32)
+    requires place { place < length table.old }
+    requires number { number + 1 < 2 ^ 32 }
+    ensures marks { (n : ℕ) → slice_index table.new n ≡ first_mark (place == n) number (slice_index table.old n) }
+    ensures long { length table.new ≡ length table.old }
+{
+    if table[place] == 0 {
+        table[place] = number + 1;
+    }
+}
+
+/// The number of the first item at a place.
+pub(crate) fn first_at(table: &[u32], place: usize) -> Option<u32>
+    requires place { place < length table.now }
+    ensures { mark_of result ≡ slice_index table.now place }
+{
+    match table[place] {
+        0 => None,
+        mark => Some(mark - 1),
+    }
+}
+
+/// A number that has one above it among the `u32`. Where there are more pieces than that, memory holds no list of them.
+pub(crate) fn small(number: u64) -> Result<u32, NoMemory>
+    ensures same { IfOk result (λ n. n ≡ number) }
+    ensures few { IfOk result (λ n. n + 1 < 2 ^ 32) }
+{
+    if number < u64::from(u32::MAX) {
+        Ok(number as u32)
+    } else {
+        Err(NoMemory)
+    }
+}
+
+// ---- edges
+
+pub(crate) fn kind_number(kind: EdgeKind) -> usize
+    ensures number { result ≡ kind_number_of kind }
+    ensures few { result < 7 }
+{
+    match kind {
+        EdgeKind::Fall => 0,
+        EdgeKind::Taken => 1,
+        EdgeKind::Untaken => 2,
+        EdgeKind::Call => 3,
+        EdgeKind::Out => 4,
+        EdgeKind::Land => 5,
+        EdgeKind::Case => 6,
+    }
+}
+
+// The number of the node by which an edge is found: of a landing that to which it leads.
+fn node_of_edge(graph: &FlowGraph, edge: &Edge) -> u32
+    requires edge { IsEdgeIn graph.now.blocks graph.now.opens edge.now }
+    ensures number { result ≡ node_of_edge_in graph.now edge.now }
+    ensures within { result < node_numbers graph.now }
+    ensures few { node_numbers graph.now ≤ 2 ^ 22 }
+{
+    if edge.kind == EdgeKind::Land {
+        node_number(graph, edge.to)
+    } else {
+        node_number(graph, edge.from)
+    }
+}
+
+fn edge_place(graph: &FlowGraph, edge: &Edge) -> usize
+    requires edge { IsEdgeIn graph.now.blocks graph.now.opens edge.now }
+    ensures place { result ≡ edge_place_of graph.now edge.now }
+    ensures within { result < 7 * node_numbers graph.now }
+{
+    7 * node_of_edge(graph, edge) as usize + kind_number(edge.kind)
+}
+
+// Notes the edges in a table without marks.
+fn note_edges(table: &mut [u32], graph: &FlowGraph)
+    requires long { length table.old ≡ 7 * node_numbers graph.now }
+    requires fresh { (n : ℕ) → slice_index table.old n ≡ 0 }
+    ensures { AreFirst (7 * node_numbers graph.now) (edge_place_of graph.now) graph.now.edges table.new }
+{
+    for (number, edge) in graph.edges().iter().enumerate() {
+        note_first(table, edge_place(graph, edge), number as u32);
+    }
+}
+
+/// The first edges, by nodes and kinds.
+pub(crate) fn first_edges(alloc: Global, graph: &FlowGraph) -> Result<Vec<u32>, NoMemory>
+    ensures { IfOk result (λ table.
+        AreFirst (7 * node_numbers graph.now) (edge_place_of graph.now) graph.now.edges table.items) }
+{
+    let mut table = vec![in alloc; 0; 7 * (2 * graph.count() as usize + 1)]?;
+    note_edges(&mut table, graph);
+    Ok(table)
+}
+
+// ---- Case edges
+
+/// A Case edge by the numbers of its two nodes.
+pub(crate) fn case_key(from: u32, to: u32) -> u64
+    ensures { result ≡ case_key_of from to }
+{
+    u64::from(from) * 0x1_0000_0000 + u64::from(to)
+}
+
+// Notes a Case edge, if it is the first between its nodes.
+fn note_case(
+    cases: &mut IndexMap<u64, u32>,
+    graph: &FlowGraph,
+    edge: &Edge,
+    number: u32,
+) -> Result<(), NoMemory>
+    requires edge { IsEdgeIn graph.now.blocks graph.now.opens edge.now }
+    ensures { OnOk result ((key : ℕ) → get nat_eq cases.new key
+        ≡ option_or (get nat_eq cases.old key) (number_where (has_key graph.now key edge.now) number)) }
+{
+    if edge.kind == EdgeKind::Case {
+        let key = case_key(node_number(graph, edge.from), node_number(graph, edge.to));
+        cases.entry(key)?.or_insert(number);
+    }
+    Ok(())
+}
+
+/// The first Case edges, by their two nodes.
+pub(crate) fn first_cases(alloc: Global, graph: &FlowGraph) -> Result<IndexMap<u64, u32>, NoMemory>
+    ensures { IfOk result (λ cases. (key : ℕ) → get nat_eq cases key ≡ position (has_key graph.now key) graph.now.edges) }
+{
+    let mut cases = IndexMap::new(alloc);
+    for (number, edge) in graph.edges().iter().enumerate() {
+        note_case(&mut cases, graph, edge, number as u32)?;
+    }
+    Ok(cases)
+}
+
+// ---- open switches
+
+// Notes the open switches by the blocks of their jumps.
+fn note_jumps(table: &mut [u32], graph: &FlowGraph) -> Result<(), NoMemory>
+    requires long { length table.old ≡ length graph.now.blocks.firsts }
+    requires fresh { (n : ℕ) → slice_index table.old n ≡ 0 }
+    ensures { OnOk result (AreFirst (length graph.now.blocks.firsts) jump_place graph.now.opens table.new) }
+{
+    // The blocks are those of the graph.
+    let _edges = graph.edges();
+    for (number, found) in graph.opens().iter().enumerate() {
+        let number = small(number as u64)?;
+        note_first(table, found.block().0 as usize, number);
+    }
+    Ok(())
+}
+
+// Notes them by the blocks of their comparisons.
+fn note_compares(table: &mut [u32], graph: &FlowGraph) -> Result<(), NoMemory>
+    requires long { length table.old ≡ length graph.now.blocks.firsts }
+    requires fresh { (n : ℕ) → slice_index table.old n ≡ 0 }
+    ensures { OnOk result (AreFirst (length graph.now.blocks.firsts) compare_place graph.now.opens table.new) }
+{
+    // The blocks are those of the graph.
+    let _edges = graph.edges();
+    for (number, found) in graph.opens().iter().enumerate() {
+        let number = small(number as u64)?;
+        note_first(table, found.switch().compare.0 as usize, number);
+    }
+    Ok(())
+}
+
+/// The open switches, by the blocks of their jumps.
+pub(crate) fn first_jumps(alloc: Global, graph: &FlowGraph) -> Result<Vec<u32>, NoMemory>
+    ensures { IfOk result (λ table. AreFirst (length graph.now.blocks.firsts) jump_place graph.now.opens table.items) }
+{
+    let mut table = vec![in alloc; 0; graph.count() as usize]?;
+    note_jumps(&mut table, graph)?;
+    Ok(table)
+}
+
+/// The first open switches, by the blocks of their comparisons.
+pub(crate) fn first_compares(alloc: Global, graph: &FlowGraph) -> Result<Vec<u32>, NoMemory>
+    ensures { IfOk result (λ table. AreFirst (length graph.now.blocks.firsts) compare_place graph.now.opens table.items) }
+{
+    let mut table = vec![in alloc; 0; graph.count() as usize]?;
+    note_compares(&mut table, graph)?;
+    Ok(table)
+}

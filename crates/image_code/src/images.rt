@@ -1,0 +1,412 @@
+//! The images of words.
+
+ghost use Rattle.std.specs.Prelude.{◌≡◌, ◌+◌, ◌-◌, ◌%◌, ◌^◌, ◌<◌, ◌≤◌, ◌++◌, if◌then◌else◌, IsTrue, [], length, map, option_to_list, slice_get, Some, IfOk, OnOk};
+ghost use Rattle.std.specs.List.{flat_map, range_with_len};
+ghost use Rattle.cfg_blocks.specs.Blocks.{below, last_word as last_word_of};
+ghost use Rattle.cfg_blocks.specs.declared.EdgeKind.TheVariants.{Fall};
+ghost use Rattle.cfg_normal.specs.declared.Node.TheVariants.{Block};
+ghost use Rattle.cfg_normal.specs.Landings.{IsNumbered};
+ghost use Rattle.cfg_normal.specs.Nodes.{same_node as same_node_of};
+ghost use Rattle.cfg_normal.specs.Numbers.{node_number as node_number_of};
+ghost use Rattle.cfg_walk.specs.Walk.{edge_from, ends_block as ends_block_of};
+ghost use Rattle.image_code.specs.Lookups.{AreLookups, IsSource};
+ghost use Rattle.image_code.specs.Made.{branch_image as branch_image_of, choice_of, distance_of, image as image_of, is_slots as is_slots_of, jump_by, jump_image_by, next_at as next_at_of, next_to};
+ghost use Rattle.image_code.specs.Numbered.{node_in_order};
+ghost use Rattle.image_code.specs.Parts.{code_at as code_at_of, items_of};
+ghost use Rattle.v8_decode.specs.Words.{decode_of};
+ghost use Rattle.v8_encode.specs.Encoding.{op2_fits};
+
+use crate::firsts::node_number;
+use crate::lookups::Lookups;
+use crate::parts::{Next, Visit, branch, call, choice, is_transfer, jump, plain, way_to};
+use cfg_blocks::EdgeKind;
+use cfg_normal::{FlowGraph, Node};
+use eel_base::{Addr, BlockNo, NoMemory, PieceNo, Text, WordNo};
+use layout::Piece;
+use std::alloc::Global;
+use v8_decode::{Cond, Instr, Op2, Reg, decode};
+
+/// Where the jumps' table stands, and the words with the pieces of Case edges.
+#[derive(Clone, Copy)]
+pub(crate) struct JumpTables {
+    pub(crate) jumps: Addr,
+    pub(crate) cases: Addr,
+}
+
+// ---- snippets
+
+/// The code of the snippet on an edge.
+pub(crate) fn code_at(codes: &[Vec<u32>], edge: u32) -> &[u32]
+    ensures { result.now ≡ code_at_of codes.now edge }
+{
+    match codes.get(edge as usize) {
+        Some(code) => code,
+        None => &[],
+    }
+}
+
+/// The code of the snippet on an edge, if there is one.
+pub(crate) fn code_on(codes: &[Vec<u32>], edge: Option<u32>) -> &[u32]
+    ensures { result.now ≡ flat_map (code_at_of codes.now) (option_to_list edge) }
+{
+    match edge {
+        Some(number) => code_at(codes, number),
+        None => &[],
+    }
+}
+
+// ---- words and nodes
+
+/// The last word of a block.
+pub(crate) fn last_word(graph: &FlowGraph, block: BlockNo) -> WordNo
+    requires block { block.0 < length graph.now.blocks.firsts }
+    ensures word { result.0 ≡ last_word_of graph.now.blocks.firsts graph.now.blocks.words block.0 }
+    ensures within { result.0 < graph.now.blocks.words }
+{
+    WordNo(graph.first(block).0 + graph.words(block) - 1)
+}
+
+// Whether a word is the last one of a node's block.
+fn ends_block(graph: &FlowGraph, node: Node, word: WordNo) -> bool
+    requires { IsNumbered (length graph.now.blocks.firsts) node }
+    ensures { result ≡ ends_block_of graph.now node word.0 }
+{
+    match node {
+        Node::Block(block) => word.0 == last_word(graph, block).0,
+        Node::Landed(block) => word.0 == last_word(graph, block).0,
+        Node::X => false,
+    }
+}
+
+fn same_node(one: Node, other: Node) -> bool
+    ensures { result ≡ same_node_of one other }
+{
+    match (one, other) {
+        (Node::Block(one), Node::Block(other)) => one.0 == other.0,
+        (Node::Landed(one), Node::Landed(other)) => one.0 == other.0,
+        (Node::X, Node::X) => true,
+        _ => false,
+    }
+}
+
+// The node of a word's image in the order of the text: the landed copy of a jump's block, and else the block itself.
+fn node_of(text: &Text, graph: &FlowGraph, lookups: &Lookups, word: WordNo) -> Node
+    requires lookups { AreLookups text.now graph.now lookups.now }
+    requires word { word.0 < graph.now.blocks.words }
+    ensures node { result ≡ node_in_order graph.now word.0 }
+    ensures numbered { IsNumbered (length graph.now.blocks.firsts) result }
+{
+    let block = graph.holding(word);
+    if lookups.is_jumps(text, graph, block) {
+        Node::Landed(block)
+    } else {
+        Node::Block(block)
+    }
+}
+
+// Whether a word is the slot of the transfer before it.
+fn is_slots(text: &Text, word: WordNo) -> bool
+    requires word { word.0 < length text.now.words }
+    ensures { result ≡ is_slots_of text.now word.0 }
+{
+    word.0 > 0 && is_transfer(text.word(WordNo(word.0 - 1)))
+}
+
+// Where control goes on after a word that is no transfer: at the image of the next word, or behind the text's last one
+// out of the text. After the slot's word of a transfer that is another piece, which may stand elsewhere.
+fn next_after(text: &Text, word: WordNo) -> Next
+    requires word { word.0 < length text.now.words }
+    ensures { items_of result ≡ next_to text.now word.0 }
+{
+    let words = text.len();
+    if word.0 + 1 >= words {
+        Next::Far(text.address(WordNo(words)))
+    } else if is_slots(text, word) {
+        Next::Piece(PieceNo(word.0 + 1))
+    } else {
+        Next::Behind
+    }
+}
+
+// Where control goes on after such a word at a node: those of a switch's own blocks end in transfers.
+fn next_at(text: &Text, graph: &FlowGraph, lookups: &Lookups, node: Node, word: WordNo) -> Next
+    requires source { IsSource text.now graph.now }
+    requires lookups { AreLookups text.now graph.now lookups.now }
+    requires word { word.0 < length text.now.words }
+    ensures { items_of result ≡ next_at_of text.now graph.now node word.0 }
+{
+    if same_node(node, node_of(text, graph, lookups, word)) {
+        next_after(text, word)
+    } else {
+        Next::Behind
+    }
+}
+
+// The code of the snippet of the edge to the next word, behind the last word of a block.
+fn code_behind<'a>(
+    text: &Text,
+    graph: &FlowGraph,
+    lookups: &Lookups,
+    codes: &'a [Vec<u32>],
+    node: Node,
+    word: WordNo,
+) -> &'a [u32]
+    requires source { IsSource text.now graph.now }
+    requires lookups { AreLookups text.now graph.now lookups.now }
+    requires node { IsNumbered (length graph.now.blocks.firsts) node }
+    ensures { result.now ≡ flat_map (code_at_of codes.now)
+        (if ends_block_of graph.now node word.0 then edge_from graph.now node Fall else []) }
+{
+    if ends_block(graph, node, word) {
+        code_on(codes, lookups.leaving(text, graph, node, EdgeKind::Fall))
+    } else {
+        &[]
+    }
+}
+
+// ---- transfers
+
+// The image of a branch.
+fn branch_image(
+    alloc: Global,
+    text: &Text,
+    graph: &FlowGraph,
+    lookups: &Lookups,
+    visit: Visit,
+    node: Node,
+    cond: Cond,
+) -> Result<Piece, NoMemory>
+    requires source { IsSource text.now graph.now }
+    requires lookups { AreLookups text.now graph.now lookups.now }
+    requires node { IsNumbered (length graph.now.blocks.firsts) node }
+    requires visit { visit.node ≡ node_number_of graph.now node }
+    ensures { IfOk result (λ p. p ≡ branch_image_of text.now graph.now visit.address node cond) }
+{
+    let taken = lookups.way_out(text, graph, node, EdgeKind::Taken)?;
+    let untaken = lookups.way_out(text, graph, node, EdgeKind::Untaken)?;
+    branch(alloc, visit, cond, taken, untaken)
+}
+
+// How far the word with the piece of a switch's first entry lies from that entry.
+fn distance(cases: Addr, first: u32, table: Addr) -> u32
+    requires { first < 2 ^ 30 }
+    ensures { result ≡ distance_of cases.0 first table.0 }
+{
+    cases.0.wrapping_add(4 * first).wrapping_sub(table.0)
+}
+
+// The image of a JMPL at the block itself of an open switch.
+fn choice_image(
+    alloc: Global,
+    text: &Text,
+    graph: &FlowGraph,
+    lookups: &Lookups,
+    tables: JumpTables,
+    visit: Visit,
+    node: Node,
+    rd: Reg,
+    number: usize,
+) -> Result<Piece, NoMemory>
+    requires source { IsSource text.now graph.now }
+    requires lookups { AreLookups text.now graph.now lookups.now }
+    requires visit { visit.node ≡ node_number_of graph.now node }
+    ensures { IfOk result (λ p. p ≡ choice_of text.now graph.now tables.jumps.0 tables.cases.0 visit.address node rd
+        (Some number) (slice_get graph.now.opens number)) }
+{
+    match graph.opens().get(number) {
+        Some(found) => {
+            let first = lookups.entry(text, graph, number);
+            let distance = distance(tables.cases, first, found.switch().table);
+            choice(alloc, visit, rd, distance)
+        }
+        None => way_to(alloc, &[], Next::Behind),
+    }
+}
+
+// The image of any other JMPL, which looks up in the jumps' table.
+fn jump_out(
+    alloc: Global,
+    text: &Text,
+    graph: &FlowGraph,
+    lookups: &Lookups,
+    tables: JumpTables,
+    visit: Visit,
+    node: Node,
+    rd: Reg,
+    rs1: Reg,
+    op2: Op2,
+) -> Result<Piece, NoMemory>
+    requires source { IsSource text.now graph.now }
+    requires lookups { AreLookups text.now graph.now lookups.now }
+    requires node { IsNumbered (length graph.now.blocks.firsts) node }
+    requires visit { visit.node ≡ node_number_of graph.now node }
+    requires fits { IsTrue (op2_fits op2) }
+    ensures { IfOk result (λ p. p
+        ≡ jump_by text.now graph.now tables.jumps.0 tables.cases.0 visit.address node rd rs1 op2) }
+{
+    let way = lookups.way_out(text, graph, node, EdgeKind::Out)?;
+    jump(alloc, visit, rd, rs1, op2, tables.jumps, way)
+}
+
+// The image of a JMPL at a block itself.
+fn jump_at(
+    alloc: Global,
+    text: &Text,
+    graph: &FlowGraph,
+    lookups: &Lookups,
+    tables: JumpTables,
+    visit: Visit,
+    block: BlockNo,
+    rd: Reg,
+    rs1: Reg,
+    op2: Op2,
+) -> Result<Piece, NoMemory>
+    requires source { IsSource text.now graph.now }
+    requires lookups { AreLookups text.now graph.now lookups.now }
+    requires block { block.0 < length graph.now.blocks.firsts }
+    requires visit { visit.node ≡ node_number_of graph.now (Block block) }
+    requires fits { IsTrue (op2_fits op2) }
+    ensures { IfOk result (λ p. p
+        ≡ jump_image_by text.now graph.now tables.jumps.0 tables.cases.0 visit.address (Block block) rd rs1 op2) }
+{
+    let node = Node::Block(block);
+    match lookups.jump_of(text, graph, block) {
+        Some(number) => {
+            let number = number as usize;
+            choice_image(alloc, text, graph, lookups, tables, visit, node, rd, number)
+        }
+        None => jump_out(
+            alloc, text, graph, lookups, tables, visit, node, rd, rs1, op2,
+        ),
+    }
+}
+
+// The image of a JMPL.
+fn jump_image(
+    alloc: Global,
+    text: &Text,
+    graph: &FlowGraph,
+    lookups: &Lookups,
+    tables: JumpTables,
+    visit: Visit,
+    node: Node,
+    rd: Reg,
+    rs1: Reg,
+    op2: Op2,
+) -> Result<Piece, NoMemory>
+    requires source { IsSource text.now graph.now }
+    requires lookups { AreLookups text.now graph.now lookups.now }
+    requires node { IsNumbered (length graph.now.blocks.firsts) node }
+    requires visit { visit.node ≡ node_number_of graph.now node }
+    requires fits { IsTrue (op2_fits op2) }
+    ensures { IfOk result (λ p. p
+        ≡ jump_image_by text.now graph.now tables.jumps.0 tables.cases.0 visit.address node rd rs1 op2) }
+{
+    match node {
+        Node::Block(block) => jump_at(
+            alloc, text, graph, lookups, tables, visit, block, rd, rs1, op2,
+        ),
+        Node::Landed(_) => jump_out(
+            alloc, text, graph, lookups, tables, visit, node, rd, rs1, op2,
+        ),
+        Node::X => jump_out(
+            alloc, text, graph, lookups, tables, visit, node, rd, rs1, op2,
+        ),
+    }
+}
+
+// ---- images
+
+/// The image of a word, for a node whose block holds it.
+pub(crate) fn image(
+    alloc: Global,
+    text: &Text,
+    graph: &FlowGraph,
+    lookups: &Lookups,
+    codes: &[Vec<u32>],
+    tables: JumpTables,
+    node: Node,
+    word: WordNo,
+) -> Result<Piece, NoMemory>
+    requires source { IsSource text.now graph.now }
+    requires lookups { AreLookups text.now graph.now lookups.now }
+    requires node { IsNumbered (length graph.now.blocks.firsts) node }
+    requires word { word.0 < length text.now.words }
+    ensures { IfOk result (λ p. p
+        ≡ image_of text.now graph.now tables.jumps.0 tables.cases.0 (code_at_of codes.now) node word.0) }
+{
+    let visit = Visit {
+        address: text.address(word),
+        node: node_number(graph, node),
+    };
+    match decode(text.word(word)) {
+        Instr::Branch { cond, .. } => {
+            branch_image(alloc, text, graph, lookups, visit, node, cond)
+        }
+        Instr::Call { .. } => {
+            let way = lookups.way_out(text, graph, node, EdgeKind::Call)?;
+            call(alloc, visit, way)
+        }
+        Instr::Jmpl { rd, rs1, op2 } => jump_image(
+            alloc, text, graph, lookups, tables, visit, node, rd, rs1, op2,
+        ),
+        _ => {
+            let code = code_behind(text, graph, lookups, codes, node, word);
+            let next = next_at(text, graph, lookups, node, word);
+            plain(alloc, visit, text.word(word), code, next)
+        }
+    }
+}
+
+/// Adds the images of the words in the order of the text.
+pub(crate) fn push_images(
+    alloc: Global,
+    list: &mut Vec<Piece>,
+    text: &Text,
+    graph: &FlowGraph,
+    lookups: &Lookups,
+    codes: &[Vec<u32>],
+    tables: JumpTables,
+) -> Result<(), NoMemory>
+    requires source { IsSource text.now graph.now }
+    requires lookups { AreLookups text.now graph.now lookups.now }
+    ensures { OnOk result (list.new.items ≡ list.old.items
+        ++ map (λ word. image_of text.now graph.now tables.jumps.0 tables.cases.0 (code_at_of codes.now)
+        (node_in_order graph.now word) word) (below (length text.now.words))) }
+{
+    for word in 0..text.len() {
+        let word = WordNo(word);
+        let node = node_of(text, graph, lookups, word);
+        list.push(image(alloc, text, graph, lookups, codes, tables, node, word)?)?;
+    }
+    Ok(())
+}
+
+/// Adds the images of so many words at a node.
+pub(crate) fn push_images_at(
+    alloc: Global,
+    list: &mut Vec<Piece>,
+    text: &Text,
+    graph: &FlowGraph,
+    lookups: &Lookups,
+    codes: &[Vec<u32>],
+    tables: JumpTables,
+    node: Node,
+    from: u32,
+    count: u32,
+) -> Result<(), NoMemory>
+    requires source { IsSource text.now graph.now }
+    requires lookups { AreLookups text.now graph.now lookups.now }
+    requires node { IsNumbered (length graph.now.blocks.firsts) node }
+    requires words { from + count ≤ length text.now.words }
+    ensures { OnOk result (list.new.items ≡ list.old.items
+        ++ map (image_of text.now graph.now tables.jumps.0 tables.cases.0 (code_at_of codes.now) node)
+        (range_with_len from count)) }
+{
+    let _words = text.len();
+    for word in from..from + count {
+        let word = WordNo(word);
+        list.push(image(alloc, text, graph, lookups, codes, tables, node, word)?)?;
+    }
+    Ok(())
+}

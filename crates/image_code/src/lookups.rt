@@ -1,0 +1,290 @@
+//! The tables by which the numbers of edges and of pieces are found.
+
+ghost use Rattle.std.specs.Prelude.{◌≡◌, ◌+◌, ◌-◌, ◌^◌, ◌<◌, ◌≤◌, false, length, map, option_to_list, slice_get, slice_index, Some, All, IfOk};
+ghost use Rattle.cfg_blocks.specs.Blocks.{below, size_of};
+ghost use Rattle.cfg_blocks.specs.declared.EdgeKind.TheVariants.{Case};
+ghost use Rattle.cfg_normal.specs.declared.Node.TheVariants.{Block};
+ghost use Rattle.cfg_normal.specs.Graph.{IsEdgeIn, landings_of};
+ghost use Rattle.cfg_normal.specs.Opens.{Open, jumps_in};
+ghost use Rattle.cfg_normal.specs.Landings.{IsNumbered};
+ghost use Rattle.cfg_walk.specs.Walk.{edge_along, edge_from, landing_at};
+ghost use Rattle.image_code.specs.Loads.{load_of as load_in};
+ghost use Rattle.image_code.specs.Lookups.{AreFirst, AreLookups, IsSource, is_land, jump_place};
+ghost use Rattle.image_code.specs.Numbered.{compare_number, first_entry, jump_number, landing_count as landing_count_of, open_begin, own_edges as own_edges_of};
+
+use crate::firsts::{
+    case_key, first_at, first_cases, first_compares, first_edges, first_jumps, kind_number,
+    node_number, small,
+};
+use crate::loads::load_of;
+use cfg_blocks::EdgeKind;
+use cfg_normal::{Edge, FlowGraph, Node, OpenSwitch};
+use eel_base::{BlockNo, NoMemory, Text};
+use indexmap::IndexMap;
+use std::alloc::Global;
+
+/// By nodes and kinds the first edges, by pairs of nodes the Case edges, by blocks the open switches whose jumps or whose
+/// comparisons stand there; how many edges there are but for the landings; and of each open switch where its pieces
+/// begin, its load, and the number of its first entry.
+#[derive(Drop)]
+pub(crate) struct Lookups {
+    edges: Vec<u32>,
+    cases: IndexMap<u64, u32>,
+    jumps: Vec<u32>,
+    compares: Vec<u32>,
+    own: usize,
+    begins: Vec<u32>,
+    loads: Vec<u32>,
+    entries: Vec<u32>,
+}
+
+// ---- landings
+
+// Whether the jump of an open switch ends the block.
+fn is_jumps(graph: &FlowGraph, jumps: &[u32], block: BlockNo) -> bool
+    requires jumps { AreFirst (length graph.now.blocks.firsts) jump_place graph.now.opens jumps.now }
+    requires block { block.0 < length graph.now.blocks.firsts }
+    ensures { result ≡ jumps_in graph.now.opens block.0 }
+{
+    match first_at(jumps, block.0 as usize) {
+        Some(_) => true,
+        None => false,
+    }
+}
+
+// How many landings a block has.
+fn landings_at(graph: &FlowGraph, jumps: &[u32], block: BlockNo) -> usize
+    requires jumps { AreFirst (length graph.now.blocks.firsts) jump_place graph.now.opens jumps.now }
+    requires block { block.0 < length graph.now.blocks.firsts }
+    ensures count { result ≡ length (landings_of graph.now.opens block.0) }
+    ensures few { result ≤ 2 }
+{
+    if is_jumps(graph, jumps, block) {
+        1
+    } else if graph.is_copied(block) {
+        2
+    } else {
+        1
+    }
+}
+
+// How many landings there are.
+fn landing_count(graph: &FlowGraph, jumps: &[u32]) -> usize
+    requires jumps { AreFirst (length graph.now.blocks.firsts) jump_place graph.now.opens jumps.now }
+    ensures { result ≡ landing_count_of graph.now }
+{
+    let mut count = 0;
+    for block in 0..graph.count() {
+        count += landings_at(graph, jumps, BlockNo(block));
+    }
+    count
+}
+
+// ---- open switches
+
+// How many pieces one has.
+fn pieces_of(graph: &FlowGraph, found: &OpenSwitch) -> u64
+    requires compare { found.now.switch.compare.0 < length graph.now.blocks.firsts }
+    requires block { found.now.block < length graph.now.blocks.firsts }
+    ensures count { result ≡ size_of graph.now.blocks found.now.switch.compare.0
+        + size_of graph.now.blocks found.now.block + 1 }
+    ensures few { result < 2 ^ 34 }
+{
+    let compare = u64::from(graph.words(found.switch().compare));
+    compare + u64::from(graph.words(found.block())) + 1
+}
+
+// Where the pieces of each open switch begin, and where the last one's end.
+fn begins_of(
+    alloc: Global,
+    text: &Text,
+    graph: &FlowGraph,
+    own: usize,
+) -> Result<Vec<u32>, NoMemory>
+    requires source { IsSource text.now graph.now }
+    requires own { own ≡ length (own_edges_of graph.now) }
+    ensures { IfOk result (λ v. v.items ≡ map (open_begin text.now graph.now) (below (length graph.now.opens + 1))) }
+{
+    // The blocks are those of the graph.
+    let _edges = graph.edges();
+    let mut begins = Vec::new(alloc);
+    let mut begin = u64::from(text.len()) + own as u64 + u64::from(text.len());
+    begins.push(small(begin)?)?;
+    for found in graph.opens() {
+        begin += pieces_of(graph, found);
+        begins.push(small(begin)?)?;
+    }
+    Ok(begins)
+}
+
+// The number of the first entry of each, and how many entries all have.
+fn entries_of(alloc: Global, text: &Text, graph: &FlowGraph) -> Result<Vec<u32>, NoMemory>
+    requires source { IsSource text.now graph.now }
+    ensures { IfOk result (λ v. v.items ≡ map (first_entry text.now graph.now) (below (length graph.now.opens + 1))) }
+{
+    let mut entries = Vec::new(alloc);
+    let mut entry = 0;
+    entries.push(0)?;
+    for found in graph.opens() {
+        entry += u64::from(small(found.targets().len() as u64)?);
+        entries.push(small(entry)?)?;
+    }
+    Ok(entries)
+}
+
+// The load of each.
+fn loads_of(alloc: Global, text: &Text, graph: &FlowGraph) -> Result<Vec<u32>, NoMemory>
+    requires source { IsSource text.now graph.now }
+    ensures { IfOk result (λ v. v.items ≡ map (load_in text.now) graph.now.opens) }
+{
+    let mut loads = Vec::new(alloc);
+    for found in graph.opens() {
+        loads.push(load_of(text, graph, found))?;
+    }
+    Ok(loads)
+}
+
+/// The tables of a graph.
+pub(crate) fn lookups_of(alloc: Global, text: &Text, graph: &FlowGraph) -> Result<Lookups, NoMemory>
+    requires source { IsSource text.now graph.now }
+    ensures { IfOk result (AreLookups text.now graph.now) }
+{
+    let jumps = first_jumps(alloc, graph)?;
+    let own = graph
+        .edges()
+        .len()
+        .saturating_sub(landing_count(graph, &jumps));
+    Ok(Lookups {
+        edges: first_edges(alloc, graph)?,
+        cases: first_cases(alloc, graph)?,
+        jumps,
+        compares: first_compares(alloc, graph)?,
+        own,
+        begins: begins_of(alloc, text, graph, own)?,
+        loads: loads_of(alloc, text, graph)?,
+        entries: entries_of(alloc, text, graph)?,
+    })
+}
+
+// The number at a place.
+fn number_at(table: &[u32], place: usize) -> u32
+    requires place { place < length table.now }
+    ensures { result ≡ slice_index table.now place }
+{
+    table[place]
+}
+
+impl Lookups {
+    /// The edges but for the landings, which come last.
+    pub(crate) fn own_edges<'a>(&self, graph: &'a FlowGraph) -> &'a [Edge]
+        requires own { self.now.own ≡ length graph.now.edges - landing_count_of graph.now }
+        ensures edges { result.now ≡ own_edges_of graph.now }
+        ensures inside { All (IsEdgeIn graph.now.blocks graph.now.opens) result.now }
+    {
+        &graph.edges()[..self.own]
+    }
+
+    /// The edge of a kind that leaves a node.
+    pub(crate) fn leaving(
+        &self,
+        text: &Text,
+        graph: &FlowGraph,
+        node: Node,
+        kind: EdgeKind,
+    ) -> Option<u32>
+        requires source { IsSource text.now graph.now }
+        requires lookups { AreLookups text.now graph.now self.now }
+        requires node { IsNumbered (length graph.now.blocks.firsts) node }
+        requires kind { is_land kind ≡ false }
+        ensures { option_to_list result ≡ edge_from graph.now node kind }
+    {
+        let place = 7 * node_number(graph, node) as usize + kind_number(kind);
+        first_at(&self.edges, place)
+    }
+
+    /// The landing at a node.
+    pub(crate) fn landing(&self, text: &Text, graph: &FlowGraph, node: Node) -> Option<u32>
+        requires source { IsSource text.now graph.now }
+        requires lookups { AreLookups text.now graph.now self.now }
+        requires node { IsNumbered (length graph.now.blocks.firsts) node }
+        ensures { option_to_list result ≡ landing_at graph.now node }
+    {
+        let place = 7 * node_number(graph, node) as usize + kind_number(EdgeKind::Land);
+        first_at(&self.edges, place)
+    }
+
+    /// The Case edge from a block to a node.
+    pub(crate) fn case_edge(
+        &self,
+        text: &Text,
+        graph: &FlowGraph,
+        block: BlockNo,
+        to: Node,
+    ) -> Option<u32>
+        requires source { IsSource text.now graph.now }
+        requires lookups { AreLookups text.now graph.now self.now }
+        requires block { block.0 < length graph.now.blocks.firsts }
+        requires to { IsNumbered (length graph.now.blocks.firsts) to }
+        ensures { option_to_list result ≡ edge_along graph.now (Block block) (record { kind = Case; to = Some to }) }
+    {
+        let number = node_number(graph, to);
+        match self.cases.get(&case_key(block.0, number)) {
+            Some(edge) => Some(*edge),
+            None => None,
+        }
+    }
+
+    /// The number of the open switch whose jump ends the block.
+    pub(crate) fn jump_of(&self, text: &Text, graph: &FlowGraph, block: BlockNo) -> Option<u32>
+        requires lookups { AreLookups text.now graph.now self.now }
+        requires block { block.0 < length graph.now.blocks.firsts }
+        ensures { result ≡ jump_number text.now graph.now block.0 }
+    {
+        first_at(&self.jumps, block.0 as usize)
+    }
+
+    /// The number of the first open switch whose comparison stands in the block.
+    pub(crate) fn compare_of(&self, text: &Text, graph: &FlowGraph, block: BlockNo) -> Option<u32>
+        requires lookups { AreLookups text.now graph.now self.now }
+        requires block { block.0 < length graph.now.blocks.firsts }
+        ensures { result ≡ compare_number text.now graph.now block.0 }
+    {
+        first_at(&self.compares, block.0 as usize)
+    }
+
+    /// Whether the jump of an open switch ends the block.
+    pub(crate) fn is_jumps(&self, text: &Text, graph: &FlowGraph, block: BlockNo) -> bool
+        requires lookups { AreLookups text.now graph.now self.now }
+        requires block { block.0 < length graph.now.blocks.firsts }
+        ensures { result ≡ jumps_in graph.now.opens block.0 }
+    {
+        is_jumps(graph, &self.jumps, block)
+    }
+
+    /// Where the pieces of an open switch begin; behind the last one, those of Case edges.
+    pub(crate) fn begin(&self, text: &Text, graph: &FlowGraph, number: usize) -> u32
+        requires lookups { AreLookups text.now graph.now self.now }
+        requires number { number ≤ length graph.now.opens }
+        ensures { result ≡ open_begin text.now graph.now number }
+    {
+        number_at(&self.begins, number)
+    }
+
+    /// The number of the first entry of an open switch; behind the last one, how many entries there are.
+    pub(crate) fn entry(&self, text: &Text, graph: &FlowGraph, number: usize) -> u32
+        requires lookups { AreLookups text.now graph.now self.now }
+        requires number { number ≤ length graph.now.opens }
+        ensures { result ≡ first_entry text.now graph.now number }
+    {
+        number_at(&self.entries, number)
+    }
+
+    /// The load of an open switch.
+    pub(crate) fn load(&self, text: &Text, graph: &FlowGraph, number: usize) -> u32
+        requires lookups { AreLookups text.now graph.now self.now }
+        requires number { number < length graph.now.opens }
+        ensures { (o : Open) → slice_get graph.now.opens number ≡ Some o → result ≡ load_in text.now o }
+    {
+        self.loads[number]
+    }
+}

@@ -1,0 +1,159 @@
+-- In the jump's block of an open switch: the machine stands at each word so many steps after the comparison, and where
+-- the walk is at the block itself at the jump, it was so before.
+use Rattle.std.proofs.Common.{◌≡◌, ℕ, zero, suc, ◌+◌, ◌<◌, ◌≤◌, Bool, true, false, List, [], length, Option, Some, None, ap, sym, ◌∙◌, subst, arith, slice_index}
+use Rattle.std.specs.Prelude.{if◌then◌else◌}
+use Rattle.std.proofs.lemmas.Bool.{ne_eqb}
+use Rattle.eel_base.specs.CodeText.{Words, word_at}
+use Rattle.v8_alu.specs.Conditions.{holds_of}
+use Rattle.v8_step.specs.declared.Ending.{Ending}
+use Rattle.v8_step.specs.declared.Slot.{Slot}
+use Rattle.v8_step.specs.declared.Slot.TheVariants.{NoSlot}
+use Rattle.v8_step.specs.State.{State}
+use Rattle.v8_step.specs.Items.{is_transfer}
+use Rattle.v8_step.specs.Run.{run}
+use Rattle.cfg_blocks.specs.declared.EdgeKind.TheVariants as kinds
+use Rattle.cfg_blocks.specs.declared.switches.Approach.{Approach}
+use Rattle.cfg_blocks.specs.Blocks.{Blocks, below, blocks_of, holding_of, is_among, last_word}
+use Rattle.cfg_blocks.specs.Ends.{within}
+use Rattle.cfg_blocks.specs.Entries.{entered_of}
+use Rattle.cfg_blocks.specs.Switches.{is_taken, runs_slot}
+use Rattle.cfg_blocks.specs.Values.{instr_at}
+use Rattle.cfg_normal.specs.declared.Node.{Node}
+use Rattle.cfg_normal.specs.Nodes.{home_of}
+use Rattle.cfg_normal.specs.Opens.{Open}
+use Rattle.cfg_normal.specs.Graph.{Graph, graph_of, node_of}
+use Rattle.cfg_walk.specs.Walk.{Point, completed, edge_from, end_of_walk, gone, left_at, node_after, point_of, unless_ended}
+use Rattle.cfg_walk.specs.Matches.{MatchesBy}
+use Rattle.cfg_walk.proofs.Cut.{IsCut, cut}
+use Rattle.cfg_walk.proofs.Edges.{block}
+use Rattle.cfg_walk.proofs.Holding.{ends_within, is_held}
+use Rattle.cfg_walk.proofs.Leaving.{ends_home, node_is, straight_left}
+use Rattle.cfg_walk.proofs.Walks.{live_before}
+use Rattle.jump_slice.specs.Cases.{HasPassed, IsOpen, approach_to, steps_to}
+use Rattle.jump_slice.specs.Runs.{to_branch, to_jump}
+use Rattle.jump_slice.proofs.About.{About, about}
+use Rattle.jump_slice.proofs.Arriving.{IsAt, at_jump}
+use Rattle.jump_slice.proofs.Blocks.{no_transfer}
+use Rattle.jump_slice.proofs.Branching.{run_add}
+use Rattle.jump_slice.proofs.Known.{IsRun, Tells}
+use Rattle.jump_slice.proofs.Steps.{lived_to}
+use Rattle.jump_slice.proofs.Walking.{tells}
+use Rattle.jump_slice.proofs.Whole.{Ready, ready, up_to}
+
+-- ---- the walk in the jump's block
+
+module _ {text : Words} {given : List ℕ} {entry : ℕ} {opens : List Open} {s0 : State}
+    (r : IsRun text given entry opens s0) (among : is_among given entry ≡ true) where
+  abbrev b : Blocks
+  b = blocks_of text given
+
+  abbrev graph : Graph
+  graph = graph_of b opens
+
+  parts : IsCut text b
+  parts = cut text given r.is_text.some
+
+  abbrev walked : ℕ → Node
+  walked n = end_of_walk text graph entry s0 n
+
+  -- a word of a block before its last leaves the walk where it stands
+  walk_stays : (n k word : ℕ) → (run s0 (suc n)).ending ≡ None → (run s0 n).slot ≡ NoSlot
+      → (run s0 (suc n)).slot ≡ NoSlot → word_at text (run s0 n).pc ≡ Some word → k < length b.firsts
+      → slice_index b.firsts k ≤ word → word < last_word b.firsts b.words k → walked (suc n) ≡ walked n
+  unfolding end_of_walk
+  walk_stays n k word live was now at within above inner =
+      let node : Node = end_of_walk text graph entry s0 n in
+      let p : Point = point_of (run s0 n) in
+      let q : Point = point_of (run s0 (suc n)) in
+      ap (λ (x : Option Ending). node_after graph node (gone text graph node p (unless_ended x q))) live
+      ∙ ap (λ (x : Slot). node_after graph node (completed text graph node p q x (run s0 (suc n)).slot)) was
+      ∙ ap (λ (x : Slot). node_after graph node (completed text graph node p q NoSlot x)) now
+      ∙ ap (λ o. node_after graph node (left_at text graph node o)) at
+      ∙ ap (node_after graph node) (straight_left graph node word (instr_at text word) straight)
+      ∙ ap (λ (x : Bool). node_after graph node (if x then edge_from graph node kinds.Fall else []))
+      (ends_home b opens node k word home ∙ ne_eqb word (last_word b.firsts b.words k) (λ e. omega arith))
+    where
+      low : word < b.words
+      low = omega (arith, ends_within b.words b.firsts parts.firsts k within)
+
+      straight : is_transfer (instr_at text word) ≡ false
+      straight = no_transfer text b parts k word within above inner
+
+      held : holding_of b word ≡ k
+      held =
+          is_held b.words b.firsts parts.firsts word k
+          (record { within = within; above = above; below = omega arith })
+
+      home : home_of (end_of_walk text graph entry s0 n) ≡ block k
+      home =
+          let h : Tells r n (end_of_walk text graph entry s0 n) = tells r among n (live_before (run s0 n) live) in
+          let matched : MatchesBy text graph (end_of_walk text graph entry s0 n) (point_of (run s0 n)) NoSlot =
+          subst (λ (x : Slot). MatchesBy text graph (end_of_walk text graph entry s0 n) (point_of (run s0 n)) x) was
+          h.matches in
+          matched.0 ∙ ap (node_of b) at ∙ node_is b word low ∙ ap block held
+
+  -- so where it ends at the block itself, it stood there before
+  pub stood_before : (start k word steps : ℕ) → k < length b.firsts → slice_index b.firsts k ≤ word
+      → word + steps ≡ last_word b.firsts b.words k
+      → ((j : ℕ) → j ≤ steps → ((run s0 (start + j)).ending ≡ None) × IsAt text (word + j) (run s0 (start + j))
+      × (word_at text (run s0 (start + j)).pc ≡ Some (word + j)))
+      → walked (start + steps) ≡ block k → (left j : ℕ) → j + left ≡ steps → walked (start + j) ≡ block k
+  stood_before start k word steps within above last way there zero j e =
+      let same : steps ≡ j = omega (arith, e) in subst (λ (i : ℕ). walked (start + i) ≡ block k) same there
+  stood_before start k word steps within above last way there (suc left) j e =
+      let here = way j (omega (arith, e)) in
+      let next = way (suc j) (omega (arith, e)) in
+      let f : start + suc j ≡ suc (start + j) = omega arith in
+      sym (walk_stays (start + j) k (word + j) (subst (λ (i : ℕ). (run s0 i).ending ≡ None) f next.0) here.1.slot
+      (subst (λ (i : ℕ). (run s0 i).slot ≡ NoSlot) f next.1.slot) here.2 within (omega (arith, above))
+      (omega (arith, last, e)))
+      ∙ subst (λ (i : ℕ). walked i ≡ block k) f
+      (stood_before start k word steps within above last way there left (suc j) (omega (arith, e)))
+
+-- ---- the machine in the jump's block, from the comparison on
+
+module _ {text : Words} {given : List ℕ} {entry : ℕ} {opens : List Open} {s0 : State}
+    (r : IsRun text given entry opens s0) (o : Open) (is : IsOpen text (entered_of text given) entry o) (n : ℕ)
+    (live : (run s0 n).ending ≡ None) (passed : HasPassed text o is.cond s0 n (steps_to o o.approach.jump)) where
+  -- the run is at each word of the block so many steps after the comparison
+  pub at_word : (word : ℕ) → o.approach.first ≤ word → word ≤ o.approach.jump
+      → ((run s0 (passed.moment + steps_to o word)).ending ≡ None)
+      × IsAt text word (run s0 (passed.moment + steps_to o word))
+  unfolding entered_of
+  at_word word above below = (
+    lived_to s0 (m + steps_to o word) n (omega (arith, passed.ago)) live,
+    subst (λ (t : State). IsAt text word t) (sym (run_add s0 m (steps_to o word)))
+        (at_jump text r.is_text s here.fetches (approach_to o word) is.cond is.annul o.way here.disp here.at
+        here.ordered here.last_low here.branch here.other goes here.compared here.slot here.leads here.behind
+        here.jump_low here.jumping live_there),
+  )
+    where
+      m : ℕ
+      m = passed.moment
+
+      s : State
+      s = run s0 m
+
+      runs : Bool
+      runs = runs_slot is.annul o.way
+
+      a : About text (blocks_of text given) entry o is.cond is.annul
+      a = about text given entry r.is_text o is
+
+      live_there : (run s (to_jump (approach_to o word) runs)).ending ≡ None
+      live_there =
+          ap (λ (t : State). t.ending) (sym (run_add s0 m (to_jump (approach_to o word) runs)))
+          ∙ lived_to s0 (m + to_jump (approach_to o word) runs) n (omega (arith, passed.ago, a.slot)) live
+
+      goes : holds_of is.cond (run s (to_branch o.approach)).codes ≡ is_taken o.way
+      goes = ap (λ (t : State). holds_of is.cond t.codes) (sym (run_add s0 m (to_branch o.approach))) ∙ passed.goes
+
+      both : Ready text o.approach is.cond is.annul o.way s
+      both =
+          subst (λ (k : Approach). Ready text k is.cond is.annul o.way s) (sym is.approach)
+          (ready text given entry o.block o.switch is.is_switch o.switch.compare o.way is.cond is.annul
+          o.approach.compare is.parts s0 entry m r.is_text r.valid r.fetches r.holds r.begins
+          (lived_to s0 m n (omega (arith, passed.ago)) live) passed.compares).0
+
+      here : Ready text (approach_to o word) is.cond is.annul o.way s
+      here = up_to text o.approach is.cond is.annul o.way s word both above below
