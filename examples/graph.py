@@ -2,13 +2,13 @@
 """Draws the flow graph of a program, for Graphviz: examples/graph.py FILE | dot -Tsvg > graph.svg
 
 Each routine is a cluster of its blocks. Landings aren't drawn, but for those that were completed, and edges out of the
-program lead to `x`. With COUNTS each edge has its count, where a block has several ways out also its share of them, and
-is the heavier the more often it was completed; edges that weren't are grey. Of one routine the edges into it and out
-of it are drawn that were completed. What is no code is left out.
+program lead to `x`. A block and its landed copy are drawn as one. With COUNTS each edge has its count, where a block has
+several ways out also its share of them, and is the heavier the more often it was completed; edges that weren't are grey. Of
+one routine the edges into it and out of it are drawn that were completed. What is no code is left out.
 """
 import argparse
 import math
-from collections import defaultdict
+from collections import Counter, defaultdict
 
 from shown import COUNTS_HELP, Executions, Shown, counts_of, print_lines, share
 
@@ -21,11 +21,19 @@ def node(address):
     return '"x"' if address is None else f'"{address:08x}"'
 
 
+def drawn(edge):
+    """What edges have in common that are drawn as one."""
+    return edge.kind, edge.source, edge.target
+
+
 class Drawing:
     def __init__(self, shown, run, routine, with_code):
         self.shown, self.run, self.routine = shown, run, routine
         self.texts = shown.instructions() if with_code else None
-        self.most = max(map(run.edge, shown.edges)) if run else 0
+        self.counts = Counter()
+        for edge in shown.edges if run else []:
+            self.counts[drawn(edge)] += run.edge(edge)
+        self.most = max(self.counts.values(), default=0)
         self.clusters = defaultdict(list)
         for first in sorted(shown.code(run)):
             start = shown.routine_of(first)
@@ -59,15 +67,15 @@ class Drawing:
     def looks(self, edge, count):
         """The label of a completed edge, its width and its colour: from 1 to 6, and from black to red, by the logarithm."""
         heat = math.log1p(count) / math.log1p(self.most)
-        ways = self.shown.blocks[edge.source].out if edge.source is not None else []
-        part = f', {share(count, sum(map(self.run.edge, ways)))}' if len(ways) > 1 else ''
+        ways = set(map(drawn, self.shown.blocks[edge.source].out)) if edge.source is not None else []
+        part = f', {share(count, sum(self.counts[way] for way in ways))}' if len(ways) > 1 else ''
         label = quoted(f'{edge.kind} {count}{part}')
         return f'label={label}; penwidth={1 + 5 * heat:.1f}; color="0.0 {heat:.2f} {0.8 * heat:.2f}"'
 
     def edge(self, edge):
         style = 'style=dashed; ' if edge.kind in ('out', 'land', 'call') else ''
         style += 'constraint=false; ' if edge.kind == 'land' else ''  # else dot 2.43 fails to rank some programs
-        count = self.run.edge(edge) if self.run else 0
+        count = self.counts[drawn(edge)]
         looks = f'label={quoted(edge.kind)}' if not self.run else self.looks(edge, count) if count else 'color=lightgray'
         return f'  {node(edge.source)} -> {node(edge.target)} [{style}{looks}];'
 
@@ -89,14 +97,14 @@ class Drawing:
         ends = sum(end in self.drawn for end in (edge.source, edge.target))
         if edge.source is not None and (ends == 2 or ends and edge.source in self.drawn and self.routine is None):
             return True
-        return bool(ends and self.run and self.run.edge(edge))
+        return bool(ends and self.counts[drawn(edge)])
 
     def lines(self):
         yield 'digraph program {'
         yield '  node [shape=box, fontname=monospace, fontsize=11]; edge [fontname=monospace, fontsize=10];'
         for start, blocks in self.clusters.items():
             yield from self.cluster(start, blocks)
-        edges = [edge for edge in self.shown.edges if self.is_drawn(edge)]
+        edges = {drawn(edge): edge for edge in self.shown.edges if self.is_drawn(edge)}.values()
         yield from self.around(edges)
         yield from map(self.edge, edges)
         yield from self.returns()

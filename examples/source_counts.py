@@ -108,7 +108,9 @@ def branches(counts):
     found = defaultdict(list)
     for block in counts.shown.blocks.values():
         line = counts.debug.line_at.get(block.last())
-        ways = {edge.kind: counts.run.edge(edge) for edge in block.out}
+        ways = Counter()
+        for edge in block.out:
+            ways[edge.kind] += counts.run.edge(edge)
         if line and {'taken', 'untaken'} <= ways.keys():
             found[line].append((ways['taken'], ways['untaken']))
     return found
