@@ -2,9 +2,10 @@
 """Refuses memory to ./eel, one growth at a time, in a call of each command: what comes of it must be status 70, its line and
 no file changed, or the whole answer.
 
-    examples/refused_memory.py
+    examples/refused_memory.py [PROGRAM [NAME]]
 
-A library that stands before the C library's refuses the Nth request for memory and counts them; `cc` builds it. Prints how
+PROGRAM is the built program, and NAME that of the small program whose file is edited: `carry_loop` unless said otherwise,
+under which name it goes in any case. A library that stands before the C library's refuses the Nth request for memory and counts them; `cc` builds it. Prints how
 many growths each call made, of how many of these it answered 70, and a line for each answer that is neither.
 """
 import os
@@ -125,10 +126,11 @@ def built():
 
 def main():
     program = os.path.abspath(sys.argv[1]) if len(sys.argv) > 1 else built()
+    name = sys.argv[2] if len(sys.argv) > 2 else 'carry_loop'
     os.chdir(tempfile.mkdtemp())
     library = shim(os.getcwd())
     with open('carry_loop', 'wb') as file:
-        file.write(next(each for each in SMALL if each.name == 'carry_loop').file())
+        file.write(next(each for each in SMALL if each.name == name).file())
     with open('script', 'wb') as file:
         file.write(b'edge 1 add 0 3\nedge 1 top 1 %g2\nedge 2 keep 2 %o0\n')
     for words, printed in (('edit carry_loop profiled profile', None), ('run profiled -d dump', None),
