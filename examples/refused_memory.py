@@ -5,8 +5,9 @@ no file changed, or the whole answer.
     examples/refused_memory.py [PROGRAM [NAME]]
 
 PROGRAM is the built program, and NAME that of the small program whose file is edited: `carry_loop` unless said otherwise,
-under which name it goes in any case. A library that stands before the C library's refuses the Nth request for memory and counts them; `cc` builds it. Prints how
-many growths each call made, of how many of these it answered 70, and a line for each answer that is neither.
+and called so in any case. A library that stands before the C library's refuses the Nth request for memory and counts them;
+`cc` builds it. Prints how many growths each call made, of how many of these it answered 70, and a line for each answer that is
+neither.
 """
 import os
 import subprocess
