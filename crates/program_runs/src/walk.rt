@@ -6,7 +6,7 @@ use elf32_sparc::read_image;
 use notes::Notes;
 use std::alloc::Global;
 use v8_alu::{Codes, holds};
-use v8_decode::{Cond, Instr, decode};
+use v8_decode::{AluOp, Cond, Instr, decode};
 use v8_process::load;
 use v8_runner::run;
 use v8_step::Machine;
@@ -26,6 +26,8 @@ const CALL: u32 = 3;
 const OUT: u32 = 4;
 
 const LAND: u32 = 5;
+
+const CASE: u32 = 6;
 
 /// The condition of `ba`.
 const ALWAYS: u8 = 8;
@@ -107,13 +109,47 @@ impl Walk {
         }
     }
 
-    /// A delay slot was run: its edge is completed, and behind a jump into the text the landing.
+    /// A delay slot was run: its edge is completed, and behind a jump into the text the landing. A jump that has edges for
+    /// cases goes along one of these.
     fn leave_slot(&mut self, notes: &Notes, kind: u32) {
-        self.along(notes, kind, None);
-        let landed = word_at(notes, self.run.machine.pc());
-        if kind == OUT && landed.is_some() {
-            self.along(notes, LAND, Some(node_of(notes, landed)));
+        let landed = self.landed(notes);
+        if kind == OUT && has_cases(notes, self.node) {
+            self.along(notes, CASE, landed);
+            return;
         }
+        self.along(notes, kind, None);
+        if kind == OUT && landed.is_some() {
+            self.along(notes, LAND, landed);
+        }
+    }
+
+    /// Where the run stands in the text, the node at which a landing there goes on: the landed copy of the block, if it has
+    /// one, but for the words of a comparison's block up to the comparison.
+    fn landed(&self, notes: &Notes) -> Option<u32> {
+        let word = word_at(notes, self.run.machine.pc())?;
+        let block = node_of(notes, Some(word));
+        let copy = copy_of(notes, block);
+        if is_node(notes, copy)
+            && (has_cases(notes, block) || !self.is_compared_from(notes, word))
+        {
+            Some(copy)
+        } else {
+            Some(block)
+        }
+    }
+
+    /// Whether a comparison stands in the block of a word, from there on.
+    fn is_compared_from(&self, notes: &Notes, word: u32) -> bool {
+        let block = node_of(notes, Some(word));
+        for next in word..notes.words {
+            if node_of(notes, Some(next)) != block {
+                return false;
+            }
+            if compares(self.text.get(next as usize)) {
+                return true;
+            }
+        }
+        false
     }
 
     /// An instruction outside delay slots was run.
@@ -142,6 +178,36 @@ impl Walk {
             self.slot = Some(kind);
         }
     }
+}
+
+/// SUBcc.
+fn compares(word: Option<&u32>) -> bool {
+    match decode(word.copied().unwrap_or(0)) {
+        Instr::Alu { op, cc, .. } => op == AluOp::SUB && cc,
+        _ => false,
+    }
+}
+
+/// Whether a node has edges for cases.
+fn has_cases(notes: &Notes, node: u32) -> bool {
+    notes
+        .edges
+        .iter()
+        .any(|edge| edge.from == node && edge.kind == CASE)
+}
+
+/// The landed copy of a block.
+fn copy_of(notes: &Notes, block: u32) -> u32 {
+    node_of(notes, None).wrapping_add(1).wrapping_add(block)
+}
+
+/// Whether an edge or a place has the node.
+fn is_node(notes: &Notes, node: u32) -> bool {
+    notes
+        .edges
+        .iter()
+        .any(|edge| edge.from == node || edge.to == node)
+        || notes.ranges.iter().any(|range| range.node == node)
 }
 
 /// The word of the text at an address.
