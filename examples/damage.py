@@ -44,13 +44,13 @@ PROGRAMS = ['three_words', 'taken_branch', 'carry_loop', 'call_and_return', 'inn
     'window_overflow', 'branches']
 PROFILED = ['carry_loop', 'call_and_return', 'switch_of_four']
 
-SCRIPT = b'edge 0 add 0 1\nedge 1 top 1 %g2\n# kept\n\nedge 2 keep 2 %o0\nedge 1 put 3 4294967295\nedge 8 add 4194303 7\n'
+SCRIPT = b'edge 0 add 0 1\nedge 1 top 1 %g2\n# kept\n\nedge 2 keep 2 %o0\nedge 1 put 3 4294967295\nedge 8 count 4194302\n'
 
 ROWS = (b'edge 0 fall 00010054 00010058 1\nedge 1 taken 00010058 00010058 4\nedge 2 untaken 00010058 00010068 1\n'
     b'edges 9 counted 5 executions 6\n')
 
-INTERESTING = [0, 1, 2, 3, 4, 0x34, 0x54, 0xfff, 0x1000, 0x10000, 0x10054, 0x100000, 0x100001, 0x400000, 0x400004, 0x8000000,
-    0x7ffffffc, 0x80000000, 0xfffff000, 0xfffffffc, 0xffffffff]
+INTERESTING = [0, 1, 2, 3, 4, 0x34, 0x54, 0xfff, 0x1000, 0x10000, 0x10054, 0x100000, 0x100001, 0x400000, 0x400004, 0x800000,
+    0x800002, 0x8000000, 0x7ffffffc, 0x80000000, 0xfffff000, 0xfffffffc, 0xffffffff]
 
 
 def file_of(name):
@@ -151,7 +151,8 @@ def profile_asks(file):
     # those of a landing are made for each word, those of a switch's edges for each entry of its table
     once = sum(edge.kind != 'case' for edge in graph.own)
     entries = sum(one.count for one in graph.opens)
-    return once + text_words(file) + entries, len(graph.edges) - len(graph.firsts) - len(graph.copied)
+    # a counter has two cells
+    return once + text_words(file) + entries, 2 * (len(graph.edges) - len(graph.firsts) - len(graph.copied))
 
 
 def notes_fault(name, file):
@@ -264,7 +265,7 @@ class Inputs:
         patches, size = damaged(SCRIPT, [SCRIPT], Place((0, len(SCRIPT))))
         if random.random() < 0.7:
             at = random.randrange(len(SCRIPT))
-            patches.append((at, random.choice([b' ', b'\n', b'0', b'9', b'#', b'%', b'edge ', b'add', b'8', b'\0'])))
+            patches.append((at, random.choice([b' ', b'\n', b'0', b'9', b'#', b'%', b'edge ', b'add', b'count', b'8', b'\0'])))
         return Input('script', patches, size, list(script_calls(apply(SCRIPT, patches, size), len(self.edges))))
 
     def rows(self):

@@ -11,8 +11,8 @@ EDIT_LIMITS = 64, 128 * MIB
 RUN_LIMITS = 80, 1280 * MIB
 
 Header = namedtuple('Header', 'kind offset start physical size memory flags align')
-Notes = namedtuple('Notes', 'delta length tool start words entry base cells segments blocks edges ranges')
-Dump = namedtuple('Dump', 'kind number pc steps cells')
+Notes = namedtuple('Notes', 'version delta length tool start words entry base cells segments blocks edges ranges')
+Dump = namedtuple('Dump', 'version kind number pc steps length cells')
 
 
 def half(file, at):
@@ -181,12 +181,14 @@ def noted_blocks(words, count, text):
         yield first
 
 
-def noted_edges(words, count, blocks, cells):
+def noted_edges(words, count, blocks, cells, version):
     taken = set()
     for _ in range(count):
         at, (kind, source, target, cell) = words.row(4)
         keep(kind <= 6 and source <= 2 * blocks and target <= 2 * blocks, at)
-        keep(cell == 0xffffffff or cell < cells and cell not in taken, at)
+        # a counter has as many cells as the version
+        fits = cell % version == 0 and cell + version <= cells
+        keep(cell == 0xffffffff or fits and cell not in taken, at)
         taken.add(cell)
         yield kind, source, target, cell
 
@@ -201,37 +203,37 @@ def noted_ranges(words, count, blocks, segments):
         yield low, high, address, node
 
 
-def notes_in(told, size):
-    """The notes in these bytes, of a file of this size."""
+def notes_in(told, size, version):
+    """The notes of a version in these bytes, of a file of this size."""
     words = Words(told)
     delta = words.word(lambda delta: delta >= 4096)
     length = words.word(lambda length: delta + length <= size)
-    tool = words.word(lambda tool: tool <= 2)
+    tool = words.word(lambda tool: tool <= version + 1)
     start = words.word(lambda start: start % 4 == 0 and start >= 0x1000)
     count = words.word(lambda count: 1 <= count <= MIB and start + 4 * count <= 0x80000000)
     entry = words.word()
     base = words.word()
     cells = words.word()
     keep(base % 4 == 0 and base + 4 * cells <= 1 << 32, 24)
-    keep(cells <= 1 << 22, 28)
+    keep(cells <= version << 22, 28)
     segments = list(noted_segments(words, words.word(lambda segments: segments <= 8)))
     at, (block_count,) = words.row(1)
     keep(entry < block_count, 20)
     keep(block_count <= count, at)
     blocks = list(noted_blocks(words, block_count, count))
-    edges = list(noted_edges(words, words.word(lambda edges: edges < 1 << 24), block_count, cells))
+    edges = list(noted_edges(words, words.word(lambda edges: edges < 1 << 24), block_count, cells, version))
     ranges = list(noted_ranges(words, words.word(lambda ranges: ranges < 1 << 26), block_count, segments))
     keep(words.at == len(told), words.at)
-    return Notes(delta, length, tool, start, count, entry, base, cells, segments, blocks, edges, ranges)
+    return Notes(version, delta, length, tool, start, count, entry, base, cells, segments, blocks, edges, ranges)
 
 
 def notes_of(file):
     """The notes of a file, or None where it has none. Bad says where they break a rule."""
-    if len(file) < 4096 or word(file, 4032) != 0x45454c4e or word(file, 4036) != 1:
+    if len(file) < 4096 or word(file, 4032) != 0x45454c4e or word(file, 4036) not in (1, 2):
         return None
     at, size = word(file, 4040), word(file, 4044)
     keep(at + size <= len(file), 0)
-    return notes_in(file[at:at + size], len(file))
+    return notes_in(file[at:at + size], len(file), word(file, 4036))
 
 
 def are_mapped(file, notes):
@@ -247,21 +249,22 @@ def are_mapped(file, notes):
 def dump_of(file):
     words = Words(file)
     words.word(lambda mark: mark == 0x45454c44)
-    words.word(lambda version: version == 1)
+    version = words.word(lambda version: version in (1, 2))
     kind = words.word(lambda kind: kind <= 4)
     number = words.word(lambda number: number <= (255 if kind in (1, 2) else 0))
     pc = words.word()
     keep(len(file) >= 28, 20)
     steps = words.word() << 32 | words.word()
-    count = words.word(lambda count: len(file) == 32 + 4 * count)
-    return Dump(kind, number, pc, steps, [words.word() for _ in range(count)])
+    length = words.word() if version == 2 else 0
+    count = words.word(lambda count: len(file) == words.at + 4 * count)
+    return Dump(version, kind, number, pc, steps, length, [words.word() for _ in range(count)])
 
 
 # ---- scripts
 
 NUMBER = rb'(0|[1-9]\d*)'
 LINE = re.compile(rb'edge ' + NUMBER + rb' (?:(?:add|put) ' + NUMBER + rb' ' + NUMBER
-                  + rb'|(?:keep|top) ' + NUMBER + rb' %[goli][0-7])', re.ASCII)
+                  + rb'|(?:keep|top) ' + NUMBER + rb' %[goli][0-7]|count ' + NUMBER + rb')', re.ASCII)
 
 
 def script_fault(script, edges):
@@ -278,7 +281,8 @@ def script_fault(script, edges):
         edge, cell = numbers[:2]
         if edge >= edges:
             return number, 'edge'
-        if cell >= 1 << 22:
+        # a counter has the next cell, too
+        if cell + (b' count ' in line) >= 1 << 22:
             return number, 'cell'
         operations[edge] = operations.get(edge, 0) + 1
         if operations[edge] > 8:
@@ -343,9 +347,14 @@ def node_of(notes, pc):
     return None if any(start <= pc < end for start, end in notes.segments) else len(notes.blocks)
 
 
+def counter(version, cells, cell):
+    """The number of a counter, which has its high word first where it has two cells."""
+    return int.from_bytes(struct.pack(f'>{version}I', *cells[cell:cell + version]), 'big')
+
+
 def flow(notes, start, end, cells):
-    """The one flow from a node to another whose values on the edges with cells are these."""
-    values = [None if cell == 0xffffffff else cells[cell] for _, _, _, cell in notes.edges]
+    """The one flow from a node to another whose values on the edges with cells are those of their counters."""
+    values = [None if cell == 0xffffffff else counter(notes.version, cells, cell) for _, _, _, cell in notes.edges]
     at = [[] for _ in range(2 * len(notes.blocks) + 1)]
     excess = [(node == start) - (node == end) for node in range(len(at))]
     for number, (_, source, target, _) in enumerate(notes.edges):
@@ -376,14 +385,20 @@ def count_fault(notes, dump):
     """Why no counts can be rebuilt, as it is told behind a name, or None."""
     if notes.tool != 1 or not spans([row for row in notes.edges if row[3] == 0xffffffff], nodes_of(notes)):
         return 'no profile'
+    if dump.version != notes.version:
+        return f'dump version {dump.version}, notes version {notes.version}'
+    if notes.version == 2 and dump.length != notes.length:
+        return f'made for {dump.length} bytes, {notes.length} wanted'
     if len(dump.cells) != notes.cells:
         return f'{len(dump.cells)} cells, {notes.cells} wanted'
-    if dump.steps >= 1 << 32:
+    if notes.version == 1 and dump.steps >= 1 << 32:
         return f'{dump.steps} steps'
     node = node_of(notes, dump.pc)
     if node is None:
         return f'pc {dump.pc:08x} between places'
-    for number, value in enumerate(flow(notes, notes.entry, node, dump.cells)):
-        if value < 0:
-            return f'edge {number} would be {value}'
+    values = flow(notes, notes.entry, node, dump.cells)
+    impossible = [number for number, value in enumerate(values) if value < 0]
+    large = [number for number, value in enumerate(values) if value >= 1 << 64]
+    for number in impossible[:1] or large[:1]:
+        return f'edge {number} would be {values[number]}'
     return None

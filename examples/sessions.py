@@ -13,7 +13,7 @@ from written import written
 
 BAD_WORDS = b'eel: bad words\n'
 DEVICE_FAULT = b'eel: device fault\n'
-CRAMPED_PROFILE = b'eel: cramped: room 1050628 needed, 0 had\n'
+CRAMPED_PROFILE = b'eel: cramped: room 1050632 needed, 0 had\n'
 
 # Prints five bytes of its first argument, and exits with the number of arguments, its name among them.
 ARGUMENT = Program('prints_its_argument',
@@ -153,7 +153,7 @@ def broken():
     """three_words edited, with notes that name a tool that there isn't, in the word at 8."""
     file = bytearray(written(THREE_WORDS.file()))
     notes_at, = struct.unpack_from('>I', file, 4040)
-    file[notes_at + 8:notes_at + 12] = struct.pack('>I', 3)
+    file[notes_at + 8:notes_at + 12] = struct.pack('>I', 4)
     return bytes(file)
 
 
@@ -173,6 +173,10 @@ def restores():
 CARRY_LOOP = EDITED['carry_loop']
 THREE_LINES = b'edge 1 add 0 3\nedge 1 top 1 %g2\nedge 2 keep 2 %o0\n'
 
+# Counters of two cells, of which one begins before its low word is 0 again, and what they come to.
+TWO_COUNTERS = b'edge 0 put 1 4294967294\nedge 1 count 0\nedge 1 count 2\nedge 2 count 4\n'
+TWO_COUNTED = [1, 2, 0, 4, 0, 1]
+
 
 def bad_line(line, cause):
     return f'eel: carry_loop.bad: line {line}: {cause}\n'.encode()
@@ -184,6 +188,15 @@ BAD_LINES = {
     b'edge 1  add 0 1\n': bad_line(1, 'grammar'),
     b'# cells\n\nedge 1 add 4194304 1\n': bad_line(3, 'cell'),
     b'edge 1 add 0 1\n' * 9: bad_line(9, 'operations'),
+    b'edge 1 count 0\nedge 1 count 4194303\n': bad_line(2, 'cell'),
+    b'edge 9 count 4194303\n': bad_line(1, 'edge'),
+    b'edge 1 count 0 1\n': bad_line(1, 'grammar'),
+    b'edge 1 count 01\n': bad_line(1, 'grammar'),
+    b'edge 1 count\n': bad_line(1, 'grammar'),
+    b'edge 1 count \n': bad_line(1, 'grammar'),
+    b'edge 1 count %g1\n': bad_line(1, 'grammar'),
+    b'edge 1 counts 0\n': bad_line(1, 'grammar'),
+    b'edge 1 count 4294967296\n': bad_line(1, 'grammar'),
 }
 
 
@@ -214,6 +227,11 @@ def scripts():
     yield 'same early again', b''
     yield eel('run edited -d -- -- x', 0, err=b'exit 4\n')
     yield 'same -- dump', b''
+    yield 'hold counters.script', b''
+    yield 'hold counters.cells', b''
+    yield eel('edit carry_loop edited script counters.script', 0)
+    yield eel('run edited -d dump', 0, err=b'exit 4\n')
+    yield 'cells dump counters.cells', b''
     yield eel('run carry_loop -d dump', 65, err=b'eel: carry_loop: no notes\n')
     yield eel('edit carry_loop edited script missing', 74, err=DEVICE_FAULT)
     yield eel('edit carry_loop edited script carry_loop', 65, err=b'eel: carry_loop: line 1: grammar\n')
@@ -402,20 +420,47 @@ def weighed():
     yield eel('edit cramped weighed profile carry_loop.rows', 65, err=b'eel: carry_loop.rows: line 1: edge\n')
 
 
-def dump(pc, steps, cells):
-    """What a run that hasn't ended has come to."""
-    return struct.pack(f'>4sIIIIQI{len(cells)}I', b'EELD', 1, 0, 0, pc, steps, len(cells), *cells)
+def dump(length, pc, steps, cells):
+    """What a run that hasn't ended has come to, of a file whose original has this length."""
+    head = struct.pack('>4s4IQ2I', b'EELD', 2, 0, 0, pc, steps, length, len(cells))
+    return head + words_of(cells)
 
 
-# Dumps that no run of three_words with counters makes, whose counted edge is its landing, or of taken_branch, whose branch
-# is counted where it is taken: twice, where the block was entered once.
-DUMPS = {'taken_twice': dump(0, 3, [2, 0, 0, 0, 0, 0, 0]), 'long_run': dump(0, 1 << 32, [1]), 'two_cells': dump(0, 3, [1, 1]),
-    'in_no_place': dump(0xfffff000, 3, [0]), 'cut_dump': dump(0, 3, [1])[:31],
-    'two_cells_of_a_long_run': dump(0, 1 << 32, [1, 1])}
+def narrow_dump(pc, steps, cells):
+    """The same in version 1, whose counters have one cell each."""
+    return struct.pack('>4s4IQI', b'EELD', 1, 0, 0, pc, steps, len(cells)) + words_of(cells)
+
+
+def of_three_words(pc, steps, cells):
+    return dump(len(THREE_WORDS.file()), pc, steps, cells)
+
+
+# A dump of taken_branch, whose branch is counted where it is taken: twice, where the block was entered once.
+TAKEN_TWICE = dump(len(EDITED['taken_branch'].file()), 0, 3, [0, 2, *[0] * 12])
+
+# Dumps of three_words with counters, whose counted edge is its landing. No run makes them.
+DUMPS = {'taken_twice': TAKEN_TWICE, 'three_cells': of_three_words(0, 3, [0, 1, 1]),
+    'in_no_place': of_three_words(0xfffff000, 3, [0, 0]), 'cut_dump': of_three_words(0, 3, [0, 1])[:35],
+    'three_cells_of_a_long_run': of_three_words(0, 1 << 32, [0, 1, 1]),
+    'long_run': of_three_words(0, 1 << 32, [1, 0]), 'longest_run': of_three_words(0, (1 << 64) - 1, [0xffffffff, 0xfffffffe]),
+    'too_many_landings': of_three_words(0, (1 << 64) - 1, [0xffffffff, 0xffffffff]),
+    'of_another': dump(len(CARRY_LOOP.file()), 0, 1 << 32, [0, 1, 1]),
+    'of_an_older_version': narrow_dump(0xfffff000, 1 << 32, [1, 1, 1])}
+
+# The same of carry_loop with counters of one cell, as notes of version 1 tell of it. They stand in program_runs, with the dump
+# of its run, as EEL wrote them before counters had two cells.
+NARROW_DUMPS = {'narrow_long_run': narrow_dump(0, 1 << 32, [0] * 5), 'four_cells_of_a_long_run': narrow_dump(0, 1 << 32, [0] * 4),
+    'narrow_in_no_place': narrow_dump(0xfffff000, 3, [0] * 5), 'narrow_cut': narrow_dump(0, 3, [1])[:31],
+    'of_a_newer_version': dump(0, 0xfffff000, 1 << 32, [1, 1, 1])}
+
+
+def three_words_counts(landings):
+    lines = f'edge 0 fall 00010054 x {landings + 1}\nedge 1 land x 00010054 {landings}\n'
+    return f'{lines}edges 2 counted 1 executions {2 * landings + 1}\n'.encode()
 
 
 def uncounted():
-    """Files and dumps that have no counts."""
+    """Files and dumps that have no counts, and dumps of long runs."""
     yield 'hold three_words', b''
     for name in DUMPS:
         yield f'hold {name}', b''
@@ -423,12 +468,16 @@ def uncounted():
     yield eel('edit three_words profiled profile', 0)
     yield eel('counts profiled missing', 74, err=DEVICE_FAULT)
     yield eel('counts three_words cut_dump', 65, err=b'eel: three_words: no notes\n')
-    yield eel('counts plain cut_dump', 65, err=b'eel: cut_dump: bad dump at 28\n')
-    yield eel('counts plain two_cells', 65, err=b'eel: plain: no profile\n')
-    yield eel('counts profiled two_cells', 65, err=b'eel: two_cells: 2 cells, 1 wanted\n')
-    yield eel('counts profiled two_cells_of_a_long_run', 65, err=b'eel: two_cells_of_a_long_run: 2 cells, 1 wanted\n')
-    yield eel('counts profiled long_run', 65, err=b'eel: long_run: 4294967296 steps\n')
+    yield eel('counts plain cut_dump', 65, err=b'eel: cut_dump: bad dump at 32\n')
+    yield eel('counts plain of_an_older_version', 65, err=b'eel: plain: no profile\n')
+    yield eel('counts profiled of_an_older_version', 65, err=b'eel: of_an_older_version: dump version 1, notes version 2\n')
+    yield eel('counts profiled of_another', 65, err=b'eel: of_another: made for 112 bytes, 96 wanted\n')
+    yield eel('counts profiled three_cells', 65, err=b'eel: three_cells: 3 cells, 2 wanted\n')
+    yield eel('counts profiled three_cells_of_a_long_run', 65, err=b'eel: three_cells_of_a_long_run: 3 cells, 2 wanted\n')
     yield eel('counts profiled in_no_place', 65, err=b'eel: in_no_place: pc fffff000 between places\n')
+    yield eel('counts profiled long_run', 0, three_words_counts(1 << 32))
+    yield eel('counts profiled longest_run', 0, three_words_counts((1 << 64) - 2))
+    yield eel('counts profiled too_many_landings', 65, err=b'eel: too_many_landings: edge 0 would be 18446744073709551616\n')
     yield 'hold taken_branch', b''
     yield eel('edit taken_branch branching profile', 0)
     yield eel('counts branching taken_twice', 65, err=b'eel: taken_twice: edge 1 would be -1\n')
@@ -436,6 +485,33 @@ def uncounted():
     yield eel('counts profiled dump', 0, b'edges 2 counted 1 executions 0\n')
     yield eel('counts profiled', 64, err=BAD_WORDS)
     yield eel('counts profiled dump dump', 64, err=BAD_WORDS)
+
+
+def narrow():
+    """A file with counters of one cell, as it was written before, and dumps of it."""
+    yield 'hold carry_loop', b''
+    yield 'hold carry_loop.narrow', b''
+    yield 'hold carry_loop.narrow_dump', b''
+    for name in NARROW_DUMPS:
+        yield f'hold {name}', b''
+    yield eel('restore carry_loop.narrow restored', 0)
+    yield 'same restored carry_loop', b''
+    yield eel('run carry_loop.narrow -d dump', 0, err=b'exit 4\n')
+    yield 'same dump carry_loop.narrow_dump', b''
+    yield eel('counts carry_loop.narrow carry_loop.narrow_dump', 0, rows('carry_loop'))
+    yield eel('run carry_loop.narrow -n 0 -d dump', 0, err=b'stopped 0\n')
+    yield eel('counts carry_loop.narrow dump', 0, b'edges 9 counted 5 executions 0\n')
+    yield eel('counts carry_loop.narrow narrow_cut', 65, err=b'eel: narrow_cut: bad dump at 28\n')
+    yield eel('counts carry_loop.narrow of_a_newer_version', 65, err=b'eel: of_a_newer_version: dump version 2, notes version 1\n')
+    yield eel('counts carry_loop.narrow four_cells_of_a_long_run', 65, err=b'eel: four_cells_of_a_long_run: 4 cells, 5 wanted\n')
+    yield eel('counts carry_loop.narrow narrow_long_run', 65, err=b'eel: narrow_long_run: 4294967296 steps\n')
+    yield eel('counts carry_loop.narrow narrow_in_no_place', 65, err=b'eel: narrow_in_no_place: pc fffff000 between places\n')
+    yield eel('edit carry_loop written profile', 0)
+    yield eel('run written -d wide', 0, err=b'exit 4\n')
+    yield eel('counts written wide', 0, rows('carry_loop'))
+    yield eel('counts written carry_loop.narrow_dump', 65,
+        err=b'eel: carry_loop.narrow_dump: dump version 1, notes version 2\n')
+    yield eel('counts carry_loop.narrow wide', 65, err=b'eel: wide: dump version 2, notes version 1\n')
 
 
 def told(number, count, executions):
@@ -466,8 +542,8 @@ def demo():
 
 
 SESSIONS = {'edits': list(edits()), 'scripts': list(scripts()), 'words': list(words()), 'restores': list(restores()),
-    'refusals': list(refusals()), 'profiles': list(profiles()), 'uncounted': list(uncounted()), 'demo': list(demo()),
-    'listed': list(listed()), 'weighed': list(weighed()),
+    'refusals': list(refusals()), 'profiles': list(profiles()), 'uncounted': list(uncounted()), 'narrow': list(narrow()),
+    'demo': list(demo()), 'listed': list(listed()), 'weighed': list(weighed()),
     'faulty': list(tables.faulty()), 'noted': list(tables.noted()), 'dumped': list(tables.dumped()),
     'devices': list(tables.devices()), 'long': list(tables.long())}
 
@@ -478,6 +554,8 @@ def files():
         yield f'{name}.edited', written(EDITED[name].file())
     yield 'carry_loop.script', THREE_LINES
     yield 'carry_loop.cells', words_of([12, 4, 4])
+    yield 'counters.script', TWO_COUNTERS
+    yield 'counters.cells', words_of(TWO_COUNTED)
     for number, script in enumerate(BAD_LINES):
         yield f'carry_loop.bad{number}', script
     for name in COUNTED:
@@ -503,7 +581,7 @@ def files():
     for number, (lines, _) in enumerate(bad_rows()):
         yield f'rows.bad{number}', lines.encode()
     yield 'carry_loop.words', CARRY_LOOP.file()[84:104]
-    yield from DUMPS.items()
+    yield from {**DUMPS, **NARROW_DUMPS}.items()
     for name, lines in SESSIONS.items():
         yield name, ''.join(f'{line}\n' for line, _ in lines).encode()
 

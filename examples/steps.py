@@ -67,6 +67,12 @@ def cells(file):
     return base, {cell: number for number, (_, _, _, cell) in enumerate(edges) if cell != 0xffffffff}
 
 
+def is_one_more(word, register):
+    """The low word of a counter is raised: with the codes where these are dead, and else into another register."""
+    with_codes = 0x80802001 | register << 25 | register << 14
+    return word == with_codes or word & ~(31 << 25) == 0x80002001 | register << 14 and word >> 25 & 31 != register
+
+
 def counters(file, original):
     """How many counters of each sort the code of an edited file has, and how many of them spill a register."""
     phoff, = struct.unpack_from('>I', file, 28)
@@ -79,12 +85,12 @@ def counters(file, original):
     for at in range(len(words) - 3):
         high, load, add, store = words[at:at + 4]
         base, register = high >> 25 & 31, load >> 25 & 31
-        low = load & 0x3ff
-        edge = edge_of.get(((high & 0x3fffff) << 10 | low) - base_of_cells >> 2)
+        low = (load & 0x1fff) - 4
+        edge = edge_of.get(((high & 0x3fffff) << 10 | low & 0x3ff) - base_of_cells >> 2)
         if (edge is not None and high >> 30 == 0 and high >> 22 & 7 == 4
                 and load >> 30 == 3 and load >> 19 & 63 == 0 and load >> 14 & 31 == base
-                and add == 0x80002001 | register << 25 | register << 14
-                and store == 0xc0202000 | register << 25 | base << 14 | low):
+                and is_one_more(add, register)
+                and store == 0xc0202000 | (add >> 25 & 31) << 25 | base << 14 | low + 4):
             found[named[edge]] += 1
             spilled[named[edge]] += at > 0 and is_kept(words[at - 1])
     return found, spilled

@@ -215,8 +215,10 @@ def faulty():
 
 # ---- notes
 
-# What the notes of carry_loop's profile have: four segments, four blocks, nine edges, five cells, and a place for each word
-# and for each way past the branch's slot.
+# What the notes of carry_loop's profile have: four segments, four blocks, nine edges, five counters of one cell or of two, and
+# a place for each word and for each way past the branch's slot.
+COUNTED = [1, 5, 6, 7, 8]  # the edges off the tree
+COUNTERS = len(COUNTED)
 BLOCKS_AT = 36 + 8 * 4
 EDGES_AT = BLOCKS_AT + 4 + 4 * 4
 RANGES_AT = EDGES_AT + 4 + 16 * 9
@@ -236,7 +238,7 @@ def place(number):
     return RANGES_AT + 4 + 16 * number
 
 
-# What is changed in the notes, and the offset that is named.
+# What is changed in the notes of either version, and the offset that is named.
 BAD_NOTES = [
     ({0: '00000fff'}, 0),
     ({4: 'ffffffff'}, 4),
@@ -251,7 +253,6 @@ BAD_NOTES = [
     ({24: '00020001'}, 24),
     ({24: 'fffffff0'}, 24),
     ({28: '40000000'}, 24),
-    ({28: '00400001'}, 28),
     ({32: '00000009'}, 32),
     ({segment(0) + 4: '00000000'}, segment(0)),
     ({segment(0) + 4: 'ffffffff'}, segment(0)),
@@ -269,7 +270,8 @@ BAD_NOTES = [
     ({edge(0): '00000007'}, edge(0)),
     ({edge(1) + 4: '00000009'}, edge(1)),
     ({edge(2) + 8: '00000009'}, edge(2)),
-    ({edge(0) + 12: '00000005'}, edge(0)),
+    ({edge(0) + 12: '0000000a'}, edge(0)),
+    ({edge(0) + 12: 'fffffffe'}, edge(0)),
     ({edge(0) + 12: '00000000', edge(1) + 12: 'ffffffff', edge(2) + 12: '00000000'}, edge(2)),
     ({edge(8) + 8: 'ffffffff'}, edge(8)),
     ({RANGES_AT: '04000000'}, RANGES_AT),
@@ -286,22 +288,30 @@ BAD_NOTES = [
 ]
 
 
-def profile_notes():
+# What only one of them refuses.
+BAD_BY_VERSION = {
+    1: [({8: '00000003'}, 8), ({28: '00400001'}, 28), ({edge(0) + 12: '00000005'}, edge(0))],
+    2: [({8: '00000004'}, 8), ({28: '00800001'}, 28), ({edge(0) + 12: '00000001'}, edge(0)),
+        ({edge(0) + 12: '00000009'}, edge(0)), ({28: '00000009'}, edge(COUNTED[-1]))],
+}
+
+
+def profile_notes(version):
     """Notes of that shape, made of those of the edit without snippets."""
     file = written(CARRY_LOOP)
     at, size = judge.word(file, 4040), judge.word(file, 4044)
     plain = bytearray(file[at:at + size])
     plain[8:12] = struct.pack('>I', 1)
-    plain[24:36] = struct.pack('>3I', 0x1f000, 5, 4)
+    plain[24:36] = struct.pack('>3I', 0x1f000, version * COUNTERS, 4)
     notes = plain[:36] + struct.pack('>2I', 0x1f000, 0x1000) + plain[36:]
-    for cell in range(5):
-        notes[edge(cell) + 12:edge(cell) + 16] = struct.pack('>I', cell)
+    for counter, number in enumerate(COUNTED):
+        notes[edge(number) + 12:edge(number) + 16] = struct.pack('>I', version * counter)
     return bytes(notes), len(file) + 8
 
 
-def place_of_fault(notes, size):
+def place_of_fault(notes, size, version):
     try:
-        judge.notes_in(notes, size)
+        judge.notes_in(notes, size, version)
     except judge.Bad as bad:
         return bad.args[0]
     return None
@@ -327,37 +337,59 @@ def counted(name):
     return lines.encode()
 
 
+def badly_noted(written, version, read):
+    """Notes of a version with each rule broken, by commands that read them."""
+    notes, size = profile_notes(version)
+    assert place_of_fault(notes, size, version) is None and len(notes) == NOTES_END
+    for patches, at in BAD_NOTES + BAD_BY_VERSION[version]:
+        assert place_of_fault(patched(notes, patches), size, version) == at, patches
+        yield patch('noted', written, 'bad', patches)
+        yield from read('bad', bad_notes('bad', at))
+
+
+def cut_off(written, version):
+    """Notes cut off at each word."""
+    notes, size = profile_notes(version)
+    for cut in range(place(2)):
+        if cut % 4 in (0, 3):
+            assert place_of_fault(notes[:cut], size, version) == cut // 4 * 4
+            yield patch('patch', written, 'bad', {4044: f'{cut:08x}'})
+            # a run takes its memory before its notes are looked at
+            read = read_by_all if cut % 16 == 0 else read_by_some
+            yield from read('bad', bad_notes('bad', cut // 4 * 4))
+
+
 def noted():
     """Notes and dumps with each rule broken, and cut off at each word, by every command that reads them."""
     yield 'watch', b''
     yield 'hold carry_loop', b''
+    yield 'hold carry_loop.narrow', b''
     yield call('edit carry_loop written profile', 0, changed=['written'])
     yield call('run written -d dump', 0, err=b'exit 4\n', changed=['dump'])
     yield call('counts written dump', 0, counted('carry_loop'))
-    notes, size = profile_notes()
-    assert place_of_fault(notes, size) is None and len(notes) == NOTES_END
-    for patches, at in BAD_NOTES:
-        assert place_of_fault(patched(notes, patches), size) == at, patches
-        yield patch('noted', 'written', 'bad', patches)
-        yield from read_by_all('bad', bad_notes('bad', at))
-    for cut in range(place(2)):
-        if cut % 4 in (0, 3):
-            assert place_of_fault(notes[:cut], size) == cut // 4 * 4
-            yield patch('patch', 'written', 'bad', {4044: f'{cut:08x}'})
-            # a run takes its memory before its notes are looked at
-            read = read_by_all if cut % 16 == 0 else read_by_some
-            yield from read('bad', bad_notes('bad', cut // 4 * 4))
+    yield from badly_noted('written', 2, read_by_all)
+    yield from badly_noted('carry_loop.narrow', 1, read_by_some)
+    yield from cut_off('written', 2)
     # an edge or a place at a landed copy, which no edge without a cell joins to the other nodes
+    notes, size = profile_notes(2)
     for patches in ({edge(1) + 4: '00000005'}, {edge(2) + 8: '00000008'}, {place(2) + 12: '00000006'}):
-        assert place_of_fault(patched(notes, patches), size) is None
+        assert place_of_fault(patched(notes, patches), size, 2) is None
         yield patch('noted', 'written', 'bad', patches)
         yield call('counts bad dump', 65, err=b'eel: bad: no profile\n')
+    # a tool that version 2 alone has
+    yield patch('noted', 'written', 'bad', {8: '00000003'})
+    yield call('counts bad dump', 65, err=b'eel: bad: no profile\n')
     for at in (4040, 4044):
         yield patch('patch', 'written', 'bad', {at: 'ffffffff'})
         yield from read_by_all('bad', bad_notes('bad', 0))
-    for patches in ({4032: '45454c44'}, {4036: '00000002'}, {4032: '00000000'}):
+    for patches in ({4032: '45454c44'}, {4036: '00000000'}, {4036: '00000003'}, {4036: '00020000'}, {4032: '00000000'}):
         yield patch('patch', 'written', 'bad', patches)
         yield from read_by_all('bad', b'eel: bad: no notes\n')
+    # notes of one version that are read as those of the other
+    yield patch('patch', 'written', 'bad', {4036: '00000001'})
+    yield call('counts bad dump', 65, err=b'eel: dump: dump version 2, notes version 1\n')
+    yield patch('patch', 'carry_loop.narrow', 'bad', {4036: '00000002'})
+    yield from read_by_all('bad', bad_notes('bad', edge(COUNTED[1])))
     # judged as a file before its notes are looked at
     yield 'cut written bad 4095', b''
     yield call('restore bad out', 65, err=b'eel: bad: no notes\n')
@@ -369,32 +401,40 @@ def noted():
         yield call('run bad -d other', 65, err=bad_notes('bad', 24))
         yield call('run bad', 0, err=b'exit 4\n')
         yield call('counts bad dump', 0, counted('carry_loop'))
-    yield patch('noted', 'written', 'bad', {24: '00010054'})
+    yield patch('noted', 'carry_loop.narrow', 'bad', {24: '00010054'})
     yield call('run bad -d other', 0, err=b'exit 4\n', changed=['other'])
     yield 'hold carry_loop.words', b''
     yield 'cells other carry_loop.words', b''
 
 
-# The fields of a dump: how long each is, from its offset on.
-DUMP_FIELDS = [0, 4, 8, 12, 16, 20, 28]
+# The fields of a dump of either version: where each begins.
+DUMP_FIELDS = {1: [0, 4, 8, 12, 16, 20, 28], 2: [0, 4, 8, 12, 16, 20, 28, 32]}
 
-BAD_DUMPS = [
-    ({0: '45454c4e'}, 0),
-    ({4: '00000000'}, 4),
-    ({4: '00000002'}, 4),
-    ({8: '00000005'}, 8),
-    ({8: 'ffffffff'}, 8),
-    ({12: '00000100'}, 12),
-    ({8: '00000000'}, 12),
-    ({8: '00000002', 12: '00000100'}, 12),
-    ({8: '00000003', 12: '00000001'}, 12),
-    ({8: '00000004', 12: '00000001'}, 12),
-    ({28: '00000004'}, 28),
-    ({28: '00000006'}, 28),
-    ({28: '40000005'}, 28),
-    ({52: '00'}, 28),
-    ({52: '00000000'}, 28),
-]
+
+def bad_dumps(version):
+    """What is changed in a dump of a version with five counters, and the offset that is named."""
+    count_at, count = DUMP_FIELDS[version][-1], version * COUNTERS
+    end = count_at + 4 + 4 * count
+    # as version 1 its number of cells would be the size of the original
+    as_narrow = [({4: '00000001'}, 28)] if version == 2 else []
+    return as_narrow + [
+        ({0: '45454c4e'}, 0),
+        ({4: '00000000'}, 4),
+        ({4: '00000003'}, 4),
+        ({4: '01000000'}, 4),
+        ({8: '00000005'}, 8),
+        ({8: 'ffffffff'}, 8),
+        ({12: '00000100'}, 12),
+        ({8: '00000000'}, 12),
+        ({8: '00000002', 12: '00000100'}, 12),
+        ({8: '00000003', 12: '00000001'}, 12),
+        ({8: '00000004', 12: '00000001'}, 12),
+        ({count_at: f'{count - 1:08x}'}, count_at),
+        ({count_at: f'{count + 1:08x}'}, count_at),
+        ({count_at: f'{(1 << 30) + count:08x}'}, count_at),
+        ({end: '00'}, count_at),
+        ({end: '00000000'}, count_at),
+    ]
 
 
 def dump_fault(dump):
@@ -405,27 +445,42 @@ def dump_fault(dump):
     return None
 
 
+def ended_dump(version):
+    """Of that shape, with cells of some kind."""
+    count = version * COUNTERS
+    told = [len(CARRY_LOOP), count] if version == 2 else [count]
+    return struct.pack(f'>4s4IQ{len(told) + count}I', b'EELD', version, 1, 4, 0x20000, 40, *told, *range(count))
+
+
+def badly_dumped(written, dump, version):
+    """Dumps of a version with each rule broken, and each first part of one."""
+    told = ended_dump(version)
+    for patches, at in bad_dumps(version):
+        assert dump_fault(patched(told, patches)) == at, patches
+        yield patch('patch', dump, 'bad', patches)
+        yield call(f'counts {written} bad', 65, err=f'eel: bad: bad dump at {at}\n'.encode())
+    for size in range(len(told)):
+        at = max(at for at in DUMP_FIELDS[version] if at <= size)
+        assert dump_fault(told[:size]) == at
+        yield f'cut {dump} bad {size}', b''
+        yield call(f'counts {written} bad', 65, err=f'eel: bad: bad dump at {at}\n'.encode())
+
+
 def dumped():
     """Dumps with each rule broken, and each first part of one."""
     yield 'watch', b''
     yield 'hold carry_loop', b''
+    yield 'hold carry_loop.narrow', b''
+    yield 'hold carry_loop.narrow_dump', b''
     yield call('edit carry_loop written profile', 0, changed=['written'])
     yield call('run written -d dump', 0, err=b'exit 4\n', changed=['dump'])
-    dump = struct.pack('>4s5IQI', b'EELD', 1, 1, 4, 0x20000, 0, 40, 5)[:20] + struct.pack('>QI5I', 40, 5, *range(5))
-    for patches, at in BAD_DUMPS:
-        assert dump_fault(patched(dump, patches)) == at, patches
-        yield patch('patch', 'dump', 'bad', patches)
-        yield call('counts written bad', 65, err=f'eel: bad: bad dump at {at}\n'.encode())
-    for size in range(32 + 4 * 5):
-        at = max(at for at in DUMP_FIELDS if at <= size)
-        assert dump_fault(dump[:size]) == at
-        yield f'cut dump bad {size}', b''
-        yield call('counts written bad', 65, err=f'eel: bad: bad dump at {at}\n'.encode())
+    yield from badly_dumped('written', 'dump', 2)
+    yield from badly_dumped('carry_loop.narrow', 'carry_loop.narrow_dump', 1)
     # notes are judged before the dump, and the dump before there are counts
-    yield 'cut dump bad 31', b''
+    yield 'cut dump bad 35', b''
     yield call('counts carry_loop bad', 65, err=b'eel: carry_loop: no notes\n')
     yield call('edit carry_loop plain plain', 0, changed=['plain'])
-    yield call('counts plain bad', 65, err=b'eel: bad: bad dump at 28\n')
+    yield call('counts plain bad', 65, err=b'eel: bad: bad dump at 32\n')
     yield call('counts plain dump', 65, err=b'eel: plain: no profile\n')
 
 
@@ -547,11 +602,18 @@ REFUSED = {
     'run unnoted -d out': ([fetch, read(2)], told('unnoted', ': bad notes at ', '8', '\n'), 65),
     'counts profiled short': ([fetch, fetch], told('short', ': bad dump at ', '0', '\n'), 65),
     'counts plain dump': ([fetch, fetch], told('plain', ': no profile\n'), 65),
-    'counts profiled two_cells': ([fetch, fetch], told('two_cells', ': ', '2', ' cells, ', '1', ' wanted\n'), 65),
-    'counts profiled long_run': ([fetch, fetch], told('long_run', ': ', '4294967296', ' steps\n'), 65),
-    'counts profiled in_no_place': ([fetch, fetch], told('in_no_place', ': pc ', 'fffff000', ' between places\n'), 65),
+    'counts three_profiled of_an_older_version': (
+        [fetch, fetch], told('of_an_older_version', ': dump version ', '1', ', notes version ', '2', '\n'), 65),
+    'counts three_profiled of_another': (
+        [fetch, fetch], told('of_another', ': made for ', str(len(CARRY_LOOP)), ' bytes, ', str(len(THREE_WORDS)), ' wanted\n'), 65),
+    'counts three_profiled three_cells': (
+        [fetch, fetch], told('three_cells', ': ', '3', ' cells, ', '2', ' wanted\n'), 65),
+    'counts carry_loop.narrow narrow_long_run': ([fetch, fetch], told('narrow_long_run', ': ', '4294967296', ' steps\n'), 65),
+    'counts three_profiled in_no_place': ([fetch, fetch], told('in_no_place', ': pc ', 'fffff000', ' between places\n'), 65),
     'counts branching taken_twice': (
         [fetch, fetch], told('taken_twice', ': edge ', '1', ' would be ', '-1', '\n'), 65),
+    'counts three_profiled too_many_landings': (
+        [fetch, fetch], told('too_many_landings', ': edge ', '0', ' would be ', '18446744073709551616', '\n'), 65),
     'edit cramped out plain': ([fetch], told('cramped', ': room ', '1050112', ' needed, ', '0', ' had\n'), 69),
     'show missing': ([fetch], [DEVICE_FAULT], 74),
 }
@@ -638,8 +700,9 @@ def long():
 def devices():
     """Every command with each call of each device failing in turn, and in streams of each size that matters."""
     yield 'watch', b''
-    for name in ('three_words', 'three_words.listing', 'echoes', 'echoes.counting', 'echoes.rows', 'cramped', 'taken_branch', 'taken_twice', 'long_run',
-            'two_cells', 'in_no_place'):
+    for name in ('three_words', 'three_words.listing', 'echoes', 'echoes.counting', 'echoes.rows', 'cramped', 'taken_branch',
+            'taken_twice', 'three_cells', 'in_no_place', 'of_another', 'of_an_older_version', 'too_many_landings',
+            'carry_loop.narrow', 'narrow_long_run'):
         yield f'hold {name}', b''
     yield 'input echoes.input', b''
     yield 'cut three_words out 0', b''
@@ -649,6 +712,7 @@ def devices():
     yield call('edit echoes profiled profile', 0, changed=['profiled'])
     yield call('run profiled -d dump', 0, ECHOES.output, ECHOES.errors + b'exit 3\n', ['dump'])
     yield call('edit taken_branch branching profile', 0, changed=['branching'])
+    yield call('edit three_words three_profiled profile', 0, changed=['three_profiled'])
     yield patch('noted', 'profiled', 'unnoted', {8: 'ffffffff'})
     for words, command in DONE.items():
         yield from good(words, command)

@@ -73,7 +73,7 @@ def written(original):
     entered = at[pieces.enter(graph.holding(graph.entry), graph.entry)]
     head = original[:16] + struct.pack('>HHIIII', 2, 2, 1, entered, 52, notes_at + len(told) if sections else 0)
     head += original[36:40] + struct.pack('>6H', 52, 32, len(headers), 40, section_count, names)
-    locator = words(0x45454c4e, 1, notes_at, len(told))
+    locator = words(0x45454c4e, 2, notes_at, len(told))
     file = b''
     for where, part in ((0, b''.join([head, *headers])), (4032, locator), *parts, (notes_at, told + sections)):
         file += bytes(where - len(file)) + part

@@ -4,7 +4,7 @@ use Rattle.std.specs.Prelude.{IsTrue, ℤ}
 use Rattle.std.proofs.lemmas.Bool.{eq-eqb, or_left, or_right}
 use Rattle.std.proofs.lemmas.List.{length-map}
 use Rattle.std.proofs.lemmas.List.Elements.{All-map}
-use Rattle.elf32_sparc.specs.Notes.{NoteEdge}
+use Rattle.elf32_sparc.specs.Notes.{NoteEdge, counter_width}
 use Rattle.flows.specs.Flows.{EdgeSet, Graph, rest}
 use Rattle.flows.specs.Links.{JoinsNodes, graph_of, marked}
 use Rattle.flows.specs.Trees.{IsSpanningTree}
@@ -30,7 +30,7 @@ module _ (n : declared_notes.Notes) (nodes : List Bool) (are_nodes : AreNodes (n
         (All-map (λ (l : Link). IsTrue (marked nodes l.from) × IsTrue (marked nodes l.to)) link_of (map edge_seen n.edges.items)
         (λ k d l.
         let edges = map edge_seen n.edges.items in
-        let inside = edges_inside (length n.blocks.items) n.cells [] edges rules.edges k d l in
+        let inside = edges_inside (counter_width n.version) (length n.blocks.items) n.cells [] edges rules.edges k d l in
         let edge : NoteEdge = get_or edges k d in (
           node_marked edge.from inside.0
               (edge_named (notes_seen n) edge.from k d l (or_left _ _ (eq-eqb edge.from edge.from refl))),
@@ -68,6 +68,8 @@ pub length_links : (n : declared_notes.Notes) (links : List Link) → links ≡ 
     → length links ≡ length n.edges.items
 length_links n links are = ap length are ∙ length-map n.edges.items _
 
-pub length_values : (n : declared_notes.Notes) (cells : List ℕ) (values : List ℤ)
-    → values ≡ map (λ edge. cell_value cells (edge_seen edge).cell) n.edges.items → length values ≡ length n.edges.items
-length_values n cells values are = ap length are ∙ length-map n.edges.items (λ edge. cell_value cells (edge_seen edge).cell)
+pub length_values : (n : declared_notes.Notes) (version : ℕ) (cells : List ℕ) (values : List ℤ)
+    → values ≡ map (λ edge. cell_value version cells (edge_seen edge).cell) n.edges.items
+    → length values ≡ length n.edges.items
+length_values n version cells values are =
+    ap length are ∙ length-map n.edges.items (λ edge. cell_value version cells (edge_seen edge).cell)

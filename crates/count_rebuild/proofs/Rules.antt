@@ -55,13 +55,13 @@ counted_is n counted are = λ i e. at e i
         ap (λ (marks : List Bool). marked marks e) (are ∙ sym (map-map edge_seen is_counted n.edges.items))
         ∙ get_or-map is_counted (map edge_seen n.edges.items) e no_edge
 
-pub values_are : (n : declared_notes.Notes) (cells : List ℕ) (values : List ℤ)
-    → values ≡ map (λ edge. cell_value cells (edge_seen edge).cell) n.edges.items
-    → int_at values ≡ (λ e. cell_value cells (edge_at (notes_seen n) e).cell)
-values_are n cells values are = λ i e. at e i
+pub values_are : (n : declared_notes.Notes) (version : ℕ) (cells : List ℕ) (values : List ℤ)
+    → values ≡ map (λ edge. cell_value version cells (edge_seen edge).cell) n.edges.items
+    → int_at values ≡ (λ e. cell_value version cells (edge_at (notes_seen n) e).cell)
+values_are n version cells values are = λ i e. at e i
   where
     held : NoteEdge → ℤ
-    held edge = cell_value cells edge.cell
+    held edge = cell_value version cells edge.cell
 
     at : (e : ℕ) → int_at values e ≡ held (edge_at (notes_seen n) e)
     at e =
@@ -79,16 +79,16 @@ same_nodes g p q t same h = record {
 
 -- ---- the rules
 
-pub edges_inside : (blocks cells : ℕ) (taken : List ℕ) (edges : List NoteEdge)
-    → are_edges blocks cells taken edges ≡ true
+pub edges_inside : (width blocks cells : ℕ) (taken : List ℕ) (edges : List NoteEdge)
+    → are_edges width blocks cells taken edges ≡ true
     → All (λ (edge : NoteEdge). (edge.from ≤ 2 * blocks) × (edge.to ≤ 2 * blocks)) edges
-edges_inside blocks cells taken [] h = All-nil (λ (edge : NoteEdge). (edge.from ≤ 2 * blocks) × (edge.to ≤ 2 * blocks))
-edges_inside blocks cells taken (edge ∷ edges) h =
-    let parts = and_parts (is_edge blocks cells taken edge) _ h in
+edges_inside width blocks cells taken [] h = All-nil (λ (edge : NoteEdge). (edge.from ≤ 2 * blocks) × (edge.to ≤ 2 * blocks))
+edges_inside width blocks cells taken (edge ∷ edges) h =
+    let parts = and_parts (is_edge width blocks cells taken edge) _ h in
     let ends = and_parts _ _ (and_parts _ _ parts.0).0 in
     All-cons (λ (edge : NoteEdge). (edge.from ≤ 2 * blocks) × (edge.to ≤ 2 * blocks)) edge edges
     (leb-true edge.from (2 * blocks) (and_parts _ _ ends.0).1, leb-true edge.to (2 * blocks) ends.1)
-    (edges_inside blocks cells (with_cell edge.cell taken) edges parts.1)
+    (edges_inside width blocks cells (with_cell edge.cell taken) edges parts.1)
 
 ranges_inside : (blocks : ℕ) (segments : List NoteSegment) (end : ℕ) (ranges : List NoteRange)
     → are_ranges blocks segments end ranges ≡ true → All (λ (range : NoteRange). range.node ≤ 2 * blocks) ranges

@@ -18,9 +18,9 @@ use Rattle.dump_file.specs.declared.dump.Dump as declared_dump
 use Rattle.count_rebuild.specs.declared.fault.CountFault.{CountFault}
 use Rattle.count_rebuild.specs.declared.fault.CountFault.TheVariants as faults
 use Rattle.count_rebuild.specs.Answers.{IsRefused}
-use Rattle.count_rebuild.specs.Counts.{IsFirstNegative, IsFlowTo, StandsAt, cell_counts, cell_value}
+use Rattle.count_rebuild.specs.Counts.{IsFirst, IsFlowTo, is_large, is_negative, StandsAt, cell_counts, cell_value}
 use Rattle.count_rebuild.specs.Noted.{has_cell, is_node, link_of, noted_graph}
-use Rattle.count_rebuild.specs.Parts.{IsBelow, IsTreeOf}
+use Rattle.count_rebuild.specs.Parts.{IsBad, IsTreeOf}
 use Rattle.count_rebuild.proofs.Profile.{plain_is}
 use Rattle.count_rebuild.proofs.Rules.{node_inside, values_are}
 
@@ -36,14 +36,14 @@ the_flow_on g s r a b given x same h = record {
 pub flow_to : (n : declared_notes.Notes) (d : declared_dump.Dump) (links told : List Link) (tree : Tree) (node : ℕ)
     (values flow : List ℤ)
     → links ≡ map (λ edge. link_of (edge_seen edge)) n.edges.items → IsTreeOf (notes_seen n) told tree
-    → values ≡ map (λ edge. cell_value d.cells.items (edge_seen edge).cell) n.edges.items
+    → values ≡ map (λ edge. cell_value n.version d.cells.items (edge_seen edge).cell) n.edges.items
     → IsTheFlow (graph_of (length tree.reached.items) links) (rest (on (edges_of tree))) n.entry node (int_at values) (int_at flow)
     → IsFlowTo (notes_seen n) (dump_seen d) node (int_at flow)
 flow_to n d links told tree node values flow are is held h =
     the_flow_on (noted_graph (notes_seen n)) (rest (on (edges_of tree))) (has_cell (notes_seen n)) n.entry node
     (cell_counts (notes_seen n) (dump_seen d)) (int_at flow) same
     (subst (λ (given : ℕ → ℤ). IsTheFlow (noted_graph (notes_seen n)) (rest (on (edges_of tree))) n.entry node given (int_at flow))
-    (values_are n d.cells.items values held)
+    (values_are n n.version d.cells.items values held)
     (subst (λ (g : Graph). IsTheFlow g (rest (on (edges_of tree))) n.entry node (int_at values) (int_at flow))
     (plain_is n tree.reached.items is.reached links are) h))
   where
@@ -59,11 +59,13 @@ stands_inside n d node rules h =
     h.at
     (node_inside (notes_seen n) d.pc.0 rules.ranges)
 
--- a flow that is below 0 somewhere is refused
+-- a flow that is below 0 somewhere is refused, and one that is too large
 pub impossible : (notes : Notes) (dump : Dump) (node : ℕ) (flow : List ℤ) → StandsAt notes dump node
     → IsFlowTo notes dump node (int_at flow) → length flow ≡ length notes.edges
-    → (fault : CountFault) → IsBelow flow fault → IsRefused notes dump fault
+    → (fault : CountFault) → IsBad flow fault → IsRefused notes dump fault
 impossible notes dump node flow stands is many faults.NoProfile h = absurd h
+impossible notes dump node flow stands is many (faults.Version of wanted) h = absurd h
+impossible notes dump node flow stands is many (faults.Other length wanted) h = absurd h
 impossible notes dump node flow stands is many (faults.Shape cells wanted) h = absurd h
 impossible notes dump node flow stands is many (faults.TooLong steps) h = absurd h
 impossible notes dump node flow stands is many (faults.Between pc) h = absurd h
@@ -72,6 +74,14 @@ impossible notes dump node flow stands is many (faults.Negative edge value) h = 
   flow = int_at flow;
   stands = stands;
   is = is;
-  first = subst (λ (edges : ℕ). IsFirstNegative edges (int_at flow) edge.0 value) many h;
+  first = subst (λ (edges : ℕ). IsFirst is_negative edges (int_at flow) edge.0 value) many h;
+}
+impossible notes dump node flow stands is many (faults.Large edge value) h = record {
+  node = node;
+  flow = int_at flow;
+  stands = stands;
+  is = is;
+  whole = λ e l. h.0 e;
+  first = subst (λ (edges : ℕ). IsFirst is_large edges (int_at flow) edge.0 value) many h.1;
 }
 impossible notes dump node flow stands is many faults.NoMemory h = tt

@@ -1,41 +1,42 @@
--- The values of cells, and the numbers of a flow.
-use Rattle.std.proofs.Common.{◌≡◌, ℕ, ◌+◌, ◌*◌, ◌^◌, ◌<◌, ◌≤◌, ◌⊎◌, inl, inr, false, List, [], ◌∷◌, length, map, get_or, Option, Some, None, refl, ap, sym, ◌∙◌, arith}
+-- The values of counters, and the numbers of a flow.
+use Rattle.std.proofs.Common.{◌≡◌, ℕ, ◌+◌, ◌*◌, ◌^◌, ◌<◌, ◌≤◌, ◌⊎◌, ◌==◌, inl, inr, true, false, List, [], ◌∷◌, length, map, get_or, Option, Some, None, refl, ap, sym, ◌∙◌, arith}
 use Rattle.std.specs.Prelude.{ℤ, pos, negsuc, nat_abs, slice_index}
 use Rattle.std.specs.List.{All}
 use Rattle.std.proofs.Math.ListN.{get_or-map}
-use Rattle.std.proofs.lemmas.Bool.{cases_lt, false≢true}
+use Rattle.std.proofs.lemmas.Bool.{cases_lt, cond_both, false≢true, le-leb, lt-leb}
 use Rattle.std.proofs.lemmas.List.{get_or_past}
-use Rattle.std.proofs.lemmas.List.Elements.{All-cons, All-head, All-nil, All-tail}
-use Rattle.flow_rebuild.specs.Values.{abs_sum, int_at}
+use Rattle.std.proofs.lemmas.List.Elements.{All-cons, All-nil}
+use Rattle.flow_rebuild.specs.Values.{int_at}
 use Rattle.notes.specs.Seen.{edge_seen}
 use Rattle.notes.specs.declared.note.NoteEdge as declared_edge
-use Rattle.count_rebuild.specs.Counts.{cell_value, is_negative}
+use Rattle.count_rebuild.specs.Counts.{cell_value, counter_value, is_large, is_negative}
 
--- ---- the values of cells
+-- ---- the values of counters
 
-small_value : (cells : List ℕ) → ((i : ℕ) → get_or cells i 0 < 2 ^ 32) → (cell : Option ℕ)
-    → nat_abs (cell_value cells cell) < 2 ^ 32
-small_value cells fit None = omega arith
-small_value cells fit (Some cell) = fit cell
+small_counter : (version : ℕ) (cells : List ℕ) → ((i : ℕ) → get_or cells i 0 < 2 ^ 32) → (cell : ℕ)
+    → counter_value version cells cell < 2 ^ 64
+small_counter version cells fit cell =
+    cond_both (version == 1) (get_or cells cell 0) (2 ^ 32 * get_or cells cell 0 + get_or cells (cell + 1) 0)
+    (λ value. value < 2 ^ 64) (λ e. omega (arith, first)) (λ e. omega (arith, first, next))
+  where
+    first : get_or cells cell 0 < 2 ^ 32
+    first = fit cell
 
-pub small_values : (cells : List ℕ) → ((i : ℕ) → get_or cells i 0 < 2 ^ 32) → (edges : List declared_edge.NoteEdge)
-    → All (λ value. nat_abs value < 2 ^ 32) (map (λ edge. cell_value cells (edge_seen edge).cell) edges)
-small_values cells fit [] = All-nil (λ (value : ℤ). nat_abs value < 2 ^ 32)
-small_values cells fit (edge ∷ edges) =
-    All-cons (λ (value : ℤ). nat_abs value < 2 ^ 32) (cell_value cells edge.cell) _ (small_value cells fit edge.cell)
-    (small_values cells fit edges)
+    next : get_or cells (cell + 1) 0 < 2 ^ 32
+    next = fit (cell + 1)
 
-abs_most : (values : List ℤ) → All (λ value. nat_abs value < 2 ^ 32) values → abs_sum values ≤ length values * 4294967296
-abs_most [] h = omega arith
-abs_most (z ∷ zs) h =
-    let a = All-head (λ (z : ℤ). nat_abs z < 2 ^ 32) z zs h in
-    let r = abs_most zs (All-tail (λ (z : ℤ). nat_abs z < 2 ^ 32) z zs h) in
-    omega (arith, a, r)
+small_value : (version : ℕ) (cells : List ℕ) → ((i : ℕ) → get_or cells i 0 < 2 ^ 32) → (cell : Option ℕ)
+    → nat_abs (cell_value version cells cell) < 2 ^ 64
+small_value version cells fit None = omega arith
+small_value version cells fit (Some cell) = small_counter version cells fit cell
 
--- so many values of 32 bits have a flow of 63
-pub flow_small : (values : List ℤ) → length values < 2 ^ 24 → All (λ value. nat_abs value < 2 ^ 32) values
-    → 2 * abs_sum values + 2 < 2 ^ 63
-flow_small values l h = let k = abs_most values h in omega (arith, k, l)
+pub small_values : (version : ℕ) (cells : List ℕ) → ((i : ℕ) → get_or cells i 0 < 2 ^ 32)
+    → (edges : List declared_edge.NoteEdge)
+    → All (λ value. nat_abs value < 2 ^ 64) (map (λ edge. cell_value version cells (edge_seen edge).cell) edges)
+small_values version cells fit [] = All-nil (λ (value : ℤ). nat_abs value < 2 ^ 64)
+small_values version cells fit (edge ∷ edges) =
+    All-cons (λ (value : ℤ). nat_abs value < 2 ^ 64) (cell_value version cells edge.cell) _
+    (small_value version cells fit edge.cell) (small_values version cells fit edges)
 
 -- ---- numbers that aren't below 0
 
@@ -69,3 +70,23 @@ whole_more flow edge h now e l = by (cases_lt e edge)
     by : (e < edge) ⊎ (edge ≤ e) → is_negative (int_at flow e) ≡ false
     by (inl m) = h e m
     by (inr m) = let is : e ≡ edge = omega (arith, l, m) in ap (λ (e : ℕ). is_negative (int_at flow e)) is ∙ now
+
+-- ---- numbers of 64 bits
+
+pub is_large_from : (z : ℤ) → is_negative z ≡ false → 2 ^ 64 ≤ nat_abs z → is_large z ≡ true
+is_large_from (pos n) h l = le-leb (2 ^ 64) n l
+is_large_from (negsuc n) h l = absurd (false≢true (sym h))
+
+is_large_below : (z : ℤ) → nat_abs z < 2 ^ 64 → is_large z ≡ false
+is_large_below (pos n) l = lt-leb (2 ^ 64) n l
+is_large_below (negsuc n) l = refl
+
+pub small_more : (flow : List ℤ) (edge : ℕ) → ((e : ℕ) → e < edge → is_large (int_at flow e) ≡ false)
+    → nat_abs (int_at flow edge) < 2 ^ 64 → (e : ℕ) → e < edge + 1 → is_large (int_at flow e) ≡ false
+small_more flow edge h now e l = by (cases_lt e edge)
+  where
+    by : (e < edge) ⊎ (edge ≤ e) → is_large (int_at flow e) ≡ false
+    by (inl m) = h e m
+    by (inr m) =
+        let is : e ≡ edge = omega (arith, l, m) in
+        ap (λ (e : ℕ). is_large (int_at flow e)) is ∙ is_large_below (int_at flow edge) now

@@ -1,18 +1,23 @@
 -- How often each edge was completed, by the cells of a dump and where the run stands.
-use Rattle.std.specs.Prelude.{◌≡◌, ℕ, ◌<◌, ◌^◌, Bool, true, false, List, length, slice_index_or, Option, Some, None, ℤ, pos, negsuc}
+use Rattle.std.specs.Prelude.{◌≡◌, ℕ, ◌+◌, ◌*◌, ◌<◌, ◌^◌, ◌==◌, nat_le, if◌then◌else◌, Bool, true, false, List, length, slice_index_or, Option, Some, None, ℤ, pos, negsuc}
 use Rattle.elf32_sparc.specs.Notes.{Notes, node_at}
 use Rattle.flows.specs.Flows.{IsTheFlow}
 use Rattle.dump_file.specs.Dump.{Dump}
 use Rattle.count_rebuild.specs.Noted.{edge_at, has_cell, noted_graph, IsProfile}
 
--- what a cell holds
-abbrev pub cell_value : List ℕ → Option ℕ → ℤ
-cell_value cells None = pos 0
-cell_value cells (Some cell) = pos (slice_index_or cells cell 0)
+-- what a counter holds: a cell in version 1, and in version 2 a cell and the next one, the high word first
+abbrev pub counter_value : ℕ → List ℕ → ℕ → ℕ
+counter_value version cells cell =
+    let first = slice_index_or cells cell 0 in
+    if version == 1 then first else 2 ^ 32 * first + slice_index_or cells (cell + 1) 0
+
+abbrev pub cell_value : ℕ → List ℕ → Option ℕ → ℤ
+cell_value version cells None = pos 0
+cell_value version cells (Some cell) = pos (counter_value version cells cell)
 
 -- the counts of the edges that have a cell
 abbrev pub cell_counts : Notes → Dump → ℕ → ℤ
-cell_counts notes dump e = cell_value dump.cells (edge_at notes e).cell
+cell_counts notes dump e = cell_value notes.version dump.cells (edge_at notes e).cell
 
 -- The flow with these counts, from the block at which the program is entered to a node. There is one at most, in whole
 -- numbers that may be below 0.
@@ -22,30 +27,44 @@ IsFlowTo notes dump node flow =
 
 -- ---- which dumps have one
 
+-- a dump of the version of a profile's notes
+pub record IsAlike (notes : Notes) (dump : Dump) : Type 0 where
+  pub profile : IsProfile notes
+  pub version : dump.version ≡ notes.version
+
+-- which in version 2 was made for the same original
+pub record IsForThem (notes : Notes) (dump : Dump) : Type 0 where
+  pub alike : IsAlike notes dump
+  pub length : notes.version ≡ 2 → dump.length ≡ notes.length
+
 -- a dump of the notes' file: it has their cells
 pub record IsTheirs (notes : Notes) (dump : Dump) : Type 0 where
-  pub profile : IsProfile notes
+  pub for_them : IsForThem notes dump
   pub cells : length dump.cells ≡ notes.cells
 
--- no cell can have come to 2^32
+-- no counter can have begun at 0 again
 pub record IsShort (notes : Notes) (dump : Dump) : Type 0 where
   pub theirs : IsTheirs notes dump
-  pub steps : dump.steps < 2 ^ 32
+  pub steps : notes.version ≡ 1 → dump.steps < 2 ^ 32
 
 -- the run stands at a node
 pub record StandsAt (notes : Notes) (dump : Dump) (node : ℕ) : Type 0 where
   pub short : IsShort notes dump
   pub at : node_at notes dump.pc ≡ Some node
 
--- ---- counts below 0
+-- ---- counts below 0, and those of 2^64 or more
 
 abbrev pub is_negative : ℤ → Bool
 is_negative (pos n) = false
 is_negative (negsuc n) = true
 
--- the first edge whose count is below 0, and its count
-pub record IsFirstNegative (edges : ℕ) (flow : ℕ → ℤ) (edge : ℕ) (value : ℤ) : Type 0 where
+abbrev pub is_large : ℤ → Bool
+is_large (pos n) = nat_le (2 ^ 64) n
+is_large (negsuc n) = false
+
+-- the first edge whose count is bad in some way, and its count
+pub record IsFirst (is_bad : ℤ → Bool) (edges : ℕ) (flow : ℕ → ℤ) (edge : ℕ) (value : ℤ) : Type 0 where
   pub inside : edge < edges
   pub is : value ≡ flow edge
-  pub negative : is_negative (flow edge) ≡ true
-  pub first : (e : ℕ) → e < edge → is_negative (flow e) ≡ false
+  pub bad : is_bad (flow edge) ≡ true
+  pub first : (e : ℕ) → e < edge → is_bad (flow e) ≡ false

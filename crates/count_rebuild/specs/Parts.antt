@@ -10,7 +10,7 @@ use Rattle.flow_tree.specs.declared.Tree.{Tree}
 use Rattle.flow_rebuild.specs.Values.{int_at}
 use Rattle.count_rebuild.specs.declared.fault.CountFault.{CountFault}
 use Rattle.count_rebuild.specs.declared.fault.CountFault.TheVariants as faults
-use Rattle.count_rebuild.specs.Counts.{is_negative, IsFirstNegative}
+use Rattle.count_rebuild.specs.Counts.{is_large, is_negative, IsFirst}
 use Rattle.count_rebuild.specs.Noted.{has_cell, AreNodes, IsProfile}
 
 -- the tree of the nodes by the edges that aren't counted
@@ -20,16 +20,18 @@ pub record IsTreeOf (notes : Notes) (links : List Link) (tree : Tree) : Type 0 w
   pub reached : AreNodes notes tree.reached.items
   pub edges : (e : ℕ) → e < length notes.edges → on (edges_of tree) e ≡ rest (has_cell notes) e
 
--- the flow as numbers that aren't below 0
+-- none of its values is below 0
+abbrev pub IsWhole : List ℤ → Type 0
+IsWhole flow = (e : ℕ) → is_negative (int_at flow e) ≡ false
+
+-- the flow as numbers of 64 bits
 pub record AreWhole (flow : List ℤ) (counts : List ℕ) : Type 0 where
   pub are : counts ≡ map nat_abs flow
-  pub whole : (e : ℕ) → is_negative (int_at flow e) ≡ false
+  pub whole : IsWhole flow
 
--- or the first of its values that is
-abbrev pub IsBelow : List ℤ → CountFault → Type 0
-IsBelow flow faults.NoProfile = ⊥
-IsBelow flow (faults.Shape cells wanted) = ⊥
-IsBelow flow (faults.TooLong steps) = ⊥
-IsBelow flow (faults.Between pc) = ⊥
-IsBelow flow (faults.Negative edge value) = IsFirstNegative (length flow) (int_at flow) edge.0 value
-IsBelow flow faults.NoMemory = ⊤
+-- or the first of its values that is below 0, or too large
+abbrev pub IsBad : List ℤ → CountFault → Type 0
+IsBad flow (faults.Negative edge value) = IsFirst is_negative (length flow) (int_at flow) edge.0 value
+IsBad flow (faults.Large edge value) = IsWhole flow × IsFirst is_large (length flow) (int_at flow) edge.0 value
+IsBad flow faults.NoMemory = ⊤
+IsBad flow _ = ⊥

@@ -9,14 +9,20 @@ use std::alloc::{AllocError, AllocFailed};
 pub enum CountFault {
     /// The notes are not those of a profile: their tool is another one, or the edges without a cell are no spanning tree.
     NoProfile,
+    /// The dump has this version, and the notes the other one.
+    Version { dump: u32, notes: u32 },
+    /// The dump was made for an original of this size, and the notes' is another one.
+    Other { length: u32, wanted: u32 },
     /// The dump has so many cells, and the notes want another number.
     Shape { cells: u32, wanted: u32 },
-    /// The run made so many steps, 2^32 or more, so that a cell may have begun at 0 again.
+    /// The run made so many steps, 2^32 or more, so that a counter of one cell may have begun at 0 again.
     TooLong(u64),
     /// The run stands at this address, in new code that is no instruction's place.
     Between(Addr),
     /// This edge, the first of such edges, would have been completed a number of times below 0.
-    Negative { edge: EdgeNo, value: i64 },
+    Negative { edge: EdgeNo, value: i128 },
+    /// This edge, the first of such edges, would have been completed 2^64 times or more.
+    Large { edge: EdgeNo, value: i128 },
     NoMemory,
 }
 

@@ -9,4 +9,5 @@ mod noted;
 mod rebuilding;
 
 pub use fault::CountFault;
+pub use noted::node_at;
 pub use rebuilding::rebuild;

@@ -1,15 +1,21 @@
 //! The graph that notes tell, as lists.
-ghost use Rattle.std.specs.Prelude.{◌≡◌, ◌<◌, ◌+◌, ◌^◌, ◌&&◌, nat_le, nat_lt, length, map, nat_abs, IfOk};
+ghost use Rattle.std.specs.Prelude.{◌≡◌, ◌<◌, ◌+◌, ◌^◌, ◌&&◌, nat_le, nat_lt, length, map, nat_abs, slice_index_or, IfOk};
 ghost use Rattle.std.specs.List.{All, find, list_any};
 ghost use Rattle.elf32_sparc.specs.Notes.{holds, node_at};
 ghost use Rattle.notes.specs.Seen.{edge_seen, notes_seen, segment_seen};
-ghost use Rattle.count_rebuild.specs.Counts.{cell_value};
+ghost use Rattle.count_rebuild.specs.Counts.{cell_value, counter_value};
 ghost use Rattle.count_rebuild.specs.Noted.{is_counted, link_of};
 
 use eel_base::Addr;
 use flows::Link;
 use notes::{NoteEdge, NoteSegment, Notes, Range};
 use std::alloc::{AllocError, Global};
+
+/// The version of notes whose counters have one cell.
+pub(crate) const NARROW: u32 = 1;
+
+/// The version of notes whose counters have two cells.
+pub(crate) const WIDE: u32 = 2;
 
 /// The edges by their nodes.
 pub(crate) fn links(alloc: Global, edges: &[NoteEdge]) -> Result<Vec<Link>, AllocError>
@@ -34,40 +40,64 @@ pub(crate) fn counted(alloc: Global, edges: &[NoteEdge]) -> Result<Vec<bool>, Al
     edges.iter().map(|edge| edge.cell.is_some()).collect(alloc)
 }
 
-/// For each edge, what its cell holds, or 0 where it has none.
+/// For each edge, what its counter holds, or 0 where it has none.
 pub(crate) fn values(
     alloc: Global,
+    version: u32,
     edges: &[NoteEdge],
     cells: &[u32],
 ) -> Result<Vec<i128>, AllocError>
-    ensures values { IfOk result (λ values. values.items ≡ map (λ edge. cell_value cells.now (edge_seen edge).cell) edges.now) }
-    ensures small { IfOk result (λ values. All (λ value. nat_abs value < 2 ^ 32) values.items) }
+    ensures values { IfOk result (λ values. values.items ≡ map (λ edge. cell_value version cells.now (edge_seen edge).cell) edges.now) }
+    ensures small { IfOk result (λ values. All (λ value. nat_abs value < 2 ^ 64) values.items) }
 {
-    held(alloc, edges, cells)
+    held(alloc, version, edges, cells)
 }
 
-fn held(alloc: Global, edges: &[NoteEdge], cells: &[u32]) -> Result<Vec<i128>, AllocError>
-    ensures { IfOk result (λ values. values.items ≡ map (λ edge. cell_value cells.now (edge_seen edge).cell) edges.now) }
+fn held(
+    alloc: Global,
+    version: u32,
+    edges: &[NoteEdge],
+    cells: &[u32],
+) -> Result<Vec<i128>, AllocError>
+    ensures { IfOk result (λ values. values.items ≡ map (λ edge. cell_value version cells.now (edge_seen edge).cell) edges.now) }
 {
     edges
         .iter()
-        .map(|edge| value(edge.cell, cells))
+        .map(|edge| value(version, edge.cell, cells))
         .collect(alloc)
 }
 
-/// What a cell holds.
-fn value(cell: Option<u32>, cells: &[u32]) -> i128
-    ensures { result ≡ cell_value cells.now cell }
+/// What a counter holds.
+fn value(version: u32, cell: Option<u32>, cells: &[u32]) -> i128
+    ensures { result ≡ cell_value version cells.now cell }
 {
     match cell {
-        Some(cell) => i128::from(cells.get(cell as usize).copied().unwrap_or(0)),
+        Some(cell) => i128::from(counter_value(version, cells, cell)),
         None => 0,
     }
 }
 
+/// What the counter holds that begins with this cell: a word, or two, the high one first.
+fn counter_value(version: u32, cells: &[u32], cell: u32) -> u64
+    ensures { result ≡ counter_value version cells.now cell }
+{
+    let first = word_at(cells, cell as usize);
+    if version == NARROW {
+        return u64::from(first);
+    }
+    (1 << 32) * u64::from(first) + u64::from(word_at(cells, cell as usize + 1))
+}
+
+/// What a cell holds, or 0 where it is missing.
+fn word_at(cells: &[u32], cell: usize) -> u32
+    ensures { result ≡ slice_index_or cells.now cell 0 }
+{
+    cells.get(cell).copied().unwrap_or(0)
+}
+
 /// The node at which an address stands: that of its place, or the outside's where it lies in no page. An address in a
 /// page and in no place stands at none.
-pub(crate) fn node_at(n: &Notes, address: Addr) -> Option<u32>
+pub fn node_at(n: &Notes, address: Addr) -> Option<u32>
     requires { length n.now.blocks.items < 2 ^ 32 }
     ensures { result ≡ node_at (notes_seen n.now) address.0 }
 {

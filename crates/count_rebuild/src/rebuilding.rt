@@ -1,18 +1,17 @@
 //! The counts, or why there are none.
 ghost use Rattle.std.specs.Prelude.{◌≡◌, ◌<◌, ◌^◌, length, map, nat_abs, IfOk, IfErr};
-ghost use Rattle.std.specs.List.{All};
 ghost use Rattle.notes.specs.Rules.{AreNotes};
 ghost use Rattle.notes.specs.Seen.{edge_seen, notes_seen};
 ghost use Rattle.dump_file.specs.Dump.{Dump as DumpSeen, dump_seen};
 ghost use Rattle.count_rebuild.specs.Answers.{AreCounts, IsRefused};
-ghost use Rattle.count_rebuild.specs.Counts.{is_negative, StandsAt};
+ghost use Rattle.count_rebuild.specs.Counts.{IsAlike, IsForThem, IsShort, IsTheirs, StandsAt};
 ghost use Rattle.count_rebuild.specs.Noted.{link_of, IsProfile};
 ghost use Rattle.count_rebuild.specs.declared.fault.CountFault.TheVariants as faults;
-ghost use Rattle.count_rebuild.specs.Parts.{AreWhole, IsBelow, IsTreeOf};
+ghost use Rattle.count_rebuild.specs.Parts.{AreWhole, IsBad, IsTreeOf, IsWhole};
 
 use crate::CountFault;
 use crate::nodes::nodes;
-use crate::noted::{counted, links, node_at, values};
+use crate::noted::{NARROW, WIDE, counted, links, node_at, values};
 use dump_file::Dump;
 use eel_base::EdgeNo;
 use flow_tree::{Tree, span};
@@ -38,8 +37,12 @@ pub fn rebuild(alloc: Global, n: &Notes, d: &Dump) -> Result<Vec<u64>, CountFaul
 {
     let links = links(alloc, &n.edges)?;
     let tree = profile_tree(alloc, n, &links)?;
+    keep_alike(n, d)?;
+    keep_for_them(n, d)?;
+    keep_theirs(n, d)?;
+    keep_short(n, d)?;
     let node = standing(n, d)?;
-    let values = values(alloc, &n.edges, &d.cells)?;
+    let values = values(alloc, n.version, &n.edges, &d.cells)?;
     let flow = flow_rebuild::rebuild(alloc, &links, &tree, &values, n.entry as usize, node)?;
     whole_numbers(alloc, &flow)
 }
@@ -62,12 +65,41 @@ fn profile_tree(alloc: Global, n: &Notes, links: &[Link]) -> Result<Tree, CountF
     }
 }
 
-/// The node at which the run stands.
-fn standing(n: &Notes, d: &Dump) -> Result<usize, CountFault>
-    requires notes { AreNotes (notes_seen n.now) }
-    requires cells { length d.now.cells.items < 2 ^ 32 }
+/// Refuses a dump of the other version.
+fn keep_alike(n: &Notes, d: &Dump) -> Result<(), CountFault>
     requires profile { IsProfile (notes_seen n.now) }
-    ensures stands { IfOk result (StandsAt (notes_seen n.now) (dump_seen d.now)) }
+    ensures alike { IfOk result (λ _. IsAlike (notes_seen n.now) (dump_seen d.now)) }
+    ensures refused { IfErr result (IsRefused (notes_seen n.now) (dump_seen d.now)) }
+{
+    if d.version != n.version {
+        return Err(CountFault::Version {
+            dump: d.version,
+            notes: n.version,
+        });
+    }
+    Ok(())
+}
+
+/// Refuses one that was made for another original; in version 1 it doesn't tell.
+fn keep_for_them(n: &Notes, d: &Dump) -> Result<(), CountFault>
+    requires alike { IsAlike (notes_seen n.now) (dump_seen d.now) }
+    ensures theirs { IfOk result (λ _. IsForThem (notes_seen n.now) (dump_seen d.now)) }
+    ensures refused { IfErr result (IsRefused (notes_seen n.now) (dump_seen d.now)) }
+{
+    if n.version == WIDE && d.length != n.length {
+        return Err(CountFault::Other {
+            length: d.length,
+            wanted: n.length,
+        });
+    }
+    Ok(())
+}
+
+/// Refuses one with another number of cells.
+fn keep_theirs(n: &Notes, d: &Dump) -> Result<(), CountFault>
+    requires cells { length d.now.cells.items < 2 ^ 32 }
+    requires for_them { IsForThem (notes_seen n.now) (dump_seen d.now) }
+    ensures theirs { IfOk result (λ _. IsTheirs (notes_seen n.now) (dump_seen d.now)) }
     ensures refused { IfErr result (IsRefused (notes_seen n.now) (dump_seen d.now)) }
 {
     let cells = d.cells.len() as u32;
@@ -77,39 +109,93 @@ fn standing(n: &Notes, d: &Dump) -> Result<usize, CountFault>
             wanted: n.cells,
         });
     }
-    if d.steps >= STEPS {
+    Ok(())
+}
+
+/// Refuses one after which a counter can have begun at 0 again.
+fn keep_short(n: &Notes, d: &Dump) -> Result<(), CountFault>
+    requires theirs { IsTheirs (notes_seen n.now) (dump_seen d.now) }
+    ensures short { IfOk result (λ _. IsShort (notes_seen n.now) (dump_seen d.now)) }
+    ensures refused { IfErr result (IsRefused (notes_seen n.now) (dump_seen d.now)) }
+{
+    if n.version == NARROW && d.steps >= STEPS {
         return Err(CountFault::TooLong(d.steps));
     }
+    Ok(())
+}
+
+/// The node at which the run stands.
+fn standing(n: &Notes, d: &Dump) -> Result<usize, CountFault>
+    requires notes { AreNotes (notes_seen n.now) }
+    requires short { IsShort (notes_seen n.now) (dump_seen d.now) }
+    ensures stands { IfOk result (StandsAt (notes_seen n.now) (dump_seen d.now)) }
+    ensures refused { IfErr result (IsRefused (notes_seen n.now) (dump_seen d.now)) }
+{
     match node_at(n, d.pc) {
         Some(node) => Ok(node as usize),
         None => Err(CountFault::Between(d.pc)),
     }
 }
 
-/// The flow as numbers that are not below 0, or the first that is.
+/// The flow as numbers of 64 bits, or the first that is below 0, or where none is the first that is too large.
 fn whole_numbers(alloc: Global, flow: &[i128]) -> Result<Vec<u64>, CountFault>
-    requires len { length flow.now < 2 ^ 32 }
-    requires small { All (λ value. nat_abs value < 2 ^ 63) flow.now }
+    requires { length flow.now < 2 ^ 32 }
     ensures counts { IfOk result (λ counts. AreWhole flow.now counts.items) }
-    ensures refused { IfErr result (IsBelow flow.now) }
+    ensures refused { IfErr result (IsBad flow.now) }
 {
-    let mut counts = Vec::with_capacity(alloc, flow.len())?;
+    keep_whole(flow)?;
+    let counts = small_numbers(alloc, flow)?;
+    Ok(counts)
+}
+
+/// Refuses a flow that is below 0 on an edge.
+fn keep_whole(flow: &[i128]) -> Result<(), CountFault>
+    requires { length flow.now < 2 ^ 32 }
+    ensures whole { IfOk result (λ _. IsWhole flow.now) }
+    ensures refused { IfErr result (IsBad flow.now) }
+{
     for (edge, value) in flow.iter().enumerate() {
         if *value < 0 {
             return Err(negative(edge, *value));
         }
-        counts.push(value.unsigned_abs() as u64)?;
+    }
+    Ok(())
+}
+
+/// The flow as numbers of 64 bits, or the first that is too large.
+fn small_numbers(alloc: Global, flow: &[i128]) -> Result<Vec<u64>, CountFault>
+    requires len { length flow.now < 2 ^ 32 }
+    requires whole { IsWhole flow.now }
+    ensures counts { IfOk result (λ counts. counts.items ≡ map nat_abs flow.now) }
+    ensures refused { IfErr result (IsBad flow.now) }
+{
+    let mut counts = Vec::with_capacity(alloc, flow.len())?;
+    for (edge, value) in flow.iter().enumerate() {
+        let count = value.unsigned_abs();
+        if count >= 1 << 64 {
+            return Err(large(edge, *value));
+        }
+        counts.push(count as u64)?;
     }
     Ok(counts)
 }
 
 fn negative(edge: usize, value: i128) -> CountFault
-    requires edge { edge < 2 ^ 32 }
-    requires value { nat_abs value < 2 ^ 63 }
+    requires { edge < 2 ^ 32 }
     ensures { result ≡ faults.Negative (record { 0 = edge }) value }
 {
     CountFault::Negative {
         edge: EdgeNo(edge as u32),
-        value: value as i64,
+        value,
+    }
+}
+
+fn large(edge: usize, value: i128) -> CountFault
+    requires { edge < 2 ^ 32 }
+    ensures { result ≡ faults.Large (record { 0 = edge }) value }
+{
+    CountFault::Large {
+        edge: EdgeNo(edge as u32),
+        value,
     }
 }

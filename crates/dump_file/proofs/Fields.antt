@@ -8,19 +8,20 @@ use Rattle.byteorder.specs.Endian.{big_number, big_bytes}
 use Rattle.byteorder.specs.Numbers.{big_number-reads_back, length-bytes_high_first, big_from-lt}
 use Rattle.dump_file.specs.Dump.{Dump, kind_of, number_of}
 use Rattle.dump_file.specs.Written.{mark}
-use Rattle.dump_file.specs.Reading.{◌>>=◌, found, field_at, kept}
+use Rattle.dump_file.specs.Reading.{◌>>=◌, count_place, found, field_at, kept, length_at}
 use Rattle.dump_file.proofs.Words.{AreBytes, bytes_dropped, written_4, written_8}
 
 -- The fields that a dump has before its cells.
 pub record Found (bytes : List ℕ) (dump : Dump) : Type 0 where
   pub first : field_at 4 bytes 0 ≡ Ok mark
-  pub version : field_at 4 bytes 4 ≡ Ok 1
+  pub version : field_at 4 bytes 4 ≡ Ok dump.version
   pub kind : field_at 4 bytes 8 ≡ Ok (kind_of dump.ending)
   pub number : field_at 4 bytes 12 ≡ Ok (number_of dump.ending)
   pub pc : field_at 4 bytes 16 ≡ Ok dump.pc
   pub steps : field_at 8 bytes 20 ≡ Ok dump.steps
-  pub count : field_at 4 bytes 28 ≡ Ok (length dump.cells)
-  pub size : length bytes ≡ 32 + 4 * length dump.cells
+  pub told : length_at dump.version bytes ≡ Ok dump.length
+  pub count : field_at 4 bytes (count_place dump.version) ≡ Ok (length dump.cells)
+  pub size : length bytes ≡ count_place dump.version + 4 + 4 * length dump.cells
 
 -- a number that stands at an offset
 pub field_there : (bytes before after : List ℕ) (size n at : ℕ) → bytes ≡ before ++ (big_bytes size n ++ after)

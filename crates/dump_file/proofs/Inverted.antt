@@ -1,16 +1,18 @@
 -- What reads is what is written of the dump that was read.
-use Rattle.std.proofs.Common.{◌≡◌, ℕ, zero, suc, ◌+◌, ◌*◌, ◌<◌, ◌≤◌, ◌^◌, ◌==◌, List, ◌++◌, length, drop, Option, Ok, refl, ap, sym, subst, ◌∙◌, arith}
+use Rattle.std.proofs.Common.{◌≡◌, ℕ, zero, suc, ◌+◌, ◌*◌, ◌<◌, ◌≤◌, ◌^◌, ◌==◌, Bool, true, false, List, [], ◌∷◌, ◌++◌, length, drop, Option, Result, Ok, if◌then◌else◌, refl, ap, sym, subst, ◌∙◌, arith}
 use Rattle.std.specs.Prelude.{nat_le}
 use Rattle.std.specs.List.{All}
-use Rattle.std.proofs.lemmas.Bool.{leb-true, eqb-true}
+use Rattle.std.proofs.lemmas.Bool.{leb-true, eq-eqb, eqb-true, false≢true}
 use Rattle.std.proofs.lemmas.List.{length-drop}
 use Rattle.byteorder.specs.Endian.{big_bytes}
+use Rattle.elf32_sparc.specs.Notes.{is_version}
 use Rattle.v8_step.specs.declared.Ending.{Ending}
 use Rattle.dump_file.specs.Dump.{Dump, IsDump, kind_of, number_of}
-use Rattle.dump_file.specs.Written.{mark, words_bytes, dump_bytes}
-use Rattle.dump_file.specs.Reading.{field_at, kept, number_limit, ending_of, ending_at, fits, words_of, read_dump}
+use Rattle.dump_file.specs.Written.{mark, words_bytes, length_words, dump_bytes}
+use Rattle.dump_file.specs.Reading.{count_place, field_at, kept, length_at, number_limit, ending_of, ending_at, fits, words_of, read_dump}
 use Rattle.dump_file.proofs.Words.{AreBytes, are_bytes, bytes_dropped, words_again, length-words, words_fit}
 use Rattle.dump_file.proofs.Fields.{Found, after_4, after_8, field_fits, parted, met}
+use Rattle.dump_file.proofs.ReadsBack.{parts as fields_stand}
 
 ending_parts : (kind number : ℕ) → kind ≤ 4 → number ≤ number_limit kind
     → (kind_of (ending_of kind number) ≡ kind) × (number_of (ending_of kind number) ≡ number) × (number < 2 ^ 8)
@@ -47,8 +49,9 @@ ending_read bytes ending h =
 -- What was read, and the dump that it is.
 record Read (bytes : List ℕ) (dump : Dump) : Type 0 where
   found : Found bytes dump
+  known : is_version dump.version ≡ true
   small : number_of dump.ending < 2 ^ 8
-  cells : dump.cells ≡ words_of (drop 32 bytes) (length dump.cells)
+  cells : dump.cells ≡ words_of (drop (count_place dump.version + 4) bytes) (length dump.cells)
 
 read_parts : (bytes : List ℕ) (dump : Dump) → read_dump bytes ≡ Ok dump → Read bytes dump
 unfolding read_dump
@@ -56,70 +59,114 @@ read_parts bytes dump h =
     let first = parted (field_at 4 bytes 0) _ dump h in
     let begins = parted (kept (first.got == mark) 0 first.got) _ dump first.rest in
     let version = parted (field_at 4 bytes 4) _ dump begins.rest in
-    let known = parted (kept (version.got == 1) 4 version.got) _ dump version.rest in
+    let known = parted (kept (is_version version.got) 4 version.got) _ dump version.rest in
     let ending = parted (ending_at bytes) _ dump known.rest in
     let pc = parted (field_at 4 bytes 16) _ dump ending.rest in
     let steps = parted (field_at 8 bytes 20) _ dump pc.rest in
-    let count = parted (field_at 4 bytes 28) _ dump steps.rest in
-    let whole : Dump =
-    record { ending = ending.got; pc = pc.got; steps = steps.got; cells = words_of (drop 32 bytes) count.got } in
-    let last = met (fits bytes count.got) 28 whole dump count.rest in
+    let told = parted (length_at version.got bytes) _ dump steps.rest in
+    let place = count_place version.got in
+    let count = parted (field_at 4 bytes place) _ dump told.rest in
+    let whole : Dump = record {
+      version = version.got;
+      ending = ending.got;
+      pc = pc.got;
+      steps = steps.got;
+      length = told.got;
+      cells = words_of (drop (place + 4) bytes) count.got;
+    } in
+    let last = met (fits (place + 4) bytes count.got) place whole dump count.rest in
     let first_met = met (first.got == mark) 0 first.got begins.got begins.is in
-    let known_met = met (version.got == 1) 4 version.got known.got known.is in
+    let known_met = met (is_version version.got) 4 version.got known.got known.is in
     let end = ending_read bytes ending.got ending.is in
-    let long = length-words count.got (drop 32 bytes) in
-    let size = eqb-true (length bytes) (32 + 4 * count.got) last.met in
+    let long = length-words count.got (drop (place + 4) bytes) in
+    let size = eqb-true (length bytes) (place + 4 + 4 * count.got) last.met in
     let read : Read bytes whole = record {
       found = record {
         first = first.is ∙ ap Ok (eqb-true first.got mark first_met.met);
-        version = version.is ∙ ap Ok (eqb-true version.got 1 known_met.met);
+        version = version.is;
         kind = end.kind;
         number = end.number;
         pc = pc.is;
         steps = steps.is;
+        told = told.is;
         count = count.is ∙ ap Ok (sym long);
         size = rw long size;
       };
+      known = known_met.met;
       small = end.small;
-      cells = ap (words_of (drop 32 bytes)) (sym long);
+      cells = ap (words_of (drop (place + 4) bytes)) (sym long);
     } in
     subst (Read bytes) last.same read
 
+-- ---- what stands behind the steps
+
+-- but in version 1, the size of the original
+abbrev told_at : Bool → List ℕ → Result ℕ ℕ
+told_at narrow bytes = if narrow then Ok 0 else field_at 4 bytes 28
+
+told_again : (narrow : Bool) (size : ℕ) (bytes : List ℕ) → AreBytes bytes → told_at narrow bytes ≡ Ok size
+    → drop 28 bytes ≡ words_bytes (if narrow then [] else size ∷ []) ++ drop (if narrow then 28 else 32) bytes
+unfolding words_bytes
+told_again true size bytes are told = refl
+told_again false size bytes are told = after_4 28 32 size bytes are told refl
+
+none_told : (narrow : Bool) (size : ℕ) (bytes : List ℕ) → told_at narrow bytes ≡ Ok size → narrow ≡ true → size ≡ 0
+none_told true size bytes told is = cc told
+none_told false size bytes told is = absurd (false≢true is)
+
+told_fits : (narrow : Bool) (size : ℕ) (bytes : List ℕ) → AreBytes bytes → told_at narrow bytes ≡ Ok size
+    → size < 2 ^ 32
+told_fits true size bytes are told = let none : 0 ≡ size = cc told in omega (arith, none)
+told_fits false size bytes are told = field_fits 4 28 size bytes are told
+
+cells_again : (place : ℕ) (bytes cells : List ℕ) → AreBytes bytes → field_at 4 bytes place ≡ Ok (length cells)
+    → length bytes ≡ place + 4 + 4 * length cells → cells ≡ words_of (drop (place + 4) bytes) (length cells)
+    → drop place bytes ≡ big_bytes 4 (length cells) ++ words_bytes cells
+cells_again place bytes cells are count all same =
+    let size = length-drop (place + 4) bytes in
+    after_4 place (place + 4) (length cells) bytes are count refl
+    ∙ ap (λ (rest : List ℕ). big_bytes 4 (length cells) ++ rest)
+    (words_again (length cells) (drop (place + 4) bytes) (omega arith) (bytes_dropped (place + 4) bytes are)
+    ∙ ap words_bytes (sym same))
+
 again : (bytes : List ℕ) (dump : Dump) → AreBytes bytes → Read bytes dump → bytes ≡ dump_bytes dump
-unfolding dump_bytes words_bytes
 again bytes dump are read =
     let found = read.found in
-    let size = length-drop 32 bytes in
-    let all = found.size in
-    let cells = words_again (length dump.cells) (drop 32 bytes) (omega arith) (bytes_dropped 32 bytes are)
-    ∙ ap words_bytes (sym read.cells) in
-    let count = after_4 28 32 (length dump.cells) bytes are found.count refl
-    ∙ ap (λ (rest : List ℕ). big_bytes 4 (length dump.cells) ++ rest) cells in
+    let count = cells_again (count_place dump.version) bytes dump.cells are found.count found.size read.cells in
+    let told_words = words_bytes (length_words dump) in
+    let told = told_again (dump.version == 1) dump.length bytes are found.told
+    ∙ ap (λ (rest : List ℕ). told_words ++ rest) count in
     let steps = after_8 20 28 dump.steps bytes are found.steps refl
-    ∙ ap (λ (rest : List ℕ). big_bytes 8 dump.steps ++ rest) count in
+    ∙ ap (λ (rest : List ℕ). big_bytes 8 dump.steps ++ rest) told in
     let pc = after_4 16 20 dump.pc bytes are found.pc refl
     ∙ ap (λ (rest : List ℕ). big_bytes 4 dump.pc ++ rest) steps in
     let number = after_4 12 16 (number_of dump.ending) bytes are found.number refl
     ∙ ap (λ (rest : List ℕ). big_bytes 4 (number_of dump.ending) ++ rest) pc in
     let kind = after_4 8 12 (kind_of dump.ending) bytes are found.kind refl
     ∙ ap (λ (rest : List ℕ). big_bytes 4 (kind_of dump.ending) ++ rest) number in
-    let version = after_4 4 8 1 bytes are found.version refl ∙ ap (λ (rest : List ℕ). big_bytes 4 1 ++ rest) kind in
+    let version = after_4 4 8 dump.version bytes are found.version refl
+    ∙ ap (λ (rest : List ℕ). big_bytes 4 dump.version ++ rest) kind in
     after_4 0 4 mark bytes are found.first refl ∙ ap (λ (rest : List ℕ). big_bytes 4 mark ++ rest) version
+    ∙ sym (fields_stand dump)
 
 pub read_again : (bytes : List ℕ) (dump : Dump) → All (λ byte. byte < 256) bytes → read_dump bytes ≡ Ok dump
     → (bytes ≡ dump_bytes dump) × IsDump dump
 read_again bytes dump all h =
     let are = are_bytes bytes all in
     let read = read_parts bytes dump h in
+    let place = count_place dump.version in
     let cells : All (λ cell. cell < 2 ^ 32) dump.cells =
     subst (All (λ cell. cell < 2 ^ 32)) (sym read.cells)
-    (words_fit (length dump.cells) (drop 32 bytes) (bytes_dropped 32 bytes are)) in (
+    (words_fit (length dump.cells) (drop (place + 4) bytes) (bytes_dropped (place + 4) bytes are)) in (
       again bytes dump are read,
       record {
+        version = read.known;
+        no_length = λ is. none_told (dump.version == 1) dump.length bytes read.found.told (eq-eqb dump.version 1 is);
+        size = told_fits (dump.version == 1) dump.length bytes are read.found.told;
         number = read.small;
         pc = field_fits 4 16 dump.pc bytes are read.found.pc;
         steps = field_fits 8 20 dump.steps bytes are read.found.steps;
-        count = field_fits 4 28 (length dump.cells) bytes are read.found.count;
+        count = field_fits 4 place (length dump.cells) bytes are read.found.count;
         cells = cells;
       },
     )

@@ -1,28 +1,40 @@
--- Dumps of version 1. Numbers are big-endian, of four bytes each but for the steps, which have eight:
+-- Dumps, of the version of the notes of the file that was run. Numbers are big-endian, of four bytes each but for the
+-- steps, which have eight:
 --
 --   at 0   `EELD`
---   at 4   the version, 1
+--   at 4   the version, 1 or 2
 --   at 8   how the run ended: 0 not at all, 1 by exit, 2 by a trap, 3 by a window, 4 by a couple
 --   at 12  the number that goes with it: the low byte of exit's argument, or the trap's type; else 0
 --   at 16  where the run stands
 --   at 20  the steps that were made
---   at 28  how many cells there are
---   at 32  the cells
-use Rattle.std.specs.Prelude.{ℕ, ◌<◌, ◌^◌, List, length, Option, Some, None}
+--   at 28  in version 2 the size of the original; version 1 has no such number
+--   then   how many cells there are
+--   then   the cells
+use Rattle.std.specs.Prelude.{◌≡◌, ℕ, ◌<◌, ◌^◌, true, List, length, Option, Some, None}
 use Rattle.std.specs.List.{All}
+use Rattle.elf32_sparc.specs.Notes.{is_version}
 use Rattle.v8_step.specs.declared.Ending.{Ending}
 use Rattle.v8_step.specs.declared.Ending.TheVariants.{Exit, Trap, Window, Couple}
 use Rattle.dump_file.specs.declared.dump.Dump as declared
 
 -- a dump without where its cells lie in memory
 pub record Dump : Type 0 where
+  pub version : ℕ
   pub ending : Option Ending
   pub pc : ℕ
   pub steps : ℕ
+  pub length : ℕ
   pub cells : List ℕ
 
 abbrev pub dump_seen : declared.Dump → Dump
-dump_seen dump = record { ending = dump.ending; pc = dump.pc.0; steps = dump.steps; cells = dump.cells.items }
+dump_seen dump = record {
+  version = dump.version;
+  ending = dump.ending;
+  pc = dump.pc.0;
+  steps = dump.steps;
+  length = dump.length;
+  cells = dump.cells.items;
+}
 
 abbrev pub kind_of : Option Ending → ℕ
 kind_of None = 0
@@ -38,8 +50,11 @@ number_of (Some (Trap number)) = number
 number_of (Some Window) = 0
 number_of (Some Couple) = 0
 
--- Each number fits its bytes.
+-- It has a version, and each number fits its bytes.
 pub record IsDump (dump : Dump) : Type 0 where
+  pub version : is_version dump.version ≡ true
+  pub no_length : dump.version ≡ 1 → dump.length ≡ 0
+  pub size : dump.length < 2 ^ 32
   pub number : number_of dump.ending < 2 ^ 8
   pub pc : dump.pc < 2 ^ 32
   pub steps : dump.steps < 2 ^ 64

@@ -1,8 +1,9 @@
 -- Reading a dump, from left to right: the dump, or the offset of the first number that isn't whole or breaks its
 -- rule.
-use Rattle.std.specs.Prelude.{◌≡◌, ℕ, zero, suc, ◌+◌, ◌*◌, Bool, ◌||◌, ◌==◌, nat_le, if◌then◌else◌, List, [], ◌∷◌, length, drop, Option, Some, None, Result, Ok, Err, ⊤}
+use Rattle.std.specs.Prelude.{◌≡◌, ℕ, zero, suc, ◌+◌, ◌*◌, Bool, ◌||◌, ◌==◌, nat_le, if◌then◌else◌, List, [], ◌∷◌, length, drop, Option, Some, None, Result, Ok, Err}
 use Rattle.byteorder.specs.Endian.{big_number}
 use Rattle.eel_base.specs.Fields.{be_field}
+use Rattle.elf32_sparc.specs.Notes.{is_version}
 use Rattle.v8_step.specs.declared.Ending.{Ending}
 use Rattle.v8_step.specs.declared.Ending.TheVariants.{Exit, Trap, Window, Couple}
 use Rattle.dump_file.specs.Dump.{Dump}
@@ -47,9 +48,17 @@ ending_at bytes = do
   number ← field_at 4 bytes 12
   kept (nat_le number (number_limit kind)) 12 (ending_of kind number)
 
--- so many cells are all that follows the first 32 bytes
-abbrev pub fits : List ℕ → ℕ → Bool
-fits bytes count = length bytes == 32 + 4 * count
+-- where the number of cells stands
+abbrev pub count_place : ℕ → ℕ
+count_place version = if version == 1 then 28 else 32
+
+-- the size of the original, which version 1 doesn't tell
+abbrev pub length_at : ℕ → List ℕ → Result ℕ ℕ
+length_at version bytes = if version == 1 then Ok 0 else field_at 4 bytes 28
+
+-- so many cells are all that follows the first bytes
+abbrev pub fits : ℕ → List ℕ → ℕ → Bool
+fits first bytes count = length bytes == first + 4 * count
 
 -- the first words, so many of them
 unfoldable pub words_of : List ℕ → ℕ → List ℕ
@@ -61,18 +70,41 @@ read_dump bytes = do
   first ← field_at 4 bytes 0
   begins ← kept (first == mark) 0 first
   version ← field_at 4 bytes 4
-  known ← kept (version == 1) 4 version
+  known ← kept (is_version version) 4 version
   ending ← ending_at bytes
   pc ← field_at 4 bytes 16
   steps ← field_at 8 bytes 20
-  count ← field_at 4 bytes 28
-  let cells = words_of (drop 32 bytes) count
-  kept (fits bytes count) 28 (record { ending = ending; pc = pc; steps = steps; cells = cells })
+  size ← length_at version bytes
+  let place = count_place version
+  count ← field_at 4 bytes place
+  let cells = words_of (drop (place + 4) bytes) count
+  kept (fits (place + 4) bytes count) place (record {
+    version = version;
+    ending = ending;
+    pc = pc;
+    steps = steps;
+    length = size;
+    cells = cells;
+  })
 
--- A fault is the one that was read; want of memory may come at any time.
+-- it reads
+abbrev pub IsRead : {A : Type 0} → Result A ℕ → Type 0
+IsRead (Ok x) = Unit {0}
+IsRead (Err at) = ⊥
+
+-- a part that takes no memory answers what was read
+abbrev pub IsBad : {A : Type 0} → DumpFault → Result A ℕ → Type 0
+IsBad (faults.Bad at) read = read ≡ Err at
+IsBad faults.NoMemory read = ⊥
+
+abbrev pub Reads : {A : Type 0} → Result A DumpFault → Result A ℕ → Type 0
+Reads (Ok x) read = read ≡ Ok x
+Reads (Err fault) read = IsBad fault read
+
+-- A fault is the one that was read; memory is wanting only where there is none.
 abbrev pub IsFault : {A : Type 0} → DumpFault → Result A ℕ → Type 0
 IsFault (faults.Bad at) read = read ≡ Err at
-IsFault faults.NoMemory read = ⊤
+IsFault faults.NoMemory read = IsRead read
 
 -- an answer is what was read
 abbrev pub Answers : {A B : Type 0} → (A → B) → Result A DumpFault → Result B ℕ → Type 0

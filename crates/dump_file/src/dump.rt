@@ -8,12 +8,16 @@ use v8_step::Ending;
 /// What a run has come to.
 #[derive(Drop)]
 pub struct Dump {
+    /// That of the notes of the file that was run, 1 or 2.
+    pub version: u32,
     /// How the run ended, where it did.
     pub ending: Option<Ending>,
     /// Where it stands.
     pub pc: Addr,
     /// How many steps were made.
     pub steps: u64,
+    /// The size of the original in bytes; 0 in version 1, which doesn't tell it.
+    pub length: u32,
     /// What the cells hold, the first one first.
     pub cells: Vec<u32>,
 }

@@ -1,7 +1,8 @@
 //! Dumps: what a run has come to, as a file of its own.
 //!
-//! A dump has big-endian numbers, one after the other, and no more: `EELD`, the version 1, how the run ended, where
-//! it stands, how many steps were made, how many cells there are, and the cells. `specs/Dump.antt` has the table.
+//! A dump has big-endian numbers, one after the other, and no more: `EELD`, the version, how the run ended, where it
+//! stands, how many steps were made, in version 2 the size of the original, how many cells there are, and the cells.
+//! `specs/Dump.antt` has the table.
 #![tactic(auto)]
 
 ghost use Rattle.dump_file.specs.Laws.{WrittenDumpsRead, ReadDumpsAreWritten};

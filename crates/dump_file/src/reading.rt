@@ -2,19 +2,17 @@
 ghost use Rattle.std.specs.Prelude.{◌≡◌, ◌≤◌, ◌<◌, ◌*◌, ◌^◌, MatchResult, IfOk, IfErr, length, true, false, vec_len};
 ghost use Rattle.eel_base.specs.Fields.{be_field};
 ghost use Rattle.dump_file.specs.Dump.{dump_seen};
-ghost use Rattle.dump_file.specs.Reading.{Answers, field_at, ending_at, ending_of, number_limit, fits, words_of};
+ghost use Rattle.dump_file.specs.Reading.{Answers, Reads, count_place, field_at, ending_at, ending_of, length_at, number_limit, fits, words_of};
+ghost use Rattle.elf32_sparc.specs.Notes.{is_version};
 ghost use Rattle.dump_file.specs.Reading.{read_dump};
 ghost use Rattle.dump_file.specs.declared.dump.DumpFault.TheVariants as faults;
 
 use crate::dump::{Dump, DumpFault};
-use crate::writing::{MARK, VERSION};
+use crate::writing::{MARK, NARROW, WIDE};
 use byteorder::{BigEndian, ByteOrder};
 use eel_base::{Addr, be32_at};
 use std::alloc::Global;
 use v8_step::Ending;
-
-/// How many bytes stand before the cells.
-const HEAD_SIZE: usize = 32;
 
 /// The dump that these bytes are.
 ///
@@ -25,26 +23,55 @@ pub fn read_dump(alloc: Global, bytes: &[u8]) -> Result<Dump, DumpFault>
     ensures few { IfOk result (λ dump. vec_len dump.cells < 2 ^ 32) }
 {
     keep(word_at(bytes, 0)? == MARK, 0)?;
-    keep(word_at(bytes, 4)? == VERSION, 4)?;
+    let version = word_at(bytes, 4)?;
+    keep(is_version(version), 4)?;
     let ending = ending_at(bytes)?;
     let pc = Addr(word_at(bytes, 16)?);
     let steps = long_at(bytes, 20)?;
-    let count = word_at(bytes, 28)?;
-    keep(fits(bytes, count), 28)?;
-    let (_, cells) = bytes.split_at(HEAD_SIZE);
+    let length = length_at(bytes, version)?;
+    let place = count_place(version);
+    let count = word_at(bytes, place)?;
+    keep(fits(place + 4, bytes, count), place)?;
+    let (_, cells) = bytes.split_at(place as usize + 4);
     let cells = read_words(alloc, cells, count as usize)?;
     Ok(Dump {
+        version,
         ending,
         pc,
         steps,
+        length,
         cells,
     })
+}
+
+fn is_version(version: u32) -> bool
+    ensures { result ≡ is_version version }
+{
+    version == NARROW || version == WIDE
+}
+
+/// Where the number of cells stands.
+fn count_place(version: u32) -> u32
+    ensures result { result ≡ count_place version }
+    ensures low { result ≤ 32 }
+{
+    if version == NARROW { 28 } else { 32 }
+}
+
+/// The size of the original, in the version that has it.
+fn length_at(bytes: &[u8], version: u32) -> Result<u32, DumpFault>
+    ensures { Reads result (length_at version bytes.now) }
+{
+    if version == NARROW {
+        return Ok(0);
+    }
+    word_at(bytes, 28)
 }
 
 /// How the run ended, by its kind and its number.
 #[tactic(auto, unfolding(crate::specs::Reading::ending_at))]
 fn ending_at(bytes: &[u8]) -> Result<Option<Ending>, DumpFault>
-    ensures { Answers (λ ending. ending) result (ending_at bytes.now) }
+    ensures { Reads result (ending_at bytes.now) }
 {
     let kind = word_at(bytes, 8)?;
     keep(kind <= 4, 8)?;
@@ -74,16 +101,17 @@ fn ending_of(kind: u32, number: u32) -> Option<Ending>
     }
 }
 
-/// So many cells are all that follows the first 32 bytes.
-fn fits(bytes: &[u8], count: u32) -> bool
-    ensures { result ≡ fits bytes.now count }
+/// So many cells are all that follows the first bytes.
+fn fits(first: u32, bytes: &[u8], count: u32) -> bool
+    requires { first ≤ 36 }
+    ensures { result ≡ fits first bytes.now count }
 {
-    bytes.len() == HEAD_SIZE + 4 * count as usize
+    bytes.len() == first as usize + 4 * count as usize
 }
 
 /// The word at an offset.
 fn word_at(bytes: &[u8], at: u32) -> Result<u32, DumpFault>
-    ensures { Answers (λ word. word) result (field_at 4 bytes.now at) }
+    ensures { Reads result (field_at 4 bytes.now at) }
 {
     match be32_at(bytes, at as usize) {
         Some(word) => Ok(word),
@@ -93,7 +121,7 @@ fn word_at(bytes: &[u8], at: u32) -> Result<u32, DumpFault>
 
 /// The number of eight bytes at an offset.
 fn long_at(bytes: &[u8], at: u32) -> Result<u64, DumpFault>
-    ensures { Answers (λ number. number) result (field_at 8 bytes.now at) }
+    ensures { Reads result (field_at 8 bytes.now at) }
 {
     match be64_at(bytes, at as usize) {
         Some(number) => Ok(number),

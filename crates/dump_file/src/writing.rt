@@ -1,8 +1,9 @@
 //! Writing dumps.
-ghost use Rattle.std.specs.Prelude.{◌≡◌, ◌++◌, ◌<◌, ◌^◌, IfOk, OnOk, vec_len};
+ghost use Rattle.std.specs.Prelude.{◌≡◌, ◌++◌, ◌<◌, ◌^◌, true, IfOk, OnOk, vec_len};
 ghost use Rattle.byteorder.specs.Endian.{big_bytes};
 ghost use Rattle.dump_file.specs.Dump.{dump_seen, kind_of, number_of};
-ghost use Rattle.dump_file.specs.Written.{words_bytes, dump_bytes};
+ghost use Rattle.dump_file.specs.Written.{words_bytes, dump_bytes, length_words};
+ghost use Rattle.elf32_sparc.specs.Notes.{is_version};
 
 use crate::dump::Dump;
 use byteorder::{BigEndian, ByteOrder};
@@ -13,12 +14,18 @@ use v8_step::Ending;
 /// `EELD`, with which a dump begins.
 pub(crate) const MARK: u32 = 0x4545_4c44;
 
-pub(crate) const VERSION: u32 = 1;
+/// The version of dumps of files whose counters have one cell.
+pub(crate) const NARROW: u32 = 1;
+
+/// The version of dumps of files whose counters have two cells.
+pub(crate) const WIDE: u32 = 2;
 
 /// A dump as bytes.
 #[tactic(auto, unfolding(crate::specs::Written::dump_bytes))]
 pub fn write_dump(alloc: Global, d: &Dump) -> Result<Vec<u8>, NoMemory>
-    requires { vec_len d.now.cells < 2 ^ 30 }
+    requires cells { vec_len d.now.cells < 2 ^ 30 }
+    requires version { is_version d.now.version ≡ true }
+    requires length { d.now.version ≡ 1 → d.now.length ≡ 0 }
     ensures { IfOk result (λ bytes. bytes.items ≡ dump_bytes (dump_seen d.now)) }
 {
     let mut out = Vec::new(alloc);
@@ -26,16 +33,28 @@ pub fn write_dump(alloc: Global, d: &Dump) -> Result<Vec<u8>, NoMemory>
         &mut out,
         &[
             MARK,
-            VERSION,
+            d.version,
             kind_of(d.ending),
             number_of(d.ending),
             d.pc.0,
         ],
     )?;
     put_long(&mut out, d.steps)?;
+    put_length(&mut out, d)?;
     put_words(&mut out, &[d.cells.len() as u32])?;
     put_words(&mut out, &d.cells)?;
     Ok(out)
+}
+
+/// Adds the size of the original, in the version that has it.
+#[tactic(auto, unfolding(crate::specs::Written::words_bytes))]
+fn put_length(out: &mut Vec<u8>, d: &Dump) -> Result<(), NoMemory>
+    ensures { OnOk result (out.new.items ≡ out.old.items ++ words_bytes (length_words (dump_seen d.now))) }
+{
+    if d.version == NARROW {
+        return Ok(());
+    }
+    put_words(out, &[d.length])
 }
 
 /// How a run ended, as a number; 0 where it hasn't.

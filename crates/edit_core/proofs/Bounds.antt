@@ -7,7 +7,7 @@ use Rattle.cfg_walk.proofs.Lists.{Each, each}
 use Rattle.image_code.specs.Fit.{copies_of, operations_from, operations_in}
 use Rattle.image_code.specs.Simulates.{snippet_on}
 use Rattle.snippets.specs.declared.snippet.Op.{Op}
-use Rattle.snippets.specs.declared.snippet.Op.TheVariants.{Add, Put, Keep, Top}
+use Rattle.snippets.specs.Ops.{cells_end}
 use Rattle.tool_kit.specs.declared.edge_ref.ToolKind.{ToolKind}
 use Rattle.tool_kit.specs.declared.edge_ref.ToolKind.TheVariants as tools
 use Rattle.tool_kit.specs.Plans.{AreCounters}
@@ -15,20 +15,19 @@ use Rattle.edit_core.specs.Taken.{counted_on, operations_on}
 use Rattle.edit_core.specs.Written.{IsWorkable}
 
 -- counters are one operation each at most
-few_counted : (next : ℕ) (snips : List (List Op)) → AreCounters next snips → Each (λ ops. length ops ≤ 1) snips
-few_counted next [] are = tt
-few_counted next ([] ∷ snips) are = (omega arith, few_counted next snips are)
-few_counted next ((Add cell amount ∷ []) ∷ snips) are = (omega arith, few_counted (suc next) snips are.2)
-few_counted next ((Add cell amount ∷ op ∷ ops) ∷ snips) are = absurd are
-few_counted next ((Put cell value ∷ ops) ∷ snips) are = absurd are
-few_counted next ((Keep cell reg ∷ ops) ∷ snips) are = absurd are
-few_counted next ((Top cell reg ∷ ops) ∷ snips) are = absurd are
+few_counted : (version next : ℕ) (snips : List (List Op)) → AreCounters version next snips
+    → Each (λ ops. length ops ≤ 1) snips
+few_counted version next [] are = tt
+few_counted version next ([] ∷ snips) are = (omega arith, few_counted version next snips are)
+few_counted version next ((op ∷ []) ∷ snips) are = (omega arith, few_counted version (cells_end op) snips are.1)
+few_counted version next ((op ∷ other ∷ ops) ∷ snips) are = absurd are
 
-all_counted : (kind : ToolKind) (snips : List (List Op)) → (kind ≡ tools.Profile → AreCounters 0 snips)
+all_counted : (kind : ToolKind) (snips : List (List Op)) → (kind ≡ tools.Profile → AreCounters 2 0 snips)
     → Each (λ ops. length ops ≤ counted_on kind ops) snips
 all_counted tools.Plain snips are = each _ snips (λ ops. omega arith)
-all_counted tools.Profile snips are = few_counted 0 snips (are refl)
+all_counted tools.Profile snips are = few_counted 2 0 snips (are refl)
 all_counted tools.Script snips are = each _ snips (λ ops. omega arith)
+all_counted tools.Trace snips are = each _ snips (λ ops. omega arith)
 
 made : (kind : ToolKind) (graph : Graph) (all : List (List Op)) (number : ℕ) (edges : List Edge) (snips : List (List
     Op))

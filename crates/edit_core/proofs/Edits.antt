@@ -83,7 +83,7 @@ record AreBefore (count end : ℕ) (z t : AddedSegment) : Type 0 where
   pub whole : z.vaddr % 4096 ≡ 0
   pub none : length z.bytes ≡ 0
   pub filled : 0 < count → 0 < z.memsz
-  pub cells_few : z.memsz ≤ 2 ^ 24
+  pub cells_few : z.memsz ≤ 2 ^ 25
   pub cells_flags : z.flags < 2 ^ 32
 
 all_cons : {A : Type 0} (P : A → Type 0) (z : A) (xs : List A) → P z → All P xs → All P (z ∷ xs)
@@ -193,10 +193,11 @@ held_few b word some = let c = count_by-le-length (λ first. nat_le first word) 
 
 -- ---- an edit
 
-tool_few : (kind : ToolKind) → tool_number kind ≤ 2
+tool_few : (kind : ToolKind) → tool_number kind ≤ 3
 tool_few tools.Plain = omega arith
 tool_few tools.Profile = omega arith
 tool_few tools.Script = omega arith
+tool_few tools.Trace = omega arith
 
 module _ (original : List ℕ) (plan : Plan) (limit : length original ≤ 2 ^ 26) (can : CanEdit original plan)
     (work : CanDo original plan) (p : Placement) (place : ℕ → ℕ → ℕ) (table : TableAt)
@@ -290,6 +291,7 @@ module _ (original : List ℕ) (plan : Plan) (limit : length original ≤ 2 ^ 26
       let first = held [] (omega arith) in
       let base = (accepted-program original can.sound).base in
       record {
+        version = refl;
         delta_from = first.from;
         delta_to = first.to;
         length_to = limit;

@@ -1,7 +1,7 @@
 -- What lives is kept: the code of a snippet takes only what isn't live behind it, and what a snippet makes of the cells
 -- depends on the registers alone that it names.
-use Rattle.std.proofs.Common.{◌≡◌, ℕ, zero, suc, ◌+◌, ◌-◌, ◌*◌, ◌%◌, ◌<◌, ◌⊎◌, inl, inr, true, nat_lt, max, List, [], ◌∷◌, length, get_or, set, slice_index, refl, ap, sym, ◌∙◌, subst, arith, All, Contains}
-use Rattle.std.proofs.lemmas.Bool.{and_from, and_parts, cases_lt, cond_both, eq-eqb, lt-ltb, or_left, or_right}
+use Rattle.std.proofs.Common.{◌≡◌, ℕ, zero, suc, ◌+◌, ◌-◌, ◌*◌, ◌%◌, ◌<◌, ◌⊎◌, inl, inr, true, nat_lt, List, [], ◌∷◌, length, slice_index, refl, ap, sym, ◌∙◌, subst, arith, All, Contains}
+use Rattle.std.proofs.lemmas.Bool.{and_parts, cases_lt, cond_both, eq-eqb, or_left, or_right}
 use Rattle.std.proofs.lemmas.List.{get_or_past}
 use Rattle.v8_decode.specs.declared.Part.{Part}
 use Rattle.v8_decode.specs.declared.Part.TheVariants.{Reg, Icc, Y}
@@ -18,10 +18,9 @@ use Rattle.liveness.specs.Live.{IsLiveOn, named_on}
 use Rattle.live_walk.specs.Keeps.{IsKeptBehind, Keeps}
 use Rattle.live_walk.proofs.Keeps.{what_lives_is_kept}
 use Rattle.snippets.specs.declared.snippet.Op.{Op}
-use Rattle.snippets.specs.declared.snippet.Op.TheVariants.{Add, Put, Keep, Top}
-use Rattle.snippets.specs.Cells.{named_by, read_by, update, value_after}
+use Rattle.snippets.specs.Cells.{named_by, read_by, update}
 use Rattle.snippets.specs.Grammar.{IsOp}
-use Rattle.snippets.specs.Ops.{cell_of}
+use Rattle.snippets.proofs.Decide.{decide}
 use Rattle.image_code.specs.Simulates.{IsKept, Setting, graph_in, snippet_on, updates}
 use Rattle.edit_core.specs.Dead.{AreDead}
 use Rattle.edit_core.specs.Runs.{instr_in}
@@ -30,36 +29,6 @@ use Rattle.edit_core.proofs.Completed.{Completes, gone_completes, none, one, two
 
 -- ---- what snippets make of cells depends on the registers alone that they name
 
-same_self : (reg : ℕ) → is_same (Reg reg) (Reg reg) ≡ true
-same_self reg = eq-eqb reg reg refl
-
-module _ (f h : ℕ → ℕ) where
-  SameAt : List Op → Type 0
-  SameAt ops = (reg : ℕ) → reg < 32 → has (read_by ops) (Reg reg) ≡ true → f reg ≡ h reg
-
-  value_same : (op : Op) (ops : List Op) → IsOp op → SameAt (op ∷ ops) → (value : ℕ)
-      → value_after f op value ≡ value_after h op value
-  unfolding SameAt
-  value_same (Add cell amount) ops is same value = refl
-  value_same (Put cell new) ops is same value = refl
-  value_same (Keep cell reg) ops is same value = same reg is.1 (or_left _ _ (same_self reg))
-  value_same (Top cell reg) ops is same value = ap (max value) (same reg is.1 (or_left _ _ (same_self reg)))
-
-  rest_same : (op : Op) (ops : List Op) → SameAt (op ∷ ops) → SameAt ops
-  unfolding SameAt
-  rest_same (Add cell amount) ops same reg low reads = same reg low reads
-  rest_same (Put cell new) ops same reg low reads = same reg low reads
-  rest_same (Keep cell other) ops same reg low reads = same reg low (or_right _ _ reads)
-  rest_same (Top cell other) ops same reg low reads = same reg low (or_right _ _ reads)
-
-  update_same : (ops : List Op) → All IsOp ops → SameAt ops → (cells : List ℕ) → update f ops cells ≡ update h ops cells
-  update_same [] are same cells = refl
-  update_same (op ∷ ops) are same cells =
-      ap (λ (value : ℕ). update f ops (set cells (cell_of op) value))
-      (value_same op ops (are 0 op (omega arith)) same (get_or cells (cell_of op) 0))
-      ∙ update_same ops (λ k d l. are (suc k) d (omega (arith, l))) (rest_same op ops same)
-      (set cells (cell_of op) (value_after h op (get_or cells (cell_of op) 0)))
-
 ops_on : (snips : List (List Op)) → All (All IsOp) snips → (edge : ℕ) → All IsOp (snippet_on snips edge)
 ops_on snips are edge = elim (cases_lt edge (length snips)) [
   | inl within ↦ are edge [] within
@@ -67,15 +36,14 @@ ops_on snips are edge = elim (cases_lt edge (length snips)) [
 ]
 
 updates_same : (snips : List (List Op)) → All (All IsOp) snips → (edges cells : List ℕ) (s v : State)
-    → ((edge : ℕ) → Contains edges edge → (reg : ℕ) → reg < 32 → has (read_by (snippet_on snips edge)) (Reg reg) ≡ true
+    → ((edge : ℕ) → Contains edges edge → (reg : ℕ) → has (named_by (snippet_on snips edge)) (Reg reg) ≡ true
     → register_of s reg ≡ register_of v reg)
     → updates snips edges cells s ≡ updates snips edges cells v
-unfolding SameAt
 updates_same snips are [] cells s v same = refl
 updates_same snips are (edge ∷ edges) cells s v same =
     ap (λ (now : List ℕ). updates snips edges now s)
-    (update_same (register_of s) (register_of v) (snippet_on snips edge) (ops_on snips are edge)
-    (same edge (0, omega arith, refl)) cells)
+    (decide (register_of s) (register_of v) (snippet_on snips edge) cells (ops_on snips are edge) refl
+    (same edge (0, omega arith, refl)))
     ∙ updates_same snips are edges (update (register_of v) (snippet_on snips edge) cells) s v
     (λ other c. let l = c.1 in same other (suc c.0, omega (arith, l), c.2))
 
@@ -141,7 +109,7 @@ keeps_what_lives g entry s0 text fetches begins opened jumps dead are =
       needed = λ n item k. keeps.needed n item k;
       named = λ n cells v live window same.
           updates_same g.snips are (gone_in g.text (graph_in g) entry s0 n) cells (run s0 (suc n)) v
-          (λ edge gone reg low reads. registers n v window same keeps edge gone reg low reads);
+          (λ edge gone reg named. registers n v window same keeps edge gone reg named);
     }
   where
     registers : (n : ℕ) (v : State) → (run s0 (suc n)).window ≡ v.window
@@ -149,13 +117,12 @@ keeps_what_lives g entry s0 text fetches begins opened jumps dead are =
         → IsSameAt item (run s0 (suc n)) v)
         → Keeps g.text (graph_in g) (named_on g.snips) entry s0
         → (edge : ℕ) → Contains (gone_in g.text (graph_in g) entry s0 n) edge
-        → (reg : ℕ) → reg < 32 → has (read_by (snippet_on g.snips edge)) (Reg reg) ≡ true
+        → (reg : ℕ) → has (named_by (snippet_on g.snips edge)) (Reg reg) ≡ true
         → register_of (run s0 (suc n)) reg ≡ register_of v reg
-    registers n v window same keeps edge gone zero low reads = refl
-    registers n v window same keeps edge gone (suc r) low reads =
-        let member : is_member (Reg (suc r)) ≡ true = and_from _ _ (lt-ltb 0 (suc r) (omega arith)) (lt-ltb (suc r) 32 low) in
-        let named : has (named_by (snippet_on g.snips edge)) (Reg (suc r)) ≡ true =
-        has-members (has (read_by (snippet_on g.snips edge))) (Reg (suc r)) ∙ and_from _ _ member reads in
+    registers n v window same keeps edge gone zero named = refl
+    registers n v window same keeps edge gone (suc r) named =
+        let member : is_member (Reg (suc r)) ≡ true =
+        (and_parts _ _ (sym (has-members (has (read_by (snippet_on g.snips edge))) (Reg (suc r))) ∙ named)).0 in
         same (Register (place_of (run s0 (suc n)).window (suc r)))
         (place_some (run s0 (suc n)).window r, place_of-below (run s0 (suc n)).window (suc r))
         (keeps.named_items n edge (Reg (suc r)) gone member named)

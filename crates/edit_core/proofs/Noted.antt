@@ -9,7 +9,7 @@ use Rattle.byteorder.specs.Endian.{big_bytes}
 use Rattle.byteorder.specs.Numbers.{length-bytes_high_first}
 use Rattle.elf32_write.proofs.WordsBytes.{length-flat_map}
 use Rattle.eel_base.specs.CodeText.{Words, IsText, address_of}
-use Rattle.elf32_sparc.specs.Notes.{Notes, NoteEdge, NoteRange, NoteSegment, follows, holds}
+use Rattle.elf32_sparc.specs.Notes.{Notes, NoteEdge, NoteRange, NoteSegment, follows, holds, is_version, last_tool, most_cells}
 use Rattle.notes.specs.Rules.{AreNotes, are_segments, are_blocks, are_edges, are_ranges, is_edge, is_free, with_cell}
 use Rattle.notes.specs.Laws.{AreWords}
 use Rattle.notes.specs.Written.{words_bytes, notes_bytes, notes_words, segment_words, edge_words, range_words, cell_word}
@@ -21,11 +21,12 @@ use Rattle.cfg_normal.specs.declared.Node.{Node}
 use Rattle.cfg_normal.specs.declared.Node.TheVariants.{Block, Landed, X}
 use Rattle.cfg_normal.specs.Graph.{Graph, IsEdgeIn, IsNodeIn}
 use Rattle.cfg_normal.specs.Numbers.{node_number}
-use Rattle.cfg_walk.proofs.Lists.{Each, each-append}
+use Rattle.cfg_walk.proofs.Lists.{Each, each-append, each-then}
 use Rattle.layout.specs.Laid.{Ascend, Placement}
 use Rattle.snippets.specs.declared.snippet.Op.{Op}
-use Rattle.snippets.specs.declared.snippet.Op.TheVariants.{Add, Put, Keep, Top}
-use Rattle.snippets.specs.Cells.{WorksBelow}
+use Rattle.snippets.specs.declared.snippet.Op.TheVariants.{Count}
+use Rattle.snippets.specs.Cells.{WorksBelow, WorksIn}
+use Rattle.snippets.specs.Ops.{cells_end}
 use Rattle.tool_kit.specs.declared.edge_ref.ToolKind.{ToolKind}
 use Rattle.tool_kit.specs.declared.edge_ref.ToolKind.TheVariants as tools
 use Rattle.tool_kit.specs.Plans.{AreCounters}
@@ -35,6 +36,7 @@ use Rattle.edit_core.proofs.Fronts.{any_length, any_past, each_any}
 use Rattle.edit_core.proofs.Eaches.{all_each, each_all}
 use Rattle.edit_core.proofs.Off.{off_each, off_few}
 use Rattle.edit_core.proofs.Ranges.{IsWhole, ends_by, ranges_rule}
+use Rattle.edit_core.proofs.Snippets.{begins_within}
 
 -- ---- blocks
 
@@ -73,9 +75,10 @@ node_few graph (Landed k) l = omega (arith, l.0)
 node_few graph X l = omega arith
 
 -- an edge's cell, if it has one, is a further one
-is_next : (cells : ℕ) (taken : List ℕ) (cell : ℕ) → cell < cells → Each (λ other. other < cell) taken
-    → is_free cells taken (Some cell) ≡ true
-is_next cells taken cell few above = rw (lt-ltb cell cells few, not_among taken above) refl
+is_next : (width cells : ℕ) (taken : List ℕ) (cell : ℕ) → cell % width ≡ 0 → cell + width ≤ cells
+    → Each (λ other. other < cell) taken → is_free width cells taken (Some cell) ≡ true
+is_next width cells taken cell whole few above =
+    rw (eq-eqb (cell % width) 0 whole, le-leb (cell + width) cells few, not_among taken above) refl
   where
     not_among : (others : List ℕ) → Each (λ other. other < cell) others
         → list_any (λ other. other == cell) others ≡ false
@@ -87,10 +90,10 @@ is_next cells taken cell few above = rw (lt-ltb cell cells few, not_among taken 
 
 -- the edges' rules but for the cell's
 module _ (graph : Graph) (kind : ToolKind) where
-  ends_rule : (cells : ℕ) (taken : List ℕ) (e : Edge) (ops : List Op) → IsEdgeIn graph.blocks graph.opens e
-      → is_free cells taken (cell_noted kind ops) ≡ true
-      → is_edge (length graph.blocks.firsts) cells taken (note_edge graph kind e ops) ≡ true
-  ends_rule cells taken e ops inside free =
+  ends_rule : (width cells : ℕ) (taken : List ℕ) (e : Edge) (ops : List Op) → IsEdgeIn graph.blocks graph.opens e
+      → is_free width cells taken (cell_noted kind ops) ≡ true
+      → is_edge width (length graph.blocks.firsts) cells taken (note_edge graph kind e ops) ≡ true
+  ends_rule width cells taken e ops inside free =
       rw (
         le-leb (kind_number e.kind) 6 (kind_few e.kind),
         le-leb (node_number graph e.from) (2 * length graph.blocks.firsts) (node_few graph e.from inside.from),
@@ -98,53 +101,53 @@ module _ (graph : Graph) (kind : ToolKind) where
       ) free
 
 -- without a profile no edge has a cell
-uncounted_rule : (graph : Graph) (kind : ToolKind) (cells : ℕ) → ((ops : List Op) → cell_noted kind ops ≡ None)
+uncounted_rule : (graph : Graph) (kind : ToolKind) (width cells : ℕ) → ((ops : List Op) → cell_noted kind ops ≡ None)
     → (es : List Edge) (snips : List (List Op)) → Each (IsEdgeIn graph.blocks graph.opens) es
-    → are_edges (length graph.blocks.firsts) cells [] (note_edges graph kind es snips) ≡ true
-uncounted_rule graph kind cells none [] snips each = refl
-uncounted_rule graph kind cells none (e ∷ es) [] each = refl
-uncounted_rule graph kind cells none (e ∷ es) (ops ∷ snips) each =
+    → are_edges width (length graph.blocks.firsts) cells [] (note_edges graph kind es snips) ≡ true
+uncounted_rule graph kind width cells none [] snips each = refl
+uncounted_rule graph kind width cells none (e ∷ es) [] each = refl
+uncounted_rule graph kind width cells none (e ∷ es) (ops ∷ snips) each =
     and_from _ _
-    (ends_rule graph kind cells [] e ops each.0 (ap (is_free cells []) (none ops)))
-    (ap (λ (o : Option ℕ). are_edges (length graph.blocks.firsts) cells (with_cell o []) (note_edges graph kind es snips))
-    (none ops)
-    ∙ uncounted_rule graph kind cells none es snips each.1)
+    (ends_rule graph kind width cells [] e ops each.0 (ap (is_free width cells []) (none ops)))
+    (ap (λ (o : Option ℕ). are_edges width (length graph.blocks.firsts) cells (with_cell o [])
+    (note_edges graph kind es snips)) (none ops)
+    ∙ uncounted_rule graph kind width cells none es snips each.1)
 
--- in a profile each cell is the next one
-counted_rule : (graph : Graph) (cells next : ℕ) (taken : List ℕ) → Each (λ other. other < next) taken
-    → (es : List Edge) (snips : List (List Op)) → Each (IsEdgeIn graph.blocks graph.opens) es → AreCounters next snips
-    → Each (WorksBelow cells) snips
-    → are_edges (length graph.blocks.firsts) cells taken (note_edges graph tools.Profile es snips) ≡ true
-counted_rule graph cells next taken above [] snips each are below = refl
-counted_rule graph cells next taken above (e ∷ es) [] each are below = refl
-counted_rule graph cells next taken above (e ∷ es) ([] ∷ snips) each are below =
-    and_from _ _ (ends_rule graph tools.Profile cells taken e [] each.0 refl)
-    (counted_rule graph cells next taken above es snips each.1 are below.1)
-counted_rule graph cells next taken above (e ∷ es) ((Add cell amount ∷ []) ∷ snips) each are below =
-    let few : cell < cells = below.0 0 (Add cell amount) (omega arith) in
-    let under : Each (λ other. other < cell) taken = each_more taken (λ other l. omega (arith, l, are.0)) above in
+-- in a profile each counter has the next two cells
+counted_rule : (graph : Graph) (cells next : ℕ) (taken : List ℕ) → next % 2 ≡ 0 → Each (λ other. other < next) taken
+    → (es : List Edge) (snips : List (List Op)) → Each (IsEdgeIn graph.blocks graph.opens) es
+    → AreCounters 2 next snips → Each (WorksBelow cells) snips
+    → are_edges 2 (length graph.blocks.firsts) cells taken (note_edges graph tools.Profile es snips) ≡ true
+counted_rule graph cells next taken even above [] snips each are below = refl
+counted_rule graph cells next taken even above (e ∷ es) [] each are below = refl
+counted_rule graph cells next taken even above (e ∷ es) ([] ∷ snips) each are below =
+    and_from _ _ (ends_rule graph tools.Profile 2 cells taken e [] each.0 refl)
+    (counted_rule graph cells next taken even above es snips each.1 are below.1)
+counted_rule graph cells next taken even above (e ∷ es) ((op ∷ []) ∷ snips) each are below =
+    subst (λ (here : Op). WorksIn cells here → AreCounters 2 (cells_end here) snips
+    → are_edges 2 (length graph.blocks.firsts) cells taken
+    (note_edges graph tools.Profile (e ∷ es) ((here ∷ []) ∷ snips)) ≡ true) (sym are.0)
+    (λ works later.
     and_from _ _
-    (ends_rule graph tools.Profile cells taken e (Add cell amount ∷ []) each.0 (is_next cells taken cell few under))
-    (counted_rule graph cells (suc next) (cell ∷ taken)
-    (omega (arith, are.0), each_more taken (λ other l. omega (arith, l)) above) es snips each.1 are.2 below.1)
-  where
-    each_more : {P Q : ℕ → Type 0} (xs : List ℕ) → ((x : ℕ) → P x → Q x) → Each P xs → Each Q xs
-    each_more [] f each = tt
-    each_more (x ∷ xs) f each = (f x each.0, each_more xs f each.1)
-counted_rule graph cells next taken above (e ∷ es) ((Add cell amount ∷ op ∷ ops) ∷ snips) each are below = absurd are
-counted_rule graph cells next taken above (e ∷ es) ((Put cell value ∷ ops) ∷ snips) each are below = absurd are
-counted_rule graph cells next taken above (e ∷ es) ((Keep cell reg ∷ ops) ∷ snips) each are below = absurd are
-counted_rule graph cells next taken above (e ∷ es) ((Top cell reg ∷ ops) ∷ snips) each are below = absurd are
+    (ends_rule graph tools.Profile 2 cells taken e (Count next ∷ []) each.0
+    (is_next 2 cells taken next even works above))
+    (counted_rule graph cells (next + 2) (next ∷ taken) (omega (arith, even))
+    (omega arith, each-then (λ other. other < next) (λ other. other < next + 2) taken (λ other l. omega (arith, l)) above) es snips each.1 later below.1))
+    (below.0 0 op (omega arith)) are.1
+counted_rule graph cells next taken even above (e ∷ es) ((op ∷ other ∷ ops) ∷ snips) each are below = absurd are
 
 edges_rule : (graph : Graph) (kind : ToolKind) (cells : ℕ) (es : List Edge) (snips : List (List Op))
-    → Each (IsEdgeIn graph.blocks graph.opens) es → (kind ≡ tools.Profile → AreCounters 0 snips) → Each (WorksBelow cells) snips
-    → are_edges (length graph.blocks.firsts) cells [] (note_edges graph kind es snips) ≡ true
+    → Each (IsEdgeIn graph.blocks graph.opens) es → (kind ≡ tools.Profile → AreCounters 2 0 snips)
+    → Each (WorksBelow cells) snips
+    → are_edges 2 (length graph.blocks.firsts) cells [] (note_edges graph kind es snips) ≡ true
 edges_rule graph tools.Plain cells es snips each are below =
-    uncounted_rule graph tools.Plain cells (λ ops. refl) es snips each
+    uncounted_rule graph tools.Plain 2 cells (λ ops. refl) es snips each
 edges_rule graph tools.Profile cells es snips each are below =
-    counted_rule graph cells 0 [] tt es snips each (are refl) below
+    counted_rule graph cells 0 [] refl tt es snips each (are refl) below
 edges_rule graph tools.Script cells es snips each are below =
-    uncounted_rule graph tools.Script cells (λ ops. refl) es snips each
+    uncounted_rule graph tools.Script 2 cells (λ ops. refl) es snips each
+edges_rule graph tools.Trace cells es snips each are below =
+    uncounted_rule graph tools.Trace 2 cells (λ ops. refl) es snips each
 
 edges_count : (graph : Graph) (kind : ToolKind) (es : List Edge) (snips : List (List Op))
     → length (note_edges graph kind es snips) ≤ length es
@@ -163,15 +166,17 @@ rows_fit words [] each = tt
 rows_fit words (row ∷ rows) each = each-append Fits (words row) (flat_map words rows) each.0
     (rows_fit words rows each.1)
 
-cell_fits : (cells : ℕ) (kind : ToolKind) (ops : List Op) → cells ≤ 2 ^ 22 → WorksBelow cells ops
+cell_fits : (cells : ℕ) (kind : ToolKind) (ops : List Op) → cells ≤ 2 ^ 23 → WorksBelow cells ops
     → cell_word (cell_noted kind ops) < 2 ^ 32
 cell_fits cells tools.Plain ops few below = omega arith
 cell_fits cells tools.Script ops few below = omega arith
+cell_fits cells tools.Trace ops few below = omega arith
 cell_fits cells tools.Profile [] few below = omega arith
-cell_fits cells tools.Profile (op ∷ ops) few below = let l = below 0 op (omega arith) in omega arith
+cell_fits cells tools.Profile (op ∷ ops) few below =
+    let l = begins_within cells op (below 0 op (omega arith)) in omega (arith, l, few)
 
 edges_fit : (graph : Graph) (kind : ToolKind) (cells : ℕ) (es : List Edge) (snips : List (List Op))
-    → length graph.blocks.firsts ≤ 2 ^ 20 → cells ≤ 2 ^ 22 → Each (IsEdgeIn graph.blocks graph.opens) es
+    → length graph.blocks.firsts ≤ 2 ^ 20 → cells ≤ 2 ^ 23 → Each (IsEdgeIn graph.blocks graph.opens) es
     → Each (WorksBelow cells) snips
     → Each (λ edge. Each Fits (edge_words edge)) (note_edges graph kind es snips)
 edges_fit graph kind cells [] snips few cells_few each below = tt
@@ -199,10 +204,11 @@ ranges_fit graph from to (r ∷ rs) few low a each =
 
 -- notes on cells, a table of this size behind them, code right behind that, and the editor's page
 pub record IsNoted (graph : Graph) (size : ℕ) (p : Placement) (n : Notes) : Type 0 where
+  pub version : n.version ≡ 2
   pub delta_from : 4096 ≤ n.delta
   pub delta_to : n.delta ≤ 2 ^ 20
   pub length_to : n.length ≤ 2 ^ 26
-  pub tool : n.tool ≤ 2
+  pub tool : n.tool ≤ 3
   pub text : Words
   pub is_text : IsText text
   pub start : n.start ≡ text.start
@@ -210,7 +216,7 @@ pub record IsNoted (graph : Graph) (size : ℕ) (p : Placement) (n : Notes) : Ty
   pub graph_words : graph.blocks.words ≡ length text.words
   pub entry : n.entry < length graph.blocks.firsts
   pub base : n.base % 4 ≡ 0
-  pub cells : n.cells ≤ 2 ^ 22
+  pub cells : n.cells ≤ 2 ^ 23
   pub some : 0 < length p.code
   pub table : (4 ≤ size) × (size % 4 ≡ 0)
   pub low : table_after n.base n.cells + size + 4 * length p.code ≤ 2 ^ 31
@@ -222,7 +228,7 @@ pub record IsNoted (graph : Graph) (size : ℕ) (p : Placement) (n : Notes) : Ty
   pub kind : ToolKind
   pub snips : List (List Op)
   pub edges : n.edges ≡ note_edges graph kind graph.edges snips
-  pub counters : kind ≡ tools.Profile → AreCounters 0 snips
+  pub counters : kind ≡ tools.Profile → AreCounters 2 0 snips
   pub below : Each (WorksBelow n.cells) snips
   pub ranges : n.ranges ≡ off_ranges text graph (table_after n.base n.cells) ++ p.ranges
   pub range_count : length p.ranges ≤ 2 ^ 23
@@ -346,8 +352,9 @@ module _ (graph : Graph) (size : ℕ) (p : Placement) (n : Notes) (is : IsNoted 
       subst (λ (es : List NoteEdge). length es ≤ length graph.edges) (sym is.edges)
       (edges_count graph is.kind graph.edges is.snips) in
       record {
+        version = ap is_version is.version;
         delta = is.delta_from;
-        tool = omega (arith, is.tool);
+        tool = subst (λ (version : ℕ). n.tool ≤ last_tool version) (sym is.version) is.tool;
         start = (ap (λ z. z % 4) is.start ∙ text.aligned, omega (arith, is.start, text.above));
         words = (
           omega (arith, is.words, text.some),
@@ -356,14 +363,14 @@ module _ (graph : Graph) (size : ℕ) (p : Placement) (n : Notes) (is : IsNoted 
         );
         entry = omega (arith, is.entry, blocks);
         base = (is.base, omega (arith, is.cells));
-        cells = omega (arith, is.cells);
+        cells = subst (λ (version : ℕ). n.cells ≤ most_cells version) (sym is.version) is.cells;
         segment_count = omega (arith, pages_count);
         segments = rw (is.segments) segments_rule;
         block_count = omega (arith, blocks, f.few, is.graph_words, is.words);
         blocks = rw (is.blocks, is.words, ← is.graph_words) (blocks_rule graph.blocks.words graph.blocks.firsts None
             (λ b e l. absurd (cc)) (λ e l. f.begin) f.ascend f.within);
         edge_count = omega (arith, counts, is.edge_count);
-        edges = rw (is.edges, is.blocks) (edges_rule graph is.kind n.cells graph.edges is.snips is.edges_in is.counters is.below);
+        edges = rw (is.version, is.edges, is.blocks) (edges_rule graph is.kind n.cells graph.edges is.snips is.edges_in is.counters is.below);
         range_count = omega (arith, r);
         ranges = rw (is.segments, is.ranges, is.blocks) all_rule;
       }

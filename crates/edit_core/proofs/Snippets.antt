@@ -1,14 +1,15 @@
 -- The code of good snippets.
-use Rattle.std.proofs.Common.{◌≡◌, ℕ, suc, ◌*◌, ◌%◌, ◌^◌, ◌<◌, ◌≤◌, inl, inr, List, [], ◌∷◌, length, sym, subst, arith, All}
+use Rattle.std.proofs.Common.{◌≡◌, ℕ, suc, ◌*◌, ◌%◌, ◌^◌, ◌<◌, ◌≤◌, inl, inr, List, [], ◌∷◌, length, get_or, sym, subst, arith, All}
 use Rattle.std.proofs.lemmas.Bool.{cases_lt}
 use Rattle.std.proofs.lemmas.List.{get_or_past, length-map}
 use Rattle.v8_decode.specs.declared.Part.{Part}
 use Rattle.v8_encode.specs.Encoding.{word_of}
 use Rattle.snippets.specs.declared.snippet.Op.{Op}
-use Rattle.snippets.specs.Cells.{named_by}
-use Rattle.snippets.specs.Ops.{cell_of}
+use Rattle.snippets.specs.declared.snippet.Op.TheVariants.{Add, Put, Keep, Top, Count, Log}
+use Rattle.snippets.specs.Cells.{WorksBelow, WorksIn, named_by}
+use Rattle.snippets.specs.Ops.{cell_of, cells_end}
 use Rattle.snippet_code.specs.Cells.{IsCellOf, cell_at}
-use Rattle.snippet_code.specs.Laws.{CanExpand, EndLow}
+use Rattle.snippet_code.specs.Laws.{CanExpand, EndLow, HasBits}
 use Rattle.snippet_code.specs.Runs.{DoesJust}
 use Rattle.snippet_code.specs.Words.{snippet_words, spills_of}
 use Rattle.snippet_code.proofs.Lengths.{costs_hold}
@@ -34,18 +35,50 @@ good_on cells snips good edge = elim (cases_lt edge (length snips)) [
   | inr past ↦ subst (IsGood cells) (sym (get_or_past snips edge [] past)) (none_good cells)
 ]
 
--- and works on cells that there are
+-- a ring has its bits
+has_bits : (cells : ℕ) (op : Op) → WorksIn cells op → HasBits op
+has_bits cells (Add cell amount) works = tt
+has_bits cells (Put cell value) works = tt
+has_bits cells (Keep cell reg) works = tt
+has_bits cells (Top cell reg) works = tt
+has_bits cells (Count cell) works = tt
+has_bits cells (Log cell bits value) works = (works.0, works.1)
+
+-- an operation's cells end at or below their number
+ends_within : (cells : ℕ) (op : Op) → WorksIn cells op → cells_end op ≤ cells
+ends_within cells (Add cell amount) works = works
+ends_within cells (Put cell value) works = works
+ends_within cells (Keep cell reg) works = works
+ends_within cells (Top cell reg) works = works
+ends_within cells (Count cell) works = works
+ends_within cells (Log cell bits value) works = works.2
+
+-- and begin below it
+pub begins_within : (cells : ℕ) (op : Op) → WorksIn cells op → cell_of op < cells
+begins_within cells (Add cell amount) works = omega (arith, works)
+begins_within cells (Put cell value) works = omega (arith, works)
+begins_within cells (Keep cell reg) works = omega (arith, works)
+begins_within cells (Top cell reg) works = omega (arith, works)
+begins_within cells (Count cell) works = omega (arith, works)
+begins_within cells (Log cell bits value) works = omega (arith, works.2)
+
+-- a good snippet works on cells that there are
 pub cells_in_range : (cells : ℕ) (ops : List Op) → IsGood cells ops → (cell : ℕ) → IsCellOf ops cell → cell < cells
 cells_in_range cells ops good cell is = by ops good.below cell is
   where
-    by : (ops : List Op) → All (λ op. cell_of op < cells) ops → (cell : ℕ) → IsCellOf ops cell → cell < cells
+    by : (ops : List Op) → WorksBelow cells ops → (cell : ℕ) → IsCellOf ops cell → cell < cells
     by [] below cell is = absurd is
-    by (op ∷ ops) below cell (inl same) = let l : cell_of op < cells = below 0 op (omega arith) in omega (arith, same, l)
+    by (op ∷ ops) below cell (inl inside) =
+        let end = ends_within cells op (below 0 op (omega arith)) in omega (arith, inside.1, end)
     by (op ∷ ops) below cell (inr is) = by ops (λ k d l. below (suc k) d (omega (arith, l))) cell is
 
 module _ (base cells : ℕ) (aligned : base % 4 ≡ 0) (low : cell_at base cells ≤ 2 ^ 31) where
   pub ends_low : (ops : List Op) → IsGood cells ops → EndLow base ops
-  ends_low ops good = λ k d l. let below = good.below k d l in omega (arith, below, low)
+  ends_low ops good = λ k d l.
+      let op = get_or ops k d in
+      let works : WorksIn cells op = good.below k d l in
+      let end = ends_within cells op works in
+      record { bits = has_bits cells op works; end = omega (arith, end, low) }
 
   can_expand : (ops : List Op) → IsGood cells ops → CanExpand base ops
   can_expand ops good =

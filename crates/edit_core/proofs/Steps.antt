@@ -58,7 +58,7 @@ original_fit fits original plan can work dead =
     (image_room original) work.few can.room)
     (short_codes (cells_base original plan) plan.cells dead plan.snips work.good)
   where
-    under : (base room cells words more : ℕ) → room ≡ min (2 ^ 30) (0x80000000 - base) → cells ≤ 2 ^ 22
+    under : (base room cells words more : ℕ) → room ≡ min (2 ^ 30) (0x80000000 - base) → cells ≤ 2 ^ 23
         → 2 ^ 20 + 512 * words + 4 * cells + 128 * more ≤ room → table_after base cells < 2 ^ 31
     under base room cells words more same few enough = omega arith
 

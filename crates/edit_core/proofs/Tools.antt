@@ -31,9 +31,9 @@ module _ {F : Type 0} (says : F → EdgeRef → List Op → Type 0) (tool : Kept
         (is ∙ ap (λ (ms : List WordNo). view_of bytes (numbers ms)) same_marks) answers;
   }
 
-  pub can_do : All (IsGood tool.cells) snips → tool.cells ≤ 2 ^ 22 → CountsEdges says tool bytes → CanDo bytes plan
+  pub can_do : All (IsGood tool.cells) snips → tool.cells ≤ 2 ^ 23 → CountsEdges says tool bytes → CanDo bytes plan
   can_do good few counters = record {
-    few = subst (λ (n : ℕ). n ≤ 2 ^ 22) (sym same_cells) few;
+    few = subst (λ (n : ℕ). n ≤ 2 ^ 23) (sym same_cells) few;
     size = answers.size ∙ ap (λ (v : Seen). length v.graph.edges) is
         ∙ ap (λ (g : Graph). length g.edges) (view_graph bytes plan);
     good = subst (λ (n : ℕ). All (IsGood n) snips) (sym same_cells) good;

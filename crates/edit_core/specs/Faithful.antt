@@ -58,6 +58,7 @@ abbrev pub tool_number : ToolKind → ℕ
 tool_number tools.Plain = 0
 tool_number tools.Profile = 1
 tool_number tools.Script = 2
+tool_number tools.Trace = 3
 
 -- In a profile an edge has the cell of its operation, if it has one; for other tools no edge has a cell.
 abbrev pub cell_noted : ToolKind → List Op → Option ℕ
@@ -140,9 +141,10 @@ IsPlace original file range =
     → range.address ≡ address_of text word
     → word_mapped file range.lo ≡ Some (slice_index text.words word)
 
--- Counters: the snippets of a profile count edges, by the cells that they have in the notes.
-abbrev pub AreCounted : Plan → Type 0
-AreCounted plan = plan.kind ≡ tools.Profile → AreCounters 0 plan.snips
+-- Counters: the snippets of a profile count edges, by the cells that they have in the notes, of 32 bits where these have
+-- version 1 and of 64 bits where they have version 2.
+abbrev pub AreCounted : ℕ → Plan → Type 0
+AreCounted version plan = plan.kind ≡ tools.Profile → AreCounters version 0 plan.snips
 
 pub record IsFaithful (original : List ℕ) (plan : Plan) (file : List ℕ) : Type 0 where
   pub notes : Notes
@@ -154,7 +156,7 @@ pub record IsFaithful (original : List ℕ) (plan : Plan) (file : List ℕ) : Ty
   pub dead : ℕ → List Part
   pub exact : AreDead (image_of original).text (view_of original plan.marks).graph (named_on plan.snips) dead
   pub runs : HaveRunsAlike original plan dead file notes
-  pub counters : AreCounted plan
+  pub counters : AreCounted notes.version plan
 
 -- ---- by a tool: `says` tells what its callback may answer
 
@@ -163,6 +165,6 @@ module _ {F : Type 0} (says : F → EdgeRef → List Op → Type 0) (tool : Kept
   abbrev pub AsksOf : Plan → Type 0
   AsksOf plan = IsPlanOf says tool (view_of original (numbers tool.marks)).graph.edges plan
 
-  -- a profile asks for counters
+  -- a profile asks for counters of 64 bits
   abbrev pub CountsEdges : Type 0
-  CountsEdges = (plan : Plan) → AsksOf plan → AreCounted plan
+  CountsEdges = (plan : Plan) → AsksOf plan → AreCounted 2 plan

@@ -235,6 +235,7 @@ module _ (original : List ℕ) (plan : Plan) where
 
   abbrev pub notes_on : Placement → Notes
   notes_on p = record {
+    version = 2;
     delta = delta_in original;
     length = length original;
     tool = tool_number plan.kind;
@@ -256,10 +257,10 @@ module _ (original : List ℕ) (plan : Plan) where
 
 -- What can be done on a graph: a good snippet on each edge, and in a profile counters.
 pub record IsWorkable (graph : Graph) (kind : ToolKind) (cells : ℕ) (snips : List (List Op)) : Type 0 where
-  pub few : cells ≤ 2 ^ 22
+  pub few : cells ≤ 2 ^ 23
   pub size : length snips ≡ length graph.edges
   pub good : All (IsGood cells) snips
-  pub counters : kind ≡ tools.Profile → AreCounters 0 snips
+  pub counters : kind ≡ tools.Profile → AreCounters 2 0 snips
 
 abbrev pub CanDo : List ℕ → Plan → Type 0
 CanDo original plan = IsWorkable (graph_in original plan) plan.kind plan.cells plan.snips

@@ -145,7 +145,7 @@ fn cases_base(text: &Text, table: Addr) -> Addr
 
 // How much room so many words take: whole pages.
 fn cells_size(cells: u32) -> u32
-    requires { cells ≤ 2 ^ 22 }
+    requires { cells ≤ 2 ^ 23 }
     ensures { result ≡ cells_size_of cells }
 {
     (4 * cells + PAGE_SIZE - 1) / PAGE_SIZE * PAGE_SIZE
@@ -153,7 +153,7 @@ fn cells_size(cells: u32) -> u32
 
 /// Where the tables stand: behind the cells.
 pub(crate) fn table_base(image: &Image, cells: u32) -> Addr
-    requires few { cells ≤ 2 ^ 22 }
+    requires few { cells ≤ 2 ^ 23 }
     requires fits { table_after image.now.base cells < 2 ^ 32 }
     ensures { result.0 ≡ table_after image.now.base cells }
 {
@@ -162,7 +162,7 @@ pub(crate) fn table_base(image: &Image, cells: u32) -> Addr
 
 /// Where code stands: right behind the tables, which have so many bytes.
 pub(crate) fn code_base(image: &Image, cells: u32, size: u32) -> Addr
-    requires few { cells ≤ 2 ^ 22 }
+    requires few { cells ≤ 2 ^ 23 }
     requires fits { table_after image.now.base cells + size < 2 ^ 32 }
     ensures address { result.0 ≡ table_after image.now.base cells + size }
 {
@@ -178,7 +178,7 @@ fn laid(
     size: u32,
 ) -> Result<Placed, NoMemory>
     requires pieces { ArePieces list.now }
-    requires cells { cells ≤ 2 ^ 22 }
+    requires cells { cells ≤ 2 ^ 23 }
     requires whole { size % 4096 ≡ 0 }
     requires room { cells_size_of cells + size + long_bytes list.now ≤ image.now.room }
     requires base { image.now.base % 4096 ≡ 0 }

@@ -87,7 +87,7 @@ fn added(
     cells: u32,
     new: &NewCode,
 ) -> Result<Vec<NewSegment>, NoMemory>
-    requires few { cells ≤ 2 ^ 22 }
+    requires few { cells ≤ 2 ^ 23 }
     requires low { table_after image.now.base cells + length new.now.tables.items
         + 4 * length new.now.placed.code.items ≤ 2 ^ 31 }
     ensures segments { IfOk result (λ v. map segment_seen v.items

@@ -23,6 +23,9 @@ use snippets::Snippet;
 use std::alloc::Global;
 use tool_kit::ToolKind;
 
+/// The version of the notes that are written.
+const NOTES_VERSION: u32 = 2;
+
 /// The notes on new code, behind tables of so many bytes.
 pub(crate) fn notes(
     alloc: Global,
@@ -36,7 +39,7 @@ pub(crate) fn notes(
     requires limit { length bytes.now ≤ 2 ^ 26 }
     requires words { graph.now.blocks.words ≡ length image.now.text.words }
     requires text { IsText image.now.text }
-    requires few { asked.now.cells ≤ 2 ^ 22 }
+    requires few { asked.now.cells ≤ 2 ^ 23 }
     requires size { size ≡ segment_size image.now.text graph.now }
     requires low { table_after image.now.base asked.now.cells + size + 4 * length placed.code.items ≤ 2 ^ 31 }
     ensures { (marks : List ℕ) → IsViewOf bytes.now (plan_of marks asked.now) image.now graph.now
@@ -45,6 +48,7 @@ pub(crate) fn notes(
     let text = image.text();
     let table = table_base(image, asked.cells);
     Ok(Notes {
+        version: NOTES_VERSION,
         delta: delta(image),
         length: bytes.len() as u32,
         tool: tool_number(asked.kind),
@@ -68,6 +72,7 @@ fn tool_number(kind: ToolKind) -> u32
         ToolKind::Plain => 0,
         ToolKind::Profile => 1,
         ToolKind::Script => 2,
+        ToolKind::Trace => 3,
     }
 }
 
@@ -79,7 +84,7 @@ fn note_segments(
     size: u32,
     code: &[u32],
 ) -> Result<Vec<NoteSegment>, NoMemory>
-    requires few { cells ≤ 2 ^ 22 }
+    requires few { cells ≤ 2 ^ 23 }
     requires low { table_after image.now.base cells + size + 4 * length code.now ≤ 2 ^ 31 }
     ensures { IfOk result (λ v. map segment_seen v.items ≡ segments_noted image.now.base cells size code.now) }
 {
@@ -196,7 +201,7 @@ fn cell_noted(kind: ToolKind, snippet: &Snippet) -> Option<u32>
 {
     match kind {
         ToolKind::Profile => snippet.ops().first().map(|op| op.cell()),
-        ToolKind::Plain | ToolKind::Script => None,
+        ToolKind::Plain | ToolKind::Script | ToolKind::Trace => None,
     }
 }
 

@@ -24,7 +24,7 @@ pub(crate) const PAGE_SIZE: u32 = 4096;
 
 /// Cells, which begin as zeros, so that they need no bytes.
 pub(crate) fn cells_segment(alloc: Global, base: Addr, cells: u32) -> NewSegment
-    requires { cells ≤ 2 ^ 22 }
+    requires { cells ≤ 2 ^ 23 }
     ensures { segment_seen result ≡ cells_at base.0 cells }
 {
     NewSegment {

@@ -243,6 +243,6 @@ fn counted_on(kind: ToolKind, snippet: &Snippet) -> u64
 {
     match kind {
         ToolKind::Profile => 1,
-        ToolKind::Plain | ToolKind::Script => snippet.ops().len() as u64,
+        ToolKind::Plain | ToolKind::Script | ToolKind::Trace => snippet.ops().len() as u64,
     }
 }

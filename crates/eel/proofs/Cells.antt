@@ -1,5 +1,5 @@
 -- Cells in one loaded segment with leave to be read can be read at each moment of a run.
-use Rattle.std.proofs.Common.{◌≡◌, ℕ, zero, suc, ◌+◌, ◌*◌, ◌≤◌, ◌⊎◌, inl, inr, Bool, true, false, ◌&&◌, ◌||◌, not, nat_le, nat_lt, cond, List, [], ◌∷◌, ◌++◌, map, Option, Some, None, Result, Ok, Err, ◌%◌, if◌then◌else◌, refl, ap, sym, ◌∙◌, subst, arith}
+use Rattle.std.proofs.Common.{◌≡◌, ℕ, zero, suc, ◌+◌, ◌*◌, ◌^◌, ◌≤◌, ◌==◌, ◌⊎◌, inl, inr, Bool, true, false, ◌&&◌, ◌||◌, not, nat_le, nat_lt, cond, List, [], ◌∷◌, ◌++◌, map, Option, Some, None, Result, Ok, Err, ◌%◌, if◌then◌else◌, refl, ap, sym, ◌∙◌, subst, arith}
 use Rattle.std.specs.Int.{from_be_bytes, w32}
 use Rattle.std.specs.List.{find, list_any}
 use Rattle.std.specs.Option.{option_map}
@@ -33,7 +33,9 @@ use Rattle.code_runs.specs.StoredWords.{CanLoad, memory_word, word_in}
 use Rattle.v8_step.proofs.KeptOutside.{kept_act}
 use Rattle.code_runs.proofs.Stays.{shape}
 use Rattle.snippet_code.specs.Cells.{cell_at, words_at}
+use Rattle.notes.specs.Rules.{AreNotes}
 use Rattle.edit_core.specs.Faithful.{holds_cells}
+use Rattle.exact_counts.specs.Stops.{length_told}
 use Rattle.eel.specs.Answers.Dump.{AreMapped}
 use Rattle.eel.specs.Cells.{KeepCells, has_cells}
 
@@ -326,3 +328,15 @@ word_loaded m a result aligned can loads =
     ∙ ap (λ (b : Bool). allowed (if_allowed b (part_of can.region a 4))) can.readable in
     subst (λ (read : Result (List ℕ) MemFault). Loads (from_be_bytes w32) read result) bytes loads
     ∙ sym (ap (λ (r : Option Region). Ok (word_in a r)) can.at)
+
+-- ---- how many there are, and what a dump tells of the original
+
+pub few_cells : (notes : Notes) → AreNotes notes → notes.cells ≤ 2 ^ 23
+few_cells notes are = by (notes.version == 1) are.cells
+  where
+    by : (b : Bool) → notes.cells ≤ (if b then 2 ^ 22 else 2 ^ 23) → notes.cells ≤ 2 ^ 23
+    by true few = omega (arith, few)
+    by false few = few
+
+pub no_length : (notes : Notes) → notes.version ≡ 1 → length_told notes ≡ 0
+no_length notes one = ap (λ (version : ℕ). if version == 1 then 0 else notes.length) one

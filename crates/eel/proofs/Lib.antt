@@ -2,6 +2,7 @@ pub mod Answered
 pub mod Cells
 pub mod Counted
 pub mod Dumping
+pub mod EditedProfiles
 pub mod Editing
 pub mod ExactProfiles
 pub mod Few

@@ -1,5 +1,5 @@
 -- A line that is written piece by piece.
-use Rattle.std.proofs.Common.{◌≡◌, ℕ, suc, ◌+◌, ◌<◌, List, ◌++◌, length, take, drop, min, Option, ap, sym, ◌∙◌, arith, Bor, get_or, subst, drop-cons}
+use Rattle.std.proofs.Common.{◌≡◌, ℕ, suc, ◌+◌, ◌<◌, List, ◌++◌, append_assoc, refl, length, take, drop, min, Option, ap, sym, ◌∙◌, arith, Bor, get_or, subst, drop-cons}
 use Rattle.std.proofs.Math.Seq.{take-append-add}
 use Rattle.std.proofs.lemmas.List.{take-append-le, take_min, take-append-drop}
 use Rattle.std.proofs.lemmas.Grind.{flat_map-append}
@@ -29,3 +29,15 @@ took-piece old now new pieces i d fits first part =
     split pieces i d fits =
         ap joined (sym (take-append-drop i pieces)) ∙ flat_map-append (λ (p : Bor (List ℕ)). p.now) (take i pieces) (drop i pieces)
         ∙ ap (λ z. joined (take i pieces) ++ joined z) (drop-cons pieces i d fits)
+
+-- a line about a name, with two numbers, and the pieces by which it is written
+pub two_numbers : (start name colon before one between other end : List ℕ)
+    → start ++ (((name ++ colon) ++ (before ++ ((one ++ between) ++ other))) ++ end)
+    ≡ start ++ (name ++ ((colon ++ before) ++ (one ++ (between ++ (other ++ end)))))
+two_numbers start name colon before one between other end = simp append_assoc refl
+
+-- and with words behind them
+pub two_numbers_of : (start name colon before one between other last end : List ℕ)
+    → start ++ (((name ++ colon) ++ (before ++ (((one ++ between) ++ other) ++ last))) ++ end)
+    ≡ start ++ (name ++ ((colon ++ before) ++ (one ++ (between ++ (other ++ (last ++ end))))))
+two_numbers_of start name colon before one between other last end = simp append_assoc refl

@@ -1,5 +1,6 @@
 -- Of a tame file a profile is made, and its run ends, and tells how often edges are completed.
-use Rattle.std.proofs.Common.{◌≡◌, ℕ, suc, ◌+◌, ◌-◌, ◌*◌, ◌^◌, ◌<◌, ◌≤◌, ◌⊎◌, inl, inr, List, [], ◌∷◌, ◌++◌, append-nil, length, map, Some, None, Ok, refl, ap, sym, ◌∙◌, subst, arith}
+use Rattle.std.proofs.Common.{◌≡◌, ℕ, suc, ◌+◌, ◌-◌, ◌*◌, ◌^◌, ◌<◌, ◌≤◌, ◌==◌, ◌⊎◌, inl, inr, Bool, true, false, List, [], ◌∷◌, ◌++◌, append-nil, length, map, Some, None, Ok, refl, ap, sym, ◌∙◌, subst, arith}
+use Rattle.std.specs.Prelude.{if◌then◌else◌}
 use Rattle.std.specs.List.{All, list_any, sum}
 use Rattle.std.proofs.lemmas.Bool.{cases_lt, or_left, or_right}
 use Rattle.std.proofs.lemmas.List.Elements.{All-head, All-nil, All-tail}
@@ -35,7 +36,7 @@ use Rattle.image_code.specs.Simulates.{Setting, graph_in}
 use Rattle.exact_counts.specs.Profiles.{IsProfiled, original_graph}
 use Rattle.exact_counts.specs.Sizes.{HasEndedBy}
 use Rattle.exact_counts.specs.Stops.{EndsWithStep, IsOver, dump_at, visits_by}
-use Rattle.exact_counts.specs.Laws.{IsExact, MayRefuse}
+use Rattle.exact_counts.specs.Laws.{IsExact, MayRefuse, counter_limit}
 use Rattle.exact_counts.proofs.Ends.{ended_runs_tell}
 use Rattle.exact_counts.proofs.Exact.{begins_live, counts_are_exact, notes_of_graph, view_graph}
 use Rattle.exact_counts.proofs.Little.{profiles_need_little}
@@ -46,7 +47,7 @@ use Rattle.eel.specs.Answers.Demo.{EndsAlone, alone, walk_alone}
 use Rattle.eel.specs.Answers.Dump.{IsNoted}
 use Rattle.eel.specs.Answers.Profile.{IsProfileOf, ProfileRefuses, guessed, profile_plan}
 use Rattle.eel.specs.Tame.{AreAbove, EndsWithin, IsLastDump, IsNotedFile, IsTame}
-use Rattle.eel.proofs.ExactProfiles.{is_profiled, one_notes}
+use Rattle.eel.proofs.ExactProfiles.{edit_is_profiled, one_notes}
 
 some_not_none : (d : Ending) → Some d ≡ None → ⊥
 some_not_none d e = cc
@@ -57,9 +58,20 @@ only_memory : (dump : Dump) (fault : CountFault) → (dump.ending ≡ None → �
 only_memory dump (count_faults.Between pc) ended may = absurd (ended may.1)
 only_memory dump count_faults.NoMemory ended may = refl
 only_memory dump count_faults.NoProfile ended may = absurd may
+only_memory dump (count_faults.Version of wanted) ended may = absurd may
+only_memory dump (count_faults.Other length wanted) ended may = absurd may
 only_memory dump (count_faults.Shape cells wanted) ended may = absurd may
 only_memory dump (count_faults.TooLong steps) ended may = absurd may
 only_memory dump (count_faults.Negative edge value) ended may = absurd may
+only_memory dump (count_faults.Large edge value) ended may = absurd may
+
+-- no counter begins at 0 again within so many steps
+in_each_version : (version m : ℕ) → m < 2 ^ 32 → m < counter_limit version
+in_each_version version m few = by (version == 1)
+  where
+    by : (b : Bool) → m < (if b then 2 ^ 32 else 2 ^ 64)
+    by true = few
+    by false = omega (arith, few)
 
 -- ---- the edit
 
@@ -121,7 +133,7 @@ module _ (file written : List ℕ) (tame : IsTame file) (profile : IsProfileOf (
   plan = profile_plan profile.cells
 
   is : IsProfiled file plan written notes
-  is = is_profiled (guessed file) file written notes profile tame.bytes reads
+  is = edit_is_profiled (guessed file) file written notes profile tame.bytes reads
 
   pub loads : load_fault written ≡ None
   loads = profile.made.faithful.whole.loads
@@ -172,7 +184,7 @@ module _ (file written : List ℕ) (tame : IsTame file) (profile : IsProfileOf (
 
   soon : HasEndedBy t0 (64 + 128 * tame.steps)
   soon =
-      profiles_end_soon g (bound_in file plan) entry s0 t0 tame.steps is.counters.counters alike
+      profiles_end_soon notes.version g (bound_in file plan) entry s0 t0 tame.steps is.counters.counters alike
       (λ none. some_not_none tame.ending (sym tame.ran.ends ∙ none)) (untouched tame.steps)
 
   pub ends : EndsWithin t0 (2 ^ 32)
@@ -201,7 +213,8 @@ module _ (file written : List ℕ) (tame : IsTame file) (profile : IsProfileOf (
     v = visits_by notes t0 m
 
     exact : IsExact file plan notes s0 (dump_at notes t0 m) (v - 1)
-    exact = counts_are_exact file plan written notes [] [] m is no_arguments (All-nil _) (untouched v) short
+    exact = counts_are_exact file plan written notes [] [] m is no_arguments (All-nil _) (untouched v)
+        (in_each_version notes.version m short)
 
     pub tells : (fault : CountFault) → IsRefused notes dump fault → fault ≡ count_faults.NoMemory
     tells fault refused =

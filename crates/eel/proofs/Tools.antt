@@ -8,6 +8,7 @@ use Rattle.std.proofs.lemmas.List.FromFn.{get_or-map-range_with_len, length-map-
 use Rattle.snippets.specs.declared.snippet.Op.{Op}
 use Rattle.snippets.specs.declared.script.Script.{Script}
 use Rattle.snippets.specs.Cells.{WorksBelow}
+use Rattle.snippets.specs.Grammar.{AllSay}
 use Rattle.snippets.specs.Scripts.{IsScript, cell_end, edge_end, end_of, ops_on}
 use Rattle.snippets.proofs.Within.{good_within}
 use Rattle.cfg_normal.specs.declared.Edge.{Edge}
@@ -49,9 +50,10 @@ made_below cells ops count each edge = by_test (nat_lt edge count) refl
         (none_below cells)
 
 -- a good script has few cells, and works on them
-pub script_has_cells : (edges : ℕ) (said : _) (script : Script) → IsScript edges said script → HasCells script
-script_has_cells edges said script is =
-    let within = good_within edges said is.good in
+pub script_has_cells : (edges : ℕ) (lines : List (List ℕ)) (said : _) (script : Script) → AllSay lines said
+    → IsScript edges said script → HasCells script
+script_has_cells edges lines said script all is =
+    let within = good_within edges lines said all is.good in
     record {
       few = subst (λ (n : ℕ). n ≤ 2 ^ 22) (sym is.cells) within.cells_few;
       below = λ edge.

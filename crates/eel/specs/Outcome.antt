@@ -82,11 +82,17 @@ cause_text causes.Total = codes "total"
 
 -- why a dump has no counts
 abbrev pub count_cause_text : CountCause → List ℕ
+count_cause_text (count_causes.Version of wanted) =
+    codes "dump version " ++ decimal of ++ codes ", notes version " ++ decimal wanted
+count_cause_text (count_causes.Length length wanted) =
+    codes "made for " ++ decimal length ++ codes " bytes, " ++ decimal wanted ++ codes " wanted"
 count_cause_text (count_causes.Shape cells wanted) =
     decimal cells ++ codes " cells, " ++ decimal wanted ++ codes " wanted"
 count_cause_text (count_causes.Steps steps) = decimal steps ++ codes " steps"
 count_cause_text (count_causes.Between pc) = codes "pc " ++ hex_of pc.0 ++ codes " between places"
 count_cause_text (count_causes.Negative edge value) =
+    codes "edge " ++ decimal edge.0 ++ codes " would be " ++ signed_decimal value
+count_cause_text (count_causes.Large edge value) =
     codes "edge " ++ decimal edge.0 ++ codes " would be " ++ signed_decimal value
 
 -- the line that says it; an edit and a listing that are done say nothing

@@ -26,7 +26,7 @@ pub record IsTame (file : List ℕ) : Type 0 where
   pub size : length file ≤ 2 ^ 26
   pub sound : fault file ≡ None
   pub loads : load_fault file ≡ None
-  pub room : 2 ^ 20 + 1040 * length (image_of file).text.words ≤ (image_of file).room
+  pub room : 2 ^ 20 + 1056 * length (image_of file).text.words ≤ (image_of file).room
   pub ending : Ending
   pub steps : ℕ
   pub ran : EndsAlone file ending steps

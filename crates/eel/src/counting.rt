@@ -8,7 +8,7 @@ ghost use Rattle.dump_file.specs.Reading.{read_dump};
 ghost use Rattle.count_rebuild.specs.Answers.{AreCounts};
 ghost use Rattle.eel.specs.Outcome.{Stream, outcome_seen, stream};
 ghost use Rattle.eel.specs.Answers.Shared.{Feed, outside, store};
-ghost use Rattle.eel.specs.Answers.Counts.{Counts, IsUncounted, TellCounts, uncounted_of, IsUndumped, IsUnnoted};
+ghost use Rattle.eel.specs.Answers.Counts.{Counts, EditsAreProfiles, IsUncounted, TellCounts, uncounted_of, IsUndumped, IsUnnoted};
 
 use crate::outcome::{CountCause, Outcome};
 use crate::run::WRITTEN_LIMIT;
@@ -111,16 +111,24 @@ fn dump_in<'a>(alloc: Global, name: &'a str, bytes: &[u8]) -> Result<Dump, Outco
     }
 }
 
+/// A file that was made with counters is a profile, whose counts are exact, and its notes have version 2.
+pub fn edits_are_profiles()
+    ensures { EditsAreProfiles }
+{}
+
 /// What refused counts of the file `written` by the dump `dump` come to.
 fn refusal<'a>(written: &'a str, dump: &'a str, fault: CountFault) -> Outcome<'a>
     ensures { outcome_seen result ≡ uncounted_of written.now dump.now fault }
 {
     let cause = match fault {
         CountFault::NoProfile => return Outcome::NoProfile { name: written },
+        CountFault::Version { dump, notes } => CountCause::Version { dump, notes },
+        CountFault::Other { length, wanted } => CountCause::Length { length, wanted },
         CountFault::Shape { cells, wanted } => CountCause::Shape { cells, wanted },
         CountFault::TooLong(steps) => CountCause::Steps(steps),
         CountFault::Between(pc) => CountCause::Between(pc),
         CountFault::Negative { edge, value } => CountCause::Negative { edge, value },
+        CountFault::Large { edge, value } => CountCause::Large { edge, value },
         CountFault::NoMemory => return Outcome::OutOfMemory,
     };
     Outcome::NoCounts { name: dump, cause }

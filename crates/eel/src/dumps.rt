@@ -15,6 +15,7 @@ ghost use Rattle.eel.specs.Answers.Shared.{Feed, feed, outside, store};
 ghost use Rattle.edit_core.specs.Faithful.{holds_cells};
 ghost use Rattle.eel.specs.Answers.Run.{was_broken as was_broken_of};
 ghost use Rattle.eel.specs.Answers.Dump.{Dumps, IsDumped, IsNotNoted, IsNoted, IsPutAfter, dump_of as dump_of_state};
+ghost use Rattle.exact_counts.specs.Stops.{length_told as length_told_of};
 ghost use Rattle.eel.specs.Cells.{AreLoadable, KeepCells, has_cells as has_cells_of};
 
 use crate::outcome::Outcome;
@@ -32,6 +33,9 @@ use v8_step::Machine;
 
 /// The offset of the cells' address in notes.
 const BASE_AT: u32 = 24;
+
+/// The version of notes whose dumps don't tell the size of the original.
+const NARROW: u32 = 1;
 
 /// Reads the program and all of its input, runs it, and writes what the run has come to as the file `dump`.
 pub fn run_for_dump<'a, F: Files, I: Source, O: Sink, E: Sink>(
@@ -226,11 +230,24 @@ pub fn dump_of(
 {
     let cells = read_cells(alloc, machine.memory(), notes.base, notes.cells)?;
     Ok(Dump {
+        version: notes.version,
         ending: machine.ending(),
         pc: machine.pc(),
         steps,
+        length: length_told(notes),
         cells,
     })
+}
+
+/// The size of the original, in the version that tells it.
+fn length_told(notes: &Notes) -> u32
+    ensures { result ≡ length_told_of (notes_seen notes.now) }
+{
+    if notes.version == NARROW {
+        0
+    } else {
+        notes.length
+    }
 }
 
 /// So many words of memory, from an address on.
@@ -238,7 +255,7 @@ pub fn dump_of(
 fn read_cells(alloc: Global, memory: &Memory, base: u32, count: u32) -> Result<Vec<u32>, NoMemory>
     requires aligned { base % 4 ≡ 0 }
     requires end { base + 4 * count ≤ 2 ^ 32 }
-    requires few { count ≤ 2 ^ 22 }
+    requires few { count ≤ 2 ^ 23 }
     requires loadable { (k : ℕ) → k < count → CanLoad memory.now (cell_at base k) }
     ensures cells { IfOk result (λ cells. cells.items ≡ words_at base count memory.now) }
     ensures few { IfOk result (λ cells. vec_len cells < 2 ^ 30) }

@@ -19,5 +19,6 @@ mod tooling;
 mod top;
 mod weighing;
 
+pub use counting::edits_are_profiles;
 pub use outcome::{Outcome, show};
 pub use top::eel;

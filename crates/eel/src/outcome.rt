@@ -87,6 +87,10 @@ pub enum LineCause {
 /// Why no counts can be rebuilt of a dump.
 #[derive(Clone, Copy)]
 pub enum CountCause {
+    /// It has this version, and the notes the other one.
+    Version { dump: u32, notes: u32 },
+    /// It was made for an original of this size, and the notes' is another one.
+    Length { length: u32, wanted: u32 },
     /// It has so many cells, and the notes want another number.
     Shape { cells: u32, wanted: u32 },
     /// The run made so many steps, that a cell may have begun at 0 again.
@@ -94,7 +98,9 @@ pub enum CountCause {
     /// The run stands at this address, in new code that is no instruction's place.
     Between(Addr),
     /// This edge would have been completed a number of times below 0.
-    Negative { edge: EdgeNo, value: i64 },
+    Negative { edge: EdgeNo, value: i128 },
+    /// This edge would have been completed 2^64 times or more.
+    Large { edge: EdgeNo, value: i128 },
 }
 
 /// The status after a device failed, and where a line can't be written.
@@ -269,11 +275,64 @@ fn put_no_counts<E: Sink>(name: &str, cause: CountCause, err: &mut E) -> Result<
     ensures later { E.faults err.old ≤ E.faults err.new }
 {
     match cause {
+        CountCause::Version { dump, notes } => put_versions(name, dump, notes, err),
+        CountCause::Length { length, wanted } => put_length(name, length, wanted, err),
         CountCause::Shape { cells, wanted } => put_shape(name, cells, wanted, err),
         CountCause::Steps(steps) => put_steps(name, steps, err),
         CountCause::Between(pc) => put_between(name, pc, err),
-        CountCause::Negative { edge, value } => put_negative(name, edge, value, err),
+        CountCause::Negative { edge, value } => put_count(name, edge, value, err),
+        CountCause::Large { edge, value } => put_count(name, edge, value, err),
     }
+}
+
+/// Writes that it has this version, and the notes another one.
+fn put_versions<E: Sink>(name: &str, dump: u32, notes: u32, err: &mut E) -> Result<(), Failed>
+    ensures all { OnOk result (E.taken err.new ≡ appended (E.taken err.old) (line_of (NoCounts name.now (count_causes.Version dump notes)))) }
+    ensures part { OnErr result (TookPart (E.taken err.old) (E.taken err.new) (line_of (NoCounts name.now (count_causes.Version dump notes)))) }
+    ensures failed { OnErr result (Rose (E.faults err.old) (E.faults err.new)) }
+    ensures later { E.faults err.old ≤ E.faults err.new }
+{
+    let mut dump_digits = Buffer::new();
+    let mut notes_digits = Buffer::new();
+    let dump = dump_digits.format(dump).as_bytes();
+    let notes = notes_digits.format(notes).as_bytes();
+    put_pieces(
+        err,
+        &[
+            b"eel: ",
+            name.as_bytes(),
+            b": dump version ",
+            dump,
+            b", notes version ",
+            notes,
+            b"\n",
+        ],
+    )
+}
+
+/// Writes that it was made for an original of this size, and another one is wanted.
+fn put_length<E: Sink>(name: &str, length: u32, wanted: u32, err: &mut E) -> Result<(), Failed>
+    ensures all { OnOk result (E.taken err.new ≡ appended (E.taken err.old) (line_of (NoCounts name.now (count_causes.Length length wanted)))) }
+    ensures part { OnErr result (TookPart (E.taken err.old) (E.taken err.new) (line_of (NoCounts name.now (count_causes.Length length wanted)))) }
+    ensures failed { OnErr result (Rose (E.faults err.old) (E.faults err.new)) }
+    ensures later { E.faults err.old ≤ E.faults err.new }
+{
+    let mut length_digits = Buffer::new();
+    let mut wanted_digits = Buffer::new();
+    let length = length_digits.format(length).as_bytes();
+    let wanted = wanted_digits.format(wanted).as_bytes();
+    put_pieces(
+        err,
+        &[
+            b"eel: ",
+            name.as_bytes(),
+            b": made for ",
+            length,
+            b" bytes, ",
+            wanted,
+            b" wanted\n",
+        ],
+    )
 }
 
 /// Writes that it has so many cells, and another number is wanted.
@@ -345,7 +404,7 @@ fn put_place<E: Sink>(name: &str, digits: &[u8], err: &mut E) -> Result<(), Fail
 }
 
 /// Writes that the edge would have this count.
-fn put_negative<E: Sink>(name: &str, edge: EdgeNo, value: i64, err: &mut E) -> Result<(), Failed>
+fn put_count<E: Sink>(name: &str, edge: EdgeNo, value: i128, err: &mut E) -> Result<(), Failed>
     ensures all { OnOk result (E.taken err.new ≡ appended (E.taken err.old) (line_of (NoCounts name.now (count_causes.Negative edge value)))) }
     ensures part { OnErr result (TookPart (E.taken err.old) (E.taken err.new) (line_of (NoCounts name.now (count_causes.Negative edge value)))) }
     ensures failed { OnErr result (Rose (E.faults err.old) (E.faults err.new)) }

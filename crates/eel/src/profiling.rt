@@ -1,5 +1,5 @@
 //! The command `edit` with counters.
-ghost use Rattle.std.specs.Prelude.{◌≡◌, ◌≤◌, ◌^◌, IfErr, IfOk, length};
+ghost use Rattle.std.specs.Prelude.{◌≡◌, ◌≤◌, ◌*◌, ◌^◌, IfErr, IfOk, length};
 ghost use Rattle.std.specs.List.{All};
 ghost use Rattle.snippets.specs.Cells.{WorksBelow};
 ghost use Rattle.cfg_view.specs.View.{IsView};
@@ -9,7 +9,8 @@ ghost use Rattle.span_tree.specs.Weights.{weights_of};
 ghost use Rattle.eel.specs.Outcome.{outcome_seen};
 ghost use Rattle.eel.specs.Answers.Shared.{store};
 ghost use Rattle.eel.specs.Answers.Edit.{IsEditOf};
-ghost use Rattle.eel.specs.Answers.Profile.{AreCells, IsProfileOf, ProfileRefuses, Profiles, counter_of, graph_in, guessed, profile_plan};
+ghost use Rattle.exact_counts.specs.Profiles.{counter_in};
+ghost use Rattle.eel.specs.Answers.Profile.{AreCells, IsProfileOf, ProfileRefuses, Profiles, graph_in, guessed, profile_plan};
 
 use crate::edit::{EDIT_LIMIT, refusal};
 use crate::outcome::Outcome;
@@ -102,41 +103,42 @@ pub fn with_counters(alloc: Global, bytes: &[u8], tree: &SpanTree) -> Result<Vec
         alloc,
         bytes,
         Counters { tree },
-        tree.cells(),
+        2 * tree.cells(),
         ToolKind::Profile,
     )
 }
 
-/// Each edge that has a cell is counted.
+/// Each edge that has a cell is counted, in two cells.
 #[derive(Clone, Copy, Drop)]
 struct Counters<'a> {
     tree: &'a SpanTree,
 }
 
 impl Chooser for Counters<'_> {
-    ghost use Rattle.std.specs.Prelude.{◌≡◌};
+    ghost use Rattle.std.specs.Prelude.{◌≡◌, ◌≤◌, ◌*◌, ◌^◌};
     ghost use Rattle.snippets.specs.Cells.{WorksBelow};
     ghost use Rattle.span_tree.specs.Cells.{cell_at, cell_count};
-    ghost use Rattle.eel.specs.Answers.Profile.{counter_of};
+    ghost use Rattle.exact_counts.specs.Profiles.{counter_in};
 
-    ghost may = { λ counters edge. Unit {0} };
+    ghost may = { λ counters edge. cell_count counters.tree.now ≤ 2 ^ 22 };
 
-    ghost says = { λ counters edge ops. (ops ≡ counter_of (cell_at counters.tree.now edge.no.0))
-        × WorksBelow (cell_count counters.tree.now) ops };
+    ghost says = { λ counters edge ops. (ops ≡ counter_in 2 (cell_at counters.tree.now edge.no.0))
+        × WorksBelow (2 * cell_count counters.tree.now) ops };
 
     fn choose(&self, edge: EdgeRef) -> Snippet {
         counter_on(self.tree, edge)
     }
 }
 
-/// What is done on an edge: its cell is raised, where it has one.
+/// What is done on an edge: its counter is raised, where it has one.
 fn counter_on(tree: &SpanTree, edge: EdgeRef) -> Snippet
-    ensures counter { result ≡ counter_of (cell_at tree.now edge.no.0) }
-    ensures below { WorksBelow (cell_count tree.now) result }
+    requires { cell_count tree.now ≤ 2 ^ 22 }
+    ensures counter { result ≡ counter_in 2 (cell_at tree.now edge.no.0) }
+    ensures below { WorksBelow (2 * cell_count tree.now) result }
 {
     let mut snippet = Snippet::empty();
     if let Some(cell) = tree.cell(edge.no) {
-        snippet.push(Op::Add { cell, amount: 1 });
+        snippet.push(Op::Count { cell: 2 * cell });
     }
     snippet
 }

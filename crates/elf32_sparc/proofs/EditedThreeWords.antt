@@ -13,6 +13,7 @@ noted = bytes (65536 ∷ 96 ∷ 0 ∷ 0x10054 ∷ 3 ∷ 0 ∷ 0x20000 ∷ 0 ∷ 
 
 abbrev notes_read : Notes
 notes_read = record {
+  version = 1;
   delta = 65536;
   length = 96;
   tool = 0;
@@ -27,46 +28,46 @@ notes_read = record {
   ranges = record { lo = 0x20000; hi = 0x20004; address = 0x10054; node = 0 } ∷ record { lo = 0x20004; hi = 0x20008; address = 0x10058; node = 0 } ∷ record { lo = 0x20008; hi = 0x2000c; address = 0x1005c; node = 0 } ∷ [];
 }
 
-reads : read_notes 77940 noted ≡ Ok notes_read
+reads : read_notes 1 77940 noted ≡ Ok notes_read
 unfolding read_notes head_of tables_of block_count_at segments_at blocks_at edges_at ranges_at
 reads = refl
 
 -- a file that ends before the original does
-short_file : read_notes 65631 noted ≡ Err (Bad 4)
+short_file : read_notes 1 65631 noted ≡ Err (Bad 4)
 unfolding read_notes head_of tables_of block_count_at segments_at blocks_at edges_at ranges_at
 short_file = refl
 
 -- cut in the last row
-cut : read_notes 77940 (take 112 noted) ≡ Err (Bad 112)
+cut : read_notes 1 77940 (take 112 noted) ≡ Err (Bad 112)
 unfolding read_notes head_of tables_of block_count_at segments_at blocks_at edges_at ranges_at
 cut = refl
 
 -- with a byte left over
-left_over : read_notes 77940 (noted ++ 0 ∷ []) ≡ Err (Bad 116)
+left_over : read_notes 1 77940 (noted ++ 0 ∷ []) ≡ Err (Bad 116)
 unfolding read_notes head_of tables_of block_count_at segments_at blocks_at edges_at ranges_at
 left_over = refl
 
 -- no block
-no_block : read_notes 77940 (take 52 noted ++ bytes (0 ∷ [])) ≡ Err (Bad 20)
+no_block : read_notes 1 77940 (take 52 noted ++ bytes (0 ∷ [])) ≡ Err (Bad 20)
 unfolding read_notes head_of tables_of block_count_at segments_at blocks_at edges_at ranges_at
 no_block = refl
 
 -- an address of the cells that is no multiple of 4, before the number of cells, and after it
-odd_base : read_notes 77940 (take 24 noted ++ bytes (2 ∷ [])) ≡ Err (Bad 28)
+odd_base : read_notes 1 77940 (take 24 noted ++ bytes (2 ∷ [])) ≡ Err (Bad 28)
 unfolding read_notes head_of tables_of block_count_at segments_at blocks_at edges_at ranges_at
 odd_base = refl
 
-odd_base_of_cells : read_notes 77940 (take 24 noted ++ bytes (2 ∷ 0xffffffff ∷ [])) ≡ Err (Bad 24)
+odd_base_of_cells : read_notes 1 77940 (take 24 noted ++ bytes (2 ∷ 0xffffffff ∷ [])) ≡ Err (Bad 24)
 unfolding read_notes head_of tables_of block_count_at segments_at blocks_at edges_at ranges_at
 odd_base_of_cells = refl
 
 -- a page that begins before the one before it ends
-overlap : read_notes 77940 (take 36 noted ++ bytes (0x20000 ∷ 12 ∷ 0x20008 ∷ 4 ∷ [])) ≡ Err (Bad 44)
+overlap : read_notes 1 77940 (take 36 noted ++ bytes (0x20000 ∷ 12 ∷ 0x20008 ∷ 4 ∷ [])) ≡ Err (Bad 44)
 unfolding read_notes head_of tables_of block_count_at segments_at blocks_at edges_at ranges_at
 overlap = refl
 
 -- a place outside the pages
-outside : read_notes 77940 (take 68 noted ++ bytes (0x2000c ∷ 0x20010 ∷ 0x10054 ∷ 0 ∷ [])) ≡ Err (Bad 68)
+outside : read_notes 1 77940 (take 68 noted ++ bytes (0x2000c ∷ 0x20010 ∷ 0x10054 ∷ 0 ∷ [])) ≡ Err (Bad 68)
 unfolding read_notes head_of tables_of block_count_at segments_at blocks_at edges_at ranges_at
 outside = refl
 
@@ -81,9 +82,22 @@ located : notes_of (small_file 1) ≡ Ok (record notes_read { delta = 4096; leng
 unfolding word_at notes_of read_notes head_of tables_of block_count_at segments_at blocks_at edges_at ranges_at
 located = refl
 
-other_version : notes_of (small_file 2) ≡ Err Absent
+-- the other version, and a tool of its own
+located_wide : notes_of (small_file 2) ≡ Ok (record notes_read { version = 2; delta = 4096; length = 0 })
+unfolding word_at notes_of read_notes head_of tables_of block_count_at segments_at blocks_at edges_at ranges_at
+located_wide = refl
+
+trace : read_notes 2 77940 (take 8 noted ++ bytes (3 ∷ []) ++ drop 12 noted) ≡ Ok (record notes_read { version = 2; tool = 3 })
+unfolding read_notes head_of tables_of block_count_at segments_at blocks_at edges_at ranges_at
+trace = refl
+
+no_version : notes_of (small_file 0) ≡ Err Absent
 unfolding word_at notes_of
-other_version = refl
+no_version = refl
+
+next_version : notes_of (small_file 3) ≡ Err Absent
+unfolding word_at notes_of
+next_version = refl
 
 -- the locator's last word is missing
 too_short : notes_of (take 4095 (small_file 1)) ≡ Err Absent

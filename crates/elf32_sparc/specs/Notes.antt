@@ -27,7 +27,9 @@ pub record NoteRange : Type 0 where
   pub address : ℕ
   pub node : ℕ
 
+-- of version 1 or 2
 pub record Notes : Type 0 where
+  pub version : ℕ
   pub delta : ℕ
   pub length : ℕ
   pub tool : ℕ
@@ -46,6 +48,20 @@ pub record Notes : Type 0 where
 pub data NoNotes : Type 0 where
   Absent : NoNotes
   Bad : ℕ → NoNotes
+
+-- What the two versions limit otherwise: the tools, how many cells there are, and how many of them a counter has.
+
+abbrev pub is_version : ℕ → Bool
+is_version version = (version == 1) || (version == 2)
+
+abbrev pub last_tool : ℕ → ℕ
+last_tool version = if version == 1 then 2 else 3
+
+abbrev pub most_cells : ℕ → ℕ
+most_cells version = if version == 1 then 2 ^ 22 else 2 ^ 23
+
+abbrev pub counter_width : ℕ → ℕ
+counter_width version = if version == 1 then 1 else 2
 
 -- Reading, from left to right.
 
@@ -106,20 +122,25 @@ no_cell = 0xffffffff
 abbrev pub cell_of : ℕ → Option ℕ
 cell_of word = if word == no_cell then None else Some word
 
--- no cell, or one of the `cells` that is not yet taken
-abbrev pub is_cell : ℕ → List ℕ → ℕ → Bool
-is_cell cells taken word = (word == no_cell) || (nat_lt word cells && not (list_any (λ cell. cell == word) taken))
+-- The first cell of a counter of so many cells: a multiple of their number, and all of them are among the `cells`.
+abbrev pub is_counter : ℕ → ℕ → ℕ → Bool
+is_counter width cells cell = (cell % width == 0) && nat_le (cell + width) cells
+
+-- no cell, or that of a counter which is not yet taken
+abbrev pub is_cell : ℕ → ℕ → List ℕ → ℕ → Bool
+is_cell width cells taken word =
+    (word == no_cell) || (is_counter width cells word && not (list_any (λ cell. cell == word) taken))
 
 -- The edges, of the seven kinds 0 to 6. Nodes are the blocks, one more, and then landed copies of blocks.
-unfoldable pub edges_at : ℕ → ℕ → List ℕ → ℕ → List ℕ → ℕ → Result (List NoteEdge) NoNotes
-edges_at blocks cells notes at taken zero = Ok []
-edges_at blocks cells notes at taken (suc count) = do
+unfoldable pub edges_at : ℕ → ℕ → ℕ → List ℕ → ℕ → List ℕ → ℕ → Result (List NoteEdge) NoNotes
+edges_at width blocks cells notes at taken zero = Ok []
+edges_at width blocks cells notes at taken (suc count) = do
   kind ← note_at notes at
   from ← note_at notes (at + 4)
   to ← note_at notes (at + 8)
   cell ← note_at notes (at + 12)
-  edge ← kept (nat_le kind 6 && nat_le from (2 * blocks) && nat_le to (2 * blocks) && is_cell cells taken cell) at (record { kind = kind; from = from; to = to; cell = cell_of cell })
-  others ← edges_at blocks cells notes (at + 16) (cell ∷ taken) count
+  edge ← kept (nat_le kind 6 && nat_le from (2 * blocks) && nat_le to (2 * blocks) && is_cell width cells taken cell) at (record { kind = kind; from = from; to = to; cell = cell_of cell })
+  others ← edges_at width blocks cells notes (at + 16) (cell ∷ taken) count
   Ok (edge ∷ others)
 
 -- the segment holds the addresses from `lo` to `hi`
@@ -140,6 +161,7 @@ ranges_at blocks segments notes at end (suc count) = do
 
 -- The numbers before the tables.
 pub record NoteHead : Type 0 where
+  pub version : ℕ
   pub delta : ℕ
   pub length : ℕ
   pub tool : ℕ
@@ -150,21 +172,23 @@ pub record NoteHead : Type 0 where
   pub cells : ℕ
   pub segment_count : ℕ
 
--- They are the first nine words, in a file of this size. The rule of the cells' address waits for the number of cells.
-unfoldable pub head_of : ℕ → List ℕ → Result NoteHead NoNotes
-head_of size notes = do
+-- They are the first nine words, of this version, in a file of this size. The rule of the cells' address waits for the
+-- number of cells.
+unfoldable pub head_of : ℕ → ℕ → List ℕ → Result NoteHead NoNotes
+head_of version size notes = do
   delta ← note_that (λ delta. nat_le 4096 delta) notes 0
   length ← note_that (λ length. nat_le (delta + length) size) notes 4
-  tool ← note_that (λ tool. nat_le tool 2) notes 8
+  tool ← note_that (λ tool. nat_le tool (last_tool version)) notes 8
   start ← note_that (λ start. (start % 4 == 0) && nat_le 0x1000 start) notes 12
   words ← note_that (λ words. nat_le 1 words && nat_le words (2 ^ 20) && nat_le (start + 4 * words) 0x80000000) notes 16
   entry ← note_at notes 20
   base_read ← note_at notes 24
   cells_read ← note_at notes 28
   base ← kept ((base_read % 4 == 0) && nat_le (base_read + 4 * cells_read) (2 ^ 32)) 24 base_read
-  cells ← kept (nat_le cells_read (2 ^ 22)) 28 cells_read
+  cells ← kept (nat_le cells_read (most_cells version)) 28 cells_read
   segment_count ← note_that (λ count. nat_le count 8) notes 32
   Ok (record {
+    version = version;
     delta = delta;
     length = length;
     tool = tool;
@@ -192,12 +216,13 @@ tables_of notes head = do
   blocks ← blocks_at head.words notes (blocks_place + 4) None block_count
   let edges_place = blocks_place + 4 + 4 * block_count
   edge_count ← note_that (λ count. nat_lt count (2 ^ 24)) notes edges_place
-  edges ← edges_at block_count head.cells notes (edges_place + 4) [] edge_count
+  edges ← edges_at (counter_width head.version) block_count head.cells notes (edges_place + 4) [] edge_count
   let ranges_place = edges_place + 4 + 16 * edge_count
   range_count ← note_that (λ count. nat_lt count (2 ^ 26)) notes ranges_place
   ranges ← ranges_at block_count segments notes (ranges_place + 4) 0 range_count
   let notes_end = ranges_place + 4 + 16 * range_count
   kept (byte_count notes == notes_end) notes_end (record {
+    version = head.version;
     delta = head.delta;
     length = head.length;
     tool = head.tool;
@@ -212,17 +237,20 @@ tables_of notes head = do
     ranges = ranges;
   })
 
--- The notes in these bytes, in a file of this size.
-unfoldable pub read_notes : ℕ → List ℕ → Result Notes NoNotes
-read_notes size notes = do
-  head ← head_of size notes
+-- The notes of this version in these bytes, in a file of this size.
+unfoldable pub read_notes : ℕ → ℕ → List ℕ → Result Notes NoNotes
+read_notes version size notes = do
+  head ← head_of version size notes
   tables_of notes head
 
 -- Where they stand: four words at 4032 say it.
 
--- "EELN", version 1
+-- "EELN", and the version
+abbrev pub notes_version : List ℕ → ℕ
+notes_version file = word_at file 4036
+
 abbrev pub has_locator : List ℕ → Bool
-has_locator file = nat_le 4096 (length file) && (word_at file 4032 == 0x45454c4e) && (word_at file 4036 == 1)
+has_locator file = nat_le 4096 (length file) && (word_at file 4032 == 0x45454c4e) && is_version (notes_version file)
 
 abbrev pub notes_offset : List ℕ → ℕ
 notes_offset file = word_at file 4040
@@ -235,7 +263,7 @@ unfoldable pub notes_of : List ℕ → Result Notes NoNotes
 notes_of file =
     if not (has_locator file) then Err Absent else
     (if nat_lt (length file) (notes_offset file + notes_length file) then Err (Bad 0) else
-    read_notes (length file) (take (notes_length file) (drop (notes_offset file) file)))
+    read_notes (notes_version file) (length file) (take (notes_length file) (drop (notes_offset file) file)))
 
 -- What they say of an address.
 

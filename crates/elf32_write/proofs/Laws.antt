@@ -1,7 +1,7 @@
 -- What is true of every written file.
 use Rattle.std.proofs.Common.{◌≡◌, ℕ, ◌+◌, ◌≤◌, true, false, nat_lt, List, length, take, drop, refl, arith}
 use Rattle.std.proofs.lemmas.Bool.{le-ltb}
-use Rattle.elf32_sparc.specs.Notes.{has_locator, notes_offset, notes_length, notes_of, read_notes}
+use Rattle.elf32_sparc.specs.Notes.{has_locator, notes_version, notes_offset, notes_length, notes_of, read_notes}
 use Rattle.elf32_write.specs.Written.{delta_in, original_end, notes_at, written}
 use Rattle.elf32_write.specs.Laws.{OriginalIsHeld, NotesAreRead, EntryIsGiven, SizeIsBounded}
 use Rattle.elf32_write.proofs.Part.{take_part, length_part}
@@ -25,12 +25,12 @@ original_is_held original added entry notes can =
     }
 
 -- notes that stand where the locator says
-located : (file bytes : List ℕ) (offset size : ℕ) → has_locator file ≡ true → notes_offset file ≡ offset → notes_length file ≡ size → offset + size ≤ length file
-    → take size (drop offset file) ≡ bytes → notes_of file ≡ read_notes (length file) bytes
+located : (file bytes : List ℕ) (version offset size : ℕ) → has_locator file ≡ true → notes_version file ≡ version → notes_offset file ≡ offset → notes_length file ≡ size → offset + size ≤ length file
+    → take size (drop offset file) ≡ bytes → notes_of file ≡ read_notes version (length file) bytes
 unfolding notes_of
-located file bytes offset size there at long within are =
+located file bytes version offset size there numbered at long within are =
     let inside : nat_lt (length file) (notes_offset file + notes_length file) ≡ false = le-ltb (length file) (notes_offset file + notes_length file) (omega (arith, at, long, within)) in
-    rw (there, inside, at, long, are) refl
+    rw (there, inside, numbered, at, long, are) refl
 
 pub notes_are_read : NotesAreRead
 notes_are_read original added entry notes can =
@@ -38,7 +38,7 @@ notes_are_read original added entry notes can =
     let s = written_stands original added entry notes can in
     let facts = locator_facts original added entry notes can in
     let size = length_part file (notes_at original added) notes s.notes in
-    located file notes (notes_at original added) (length notes) facts.there facts.offset facts.size (omega (arith, size))
+    located file notes 2 (notes_at original added) (length notes) facts.there facts.version facts.offset facts.size (omega (arith, size))
     (take_part file (notes_at original added) (length notes) notes refl s.notes)
 
 pub entry_is_given : EntryIsGiven

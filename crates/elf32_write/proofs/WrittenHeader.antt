@@ -8,7 +8,7 @@ use Rattle.byteorder.specs.Numbers.{big_from-take, length-bytes_high_first}
 use Rattle.elf32_sparc.specs.declared.header.ProgramHeader.{ProgramHeader}
 use Rattle.elf32_sparc.specs.Header as elf
 use Rattle.elf32_sparc.specs.Header.{word_at, half_at, ei_magic, ei_class, ei_data, ei_version, e_type, e_machine, e_version, e_entry, e_phoff, e_ehsize, e_phentsize, e_phnum, headers_from, program_headers}
-use Rattle.elf32_sparc.specs.Notes.{has_locator, notes_offset, notes_length}
+use Rattle.elf32_sparc.specs.Notes.{has_locator, notes_version, notes_offset, notes_length}
 use Rattle.elf32_sparc.specs.Symbols.{section_count}
 use Rattle.elf32_sparc.proofs.Accepted.{accepted}
 use Rattle.elf32_sparc.proofs.Tables.{whole_header}
@@ -65,10 +65,11 @@ four_words file at a b c d ws fa fb fc fd p =
 
 pub record LocatorFacts (original : List ℕ) (added : List AddedSegment) (notes file : List ℕ) : Type 0 where
   pub there : has_locator file ≡ true
+  pub version : notes_version file ≡ 2
   pub offset : notes_offset file ≡ notes_at original added
   pub size : notes_length file ≡ length notes
 
-is_located : (file : List ℕ) → 4096 ≤ length file → word_at file 4032 ≡ 0x45454c4e → word_at file 4036 ≡ 1 → has_locator file ≡ true
+is_located : (file : List ℕ) → 4096 ≤ length file → word_at file 4032 ≡ 0x45454c4e → word_at file 4036 ≡ 2 → has_locator file ≡ true
 is_located file long name version = rw (le-leb 4096 (length file) long, name, version) refl
 
 pub locator_facts : (original : List ℕ) (added : List AddedSegment) (entry : ℕ) (notes : List ℕ) → CanWrite original added notes → LocatorFacts original added notes (written original added entry notes)
@@ -78,9 +79,10 @@ locator_facts original added entry notes can =
     let fit = offsets_fit original added notes can in
     let long = notes-beyond original added in
     let whole = s.whole in
-    let words = four_words file locator_at 0x45454c4e 1 (notes_at original added) (length notes) [] (omega arith) (omega arith) (omega (arith, fit)) (omega (arith, fit)) s.locator in
+    let words = four_words file locator_at 0x45454c4e 2 (notes_at original added) (length notes) [] (omega arith) (omega arith) (omega (arith, fit)) (omega (arith, fit)) s.locator in
     record {
       there = is_located file (omega (arith, long, whole)) words.first words.second;
+      version = words.second;
       offset = words.third;
       size = words.fourth;
     }

@@ -79,7 +79,7 @@ length-with_segments (s ∷ added) file =
 -- ---- the lengths of the first parts
 
 pub length-locator : (original : List ℕ) (added : List AddedSegment) (notes : List ℕ) → length (locator original added notes) ≡ 16
-length-locator original added notes = length-words_bytes (0x45454c4e ∷ 1 ∷ notes_at original added ∷ length notes ∷ [])
+length-locator original added notes = length-words_bytes (0x45454c4e ∷ 2 ∷ notes_at original added ∷ length notes ∷ [])
 
 length-five : (t a b c s : List ℕ) → length t ≡ 16 → length a ≡ 4 → length b ≡ 20 → length c ≡ 12 → length (t ++ a ++ b ++ c ++ s) ≡ 52 + length s
 length-five t a b c s lt la lb lc =

@@ -41,7 +41,7 @@ abbrev pub NotesAreRead : Type 0
 NotesAreRead =
     (original : List ℕ) (added : List AddedSegment) (entry : ℕ) (notes : List ℕ)
     → CanWrite original added notes
-    → let file = written original added entry notes in notes_of file ≡ read_notes (length file) notes
+    → let file = written original added entry notes in notes_of file ≡ read_notes 2 (length file) notes
 
 abbrev pub SegmentsAreMapped : Type 0
 SegmentsAreMapped =

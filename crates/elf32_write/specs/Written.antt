@@ -39,9 +39,9 @@ headers original added entry notes =
     file_header original entry (length (segment_headers original added)) (sections_at original added notes)
     ++ flat_map program_header (segment_headers original added)
 
--- `EELN`, the version, and where the notes stand
+-- `EELN`, the version 2, and where the notes stand
 abbrev pub locator : List ℕ → List AddedSegment → List ℕ → List ℕ
-locator original added notes = words_bytes (0x45454c4e ∷ 1 ∷ notes_at original added ∷ length notes ∷ [])
+locator original added notes = words_bytes (0x45454c4e ∷ 2 ∷ notes_at original added ∷ length notes ∷ [])
 
 -- the file, and then the bytes of each segment at the next page
 abbrev pub with_segments : List ℕ → List AddedSegment → List ℕ

@@ -20,7 +20,7 @@ const LOCATOR_AT: usize = 4032;
 
 const LOCATOR: u32 = 0x4545_4c4e;
 
-const NOTES_VERSION: u32 = 1;
+const NOTES_VERSION: u32 = 2;
 
 /// The file in which the original stands whole, with these segments after its own, entered at `entry`.
 pub fn write_around(
@@ -55,7 +55,7 @@ pub fn write_around(
 
 /// The locator of notes that stand at an offset.
 fn put_locator(out: &mut Vec<u8>, offset: u32, length: u32) -> Result<(), NoMemory>
-    ensures { OnOk result (out.new.items ≡ padded_to locator_at out.old.items ++ words_bytes (0x45454c4e ∷ 1 ∷ offset ∷ length ∷ [])) }
+    ensures { OnOk result (out.new.items ≡ padded_to locator_at out.old.items ++ words_bytes (0x45454c4e ∷ 2 ∷ offset ∷ length ∷ [])) }
 {
     pad_to(out, LOCATOR_AT)?;
     put_words(out, &[LOCATOR, NOTES_VERSION, offset, length])?;

@@ -53,7 +53,7 @@ module _ (original : List ℕ) (plan : Plan) (dead : ℕ → List Part) (notes :
   unfolding view_of entered_of
   view_graph = refl
 
-  pub notes_of_graph : CountsOffTree (original_graph original plan) plan → HasGraph original plan notes
+  pub notes_of_graph : CountsOffTree notes.version (original_graph original plan) plan → HasGraph original plan notes
       → AreNotesOf (graph_in g) plan.snips notes
   notes_of_graph counts has = record {
     blocks = subst (λ (graph : Graph). notes.blocks ≡ graph.blocks.firsts) view_graph has.blocks;

@@ -1,8 +1,9 @@
 -- What is rebuilt from a dump that has the cells of a walk, and stands where the walk ends.
-use Rattle.std.proofs.Common.{◌≡◌, ◌≢◌, ℕ, ◌%◌, ◌^◌, ◌<◌, ◌⊎◌, inl, inr, true, false, List, [], length, get_or, slice_index, Option, Some, None, refl, ap, sym, ◌∙◌, subst, arith}
-use Rattle.std.specs.Prelude.{ℤ, pos}
+use Rattle.std.proofs.Common.{◌≡◌, ◌≢◌, ℕ, ◌^◌, ◌<◌, ◌⊎◌, inl, inr, Bool, true, false, if◌then◌else◌, List, [], length, slice_index, Option, Some, None, refl, ap, sym, ◌∙◌, subst, arith}
+use Rattle.std.specs.Prelude.{◌==◌, ℤ, pos}
 use Rattle.std.specs.List.{All}
 use Rattle.std.specs.Option.{is_some}
+use Rattle.std.proofs.lemmas.Bool.{leb-true}
 use Rattle.std.proofs.lemmas.List.FromFn.{length-map-range_with_len}
 use Rattle.elf32_sparc.specs.Notes.{NoteEdge, node_at}
 use Rattle.v8_step.specs.declared.Ending.{Ending}
@@ -21,12 +22,12 @@ use Rattle.edit_core.specs.RunsAlike.{TellsStep}
 use Rattle.count_rebuild.specs.declared.fault.CountFault.{CountFault}
 use Rattle.count_rebuild.specs.declared.fault.CountFault.TheVariants as faults
 use Rattle.count_rebuild.specs.Answers.{AreCounts, IsRefused}
-use Rattle.count_rebuild.specs.Counts.{IsFlowTo, StandsAt, cell_counts, cell_value, is_negative}
+use Rattle.count_rebuild.specs.Counts.{IsFlowTo, StandsAt, cell_counts, cell_value, counter_value, is_large, is_negative}
 use Rattle.count_rebuild.specs.Noted.{IsProfile, edge_at, has_cell, noted_graph}
-use Rattle.exact_counts.specs.Laws.{MayRefuse}
+use Rattle.exact_counts.specs.Laws.{MayRefuse, counter_limit}
 use Rattle.exact_counts.specs.Stops.{dump_at}
 use Rattle.exact_counts.proofs.Few.{executions_are_few}
-use Rattle.exact_counts.proofs.Counters.{IsCounterFrom, cells_count, counter, none_or_counter}
+use Rattle.exact_counts.proofs.Counters.{IsCounterFrom, cells_count, counter, counter_cell, limit_few, none_or_counter, small_rest}
 use Rattle.exact_counts.proofs.Noted.{AreNotesOf, edge_count, edge_is}
 
 -- the node where the walk of the first n steps ends, and how often they complete each edge
@@ -40,12 +41,12 @@ made_in g entry s0 n e = executions g.text (graph_in g) entry s0 n e
 pub record StandsBehind (g : Setting) (entry : ℕ) (s0 t0 : State) (m n : ℕ) : Type 0 where
   -- of its file
   pub profile : IsProfile g.notes
-  pub counters : AreCounters 0 g.snips
+  pub counters : AreCounters g.notes.version 0 g.snips
   pub below : All (WorksBelow g.notes.cells) g.snips
   pub are : AreNotesOf (graph_in g) g.snips g.notes
   -- of the run
-  pub short : m < 2 ^ 32
-  pub few : n < 2 ^ 32
+  pub short : m < counter_limit g.notes.version
+  pub few : n < counter_limit g.notes.version
   pub flow : IsFlow (noted_graph g.notes) g.notes.entry (node_in g entry s0 n) (λ e. pos (made_in g entry s0 n e))
   pub tells : node_at g.notes (run t0 m).pc ≢ None → TellsStep g entry s0 t0 m n
   pub placed : (run t0 m).ending ≢ None → node_at g.notes (run t0 m).pc ≢ None
@@ -63,22 +64,27 @@ module _ (g : Setting) (entry : ℕ) (s0 t0 : State) (m n : ℕ) (is : StandsBeh
   abbrev dump : Dump
   dump = dump_at g.notes t0 m
 
-  -- an edge's counter tells
-  cell_tells : TellsStep g entry s0 t0 m n → (e cell : ℕ) → snippet_on g.snips e ≡ counter cell
-      → cell_value dump.cells (Some cell) ≡ pos (made_in g entry s0 n e)
-  cell_tells told e cell has =
-      let count = cells_count g entry s0 n e cell is.counters is.below has in
+  abbrev version : ℕ
+  version = g.notes.version
+
+  -- no edge's counter has begun at 0 again
+  made_few : (e : ℕ) → made_in g entry s0 n e < counter_limit version
+  made_few e =
       let most = executions_are_few g.text (graph_in g) entry s0 n e in
       let few = is.few in
-      ap (λ (cells : List ℕ). pos (get_or cells cell 0)) told.cells
-      ∙ ap pos (count ∙ small (made_in g entry s0 n e) (omega (arith, most, few)))
-    where
-      small : (k : ℕ) → k < 2 ^ 32 → k % 2 ^ 32 ≡ k
-      small k l = omega (arith, l)
+      omega (arith, most, few)
+
+  -- an edge's counter tells
+  cell_tells : TellsStep g entry s0 t0 m n → (e cell : ℕ) → snippet_on g.snips e ≡ counter version cell
+      → cell_value version dump.cells (Some cell) ≡ pos (made_in g entry s0 n e)
+  cell_tells told e cell has =
+      ap (λ (cells : List ℕ). pos (counter_value version cells cell)) told.cells
+      ∙ ap pos (cells_count version g entry s0 n e cell is.counters is.below has
+      ∙ small_rest (version == 1) (made_in g entry s0 n e) (made_few e))
 
   agrees : TellsStep g entry s0 t0 m n → AgreeOn (noted_graph g.notes) (has_cell g.notes) (cell_counts g.notes dump)
       (λ e. pos (made_in g entry s0 n e))
-  agrees told e l has = by (none_or_counter 0 g.snips e is.counters)
+  agrees told e l has = by (none_or_counter version 0 g.snips e is.counters)
     where
       edges : length g.notes.edges ≡ length (graph_in g).edges
       edges = edge_count (graph_in g) g.snips g.notes is.are
@@ -90,12 +96,13 @@ module _ (g : Setting) (entry : ℕ) (s0 t0 : State) (m n : ℕ) (is : StandsBeh
       none_has : false ≡ true → ⊥
       none_has e = cc
 
-      by : (snippet_on g.snips e ≡ []) ⊎ IsCounterFrom 0 (snippet_on g.snips e)
+      by : (snippet_on g.snips e ≡ []) ⊎ IsCounterFrom version 0 (snippet_on g.snips e)
           → cell_counts g.notes dump e ≡ pos (made_in g entry s0 n e)
       by (inl none) =
           absurd (none_has (sym (ap (λ o. is_some o) (noted ∙ ap (cell_noted tools.Profile) none)) ∙ has))
       by (inr some) =
-          ap (cell_value dump.cells) (noted ∙ ap (cell_noted tools.Profile) some.is)
+          ap (cell_value version dump.cells)
+          (noted ∙ ap (cell_noted tools.Profile) some.is ∙ ap Some (counter_cell version some.cell))
           ∙ cell_tells told e some.cell some.is
 
   -- the one flow is the walk's
@@ -119,6 +126,13 @@ module _ (g : Setting) (entry : ℕ) (s0 t0 : State) (m n : ℕ) (is : StandsBeh
   negative_not : (value : ℤ) (k : ℕ) → value ≡ pos k → is_negative value ≡ true → ⊥
   negative_not value k e negative = let no : is_negative value ≡ false = ap is_negative e in cc (no, negative)
 
+  large_not : (value : ℤ) (k : ℕ) → value ≡ pos k → k < 2 ^ 64 → is_large value ≡ true → ⊥
+  large_not value k e few large = let most = leb-true (2 ^ 64) k (sym (ap is_large e) ∙ large) in omega (arith, few, most)
+
+  -- the length that a dump of version 2 tells
+  length_is : version ≡ 2 → dump.length ≡ g.notes.length
+  length_is two = ap (λ (b : Bool). if b then 0 else g.notes.length) (ap (λ (v : ℕ). v == 1) two)
+
   -- between places it hasn't ended
   runs_on : node_at g.notes (run t0 m).pc ≡ None → (o : Option Ending) → (run t0 m).ending ≡ o → (run t0 m).ending ≡ None
   runs_on none None live = live
@@ -126,15 +140,21 @@ module _ (g : Setting) (entry : ℕ) (s0 t0 : State) (m n : ℕ) (is : StandsBeh
 
   pub refused_so : (fault : CountFault) → IsRefused g.notes dump fault → MayRefuse dump fault
   refused_so faults.NoProfile h = absurd (h is.profile)
+  refused_so (faults.Version of wanted) h = absurd (h.differ (h.has ∙ sym h.wants))
+  refused_so (faults.Other length wanted) h = absurd (h.differ (h.has ∙ length_is h.wide ∙ sym h.wants))
   refused_so (faults.Shape cells wanted) h =
       absurd (h.differ (h.has ∙ length-map-range_with_len _ 0 g.notes.cells ∙ sym h.wants))
   refused_so (faults.TooLong steps) h =
       let made = h.made in
       let long = h.long in
-      let short = is.short in
+      let short : m < 2 ^ 32 = subst (λ (v : ℕ). m < counter_limit v) h.narrow is.short in
       absurd (omega (arith, made, long, short))
   refused_so (faults.Between pc) h = (h.at, runs_on h.between (run t0 m).ending refl)
   refused_so (faults.Negative edge value) h =
       absurd (negative_not (h.flow edge.0) (made_in g entry s0 n edge.0)
-      (flow_tells h.node h.flow h.stands h.is edge.0 h.first.inside) h.first.negative)
+      (flow_tells h.node h.flow h.stands h.is edge.0 h.first.inside) h.first.bad)
+  refused_so (faults.Large edge value) h =
+      absurd (large_not (h.flow edge.0) (made_in g entry s0 n edge.0)
+      (flow_tells h.node h.flow h.stands h.is edge.0 h.first.inside)
+      (limit_few (version == 1) (made_in g entry s0 n edge.0) (made_few edge.0)) h.first.bad)
   refused_so faults.NoMemory h = tt

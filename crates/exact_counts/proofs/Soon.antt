@@ -23,11 +23,11 @@ fewer notes s0 k n below h = record {
   unjudged = λ j l. h.unjudged j (omega (arith, l, below));
 }
 
-module _ (g : Setting) (are : AreCounters 0 g.snips) where
+module _ (version : ℕ) (g : Setting) (are : AreCounters version 0 g.snips) where
   one_operation : (e : ℕ) → length (snippet_on g.snips e) ≤ 1
-  one_operation e = by (none_or_counter 0 g.snips e are)
+  one_operation e = by (none_or_counter version 0 g.snips e are)
     where
-      by : (snippet_on g.snips e ≡ []) ⊎ IsCounterFrom 0 (snippet_on g.snips e)
+      by : (snippet_on g.snips e ≡ []) ⊎ IsCounterFrom version 0 (snippet_on g.snips e)
           → length (snippet_on g.snips e) ≤ 1
       by (inl none) = let size : length (snippet_on g.snips e) ≡ 0 = ap length none in omega (arith, size)
       by (inr some) = let size : length (snippet_on g.snips e) ≡ 1 = ap length some.is in omega (arith, size)
@@ -79,8 +79,8 @@ module _ (g : Setting) (are : AreCounters 0 g.snips) where
         has_none d e = cc
 
 pub profiles_end_soon : ProfilesEndSoon
-profiles_end_soon g bound entry s0 t0 n are alike ended untouched = by (over_or_not (run s0 n).ending)
+profiles_end_soon version g bound entry s0 t0 n are alike ended untouched = by (over_or_not (run s0 n).ending)
   where
     by : ((run s0 n).ending ≡ None) ⊎ ((d : Ending) × ((run s0 n).ending ≡ Some d)) → HasEndedBy t0 (64 + 128 * n)
     by (inl live) = absurd (ended live)
-    by (inr (d, over)) = ends_by g are bound entry s0 t0 alike n d over untouched
+    by (inr (d, over)) = ends_by version g are bound entry s0 t0 alike n d over untouched

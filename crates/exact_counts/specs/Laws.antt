@@ -1,6 +1,6 @@
 -- Counts are exact: what is rebuilt from the dump of a written file's run, wherever it is stopped, is how often the
 -- original's run completes each edge.
-use Rattle.std.specs.Prelude.{◌≡◌, ℕ, ◌-◌, ◌%◌, ◌^◌, ◌<◌, ◌≤◌, List, [], ◌∷◌, length, get_or, slice_index, None}
+use Rattle.std.specs.Prelude.{◌≡◌, ℕ, ◌-◌, ◌%◌, ◌^◌, ◌<◌, ◌≤◌, ◌==◌, if◌then◌else◌, List, [], ◌∷◌, length, slice_index, None}
 use Rattle.std.specs.List.{All}
 use Rattle.eel_base.specs.CodeText.{Words}
 use Rattle.elf32_sparc.specs.Image.{image_of}
@@ -10,15 +10,15 @@ use Rattle.v8_step.specs.Valid.{AreBytes}
 use Rattle.v8_process.specs.Arguments.{AreArguments}
 use Rattle.v8_process.specs.Start.{start_of}
 use Rattle.cfg_normal.specs.Graph.{Graph}
-use Rattle.snippets.specs.declared.snippet.Op.TheVariants.{Add}
 use Rattle.snippets.specs.Cells.{WorksBelow}
-use Rattle.tool_kit.specs.Plans.{AreCounters, Plan}
+use Rattle.tool_kit.specs.Plans.{AreCounters, Plan, counter_op}
 use Rattle.walk_counts.specs.Counts.{executions}
 use Rattle.dump_file.specs.Dump.{Dump}
 use Rattle.image_code.specs.Simulates.{Setting, graph_in, snippet_on, store_of}
 use Rattle.count_rebuild.specs.declared.fault.CountFault.{CountFault}
 use Rattle.count_rebuild.specs.declared.fault.CountFault.TheVariants as faults
 use Rattle.count_rebuild.specs.Answers.{AreCounts, IsRefused}
+use Rattle.count_rebuild.specs.Counts.{counter_value}
 use Rattle.exact_counts.specs.Profiles.{IsProfiled, original_graph}
 use Rattle.v8_step.specs.Needed.{IsUntouched}
 use Rattle.v8_step.specs.Visits.{pages_of}
@@ -29,12 +29,18 @@ abbrev pub ExecutionsAreFew : Type 0
 ExecutionsAreFew =
     (text : Words) (graph : Graph) (entry : ℕ) (s0 : State) (n e : ℕ) → executions text graph entry s0 n e ≤ n
 
--- the cell of an edge's counter holds how often the run completed the edge, in 32 bits
+-- where a counter begins at 0 again, by the version of the notes
+abbrev pub counter_limit : ℕ → ℕ
+counter_limit version = if version == 1 then 2 ^ 32 else 2 ^ 64
+
+-- an edge's counter holds how often the run completed the edge, in 32 or in 64 bits
 abbrev pub CellsCount : Type 0
 CellsCount =
-    (g : Setting) (entry : ℕ) (s0 : State) (n e cell : ℕ)
-    → AreCounters 0 g.snips → All (WorksBelow g.notes.cells) g.snips → snippet_on g.snips e ≡ Add cell 1 ∷ []
-    → get_or (store_of g entry s0 n) cell 0 ≡ executions g.text (graph_in g) entry s0 n e % 2 ^ 32
+    (version : ℕ) (g : Setting) (entry : ℕ) (s0 : State) (n e cell : ℕ)
+    → AreCounters version 0 g.snips → All (WorksBelow g.notes.cells) g.snips
+    → snippet_on g.snips e ≡ counter_op version cell ∷ []
+    → counter_value version (store_of g entry s0 n) cell
+    ≡ executions g.text (graph_in g) entry s0 n e % counter_limit version
 
 -- Rebuilding may be refused where the run stands between places, which it doesn't where it has ended; and for want of
 -- memory.
@@ -51,13 +57,14 @@ pub record IsExact (original : List ℕ) (plan : Plan) (notes : Notes) (s0 : Sta
       → slice_index counts e
       ≡ executions (image_of original).text (original_graph original plan) (image_of original).entry s0 n e
 
--- So it is wherever a run is stopped below 2^32 steps, where the original touches no page in as many steps as there were
--- visits: for all arguments and every input. The last visit is of the instruction that step v - 1 carries out.
+-- So it is wherever a run is stopped below 2^32 steps, or in version 2 of the notes below 2^64, where the original
+-- touches no page in as many steps as there were visits: for all arguments and every input. The last visit is of the
+-- instruction that step v - 1 carries out.
 abbrev pub CountsAreExact : Type 0
 CountsAreExact =
     (original : List ℕ) (plan : Plan) (file : List ℕ) (notes : Notes) (args : List (List ℕ)) (input : List ℕ) (m : ℕ)
     → IsProfiled original plan file notes → AreArguments args → AreBytes input
     → let s0 = start_of original args input in
     let t0 = start_of file args input in
-    IsUntouched (pages_of notes) s0 (visits_by notes t0 m) → m < 2 ^ 32
+    IsUntouched (pages_of notes) s0 (visits_by notes t0 m) → m < counter_limit notes.version
     → IsExact original plan notes s0 (dump_at notes t0 m) (visits_by notes t0 m - 1)

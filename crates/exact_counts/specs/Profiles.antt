@@ -1,19 +1,18 @@
 -- A profile of an original: counters on some edges of its flow graph, and a written file that has them.
-use Rattle.std.specs.Prelude.{◌≡◌, ℕ, ◌<◌, Bool, true, false, List, [], ◌∷◌, length, Option, Some, None}
+use Rattle.std.specs.Prelude.{◌≡◌, ℕ, ◌*◌, ◌<◌, Bool, true, false, List, [], ◌∷◌, length, Option, Some, None}
 use Rattle.std.specs.List.{All}
 use Rattle.elf32_sparc.specs.FileFault.{fault}
-use Rattle.elf32_sparc.specs.Notes.{Notes}
+use Rattle.elf32_sparc.specs.Notes.{Notes, counter_width}
 use Rattle.v8_decode.specs.declared.Part.{Part}
 use Rattle.v8_step.specs.Valid.{AreBytes}
 use Rattle.flows.specs.Flows.{EdgeSet, rest}
 use Rattle.flows.specs.Trees.{IsSpanningTree}
 use Rattle.snippets.specs.declared.snippet.Op.{Op}
-use Rattle.snippets.specs.declared.snippet.Op.TheVariants.{Add}
 use Rattle.snippets.specs.Cells.{WorksBelow}
 use Rattle.cfg_normal.specs.Graph.{Graph}
 use Rattle.cfg_normal.specs.Numbers.{is_node}
 use Rattle.tool_kit.specs.declared.edge_ref.ToolKind.TheVariants as tools
-use Rattle.tool_kit.specs.Plans.{AreCounters, Plan}
+use Rattle.tool_kit.specs.Plans.{AreCounters, Plan, counter_op}
 use Rattle.cfg_view.specs.View.{view_of}
 use Rattle.span_tree.specs.Cells.{AreNumbered, cell_at, cell_count, has_cell}
 use Rattle.span_tree.specs.Links.{links_of}
@@ -29,34 +28,35 @@ is_counter (op ∷ ops) = true
 abbrev pub counted_by : List (List Op) → EdgeSet
 counted_by snips = λ e. is_counter (snippet_on snips e)
 
--- Counters in cells of their own. The edges without one are a spanning tree of the blocks and of what lies outside, so
--- that the counts of the others determine all (Ball and Larus, "Optimally Profiling and Tracing Programs", ACM TOPLAS
--- 16 (4), 1994, section 3).
-pub record CountsOffTree (graph : Graph) (plan : Plan) : Type 0 where
+-- Counters of a version, in cells of their own. The edges without one are a spanning tree of the blocks and of what
+-- lies outside, so that the counts of the others determine all (Ball and Larus, "Optimally Profiling and Tracing
+-- Programs", ACM TOPLAS 16 (4), 1994, section 3).
+pub record CountsOffTree (version : ℕ) (graph : Graph) (plan : Plan) : Type 0 where
   pub kind : plan.kind ≡ tools.Profile
   pub size : length plan.snips ≡ length graph.edges
-  pub counters : AreCounters 0 plan.snips
+  pub counters : AreCounters version 0 plan.snips
   pub below : All (WorksBelow plan.cells) plan.snips
   pub tree : IsSpanningTree (links_of graph) (is_node graph) (rest (counted_by plan.snips))
 
--- a counter in an edge's cell, where it has one
-abbrev pub counter_in : Option ℕ → List Op
-counter_in None = []
-counter_in (Some cell) = Add cell 1 ∷ []
+-- the counter of an edge with this number among those that are counted
+abbrev pub counter_in : ℕ → Option ℕ → List Op
+counter_in version None = []
+counter_in version (Some number) = counter_op version (counter_width version * number) ∷ []
 
--- Counters in the cells of a spanning tree, by the list of which edges have one.
-pub record CountsInCells (graph : Graph) (plan : Plan) (cells : List (Option ℕ)) : Type 0 where
+-- Counters off a spanning tree, by the list of which edges have one.
+pub record CountsInCells (version : ℕ) (graph : Graph) (plan : Plan) (cells : List (Option ℕ)) : Type 0 where
   pub kind : plan.kind ≡ tools.Profile
-  pub count : plan.cells ≡ cell_count cells
+  pub count : plan.cells ≡ counter_width version * cell_count cells
   pub size : length plan.snips ≡ length graph.edges
   pub len : length cells ≡ length graph.edges
   pub numbered : AreNumbered cells
   pub tree : IsSpanningTree (links_of graph) (is_node graph) (rest (has_cell cells))
-  pub snips : (e : ℕ) → e < length graph.edges → snippet_on plan.snips e ≡ counter_in (cell_at cells e)
+  pub snips : (e : ℕ) → e < length graph.edges → snippet_on plan.snips e ≡ counter_in version (cell_at cells e)
 
 abbrev pub TreesMakeProfiles : Type 0
 TreesMakeProfiles =
-    (graph : Graph) (plan : Plan) (cells : List (Option ℕ)) → CountsInCells graph plan cells → CountsOffTree graph plan
+    (version : ℕ) (graph : Graph) (plan : Plan) (cells : List (Option ℕ)) → CountsInCells version graph plan cells
+    → CountsOffTree version graph plan
 
 -- the flow graph of an original, where the words that are marked lead besides
 abbrev pub original_graph : List ℕ → Plan → Graph
@@ -66,7 +66,7 @@ original_graph original plan = (view_of original plan.marks).graph
 pub record IsProfiled (original : List ℕ) (plan : Plan) (file : List ℕ) (notes : Notes) : Type 0 where
   pub sound : fault original ≡ None
   pub bytes : AreBytes original
-  pub counters : CountsOffTree (original_graph original plan) plan
+  pub counters : CountsOffTree notes.version (original_graph original plan) plan
   pub graph : HasGraph original plan notes
   pub dead : ℕ → List Part
   pub runs : HaveRunsAlike original plan dead file notes

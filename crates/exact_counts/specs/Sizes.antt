@@ -18,13 +18,13 @@ use Rattle.edit_core.specs.Taken.{bound_in}
 use Rattle.edit_core.specs.RunsAlike.{AreRunsAlike}
 use Rattle.exact_counts.specs.Profiles.{original_graph}
 
--- A profile of a file without a fault, with a cell for each edge at most, asks for 1 MiB and 1,040 bytes for each word: for
--- each word there are four edges at most, and counters on edges are made four times at most.
+-- A profile of a file without a fault, with two cells for each edge at most, asks for 1 MiB and 1,056 bytes for each
+-- word: for each word there are four edges at most, and counters on edges are made four times at most.
 abbrev pub ProfilesNeedLittle : Type 0
 ProfilesNeedLittle =
     (original : List ℕ) (plan : Plan) → fault original ≡ None → plan.kind ≡ tools.Profile
-    → plan.cells ≤ length (original_graph original plan).edges
-    → bound_in original plan ≤ 2 ^ 20 + 1040 * length (image_of original).text.words
+    → plan.cells ≤ 2 * length (original_graph original plan).edges
+    → bound_in original plan ≤ 2 ^ 20 + 1056 * length (image_of original).text.words
 
 -- the run has ended after so many steps, or fewer
 pub record HasEndedBy (t0 : State) (limit : ℕ) : Type 0 where
@@ -36,7 +36,8 @@ pub record HasEndedBy (t0 : State) (limit : ℕ) : Type 0 where
 -- steps and 128 for each of them: no step completes more than two edges.
 abbrev pub ProfilesEndSoon : Type 0
 ProfilesEndSoon =
-    (g : Setting) (bound entry : ℕ) (s0 t0 : State) (n : ℕ) → AreCounters 0 g.snips → AreRunsAlike g bound entry s0 t0
+    (version : ℕ) (g : Setting) (bound entry : ℕ) (s0 t0 : State) (n : ℕ) → AreCounters version 0 g.snips
+    → AreRunsAlike g bound entry s0 t0
     → (run s0 n).ending ≢ None → IsUntouched (pages_of g.notes) s0 n → HasEndedBy t0 (64 + 128 * n)
 
 -- How often each edge is completed is in all how long the walk is.

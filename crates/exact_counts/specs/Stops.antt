@@ -1,5 +1,5 @@
 -- What a written file's run tells where it has ended.
-use Rattle.std.specs.Prelude.{◌≡◌, ◌≢◌, ℕ, ◌-◌, ◌<◌, ◌≤◌, Some, None}
+use Rattle.std.specs.Prelude.{◌≡◌, ◌≢◌, ℕ, ◌-◌, ◌<◌, ◌≤◌, ◌==◌, if◌then◌else◌, Some, None}
 use Rattle.elf32_sparc.specs.Notes.{Notes, node_at}
 use Rattle.v8_step.specs.State.{State}
 use Rattle.v8_step.specs.Run.{run}
@@ -11,10 +11,21 @@ use Rattle.dump_file.specs.Dump.{Dump}
 use Rattle.image_code.specs.Simulates.{Setting, cells_in, graph_in, number_in, store_of}
 pub use Rattle.edit_core.specs.RunsAlike.{AreRunsAlike, visits_by}
 
--- what a run has come to after so many steps: its ending, where it stands, the steps, and the words at the cells' base
+-- the size of the original, which dumps of version 1 don't tell
+abbrev pub length_told : Notes → ℕ
+length_told notes = if notes.version == 1 then 0 else notes.length
+
+-- What a run has come to after so many steps: the version of the notes, its ending, where it stands, the steps, in version 2
+-- the size of the original, and the words at the cells' base.
 abbrev pub dump_of : Notes → State → ℕ → Dump
-dump_of notes t steps =
-    record { ending = t.ending; pc = t.pc; steps = steps; cells = words_at notes.base notes.cells t.memory }
+dump_of notes t steps = record {
+  version = notes.version;
+  ending = t.ending;
+  pc = t.pc;
+  steps = steps;
+  length = length_told notes;
+  cells = words_at notes.base notes.cells t.memory;
+}
 
 abbrev pub dump_at : Notes → State → ℕ → Dump
 dump_at notes t0 m = dump_of notes (run t0 m) m

@@ -17,7 +17,7 @@ pub fn executions_are_few()
     ensures { ExecutionsAreFew }
 {}
 
-/// The cell of an edge's counter holds how often the edge was completed, in 32 bits.
+/// The counter of an edge holds how often the edge was completed, in 32 bits or in 64.
 pub fn cells_count()
     ensures { CellsCount }
 {}
@@ -28,8 +28,9 @@ pub fn ended_runs_tell()
     ensures { EndedRunsTell }
 {}
 
-/// The counts that are rebuilt from the dump of a profile's run that has ended, after fewer than 2^32 steps and without
-/// a touch of the editor's pages by the original, are exact. No refusal comes but for want of memory.
+/// The counts that are rebuilt from the dump of a profile's run, wherever it is stopped without a touch of the editor's
+/// pages by the original, are exact: after fewer than 2^32 steps where the notes have version 1, and fewer than 2^64
+/// where they have version 2. No refusal comes but for want of memory, and between places.
 pub fn counts_are_exact()
     ensures { CountsAreExact }
 {}

@@ -102,7 +102,7 @@ fn sections_before_the_text(rt: HostRuntime) -> Result<(), Fail> {
     let mut want = wanted(
         alloc,
         &BEFORE_HEADERS,
-        &[0x45454c4e, 1, 0x3008, 8],
+        &[0x45454c4e, 2, 0x3008, 8],
         4096,
         &BEFORE,
     )?;
@@ -139,7 +139,7 @@ fn sections_behind_the_text(rt: HostRuntime) -> Result<(), Fail> {
     let mut want = wanted(
         alloc,
         &BEHIND_HEADERS,
-        &[0x45454c4e, 1, 0x11004, 0xc],
+        &[0x45454c4e, 2, 0x11004, 0xc],
         65536,
         &BEHIND,
     )?;
@@ -168,7 +168,7 @@ fn sections_across_the_end(rt: HostRuntime) -> Result<(), Fail> {
     let want = wanted(
         alloc,
         &ACROSS_HEADERS,
-        &[0x45454c4e, 1, 0x10ac, 0],
+        &[0x45454c4e, 2, 0x10ac, 0],
         4096,
         &ACROSS,
     )?;
@@ -216,7 +216,7 @@ fn eight_segments(rt: HostRuntime) -> Result<(), Fail> {
     let mut want = wanted(
         alloc,
         &EIGHT_HEADERS,
-        &[0x45454c4e, 1, 0x6004, 4],
+        &[0x45454c4e, 2, 0x6004, 4],
         4096,
         &EIGHT,
     )?;

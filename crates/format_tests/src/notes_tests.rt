@@ -1,9 +1,10 @@
-//! Notes through both calls: what is written reads back, and each rule broken once is named by its offset.
+//! Notes of both versions through both calls: what is written reads back, and each rule broken once is named by its offset.
 use notes::{NotesFault, read_notes, write_notes};
 use std::alloc::Global;
 use std::test::Fail;
 
-/// The notes of a text of four words: the numbers, two pages, two blocks, three edges and three places.
+/// The notes of a text of four words: the numbers, two pages, two blocks, three edges and three places. They are of either
+/// version: two of the four cells count an edge each, or each of two edges has two.
 const WORDS: [u32; 42] = [
     4096,
     16,
@@ -12,7 +13,7 @@ const WORDS: [u32; 42] = [
     4,
     1,
     0x30000,
-    2,
+    4,
     2,
     0x20000,
     0x1000,
@@ -33,7 +34,7 @@ const WORDS: [u32; 42] = [
     5,
     2,
     0,
-    1,
+    2,
     3,
     0x20000,
     0x20004,
@@ -52,15 +53,15 @@ const WORDS: [u32; 42] = [
 /// How many bytes they have.
 const LENGTH: u32 = 168;
 
-/// A file whose locator names notes of so many bytes at 4096, with one of their words replaced.
-fn file(alloc: Global, length: u32, at: usize, word: u32) -> Result<Vec<u8>, Fail> {
+/// A file whose locator names notes of this version and of so many bytes at 4096, with one of their words replaced.
+fn file(alloc: Global, version: u32, length: u32, at: usize, word: u32) -> Result<Vec<u8>, Fail> {
     let mut words = Vec::from_slice(alloc, &WORDS)?;
     if let Some(place) = words.get_mut(at / 4) {
         *place = word;
     }
     let mut bytes = Vec::new(alloc);
     bytes.resize(4032, 0)?;
-    for word in [0x4545_4c4e, 1, 4096, length] {
+    for word in [0x4545_4c4e, version, 4096, length] {
         bytes.extend_from_slice(&word.to_be_bytes())?;
     }
     bytes.resize(4096, 0)?;
@@ -81,72 +82,112 @@ fn part(bytes: &[u8], from: usize, to: usize) -> &[u8] {
     bytes.get(from..to).unwrap_or(&[])
 }
 
-/// The notes of a file, read and written again.
+/// The notes of a file, read and written again, where they are of the version that is written.
 fn written_again(alloc: Global, file: &[u8]) -> Result<Vec<u8>, Fail> {
     let Ok(notes) = read_notes(alloc, file) else {
         return Err(Fail::from("notes"));
     };
+    if notes.version != 2 {
+        return Err(Fail::from("the version"));
+    }
     write_notes(alloc, &notes).map_err(|_| Fail::from("memory"))
 }
 
 #[test]
 fn notes_read_and_are_written_again(rt: HostRuntime) -> Result<(), Fail> {
-    let file = file(rt.alloc(), LENGTH, 0, 4096)?;
+    let file = file(rt.alloc(), 2, LENGTH, 0, 4096)?;
     let again = written_again(rt.alloc(), &file)?;
     assert_eq!(rt; again.as_slice(), part(&file, 4096, 4264));
     Ok(())
 }
 
-/// The place of a word, what it becomes, and the offset that is named.
-const BROKEN: [(usize, u32, u32); 38] = [
-    (0, 4095, 0),
-    (4, 4097, 4),
-    (8, 3, 8),
-    (12, 0x10002, 12),
-    (12, 0xffc, 12),
-    (16, 0, 16),
-    (16, 0x100001, 16),
-    (12, 0x7ffffff4, 16),
-    (20, 2, 20),
-    (24, 0x30002, 24),
-    (24, 0xfffffffc, 24),
-    (28, 0x3fff4001, 24),
-    (28, 0x400001, 28),
-    (32, 9, 32),
-    (40, 0, 36),
-    (44, 0x20ffc, 44),
-    (48, 0xfffd0001, 44),
-    (52, 0, 20),
-    (52, 5, 52),
-    (56, 1, 56),
-    (60, 0, 60),
-    (60, 4, 60),
-    (64, 0x1000000, 64),
-    (68, 7, 68),
-    (72, 5, 68),
-    (76, 5, 68),
-    (80, 2, 68),
-    (96, 0, 84),
-    (112, 0, 100),
-    (116, 0x4000000, 116),
-    (120, 0x1fffe, 120),
-    (124, 0x20002, 120),
-    (128, 0x10002, 120),
-    (132, 5, 120),
-    (124, 0x20000, 120),
-    (136, 0x20000, 136),
-    (156, 0x21004, 152),
-    (116, 2, 152),
+/// The version, the place of a word, what it becomes, and the offset that is named.
+const BROKEN: [(u32, usize, u32, u32); 51] = [
+    (1, 0, 4095, 0),
+    (1, 4, 4097, 4),
+    (1, 8, 3, 8),
+    (1, 12, 0x10002, 12),
+    (1, 12, 0xffc, 12),
+    (1, 16, 0, 16),
+    (1, 16, 0x100001, 16),
+    (1, 12, 0x7ffffff4, 16),
+    (1, 20, 2, 20),
+    (1, 24, 0x30002, 24),
+    (1, 24, 0xfffffffc, 24),
+    (1, 28, 0x3fff4001, 24),
+    (1, 28, 0x400001, 28),
+    (1, 32, 9, 32),
+    (1, 40, 0, 36),
+    (1, 44, 0x20ffc, 44),
+    (1, 48, 0xfffd0001, 44),
+    (1, 52, 0, 20),
+    (1, 52, 5, 52),
+    (1, 56, 1, 56),
+    (1, 60, 0, 60),
+    (1, 60, 4, 60),
+    (1, 64, 0x1000000, 64),
+    (1, 68, 7, 68),
+    (1, 72, 5, 68),
+    (1, 76, 5, 68),
+    (1, 80, 4, 68),
+    (1, 96, 0, 84),
+    (1, 96, 2, 100),
+    (1, 112, 0, 100),
+    (1, 116, 0x4000000, 116),
+    (1, 120, 0x1fffe, 120),
+    (1, 124, 0x20002, 120),
+    (1, 128, 0x10002, 120),
+    (1, 132, 5, 120),
+    (1, 124, 0x20000, 120),
+    (1, 136, 0x20000, 136),
+    (1, 156, 0x21004, 152),
+    (1, 116, 2, 152),
+    (2, 8, 4, 8),
+    (2, 24, 0x30002, 24),
+    (2, 28, 0x800001, 28),
+    (2, 28, 3, 100),
+    (2, 68, 7, 68),
+    (2, 80, 1, 68),
+    (2, 80, 4, 68),
+    (2, 96, 2, 100),
+    (2, 112, 0, 100),
+    (2, 112, 3, 100),
+    (2, 112, 4, 100),
+    (2, 116, 2, 152),
 ];
 
 #[test]
 fn broken_rules_are_named(rt: HostRuntime) -> Result<(), Fail> {
-    for (at, word, offset) in BROKEN {
-        let file = file(rt.alloc(), LENGTH, at, word)?;
+    for (version, at, word, offset) in BROKEN {
+        let file = file(rt.alloc(), version, LENGTH, at, word)?;
         assert_eq!(rt;
             named(rt.alloc(), &file),
             Some(NotesFault::Bad(offset)),
-            "{word} at {at}"
+            "{word} at {at} of version {version}"
+        );
+    }
+    Ok(())
+}
+
+/// The version, the place of a word, and what it may become: another tool, number of cells, or cell.
+const HELD: [(u32, usize, u32); 7] = [
+    (1, 8, 2),
+    (1, 28, 0x400000),
+    (1, 112, 3),
+    (2, 8, 3),
+    (2, 28, 0x400001),
+    (2, 28, 0x800000),
+    (2, 112, u32::MAX),
+];
+
+#[test]
+fn rules_are_held_up_to_their_limits(rt: HostRuntime) -> Result<(), Fail> {
+    for (version, at, word) in HELD {
+        let file = file(rt.alloc(), version, LENGTH, at, word)?;
+        assert_eq!(rt;
+            named(rt.alloc(), &file),
+            None,
+            "{word} at {at} of version {version}"
         );
     }
     Ok(())
@@ -168,7 +209,7 @@ const CUT: [(u32, u32); 9] = [
 #[test]
 fn missing_words_and_bytes_left_over_are_named(rt: HostRuntime) -> Result<(), Fail> {
     for (length, offset) in CUT {
-        let file = file(rt.alloc(), length, 0, 4096)?;
+        let file = file(rt.alloc(), 2, length, 0, 4096)?;
         assert_eq!(rt;
             named(rt.alloc(), &file),
             Some(NotesFault::Bad(offset)),
@@ -180,7 +221,15 @@ fn missing_words_and_bytes_left_over_are_named(rt: HostRuntime) -> Result<(), Fa
 
 #[test]
 fn notes_are_absent_without_a_locator(rt: HostRuntime) -> Result<(), Fail> {
-    let file = file(rt.alloc(), LENGTH, 0, 4096)?;
+    for version in [0, 3, 0x100] {
+        let file = file(rt.alloc(), version, LENGTH, 0, 4096)?;
+        assert_eq!(rt;
+            named(rt.alloc(), &file),
+            Some(NotesFault::Absent),
+            "version {version}"
+        );
+    }
+    let file = file(rt.alloc(), 2, LENGTH, 0, 4096)?;
     assert_eq!(rt;
         named(rt.alloc(), part(&file, 0, 4095)),
         Some(NotesFault::Absent)

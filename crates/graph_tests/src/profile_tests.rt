@@ -15,7 +15,7 @@ const CARRY_LOOP: [u32; 7] = [
 
 const WEIGHTS: [u64; 9] = [1, 9, 9, 1, 1, 1, 1, 1, 1];
 
-/// Its cells: those off the tree weigh 13, and are landings but for one.
+/// Its counted edges by their numbers: those off the tree weigh 13, and are landings but for one.
 const CELLS: [Option<u32>; 9] = [
     None,
     Some(0),
@@ -28,7 +28,7 @@ const CELLS: [Option<u32>; 9] = [
     Some(4),
 ];
 
-/// Its notes as words, with the same cells.
+/// Its notes as words, with two cells for the counter of each of these edges.
 const NOTES: [u32; 54] = [
     4096,
     112,
@@ -37,7 +37,7 @@ const NOTES: [u32; 54] = [
     7,
     0,
     0x30000,
-    5,
+    10,
     1,
     0x20000,
     0x1000,
@@ -70,19 +70,19 @@ const NOTES: [u32; 54] = [
     5,
     4,
     0,
-    1,
-    5,
-    4,
-    1,
     2,
     5,
     4,
+    1,
+    4,
+    5,
+    4,
     2,
-    3,
+    6,
     5,
     4,
     3,
-    4,
+    8,
     0,
 ];
 
@@ -121,7 +121,7 @@ fn five_of_nine_edges_are_counted(rt: HostRuntime) -> Result<(), Fail> {
 fn file_of(alloc: Global, words: &[u32], length: u32) -> Result<Vec<u8>, Fail> {
     let mut file = Vec::new(alloc);
     file.resize(4032, 0)?;
-    for word in [0x4545_4c4e, 1, 4096, length] {
+    for word in [0x4545_4c4e, 2, 4096, length] {
         file.extend_from_slice(&word.to_be_bytes())?;
     }
     file.resize(4096, 0)?;

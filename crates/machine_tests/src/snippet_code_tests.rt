@@ -1,7 +1,5 @@
 //! The code of snippets, run on a machine, and the registers that are picked for it.
-ghost use Rattle.std.specs.Prelude.{◌≤◌, ◌+◌, ◌^◌};
-ghost use Rattle.snippets.specs.Ops.{cell_of};
-ghost use Rattle.snippet_code.specs.Cells.{cell_at};
+ghost use Rattle.snippet_code.specs.Laws.{EndsLow};
 
 use eel_base::{Addr, MemSink};
 use elf32_sparc::SegFlags;
@@ -35,7 +33,7 @@ fn two_registers() -> Result<RegSet, Fail> {
 
 /// The words of one operation.
 fn words_of(alloc: Global, op: Op, dead: RegSet) -> Result<Vec<u32>, Fail>
-    requires { cell_at 0x20000 (cell_of op) + 4 ≤ 2 ^ 31 }
+    requires { EndsLow 0x20000 op }
 {
     let mut snippet = Snippet::empty();
     if !snippet.push(op) {
@@ -45,10 +43,10 @@ fn words_of(alloc: Global, op: Op, dead: RegSet) -> Result<Vec<u32>, Fail>
     expand(alloc, &snippet, CELLS, dead, names).map_err(|_| Fail::from("memory"))
 }
 
-/// The bytes of at most eight words, the highest byte of each first, and zeros behind them.
-fn bytes_of(words: &[u32]) -> [u8; 32] {
-    let mut bytes = [0; 32];
-    for i in 0..8 {
+/// The bytes of at most sixteen words, the highest byte of each first, and zeros behind them.
+fn bytes_of(words: &[u32]) -> [u8; 64] {
+    let mut bytes = [0; 64];
+    for i in 0..16 {
         if let Some(word) = words.get(i) {
             bytes[4 * i..4 * i + 4].copy_from_slice(&word.to_be_bytes());
         }
@@ -56,20 +54,20 @@ fn bytes_of(words: &[u32]) -> [u8; 32] {
     bytes
 }
 
-/// What a run of these words makes of the first cell, where it is this at first.
-fn cell_after(alloc: Global, words: &[u32], cell: u32) -> Result<u32, Fail> {
+/// What a run of these words makes of the first five cells, where the first ones are these.
+fn cells_after(alloc: Global, words: &[u32], cells: &[u32]) -> Result<[u32; 5], Fail> {
     let code = bytes_of(words);
-    let first = cell.to_be_bytes();
+    let first = bytes_of(cells);
     let plans = [
         RegionPlan {
             start: CODE,
-            len: 32,
+            len: 64,
             flags: SegFlags(5),
             first: &code,
         },
         RegionPlan {
             start: CELLS,
-            len: 16,
+            len: 64,
             flags: SegFlags(6),
             first: &first,
         },
@@ -85,10 +83,14 @@ fn cell_after(alloc: Global, words: &[u32], cell: u32) -> Result<u32, Fail> {
     let mut out = MemSink::new(alloc, 0, Vec::new(alloc)).map_err(|_| Fail::from("sink"))?;
     let mut err = MemSink::new(alloc, 0, Vec::new(alloc)).map_err(|_| Fail::from("sink"))?;
     run(&mut machine, words.len() as u64, &mut out, &mut err);
-    machine
-        .memory()
-        .load32(CELLS)
-        .map_err(|_| Fail::from("word"))
+    let mut after = [0; 5];
+    for i in 0..5 {
+        after[i] = machine
+            .memory()
+            .load32(Addr(CELLS.0 + 4 * i as u32))
+            .map_err(|_| Fail::from("word"))?;
+    }
+    Ok(after)
 }
 
 #[test]
@@ -96,10 +98,49 @@ fn seven_becomes_eight(rt: HostRuntime) -> Result<(), Fail> {
     let op = Op::Add { cell: 0, amount: 1 };
     let spilled = words_of(rt.alloc(), op, RegSet::empty())?;
     assert_eq!(rt; spilled.len(), 8);
-    assert_eq!(rt; cell_after(rt.alloc(), &spilled, 7)?, 8);
+    assert_eq!(rt; cells_after(rt.alloc(), &spilled, &[7])?[0], 8);
     let short = words_of(rt.alloc(), op, two_registers()?)?;
     assert_eq!(rt; short.len(), 4);
-    assert_eq!(rt; cell_after(rt.alloc(), &short, 7)?, 8);
+    assert_eq!(rt; cells_after(rt.alloc(), &short, &[7])?[0], 8);
+    Ok(())
+}
+
+/// %g1, %g2 and the codes.
+fn registers_and_codes() -> Result<RegSet, Fail> {
+    Ok(two_registers()?.with(Part::Icc))
+}
+
+#[test]
+fn a_counter_carries(rt: HostRuntime) -> Result<(), Fail> {
+    let op = Op::Count { cell: 0 };
+    let spilled = words_of(rt.alloc(), op, RegSet::empty())?;
+    assert_eq!(rt; spilled.len(), 15);
+    assert_eq!(rt;
+        cells_after(rt.alloc(), &spilled, &[0, 4294967295])?,
+        [1, 0, 0, 0, 0]
+    );
+    let short = words_of(rt.alloc(), op, registers_and_codes()?)?;
+    assert_eq!(rt; short.len(), 7);
+    assert_eq!(rt;
+        cells_after(rt.alloc(), &short, &[0, 4294967295])?,
+        [1, 0, 0, 0, 0]
+    );
+    Ok(())
+}
+
+#[test]
+fn the_last_place_of_a_ring_is_next(rt: HostRuntime) -> Result<(), Fail> {
+    let op = Op::Log {
+        cell: 0,
+        bits: 2,
+        value: 9,
+    };
+    let words = words_of(rt.alloc(), op, RegSet::empty())?;
+    assert_eq!(rt; words.len(), 16);
+    assert_eq!(rt;
+        cells_after(rt.alloc(), &words, &[7, 1, 2, 3, 4])?,
+        [8, 1, 2, 3, 9]
+    );
     Ok(())
 }
 

@@ -3,12 +3,13 @@ use Rattle.std.proofs.Common.{◌≡◌, ℕ, zero, suc, ◌+◌, ◌*◌, ◌%�
 use Rattle.std.specs.Prelude.{nat_le, nat_lt}
 use Rattle.std.specs.List.{list_any}
 use Rattle.std.proofs.lemmas.Bool.{and_parts, and_from, leb-true, ltb-true, eqb-true, cond_both, ne_eqb}
-use Rattle.elf32_sparc.specs.Notes.{NoteSegment, NoteEdge, NoteRange, Notes, NoNotes, ◌>>=◌, note_at, note_that, kept, follows, is_cell, no_cell, cell_of, segments_at, blocks_at, edges_at, ranges_at, read_notes}
+use Rattle.elf32_sparc.specs.Notes.{NoteSegment, NoteEdge, NoteRange, Notes, NoNotes, ◌>>=◌, note_at, note_that, kept, follows, is_cell, is_counter, is_version, no_cell, cell_of, counter_width, last_tool, most_cells, segments_at, blocks_at, edges_at, ranges_at, read_notes}
 use Rattle.elf32_sparc.specs.Notes.{NoteHead as Head, block_count_at, head_of, tables_of}
 use Rattle.notes.specs.Rules.{is_segment, are_segments, are_blocks, is_free, is_edge, with_cell, are_edges, is_range, are_ranges, AreNotes}
 use Rattle.notes.specs.Parts.{segment_at, block_at, edge_at, range_at}
 use Rattle.notes.specs.Written.{cell_word}
 use Rattle.notes.proofs.TableRows.{segments-next, blocks-next, edges-next, ranges-next}
+use Rattle.notes.proofs.CellMarks.{counter_below, few_cells, has_width}
 use Rattle.notes.proofs.Whole.{in_parts}
 
 -- a reading that succeeds is a step that succeeds, and then the rest
@@ -108,59 +109,78 @@ ranges_kept blocks segments notes at end (suc count) rows h =
 abbrev pub Alike : ℕ → List ℕ → List ℕ → Type 0
 Alike cells words taken = (cell : ℕ) → cell < cells → list_any (λ other. other == cell) words ≡ list_any (λ other. other == cell) taken
 
-pub alike_more : (cells : ℕ) → cells ≤ 2 ^ 22 → (words taken : List ℕ) (cell : Option ℕ) → Alike cells words taken → Alike cells (cell_word cell ∷ words) (with_cell cell taken)
+pub alike_more : (cells : ℕ) → cells ≤ 2 ^ 23 → (words taken : List ℕ) (cell : Option ℕ) → Alike cells words taken → Alike cells (cell_word cell ∷ words) (with_cell cell taken)
 alike_more cells few words taken None alike = λ cell below. rw (ne_eqb no_cell cell (λ is. absurd (omega arith))) (alike cell below)
 alike_more cells few words taken (Some own) alike = λ cell below. ap (λ rest. (own == cell) || rest) (alike cell below)
 
--- a cell that isn't taken is free
-open_one : (cells : ℕ) (words taken : List ℕ) (word : ℕ) → Alike cells words taken → (nat_lt word cells && not (list_any (λ cell. cell == word) words)) ≡ true → is_free cells taken (Some word) ≡ true
-open_one cells words taken word alike h =
-    let parts = and_parts (nat_lt word cells) (not (list_any (λ cell. cell == word) words)) h in
-    let same = alike word (ltb-true word cells parts.0) in
-    and_from (nat_lt word cells) (not (list_any (λ other. other == word) taken)) parts.0 (sym (ap not same) ∙ parts.1)
+-- a counter whose cell isn't taken is free
+open_one : (width cells : ℕ) → 0 < width → (words taken : List ℕ) (word : ℕ) → Alike cells words taken
+    → (is_counter width cells word && not (list_any (λ cell. cell == word) words)) ≡ true → is_free width cells taken (Some word) ≡ true
+open_one width cells wide words taken word alike h =
+    let parts = and_parts (is_counter width cells word) (not (list_any (λ cell. cell == word) words)) h in
+    let same = alike word (counter_below width cells word wide parts.0) in
+    and_from (is_counter width cells word) (not (list_any (λ other. other == word) taken)) parts.0 (sym (ap not same) ∙ parts.1)
 
-free_cell : (cells : ℕ) (words taken : List ℕ) (word : ℕ) → Alike cells words taken → is_cell cells words word ≡ true → is_free cells taken (cell_of word) ≡ true
-free_cell cells words taken word alike h =
-    cond_both (word == no_cell) None (Some word) (λ cell. is_free cells taken cell ≡ true) (λ _. refl)
-    (λ differs. open_one cells words taken word alike (sym (ap (λ (b : Bool). b || (nat_lt word cells && not (list_any (λ cell. cell == word) words))) differs) ∙ h))
+free_cell : (width cells : ℕ) → 0 < width → (words taken : List ℕ) (word : ℕ) → Alike cells words taken
+    → is_cell width cells words word ≡ true → is_free width cells taken (cell_of word) ≡ true
+free_cell width cells wide words taken word alike h =
+    cond_both (word == no_cell) None (Some word) (λ cell. is_free width cells taken cell ≡ true) (λ _. refl)
+    (λ differs. open_one width cells wide words taken word alike
+    (sym (ap (λ (b : Bool). b || (is_counter width cells word && not (list_any (λ cell. cell == word) words))) differs) ∙ h))
 
-edge_rule : (blocks cells : ℕ) (words taken : List ℕ) (notes : List ℕ) (at : ℕ) (edge : NoteEdge) → Alike cells words taken → edge_at blocks (is_cell cells words) notes at ≡ Ok edge → is_edge blocks cells taken edge ≡ true
+edge_rule : (width blocks cells : ℕ) → 0 < width → (words taken : List ℕ) (notes : List ℕ) (at : ℕ) (edge : NoteEdge)
+    → Alike cells words taken → edge_at blocks (is_cell width cells words) notes at ≡ Ok edge
+    → is_edge width blocks cells taken edge ≡ true
 unfolding edge_at
-edge_rule blocks cells words taken notes at edge alike h =
+edge_rule width blocks cells wide words taken notes at edge alike h =
     let kind = parted (note_at notes at) _ edge h in
     let from = parted (note_at notes (at + 4)) _ edge kind.rest in
     let to = parted (note_at notes (at + 8)) _ edge from.rest in
     let cell = parted (note_at notes (at + 12)) _ edge to.rest in
     let found = met _ at _ edge cell.rest in
-    let parts = and_parts (nat_le kind.got 6 && nat_le from.got (2 * blocks) && nat_le to.got (2 * blocks)) (is_cell cells words cell.got) found.met in
-    subst (λ (e : NoteEdge). is_edge blocks cells taken e ≡ true) found.same
-    (and_from (nat_le kind.got 6 && nat_le from.got (2 * blocks) && nat_le to.got (2 * blocks)) (is_free cells taken (cell_of cell.got)) parts.0 (free_cell cells words taken cell.got alike parts.1))
+    let between = nat_le kind.got 6 && nat_le from.got (2 * blocks) && nat_le to.got (2 * blocks) in
+    let parts = and_parts between (is_cell width cells words cell.got) found.met in
+    subst (λ (e : NoteEdge). is_edge width blocks cells taken e ≡ true) found.same
+    (and_from between (is_free width cells taken (cell_of cell.got)) parts.0
+    (free_cell width cells wide words taken cell.got alike parts.1))
 
-pub edges_kept : (blocks cells : ℕ) → cells ≤ 2 ^ 22 → (notes : List ℕ) (at : ℕ) (words taken : List ℕ) → Alike cells words taken → (count : ℕ) (rows : List NoteEdge) → edges_at blocks cells notes at words count ≡ Ok rows → Rows (are_edges blocks cells taken rows) count rows
+pub edges_kept : (width blocks cells : ℕ) → 0 < width → cells ≤ 2 ^ 23 → (notes : List ℕ) (at : ℕ) (words taken : List ℕ)
+    → Alike cells words taken → (count : ℕ) (rows : List NoteEdge)
+    → edges_at width blocks cells notes at words count ≡ Ok rows → Rows (are_edges width blocks cells taken rows) count rows
 unfolding edges_at
-edges_kept blocks cells few notes at words taken alike zero rows h =
+edges_kept width blocks cells wide few notes at words taken alike zero rows h =
     let same : [] ≡ rows = cc h in
-    subst (λ (rs : List NoteEdge). Rows (are_edges blocks cells taken rs) zero rs) same (record { rule_met = refl; count_is = refl })
-edges_kept blocks cells few notes at words taken alike (suc count) rows h =
-    let first = parted (edge_at blocks (is_cell cells words) notes at) _ rows (sym (edges-next blocks cells notes at words count) ∙ h) in
-    let others = parted (edges_at blocks cells notes (at + 16) (cell_word first.got.cell ∷ words) count) _ rows first.rest in
-    let rest = edges_kept blocks cells few notes (at + 16) (cell_word first.got.cell ∷ words) (with_cell first.got.cell taken) (alike_more cells few words taken first.got.cell alike) count others.got others.is in
+    subst (λ (rs : List NoteEdge). Rows (are_edges width blocks cells taken rs) zero rs) same
+    (record { rule_met = refl; count_is = refl })
+edges_kept width blocks cells wide few notes at words taken alike (suc count) rows h =
+    let first = parted (edge_at blocks (is_cell width cells words) notes at) _ rows
+    (sym (edges-next width blocks cells notes at words count) ∙ h) in
+    let cell = first.got.cell in
+    let others = parted (edges_at width blocks cells notes (at + 16) (cell_word cell ∷ words) count) _ rows first.rest in
+    let rest = edges_kept width blocks cells wide few notes (at + 16) (cell_word cell ∷ words) (with_cell cell taken)
+    (alike_more cells few words taken cell alike) count others.got others.is in
     let same : first.got ∷ others.got ≡ rows = cc (others.rest) in
-    subst (λ (rs : List NoteEdge). Rows (are_edges blocks cells taken rs) (suc count) rs) same
-    (record { rule_met = and_from (is_edge blocks cells taken first.got) (are_edges blocks cells (with_cell first.got.cell taken) others.got) (edge_rule blocks cells words taken notes at first.got alike first.is) rest.rule_met; count_is = one_more first.got others.got count rest.count_is })
+    let rule = edge_rule width blocks cells wide words taken notes at first.got alike first.is in
+    subst (λ (rs : List NoteEdge). Rows (are_edges width blocks cells taken rs) (suc count) rs) same
+    (record {
+      rule_met = and_from (is_edge width blocks cells taken first.got) (are_edges width blocks cells (with_cell cell taken) others.got) rule rest.rule_met;
+      count_is = one_more first.got others.got count rest.count_is;
+    })
 
 -- the numbers before the tables
-pub record HeadKept (head : Head) : Type 0 where
+pub record HeadKept (version : ℕ) (head : Head) : Type 0 where
+  pub version_is : head.version ≡ version
   pub delta : 4096 ≤ head.delta
-  pub tool : head.tool ≤ 2
+  pub tool : head.tool ≤ last_tool version
   pub start : (head.start % 4 ≡ 0) × (0x1000 ≤ head.start)
   pub words : (1 ≤ head.words) × (head.words ≤ 2 ^ 20) × (head.start + 4 * head.words ≤ 0x80000000)
   pub base : (head.base % 4 ≡ 0) × (head.base + 4 * head.cells ≤ 2 ^ 32)
-  pub cells : head.cells ≤ 2 ^ 22
+  pub cells : head.cells ≤ most_cells version
   pub segments : head.segment_count ≤ 8
 
-abbrev head_with : (delta length tool start words entry base cells segment_count : ℕ) → Head
-head_with delta length tool start words entry base cells segment_count = record {
+abbrev head_with : (version delta length tool start words entry base cells segment_count : ℕ) → Head
+head_with version delta length tool start words entry base cells segment_count = record {
+  version = version;
   delta = delta;
   length = length;
   tool = tool;
@@ -178,60 +198,61 @@ ok x = Ok x
 ok_same : {A : Type 0} (x y : A) → ok x ≡ ok y → x ≡ y
 ok_same x y h = cc h
 
-head_from : (delta length tool start words entry base cells segment_count : ℕ) → nat_le 4096 delta ≡ true → nat_le tool 2 ≡ true → ((start % 4 == 0) && nat_le 0x1000 start) ≡ true
-    → (nat_le 1 words && nat_le words (2 ^ 20) && nat_le (start + 4 * words) 0x80000000) ≡ true → ((base % 4 == 0) && nat_le (base + 4 * cells) (2 ^ 32)) ≡ true → nat_le cells (2 ^ 22) ≡ true → nat_le segment_count 8 ≡ true
-    → HeadKept (head_with delta length tool start words entry base cells segment_count)
-head_from delta length tool start words entry base cells segment_count is_delta is_tool is_start is_words is_base is_cells is_segments =
+head_from : (version delta length tool start words entry base cells segment_count : ℕ) → nat_le 4096 delta ≡ true → nat_le tool (last_tool version) ≡ true → ((start % 4 == 0) && nat_le 0x1000 start) ≡ true
+    → (nat_le 1 words && nat_le words (2 ^ 20) && nat_le (start + 4 * words) 0x80000000) ≡ true → ((base % 4 == 0) && nat_le (base + 4 * cells) (2 ^ 32)) ≡ true → nat_le cells (most_cells version) ≡ true → nat_le segment_count 8 ≡ true
+    → HeadKept version (head_with version delta length tool start words entry base cells segment_count)
+head_from version delta length tool start words entry base cells segment_count is_delta is_tool is_start is_words is_base is_cells is_segments =
     let starts = and_parts (start % 4 == 0) (nat_le 0x1000 start) is_start in
     let texts = and_parts (nat_le 1 words && nat_le words (2 ^ 20)) (nat_le (start + 4 * words) 0x80000000) is_words in
     let counts = and_parts (nat_le 1 words) (nat_le words (2 ^ 20)) texts.0 in
     let bases = and_parts (base % 4 == 0) (nat_le (base + 4 * cells) (2 ^ 32)) is_base in
     record {
+      version_is = refl;
       delta = leb-true 4096 delta is_delta;
-      tool = leb-true tool 2 is_tool;
+      tool = leb-true tool (last_tool version) is_tool;
       start = (eqb-true (start % 4) 0 starts.0, leb-true 0x1000 start starts.1);
       words = (leb-true 1 words counts.0, leb-true words (2 ^ 20) counts.1, leb-true (start + 4 * words) 0x80000000 texts.1);
       base = (eqb-true (base % 4) 0 bases.0, leb-true (base + 4 * cells) (2 ^ 32) bases.1);
-      cells = leb-true cells (2 ^ 22) is_cells;
+      cells = leb-true cells (most_cells version) is_cells;
       segments = leb-true segment_count 8 is_segments;
     }
 
-head_is : (delta length tool start words entry base_read base cells_read cells segment_count : ℕ) (head : Head) → nat_le 4096 delta ≡ true → nat_le tool 2 ≡ true → ((start % 4 == 0) && nat_le 0x1000 start) ≡ true
-    → (nat_le 1 words && nat_le words (2 ^ 20) && nat_le (start + 4 * words) 0x80000000) ≡ true → Met ((base_read % 4 == 0) && nat_le (base_read + 4 * cells_read) (2 ^ 32)) base_read base → Met (nat_le cells_read (2 ^ 22)) cells_read cells → nat_le segment_count 8 ≡ true
-    → head_with delta length tool start words entry base cells segment_count ≡ head → HeadKept head
-head_is delta length tool start words entry base_read base cells_read cells segment_count head is_delta is_tool is_start is_words base_met cells_met is_segments h =
+head_is : (version delta length tool start words entry base_read base cells_read cells segment_count : ℕ) (head : Head) → nat_le 4096 delta ≡ true → nat_le tool (last_tool version) ≡ true → ((start % 4 == 0) && nat_le 0x1000 start) ≡ true
+    → (nat_le 1 words && nat_le words (2 ^ 20) && nat_le (start + 4 * words) 0x80000000) ≡ true → Met ((base_read % 4 == 0) && nat_le (base_read + 4 * cells_read) (2 ^ 32)) base_read base → Met (nat_le cells_read (most_cells version)) cells_read cells → nat_le segment_count 8 ≡ true
+    → head_with version delta length tool start words entry base cells segment_count ≡ head → HeadKept version head
+head_is version delta length tool start words entry base_read base cells_read cells segment_count head is_delta is_tool is_start is_words base_met cells_met is_segments h =
     let base_is : base_read ≡ base = base_met.same in
     let cells_is : cells_read ≡ cells = cells_met.same in
-    subst HeadKept h
-    (head_from delta length tool start words entry base cells segment_count is_delta is_tool is_start is_words
+    subst (HeadKept version) h
+    (head_from version delta length tool start words entry base cells segment_count is_delta is_tool is_start is_words
     (subst₂ (λ (b c : ℕ). ((b % 4 == 0) && nat_le (b + 4 * c) (2 ^ 32)) ≡ true) base_is cells_is base_met.met)
-    (subst (λ (c : ℕ). nat_le c (2 ^ 22) ≡ true) cells_is cells_met.met) is_segments)
+    (subst (λ (c : ℕ). nat_le c (most_cells version) ≡ true) cells_is cells_met.met) is_segments)
 
 -- what holds of each success of a step and then the rest
 step : {A B : Type 0} (P : B → Type 0) (m : Result A NoNotes) (f : A → Result B NoNotes) → ((x : A) → m ≡ Ok x → (y : B) → f x ≡ Ok y → P y) → (y : B) → (m >>= f) ≡ Ok y → P y
 step P (Ok x) f next y h = next x refl y h
 step P (Err e) f next y h = absurd (cc h)
 
-head_kept : (size : ℕ) (notes : List ℕ) (head : Head) → head_of size notes ≡ Ok head → HeadKept head
+head_kept : (version size : ℕ) (notes : List ℕ) (head : Head) → head_of version size notes ≡ Ok head → HeadKept version head
 unfolding head_of
-head_kept size notes =
-    step HeadKept (note_that (λ delta. nat_le 4096 delta) notes 0) _ (λ delta is_delta.
-    step HeadKept (note_that (λ length. nat_le (delta + length) size) notes 4) _ (λ length is_length.
-    step HeadKept (note_that (λ tool. nat_le tool 2) notes 8) _ (λ tool is_tool.
-    step HeadKept (note_that (λ start. (start % 4 == 0) && nat_le 0x1000 start) notes 12) _ (λ start is_start.
-    step HeadKept (note_that (λ words. nat_le 1 words && nat_le words (2 ^ 20) && nat_le (start + 4 * words) 0x80000000) notes 16) _ (λ words is_words.
-    step HeadKept (note_at notes 20) _ (λ entry is_entry.
-    step HeadKept (note_at notes 24) _ (λ base_read is_base_read.
-    step HeadKept (note_at notes 28) _ (λ cells_read is_cells_read.
-    step HeadKept (kept ((base_read % 4 == 0) && nat_le (base_read + 4 * cells_read) (2 ^ 32)) 24 base_read) _ (λ base is_base.
-    step HeadKept (kept (nat_le cells_read (2 ^ 22)) 28 cells_read) _ (λ cells is_cells.
-    step HeadKept (note_that (λ count. nat_le count 8) notes 32) _ (λ segments is_segments. λ head h.
-    head_is delta length tool start words entry base_read base cells_read cells segments head
-    (that (λ delta. nat_le 4096 delta) notes 0 delta is_delta) (that (λ tool. nat_le tool 2) notes 8 tool is_tool)
+head_kept version size notes =
+    step (HeadKept version) (note_that (λ delta. nat_le 4096 delta) notes 0) _ (λ delta is_delta.
+    step (HeadKept version) (note_that (λ length. nat_le (delta + length) size) notes 4) _ (λ length is_length.
+    step (HeadKept version) (note_that (λ tool. nat_le tool (last_tool version)) notes 8) _ (λ tool is_tool.
+    step (HeadKept version) (note_that (λ start. (start % 4 == 0) && nat_le 0x1000 start) notes 12) _ (λ start is_start.
+    step (HeadKept version) (note_that (λ words. nat_le 1 words && nat_le words (2 ^ 20) && nat_le (start + 4 * words) 0x80000000) notes 16) _ (λ words is_words.
+    step (HeadKept version) (note_at notes 20) _ (λ entry is_entry.
+    step (HeadKept version) (note_at notes 24) _ (λ base_read is_base_read.
+    step (HeadKept version) (note_at notes 28) _ (λ cells_read is_cells_read.
+    step (HeadKept version) (kept ((base_read % 4 == 0) && nat_le (base_read + 4 * cells_read) (2 ^ 32)) 24 base_read) _ (λ base is_base.
+    step (HeadKept version) (kept (nat_le cells_read (most_cells version)) 28 cells_read) _ (λ cells is_cells.
+    step (HeadKept version) (note_that (λ count. nat_le count 8) notes 32) _ (λ segments is_segments. λ head h.
+    head_is version delta length tool start words entry base_read base cells_read cells segments head
+    (that (λ delta. nat_le 4096 delta) notes 0 delta is_delta) (that (λ tool. nat_le tool (last_tool version)) notes 8 tool is_tool)
     (that (λ start. (start % 4 == 0) && nat_le 0x1000 start) notes 12 start is_start)
     (that (λ words. nat_le 1 words && nat_le words (2 ^ 20) && nat_le (start + 4 * words) 0x80000000) notes 16 words is_words)
     (met ((base_read % 4 == 0) && nat_le (base_read + 4 * cells_read) (2 ^ 32)) 24 base_read base is_base)
-    (met (nat_le cells_read (2 ^ 22)) 28 cells_read cells is_cells)
+    (met (nat_le cells_read (most_cells version)) 28 cells_read cells is_cells)
     (that (λ count. nat_le count 8) notes 32 segments is_segments) (ok_same _ head h))))))))))))
 
 count_kept : (entry words : ℕ) (notes : List ℕ) (at count : ℕ) → block_count_at entry words notes at ≡ Ok count → (entry < count) × (count ≤ words)
@@ -244,10 +265,11 @@ count_kept entry words notes at count h =
     let parts = and_parts (nat_le 1 read.got) (nat_le read.got words) found.met in
     subst (λ (n : ℕ). (entry < n) × (n ≤ words)) found.same (ltb-true entry read.got below_met.met, leb-true read.got words parts.1)
 
-notes_from : (head : Head) → HeadKept head → (segments : List NoteSegment) (blocks : List ℕ) (edges : List NoteEdge) (ranges : List NoteRange) (block_count edge_count range_count : ℕ) → Rows (are_segments 0 segments) head.segment_count segments
-    → (head.entry < block_count) × (block_count ≤ head.words) → Rows (are_blocks head.words None blocks) block_count blocks → nat_lt edge_count (2 ^ 24) ≡ true → Rows (are_edges block_count head.cells [] edges) edge_count edges
+notes_from : (version : ℕ) → is_version version ≡ true → (head : Head) → HeadKept version head → (segments : List NoteSegment) (blocks : List ℕ) (edges : List NoteEdge) (ranges : List NoteRange) (block_count edge_count range_count : ℕ) → Rows (are_segments 0 segments) head.segment_count segments
+    → (head.entry < block_count) × (block_count ≤ head.words) → Rows (are_blocks head.words None blocks) block_count blocks → nat_lt edge_count (2 ^ 24) ≡ true → Rows (are_edges (counter_width head.version) block_count head.cells [] edges) edge_count edges
     → nat_lt range_count (2 ^ 26) ≡ true → Rows (are_ranges block_count segments 0 ranges) range_count ranges
     → AreNotes (record {
+      version = head.version;
       delta = head.delta;
       length = head.length;
       tool = head.tool;
@@ -261,7 +283,7 @@ notes_from : (head : Head) → HeadKept head → (segments : List NoteSegment) (
       edges = edges;
       ranges = ranges;
     })
-notes_from head is segments blocks edges ranges block_count edge_count range_count segments_are counts blocks_are few_edges edges_are few_ranges ranges_are =
+notes_from version known head is segments blocks edges ranges block_count edge_count range_count segments_are counts blocks_are few_edges edges_are few_ranges ranges_are =
     let segment_few = is.segments in
     let segment_count = segments_are.count_is in
     let block_total = blocks_are.count_is in
@@ -272,13 +294,14 @@ notes_from head is segments blocks edges ranges block_count edge_count range_cou
     let few = ltb-true edge_count (2 ^ 24) few_edges in
     let fewer = ltb-true range_count (2 ^ 26) few_ranges in
     record {
+      version = rw is.version_is known;
       delta = is.delta;
-      tool = is.tool;
+      tool = rw is.version_is is.tool;
       start = is.start;
       words = is.words;
       entry = omega arith;
       base = is.base;
-      cells = is.cells;
+      cells = rw is.version_is is.cells;
       segment_count = omega arith;
       segments = segments_are.rule_met;
       block_count = omega arith;
@@ -289,31 +312,32 @@ notes_from head is segments blocks edges ranges block_count edge_count range_cou
       ranges = rw block_total ranges_are.rule_met;
     }
 
-tables_kept : (notes : List ℕ) (head : Head) (read : Notes) → HeadKept head → tables_of notes head ≡ Ok read → AreNotes read
+tables_kept : (version : ℕ) → is_version version ≡ true → (notes : List ℕ) (head : Head) (read : Notes) → HeadKept version head → tables_of notes head ≡ Ok read → AreNotes read
 unfolding tables_of
-tables_kept notes head read is h =
+tables_kept version known notes head read is h =
     let segments = parted (segments_at notes 36 0 head.segment_count) _ read h in
     let blocks_place = 36 + 8 * head.segment_count in
     let block_count = parted (block_count_at head.entry head.words notes blocks_place) _ read segments.rest in
     let blocks = parted (blocks_at head.words notes (blocks_place + 4) None block_count.got) _ read block_count.rest in
     let edges_place = blocks_place + 4 + 4 * block_count.got in
     let edge_count = parted (note_that (λ count. nat_lt count (2 ^ 24)) notes edges_place) _ read blocks.rest in
-    let edges = parted (edges_at block_count.got head.cells notes (edges_place + 4) [] edge_count.got) _ read edge_count.rest in
+    let edges = parted (edges_at (counter_width head.version) block_count.got head.cells notes (edges_place + 4) [] edge_count.got) _ read edge_count.rest in
     let ranges_place = edges_place + 4 + 16 * edge_count.got in
     let range_count = parted (note_that (λ count. nat_lt count (2 ^ 26)) notes ranges_place) _ read edges.rest in
     let ranges = parted (ranges_at block_count.got segments.got notes (ranges_place + 4) 0 range_count.got) _ read range_count.rest in
     let found = met _ _ _ read ranges.rest in
     subst AreNotes found.same
-    (notes_from head is segments.got blocks.got edges.got ranges.got block_count.got edge_count.got range_count.got
+    (notes_from version known head is segments.got blocks.got edges.got ranges.got block_count.got edge_count.got range_count.got
     (segments_kept notes 36 0 head.segment_count segments.got segments.is)
     (count_kept head.entry head.words notes blocks_place block_count.got block_count.is)
     (blocks_kept head.words notes (blocks_place + 4) None block_count.got blocks.got blocks.is)
     (that _ notes edges_place edge_count.got edge_count.is)
-    (edges_kept block_count.got head.cells is.cells notes (edges_place + 4) [] [] (λ cell below. refl) edge_count.got edges.got edges.is)
+    (edges_kept (counter_width head.version) block_count.got head.cells (has_width head.version) (few_cells version head.cells is.cells) notes (edges_place + 4) [] [] (λ cell below. refl) edge_count.got edges.got edges.is)
     (that _ notes ranges_place range_count.got range_count.is)
     (ranges_kept block_count.got segments.got notes (ranges_place + 4) 0 range_count.got ranges.got ranges.is))
 
-pub read_kept : (size : ℕ) (bytes : List ℕ) (notes : Notes) → read_notes size bytes ≡ Ok notes → AreNotes notes
-read_kept size bytes notes h =
-    let head = parted (head_of size bytes) (tables_of bytes) notes (sym (in_parts size bytes) ∙ h) in
-    tables_kept bytes head.got notes (head_kept size bytes head.got head.is) head.rest
+pub read_kept : (version size : ℕ) (bytes : List ℕ) (notes : Notes) → is_version version ≡ true
+    → read_notes version size bytes ≡ Ok notes → AreNotes notes
+read_kept version size bytes notes known h =
+    let head = parted (head_of version size bytes) (tables_of bytes) notes (sym (in_parts version size bytes) ∙ h) in
+    tables_kept version known bytes head.got notes (head_kept version size bytes head.got head.is) head.rest

@@ -2,14 +2,15 @@
 use Rattle.std.proofs.Common.{◌≡◌, ℕ, ◌+◌, ◌*◌, ◌%◌, ◌<◌, ◌≤◌, ◌^◌, true, not, ◌&&◌, ◌==◌, List, [], ◌∷◌, ◌++◌, length, Option, Some, None, Ok, refl, ap, ◌∙◌, arith}
 use Rattle.std.specs.Prelude.{nat_le, nat_lt}
 use Rattle.std.specs.List.{flat_map, list_any, All}
-use Rattle.std.proofs.lemmas.Bool.{and_parts, and_from, or_right, le-leb, lt-ltb, eq-eqb, ltb-true, ne_eqb}
+use Rattle.std.proofs.lemmas.Bool.{and_parts, and_from, or_right, le-leb, lt-ltb, eq-eqb, ne_eqb}
 use Rattle.std.proofs.lemmas.List.{length-append}
 use Rattle.byteorder.specs.Endian.{big_bytes}
 use Rattle.byteorder.specs.Numbers.{length-bytes_high_first}
-use Rattle.elf32_sparc.specs.Notes.{NoteSegment, NoteEdge, NoteRange, Notes, note_at, follows, no_cell, cell_of, is_cell, byte_count, segments_at, blocks_at, edges_at, ranges_at, read_notes}
+use Rattle.elf32_sparc.specs.Notes.{NoteSegment, NoteEdge, NoteRange, Notes, note_at, follows, no_cell, cell_of, is_cell, is_counter, counter_width, last_tool, most_cells, byte_count, segments_at, blocks_at, edges_at, ranges_at, read_notes}
 use Rattle.elf32_sparc.specs.Notes.{NoteHead as Head, block_count_at, head_of, tables_of}
 use Rattle.notes.specs.Rules.{AreNotes, is_segment, are_segments, are_blocks, is_free, is_edge, with_cell, are_edges, is_range, are_ranges}
 use Rattle.notes.specs.Written.{words_bytes, cell_word, segment_words, edge_words, range_words, notes_words, notes_bytes}
+use Rattle.notes.proofs.CellMarks.{counter_below, few_cells, has_width}
 use Rattle.notes.proofs.Kept.{Alike, alike_more}
 use Rattle.notes.proofs.Whole.{in_parts}
 use Rattle.notes.proofs.WordsRead.{HasWords, move, both, has_words}
@@ -40,34 +41,44 @@ ranges_back blocks segments notes at end (row ∷ rows) has rule =
     let rest = ranges_back blocks segments notes (at + 16) row.hi rows (move notes (flat_map range_words rows) (at + 12 + 4) (at + 16) (omega arith) third.1) parts.1 in
     rw (has.0, has.1.0, second.0, third.0, parts.0, rest) refl
 
--- a free cell's word is no cell's, or stands for one that isn't taken
-free_word : (cells : ℕ) (words taken : List ℕ) (cell : Option ℕ) → Alike cells words taken → is_free cells taken cell ≡ true → is_cell cells words (cell_word cell) ≡ true
-free_word cells words taken None alike free = refl
-free_word cells words taken (Some cell) alike free =
-    let parts = and_parts (nat_lt cell cells) (not (list_any (λ other. other == cell) taken)) free in
-    let same = alike cell (ltb-true cell cells parts.0) in
-    or_right (cell == no_cell) (nat_lt cell cells && not (list_any (λ other. other == cell) words))
-    (and_from (nat_lt cell cells) (not (list_any (λ other. other == cell) words)) parts.0 (ap not same ∙ parts.1))
+-- a free cell's word is no cell's, or stands for a counter that isn't taken
+free_word : (width cells : ℕ) → 0 < width → (words taken : List ℕ) (cell : Option ℕ) → Alike cells words taken
+    → is_free width cells taken cell ≡ true → is_cell width cells words (cell_word cell) ≡ true
+free_word width cells wide words taken None alike free = refl
+free_word width cells wide words taken (Some cell) alike free =
+    let parts = and_parts (is_counter width cells cell) (not (list_any (λ other. other == cell) taken)) free in
+    let same = alike cell (counter_below width cells cell wide parts.0) in
+    or_right (cell == no_cell) (is_counter width cells cell && not (list_any (λ other. other == cell) words))
+    (and_from (is_counter width cells cell) (not (list_any (λ other. other == cell) words)) parts.0 (ap not same ∙ parts.1))
 
 -- and the word gives the cell again
-word_cell : (cells : ℕ) (taken : List ℕ) (cell : Option ℕ) → cells ≤ 2 ^ 22 → is_free cells taken cell ≡ true → cell_of (cell_word cell) ≡ cell
-word_cell cells taken None few free = refl
-word_cell cells taken (Some cell) few free =
-    let parts = and_parts (nat_lt cell cells) (not (list_any (λ other. other == cell) taken)) free in
-    let below = ltb-true cell cells parts.0 in
+word_cell : (width cells : ℕ) → 0 < width → (taken : List ℕ) (cell : Option ℕ) → cells ≤ 2 ^ 23
+    → is_free width cells taken cell ≡ true → cell_of (cell_word cell) ≡ cell
+word_cell width cells wide taken None few free = refl
+word_cell width cells wide taken (Some cell) few free =
+    let parts = and_parts (is_counter width cells cell) (not (list_any (λ other. other == cell) taken)) free in
+    let below = counter_below width cells cell wide parts.0 in
     rw (ne_eqb cell no_cell (λ is. absurd (omega arith))) refl
 
-pub edges_back : (blocks cells : ℕ) → cells ≤ 2 ^ 22 → (notes : List ℕ) (at : ℕ) (words taken : List ℕ) → Alike cells words taken → (rows : List NoteEdge) → HasWords notes at (flat_map edge_words rows) → are_edges blocks cells taken rows ≡ true → edges_at blocks cells notes at words (length rows) ≡ Ok rows
+pub edges_back : (width blocks cells : ℕ) → 0 < width → cells ≤ 2 ^ 23 → (notes : List ℕ) (at : ℕ) (words taken : List ℕ)
+    → Alike cells words taken → (rows : List NoteEdge) → HasWords notes at (flat_map edge_words rows)
+    → are_edges width blocks cells taken rows ≡ true → edges_at width blocks cells notes at words (length rows) ≡ Ok rows
 unfolding edges_at
-edges_back blocks cells few notes at words taken alike [] has rule = refl
-edges_back blocks cells few notes at words taken alike (row ∷ rows) has rule =
-    let parts = and_parts (is_edge blocks cells taken row) (are_edges blocks cells (with_cell row.cell taken) rows) rule in
-    let own = and_parts (nat_le row.kind 6 && nat_le row.from (2 * blocks) && nat_le row.to (2 * blocks)) (is_free cells taken row.cell) parts.0 in
-    let judged = and_from (nat_le row.kind 6 && nat_le row.from (2 * blocks) && nat_le row.to (2 * blocks)) (is_cell cells words (cell_word row.cell)) own.0 (free_word cells words taken row.cell alike own.1) in
+edges_back width blocks cells wide few notes at words taken alike [] has rule = refl
+edges_back width blocks cells wide few notes at words taken alike (row ∷ rows) has rule =
+    let parts = and_parts (is_edge width blocks cells taken row) (are_edges width blocks cells (with_cell row.cell taken) rows) rule in
+    let between = nat_le row.kind 6 && nat_le row.from (2 * blocks) && nat_le row.to (2 * blocks) in
+    let own = and_parts between (is_free width cells taken row.cell) parts.0 in
+    let judged = and_from between (is_cell width cells words (cell_word row.cell)) own.0
+    (free_word width cells wide words taken row.cell alike own.1) in
     let second = move notes (row.to ∷ cell_word row.cell ∷ flat_map edge_words rows) (at + 4 + 4) (at + 8) (omega arith) has.1.1 in
     let third = move notes (cell_word row.cell ∷ flat_map edge_words rows) (at + 8 + 4) (at + 12) (omega arith) second.1 in
-    let rest = edges_back blocks cells few notes (at + 16) (cell_word row.cell ∷ words) (with_cell row.cell taken) (alike_more cells few words taken row.cell alike) rows (move notes (flat_map edge_words rows) (at + 12 + 4) (at + 16) (omega arith) third.1) parts.1 in
-    rw (has.0, has.1.0, second.0, third.0, judged, rest) (ap (λ (cell : Option ℕ). Ok (record { kind = row.kind; from = row.from; to = row.to; cell = cell } ∷ rows)) (word_cell cells taken row.cell few own.1))
+    let rest = edges_back width blocks cells wide few notes (at + 16) (cell_word row.cell ∷ words) (with_cell row.cell taken)
+    (alike_more cells few words taken row.cell alike) rows
+    (move notes (flat_map edge_words rows) (at + 12 + 4) (at + 16) (omega arith) third.1) parts.1 in
+    rw (has.0, has.1.0, second.0, third.0, judged, rest)
+    (ap (λ (cell : Option ℕ). Ok (record { kind = row.kind; from = row.from; to = row.to; cell = cell } ∷ rows))
+    (word_cell width cells wide taken row.cell few own.1))
 
 -- The words that a reading comes by.
 pub record Found (bytes : List ℕ) (n : Notes) : Type 0 where
@@ -89,7 +100,8 @@ pub record Found (bytes : List ℕ) (n : Notes) : Type 0 where
   pub ranges : HasWords bytes (36 + 8 * length n.segments + 4 + 4 * length n.blocks + 4 + 16 * length n.edges + 4) (flat_map range_words n.ranges)
   pub size : byte_count bytes ≡ 36 + 8 * length n.segments + 4 + 4 * length n.blocks + 4 + 16 * length n.edges + 4 + 16 * length n.ranges
 
-head_back : (size : ℕ) (bytes : List ℕ) (n : Notes) → Found bytes n → AreNotes n → n.delta + n.length ≤ size → head_of size bytes ≡ Ok (record {
+head_back : (size : ℕ) (bytes : List ℕ) (n : Notes) → Found bytes n → AreNotes n → n.delta + n.length ≤ size → head_of n.version size bytes ≡ Ok (record {
+  version = n.version;
   delta = n.delta;
   length = n.length;
   tool = n.tool;
@@ -105,7 +117,7 @@ head_back size bytes n found are inside =
     let starts = are.start in
     let texts = are.words in
     let bases = are.base in
-    rw (found.delta, le-leb 4096 n.delta are.delta, found.length_is, le-leb (n.delta + n.length) size inside, found.tool, le-leb n.tool 2 are.tool, found.start, eq-eqb (n.start % 4) 0 starts.0, le-leb 0x1000 n.start starts.1, found.words, le-leb 1 n.words texts.0, le-leb n.words (2 ^ 20) texts.1, le-leb (n.start + 4 * n.words) 0x80000000 texts.2, found.entry, found.base, found.cells, eq-eqb (n.base % 4) 0 bases.0, le-leb (n.base + 4 * n.cells) (2 ^ 32) bases.1, le-leb n.cells (2 ^ 22) are.cells, found.segment_count, le-leb (length n.segments) 8 are.segment_count) refl
+    rw (found.delta, le-leb 4096 n.delta are.delta, found.length_is, le-leb (n.delta + n.length) size inside, found.tool, le-leb n.tool (last_tool n.version) are.tool, found.start, eq-eqb (n.start % 4) 0 starts.0, le-leb 0x1000 n.start starts.1, found.words, le-leb 1 n.words texts.0, le-leb n.words (2 ^ 20) texts.1, le-leb (n.start + 4 * n.words) 0x80000000 texts.2, found.entry, found.base, found.cells, eq-eqb (n.base % 4) 0 bases.0, le-leb (n.base + 4 * n.cells) (2 ^ 32) bases.1, le-leb n.cells (most_cells n.version) are.cells, found.segment_count, le-leb (length n.segments) 8 are.segment_count) refl
 
 count_back : (entry words : ℕ) (bytes : List ℕ) (at count : ℕ) → note_at bytes at ≡ Ok count → entry < count → count ≤ words → block_count_at entry words bytes at ≡ Ok count
 unfolding block_count_at
@@ -113,6 +125,7 @@ count_back entry words bytes at count is entered held =
     rw (is, lt-ltb entry count entered, le-leb 1 count (omega arith), le-leb count words held) refl
 
 tables_back : (bytes : List ℕ) (n : Notes) → Found bytes n → AreNotes n → (head : Head) → head ≡ record {
+  version = n.version;
   delta = n.delta;
   length = n.length;
   tool = n.tool;
@@ -132,16 +145,16 @@ tables_back bytes n found are head same =
       blocks_back n.words bytes (36 + 8 * length n.segments + 4) None n.blocks found.blocks are.blocks,
       found.edge_count,
       lt-ltb (length n.edges) (2 ^ 24) are.edge_count,
-      edges_back (length n.blocks) n.cells are.cells bytes (36 + 8 * length n.segments + 4 + 4 * length n.blocks + 4) [] [] (λ cell below. refl) n.edges found.edges are.edges,
+      edges_back (counter_width n.version) (length n.blocks) n.cells (has_width n.version) (few_cells n.version n.cells are.cells) bytes (36 + 8 * length n.segments + 4 + 4 * length n.blocks + 4) [] [] (λ cell below. refl) n.edges found.edges are.edges,
       found.range_count,
       lt-ltb (length n.ranges) (2 ^ 26) are.range_count,
       ranges_back (length n.blocks) n.segments bytes (36 + 8 * length n.segments + 4 + 4 * length n.blocks + 4 + 16 * length n.edges + 4) 0 n.ranges found.ranges are.ranges,
       eq-eqb (byte_count bytes) (36 + 8 * length n.segments + 4 + 4 * length n.blocks + 4 + 16 * length n.edges + 4 + 16 * length n.ranges) found.size,
     ) refl
 
-pub read_back : (n : Notes) (size : ℕ) (bytes : List ℕ) → Found bytes n → AreNotes n → n.delta + n.length ≤ size → read_notes size bytes ≡ Ok n
+pub read_back : (n : Notes) (size : ℕ) (bytes : List ℕ) → Found bytes n → AreNotes n → n.delta + n.length ≤ size → read_notes n.version size bytes ≡ Ok n
 read_back n size bytes found are inside =
-    in_parts size bytes ∙ rw (head_back size bytes n found are inside) (tables_back bytes n found are _ refl)
+    in_parts n.version size bytes ∙ rw (head_back size bytes n found are inside) (tables_back bytes n found are _ refl)
 
 -- each row has so many words
 rows_long : {X : Type 0} (words : X → List ℕ) (n : ℕ) → ((x : X) → length (words x) ≡ n) → (rows : List X) → length (flat_map words rows) ≡ n * length rows
@@ -199,7 +212,7 @@ found_in n bytes has whole =
       size = omega arith;
     }
 
-pub written_back : (n : Notes) (size : ℕ) → AreNotes n → All (λ word. word < 2 ^ 32) (notes_words n) → n.delta + n.length ≤ size → read_notes size (notes_bytes n) ≡ Ok n
+pub written_back : (n : Notes) (size : ℕ) → AreNotes n → All (λ word. word < 2 ^ 32) (notes_words n) → n.delta + n.length ≤ size → read_notes n.version size (notes_bytes n) ≡ Ok n
 unfolding notes_bytes
 written_back n size are fits inside =
     read_back n size (words_bytes (notes_words n)) (found_in n (words_bytes (notes_words n)) (has_words [] (notes_words n) fits) (words_long (notes_words n))) are inside

@@ -1,9 +1,9 @@
 -- Steps of a reading, one after the other.
 use Rattle.std.proofs.Common.{◌≡◌, ℕ, Bool, true, false, List, [], ◌∷◌, ◌++◌, ◌||◌, map, Result, Ok, Err, if◌then◌else◌, refl, ap, sym, subst, append_assoc}
-use Rattle.std.specs.Result.{IsErrAnd}
+use Rattle.std.specs.Result.{IfErr, IsErrAnd}
 use Rattle.std.specs.List.{list_any}
 use Rattle.elf32_sparc.specs.Notes.{NoNotes, Bad, ◌>>=◌, kept}
-use Rattle.notes.specs.Seen.{IsFault, Answers}
+use Rattle.notes.specs.Seen.{IsFault, Answers, WantsMemoryIf}
 use Rattle.notes.specs.declared.note.NotesFault.{NotesFault}
 use Rattle.notes.specs.declared.note.NotesFault.TheVariants as faults
 
@@ -52,3 +52,21 @@ fault_out seen (Err other) fault read is says = subst (λ (e : NotesFault). IsFa
 pub any_map : {X Y : Type 0} (test : Y → Bool) (f : X → Y) (xs : List X) → list_any test (map f xs) ≡ list_any (λ x. test (f x)) xs
 any_map test f [] = refl
 any_map test f (x ∷ xs) = ap (λ b. test (f x) || b) (any_map test f xs)
+
+-- memory that is wanting only where one thing holds is wanting only where another does
+pub wanting_out : {A : Type 0} (held holds : Type 0) (result : Result A NotesFault) (fault : NotesFault)
+    → IsErrAnd result (λ other. other ≡ fault) → WantsMemoryIf held fault → (held → holds) → IfErr result (WantsMemoryIf holds)
+wanting_out held holds (Ok x) fault is wants so = tt
+wanting_out held holds (Err other) fault is wants so = subst (WantsMemoryIf holds) (sym is) (more fault wants)
+  where
+    more : (fault : NotesFault) → WantsMemoryIf held fault → WantsMemoryIf holds fault
+    more faults.Absent wants = tt
+    more (faults.Bad at) wants = tt
+    more faults.NoMemory wants = so wants
+
+-- memory may be wanting where it holds
+pub wanting_held : {A : Type 0} (holds : Type 0) (result : Result A NotesFault) → holds → IfErr result (WantsMemoryIf holds)
+wanting_held holds (Ok x) is = tt
+wanting_held holds (Err faults.Absent) is = tt
+wanting_held holds (Err (faults.Bad at)) is = tt
+wanting_held holds (Err faults.NoMemory) is = is

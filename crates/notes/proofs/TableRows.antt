@@ -90,29 +90,29 @@ pub ranges-none : (rows : List NoteRange) (blocks : ℕ) (segments : List NoteSe
 unfolding ranges_at
 ranges-none rows blocks segments notes at end = ap Ok (append-nil rows)
 
-pub edges-next : (blocks cells : ℕ) (notes : List ℕ) (at : ℕ) (taken : List ℕ) (count : ℕ)
-    → edges_at blocks cells notes at taken (suc count) ≡ (edge_at blocks (is_cell cells taken) notes at >>= (λ edge. edges_at blocks cells notes (at + 16) (cell_word edge.cell ∷ taken) count >>= (λ others. Ok (edge ∷ others))))
+pub edges-next : (width blocks cells : ℕ) (notes : List ℕ) (at : ℕ) (taken : List ℕ) (count : ℕ)
+    → edges_at width blocks cells notes at taken (suc count) ≡ (edge_at blocks (is_cell width cells taken) notes at >>= (λ edge. edges_at width blocks cells notes (at + 16) (cell_word edge.cell ∷ taken) count >>= (λ others. Ok (edge ∷ others))))
 unfolding edges_at edge_at
-edges-next blocks cells notes at taken count = simp (bind_assoc, kept_then, cell_word-of)
+edges-next width blocks cells notes at taken count = simp (bind_assoc, kept_then, cell_word-of)
 
-pub edges-row : (rows : List NoteEdge) (blocks cells : ℕ) (notes : List ℕ) (at : ℕ) (taken : List ℕ) (count row : ℕ) → row < count
-    → after rows (edges_at blocks cells notes (at + 16 * row) taken (count - row)) ≡ (edge_at blocks (is_cell cells taken) notes (at + 16 * row) >>= (λ edge. after (rows ++ edge ∷ []) (edges_at blocks cells notes (at + 16 * (row + 1)) (cell_word edge.cell ∷ taken) (count - (row + 1)))))
-edges-row rows blocks cells notes at taken count row below =
-    rw (one-more count row below, edges-next blocks cells notes (at + 16 * row) taken (count - (row + 1)), next-place at 16 row) (after_next rows (edge_at blocks (is_cell cells taken) notes (at + 16 * row)) (λ edge. edges_at blocks cells notes (at + 16 * (row + 1)) (cell_word edge.cell ∷ taken) (count - (row + 1))))
+pub edges-row : (rows : List NoteEdge) (width blocks cells : ℕ) (notes : List ℕ) (at : ℕ) (taken : List ℕ) (count row : ℕ) → row < count
+    → after rows (edges_at width blocks cells notes (at + 16 * row) taken (count - row)) ≡ (edge_at blocks (is_cell width cells taken) notes (at + 16 * row) >>= (λ edge. after (rows ++ edge ∷ []) (edges_at width blocks cells notes (at + 16 * (row + 1)) (cell_word edge.cell ∷ taken) (count - (row + 1)))))
+edges-row rows width blocks cells notes at taken count row below =
+    rw (one-more count row below, edges-next width blocks cells notes (at + 16 * row) taken (count - (row + 1)), next-place at 16 row) (after_next rows (edge_at blocks (is_cell width cells taken) notes (at + 16 * row)) (λ edge. edges_at width blocks cells notes (at + 16 * (row + 1)) (cell_word edge.cell ∷ taken) (count - (row + 1))))
 
 -- What was read of the edges, with the marks of their cells, and what is left.
-pub record EdgesRead (blocks cells : ℕ) (notes : List ℕ) (at count row : ℕ) (rows : List NoteEdge) (marks : List Bool) (whole : Result (List NoteEdge) NoNotes) : Type 0 where
+pub record EdgesRead (width blocks cells : ℕ) (notes : List ℕ) (at count row : ℕ) (rows : List NoteEdge) (marks : List Bool) (whole : Result (List NoteEdge) NoNotes) : Type 0 where
   pub taken : List ℕ
   pub size : length marks ≡ cells
   pub marked : AreMarks marks taken
-  pub so_far : whole ≡ after rows (edges_at blocks cells notes (at + 16 * row) taken (count - row))
+  pub so_far : whole ≡ after rows (edges_at width blocks cells notes (at + 16 * row) taken (count - row))
 
-pub edges-none-read : (blocks cells : ℕ) (notes : List ℕ) (at count : ℕ) → EdgesRead blocks cells notes at count 0 [] (replicate cells false) (edges_at blocks cells notes at [] count)
-edges-none-read blocks cells notes at count = record {
+pub edges-none-read : (width blocks cells : ℕ) (notes : List ℕ) (at count : ℕ) → EdgesRead width blocks cells notes at count 0 [] (replicate cells false) (edges_at width blocks cells notes at [] count)
+edges-none-read width blocks cells notes at count = record {
   taken = [];
   size = length-replicate cells false;
   marked = none_marked cells;
-  so_far = sym (rw (zero-place at, zero-rows count) (after_none (edges_at blocks cells notes at [] count)));
+  so_far = sym (rw (zero-place at, zero-rows count) (after_none (edges_at width blocks cells notes at [] count)));
 }
   where
     zero-place : (at : ℕ) → at + 16 * 0 ≡ at
@@ -122,24 +122,24 @@ edges-none-read blocks cells notes at count = record {
     zero-rows count = omega arith
 
 -- an edge by its marks, and by the cells that they mark
-edge-same : (blocks cells : ℕ) (notes : List ℕ) (at : ℕ) (marks : List Bool) (taken : List ℕ) → length marks ≡ cells → AreMarks marks taken → edge_at blocks (is_open marks) notes at ≡ edge_at blocks (is_cell cells taken) notes at
-edge-same blocks cells notes at marks taken size marked = ap (λ (test : ℕ → Bool). edge_at blocks test notes at) (λ i word. open_cell cells marks taken size marked word i)
+edge-same : (width blocks cells : ℕ) (notes : List ℕ) (at : ℕ) (marks : List Bool) (taken : List ℕ) → 0 < width → length marks ≡ cells → AreMarks marks taken → edge_at blocks (is_open width marks) notes at ≡ edge_at blocks (is_cell width cells taken) notes at
+edge-same width blocks cells notes at marks taken wide size marked = ap (λ (test : ℕ → Bool). edge_at blocks test notes at) (λ i word. open_cell width cells marks taken wide size marked word i)
 
-pub edges-more : (blocks cells : ℕ) (notes : List ℕ) (at count row : ℕ) (rows : List NoteEdge) (marks : List Bool) (whole : Result (List NoteEdge) NoNotes) (edge : NoteEdge) → cells ≤ 2 ^ 22 → row < count → edge_at blocks (is_open marks) notes (at + 16 * row) ≡ Ok edge
-    → EdgesRead blocks cells notes at count row rows marks whole → EdgesRead blocks cells notes at count (row + 1) (rows ++ edge ∷ []) (with_mark edge.cell marks) whole
-edges-more blocks cells notes at count row rows marks whole edge few below is read = record {
+pub edges-more : (width blocks cells : ℕ) (notes : List ℕ) (at count row : ℕ) (rows : List NoteEdge) (marks : List Bool) (whole : Result (List NoteEdge) NoNotes) (edge : NoteEdge) → 0 < width → cells ≤ 2 ^ 23 → row < count → edge_at blocks (is_open width marks) notes (at + 16 * row) ≡ Ok edge
+    → EdgesRead width blocks cells notes at count row rows marks whole → EdgesRead width blocks cells notes at count (row + 1) (rows ++ edge ∷ []) (with_mark edge.cell marks) whole
+edges-more width blocks cells notes at count row rows marks whole edge wide few below is read = record {
   taken = cell_word edge.cell ∷ read.taken;
   size = marks_long edge.cell marks ∙ read.size;
-  marked = marked_more edge.cell marks read.taken (subst (λ (n : ℕ). n ≤ 2 ^ 22) (sym read.size) few) read.marked;
-  so_far = read.so_far ∙ edges-row rows blocks cells notes at read.taken count row below ∙ rw (sym (edge-same blocks cells notes (at + 16 * row) marks read.taken read.size read.marked) ∙ is) refl;
+  marked = marked_more edge.cell marks read.taken (subst (λ (n : ℕ). n ≤ 2 ^ 23) (sym read.size) few) read.marked;
+  so_far = read.so_far ∙ edges-row rows width blocks cells notes at read.taken count row below ∙ rw (sym (edge-same width blocks cells notes (at + 16 * row) marks read.taken wide read.size read.marked) ∙ is) refl;
 }
 
-pub edges-fault : (fault : NotesFault) (blocks cells : ℕ) (notes : List ℕ) (at count row : ℕ) (rows : List NoteEdge) (marks : List Bool) (whole : Result (List NoteEdge) NoNotes) → row < count → IsFault fault (edge_at blocks (is_open marks) notes (at + 16 * row))
-    → EdgesRead blocks cells notes at count row rows marks whole → IsFault fault whole
-edges-fault fault blocks cells notes at count row rows marks whole below is read =
-    let judged = subst (IsFault fault) (edge-same blocks cells notes (at + 16 * row) marks read.taken read.size read.marked) is in
-    subst (IsFault fault) (sym (read.so_far ∙ edges-row rows blocks cells notes at read.taken count row below)) (through fault (edge_at blocks (is_cell cells read.taken) notes (at + 16 * row)) _ judged)
+pub edges-fault : (fault : NotesFault) (width blocks cells : ℕ) (notes : List ℕ) (at count row : ℕ) (rows : List NoteEdge) (marks : List Bool) (whole : Result (List NoteEdge) NoNotes) → 0 < width → row < count → IsFault fault (edge_at blocks (is_open width marks) notes (at + 16 * row))
+    → EdgesRead width blocks cells notes at count row rows marks whole → IsFault fault whole
+edges-fault fault width blocks cells notes at count row rows marks whole wide below is read =
+    let judged = subst (IsFault fault) (edge-same width blocks cells notes (at + 16 * row) marks read.taken wide read.size read.marked) is in
+    subst (IsFault fault) (sym (read.so_far ∙ edges-row rows width blocks cells notes at read.taken count row below)) (through fault (edge_at blocks (is_cell width cells read.taken) notes (at + 16 * row)) _ judged)
 
-pub edges-none : (rows : List NoteEdge) (blocks cells : ℕ) (notes : List ℕ) (at : ℕ) (taken : List ℕ) → after rows (edges_at blocks cells notes at taken 0) ≡ Ok rows
+pub edges-none : (rows : List NoteEdge) (width blocks cells : ℕ) (notes : List ℕ) (at : ℕ) (taken : List ℕ) → after rows (edges_at width blocks cells notes at taken 0) ≡ Ok rows
 unfolding edges_at
-edges-none rows blocks cells notes at taken = ap Ok (append-nil rows)
+edges-none rows width blocks cells notes at taken = ap Ok (append-nil rows)

@@ -2,6 +2,6 @@
 use Rattle.std.proofs.Common.{◌≡◌, ℕ, List, refl}
 use Rattle.elf32_sparc.specs.Notes.{◌>>=◌, head_of, read_notes, tables_of}
 
-pub in_parts : (size : ℕ) (notes : List ℕ) → read_notes size notes ≡ (head_of size notes >>= tables_of notes)
+pub in_parts : (version size : ℕ) (notes : List ℕ) → read_notes version size notes ≡ (head_of version size notes >>= tables_of notes)
 unfolding read_notes
-in_parts size notes = refl
+in_parts version size notes = refl

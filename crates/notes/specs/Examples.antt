@@ -1,4 +1,4 @@
--- The notes of a text of four words in two blocks, and each rule broken once: they compute.
+-- The notes of a text of four words in two blocks, of both versions, and each rule broken once: they compute.
 use Rattle.std.specs.Prelude.{◌≡◌, ℕ, ◌+◌, List, [], ◌∷◌, ◌++◌, take, drop, map, Some, None, Result, Ok, Err, refl}
 use Rattle.elf32_sparc.specs.Notes.{Notes, NoNotes, Bad, read_notes, segments_at, blocks_at, edges_at, ranges_at, node_at, head_of, tables_of, block_count_at}
 use Rattle.notes.specs.Written.{words_bytes, notes_bytes}
@@ -6,6 +6,7 @@ use Rattle.notes.specs.Written.{words_bytes, notes_bytes}
 -- Two pages, two blocks with their landed copies, three edges of which two have a cell, and three places with a gap before the last.
 abbrev small : Notes
 small = record {
+  version = 1;
   delta = 4096;
   length = 16;
   tool = 1;
@@ -29,14 +30,19 @@ written : notes_bytes small ≡ words_bytes words
 unfolding notes_bytes words_bytes
 written = refl
 
--- one word changed, and the notes read in a file of 8192 bytes
+-- words as bytes, with one of them changed
+abbrev changed : List ℕ → ℕ × ℕ × ℕ → List ℕ
+changed words change =
+    take change.0 (words_bytes words) ++ words_bytes (change.1 ∷ []) ++ drop (change.0 + 4) (words_bytes words)
+
+-- the notes read in a file of 8192 bytes
 abbrev with_word : ℕ × ℕ × ℕ → Result Notes NoNotes
-with_word change = read_notes 8192 (take change.0 (words_bytes words) ++ words_bytes (change.1 ∷ []) ++ drop (change.0 + 4) (words_bytes words))
+with_word change = read_notes 1 8192 (changed words change)
 
 abbrev named : ℕ × ℕ × ℕ → Result Notes NoNotes
 named change = Err (Bad change.2)
 
-read : read_notes 8192 (words_bytes words) ≡ Ok small
+read : read_notes 1 8192 (words_bytes words) ≡ Ok small
 unfolding words_bytes read_notes head_of tables_of block_count_at segments_at blocks_at edges_at ranges_at
 read = refl
 
@@ -70,7 +76,7 @@ rows = refl
 
 -- the first bytes alone, and the offset of the word that is missing
 abbrev cut : ℕ × ℕ → Result Notes NoNotes
-cut ending = read_notes 8192 (take ending.0 (words_bytes words))
+cut ending = read_notes 1 8192 (take ending.0 (words_bytes words))
 
 abbrev missing : List (ℕ × ℕ)
 missing = (0, 0) ∷ (24, 24) ∷ (30, 28) ∷ (40, 40) ∷ (55, 52) ∷ (116, 116) ∷ (167, 164) ∷ []
@@ -80,10 +86,59 @@ unfolding words_bytes read_notes head_of tables_of block_count_at segments_at bl
 missing_word = refl
 
 -- a byte after the last place
-left_over : read_notes 8192 (words_bytes words ++ 0 ∷ []) ≡ Err (Bad 168)
+left_over : read_notes 1 8192 (words_bytes words ++ 0 ∷ []) ≡ Err (Bad 168)
 unfolding words_bytes read_notes head_of tables_of block_count_at segments_at blocks_at edges_at ranges_at
 left_over = refl
 
 -- A place's first and inner address, an address in a page and in no place, one outside all pages, and the last place's.
 nodes : map (node_at small) (0x20004 ∷ 0x20008 ∷ 0x2000c ∷ 0x21000 ∷ 0x20010 ∷ []) ≡ Some 0 ∷ Some 0 ∷ None ∷ Some 2 ∷ Some 3 ∷ []
 nodes = refl
+
+-- The same of version 2, where two of the edges have two cells each.
+abbrev wide : Notes
+wide = record small {
+  version = 2;
+  cells = 4;
+  edges = record { kind = 6; from = 0; to = 4; cell = Some 0 } ∷ record { kind = 4; from = 1; to = 2; cell = None }
+      ∷ record { kind = 5; from = 2; to = 0; cell = Some 2 } ∷ [];
+}
+
+abbrev wide_words : List ℕ
+wide_words = 4096 ∷ 16 ∷ 1 ∷ 0x10000 ∷ 4 ∷ 1 ∷ 0x30000 ∷ 4 ∷ 2 ∷ 0x20000 ∷ 0x1000 ∷ 0x30000 ∷ 8 ∷ 2 ∷ 0 ∷ 2
+    ∷ 3 ∷ 6 ∷ 0 ∷ 4 ∷ 0 ∷ 4 ∷ 1 ∷ 2 ∷ 0xffffffff ∷ 5 ∷ 2 ∷ 0 ∷ 2
+    ∷ 3 ∷ 0x20000 ∷ 0x20004 ∷ 0x10000 ∷ 0 ∷ 0x20004 ∷ 0x2000c ∷ 0x10004 ∷ 0 ∷ 0x20010 ∷ 0x20014 ∷ 0x10008 ∷ 3 ∷ []
+
+wide_written : notes_bytes wide ≡ words_bytes wide_words
+unfolding notes_bytes words_bytes
+wide_written = refl
+
+abbrev with_wide_word : ℕ × ℕ × ℕ → Result Notes NoNotes
+with_wide_word change = read_notes 2 8192 (changed wide_words change)
+
+wide_read : read_notes 2 8192 (words_bytes wide_words) ≡ Ok wide
+unfolding words_bytes read_notes head_of tables_of block_count_at segments_at blocks_at edges_at ranges_at
+wide_read = refl
+
+-- a trace, and as many cells as there may be
+wide_limits : map with_wide_word ((8, 3, 0) ∷ (28, 0x400001, 0) ∷ (28, 0x800000, 0) ∷ [])
+    ≡ Ok (record wide { tool = 3 }) ∷ Ok (record wide { cells = 0x400001 }) ∷ Ok (record wide { cells = 0x800000 }) ∷ []
+unfolding words_bytes read_notes head_of tables_of block_count_at segments_at blocks_at edges_at ranges_at
+wide_limits = refl
+
+-- A fourth tool and too many cells; then cells that are odd, past the others, half past them and taken.
+abbrev wide_broken : List (ℕ × ℕ × ℕ)
+wide_broken = (8, 4, 8) ∷ (28, 0x800001, 28)
+    ∷ (80, 1, 68) ∷ (112, 1, 100) ∷ (112, 3, 100) ∷ (112, 4, 100) ∷ (28, 3, 100) ∷ (112, 0, 100) ∷ []
+
+wide_rules : map with_wide_word wide_broken ≡ map named wide_broken
+unfolding words_bytes read_notes head_of tables_of block_count_at segments_at blocks_at edges_at ranges_at
+wide_rules = refl
+
+-- Either version's words, read as the other's: counters of one cell, side by side, can't have two.
+narrow_as_wide : read_notes 2 8192 (words_bytes words) ≡ Err (Bad 100)
+unfolding words_bytes read_notes head_of tables_of block_count_at segments_at blocks_at edges_at ranges_at
+narrow_as_wide = refl
+
+wide_as_narrow : read_notes 1 8192 (words_bytes wide_words) ≡ Ok (record wide { version = 1 })
+unfolding words_bytes read_notes head_of tables_of block_count_at segments_at blocks_at edges_at ranges_at
+wide_as_narrow = refl

@@ -4,6 +4,7 @@ use Rattle.notes.specs.declared.reading.Head.{Head}
 
 abbrev pub head_seen : Head → NoteHead
 head_seen head = record {
+  version = head.version;
   delta = head.delta;
   length = head.length;
   tool = head.tool;

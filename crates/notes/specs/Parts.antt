@@ -1,7 +1,7 @@
 -- The parts of which reading the tables is made: a row of each, and marks of the cells that are taken.
-use Rattle.std.specs.Prelude.{◌≡◌, ◌<◌, ℕ, ◌+◌, ◌*◌, ◌%◌, ◌^◌, Bool, true, false, not, [], ◌&&◌, ◌||◌, ◌==◌, nat_lt, nat_le, List, length, get_or, slice_set, Option, Some, None, Result, Ok}
+use Rattle.std.specs.Prelude.{◌≡◌, ◌<◌, ℕ, ◌+◌, ◌*◌, Bool, true, false, not, ◌&&◌, ◌||◌, ◌==◌, nat_lt, nat_le, List, length, get_or, slice_set, Option, Some, None, Result}
 use Rattle.std.specs.List.{list_any}
-use Rattle.elf32_sparc.specs.Notes.{NoteSegment, NoteEdge, NoteRange, NoNotes, ◌>>=◌, note_at, note_that, kept, follows, no_cell, cell_of}
+use Rattle.elf32_sparc.specs.Notes.{NoteSegment, NoteEdge, NoteRange, NoNotes, ◌>>=◌, note_at, note_that, kept, follows, no_cell, cell_of, is_counter}
 use Rattle.notes.specs.Rules.{is_segment, is_range}
 
 -- ---- rows
@@ -34,9 +34,10 @@ range_at blocks segments end notes at = do
 
 -- Cells that are taken, as marks by number.
 
--- no cell, or one that isn't marked
-abbrev pub is_open : List Bool → ℕ → Bool
-is_open marks word = (word == no_cell) || (nat_lt word (length marks) && not (get_or marks word false))
+-- no cell, or that of a counter of so many cells, where it isn't marked
+abbrev pub is_open : ℕ → List Bool → ℕ → Bool
+is_open width marks word =
+    (word == no_cell) || (is_counter width (length marks) word && not (get_or marks word false))
 
 -- the marks, with that of a cell set
 abbrev pub with_mark : Option ℕ → List Bool → List Bool

@@ -1,7 +1,7 @@
 -- Notes as the definitions of reading have them, and what an answer says of a definition.
-use Rattle.std.specs.Prelude.{◌≡◌, map, Result, Ok, Err, ⊤}
+use Rattle.std.specs.Prelude.{◌≡◌, ◌≤◌, ℕ, ◌+◌, IsTrue, IsOk, List, length, map, take, drop, Result, Ok, Err, ⊤}
 use Rattle.eel_base.specs.declared.range.Range as declared_range
-use Rattle.elf32_sparc.specs.Notes.{NoteSegment, NoteEdge, NoteRange, Notes, NoNotes, Absent, Bad}
+use Rattle.elf32_sparc.specs.Notes.{NoteSegment, NoteEdge, NoteRange, Notes, NoNotes, Absent, Bad, has_locator, head_of, notes_length, notes_offset, notes_version}
 use Rattle.notes.specs.declared.note.NoteSegment as declared_segment
 use Rattle.notes.specs.declared.note.NoteEdge as declared_edge
 use Rattle.notes.specs.declared.note.Notes as declared_notes
@@ -19,6 +19,7 @@ range_seen range = record { lo = range.lo.0; hi = range.hi.0; address = range.ad
 
 abbrev pub notes_seen : declared_notes.Notes → Notes
 notes_seen notes = record {
+  version = notes.version;
   delta = notes.delta;
   length = notes.length;
   tool = notes.tool;
@@ -33,7 +34,7 @@ notes_seen notes = record {
   ranges = map range_seen notes.ranges.items;
 }
 
--- A fault is the one that was read; want of memory may come at any time.
+-- A fault is the one that was read; that memory is wanting says nothing of what reads.
 abbrev pub IsFault : {A : Type 0} → NotesFault → Result A NoNotes → Type 0
 IsFault faults.Absent read = read ≡ Err Absent
 IsFault (faults.Bad at) read = read ≡ Err (Bad at)
@@ -43,3 +44,20 @@ IsFault faults.NoMemory read = ⊤
 abbrev pub Answers : {A B : Type 0} → (A → B) → Result A NotesFault → Result B NoNotes → Type 0
 Answers seen (Ok x) read = read ≡ Ok (seen x)
 Answers seen (Err fault) read = IsFault fault read
+
+-- memory is wanting only where this holds
+abbrev pub WantsMemoryIf : Type 0 → NotesFault → Type 0
+WantsMemoryIf holds faults.Absent = ⊤
+WantsMemoryIf holds (faults.Bad at) = ⊤
+WantsMemoryIf holds faults.NoMemory = holds
+
+-- the bytes that the locator names
+abbrev pub notes_in : List ℕ → List ℕ
+notes_in file = take (notes_length file) (drop (notes_offset file) file)
+
+-- The notes stand in the file, and the numbers before their tables meet their rules.
+abbrev pub HasHead : List ℕ → Type 0
+HasHead file =
+    IsTrue (has_locator file)
+    × (notes_offset file + notes_length file ≤ length file)
+    × IsOk (head_of (notes_version file) (length file) (notes_in file))

@@ -1,5 +1,6 @@
 //! The cells of edges.
-ghost use Rattle.std.specs.Prelude.{◌≡◌, IfOk, replicate, false};
+ghost use Rattle.std.specs.Prelude.{◌≡◌, ◌<◌, IfOk, length, replicate, false};
+ghost use Rattle.elf32_sparc.specs.Notes.{is_counter};
 ghost use Rattle.notes.specs.Parts.{is_open, with_mark};
 
 use std::alloc::{AllocError, Global};
@@ -7,31 +8,43 @@ use std::alloc::{AllocError, Global};
 /// The word of an edge without a cell.
 pub(crate) const NO_CELL: u32 = 0xffff_ffff;
 
-/// Which cells are taken, with a mark for each.
+/// Which cells are taken, with a mark for each, and how many of them a counter has.
 #[derive(Drop)]
 pub(crate) struct Taken {
+    width: u32,
     marks: Vec<bool>,
 }
 
 impl Taken {
-    /// So many cells, none of which is taken.
-    pub(crate) fn none(alloc: Global, cells: u32) -> Result<Taken, AllocError>
-        ensures { IfOk result (λ taken. taken.marks.items ≡ replicate cells false) }
+    /// So many cells for counters of this width, none of which is taken.
+    pub(crate) fn none(alloc: Global, width: u32, cells: u32) -> Result<Taken, AllocError>
+        ensures width { IfOk result (λ taken. taken.width ≡ width) }
+        ensures marks { IfOk result (λ taken. taken.marks.items ≡ replicate cells false) }
     {
         let marks = vec![in alloc; false; cells as usize]?;
-        Ok(Taken { marks })
+        Ok(Taken { width, marks })
     }
 
-    /// The word is no cell, or one that isn't taken.
+    /// The word is no cell, or that of a counter which isn't taken.
     pub(crate) fn is_open(&self, word: u32) -> bool
-        ensures { result ≡ is_open self.now.marks.items word }
+        requires { 0 < self.now.width }
+        ensures { result ≡ is_open self.now.width self.now.marks.items word }
     {
-        word == NO_CELL || ((word as usize) < self.marks.len() && !self.marks[word as usize])
+        word == NO_CELL || (self.is_counter(word) && !self.marks[word as usize])
+    }
+
+    /// A counter has its cells there.
+    fn is_counter(&self, word: u32) -> bool
+        requires { 0 < self.now.width }
+        ensures { result ≡ is_counter self.now.width (length self.now.marks.items) word }
+    {
+        word % self.width == 0 && word as usize + self.width as usize <= self.marks.len()
     }
 
     /// Takes an edge's cell.
     pub(crate) fn mark(&mut self, cell: Option<u32>)
-        ensures { self.new.marks.items ≡ with_mark cell self.old.marks.items }
+        ensures width { self.new.width ≡ self.old.width }
+        ensures marks { self.new.marks.items ≡ with_mark cell self.old.marks.items }
     {
         if let Some(cell) = cell
             && (cell as usize) < self.marks.len()

@@ -25,10 +25,12 @@ pub struct NoteEdge {
 /// What a written file says of itself.
 #[derive(Drop)]
 pub struct Notes {
+    /// 1, where a counter has one cell, or 2, where it has two, the high word first.
+    pub version: u32,
     /// The offset of the original in the file, and how many bytes it has.
     pub delta: u32,
     pub length: u32,
-    /// 0 without snippets, 1 for a profile, 2 for a script.
+    /// 0 without snippets, 1 for a profile, 2 for a script, 3 for a trace.
     pub tool: u32,
     /// The address of the original's text, and how many words it has.
     pub start: u32,

@@ -1,8 +1,8 @@
 //! Reading notes.
-ghost use Rattle.std.specs.Prelude.{◌≡◌, ◌≤◌, ◌<◌, ◌+◌, ◌*◌, ◌%◌, ◌^◌, ◌&&◌, ◌==◌, nat_le, nat_lt, IfOk, MatchResult, length};
+ghost use Rattle.std.specs.Prelude.{◌≡◌, ◌≤◌, ◌<◌, ◌+◌, ◌*◌, ◌%◌, ◌^◌, ◌&&◌, ◌==◌, nat_le, nat_lt, true, IfErr, IfOk, IsOk, IsTrue, MatchResult, length};
 ghost use Rattle.elf32_sparc.specs.Header.{word_at};
-ghost use Rattle.elf32_sparc.specs.Notes.{block_count_at, byte_count, head_of, note_that, has_locator, notes_of, read_notes, tables_of};
-ghost use Rattle.notes.specs.Seen.{Answers, IsFault, notes_seen};
+ghost use Rattle.elf32_sparc.specs.Notes.{block_count_at, byte_count, counter_width, head_of, is_version, last_tool, most_cells, note_that, has_locator, notes_length, notes_of, notes_offset, notes_version, read_notes, tables_of};
+ghost use Rattle.notes.specs.Seen.{Answers, HasHead, IsFault, WantsMemoryIf, notes_in, notes_seen};
 ghost use Rattle.notes.specs.Heads.{head_seen};
 ghost use Rattle.notes.specs.Rules.{AreNotes};
 
@@ -17,25 +17,35 @@ const LOCATOR_AT: usize = 4032;
 
 const LOCATOR: u32 = 0x4545_4c4e;
 
-const NOTES_VERSION: u32 = 1;
+/// The version of notes whose counters have one cell.
+const NARROW: u32 = 1;
+
+/// The version of notes whose counters have two cells.
+const WIDE: u32 = 2;
 
 /// The notes of a written file.
 ///
 /// They are read in one pass. Beside the rows that are there it needs a byte for each cell that the notes name.
 pub fn read_notes(alloc: Global, file: &[u8]) -> Result<Notes, NotesFault>
     ensures read { Answers notes_seen result (notes_of file.now) }
+    ensures memory { IfErr result (WantsMemoryIf (HasHead file.now)) }
     ensures rules { IfOk result (λ notes. AreNotes (notes_seen notes)) }
     ensures inside { IfOk result (λ notes. notes.delta + notes.length ≤ length file.now) }
 {
-    let notes = find_notes(file)?;
-    let notes = read_words(alloc, notes, file.len())?;
+    let words = find_notes(file)?;
+    let version = field(file, LOCATOR_AT + 4);
+    let notes = read_words(alloc, version, words, file.len())?;
     Ok(notes)
 }
 
 /// The bytes of the notes, where the locator says.
 #[tactic(auto, unfolding(elf32_sparc::specs::Notes::notes_of))]
 fn find_notes(file: &[u8]) -> Result<&[u8], NotesFault>
-    ensures { MatchResult result (λ notes. notes_of file.now ≡ read_notes (length file.now) notes.now) (λ fault. IsFault fault (notes_of file.now)) }
+    ensures notes { MatchResult result (λ notes. notes_of file.now ≡ read_notes (notes_version file.now) (length file.now) notes.now) (λ fault. IsFault fault (notes_of file.now)) }
+    ensures version { IfOk result (λ notes. is_version (notes_version file.now) ≡ true) }
+    ensures there { IfOk result (λ notes. IsTrue (has_locator file.now) × (notes_offset file.now + notes_length file.now ≤ length file.now)) }
+    ensures bytes { IfOk result (λ notes. notes.now ≡ notes_in file.now) }
+    ensures memory { IfErr result (WantsMemoryIf ⊥) }
 {
     if !has_locator(file) {
         return Err(NotesFault::Absent);
@@ -53,7 +63,13 @@ fn has_locator(file: &[u8]) -> bool
 {
     file.len() >= 4096
         && field(file, LOCATOR_AT) == LOCATOR
-        && field(file, LOCATOR_AT + 4) == NOTES_VERSION
+        && is_version(field(file, LOCATOR_AT + 4))
+}
+
+fn is_version(version: u32) -> bool
+    ensures { result ≡ is_version version }
+{
+    version == NARROW || version == WIDE
 }
 
 /// The word at an offset of a file, or 0 past its end.
@@ -64,12 +80,13 @@ fn field(file: &[u8], at: usize) -> u32
     be32_at(file, at).unwrap_or(0)
 }
 
-/// The notes in these bytes, of a file of this size.
-fn read_words(alloc: Global, notes: &[u8], size: usize) -> Result<Notes, NotesFault>
-    ensures read { Answers notes_seen result (read_notes size notes.now) }
+/// The notes of this version in these bytes, of a file of this size.
+fn read_words(alloc: Global, version: u32, notes: &[u8], size: usize) -> Result<Notes, NotesFault>
+    ensures read { Answers notes_seen result (read_notes version size notes.now) }
+    ensures memory { IfErr result (WantsMemoryIf (IsOk (head_of version size notes.now))) }
     ensures inside { IfOk result (λ notes. notes.delta + notes.length ≤ size) }
 {
-    let head = read_head(notes, size)?;
+    let head = read_head(version, notes, size)?;
     let notes = read_tables(alloc, notes, &head)?;
     Ok(notes)
 }
@@ -77,6 +94,7 @@ fn read_words(alloc: Global, notes: &[u8], size: usize) -> Result<Notes, NotesFa
 /// The numbers before the tables.
 #[derive(Clone, Copy)]
 struct Head {
+    version: u32,
     delta: u32,
     length: u32,
     tool: u32,
@@ -88,12 +106,13 @@ struct Head {
     segment_count: u32,
 }
 
-/// The numbers before the tables, in a file of this size.
+/// The numbers before the tables, of this version, in a file of this size.
 #[tactic(auto, unfolding(elf32_sparc::specs::Notes::head_of))]
-fn read_head(notes: &[u8], size: usize) -> Result<Head, NotesFault>
-    ensures head { Answers head_seen result (head_of size notes.now) }
+fn read_head(version: u32, notes: &[u8], size: usize) -> Result<Head, NotesFault>
+    ensures head { Answers head_seen result (head_of version size notes.now) }
+    ensures memory { IfErr result (WantsMemoryIf ⊥) }
     ensures inside { IfOk result (λ head. head.delta + head.length ≤ size) }
-    ensures cells { IfOk result (λ head. head.cells ≤ 2 ^ 22) }
+    ensures cells { IfOk result (λ head. head.cells ≤ 2 ^ 23) }
     ensures words { IfOk result (λ head. head.words ≤ 2 ^ 20) }
     ensures segments { IfOk result (λ head. head.segment_count ≤ 8) }
 {
@@ -102,7 +121,7 @@ fn read_head(notes: &[u8], size: usize) -> Result<Head, NotesFault>
     let length = word_at(notes, 4)?;
     keep(delta as usize + length as usize <= size, 4)?;
     let tool = word_at(notes, 8)?;
-    keep(tool <= 2, 8)?;
+    keep(tool <= last_tool(version), 8)?;
     let start = word_at(notes, 12)?;
     keep(start % 4 == 0 && start >= 0x1000, 12)?;
     let words = word_at(notes, 16)?;
@@ -111,10 +130,11 @@ fn read_head(notes: &[u8], size: usize) -> Result<Head, NotesFault>
     let base = word_at(notes, 24)?;
     let cells = word_at(notes, 28)?;
     keep(are_cells(base, cells), 24)?;
-    keep(cells <= 1 << 22, 28)?;
+    keep(cells <= most_cells(version), 28)?;
     let segment_count = word_at(notes, 32)?;
     keep(segment_count <= 8, 32)?;
     Ok(Head {
+        version,
         delta,
         length,
         tool,
@@ -125,6 +145,27 @@ fn read_head(notes: &[u8], size: usize) -> Result<Head, NotesFault>
         cells,
         segment_count,
     })
+}
+
+/// The greatest number of a tool.
+fn last_tool(version: u32) -> u32
+    ensures { result ≡ last_tool version }
+{
+    if version == NARROW { 2 } else { 3 }
+}
+
+/// How many cells there are at most.
+fn most_cells(version: u32) -> u32
+    ensures { result ≡ most_cells version }
+{
+    if version == NARROW { 1 << 22 } else { 1 << 23 }
+}
+
+/// How many cells a counter has.
+fn counter_width(version: u32) -> u32
+    ensures { result ≡ counter_width version }
+{
+    if version == NARROW { 1 } else { 2 }
 }
 
 /// A text has one to 2^20 words, and ends at 2^31 at most.
@@ -173,7 +214,7 @@ fn count_at(notes: &[u8], at: u32, limit: u32) -> Result<u32, NotesFault>
 /// What comes after the numbers: the tables, and no more.
 #[tactic(auto, unfolding(elf32_sparc::specs::Notes::tables_of))]
 fn read_tables(alloc: Global, notes: &[u8], head: &Head) -> Result<Notes, NotesFault>
-    requires cells { head.now.cells ≤ 2 ^ 22 }
+    requires cells { head.now.cells ≤ 2 ^ 23 }
     requires words { head.now.words ≤ 2 ^ 20 }
     requires segments { head.now.segment_count ≤ 8 }
     ensures read { Answers notes_seen result (tables_of notes.now (head_seen head.now)) }
@@ -192,6 +233,7 @@ fn read_tables(alloc: Global, notes: &[u8], head: &Head) -> Result<Notes, NotesF
         edges_at + 4,
         edge_count,
         block_count,
+        counter_width(head.version),
         head.cells,
     )?;
     let ranges_at = edges_at + 4 + 16 * edge_count;
@@ -207,6 +249,7 @@ fn read_tables(alloc: Global, notes: &[u8], head: &Head) -> Result<Notes, NotesF
     let end = ranges_at + 4 + 16 * range_count;
     keep(end_at(notes, end), end)?;
     Ok(Notes {
+        version: head.version,
         delta: head.delta,
         length: head.length,
         tool: head.tool,

@@ -1,8 +1,8 @@
 //! The words of notes, and the rows of their tables.
-ghost use Rattle.std.specs.Prelude.{◌≡◌, ◌≤◌, ◌<◌, ◌+◌, ◌*◌, ◌^◌, MatchResult, length, map, true, false, ◌&&◌, nat_le, nat_lt};
+ghost use Rattle.std.specs.Prelude.{◌≡◌, ◌≤◌, ◌<◌, ◌+◌, ◌*◌, ◌^◌, IfErr, MatchResult, length, map, true, false, ◌&&◌, nat_le, nat_lt};
 ghost use Rattle.std.specs.List.{list_any};
 ghost use Rattle.elf32_sparc.specs.Notes.{note_at, follows, cell_of, holds};
-ghost use Rattle.notes.specs.Seen.{Answers, segment_seen, edge_seen, range_seen};
+ghost use Rattle.notes.specs.Seen.{Answers, WantsMemoryIf, segment_seen, edge_seen, range_seen};
 ghost use Rattle.notes.specs.Rules.{is_segment, is_range};
 ghost use Rattle.notes.specs.Parts.{segment_at, block_at, edge_at, range_at, is_open};
 ghost use Rattle.notes.specs.declared.note.NotesFault.TheVariants as faults;
@@ -13,7 +13,8 @@ use eel_base::{Addr, Range, be32_at};
 
 /// The word at an offset.
 pub(crate) fn word_at(notes: &[u8], at: u32) -> Result<u32, NotesFault>
-    ensures { Answers (λ word. word) result (note_at notes.now at) }
+    ensures word { Answers (λ word. word) result (note_at notes.now at) }
+    ensures memory { IfErr result (WantsMemoryIf ⊥) }
 {
     match be32_at(notes, at as usize) {
         Some(word) => Ok(word),
@@ -84,8 +85,9 @@ pub(crate) fn edge_at(
     blocks: u32,
     taken: &Taken,
 ) -> Result<NoteEdge, NotesFault>
-    requires { at + 16 < 2 ^ 32 }
-    ensures { Answers edge_seen result (edge_at blocks (is_open taken.now.marks.items) notes.now at) }
+    requires at { at + 16 < 2 ^ 32 }
+    requires width { 0 < taken.now.width }
+    ensures { Answers edge_seen result (edge_at blocks (is_open taken.now.width taken.now.marks.items) notes.now at) }
 {
     let kind = word_at(notes, at)?;
     let from = word_at(notes, at + 4)?;

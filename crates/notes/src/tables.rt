@@ -50,20 +50,22 @@ pub(crate) fn read_blocks(
     Ok(blocks)
 }
 
-/// The edges of a graph of so many blocks.
+/// The edges of a graph of so many blocks, where a counter has so many cells.
 pub(crate) fn read_edges(
     alloc: Global,
     notes: &[u8],
     at: u32,
     count: u32,
     blocks: u32,
+    width: u32,
     cells: u32,
 ) -> Result<Vec<NoteEdge>, NotesFault>
-    requires few { cells ≤ 2 ^ 22 }
+    requires few { cells ≤ 2 ^ 23 }
+    requires width { 0 < width }
     requires place { at + 16 * count < 2 ^ 32 }
-    ensures { Answers (λ edges. map edge_seen edges.items) result (edges_at blocks cells notes.now at [] count) }
+    ensures { Answers (λ edges. map edge_seen edges.items) result (edges_at width blocks cells notes.now at [] count) }
 {
-    let mut taken = Taken::none(alloc, cells)?;
+    let mut taken = Taken::none(alloc, width, cells)?;
     let mut edges = Vec::new(alloc);
     for row in 0..count {
         let edge = edge_at(notes, at + 16 * row, blocks, &taken)?;

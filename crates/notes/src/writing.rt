@@ -12,9 +12,10 @@ use byteorder::{BigEndian, ByteOrder};
 use eel_base::{NoMemory, Range};
 use std::alloc::Global;
 
-/// Notes as bytes.
+/// Notes as bytes, of the version that is written.
 pub fn write_notes(alloc: Global, n: &Notes) -> Result<Vec<u8>, NoMemory>
-    requires { AreNotes (notes_seen n.now) }
+    requires notes { AreNotes (notes_seen n.now) }
+    requires version { n.now.version ≡ 2 }
     ensures { IfOk result (λ bytes. bytes.items ≡ notes_bytes (notes_seen n.now)) }
 {
     let mut out = Vec::new(alloc);

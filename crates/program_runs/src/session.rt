@@ -301,9 +301,12 @@ fn hexadecimal(digits: &[u8]) -> Option<u8> {
     u8::from_str_radix(digits, 16).ok()
 }
 
-/// The bytes of a dump's cells.
+/// The bytes of a dump's cells. They stand behind the size of the original where the dump's version tells it.
 fn cells(dump: &[u8]) -> Option<&[u8]> {
-    dump.get(32..)
+    match be32_at(dump, 4) {
+        Some(1) => dump.get(32..),
+        _ => dump.get(36..),
+    }
 }
 
 fn number(word: &str) -> Result<usize, Refusal> {

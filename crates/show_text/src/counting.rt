@@ -59,7 +59,7 @@ fn put_count(
     let mut to = [0; 9];
     let mut times = Buffer::new();
     let number = digits.format(number).as_bytes();
-    let kind = kind_text(kind(edge.kind));
+    let kind = kind_text(noted_kind(edge.kind));
     let from = noted_node_text(n, edge.from, &mut from);
     let to = noted_node_text(n, edge.to, &mut to);
     let times = times.format(count).as_bytes();
@@ -67,8 +67,8 @@ fn put_count(
     Ok(())
 }
 
-/// The kind of a number.
-fn kind(number: u32) -> EdgeKind
+/// The kind of an edge of notes.
+pub fn noted_kind(number: u32) -> EdgeKind
     ensures { result ≡ kind_of number }
 {
     match number {
@@ -84,7 +84,7 @@ fn kind(number: u32) -> EdgeKind
 
 /// A node: the address of its block, with a plus behind it where it is the landed copy, or `x`.
 #[tactic(auto, unfolding(crate::specs::CountLines::noted_node_text))]
-fn noted_node_text<'a>(n: &Notes, node: u32, bytes: &'a mut NodeBytes) -> &'a [u8]
+pub fn noted_node_text<'a>(n: &Notes, node: u32, bytes: &'a mut NodeBytes) -> &'a [u8]
     requires { AreNotes (notes_seen n.now) }
     ensures { result.now ≡ noted_node_text (notes_seen n.now) node }
 {

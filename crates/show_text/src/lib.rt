@@ -5,6 +5,6 @@ mod counting;
 mod lines;
 mod words;
 
-pub use counting::{counts, sum};
+pub use counting::{counts, noted_kind, noted_node_text, sum};
 pub use lines::{put_line, show};
 pub use words::{NodeBytes, kind_text, node_text};

@@ -70,6 +70,13 @@ codes_acts : (u : State) (op : AluOp) (rs1 : ℕ) (op2 : Op2) (v : ℕ) (codes :
 unfolding act alu_step
 codes_acts u op rs1 op2 v codes e = ap (alu_step u 0) e
 
+both_act : (u : State) (op : AluOp) (rd rs1 : ℕ) (op2 : Op2) (v : ℕ) (codes : Codes)
+    → alu_of op true (register_of u rs1) (operand_of u op2) u.codes u.y ≡ Ok
+    (record { value = v; codes = codes; y = u.y })
+    → act u (i.Alu op true rd rs1 op2) ≡ next (record (with_register u rd v) { codes = codes })
+unfolding act alu_step
+both_act u op rd rs1 op2 v codes e = ap (alu_step u rd) e
+
 branch_acts : (u : State) (cond : ℕ) (b : Bool) → u.slot ≡ NoSlot → (cond == 8) ≡ false → holds_of cond u.codes ≡ b
     → act u (i.Branch cond true (pos 2)) ≡ branched b false true u (wrapped (u.pc + 8))
 unfolding act branch_step
@@ -270,6 +277,21 @@ module _ {s : State} {count : ℕ} {May : ℕ → Type 0} {counted : ℕ → Boo
       works_step t g codes' f (i.Alu op true 0 rs1 op2) w.reach below (λ cond q k z. cc) says
       (record w.reach.after { codes = codes' })
       (codes_acts w.reach.after op rs1 op2 v codes' (e w.reach.after w.reach.alike)) refl refl
+      (record { same = h.same; codes_are = refl; held = h.held; memory = h.memory }) (omega arith)
+
+  -- ---- an operation that sets the codes and a picked register
+  pub alu_codes : {n t : ℕ} {g : ℕ → ℕ} {codes : Codes} {f : ℕ → ℕ} (j : ℕ) (op : AluOp) (rs1 : ℕ) (op2 : Op2)
+      (v : ℕ) (codes' : Codes) → Works s count May counted r want n t g codes f → n < count → j < want
+      → Says (code_of s.memory) (s.pc + 4 * n) (i.Alu op true (r j) rs1 op2)
+      → ((u : State) → IsAlike s May r want g codes f u
+      → alu_of op true (register_of u rs1) (operand_of u op2) u.codes u.y ≡ Ok
+      (record { value = v; codes = codes'; y = u.y }))
+      → Works s count May counted r want (suc n) t g codes' (put j v f)
+  alu_codes {t = t} {g = g} {codes = codes} {f = f} j op rs1 op2 v codes' w below b says e =
+      let h = alike_put c j v w.reach.after b w.reach.alike in
+      works_step t g codes' (put j v f) (i.Alu op true (r j) rs1 op2) w.reach below (λ cond q k z. cc) says
+      (record (with_register w.reach.after (r j) v) { codes = codes' })
+      (both_act w.reach.after op (r j) rs1 op2 v codes' (e w.reach.after w.reach.alike)) refl refl
       (record { same = h.same; codes_are = refl; held = h.held; memory = h.memory }) (omega arith)
 
   -- ---- loads and stores

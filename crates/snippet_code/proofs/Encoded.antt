@@ -12,12 +12,12 @@ use Rattle.v8_decode.specs.Forms.{has_form}
 use Rattle.v8_encode.specs.Encoding.{has_word, word_of, fits_signed}
 use Rattle.v8_encode.proofs.Decoded.{decode_of-word_of}
 use Rattle.snippets.specs.declared.snippet.Op.{Op}
-use Rattle.snippets.specs.declared.snippet.Op.TheVariants.{Add, Put, Keep, Top}
+use Rattle.snippets.specs.declared.snippet.Op.TheVariants.{Add, Put, Keep, Top, Count, Log}
 use Rattle.snippets.specs.Grammar.{IsOp}
-use Rattle.snippets.specs.Ops.{cell_of}
+use Rattle.snippets.specs.Ops.{cells_end}
 use Rattle.snippet_code.specs.Cells.{cell_at}
-use Rattle.snippet_code.specs.Words.{high, low, load_low, store_low, of_two, with_number, add_low, compare, next_if_greater, is_small, small, add_words, put_words, top_words, op_words, op_registers, registers_for, all_words, numbered, save, restore}
-use Rattle.snippet_code.specs.Laws.{EndLow}
+use Rattle.snippet_code.specs.Words.{high, low, load_low, store_low, load_next, store_next, add_one, of_two, with_number, add_low, compare, next_if_greater, is_small, small, add_words, put_words, top_words, count_words, log_words, op_words, op_registers, registers_for, all_words, numbered, save, restore}
+use Rattle.snippet_code.specs.Laws.{EndsLow, EndLow}
 
 -- an instruction that a word has
 abbrev pub HasWord : Instr → Type 0
@@ -47,6 +47,19 @@ load_has a base rd h k = (grind (arith, nat_tests), grind (arith, nat_tests))
 store_has : (a base rd : ℕ) → base < 32 → rd < 32 → HasWord (store_low a base rd)
 store_has a base rd h k = (grind (arith, nat_tests), grind (arith, nat_tests))
 
+load_next_has : (a base rd : ℕ) → base < 32 → rd < 32 → HasWord (load_next a base rd)
+load_next_has a base rd h k = (grind (arith, nat_tests), grind (arith, nat_tests))
+
+store_next_has : (a base rd : ℕ) → base < 32 → rd < 32 → HasWord (store_next a base rd)
+store_next_has a base rd h k = (grind (arith, nat_tests), grind (arith, nat_tests))
+
+number_has : (op : AluOp) (n rs1 rd : ℕ) → has_form op false ≡ true → n < 4096 → rs1 < 32 → rd < 32
+    → HasWord (with_number op rs1 (pos n) rd)
+number_has op n rs1 rd f l h k = (grind (arith, nat_tests), grind (arith, nat_tests))
+
+add_one_has : (rd : ℕ) → rd < 32 → HasWord (add_one rd)
+add_one_has rd h = (grind (arith, nat_tests), grind (arith, nat_tests))
+
 two_has : (op : AluOp) (rs1 rs2 rd : ℕ) → has_form op false ≡ true → rs1 < 32 → rs2 < 32 → rd < 32
     → HasWord (of_two op rs1 rs2 rd)
 two_has op rs1 rs2 rd f h k l = (grind (arith, nat_tests), grind (arith, nat_tests))
@@ -59,9 +72,6 @@ compare_has rs1 rs2 h k = (grind (arith, nat_tests), grind (arith, nat_tests))
 
 branch_has : HasWord next_if_greater
 branch_has = (refl, refl)
-
-shift_has : (rs1 rd : ℕ) → rs1 < 32 → rd < 32 → HasWord (with_number ops.SRA rs1 (pos 31) rd)
-shift_has rs1 rd h k = (grind (arith, nat_tests), grind (arith, nat_tests))
 
 small_fits : (amount : ℕ) → is_small amount ≡ true → amount < 2 ^ 32 → fits_signed 13 (small amount) ≡ true
 small_fits amount h l = go (nat_lt amount 4096) refl
@@ -194,7 +204,7 @@ module _ (r : ℕ → ℕ) (want : ℕ) (below : (k : ℕ) → k < want → r k 
                   (
                     two_has ops.OR (r 3) (r 4) (r 3) refl r3 r4 r3,
                     (
-                      shift_has (r 3) (r 3) r3 r3,
+                      number_has ops.SRA 31 (r 3) (r 3) refl (omega arith) r3 r3,
                       (
                         two_has ops.AND (r 3) (r 2) (r 3) refl r3 r2 r3,
                         (
@@ -211,7 +221,91 @@ module _ (r : ℕ → ℕ) (want : ℕ) (below : (k : ℕ) → k < want → r k 
         ),
       )
 
-  op_have : (base : ℕ) (d : Bool) (op : Op) → IsOp op → cell_at base (cell_of op) + 4 ≤ 2 ^ 31
+  count_have : (a : ℕ) (d : Bool) → a < 2 ^ 32 → (if d then 2 else 3) ≤ want → HaveWords (count_words a d r)
+  count_have a true h room =
+      let r0 = below 0 (omega arith) in
+      let r1 = below 1 (omega arith) in (
+        high_has a (r 0) h r0,
+        (
+          load_next_has a (r 0) (r 1) r0 r1,
+          (
+            add_one_has (r 1) r1,
+            (
+              store_next_has a (r 0) (r 1) r0 r1,
+              (
+                load_has a (r 0) (r 1) r0 r1,
+                (
+                  number_has ops.ADDX 0 (r 1) (r 1) refl (omega arith) r1 r1,
+                  (store_has a (r 0) (r 1) r0 r1, tt),
+                ),
+              ),
+            ),
+          ),
+        ),
+      )
+  count_have a false h room =
+      let r0 = below 0 (omega arith) in
+      let r1 = below 1 (omega arith) in
+      let r2 = below 2 (omega arith) in (
+        high_has a (r 0) h r0,
+        (
+          load_next_has a (r 0) (r 1) r0 r1,
+          (
+            number_has ops.ADD 1 (r 1) (r 2) refl (omega arith) r1 r2,
+            (
+              store_next_has a (r 0) (r 2) r0 r2,
+              (
+                two_has ops.ANDN (r 1) (r 2) (r 1) refl r1 r2 r1,
+                (
+                  number_has ops.SRL 31 (r 1) (r 1) refl (omega arith) r1 r1,
+                  (
+                    load_has a (r 0) (r 2) r0 r2,
+                    (
+                      two_has ops.ADD (r 2) (r 1) (r 2) refl r2 r1 r2,
+                      (store_has a (r 0) (r 2) r0 r2, tt),
+                    ),
+                  ),
+                ),
+              ),
+            ),
+          ),
+        ),
+      )
+
+  log_have : (a bits value : ℕ) → a < 2 ^ 32 → value < 2 ^ 32 → 3 ≤ want → HaveWords (log_words a r bits value)
+  log_have a bits value h l room =
+      let r0 = below 0 (omega arith) in
+      let r1 = below 1 (omega arith) in
+      let r2 = below 2 (omega arith) in (
+        high_has a (r 0) h r0,
+        (
+          load_has a (r 0) (r 1) r0 r1,
+          (
+            number_has ops.SLL (32 - bits) (r 1) (r 2) refl (omega arith) r1 r2,
+            (
+              number_has ops.SRL (30 - bits) (r 2) (r 2) refl (omega arith) r2 r2,
+              (
+                two_has ops.ADD (r 0) (r 2) (r 2) refl r0 r2 r2,
+                (
+                  number_has ops.ADD 1 (r 1) (r 1) refl (omega arith) r1 r1,
+                  (
+                    store_has a (r 0) (r 1) r0 r1,
+                    (
+                      high_has value (r 1) l r1,
+                      (
+                        add_low_has value (r 1) r1,
+                        (store_next_has a (r 2) (r 1) r2 r1, tt),
+                      ),
+                    ),
+                  ),
+                ),
+              ),
+            ),
+          ),
+        ),
+      )
+
+  op_have : (base : ℕ) (d : Bool) (op : Op) → IsOp op → cell_at base (cells_end op) ≤ 2 ^ 31
       → op_registers d op ≤ want → HaveWords (op_words base d r op)
   op_have base d (Add cell amount) is h room =
       add_have (cell_at base cell) amount (is_small amount) refl (omega arith) is.1 room
@@ -223,6 +317,8 @@ module _ (r : ℕ → ℕ) (want : ℕ) (below : (k : ℕ) → k < want → r k 
         (store_has (cell_at base cell) (r 0) reg r0 is.1, tt),
       )
   op_have base d (Top cell reg) is h room = top_have (cell_at base cell) reg d (omega arith) is.1 room
+  op_have base d (Count cell) is h room = count_have (cell_at base cell) d (omega arith) room
+  op_have base d (Log cell bits value) is h room = log_have (cell_at base cell) bits value (omega arith) is.2 room
 
   pub all_have : (base : ℕ) (d : Bool) (os : List Op) → All IsOp os → EndLow base os → registers_for d os ≤ want
       → HaveWords (all_words base d r os)
@@ -230,10 +326,8 @@ module _ (r : ℕ → ℕ) (want : ℕ) (below : (k : ℕ) → k < want → r k 
   all_have base d (op ∷ rest) are low room =
       let most : max (op_registers d op) (registers_for d rest) ≤ want = room in
       have-append (op_words base d r op) (all_words base d r rest)
-      (op_have base d op (All-head IsOp op rest are)
-      (All-head (λ o. cell_at base (cell_of o) + 4 ≤ 2 ^ 31) op rest low) (omega arith))
-      (all_have base d rest (All-tail IsOp op rest are)
-      (All-tail (λ o. cell_at base (cell_of o) + 4 ≤ 2 ^ 31) op rest low) (omega arith))
+      (op_have base d op (All-head IsOp op rest are) (All-head (EndsLow base) op rest low).end (omega arith))
+      (all_have base d rest (All-tail IsOp op rest are) (All-tail (EndsLow base) op rest low) (omega arith))
 
 -- ---- what is saved and restored
 abbrev pub AreBelow : List ℕ → Type 0

@@ -223,13 +223,15 @@ module _ {s : State} {count : ℕ} {May : ℕ → Type 0} {counted : ℕ → Boo
           codes = _;
           picked = _;
           works = as_many (let z : suc (suc (suc (suc (suc n)))) ≡ n + 5 = omega arith in z)
-              (tops_short (cell_at cells cell) reg (register_of s reg) room' enough (h.cell) (h.free) below
-              (w.reach.alike.memory.range (cell_at cells cell) (h.cell)) h.numbers.1 (λ k b. h.unpicked reg k refl b)
+              (tops_short (cell_at cells cell) reg (register_of s reg) room' enough
+              (h.cell cell (omega arith, omega arith)) (h.free cell (omega arith, omega arith)) below
+              (w.reach.alike.memory.range (cell_at cells cell) (h.cell cell (omega arith, omega arith))) h.numbers.1 (λ k b. h.unpicked reg k refl b)
               refl stand');
           kept = λ z. absurd (cc);
         }
         go false e enough room' stand' =
-            let p = tops_long (cell_at cells cell) reg (register_of s reg) room' enough (h.cell) (h.free) below
-            (w.reach.alike.memory.range (cell_at cells cell) (h.cell)) h.numbers.1 (λ k b. h.unpicked reg k refl b)
+            let p = tops_long (cell_at cells cell) reg (register_of s reg) room' enough
+            (h.cell cell (omega arith, omega arith)) (h.free cell (omega arith, omega arith)) below
+            (w.reach.alike.memory.range (cell_at cells cell) (h.cell cell (omega arith, omega arith))) h.numbers.1 (λ k b. h.unpicked reg k refl b)
             refl stand' in
             record { codes = codes; picked = p.0; works = p.1; kept = kept }

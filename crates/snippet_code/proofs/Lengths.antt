@@ -7,7 +7,7 @@ use Rattle.v8_decode.specs.Parts.{has}
 use Rattle.v8_decode.specs.declared.Instr.{Instr}
 use Rattle.scavenge.specs.Picks.{picked, spills, spilled, free_dead, free_live}
 use Rattle.snippets.specs.declared.snippet.Op.{Op}
-use Rattle.snippets.specs.declared.snippet.Op.TheVariants.{Add, Put, Keep, Top}
+use Rattle.snippets.specs.declared.snippet.Op.TheVariants.{Add, Put, Keep, Top, Count, Log}
 use Rattle.snippet_code.specs.Words.{op_words, op_cost, op_registers, is_small, all_words, cost_of_all, cost_of, registers_for, numbered, save, restore}
 use Rattle.snippet_code.specs.Laws.{CostsHold}
 
@@ -22,6 +22,9 @@ op_length base d r (Put cell value) = chosen (value == 0) _ _ 2 4 (omega arith) 
 op_length base d r (Keep cell reg) = omega arith
 op_length base true r (Top cell reg) = omega arith
 op_length base false r (Top cell reg) = omega arith
+op_length base true r (Count cell) = omega arith
+op_length base false r (Count cell) = omega arith
+op_length base d r (Log cell bits value) = omega arith
 
 all_length : (base : ℕ) (d : Bool) (r : ℕ → ℕ) (ops : List Op) → length (all_words base d r ops) ≤ cost_of_all d ops
 all_length base d r [] = omega arith
@@ -55,12 +58,16 @@ op_cost_few d (Add cell amount) = either (is_small amount) 4 6 12 (omega arith) 
 op_cost_few d (Put cell value) = either (value == 0) 2 4 12 (omega arith) (omega arith)
 op_cost_few d (Keep cell reg) = omega arith
 op_cost_few d (Top cell reg) = either d 5 12 12 (omega arith) (omega arith)
+op_cost_few d (Count cell) = either d 7 9 12 (omega arith) (omega arith)
+op_cost_few d (Log cell bits value) = omega arith
 
 op_registers_few : (d : Bool) (op : Op) → op_registers d op ≤ 5
 op_registers_few d (Add cell amount) = either (is_small amount) 2 3 5 (omega arith) (omega arith)
 op_registers_few d (Put cell value) = either (value == 0) 1 2 5 (omega arith) (omega arith)
 op_registers_few d (Keep cell reg) = omega arith
 op_registers_few d (Top cell reg) = either d 2 5 5 (omega arith) (omega arith)
+op_registers_few d (Count cell) = either d 2 3 5 (omega arith) (omega arith)
+op_registers_few d (Log cell bits value) = omega arith
 
 pub registers_few : (d : Bool) (ops : List Op) → registers_for d ops ≤ 5
 registers_few d [] = omega arith

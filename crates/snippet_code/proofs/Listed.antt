@@ -1,14 +1,17 @@
 -- Cells as a list, and as words of memory.
-use Rattle.std.proofs.Common.{◌≡◌, ◌≢◌, ℕ, ◌<◌, ◌⊎◌, inl, inr, List, [], ◌∷◌, length, map, get_or, set, refl, ap, sym, ◌∙◌, arith}
+use Rattle.std.proofs.Common.{◌≡◌, ◌≢◌, ℕ, ◌+◌, ◌*◌, ◌/◌, ◌%◌, ◌^◌, ◌<◌, ◌≤◌, ◌⊎◌, inl, inr, max, List, [], ◌∷◌, length, map, get_or, set, refl, ap, ap₂, sym, ◌∙◌, arith}
 use Rattle.std.specs.List.{range_with_len}
 use Rattle.std.proofs.Math.Seq.{ext_get_or}
+use Rattle.std.proofs.lemmas.Bool.{cases_lt}
+use Rattle.std.proofs.lemmas.Nat.{mod_below, pow_pos}
 use Rattle.std.proofs.lemmas.List.{get_or-set_same, get_or-set_other, length-set}
 use Rattle.std.proofs.lemmas.List.FromFn.{get_or-map-range_with_len, length-map-range_with_len}
 use Rattle.code_runs.proofs.Hops.{equal_or_not}
 use Rattle.snippets.specs.declared.snippet.Op.{Op}
-use Rattle.snippets.specs.Cells.{value_after, updated_by, update}
-use Rattle.snippets.specs.Ops.{cell_of}
-use Rattle.snippet_code.specs.Cells.{cell_at, IsCellOf}
+use Rattle.snippets.specs.declared.snippet.Op.TheVariants.{Add, Put, Keep, Top, Count, Log}
+use Rattle.snippets.specs.Cells.{changed, with_wide, updated_by, update}
+use Rattle.snippets.specs.Ops.{cell_of, cells_end}
+use Rattle.snippet_code.specs.Cells.{cell_at, IsCellIn, IsCellOf}
 use Rattle.snippet_code.proofs.Working.{put, update_one, update_all}
 use Rattle.snippet_code.proofs.Blocks.{put_same, put_other}
 
@@ -52,19 +55,63 @@ listed_put base n g c v inside =
         ∙ put_other (cell_at base c) v g (cell_at base k) (λ e. ne (let f : k ≡ c = omega arith in f))
         ∙ sym (listed_at base n g k below) ∙ sym (get_or-set_other (listed base n g) c k v 0 ne)
 
-listed_one : (base n : ℕ) (regs : ℕ → ℕ) (op : Op) (g : ℕ → ℕ) → cell_of op < n
+-- a cell changed by its value
+listed_changed : (base n : ℕ) (g : ℕ → ℕ) (c : ℕ) (f : ℕ → ℕ) → c < n
+    → listed base n (put (cell_at base c) (f (g (cell_at base c))) g) ≡ changed (listed base n g) c f
+listed_changed base n g c f inside =
+    listed_put base n g c (f (g (cell_at base c))) inside
+    ∙ ap (λ z. set (listed base n g) c (f z)) (sym (listed_at base n g c inside))
+
+listed_wide : (base n cell : ℕ) (g : ℕ → ℕ) (number : ℕ) → cell + 1 < n
+    → listed base n
+    (put (cell_at base (cell + 1)) (number % 2 ^ 32) (put (cell_at base cell) (number / 2 ^ 32) g))
+    ≡ with_wide (listed base n g) cell number
+listed_wide base n cell g number inside =
+    listed_put base n (put (cell_at base cell) (number / 2 ^ 32) g) (cell + 1) (number % 2 ^ 32) inside
+    ∙ ap (λ (cells : List ℕ). set cells (cell + 1) (number % 2 ^ 32))
+    (listed_put base n g cell (number / 2 ^ 32) (omega arith))
+
+-- a ring's place, and then the cell before it
+listed_ring : (base n cell place value : ℕ) (g : ℕ → ℕ) (f : ℕ → ℕ) → cell < place → place < n
+    → listed base n (put (cell_at base cell) (f (g (cell_at base cell))) (put (cell_at base place) value g))
+    ≡ changed (set (listed base n g) place value) cell f
+listed_ring base n cell place value g f before inside =
+    let cells = listed base n g in
+    listed_put base n (put (cell_at base place) value g) cell (f (g (cell_at base cell))) (omega arith)
+    ∙ ap (λ (z : List ℕ). set z cell (f (g (cell_at base cell)))) (listed_put base n g place value inside)
+    ∙ ap (λ z. set (set cells place value) cell (f z))
+    (sym (listed_at base n g cell (omega arith))
+    ∙ sym (get_or-set_other cells place cell value 0 (λ e. omega arith)))
+
+listed_one : (base n : ℕ) (regs : ℕ → ℕ) (op : Op) (g : ℕ → ℕ) → ((k : ℕ) → IsCellIn op k → k < n)
     → listed base n (update_one (cell_at base) regs op g) ≡ updated_by regs op (listed base n g)
-listed_one base n regs op g inside =
-    listed_put base n g (cell_of op) (value_after regs op (g (cell_at base (cell_of op)))) inside
-    ∙ ap (λ z. set (listed base n g) (cell_of op) (value_after regs op z))
-    (sym (listed_at base n g (cell_of op) inside))
+listed_one base n regs (Add cell amount) g inside =
+    listed_changed base n g cell (λ v. (v + amount) % 2 ^ 32) (inside cell (omega arith, omega arith))
+listed_one base n regs (Put cell value) g inside =
+    listed_changed base n g cell (λ v. value) (inside cell (omega arith, omega arith))
+listed_one base n regs (Keep cell reg) g inside =
+    listed_changed base n g cell (λ v. regs reg) (inside cell (omega arith, omega arith))
+listed_one base n regs (Top cell reg) g inside =
+    listed_changed base n g cell (λ v. max v (regs reg)) (inside cell (omega arith, omega arith))
+listed_one base n regs (Count cell) g inside =
+    let next = inside (cell + 1) (omega arith, omega arith) in
+    listed_wide base n cell g ((2 ^ 32 * g (cell_at base cell) + g (cell_at base (cell + 1)) + 1) % 2 ^ 64) next
+    ∙ ap₂ (λ x y. with_wide (listed base n g) cell ((2 ^ 32 * x + y + 1) % 2 ^ 64))
+    (sym (listed_at base n g cell (omega arith))) (sym (listed_at base n g (cell + 1) next))
+listed_one base n regs (Log cell bits value) g inside =
+    let place = cell + 1 + g (cell_at base cell) % 2 ^ bits in
+    let small = mod_below (g (cell_at base cell)) (2 ^ bits) (pow_pos bits) in
+    let within = inside place (omega arith, omega arith) in
+    listed_ring base n cell place value g (λ v. (v + 1) % 2 ^ 32) (omega arith) within
+    ∙ ap (λ z. changed (set (listed base n g) (cell + 1 + z % 2 ^ bits) value) cell (λ v. (v + 1) % 2 ^ 32))
+    (sym (listed_at base n g cell (omega arith)))
 
 pub listed_all : (base n : ℕ) (regs : ℕ → ℕ) (ops : List Op) (g : ℕ → ℕ) → ((k : ℕ) → IsCellOf ops k → k < n)
     → listed base n (update_all (cell_at base) regs ops g) ≡ update regs ops (listed base n g)
 listed_all base n regs [] g inside = refl
 listed_all base n regs (op ∷ rest) g inside =
     listed_all base n regs rest (update_one (cell_at base) regs op g) (λ k h. inside k (inr h))
-    ∙ ap (update regs rest) (listed_one base n regs op g (inside (cell_of op) (inl refl)))
+    ∙ ap (update regs rest) (listed_one base n regs op g (λ k h. inside k (inl h)))
 
 -- ---- what stays
 
@@ -72,25 +119,55 @@ listed_all base n regs (op ∷ rest) g inside =
 away : (b v : ℕ) (g : ℕ → ℕ) (a : ℕ) → b ≢ a → put b v g a ≡ g a
 away b v g a ne = put_other b v g a (λ e. ne (sym e))
 
+one_away : (base : ℕ) (regs : ℕ → ℕ) (op : Op) (g : ℕ → ℕ) (a : ℕ)
+    → ((k : ℕ) → IsCellIn op k → cell_at base k ≢ a) → update_one (cell_at base) regs op g a ≡ g a
+one_away base regs (Add cell amount) g a far =
+    away (cell_at base cell) ((g (cell_at base cell) + amount) % 2 ^ 32) g a (far cell (omega arith, omega arith))
+one_away base regs (Put cell value) g a far =
+    away (cell_at base cell) value g a (far cell (omega arith, omega arith))
+one_away base regs (Keep cell reg) g a far =
+    away (cell_at base cell) (regs reg) g a (far cell (omega arith, omega arith))
+one_away base regs (Top cell reg) g a far =
+    away (cell_at base cell) (max (g (cell_at base cell)) (regs reg)) g a (far cell (omega arith, omega arith))
+one_away base regs (Count cell) g a far =
+    let number = (2 ^ 32 * g (cell_at base cell) + g (cell_at base (cell + 1)) + 1) % 2 ^ 64 in
+    away (cell_at base (cell + 1)) (number % 2 ^ 32) (put (cell_at base cell) (number / 2 ^ 32) g) a
+    (far (cell + 1) (omega arith, omega arith))
+    ∙ away (cell_at base cell) (number / 2 ^ 32) g a (far cell (omega arith, omega arith))
+one_away base regs (Log cell bits value) g a far =
+    let place = cell + 1 + g (cell_at base cell) % 2 ^ bits in
+    let small = mod_below (g (cell_at base cell)) (2 ^ bits) (pow_pos bits) in
+    away (cell_at base cell) ((g (cell_at base cell) + 1) % 2 ^ 32) (put (cell_at base place) value g) a
+    (far cell (omega arith, omega arith))
+    ∙ away (cell_at base place) value g a (far place (omega arith, omega arith))
+
 pub all_away : (base : ℕ) (regs : ℕ → ℕ) (ops : List Op) (g : ℕ → ℕ) (a : ℕ)
     → ((k : ℕ) → IsCellOf ops k → cell_at base k ≢ a) → update_all (cell_at base) regs ops g a ≡ g a
 all_away base regs [] g a far = refl
 all_away base regs (op ∷ rest) g a far =
     all_away base regs rest (update_one (cell_at base) regs op g) a (λ k h. far k (inr h))
-    ∙ away (cell_at base (cell_of op)) (value_after regs op (g (cell_at base (cell_of op)))) g a
-    (far (cell_of op) (inl refl))
+    ∙ one_away base regs op g a (λ k h. far k (inl h))
 
 -- whether a cell is worked on
+in_or_not : (op : Op) (k : ℕ) → IsCellIn op k ⊎ (IsCellIn op k → ⊥)
+in_or_not op k = by (cases_lt k (cell_of op)) (cases_lt k (cells_end op))
+  where
+    by : (k < cell_of op) ⊎ (cell_of op ≤ k) → (k < cells_end op) ⊎ (cells_end op ≤ k)
+        → IsCellIn op k ⊎ (IsCellIn op k → ⊥)
+    by (inl low) y = inr (λ h. omega (arith, h.0))
+    by (inr from) (inl below) = inl (from, below)
+    by (inr from) (inr past) = inr (λ h. omega (arith, h.1))
+
 pub cell_or_not : (ops : List Op) (k : ℕ) → IsCellOf ops k ⊎ (IsCellOf ops k → ⊥)
 cell_or_not [] k = inr (λ h. h)
-cell_or_not (op ∷ rest) k = go (equal_or_not k (cell_of op)) (cell_or_not rest k)
+cell_or_not (op ∷ rest) k = go (in_or_not op k) (cell_or_not rest k)
   where
-    neither : (k ≢ cell_of op) → (IsCellOf rest k → ⊥) → (k ≡ cell_of op) ⊎ IsCellOf rest k → ⊥
-    neither ne none (inl e) = ne e
-    neither ne none (inr h) = none h
+    neither : (IsCellIn op k → ⊥) → (IsCellOf rest k → ⊥) → IsCellIn op k ⊎ IsCellOf rest k → ⊥
+    neither out none (inl h) = out h
+    neither out none (inr h) = none h
 
-    go : (k ≡ cell_of op) ⊎ (k ≢ cell_of op) → IsCellOf rest k ⊎ (IsCellOf rest k → ⊥)
-        → ((k ≡ cell_of op) ⊎ IsCellOf rest k) ⊎ ((k ≡ cell_of op) ⊎ IsCellOf rest k → ⊥)
-    go (inl e) b = inl (inl e)
-    go (inr ne) (inl h) = inl (inr h)
-    go (inr ne) (inr none) = inr (neither ne none)
+    go : IsCellIn op k ⊎ (IsCellIn op k → ⊥) → IsCellOf rest k ⊎ (IsCellOf rest k → ⊥)
+        → (IsCellIn op k ⊎ IsCellOf rest k) ⊎ (IsCellIn op k ⊎ IsCellOf rest k → ⊥)
+    go (inl h) b = inl (inl h)
+    go (inr out) (inl h) = inl (inr h)
+    go (inr out) (inr none) = inr (neither out none)

@@ -11,7 +11,7 @@ use Rattle.v8_decode.proofs.Members.{has-members, is_same-self}
 use Rattle.scavenge.specs.Picks.{registers, is_register, register_count}
 use Rattle.scavenge.proofs.Picks.{all_off, joined, registers_ascend, registers_count}
 use Rattle.snippets.specs.declared.snippet.Op.{Op}
-use Rattle.snippets.specs.declared.snippet.Op.TheVariants.{Add, Put, Keep, Top}
+use Rattle.snippets.specs.declared.snippet.Op.TheVariants.{Add, Put, Keep, Top, Count, Log}
 use Rattle.snippets.specs.Cells.{read_by, named_by}
 use Rattle.snippet_code.proofs.Working.{IsRead}
 
@@ -33,6 +33,10 @@ has_read (Add cell amount ∷ ops) q (inl h) = absurd h
 has_read (Add cell amount ∷ ops) q (inr h) = has_read ops q h
 has_read (Put cell value ∷ ops) q (inl h) = absurd h
 has_read (Put cell value ∷ ops) q (inr h) = has_read ops q h
+has_read (Count cell ∷ ops) q (inl h) = absurd h
+has_read (Count cell ∷ ops) q (inr h) = has_read ops q h
+has_read (Log cell bits value ∷ ops) q (inl h) = absurd h
+has_read (Log cell bits value ∷ ops) q (inr h) = has_read ops q h
 has_read (Keep cell reg ∷ ops) q (inl h) = first_has reg q (read_by ops) h
 has_read (Keep cell reg ∷ ops) q (inr h) = ap (λ b. is_same (Reg q) (Reg reg) || b) (has_read ops q h) ∙ or_true _
 has_read (Top cell reg ∷ ops) q (inl h) = first_has reg q (read_by ops) h
@@ -120,6 +124,8 @@ read_few : (ops : List Op) → register_count (read_by ops) ≤ length ops
 read_few [] = omega arith
 read_few (Add cell amount ∷ ops) = let h = read_few ops in omega arith
 read_few (Put cell value ∷ ops) = let h = read_few ops in omega arith
+read_few (Count cell ∷ ops) = let h = read_few ops in omega arith
+read_few (Log cell bits value ∷ ops) = let h = read_few ops in omega arith
 read_few (Keep cell reg ∷ ops) = let h = read_few ops in omega arith
 read_few (Top cell reg ∷ ops) = let h = read_few ops in omega arith
 

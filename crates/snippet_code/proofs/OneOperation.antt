@@ -32,6 +32,13 @@ sum_low u q a e h =
     ap (λ z. wrapped (z + wrapped (a % 1024))) e
     ∙ (let f : wrapped (1024 * (a / 1024) + wrapped (a % 1024)) ≡ a = omega arith in f)
 
+-- the word behind the one that stands so far behind an address whose upper bits a register has
+pub sum_next : (u : State) (q a off : ℕ) → register_of u q ≡ 1024 * (a / 1024) + off → a + off + 4 < 2 ^ 32
+    → sum_of u q (o.Imm (pos (a % 1024 + 4))) ≡ a + off + 4
+sum_next u q a off e h =
+    ap (λ z. wrapped (z + wrapped (a % 1024 + 4))) e
+    ∙ (let f : wrapped (1024 * (a / 1024) + off + wrapped (a % 1024 + 4)) ≡ a + off + 4 = omega arith in f)
+
 pub high_is : (a : ℕ) → a < 2 ^ 32 → wrapped (1024 * (a / 1024)) ≡ 1024 * (a / 1024)
 high_is a h = omega arith
 
@@ -211,12 +218,12 @@ module _ {s : State} {count : ℕ} {May : ℕ → Type 0} {counted : ℕ → Boo
             store_low (cell_at cells cell) (r 0) (r 1) ∷ [])
         go true enough h room stand =
             done _ 4 (omega arith)
-            (adds_small (cell_at cells cell) amount room enough (h.cell) (h.free) (let z = h.below in omega arith)
-            h.numbers.1 stand)
+            (adds_small (cell_at cells cell) amount room enough (h.cell cell (omega arith, omega arith))
+            (h.free cell (omega arith, omega arith)) (let z = h.below in omega arith) h.numbers.1 stand)
         go false enough h room stand =
             done _ 6 (omega arith)
-            (adds_other (cell_at cells cell) amount room enough (h.cell) (h.free) (let z = h.below in omega arith)
-            h.numbers.1 stand)
+            (adds_other (cell_at cells cell) amount room enough (h.cell cell (omega arith, omega arith))
+            (h.free cell (omega arith, omega arith)) (let z = h.below in omega arith) h.numbers.1 stand)
 
     pub put_works : (cell value : ℕ) → Doing (Put cell value) (op_words cells d r (Put cell value))
     put_works cell value fit = go (value == 0) refl fit.enough fit
@@ -231,16 +238,17 @@ module _ {s : State} {count : ℕ} {May : ℕ → Type 0} {counted : ℕ → Boo
             with_number ops.ADD (r 1) (pos (low value)) (r 1) ∷ store_low (cell_at cells cell) (r 0) (r 1) ∷ [])
         go true e enough h room stand =
             done _ 2 (omega arith)
-            (puts_register (cell_at cells cell) 0 value room enough (h.cell) (h.free) (let z = h.below in omega arith)
-            (omega arith) (λ k b z. let some = c.some k b in absurd (omega arith)) (zero_is e) stand)
+            (puts_register (cell_at cells cell) 0 value room enough (h.cell cell (omega arith, omega arith))
+            (h.free cell (omega arith, omega arith)) (let z = h.below in omega arith) (omega arith) (λ k b z. let some = c.some k b in absurd (omega arith)) (zero_is e) stand)
         go false e enough h room stand =
             done _ 4 (omega arith)
-            (puts_number (cell_at cells cell) value room enough (h.cell) (h.free) (let z = h.below in omega arith)
-            h.numbers.1 stand)
+            (puts_number (cell_at cells cell) value room enough (h.cell cell (omega arith, omega arith))
+            (h.free cell (omega arith, omega arith)) (let z = h.below in omega arith) h.numbers.1 stand)
 
     pub keep_works : (cell reg : ℕ) → Doing (Keep cell reg) (op_words cells d r (Keep cell reg))
     keep_works cell reg h room stand =
         done _ 2 (omega arith)
-        (puts_register (cell_at cells cell) reg (register_of s reg) room h.enough (h.cell) (h.free)
+        (puts_register (cell_at cells cell) reg (register_of s reg) room h.enough
+        (h.cell cell (omega arith, omega arith)) (h.free cell (omega arith, omega arith))
         (let z = h.below in omega arith)
         h.numbers.1 (λ k b. h.unpicked reg k refl b) refl stand)

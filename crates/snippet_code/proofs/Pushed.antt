@@ -1,5 +1,5 @@
 -- Words are added for one operation after the other, and for one register after the other.
-use Rattle.std.proofs.Common.{◌≡◌, ℕ, zero, suc, ◌+◌, ◌^◌, ◌<◌, ◌≤◌, Bool, List, [], ◌∷◌, ◌++◌, length, map, take, get_or, ap, sym, ◌∙◌, subst, arith, append_assoc, append-nil}
+use Rattle.std.proofs.Common.{◌≡◌, ℕ, zero, suc, ◌+◌, ◌<◌, ◌≤◌, Bool, List, [], ◌∷◌, ◌++◌, length, map, take, get_or, ap, sym, ◌∙◌, subst, arith, append_assoc, append-nil}
 use Rattle.std.specs.Prelude.{slice_index}
 use Rattle.std.specs.List.{All}
 use Rattle.std.proofs.lemmas.List.{take_more, map-append}
@@ -9,10 +9,8 @@ use Rattle.v8_decode.specs.declared.Instr.{Instr}
 use Rattle.v8_encode.specs.Encoding.{word_of}
 use Rattle.snippets.specs.declared.snippet.Op.{Op}
 use Rattle.snippets.specs.Grammar.{IsOp}
-use Rattle.snippets.specs.Ops.{cell_of}
-use Rattle.snippet_code.specs.Cells.{cell_at}
 use Rattle.snippet_code.specs.Words.{op_registers, registers_for, op_words, all_words, numbered}
-use Rattle.snippet_code.specs.Laws.{EndLow}
+use Rattle.snippet_code.specs.Laws.{EndsLow, EndLow}
 
 -- words that were added after others
 more_words : (before : List ℕ) (xs ys : List Instr) (now after : List ℕ) → now ≡ before ++ map word_of xs
@@ -46,10 +44,8 @@ op_room d ops i op below is =
     each (x ∷ xs) (suc k) h = let z = each xs k (omega arith) in omega arith
 
 pub op_low : (base : ℕ) (ops : List Op) (i : ℕ) (op : Op) → i < length ops → op ≡ get_or ops i op → EndLow base ops
-    → cell_at base (cell_of op) + 4 ≤ 2 ^ 31
-op_low base ops i op below is low =
-    subst (λ (z : Op). cell_at base (cell_of z) + 4 ≤ 2 ^ 31) (sym is)
-    (All-get_or (λ z. cell_at base (cell_of z) + 4 ≤ 2 ^ 31) ops i op below low)
+    → EndsLow base op
+op_low base ops i op below is low = subst (EndsLow base) (sym is) (All-get_or (EndsLow base) ops i op below low)
 
 -- one register more
 numbered_more : (f : ℕ → ℕ → Instr) (n : ℕ) (regs : List ℕ) (i : ℕ) → i < length regs

@@ -11,7 +11,7 @@ use Rattle.v8_step.proofs.ValidStates.{register_of-range}
 use Rattle.code_runs.specs.Straight.{Says, StandIn}
 use Rattle.code_runs.proofs.Hops.{equal_or_not}
 use Rattle.snippets.specs.declared.snippet.Op.{Op}
-use Rattle.snippets.specs.declared.snippet.Op.TheVariants.{Add, Put, Keep, Top}
+use Rattle.snippets.specs.declared.snippet.Op.TheVariants.{Add, Put, Keep, Top, Count, Log}
 use Rattle.snippet_code.specs.Cells.{cell_at, kept_word}
 use Rattle.code_runs.specs.Page.{of_page}
 use Rattle.snippet_code.specs.Words.{op_words, all_words, numbered, save, restore, low, high}
@@ -20,6 +20,7 @@ use Rattle.code_runs.specs.Counted.{one_if}
 use Rattle.snippet_code.proofs.Working.{update_one, update_all, Does, AreFit, AreFrom, HavePage, saved, AreSaved}
 use Rattle.snippet_code.proofs.OneOperation.{as_many, Doing, add_works, put_works, keep_works}
 use Rattle.snippet_code.proofs.Greater.{top_works}
+use Rattle.snippet_code.proofs.Wide.{count_works, log_works}
 use Rattle.snippet_code.proofs.Blocks.{put_same, put_other, ld, st}
 
 -- ---- words of two lists
@@ -128,6 +129,8 @@ module _ {s : State} {count : ℕ} {May : ℕ → Type 0} {counted : ℕ → Boo
   op_works w cells d kept (Put cell value) = put_works c w cells d kept cell value
   op_works w cells d kept (Keep cell reg) = keep_works c w cells d kept cell reg
   op_works w cells d kept (Top cell reg) = top_works c w cells d kept cell reg
+  op_works w cells d kept (Count cell) = count_works c w cells d kept cell
+  op_works w cells d kept (Log cell bits value) = log_works c w cells d kept cell bits value
 
   pub all_work : (cells : ℕ) (d : Bool) (ops : List Op) {n t : ℕ} {g : ℕ → ℕ}
       → Does s count May counted r want d n t g → AreFit May counted r want cells d ops

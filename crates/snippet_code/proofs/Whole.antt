@@ -25,14 +25,13 @@ use Rattle.code_runs.proofs.Straight.{words_say}
 use Rattle.scavenge.specs.Picks.{ArePicked, picked, spills}
 use Rattle.scavenge.proofs.Picks.{are_picked}
 use Rattle.snippets.specs.declared.snippet.Op.{Op}
-use Rattle.snippets.specs.declared.snippet.Op.TheVariants.{Add, Put, Keep, Top}
+use Rattle.snippets.specs.declared.snippet.Op.TheVariants.{Add, Put, Keep, Top, Count, Log}
 use Rattle.snippets.specs.Cells.{update, named_by}
 use Rattle.snippets.specs.Grammar.{IsOp}
-use Rattle.snippets.specs.Ops.{cell_of}
 use Rattle.snippet_code.specs.Cells.{cell_at, words_at, IsCellOf, kept_word}
 use Rattle.snippet_code.specs.Words.{op_registers, registers_for, all_words, numbered, save, restore}
 use Rattle.snippet_code.specs.Runs.{MayStore, IsAboutToRun, RunsPast}
-use Rattle.snippet_code.specs.Laws.{EndLow, SnippetsRun}
+use Rattle.snippet_code.specs.Laws.{EndsLow, EndLow, SnippetsRun}
 use Rattle.snippet_code.proofs.Working.{HasBlock, Works, Does, put, update_all, IsRead, AreFit, AreFrom, HavePage, saved, AreSaved}
 use Rattle.snippet_code.proofs.Blocks.{put_same, put_other, works_none}
 use Rattle.snippet_code.proofs.OneOperation.{as_many}
@@ -72,14 +71,15 @@ at_none cost n e = ap (λ z. z * n) e ∙ (let f : 0 * n ≡ 0 = omega arith in 
 -- ---- what operations need
 cell_low : (base : ℕ) (ops : List Op) → EndLow base ops → (k : ℕ) → IsCellOf ops k → cell_at base k + 4 ≤ 2 ^ 31
 cell_low base [] low k h = absurd h
-cell_low base (op ∷ rest) low k (inl e) =
-    let here = All-head (λ o. cell_at base (cell_of o) + 4 ≤ 2 ^ 31) op rest low in omega arith
-cell_low base (op ∷ rest) low k (inr h) =
-    cell_low base rest (All-tail (λ o. cell_at base (cell_of o) + 4 ≤ 2 ^ 31) op rest low) k h
+cell_low base (op ∷ rest) low k (inl h) =
+    let end = (All-head (EndsLow base) op rest low).end in omega (arith, end, h.1)
+cell_low base (op ∷ rest) low k (inr h) = cell_low base rest (All-tail (EndsLow base) op rest low) k h
 
 read_below : (op : Op) (q : ℕ) → IsOp op → IsRead op q → q < 32
 read_below (Add cell amount) q h e = absurd e
 read_below (Put cell value) q h e = absurd e
+read_below (Count cell) q h e = absurd e
+read_below (Log cell bits value) q h e = absurd e
 read_below (Keep cell reg) q h e = subst (λ z. z < 32) (sym e) h.1
 read_below (Top cell reg) q h e = subst (λ z. z < 32) (sym e) h.1
 
@@ -102,14 +102,14 @@ module _ (counted : ℕ → Bool) (base : ℕ) (r : ℕ → ℕ) (want : ℕ) (d
       let all : max (op_registers d op) (registers_for d rest) ≤ want = enough in
       let is = All-head IsOp op rest are in (
         record {
-          cell = may (cell_of op) (inl refl);
-          free = free (cell_of op) (inl refl);
-          below = cell_low base (op ∷ rest) low (cell_of op) (inl refl);
+          cell = λ k m. may k (inl m);
+          free = λ k m. free k (inl m);
+          below = (All-head (EndsLow base) op rest low).end;
           unpicked = λ q k m b. unpicked q k (λ z. named q (inl m) z (read_below op q is m)) b;
           enough = omega arith;
           numbers = is;
         },
-        fits_of rest (All-tail IsOp op rest are) (All-tail (λ o. cell_at base (cell_of o) + 4 ≤ 2 ^ 31) op rest low)
+        fits_of rest (All-tail IsOp op rest are) (All-tail (EndsLow base) op rest low)
             (λ k m. may k (inr m)) (λ k m. free k (inr m)) (λ q m. named q (inr m)) (omega arith),
       )
 

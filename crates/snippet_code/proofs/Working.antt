@@ -1,24 +1,23 @@
 -- What is kept of code that works in a few picked registers and in some words of memory, where branches only lead
 -- forward.
-use Rattle.std.proofs.Common.{◌≡◌, ◌≢◌, ℕ, suc, ◌+◌, ◌*◌, ◌-◌, ◌%◌, ◌^◌, ◌<◌, ◌≤◌, ◌==◌, Bool, false, Option, None, List, [], ◌∷◌, length}
+use Rattle.std.proofs.Common.{◌≡◌, ◌≢◌, ℕ, suc, ◌+◌, ◌*◌, ◌-◌, ◌/◌, ◌%◌, ◌^◌, ◌<◌, ◌≤◌, ◌==◌, max, Bool, false, Option, None, List, [], ◌∷◌, length}
 use Rattle.std.specs.Prelude.{slice_index, if◌then◌else◌}
 use Rattle.v8_alu.specs.declared.Codes.{Codes}
 use Rattle.v8_memory.specs.Regions.{Memory, code_of}
 use Rattle.v8_windows.specs.Registers.{place_of, register_in}
 use Rattle.v8_step.specs.declared.Ending.{Ending}
 use Rattle.v8_step.specs.declared.Slot.TheVariants.{NoSlot}
-use Rattle.v8_step.specs.State.{State, register_of}
+use Rattle.v8_step.specs.State.{State}
 use Rattle.v8_step.specs.Valid.{IsValid}
 use Rattle.code_runs.specs.Leads.{Leads, IsSilent}
 use Rattle.code_runs.specs.StoredWords.{memory_word, Stores, CanStore}
 use Rattle.code_runs.specs.Straight.{IsReady}
 use Rattle.code_runs.specs.TwoRegisters.{IsBetween}
 use Rattle.snippets.specs.declared.snippet.Op.{Op}
-use Rattle.snippets.specs.declared.snippet.Op.TheVariants.{Keep, Top}
-use Rattle.snippets.specs.Cells.{value_after}
+use Rattle.snippets.specs.declared.snippet.Op.TheVariants.{Add, Put, Keep, Top, Count, Log}
 use Rattle.snippets.specs.Grammar.{IsOp}
-use Rattle.snippets.specs.Ops.{cell_of}
-use Rattle.snippet_code.specs.Cells.{cell_at, kept_word}
+use Rattle.snippets.specs.Ops.{cells_end}
+use Rattle.snippet_code.specs.Cells.{IsCellIn, cell_at, kept_word}
 use Rattle.code_runs.specs.Counted.{count_stores}
 use Rattle.snippet_code.specs.Words.{op_registers}
 
@@ -102,7 +101,15 @@ pub record Does (s : State) (count : ℕ) (May : ℕ → Type 0) (counted : ℕ 
 
 -- Words after an operation, where `at` gives the address of a cell.
 abbrev pub update_one : (ℕ → ℕ) → (ℕ → ℕ) → Op → (ℕ → ℕ) → ℕ → ℕ
-update_one at regs op g = put (at (cell_of op)) (value_after regs op (g (at (cell_of op)))) g
+update_one at regs (Add cell amount) g = put (at cell) ((g (at cell) + amount) % 2 ^ 32) g
+update_one at regs (Put cell value) g = put (at cell) value g
+update_one at regs (Keep cell reg) g = put (at cell) (regs reg) g
+update_one at regs (Top cell reg) g = put (at cell) (max (g (at cell)) (regs reg)) g
+update_one at regs (Count cell) g =
+    let number = (2 ^ 32 * g (at cell) + g (at (cell + 1)) + 1) % 2 ^ 64 in
+    put (at (cell + 1)) (number % 2 ^ 32) (put (at cell) (number / 2 ^ 32) g)
+update_one at regs (Log cell bits value) g =
+    put (at cell) ((g (at cell) + 1) % 2 ^ 32) (put (at (cell + 1 + g (at cell) % 2 ^ bits)) value g)
 
 abbrev pub update_all : (ℕ → ℕ) → (ℕ → ℕ) → List Op → (ℕ → ℕ) → ℕ → ℕ
 update_all at regs [] g = g
@@ -114,12 +121,12 @@ IsRead (Keep cell reg) q = q ≡ reg
 IsRead (Top cell reg) q = q ≡ reg
 IsRead _ q = ⊥
 
--- what it needs: its cell is a word that may be stored and isn't counted, and its register isn't picked
+-- what it needs: its cells are words that may be stored and aren't counted, and its register isn't picked
 pub record IsFit (May : ℕ → Type 0) (counted : ℕ → Bool) (r : ℕ → ℕ) (want base : ℕ) (d : Bool) (op : Op)
     : Type 0 where
-  pub cell : May (cell_at base (cell_of op))
-  pub free : counted (cell_at base (cell_of op)) ≡ false
-  pub below : cell_at base (cell_of op) + 4 ≤ 2 ^ 31
+  pub cell : (k : ℕ) → IsCellIn op k → May (cell_at base k)
+  pub free : (k : ℕ) → IsCellIn op k → counted (cell_at base k) ≡ false
+  pub below : cell_at base (cells_end op) ≤ 2 ^ 31
   pub unpicked : (q k : ℕ) → IsRead op q → k < want → q ≢ r k
   pub enough : op_registers d op ≤ want
   pub numbers : IsOp op

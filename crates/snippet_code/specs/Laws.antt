@@ -1,19 +1,29 @@
 -- What holds of the words of snippets.
-use Rattle.std.specs.Prelude.{◌≡◌, ℕ, ◌+◌, ◌*◌, ◌%◌, ◌^◌, ◌≤◌, List, length, map}
+use Rattle.std.specs.Prelude.{◌≡◌, ℕ, ◌*◌, ◌%◌, ◌^◌, ◌≤◌, List, length, map}
 use Rattle.std.specs.List.{All}
 use Rattle.v8_decode.specs.declared.Part.{Part}
 use Rattle.v8_decode.specs.Words.{decode_of}
 use Rattle.snippets.specs.declared.snippet.Op.{Op}
 use Rattle.snippets.specs.Cells.{named_by}
 use Rattle.snippets.specs.Grammar.{IsOp}
-use Rattle.snippets.specs.Ops.{cell_of}
+use Rattle.snippets.specs.declared.snippet.Op.TheVariants.{Log}
+use Rattle.snippets.specs.Ops.{cells_end}
 use Rattle.snippet_code.specs.Cells.{cell_at}
 use Rattle.snippet_code.specs.Words.{snippet_words, code_of_snippet, cost_of, spills_of}
 use Rattle.snippet_code.specs.Runs.{DoesJust}
 
+-- a ring has 1 to 16 bits
+abbrev pub HasBits : Op → Type 0
+HasBits (Log cell bits value) = (1 ≤ bits) × (bits ≤ 16)
+HasBits op = Unit {0}
+
 -- its cells end at or below the middle of memory
+pub record EndsLow (base : ℕ) (op : Op) : Type 0 where
+  pub bits : HasBits op
+  pub end : cell_at base (cells_end op) ≤ 2 ^ 31
+
 abbrev pub EndLow : ℕ → List Op → Type 0
-EndLow base ops = All (λ op. cell_at base (cell_of op) + 4 ≤ 2 ^ 31) ops
+EndLow base ops = All (EndsLow base) ops
 
 -- A snippet, and where the first cell stands.
 pub record CanExpand (base : ℕ) (ops : List Op) : Type 0 where

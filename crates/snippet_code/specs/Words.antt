@@ -14,7 +14,7 @@ use Rattle.v8_encode.specs.Encoding.{word_of}
 use Rattle.code_runs.specs.Page.{of_page}
 use Rattle.scavenge.specs.Picks.{registers, picked, spills, spilled}
 use Rattle.snippets.specs.declared.snippet.Op.{Op}
-use Rattle.snippets.specs.declared.snippet.Op.TheVariants.{Add, Put, Keep, Top}
+use Rattle.snippets.specs.declared.snippet.Op.TheVariants.{Add, Put, Keep, Top, Count, Log}
 use Rattle.snippet_code.specs.Cells.{cell_at}
 
 -- ---- one operation, which works in registers r 0, r 1, ..
@@ -33,6 +33,13 @@ load_low a base rd = i.Load loads.LD rd base (o.Imm (pos (low a)))
 abbrev pub store_low : ℕ → ℕ → ℕ → Instr
 store_low a base rd = i.Store stores.ST rd base (o.Imm (pos (low a)))
 
+-- and the next one; one register has the upper bits of both, since the immediate is at most 1,027
+abbrev pub load_next : ℕ → ℕ → ℕ → Instr
+load_next a base rd = i.Load loads.LD rd base (o.Imm (pos (low a + 4)))
+
+abbrev pub store_next : ℕ → ℕ → ℕ → Instr
+store_next a base rd = i.Store stores.ST rd base (o.Imm (pos (low a + 4)))
+
 -- an operation on two registers, or on a register and a number, that leaves the codes (B.11, B.12)
 abbrev pub of_two : ops.the_data → ℕ → ℕ → ℕ → Instr
 of_two op rs1 rs2 rd = i.Alu op false rd rs1 (o.Reg rs2)
@@ -42,6 +49,13 @@ with_number op rs1 n rd = i.Alu op false rd rs1 (o.Imm n)
 
 abbrev pub add_low : ℕ → ℕ → Instr
 add_low n rd = with_number ops.ADD rd (pos (low n)) rd
+
+-- 1 is added, and the carry goes to the codes; the carry is added (B.13)
+abbrev pub add_one : ℕ → Instr
+add_one rd = i.Alu ops.ADD true rd rd (o.Imm (pos 1))
+
+abbrev pub add_carry : ℕ → Instr
+add_carry rd = with_number ops.ADDX rd (pos 0) rd
 
 -- the codes of a difference, and BGU with annul, over the word in its slot (B.12, B.21)
 abbrev pub compare : ℕ → ℕ → Instr
@@ -89,12 +103,33 @@ top_words a false r reg =
     ∷ with_number ops.SRA (r 3) (pos 31) (r 3) ∷ of_two ops.AND (r 3) (r 2) (r 3) ∷ of_two ops.SUB (r 1) (r 3) (r 1)
     ∷ store_low a (r 0) (r 1) ∷ []
 
+-- A counter of two words. Where the codes may change, C is the carry. Where they may not, it is bit 31 of the old low
+-- word and not the new one, since 1 is added.
+abbrev pub count_words : ℕ → Bool → (ℕ → ℕ) → List Instr
+count_words a true r =
+    high a (r 0) ∷ load_next a (r 0) (r 1) ∷ add_one (r 1) ∷ store_next a (r 0) (r 1)
+    ∷ load_low a (r 0) (r 1) ∷ add_carry (r 1) ∷ store_low a (r 0) (r 1) ∷ []
+count_words a false r =
+    high a (r 0) ∷ load_next a (r 0) (r 1) ∷ with_number ops.ADD (r 1) (pos 1) (r 2) ∷ store_next a (r 0) (r 2)
+    ∷ of_two ops.ANDN (r 1) (r 2) (r 1) ∷ with_number ops.SRL (r 1) (pos 31) (r 1)
+    ∷ load_low a (r 0) (r 2) ∷ of_two ops.ADD (r 2) (r 1) (r 2) ∷ store_low a (r 0) (r 2) ∷ []
+
+-- A ring behind the cell that has its next place: two shifts keep so many bits of that, times 4.
+abbrev pub log_words : ℕ → (ℕ → ℕ) → ℕ → ℕ → List Instr
+log_words a r bits value =
+    high a (r 0) ∷ load_low a (r 0) (r 1)
+    ∷ with_number ops.SLL (r 1) (pos (32 - bits)) (r 2) ∷ with_number ops.SRL (r 2) (pos (30 - bits)) (r 2)
+    ∷ of_two ops.ADD (r 0) (r 2) (r 2) ∷ with_number ops.ADD (r 1) (pos 1) (r 1) ∷ store_low a (r 0) (r 1)
+    ∷ high value (r 1) ∷ add_low value (r 1) ∷ store_next a (r 2) (r 1) ∷ []
+
 -- an operation, where the first cell stands at `base`
 abbrev pub op_words : ℕ → Bool → (ℕ → ℕ) → Op → List Instr
 op_words base codes_dead r (Add cell amount) = add_words (cell_at base cell) r amount
 op_words base codes_dead r (Put cell value) = put_words (cell_at base cell) r value
 op_words base codes_dead r (Keep cell reg) = keep_words (cell_at base cell) r reg
 op_words base codes_dead r (Top cell reg) = top_words (cell_at base cell) codes_dead r reg
+op_words base codes_dead r (Count cell) = count_words (cell_at base cell) codes_dead r
+op_words base codes_dead r (Log cell bits value) = log_words (cell_at base cell) r bits value
 
 abbrev pub all_words : ℕ → Bool → (ℕ → ℕ) → List Op → List Instr
 all_words base codes_dead r ops = flat_map (op_words base codes_dead r) ops
@@ -106,12 +141,16 @@ op_cost codes_dead (Add cell amount) = if is_small amount then 4 else 6
 op_cost codes_dead (Put cell value) = if value == 0 then 2 else 4
 op_cost codes_dead (Keep cell reg) = 2
 op_cost codes_dead (Top cell reg) = if codes_dead then 5 else 12
+op_cost codes_dead (Count cell) = if codes_dead then 7 else 9
+op_cost codes_dead (Log cell bits value) = 10
 
 abbrev pub op_registers : Bool → Op → ℕ
 op_registers codes_dead (Add cell amount) = if is_small amount then 2 else 3
 op_registers codes_dead (Put cell value) = if value == 0 then 1 else 2
 op_registers codes_dead (Keep cell reg) = 1
 op_registers codes_dead (Top cell reg) = if codes_dead then 2 else 5
+op_registers codes_dead (Count cell) = if codes_dead then 2 else 3
+op_registers codes_dead (Log cell bits value) = 3
 
 abbrev pub registers_for : Bool → List Op → ℕ
 registers_for codes_dead [] = 0

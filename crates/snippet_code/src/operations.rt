@@ -5,13 +5,13 @@ ghost use Rattle.std.specs.Prelude.{OnOk};
 ghost use Rattle.v8_encode.specs.Encoding.{word_of};
 ghost use Rattle.std.specs.List.{All};
 ghost use Rattle.snippets.specs.Grammar.{IsOp};
-ghost use Rattle.snippets.specs.Ops.{cell_of};
 ghost use Rattle.snippet_code.specs.Cells.{cell_at};
-ghost use Rattle.snippet_code.specs.Laws.{EndLow};
+ghost use Rattle.snippet_code.specs.Laws.{EndsLow, EndLow};
 ghost use Rattle.snippet_code.specs.Words as code;
 
 use crate::single::{
-    add_low, compare, high, load_low, next_if_greater, of_two, store_low, with_number, zero,
+    add_carry, add_low, add_one, compare, high, load_low, load_next, next_if_greater, of_two,
+    store_low, store_next, with_number, zero,
 };
 use eel_base::Addr;
 use snippets::Op;
@@ -28,6 +28,8 @@ pub fn op_registers(codes_dead: bool, op: &Op) -> u8
         Op::Put { value, .. } => if *value == 0 { 1 } else { 2 },
         Op::Keep { .. } => 1,
         Op::Top { .. } => if codes_dead { 2 } else { 5 },
+        Op::Count { .. } => if codes_dead { 2 } else { 3 },
+        Op::Log { .. } => 3,
     }
 }
 
@@ -172,6 +174,87 @@ fn top(
     }
 }
 
+// A counter of two words is raised, and the codes change.
+fn count_by_codes(words: &mut Vec<u32>, address: u32, regs: &[Reg]) -> Result<(), AllocError>
+    requires room { 2 ≤ length regs.now }
+    ensures { OnOk result (words.new.items ≡ words.old.items
+        ++ map word_of (code.count_words address true (slice_index regs.now))) }
+{
+    words.extend_from_slice(&[
+        high(address, regs[0]),
+        load_next(address, regs[0], regs[1]),
+        add_one(regs[1]),
+        store_next(address, regs[0], regs[1]),
+        load_low(address, regs[0], regs[1]),
+        add_carry(regs[1]),
+        store_low(address, regs[0], regs[1]),
+    ])
+}
+
+// A counter of two words is raised without the codes: by bit 31 of the old low word and not the new one.
+fn count_by_bits(words: &mut Vec<u32>, address: u32, regs: &[Reg]) -> Result<(), AllocError>
+    requires room { 3 ≤ length regs.now }
+    ensures { OnOk result (words.new.items ≡ words.old.items
+        ++ map word_of (code.count_words address false (slice_index regs.now))) }
+{
+    words.extend_from_slice(&[
+        high(address, regs[0]),
+        load_next(address, regs[0], regs[1]),
+        with_number(AluOp::ADD, regs[1], 1, regs[2]),
+        store_next(address, regs[0], regs[2]),
+        of_two(AluOp::ANDN, regs[1], regs[2], regs[1]),
+        with_number(AluOp::SRL, regs[1], 31, regs[1]),
+        load_low(address, regs[0], regs[2]),
+        of_two(AluOp::ADD, regs[2], regs[1], regs[2]),
+        store_low(address, regs[0], regs[2]),
+    ])
+}
+
+// A counter of two words is raised.
+fn count(
+    words: &mut Vec<u32>,
+    address: u32,
+    codes_dead: bool,
+    regs: &[Reg],
+) -> Result<(), AllocError>
+    requires room { (if codes_dead then 2 else 3) ≤ length regs.now }
+    ensures { OnOk result (words.new.items ≡ words.old.items
+        ++ map word_of (code.count_words address codes_dead (slice_index regs.now))) }
+{
+    if codes_dead {
+        count_by_codes(words, address, regs)
+    } else {
+        count_by_bits(words, address, regs)
+    }
+}
+
+// A value goes to the next place of a ring.
+fn log(
+    words: &mut Vec<u32>,
+    address: u32,
+    regs: &[Reg],
+    bits: u32,
+    value: u32,
+) -> Result<(), AllocError>
+    requires room { 3 ≤ length regs.now }
+    requires bits { bits ≤ 16 }
+    ensures { OnOk result (words.new.items ≡ words.old.items
+        ++ map word_of (code.log_words address (slice_index regs.now) bits value)) }
+{
+    words.extend_from_slice(&[
+        high(address, regs[0]),
+        load_low(address, regs[0], regs[1]),
+        with_number(AluOp::SLL, regs[1], (32 - bits) as i32, regs[2]),
+        with_number(AluOp::SRL, regs[2], (30 - bits) as i32, regs[2]),
+        of_two(AluOp::ADD, regs[0], regs[2], regs[2]),
+        with_number(AluOp::ADD, regs[1], 1, regs[1]),
+        store_low(address, regs[0], regs[1]),
+        high(value, regs[1]),
+        add_low(value, regs[1]),
+        store_next(address, regs[2], regs[1]),
+    ])
+}
+
 // The address of a cell, where the first one stands at `cells`.
 fn cell_address(cells: Addr, cell: u32) -> u32
     requires low { cell_at cells.0 cell + 4 ≤ 2 ^ 31 }
@@ -189,7 +272,7 @@ fn push_op(
     op: &Op,
 ) -> Result<(), AllocError>
     requires room { code.op_registers codes_dead op.now ≤ length regs.now }
-    requires low { cell_at cells.0 (cell_of op.now) + 4 ≤ 2 ^ 31 }
+    requires low { EndsLow cells.0 op.now }
     ensures code { OnOk result (words.new.items ≡ words.old.items
         ++ map word_of (code.op_words cells.0 codes_dead (slice_index regs.now) op.now)) }
     ensures op { IsOp op.now }
@@ -205,6 +288,14 @@ fn push_op(
             prove!(reg.number() < 32);
             top(words, cell_address(cells, *cell), codes_dead, regs, *reg)
         }
+        Op::Count { cell } => count(words, cell_address(cells, *cell), codes_dead, regs),
+        Op::Log { cell, bits, value } => log(
+            words,
+            cell_address(cells, *cell),
+            regs,
+            *bits,
+            *value,
+        ),
     }
 }
 

@@ -68,6 +68,30 @@ pub fn store_low(address: u32, base: Reg, rd: Reg) -> u32
     })
 }
 
+/// Loads the word behind it.
+pub fn load_next(address: u32, base: Reg, rd: Reg) -> u32
+    ensures { result ≡ word_in (words.load_next address base rd) }
+{
+    word_of(Instr::Load {
+        kind: LoadKind::LD,
+        rd,
+        rs1: base,
+        op2: Op2::Imm((address % 1024) as i32 + 4),
+    })
+}
+
+/// Stores a register there.
+pub fn store_next(address: u32, base: Reg, rd: Reg) -> u32
+    ensures { result ≡ word_in (words.store_next address base rd) }
+{
+    word_of(Instr::Store {
+        kind: StoreKind::ST,
+        rd,
+        rs1: base,
+        op2: Op2::Imm((address % 1024) as i32 + 4),
+    })
+}
+
 // An operation, which sets the codes or leaves them.
 fn operation(op: AluOp, cc: bool, rd: Reg, rs1: Reg, op2: Op2) -> u32
     requires form { IsTrue (has_form op cc) }
@@ -105,6 +129,20 @@ pub fn add_low(number: u32, rd: Reg) -> u32
     ensures { result ≡ word_in (words.add_low number rd) }
 {
     operation(AluOp::ADD, false, rd, rd, Op2::Imm((number % 1024) as i32))
+}
+
+/// Adds 1, and sets the codes.
+pub fn add_one(rd: Reg) -> u32
+    ensures { result ≡ word_in (words.add_one rd) }
+{
+    operation(AluOp::ADD, true, rd, rd, Op2::Imm(1))
+}
+
+/// Adds the carry that the codes have.
+pub fn add_carry(rd: Reg) -> u32
+    ensures { result ≡ word_in (words.add_carry rd) }
+{
+    operation(AluOp::ADDX, false, rd, rd, Op2::Imm(0))
 }
 
 /// Compares two registers.

@@ -1,16 +1,15 @@
 -- What a snippet makes of the cells depends on the registers alone that it names.
-use Rattle.std.proofs.Common.{◌≡◌, ℕ, zero, suc, ◌<◌, true, max, List, [], ◌∷◌, get_or, set, refl, ap, sym, ◌∙◌, arith}
+use Rattle.std.proofs.Common.{◌≡◌, ℕ, zero, suc, ◌<◌, true, max, List, [], ◌∷◌, refl, ap, sym, ◌∙◌, arith}
 use Rattle.std.specs.List.{All}
 use Rattle.std.proofs.lemmas.Bool.{and_from, lt-ltb, or_left, or_right}
 use Rattle.v8_decode.specs.declared.Part.TheVariants.{Reg}
 use Rattle.v8_decode.specs.Parts.{has, is_member, is_same}
 use Rattle.v8_decode.proofs.Members.{has-members, is_same-self}
 use Rattle.snippets.specs.declared.snippet.Op.{Op}
-use Rattle.snippets.specs.declared.snippet.Op.TheVariants.{Add, Put, Keep, Top}
-use Rattle.snippets.specs.Cells.{read_by, update, value_after}
+use Rattle.snippets.specs.declared.snippet.Op.TheVariants.{Add, Put, Keep, Top, Count, Log}
+use Rattle.snippets.specs.Cells.{changed, read_by, update, updated_by}
 use Rattle.snippets.specs.Grammar.{IsOp}
 use Rattle.snippets.specs.Laws.{NamedRegistersDecide}
-use Rattle.snippets.specs.Ops.{cell_of}
 
 module _ (f h : ℕ → ℕ) (same_zero : f 0 ≡ h 0) where
   abbrev AreSameOn : List Op → Type 0
@@ -23,27 +22,31 @@ module _ (f h : ℕ → ℕ) (same_zero : f 0 ≡ h 0) where
   is_first : (reg r : ℕ) (ops : List Op) → r ≡ reg → has (Reg reg ∷ read_by ops) (Reg r) ≡ true
   is_first reg r ops e = or_left _ _ (ap (λ (n : ℕ). is_same (Reg r) (Reg n)) (sym e) ∙ is_same-self (Reg r))
 
-  value_same : (op : Op) (ops : List Op) → IsOp op → AreSameOn (op ∷ ops) → (value : ℕ)
-      → value_after f op value ≡ value_after h op value
-  value_same (Add cell amount) ops is same value = refl
-  value_same (Put cell new) ops is same value = refl
-  value_same (Keep cell reg) ops is same value = one reg is.1 (λ r e m. same r (is_first reg r ops e) m)
-  value_same (Top cell reg) ops is same value =
-      ap (max value) (one reg is.1 (λ r e m. same r (is_first reg r ops e) m))
+  one_same : (op : Op) (ops : List Op) → IsOp op → AreSameOn (op ∷ ops) → (cells : List ℕ)
+      → updated_by f op cells ≡ updated_by h op cells
+  one_same (Add cell amount) ops is same cells = refl
+  one_same (Put cell new) ops is same cells = refl
+  one_same (Keep cell reg) ops is same cells =
+      ap (λ (v : ℕ). changed cells cell (λ value. v)) (one reg is.1 (λ r e m. same r (is_first reg r ops e) m))
+  one_same (Top cell reg) ops is same cells =
+      ap (λ (v : ℕ). changed cells cell (λ value. max value v))
+      (one reg is.1 (λ r e m. same r (is_first reg r ops e) m))
+  one_same (Count cell) ops is same cells = refl
+  one_same (Log cell bits value) ops is same cells = refl
 
   rest_same : (op : Op) (ops : List Op) → AreSameOn (op ∷ ops) → AreSameOn ops
   rest_same (Add cell amount) ops same r is m = same r is m
   rest_same (Put cell new) ops same r is m = same r is m
+  rest_same (Count cell) ops same r is m = same r is m
+  rest_same (Log cell bits value) ops same r is m = same r is m
   rest_same (Keep cell reg) ops same r is m = same r (or_right _ _ is) m
   rest_same (Top cell reg) ops same r is m = same r (or_right _ _ is) m
 
   update_same : (ops : List Op) (cells : List ℕ) → All IsOp ops → AreSameOn ops → update f ops cells ≡ update h ops cells
   update_same [] cells are same = refl
   update_same (op ∷ ops) cells are same =
-      ap (λ (value : ℕ). update f ops (set cells (cell_of op) value))
-      (value_same op ops (are 0 op (omega arith)) same (get_or cells (cell_of op) 0))
-      ∙ update_same ops (set cells (cell_of op) (value_after h op (get_or cells (cell_of op) 0)))
-      (λ k d l. are (suc k) d (omega (arith, l))) (rest_same op ops same)
+      ap (update f ops) (one_same op ops (are 0 op (omega arith)) same cells)
+      ∙ update_same ops (updated_by h op cells) (λ k d l. are (suc k) d (omega (arith, l))) (rest_same op ops same)
 
 pub decide : NamedRegistersDecide
 decide f h ops cells are zero_same same =

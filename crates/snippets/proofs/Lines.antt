@@ -2,7 +2,9 @@
 use Rattle.std.proofs.Common.{◌≡◌, ℕ, Bool, true, false, ◌==◌, List, [], ◌∷◌, length, map, Option, Some, None, refl, ap, ap₂, sym, subst, ◌∙◌, arith}
 use Rattle.std.proofs.lemmas.Bool.{eqb-true, eq-eqb, ne_eqb}
 use Rattle.snippets.specs.declared.snippet.Op.{Op}
-use Rattle.snippets.specs.Grammar.{AllSay, IsLine, IsSilent, Says, Said, Nothing, Does, Wrong}
+use Rattle.snippets.specs.declared.snippet.Op.TheVariants.{Add, Put, Keep, Top, Count, Log}
+use Rattle.snippets.specs.Ops.{HasRing}
+use Rattle.snippets.specs.Grammar.{AllSay, IsLine, IsSilent, IsSpelled, Says, Said, Nothing, Does, Wrong}
 use Rattle.snippets.specs.Parts.{operation_of, said_by, said_of}
 use Rattle.snippets.proofs.Operations.{operation_back, operation_read}
 
@@ -58,6 +60,18 @@ said_alone [] Nothing h = sym nothing_says
 said_alone (byte ∷ bytes) Nothing h = sym (silent_first byte bytes (eq-eqb byte 35 h))
 said_alone line (Does edge op) h = sym (does line edge op h)
 said_alone line Wrong h = wrong_alone line (said_of line) h (said_says line)
+
+-- what is spelled has a ring of at most 16 bits, since it has none
+spelled_ring : (op : Op) → IsSpelled op → HasRing op
+spelled_ring (Add cell amount) fits = tt
+spelled_ring (Put cell value) fits = tt
+spelled_ring (Keep cell reg) fits = tt
+spelled_ring (Top cell reg) fits = tt
+spelled_ring (Count cell) fits = tt
+spelled_ring (Log cell bits value) fits = absurd fits
+
+pub said_ring : (line : List ℕ) (edge : ℕ) (op : Op) → Does edge op ≡ said_of line → HasRing op
+said_ring line edge op is = spelled_ring op (subst (Says line) (sym is) (said_says line)).op_fits
 
 pub all_say : (lines : List (List ℕ)) → AllSay lines (map said_of lines)
 all_say [] = tt

@@ -6,13 +6,15 @@ use Rattle.v8_decode.specs.declared.Part.TheVariants.{Reg}
 use Rattle.v8_decode.specs.Parts.{every_part, members, set_of}
 use Rattle.v8_decode.proofs.Marks.{set_of-append}
 use Rattle.snippets.specs.declared.snippet.Op.{Op}
-use Rattle.snippets.specs.declared.snippet.Op.TheVariants.{Add, Put, Keep, Top}
+use Rattle.snippets.specs.declared.snippet.Op.TheVariants.{Add, Put, Keep, Top, Count, Log}
 use Rattle.snippets.specs.Cells.{named_by, read_by}
 
 read_by-append : (ops : List Op) (op : Op) → read_by (ops ++ op ∷ []) ≡ read_by ops ++ read_by (op ∷ [])
 read_by-append [] op = refl
 read_by-append (Add cell amount ∷ ops) op = read_by-append ops op
 read_by-append (Put cell value ∷ ops) op = read_by-append ops op
+read_by-append (Count cell ∷ ops) op = read_by-append ops op
+read_by-append (Log cell bits value ∷ ops) op = read_by-append ops op
 read_by-append (Keep cell reg ∷ ops) op = ap (λ (z : List Part). Reg reg ∷ z) (read_by-append ops op)
 read_by-append (Top cell reg ∷ ops) op = ap (λ (z : List Part). Reg reg ∷ z) (read_by-append ops op)
 

@@ -1,13 +1,13 @@
 -- Operations on edges.
-use Rattle.std.proofs.Common.{◌≡◌, ℕ, ◌<◌, ◌^◌, true, List, ◌∷◌, ◌++◌, Some, inl, inr, decimal, codes, refl, ap, ap₂, sym, subst, ◌∙◌, arith}
-use Rattle.std.specs.Option.{option_map}
+use Rattle.std.proofs.Common.{◌≡◌, ℕ, ◌<◌, ◌^◌, true, List, [], ◌∷◌, ◌++◌, Option, Some, None, inl, inr, decimal, codes, refl, ap, ap₂, sym, subst, ◌∙◌, arith}
+use Rattle.std.specs.Option.{option_map, option_or}
 use Rattle.std.specs.Str.{bytes_eq}
 use Rattle.std.proofs.lemmas.Slice.Eq.{bytes_eq-Decides}
 use Rattle.snippets.specs.declared.snippet.Op.{Op}
-use Rattle.snippets.specs.declared.snippet.Op.TheVariants.{Add, Put, Keep, Top}
+use Rattle.snippets.specs.declared.snippet.Op.TheVariants.{Add, Put, Keep, Top, Count, Log}
 use Rattle.snippets.specs.Ops.{cell_of}
-use Rattle.snippets.specs.Grammar.{IsLine, IsOp, line_text, register_text}
-use Rattle.snippets.specs.Parts.{after_edge, number_of, op_of, operation_of, register_of, split_at}
+use Rattle.snippets.specs.Grammar.{IsLine, IsSpelled, line_text, register_text}
+use Rattle.snippets.specs.Parts.{after_edge, bare_of, full_of, number_of, op_of, operation_of, register_of, split_at}
 use Rattle.line_words.proofs.Steps.{chosen, mapped, step, tested}
 use Rattle.line_words.proofs.Numbers.{number_back, number_read}
 use Rattle.line_words.proofs.Registers.{register_back, register_read}
@@ -18,19 +18,37 @@ kind_text (Add cell amount) = codes "add"
 kind_text (Put cell value) = codes "put"
 kind_text (Keep cell reg) = codes "keep"
 kind_text (Top cell reg) = codes "top"
+kind_text (Count cell) = codes "count"
+kind_text (Log cell bits value) = []
 
 abbrev operand_text : Op → List ℕ
 operand_text (Add cell amount) = decimal amount
 operand_text (Put cell value) = decimal value
 operand_text (Keep cell reg) = register_text reg
 operand_text (Top cell reg) = register_text reg
+operand_text (Count cell) = []
+operand_text (Log cell bits value) = []
+
+-- a word, and what stands behind the space after it
+abbrev glued : List ℕ → List ℕ → List ℕ
+glued word rest = word ++ (32 ∷ rest)
+
+-- what stands behind the kind
+abbrev rest_text : Op → List ℕ
+rest_text (Count cell) = decimal cell
+rest_text op = glued (decimal (cell_of op)) (operand_text op)
+
+-- An operation that has an operand.
+abbrev HasOperand : Op → Type 0
+HasOperand (Count cell) = ⊥
+HasOperand op = IsSpelled op
 
 -- an operation's words
 record OpRead (kind : List ℕ) (cell : ℕ) (operand : List ℕ) (op : Op) : Type 0 where
   same_cell : cell_of op ≡ cell
   same_kind : kind ≡ kind_text op
   same_operand : operand ≡ operand_text op
-  fits : cell < 2 ^ 32 → IsOp op
+  fits : cell < 2 ^ 32 → HasOperand op
 
 number_op : (make : ℕ → ℕ → Op) (kind : List ℕ) (cell : ℕ) (operand : List ℕ) (op : Op)
     → option_map (make cell) (number_of operand) ≡ Some op
@@ -88,86 +106,171 @@ op_read kind cell operand op h =
       ]
     ]
 
-op_back : (op : Op) → IsOp op → op_of (kind_text op) (cell_of op) (operand_text op) ≡ Some op
+op_back : (op : Op) → HasOperand op → op_of (kind_text op) (cell_of op) (operand_text op) ≡ Some op
 unfolding op_of
 op_back (Add cell amount) fits = rw (number_back amount fits.1) refl
 op_back (Put cell value) fits = rw (number_back value fits.1) refl
 op_back (Keep cell reg) fits = rw (register_back reg fits.1) refl
 op_back (Top cell reg) fits = rw (register_back reg fits.1) refl
+op_back (Count cell) fits = absurd fits
+op_back (Log cell bits value) fits = absurd fits
 
-cell_small : (op : Op) → IsOp op → cell_of op < 2 ^ 32
+cell_small : (op : Op) → IsSpelled op → cell_of op < 2 ^ 32
 cell_small (Add cell amount) fits = fits.0
 cell_small (Put cell value) fits = fits.0
 cell_small (Keep cell reg) fits = fits.0
 cell_small (Top cell reg) fits = fits.0
+cell_small (Count cell) fits = fits
+cell_small (Log cell bits value) fits = absurd fits
 
 kind_whole : (op : Op) → is_whole 32 (kind_text op) ≡ true
 kind_whole (Add cell amount) = refl
 kind_whole (Put cell value) = refl
 kind_whole (Keep cell reg) = refl
 kind_whole (Top cell reg) = refl
+kind_whole (Count cell) = refl
+kind_whole (Log cell bits value) = refl
 
--- a line's words, with a space between each two
-abbrev spaced : List ℕ → List ℕ → List ℕ → List ℕ → List ℕ
-spaced edge kind cell operand = codes "edge" ++ (32 ∷ (edge ++ (32 ∷ (kind ++ (32 ∷ (cell ++ (32 ∷ operand)))))))
+-- ---- the words behind the edge
 
-line_spaced : (edge : ℕ) (op : Op)
-    → line_text edge op ≡ spaced (decimal edge) (kind_text op) (decimal (cell_of op)) (operand_text op)
-line_spaced edge (Add cell amount) = refl
-line_spaced edge (Put cell value) = refl
-line_spaced edge (Keep cell reg) = refl
-line_spaced edge (Top cell reg) = refl
+abbrev found_of : List ℕ → List ℕ → Option Op
+found_of kind words = option_or (bare_of kind words) (full_of kind words)
 
 -- words that can be read
-words_back : (line first edge_word second kind third cell_word operand : List ℕ) (edge cell : ℕ) (op : Op)
+full_words : (kind words cell_word operand : List ℕ) (cell : ℕ) (op : Op)
+    → split_at 32 words ≡ Some (cell_word, operand) → number_of cell_word ≡ Some cell
+    → op_of kind cell operand ≡ Some op → full_of kind words ≡ Some op
+unfolding full_of
+full_words kind words cell_word operand cell op a b c = rw (a, b, c) refl
+
+full_back : (op : Op) → HasOperand op → cell_of op < 2 ^ 32
+    → full_of (kind_text op) (glued (decimal (cell_of op)) (operand_text op)) ≡ Some op
+full_back op has small =
+    let cell = decimal (cell_of op) in
+    let operand = operand_text op in
+    full_words (kind_text op) (glued cell operand) cell operand (cell_of op) op
+    (split_back 32 cell operand (decimal_whole 32 refl (cell_of op) small)) (number_back (cell_of op) small)
+    (op_back op has)
+
+count_back : (cell : ℕ) → cell < 2 ^ 32 → bare_of (codes "count") (decimal cell) ≡ Some (Count cell)
+unfolding bare_of
+count_back cell small = rw (number_back cell small) refl
+
+found_back : (op : Op) → IsSpelled op → found_of (kind_text op) (rest_text op) ≡ Some op
+unfolding bare_of
+found_back (Add cell amount) fits = full_back (Add cell amount) fits fits.0
+found_back (Put cell value) fits = full_back (Put cell value) fits fits.0
+found_back (Keep cell reg) fits = full_back (Keep cell reg) fits fits.0
+found_back (Top cell reg) fits = full_back (Top cell reg) fits fits.0
+found_back (Count cell) fits =
+    ap (λ (found : Option Op). option_or found (full_of (codes "count") (decimal cell))) (count_back cell fits)
+found_back (Log cell bits value) fits = absurd fits
+
+-- what was read
+record Found (kind words : List ℕ) (op : Op) : Type 0 where
+  kind_is : kind ≡ kind_text op
+  words_are : words ≡ rest_text op
+  fits : IsSpelled op
+
+bare_read : (kind words : List ℕ) (op : Op) → bare_of kind words ≡ Some op → Found kind words op
+unfolding bare_of
+bare_read kind words op h =
+    elim (chosen (bytes_eq kind (codes "count")) _ _ op h) as (λ _. Found kind words op) [
+      | inl is ↦
+          let found = mapped Count (number_of words) op is.1 in
+          let number = number_read words found.got found.is in
+          subst (Found kind words) found.same
+          (record {
+            kind_is = (bytes_eq-Decides kind (codes "count")).0 is.0;
+            words_are = number.0;
+            fits = number.1;
+          })
+      | inr none ↦ absurd (cc none.1)
+    ]
+
+found_full : (kind words : List ℕ) (op : Op) → kind ≡ kind_text op
+    → words ≡ glued (decimal (cell_of op)) (operand_text op) → HasOperand op → Found kind words op
+found_full kind words (Add cell amount) a b has = record { kind_is = a; words_are = b; fits = has }
+found_full kind words (Put cell value) a b has = record { kind_is = a; words_are = b; fits = has }
+found_full kind words (Keep cell reg) a b has = record { kind_is = a; words_are = b; fits = has }
+found_full kind words (Top cell reg) a b has = record { kind_is = a; words_are = b; fits = has }
+found_full kind words (Count cell) a b has = absurd has
+found_full kind words (Log cell bits value) a b has = absurd has
+
+full_joined : (kind words : List ℕ) (parts : List ℕ × List ℕ) (cell : ℕ) (op : Op) → split_at 32 words ≡ Some parts
+    → number_of parts.0 ≡ Some cell → op_of kind cell parts.1 ≡ Some op → Found kind words op
+full_joined kind words parts cell op a b c =
+    let cell_is = number_read parts.0 cell b in
+    let is = op_read kind cell parts.1 op c in
+    let cell_text = cell_is.0 ∙ ap decimal (sym is.same_cell) in
+    found_full kind words op is.same_kind (split_read 32 words parts a ∙ ap₂ glued cell_text is.same_operand)
+    (is.fits cell_is.1)
+
+full_read : (kind words : List ℕ) (op : Op) → full_of kind words ≡ Some op → Found kind words op
+unfolding full_of
+full_read kind words =
+    step (Found kind words) (split_at 32 words) _ (λ parts a.
+    step (Found kind words) (number_of parts.0) _ (λ cell b op c. full_joined kind words parts cell op a b c))
+
+either : (m n : Option Op) (op : Op) (P : Type 0) → (m ≡ Some op → P) → (n ≡ Some op → P) → option_or m n ≡ Some op
+    → P
+either (Some x) n op P one other h = one h
+either None n op P one other h = other h
+
+found_read : (kind words : List ℕ) (op : Op) → found_of kind words ≡ Some op → Found kind words op
+found_read kind words op =
+    either (bare_of kind words) (full_of kind words) op (Found kind words op) (bare_read kind words op)
+    (full_read kind words op)
+
+-- ---- a line
+
+-- its words, with a space between each two
+abbrev spaced : List ℕ → List ℕ → List ℕ → List ℕ
+spaced edge kind rest = codes "edge" ++ (32 ∷ (edge ++ (32 ∷ (kind ++ (32 ∷ rest)))))
+
+line_spaced : (edge : ℕ) (op : Op) → IsSpelled op
+    → line_text edge op ≡ spaced (decimal edge) (kind_text op) (rest_text op)
+line_spaced edge (Add cell amount) fits = refl
+line_spaced edge (Put cell value) fits = refl
+line_spaced edge (Keep cell reg) fits = refl
+line_spaced edge (Top cell reg) fits = refl
+line_spaced edge (Count cell) fits = refl
+line_spaced edge (Log cell bits value) fits = absurd fits
+
+-- words that can be read
+words_back : (line first edge_word second kind third : List ℕ) (edge : ℕ) (op : Op)
     → split_at 32 line ≡ Some (codes "edge", first) → split_at 32 first ≡ Some (edge_word, second)
-    → number_of edge_word ≡ Some edge → split_at 32 second ≡ Some (kind, third)
-    → split_at 32 third ≡ Some (cell_word, operand) → number_of cell_word ≡ Some cell
-    → op_of kind cell operand ≡ Some op
+    → number_of edge_word ≡ Some edge → split_at 32 second ≡ Some (kind, third) → found_of kind third ≡ Some op
     → operation_of line ≡ Some (edge, op)
 unfolding operation_of
-words_back line first edge_word second kind third cell_word operand edge cell op a b c d e f g =
-    rw (a, b, c, d, e, f, g) refl
+words_back line first edge_word second kind third edge op a b c d e = rw (a, b, c, d, e) refl
 
 -- lines that are written are read
 pub operation_back : (line : List ℕ) (edge : ℕ) (op : Op) → IsLine line edge op → operation_of line ≡ Some (edge, op)
 operation_back line edge op is =
-    let operand = operand_text op in
-    let third = decimal (cell_of op) ++ (32 ∷ operand) in
+    let third = rest_text op in
     let second = kind_text op ++ (32 ∷ third) in
     let first = decimal edge ++ (32 ∷ second) in
-    let small = cell_small op is.op_fits in
-    let verb = ap (split_at 32) (is.text ∙ line_spaced edge op) ∙ split_back 32 (codes "edge") first refl in
+    let verb = ap (split_at 32) (is.text ∙ line_spaced edge op is.op_fits) ∙ split_back 32 (codes "edge") first refl in
     let at_edge = split_back 32 (decimal edge) second (decimal_whole 32 refl edge is.edge_fits) in
     let at_kind = split_back 32 (kind_text op) third (kind_whole op) in
-    let at_cell = split_back 32 (decimal (cell_of op)) operand (decimal_whole 32 refl (cell_of op) small) in
-    let edge_is = number_back edge is.edge_fits in
-    let cell_is = number_back (cell_of op) small in
-    words_back line first (decimal edge) second (kind_text op) third (decimal (cell_of op)) operand
-    edge (cell_of op) op verb at_edge edge_is at_kind at_cell cell_is (op_back op is.op_fits)
-
-glue : List ℕ → List ℕ → List ℕ
-glue word rest = word ++ (32 ∷ rest)
+    words_back line first (decimal edge) second (kind_text op) third edge op verb at_edge
+    (number_back edge is.edge_fits) at_kind (found_back op is.op_fits)
 
 -- words that were read
-joined : (line : List ℕ) (first : List ℕ × List ℕ) (rest : List ℕ) (second third fourth : List ℕ × List ℕ)
-    (edge cell : ℕ) (op : Op) → split_at 32 line ≡ Some first → after_edge first ≡ Some rest
+joined : (line : List ℕ) (first : List ℕ × List ℕ) (rest : List ℕ) (second third : List ℕ × List ℕ)
+    (edge : ℕ) (op : Op) → split_at 32 line ≡ Some first → after_edge first ≡ Some rest
     → split_at 32 rest ≡ Some second → number_of second.0 ≡ Some edge → split_at 32 second.1 ≡ Some third
-    → split_at 32 third.1 ≡ Some fourth
-    → number_of fourth.0 ≡ Some cell → op_of third.0 cell fourth.1 ≡ Some op → IsLine line edge op
-unfolding glue
-joined line first rest second third fourth edge cell op a b c d e f g h =
+    → found_of third.0 third.1 ≡ Some op → IsLine line edge op
+joined line first rest second third edge op a b c d e f =
     let verb = tested (bytes_eq first.0 (codes "edge")) first.1 rest b in
     let begins = (bytes_eq-Decides first.0 (codes "edge")).0 verb.0 in
     let edge_is = number_read second.0 edge d in
-    let cell_is = number_read fourth.0 cell g in
-    let op_is = op_read third.0 cell fourth.1 op h in
-    let cell_text = cell_is.0 ∙ ap decimal (sym op_is.same_cell) in
-    let at_cell = split_read 32 third.1 fourth f ∙ ap₂ glue cell_text op_is.same_operand in
-    let at_kind = split_read 32 second.1 third e ∙ ap₂ glue op_is.same_kind at_cell in
-    let at_edge = split_read 32 rest second c ∙ ap₂ glue edge_is.0 at_kind in
-    let whole = split_read 32 line first a ∙ ap₂ glue begins (verb.1 ∙ at_edge) in
-    record { text = whole ∙ sym (line_spaced edge op); edge_fits = edge_is.1; op_fits = op_is.fits cell_is.1 }
+    let is = found_read third.0 third.1 op f in
+    let at_kind = split_read 32 second.1 third e ∙ ap₂ glued is.kind_is is.words_are in
+    let at_edge = split_read 32 rest second c ∙ ap₂ glued edge_is.0 at_kind in
+    let whole = split_read 32 line first a ∙ ap₂ glued begins (verb.1 ∙ at_edge) in
+    record { text = whole ∙ sym (line_spaced edge op is.fits); edge_fits = edge_is.1; op_fits = is.fits }
 
 -- The line is the one that was read.
 IsRead : List ℕ → ℕ × Op → Type 0
@@ -182,7 +285,5 @@ operation_read line =
     step (IsRead line) (split_at 32 rest) _ (λ second c.
     step (IsRead line) (number_of second.0) _ (λ edge d.
     step (IsRead line) (split_at 32 second.1) _ (λ third e.
-    step (IsRead line) (split_at 32 third.1) _ (λ fourth f.
-    step (IsRead line) (number_of fourth.0) _ (λ cell g.
-    step (IsRead line) (op_of third.0 cell fourth.1) _ (λ op h found same.
-    subst (IsRead line) (cc same) (joined line first rest second third fourth edge cell op a b c d e f g h)))))))))
+    step (IsRead line) (found_of third.0 third.1) _ (λ op f found same.
+    subst (IsRead line) (cc same) (joined line first rest second third edge op a b c d e f)))))))

@@ -1,39 +1,64 @@
 -- A script without a bad line keeps its limits.
 use Rattle.std.proofs.Common.{◌≡◌, ℕ, zero, suc, ◌+◌, ◌<◌, ◌≤◌, ◌^◌, ◌==◌, Bool, true, false, if◌then◌else◌, List, [], ◌∷◌, ◌++◌, append-nil, length, take, get_or, Some, None, refl, ap, subst, ◌∙◌, arith}
-use Rattle.std.specs.Prelude.{nat_le}
-use Rattle.std.specs.List.{All}
-use Rattle.std.proofs.lemmas.Bool.{eqb-true, leb-false}
+use Rattle.std.specs.Prelude.{nat_le, nat_lt}
+use Rattle.std.proofs.lemmas.Bool.{eqb-true, leb-false, ltb-false}
 use Rattle.std.proofs.lemmas.List.{length-append, take_more}
 use Rattle.std.proofs.lemmas.List.Elements.{All-append}
 use Rattle.std.proofs.Math.Seq.{take-length}
 use Rattle.snippets.specs.declared.snippet.Op.{Op}
-use Rattle.snippets.specs.Ops.{cell_of}
-use Rattle.snippets.specs.Grammar.{Said, Nothing, Does, Wrong}
+use Rattle.snippets.specs.declared.snippet.Op.TheVariants.{Add, Put, Keep, Top, Count, Log}
+use Rattle.snippets.specs.Cells.{WorksBelow, WorksIn}
+use Rattle.snippets.specs.Ops.{cells_end}
+use Rattle.snippets.specs.Grammar.{AllSay, IsSpelled, Said, Nothing, Does, Wrong, Says}
 use Rattle.snippets.specs.Laws.{IsWithin}
 use Rattle.snippets.specs.Scripts.{IsGood, cell_end, edge_end, end_of, fault_of, on_edge, ops_on}
 use Rattle.snippets.proofs.Held.{end-more, ops-more}
 
-below_more : (m n : ℕ) (ops : List Op) → m ≤ n → All (λ op. cell_of op < m) ops → All (λ op. cell_of op < n) ops
-below_more m n ops few below = λ k d within. let here = below k d within in omega arith
+works_more : (m n : ℕ) (op : Op) → m ≤ n → WorksIn m op → WorksIn n op
+works_more m n (Add cell amount) few works = omega arith
+works_more m n (Put cell value) few works = omega arith
+works_more m n (Keep cell reg) few works = omega arith
+works_more m n (Top cell reg) few works = omega arith
+works_more m n (Count cell) few works = omega arith
+works_more m n (Log cell bits value) few works = (works.0, works.1, omega (arith, works.2))
 
-below_one : (edge : ℕ) (line : Said) → All (λ op. cell_of op < cell_end line) (on_edge edge line)
-below_one edge Nothing = λ k d within. absurd (omega arith)
-below_one edge (Does other op) = by_test (other == edge)
+-- an operation works below its end
+works_own : (op : Op) → IsSpelled op → WorksIn (cells_end op) op
+works_own (Add cell amount) fits = omega arith
+works_own (Put cell value) fits = omega arith
+works_own (Keep cell reg) fits = omega arith
+works_own (Top cell reg) fits = omega arith
+works_own (Count cell) fits = omega arith
+works_own (Log cell bits value) fits = absurd fits
+
+below_more : (m n : ℕ) (ops : List Op) → m ≤ n → WorksBelow m ops → WorksBelow n ops
+below_more m n ops few below = λ k d within. works_more m n (get_or ops k d) few (below k d within)
+
+none_below : (n : ℕ) → WorksBelow n []
+none_below n = λ k d within. absurd (omega arith)
+
+below_one : (edge : ℕ) (line : List ℕ) (said : Said) → Says line said → WorksBelow (cell_end said) (on_edge edge said)
+below_one edge line Nothing says = none_below 0
+below_one edge line (Does other op) says = by_test (other == edge)
   where
-    by_test : (b : Bool) → All (λ o. cell_of o < cell_of op + 1) (if b then op ∷ [] else [])
-    by_test true zero d within = omega arith
+    by_test : (b : Bool) → WorksBelow (cells_end op) (if b then op ∷ [] else [])
+    by_test true zero d within = works_own op says.op_fits
     by_test true (suc k) d within = absurd (omega arith)
     by_test false k d within = absurd (omega arith)
-below_one edge Wrong = λ k d within. absurd (omega arith)
+below_one edge line Wrong says = none_below 0
 
 -- cells are below their number
-cells_below : (edge : ℕ) (said : List Said) → All (λ op. cell_of op < end_of cell_end said) (ops_on edge said)
-cells_below edge [] = λ k d within. absurd (omega arith)
-cells_below edge (line ∷ said) =
-    let all = end_of cell_end (line ∷ said) in
-    let here = below_more (cell_end line) all (on_edge edge line) (omega arith) (below_one edge line) in
-    let rest = below_more (end_of cell_end said) all (ops_on edge said) (omega arith) (cells_below edge said) in
-    All-append (λ op. cell_of op < all) (on_edge edge line) (ops_on edge said) here rest
+cells_below : (edge : ℕ) (lines : List (List ℕ)) (said : List Said) → AllSay lines said
+    → WorksBelow (end_of cell_end said) (ops_on edge said)
+cells_below edge lines [] all = none_below 0
+cells_below edge [] (first ∷ said) all = absurd all
+cells_below edge (line ∷ lines) (first ∷ said) all =
+    let end = end_of cell_end (first ∷ said) in
+    let one = below_one edge line first all.0 in
+    let here = below_more (cell_end first) end (on_edge edge first) (omega arith) one in
+    let others = cells_below edge lines said all.1 in
+    let rest = below_more (end_of cell_end said) end (ops_on edge said) (omega arith) others in
+    All-append (WorksIn end) (on_edge edge first) (ops_on edge said) here rest
 
 -- The limits that a bad line would break.
 record Kept (edges : ℕ) (said : List Said) : Type 0 where
@@ -79,10 +104,10 @@ kept_more edges before Nothing kept none =
     }
 kept_more edges before (Does edge op) kept none =
     let tests =
-    passes (nat_le edges edge) (nat_le (2 ^ 22) (cell_of op)) (nat_le 8 (length (ops_on edge before)))
+    passes (nat_le edges edge) (nat_lt (2 ^ 22) (cells_end op)) (nat_le 8 (length (ops_on edge before)))
     _ _ _ none in
     let there = leb-false edges edge tests.first in
-    let low = leb-false (2 ^ 22) (cell_of op) tests.second in
+    let low = ltb-false (2 ^ 22) (cells_end op) tests.second in
     let room = leb-false 8 (length (ops_on edge before)) tests.third in
     let edge_is = end-more edge_end before (Does edge op) in
     let cell_is = end-more cell_end before (Does edge op) in
@@ -111,12 +136,13 @@ kept_so_far edges said good (suc k) within =
     ap (λ (n : ℕ). take n said) one ∙ take_more said k Nothing (omega arith) in
     rw more (kept_more edges (take k said) (get_or said k Nothing) before (good k (omega arith)))
 
-pub good_within : (edges : ℕ) (said : List Said) → IsGood edges said → IsWithin edges said
-good_within edges said good =
+pub good_within : (edges : ℕ) (lines : List (List ℕ)) (said : List Said) → AllSay lines said → IsGood edges said
+    → IsWithin edges said
+good_within edges lines said all good =
     let kept = subst (Kept edges) (take-length said) (kept_so_far edges said good (length said) (omega arith)) in
     record {
       edges_there = kept.edges_there;
       cells_few = kept.cells_few;
-      cells_below = λ edge. cells_below edge said;
+      cells_below = λ edge. cells_below edge lines said all;
       ops_few = kept.ops_few;
     }

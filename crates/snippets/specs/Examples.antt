@@ -1,17 +1,18 @@
 -- Lines and scripts that compute: what lines are spelled, what others say, and what comes of them.
 use Rattle.std.specs.Prelude.{◌≡◌, ℕ, List, [], ◌∷◌, ◌++◌, map, Some, None, codes, refl}
 use Rattle.std.specs.Fmt.{digits}
-use Rattle.snippets.specs.declared.snippet.Op.TheVariants.{Add, Put, Keep, Top}
+use Rattle.snippets.specs.declared.snippet.Op.TheVariants.{Add, Put, Keep, Top, Count}
 use Rattle.snippets.specs.declared.script.ScriptFault.TheVariants as faults
 use Rattle.snippets.specs.Grammar.{Said, Nothing, Does, Wrong, lines_of, line_text, register_text}
 use Rattle.snippets.specs.Scripts.{cell_end, end_of, fault_at, fault_of, snips_of}
-use Rattle.snippets.specs.Parts.{split_at, number_of, register_of, op_of, operation_of, said_of}
+use Rattle.snippets.specs.Parts.{split_at, number_of, register_of, op_of, bare_of, full_of, operation_of, said_of}
 
 -- how lines are spelled
 
-spelled : line_text 1 (Add 0 3) ∷ line_text 0 (Put 10 4294967295) ∷ line_text 2 (Keep 2 8) ∷ line_text 1 (Top 1 2) ∷ []
+spelled : line_text 1 (Add 0 3) ∷ line_text 0 (Put 10 4294967295) ∷ line_text 2 (Keep 2 8) ∷ line_text 1 (Top 1 2)
+    ∷ line_text 3 (Count 6) ∷ []
     ≡ codes "edge 1 add 0 3" ∷ codes "edge 0 put 10 4294967295"
-    ∷ codes "edge 2 keep 2 %o0" ∷ codes "edge 1 top 1 %g2" ∷ []
+    ∷ codes "edge 2 keep 2 %o0" ∷ codes "edge 1 top 1 %g2" ∷ codes "edge 3 count 6" ∷ []
 unfolding digits
 spelled = refl
 
@@ -28,11 +29,12 @@ lines = refl
 
 abbrev inside : List (List ℕ)
 inside = codes "edge 1 add 0 3" ∷ codes "edge 0 put 10 0" ∷ codes "edge 2 keep 2 %o0" ∷ codes "edge 1 top 1 %g2"
-    ∷ [] ∷ codes "# edge" ∷ []
+    ∷ codes "edge 3 count 6" ∷ [] ∷ codes "# edge" ∷ []
 
 good : map said_of inside
-    ≡ Does 1 (Add 0 3) ∷ Does 0 (Put 10 0) ∷ Does 2 (Keep 2 8) ∷ Does 1 (Top 1 2) ∷ Nothing ∷ Nothing ∷ []
-unfolding said_of operation_of op_of register_of number_of split_at
+    ≡ Does 1 (Add 0 3) ∷ Does 0 (Put 10 0) ∷ Does 2 (Keep 2 8) ∷ Does 1 (Top 1 2)
+    ∷ Does 3 (Count 6) ∷ Nothing ∷ Nothing ∷ []
+unfolding said_of operation_of bare_of full_of op_of register_of number_of split_at
 good = refl
 
 abbrev outside : List (List ℕ)
@@ -40,10 +42,11 @@ outside =
     codes "edge 1  add 0 1" ∷ codes " edge 1 add 0 1" ∷ codes "edge 1 add 0 1 " ∷ codes "edge 1 add 0" ∷ codes "edge"
     ∷ codes "edge 01 add 0 1" ∷ codes "edge 1 add 0 00" ∷ codes "edge 1 add 0 4294967296" ∷ codes "edge 1 add 0 +1"
     ∷ codes "edge 1 add 0 " ∷ codes "edge 1 sub 0 1" ∷ codes "Edge 1 add 0 1" ∷ codes "edge 1 add 0 %g1"
-    ∷ codes "edge 1 keep 0 1" ∷ codes "edge 1 keep 0 %g8" ∷ codes "edge 1 keep 0 %sp" ∷ codes "edge 1 top 0 g1" ∷ []
+    ∷ codes "edge 1 keep 0 1" ∷ codes "edge 1 keep 0 %g8" ∷ codes "edge 1 keep 0 %sp" ∷ codes "edge 1 top 0 g1"
+    ∷ codes "edge 1 count" ∷ codes "edge 1 count 0 1" ∷ codes "edge 1 count %g1" ∷ codes "edge 1 log 0 2 1" ∷ []
 
 wrong : map said_of outside ≡ map (λ _. Wrong) outside
-unfolding said_of operation_of op_of register_of number_of split_at
+unfolding said_of operation_of bare_of full_of op_of register_of number_of split_at
 wrong = refl
 
 -- what comes of them
@@ -69,8 +72,9 @@ eight =
 -- each cause alone, the first of several, and what just isn't one
 abbrev next : List Said
 next = Wrong ∷ Does 9 (Add 4194304 1) ∷ Does 1 (Add 4194304 1) ∷ Does 1 (Add 4194303 1) ∷ Does 8 (Add 4194303 1)
-    ∷ Nothing ∷ []
+    ∷ Does 8 (Count 4194303) ∷ Does 8 (Count 4194302) ∷ Nothing ∷ []
 
 causes : map (fault_of 9 eight) next
-    ≡ Some (faults.Line 9) ∷ Some (faults.Edge 9) ∷ Some (faults.Cell 9) ∷ Some (faults.Ops 9) ∷ None ∷ None ∷ []
+    ≡ Some (faults.Line 9) ∷ Some (faults.Edge 9) ∷ Some (faults.Cell 9) ∷ Some (faults.Ops 9) ∷ None
+    ∷ Some (faults.Cell 9) ∷ None ∷ None ∷ []
 causes = refl

@@ -4,13 +4,14 @@
 --   edge N put CELL VALUE
 --   edge N keep CELL REG
 --   edge N top CELL REG
+--   edge N count CELL
 --
 -- with one space between words. Numbers are decimal, below 2^32, and have no needless zero in front. REG is %g0 to
 -- %g7, %o0 to %o7, %l0 to %l7 or %i0 to %i7. A line that is empty or begins with `#` says nothing.
-use Rattle.std.specs.Prelude.{◌≡◌, ◌<◌, ℕ, ◌^◌, ◌==◌, List, [], ◌∷◌, codes, decimal}
+use Rattle.std.specs.Prelude.{◌≡◌, ◌<◌, ◌≤◌, ℕ, ◌^◌, ◌==◌, List, [], ◌∷◌, codes, decimal}
 use Rattle.std.specs.List.{slice_split, join_with_byte}
 use Rattle.snippets.specs.declared.snippet.Op.{Op}
-use Rattle.snippets.specs.declared.snippet.Op.TheVariants.{Add, Put, Keep, Top}
+use Rattle.snippets.specs.declared.snippet.Op.TheVariants.{Add, Put, Keep, Top, Count, Log}
 pub use Rattle.line_words.specs.Words.{register_text}
 pub use Rattle.snippets.specs.declared.line.Said.{Said}
 pub use Rattle.snippets.specs.declared.line.Said.TheVariants.{Nothing, Does, Wrong}
@@ -24,22 +25,32 @@ op_words (Add cell amount) = codes "add" ∷ decimal cell ∷ decimal amount ∷
 op_words (Put cell value) = codes "put" ∷ decimal cell ∷ decimal value ∷ []
 op_words (Keep cell reg) = codes "keep" ∷ decimal cell ∷ register_text reg ∷ []
 op_words (Top cell reg) = codes "top" ∷ decimal cell ∷ register_text reg ∷ []
+op_words (Count cell) = codes "count" ∷ decimal cell ∷ []
+op_words (Log cell bits value) = []
 
 -- the line that does an operation on an edge
 abbrev pub line_text : ℕ → Op → List ℕ
 line_text edge op = join_with_byte 32 (codes "edge" ∷ decimal edge ∷ op_words op)
 
+-- its numbers have their sizes
 abbrev pub IsOp : Op → Type 0
 IsOp (Add cell amount) = (cell < 2 ^ 32) × (amount < 2 ^ 32)
 IsOp (Put cell value) = (cell < 2 ^ 32) × (value < 2 ^ 32)
 IsOp (Keep cell reg) = (cell < 2 ^ 32) × (reg < 32)
 IsOp (Top cell reg) = (cell < 2 ^ 32) × (reg < 32)
+IsOp (Count cell) = cell < 2 ^ 32
+IsOp (Log cell bits value) = (cell < 2 ^ 32) × ((1 ≤ bits) × (bits ≤ 16)) × (value < 2 ^ 32)
+
+-- scripts have no rings
+abbrev pub IsSpelled : Op → Type 0
+IsSpelled (Log cell bits value) = ⊥
+IsSpelled op = IsOp op
 
 -- The line is this one.
 pub record IsLine (line : List ℕ) (edge : ℕ) (op : Op) : Type 0 where
   pub text : line ≡ line_text edge op
   pub edge_fits : edge < 2 ^ 32
-  pub op_fits : IsOp op
+  pub op_fits : IsSpelled op
 
 abbrev pub IsSilent : List ℕ → Type 0
 IsSilent [] = Unit {0}

@@ -4,8 +4,7 @@ use Rattle.std.specs.List.{All}
 use Rattle.v8_decode.specs.declared.Part.TheVariants.{Reg}
 use Rattle.v8_decode.specs.Parts.{has}
 use Rattle.snippets.specs.declared.snippet.Op.{Op}
-use Rattle.snippets.specs.Cells.{named_by, update}
-use Rattle.snippets.specs.Ops.{cell_of}
+use Rattle.snippets.specs.Cells.{WorksBelow, named_by, update}
 use Rattle.snippets.specs.Grammar.{AllSay, IsOp, Said}
 use Rattle.snippets.specs.Scripts.{IsGood, cell_end, edge_end, end_of, ops_on}
 
@@ -18,11 +17,12 @@ LinesSayOneThing = (lines : List (List ℕ))
 pub record IsWithin (edges : ℕ) (said : List Said) : Type 0 where
   pub edges_there : end_of edge_end said ≤ edges
   pub cells_few : end_of cell_end said ≤ 2 ^ 22
-  pub cells_below : (edge : ℕ) → All (λ op. cell_of op < end_of cell_end said) (ops_on edge said)
+  pub cells_below : (edge : ℕ) → WorksBelow (end_of cell_end said) (ops_on edge said)
   pub ops_few : (edge : ℕ) → length (ops_on edge said) ≤ 8
 
 abbrev pub GoodScriptsAreWithin : Type 0
-GoodScriptsAreWithin = (edges : ℕ) (said : List Said) → IsGood edges said → IsWithin edges said
+GoodScriptsAreWithin = (edges : ℕ) (lines : List (List ℕ)) (said : List Said) → AllSay lines said → IsGood edges said
+    → IsWithin edges said
 
 -- What a snippet makes of the cells depends on the registers alone that it names, and on %g0.
 abbrev pub NamedRegistersDecide : Type 0

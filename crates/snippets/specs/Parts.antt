@@ -1,12 +1,12 @@
 -- The parts of which reading a script is made.
-use Rattle.std.specs.Prelude.{◌≡◌, ℕ, ◌+◌, ◌-◌, ◌^◌, ◌||◌, ◌==◌, nat_le, max, if◌then◌else◌, List, [], ◌∷◌, ◌++◌, length, get_or, slice_index, slice_set, replicate, codes, Option, Some, None, ⊤}
-use Rattle.std.specs.Option.{option_map}
+use Rattle.std.specs.Prelude.{◌≡◌, ℕ, ◌+◌, ◌-◌, ◌^◌, ◌||◌, ◌==◌, nat_le, nat_lt, max, if◌then◌else◌, List, [], ◌∷◌, ◌++◌, length, get_or, slice_index, slice_set, replicate, codes, Option, Some, None, ⊤}
+use Rattle.std.specs.Option.{option_map, option_or}
 use Rattle.std.specs.Str.{bytes_eq}
 use Rattle.snippets.specs.declared.snippet.Op.{Op}
-use Rattle.snippets.specs.declared.snippet.Op.TheVariants.{Add, Put, Keep, Top}
+use Rattle.snippets.specs.declared.snippet.Op.TheVariants.{Add, Put, Keep, Top, Count}
 use Rattle.snippets.specs.declared.script.ScriptFault.{ScriptFault}
 use Rattle.snippets.specs.declared.script.ScriptFault.TheVariants as faults
-use Rattle.snippets.specs.Ops.{cell_of}
+use Rattle.snippets.specs.Ops.{cells_end}
 use Rattle.snippets.specs.Grammar.{Said, Nothing, Does, Wrong}
 pub use Rattle.line_words.specs.Words.{◌>>=◌}
 unfoldable pub use Rattle.line_words.specs.Words.{number_of, register_of, split_at}
@@ -24,6 +24,17 @@ op_of kind cell operand =
 abbrev pub after_edge : List ℕ × List ℕ → Option (List ℕ)
 after_edge parts = if bytes_eq parts.0 (codes "edge") then Some parts.1 else None
 
+-- an operation of a kind and a cell alone, as the words behind the kind say it
+unfoldable pub bare_of : List ℕ → List ℕ → Option Op
+bare_of kind words = if bytes_eq kind (codes "count") then option_map Count (number_of words) else None
+
+-- an operation of a kind, a cell and an operand
+unfoldable pub full_of : List ℕ → List ℕ → Option Op
+full_of kind words = do
+  parts ← split_at 32 words
+  cell ← number_of parts.0
+  op_of kind cell parts.1
+
 unfoldable pub operation_of : List ℕ → Option (ℕ × Op)
 operation_of line = do
   first ← split_at 32 line
@@ -31,9 +42,7 @@ operation_of line = do
   second ← split_at 32 rest
   edge ← number_of second.0
   third ← split_at 32 second.1
-  fourth ← split_at 32 third.1
-  cell ← number_of fourth.0
-  op ← op_of third.0 cell fourth.1
+  op ← option_or (bare_of third.0 third.1) (full_of third.0 third.1)
   Some (edge, op)
 
 abbrev pub said_by : Option (ℕ × Op) → Said
@@ -64,7 +73,7 @@ snips_after Wrong snips = snips
 
 abbrev pub cells_after : Said → ℕ → ℕ
 cells_after Nothing cells = cells
-cells_after (Does edge op) cells = max cells (cell_of op + 1)
+cells_after (Does edge op) cells = max cells (cells_end op)
 cells_after Wrong cells = cells
 
 -- why the line with this number is bad
@@ -73,7 +82,7 @@ fault_in edges number snips Nothing = None
 fault_in edges number snips Wrong = Some (faults.Line number)
 fault_in edges number snips (Does edge op) =
     if nat_le edges edge then Some (faults.Edge number) else
-    (if nat_le (2 ^ 22) (cell_of op) then Some (faults.Cell number) else
+    (if nat_lt (2 ^ 22) (cells_end op) then Some (faults.Cell number) else
     (if nat_le 8 (length (ops_at edge snips)) then Some (faults.Ops number) else None))
 
 abbrev pub IsCause : ScriptFault → Option ScriptFault → Type 0

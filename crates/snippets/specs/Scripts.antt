@@ -1,11 +1,11 @@
 -- What a script comes to, by what its lines say.
-use Rattle.std.specs.Prelude.{◌≡◌, ◌<◌, ℕ, ◌+◌, ◌^◌, ◌==◌, nat_le, max, if◌then◌else◌, List, [], ◌∷◌, length, take, get_or, map, Option, Some, None, Result, Ok, Err, ⊤}
+use Rattle.std.specs.Prelude.{◌≡◌, ◌<◌, ℕ, ◌+◌, ◌^◌, ◌==◌, nat_le, nat_lt, max, if◌then◌else◌, List, [], ◌∷◌, length, take, get_or, map, Option, Some, None, Result, Ok, Err, ⊤}
 use Rattle.std.specs.List.{flat_map, range_with_len}
 use Rattle.snippets.specs.declared.snippet.Op.{Op}
 use Rattle.snippets.specs.declared.script.Script.{Script}
 use Rattle.snippets.specs.declared.script.ScriptFault.{ScriptFault}
 use Rattle.snippets.specs.declared.script.ScriptFault.TheVariants as faults
-use Rattle.snippets.specs.Ops.{cell_of}
+use Rattle.snippets.specs.Ops.{cells_end}
 use Rattle.snippets.specs.Grammar.{Said, Nothing, Does, Wrong}
 
 abbrev pub on_edge : ℕ → Said → List Op
@@ -29,7 +29,7 @@ edge_end Wrong = 0
 
 abbrev pub cell_end : Said → ℕ
 cell_end Nothing = 0
-cell_end (Does edge op) = cell_of op + 1
+cell_end (Does edge op) = cells_end op
 cell_end Wrong = 0
 
 -- a snippet for each edge, up to the last one that is named
@@ -42,7 +42,7 @@ fault_of edges before Nothing = None
 fault_of edges before Wrong = Some (faults.Line (length before + 1))
 fault_of edges before (Does edge op) =
     if nat_le edges edge then Some (faults.Edge (length before + 1)) else
-    (if nat_le (2 ^ 22) (cell_of op) then Some (faults.Cell (length before + 1)) else
+    (if nat_lt (2 ^ 22) (cells_end op) then Some (faults.Cell (length before + 1)) else
     (if nat_le 8 (length (ops_on edge before)) then Some (faults.Ops (length before + 1)) else None))
 
 -- the same of the line at a place

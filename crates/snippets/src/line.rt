@@ -1,6 +1,6 @@
 //! Reading a line of a script.
 ghost use Rattle.std.specs.Prelude.{◌≡◌};
-ghost use Rattle.snippets.specs.Parts.{op_of, operation_of, said_of};
+ghost use Rattle.snippets.specs.Parts.{bare_of, full_of, op_of, operation_of, said_of};
 
 use crate::snippet::Op;
 use line_words::{is_word, read_number, read_register, split_at};
@@ -40,10 +40,30 @@ fn read_operation(line: &[u8]) -> Option<(u32, Op)>
     let (edge, rest) = split_at(rest, b' ')?;
     let edge = read_number(edge)?;
     let (kind, rest) = split_at(rest, b' ')?;
-    let (cell, operand) = split_at(rest, b' ')?;
-    let cell = read_number(cell)?;
-    let op = read_op(kind, cell, operand)?;
+    let op = read_bare(kind, rest).or(read_full(kind, rest))?;
     Some((edge, op))
+}
+
+/// The operation of this kind that has a cell alone.
+#[tactic(auto, unfolding(crate::specs::Parts::bare_of))]
+fn read_bare(kind: &[u8], words: &[u8]) -> Option<Op>
+    ensures { result ≡ bare_of kind.now words.now }
+{
+    if is_word(kind, "count") {
+        read_number(words).map(|cell| Op::Count { cell })
+    } else {
+        None
+    }
+}
+
+/// The operation of this kind on a cell, with an operand.
+#[tactic(auto, unfolding(crate::specs::Parts::full_of))]
+fn read_full(kind: &[u8], words: &[u8]) -> Option<Op>
+    ensures { result ≡ full_of kind.now words.now }
+{
+    let (cell, operand) = split_at(words, b' ')?;
+    let cell = read_number(cell)?;
+    read_op(kind, cell, operand)
 }
 
 /// The operation of this kind on a cell.

@@ -4,7 +4,7 @@ ghost use Rattle.std.specs.Prelude.{IfErr, MatchBool, OnOk, slice_set, vec_len};
 ghost use Rattle.std.specs.Bool.{OnFalse, OnTrue};
 ghost use Rattle.snippets.specs.declared.line.Said.{Said as Meaning};
 ghost use Rattle.snippets.specs.declared.line.Said.TheVariants.{Does};
-ghost use Rattle.snippets.specs.Ops.{cell_of};
+ghost use Rattle.snippets.specs.Ops.{HasRing, cells_end};
 ghost use Rattle.snippets.specs.Grammar.{AllSay, lines_of};
 ghost use Rattle.snippets.specs.Scripts.{Answers};
 ghost use Rattle.snippets.specs.Parts.{IsCause, cells_after, fault_in, ops_at, padded, said_of, snips_after};
@@ -16,7 +16,7 @@ use crate::snippet::{Op, Snippet};
 use std::alloc::{AllocError, Global};
 
 /// Cells are below this number.
-const CELL_LIMIT: u32 = 1 << 22;
+const CELL_LIMIT: u64 = 1 << 22;
 
 /// The script that this text is, for a graph of so many edges.
 ///
@@ -54,23 +54,24 @@ fn take_line(script: &mut Script, line: &[u8], number: u32, edges: u32) -> Resul
 
 /// Adds the operation of the line with this number.
 fn add(script: &mut Script, edge: u32, op: Op, number: u32, edges: u32) -> Result<(), ScriptFault>
+    requires { HasRing op }
     ensures good { OnOk result (fault_in edges number script.old.snips.items (Does edge op) ≡ None) }
     ensures snips { OnOk result (script.new.snips.items ≡ with_op edge op script.old.snips.items) }
-    ensures cells { OnOk result (script.new.cells ≡ max script.old.cells (cell_of op + 1)) }
+    ensures cells { OnOk result (script.new.cells ≡ max script.old.cells (cells_end op)) }
     ensures fault { IfErr result (λ f. IsCause f (fault_in edges number script.old.snips.items (Does edge op))) }
 {
     if edge >= edges {
         return Err(ScriptFault::Edge(number));
     }
-    let cell = op.cell();
-    if cell >= CELL_LIMIT {
+    let end = op.cells_end();
+    if end > CELL_LIMIT {
         return Err(ScriptFault::Cell(number));
     }
     reach(&mut script.snips, edge as usize + 1)?;
     if !push_at(&mut script.snips, edge as usize, op) {
         return Err(ScriptFault::Ops(number));
     }
-    script.cells = script.cells.max(cell + 1);
+    script.cells = script.cells.max(end as u32);
     Ok(())
 }
 

@@ -2,7 +2,7 @@
 ghost use Rattle.std.specs.Prelude.{◌≡◌, ◌++◌, ◌∷◌, [], ◌<◌, ◌≤◌, true, false, length, MatchBool};
 ghost use Rattle.v8_decode.specs.declared.Part.TheVariants as parts;
 ghost use Rattle.v8_decode.specs.Parts.{set_of};
-ghost use Rattle.snippets.specs.Ops.{cell_of};
+ghost use Rattle.snippets.specs.Ops.{HasRing, cell_of, cells_end, width_of};
 ghost use Rattle.snippets.specs.Cells.{named_by};
 
 use std::marker::Model;
@@ -20,10 +20,15 @@ pub enum Op {
     Keep { cell: u32, reg: Reg },
     /// Stores the register's value where it is greater than the cell, as an unsigned number.
     Top { cell: u32, reg: Reg },
+    /// Adds 1, modulo 2^64, to the number whose high word is the cell and whose low word is the next one.
+    Count { cell: u32 },
+    /// Writes into a ring of 2^`bits` cells, from 1 to 16 bits, that stands behind its cell: the value goes to the place that
+    /// the cell tells, modulo the ring's size, and then the cell is raised by 1, modulo 2^32.
+    Log { cell: u32, bits: u32, value: u32 },
 }
 
 impl Op {
-    /// The cell that it works on.
+    /// The first cell that it works on.
     pub fn cell(&self) -> u32
         ensures { result ≡ cell_of self.now }
     {
@@ -31,7 +36,29 @@ impl Op {
             Op::Add { cell, .. }
             | Op::Put { cell, .. }
             | Op::Keep { cell, .. }
-            | Op::Top { cell, .. } => *cell,
+            | Op::Top { cell, .. }
+            | Op::Count { cell }
+            | Op::Log { cell, .. } => *cell,
+        }
+    }
+
+    // The cell behind the last one that it works on.
+    pub(crate) fn cells_end(&self) -> u64
+        requires { HasRing self.now }
+        ensures { result ≡ cells_end self.now }
+    {
+        u64::from(self.cell()) + self.width()
+    }
+
+    // How many cells it works on.
+    fn width(&self) -> u64
+        requires { HasRing self.now }
+        ensures { result ≡ width_of self.now }
+    {
+        match self {
+            Op::Add { .. } | Op::Put { .. } | Op::Keep { .. } | Op::Top { .. } => 1,
+            Op::Count { .. } => 2,
+            Op::Log { bits, .. } => 1 + (1 << *bits),
         }
     }
 
@@ -41,7 +68,7 @@ impl Op {
         ensures { result ≡ named_by (self ∷ []) }
     {
         match self {
-            Op::Add { .. } | Op::Put { .. } => RegSet::empty(),
+            Op::Add { .. } | Op::Put { .. } | Op::Count { .. } | Op::Log { .. } => RegSet::empty(),
             Op::Keep { reg, .. } => only(reg),
             Op::Top { reg, .. } => only(reg),
         }

@@ -1,9 +1,10 @@
 -- What a tool asks of a program: a snippet on each edge of its graph.
-use Rattle.std.specs.Prelude.{◌≡◌, ℕ, suc, List, [], ◌∷◌, length, get_or, Some, slice_get}
+use Rattle.std.specs.Prelude.{◌≡◌, ℕ, ◌==◌, if◌then◌else◌, List, [], ◌∷◌, length, get_or, Some, slice_get}
 use Rattle.cfg_blocks.specs.Marks.{numbers}
 use Rattle.cfg_normal.specs.declared.Edge.{Edge}
 use Rattle.snippets.specs.declared.snippet.Op.{Op}
-use Rattle.snippets.specs.declared.snippet.Op.TheVariants.{Add}
+use Rattle.snippets.specs.declared.snippet.Op.TheVariants.{Add, Count}
+use Rattle.snippets.specs.Ops.{cells_end}
 use Rattle.tool_kit.specs.declared.edge_ref.EdgeRef.{EdgeRef}
 use Rattle.tool_kit.specs.declared.edge_ref.ToolKind.{ToolKind}
 use Rattle.tool_kit.specs.Kept.{Kept}
@@ -34,9 +35,14 @@ pub record IsPlanOf {F : Type 0} (says : F → EdgeRef → List Op → Type 0) (
   pub cells : plan.cells ≡ tool.cells
   pub snips : AreAnswers says tool.choose edges plan.snips
 
--- The snippets of a profile: each is empty, or adds 1 to a cell of its own, which are the next ones in edge order.
-abbrev pub AreCounters : ℕ → List (List Op) → Type 0
-AreCounters next [] = Unit {0}
-AreCounters next ([] ∷ snips) = AreCounters next snips
-AreCounters next ((Add cell amount ∷ []) ∷ snips) = (cell ≡ next) × (amount ≡ 1) × AreCounters (suc next) snips
-AreCounters next (_ ∷ snips) = ⊥
+-- A counter, by the version of the notes that tell of it: one of 32 bits in version 1, in a cell; one of 64 bits in
+-- version 2, in two.
+abbrev pub counter_op : ℕ → ℕ → Op
+counter_op version cell = if version == 1 then Add cell 1 else Count cell
+
+-- The snippets of a profile: each is empty, or a counter in cells of its own, which are the next ones in edge order.
+abbrev pub AreCounters : ℕ → ℕ → List (List Op) → Type 0
+AreCounters version next [] = Unit {0}
+AreCounters version next ([] ∷ snips) = AreCounters version next snips
+AreCounters version next ((op ∷ []) ∷ snips) = (op ≡ counter_op version next) × AreCounters version (cells_end op) snips
+AreCounters version next (_ ∷ snips) = ⊥

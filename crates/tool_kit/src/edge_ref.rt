@@ -18,4 +18,6 @@ pub enum ToolKind {
     Profile,
     /// A script says what is done.
     Script,
+    /// The last edges are kept.
+    Trace,
 }

@@ -1,6 +1,7 @@
 //! Tools.
-ghost use Rattle.std.specs.Prelude.{◌≡◌, ◌<◌, ◌^◌, get_or, length, IfOk};
+ghost use Rattle.std.specs.Prelude.{◌≡◌, ℕ, ◌<◌, ◌^◌, get_or, length, IfOk};
 ghost use Rattle.std.specs.List.{All};
+ghost use Rattle.snippets.specs.Cells.{WorksBelow, WorksIn};
 ghost use Rattle.snippets.specs.Grammar.{IsOp};
 ghost use Rattle.tool_kit.specs.Good.{IsGood};
 ghost use Rattle.tool_kit.specs.Plans.{AreAnswers, numbered};
@@ -116,17 +117,22 @@ fn edge_at(edges: &[Edge], number: usize) -> EdgeRef
     }
 }
 
-// The numbers of an operation have their sizes.
+// The numbers of an operation have their sizes, those of a ring where it works on cells.
 fn known(op: Op)
-    ensures { IsOp op }
+    ensures { (cells : ℕ) → WorksIn cells op → IsOp op }
 {
     match op {
-        Op::Add { .. } | Op::Put { .. } | Op::Keep { .. } | Op::Top { .. } => {}
+        Op::Add { .. }
+        | Op::Put { .. }
+        | Op::Keep { .. }
+        | Op::Top { .. }
+        | Op::Count { .. }
+        | Op::Log { .. } => {}
     }
 }
 
 fn all_known(ops: &[Op])
-    ensures { All IsOp ops.now }
+    ensures { (cells : ℕ) → WorksBelow cells ops.now → All IsOp ops.now }
 {
     for op in ops {
         known(*op);

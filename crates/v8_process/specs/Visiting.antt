@@ -10,6 +10,7 @@ use Rattle.v8_process.specs.Programs.{after, file_of, three_words, first_of}
 -- A page of 16 bytes: at 0x20000 stands the instruction of 0x10054 in two words, and at 0x2000c that of 0x10058.
 abbrev pub one_page : Notes
 one_page = record {
+  version = 2;
   delta = 4096;
   length = 96;
   tool = 0;

@@ -1,6 +1,6 @@
 -- `counts WRITTEN DUMP`: the file WRITTEN and the dump DUMP are read, the notes of the one and then the other are judged,
 -- and how often each edge was completed is rebuilt and printed.
-use Rattle.std.specs.Prelude.{◌≡◌, ℕ, ◌-◌, ◌*◌, ◌^◌, ◌<◌, ◌⊎◌, List, length, slice_index, None, Ok, Err}
+use Rattle.std.specs.Prelude.{◌≡◌, ℕ, ◌-◌, ◌*◌, ◌^◌, ◌<◌, ◌≤◌, ◌⊎◌, List, length, slice_index, Option, None, Ok, Err}
 use Rattle.eel_base.specs.Outside.{IsMissing, appended}
 use Rattle.elf32_sparc.specs.Image.{image_of}
 use Rattle.elf32_sparc.specs.Notes.{Notes, Absent, Bad, notes_of}
@@ -10,19 +10,22 @@ use Rattle.v8_process.specs.Start.{start_of}
 use Rattle.walk_counts.specs.Counts.{executions}
 use Rattle.dump_file.specs.Dump.{Dump}
 use Rattle.dump_file.specs.Reading.{read_dump}
-use Rattle.count_rebuild.specs.Answers.{AreCounts, IsBetween, IsImpossible, IsLong, IsMisshapen}
-use Rattle.count_rebuild.specs.Noted.{IsProfile}
+use Rattle.count_rebuild.specs.Answers.{AreCounts, IsBetween, IsForOther, IsImpossible, IsLong, IsMisshapen, IsOfOther, IsTooLarge}
+use Rattle.count_rebuild.specs.Noted.{IsProfile as HasProfile}
 use Rattle.count_rebuild.specs.declared.fault.CountFault.{CountFault}
 use Rattle.count_rebuild.specs.declared.fault.CountFault.TheVariants as faults
 use Rattle.v8_step.specs.Needed.{IsUntouched}
 use Rattle.v8_step.specs.Visits.{pages_of}
+use Rattle.exact_counts.specs.Laws.{counter_limit}
 use Rattle.exact_counts.specs.Stops.{dump_at, visits_by}
+use Rattle.edit_core.specs.Faithful.{IsFaithful}
+use Rattle.elf32_sparc.specs.FileFault.{fault}
 use Rattle.show_text.specs.CountLines.{count_lines}
 use Rattle.eel.specs.declared.outcome.CountCause.{CountCause}
 use Rattle.eel.specs.declared.outcome.CountCause.TheVariants as causes
 use Rattle.eel.specs.Outcome.{Outcome, NoNotes, BadNotes, BadDump, NoProfile, NoCounts, OutOfMemory}
-use Rattle.eel.specs.Answers.Shared.{Outside, Meaning, WasRead, IsUnread, IsPrinted, IsUnused, IsQuiet, IsSilent, written_limit}
-use Rattle.eel.specs.Answers.Profile.{IsProfileOf, graph_in}
+use Rattle.eel.specs.Answers.Shared.{Outside, Meaning, WasRead, IsUnread, IsPrinted, IsUnused, IsQuiet, IsSilent, edit_limit, written_limit}
+use Rattle.eel.specs.Answers.Profile.{AreCells, IsProfileOf, graph_in, plan_of}
 
 -- how long a dump may be
 abbrev pub dump_limit : ℕ
@@ -37,10 +40,13 @@ pub record AreRead (file bytes : List ℕ) (notes : Notes) (dump : Dump) : Type 
 
 -- why there are no counts, by the notes of a profile and a dump
 abbrev pub HasCause : Notes → Dump → CountCause → Type 0
+HasCause notes dump (causes.Version of wanted) = IsOfOther notes dump of wanted
+HasCause notes dump (causes.Length length wanted) = IsForOther notes dump length wanted
 HasCause notes dump (causes.Shape cells wanted) = IsMisshapen notes dump cells wanted
 HasCause notes dump (causes.Steps steps) = IsLong notes dump steps
 HasCause notes dump (causes.Between pc) = IsBetween notes dump pc.0
 HasCause notes dump (causes.Negative edge value) = IsImpossible notes dump edge.0 value
+HasCause notes dump (causes.Large edge value) = IsTooLarge notes dump edge.0 value
 
 -- the file has no notes that can be read
 abbrev pub IsUnnoted : List ℕ → List ℕ → Outcome → Type 0
@@ -63,7 +69,7 @@ IsUncounted written file name bytes (BadNotes named at) = (named ≡ written) ×
 IsUncounted written file name bytes (BadDump named at) =
     (notes : Notes) × (named ≡ name) × (notes_of file ≡ Ok notes) × (read_dump bytes ≡ Err at)
 IsUncounted written file name bytes (NoProfile named) =
-    (notes : Notes) × (dump : Dump) × (named ≡ written) × AreRead file bytes notes dump × ¬ IsProfile notes
+    (notes : Notes) × (dump : Dump) × (named ≡ written) × AreRead file bytes notes dump × ¬ HasProfile notes
 IsUncounted written file name bytes (NoCounts named cause) =
     (notes : Notes) × (dump : Dump) × (named ≡ name) × AreRead file bytes notes dump × HasCause notes dump cause
 IsUncounted written file name bytes OutOfMemory = Unit {0}
@@ -72,10 +78,13 @@ IsUncounted written file name bytes _ = ⊥
 -- what a fault of the rebuilding comes to
 abbrev pub uncounted_of : List ℕ → List ℕ → CountFault → Outcome
 uncounted_of written name faults.NoProfile = NoProfile written
+uncounted_of written name (faults.Version of wanted) = NoCounts name (causes.Version of wanted)
+uncounted_of written name (faults.Other length wanted) = NoCounts name (causes.Length length wanted)
 uncounted_of written name (faults.Shape cells wanted) = NoCounts name (causes.Shape cells wanted)
 uncounted_of written name (faults.TooLong steps) = NoCounts name (causes.Steps steps)
 uncounted_of written name (faults.Between pc) = NoCounts name (causes.Between pc)
 uncounted_of written name (faults.Negative edge value) = NoCounts name (causes.Negative edge value)
+uncounted_of written name (faults.Large edge value) = NoCounts name (causes.Large edge value)
 uncounted_of written name faults.NoMemory = OutOfMemory
 
 -- ---- the counts
@@ -92,18 +101,33 @@ pub record TellCounts (file bytes lines : List ℕ) : Type 0 where
 
 -- ---- what the counts of a profile are
 
+-- A file with these notes that is faithful to an original, with counters of the notes' version on the edges off a tree.
+pub record IsProfile (weights original file : List ℕ) (notes : Notes) : Type 0 where
+  pub cells : List (Option ℕ)
+  pub sound : fault original ≡ None
+  pub are : AreCells (graph_in original) weights cells
+  pub faithful : IsFaithful original (plan_of notes.version cells) file
+
+-- a file that an edit for counts made of an original is one, with version 2
+abbrev pub EditsAreProfiles : Type 0
+EditsAreProfiles =
+    (weights original file : List ℕ) (notes : Notes) → length original ≤ edit_limit → AreBytes original
+    → IsProfileOf weights original file → notes_of file ≡ Ok notes
+    → (notes.version ≡ 2) × IsProfile weights original file notes
+
 -- The file is an original's profile, and the dump is what a run of it has come to, wherever it was stopped, after fewer than
--- 2^32 steps, and without a touch of the added pages in as many steps of the original as there were visits.
+-- 2^32 steps or in version 2 than 2^64, and without a touch of the added pages in as many steps of the original as there were
+-- visits.
 pub record IsOfRun (original file : List ℕ) (notes : Notes) (dump : Dump) (args : List (List ℕ)) (input : List ℕ)
     (m : ℕ) : Type 0 where
   pub bytes : AreBytes original
   pub weights : List ℕ
-  pub profile : IsProfileOf weights original file
+  pub profile : IsProfile weights original file notes
   pub arguments : AreArguments args
   pub given : AreBytes input
   pub untouched : IsUntouched (pages_of notes) (start_of original args input)
       (visits_by notes (start_of file args input) m)
-  pub few : m < 2 ^ 32
+  pub few : m < counter_limit notes.version
   pub is : dump ≡ dump_at notes (start_of file args input) m
 
 -- Then the counts are how often the original's run completes each edge with the steps before that of the last visit: for

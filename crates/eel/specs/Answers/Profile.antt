@@ -1,6 +1,6 @@
 -- `edit IN OUT profile`: the file IN is read, judged, edited with counters on the edges off a spanning tree, and written as
 -- OUT.
-use Rattle.std.specs.Prelude.{◌≡◌, ℕ, List, [], ◌∷◌, length, map, Option, Some, None}
+use Rattle.std.specs.Prelude.{◌≡◌, ℕ, ◌*◌, List, [], ◌∷◌, length, map, Option, Some, None}
 use Rattle.eel_base.specs.Outside.{IsMissing, stored}
 use Rattle.flows.specs.Flows.{IsLeast, rest}
 use Rattle.flows.specs.Links.{weight_in}
@@ -11,13 +11,13 @@ use Rattle.cfg_view.specs.View.{view_of}
 use Rattle.span_tree.specs.Cells.{AreNumbered, cell_count, has_cell}
 use Rattle.span_tree.specs.Links.{links_of}
 use Rattle.span_tree.specs.Weights.{weights_of}
-use Rattle.snippets.specs.declared.snippet.Op.{Op}
-use Rattle.snippets.specs.declared.snippet.Op.TheVariants.{Add}
 use Rattle.tool_kit.specs.declared.edge_ref.ToolKind.TheVariants as tools
 use Rattle.tool_kit.specs.Plans.{Plan}
 use Rattle.edit_core.specs.declared.taking.EditFault.{EditFault}
 use Rattle.edit_core.specs.declared.taking.EditFault.TheVariants as faults
 use Rattle.elf32_sparc.specs.FileFault.{fault}
+use Rattle.elf32_sparc.specs.Notes.{counter_width}
+use Rattle.exact_counts.specs.Profiles.{counter_in}
 use Rattle.edit_core.specs.Taken.{IsCramped}
 use Rattle.eel.specs.Outcome.{Outcome, BadFile, NoRoom, OutOfMemory}
 use Rattle.eel.specs.Answers.Files.{IsFaulty, IsSound}
@@ -26,9 +26,9 @@ use Rattle.eel.specs.Answers.Edit.{IsEditOf}
 
 -- ---- which edges are counted
 
--- The cells of the edges of a graph: those that have one have 0, 1, 2 and so on in edge order, and the others are a
--- spanning tree of all nodes. So the counts of those that have one determine all counts, and no set of edges whose counts
--- do weighs less, by these weights of the edges.
+-- Which edges of a graph are counted, by their numbers: those that are have 0, 1, 2 and so on in edge order, and the others
+-- are a spanning tree of all nodes. So the counts of those that are counted determine all counts, and no set of edges whose
+-- counts do weighs less, by these weights of the edges.
 pub record AreCells (graph : Graph) (weights : List ℕ) (cells : List (Option ℕ)) : Type 0 where
   pub size : length cells ≡ length graph.edges
   pub numbered : AreNumbered cells
@@ -44,14 +44,18 @@ guessed bytes = weights_of (graph_in bytes).blocks (graph_in bytes).edges
 
 -- ---- what the tool asks for
 
--- it adds 1 to the cell of the edge, where that has one
-abbrev pub counter_of : Option ℕ → List Op
-counter_of None = []
-counter_of (Some cell) = Add cell 1 ∷ []
+-- It counts each edge that has a number, in as many cells as a counter has in a version of the notes, one counter behind the
+-- other. Files are written with version 2.
+abbrev pub plan_of : ℕ → List (Option ℕ) → Plan
+plan_of version cells = record {
+  kind = tools.Profile;
+  marks = [];
+  cells = counter_width version * cell_count cells;
+  snips = map (counter_in version) cells;
+}
 
 abbrev pub profile_plan : List (Option ℕ) → Plan
-profile_plan cells =
-    record { kind = tools.Profile; marks = []; cells = cell_count cells; snips = map counter_of cells }
+profile_plan cells = plan_of 2 cells
 
 -- ---- refusals
 

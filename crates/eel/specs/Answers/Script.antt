@@ -35,7 +35,7 @@ script_plan bytes snips cells = record {
 }
 
 -- The lines of S say so, none of which is bad for the graph of the file: the operations that they name on each edge,
--- in their order. There is one cell more than the greatest that they name, or none.
+-- in their order. There are cells up to the last on which one of them works, or none.
 abbrev pub IsScripted : List ℕ → List ℕ → Plan → Type 0
 IsScripted bytes lines plan =
     (said : _) × AllSay (lines_of lines) said × IsGood (length (edges_in bytes)) said

@@ -1,19 +1,17 @@
-use Rattle.std.proofs.Common.{rules, ◌≡◌, ◌<◌, ◌≤◌, ◌∙◌, ◌+◌, ◌*◌, ◌^◌, length, map, ap, arith, subst, sym}
-use Rattle.std.specs.Prelude.{ℤ, nat_abs}
-use Rattle.std.specs.List.{All}
+use Rattle.std.proofs.Common.{rules, ◌≡◌, ◌∙◌, length, map, ap, subst, sym}
+use Rattle.std.specs.Prelude.{nat_abs}
 use Rattle.std.proofs.lemmas.List.{length-map}
-use Rattle.std.proofs.lemmas.List.Elements.{All-weaker}
 use Rattle.std.proofs.lemmas.Result.{IfErr-weaker, IfOk-weaker, err_from_is_err_and}
 use Rattle.notes.specs.Seen.{edge_seen, notes_seen}
 use Rattle.dump_file.specs.Dump.{dump_seen}
-use Rattle.flow_rebuild.specs.Values.{abs_sum, int_at}
+use Rattle.flow_rebuild.specs.Values.{int_at}
 use Rattle.count_rebuild.specs.Answers.{AreCounts, IsRefused}
 use Rattle.count_rebuild.specs.Counts.{IsFlowTo, cell_value}
 use Rattle.count_rebuild.specs.Noted.{link_of}
-use Rattle.count_rebuild.specs.Parts.{AreWhole, IsBelow}
-use Rattle.count_rebuild.proofs.Profile.{joins, length_links, length_values, node_marked}
+use Rattle.count_rebuild.specs.Parts.{AreWhole, IsBad}
+use Rattle.count_rebuild.proofs.Profile.{joins, length_links, node_marked}
 use Rattle.count_rebuild.proofs.TheFlow.{flow_to, impossible, stands_inside}
-use Rattle.count_rebuild.proofs.Values.{flow_small, whole_flow}
+use Rattle.count_rebuild.proofs.Values.{whole_flow}
 use Rattle.count_rebuild.proofs.rebuilding.rebuild.Goals as goal
 
 pub returns-in_err-tree-clause-refused : goal.returns-in_err-tree-clause-refused
@@ -32,24 +30,11 @@ rebuild-requires-clause-end c =
     let inside = stands_inside c.args.n.now c.args.d.now c.in_ok-node.node c.requires.notes c.in_ok-node.ensures.stands in
     node_marked c.args.n.now c.in_ok-tree.tree.reached.items c.in_ok-tree.ensures.tree.reached c.in_ok-node.node inside.0 inside.1
 
-pub whole_numbers-requires-clause-small : goal.whole_numbers-requires-clause-small
-whole_numbers-requires-clause-small c =
-    let most = c.requires.notes.edge_count in
-    let edges = length-map c.args.n.now.edges.items edge_seen in
-    let values : c.deref-6.result.now
-    ≡ map (λ edge. cell_value c.args.d.now.cells.items (edge_seen edge).cell) c.args.n.now.edges.items = search rules in
-    let held = length_values c.args.n.now c.args.d.now.cells.items c.deref-6.result.now values in
-    let small = subst (All (λ (z : ℤ). nat_abs z < 2 ^ 32)) (sym c.deref-6.ensures.value) c.in_ok-values.ensures.small in
-    let few = flow_small c.deref-6.result.now (omega (arith, most, edges, held)) small in
-    subst (All (λ (z : ℤ). nat_abs z < 2 ^ 63)) (sym c.deref-7.ensures.value)
-    (All-weaker (λ (z : ℤ). nat_abs z ≤ 2 * abs_sum c.deref-6.result.now + 2) (λ (z : ℤ). nat_abs z < 2 ^ 63)
-    (λ z l. omega (arith, few, l)) c.in_ok-flow.flow.items c.in_ok-flow.ensures.small)
-
 pub returns-clause-counts : goal.returns-clause-counts
 returns-clause-counts c =
     let n = c.args.n.now in
     let links : c.deref-5.result.now ≡ map (λ edge. link_of (edge_seen edge)) n.edges.items = search rules in
-    let values : c.deref-6.result.now ≡ map (λ edge. cell_value c.args.d.now.cells.items (edge_seen edge).cell) n.edges.items =
+    let values : c.deref-6.result.now ≡ map (λ edge. cell_value n.version c.args.d.now.cells.items (edge_seen edge).cell) n.edges.items =
     search rules in
     let is = flow_to n c.args.d.now c.deref-5.result.now c.deref-2.result.now c.in_ok-tree.tree c.in_ok-node.node
     c.deref-6.result.now c.in_ok-flow.flow.items links c.in_ok-tree.ensures.tree values c.in_ok-flow.ensures.flow in
@@ -70,14 +55,14 @@ pub returns-clause-refused : goal.returns-clause-refused
 returns-clause-refused c =
     let n = c.args.n.now in
     let links : c.deref-5.result.now ≡ map (λ edge. link_of (edge_seen edge)) n.edges.items = search rules in
-    let values : c.deref-6.result.now ≡ map (λ edge. cell_value c.args.d.now.cells.items (edge_seen edge).cell) n.edges.items =
+    let values : c.deref-6.result.now ≡ map (λ edge. cell_value n.version c.args.d.now.cells.items (edge_seen edge).cell) n.edges.items =
     search rules in
     let is = flow_to n c.args.d.now c.deref-5.result.now c.deref-2.result.now c.in_ok-tree.tree c.in_ok-node.node
     c.deref-6.result.now c.in_ok-flow.flow.items links c.in_ok-tree.ensures.tree values c.in_ok-flow.ensures.flow in
     let many : length c.deref-7.result.now ≡ length (notes_seen n).edges =
     ap length c.deref-7.ensures.value ∙ c.in_ok-flow.ensures.len ∙ length_links n c.deref-5.result.now links
     ∙ sym (length-map n.edges.items edge_seen) in
-    IfErr-weaker c.whole_numbers.result (IsBelow c.deref-7.result.now) (IsRefused (notes_seen n) (dump_seen c.args.d.now))
+    IfErr-weaker c.whole_numbers.result (IsBad c.deref-7.result.now) (IsRefused (notes_seen n) (dump_seen c.args.d.now))
     (impossible (notes_seen n) (dump_seen c.args.d.now) c.in_ok-node.node c.deref-7.result.now c.in_ok-node.ensures.stands
     (subst (IsFlowTo (notes_seen n) (dump_seen c.args.d.now) c.in_ok-node.node) (ap int_at (sym c.deref-7.ensures.value)) is) many)
     c.whole_numbers.ensures.refused

@@ -1,4 +1,5 @@
-use Rattle.std.proofs.Common.{refl, ◌∙◌}
+use Rattle.std.proofs.Common.{refl, ap, ◌∙◌}
+use Rattle.elf32_sparc.specs.Notes.{Notes}
 use Rattle.image_code.proofs.Fit.{pieces_fit}
 use Rattle.edit_core.specs.Written.{placement_in, plan_of, table_after}
 use Rattle.edit_core.proofs.Steps.{code_is, original_fit, segment_is, view_added, view_aligned, view_entry, view_low, view_room, view_text, view_words}
@@ -29,8 +30,8 @@ pub notes-requires-clause-text : goal.notes-requires-clause-text
 notes-requires-clause-text c =
     view_text c.args.bytes.now (plan_of c.requires.asked.0 c.args.asked.now) c.args.image.now c.args.graph.now c.requires.asked.1 c.requires.asked.2
 
-pub write_notes-requires : goal.write_notes-requires
-write_notes-requires c =
+pub write_notes-requires-clause-notes : goal.write_notes-requires-clause-notes
+write_notes-requires-clause-notes c =
     let marks = c.requires.asked.0 in
     let view = c.requires.asked.1 in
     let can = c.requires.asked.2 in
@@ -42,6 +43,10 @@ write_notes-requires c =
     c.in_ok-added.ensures.tables in
     rw (c.in_ok-notes.ensures marks view) (notes_meet_rules c.args.bytes.now plan c.requires.limit can work _ _ _ code
     (original_fit pieces_fit c.args.bytes.now plan can work code.dead))
+
+pub write_notes-requires-clause-version : goal.write_notes-requires-clause-version
+write_notes-requires-clause-version c =
+    ap (λ (n : Notes). n.version) (c.in_ok-notes.ensures c.requires.asked.0 c.requires.asked.1)
 
 pub write_around-requires-clause-original : goal.write_around-requires-clause-original
 write_around-requires-clause-original c =

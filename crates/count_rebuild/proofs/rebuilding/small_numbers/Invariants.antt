@@ -1,11 +1,11 @@
 use Rattle.std.proofs.Common.{◌≡◌, ◌<◌, ℕ, false, map, take}
 use Rattle.std.specs.Prelude.{nat_abs}
 use Rattle.flow_rebuild.specs.Values.{int_at}
-use Rattle.count_rebuild.specs.Counts.{is_negative}
-use Rattle.count_rebuild.proofs.rebuilding.whole_numbers.Given as goal
+use Rattle.count_rebuild.specs.Counts.{is_large}
+use Rattle.count_rebuild.proofs.rebuilding.small_numbers.Given as goal
 
 abbrev pub invariant-loop-edge : goal.invariant-loop-edge
 invariant-loop-edge l = record {
   are : l.counts.items ≡ map nat_abs (take l.edge l.flow);
-  whole : (e : ℕ) → e < l.edge → is_negative (int_at l.flow e) ≡ false;
+  small : (e : ℕ) → e < l.edge → is_large (int_at l.flow e) ≡ false;
 }

@@ -1,0 +1,17 @@
+use Rattle.std.proofs.Common.{rules, ◌∙◌, ap, length, map, ◌≡◌, ◌+◌, ◌^◌}
+use Rattle.dump_file.specs.Dump.{dump_seen}
+use Rattle.edge_ring.specs.Ring.{edges_in}
+use Rattle.edge_ring.proofs.Entries.{inside, number}
+use Rattle.edge_ring.proofs.reading.last_edges.Goals as goal
+
+pub returns-clause-inside : goal.returns-clause-inside
+returns-clause-inside c =
+    let d = c.args.d.now in
+    let whole = c.in_ok-judge_entries.ensures.whole in
+    let theirs = whole.placed.theirs in
+    let trace = theirs.for_them.alike.trace in
+    let size : length c.deref.result.now ≡ 1 + 2 ^ trace.bits =
+    ap length c.deref.ensures.value ∙ theirs.cells ∙ trace.cells in
+    let are : map number c.in_ok-edges.edges.items ≡ edges_in trace.bits d.cells.items =
+    c.in_ok-edges.ensures trace.bits size ∙ ap (edges_in trace.bits) c.deref.ensures.value in
+    inside c.args.n.now (dump_seen d) trace.bits c.in_ok-edges.edges.items whole are

@@ -1,0 +1,6 @@
+pub mod Ring
+pub mod Laws
+pub mod Stores
+pub mod Traces
+pub mod Answers
+pub mod Lines

@@ -1,0 +1,6 @@
+use Rattle.std.proofs.Common.{◌≡◌, ◌<◌, ℕ}
+use Rattle.cfg_blocks.specs.Blocks.{size_of}
+use Rattle.instr_counts.proofs.matching.are_single.Given as goal
+
+abbrev pub invariant-loop-block : goal.invariant-loop-block
+invariant-loop-block l = (k : ℕ) → k < l.block → size_of l.graph.blocks k ≡ 1

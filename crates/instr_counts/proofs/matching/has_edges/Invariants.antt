@@ -1,0 +1,11 @@
+use Rattle.std.proofs.Common.{◌<◌, ℕ, map}
+use Rattle.std.specs.Prelude.{slice_index_or}
+use Rattle.notes.specs.Seen.{edge_seen}
+use Rattle.span_tree.specs.Links.{no_edge}
+use Rattle.count_rebuild.specs.Noted.{no_edge as no_noted}
+use Rattle.instr_counts.specs.Matches.{IsNoted}
+use Rattle.instr_counts.proofs.matching.has_edges.Given as goal
+
+abbrev pub invariant-loop-number : goal.invariant-loop-number
+invariant-loop-number l = (e : ℕ) → e < l.number
+    → IsNoted l.graph (slice_index_or (map edge_seen l.noted) e no_noted) (slice_index_or l.graph.edges e no_edge)

@@ -1,0 +1,5 @@
+use Rattle.instr_counts.proofs.Closed.{none_are_open}
+use Rattle.instr_counts.proofs.none_are_open.Goals as goal
+
+pub returns : goal.returns
+returns c = none_are_open

@@ -1,0 +1,8 @@
+use Rattle.std.proofs.Common.{◌≡◌, ◌++◌, take}
+use Rattle.std.specs.List.{enumerate_from, flat_map}
+use Rattle.instr_counts.specs.Lines.{visit_line}
+use Rattle.instr_counts.proofs.printing.put_visits.Given as goal
+
+abbrev pub invariant-loop-word : goal.invariant-loop-word
+invariant-loop-word l = l.lines.items
+    ≡ l.initial.lines.items ++ flat_map (visit_line l.text) (take l.word (enumerate_from 0 l.visits))

@@ -1,0 +1,5 @@
+pub mod Visits
+pub mod Laws
+pub mod Matches
+pub mod Answers
+pub mod Lines
