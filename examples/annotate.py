@@ -3,14 +3,15 @@
 
 With COUNTS the routines come hottest first, each with its share of all instructions that ran, and on a terminal in
 colours: red is hot, and grey never ran. What is no code is left out: the words that stand in no section of instructions,
-and to which no routine, no edge and not this run leads. A landing in the midst of a block counts for the whole block.
+and to which no routine, no edge and not this run leads. By counts of edges a landing in the midst of a block counts for the
+whole block; visits of words are exact.
 """
 import argparse
 import os
 import sys
 from collections import defaultdict
 
-from shown import COUNTS_HELP, Executions, Shown, counts_of, print_lines, share
+from shown import VISITS_HELP, Shown, print_lines, run_of, share
 
 RED, YELLOW, GREY, PLAIN = '\x1b[1;31m', '\x1b[33m', '\x1b[90m', '\x1b[0m'
 
@@ -65,11 +66,11 @@ class Annotation:
 def main():
     parser = argparse.ArgumentParser(description=__doc__, formatter_class=argparse.RawDescriptionHelpFormatter)
     parser.add_argument('file', metavar='FILE', help='the program')
-    parser.add_argument('counts', metavar='COUNTS', nargs='?', help=COUNTS_HELP)
+    parser.add_argument('counts', metavar='COUNTS', nargs='?', help=VISITS_HELP)
     parser.add_argument('--routine', metavar='NAME', help='this routine alone, by its name or its address in hexadecimal')
     words = parser.parse_args()
     shown = Shown(words.file)
-    run = Executions(shown, counts_of(shown, words.counts)) if words.counts else None
+    run = run_of(shown, words.counts) if words.counts else None
     routines = code_words(shown, run)
     if words.routine:
         start = shown.routine_called(words.routine)

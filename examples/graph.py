@@ -3,14 +3,15 @@
 
 Each routine is a cluster of its blocks. Landings aren't drawn, but for those that were completed, and edges out of the
 program lead to `x`. A block and its landed copy are drawn as one. With COUNTS each edge has its count, where a block has
-several ways out also its share of them, and is the heavier the more often it was completed; edges that weren't are grey. Of
-one routine the edges into it and out of it are drawn that were completed. What is no code is left out.
+several ways out also its share of them, and is the heavier the more often it was completed; edges that weren't are grey. With
+a trace in place of COUNTS each of the last edges has the places at which it stands in their order, and is the heavier the later
+it was completed last. Of one routine the edges into it and out of it are drawn that were completed. What is no code is left out.
 """
 import argparse
 import math
 from collections import Counter, defaultdict
 
-from shown import COUNTS_HELP, Executions, Shown, counts_of, print_lines, share
+from shown import TRACE_HELP, Executions, Shown, Trace, counts_of, is_trace, print_lines, share, trace_of
 
 
 def quoted(text):
@@ -34,6 +35,9 @@ class Drawing:
         for edge in shown.edges if run else []:
             self.counts[drawn(edge)] += run.edge(edge)
         self.most = max(self.counts.values(), default=0)
+        self.places = defaultdict(list)
+        for edge in shown.edges if isinstance(run, Trace) else []:
+            self.places[drawn(edge)] += run.places.get(edge.number, [])
         self.clusters = defaultdict(list)
         for first in sorted(shown.code(run)):
             start = shown.routine_of(first)
@@ -66,10 +70,19 @@ class Drawing:
 
     def looks(self, edge, count):
         """The label of a completed edge, its width and its colour: from 1 to 6, and from black to red, by the logarithm."""
+        if isinstance(self.run, Trace):
+            return self.way(edge)
         heat = math.log1p(count) / math.log1p(self.most)
         ways = set(map(drawn, self.shown.blocks[edge.source].out)) if edge.source is not None else []
         part = f', {share(count, sum(self.counts[way] for way in ways))}' if len(ways) > 1 else ''
         label = quoted(f'{edge.kind} {count}{part}')
+        return f'label={label}; penwidth={1 + 5 * heat:.1f}; color="0.0 {heat:.2f} {0.8 * heat:.2f}"'
+
+    def way(self, edge):
+        """The same of an edge of a trace: at which places it stands, of which the last are shown."""
+        places = sorted(self.places[drawn(edge)])
+        label = quoted(f'{edge.kind} {"..., " if len(places) > 4 else ""}{", ".join(map(str, places[-4:]))}')
+        heat = places[-1] / self.run.length
         return f'label={label}; penwidth={1 + 5 * heat:.1f}; color="0.0 {heat:.2f} {0.8 * heat:.2f}"'
 
     def edge(self, edge):
@@ -111,15 +124,20 @@ class Drawing:
         yield '}'
 
 
+def read_run(shown, name):
+    """What a file tells of a run: its last edges, or the counts of all."""
+    return Trace(shown, trace_of(shown, name)) if is_trace(name) else Executions(shown, counts_of(shown, name))
+
+
 def main():
     parser = argparse.ArgumentParser(description=__doc__, formatter_class=argparse.RawDescriptionHelpFormatter)
     parser.add_argument('file', metavar='FILE', help='the program')
-    parser.add_argument('counts', metavar='COUNTS', nargs='?', help=COUNTS_HELP)
+    parser.add_argument('counts', metavar='COUNTS', nargs='?', help=TRACE_HELP)
     parser.add_argument('--routine', metavar='NAME', help='this routine alone, by its name or its address in hexadecimal')
     parser.add_argument('--code', action='store_true', help='with the instructions in each block')
     words = parser.parse_args()
     shown = Shown(words.file)
-    run = Executions(shown, counts_of(shown, words.counts)) if words.counts else None
+    run = read_run(shown, words.counts) if words.counts else None
     routine = shown.routine_called(words.routine) if words.routine else None
     print_lines(Drawing(shown, run, routine, words.code).lines())
 

@@ -1,13 +1,17 @@
-"""A program as `eel show` and `eel list` print it, and a run's counts of its edges, as `eel counts` prints them."""
+"""A program as `eel show` and `eel list` print it, and what `eel counts`, `eel visits` and `eel trace` print of a run of it."""
 import bisect
 import os
+import re
 import struct
 import subprocess
 import sys
+from collections import Counter, defaultdict
 from dataclasses import dataclass, field
 
 EEL = os.path.join(os.path.dirname(os.path.abspath(__file__)), '..', 'eel')
 COUNTS_HELP = 'what `eel counts` printed of a run of its profile'
+VISITS_HELP = COUNTS_HELP + ', or `eel visits` of a file that `every` made'
+TRACE_HELP = COUNTS_HELP + ', or `eel trace` of a file that `trace` made'
 
 
 def refuse(line):
@@ -207,6 +211,58 @@ def counts_of(shown, name):
     return counts
 
 
+def is_text_of(name, first):
+    """Whether the first line of a file begins with one of these words."""
+    lines = read_lines(name)
+    return bool(lines) and lines[0].split(' ')[0] in first
+
+
+def is_trace(name):
+    """Whether the last line of a file is that of a trace."""
+    lines = read_lines(name)
+    return bool(lines) and ' ring ' in lines[-1]
+
+
+def visits_of(shown, name):
+    """How often a run carried out the word at each address, by the lines of a file, which must be of this program."""
+    visits, total = {}, None
+    for at, line in enumerate(read_lines(name), 1):
+        words = line.split()
+        if total is None and len(words) == 3 and words[0] == 'word' and words[2].isdecimal():
+            address = int(words[1], 16) if re.fullmatch('[0-9a-f]{8}', words[1]) else -1
+            if shown.block_of(address) is None:
+                refuse(f'{name}: line {at}: {shown.name} has no such word')
+            visits[address] = int(words[2])
+        elif total is None and re.fullmatch(r'words \d+ visited \d+ visits \d+', line):
+            total = [int(number) for number in words[1::2]]
+        else:
+            refuse(f'{name}: line {at}: not a line of eel visits')
+    if total is None:
+        refuse(f'{name}: the last line is missing')
+    if total != [sum(block.words for block in shown.blocks.values()), len(visits), sum(visits.values())]:
+        refuse(f'{name}: these are not the visits of all words of {shown.name}')
+    return visits
+
+
+def trace_of(shown, name):
+    """The numbers of the last edges that a run completed, the oldest first, by the lines of a file of this program."""
+    numbers, total = [], None
+    for at, line in enumerate(read_lines(name), 1):
+        words = line.split()
+        if total is None and len(words) == 5 and words[0] == 'edge' and words[1].isdecimal():
+            number = int(words[1])
+            if number >= len(shown.edges) or shown.edges[number].printed != tuple(words[2:]):
+                refuse(f'{name}: line {at}: {shown.name} has no such edge')
+            numbers.append(number)
+        elif total is None and re.fullmatch(r'edges \d+ ring \d+', line):
+            total = int(words[1])
+        else:
+            refuse(f'{name}: line {at}: not a line of eel trace')
+    if total != len(numbers):
+        refuse(f'{name}: the last line is missing, or is that of another number of edges')
+    return numbers
+
+
 def is_unimplemented(word):
     """Whether a word is an UNIMP, as stands behind calls that return structs."""
     return word is not None and word >> 30 == 0 and word >> 22 & 7 == 0
@@ -233,6 +289,37 @@ class Executions:
 
     def edge(self, edge):
         return self.edges.get(edge.number, 0)
+
+
+class Visits:
+    """How often a run carried out the word at each address, as it was counted: exactly, and up to where it stood."""
+
+    def __init__(self, shown, visits):
+        addresses = [address for block in shown.blocks.values() for address in block.addresses()]
+        self.words = {address: visits.get(address, 0) for address in addresses}
+        self.blocks = {first: self.words[first] for first in shown.blocks}
+        self.total = sum(visits.values())
+
+
+class Trace:
+    """The last edges that a run completed, by the places at which each stands in their order, from 1 on."""
+
+    def __init__(self, shown, numbers):
+        self.places, self.length = defaultdict(list), len(numbers)
+        for place, number in enumerate(numbers, 1):
+            self.places[number].append(place)
+        ends = [end for number in numbers for end in (shown.edges[number].source, shown.edges[number].target)]
+        self.blocks = Counter(end for end in ends if end is not None)
+
+    def edge(self, edge):
+        return len(self.places.get(edge.number, []))
+
+
+def run_of(shown, name):
+    """What a file tells of a run: the visits of all words, or the counts of edges."""
+    if is_text_of(name, ('word', 'words')):
+        return Visits(shown, visits_of(shown, name))
+    return Executions(shown, counts_of(shown, name))
 
 
 def share(part, whole):
