@@ -1,16 +1,18 @@
 #!/usr/bin/env python3
 """Runs a program and prints how often its run completes each edge of its flow graph, made apart from the proved program.
 
-    examples/plain_count.py FILE [-n LIMIT] [-- ARG..]
+    examples/plain_count.py FILE [--visits | --trace K] [-n LIMIT] [-- ARG..]
 
 The run takes the standard input, and at most LIMIT steps: 100000000 unless said otherwise. Lines are those of
 `eel counts`: `edge N KIND FROM TO COUNT` for each edge that was completed, and how many edges there are, how many of
-them lie off a spanning tree, and the sum of the counts. The ending and the number of steps go to the error stream,
-and what the program writes is dropped.
+them lie off a spanning tree, and the sum of the counts. With --visits they are those of `eel visits`: how often each word was
+carried out or begun. With --trace they are those of `eel trace`: the last 2^K edges. The ending and the number of steps go to
+the error stream, and what the program writes is dropped.
 
 The machine is that of The SPARC Architecture Manual, Version 8: its integer unit in user mode, with eight windows.
 With --programs, runs the small programs of programs.py instead, and prints those that end otherwise than is known.
 """
+import collections
 import struct
 import sys
 
@@ -20,6 +22,7 @@ from programs import SMALL
 MASK = 0xffffffff
 READ, WRITE, EXECUTE = 4, 2, 1
 HEAP = 0x80000000
+MOST_BITS = 16  # of a ring of edges
 STACK, STACK_END = 0xeff00000, 0xf0000000
 ADD, AND, OR, XOR, SUB, ANDN, ORN, XNOR, ADDX = range(9)
 UMUL, SMUL, SUBX, UDIV, SDIV = 10, 11, 12, 14, 15
@@ -410,6 +413,8 @@ class Counts:
         self.program = Program(file)
         self.graph = Graph(self.program)
         self.counts = [0] * len(self.graph.edges)
+        self.last = collections.deque(maxlen=1 << MOST_BITS)
+        self.visits = collections.Counter()
         # a node has one edge of a kind, but one for each target of landings and of a switch's jump
         self.numbers = {self.way(edge.kind, edge.source, edge.target): number
                         for number, edge in enumerate(self.graph.edges)}
@@ -424,6 +429,7 @@ class Counts:
         """Control leaves the walk's node by the edge of a kind, and of a target where the node has more of them."""
         number = self.numbers[self.way(kind, self.node, target)]
         self.counts[number] += 1
+        self.last.append(number)
         self.node = self.graph.edges[number].target
 
     def stepped(self, pc, before, after, next_pc):
@@ -455,12 +461,28 @@ class Counts:
         elif self.node is not None and word == self.graph.last(home(self.node)):
             self.complete('fall')
 
+    def edge_text(self, number):
+        edge, node = self.graph.edges[number], self.graph.node_text
+        return f'edge {number} {edge.kind} {node(edge.source)} {node(edge.target)}'
+
     def lines(self):
-        node, edges = self.graph.node_text, zip(self.graph.edges, self.counts)
-        lines = [f'edge {number} {edge.kind} {node(edge.source)} {node(edge.target)} {count}'
-                 for number, (edge, count) in enumerate(edges) if count]
+        lines = [f'{self.edge_text(number)} {count}' for number, count in enumerate(self.counts) if count]
         off_tree = len(self.counts) - len(self.graph.firsts) - len(self.graph.copied)
         lines.append(f'edges {len(self.counts)} counted {off_tree} executions {sum(self.counts)}')
+        return '\n'.join(lines) + '\n'
+
+    def visit_lines(self):
+        """How often the words of the text were carried out or begun."""
+        visits = [(pc, count) for pc, count in sorted(self.visits.items()) if self.program.word_at(pc) is not None]
+        lines = [f'word {pc:08x} {count}' for pc, count in visits]
+        lines.append(f'words {self.graph.count} visited {len(visits)} visits {sum(count for _, count in visits)}')
+        return '\n'.join(lines) + '\n'
+
+    def last_lines(self, bits):
+        """The last edges that a ring of 2^bits places holds, the oldest first."""
+        last = list(self.last)[-(1 << bits):]
+        lines = [self.edge_text(number) for number in last]
+        lines.append(f'edges {len(last)} ring {1 << bits}')
         return '\n'.join(lines) + '\n'
 
 
@@ -469,11 +491,13 @@ def walk(file, args, given, limit):
     machine, counts = Machine(file, args, given), Counts(file)
     for steps in range(limit):
         pc, before = machine.pc, machine.slot
+        counts.visits[pc] += 1
         try:
             machine.step()
         except Ended as ended:
             return counts, str(ended), steps + 1
         counts.stepped(pc, before, machine.slot, machine.pc)
+    counts.visits[machine.pc] += 1
     return counts, f'stopped {limit}', limit
 
 
@@ -502,11 +526,18 @@ def main(words):
     if '--' in words:
         at = words.index('--')
         words, args = words[:at], words[at + 1:]
-    limit = int(words[2]) if words[1:2] == ['-n'] else 100_000_000
-    with open(words[0], 'rb') as opened:
+    name, words = words[0], words[1:]
+    with open(name, 'rb') as opened:
         file = opened.read()
-    lines, ending, steps = count(file, [arg.encode() for arg in args], sys.stdin.buffer.read(), limit)
-    print(lines, end='')
+    lines = Counts.lines
+    if words[:1] == ['--visits']:
+        lines, words = Counts.visit_lines, words[1:]
+    elif words[:1] == ['--trace']:
+        bits, words = int(words[1]), words[2:]
+        lines = lambda counts: counts.last_lines(bits)
+    limit = int(words[1]) if words[:1] == ['-n'] else 100_000_000
+    counts, ending, steps = walk(file, [arg.encode() for arg in args], sys.stdin.buffer.read(), limit)
+    print(lines(counts), end='')
     print(ending, 'after', steps, 'steps', file=sys.stderr)
 
 
