@@ -5,13 +5,16 @@ With COUNTS the routines come hottest first, each with its share of all instruct
 colours: red is hot, and grey never ran. What is no code is left out: the words that stand in no section of instructions,
 and to which no routine, no edge and not this run leads. By counts of edges a landing in the midst of a block counts for the
 whole block; visits of words are exact.
+
+With a trace the last edges of a run are printed, the oldest first, each with the instructions that it led to: that in its
+delay slot, and those of its block, of which the last ones may not have been reached.
 """
 import argparse
 import os
 import sys
 from collections import defaultdict
 
-from shown import VISITS_HELP, Shown, print_lines, run_of, share
+from shown import VISITS_HELP, Shown, is_trace, print_lines, run_of, share, trace_of
 
 RED, YELLOW, GREY, PLAIN = '\x1b[1;31m', '\x1b[33m', '\x1b[90m', '\x1b[0m'
 
@@ -63,6 +66,30 @@ class Annotation:
             yield ''
 
 
+class Trail:
+    """The last edges of a run, with the instructions to which each led."""
+
+    def __init__(self, shown, numbers):
+        self.shown, self.numbers, self.texts = shown, numbers, shown.instructions()
+
+    def place(self, address):
+        """An address with the routine that holds it and how far behind its beginning that is."""
+        if address is None:
+            return 'x'
+        start = self.shown.routine_of(address)
+        behind = '' if start in (None, address) else f'+{address - start:#x}'
+        return f'{address:08x} {self.shown.name_of(start)}{behind}'
+
+    def lines(self):
+        for number in self.numbers:
+            edge = self.shown.edges[number]
+            yield f'edge {number} {edge.kind}: {self.place(edge.source)} -> {self.place(edge.target)}'
+            if edge.slot is not None:
+                yield f'  {edge.slot:08x}  {self.texts[edge.slot]}    (slot)'
+            if edge.target is not None:
+                yield from (f'  {address:08x}  {self.texts[address]}' for address in self.shown.blocks[edge.target].addresses())
+
+
 def main():
     parser = argparse.ArgumentParser(description=__doc__, formatter_class=argparse.RawDescriptionHelpFormatter)
     parser.add_argument('file', metavar='FILE', help='the program')
@@ -70,6 +97,9 @@ def main():
     parser.add_argument('--routine', metavar='NAME', help='this routine alone, by its name or its address in hexadecimal')
     words = parser.parse_args()
     shown = Shown(words.file)
+    if words.counts and is_trace(words.counts):
+        print_lines(Trail(shown, trace_of(shown, words.counts)).lines())
+        return
     run = run_of(shown, words.counts) if words.counts else None
     routines = code_words(shown, run)
     if words.routine:

@@ -10,7 +10,7 @@ from dataclasses import dataclass, field
 
 EEL = os.path.join(os.path.dirname(os.path.abspath(__file__)), '..', 'eel')
 COUNTS_HELP = 'what `eel counts` printed of a run of its profile'
-VISITS_HELP = COUNTS_HELP + ', or `eel visits` of a file that `every` made'
+VISITS_HELP = COUNTS_HELP + ', or `eel visits` of a file that `every` made, or `eel trace` of one that `trace` made'
 TRACE_HELP = COUNTS_HELP + ', or `eel trace` of a file that `trace` made'
 
 
