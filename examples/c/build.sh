@@ -29,4 +29,6 @@ build fractions_by_clang start.S fractions_by_clang.o
 rm fractions_by_clang.o
 # Its code stands in a segment of its own, without the headers.
 build branches branches.c -Wl,-z,separate-code -Wl,-z,max-page-size=0x1000
+# One that traps is an example.
+(data=.. && build tree start.S tree.c)
 python3 ../write_programs.py
