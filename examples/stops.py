@@ -7,7 +7,8 @@ plain_count.py, which shares nothing with the proved program.
     examples/stops.py --random COUNT [FIRST]  random programs, each the same in each run
     examples/stops.py --switches COUNT [FIRST]  random programs with switches
 
-Prints a line for each program: how many stops there were, how many of them at visits, how many had counts, and how many
+With --visits before these, edits with `every` are stopped, and told by `./eel visits`; with --trace K edits with `trace K`,
+told by `./eel trace`. Prints a line for each program: how many stops there were, how many of them at visits, how many had counts, and how many
 were between places; and then each stop that differs.
 """
 import bisect
@@ -86,18 +87,32 @@ def dump(machine, notes, ending, steps):
     return head + struct.pack(f'>{len(told)}I', *told) + cells
 
 
-def told(bytes_of_dump):
-    with open('dump', 'wb') as file:
-        file.write(bytes_of_dump)
-    ran = subprocess.run([EEL, 'counts', 'written', 'dump'], capture_output=True)
-    return ran.returncode, ran.stdout, ran.stderr
+class Told:
+    """An edit that is stopped, the command that tells of its dumps, and the lines of a walk that it must print."""
+
+    def __init__(self, tool, command, lines):
+        self.tool, self.command, self.lines = tool, command, lines
+
+    def told(self, bytes_of_dump):
+        with open('dump', 'wb') as file:
+            file.write(bytes_of_dump)
+        ran = subprocess.run([EEL, self.command, 'written', 'dump'], capture_output=True)
+        return ran.returncode, ran.stdout, ran.stderr
 
 
-def stop_everywhere(name, file, given):
+COUNTS = Told(['profile'], 'counts', Counts.lines)
+VISITS = Told(['every'], 'visits', Counts.visit_lines)
+
+
+def last_edges(bits):
+    return Told(['trace', str(bits)], 'trace', lambda counts: counts.last_lines(bits))
+
+
+def stop_everywhere(name, file, given, way):
     """Edits the program, and how often its profile was stopped, at visits, with counts and without; and how many stops differ."""
     with open('original', 'wb') as out:
         out.write(file)
-    if subprocess.run([EEL, 'edit', 'original', 'written', 'profile']).returncode:
+    if subprocess.run([EEL, 'edit', 'original', 'written', *way.tool]).returncode:
         return None
     with open('written', 'rb') as read:
         written = read.read()
@@ -110,13 +125,14 @@ def stop_everywhere(name, file, given):
             if visits:
                 walk.step()
             visits += 1
+            walk.counts.visits[walk.machine.pc] += 1
         if in_place:
-            known, wanted = known + 1, (0, walk.counts.lines().encode(), b'')
+            known, wanted = known + 1, (0, way.lines(walk.counts).encode(), b'')
         else:
             between += 1
             wanted = 65, b'', f'eel: dump: pc {machine.pc:08x} between places\n'.encode()
         stops += 1
-        got = told(dump(machine, notes, ending, steps))
+        got = way.told(dump(machine, notes, ending, steps))
         if got != wanted or visited is not None and not ending and visited != walk.machine.pc:
             differ += 1
             print(f'{name}: after {steps} steps {got} where {wanted} was wanted')
@@ -138,8 +154,8 @@ def printed():
     return [f'{line(name, *numbers)}\n'.encode() for name, numbers in KNOWN.items()]
 
 
-def report(name, file, given):
-    answer = stop_everywhere(name, file, given)
+def report(name, file, given, way):
+    answer = stop_everywhere(name, file, given, way)
     if answer is None:
         print(f'{name}: not edited')
         return 1
@@ -149,16 +165,21 @@ def report(name, file, given):
 
 def main(words):
     os.chdir(tempfile.mkdtemp())
+    way = COUNTS
+    if words[:1] == ['--visits']:
+        way, words = VISITS, words[1:]
+    elif words[:1] == ['--trace']:
+        way, words = last_edges(int(words[1])), words[2:]
     if words[:1] in (['--random'], ['--switches']):
         maker = random_program if words[0] == '--random' else random_switches
         first = int(words[2]) if len(words) > 2 else 0
         faults = 0
         for number in range(first, first + int(words[1])):
             random.seed(number)
-            faults += report(f'random {number}', maker(), b'a line, and another\nof them\n')
+            faults += report(f'random {number}', maker(), b'a line, and another\nof them\n', way)
         return 1 if faults else 0
     chosen = [program for program in SMALL + C_PROGRAMS if not words or program.name in words]
-    return 1 if sum(report(program.name, program.file(), program.given) for program in chosen) else 0
+    return 1 if sum(report(program.name, program.file(), program.given, way) for program in chosen) else 0
 
 
 if __name__ == '__main__':
