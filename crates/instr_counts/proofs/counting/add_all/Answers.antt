@@ -28,7 +28,7 @@ returns-clause-visits c =
           ≡ slice_index c.add_edges.new.visits word + 1 * one_if (v.image.entry == word) =
           rw c.entry.ensures.word at (c.add.ensures.added word (omega (arith, inside, c.add_edges.ensures.len))) in
           let third = c.add_to.ensures.added word (omega (arith, inside, c.add_edges.ensures.len, c.add.ensures.len)) in
-          let begun = c.begun.ensures word (omega (arith, inside, c.requires.len)) in
+          let begun = (rw c.text.ensures at c.begun.ensures) word (omega (arith, inside, c.requires.len)) in
           let all = finished_is g c.edges.ensures.graph.firsts c.requires.matches.single counts v.image.entry word
           (omega (arith, c.entry.ensures.inside, words)) (omega (arith, inside, c.requires.len, words)) in
           omega (arith, first, second, third, begun, all);
