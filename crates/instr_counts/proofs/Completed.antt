@@ -1,11 +1,9 @@
 -- What a step counts, where each block has one word and no switch is open: along the edges that it completes the run comes
 -- to the word where it goes on, and has run the slot out of which it goes.
-use Rattle.std.proofs.Common.{◌≡◌, ◌≢◌, ℕ, suc, ◌+◌, ◌-◌, ◌%◌, ◌<◌, ◌≤◌, ◌⊎◌, inl, inr, Bool, true, false, not, ◌&&◌, nat_lt, List, [], ◌∷◌, ◌++◌, length, slice_index, Option, Some, None, refl, ap, sym, ◌∙◌, subst, arith}
+use Rattle.std.proofs.Common.{◌≡◌, ◌≢◌, ℕ, ◌+◌, ◌-◌, ◌%◌, ◌<◌, ◌⊎◌, inl, inr, Bool, true, false, not, List, [], ◌++◌, length, slice_index, Option, Some, None, refl, ap, sym, ◌∙◌, subst, arith}
 use Rattle.std.specs.Prelude.{◌==◌, if◌then◌else◌, ℤ}
-use Rattle.std.specs.List.{list_any, slice_get, position}
-use Rattle.std.specs.Option.{option_map, option_to_list}
-use Rattle.std.proofs.lemmas.Bool.{and_parts, cases_eq, cond_both, eq-eqb, eqb-true, false≢true, lt-ltb, ne_eqb}
-use Rattle.std.proofs.lemmas.List.Quantifiers.{position-Some}
+use Rattle.std.specs.Option.{option_map}
+use Rattle.std.proofs.lemmas.Bool.{cases_eq, cond_both, eq-eqb, eqb-true, false≢true, lt-ltb, ne_eqb}
 use Rattle.std.proofs.lemmas.Option.{get_or_from_slice_get}
 use Rattle.eel_base.specs.CodeText.{Words, IsText, address_of, word_at}
 use Rattle.eel_base.specs.declared.numbers.WordNo.{WordNo}
@@ -17,9 +15,9 @@ use Rattle.v8_step.specs.declared.Ending.{Ending}
 use Rattle.v8_step.specs.declared.Ending.TheVariants.{Couple}
 use Rattle.v8_step.specs.declared.Slot.{Slot}
 use Rattle.v8_step.specs.declared.Slot.TheVariants.{NoSlot, Taken, Untaken}
-use Rattle.v8_step.specs.State.{State, sum_of, with_register}
+use Rattle.v8_step.specs.State.{State, sum_of}
 use Rattle.v8_step.specs.Step.{act, on_word, step_of, unless_ended as unless_over}
-use Rattle.v8_step.specs.Transfers.{branch_step, branched, call_step, delayed, jump_step, target_of, unless_couple}
+use Rattle.v8_step.specs.Transfers.{branch_step, branched, call_step, jump_step, target_of, unless_couple}
 use Rattle.v8_step.specs.Items.{is_transfer}
 use Rattle.v8_step.proofs.Alike.{live_step}
 use Rattle.v8_step.proofs.CopiedMoves.{goes_act}
@@ -30,21 +28,21 @@ use Rattle.cfg_blocks.specs.declared.EdgeKind.{EdgeKind}
 use Rattle.cfg_blocks.specs.declared.EdgeKind.TheVariants as kinds
 use Rattle.cfg_blocks.specs.Ends.{Way, always, branch_target, end_at, never, number_of, way, ways_of, within}
 use Rattle.cfg_blocks.specs.Blocks.{Blocks, end_of, holding_of, last_word}
-use Rattle.cfg_blocks.proofs.Targets.{IsWord, word_at-some}
+use Rattle.cfg_blocks.proofs.Targets.{word_at-some}
 use Rattle.cfg_normal.specs.declared.Edge.{Edge}
 use Rattle.cfg_normal.specs.declared.Node.{Node}
-use Rattle.cfg_normal.specs.declared.Node.TheVariants.{Block, Landed, X}
+use Rattle.cfg_normal.specs.declared.Node.TheVariants.{X}
 use Rattle.cfg_normal.specs.declared.Slot.{Slot as Carried}
 use Rattle.cfg_normal.specs.declared.Slot.TheVariants as carried
 use Rattle.cfg_normal.specs.Nodes.{home_of, same_node}
 use Rattle.cfg_normal.specs.Graph.{Graph, IsNodeIn, edge_of, edges_in, graph_of, landing_at as landing, lands_of, node_of, runs_slot as runs_on, slot_behind, slot_on}
-use Rattle.cfg_walk.specs.Walk.{Point, completed, edge_from, ends_block, gone, goes_on_at, instr_at, landed, landing_at, left_at, left_by, node_after, point_of, same_kind, slot_left, unless_ended, way_of}
+use Rattle.cfg_walk.specs.Walk.{Point, completed, edge_from, gone, goes_on_at, instr_at, landed, landing_at, left_at, left_by, node_after, point_of, same_kind, slot_left, unless_ended, way_of}
 use Rattle.cfg_walk.specs.Matches.{FetchesOnly, IsCarried, IsOnItsWay, Matches, MatchesBy}
 use Rattle.cfg_walk.proofs.Addresses.{word_at-address}
 use Rattle.cfg_walk.proofs.Cut.{IsCut}
 use Rattle.cfg_walk.proofs.Edges.{IsEdge, block, landing_found, leads_along, out_to}
 use Rattle.cfg_walk.proofs.Holding.{in_held}
-use Rattle.cfg_walk.proofs.Leaving.{end_here, end_is, ends_home, node_is, straight_end, straight_left, transfer_ends, way_found}
+use Rattle.cfg_walk.proofs.Leaving.{end_here, end_is, ends_home, node_is, straight_end, straight_left, way_found}
 use Rattle.cfg_walk.proofs.Nodes.{lands_there}
 use Rattle.cfg_walk.proofs.NoneOpen.{IsOnEdge, cases_none, home_none, lands_none, on_edge, open_none, slot_none}
 use Rattle.cfg_walk.proofs.Points.{Stands, at, home, low}

@@ -1,7 +1,7 @@
 -- How often the words of a text are visited, by how often the edges of its flow graph are completed, where each word is
 -- a block by itself. (Ball and Larus, "Optimally Profiling and Tracing Programs", ACM TOPLAS 16 (4), 1994, take counts of
 -- blocks from those of edges; here delay slots are counted too.)
-use Rattle.std.specs.Prelude.{◌≡◌, ℕ, ◌+◌, ◌<◌, Bool, true, false, not, ◌&&◌, ◌==◌, nat_lt, if◌then◌else◌, List, length, Some}
+use Rattle.std.specs.Prelude.{◌≡◌, ℕ, ◌+◌, ◌<◌, Bool, false, not, ◌&&◌, ◌==◌, nat_lt, if◌then◌else◌, length, Some}
 use Rattle.eel_base.specs.CodeText.{Words, address_of}
 use Rattle.flows.specs.Flows.{weight_below}
 use Rattle.cfg_blocks.specs.Blocks.{Blocks, holding_of, size_of}

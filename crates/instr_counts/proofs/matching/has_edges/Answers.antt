@@ -1,4 +1,4 @@
-use Rattle.std.proofs.Common.{◌≡◌, refl, ℕ, ◌<◌, ◌∙◌, List, None, ap, sym, get_or, length, map, subst, arith}
+use Rattle.std.proofs.Common.{◌≡◌, refl, ℕ, ◌<◌, List, sym, get_or, length, map, arith}
 use Rattle.std.proofs.lemmas.List.{get_or-map, get_or_default}
 use Rattle.cfg_normal.specs.declared.Edge.{Edge}
 use Rattle.cfg_normal.specs.Graph.{Graph}
