@@ -11,7 +11,8 @@ use Rattle.notes.specs.declared.note.Notes as declared_notes
 use Rattle.cfg_normal.specs.Graph.{Graph}
 use Rattle.instr_counts.specs.Answers.{begun_in}
 
-find-map : {A B : Type 0} (p : B → Bool) (f : A → B) (xs : List A) → find p (map f xs) ≡ option_map f (find (λ x. p (f x)) xs)
+find-map : {A B : Type 0} (p : B → Bool) (f : A → B) (xs : List A)
+    → find p (map f xs) ≡ option_map f (find (λ x. p (f x)) xs)
 find-map p f [] = refl
 find-map {A = A} {B = B} p f (x ∷ xs) = by (p (f x)) (find-map p f xs)
   where
@@ -25,7 +26,8 @@ module _ (n : declared_notes.Notes) (address : ℕ) where
   abbrev pub found : Option declared_range.Range
   found = find (λ range. nat_le range.lo.0 address && nat_lt address range.hi.0) n.ranges.items
 
-  place_is : (place : Option declared_range.Range) → found ≡ place → range_at (notes_seen n) address ≡ option_map range_seen place
+  place_is : (place : Option declared_range.Range) → found ≡ place
+      → range_at (notes_seen n) address ≡ option_map range_seen place
   place_is place is =
       find-map (λ range. nat_le range.lo address && nat_lt address range.hi) range_seen n.ranges.items
       ∙ ap (option_map range_seen) is

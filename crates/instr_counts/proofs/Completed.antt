@@ -1,5 +1,5 @@
--- What a step counts, where each block has one word and no switch is open: along the edges that it completes the run comes
--- to the word where it goes on, and has run the slot out of which it goes.
+-- What a step counts, where each block has one word and no switch is open: along the edges that it completes the run
+-- comes to the word where it goes on, and has run the slot out of which it goes.
 use Rattle.std.proofs.Common.{◌≡◌, ◌≢◌, ℕ, ◌+◌, ◌-◌, ◌%◌, ◌<◌, ◌⊎◌, inl, inr, Bool, true, false, not, List, [], ◌++◌, length, slice_index, Option, Some, None, refl, ap, sym, ◌∙◌, subst, arith}
 use Rattle.std.specs.Prelude.{◌==◌, if◌then◌else◌, ℤ}
 use Rattle.std.specs.Option.{option_map}
@@ -69,7 +69,8 @@ annuls true true false s target e = absurd (cc)
 annuls true false false s target e = absurd (cc)
 annuls false all false s target e = absurd (cc)
 
-jump_slot : (s : State) (rd target : ℕ) → (jump_step s rd target).ending ≡ None → (jump_step s rd target).slot ≡ NoSlot → ⊥
+jump_slot : (s : State) (rd target : ℕ) → (jump_step s rd target).ending ≡ None
+    → (jump_step s rd target).slot ≡ NoSlot → ⊥
 unfolding jump_step
 jump_slot s rd target =
     cond_both (target % 4 == 0) _ _ (λ (t : State). t.ending ≡ None → t.slot ≡ NoSlot → ⊥)
@@ -103,9 +104,11 @@ out_slot s live in_slot = by s.ending refl (fetch_of s.memory s.pc) refl live
         at_slot false f x e = (goes_act s instr f live).2
         at_slot true f NoSlot e = absurd (in_slot e)
         at_slot true f Taken e =
-            let ended : (act s instr).ending ≡ Some Couple = couples Taken s instr (λ g. absurd (cc)) e f in absurd (cc)
+            let ended : (act s instr).ending ≡ Some Couple = couples Taken s instr (λ g. absurd (cc)) e f in
+            absurd (cc)
         at_slot true f Untaken e =
-            let ended : (act s instr).ending ≡ Some Couple = couples Untaken s instr (λ g. absurd (cc)) e f in absurd (cc)
+            let ended : (act s instr).ending ≡ Some Couple = couples Untaken s instr (λ g. absurd (cc)) e f in
+            absurd (cc)
 
     by : (x : Option Ending) → s.ending ≡ x → (o : Option ℕ) → fetch_of s.memory s.pc ≡ o
         → (unless_over s x (on_word s o)).ending ≡ None → (unless_over s x (on_word s o)).slot ≡ NoSlot
@@ -255,7 +258,8 @@ module _ (text : Words) (is : IsText text) (b : Blocks) (c : IsCut text b) (sing
         (ap (λ (e : BlockEnd). runs_on e kinds.Taken) end ∙ ap not all))
         (λ some.
         quiet_way (i.Branch cond true disp22) h (way kinds.Untaken (within b.words (word + 2)))
-        (subst (λ (e : BlockEnd). IsOne (way kinds.Untaken (within b.words (word + 2))) (ways_of b.words word e)) (sym end)
+        (subst (λ (e : BlockEnd). IsOne (way kinds.Untaken (within b.words (word + 2))) (ways_of b.words word e))
+        (sym end)
         (untaken_is_one b.words word cond true target some))
         (ap (λ (e : BlockEnd). runs_on e kinds.Untaken) end))
 
@@ -385,15 +389,18 @@ module _ (text : Words) (is : IsText text) (b : Blocks) (c : IsCut text b) (sing
 
     by_jump : kind ≡ kinds.Out → AreCounting (along ++ behind) (here_at point.npc) (here_at point.pc)
     by_jump e =
-        let to : h.edge.to ≡ X = out_to b [] node h.edge (subst (λ (x : EdgeKind). IsEdge graph (edge_from graph node x) h.edge) e found) in
+        let to : h.edge.to ≡ X =
+        out_to b [] node h.edge (subst (λ (x : EdgeKind). IsEdge graph (edge_from graph node x) h.edge) e found) in
         joined (here_at point.npc) 0
-        (subst (λ (x : EdgeKind). AreCounting (landed text graph x point.npc) (here_at point.npc) 0) (sym e) (landed_counts point.npc))
+        (subst (λ (x : EdgeKind). AreCounting (landed text graph x point.npc) (here_at point.npc) 0) (sym e)
+        (landed_counts point.npc))
         (ap (λ n. one_if (same_node n (node_of b (Some w)))) to ∙ none_to_x) (omega arith)
 
     on_counts : AreCounting (along ++ behind) (here_at point.npc) (here_at point.pc)
     on_counts = by (same_kind kind kinds.Out) refl
       where
-        by : (x : Bool) → same_kind kind kinds.Out ≡ x → AreCounting (along ++ behind) (here_at point.npc) (here_at point.pc)
+        by : (x : Bool) → same_kind kind kinds.Out ≡ x
+            → AreCounting (along ++ behind) (here_at point.npc) (here_at point.pc)
         by false e = by_displacement e
         by true e = by_jump (same_kinds kind kinds.Out e)
 
@@ -401,7 +408,8 @@ module _ (text : Words) (is : IsText text) (b : Blocks) (c : IsCut text b) (sing
 
   module _ (node : Node) (there : IsNodeIn b [] node) (s : State) (fetches : FetchesOnly text s)
       (m : Matches text graph node (point_of s)) (live : (step_of s).ending ≡ None)
-      (leads : Matches text graph (node_after graph node (gone text graph node (point_of s) (goes_on_at (step_of s)))) (point_of (step_of s)))
+      (leads : Matches text graph (node_after graph node (gone text graph node (point_of s) (goes_on_at (step_of s))))
+      (point_of (step_of s)))
       (stays : IsNodeIn b [] (node_after graph node (gone text graph node (point_of s) (goes_on_at (step_of s))))) where
     abbrev pub t : State
     t = step_of s
@@ -464,7 +472,8 @@ module _ (text : Words) (is : IsText text) (b : Blocks) (c : IsCut text b) (sing
         let split : gone_here ≡ edge_from graph node kind ++ landed text graph kind s.npc =
         are ∙ ap (slot_left text graph node kind) next ∙ slot_none text b node kind s.npc in
         subst (λ ns. AreCounting ns (here_at t.pc) (here_at s.pc)) (sym split)
-        (subst (λ a. AreCounting (edge_from graph node kind ++ landed text graph kind s.npc) (here_at a) (here_at s.pc)) (sym next)
+        (subst (λ a. AreCounting (edge_from graph node kind ++ landed text graph kind s.npc) (here_at a) (here_at s.pc))
+        (sym next)
         (on_counts node (point_of s) kind way))
 
     -- So a step adds to what is counted of the word, with the slot that was begun, 1 where it leads to the word.

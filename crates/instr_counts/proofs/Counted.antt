@@ -163,11 +163,13 @@ module _ (text : Words) (is : IsText text) (b : Blocks) (c : IsCut text b) (sing
       away : (point.pc ≡ address_of text w → ⊥)
           → one_if (is_begun text b point.pc (node_number graph node) w) ≡ here_at text is b c single w inside point.pc
       away apart =
-          elsewhere point.pc (node_number graph node) apart ∙ sym (ap one_if (ne_eqb point.pc (address_of text w) apart))
+          elsewhere point.pc (node_number graph node) apart
+          ∙ sym (ap one_if (ne_eqb point.pc (address_of text w) apart))
 
       by : (x : Slot) → MatchesBy text graph node point x
           → (point.pc ≡ address_of text w) ⊎ (point.pc ≡ address_of text w → ⊥)
-          → one_if (is_begun text b point.pc (node_number graph node) w) ≡ begun_at text is b c single w inside point.pc x
+          → one_if (is_begun text b point.pc (node_number graph node) w)
+          ≡ begun_at text is b c single w inside point.pc x
       by NoSlot m (inr apart) = elsewhere point.pc (node_number graph node) apart
       by NoSlot m (inl same) = out_of_slot point node there m same
       by Taken m (inr apart) = away apart
@@ -210,7 +212,8 @@ module _ (text : Words) (given : List ℕ) (entry : ℕ) (s0 : State) (is : IsTe
       + begun_at text is b c single w inside (run s0 n).pc (run s0 n).slot
 
   matching_after : (n : ℕ) → (run s0 (suc n)).ending ≡ None
-      → Matches text of_run (node_after of_run (end_of_walk text of_run entry s0 n) (gone_in text of_run entry s0 n)) (point_of (run s0 (suc n)))
+      → Matches text of_run (node_after of_run (end_of_walk text of_run entry s0 n) (gone_in text of_run entry s0 n))
+      (point_of (run s0 (suc n)))
       × IsNodeIn b [] (node_after of_run (end_of_walk text of_run entry s0 n) (gone_in text of_run entry s0 n))
   unfolding end_of_walk
   matching_after n live = matching (suc n) live
@@ -253,7 +256,8 @@ module _ (text : Words) (given : List ℕ) (entry : ℕ) (s0 : State) (is : IsTe
       let on = matching_after n live in
       let so_far = visited n before in
       let more = times-append (own_trail s0 (suc n)) (as_list (own_visit (run s0 (suc n)))) (address_of text w) in
-      let last : times (as_list (own_visit (run s0 (suc n)))) (address_of text w) ≡ times ((run s0 (suc n)).pc ∷ []) (address_of text w) =
+      let last : times (as_list (own_visit (run s0 (suc n)))) (address_of text w)
+      ≡ times ((run s0 (suc n)).pc ∷ []) (address_of text w) =
       ap (λ xs. times xs (address_of text w)) (live_visit (run s0 (suc n)) live) in
       let one = times_one (run s0 (suc n)).pc in
       let into = passing-append (into_word text is b c single w inside) (walk text of_run entry s0 n) es in
@@ -269,12 +273,15 @@ module _ (text : Words) (given : List ℕ) (entry : ℕ) (s0 : State) (is : IsTe
 
   pub told : (n : ℕ) → (run s0 n).ending ≡ None
       → times (own_trail s0 (suc n)) (address_of text w)
-      ≡ visits_by text of_run entry (executions text of_run entry s0 n) (run s0 n).pc (last_node text of_run entry s0 n) w
+      ≡ visits_by text of_run entry (executions text of_run entry s0 n) (run s0 n).pc
+      (last_node text of_run entry s0 n) w
   told n live =
       let m = matching n live in
       let whole = visited n live in
-      let into = weighed (length of_run.edges) (into_word text is b c single w inside) (walk text of_run entry s0 n) (within n) in
-      let slots = weighed (length of_run.edges) (as_slot text is b c single w inside) (walk text of_run entry s0 n) (within n) in
+      let into =
+      weighed (length of_run.edges) (into_word text is b c single w inside) (walk text of_run entry s0 n) (within n) in
+      let slots =
+      weighed (length of_run.edges) (as_slot text is b c single w inside) (walk text of_run entry s0 n) (within n) in
       let begun =
       begun_is text is b c single w inside (end_of_walk text of_run entry s0 n) (point_of (run s0 n)) m.1 m.0 in
       omega (arith, whole, into, slots, begun)

@@ -17,7 +17,8 @@ words_are_blocks text given is each block within =
     record { within = within; above = omega arith; below = some } in
     let last : first ≡ last_word b.firsts b.words block =
     is_last b.words b.firsts c.firsts first block here (λ more.
-    entry_leads text given (suc first) (each (suc first) (omega (arith, more, c.words))) (omega (arith, more, c.words))) in
+    entry_leads text given (suc first) (each (suc first) (omega (arith, more, c.words)))
+    (omega (arith, more, c.words))) in
     omega (arith, last, some)
 
 module _ (b : Blocks) (f : AreFirsts b.words b.firsts) (single : AreSingle b) where

@@ -30,7 +30,8 @@ pub fn visits(
     requires view { IsView v.now }
     requires matches { Matches (view_seen v.now) (notes_seen n.now) }
     requires counts { length counts.now ≡ length n.now.edges.items }
-    ensures visits { IfOk result (λ visits. AreVisits (view_seen v.now) (notes_seen n.now) (dump_seen d.now) counts.now visits.items) }
+    ensures visits { IfOk result (λ visits.
+        AreVisits (view_seen v.now) (notes_seen n.now) (dump_seen d.now) counts.now visits.items) }
     ensures small { IfOk result (λ visits. All (λ count. count < 2 ^ 100) visits.items) }
 {
     let mut visits = vec![in alloc; 0; v.image.text().len() as usize]?;
@@ -74,7 +75,8 @@ fn add_edge(visits: &mut [u128], edge: &Edge, count: u64)
     requires { (word : ℕ) → slice_index visits.old word < 2 ^ 100 }
     ensures len { length visits.new ≡ length visits.old }
     ensures added { (word : ℕ) → word < length visits.old → slice_index visits.new word
-        ≡ slice_index visits.old word + count * one_if (is_block word edge.now.to) + count * one_if (runs_slot word edge.now) }
+        ≡ slice_index visits.old word + count * one_if (is_block word edge.now.to)
+        + count * one_if (runs_slot word edge.now) }
     ensures small { (word : ℕ) → slice_index visits.new word < slice_index visits.old word + 2 ^ 65 }
 {
     add_to(visits, block_word(edge.to), count);

@@ -15,7 +15,8 @@ returns-clause-visits c =
     let v = c.args.v.now in
     let g = c.args.v.now.graph in
     let counts = c.args.counts.now in
-    let words : g.blocks.words ≡ length v.image.text.words = ap (λ (g : Graph). g.blocks.words) c.requires.view.graph ∙ c.requires.view.words in
+    let words : g.blocks.words ≡ length v.image.text.words =
+    ap (λ (g : Graph). g.blocks.words) c.requires.view.graph ∙ c.requires.view.words in
     record {
       len = omega (arith, c.requires.len, c.add_edges.ensures.len, c.add.ensures.len, c.add_to.ensures.len);
       each = λ word l.
