@@ -1,5 +1,5 @@
 //! The command `edit` with counters where every word is marked.
-ghost use Rattle.std.specs.Prelude.{◌≡◌, ◌≤◌, ◌^◌, IfErr, IfOk, length};
+ghost use Rattle.std.specs.Prelude.{◌≡◌, ◌≤◌, ◌^◌, IfErr, IfOk, length, map};
 ghost use Rattle.std.specs.List.{range_with_len};
 ghost use Rattle.elf32_sparc.specs.FileFault.{fault};
 ghost use Rattle.elf32_sparc.specs.Image.{refusal};
@@ -8,7 +8,7 @@ ghost use Rattle.cfg_view.specs.View.{view_seen, IsView};
 ghost use Rattle.eel.specs.Outcome.{outcome_seen};
 ghost use Rattle.eel.specs.Answers.Shared.{store};
 ghost use Rattle.eel.specs.Answers.Profile.{CountersRefuse, IsMadeOf, Profiles, guessed_with};
-ghost use Rattle.eel.specs.Answers.Every.{every_view, every_word};
+ghost use Rattle.eel.specs.Answers.Every.{every_view, every_word, word_numbered};
 
 use crate::edit::{EDIT_LIMIT, refusal};
 use crate::outcome::Outcome;
@@ -75,7 +75,7 @@ fn every_word(alloc: Global, bytes: &[u8]) -> Result<Vec<WordNo>, ReadFault>
 
 /// The first words, so many of them.
 fn words_below(alloc: Global, count: u32) -> Result<Vec<WordNo>, NoMemory>
-    ensures { IfOk result (λ words. numbers words.items ≡ range_with_len 0 count) }
+    ensures { IfOk result (λ words. words.items ≡ map word_numbered (range_with_len 0 count)) }
 {
     let words = (0..count).map(|word| WordNo(word)).collect(alloc)?;
     Ok(words)

@@ -56,11 +56,7 @@ pub fn profiled(alloc: Global, bytes: &[u8]) -> Result<Vec<u8>, EditFault>
 }
 
 /// The same, of its graph with some words marked.
-pub fn profiled_with(
-    alloc: Global,
-    bytes: &[u8],
-    marks: Vec<WordNo>,
-) -> Result<Vec<u8>, EditFault>
+pub fn profiled_with(alloc: Global, bytes: &[u8], marks: Vec<WordNo>) -> Result<Vec<u8>, EditFault>
     requires { length bytes.now ≤ 2 ^ 26 }
     ensures profile { let marked = numbers marks.items in
         IfOk result (λ file. IsMarkedProfile marked (guessed_with bytes.now marked) bytes.now file.items) }
