@@ -486,6 +486,23 @@ class Counts:
         return '\n'.join(lines) + '\n'
 
 
+def word_visits(file, args=(), given=b'', limit=100_000_000):
+    """The lines that tell how often a run carries out each word of the text."""
+    machine, program = Machine(file, args, given), Program(file)
+    visits = [0] * len(program.words)
+    for _ in range(limit):
+        word = program.word_at(machine.pc)
+        if word is not None:
+            visits[word] += 1
+        try:
+            machine.step()
+        except Ended:
+            break
+    lines = [f'word {program.start + 4 * word:08x} {count}' for word, count in enumerate(visits) if count]
+    lines.append(f'words {len(visits)} visited {len(lines)} visits {sum(visits)}')
+    return '\n'.join(lines) + '\n'
+
+
 def walk(file, args, given, limit):
     """What a run completes of the edges, its ending, and its steps."""
     machine, counts = Machine(file, args, given), Counts(file)

@@ -487,6 +487,57 @@ def uncounted():
     yield eel('counts profiled dump dump', 64, err=BAD_WORDS)
 
 
+# Programs of which each word is marked.
+VISITED = [*(program.name for program in SMALL), ARGUMENT.name, MADE.name, *SHOWN, 'word_count', 'queens', 'dispatch']
+
+
+def visited():
+    """Programs with counters where each word is a block: their visits are a plain count of the words that the originals run."""
+    for name in VISITED:
+        program, arguments = EDITED[name], ARGUMENTS.get(name, '')
+        lines = plain_count.word_visits(program_file(name), [word.encode() for word in arguments.split()[1:]], program.given)
+        yield f'hold {name}', b''
+        if program.given:
+            yield f'input {name}.input', b''
+        yield eel(f'edit {name} marked every', 0)
+        yield eel(f'run marked -d dump{arguments}', 0, *ran(program))
+        yield eel('visits marked dump', 0, lines.encode())
+    yield eel('restore marked restored', 0)
+    yield f'same restored {VISITED[-1]}', b''
+
+
+def unvisited():
+    """Files and dumps that have no visits."""
+    yield 'hold three_words', b''
+    for name in DUMPS:
+        yield f'hold {name}', b''
+    yield eel('edit three_words plain plain', 0)
+    yield eel('edit three_words profiled profile', 0)
+    yield eel('edit three_words marked every', 0)
+    yield eel('run profiled -d dump', 0, err=b'exit 3\n')
+    yield eel('visits profiled dump', 65, err=b'eel: profiled: not every word\n')
+    yield eel('visits profiled missing', 74, err=DEVICE_FAULT)
+    yield eel('visits missing dump', 74, err=DEVICE_FAULT)
+    yield eel('visits three_words cut_dump', 65, err=b'eel: three_words: no notes\n')
+    yield eel('visits profiled cut_dump', 65, err=b'eel: cut_dump: bad dump at 32\n')
+    yield eel('visits plain of_an_older_version', 65, err=b'eel: plain: not every word\n')
+    yield eel('visits profiled of_an_older_version', 65, err=b'eel: profiled: not every word\n')
+    yield eel('visits marked of_an_older_version', 65, err=b'eel: of_an_older_version: dump version 1, notes version 2\n')
+    yield eel('visits marked of_another', 65, err=b'eel: of_another: made for 112 bytes, 96 wanted\n')
+    # an original that is one no more, and one that another word begins
+    for name in ('marked.faulty', 'marked.unlike'):
+        yield f'hold {name}', b''
+        yield eel(f'visits {name} dump', 65, err=f'eel: {name}: not every word\n'.encode())
+    # no step was made, or one
+    yield eel('run marked -n 0 -d dump', 0, err=b'stopped 0\n')
+    yield eel('visits marked dump', 0, b'words 3 visited 0 visits 0\n')
+    for words in ('visits', 'visits marked', 'visits marked dump dump', 'edit three_words marked every three_words'):
+        yield eel(words, 64, err=BAD_WORDS)
+    yield 'hold cramped', b''
+    yield eel('edit cramped marked every', 69, err=b'eel: cramped: room ? needed, 0 had\n')
+    yield eel('edit three_words.listing marked every', 65)
+
+
 def narrow():
     """A file with counters of one cell, as it was written before, and dumps of it."""
     yield 'hold carry_loop', b''

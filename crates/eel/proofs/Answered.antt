@@ -1,6 +1,6 @@
 -- What there is after a call, by its status.
 use Rattle.std.proofs.Common.{◌≡◌, ℕ, ◌⊎◌, inl, inr, Some, None, ap, sym, subst, arith}
-use Rattle.eel.specs.Command.{Command, EditPlain, EditScript, Run, Show, Restore, EditProfile, Counts, Demo, EditWeighed, ListWords, PutWords, Unknown}
+use Rattle.eel.specs.Command.{Command, EditPlain, EditScript, EditEvery, Run, Show, Restore, EditProfile, Counts, Visits, Demo, EditWeighed, ListWords, PutWords, Unknown}
 use Rattle.eel.specs.Outcome.{Shows, shown, failed, status_of}
 use Rattle.eel.specs.Answers.{Ran, IsDone, IsUnrefused, IsRefusal, IsUnchanged, HasFailed, WasWanting, meaning_of, unknown_means}
 use Rattle.eel.specs.Answers.Shared.{Outside, with_err}
@@ -10,7 +10,9 @@ use Rattle.eel.proofs.Editing.{edit_by_status}
 use Rattle.eel.proofs.Scripting.{script_by_status}
 use Rattle.eel.proofs.Running.{run_by_status}
 use Rattle.eel.proofs.Dumping.{dump_by_status}
+use Rattle.eel.specs.Answers.Every.{every_word}
 use Rattle.eel.specs.Answers.List.{listed_of}
+use Rattle.eel.specs.Answers.Profile.{no_words}
 use Rattle.eel.specs.Answers.Show.{shown_of}
 use Rattle.eel.proofs.Assembling.{words_by_status}
 use Rattle.eel.proofs.Printing.{print_by_status}
@@ -18,6 +20,7 @@ use Rattle.eel.proofs.WeighedEdits.{weighed_by_status}
 use Rattle.eel.proofs.Restoring.{restore_by_status}
 use Rattle.eel.proofs.ProfileEdits.{profile_by_status}
 use Rattle.eel.proofs.Counted.{counts_by_status}
+use Rattle.eel.proofs.Visited.{visits_by_status}
 use Rattle.eel.proofs.Telling.{demo_by_status, status_told}
 
 unknown_by_status : IsByStatus unknown_means
@@ -41,8 +44,10 @@ by_status (ListWords file) = print_by_status listed_of file
 by_status (PutWords listing output) = words_by_status listing output
 by_status (EditWeighed input output weights) = weighed_by_status input output weights
 by_status (Restore written output) = restore_by_status written output
-by_status (EditProfile input output) = profile_by_status input output
+by_status (EditProfile input output) = profile_by_status no_words input output
+by_status (EditEvery input output) = profile_by_status every_word input output
 by_status (Counts written dump) = counts_by_status written dump
+by_status (Visits written dump) = visits_by_status written dump
 by_status (Demo number routines) = demo_by_status number routines
 by_status Unknown = unknown_by_status
 
@@ -82,7 +87,9 @@ unrefused_shown (PutWords listing output) old new status r = tt
 unrefused_shown (EditWeighed input output weights) old new status r = tt
 unrefused_shown (Restore written output) old new status r = tt
 unrefused_shown (EditProfile input output) old new status r = tt
+unrefused_shown (EditEvery input output) old new status r = tt
 unrefused_shown (Counts written dump) old new status r = tt
+unrefused_shown (Visits written dump) old new status r = tt
 unrefused_shown Unknown old new status r = tt
 
 pub wanting_shown : (command : Command) (old new : Outside) (status : ℕ) → Ran command old new status

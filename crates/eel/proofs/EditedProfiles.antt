@@ -24,7 +24,7 @@ use Rattle.edit_core.proofs.Steps.{original_fit}
 use Rattle.edit_core.proofs.Views.{view_graph}
 use Rattle.exact_counts.specs.Profiles.{counter_in}
 use Rattle.exact_counts.proofs.Little.{edges_few}
-use Rattle.eel.specs.Answers.Profile.{IsProfileOf, plan_of, profile_plan}
+use Rattle.eel.specs.Answers.Profile.{IsMarkedProfile, plan_of, plan_with}
 use Rattle.eel.specs.Answers.Counts.{EditsAreProfiles}
 use Rattle.eel.proofs.ExactProfiles.{one_notes}
 use Rattle.eel.proofs.Profiled.{are_counters}
@@ -50,10 +50,10 @@ good_counters count (cell ∷ cells) few within =
 
 -- ---- what was made is known to the last byte
 
-module _ (weights original file : List ℕ) (limit : length original ≤ 2 ^ 26) (bytes : AreBytes original)
-    (profile : IsProfileOf weights original file) (notes : Notes) (read : notes_of file ≡ Ok notes) where
+module _ (marks weights original file : List ℕ) (limit : length original ≤ 2 ^ 26) (bytes : AreBytes original)
+    (profile : IsMarkedProfile marks weights original file) (notes : Notes) (read : notes_of file ≡ Ok notes) where
   abbrev plan : Plan
-  plan = profile_plan profile.cells
+  plan = plan_with marks profile.cells
 
   few_cells : cell_count profile.cells ≤ 2 ^ 22
   few_cells =
@@ -88,13 +88,13 @@ module _ (weights original file : List ℕ) (limit : length original ≤ 2 ^ 26)
       (one_notes file (notes_on original plan written.p) notes (ap notes_of written.is ∙ edit.reads) read)
 
 pub edits_are_profiles : EditsAreProfiles
-edits_are_profiles weights original file notes limit bytes profile read =
-    let version = has_version weights original file limit bytes profile notes read in (
+edits_are_profiles marks weights original file notes limit bytes profile read =
+    let version = has_version marks weights original file limit bytes profile notes read in (
       version,
       record {
         cells = profile.cells;
         sound = profile.made.taken.sound;
         are = profile.are;
-        faithful = subst (λ (v : ℕ). IsFaithful original (plan_of v profile.cells) file) (sym version) profile.made.faithful;
+        faithful = subst (λ (v : ℕ). IsFaithful original (plan_of v marks profile.cells) file) (sym version) profile.made.faithful;
       },
     )

@@ -4,14 +4,14 @@ use Rattle.elf32_sparc.specs.FileFault.{fault}
 use Rattle.cfg_view.specs.View.{Seen, view_of}
 use Rattle.edit_core.proofs.Originals.{image_text}
 use Rattle.exact_counts.proofs.Little.{edges_few}
-use Rattle.eel.specs.Answers.Profile.{profile_plan}
+use Rattle.eel.specs.Answers.Profile.{plan_with}
 
-pub few_edges : (bytes : List ℕ) (view : Seen) → view ≡ view_of bytes [] → fault bytes ≡ None
+pub few_edges : (bytes marks : List ℕ) (view : Seen) → view ≡ view_of bytes marks → fault bytes ≡ None
     → length view.graph.edges ≤ 2 ^ 22
-few_edges bytes view is sound =
+few_edges bytes marks view is sound =
     omega (
       arith,
       ap (λ (v : Seen). length v.graph.edges) is,
-      edges_few bytes (profile_plan []) sound,
+      edges_few bytes (plan_with marks []) sound,
       (image_text bytes sound).few,
     )

@@ -5,8 +5,11 @@ pub mod Dumping
 pub mod EditedProfiles
 pub mod Editing
 pub mod ExactProfiles
+pub mod ExactVisits
 pub mod Few
 pub mod Missed
+pub mod NotEvery
+pub mod Visited
 pub mod Later
 pub mod Lines
 pub mod Made

@@ -2,11 +2,13 @@
 use Rattle.std.proofs.Common.{◌≡◌, ℕ, zero, suc, ◌+◌, ◌*◌, ◌<◌, cond, List, [], ◌∷◌, length, map, refl, ap, sym, ◌∙◌, subst, zero-add, arith}
 use Rattle.std.specs.Prelude.{Option, Some, None, get_or, slice_get, unwrap_or}
 use Rattle.std.specs.Option.{is_some}
-use Rattle.std.proofs.lemmas.List.{ext_get_or, get_or-map, length-map}
+use Rattle.std.proofs.lemmas.List.{ext_get_or, get_or-map, length-map, get_or_past}
+use Rattle.eel_base.specs.declared.numbers.WordNo.{WordNo}
 use Rattle.flows.specs.Flows.{count_below}
 use Rattle.span_tree.specs.Cells.{AreNumbered, cell_at, cell_count, has_cell}
 use Rattle.snippets.specs.declared.snippet.Op.{Op}
 use Rattle.snippets.specs.declared.snippet.Op.TheVariants.{Count}
+use Rattle.cfg_blocks.specs.Marks.{numbers}
 use Rattle.cfg_normal.specs.declared.Edge.{Edge}
 use Rattle.span_tree.specs.Links.{no_edge}
 use Rattle.tool_kit.specs.declared.edge_ref.EdgeRef.{EdgeRef}
@@ -17,7 +19,7 @@ use Rattle.edit_core.specs.declared.taking.EditFault.TheVariants as faults
 use Rattle.edit_core.specs.Taken.{EditRefuses}
 use Rattle.eel.specs.Answers.Tool.{kept_by}
 use Rattle.exact_counts.specs.Profiles.{counter_in}
-use Rattle.eel.specs.Answers.Profile.{profile_plan}
+use Rattle.eel.specs.Answers.Profile.{plan_with}
 
 -- one edge more before the others
 count_from : (first : Option ℕ) (cells : List (Option ℕ)) (e : ℕ)
@@ -74,9 +76,9 @@ module _ {F : Type 0} (says : F → EdgeRef → List Op → Type 0) (choose : F)
       (are.each e (get_or edges e no_edge) (edge_there edges e inside))
       ∙ sym (get_or-map (counter_in 2) cells e None [] counted))
 
-  pub plan_is : (count : ℕ) (plan : Plan) → count ≡ 2 * cell_count cells
-      → IsPlanOf says (kept_by choose count tools.Profile) edges plan → plan ≡ profile_plan cells
-  plan_is count plan same is = λ i. record {
+  pub plan_is : (count : ℕ) (marks : List WordNo) (plan : Plan) → count ≡ 2 * cell_count cells
+      → IsPlanOf says (kept_by choose count marks tools.Profile) edges plan → plan ≡ plan_with (numbers marks) cells
+  plan_is count marks plan same is = λ i. record {
     kind = is.kind i;
     marks = is.marks i;
     cells = (is.cells ∙ same) i;

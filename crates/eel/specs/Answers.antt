@@ -5,6 +5,7 @@ pub mod Edit
 pub mod Script
 pub mod Tool
 pub mod Profile
+pub mod Every
 pub mod Weighed
 pub mod Run
 pub mod Dump
@@ -14,6 +15,7 @@ pub mod List
 pub mod Words
 pub mod Restore
 pub mod Counts
+pub mod Visits
 pub mod Demo
 use Rattle.std.specs.Prelude.{◌≡◌, ℕ, ◌≤◌, ◌⊎◌, Some, None}
 use Rattle.eel_base.specs.Outside.{Rose}
@@ -29,9 +31,11 @@ use Rattle.eel.specs.Answers.Show.{show_means}
 use Rattle.eel.specs.Answers.List.{list_means}
 use Rattle.eel.specs.Answers.Words.{words_means}
 use Rattle.eel.specs.Answers.Restore.{restore_means}
-use Rattle.eel.specs.Answers.Profile.{profile_means}
+use Rattle.eel.specs.Answers.Profile.{no_words, profile_means}
+use Rattle.eel.specs.Answers.Every.{every_means}
 use Rattle.eel.specs.Answers.Weighed.{weighed_means}
 use Rattle.eel.specs.Answers.Counts.{counts_means}
+use Rattle.eel.specs.Answers.Visits.{visits_means}
 use Rattle.eel.specs.Answers.Demo.{demo_means}
 
 -- words outside the grammar
@@ -53,9 +57,11 @@ meaning_of (words.Show file) = show_means file
 meaning_of (words.ListWords file) = list_means file
 meaning_of (words.PutWords listing output) = words_means listing output
 meaning_of (words.Restore written output) = restore_means written output
-meaning_of (words.EditProfile input output) = profile_means input output
+meaning_of (words.EditProfile input output) = profile_means no_words input output
+meaning_of (words.EditEvery input output) = every_means input output
 meaning_of (words.EditWeighed input output weights) = weighed_means input output weights
 meaning_of (words.Counts written dump) = counts_means written dump
+meaning_of (words.Visits written dump) = visits_means written dump
 meaning_of (words.Demo number routines) = demo_means number routines
 meaning_of words.Unknown = unknown_means
 

@@ -18,6 +18,8 @@ pub data Command : Type 0 where
   EditProfile : (input output : List ℕ) → Command
   -- edit INPUT OUTPUT profile WEIGHTS
   EditWeighed : (input output weights : List ℕ) → Command
+  -- edit INPUT OUTPUT every
+  EditEvery : (input output : List ℕ) → Command
   -- run FILE [-n LIMIT] [-d DUMP] [-- ARG..], the two options in either order
   Run : (file : List ℕ) (limit : ℕ) (dump : Option (List ℕ)) (args : List (List ℕ)) → Command
   -- show FILE
@@ -30,6 +32,8 @@ pub data Command : Type 0 where
   Restore : (written output : List ℕ) → Command
   -- counts WRITTEN DUMP
   Counts : (written dump : List ℕ) → Command
+  -- visits WRITTEN DUMP
+  Visits : (written dump : List ℕ) → Command
   -- demo NUMBER ROUTINES
   Demo : (number routines : ℕ) → Command
   -- words outside the grammar
@@ -41,7 +45,8 @@ pub data Command : Type 0 where
 abbrev pub tool_of : List ℕ → List ℕ → List ℕ → Command
 tool_of input output tool =
     if bytes_eq tool (codes "plain") then EditPlain input output else
-    if bytes_eq tool (codes "profile") then EditProfile input output else Unknown
+    if bytes_eq tool (codes "profile") then EditProfile input output else
+    if bytes_eq tool (codes "every") then EditEvery input output else Unknown
 
 -- a tool that takes one
 abbrev pub tool_with : List ℕ → List ℕ → List ℕ → List ℕ → Command
@@ -151,6 +156,12 @@ abbrev pub counts_of : List (List ℕ) → Command
 counts_of (written ∷ dump ∷ []) = Counts written dump
 counts_of _ = Unknown
 
+-- ---- visits
+
+abbrev pub visits_of : List (List ℕ) → Command
+visits_of (written ∷ dump ∷ []) = Visits written dump
+visits_of _ = Unknown
+
 -- ---- demo
 
 -- a number: one to ten digits, with a value below 2^32
@@ -181,6 +192,7 @@ command_of (verb ∷ words) =
     if bytes_eq verb (codes "words") then words_of words else
     if bytes_eq verb (codes "restore") then restore_of words else
     if bytes_eq verb (codes "counts") then counts_of words else
+    if bytes_eq verb (codes "visits") then visits_of words else
     if bytes_eq verb (codes "demo") then demo_of words else Unknown
 
 -- the arguments of a run are ones that a program can be given, and as many routines are asked for as can be made
@@ -203,8 +215,10 @@ command_seen (variants.Show file) = Show file.now
 command_seen (variants.Restore written output) = Restore written.now output.now
 command_seen (variants.EditProfile input output) = EditProfile input.now output.now
 command_seen (variants.EditWeighed input output weights) = EditWeighed input.now output.now weights.now
+command_seen (variants.EditEvery input output) = EditEvery input.now output.now
 command_seen (variants.ListWords file) = ListWords file.now
 command_seen (variants.PutWords listing output) = PutWords listing.now output.now
 command_seen (variants.Counts written dump) = Counts written.now dump.now
+command_seen (variants.Visits written dump) = Visits written.now dump.now
 command_seen (variants.Demo number routines) = Demo number routines
 command_seen variants.Unknown = Unknown

@@ -37,6 +37,8 @@ pub data Outcome : Type 0 where
   BadDump : (name : List ℕ) (at : ℕ) → Outcome
   -- the notes of the file are not those of a profile
   NoProfile : (name : List ℕ) → Outcome
+  -- the notes of the file are not those of its original with every word marked
+  NotEveryWord : (name : List ℕ) → Outcome
   -- no counts can be rebuilt of the dump
   NoCounts : (name : List ℕ) (cause : CountCause) → Outcome
   OutOfMemory : Outcome
@@ -52,6 +54,7 @@ status_of (NoNotes name) = 65
 status_of (BadNotes name at) = 65
 status_of (BadDump name at) = 65
 status_of (NoProfile name) = 65
+status_of (NotEveryWord name) = 65
 status_of (NoCounts name cause) = 65
 status_of (TooLong name limit) = 66
 status_of (NoRoom name needed had) = 69
@@ -110,6 +113,7 @@ line_of (NoNotes name) = line_about name (codes "no notes")
 line_of (BadNotes name at) = line_about name (codes "bad notes at " ++ decimal at)
 line_of (BadDump name at) = line_about name (codes "bad dump at " ++ decimal at)
 line_of (NoProfile name) = line_about name (codes "no profile")
+line_of (NotEveryWord name) = line_about name (codes "not every word")
 line_of (NoCounts name cause) = line_about name (count_cause_text cause)
 line_of OutOfMemory = line (codes "out of memory")
 line_of DeviceFault = line (codes "device fault")
@@ -146,6 +150,7 @@ outcome_seen (variants.NoNotes name) = NoNotes name.now
 outcome_seen (variants.BadNotes name at) = BadNotes name.now at
 outcome_seen (variants.BadDump name at) = BadDump name.now at
 outcome_seen (variants.NoProfile name) = NoProfile name.now
+outcome_seen (variants.NotEveryWord name) = NotEveryWord name.now
 outcome_seen (variants.NoCounts name cause) = NoCounts name.now cause
 outcome_seen variants.OutOfMemory = OutOfMemory
 outcome_seen variants.DeviceFault = DeviceFault

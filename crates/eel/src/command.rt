@@ -5,7 +5,7 @@ ghost use Rattle.std.specs.List.{All, list_all};
 ghost use Rattle.v8_step.specs.Valid.{AreBytes};
 ghost use Rattle.v8_process.specs.Arguments.{AreArguments};
 ghost use Rattle.v8_process.specs.Start.{strings};
-ghost use Rattle.eel.specs.Command.{KeepsLimits, command_of, command_seen, edit_of, list_of, tool_of, tool_with, words_of, run_of, options_of, after_limit, after_dump, limited, arguments_of, are_few, is_digit, limit_of, number_of, name_seen, restore_of, counts_of, demo_of, demo_with as demo_with_of, show_of, texts, unlimited};
+ghost use Rattle.eel.specs.Command.{KeepsLimits, command_of, command_seen, edit_of, list_of, tool_of, tool_with, words_of, run_of, options_of, after_limit, after_dump, limited, arguments_of, are_few, is_digit, limit_of, number_of, name_seen, restore_of, counts_of, demo_of, demo_with as demo_with_of, show_of, texts, unlimited, visits_of};
 
 /// What the words ask for.
 #[derive(Clone, Copy)]
@@ -32,6 +32,11 @@ pub enum Command<'a> {
         input: &'a str,
         output: &'a str,
         weights: &'a str,
+    },
+    /// `edit INPUT OUTPUT every`: write it with counters on the edges off a spanning tree where each word is a block by itself.
+    EditEvery {
+        input: &'a str,
+        output: &'a str,
     },
     /// `run FILE [-n LIMIT] [-d DUMP] [-- ARG..]`: run the program `file` with these arguments, for `limit` steps at
     /// most, and write what it has come to as the file `dump`, where one is named.
@@ -62,6 +67,12 @@ pub enum Command<'a> {
     /// `counts WRITTEN DUMP`: print how often each edge was completed by the run of the file `written` that came to the
     /// dump `dump`.
     Counts {
+        written: &'a str,
+        dump: &'a str,
+    },
+    /// `visits WRITTEN DUMP`: print how often each instruction ran in the run of the file `written`, edited for `every`
+    /// word, that came to the dump `dump`.
+    Visits {
         written: &'a str,
         dump: &'a str,
     },
@@ -106,6 +117,7 @@ pub fn parse<'a>(words: &'a [&'a str]) -> Command<'a>
         [verb, words @ ..] if *verb == "words" => parse_words(words),
         [verb, words @ ..] if *verb == "restore" => parse_restore(words),
         [verb, words @ ..] if *verb == "counts" => parse_counts(words),
+        [verb, words @ ..] if *verb == "visits" => parse_visits(words),
         [verb, words @ ..] if *verb == "demo" => parse_demo(words),
         _ => Command::Unknown,
     }
@@ -131,6 +143,9 @@ fn parse_tool<'a>(input: &'a str, output: &'a str, tool: &str) -> Command<'a>
     }
     if tool == "profile" {
         return Command::EditProfile { input, output };
+    }
+    if tool == "every" {
+        return Command::EditEvery { input, output };
     }
     Command::Unknown
 }
@@ -202,6 +217,16 @@ fn parse_counts<'a>(words: &'a [&'a str]) -> Command<'a>
 {
     match words {
         [written, dump] => Command::Counts { written, dump },
+        _ => Command::Unknown,
+    }
+}
+
+/// What follows the word `visits`.
+fn parse_visits<'a>(words: &'a [&'a str]) -> Command<'a>
+    ensures { command_seen result ≡ visits_of (texts words.now) }
+{
+    match words {
+        [written, dump] => Command::Visits { written, dump },
         _ => Command::Unknown,
     }
 }

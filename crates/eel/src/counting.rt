@@ -1,5 +1,5 @@
 //! The command `counts`.
-ghost use Rattle.std.specs.Prelude.{◌≡◌, ◌≤◌, ◌<◌, ◌^◌, IfOk, IfErr, Ok, length};
+ghost use Rattle.std.specs.Prelude.{◌≡◌, ◌≤◌, ◌+◌, ◌<◌, ◌^◌, IfOk, IfErr, Ok, length};
 ghost use Rattle.elf32_sparc.specs.Notes.{notes_of};
 ghost use Rattle.notes.specs.Rules.{AreNotes};
 ghost use Rattle.notes.specs.Seen.{notes_seen};
@@ -21,7 +21,7 @@ use show_text::counts;
 use std::alloc::Global;
 
 /// How many bytes a dump may have.
-const DUMP_LIMIT: u64 = 64 << 20;
+pub const DUMP_LIMIT: u64 = 64 << 20;
 
 /// Reads the file `written` and the dump `dump` of a run of it, and prints how often each edge was completed.
 pub fn count_edges<'a, F: Files, O: Sink>(
@@ -85,9 +85,10 @@ fn count_lines<'a>(
 }
 
 /// The notes of the file `name`.
-fn notes_in<'a>(alloc: Global, name: &'a str, file: &[u8]) -> Result<Notes, Outcome<'a>>
+pub fn notes_in<'a>(alloc: Global, name: &'a str, file: &[u8]) -> Result<Notes, Outcome<'a>>
     ensures notes { IfOk result (λ notes. notes_of file.now ≡ Ok (notes_seen notes)) }
     ensures rules { IfOk result (λ notes. AreNotes (notes_seen notes)) }
+    ensures inside { IfOk result (λ notes. notes.delta + notes.length ≤ length file.now) }
     ensures refused { IfErr result (λ outcome. IsUnnoted name.now file.now (outcome_seen outcome)) }
 {
     match read_notes(alloc, file) {
@@ -99,7 +100,7 @@ fn notes_in<'a>(alloc: Global, name: &'a str, file: &[u8]) -> Result<Notes, Outc
 }
 
 /// The dump that the file `name` is.
-fn dump_in<'a>(alloc: Global, name: &'a str, bytes: &[u8]) -> Result<Dump, Outcome<'a>>
+pub fn dump_in<'a>(alloc: Global, name: &'a str, bytes: &[u8]) -> Result<Dump, Outcome<'a>>
     ensures dump { IfOk result (λ dump. read_dump bytes.now ≡ Ok (dump_seen dump)) }
     ensures few { IfOk result (λ dump. length dump.cells.items < 2 ^ 32) }
     ensures refused { IfErr result (λ outcome. IsUndumped name.now bytes.now (outcome_seen outcome)) }
@@ -117,7 +118,7 @@ pub fn edits_are_profiles()
 {}
 
 /// What refused counts of the file `written` by the dump `dump` come to.
-fn refusal<'a>(written: &'a str, dump: &'a str, fault: CountFault) -> Outcome<'a>
+pub fn refusal<'a>(written: &'a str, dump: &'a str, fault: CountFault) -> Outcome<'a>
     ensures { outcome_seen result ≡ uncounted_of written.now dump.now fault }
 {
     let cause = match fault {

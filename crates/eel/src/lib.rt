@@ -9,6 +9,7 @@ mod demo;
 mod disassembly;
 mod dumps;
 mod edit;
+mod every;
 mod listing;
 mod outcome;
 mod profiling;
@@ -17,6 +18,7 @@ mod run;
 mod texts;
 mod tooling;
 mod top;
+mod visiting;
 mod weighing;
 
 pub use counting::edits_are_profiles;

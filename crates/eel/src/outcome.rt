@@ -60,6 +60,10 @@ pub enum Outcome<'a> {
     NoProfile {
         name: &'a str,
     },
+    /// The notes of the file `name` are not those of its original with every word marked.
+    NotEveryWord {
+        name: &'a str,
+    },
     /// No counts can be rebuilt of the dump `name`.
     NoCounts {
         name: &'a str,
@@ -120,6 +124,7 @@ impl Outcome<'_> {
             | Outcome::BadNotes { .. }
             | Outcome::BadDump { .. }
             | Outcome::NoProfile { .. }
+            | Outcome::NotEveryWord { .. }
             | Outcome::NoCounts { .. } => 65,
             Outcome::TooLong { .. } => 66,
             Outcome::NoRoom { .. } => 69,
@@ -218,6 +223,9 @@ fn put_line<E: Sink>(outcome: &Outcome, err: &mut E) -> Result<(), Failed>
         }
         Outcome::NoProfile { name } => {
             put_pieces(err, &[b"eel: ", name.as_bytes(), b": no profile\n"])
+        }
+        Outcome::NotEveryWord { name } => {
+            put_pieces(err, &[b"eel: ", name.as_bytes(), b": not every word\n"])
         }
         Outcome::NoCounts { name, cause } => put_no_counts(name, *cause, err),
         Outcome::OutOfMemory => put_pieces(err, &[b"eel: out of memory\n"]),

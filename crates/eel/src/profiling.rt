@@ -2,6 +2,7 @@
 ghost use Rattle.std.specs.Prelude.{◌≡◌, ◌≤◌, ◌*◌, ◌^◌, IfErr, IfOk, length};
 ghost use Rattle.std.specs.List.{All};
 ghost use Rattle.snippets.specs.Cells.{WorksBelow};
+ghost use Rattle.cfg_blocks.specs.Marks.{numbers};
 ghost use Rattle.cfg_view.specs.View.{IsView};
 ghost use Rattle.edit_core.specs.Taken.{EditRefuses};
 ghost use Rattle.span_tree.specs.Cells.{cell_at, cell_count, AreNumbered};
@@ -10,7 +11,7 @@ ghost use Rattle.eel.specs.Outcome.{outcome_seen};
 ghost use Rattle.eel.specs.Answers.Shared.{store};
 ghost use Rattle.eel.specs.Answers.Edit.{IsEditOf};
 ghost use Rattle.exact_counts.specs.Profiles.{counter_in};
-ghost use Rattle.eel.specs.Answers.Profile.{AreCells, IsProfileOf, ProfileRefuses, Profiles, graph_in, guessed, profile_plan};
+ghost use Rattle.eel.specs.Answers.Profile.{AreCells, CountersRefuse, IsMarkedProfile, IsProfileOf, ProfileRefuses, Profiles, graph_with, guessed, guessed_with, no_words, plan_with};
 
 use crate::edit::{EDIT_LIMIT, refusal};
 use crate::outcome::Outcome;
@@ -18,7 +19,7 @@ use crate::texts::{fetch_file, put_file};
 use crate::tooling::edit_with;
 use cfg_view::{View, look};
 use edit_core::EditFault;
-use eel_base::{Files, NoMemory};
+use eel_base::{Files, NoMemory, WordNo};
 use snippets::{Op, Snippet};
 use span_tree::{SpanTree, tree, weights};
 use std::alloc::Global;
@@ -31,7 +32,7 @@ pub fn edit_for_counts<'a, F: Files>(
     input: &'a str,
     output: &str,
 ) -> Outcome<'a>
-    ensures profiles { Profiles input.now output.now (store (F.held files.old) (F.faults files.old))
+    ensures profiles { Profiles no_words input.now output.now (store (F.held files.old) (F.faults files.old))
         (store (F.held files.new) (F.faults files.new)) (outcome_seen result) }
     ensures later { F.faults files.old ≤ F.faults files.new }
 {
@@ -51,18 +52,32 @@ pub fn profiled(alloc: Global, bytes: &[u8]) -> Result<Vec<u8>, EditFault>
     ensures profile { IfOk result (λ file. IsProfileOf (guessed bytes.now) bytes.now file.items) }
     ensures refused { IfErr result (ProfileRefuses (guessed bytes.now) bytes.now) }
 {
-    let tree = tree_of(alloc, bytes)?;
-    with_counters(alloc, bytes, &tree)
+    profiled_with(alloc, bytes, Vec::new(alloc))
 }
 
-/// A spanning tree of the graph of a file. The view of it is gone when the file is edited, since the edit makes its own.
-fn tree_of(alloc: Global, bytes: &[u8]) -> Result<SpanTree, EditFault>
+/// The same, of its graph with some words marked.
+pub fn profiled_with(alloc: Global, bytes: &[u8], marks: Vec<WordNo>) -> Result<Vec<u8>, EditFault>
     requires { length bytes.now ≤ 2 ^ 26 }
-    ensures cells { IfOk result (AreCells (graph_in bytes.now) (guessed bytes.now)) }
-    ensures few { IfOk result (λ cells. cell_count cells ≤ 2 ^ 22) }
-    ensures refused { IfErr result (ProfileRefuses (guessed bytes.now) bytes.now) }
+    ensures profile { let marked = numbers marks.items in
+        IfOk result (λ file. IsMarkedProfile marked (guessed_with bytes.now marked) bytes.now file.items) }
+    ensures refused { let marked = numbers marks.items in
+        IfErr result (CountersRefuse marked (guessed_with bytes.now marked) bytes.now) }
 {
-    let view = look(alloc, bytes, &[])?;
+    let tree = tree_of(alloc, bytes, &marks)?;
+    with_counters(alloc, bytes, marks, &tree)
+}
+
+/// A spanning tree of the graph of a file with some words marked. The view of it is gone when the file is edited, since the
+/// edit makes its own.
+fn tree_of(alloc: Global, bytes: &[u8], marks: &[WordNo]) -> Result<SpanTree, EditFault>
+    requires { length bytes.now ≤ 2 ^ 26 }
+    ensures cells { let marked = numbers marks.now in
+        IfOk result (AreCells (graph_with bytes.now marked) (guessed_with bytes.now marked)) }
+    ensures few { IfOk result (λ cells. cell_count cells ≤ 2 ^ 22) }
+    ensures refused { let marked = numbers marks.now in
+        IfErr result (CountersRefuse marked (guessed_with bytes.now marked) bytes.now) }
+{
+    let view = look(alloc, bytes, marks)?;
     let tree = heaviest_tree(alloc, &view)?;
     Ok(tree)
 }
@@ -90,20 +105,26 @@ pub fn tree_by(alloc: Global, view: &View, weights: &[u64]) -> Result<SpanTree, 
     Ok(tree)
 }
 
-/// The edit of a file with a counter on each edge that has a cell.
-pub fn with_counters(alloc: Global, bytes: &[u8], tree: &SpanTree) -> Result<Vec<u8>, EditFault>
+/// The edit of a file, with some words marked, with a counter on each edge that has a cell.
+pub fn with_counters(
+    alloc: Global,
+    bytes: &[u8],
+    marks: Vec<WordNo>,
+    tree: &SpanTree,
+) -> Result<Vec<u8>, EditFault>
     requires bytes { length bytes.now ≤ 2 ^ 26 }
-    requires size { length tree.now ≡ length (graph_in bytes.now).edges }
+    requires size { length tree.now ≡ length (graph_with bytes.now (numbers marks.items)).edges }
     requires numbered { AreNumbered tree.now }
     requires few { cell_count tree.now ≤ 2 ^ 22 }
-    ensures edited { IfOk result (λ file. IsEditOf bytes.now (profile_plan tree.now) file.items) }
-    ensures refused { IfErr result (EditRefuses bytes.now (λ plan. plan ≡ profile_plan tree.now)) }
+    ensures edited { IfOk result (λ file. IsEditOf bytes.now (plan_with (numbers marks.items) tree.now) file.items) }
+    ensures refused { IfErr result (EditRefuses bytes.now (λ plan. plan ≡ plan_with (numbers marks.items) tree.now)) }
 {
     edit_with(
         alloc,
         bytes,
         Counters { tree },
         2 * tree.cells(),
+        marks,
         ToolKind::Profile,
     )
 }

@@ -1,14 +1,15 @@
 //! The command `restore`.
-ghost use Rattle.std.specs.Prelude.{◌≡◌, ◌≤◌, IfOk, IfErr};
+ghost use Rattle.std.specs.Prelude.{◌≡◌, ◌≤◌, ◌+◌, IfOk, IfErr, length};
+ghost use Rattle.notes.specs.Seen.{notes_seen};
 ghost use Rattle.eel.specs.Outcome.{outcome_seen};
 ghost use Rattle.eel.specs.Answers.Shared.{store};
-ghost use Rattle.eel.specs.Answers.Restore.{HasOriginal, IsNotRestored, Restores};
+ghost use Rattle.eel.specs.Answers.Restore.{HasOriginal, IsNotRestored, Restores, original_in};
 
 use crate::outcome::Outcome;
 use crate::run::WRITTEN_LIMIT;
 use crate::texts::{fetch_file, put_file};
 use eel_base::Files;
-use notes::{NotesFault, read_notes};
+use notes::{Notes, NotesFault, read_notes};
 use std::alloc::Global;
 
 /// Reads `written`, and writes the original that stands in it as `output`.
@@ -38,12 +39,18 @@ fn original<'a, 'b>(alloc: Global, name: &'a str, file: &'b [u8]) -> Result<&'b 
     ensures refused { IfErr result (λ outcome. IsNotRestored name.now file.now (outcome_seen outcome)) }
 {
     match read_notes(alloc, file) {
-        Ok(notes) => {
-            let start = notes.delta as usize;
-            Ok(&file[start..start + notes.length as usize])
-        }
+        Ok(notes) => Ok(original_in(file, &notes)),
         Err(NotesFault::Absent) => Err(Outcome::NoNotes { name }),
         Err(NotesFault::Bad(at)) => Err(Outcome::BadNotes { name, at }),
         Err(NotesFault::NoMemory) => Err(Outcome::OutOfMemory),
     }
+}
+
+/// The bytes of a file where notes say that the original stands.
+pub fn original_in<'a>(file: &'a [u8], notes: &Notes) -> &'a [u8]
+    requires { notes.now.delta + notes.now.length ≤ length file.now }
+    ensures { result.now ≡ original_in file.now (notes_seen notes.now) }
+{
+    let start = notes.delta as usize;
+    &file[start..start + notes.length as usize]
 }

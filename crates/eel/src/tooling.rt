@@ -8,24 +8,26 @@ ghost use Rattle.eel.specs.Answers.Edit.{IsEditOf};
 ghost use Rattle.eel.specs.Answers.Tool.{kept_by};
 
 use edit_core::{EditFault, edit_bytes};
+use eel_base::WordNo;
 use std::alloc::Global;
 use tool_kit::{Chooser, Tool, ToolKind};
 
-/// The edit of a file with what a callback chooses for each edge.
+/// The edit of a file, with some words marked, with what a callback chooses for each edge.
 pub fn edit_with<F: Chooser>(
     alloc: Global,
     bytes: &[u8],
     choose: F,
     cells: u32,
+    marks: Vec<WordNo>,
     kind: ToolKind,
 ) -> Result<Vec<u8>, EditFault>
     requires limit { length bytes.now ≤ 2 ^ 26 }
     requires sound { IsSound F.may F.says cells choose }
-    requires counters { CountsEdges F.says (kept_by choose cells kind) bytes.now }
-    ensures refused { IfErr result (EditRefuses bytes.now (AsksOf F.says (kept_by choose cells kind) bytes.now)) }
-    ensures edited { IfOk result (λ file. (plan : Plan) × AsksOf F.says (kept_by choose cells kind) bytes.now plan
+    requires counters { CountsEdges F.says (kept_by choose cells marks.items kind) bytes.now }
+    ensures refused { IfErr result (EditRefuses bytes.now (AsksOf F.says (kept_by choose cells marks.items kind) bytes.now)) }
+    ensures edited { IfOk result (λ file. (plan : Plan) × AsksOf F.says (kept_by choose cells marks.items kind) bytes.now plan
         × IsEditOf bytes.now plan file.items) }
 {
-    let tool = Tool::new(choose, cells, Vec::new(alloc), kind);
+    let tool = Tool::new(choose, cells, marks, kind);
     edit_bytes(alloc, bytes, &tool)
 }

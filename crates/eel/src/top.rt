@@ -12,11 +12,13 @@ use crate::demo::demonstrate;
 use crate::disassembly::list_words;
 use crate::dumps::run_for_dump;
 use crate::edit::{edit_by_script, edit_plain};
+use crate::every::edit_every_word;
 use crate::listing::show_program;
 use crate::outcome::{Outcome, show};
 use crate::profiling::edit_for_counts;
 use crate::restore::restore_original;
 use crate::run::{Job, run_program};
+use crate::visiting::count_visits;
 use crate::weighing::edit_by_weights;
 use eel_base::{Files, Sink, Source};
 use std::alloc::Global;
@@ -129,6 +131,8 @@ fn perform<'a, F: Files, I: Source, O: Sink, E: Sink>(
             output,
             weights,
         } => edit_by_weights(alloc, files, input, output, weights),
+        Command::EditEvery { input, output } => edit_every_word(alloc, files, input, output),
+        Command::Visits { written, dump } => count_visits(alloc, files, written, dump, out),
         Command::Counts { written, dump } => count_edges(alloc, files, written, dump, out),
         Command::Demo { number, routines } => demonstrate(alloc, number, routines, out),
         Command::Unknown => Outcome::BadWords,

@@ -65,7 +65,7 @@ fn weighed<'a>(
         Ok(tree) => tree,
         Err(outcome) => return Err(outcome),
     };
-    match with_counters(alloc, bytes, &tree) {
+    match with_counters(alloc, bytes, Vec::new(alloc), &tree) {
         Ok(written) => Ok(written),
         Err(fault) => Err(refusal(input, fault)),
     }

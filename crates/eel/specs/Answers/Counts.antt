@@ -25,7 +25,7 @@ use Rattle.eel.specs.declared.outcome.CountCause.{CountCause}
 use Rattle.eel.specs.declared.outcome.CountCause.TheVariants as causes
 use Rattle.eel.specs.Outcome.{Outcome, NoNotes, BadNotes, BadDump, NoProfile, NoCounts, OutOfMemory}
 use Rattle.eel.specs.Answers.Shared.{Outside, Meaning, WasRead, IsUnread, IsPrinted, IsUnused, IsQuiet, IsSilent, edit_limit, written_limit}
-use Rattle.eel.specs.Answers.Profile.{AreCells, IsProfileOf, graph_in, plan_of}
+use Rattle.eel.specs.Answers.Profile.{AreCells, IsMarkedProfile, graph_with, plan_of}
 
 -- how long a dump may be
 abbrev pub dump_limit : ℕ
@@ -101,19 +101,20 @@ pub record TellCounts (file bytes lines : List ℕ) : Type 0 where
 
 -- ---- what the counts of a profile are
 
--- A file with these notes that is faithful to an original, with counters of the notes' version on the edges off a tree.
-pub record IsProfile (weights original file : List ℕ) (notes : Notes) : Type 0 where
+-- A file with these notes that is faithful to an original with these marks, with counters of the notes' version on the
+-- edges off a tree.
+pub record IsProfile (marks weights original file : List ℕ) (notes : Notes) : Type 0 where
   pub cells : List (Option ℕ)
   pub sound : fault original ≡ None
-  pub are : AreCells (graph_in original) weights cells
-  pub faithful : IsFaithful original (plan_of notes.version cells) file
+  pub are : AreCells (graph_with original marks) weights cells
+  pub faithful : IsFaithful original (plan_of notes.version marks cells) file
 
 -- a file that an edit for counts made of an original is one, with version 2
 abbrev pub EditsAreProfiles : Type 0
 EditsAreProfiles =
-    (weights original file : List ℕ) (notes : Notes) → length original ≤ edit_limit → AreBytes original
-    → IsProfileOf weights original file → notes_of file ≡ Ok notes
-    → (notes.version ≡ 2) × IsProfile weights original file notes
+    (marks weights original file : List ℕ) (notes : Notes) → length original ≤ edit_limit → AreBytes original
+    → IsMarkedProfile marks weights original file → notes_of file ≡ Ok notes
+    → (notes.version ≡ 2) × IsProfile marks weights original file notes
 
 -- The file is an original's profile, and the dump is what a run of it has come to, wherever it was stopped, after fewer than
 -- 2^32 steps or in version 2 than 2^64, and without a touch of the added pages in as many steps of the original as there were
@@ -121,8 +122,9 @@ EditsAreProfiles =
 pub record IsOfRun (original file : List ℕ) (notes : Notes) (dump : Dump) (args : List (List ℕ)) (input : List ℕ)
     (m : ℕ) : Type 0 where
   pub bytes : AreBytes original
+  pub marks : List ℕ
   pub weights : List ℕ
-  pub profile : IsProfile weights original file notes
+  pub profile : IsProfile marks weights original file notes
   pub arguments : AreArguments args
   pub given : AreBytes input
   pub untouched : IsUntouched (pages_of notes) (start_of original args input)
@@ -134,11 +136,12 @@ pub record IsOfRun (original file : List ℕ) (notes : Notes) (dump : Dump) (arg
 -- all arguments and every input.
 abbrev pub AreExact : List ℕ → Notes → Dump → List ℕ → Type 0
 AreExact file notes dump counts =
-    (original : List ℕ) (args : List (List ℕ)) (input : List ℕ) (m : ℕ) → IsOfRun original file notes dump args input m
+    (original : List ℕ) (args : List (List ℕ)) (input : List ℕ) (m : ℕ)
+    → (made : IsOfRun original file notes dump args input m)
     → (e : ℕ) → e < length notes.edges
     → slice_index counts e
-    ≡ executions (image_of original).text (graph_in original) (image_of original).entry (start_of original args input)
-    (visits_by notes (start_of file args input) m - 1) e
+    ≡ executions (image_of original).text (graph_with original made.marks) (image_of original).entry
+    (start_of original args input) (visits_by notes (start_of file args input) m - 1) e
 
 -- And there are counts, but for want of memory, and where the run stands between places, which it doesn't where it has ended.
 abbrev pub MayMiss : List ℕ → Dump → Outcome → Type 0

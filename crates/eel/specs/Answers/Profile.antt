@@ -1,6 +1,6 @@
 -- `edit IN OUT profile`: the file IN is read, judged, edited with counters on the edges off a spanning tree, and written as
--- OUT.
-use Rattle.std.specs.Prelude.{◌≡◌, ℕ, ◌*◌, List, [], length, map, Option, Some, None}
+-- OUT. Which words of its text are marked is told by a function: for `profile` none is.
+use Rattle.std.specs.Prelude.{◌≡◌, ℕ, ◌*◌, List, [], ◌∷◌, length, map, Option, Some, None}
 use Rattle.eel_base.specs.Outside.{IsMissing, stored}
 use Rattle.flows.specs.Flows.{IsLeast, rest}
 use Rattle.flows.specs.Links.{weight_in}
@@ -35,81 +35,109 @@ pub record AreCells (graph : Graph) (weights : List ℕ) (cells : List (Option �
   pub spans : IsSpanningTree (links_of graph) (is_node graph) (rest (has_cell cells))
   pub least : IsLeast (links_of graph) (weight_in weights) (has_cell cells)
 
+-- the flow graph of a file, where the words that are marked lead besides
+abbrev pub graph_with : List ℕ → List ℕ → Graph
+graph_with bytes marks = (view_of bytes marks).graph
+
 abbrev pub graph_in : List ℕ → Graph
-graph_in bytes = (view_of bytes []).graph
+graph_in bytes = graph_with bytes []
 
 -- the weights that are guessed, by the loops about each edge
+abbrev pub guessed_with : List ℕ → List ℕ → List ℕ
+guessed_with bytes marks = weights_of (graph_with bytes marks).blocks (graph_with bytes marks).edges
+
 abbrev pub guessed : List ℕ → List ℕ
-guessed bytes = weights_of (graph_in bytes).blocks (graph_in bytes).edges
+guessed bytes = guessed_with bytes []
 
 -- ---- what the tool asks for
 
 -- It counts each edge that has a number, in as many cells as a counter has in a version of the notes, one counter behind the
 -- other. Files are written with version 2.
-abbrev pub plan_of : ℕ → List (Option ℕ) → Plan
-plan_of version cells = record {
+abbrev pub plan_of : ℕ → List ℕ → List (Option ℕ) → Plan
+plan_of version marks cells = record {
   kind = tools.Profile;
-  marks = [];
+  marks = marks;
   cells = counter_width version * cell_count cells;
   snips = map (counter_in version) cells;
 }
 
+abbrev pub plan_with : List ℕ → List (Option ℕ) → Plan
+plan_with marks cells = plan_of 2 marks cells
+
 abbrev pub profile_plan : List (Option ℕ) → Plan
-profile_plan cells = plan_of 2 cells
+profile_plan cells = plan_with [] cells
 
 -- ---- refusals
 
--- why a profile of some bytes by these weights is refused
-abbrev pub ProfileRefuses : List ℕ → List ℕ → EditFault → Type 0
-ProfileRefuses weights bytes (faults.File first) = fault bytes ≡ Some first
-ProfileRefuses weights bytes (faults.Room needed had) =
-    (cells : List (Option ℕ)) × AreCells (graph_in bytes) weights cells × IsCramped needed had bytes (profile_plan cells)
-ProfileRefuses weights bytes faults.NoMemory = fault bytes ≡ None
+-- why a profile of some bytes with these marks, by these weights, is refused
+abbrev pub CountersRefuse : List ℕ → List ℕ → List ℕ → EditFault → Type 0
+CountersRefuse marks weights bytes (faults.File first) = fault bytes ≡ Some first
+CountersRefuse marks weights bytes (faults.Room needed had) =
+    (cells : List (Option ℕ)) × AreCells (graph_with bytes marks) weights cells
+    × IsCramped needed had bytes (plan_with marks cells)
+CountersRefuse marks weights bytes faults.NoMemory = fault bytes ≡ None
 
--- IN was read, and no profile is made of it
-abbrev pub IsNotProfiled : List ℕ → List ℕ → Outcome → Type 0
-IsNotProfiled name bytes (BadFile named code) = (named ≡ name) × IsFaulty code bytes
-IsNotProfiled name bytes (NoRoom named needed had) =
-    (cells : List (Option ℕ)) × (named ≡ name) × AreCells (graph_in bytes) (guessed bytes) cells
-    × IsCramped needed had bytes (profile_plan cells)
-IsNotProfiled name bytes OutOfMemory = IsSound bytes
-IsNotProfiled name bytes _ = ⊥
+abbrev pub ProfileRefuses : List ℕ → List ℕ → EditFault → Type 0
+ProfileRefuses weights bytes fault = CountersRefuse [] weights bytes fault
 
 -- ---- the edit
 
--- a file that was made of another, with counters on the edges off a tree
-pub record IsProfileOf (weights bytes file : List ℕ) : Type 0 where
+-- a file that was made of another with these marks, with counters on the edges off a tree
+pub record IsMarkedProfile (marks weights bytes file : List ℕ) : Type 0 where
   pub cells : List (Option ℕ)
-  pub are : AreCells (graph_in bytes) weights cells
-  pub made : IsEditOf bytes (profile_plan cells) file
+  pub are : AreCells (graph_with bytes marks) weights cells
+  pub made : IsEditOf bytes (plan_with marks cells) file
 
--- How an edit with counters goes, step by step, and what comes of it.
-pub data Profiles (input output : List ℕ) (old new : Store) (outcome : Outcome) : Type 0 where
-  -- IN gave no bytes
-  unread : IsUnread old new input edit_limit outcome → new.held ≡ old.held
-      → Profiles input output old new outcome
-  -- IN was read, and isn't edited
-  refused : (bytes : List ℕ) → WasRead old input edit_limit bytes
-      → IsNotProfiled input bytes outcome → new.held ≡ old.held
-      → Profiles input output old new outcome
-  -- a file with counters was made of it, and was to be put as OUT
-  put : (bytes : List ℕ) → WasRead old input edit_limit bytes
-      → (file : List ℕ) → IsProfileOf (guessed bytes) bytes file → IsPut old new output file outcome
-      → Profiles input output old new outcome
+abbrev pub IsProfileOf : List ℕ → List ℕ → List ℕ → Type 0
+IsProfileOf weights bytes file = IsMarkedProfile [] weights bytes file
 
--- the edit is done
-pub record IsProfiled (input output : List ℕ) (old new : Store) : Type 0 where
-  pub bytes : List ℕ
-  pub read : WasRead old input edit_limit bytes
-  pub file : List ℕ
-  pub made : IsProfileOf (guessed bytes) bytes file
-  pub held : new.held ≡ stored old.held output file
+-- `profile` marks no word
+abbrev pub no_words : List ℕ → List ℕ
+no_words bytes = []
 
-abbrev pub profile_means : List ℕ → List ℕ → Meaning
-profile_means input output = record {
-  follows = λ old new outcome.
-      Profiles input output old.files new.files outcome × IsUnused old new × IsQuiet old new;
-  does = λ old new. IsProfiled input output old.files new.files × IsUnused old new × IsQuiet old new;
-  wants = IsSilent;
-  lacks = λ files. IsMissing files.held input;
-}
+-- `marks_of` has the words that are marked of each file, by their numbers.
+module _ (marks_of : List ℕ → List ℕ) where
+  -- a file that was made of another so, by the weights that are guessed
+  abbrev pub IsMadeOf : List ℕ → List ℕ → Type 0
+  IsMadeOf bytes file = IsMarkedProfile (marks_of bytes) (guessed_with bytes (marks_of bytes)) bytes file
+
+  -- IN was read, and no profile is made of it
+  abbrev pub IsNotProfiled : List ℕ → List ℕ → Outcome → Type 0
+  IsNotProfiled name bytes (BadFile named code) = (named ≡ name) × IsFaulty code bytes
+  IsNotProfiled name bytes (NoRoom named needed had) =
+      (cells : List (Option ℕ)) × (named ≡ name)
+      × AreCells (graph_with bytes (marks_of bytes)) (guessed_with bytes (marks_of bytes)) cells
+      × IsCramped needed had bytes (plan_with (marks_of bytes) cells)
+  IsNotProfiled name bytes OutOfMemory = IsSound bytes
+  IsNotProfiled name bytes _ = ⊥
+
+  -- How an edit with counters goes, step by step, and what comes of it.
+  pub data Profiles (input output : List ℕ) (old new : Store) (outcome : Outcome) : Type 0 where
+    -- IN gave no bytes
+    unread : IsUnread old new input edit_limit outcome → new.held ≡ old.held
+        → Profiles input output old new outcome
+    -- IN was read, and isn't edited
+    refused : (bytes : List ℕ) → WasRead old input edit_limit bytes
+        → IsNotProfiled input bytes outcome → new.held ≡ old.held
+        → Profiles input output old new outcome
+    -- a file with counters was made of it, and was to be put as OUT
+    put : (bytes : List ℕ) → WasRead old input edit_limit bytes
+        → (file : List ℕ) → IsMadeOf bytes file → IsPut old new output file outcome
+        → Profiles input output old new outcome
+
+  -- the edit is done
+  pub record IsProfiled (input output : List ℕ) (old new : Store) : Type 0 where
+    pub bytes : List ℕ
+    pub read : WasRead old input edit_limit bytes
+    pub file : List ℕ
+    pub made : IsMadeOf bytes file
+    pub held : new.held ≡ stored old.held output file
+
+  abbrev pub profile_means : List ℕ → List ℕ → Meaning
+  profile_means input output = record {
+    follows = λ old new outcome.
+        Profiles input output old.files new.files outcome × IsUnused old new × IsQuiet old new;
+    does = λ old new. IsProfiled input output old.files new.files × IsUnused old new × IsQuiet old new;
+    wants = IsSilent;
+    lacks = λ files. IsMissing files.held input;
+  }

@@ -6,10 +6,14 @@ use Rattle.elf32_sparc.specs.Notes.{Notes, Absent, Bad, notes_of}
 use Rattle.eel.specs.Outcome.{Outcome, NoNotes, BadNotes, OutOfMemory}
 use Rattle.eel.specs.Answers.Shared.{Store, Meaning, WasRead, IsUnread, IsPut, IsUnused, IsQuiet, IsSilent, written_limit}
 
+-- the bytes of a file where notes say that the original stands
+abbrev pub original_in : List ℕ → Notes → List ℕ
+original_in file notes = take notes.length (drop notes.delta file)
+
 -- the file's notes read, and the original stands where they say
 abbrev pub HasOriginal : List ℕ → List ℕ → Type 0
 HasOriginal file original =
-    (notes : Notes) × (notes_of file ≡ Ok notes) × (original ≡ take notes.length (drop notes.delta file))
+    (notes : Notes) × (notes_of file ≡ Ok notes) × (original ≡ original_in file notes)
 
 -- WRITTEN was read, and has no notes that can be read
 abbrev pub IsNotRestored : List ℕ → List ℕ → Outcome → Type 0

@@ -1,8 +1,9 @@
--- Tools without marks.
-use Rattle.std.specs.Prelude.{ℕ, []}
+-- What the tools of the words are.
+use Rattle.std.specs.Prelude.{ℕ, List}
+use Rattle.eel_base.specs.declared.numbers.WordNo.{WordNo}
 use Rattle.tool_kit.specs.declared.edge_ref.ToolKind.{ToolKind}
 use Rattle.tool_kit.specs.Kept.{Kept}
 
--- such a tool keeps its callback, how many cells there are, and what it is for
-abbrev pub kept_by : {F : Type 0} → F → ℕ → ToolKind → Kept F
-kept_by choose cells kind = record { choose = choose; cells = cells; marks = []; kind = kind }
+-- a tool keeps its callback, how many cells there are, the marked words, and what it is for
+abbrev pub kept_by : {F : Type 0} → F → ℕ → List WordNo → ToolKind → Kept F
+kept_by choose cells marks kind = record { choose = choose; cells = cells; marks = marks; kind = kind }

@@ -60,3 +60,9 @@ returns-in-NoProfile-clause-all g c = rw c.in-NoProfile.is (simp append_assoc (r
 
 pub returns-in-NoProfile-clause-part : goal.returns-in-NoProfile-clause-part
 returns-in-NoProfile-clause-part g c = rw c.in-NoProfile.is (simp append_assoc (rw (c.as_bytes-in-NoProfile.ensures.value) at c.put_pieces-in-NoProfile.ensures.part))
+
+pub returns-in-NotEveryWord-clause-all : goal.returns-in-NotEveryWord-clause-all
+returns-in-NotEveryWord-clause-all g c = rw c.in-NotEveryWord.is (simp append_assoc (rw (c.as_bytes-in-NotEveryWord.ensures.value) at c.put_pieces-in-NotEveryWord.ensures.all))
+
+pub returns-in-NotEveryWord-clause-part : goal.returns-in-NotEveryWord-clause-part
+returns-in-NotEveryWord-clause-part g c = rw c.in-NotEveryWord.is (simp append_assoc (rw (c.as_bytes-in-NotEveryWord.ensures.value) at c.put_pieces-in-NotEveryWord.ensures.part))

@@ -1,4 +1,4 @@
-use Rattle.eel.specs.Answers.Profile.{refused, put}
+use Rattle.eel.specs.Answers.Profile.{no_words, refused, put}
 use Rattle.eel.proofs.Later.{put-later}
 use Rattle.eel.proofs.ProfileEdits.{profile_refused}
 use Rattle.eel.proofs.profiling.edit_for_counts.Goals as goal
@@ -13,5 +13,5 @@ returns-in-Ok-profiled-clause-profiles g c =
 pub returns-clause-profiles : goal.returns-clause-profiles
 returns-clause-profiles g c =
     refused c.in-Ok.bytes.items c.in-Ok.ensures.read
-    (rw c.refusal.ensures (profile_refused _ _ c.in-Err-profiled.fault (rw c.deref.ensures.value at c.in-Err-profiled.ensures.refused)))
+    (rw c.refusal.ensures (profile_refused no_words _ _ c.in-Err-profiled.fault (rw c.deref.ensures.value at c.in-Err-profiled.ensures.refused)))
     c.fetch_file.ensures.kept

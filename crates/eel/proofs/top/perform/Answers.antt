@@ -22,6 +22,14 @@ pub returns-in-EditProfile-clause-follows : goal.returns-in-EditProfile-clause-f
 returns-in-EditProfile-clause-follows g c =
     rw (← c.in-EditProfile.ensures.command) (c.edit_for_counts.ensures.profiles, refl, (refl, refl))
 
+pub returns-in-EditEvery-clause-follows : goal.returns-in-EditEvery-clause-follows
+returns-in-EditEvery-clause-follows g c =
+    rw (← c.in-EditEvery.ensures.command) (c.edit_every_word.ensures.profiles, refl, (refl, refl))
+
+pub returns-in-Visits-clause-follows : goal.returns-in-Visits-clause-follows
+returns-in-Visits-clause-follows g c =
+    rw (← c.in-Visits.ensures.command) (c.count_visits.ensures.visits _ _, c.count_visits.ensures.kept, refl)
+
 pub returns-in-Counts-clause-follows : goal.returns-in-Counts-clause-follows
 returns-in-Counts-clause-follows g c =
     rw (← c.in-Counts.ensures.command) (c.count_edges.ensures.counts _ _, c.count_edges.ensures.kept, refl)

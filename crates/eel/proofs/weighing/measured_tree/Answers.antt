@@ -7,7 +7,7 @@ use Rattle.eel.proofs.weighing.measured_tree.Goals as goal
 
 pub tree_by-requires-clause-few : goal.tree_by-requires-clause-few
 tree_by-requires-clause-few c =
-    few_edges c.args.bytes.now _ c.in-Ok.ensures.view (sym c.in-Ok.ensures.fault)
+    few_edges c.args.bytes.now [] _ c.in-Ok.ensures.view (sym c.in-Ok.ensures.fault)
 
 pub returns-in-Ok-tree_by-clause-cells : goal.returns-in-Ok-tree_by-clause-cells
 returns-in-Ok-tree_by-clause-cells c =

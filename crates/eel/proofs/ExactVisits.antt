@@ -1,0 +1,288 @@
+-- The visits of a profile with every word marked are exact.
+use Rattle.std.proofs.Common.{◌≡◌, ◌≢◌, ℕ, zero, suc, ◌+◌, ◌-◌, ◌<◌, Bool, true, false, ◌&&◌, ◌||◌, cond, List, [], ◌∷◌, length, refl, ap, sym, ◌∙◌, subst, arith}
+use Rattle.std.specs.Prelude.{Option, Some, None, Ok, ◌==◌, nat_lt, slice_index, unwrap_or}
+use Rattle.std.specs.List.{filter, list_any, range_with_len}
+use Rattle.std.specs.Option.{option_map}
+use Rattle.std.proofs.lemmas.Bool.{and_left, and_right, eq-eqb, eqb-true, le-ltb, lt-ltb, or_left, or_right, true≢false}
+use Rattle.std.proofs.lemmas.List.Folds.{list_any-append, list_any_at}
+use Rattle.std.proofs.lemmas.List.FromFn.{get_or-range_with_len, length-range_with_len}
+use Rattle.eel_base.specs.CodeText.{Words, address_of}
+use Rattle.elf32_sparc.specs.FileFault.{fault}
+use Rattle.elf32_sparc.specs.Image.{Program, image_of}
+use Rattle.elf32_sparc.specs.Notes.{NoteEdge, NoteRange, Notes, holds, node_at, notes_of, range_at}
+use Rattle.flows.specs.Flows.{weight_below}
+use Rattle.flows.specs.Walks.{times}
+use Rattle.v8_step.specs.State.{State}
+use Rattle.v8_step.specs.Run.{run}
+use Rattle.v8_step.specs.Valid.{AreBytes}
+use Rattle.v8_step.specs.Visits.{own_trail}
+use Rattle.v8_process.specs.Start.{start_of}
+use Rattle.cfg_blocks.specs.declared.EdgeKind.{EdgeKind}
+use Rattle.cfg_blocks.specs.declared.EdgeKind.TheVariants as kinds
+use Rattle.cfg_blocks.specs.Blocks.{holding_of, is_among}
+use Rattle.cfg_blocks.specs.Entries.{entered_of}
+use Rattle.cfg_normal.specs.declared.Edge.{Edge}
+use Rattle.cfg_normal.specs.Graph.{Graph}
+use Rattle.cfg_walk.specs.Walk.{end_of_walk}
+use Rattle.cfg_view.specs.View.{given_in, marks_in, starts_of, view_of}
+use Rattle.routines.specs.Routines.{routines_of}
+use Rattle.span_tree.specs.Links.{edge_at as own_edge}
+use Rattle.tool_kit.specs.Plans.{Plan}
+use Rattle.walk_counts.specs.Counts.{executions, last_node}
+use Rattle.dump_file.specs.Dump.{Dump}
+use Rattle.count_rebuild.specs.Answers.{AreCounts}
+use Rattle.edit_core.specs.Faithful.{kind_number as noted_kind}
+use Rattle.edit_core.specs.RunsAlike.{IsStop, TellsStep, edit_of}
+use Rattle.edit_core.proofs.Originals.{image_text}
+use Rattle.exact_counts.specs.Profiles.{IsProfiled, original_graph}
+use Rattle.exact_counts.specs.Stops.{dump_at, visits_by}
+use Rattle.exact_counts.proofs.Exact.{notes_of_graph, view_graph}
+use Rattle.exact_counts.proofs.Noted.{AreNotesOf, edge_count, edge_is}
+use Rattle.instr_counts.specs.Answers.{AreVisits, begun_in}
+use Rattle.instr_counts.specs.Laws.{AreVisited, HasEach}
+use Rattle.instr_counts.specs.Matches.{AreNoted, Matches, kind_number}
+use Rattle.instr_counts.specs.Visits.{AreSingle, finished, is_begun, leads_to, one_if, runs_slot, sum_where, visits_by as visits_told}
+use Rattle.instr_counts.proofs.Counted.{visits_are_counted}
+use Rattle.instr_counts.proofs.Single.{words_are_blocks}
+use Rattle.eel.specs.Answers.Profile.{plan_of}
+use Rattle.eel.specs.Answers.Every.{every_view, every_word}
+use Rattle.eel.specs.Answers.Restore.{original_in}
+use Rattle.eel.specs.Answers.Counts.{IsOfRun}
+use Rattle.eel.specs.Answers.Visits.{AreExactVisits, AreOwnVisits, HasEveryWord}
+use Rattle.eel.proofs.ExactProfiles.{are_exact, is_profiled, one_notes}
+
+-- ---- each word leads where every word is marked
+
+filter_keeps : (p : ℕ → Bool) (word : ℕ) → p word ≡ true → (words : List ℕ) → is_among words word ≡ true
+    → is_among (filter p words) word ≡ true
+filter_keeps p word passes [] among = among
+filter_keeps p word passes (x ∷ words) among = by (x == word) refl (p x) refl among (filter_keeps p word passes words)
+  where
+    by : (same : Bool) → (x == word) ≡ same → (kept : Bool) → p x ≡ kept → (same || is_among words word) ≡ true
+        → (is_among words word ≡ true → is_among (filter p words) word ≡ true)
+        → is_among (cond kept (x ∷ filter p words) (filter p words)) word ≡ true
+    by true is true keeps here rest = or_left (x == word) (is_among (filter p words) word) is
+    by true is false keeps here rest = absurd (true≢false (sym passes ∙ ap p (sym (eqb-true x word is)) ∙ keeps))
+    by false is true keeps here rest = or_right (x == word) (is_among (filter p words) word) (rest here)
+    by false is false keeps here rest = rest here
+
+all_among : (word count : ℕ) → word < count → is_among (range_with_len 0 count) word ≡ true
+all_among word count l =
+    let size = length-range_with_len 0 count in
+    list_any_at (λ x. x == word) (range_with_len 0 count) word 0 (omega (arith, size, l))
+    (eq-eqb _ word (get_or-range_with_len 0 count word 0 l ∙ omega arith))
+
+pub each_leads : (original : List ℕ)
+    → HasEach (image_of original).text (given_in (image_of original) (every_word original))
+each_leads original word l =
+    let text = (image_of original).text in
+    list_any-append (λ other. other == word) (starts_of (routines_of (image_of original)))
+    (marks_in text (every_word original))
+    ∙ or_right (is_among (starts_of (routines_of (image_of original))) word) (is_among (marks_in text (every_word original)) word)
+    (filter_keeps (λ mark. nat_lt mark (length text.words)) word (lt-ltb word (length text.words) l) (every_word original)
+    (all_among word (length text.words) l))
+
+leads_marked : (original marks : List ℕ) → marks ≡ every_word original
+    → HasEach (image_of original).text (given_in (image_of original) marks)
+leads_marked original marks is =
+    subst (λ (m : List ℕ). HasEach (image_of original).text (given_in (image_of original) m)) (sym is) (each_leads original)
+
+-- ---- sums of the same counts
+
+same_weights : (n : ℕ) (one other : ℕ → ℕ) (s : ℕ → Bool) → ((e : ℕ) → e < n → one e ≡ other e)
+    → weight_below n one s ≡ weight_below n other s
+same_weights zero one other s same = refl
+same_weights (suc n) one other s same =
+    ap (λ k. weight_below n one s + cond (s n) k 0) (same n (omega arith))
+    ∙ ap (λ k. k + cond (s n) (other n) 0) (same_weights n one other s (λ e l. same e (omega (arith, l))))
+
+same_finished : (graph : Graph) (entry : ℕ) (one other : ℕ → ℕ) (word : ℕ)
+    → ((e : ℕ) → e < length graph.edges → one e ≡ other e)
+    → finished graph entry one word ≡ finished graph entry other word
+same_finished graph entry one other word same =
+    let to = same_weights (length graph.edges) one other (λ e. leads_to graph.blocks word (own_edge graph e)) same in
+    let slot = same_weights (length graph.edges) one other (λ e. runs_slot word (own_edge graph e)) same in
+    let begins = one_if (holding_of graph.blocks entry == holding_of graph.blocks word) in
+    ap (λ k. k + begins + sum_where graph one (runs_slot word)) to
+    ∙ ap (λ k. sum_where graph other (leads_to graph.blocks word) + begins + k) slot
+
+-- ---- how many visits there are
+
+visit_count : (original marks : List ℕ) (notes : Notes) (dump : Dump) (counts visits : List ℕ)
+    → AreVisits (view_of original marks) notes dump counts visits → length visits ≡ length (image_of original).text.words
+unfolding view_of
+visit_count original marks notes dump counts visits are = are.len
+
+-- ---- notes of a profile
+
+same_kind : (kind : EdgeKind) → noted_kind kind ≡ kind_number kind
+same_kind kinds.Fall = refl
+same_kind kinds.Taken = refl
+same_kind kinds.Untaken = refl
+same_kind kinds.Call = refl
+same_kind kinds.Out = refl
+same_kind kinds.Land = refl
+same_kind kinds.Case = refl
+
+module _ (original : List ℕ) (plan : Plan) (file : List ℕ) (notes : Notes) (is : IsProfiled original plan file notes) where
+  abbrev graph : Graph
+  graph = original_graph original plan
+
+  abbrev text : Words
+  text = (image_of original).text
+
+  abbrev entry : ℕ
+  entry = (image_of original).entry
+
+  noted : AreNotesOf graph plan.snips notes
+  noted =
+      subst (λ (g : Graph). AreNotesOf g plan.snips notes) (sym (view_graph original plan is.dead notes))
+      (notes_of_graph original plan is.dead notes is.counters is.graph)
+
+  edges_noted : AreNoted graph notes.edges graph.edges
+  edges_noted = record {
+    count = edge_count graph plan.snips notes noted;
+    each = λ e l.
+        let same = edge_is graph plan.snips notes noted e l in
+        record {
+          kind = ap (λ (edge : NoteEdge). edge.kind) same ∙ same_kind (own_edge graph e).kind;
+          from = ap (λ (edge : NoteEdge). edge.from) same;
+          to = ap (λ (edge : NoteEdge). edge.to) same;
+        };
+  }
+
+  -- where each word leads
+  module _ (each : HasEach text (given_in (image_of original) plan.marks)) where
+    single : AreSingle graph.blocks
+    unfolding view_of entered_of
+    single = words_are_blocks text (given_in (image_of original) plan.marks) (image_text original is.sound) each
+
+    pub matches : Matches (view_of original plan.marks) notes
+    unfolding view_of
+    matches = record {
+      single = single;
+      start = is.graph.start;
+      words = is.graph.words;
+      entry = is.graph.entry;
+      blocks = is.graph.blocks;
+      edges = edges_noted;
+    }
+
+    -- ---- the visits of the original's run
+
+    module _ (args : List (List ℕ)) (input : List ℕ) (n : ℕ) where
+      abbrev s0 : State
+      s0 = start_of original args input
+
+      visited : AreVisited text graph entry s0 n
+      unfolding image_of view_of entered_of
+      visited =
+          visits_are_counted original args input (given_in (image_of original) plan.marks) n is.sound is.bytes each
+
+      told : (dump : Dump) (counts visits : List ℕ) → AreVisits (view_of original plan.marks) notes dump counts visits
+          → (word : ℕ) → word < length text.words
+          → slice_index visits word
+          ≡ finished graph entry (slice_index counts) word + begun_in text graph.blocks (range_at notes dump.pc) word
+      unfolding view_of
+      told dump counts visits are word l = are.each word l
+
+      -- by where the written file's run stands
+      module _ (pc : ℕ) (node : node_at notes pc ≡ Some (last_node text graph entry s0 n))
+          (address : (r : NoteRange) → range_at notes pc ≡ Some r → r.address ≡ (run s0 n).pc) where
+        -- outside the pages it stands at no block
+        behind : (in_page : Bool) → cond in_page None (Some (length notes.blocks)) ≡ Some (last_node text graph entry s0 n)
+            → last_node text graph entry s0 n ≡ length graph.blocks.firsts
+        behind true is = absurd cc
+        behind false is =
+            ap (λ o. unwrap_or o 0) (sym is) ∙ ap (λ (firsts : List ℕ). length firsts) is.graph.blocks
+
+        begun : (word : ℕ) (place : Option NoteRange) → range_at notes pc ≡ place
+            → begun_in text graph.blocks place word
+            ≡ one_if (is_begun text graph.blocks (run s0 n).pc (last_node text graph entry s0 n) word)
+        begun word None none =
+            let last = last_node text graph entry s0 n in
+            let at = behind (list_any (holds pc (pc + 1)) notes.segments)
+            (subst (λ (place : Option NoteRange). option_or (option_map (λ (range : NoteRange). range.node) place)
+            (cond (list_any (holds pc (pc + 1)) notes.segments) None (Some (length notes.blocks))) ≡ Some last) none node) in
+            ap one_if (sym (and_right ((run s0 n).pc == address_of text word) _
+            (and_left (nat_lt last (length graph.blocks.firsts)) _ (le-ltb last (length graph.blocks.firsts) (omega (arith, at))))))
+        begun word (Some r) is =
+            let last = last_node text graph entry s0 n in
+            let at : Some r.node ≡ Some last =
+            subst (λ (place : Option NoteRange). option_or (option_map (λ (range : NoteRange). range.node) place)
+            (cond (list_any (holds pc (pc + 1)) notes.segments) None (Some (length notes.blocks))) ≡ Some last) is node in
+            ap (λ k. one_if (is_begun text graph.blocks k r.node word)) (address r is)
+            ∙ ap (λ k. one_if (is_begun text graph.blocks (run s0 n).pc k word)) (ap (λ o. unwrap_or o 0) at)
+
+        pub visits_are : (dump : Dump) (counts visits : List ℕ) → dump.pc ≡ pc
+            → AreVisits (view_of original plan.marks) notes dump counts visits
+            → ((e : ℕ) → e < length notes.edges → slice_index counts e ≡ executions text graph entry s0 n e)
+            → (run s0 n).ending ≡ None → (word : ℕ) → word < length text.words
+            → slice_index visits word ≡ times (own_trail s0 (suc n)) (address_of text word)
+        visits_are dump counts visits at are exact lives word l =
+            let size = edge_count graph plan.snips notes noted in
+            told dump counts visits are word l
+            ∙ ap (λ k. k + begun_in text graph.blocks (range_at notes dump.pc) word)
+            (same_finished graph entry (slice_index counts) (executions text graph entry s0 n) word
+            (λ e inside. exact e (omega (arith, size, inside))))
+            ∙ ap (λ k. finished graph entry (executions text graph entry s0 n) word + k)
+            (ap (λ k. begun_in text graph.blocks (range_at notes k) word) at ∙ begun word (range_at notes pc) refl)
+            ∙ sym (visited lives word l)
+
+-- ---- so they are of each file and its dump
+
+pub in_file : (file : List ℕ) (notes : Notes) (dump : Dump) → notes_of file ≡ Ok notes
+    → (original : List ℕ) (args : List (List ℕ)) (input : List ℕ) (m : ℕ)
+    → IsOfRun original file notes dump args input m → original_in file notes ≡ original
+in_file file notes dump read original args input m made =
+    let faithful = made.profile.faithful in
+    subst (λ (n : Notes). original_in file n ≡ original) (one_notes file notes faithful.notes read faithful.whole.reads)
+    faithful.whole.holds
+
+pub has_every_word : (file : List ℕ) (notes : Notes) (dump : Dump) → notes_of file ≡ Ok notes
+    → (original : List ℕ) (args : List (List ℕ)) (input : List ℕ) (m : ℕ)
+    → (made : IsOfRun original file notes dump args input m) → made.marks ≡ every_word original
+    → HasEveryWord file notes
+has_every_word file notes dump read original args input m made marked =
+    let is = is_profiled made.marks made.weights original file notes made.profile made.bytes read in
+    let plan = plan_of notes.version made.marks made.profile.cells in
+    subst (λ (o : List ℕ). (fault o ≡ None) × Matches (every_view o) notes)
+    (sym (in_file file notes dump read original args input m made)) (
+      is.sound,
+      subst (λ (marks : List ℕ). Matches (view_of original marks) notes) marked
+          (matches original plan file notes is (leads_marked original made.marks marked)),
+    )
+
+pub exact_visits : (file : List ℕ) (notes : Notes) (dump : Dump) (counts visits : List ℕ) → notes_of file ≡ Ok notes
+    → AreCounts notes dump counts → AreVisits (every_view (original_in file notes)) notes dump counts visits
+    → AreExactVisits file notes dump visits
+exact_visits file notes dump counts visits read flow are = λ original args input m made marked.
+    let is = is_profiled made.marks made.weights original file notes made.profile made.bytes read in
+    let plan : Plan = plan_of notes.version made.marks made.profile.cells in
+    let t0 : State = start_of file args input in
+    let s0 : State = start_of original args input in
+    let v : ℕ = visits_by notes t0 m in
+    let stands = in_file file notes dump read original args input m made in
+    let own : AreVisits (view_of original made.marks) notes dump counts visits =
+    subst (λ (marks : List ℕ). AreVisits (view_of original marks) notes dump counts visits) (sym marked)
+    (subst (λ (o : List ℕ). AreVisits (every_view o) notes dump counts visits) stands are) in
+    let pc : dump.pc ≡ (run t0 m).pc = ap (λ (d : Dump). d.pc) made.is in
+    let at : node_at notes (run t0 m).pc ≡ Some flow.node =
+    subst (λ (k : ℕ). node_at notes k ≡ Some flow.node) pc flow.stands.at in
+    let placed : node_at notes (run t0 m).pc ≢ None = λ none. cc in
+    let stop : IsStop (edit_of original plan is.dead notes) (image_of original).entry s0 t0 m v =
+    (is.runs args input made.arguments made.given).stops m made.untouched in
+    let some : 0 < v = stop.some placed in
+    let tells = stop.tells placed in
+    record {
+      stands = stands;
+      len = visit_count original made.marks notes dump counts visits own;
+      each = λ word l.
+          visits_are original plan file notes is (leads_marked original made.marks marked) args input (v - 1) (run t0 m).pc
+          (subst (λ (graph : Graph). node_at notes (run t0 m).pc
+          ≡ Some (last_node (image_of original).text graph (image_of original).entry s0 (v - 1)))
+          (sym (view_graph original plan is.dead notes)) tells.node)
+          tells.address dump counts visits pc own (are_exact file notes dump counts read flow original args input m made)
+          (stop.lives placed) word l
+          ∙ ap (λ (k : ℕ). times (own_trail s0 k) (address_of (image_of original).text word)) (omega (arith, some));
+    }

@@ -1,0 +1,23 @@
+use Rattle.std.proofs.Common.{◌≡◌, List, ℕ, sym, subst}
+use Rattle.cfg_view.specs.View.{Seen}
+use Rattle.dump_file.specs.Dump.{dump_seen}
+use Rattle.notes.specs.Seen.{notes_seen}
+use Rattle.instr_counts.specs.Answers.{AreVisits}
+use Rattle.instr_counts.specs.Lines.{visit_lines}
+use Rattle.edit_core.proofs.Views.{view_image}
+use Rattle.eel.proofs.visiting.visit_lines.Goals as goal
+
+pub returns-in-Ok-told-clause-lines : goal.returns-in-Ok-told-clause-lines
+returns-in-Ok-told-clause-lines c =
+    let (visits, are, tell) = c.in-Ok-told.ensures in
+    record {
+      notes = notes_seen c.in-Ok.notes;
+      dump = dump_seen c.in-Ok-dump_in.state;
+      counts = c.in-Ok-rebuild.times.items;
+      visits = visits;
+      read = record { noted = c.in-Ok.ensures.notes; dumped = c.in-Ok-dump_in.ensures.dump };
+      every = c.in-Ok-every_word_in.ensures.every;
+      flow = c.in-Ok-rebuild.ensures.counts;
+      are = ?;
+      tell = ?;
+    }

@@ -1,0 +1,82 @@
+//! The command `edit` with counters where every word is marked.
+ghost use Rattle.std.specs.Prelude.{◌≡◌, ◌≤◌, ◌^◌, IfErr, IfOk, length, map};
+ghost use Rattle.std.specs.List.{range_with_len};
+ghost use Rattle.elf32_sparc.specs.FileFault.{fault};
+ghost use Rattle.elf32_sparc.specs.Image.{refusal};
+ghost use Rattle.cfg_blocks.specs.Marks.{numbers};
+ghost use Rattle.cfg_view.specs.View.{view_seen, IsView};
+ghost use Rattle.eel.specs.Outcome.{outcome_seen};
+ghost use Rattle.eel.specs.Answers.Shared.{store};
+ghost use Rattle.eel.specs.Answers.Profile.{CountersRefuse, IsMadeOf, Profiles, guessed_with};
+ghost use Rattle.eel.specs.Answers.Every.{every_view, every_word, word_numbered};
+
+use crate::edit::{EDIT_LIMIT, refusal};
+use crate::outcome::Outcome;
+use crate::profiling::profiled_with;
+use crate::texts::{fetch_file, put_file};
+use cfg_view::{View, look};
+use edit_core::EditFault;
+use eel_base::{Files, NoMemory, WordNo};
+use elf32_sparc::{ReadFault, read_image};
+use std::alloc::Global;
+
+/// Reads `input`, edits it with counters on the edges off a spanning tree where each word is a block by itself, and writes
+/// `output`.
+pub fn edit_every_word<'a, F: Files>(
+    alloc: Global,
+    files: &mut F,
+    input: &'a str,
+    output: &str,
+) -> Outcome<'a>
+    ensures profiles { Profiles every_word input.now output.now (store (F.held files.old) (F.faults files.old))
+        (store (F.held files.new) (F.faults files.new)) (outcome_seen result) }
+    ensures later { F.faults files.old ≤ F.faults files.new }
+{
+    let bytes = match fetch_file(alloc, files, input, EDIT_LIMIT) {
+        Ok(bytes) => bytes,
+        Err(outcome) => return outcome,
+    };
+    match marked(alloc, &bytes) {
+        Ok(written) => put_file(files, output, &written),
+        Err(fault) => refusal(input, fault),
+    }
+}
+
+/// The edit of a file with counters where every word is marked.
+fn marked(alloc: Global, bytes: &[u8]) -> Result<Vec<u8>, EditFault>
+    requires { length bytes.now ≤ 2 ^ 26 }
+    ensures profile { IfOk result (λ file. IsMadeOf every_word bytes.now file.items) }
+    ensures refused { let marks = every_word bytes.now in
+        IfErr result (CountersRefuse marks (guessed_with bytes.now marks) bytes.now) }
+{
+    let marks = every_word(alloc, bytes)?;
+    profiled_with(alloc, bytes, marks)
+}
+
+/// The view of a file with every word of its text marked.
+pub fn look_at_words(alloc: Global, bytes: &[u8]) -> Result<View, ReadFault>
+    ensures fault { refusal result ≡ fault bytes.now }
+    ensures view { IfOk result (λ view. view_seen view ≡ every_view bytes.now) }
+    ensures whole { IfOk result IsView }
+{
+    let marks = every_word(alloc, bytes)?;
+    look(alloc, bytes, &marks)
+}
+
+/// All words of a file's text.
+fn every_word(alloc: Global, bytes: &[u8]) -> Result<Vec<WordNo>, ReadFault>
+    ensures fault { refusal result ≡ fault bytes.now }
+    ensures words { IfOk result (λ words. numbers words.items ≡ every_word bytes.now) }
+{
+    let image = read_image(alloc, bytes)?;
+    let words = words_below(alloc, image.text().len())?;
+    Ok(words)
+}
+
+/// The first words, so many of them.
+fn words_below(alloc: Global, count: u32) -> Result<Vec<WordNo>, NoMemory>
+    ensures { IfOk result (λ words. words.items ≡ map word_numbered (range_with_len 0 count)) }
+{
+    let words = (0..count).map(|word| WordNo(word)).collect(alloc)?;
+    Ok(words)
+}
