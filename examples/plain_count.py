@@ -13,6 +13,7 @@ With --programs, runs the small programs of programs.py instead, and prints thos
 """
 import struct
 import sys
+from collections import deque
 
 from listing import Graph, Program, home
 from programs import SMALL
@@ -404,12 +405,13 @@ class Machine:
 
 
 class Counts:
-    """How often the edges of a program's graph are completed, and the node at which its walk stands."""
+    """How often the edges of a program's graph are completed, which were the last, and the node at which its walk stands."""
 
     def __init__(self, file):
         self.program = Program(file)
         self.graph = Graph(self.program)
         self.counts = [0] * len(self.graph.edges)
+        self.last = deque(maxlen=2**16)
         # a node has one edge of a kind, but one for each target of landings and of a switch's jump
         self.numbers = {self.way(edge.kind, edge.source, edge.target): number
                         for number, edge in enumerate(self.graph.edges)}
@@ -424,6 +426,7 @@ class Counts:
         """Control leaves the walk's node by the edge of a kind, and of a target where the node has more of them."""
         number = self.numbers[self.way(kind, self.node, target)]
         self.counts[number] += 1
+        self.last.append(number)
         self.node = self.graph.edges[number].target
 
     def stepped(self, pc, before, after, next_pc):
@@ -463,6 +466,13 @@ class Counts:
         lines.append(f'edges {len(self.counts)} counted {off_tree} executions {sum(self.counts)}')
         return '\n'.join(lines) + '\n'
 
+    def last_lines(self, bits):
+        """The last edges, of which a ring of so many bits has room for 2 ** bits."""
+        last, node, edges = list(self.last)[-2**bits:], self.graph.node_text, self.graph.edges
+        lines = [f'edge {number} {edges[number].kind} {node(edges[number].source)} {node(edges[number].target)}'
+                 for number in last]
+        return '\n'.join([*lines, f'edges {len(last)} ring {2**bits}']) + '\n'
+
 
 def walk(file, args, given, limit):
     """What a run completes of the edges, its ending, and its steps."""
@@ -486,6 +496,11 @@ def count(file, args=(), given=b'', limit=100_000_000):
 def edge_counts(file, args=(), given=b'', limit=100_000_000):
     """How often a run completes each edge."""
     return walk(file, args, given, limit)[0].counts
+
+
+def last_edges(file, bits, args=(), given=b'', limit=100_000_000):
+    """The lines of the last edges that a run completes."""
+    return walk(file, args, given, limit)[0].last_lines(bits)
 
 
 def print_differing():

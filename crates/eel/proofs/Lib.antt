@@ -7,6 +7,7 @@ pub mod Editing
 pub mod ExactProfiles
 pub mod Few
 pub mod Missed
+pub mod LastOfWalk
 pub mod Later
 pub mod Lines
 pub mod Made
@@ -21,4 +22,8 @@ pub mod Assembling
 pub mod WeighedEdits
 pub mod Tame
 pub mod Telling
+pub mod TellingEdges
+pub mod ToldEdges
 pub mod Tools
+pub mod TraceEdits
+pub mod Traced

@@ -14,6 +14,8 @@ pub mod List
 pub mod Words
 pub mod Restore
 pub mod Counts
+pub mod Trace
+pub mod LastEdges
 pub mod Demo
 use Rattle.std.specs.Prelude.{◌≡◌, ℕ, ◌≤◌, ◌⊎◌, Some, None}
 use Rattle.eel_base.specs.Outside.{Rose}
@@ -32,6 +34,8 @@ use Rattle.eel.specs.Answers.Restore.{restore_means}
 use Rattle.eel.specs.Answers.Profile.{profile_means}
 use Rattle.eel.specs.Answers.Weighed.{weighed_means}
 use Rattle.eel.specs.Answers.Counts.{counts_means}
+use Rattle.eel.specs.Answers.Trace.{trace_edit_means}
+use Rattle.eel.specs.Answers.LastEdges.{trace_means}
 use Rattle.eel.specs.Answers.Demo.{demo_means}
 
 -- words outside the grammar
@@ -55,7 +59,9 @@ meaning_of (words.PutWords listing output) = words_means listing output
 meaning_of (words.Restore written output) = restore_means written output
 meaning_of (words.EditProfile input output) = profile_means input output
 meaning_of (words.EditWeighed input output weights) = weighed_means input output weights
+meaning_of (words.EditTrace input output bits) = trace_edit_means input output bits
 meaning_of (words.Counts written dump) = counts_means written dump
+meaning_of (words.Trace written dump) = trace_means written dump
 meaning_of (words.Demo number routines) = demo_means number routines
 meaning_of words.Unknown = unknown_means
 

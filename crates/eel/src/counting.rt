@@ -21,7 +21,7 @@ use show_text::counts;
 use std::alloc::Global;
 
 /// How many bytes a dump may have.
-const DUMP_LIMIT: u64 = 64 << 20;
+pub const DUMP_LIMIT: u64 = 64 << 20;
 
 /// Reads the file `written` and the dump `dump` of a run of it, and prints how often each edge was completed.
 pub fn count_edges<'a, F: Files, O: Sink>(
@@ -85,7 +85,7 @@ fn count_lines<'a>(
 }
 
 /// The notes of the file `name`.
-fn notes_in<'a>(alloc: Global, name: &'a str, file: &[u8]) -> Result<Notes, Outcome<'a>>
+pub fn notes_in<'a>(alloc: Global, name: &'a str, file: &[u8]) -> Result<Notes, Outcome<'a>>
     ensures notes { IfOk result (λ notes. notes_of file.now ≡ Ok (notes_seen notes)) }
     ensures rules { IfOk result (λ notes. AreNotes (notes_seen notes)) }
     ensures refused { IfErr result (λ outcome. IsUnnoted name.now file.now (outcome_seen outcome)) }
@@ -99,7 +99,7 @@ fn notes_in<'a>(alloc: Global, name: &'a str, file: &[u8]) -> Result<Notes, Outc
 }
 
 /// The dump that the file `name` is.
-fn dump_in<'a>(alloc: Global, name: &'a str, bytes: &[u8]) -> Result<Dump, Outcome<'a>>
+pub fn dump_in<'a>(alloc: Global, name: &'a str, bytes: &[u8]) -> Result<Dump, Outcome<'a>>
     ensures dump { IfOk result (λ dump. read_dump bytes.now ≡ Ok (dump_seen dump)) }
     ensures few { IfOk result (λ dump. length dump.cells.items < 2 ^ 32) }
     ensures refused { IfErr result (λ outcome. IsUndumped name.now bytes.now (outcome_seen outcome)) }

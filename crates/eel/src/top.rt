@@ -17,6 +17,8 @@ use crate::outcome::{Outcome, show};
 use crate::profiling::edit_for_counts;
 use crate::restore::restore_original;
 use crate::run::{Job, run_program};
+use crate::trace::trace_edges;
+use crate::tracing::edit_for_trace;
 use crate::weighing::edit_by_weights;
 use eel_base::{Files, Sink, Source};
 use std::alloc::Global;
@@ -129,7 +131,13 @@ fn perform<'a, F: Files, I: Source, O: Sink, E: Sink>(
             output,
             weights,
         } => edit_by_weights(alloc, files, input, output, weights),
+        Command::EditTrace {
+            input,
+            output,
+            bits,
+        } => edit_for_trace(alloc, files, input, output, bits),
         Command::Counts { written, dump } => count_edges(alloc, files, written, dump, out),
+        Command::Trace { written, dump } => trace_edges(alloc, files, written, dump, out),
         Command::Demo { number, routines } => demonstrate(alloc, number, routines, out),
         Command::Unknown => Outcome::BadWords,
     }

@@ -60,3 +60,9 @@ returns-in-NoProfile-clause-all g c = rw c.in-NoProfile.is (simp append_assoc (r
 
 pub returns-in-NoProfile-clause-part : goal.returns-in-NoProfile-clause-part
 returns-in-NoProfile-clause-part g c = rw c.in-NoProfile.is (simp append_assoc (rw (c.as_bytes-in-NoProfile.ensures.value) at c.put_pieces-in-NoProfile.ensures.part))
+
+pub returns-in-NoTrace-clause-all : goal.returns-in-NoTrace-clause-all
+returns-in-NoTrace-clause-all g c = rw c.in-NoTrace.is (simp append_assoc (rw (c.as_bytes-in-NoTrace.ensures.value) at c.put_pieces-in-NoTrace.ensures.all))
+
+pub returns-in-NoTrace-clause-part : goal.returns-in-NoTrace-clause-part
+returns-in-NoTrace-clause-part g c = rw c.in-NoTrace.is (simp append_assoc (rw (c.as_bytes-in-NoTrace.ensures.value) at c.put_pieces-in-NoTrace.ensures.part))
