@@ -407,7 +407,7 @@ class Machine:
 
 
 class Counts:
-    """How often the edges of a program's graph are completed, and the node at which its walk stands."""
+    """How often the edges of a program's graph are completed, which were the last, and the node at which its walk stands."""
 
     def __init__(self, file):
         self.program = Program(file)
@@ -527,6 +527,11 @@ def count(file, args=(), given=b'', limit=100_000_000):
 def edge_counts(file, args=(), given=b'', limit=100_000_000):
     """How often a run completes each edge."""
     return walk(file, args, given, limit)[0].counts
+
+
+def last_edges(file, bits, args=(), given=b'', limit=100_000_000):
+    """The lines of the last edges that a run completes."""
+    return walk(file, args, given, limit)[0].last_lines(bits)
 
 
 def print_differing():

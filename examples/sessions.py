@@ -14,6 +14,7 @@ from written import written
 BAD_WORDS = b'eel: bad words\n'
 DEVICE_FAULT = b'eel: device fault\n'
 CRAMPED_PROFILE = b'eel: cramped: room 1050632 needed, 0 had\n'
+CRAMPED_TRACE = b'eel: cramped: room 1312772 needed, 0 had\n'
 
 # Prints five bytes of its first argument, and exits with the number of arguments, its name among them.
 ARGUMENT = Program('prints_its_argument',
@@ -565,6 +566,93 @@ def narrow():
     yield eel('counts carry_loop.narrow wide', 65, err=b'eel: wide: dump version 2, notes version 1\n')
 
 
+# ---- the last edges
+
+# Of some programs so many bits: more edges than places, as many, and fewer.
+TRACED = {'carry_loop': [1, 3, 16], 'three_words': [1], 'inner_landings': [2], 'switch_of_four': [5], 'call_and_return': [3],
+    'newline_count': [6], 'calculator': [5], 'queens': [4], ARGUMENT.name: [1]}
+
+# Dumps of carry_loop with a ring of four places, by its cells: the first holds no place of an edge, one holds an edge too
+# many, and others have the size of a ring that isn't there.
+CARRY_LENGTH = len(CARRY_LOOP.file())
+RING_DUMPS = {'ring_of_none': dump(CARRY_LENGTH, 0, 1, [4294967295, 0, 0, 0, 0]),
+    'ring_of_one': dump(CARRY_LENGTH, 0, 1, [4294967295, 0, 0, 0, 9]),
+    'ring_of_edge_9': dump(CARRY_LENGTH, 0, 1, [2, 9, 10, 0, 99]),
+    'ring_of_two': dump(CARRY_LENGTH, 0, 1, [0, 10, 10]),
+    'ring_of_another': dump(CARRY_LENGTH + 1, 0, 1, [0, 10, 10]),
+    'narrow_ring': narrow_dump(0xfffff000, 1, [0, 10, 10]),
+    'ring_in_no_place': dump(CARRY_LENGTH, 0xfffff000, 1, [6, 99, 99, 99, 99])}
+
+LAST_OF_CARRY_LOOP = (b'edge 1 taken 00010058 00010058\n' * 3 + b'edge 2 untaken 00010058 00010068\nedges 4 ring 4\n')
+
+
+def traced():
+    """Rings of edges: the last edges are those of a plain walk, and files, dumps and words that have none."""
+    yield 'hold carry_loop', b''
+    yield 'hold carry_loop.ring', b''
+    yield eel('edit carry_loop traced trace 2', 0)
+    yield eel('restore traced restored', 0)
+    yield 'same restored carry_loop', b''
+    yield eel('run traced -d dump', 0, *ran(CARRY_LOOP))
+    yield 'cells dump carry_loop.ring', b''
+    yield eel('trace traced dump', 0, LAST_OF_CARRY_LOOP)
+    yield 'patch dump bad 44 00000063', b''
+    yield eel('trace traced bad', 65, err=b'eel: bad: cell 2 has 99\n')
+    yield eel('run traced -n 0 -d dump', 0, err=b'stopped 0\n')
+    yield eel('trace traced dump', 0, b'edges 0 ring 4\n')
+    for name in RING_DUMPS:
+        yield f'hold {name}', b''
+    yield eel('trace traced ring_of_none', 0, b'edges 0 ring 4\n')
+    yield eel('trace traced ring_of_one', 0, b'edge 8 land x 00010068\nedges 1 ring 4\n')
+    yield eel('trace traced ring_of_edge_9', 65, err=b'eel: ring_of_edge_9: cell 2 has 10\n')
+    yield eel('trace traced ring_in_no_place', 65, err=b'eel: ring_in_no_place: pc fffff000 between places\n')
+    yield eel('trace traced ring_of_two', 65, err=b'eel: ring_of_two: 3 cells, 5 wanted\n')
+    yield eel('trace traced ring_of_another', 65,
+        err=f'eel: ring_of_another: made for {CARRY_LENGTH + 1} bytes, {CARRY_LENGTH} wanted\n'.encode())
+    yield eel('trace traced narrow_ring', 65, err=b'eel: narrow_ring: dump version 1, notes version 2\n')
+    yield eel('counts traced narrow_ring', 65, err=b'eel: traced: no profile\n')
+    yield eel('trace traced missing', 74, err=DEVICE_FAULT)
+    yield eel('trace missing dump', 74, err=DEVICE_FAULT)
+    yield eel('trace carry_loop dump', 65, err=b'eel: carry_loop: no notes\n')
+    yield eel('trace traced carry_loop', 65, err=b'eel: carry_loop: bad dump at 0\n')
+    # none but a trace has last edges, whatever its dump is
+    yield 'hold carry_loop.narrow', b''
+    yield eel('trace carry_loop.narrow dump', 65, err=b'eel: carry_loop.narrow: no trace\n')
+    yield eel('edit carry_loop profiled profile', 0)
+    yield eel('trace profiled narrow_ring', 65, err=b'eel: profiled: no trace\n')
+    yield eel('edit carry_loop plain plain', 0)
+    yield eel('trace plain narrow_ring', 65, err=b'eel: plain: no trace\n')
+    # nor one with cells that are no ring: the notes have how many there are at 28
+    yield 'noted traced odd 28 00000004', b''
+    yield eel('trace odd narrow_ring', 65, err=b'eel: odd: no trace\n')
+    yield 'hold three_words', b''
+    yield 'hold three_words.ring', b''
+    yield eel('edit three_words traced trace 2', 0)
+    yield eel('run traced -d dump', 0, *ran(THREE_WORDS))
+    yield 'cells dump three_words.ring', b''
+    yield eel('trace traced dump', 0, b'edges 0 ring 4\n')
+    for name, rings in TRACED.items():
+        program = EDITED[name]
+        arguments = ARGUMENTS.get(name, '')
+        yield f'hold {name}', b''
+        if program.given:
+            yield f'input {name}.input', b''
+        for bits in rings:
+            lines = plain_count.last_edges(program_file(name), bits, [word.encode() for word in arguments.split()[1:]], program.given)
+            yield eel(f'edit {name} traced trace {bits}', 0)
+            yield eel(f'run traced -d dump{arguments}', 0, *ran(program))
+            yield eel('trace traced dump', 0, lines.encode())
+    for line in ['edit a b trace', 'edit a b trace 0', 'edit a b trace 17', 'edit a b trace 02', 'edit a b trace +2',
+            'edit a b trace 2 ', 'edit a b trace 100', 'edit a b trace 2 2', 'edit a b traces 2', 'edit a b trace -1', 'trace',
+            'trace a', 'trace a b c']:
+        yield eel(line, 64, err=BAD_WORDS)
+    yield eel('edit missing traced trace 16', 74, err=DEVICE_FAULT)
+    yield eel('edit missing traced trace 1', 74, err=DEVICE_FAULT)
+    yield eel('edit dump traced trace 2', 65, err=b'eel: dump: file fault 2\n')
+    yield 'hold cramped', b''
+    yield eel('edit cramped traced trace 16', 69, err=CRAMPED_TRACE)
+
+
 def told(number, count, executions):
     """What `demo` prints."""
     program = made(number, count)
@@ -594,7 +682,7 @@ def demo():
 
 SESSIONS = {'edits': list(edits()), 'scripts': list(scripts()), 'words': list(words()), 'restores': list(restores()),
     'refusals': list(refusals()), 'profiles': list(profiles()), 'uncounted': list(uncounted()), 'narrow': list(narrow()),
-    'demo': list(demo()), 'listed': list(listed()), 'weighed': list(weighed()),
+    'traced': list(traced()), 'demo': list(demo()), 'listed': list(listed()), 'weighed': list(weighed()),
     'faulty': list(tables.faulty()), 'noted': list(tables.noted()), 'dumped': list(tables.dumped()),
     'devices': list(tables.devices()), 'long': list(tables.long())}
 
@@ -632,7 +720,9 @@ def files():
     for number, (lines, _) in enumerate(bad_rows()):
         yield f'rows.bad{number}', lines.encode()
     yield 'carry_loop.words', CARRY_LOOP.file()[84:104]
-    yield from {**DUMPS, **NARROW_DUMPS}.items()
+    yield 'carry_loop.ring', words_of([6, 2, 3, 2, 2])
+    yield 'three_words.ring', words_of([0] * 5)
+    yield from {**DUMPS, **NARROW_DUMPS, **RING_DUMPS}.items()
     for name, lines in SESSIONS.items():
         yield name, ''.join(f'{line}\n' for line, _ in lines).encode()
 

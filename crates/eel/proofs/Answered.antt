@@ -1,6 +1,6 @@
 -- What there is after a call, by its status.
 use Rattle.std.proofs.Common.{◌≡◌, ℕ, ◌⊎◌, inl, inr, Some, None, ap, sym, subst, arith}
-use Rattle.eel.specs.Command.{Command, EditPlain, EditScript, EditEvery, Run, Show, Restore, EditProfile, Counts, Visits, Demo, EditWeighed, ListWords, PutWords, Unknown}
+use Rattle.eel.specs.Command.{Command, EditPlain, EditScript, EditEvery, Run, Show, Restore, EditProfile, Counts, Visits, Demo, EditWeighed, ListWords, PutWords, Unknown, EditTrace, Trace}
 use Rattle.eel.specs.Outcome.{Shows, shown, failed, status_of}
 use Rattle.eel.specs.Answers.{Ran, IsDone, IsUnrefused, IsRefusal, IsUnchanged, HasFailed, WasWanting, meaning_of, unknown_means}
 use Rattle.eel.specs.Answers.Shared.{Outside, with_err}
@@ -21,6 +21,8 @@ use Rattle.eel.proofs.Restoring.{restore_by_status}
 use Rattle.eel.proofs.ProfileEdits.{profile_by_status}
 use Rattle.eel.proofs.Counted.{counts_by_status}
 use Rattle.eel.proofs.Visited.{visits_by_status}
+use Rattle.eel.proofs.TraceEdits.{trace_edit_by_status}
+use Rattle.eel.proofs.TellingEdges.{trace_by_status}
 use Rattle.eel.proofs.Telling.{demo_by_status, status_told}
 
 unknown_by_status : IsByStatus unknown_means
@@ -48,6 +50,8 @@ by_status (EditProfile input output) = profile_by_status no_words input output
 by_status (EditEvery input output) = profile_by_status every_word input output
 by_status (Counts written dump) = counts_by_status written dump
 by_status (Visits written dump) = visits_by_status written dump
+by_status (EditTrace input output bits) = trace_edit_by_status input output bits
+by_status (Trace written dump) = trace_by_status written dump
 by_status (Demo number routines) = demo_by_status number routines
 by_status Unknown = unknown_by_status
 
@@ -90,6 +94,8 @@ unrefused_shown (EditProfile input output) old new status r = tt
 unrefused_shown (EditEvery input output) old new status r = tt
 unrefused_shown (Counts written dump) old new status r = tt
 unrefused_shown (Visits written dump) old new status r = tt
+unrefused_shown (EditTrace input output bits) old new status r = tt
+unrefused_shown (Trace written dump) old new status r = tt
 unrefused_shown Unknown old new status r = tt
 
 pub wanting_shown : (command : Command) (old new : Outside) (status : ℕ) → Ran command old new status

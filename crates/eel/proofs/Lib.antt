@@ -10,6 +10,7 @@ pub mod Few
 pub mod Missed
 pub mod NotEvery
 pub mod Visited
+pub mod LastOfWalk
 pub mod Later
 pub mod Lines
 pub mod Made
@@ -24,4 +25,8 @@ pub mod Assembling
 pub mod WeighedEdits
 pub mod Tame
 pub mod Telling
+pub mod TellingEdges
+pub mod ToldEdges
 pub mod Tools
+pub mod TraceEdits
+pub mod Traced

@@ -16,6 +16,8 @@ pub mod Words
 pub mod Restore
 pub mod Counts
 pub mod Visits
+pub mod Trace
+pub mod LastEdges
 pub mod Demo
 use Rattle.std.specs.Prelude.{◌≡◌, ℕ, ◌≤◌, ◌⊎◌, Some, None}
 use Rattle.eel_base.specs.Outside.{Rose}
@@ -36,6 +38,8 @@ use Rattle.eel.specs.Answers.Every.{every_means}
 use Rattle.eel.specs.Answers.Weighed.{weighed_means}
 use Rattle.eel.specs.Answers.Counts.{counts_means}
 use Rattle.eel.specs.Answers.Visits.{visits_means}
+use Rattle.eel.specs.Answers.Trace.{trace_edit_means}
+use Rattle.eel.specs.Answers.LastEdges.{trace_means}
 use Rattle.eel.specs.Answers.Demo.{demo_means}
 
 -- words outside the grammar
@@ -60,8 +64,10 @@ meaning_of (words.Restore written output) = restore_means written output
 meaning_of (words.EditProfile input output) = profile_means no_words input output
 meaning_of (words.EditEvery input output) = every_means input output
 meaning_of (words.EditWeighed input output weights) = weighed_means input output weights
+meaning_of (words.EditTrace input output bits) = trace_edit_means input output bits
 meaning_of (words.Counts written dump) = counts_means written dump
 meaning_of (words.Visits written dump) = visits_means written dump
+meaning_of (words.Trace written dump) = trace_means written dump
 meaning_of (words.Demo number routines) = demo_means number routines
 meaning_of words.Unknown = unknown_means
 

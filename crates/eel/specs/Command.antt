@@ -1,7 +1,7 @@
 -- The grammar of the program's words.
-use Rattle.std.specs.Prelude.{ℕ, ◌+◌, ◌-◌, ◌*◌, ◌^◌, ◌≤◌, ◌&&◌, nat_le, nat_lt, Bool, if◌then◌else◌, List, [], ◌∷◌, length, codes, Option, Some, None}
+use Rattle.std.specs.Prelude.{ℕ, ◌+◌, ◌-◌, ◌*◌, ◌^◌, ◌≤◌, ◌&&◌, nat_le, nat_lt, Bool, if◌then◌else◌, List, [], ◌∷◌, length, codes, decimal, Option, Some, None}
 use Rattle.std.specs.Borrow.{Bor}
-use Rattle.std.specs.List.{fold, list_all}
+use Rattle.std.specs.List.{find, fold, list_all, range_with_len}
 use Rattle.std.specs.Str.{bytes_eq}
 pub use Rattle.v8_process.specs.Arguments.{texts}
 use Rattle.v8_process.specs.Arguments.{AreArguments}
@@ -20,6 +20,8 @@ pub data Command : Type 0 where
   EditWeighed : (input output weights : List ℕ) → Command
   -- edit INPUT OUTPUT every
   EditEvery : (input output : List ℕ) → Command
+  -- edit INPUT OUTPUT trace BITS
+  EditTrace : (input output : List ℕ) (bits : ℕ) → Command
   -- run FILE [-n LIMIT] [-d DUMP] [-- ARG..], the two options in either order
   Run : (file : List ℕ) (limit : ℕ) (dump : Option (List ℕ)) (args : List (List ℕ)) → Command
   -- show FILE
@@ -34,6 +36,8 @@ pub data Command : Type 0 where
   Counts : (written dump : List ℕ) → Command
   -- visits WRITTEN DUMP
   Visits : (written dump : List ℕ) → Command
+  -- trace WRITTEN DUMP
+  Trace : (written dump : List ℕ) → Command
   -- demo NUMBER ROUTINES
   Demo : (number routines : ℕ) → Command
   -- words outside the grammar
@@ -48,11 +52,20 @@ tool_of input output tool =
     if bytes_eq tool (codes "profile") then EditProfile input output else
     if bytes_eq tool (codes "every") then EditEvery input output else Unknown
 
--- a tool that takes one
+-- how many bits a ring has: a number from 1 to 16
+unfoldable pub bits_of : List ℕ → Option ℕ
+bits_of text = find (λ bits. bytes_eq text (decimal bits)) (range_with_len 1 16)
+
+abbrev pub trace_with : List ℕ → List ℕ → Option ℕ → Command
+trace_with input output None = Unknown
+trace_with input output (Some bits) = EditTrace input output bits
+
+-- a tool that takes a file, or a number
 abbrev pub tool_with : List ℕ → List ℕ → List ℕ → List ℕ → Command
 tool_with input output tool file =
     if bytes_eq tool (codes "script") then EditScript input output file else
-    if bytes_eq tool (codes "profile") then EditWeighed input output file else Unknown
+    if bytes_eq tool (codes "profile") then EditWeighed input output file else
+    if bytes_eq tool (codes "trace") then trace_with input output (bits_of file) else Unknown
 
 abbrev pub edit_of : List (List ℕ) → Command
 edit_of (input ∷ output ∷ tool ∷ []) = tool_of input output tool
@@ -162,6 +175,12 @@ abbrev pub visits_of : List (List ℕ) → Command
 visits_of (written ∷ dump ∷ []) = Visits written dump
 visits_of _ = Unknown
 
+-- ---- trace
+
+abbrev pub trace_of : List (List ℕ) → Command
+trace_of (written ∷ dump ∷ []) = Trace written dump
+trace_of _ = Unknown
+
 -- ---- demo
 
 -- a number: one to ten digits, with a value below 2^32
@@ -193,12 +212,15 @@ command_of (verb ∷ words) =
     if bytes_eq verb (codes "restore") then restore_of words else
     if bytes_eq verb (codes "counts") then counts_of words else
     if bytes_eq verb (codes "visits") then visits_of words else
+    if bytes_eq verb (codes "trace") then trace_of words else
     if bytes_eq verb (codes "demo") then demo_of words else Unknown
 
--- the arguments of a run are ones that a program can be given, and as many routines are asked for as can be made
+-- the arguments of a run are ones that a program can be given, as many routines are asked for as can be made, and a ring has
+-- 1 to 16 bits
 abbrev pub KeepsLimits : Command → Type 0
 KeepsLimits (Run file limit dump args) = AreArguments args
 KeepsLimits (Demo number routines) = (1 ≤ routines) × (routines ≤ 100000)
+KeepsLimits (EditTrace input output bits) = (1 ≤ bits) × (bits ≤ 16)
 KeepsLimits _ = Unit {0}
 
 -- a name, if there is one
@@ -220,5 +242,7 @@ command_seen (variants.ListWords file) = ListWords file.now
 command_seen (variants.PutWords listing output) = PutWords listing.now output.now
 command_seen (variants.Counts written dump) = Counts written.now dump.now
 command_seen (variants.Visits written dump) = Visits written.now dump.now
+command_seen (variants.EditTrace input output bits) = EditTrace input.now output.now bits
+command_seen (variants.Trace written dump) = Trace written.now dump.now
 command_seen (variants.Demo number routines) = Demo number routines
 command_seen variants.Unknown = Unknown

@@ -39,8 +39,12 @@ pub data Outcome : Type 0 where
   NoProfile : (name : List ℕ) → Outcome
   -- the notes of the file are not those of its original with every word marked
   NotEveryWord : (name : List ℕ) → Outcome
-  -- no counts can be rebuilt of the dump
+  -- the notes of the file are not those of a trace
+  NoTrace : (name : List ℕ) → Outcome
+  -- nothing can be told of the dump
   NoCounts : (name : List ℕ) (cause : CountCause) → Outcome
+  -- this cell of the dump holds what stands for no edge
+  BadCell : (name : List ℕ) (cell value : ℕ) → Outcome
   OutOfMemory : Outcome
   DeviceFault : Outcome
 
@@ -56,6 +60,8 @@ status_of (BadDump name at) = 65
 status_of (NoProfile name) = 65
 status_of (NotEveryWord name) = 65
 status_of (NoCounts name cause) = 65
+status_of (NoTrace name) = 65
+status_of (BadCell name cell value) = 65
 status_of (TooLong name limit) = 66
 status_of (NoRoom name needed had) = 69
 status_of OutOfMemory = 70
@@ -83,7 +89,7 @@ cause_text causes.Cell = codes "cell"
 cause_text causes.Operations = codes "operations"
 cause_text causes.Total = codes "total"
 
--- why a dump has no counts
+-- why nothing can be told of a dump
 abbrev pub count_cause_text : CountCause → List ℕ
 count_cause_text (count_causes.Version of wanted) =
     codes "dump version " ++ decimal of ++ codes ", notes version " ++ decimal wanted
@@ -115,6 +121,8 @@ line_of (BadDump name at) = line_about name (codes "bad dump at " ++ decimal at)
 line_of (NoProfile name) = line_about name (codes "no profile")
 line_of (NotEveryWord name) = line_about name (codes "not every word")
 line_of (NoCounts name cause) = line_about name (count_cause_text cause)
+line_of (NoTrace name) = line_about name (codes "no trace")
+line_of (BadCell name cell value) = line_about name (codes "cell " ++ decimal cell ++ codes " has " ++ decimal value)
 line_of OutOfMemory = line (codes "out of memory")
 line_of DeviceFault = line (codes "device fault")
 
@@ -152,5 +160,7 @@ outcome_seen (variants.BadDump name at) = BadDump name.now at
 outcome_seen (variants.NoProfile name) = NoProfile name.now
 outcome_seen (variants.NotEveryWord name) = NotEveryWord name.now
 outcome_seen (variants.NoCounts name cause) = NoCounts name.now cause
+outcome_seen (variants.NoTrace name) = NoTrace name.now
+outcome_seen (variants.BadCell name cell value) = BadCell name.now cell value
 outcome_seen variants.OutOfMemory = OutOfMemory
 outcome_seen variants.DeviceFault = DeviceFault

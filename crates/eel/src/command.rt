@@ -1,11 +1,14 @@
 //! The words of the program.
-ghost use Rattle.std.specs.Prelude.{◌≡◌, ◌+◌, length, nat_le};
+ghost use Rattle.std.specs.Prelude.{◌≡◌, ◌≤◌, ◌+◌, length, nat_le, decimal, IfSome};
 ghost use Rattle.std.specs.Bool.{OnTrue};
 ghost use Rattle.std.specs.List.{All, list_all};
+ghost use Rattle.std.specs.Str.{bytes_eq};
 ghost use Rattle.v8_step.specs.Valid.{AreBytes};
 ghost use Rattle.v8_process.specs.Arguments.{AreArguments};
 ghost use Rattle.v8_process.specs.Start.{strings};
-ghost use Rattle.eel.specs.Command.{KeepsLimits, command_of, command_seen, edit_of, list_of, tool_of, tool_with, words_of, run_of, options_of, after_limit, after_dump, limited, arguments_of, are_few, is_digit, limit_of, number_of, name_seen, restore_of, counts_of, demo_of, demo_with as demo_with_of, show_of, texts, unlimited, visits_of};
+ghost use Rattle.eel.specs.Command.{KeepsLimits, command_of, command_seen, edit_of, list_of, tool_of, tool_with, words_of, run_of, options_of, after_limit, after_dump, limited, arguments_of, are_few, is_digit, limit_of, number_of, name_seen, restore_of, counts_of, demo_of, demo_with as demo_with_of, show_of, texts, unlimited, visits_of, bits_of, trace_of, trace_with};
+
+use itoa::Buffer;
 
 /// What the words ask for.
 #[derive(Clone, Copy)]
@@ -37,6 +40,12 @@ pub enum Command<'a> {
     EditEvery {
         input: &'a str,
         output: &'a str,
+    },
+    /// `edit INPUT OUTPUT trace BITS`: write it with a ring of 2^BITS places that keeps the last edges.
+    EditTrace {
+        input: &'a str,
+        output: &'a str,
+        bits: u32,
     },
     /// `run FILE [-n LIMIT] [-d DUMP] [-- ARG..]`: run the program `file` with these arguments, for `limit` steps at
     /// most, and write what it has come to as the file `dump`, where one is named.
@@ -76,6 +85,12 @@ pub enum Command<'a> {
         written: &'a str,
         dump: &'a str,
     },
+    /// `trace WRITTEN DUMP`: print the last edges that the run of the file `written` went along that came to the dump
+    /// `dump`.
+    Trace {
+        written: &'a str,
+        dump: &'a str,
+    },
     /// `demo NUMBER ROUTINES`: make a program of so many routines from the number, edit it with counters, run both, and
     /// print what is told of them.
     Demo {
@@ -104,6 +119,9 @@ const MOST_NUMBER_DIGITS: usize = 10;
 /// How many routines a program that is made has at most.
 const MOST_ROUTINES: u32 = 100_000;
 
+/// How many bits a ring has at most.
+const MOST_BITS: u32 = 16;
+
 /// The command that the words are.
 pub fn parse<'a>(words: &'a [&'a str]) -> Command<'a>
     ensures command { command_seen result ≡ command_of (texts words.now) }
@@ -118,6 +136,7 @@ pub fn parse<'a>(words: &'a [&'a str]) -> Command<'a>
         [verb, words @ ..] if *verb == "restore" => parse_restore(words),
         [verb, words @ ..] if *verb == "counts" => parse_counts(words),
         [verb, words @ ..] if *verb == "visits" => parse_visits(words),
+        [verb, words @ ..] if *verb == "trace" => parse_trace(words),
         [verb, words @ ..] if *verb == "demo" => parse_demo(words),
         _ => Command::Unknown,
     }
@@ -125,7 +144,8 @@ pub fn parse<'a>(words: &'a [&'a str]) -> Command<'a>
 
 /// What follows the word `edit`.
 fn parse_edit<'a>(words: &'a [&'a str]) -> Command<'a>
-    ensures { command_seen result ≡ edit_of (texts words.now) }
+    ensures command { command_seen result ≡ edit_of (texts words.now) }
+    ensures limits { KeepsLimits (command_seen result) }
 {
     match words {
         [input, output, tool] => parse_tool(input, output, tool),
@@ -150,9 +170,10 @@ fn parse_tool<'a>(input: &'a str, output: &'a str, tool: &str) -> Command<'a>
     Command::Unknown
 }
 
-/// An edit by a tool that takes a file.
+/// An edit by a tool that takes a file, or a number.
 fn parse_tool_with<'a>(input: &'a str, output: &'a str, tool: &str, file: &'a str) -> Command<'a>
-    ensures { command_seen result ≡ tool_with input.now output.now tool.now file.now }
+    ensures command { command_seen result ≡ tool_with input.now output.now tool.now file.now }
+    ensures limits { KeepsLimits (command_seen result) }
 {
     if tool == "script" {
         return Command::EditScript {
@@ -168,7 +189,43 @@ fn parse_tool_with<'a>(input: &'a str, output: &'a str, tool: &str, file: &'a st
             weights: file,
         };
     }
+    if tool == "trace" {
+        return trace_edit(input, output, parse_bits(file));
+    }
     Command::Unknown
+}
+
+/// An edit with a ring of so many bits, if it can have them.
+fn trace_edit<'a>(input: &'a str, output: &'a str, bits: Option<u32>) -> Command<'a>
+    requires { IfSome bits (λ bits. (1 ≤ bits) × (bits ≤ 16)) }
+    ensures command { command_seen result ≡ trace_with input.now output.now bits }
+    ensures limits { KeepsLimits (command_seen result) }
+{
+    match bits {
+        Some(bits) => Command::EditTrace {
+            input,
+            output,
+            bits,
+        },
+        None => Command::Unknown,
+    }
+}
+
+/// How many bits a ring has: 1 to 16, in decimal without a leading zero.
+#[tactic(auto, unfolding(crate::specs::Command::bits_of))]
+fn parse_bits(text: &str) -> Option<u32>
+    ensures bits { result ≡ bits_of text.now }
+    ensures limits { IfSome result (λ bits. (1 ≤ bits) × (bits ≤ 16)) }
+{
+    (1..MOST_BITS + 1).find(|bits| is_number(text, *bits))
+}
+
+/// Whether the text is this number in decimal.
+fn is_number(text: &str, number: u32) -> bool
+    ensures { result ≡ bytes_eq text.now (decimal number) }
+{
+    let mut digits = Buffer::new();
+    text == digits.format(number)
 }
 
 /// What follows the word `show`.
@@ -227,6 +284,16 @@ fn parse_visits<'a>(words: &'a [&'a str]) -> Command<'a>
 {
     match words {
         [written, dump] => Command::Visits { written, dump },
+        _ => Command::Unknown,
+    }
+}
+
+/// What follows the word `trace`.
+fn parse_trace<'a>(words: &'a [&'a str]) -> Command<'a>
+    ensures { command_seen result ≡ trace_of (texts words.now) }
+{
+    match words {
+        [written, dump] => Command::Trace { written, dump },
         _ => Command::Unknown,
     }
 }

@@ -18,9 +18,12 @@ mod run;
 mod texts;
 mod tooling;
 mod top;
+mod trace;
+mod tracing;
 mod visiting;
 mod weighing;
 
 pub use counting::edits_are_profiles;
 pub use outcome::{Outcome, show};
 pub use top::eel;
+pub use trace::edits_are_traces;

@@ -1,7 +1,7 @@
 //! What came of a command, and how the program shows it.
 ghost use Rattle.std.specs.Prelude.{◌≡◌, ◌≤◌, ◌++◌, ◌∷◌, [], codes, OnOk, OnErr};
 ghost use Rattle.eel_base.specs.Outside.{Rose, appended, TookPart};
-ghost use Rattle.eel.specs.Outcome.{BadLine, cause_text as cause_text_of, outcome_seen, status_of, ending_text, line_of, stream, Shows, joined, NoCounts, line_about};
+ghost use Rattle.eel.specs.Outcome.{BadLine, cause_text as cause_text_of, outcome_seen, status_of, ending_text, line_of, stream, Shows, joined, BadCell, NoCounts, line_about};
 ghost use Rattle.eel.specs.declared.outcome.CountCause.TheVariants as count_causes;
 
 use eel_base::{Addr, EdgeNo, Failed, Sink, hex8, put_all};
@@ -64,10 +64,20 @@ pub enum Outcome<'a> {
     NotEveryWord {
         name: &'a str,
     },
-    /// No counts can be rebuilt of the dump `name`.
+    /// The notes of the file `name` are not those of a trace.
+    NoTrace {
+        name: &'a str,
+    },
+    /// Nothing can be told of the dump `name`.
     NoCounts {
         name: &'a str,
         cause: CountCause,
+    },
+    /// This cell of the dump `name` holds what stands for no edge.
+    BadCell {
+        name: &'a str,
+        cell: u32,
+        value: u32,
     },
     OutOfMemory,
     DeviceFault,
@@ -88,7 +98,7 @@ pub enum LineCause {
     Total,
 }
 
-/// Why no counts can be rebuilt of a dump.
+/// Why nothing can be told of a dump.
 #[derive(Clone, Copy)]
 pub enum CountCause {
     /// It has this version, and the notes the other one.
@@ -125,7 +135,9 @@ impl Outcome<'_> {
             | Outcome::BadDump { .. }
             | Outcome::NoProfile { .. }
             | Outcome::NotEveryWord { .. }
-            | Outcome::NoCounts { .. } => 65,
+            | Outcome::NoCounts { .. }
+            | Outcome::NoTrace { .. }
+            | Outcome::BadCell { .. } => 65,
             Outcome::TooLong { .. } => 66,
             Outcome::NoRoom { .. } => 69,
             Outcome::OutOfMemory => 70,
@@ -228,6 +240,10 @@ fn put_line<E: Sink>(outcome: &Outcome, err: &mut E) -> Result<(), Failed>
             put_pieces(err, &[b"eel: ", name.as_bytes(), b": not every word\n"])
         }
         Outcome::NoCounts { name, cause } => put_no_counts(name, *cause, err),
+        Outcome::NoTrace { name } => {
+            put_pieces(err, &[b"eel: ", name.as_bytes(), b": no trace\n"])
+        }
+        Outcome::BadCell { name, cell, value } => put_bad_cell(name, *cell, *value, err),
         Outcome::OutOfMemory => put_pieces(err, &[b"eel: out of memory\n"]),
         Outcome::DeviceFault => put_pieces(err, &[b"eel: device fault\n"]),
     }
@@ -430,6 +446,31 @@ fn put_count<E: Sink>(name: &str, edge: EdgeNo, value: i128, err: &mut E) -> Res
             b": edge ",
             edge,
             b" would be ",
+            value,
+            b"\n",
+        ],
+    )
+}
+
+/// Writes that this cell of the dump `name` holds what stands for no edge.
+fn put_bad_cell<E: Sink>(name: &str, cell: u32, value: u32, err: &mut E) -> Result<(), Failed>
+    ensures all { OnOk result (E.taken err.new ≡ appended (E.taken err.old) (line_of (BadCell name.now cell value))) }
+    ensures part { OnErr result (TookPart (E.taken err.old) (E.taken err.new) (line_of (BadCell name.now cell value))) }
+    ensures failed { OnErr result (Rose (E.faults err.old) (E.faults err.new)) }
+    ensures later { E.faults err.old ≤ E.faults err.new }
+{
+    let mut cell_digits = Buffer::new();
+    let mut value_digits = Buffer::new();
+    let cell = cell_digits.format(cell).as_bytes();
+    let value = value_digits.format(value).as_bytes();
+    put_pieces(
+        err,
+        &[
+            b"eel: ",
+            name.as_bytes(),
+            b": cell ",
+            cell,
+            b" has ",
             value,
             b"\n",
         ],

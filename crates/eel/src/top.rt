@@ -18,6 +18,8 @@ use crate::outcome::{Outcome, show};
 use crate::profiling::edit_for_counts;
 use crate::restore::restore_original;
 use crate::run::{Job, run_program};
+use crate::trace::trace_edges;
+use crate::tracing::edit_for_trace;
 use crate::visiting::count_visits;
 use crate::weighing::edit_by_weights;
 use eel_base::{Files, Sink, Source};
@@ -133,7 +135,13 @@ fn perform<'a, F: Files, I: Source, O: Sink, E: Sink>(
         } => edit_by_weights(alloc, files, input, output, weights),
         Command::EditEvery { input, output } => edit_every_word(alloc, files, input, output),
         Command::Visits { written, dump } => count_visits(alloc, files, written, dump, out),
+        Command::EditTrace {
+            input,
+            output,
+            bits,
+        } => edit_for_trace(alloc, files, input, output, bits),
         Command::Counts { written, dump } => count_edges(alloc, files, written, dump, out),
+        Command::Trace { written, dump } => trace_edges(alloc, files, written, dump, out),
         Command::Demo { number, routines } => demonstrate(alloc, number, routines, out),
         Command::Unknown => Outcome::BadWords,
     }

@@ -66,3 +66,9 @@ returns-in-NotEveryWord-clause-all g c = rw c.in-NotEveryWord.is (simp append_as
 
 pub returns-in-NotEveryWord-clause-part : goal.returns-in-NotEveryWord-clause-part
 returns-in-NotEveryWord-clause-part g c = rw c.in-NotEveryWord.is (simp append_assoc (rw (c.as_bytes-in-NotEveryWord.ensures.value) at c.put_pieces-in-NotEveryWord.ensures.part))
+
+pub returns-in-NoTrace-clause-all : goal.returns-in-NoTrace-clause-all
+returns-in-NoTrace-clause-all g c = rw c.in-NoTrace.is (simp append_assoc (rw (c.as_bytes-in-NoTrace.ensures.value) at c.put_pieces-in-NoTrace.ensures.all))
+
+pub returns-in-NoTrace-clause-part : goal.returns-in-NoTrace-clause-part
+returns-in-NoTrace-clause-part g c = rw c.in-NoTrace.is (simp append_assoc (rw (c.as_bytes-in-NoTrace.ensures.value) at c.put_pieces-in-NoTrace.ensures.part))

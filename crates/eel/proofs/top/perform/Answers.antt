@@ -57,3 +57,11 @@ returns-in-PutWords-clause-follows g c =
 pub returns-in-EditWeighed-clause-follows : goal.returns-in-EditWeighed-clause-follows
 returns-in-EditWeighed-clause-follows g c =
     rw (← c.in-EditWeighed.ensures.command) (c.edit_by_weights.ensures.weighs, refl, (refl, refl))
+
+pub returns-in-EditTrace-clause-follows : goal.returns-in-EditTrace-clause-follows
+returns-in-EditTrace-clause-follows g c =
+    rw (← c.in-EditTrace.ensures.command) (c.edit_for_trace.ensures.traces, refl, (refl, refl))
+
+pub returns-in-Trace-clause-follows : goal.returns-in-Trace-clause-follows
+returns-in-Trace-clause-follows g c =
+    rw (← c.in-Trace.ensures.command) (c.trace_edges.ensures.tells _ _, c.trace_edges.ensures.kept, refl)

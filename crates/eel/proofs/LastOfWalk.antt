@@ -1,0 +1,175 @@
+-- What the dump of a trace's run tells are the last edges of its original's walk.
+use Rattle.std.proofs.Common.{◌≡◌, ◌≢◌, ℕ, suc, ◌+◌, ◌-◌, ◌^◌, ◌<◌, List, [], ◌∷◌, length, refl, ap, sym, ◌∙◌, subst, arith}
+use Rattle.std.specs.Prelude.{◌==◌, if◌then◌else◌, Option, Some, None, Ok}
+use Rattle.std.specs.List.{All}
+use Rattle.std.proofs.lemmas.List.Elements.{All-weaker}
+use Rattle.std.proofs.lemmas.List.FromFn.{get_or-map-range_with_len, length-map-range_with_len}
+use Rattle.elf32_sparc.specs.Image.{image_of}
+use Rattle.elf32_sparc.specs.Notes.{NoteEdge, Notes, node_at, notes_of}
+use Rattle.v8_decode.specs.declared.Part.{Part}
+use Rattle.v8_step.specs.declared.Ending.{Ending}
+use Rattle.v8_step.specs.State.{State}
+use Rattle.v8_step.specs.Run.{run}
+use Rattle.v8_step.specs.Needed.{IsUntouched}
+use Rattle.v8_step.specs.Valid.{AreBytes}
+use Rattle.v8_step.specs.Visits.{pages_of}
+use Rattle.v8_process.specs.Arguments.{AreArguments}
+use Rattle.v8_process.specs.Start.{start_of}
+use Rattle.snippets.specs.declared.snippet.Op.{Op}
+use Rattle.cfg_normal.specs.declared.Edge.{Edge}
+use Rattle.cfg_normal.specs.Graph.{Graph}
+use Rattle.cfg_walk.specs.Walk.{walk}
+use Rattle.tool_kit.specs.declared.edge_ref.ToolKind.{ToolKind}
+use Rattle.tool_kit.specs.Plans.{Plan}
+use Rattle.dump_file.specs.Dump.{Dump}
+use Rattle.image_code.specs.Simulates.{Setting, graph_in as graph_of_edit, snippet_on, store_of}
+use Rattle.edit_core.specs.Faithful.{HasGraph, note_edges}
+use Rattle.edit_core.specs.RunsAlike.{HaveRunsAlike, IsStop, TellsStep, edit_of}
+use Rattle.edit_core.proofs.Eaches.{all_each}
+use Rattle.exact_counts.specs.Stops.{dump_at, visits_by}
+use Rattle.exact_counts.proofs.Exact.{view_graph}
+use Rattle.exact_counts.proofs.Gone.{walk_within}
+use Rattle.edge_ring.specs.declared.fault.RingFault.{RingFault}
+use Rattle.edge_ring.specs.declared.fault.RingFault.TheVariants as faults
+use Rattle.edge_ring.specs.Answers.{AreLast, IsRefused}
+use Rattle.edge_ring.specs.Laws.{TellsTheLast}
+use Rattle.edge_ring.specs.Ring.{IsRingOf, last_of, ring_on}
+use Rattle.edge_ring.specs.Traces.{IsTrace}
+use Rattle.edge_ring.proofs.Stores.{stores_are_rings}
+use Rattle.edge_ring.proofs.Told.{rings_tell}
+use Rattle.eel.specs.Answers.Edit.{asked, edges_in}
+use Rattle.eel.specs.Answers.Profile.{graph_in}
+use Rattle.eel.specs.Answers.LastEdges.{EditsAreTraces, IsTraceOf}
+use Rattle.eel.specs.Answers.Trace.{trace_plan}
+use Rattle.eel.proofs.ExactProfiles.{one_notes}
+
+-- the notes tell all edges
+length_noted : (graph : Graph) (kind : ToolKind) (edges : List Edge) (snips : List (List Op))
+    → length snips ≡ length edges → length (note_edges graph kind edges snips) ≡ length edges
+length_noted graph kind [] snips size = refl
+length_noted graph kind (edge ∷ edges) [] size = absurd (omega (arith, size))
+length_noted graph kind (edge ∷ edges) (ops ∷ snips) size =
+    ap suc (length_noted graph kind edges snips (omega (arith, size)))
+
+-- why the last edges of a trace's run may not be told
+abbrev pub MayHide : Dump → RingFault → Type 0
+MayHide dump (faults.Between pc) = (pc.0 ≡ dump.pc) × (dump.ending ≡ None)
+MayHide dump faults.NoMemory = Unit {0}
+MayHide dump _ = ⊥
+
+module _ (bits : ℕ) (original file : List ℕ) (notes : Notes) (trace : IsTraceOf bits original file)
+    (read : notes_of file ≡ Ok notes) where
+  abbrev plan : Plan
+  plan = trace_plan bits original
+
+  abbrev dead : ℕ → List Part
+  dead = trace.faithful.dead
+
+  same : trace.faithful.notes ≡ notes
+  same = one_notes file notes trace.faithful.notes read trace.faithful.whole.reads
+
+  has : HasGraph original plan notes
+  has = subst (HasGraph original plan) same trace.faithful.graph
+
+  runs : HaveRunsAlike original plan dead file notes
+  runs = subst (HaveRunsAlike original plan dead file) same trace.faithful.runs
+
+  pub is_trace : IsTrace notes
+  is_trace = record { tool = has.tool; bits = bits; some = trace.some; few = trace.few; cells = has.cells }
+
+  edge_count : length notes.edges ≡ length (edges_in original)
+  edge_count =
+      ap (λ (es : List NoteEdge). length es) has.edges
+      ∙ length_noted (graph_in original) plan.kind (edges_in original) plan.snips
+      (length-map-range_with_len (ring_on bits) 0 (length (edges_in original)))
+
+  abbrev g : Setting
+  g = edit_of original plan dead notes
+
+  module _ (args : List (List ℕ)) (input : List ℕ) (m : ℕ) (given : AreArguments args) (fed : AreBytes input)
+      (untouched : IsUntouched (pages_of notes) (start_of original args input)
+      (visits_by notes (start_of file args input) m)) where
+    abbrev entry : ℕ
+    entry = (image_of original).entry
+
+    abbrev s0 : State
+    s0 = start_of original args input
+
+    abbrev t0 : State
+    t0 = start_of file args input
+
+    abbrev steps : ℕ
+    steps = visits_by notes t0 m - 1
+
+    abbrev path : List ℕ
+    path = walk (image_of original).text (graph_in original) entry s0 steps
+
+    abbrev dump : Dump
+    dump = dump_at notes t0 m
+
+    stop : IsStop g entry s0 t0 m (visits_by notes t0 m)
+    stop = (runs args input given fed).stops m untouched
+
+    within : All (λ edge. edge < length (edges_in original)) path
+    within = all_each _ path (walk_within (image_of original).text (graph_in original) entry s0 steps)
+
+    -- each edge of the walk is written into the ring
+    logged : All (λ edge. snippet_on plan.snips edge ≡ ring_on bits edge) path
+    logged =
+        All-weaker (λ edge. edge < length (edges_in original)) (λ edge. snippet_on plan.snips edge ≡ ring_on bits edge)
+        (λ edge l. get_or-map-range_with_len (ring_on bits) 0 (length (edges_in original)) edge edge [] l (omega arith))
+        path within
+
+    graphs : graph_of_edit g ≡ graph_in original
+    graphs = sym (view_graph original plan dead notes)
+
+    ring : TellsStep g entry s0 t0 m steps → IsRingOf bits path dump.cells
+    ring told =
+        let walked : Graph → List ℕ = λ graph. walk (image_of original).text graph entry s0 steps in
+        let stored : IsRingOf bits (walked (graph_of_edit g)) (store_of g entry s0 steps) =
+        stores_are_rings bits g entry s0 steps trace.few has.cells
+        (subst (λ (graph : Graph). All (λ edge. snippet_on plan.snips edge ≡ ring_on bits edge) (walked graph))
+        (sym graphs) logged) in
+        subst (λ (graph : Graph). IsRingOf bits (walked graph) dump.cells) graphs
+        (subst (IsRingOf bits (walked (graph_of_edit g))) (sym told.cells) stored)
+
+    length_is : notes.version ≡ 2 → dump.length ≡ notes.length
+    length_is two = ap (λ (b : _). if b then 0 else notes.length) (ap (λ (v : ℕ). v == 1) two)
+
+    tells : node_at notes (run t0 m).pc ≢ None → TellsTheLast bits notes path dump
+    tells placed = rings_tell bits notes path dump (record {
+      trace = is_trace;
+      size = has.cells;
+      edges = subst (λ (count : ℕ). All (λ edge. edge < count) path) (sym edge_count) within;
+      ring = ring (stop.tells placed);
+      version = refl;
+      length = length_is;
+    })
+
+    there : (node : ℕ) → node_at notes (run t0 m).pc ≡ Some node → node_at notes (run t0 m).pc ≢ None
+    there node at = λ none. absurd (cc (at, none))
+
+    pub last_told : (edges : List ℕ) → AreLast notes dump edges → edges ≡ last_of bits path
+    last_told edges are = let placed = are.whole.placed in (tells (there placed.node placed.at)).last edges are
+
+    -- between places it hasn't ended
+    runs_on : node_at notes (run t0 m).pc ≡ None → (o : Option Ending) → (run t0 m).ending ≡ o → (run t0 m).ending ≡ None
+    runs_on none None live = live
+    runs_on none (Some d) over = absurd (stop.placed (λ live. absurd (cc)) none)
+
+    pub hidden : (fault : RingFault) → IsRefused notes dump fault → MayHide dump fault
+    hidden faults.NoTrace h = absurd (h is_trace)
+    hidden (faults.Version of wanted) h = absurd (h.differ (h.has ∙ sym h.wants))
+    hidden (faults.Other length wanted) h = absurd (h.differ (h.has ∙ length_is h.wide ∙ sym h.wants))
+    hidden (faults.Shape cells wanted) h =
+        absurd (h.differ (h.has ∙ length-map-range_with_len _ 0 notes.cells ∙ sym h.wants))
+    hidden (faults.Between pc) h = (h.at, runs_on h.between (run t0 m).ending refl)
+    hidden (faults.Entry cell value) h =
+        let placed = h.placed in
+        absurd ((tells (there placed.node placed.at)).refused (faults.Entry cell value) h)
+    hidden faults.NoMemory h = tt
+
+pub edits_are_traces : EditsAreTraces
+edits_are_traces bits original file notes some few made read =
+    let trace : IsTraceOf bits original file = record { some = some; few = few; faithful = made.faithful } in
+    (trace, is_trace bits original file notes trace read)
