@@ -1,5 +1,5 @@
 -- The lines of edges, by their numbers.
-use Rattle.std.proofs.Common.{◌≡◌, ℕ, List, [], ◌∷◌, ◌++◌, map, refl, ap, ap₂, sym, ◌∙◌}
+use Rattle.std.proofs.Common.{◌≡◌, ℕ, List, [], ◌∷◌, ◌++◌, map, refl, ap, ◌∙◌}
 use Rattle.std.specs.List.{flat_map}
 use Rattle.eel_base.specs.declared.numbers.EdgeNo.{EdgeNo}
 use Rattle.elf32_sparc.specs.Notes.{Notes}

@@ -1,5 +1,5 @@
 -- What the dump of a run tells, whose cells are the ring of a walk.
-use Rattle.std.proofs.Common.{◌≡◌, ◌≢◌, ℕ, suc, ◌+◌, ◌-◌, ◌%◌, ◌^◌, ◌<◌, ◌≤◌, ◌⊎◌, inl, inr, List, ◌++◌, length, map, drop, replicate, Some, None, refl, ap, sym, ◌∙◌, subst, arith}
+use Rattle.std.proofs.Common.{◌≡◌, ℕ, suc, ◌+◌, ◌-◌, ◌%◌, ◌^◌, ◌<◌, ◌≤◌, ◌⊎◌, inl, inr, List, length, map, drop, replicate, None, ap, sym, ◌∙◌, subst, arith}
 use Rattle.std.specs.List.{All}
 use Rattle.std.proofs.lemmas.Bool.{cases_lt}
 use Rattle.std.proofs.lemmas.Option.{none-some}
@@ -11,7 +11,7 @@ use Rattle.edge_ring.specs.declared.fault.RingFault.{RingFault}
 use Rattle.edge_ring.specs.declared.fault.RingFault.TheVariants as faults
 use Rattle.edge_ring.specs.Answers.{AreLast, IsRefused}
 use Rattle.edge_ring.specs.Laws.{IsOfWalk, MayRefuse, RingsTellTheLast}
-use Rattle.edge_ring.specs.Ring.{edges_in, last_of, round_from}
+use Rattle.edge_ring.specs.Ring.{edges_in, last_of}
 use Rattle.edge_ring.specs.Traces.{bad_place}
 use Rattle.edge_ring.proofs.Places.{none_bad, unround}
 use Rattle.edge_ring.proofs.Ring.{tells}

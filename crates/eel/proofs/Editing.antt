@@ -19,7 +19,7 @@ edit_refused name bytes plan (faults.Room needed had) (other, same, cramped) =
     (refl, subst (IsCramped needed had bytes) same cramped)
 edit_refused name bytes plan faults.NoMemory is = is
 
-not_edited : (name bytes : List ℕ) (plan : Plan) (outcome : Outcome) → IsNotEdited name bytes plan outcome
+pub not_edited : (name bytes : List ℕ) (plan : Plan) (outcome : Outcome) → IsNotEdited name bytes plan outcome
     → IsBad (status_of outcome)
 not_edited name bytes plan (BadFile named code) is = bad 65 (lit≤ tt) (lit≤ tt)
 not_edited name bytes plan (NoRoom named needed had) is = bad 69 (lit≤ tt) (lit≤ tt)

@@ -1,5 +1,5 @@
 -- What the dump of a trace's run tells are the last edges of its original's walk.
-use Rattle.std.proofs.Common.{◌≡◌, ◌≢◌, ℕ, suc, ◌+◌, ◌-◌, ◌^◌, ◌<◌, List, [], ◌∷◌, length, refl, ap, sym, ◌∙◌, subst, arith}
+use Rattle.std.proofs.Common.{◌≡◌, ◌≢◌, ℕ, suc, ◌-◌, ◌<◌, List, [], ◌∷◌, length, refl, ap, sym, ◌∙◌, subst, arith}
 use Rattle.std.specs.Prelude.{◌==◌, if◌then◌else◌, Option, Some, None, Ok}
 use Rattle.std.specs.List.{All}
 use Rattle.std.proofs.lemmas.List.Elements.{All-weaker}
@@ -37,7 +37,7 @@ use Rattle.edge_ring.specs.Ring.{IsRingOf, last_of, ring_on}
 use Rattle.edge_ring.specs.Traces.{IsTrace}
 use Rattle.edge_ring.proofs.Stores.{stores_are_rings}
 use Rattle.edge_ring.proofs.Told.{rings_tell}
-use Rattle.eel.specs.Answers.Edit.{asked, edges_in}
+use Rattle.eel.specs.Answers.Edit.{edges_in}
 use Rattle.eel.specs.Answers.Profile.{graph_in}
 use Rattle.eel.specs.Answers.LastEdges.{EditsAreTraces, IsTraceOf}
 use Rattle.eel.specs.Answers.Trace.{trace_plan}

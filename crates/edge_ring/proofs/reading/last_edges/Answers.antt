@@ -1,4 +1,4 @@
-use Rattle.std.proofs.Common.{rules, ◌∙◌, ap, length, map, ◌≡◌, ◌+◌, ◌^◌}
+use Rattle.std.proofs.Common.{◌∙◌, ap, length, map, ◌≡◌, ◌+◌, ◌^◌}
 use Rattle.dump_file.specs.Dump.{dump_seen}
 use Rattle.edge_ring.specs.Ring.{edges_in}
 use Rattle.edge_ring.proofs.Entries.{inside, number}
