@@ -12,6 +12,7 @@ pub mod NotEvery
 pub mod Visited
 pub mod Later
 pub mod Lines
+pub mod Marked
 pub mod Made
 pub mod Meanings
 pub mod ProfileEdits
