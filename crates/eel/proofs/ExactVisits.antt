@@ -1,55 +1,50 @@
 -- The visits of a profile with every word marked are exact.
-use Rattle.std.proofs.Common.{◌≡◌, ◌≢◌, ℕ, zero, suc, ◌+◌, ◌-◌, ◌<◌, Bool, true, false, ◌&&◌, ◌||◌, cond, List, [], ◌∷◌, length, refl, ap, sym, ◌∙◌, subst, arith}
+use Rattle.std.proofs.Common.{◌≡◌, ◌≢◌, ℕ, zero, suc, ◌+◌, ◌-◌, ◌<◌, Bool, true, false, cond, List, length, refl, ap, sym, ◌∙◌, subst, arith}
 use Rattle.std.specs.Prelude.{Option, Some, None, Ok, ◌==◌, nat_lt, slice_index, unwrap_or}
-use Rattle.std.specs.List.{filter, list_any, range_with_len}
+use Rattle.std.specs.List.{list_any}
 use Rattle.std.specs.Option.{option_map, option_or}
-use Rattle.std.proofs.lemmas.Bool.{and_left, and_right, eq-eqb, eqb-true, le-ltb, lt-ltb, or_left, or_right, true≢false}
-use Rattle.std.proofs.lemmas.List.Folds.{list_any-append, list_any_at}
-use Rattle.std.proofs.lemmas.List.FromFn.{get_or-range_with_len, length-range_with_len}
+use Rattle.std.proofs.lemmas.Bool.{and_left, and_right, le-ltb}
 use Rattle.eel_base.specs.CodeText.{Words, address_of}
 use Rattle.elf32_sparc.specs.FileFault.{fault}
-use Rattle.elf32_sparc.specs.Image.{Program, image_of}
+use Rattle.elf32_sparc.specs.Image.{image_of}
 use Rattle.elf32_sparc.specs.Notes.{NoteEdge, NoteRange, Notes, holds, node_at, notes_of, range_at}
 use Rattle.flows.specs.Flows.{weight_below}
 use Rattle.flows.specs.Walks.{times}
 use Rattle.v8_step.specs.State.{State}
 use Rattle.v8_step.specs.Run.{run}
-use Rattle.v8_step.specs.Valid.{AreBytes}
 use Rattle.v8_step.specs.Visits.{own_trail}
 use Rattle.v8_process.specs.Start.{start_of}
 use Rattle.cfg_blocks.specs.declared.EdgeKind.{EdgeKind}
 use Rattle.cfg_blocks.specs.declared.EdgeKind.TheVariants as kinds
-use Rattle.cfg_blocks.specs.Blocks.{holding_of, is_among}
+use Rattle.cfg_blocks.specs.Blocks.{holding_of}
 use Rattle.cfg_blocks.specs.Entries.{entered_of}
-use Rattle.cfg_normal.specs.declared.Edge.{Edge}
 use Rattle.cfg_normal.specs.Graph.{Graph}
-use Rattle.cfg_walk.specs.Walk.{end_of_walk}
-use Rattle.cfg_view.specs.View.{given_in, marks_in, starts_of, view_of}
-use Rattle.routines.specs.Routines.{routines_of}
+use Rattle.cfg_view.specs.View.{given_in, view_of}
 use Rattle.span_tree.specs.Links.{edge_at as own_edge}
 use Rattle.tool_kit.specs.Plans.{Plan}
 use Rattle.walk_counts.specs.Counts.{executions, last_node}
 use Rattle.dump_file.specs.Dump.{Dump}
 use Rattle.count_rebuild.specs.Answers.{AreCounts}
 use Rattle.edit_core.specs.Faithful.{kind_number as noted_kind}
-use Rattle.edit_core.specs.RunsAlike.{IsStop, TellsStep, edit_of}
+use Rattle.edit_core.specs.RunsAlike.{IsStop, edit_of}
 use Rattle.edit_core.proofs.Originals.{image_text}
 use Rattle.exact_counts.specs.Profiles.{IsProfiled, original_graph}
-use Rattle.exact_counts.specs.Stops.{dump_at, visits_by}
+use Rattle.exact_counts.specs.Stops.{visits_by}
 use Rattle.exact_counts.proofs.Exact.{notes_of_graph, view_graph}
 use Rattle.exact_counts.proofs.Noted.{AreNotesOf, edge_count, edge_is}
 use Rattle.instr_counts.specs.Answers.{AreVisits, begun_in}
 use Rattle.instr_counts.specs.Laws.{AreVisited, HasEach}
 use Rattle.instr_counts.specs.Matches.{AreNoted, Matches, kind_number}
-use Rattle.instr_counts.specs.Visits.{AreSingle, finished, is_begun, leads_to, one_if, runs_slot, sum_where, visits_by as visits_told}
+use Rattle.instr_counts.specs.Visits.{AreSingle, finished, is_begun, leads_to, one_if, runs_slot, sum_where}
 use Rattle.instr_counts.proofs.Counted.{visits_are_counted}
 use Rattle.instr_counts.proofs.Single.{words_are_blocks}
 use Rattle.eel.specs.Answers.Profile.{plan_of}
 use Rattle.eel.specs.Answers.Every.{every_view, every_word}
 use Rattle.eel.specs.Answers.Restore.{original_in}
 use Rattle.eel.specs.Answers.Counts.{IsOfRun}
-use Rattle.eel.specs.Answers.Visits.{AreExactVisits, AreOwnVisits, HasEveryWord}
+use Rattle.eel.specs.Answers.Visits.{AreExactVisits, HasEveryWord}
 use Rattle.eel.proofs.ExactProfiles.{are_exact, is_profiled, one_notes}
+use Rattle.eel.proofs.Marked.{leads_marked}
 
 -- ---- sums of the same counts
 

@@ -37,7 +37,7 @@ all_among word count l =
     list_any_at (λ x. x == word) (range_with_len 0 count) word 0 (omega (arith, size, l))
     (eq-eqb _ word (get_or-range_with_len 0 count word 0 l ∙ omega arith))
 
-pub each_leads : (original : List ℕ)
+each_leads : (original : List ℕ)
     → HasEach (image_of original).text (given_in (image_of original) (every_word original))
 each_leads original word l =
     let text = (image_of original).text in
@@ -47,7 +47,7 @@ each_leads original word l =
     (filter_keeps (λ mark. nat_lt mark (length text.words)) word (lt-ltb word (length text.words) l) (every_word original)
     (all_among word (length text.words) l))
 
-leads_marked : (original marks : List ℕ) → marks ≡ every_word original
+pub leads_marked : (original marks : List ℕ) → marks ≡ every_word original
     → HasEach (image_of original).text (given_in (image_of original) marks)
 leads_marked original marks is =
     subst (λ (m : List ℕ). HasEach (image_of original).text (given_in (image_of original) m)) (sym is) (each_leads original)
