@@ -1,91 +1,50 @@
 -- The visits of a profile with every word marked are exact.
-use Rattle.std.proofs.Common.{◌≡◌, ◌≢◌, ℕ, zero, suc, ◌+◌, ◌-◌, ◌<◌, Bool, true, false, ◌&&◌, ◌||◌, cond, List, [], ◌∷◌, length, refl, ap, sym, ◌∙◌, subst, arith}
+use Rattle.std.proofs.Common.{◌≡◌, ◌≢◌, ℕ, zero, suc, ◌+◌, ◌-◌, ◌<◌, Bool, true, false, cond, List, length, refl, ap, sym, ◌∙◌, subst, arith}
 use Rattle.std.specs.Prelude.{Option, Some, None, Ok, ◌==◌, nat_lt, slice_index, unwrap_or}
-use Rattle.std.specs.List.{filter, list_any, range_with_len}
-use Rattle.std.specs.Option.{option_map}
-use Rattle.std.proofs.lemmas.Bool.{and_left, and_right, eq-eqb, eqb-true, le-ltb, lt-ltb, or_left, or_right, true≢false}
-use Rattle.std.proofs.lemmas.List.Folds.{list_any-append, list_any_at}
-use Rattle.std.proofs.lemmas.List.FromFn.{get_or-range_with_len, length-range_with_len}
+use Rattle.std.specs.List.{list_any}
+use Rattle.std.specs.Option.{option_map, option_or}
+use Rattle.std.proofs.lemmas.Bool.{and_left, and_right, le-ltb}
 use Rattle.eel_base.specs.CodeText.{Words, address_of}
 use Rattle.elf32_sparc.specs.FileFault.{fault}
-use Rattle.elf32_sparc.specs.Image.{Program, image_of}
+use Rattle.elf32_sparc.specs.Image.{image_of}
 use Rattle.elf32_sparc.specs.Notes.{NoteEdge, NoteRange, Notes, holds, node_at, notes_of, range_at}
 use Rattle.flows.specs.Flows.{weight_below}
 use Rattle.flows.specs.Walks.{times}
 use Rattle.v8_step.specs.State.{State}
 use Rattle.v8_step.specs.Run.{run}
-use Rattle.v8_step.specs.Valid.{AreBytes}
 use Rattle.v8_step.specs.Visits.{own_trail}
 use Rattle.v8_process.specs.Start.{start_of}
 use Rattle.cfg_blocks.specs.declared.EdgeKind.{EdgeKind}
 use Rattle.cfg_blocks.specs.declared.EdgeKind.TheVariants as kinds
-use Rattle.cfg_blocks.specs.Blocks.{holding_of, is_among}
+use Rattle.cfg_blocks.specs.Blocks.{holding_of}
 use Rattle.cfg_blocks.specs.Entries.{entered_of}
-use Rattle.cfg_normal.specs.declared.Edge.{Edge}
 use Rattle.cfg_normal.specs.Graph.{Graph}
-use Rattle.cfg_walk.specs.Walk.{end_of_walk}
-use Rattle.cfg_view.specs.View.{given_in, marks_in, starts_of, view_of}
-use Rattle.routines.specs.Routines.{routines_of}
+use Rattle.cfg_view.specs.View.{given_in, view_of}
 use Rattle.span_tree.specs.Links.{edge_at as own_edge}
 use Rattle.tool_kit.specs.Plans.{Plan}
 use Rattle.walk_counts.specs.Counts.{executions, last_node}
 use Rattle.dump_file.specs.Dump.{Dump}
 use Rattle.count_rebuild.specs.Answers.{AreCounts}
 use Rattle.edit_core.specs.Faithful.{kind_number as noted_kind}
-use Rattle.edit_core.specs.RunsAlike.{IsStop, TellsStep, edit_of}
+use Rattle.edit_core.specs.RunsAlike.{IsStop, edit_of}
 use Rattle.edit_core.proofs.Originals.{image_text}
 use Rattle.exact_counts.specs.Profiles.{IsProfiled, original_graph}
-use Rattle.exact_counts.specs.Stops.{dump_at, visits_by}
+use Rattle.exact_counts.specs.Stops.{visits_by}
 use Rattle.exact_counts.proofs.Exact.{notes_of_graph, view_graph}
 use Rattle.exact_counts.proofs.Noted.{AreNotesOf, edge_count, edge_is}
 use Rattle.instr_counts.specs.Answers.{AreVisits, begun_in}
 use Rattle.instr_counts.specs.Laws.{AreVisited, HasEach}
 use Rattle.instr_counts.specs.Matches.{AreNoted, Matches, kind_number}
-use Rattle.instr_counts.specs.Visits.{AreSingle, finished, is_begun, leads_to, one_if, runs_slot, sum_where, visits_by as visits_told}
+use Rattle.instr_counts.specs.Visits.{AreSingle, finished, is_begun, leads_to, one_if, runs_slot, sum_where}
 use Rattle.instr_counts.proofs.Counted.{visits_are_counted}
 use Rattle.instr_counts.proofs.Single.{words_are_blocks}
 use Rattle.eel.specs.Answers.Profile.{plan_of}
 use Rattle.eel.specs.Answers.Every.{every_view, every_word}
 use Rattle.eel.specs.Answers.Restore.{original_in}
 use Rattle.eel.specs.Answers.Counts.{IsOfRun}
-use Rattle.eel.specs.Answers.Visits.{AreExactVisits, AreOwnVisits, HasEveryWord}
+use Rattle.eel.specs.Answers.Visits.{AreExactVisits, HasEveryWord}
 use Rattle.eel.proofs.ExactProfiles.{are_exact, is_profiled, one_notes}
-
--- ---- each word leads where every word is marked
-
-filter_keeps : (p : ℕ → Bool) (word : ℕ) → p word ≡ true → (words : List ℕ) → is_among words word ≡ true
-    → is_among (filter p words) word ≡ true
-filter_keeps p word passes [] among = among
-filter_keeps p word passes (x ∷ words) among = by (x == word) refl (p x) refl among (filter_keeps p word passes words)
-  where
-    by : (same : Bool) → (x == word) ≡ same → (kept : Bool) → p x ≡ kept → (same || is_among words word) ≡ true
-        → (is_among words word ≡ true → is_among (filter p words) word ≡ true)
-        → is_among (cond kept (x ∷ filter p words) (filter p words)) word ≡ true
-    by true is true keeps here rest = or_left (x == word) (is_among (filter p words) word) is
-    by true is false keeps here rest = absurd (true≢false (sym passes ∙ ap p (sym (eqb-true x word is)) ∙ keeps))
-    by false is true keeps here rest = or_right (x == word) (is_among (filter p words) word) (rest here)
-    by false is false keeps here rest = rest here
-
-all_among : (word count : ℕ) → word < count → is_among (range_with_len 0 count) word ≡ true
-all_among word count l =
-    let size = length-range_with_len 0 count in
-    list_any_at (λ x. x == word) (range_with_len 0 count) word 0 (omega (arith, size, l))
-    (eq-eqb _ word (get_or-range_with_len 0 count word 0 l ∙ omega arith))
-
-pub each_leads : (original : List ℕ)
-    → HasEach (image_of original).text (given_in (image_of original) (every_word original))
-each_leads original word l =
-    let text = (image_of original).text in
-    list_any-append (λ other. other == word) (starts_of (routines_of (image_of original)))
-    (marks_in text (every_word original))
-    ∙ or_right (is_among (starts_of (routines_of (image_of original))) word) (is_among (marks_in text (every_word original)) word)
-    (filter_keeps (λ mark. nat_lt mark (length text.words)) word (lt-ltb word (length text.words) l) (every_word original)
-    (all_among word (length text.words) l))
-
-leads_marked : (original marks : List ℕ) → marks ≡ every_word original
-    → HasEach (image_of original).text (given_in (image_of original) marks)
-leads_marked original marks is =
-    subst (λ (m : List ℕ). HasEach (image_of original).text (given_in (image_of original) m)) (sym is) (each_leads original)
+use Rattle.eel.proofs.Marked.{leads_marked}
 
 -- ---- sums of the same counts
 
@@ -184,7 +143,7 @@ module _ (original : List ℕ) (plan : Plan) (file : List ℕ) (notes : Notes) (
           → slice_index visits word
           ≡ finished graph entry (slice_index counts) word + begun_in text graph.blocks (range_at notes dump.pc) word
       unfolding view_of
-      told dump counts visits are word l = are.each word l
+      told dump counts visits are word l = let len = are.len in are.each word (omega (arith, l, len))
 
       -- by where the written file's run stands
       module _ (pc : ℕ) (node : node_at notes pc ≡ Some (last_node text graph entry s0 n))
@@ -192,9 +151,9 @@ module _ (original : List ℕ) (plan : Plan) (file : List ℕ) (notes : Notes) (
         -- outside the pages it stands at no block
         behind : (in_page : Bool) → cond in_page None (Some (length notes.blocks)) ≡ Some (last_node text graph entry s0 n)
             → last_node text graph entry s0 n ≡ length graph.blocks.firsts
-        behind true is = absurd cc
-        behind false is =
-            ap (λ o. unwrap_or o 0) (sym is) ∙ ap (λ (firsts : List ℕ). length firsts) is.graph.blocks
+        behind true same = absurd cc
+        behind false same =
+            ap (λ o. unwrap_or o 0) (sym same) ∙ ap (λ (firsts : List ℕ). length firsts) is.graph.blocks
 
         begun : (word : ℕ) (place : Option NoteRange) → range_at notes pc ≡ place
             → begun_in text graph.blocks place word
@@ -206,12 +165,12 @@ module _ (original : List ℕ) (plan : Plan) (file : List ℕ) (notes : Notes) (
             (cond (list_any (holds pc (pc + 1)) notes.segments) None (Some (length notes.blocks))) ≡ Some last) none node) in
             ap one_if (sym (and_right ((run s0 n).pc == address_of text word) _
             (and_left (nat_lt last (length graph.blocks.firsts)) _ (le-ltb last (length graph.blocks.firsts) (omega (arith, at))))))
-        begun word (Some r) is =
+        begun word (Some r) found =
             let last = last_node text graph entry s0 n in
             let at : Some r.node ≡ Some last =
             subst (λ (place : Option NoteRange). option_or (option_map (λ (range : NoteRange). range.node) place)
-            (cond (list_any (holds pc (pc + 1)) notes.segments) None (Some (length notes.blocks))) ≡ Some last) is node in
-            ap (λ k. one_if (is_begun text graph.blocks k r.node word)) (address r is)
+            (cond (list_any (holds pc (pc + 1)) notes.segments) None (Some (length notes.blocks))) ≡ Some last) found node in
+            ap (λ k. one_if (is_begun text graph.blocks k r.node word)) (address r found)
             ∙ ap (λ k. one_if (is_begun text graph.blocks (run s0 n).pc k word)) (ap (λ o. unwrap_or o 0) at)
 
         pub visits_are : (dump : Dump) (counts visits : List ℕ) → dump.pc ≡ pc
@@ -246,12 +205,13 @@ pub has_every_word : (file : List ℕ) (notes : Notes) (dump : Dump) → notes_o
 has_every_word file notes dump read original args input m made marked =
     let is = is_profiled made.marks made.weights original file notes made.profile made.bytes read in
     let plan = plan_of notes.version made.marks made.profile.cells in
-    subst (λ (o : List ℕ). (fault o ≡ None) × Matches (every_view o) notes)
-    (sym (in_file file notes dump read original args input m made)) (
-      is.sound,
-      subst (λ (marks : List ℕ). Matches (view_of original marks) notes) marked
-          (matches original plan file notes is (leads_marked original made.marks marked)),
-    )
+    let stands = sym (in_file file notes dump read original args input m made) in
+    record {
+      sound = subst (λ (o : List ℕ). fault o ≡ None) stands is.sound;
+      matches = subst (λ (o : List ℕ). Matches (every_view o) notes) stands
+          (subst (λ (marks : List ℕ). Matches (view_of original marks) notes) marked
+          (matches original plan file notes is (leads_marked original made.marks marked)));
+    }
 
 pub exact_visits : (file : List ℕ) (notes : Notes) (dump : Dump) (counts visits : List ℕ) → notes_of file ≡ Ok notes
     → AreCounts notes dump counts → AreVisits (every_view (original_in file notes)) notes dump counts visits
@@ -274,6 +234,7 @@ exact_visits file notes dump counts visits read flow are = λ original args inpu
     (is.runs args input made.arguments made.given).stops m made.untouched in
     let some : 0 < v = stop.some placed in
     let tells = stop.tells placed in
+    let count : suc (v - 1) ≡ v = omega (arith, some) in
     record {
       stands = stands;
       len = visit_count original made.marks notes dump counts visits own;
@@ -284,5 +245,5 @@ exact_visits file notes dump counts visits read flow are = λ original args inpu
           (sym (view_graph original plan is.dead notes)) tells.node)
           tells.address dump counts visits pc own (are_exact file notes dump counts read flow original args input m made)
           (stop.lives placed) word l
-          ∙ ap (λ (k : ℕ). times (own_trail s0 k) (address_of (image_of original).text word)) (omega (arith, some));
+          ∙ ap (λ (k : ℕ). times (own_trail s0 k) (address_of (image_of original).text word)) count;
     }

@@ -13,6 +13,7 @@ pub mod Visited
 pub mod LastOfWalk
 pub mod Later
 pub mod Lines
+pub mod Marked
 pub mod Made
 pub mod Meanings
 pub mod ProfileEdits

@@ -2,7 +2,7 @@
 use Rattle.std.proofs.Common.{◌≡◌, ℕ, zero, suc, ◌+◌, ◌*◌, ◌<◌, cond, List, [], ◌∷◌, length, map, refl, ap, sym, ◌∙◌, subst, zero-add, arith}
 use Rattle.std.specs.Prelude.{Option, Some, None, get_or, slice_get, unwrap_or}
 use Rattle.std.specs.Option.{is_some}
-use Rattle.std.proofs.lemmas.List.{ext_get_or, get_or-map, length-map, get_or_past}
+use Rattle.std.proofs.lemmas.List.{ext_get_or, get_or-map, length-map}
 use Rattle.eel_base.specs.declared.numbers.WordNo.{WordNo}
 use Rattle.flows.specs.Flows.{count_below}
 use Rattle.span_tree.specs.Cells.{AreNumbered, cell_at, cell_count, has_cell}

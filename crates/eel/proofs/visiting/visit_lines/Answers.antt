@@ -1,15 +1,18 @@
-use Rattle.std.proofs.Common.{◌≡◌, List, ℕ, sym, subst}
+use Rattle.std.proofs.Common.{ap, ◌∙◌, subst}
 use Rattle.cfg_view.specs.View.{Seen}
 use Rattle.dump_file.specs.Dump.{dump_seen}
 use Rattle.notes.specs.Seen.{notes_seen}
 use Rattle.instr_counts.specs.Answers.{AreVisits}
 use Rattle.instr_counts.specs.Lines.{visit_lines}
+use Rattle.elf32_sparc.specs.Image.{Program}
 use Rattle.edit_core.proofs.Views.{view_image}
+use Rattle.eel.specs.Answers.Restore.{original_in}
 use Rattle.eel.proofs.visiting.visit_lines.Goals as goal
 
 pub returns-in-Ok-told-clause-lines : goal.returns-in-Ok-told-clause-lines
 returns-in-Ok-told-clause-lines c =
     let (visits, are, tell) = c.in-Ok-told.ensures in
+    let seen = c.in-Ok-every_word_in.ensures.view in
     record {
       notes = notes_seen c.in-Ok.notes;
       dump = dump_seen c.in-Ok-dump_in.state;
@@ -18,6 +21,8 @@ returns-in-Ok-told-clause-lines c =
       read = record { noted = c.in-Ok.ensures.notes; dumped = c.in-Ok-dump_in.ensures.dump };
       every = c.in-Ok-every_word_in.ensures.every;
       flow = c.in-Ok-rebuild.ensures.counts;
-      are = ?;
-      tell = ?;
+      are = subst (λ (view : Seen). AreVisits view (notes_seen c.in-Ok.notes) (dump_seen c.in-Ok-dump_in.state)
+          c.in-Ok-rebuild.times.items visits) seen (rw c.deref.ensures.value at are);
+      tell = tell ∙ ap (λ (view : Seen). visit_lines view.image.text visits) seen
+          ∙ ap (λ (program : Program). visit_lines program.text visits) (view_image (original_in c.args.file.now (notes_seen c.in-Ok.notes)) _);
     }
