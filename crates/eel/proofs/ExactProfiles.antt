@@ -1,5 +1,5 @@
 -- The counts of a profile are exact.
-use Rattle.std.proofs.Common.{◌≡◌, ℕ, ◌-◌, ◌<◌, List, [], length, map, refl, ap, sym, ◌∙◌, subst, arith}
+use Rattle.std.proofs.Common.{◌≡◌, ℕ, ◌-◌, List, [], refl, ap, sym, ◌∙◌, subst, arith}
 use Rattle.std.specs.Prelude.{Option, None, Result, Ok, Err}
 use Rattle.std.proofs.lemmas.List.{get_or-map, length-map}
 use Rattle.elf32_sparc.specs.Notes.{NoNotes, Notes, notes_of}

@@ -1,5 +1,5 @@
 -- The graph of a file without a fault has few edges, so that each can have a cell.
-use Rattle.std.proofs.Common.{◌≡◌, ℕ, ◌^◌, ◌≤◌, List, [], length, None, ap, ◌∙◌, arith}
+use Rattle.std.proofs.Common.{◌≡◌, ℕ, ◌^◌, ◌≤◌, List, [], length, None, ap, arith}
 use Rattle.elf32_sparc.specs.FileFault.{fault}
 use Rattle.cfg_view.specs.View.{Seen, view_of}
 use Rattle.edit_core.proofs.Originals.{image_text}

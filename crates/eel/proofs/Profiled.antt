@@ -1,10 +1,10 @@
 -- What a profile asks for: the snippets of its callback are counters, by the cells of the edges.
-use Rattle.std.proofs.Common.{◌≡◌, ℕ, zero, suc, ◌+◌, ◌*◌, ◌<◌, ◌≤◌, Bool, true, false, cond, List, [], ◌∷◌, length, map, refl, ap, sym, ◌∙◌, subst, zero-add, arith}
-use Rattle.std.specs.Prelude.{Option, Some, None, get_or, slice_get, unwrap_or, if◌then◌else◌}
+use Rattle.std.proofs.Common.{◌≡◌, ℕ, zero, suc, ◌+◌, ◌*◌, ◌<◌, cond, List, [], ◌∷◌, length, map, refl, ap, sym, ◌∙◌, subst, zero-add, arith}
+use Rattle.std.specs.Prelude.{Option, Some, None, get_or, slice_get, unwrap_or}
 use Rattle.std.specs.Option.{is_some}
-use Rattle.std.proofs.lemmas.List.{ext_get_or, get_or-map, length-map, get_or_past}
+use Rattle.std.proofs.lemmas.List.{ext_get_or, get_or-map, length-map}
 use Rattle.flows.specs.Flows.{count_below}
-use Rattle.span_tree.specs.Cells.{AreNumbered, cell_at, cell_count, cell_of, has_cell}
+use Rattle.span_tree.specs.Cells.{AreNumbered, cell_at, cell_count, has_cell}
 use Rattle.snippets.specs.declared.snippet.Op.{Op}
 use Rattle.snippets.specs.declared.snippet.Op.TheVariants.{Count}
 use Rattle.cfg_normal.specs.declared.Edge.{Edge}

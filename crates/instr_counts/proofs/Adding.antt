@@ -1,10 +1,9 @@
 -- What is added up to the visits of each word.
-use Rattle.std.proofs.Common.{◌≡◌, ℕ, zero, suc, ◌+◌, ◌*◌, ◌<◌, Bool, true, false, List, length, slice_index, Some, refl, ap, sym, ◌∙◌, arith}
+use Rattle.std.proofs.Common.{◌≡◌, ℕ, zero, suc, ◌+◌, ◌*◌, ◌<◌, Bool, true, false, List, length, slice_index, Some, refl, ap, ◌∙◌, arith}
 use Rattle.std.specs.Prelude.{◌==◌, if◌then◌else◌}
 use Rattle.std.proofs.lemmas.Bool.{lt-ltb}
 use Rattle.flows.specs.Flows.{weight_below}
 use Rattle.cfg_blocks.specs.Blocks.{AreFirsts, Blocks, holding_of}
-use Rattle.cfg_normal.specs.declared.Edge.{Edge}
 use Rattle.cfg_normal.specs.declared.Node.{Node}
 use Rattle.cfg_normal.specs.declared.Node.TheVariants.{Block, Landed, X}
 use Rattle.cfg_normal.specs.Nodes.{same_node}
@@ -52,13 +51,16 @@ module _ (b : Blocks) (f : AreFirsts b.words b.firsts) (single : AreSingle b) (w
 
 -- ---- all that is added up for a word
 
-module _ (g : Graph) (f : AreFirsts g.blocks.words g.blocks.firsts) (single : AreSingle g.blocks) (counts : List ℕ) where
+module _ (g : Graph) (f : AreFirsts g.blocks.words g.blocks.firsts) (single : AreSingle g.blocks)
+    (counts : List ℕ) where
   pub finished_is : (entry word : ℕ) → entry < g.blocks.words → word < g.blocks.words
-      → along g.edges counts (length g.edges) word + as_slot g.edges counts (length g.edges) word + one_if (entry == word)
+      → along g.edges counts (length g.edges) word + as_slot g.edges counts (length g.edges) word
+      + one_if (entry == word)
       ≡ finished g entry (slice_index counts) word
   finished_is entry word starts inside =
       let led = along_is g.blocks f single word inside g counts in
-      let slots : as_slot g.edges counts (length g.edges) word ≡ sum_where g (slice_index counts) (runs_slot word) = refl in
+      let slots : as_slot g.edges counts (length g.edges) word ≡ sum_where g (slice_index counts) (runs_slot word) =
+      refl in
       let first : one_if (holding_of g.blocks entry == holding_of g.blocks word) ≡ one_if (entry == word) =
       ap (λ (k : ℕ). one_if (k == holding_of g.blocks word)) (holds_itself g.blocks f single entry starts)
       ∙ ap (λ (k : ℕ). one_if (entry == k)) (holds_itself g.blocks f single word inside) in

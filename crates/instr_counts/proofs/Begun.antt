@@ -1,14 +1,18 @@
 -- The place that is found, as notes have it.
-use Rattle.std.proofs.Common.{◌≡◌, ℕ, Bool, true, false, cond, ◌&&◌, List, [], ◌∷◌, map, Option, Some, None, refl, ap, sym, ◌∙◌}
+use Rattle.std.proofs.Common.{◌≡◌, ℕ, Bool, true, false, cond, ◌&&◌, List, [], ◌∷◌, map, Option, Some, refl, ap, ◌∙◌}
 use Rattle.std.specs.Prelude.{nat_le, nat_lt}
 use Rattle.std.specs.List.{find}
 use Rattle.std.specs.Option.{option_map}
+use Rattle.eel_base.specs.CodeText.{Words}
 use Rattle.eel_base.specs.declared.range.Range as declared_range
-use Rattle.elf32_sparc.specs.Notes.{NoteRange, range_at}
+use Rattle.elf32_sparc.specs.Notes.{range_at}
 use Rattle.notes.specs.Seen.{notes_seen, range_seen}
 use Rattle.notes.specs.declared.note.Notes as declared_notes
+use Rattle.cfg_normal.specs.Graph.{Graph}
+use Rattle.instr_counts.specs.Answers.{begun_in}
 
-find-map : {A B : Type 0} (p : B → Bool) (f : A → B) (xs : List A) → find p (map f xs) ≡ option_map f (find (λ x. p (f x)) xs)
+find-map : {A B : Type 0} (p : B → Bool) (f : A → B) (xs : List A)
+    → find p (map f xs) ≡ option_map f (find (λ x. p (f x)) xs)
 find-map p f [] = refl
 find-map {A = A} {B = B} p f (x ∷ xs) = by (p (f x)) (find-map p f xs)
   where
@@ -22,7 +26,14 @@ module _ (n : declared_notes.Notes) (address : ℕ) where
   abbrev pub found : Option declared_range.Range
   found = find (λ range. nat_le range.lo.0 address && nat_lt address range.hi.0) n.ranges.items
 
-  pub place_is : (place : Option declared_range.Range) → found ≡ place → range_at (notes_seen n) address ≡ option_map range_seen place
+  place_is : (place : Option declared_range.Range) → found ≡ place
+      → range_at (notes_seen n) address ≡ option_map range_seen place
   place_is place is =
       find-map (λ range. nat_le range.lo address && nat_lt address range.hi) range_seen n.ranges.items
       ∙ ap (option_map range_seen) is
+
+  -- so what was begun there
+  pub begun_is : (text : Words) (graph : Graph) (place : Option declared_range.Range) → found ≡ place → (word : ℕ)
+      → begun_in text graph.blocks (range_at (notes_seen n) address) word
+      ≡ begun_in text graph.blocks (option_map range_seen place) word
+  begun_is text graph place is word = ap (λ seen. begun_in text graph.blocks seen word) (place_is place is)

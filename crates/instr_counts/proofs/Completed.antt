@@ -1,11 +1,9 @@
--- What a step counts, where each block has one word and no switch is open: along the edges that it completes the run comes
--- to the word where it goes on, and has run the slot out of which it goes.
-use Rattle.std.proofs.Common.{◌≡◌, ◌≢◌, ℕ, suc, ◌+◌, ◌-◌, ◌%◌, ◌<◌, ◌≤◌, ◌⊎◌, inl, inr, Bool, true, false, not, ◌&&◌, nat_lt, List, [], ◌∷◌, ◌++◌, length, slice_index, Option, Some, None, refl, ap, sym, ◌∙◌, subst, arith}
+-- What a step counts, where each block has one word and no switch is open: along the edges that it completes the run
+-- comes to the word where it goes on, and has run the slot out of which it goes.
+use Rattle.std.proofs.Common.{◌≡◌, ◌≢◌, ℕ, ◌+◌, ◌-◌, ◌%◌, ◌<◌, ◌⊎◌, inl, inr, Bool, true, false, not, List, [], ◌++◌, length, slice_index, Option, Some, None, refl, ap, sym, ◌∙◌, subst, arith}
 use Rattle.std.specs.Prelude.{◌==◌, if◌then◌else◌, ℤ}
-use Rattle.std.specs.List.{list_any, slice_get, position}
-use Rattle.std.specs.Option.{option_map, option_to_list}
-use Rattle.std.proofs.lemmas.Bool.{and_parts, cases_eq, cond_both, eq-eqb, eqb-true, false≢true, lt-ltb, ne_eqb}
-use Rattle.std.proofs.lemmas.List.Quantifiers.{position-Some}
+use Rattle.std.specs.Option.{option_map}
+use Rattle.std.proofs.lemmas.Bool.{cases_eq, cond_both, eq-eqb, eqb-true, false≢true, lt-ltb, ne_eqb}
 use Rattle.std.proofs.lemmas.Option.{get_or_from_slice_get}
 use Rattle.eel_base.specs.CodeText.{Words, IsText, address_of, word_at}
 use Rattle.eel_base.specs.declared.numbers.WordNo.{WordNo}
@@ -17,9 +15,9 @@ use Rattle.v8_step.specs.declared.Ending.{Ending}
 use Rattle.v8_step.specs.declared.Ending.TheVariants.{Couple}
 use Rattle.v8_step.specs.declared.Slot.{Slot}
 use Rattle.v8_step.specs.declared.Slot.TheVariants.{NoSlot, Taken, Untaken}
-use Rattle.v8_step.specs.State.{State, sum_of, with_register}
+use Rattle.v8_step.specs.State.{State, sum_of}
 use Rattle.v8_step.specs.Step.{act, on_word, step_of, unless_ended as unless_over}
-use Rattle.v8_step.specs.Transfers.{branch_step, branched, call_step, delayed, jump_step, target_of, unless_couple}
+use Rattle.v8_step.specs.Transfers.{branch_step, branched, call_step, jump_step, target_of, unless_couple}
 use Rattle.v8_step.specs.Items.{is_transfer}
 use Rattle.v8_step.proofs.Alike.{live_step}
 use Rattle.v8_step.proofs.CopiedMoves.{goes_act}
@@ -30,21 +28,21 @@ use Rattle.cfg_blocks.specs.declared.EdgeKind.{EdgeKind}
 use Rattle.cfg_blocks.specs.declared.EdgeKind.TheVariants as kinds
 use Rattle.cfg_blocks.specs.Ends.{Way, always, branch_target, end_at, never, number_of, way, ways_of, within}
 use Rattle.cfg_blocks.specs.Blocks.{Blocks, end_of, holding_of, last_word}
-use Rattle.cfg_blocks.proofs.Targets.{IsWord, word_at-some}
+use Rattle.cfg_blocks.proofs.Targets.{word_at-some}
 use Rattle.cfg_normal.specs.declared.Edge.{Edge}
 use Rattle.cfg_normal.specs.declared.Node.{Node}
-use Rattle.cfg_normal.specs.declared.Node.TheVariants.{Block, Landed, X}
+use Rattle.cfg_normal.specs.declared.Node.TheVariants.{X}
 use Rattle.cfg_normal.specs.declared.Slot.{Slot as Carried}
 use Rattle.cfg_normal.specs.declared.Slot.TheVariants as carried
 use Rattle.cfg_normal.specs.Nodes.{home_of, same_node}
 use Rattle.cfg_normal.specs.Graph.{Graph, IsNodeIn, edge_of, edges_in, graph_of, landing_at as landing, lands_of, node_of, runs_slot as runs_on, slot_behind, slot_on}
-use Rattle.cfg_walk.specs.Walk.{Point, completed, edge_from, ends_block, gone, goes_on_at, instr_at, landed, landing_at, left_at, left_by, node_after, point_of, same_kind, slot_left, unless_ended, way_of}
+use Rattle.cfg_walk.specs.Walk.{Point, completed, edge_from, gone, goes_on_at, instr_at, landed, landing_at, left_at, left_by, node_after, point_of, same_kind, slot_left, unless_ended, way_of}
 use Rattle.cfg_walk.specs.Matches.{FetchesOnly, IsCarried, IsOnItsWay, Matches, MatchesBy}
 use Rattle.cfg_walk.proofs.Addresses.{word_at-address}
 use Rattle.cfg_walk.proofs.Cut.{IsCut}
 use Rattle.cfg_walk.proofs.Edges.{IsEdge, block, landing_found, leads_along, out_to}
 use Rattle.cfg_walk.proofs.Holding.{in_held}
-use Rattle.cfg_walk.proofs.Leaving.{end_here, end_is, ends_home, node_is, straight_end, straight_left, transfer_ends, way_found}
+use Rattle.cfg_walk.proofs.Leaving.{end_here, end_is, ends_home, node_is, straight_end, straight_left, way_found}
 use Rattle.cfg_walk.proofs.Nodes.{lands_there}
 use Rattle.cfg_walk.proofs.NoneOpen.{IsOnEdge, cases_none, home_none, lands_none, on_edge, open_none, slot_none}
 use Rattle.cfg_walk.proofs.Points.{Stands, at, home, low}
@@ -71,7 +69,8 @@ annuls true true false s target e = absurd (cc)
 annuls true false false s target e = absurd (cc)
 annuls false all false s target e = absurd (cc)
 
-jump_slot : (s : State) (rd target : ℕ) → (jump_step s rd target).ending ≡ None → (jump_step s rd target).slot ≡ NoSlot → ⊥
+jump_slot : (s : State) (rd target : ℕ) → (jump_step s rd target).ending ≡ None
+    → (jump_step s rd target).slot ≡ NoSlot → ⊥
 unfolding jump_step
 jump_slot s rd target =
     cond_both (target % 4 == 0) _ _ (λ (t : State). t.ending ≡ None → t.slot ≡ NoSlot → ⊥)
@@ -105,9 +104,11 @@ out_slot s live in_slot = by s.ending refl (fetch_of s.memory s.pc) refl live
         at_slot false f x e = (goes_act s instr f live).2
         at_slot true f NoSlot e = absurd (in_slot e)
         at_slot true f Taken e =
-            let ended : (act s instr).ending ≡ Some Couple = couples Taken s instr (λ g. absurd (cc)) e f in absurd (cc)
+            let ended : (act s instr).ending ≡ Some Couple = couples Taken s instr (λ g. absurd (cc)) e f in
+            absurd (cc)
         at_slot true f Untaken e =
-            let ended : (act s instr).ending ≡ Some Couple = couples Untaken s instr (λ g. absurd (cc)) e f in absurd (cc)
+            let ended : (act s instr).ending ≡ Some Couple = couples Untaken s instr (λ g. absurd (cc)) e f in
+            absurd (cc)
 
     by : (x : Option Ending) → s.ending ≡ x → (o : Option ℕ) → fetch_of s.memory s.pc ≡ o
         → (unless_over s x (on_word s o)).ending ≡ None → (unless_over s x (on_word s o)).slot ≡ NoSlot
@@ -257,7 +258,8 @@ module _ (text : Words) (is : IsText text) (b : Blocks) (c : IsCut text b) (sing
         (ap (λ (e : BlockEnd). runs_on e kinds.Taken) end ∙ ap not all))
         (λ some.
         quiet_way (i.Branch cond true disp22) h (way kinds.Untaken (within b.words (word + 2)))
-        (subst (λ (e : BlockEnd). IsOne (way kinds.Untaken (within b.words (word + 2))) (ways_of b.words word e)) (sym end)
+        (subst (λ (e : BlockEnd). IsOne (way kinds.Untaken (within b.words (word + 2))) (ways_of b.words word e))
+        (sym end)
         (untaken_is_one b.words word cond true target some))
         (ap (λ (e : BlockEnd). runs_on e kinds.Untaken) end))
 
@@ -387,15 +389,18 @@ module _ (text : Words) (is : IsText text) (b : Blocks) (c : IsCut text b) (sing
 
     by_jump : kind ≡ kinds.Out → AreCounting (along ++ behind) (here_at point.npc) (here_at point.pc)
     by_jump e =
-        let to : h.edge.to ≡ X = out_to b [] node h.edge (subst (λ (x : EdgeKind). IsEdge graph (edge_from graph node x) h.edge) e found) in
+        let to : h.edge.to ≡ X =
+        out_to b [] node h.edge (subst (λ (x : EdgeKind). IsEdge graph (edge_from graph node x) h.edge) e found) in
         joined (here_at point.npc) 0
-        (subst (λ (x : EdgeKind). AreCounting (landed text graph x point.npc) (here_at point.npc) 0) (sym e) (landed_counts point.npc))
+        (subst (λ (x : EdgeKind). AreCounting (landed text graph x point.npc) (here_at point.npc) 0) (sym e)
+        (landed_counts point.npc))
         (ap (λ n. one_if (same_node n (node_of b (Some w)))) to ∙ none_to_x) (omega arith)
 
     on_counts : AreCounting (along ++ behind) (here_at point.npc) (here_at point.pc)
     on_counts = by (same_kind kind kinds.Out) refl
       where
-        by : (x : Bool) → same_kind kind kinds.Out ≡ x → AreCounting (along ++ behind) (here_at point.npc) (here_at point.pc)
+        by : (x : Bool) → same_kind kind kinds.Out ≡ x
+            → AreCounting (along ++ behind) (here_at point.npc) (here_at point.pc)
         by false e = by_displacement e
         by true e = by_jump (same_kinds kind kinds.Out e)
 
@@ -403,7 +408,8 @@ module _ (text : Words) (is : IsText text) (b : Blocks) (c : IsCut text b) (sing
 
   module _ (node : Node) (there : IsNodeIn b [] node) (s : State) (fetches : FetchesOnly text s)
       (m : Matches text graph node (point_of s)) (live : (step_of s).ending ≡ None)
-      (leads : Matches text graph (node_after graph node (gone text graph node (point_of s) (goes_on_at (step_of s)))) (point_of (step_of s)))
+      (leads : Matches text graph (node_after graph node (gone text graph node (point_of s) (goes_on_at (step_of s))))
+      (point_of (step_of s)))
       (stays : IsNodeIn b [] (node_after graph node (gone text graph node (point_of s) (goes_on_at (step_of s))))) where
     abbrev pub t : State
     t = step_of s
@@ -466,7 +472,8 @@ module _ (text : Words) (is : IsText text) (b : Blocks) (c : IsCut text b) (sing
         let split : gone_here ≡ edge_from graph node kind ++ landed text graph kind s.npc =
         are ∙ ap (slot_left text graph node kind) next ∙ slot_none text b node kind s.npc in
         subst (λ ns. AreCounting ns (here_at t.pc) (here_at s.pc)) (sym split)
-        (subst (λ a. AreCounting (edge_from graph node kind ++ landed text graph kind s.npc) (here_at a) (here_at s.pc)) (sym next)
+        (subst (λ a. AreCounting (edge_from graph node kind ++ landed text graph kind s.npc) (here_at a) (here_at s.pc))
+        (sym next)
         (on_counts node (point_of s) kind way))
 
     -- So a step adds to what is counted of the word, with the slot that was begun, 1 where it leads to the word.

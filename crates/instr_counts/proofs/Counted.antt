@@ -1,23 +1,21 @@
 -- How often each word is visited, along a run.
-use Rattle.std.proofs.Common.{◌≡◌, ◌≢◌, ℕ, zero, suc, ◌+◌, ◌-◌, ◌<◌, ◌≤◌, ◌⊎◌, inl, inr, Bool, true, false, not, ◌&&◌, nat_lt, List, [], ◌∷◌, ◌++◌, length, Option, Some, None, refl, ap, sym, ◌∙◌, subst, arith}
+use Rattle.std.proofs.Common.{◌≡◌, ℕ, zero, suc, ◌+◌, ◌-◌, ◌<◌, ◌⊎◌, inl, inr, Bool, true, false, not, ◌&&◌, nat_lt, List, [], ◌∷◌, length, Option, Some, None, refl, ap, sym, ◌∙◌, subst, arith}
 use Rattle.std.specs.Prelude.{◌==◌, if◌then◌else◌}
-use Rattle.std.specs.List.{filter, flat_map, position}
-use Rattle.std.proofs.lemmas.Bool.{and_parts, cases_eq, eq-eqb, eqb-true, false≢true, lt-ltb, ne_eqb}
+use Rattle.std.specs.List.{filter, flat_map}
+use Rattle.std.proofs.lemmas.Bool.{and_parts, cases_eq, eq-eqb, false≢true, lt-ltb, ne_eqb}
 use Rattle.std.proofs.lemmas.List.Quantifiers.{position-Some}
-use Rattle.std.proofs.lemmas.Option.{get_or_from_slice_get}
 use Rattle.eel_base.specs.CodeText.{Words, IsText, address_of, word_at}
 use Rattle.elf32_sparc.specs.Header.{e_entry}
 use Rattle.elf32_sparc.specs.Image.{image_of, text_of, word_number}
 use Rattle.v8_decode.specs.declared.Instr.{Instr}
 use Rattle.v8_decode.specs.declared.Instr.TheVariants as i
-use Rattle.flows.specs.Flows.{Graph as PlainGraph, weight_below}
+use Rattle.flows.specs.Flows.{Graph as PlainGraph}
 use Rattle.flows.specs.Walks.{IsWalk, times}
 use Rattle.v8_step.specs.declared.Ending.{Ending}
 use Rattle.v8_step.specs.declared.Slot.{Slot}
 use Rattle.v8_step.specs.declared.Slot.TheVariants.{NoSlot, Taken, Untaken}
 use Rattle.v8_step.specs.State.{State}
 use Rattle.v8_step.specs.Run.{run}
-use Rattle.v8_step.specs.Step.{step_of}
 use Rattle.v8_step.specs.Visits.{as_list, if_live, own_trail, own_visit}
 use Rattle.v8_step.proofs.Executable.{code_stays}
 use Rattle.v8_process.specs.Start.{start_of}
@@ -29,11 +27,11 @@ use Rattle.cfg_blocks.specs.Switches.{switches_of}
 use Rattle.cfg_normal.specs.declared.Edge.{Edge}
 use Rattle.cfg_normal.specs.declared.Node.{Node}
 use Rattle.cfg_normal.specs.declared.Node.TheVariants.{Block, Landed, X}
-use Rattle.cfg_normal.specs.Nodes.{home_of, same_node}
+use Rattle.cfg_normal.specs.Nodes.{same_node}
 use Rattle.cfg_normal.specs.Numbers.{node_number}
-use Rattle.cfg_normal.specs.Opens.{Open, is_copied, opens_of}
+use Rattle.cfg_normal.specs.Opens.{Open, is_copied}
 use Rattle.cfg_normal.specs.Graph.{Graph, IsNodeIn, copied_edges, edges_in, edges_of, graph_of, landing_at as landing, landings_of, node_of}
-use Rattle.cfg_walk.specs.Walk.{Point, by_kind, edge_from, end_of_walk, gone, gone_in, goes_on_at, instr_at, node_after, point_of, same_kind, walk, way_of}
+use Rattle.cfg_walk.specs.Walk.{Point, edge_from, end_of_walk, gone_in, instr_at, node_after, point_of, same_kind, walk, way_of}
 use Rattle.cfg_walk.specs.Matches.{BeginsAt, FetchesOnly, IsOnItsWay, Matches, MatchesBy, MatchesRun}
 use Rattle.cfg_walk.proofs.Addresses.{word_at-address}
 use Rattle.cfg_walk.proofs.Cut.{IsCut, cut}
@@ -44,14 +42,13 @@ use Rattle.cfg_walk.proofs.NoneOpen.{home_none, jumps_none, on_edge, open_none}
 use Rattle.cfg_walk.proofs.Walks.{live_before, walks_match}
 use Rattle.span_tree.specs.Links.{edge_at, links_of, no_edge}
 use Rattle.walk_counts.specs.Counts.{executions, last_node}
-use Rattle.walk_counts.specs.Files.{graph_in}
 use Rattle.walk_counts.proofs.Fetching.{only_text_is_fetched}
 use Rattle.walk_counts.proofs.Files.{begins, entry_is}
 use Rattle.walk_counts.proofs.Paths.{walks_are_paths}
-use Rattle.instr_counts.specs.Visits.{AreSingle, finished, is_begun, leads_to, one_if, runs_slot, visits_by}
+use Rattle.instr_counts.specs.Visits.{AreSingle, is_begun, one_if, visits_by}
 use Rattle.instr_counts.specs.Laws.{AreVisited, HasEach, VisitsAreCounted}
 use Rattle.instr_counts.proofs.Closed.{none_are_open}
-use Rattle.instr_counts.proofs.Single.{as_many, holds_itself, last_is, words_are_blocks}
+use Rattle.instr_counts.proofs.Single.{holds_itself, last_is, words_are_blocks}
 use Rattle.instr_counts.proofs.Passing.{passing, passing-append, times-append, weighed}
 use Rattle.instr_counts.proofs.Completed.{added, as_slot, begun_at, here_at, into_word, same_place}
 
@@ -166,11 +163,13 @@ module _ (text : Words) (is : IsText text) (b : Blocks) (c : IsCut text b) (sing
       away : (point.pc ≡ address_of text w → ⊥)
           → one_if (is_begun text b point.pc (node_number graph node) w) ≡ here_at text is b c single w inside point.pc
       away apart =
-          elsewhere point.pc (node_number graph node) apart ∙ sym (ap one_if (ne_eqb point.pc (address_of text w) apart))
+          elsewhere point.pc (node_number graph node) apart
+          ∙ sym (ap one_if (ne_eqb point.pc (address_of text w) apart))
 
       by : (x : Slot) → MatchesBy text graph node point x
           → (point.pc ≡ address_of text w) ⊎ (point.pc ≡ address_of text w → ⊥)
-          → one_if (is_begun text b point.pc (node_number graph node) w) ≡ begun_at text is b c single w inside point.pc x
+          → one_if (is_begun text b point.pc (node_number graph node) w)
+          ≡ begun_at text is b c single w inside point.pc x
       by NoSlot m (inr apart) = elsewhere point.pc (node_number graph node) apart
       by NoSlot m (inl same) = out_of_slot point node there m same
       by Taken m (inr apart) = away apart
@@ -213,7 +212,8 @@ module _ (text : Words) (given : List ℕ) (entry : ℕ) (s0 : State) (is : IsTe
       + begun_at text is b c single w inside (run s0 n).pc (run s0 n).slot
 
   matching_after : (n : ℕ) → (run s0 (suc n)).ending ≡ None
-      → Matches text of_run (node_after of_run (end_of_walk text of_run entry s0 n) (gone_in text of_run entry s0 n)) (point_of (run s0 (suc n)))
+      → Matches text of_run (node_after of_run (end_of_walk text of_run entry s0 n) (gone_in text of_run entry s0 n))
+      (point_of (run s0 (suc n)))
       × IsNodeIn b [] (node_after of_run (end_of_walk text of_run entry s0 n) (gone_in text of_run entry s0 n))
   unfolding end_of_walk
   matching_after n live = matching (suc n) live
@@ -256,7 +256,8 @@ module _ (text : Words) (given : List ℕ) (entry : ℕ) (s0 : State) (is : IsTe
       let on = matching_after n live in
       let so_far = visited n before in
       let more = times-append (own_trail s0 (suc n)) (as_list (own_visit (run s0 (suc n)))) (address_of text w) in
-      let last : times (as_list (own_visit (run s0 (suc n)))) (address_of text w) ≡ times ((run s0 (suc n)).pc ∷ []) (address_of text w) =
+      let last : times (as_list (own_visit (run s0 (suc n)))) (address_of text w)
+      ≡ times ((run s0 (suc n)).pc ∷ []) (address_of text w) =
       ap (λ xs. times xs (address_of text w)) (live_visit (run s0 (suc n)) live) in
       let one = times_one (run s0 (suc n)).pc in
       let into = passing-append (into_word text is b c single w inside) (walk text of_run entry s0 n) es in
@@ -272,12 +273,15 @@ module _ (text : Words) (given : List ℕ) (entry : ℕ) (s0 : State) (is : IsTe
 
   pub told : (n : ℕ) → (run s0 n).ending ≡ None
       → times (own_trail s0 (suc n)) (address_of text w)
-      ≡ visits_by text of_run entry (executions text of_run entry s0 n) (run s0 n).pc (last_node text of_run entry s0 n) w
+      ≡ visits_by text of_run entry (executions text of_run entry s0 n) (run s0 n).pc
+      (last_node text of_run entry s0 n) w
   told n live =
       let m = matching n live in
       let whole = visited n live in
-      let into = weighed (length of_run.edges) (into_word text is b c single w inside) (walk text of_run entry s0 n) (within n) in
-      let slots = weighed (length of_run.edges) (as_slot text is b c single w inside) (walk text of_run entry s0 n) (within n) in
+      let into =
+      weighed (length of_run.edges) (into_word text is b c single w inside) (walk text of_run entry s0 n) (within n) in
+      let slots =
+      weighed (length of_run.edges) (as_slot text is b c single w inside) (walk text of_run entry s0 n) (within n) in
       let begun =
       begun_is text is b c single w inside (end_of_walk text of_run entry s0 n) (point_of (run s0 n)) m.1 m.0 in
       omega (arith, whole, into, slots, begun)

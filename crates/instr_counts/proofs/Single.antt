@@ -1,12 +1,10 @@
 -- Blocks of one word each.
-use Rattle.std.proofs.Common.{◌≡◌, ℕ, zero, suc, ◌+◌, ◌-◌, ◌<◌, ◌≤◌, ◌⊎◌, inl, inr, true, List, length, slice_index, refl, ap, sym, ◌∙◌, subst, arith}
-use Rattle.std.proofs.lemmas.Bool.{cases_lt}
-use Rattle.eel_base.specs.CodeText.{Words, IsText}
-use Rattle.cfg_blocks.specs.Blocks.{AreFirsts, Blocks, block_end, blocks_of, holding_of, is_among, last_word, size_of}
-use Rattle.cfg_walk.proofs.Cut.{IsCut, cut, entry_leads}
-use Rattle.cfg_walk.proofs.Holding.{IsIn, Leads, ends_at_next, ends_at_words, is_held, is_last, some_words}
+use Rattle.std.proofs.Common.{◌≡◌, ℕ, zero, suc, ◌+◌, ◌-◌, ◌<◌, length, slice_index, arith}
+use Rattle.cfg_blocks.specs.Blocks.{AreFirsts, Blocks, block_end, blocks_of, holding_of, last_word}
+use Rattle.cfg_walk.proofs.Cut.{cut, entry_leads}
+use Rattle.cfg_walk.proofs.Holding.{IsIn, ends_at_next, ends_at_words, is_held, is_last, some_words}
 use Rattle.instr_counts.specs.Visits.{AreSingle}
-use Rattle.instr_counts.specs.Laws.{HasEach, WordsAreBlocks}
+use Rattle.instr_counts.specs.Laws.{WordsAreBlocks}
 
 -- where each word is given, each is the last of its block
 pub words_are_blocks : WordsAreBlocks
@@ -19,7 +17,8 @@ words_are_blocks text given is each block within =
     record { within = within; above = omega arith; below = some } in
     let last : first ≡ last_word b.firsts b.words block =
     is_last b.words b.firsts c.firsts first block here (λ more.
-    entry_leads text given (suc first) (each (suc first) (omega (arith, more, c.words))) (omega (arith, more, c.words))) in
+    entry_leads text given (suc first) (each (suc first) (omega (arith, more, c.words)))
+    (omega (arith, more, c.words))) in
     omega (arith, last, some)
 
 module _ (b : Blocks) (f : AreFirsts b.words b.firsts) (single : AreSingle b) where

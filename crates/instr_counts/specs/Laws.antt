@@ -32,8 +32,8 @@ NoneAreOpen =
     (text : Words) (given : List ℕ) (switches : List Switch) → IsText text → HasEach text given
     → opens_of text (entered_of text given) switches ≡ []
 
--- The run carries out step n. So often its first n + 1 steps carry out the word: as the counts of the edges that the first
--- n complete say, and where it stands.
+-- The run carries out step n. So often its first n + 1 steps carry out the word: as the counts of the edges that the
+-- first n complete say, and where it stands.
 abbrev pub AreVisited : Words → Graph → ℕ → State → ℕ → Type 0
 AreVisited text graph entry s0 n =
     (run s0 n).ending ≡ None → (word : ℕ) → word < length text.words

@@ -31,7 +31,8 @@ pub record IsNoted (graph : Graph) (noted : NoteEdge) (edge : Edge) : Type 0 whe
 -- and so of each
 pub record AreNoted (graph : Graph) (noted : List NoteEdge) (edges : List Edge) : Type 0 where
   pub count : length noted ≡ length edges
-  pub each : (e : ℕ) → e < length edges → IsNoted graph (slice_index_or noted e no_noted) (slice_index_or edges e no_edge)
+  pub each : (e : ℕ) → e < length edges
+      → IsNoted graph (slice_index_or noted e no_noted) (slice_index_or edges e no_edge)
 
 -- Each block has one word, and the notes' text, entry, blocks and edges are those of the view.
 pub record Matches (view : Seen) (notes : Notes) : Type 0 where

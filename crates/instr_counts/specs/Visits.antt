@@ -1,7 +1,7 @@
 -- How often the words of a text are visited, by how often the edges of its flow graph are completed, where each word is
--- a block by itself. (Ball and Larus, "Optimally Profiling and Tracing Programs", ACM TOPLAS 16 (4), 1994, take counts of
--- blocks from those of edges; here delay slots are counted too.)
-use Rattle.std.specs.Prelude.{◌≡◌, ℕ, ◌+◌, ◌<◌, Bool, true, false, not, ◌&&◌, ◌==◌, nat_lt, if◌then◌else◌, List, length, Some}
+-- a block by itself. (Ball and Larus, "Optimally Profiling and Tracing Programs", ACM TOPLAS 16 (4), 1994, take counts
+-- of blocks from those of edges; here delay slots are counted too.)
+use Rattle.std.specs.Prelude.{◌≡◌, ℕ, ◌+◌, ◌<◌, Bool, false, not, ◌&&◌, ◌==◌, nat_lt, if◌then◌else◌, length, Some}
 use Rattle.eel_base.specs.CodeText.{Words, address_of}
 use Rattle.flows.specs.Flows.{weight_below}
 use Rattle.cfg_blocks.specs.Blocks.{Blocks, holding_of, size_of}
@@ -35,16 +35,16 @@ is_slot word _ = false
 abbrev pub runs_slot : ℕ → Edge → Bool
 runs_slot word edge = is_slot word edge.slot
 
--- Visits by what was completed: a run comes to a word along an edge to its block, or begins there, or runs it as the slot
--- of an edge.
+-- Visits by what was completed: a run comes to a word along an edge to its block, or begins there, or runs it as the
+-- slot of an edge.
 abbrev pub finished : Graph → ℕ → (ℕ → ℕ) → ℕ → ℕ
 finished graph entry counts word =
     sum_where graph counts (leads_to graph.blocks word)
     + one_if (holding_of graph.blocks entry == holding_of graph.blocks word)
     + sum_where graph counts (runs_slot word)
 
--- A run stands at an address, for a visit of a node: that is of the word, and the node is another block. So the word is a
--- slot that was begun, and its edge isn't completed.
+-- A run stands at an address, for a visit of a node: that is of the word, and the node is another block. So the word is
+-- a slot that was begun, and its edge isn't completed.
 abbrev pub is_begun : Words → Blocks → ℕ → ℕ → ℕ → Bool
 is_begun text b address node word =
     (address == address_of text word) && (nat_lt node (length b.firsts) && not (node == holding_of b word))

@@ -10,10 +10,10 @@ ghost use Rattle.instr_counts.specs.Answers.{along, as_slot, begun_in, is_block,
 ghost use Rattle.instr_counts.specs.Matches.{Matches};
 ghost use Rattle.instr_counts.specs.Visits.{is_begun, is_slot, one_if, runs_slot};
 
-use cfg_normal::{Edge, Node, Slot};
+use cfg_normal::{Edge, FlowGraph, Node, Slot};
 use cfg_view::View;
 use dump_file::Dump;
-use eel_base::{Addr, NoMemory, WordNo};
+use eel_base::{Addr, NoMemory, Text, WordNo};
 use notes::{Notes, Range};
 use std::alloc::Global;
 
@@ -30,7 +30,8 @@ pub fn visits(
     requires view { IsView v.now }
     requires matches { Matches (view_seen v.now) (notes_seen n.now) }
     requires counts { length counts.now ≡ length n.now.edges.items }
-    ensures visits { IfOk result (λ visits. AreVisits (view_seen v.now) (notes_seen n.now) (dump_seen d.now) counts.now visits.items) }
+    ensures visits { IfOk result (λ visits.
+        AreVisits (view_seen v.now) (notes_seen n.now) (dump_seen d.now) counts.now visits.items) }
     ensures small { IfOk result (λ visits. All (λ count. count < 2 ^ 100) visits.items) }
 {
     let mut visits = vec![in alloc; 0; v.image.text().len() as usize]?;
@@ -51,7 +52,7 @@ fn add_all(visits: &mut [u128], v: &View, n: &Notes, d: &Dump, counts: &[u64])
 {
     add_edges(visits, v.graph.edges(), counts);
     add(visits, v.image.entry(), 1);
-    add_to(visits, begun(v, n, d.pc), 1);
+    add_to(visits, begun(v.image.text(), &v.graph, n, d.pc), 1);
 }
 
 /// Adds the count of each edge to the words that are visited along it.
@@ -74,7 +75,8 @@ fn add_edge(visits: &mut [u128], edge: &Edge, count: u64)
     requires { (word : ℕ) → slice_index visits.old word < 2 ^ 100 }
     ensures len { length visits.new ≡ length visits.old }
     ensures added { (word : ℕ) → word < length visits.old → slice_index visits.new word
-        ≡ slice_index visits.old word + count * one_if (is_block word edge.now.to) + count * one_if (runs_slot word edge.now) }
+        ≡ slice_index visits.old word + count * one_if (is_block word edge.now.to)
+        + count * one_if (runs_slot word edge.now) }
     ensures small { (word : ℕ) → slice_index visits.new word < slice_index visits.old word + 2 ^ 65 }
 {
     add_to(visits, block_word(edge.to), count);
@@ -132,25 +134,25 @@ fn add_to(visits: &mut [u128], word: Option<WordNo>, count: u64)
 }
 
 /// The word that was begun as a slot, if the run stands at one: its edge isn't completed.
-fn begun(v: &View, n: &Notes, pc: Addr) -> Option<WordNo>
-    requires { IsView v.now }
-    ensures { (word : ℕ) → word < length v.now.image.text.words
-        → begun_in v.now.image.text v.now.graph.blocks (range_at (notes_seen n.now) pc.0) word ≡ one_if (is_word word result) }
+fn begun(text: &Text, graph: &FlowGraph, n: &Notes, pc: Addr) -> Option<WordNo>
+    requires { graph.now.blocks.words ≡ length text.now.words }
+    ensures { (word : ℕ) → word < length text.now.words
+        → begun_in text.now graph.now.blocks (range_at (notes_seen n.now) pc.0) word ≡ one_if (is_word word result) }
 {
     match range_at(&n.ranges, pc) {
-        Some(range) => begun_at(v, range.address, range.node),
+        Some(range) => begun_at(text, graph, range.address, range.node),
         None => None,
     }
 }
 
 /// The same, where it stands at an address for a visit of a node.
-fn begun_at(v: &View, address: Addr, node: u32) -> Option<WordNo>
-    requires { IsView v.now }
-    ensures { (word : ℕ) → word < length v.now.image.text.words
-        → is_begun v.now.image.text v.now.graph.blocks address.0 node word ≡ is_word word result }
+fn begun_at(text: &Text, graph: &FlowGraph, address: Addr, node: u32) -> Option<WordNo>
+    requires { graph.now.blocks.words ≡ length text.now.words }
+    ensures { (word : ℕ) → word < length text.now.words
+        → is_begun text.now graph.now.blocks address.0 node word ≡ is_word word result }
 {
-    let word = v.image.text().find(address)?;
-    if is_elsewhere(v, node, word) {
+    let word = text.find(address)?;
+    if is_elsewhere(graph, node, word) {
         Some(word)
     } else {
         None
@@ -158,13 +160,12 @@ fn begun_at(v: &View, address: Addr, node: u32) -> Option<WordNo>
 }
 
 /// Whether a node is a block, and not that of the word.
-fn is_elsewhere(v: &View, node: u32, word: WordNo) -> bool
-    requires view { IsView v.now }
-    requires word { word.0 < length v.now.image.text.words }
-    ensures { result ≡ (nat_lt node (length v.now.graph.blocks.firsts)
-        && not (node == holding_of v.now.graph.blocks word.0)) }
+fn is_elsewhere(graph: &FlowGraph, node: u32, word: WordNo) -> bool
+    requires { word.0 < graph.now.blocks.words }
+    ensures { result ≡ (nat_lt node (length graph.now.blocks.firsts)
+        && not (node == holding_of graph.now.blocks word.0)) }
 {
-    node < v.graph.count() && node != v.graph.holding(word).0
+    node < graph.count() && node != graph.holding(word).0
 }
 
 /// The place that holds an address.

@@ -22,8 +22,8 @@ pub fn none_are_open()
     ensures { NoneAreOpen }
 {}
 
-/// How often the run of a file without a fault carries out each word of its text is what the counts of edges tell, slots
-/// included, with the one where it stands.
+/// How often the run of a file without a fault carries out each word of its text is what the counts of edges tell,
+/// slots included, with the one where it stands.
 pub fn visits_are_counted()
     ensures { VisitsAreCounted }
 {}

@@ -14,7 +14,8 @@ use cfg_view::View;
 use eel_base::BlockNo;
 use notes::{NoteEdge, Notes};
 
-/// Whether each block of a view has one word, and the text, the entry, the blocks and the edges of notes are the view's.
+/// Whether each block of a view has one word, and the text, the entry, the blocks and the edges of notes are those of
+/// the view.
 pub fn matches(v: &View, n: &Notes) -> bool
     requires { IsView v.now }
     ensures { IsTrue result ↔ Matches (view_seen v.now) (notes_seen n.now) }

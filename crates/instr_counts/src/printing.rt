@@ -1,11 +1,12 @@
 //! The lines of visits.
 ghost use Rattle.std.specs.Prelude.{◌≡◌, ◌^◌, ◌<◌, [], ◌∷◌, ◌++◌, codes, decimal, length, IfOk, OnOk, All};
 ghost use Rattle.std.specs.List.{count_by, enumerate_from, flat_map, sum};
+ghost use Rattle.eel_base.specs.Fields.{hex_of};
 ghost use Rattle.show_text.specs.Lines.{line};
 ghost use Rattle.instr_counts.specs.Lines.{is_visited, total_line, visit_line, visit_lines};
 
 use cfg_view::View;
-use eel_base::{NoMemory, Text, WordNo, hex8};
+use eel_base::{Addr, NoMemory, Text, WordNo, hex8};
 use itoa::Buffer;
 use show_text::put_line;
 use std::alloc::Global;
@@ -46,18 +47,19 @@ fn put_visit(lines: &mut Vec<u8>, text: &Text, word: WordNo, count: u128) -> Res
     if count == 0 {
         return Ok(());
     }
-    put_times(lines, &hex8(text.address(word).0), count)?;
+    put_times(lines, text.address(word), count)?;
     Ok(())
 }
 
-/// Adds the line of the word at an address, given as its digits.
-fn put_times(lines: &mut Vec<u8>, address: &[u8], count: u128) -> Result<(), NoMemory>
+/// Adds the line of the word at an address.
+fn put_times(lines: &mut Vec<u8>, address: Addr, count: u128) -> Result<(), NoMemory>
     ensures { OnOk result (lines.new.items
-        ≡ lines.old.items ++ line (codes "word" ∷ address.now ∷ decimal count ∷ [])) }
+        ≡ lines.old.items ++ line (codes "word" ∷ hex_of address.0 ∷ decimal count ∷ [])) }
 {
     let mut times = Buffer::new();
+    let address = hex8(address.0);
     let times = times.format(count).as_bytes();
-    put_line(lines, b"word", &[address, times])?;
+    put_line(lines, b"word", &[&address, times])?;
     Ok(())
 }
 

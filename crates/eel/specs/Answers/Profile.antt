@@ -1,6 +1,6 @@
 -- `edit IN OUT profile`: the file IN is read, judged, edited with counters on the edges off a spanning tree, and written as
 -- OUT.
-use Rattle.std.specs.Prelude.{◌≡◌, ℕ, ◌*◌, List, [], ◌∷◌, length, map, Option, Some, None}
+use Rattle.std.specs.Prelude.{◌≡◌, ℕ, ◌*◌, List, [], length, map, Option, Some, None}
 use Rattle.eel_base.specs.Outside.{IsMissing, stored}
 use Rattle.flows.specs.Flows.{IsLeast, rest}
 use Rattle.flows.specs.Links.{weight_in}

@@ -3,7 +3,7 @@ use Rattle.std.specs.Prelude.{◌==◌}
 use Rattle.std.proofs.lemmas.List.Elements.{All-from_get_or}
 use Rattle.cfg_normal.specs.Graph.{Graph}
 use Rattle.instr_counts.specs.Answers.{along, as_slot}
-use Rattle.instr_counts.specs.Visits.{finished, one_if}
+use Rattle.instr_counts.specs.Visits.{one_if}
 use Rattle.instr_counts.proofs.Adding.{finished_is}
 use Rattle.instr_counts.proofs.counting.add_all.Goals as goal
 
@@ -15,7 +15,8 @@ returns-clause-visits c =
     let v = c.args.v.now in
     let g = c.args.v.now.graph in
     let counts = c.args.counts.now in
-    let words : g.blocks.words ≡ length v.image.text.words = ap (λ (g : Graph). g.blocks.words) c.requires.view.graph ∙ c.requires.view.words in
+    let words : g.blocks.words ≡ length v.image.text.words =
+    ap (λ (g : Graph). g.blocks.words) c.requires.view.graph ∙ c.requires.view.words in
     record {
       len = omega (arith, c.requires.len, c.add_edges.ensures.len, c.add.ensures.len, c.add_to.ensures.len);
       each = λ word l.
@@ -28,7 +29,7 @@ returns-clause-visits c =
           ≡ slice_index c.add_edges.new.visits word + 1 * one_if (v.image.entry == word) =
           rw c.entry.ensures.word at (c.add.ensures.added word (omega (arith, inside, c.add_edges.ensures.len))) in
           let third = c.add_to.ensures.added word (omega (arith, inside, c.add_edges.ensures.len, c.add.ensures.len)) in
-          let begun = c.begun.ensures word (omega (arith, inside, c.requires.len)) in
+          let begun = (rw c.text.ensures at c.begun.ensures) word (omega (arith, inside, c.requires.len)) in
           let all = finished_is g c.edges.ensures.graph.firsts c.requires.matches.single counts v.image.entry word
           (omega (arith, c.entry.ensures.inside, words)) (omega (arith, inside, c.requires.len, words)) in
           omega (arith, first, second, third, begun, all);

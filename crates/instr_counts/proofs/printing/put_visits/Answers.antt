@@ -1,4 +1,4 @@
-use Rattle.std.proofs.Common.{rules, ℕ, ◌<◌, ◌≤◌, get_or, length, zero-add, arith}
+use Rattle.std.proofs.Common.{rules, ◌<◌, ◌≤◌, get_or, length, zero-add, arith}
 use Rattle.std.specs.List.{enumerate_from}
 use Rattle.std.proofs.lemmas.List.FromFn.{get_or-enumerate_from, length-enumerate_from}
 use Rattle.instr_counts.specs.Lines.{visit_line}
