@@ -572,8 +572,8 @@ def narrow():
 TRACED = {'carry_loop': [1, 3, 16], 'three_words': [1], 'inner_landings': [2], 'switch_of_four': [5], 'call_and_return': [3],
     'newline_count': [6], 'calculator': [5], 'queens': [4], ARGUMENT.name: [1]}
 
-# Dumps of carry_loop with a ring of four places, by its cells: the first holds no place of an edge, one holds an edge too
-# many, and others have the size of a ring that isn't there.
+# Dumps of carry_loop with a ring of four places: rings that hold no edge and the last edge, one with an edge too many, and
+# dumps that are not of its runs.
 CARRY_LENGTH = len(CARRY_LOOP.file())
 RING_DUMPS = {'ring_of_none': dump(CARRY_LENGTH, 0, 1, [4294967295, 0, 0, 0, 0]),
     'ring_of_one': dump(CARRY_LENGTH, 0, 1, [4294967295, 0, 0, 0, 9]),
@@ -643,12 +643,12 @@ def traced():
             yield eel(f'run traced -d dump{arguments}', 0, *ran(program))
             yield eel('trace traced dump', 0, lines.encode())
     for line in ['edit a b trace', 'edit a b trace 0', 'edit a b trace 17', 'edit a b trace 02', 'edit a b trace +2',
-            'edit a b trace 2 ', 'edit a b trace 100', 'edit a b trace 2 2', 'edit a b traces 2', 'edit a b trace -1', 'trace',
+            'edit a b trace 100', 'edit a b trace 2 2', 'edit a b traces 2', 'edit a b trace -1', 'trace',
             'trace a', 'trace a b c']:
         yield eel(line, 64, err=BAD_WORDS)
     yield eel('edit missing traced trace 16', 74, err=DEVICE_FAULT)
     yield eel('edit missing traced trace 1', 74, err=DEVICE_FAULT)
-    yield eel('edit dump traced trace 2', 65, err=b'eel: dump: file fault 2\n')
+    yield eel('edit ring_of_none traced trace 2', 65, err=b'eel: ring_of_none: file fault 2\n')
     yield 'hold cramped', b''
     yield eel('edit cramped traced trace 16', 69, err=CRAMPED_TRACE)
 

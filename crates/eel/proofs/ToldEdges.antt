@@ -1,8 +1,8 @@
 -- The edges that are told of a trace's run are the last ones, and they are told but where the run stands between places, and
 -- for want of memory.
 use Rattle.std.proofs.Common.{◌≡◌, ℕ, List, sym, subst}
-use Rattle.elf32_sparc.specs.Notes.{Notes, notes_of}
 use Rattle.std.specs.Prelude.{Ok}
+use Rattle.elf32_sparc.specs.Notes.{Notes, notes_of}
 use Rattle.dump_file.specs.Dump.{Dump}
 use Rattle.edge_ring.specs.declared.fault.RingFault.{RingFault}
 use Rattle.edge_ring.specs.declared.fault.RingFault.TheVariants as faults
