@@ -507,6 +507,10 @@ def visited():
     yield f'same restored {VISITED[-1]}', b''
 
 
+# Where the original stands in the edited three_words.
+ORIGINAL_AT = 0x10000
+
+
 def unvisited():
     """Files and dumps that have no visits."""
     yield 'hold three_words', b''
@@ -525,18 +529,24 @@ def unvisited():
     yield eel('visits profiled of_an_older_version', 65, err=b'eel: profiled: not every word\n')
     yield eel('visits marked of_an_older_version', 65, err=b'eel: of_an_older_version: dump version 1, notes version 2\n')
     yield eel('visits marked of_another', 65, err=b'eel: of_another: made for 112 bytes, 96 wanted\n')
-    # an original that is one no more, and one that another word begins
-    for name in ('marked.faulty', 'marked.unlike'):
-        yield f'hold {name}', b''
+    # an original that is none any more, one that leaves its first word by a branch, and notes of another entry
+    yield f'patch marked faulty {ORIGINAL_AT} 00', b''
+    yield f'patch marked unlike {ORIGINAL_AT + 84} 10800002', b''
+    yield 'noted marked entered 20 00000001', b''
+    for name in ('faulty', 'unlike', 'entered'):
         yield eel(f'visits {name} dump', 65, err=f'eel: {name}: not every word\n'.encode())
-    # no step was made, or one
+    # at its first word, and in no place
     yield eel('run marked -n 0 -d dump', 0, err=b'stopped 0\n')
-    yield eel('visits marked dump', 0, b'words 3 visited 0 visits 0\n')
+    yield eel('visits marked dump', 0, b'word 00010054 1\nwords 3 visited 1 visits 1\n')
+    yield eel('visits marked in_no_place', 65, err=b'eel: in_no_place: 2 cells, 6 wanted\n')
     for words in ('visits', 'visits marked', 'visits marked dump dump', 'edit three_words marked every three_words'):
         yield eel(words, 64, err=BAD_WORDS)
     yield 'hold cramped', b''
-    yield eel('edit cramped marked every', 69, err=b'eel: cramped: room ? needed, 0 had\n')
-    yield eel('edit three_words.listing marked every', 65)
+    yield eel('edit cramped marked every', 69, err=b'eel: cramped: room 1050904 needed, 0 had\n')
+    yield eel('edit of_another marked every', 65, err=b'eel: of_another: file fault 2\n')
+    yield 'hold carry_loop.narrow', b''
+    yield 'hold carry_loop.narrow_dump', b''
+    yield eel('visits carry_loop.narrow carry_loop.narrow_dump', 65, err=b'eel: carry_loop.narrow: not every word\n')
 
 
 def narrow():
@@ -682,7 +692,8 @@ def demo():
 
 SESSIONS = {'edits': list(edits()), 'scripts': list(scripts()), 'words': list(words()), 'restores': list(restores()),
     'refusals': list(refusals()), 'profiles': list(profiles()), 'uncounted': list(uncounted()), 'narrow': list(narrow()),
-    'traced': list(traced()), 'demo': list(demo()), 'listed': list(listed()), 'weighed': list(weighed()),
+    'visited': list(visited()), 'unvisited': list(unvisited()), 'traced': list(traced()), 'demo': list(demo()),
+    'listed': list(listed()), 'weighed': list(weighed()),
     'faulty': list(tables.faulty()), 'noted': list(tables.noted()), 'dumped': list(tables.dumped()),
     'devices': list(tables.devices()), 'long': list(tables.long())}
 
