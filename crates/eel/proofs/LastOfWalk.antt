@@ -153,7 +153,8 @@ module _ (bits : ℕ) (original file : List ℕ) (notes : Notes) (trace : IsTrac
     last_told edges are = let placed = are.whole.placed in (tells (there placed.node placed.at)).last edges are
 
     -- between places it hasn't ended
-    runs_on : node_at notes (run t0 m).pc ≡ None → (o : Option Ending) → (run t0 m).ending ≡ o → (run t0 m).ending ≡ None
+    runs_on : node_at notes (run t0 m).pc ≡ None → (o : Option Ending) → (run t0 m).ending ≡ o
+        → (run t0 m).ending ≡ None
     runs_on none None live = live
     runs_on none (Some d) over = absurd (stop.placed (λ live. absurd (cc)) none)
 

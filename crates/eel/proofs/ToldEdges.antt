@@ -1,5 +1,5 @@
--- The edges that are told of a trace's run are the last ones, and they are told but where the run stands between places, and
--- for want of memory.
+-- The edges that are told of a trace's run are the last ones, and they are told but where the run stands between places,
+-- and for want of memory.
 use Rattle.std.proofs.Common.{◌≡◌, ℕ, List, sym, subst}
 use Rattle.std.specs.Prelude.{Ok}
 use Rattle.elf32_sparc.specs.Notes.{Notes, notes_of}

@@ -215,8 +215,8 @@ command_of (verb ∷ words) =
     if bytes_eq verb (codes "trace") then trace_of words else
     if bytes_eq verb (codes "demo") then demo_of words else Unknown
 
--- the arguments of a run are ones that a program can be given, as many routines are asked for as can be made, and a ring has
--- 1 to 16 bits
+-- the arguments of a run are ones that a program can be given, as many routines are asked for as can be made, and a ring
+-- has 1 to 16 bits
 abbrev pub KeepsLimits : Command → Type 0
 KeepsLimits (Run file limit dump args) = AreArguments args
 KeepsLimits (Demo number routines) = (1 ≤ routines) × (routines ≤ 100000)

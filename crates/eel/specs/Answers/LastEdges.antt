@@ -1,5 +1,5 @@
--- `trace WRITTEN DUMP`: the file WRITTEN and the dump DUMP are read, the notes of the one and then the other are judged, and
--- the last edges that the dump tells of are printed, the oldest first.
+-- `trace WRITTEN DUMP`: the file WRITTEN and the dump DUMP are read, the notes of the one and then the other are judged,
+-- and the last edges that the dump tells of are printed, the oldest first.
 use Rattle.std.specs.Prelude.{◌≡◌, ℕ, ◌-◌, ◌≤◌, ◌⊎◌, List, Ok, Err}
 use Rattle.eel_base.specs.Outside.{IsMissing, appended}
 use Rattle.elf32_sparc.specs.Image.{image_of}
@@ -39,8 +39,8 @@ HasRingCause notes dump (causes.Shape cells wanted) = IsMisshapen notes dump cel
 HasRingCause notes dump (causes.Between pc) = IsBetween notes dump pc.0
 HasRingCause notes dump _ = ⊥
 
--- The file `written` and the dump `name` were read, and no edges are told: the notes are judged, then the dump, and then
--- whether they tell the last edges.
+-- The file `written` and the dump `name` were read, and no edges are told: the notes are judged, then the dump, and
+-- then whether they tell the last edges.
 abbrev pub IsUntold : List ℕ → List ℕ → List ℕ → List ℕ → Outcome → Type 0
 IsUntold written file name bytes (NoNotes named) = (named ≡ written) × (notes_of file ≡ Err Absent)
 IsUntold written file name bytes (BadNotes named at) = (named ≡ written) × (notes_of file ≡ Err (Bad at))
@@ -91,8 +91,8 @@ EditsAreTraces =
     → IsEditOf original (trace_plan bits original) file → notes_of file ≡ Ok notes
     → IsTraceOf bits original file × IsTrace notes
 
--- The file is an original's trace, and the dump is what a run of it has come to, wherever it was stopped, without a touch of
--- the added pages in as many steps of the original as there were visits.
+-- The file is an original's trace, and the dump is what a run of it has come to, wherever it was stopped, without a touch
+-- of the added pages in as many steps of the original as there were visits.
 pub record IsOfTraced (bits : ℕ) (original file : List ℕ) (notes : Notes) (dump : Dump) (args : List (List ℕ))
     (input : List ℕ) (m : ℕ) : Type 0 where
   pub trace : IsTraceOf bits original file
@@ -102,8 +102,8 @@ pub record IsOfTraced (bits : ℕ) (original file : List ℕ) (notes : Notes) (d
       (visits_by notes (start_of file args input) m)
   pub is : dump ≡ dump_at notes (start_of file args input) m
 
--- Then the edges are the last ones of the walk of the original's run, with the steps before that of the last visit, as many as
--- the ring has places, or all where there are fewer: for all arguments and every input, however long the run is.
+-- Then the edges are the last ones of the walk of the original's run, with the steps before that of the last visit, as
+-- many as the ring has places, or all where there are fewer: for all arguments and every input, however long the run is.
 abbrev pub AreTheLast : List ℕ → Notes → Dump → List ℕ → Type 0
 AreTheLast file notes dump edges =
     (bits : ℕ) (original : List ℕ) (args : List (List ℕ)) (input : List ℕ) (m : ℕ)
@@ -112,7 +112,8 @@ AreTheLast file notes dump edges =
     ≡ last_of bits (walk (image_of original).text (graph_in original) (image_of original).entry
     (start_of original args input) (visits_by notes (start_of file args input) m - 1))
 
--- And they are told, but for want of memory, and where the run stands between places, which it doesn't where it has ended.
+-- And they are told, but for want of memory, and where the run stands between places, which it doesn't where it has
+-- ended.
 abbrev pub AreSeldomUntold : List ℕ → List ℕ → List ℕ → Outcome → Type 0
 AreSeldomUntold file name bytes outcome =
     (notes : Notes) (dump : Dump) → AreRead file bytes notes dump

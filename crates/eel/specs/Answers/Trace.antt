@@ -1,5 +1,5 @@
--- `edit IN OUT trace K`: the file IN is read, judged, edited with a ring of 2^K places that keeps the last edges, and written
--- as OUT.
+-- `edit IN OUT trace K`: the file IN is read, judged, edited with a ring of 2^K places that keeps the last edges, and
+-- written as OUT.
 use Rattle.std.specs.Prelude.{◌≡◌, ℕ, ◌+◌, ◌^◌, List, []}
 use Rattle.eel_base.specs.Outside.{IsMissing, stored}
 use Rattle.tool_kit.specs.declared.edge_ref.ToolKind.TheVariants as tools

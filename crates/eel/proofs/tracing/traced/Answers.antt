@@ -12,7 +12,8 @@ use Rattle.eel.proofs.tracing.traced.Goals as goal
 
 pub edit_with-requires-clause-sound : goal.edit_with-requires-clause-sound
 edit_with-requires-clause-sound c =
-    let small : 2 ^ c.args.bits ≤ 2 ^ 16 = pow-le-pow_right {n = 2} (omega arith) {i = c.args.bits} {j = 16} c.requires.few in
+    let small : 2 ^ c.args.bits ≤ 2 ^ 16 =
+    pow-le-pow_right {n = 2} (omega arith) {i = c.args.bits} {j = 16} c.requires.few in
     record {
       few = omega (arith, small, c.ring_cells.ensures);
       called = λ edge number. (c.requires.some, c.requires.few, number);
