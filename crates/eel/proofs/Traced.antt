@@ -1,5 +1,6 @@
 -- What an edit with a ring asks for is what its callback answers.
-use Rattle.std.proofs.Common.{◌≡◌, ℕ, ◌+◌, ◌^◌, List, ◌∙◌}
+use Rattle.std.proofs.Common.{◌≡◌, ℕ, ◌+◌, ◌^◌, List, [], subst, ◌∙◌}
+use Rattle.eel_base.specs.declared.numbers.WordNo.{WordNo}
 use Rattle.snippets.specs.declared.snippet.Op.{Op}
 use Rattle.tool_kit.specs.declared.edge_ref.EdgeRef.{EdgeRef}
 use Rattle.tool_kit.specs.declared.edge_ref.ToolKind.TheVariants as tools
@@ -12,10 +13,11 @@ use Rattle.eel.specs.Answers.Trace.{trace_plan}
 use Rattle.eel.proofs.Tools.{all_asked}
 
 module _ {F : Type 0} (says : F → EdgeRef → List Op → Type 0) (choose : F) (count : ℕ) (bytes : List ℕ) where
-  pub plan_is : (bits : ℕ) → count ≡ 1 + 2 ^ bits
+  -- without marks
+  asked_is : (bits : ℕ) → count ≡ 1 + 2 ^ bits
       → ((edge : EdgeRef) (ops : List Op) → says choose edge ops → ops ≡ ring_on bits edge.no.0)
-      → (plan : Plan) → AsksOf says (kept_by choose count tools.Trace) bytes plan → plan ≡ trace_plan bits bytes
-  plan_is bits count_is known plan asks =
+      → (plan : Plan) → AsksOf says (kept_by choose count [] tools.Trace) bytes plan → plan ≡ trace_plan bits bytes
+  asked_is bits count_is known plan asks =
       let snips =
       all_asked says choose (edges_in bytes) plan.snips (ring_on bits)
       (λ k edge answer is. known (numbered k edge) answer is) asks.snips in
@@ -26,6 +28,14 @@ module _ {F : Type 0} (says : F → EdgeRef → List Op → Type 0) (choose : F)
         snips = snips i;
       }
 
+  pub plan_is : (bits : ℕ) → count ≡ 1 + 2 ^ bits
+      → ((edge : EdgeRef) (ops : List Op) → says choose edge ops → ops ≡ ring_on bits edge.no.0)
+      → (marks : List WordNo) → marks ≡ []
+      → (plan : Plan) → AsksOf says (kept_by choose count marks tools.Trace) bytes plan → plan ≡ trace_plan bits bytes
+  plan_is bits count_is known marks none plan asks =
+      asked_is bits count_is known plan
+      (subst (λ (marked : List WordNo). AsksOf says (kept_by choose count marked tools.Trace) bytes plan) none asks)
+
   -- it is no profile
-  pub counts_none : CountsEdges says (kept_by choose count tools.Trace) bytes
-  counts_none plan asks = λ profile. let trace = asks.kind in absurd (cc (trace, profile))
+  pub counts_none : (marks : List WordNo) → CountsEdges says (kept_by choose count marks tools.Trace) bytes
+  counts_none marks plan asks = λ profile. let trace = asks.kind in absurd (cc (trace, profile))

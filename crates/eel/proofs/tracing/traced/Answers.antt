@@ -22,14 +22,15 @@ edit_with-requires-clause-sound c =
     }
 
 pub edit_with-requires-clause-counters : goal.edit_with-requires-clause-counters
-edit_with-requires-clause-counters c = counts_none _ _ _ _
+edit_with-requires-clause-counters c = counts_none _ _ _ _ c.new.result.items
 
 pub returns-clause-edited : goal.returns-clause-edited
 returns-clause-edited c = IfOk-weaker c.edit_with.result _
     (λ file. IsEditOf c.args.bytes.now (trace_plan c.args.bits c.args.bytes.now) file.items)
     (λ file made.
     let (plan, asks, edited) = made in
-    let same = plan_is _ _ _ c.args.bytes.now c.args.bits c.ring_cells.ensures (λ edge ops said. said.0) plan asks in
+    let same = plan_is _ _ _ c.args.bytes.now c.args.bits c.ring_cells.ensures (λ edge ops said. said.0)
+    c.new.result.items c.new.ensures.items plan asks in
     subst (λ (p : Plan). IsEditOf c.args.bytes.now p file.items) same edited)
     c.edit_with.ensures.edited
 
@@ -38,5 +39,6 @@ returns-clause-refused c = IfErr-weaker c.edit_with.result _
     (EditRefuses c.args.bytes.now (λ plan. plan ≡ trace_plan c.args.bits c.args.bytes.now))
     (λ fault refused.
     refused_as c.args.bytes.now _ (λ plan. plan ≡ trace_plan c.args.bits c.args.bytes.now) fault
-    (plan_is _ _ _ c.args.bytes.now c.args.bits c.ring_cells.ensures (λ edge ops said. said.0)) refused)
+    (plan_is _ _ _ c.args.bytes.now c.args.bits c.ring_cells.ensures (λ edge ops said. said.0) c.new.result.items
+    c.new.ensures.items) refused)
     c.edit_with.ensures.refused
