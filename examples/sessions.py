@@ -543,7 +543,7 @@ def unvisited():
         yield eel(words, 64, err=BAD_WORDS)
     yield 'hold cramped', b''
     yield eel('edit cramped marked every', 69, err=b'eel: cramped: room 1050904 needed, 0 had\n')
-    yield eel('edit of_another marked every', 65, err=b'eel: of_another: file fault 2\n')
+    yield eel('edit of_another marked every', 65, err=b'eel: of_another: file fault 1\n')
     yield 'hold carry_loop.narrow', b''
     yield 'hold carry_loop.narrow_dump', b''
     yield eel('visits carry_loop.narrow carry_loop.narrow_dump', 65, err=b'eel: carry_loop.narrow: not every word\n')

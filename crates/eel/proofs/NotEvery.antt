@@ -1,4 +1,5 @@
--- A dump of a run of a profile with every word marked has visits, but where it stands between places, and for want of memory.
+-- A dump of a run of a profile with every word marked has visits, but where it stands between places, and for want of
+-- memory.
 use Rattle.std.proofs.Common.{◌≡◌, ℕ, List, sym, subst}
 use Rattle.elf32_sparc.specs.Notes.{Notes}
 use Rattle.dump_file.specs.Dump.{Dump}

@@ -1,5 +1,5 @@
--- `edit IN OUT every`: as `profile`, with every word of the text marked. So each word is a block by itself, and the counts of
--- edges tell how often each ran.
+-- `edit IN OUT every`: as `profile`, with every word of the text marked. So each word is a block by itself, and the
+-- counts of edges tell how often each ran.
 use Rattle.std.specs.Prelude.{ℕ, List, length}
 use Rattle.std.specs.List.{range_with_len}
 use Rattle.eel_base.specs.declared.numbers.WordNo.{WordNo}

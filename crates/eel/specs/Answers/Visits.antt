@@ -1,6 +1,6 @@
--- `visits WRITTEN DUMP`: the file WRITTEN and the dump DUMP are read. The notes of the one and then the other are judged, and
--- whether the notes are those of the original in WRITTEN with every word marked. How often each edge was completed is rebuilt,
--- and how often each instruction ran is printed.
+-- `visits WRITTEN DUMP`: the file WRITTEN and the dump DUMP are read. The notes of the one and then the other are
+-- judged, and whether the notes are those of the original in WRITTEN with every word marked. How often each edge was
+-- completed is rebuilt, and how often each instruction ran is printed.
 use Rattle.std.specs.Prelude.{◌≡◌, ℕ, ◌<◌, ◌⊎◌, List, length, slice_index, None, Ok, Err}
 use Rattle.eel_base.specs.CodeText.{address_of}
 use Rattle.eel_base.specs.Outside.{IsMissing, appended}
@@ -37,8 +37,8 @@ IsNotEveryWord name file notes (NotEveryWord named) = (named ≡ name) × ¬ Has
 IsNotEveryWord name file notes OutOfMemory = Unit {0}
 IsNotEveryWord name file notes _ = ⊥
 
--- The file `written` and the dump `name` were read, and there are no visits: the notes are judged, then the dump, then whether
--- every word is marked, and then whether there are counts.
+-- The file `written` and the dump `name` were read, and there are no visits: the notes are judged, then the dump, then
+-- whether every word is marked, and then whether there are counts.
 abbrev pub IsUnvisited : List ℕ → List ℕ → List ℕ → List ℕ → Outcome → Type 0
 IsUnvisited written file name bytes (NoNotes named) = (named ≡ written) × (notes_of file ≡ Err Absent)
 IsUnvisited written file name bytes (BadNotes named at) = (named ≡ written) × (notes_of file ≡ Err (Bad at))
@@ -57,8 +57,8 @@ IsUnvisited written file name bytes _ = ⊥
 
 -- ---- the visits
 
--- The lines tell how often each word was visited, by the one flow on the notes' graph that agrees with the cells, and by where
--- the run stands.
+-- The lines tell how often each word was visited, by the one flow on the notes' graph that agrees with the cells, and
+-- by where the run stands.
 pub record TellVisits (file bytes lines : List ℕ) : Type 0 where
   pub notes : Notes
   pub dump : Dump
@@ -70,9 +70,9 @@ pub record TellVisits (file bytes lines : List ℕ) : Type 0 where
   pub are : AreVisits (every_view (original_in file notes)) notes dump counts visits
   pub tell : lines ≡ visit_lines (image_of (original_in file notes)).text visits
 
--- Where the file is a profile of an original with every word marked, and the dump is what a run of it has come to, they are how
--- often the original's run carries out each word, slots included, with as many steps as there were visits: for all arguments
--- and every input.
+-- Where the file is a profile of an original with every word marked, and the dump is what a run of it has come to, they
+-- are how often the original's run carries out each word, slots included, with as many steps as there were visits: for
+-- all arguments and every input.
 pub record AreOwnVisits (original file : List ℕ) (notes : Notes) (args : List (List ℕ)) (input : List ℕ) (m : ℕ)
     (visits : List ℕ) : Type 0 where
   pub stands : original_in file notes ≡ original
@@ -88,7 +88,8 @@ AreExactVisits file notes dump visits =
     → (made : IsOfRun original file notes dump args input m) → made.marks ≡ every_word original
     → AreOwnVisits original file notes args input m visits
 
--- And there are visits, but for want of memory, and where the run stands between places, which it doesn't where it has ended.
+-- And there are visits, but for want of memory, and where the run stands between places, which it doesn't where it has
+-- ended.
 abbrev pub AreSeldomUnvisited : List ℕ → List ℕ → List ℕ → Outcome → Type 0
 AreSeldomUnvisited file name bytes outcome =
     (notes : Notes) (dump : Dump) → AreRead file bytes notes dump
