@@ -1,14 +1,29 @@
 -- Stores that are counted.
-use Rattle.std.proofs.Common.{◌≡◌, ℕ, zero, suc, ◌+◌, ◌≤◌, Bool, Option, Some, None, List, refl, ap, ◌∙◌, subst, sym, arith}
+use Rattle.std.proofs.Common.{◌≡◌, ℕ, zero, suc, ◌+◌, ◌<◌, ◌≤◌, Bool, false, ◌||◌, Option, Some, None, List, refl, ap, ◌∙◌, subst, sym, arith}
+use Rattle.std.specs.List.{list_any, range_with_len}
 use Rattle.v8_decode.specs.declared.Instr.{Instr}
 use Rattle.v8_memory.specs.Regions.{Region, code_of, fetch_of, fetch_from}
 use Rattle.v8_step.specs.declared.Ending.{Ending}
 use Rattle.v8_step.specs.State.{State}
 use Rattle.v8_step.specs.Step.{step_of}
 use Rattle.v8_step.specs.Run.{run}
-use Rattle.code_runs.specs.Counted.{stores_at, one_if, on_fetched, unless_over, stores_in_step, count_stores}
+use Rattle.code_runs.specs.Counted.{any_byte, stores_at, one_if, on_fetched, unless_over, stores_in_step, count_stores}
 use Rattle.code_runs.specs.Straight.{Says}
 use Rattle.code_runs.proofs.Leads.{run_add}
+
+none_within : (counted : ℕ → Bool) (from count : ℕ)
+    → ((a : ℕ) → from ≤ a → a < from + count → counted a ≡ false) → list_any counted (range_with_len from count) ≡ false
+none_within counted from zero free = refl
+none_within counted from (suc count) free =
+    ap (λ (b : Bool). b || list_any counted (range_with_len (from + 1) count)) (free from (omega arith) (omega arith))
+    ∙ none_within counted (from + 1) count (λ a low high. free a (omega arith) (omega arith))
+
+-- none of whose bytes is counted
+pub uncounted_span : (counted : ℕ → Bool) (from count : ℕ)
+    → ((a : ℕ) → from ≤ a → a < from + count → counted a ≡ false)
+    → any_byte counted (record { from = from; count = count }) ≡ false
+unfolding any_byte
+uncounted_span counted from count free = none_within counted from count free
 
 over_less : (ending : Option Ending) (n : ℕ) → unless_over ending n ≤ n
 over_less None n = omega arith

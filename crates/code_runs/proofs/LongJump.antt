@@ -14,7 +14,7 @@ use Rattle.v8_step.specs.Step.{step_of}
 use Rattle.v8_step.specs.Run.{run}
 use Rattle.v8_step.specs.Valid.{IsValid}
 use Rattle.v8_step.proofs.ValidStates.{register_of-range}
-use Rattle.code_runs.specs.Counted.{count_stores, one_if, stores_in_step}
+use Rattle.code_runs.specs.Counted.{any_of_word, count_stores, one_if, stores_in_step, word_span}
 use Rattle.code_runs.specs.Hops.{Hops}
 use Rattle.code_runs.specs.LongJump.{IsFirstWord, LongJumpsHop, LongJumpsStore, long_jump}
 use Rattle.code_runs.specs.Page.{page_word, of_page}
@@ -101,10 +101,10 @@ module _ (to : ℕ) (s : State) (valid : IsValid s) (ready : IsReady s) (low : s
       ∙ jump_acts high.after 0 1 (Imm (pos (to % 1024))) to (high.slot (omega arith)) (leads_there high.after high.alike)
       (ap (λ z. z == 0) aligned)
 
-  stores_alone : (counted : ℕ → Bool) → counted (page_word 0) ≡ false → count_stores counted s 4 ≡ 0
+  stores_alone : (counted : ℕ → Bool) → any_of_word counted (page_word 0) ≡ false → count_stores counted s 4 ≡ 0
   stores_alone counted free =
-      let none : one_if counted (Some (page_word 0)) ≡ 0 = ap (λ (b : Bool). if b then 1 else 0) free in
-      let one : stores_in_step counted s ≤ one_if counted (Some (page_word 0)) =
+      let none : one_if counted (Some (word_span (page_word 0))) ≡ 0 = ap (λ (b : Bool). if b then 1 else 0) free in
+      let one : stores_in_step counted s ≤ one_if counted (Some (word_span (page_word 0))) =
       stores_there counted s code s.pc (i.Store stores.ST 1 0 (of_page 0)) ready.live refl refl words.0 in
       let two : stores_in_step counted (run s 1) ≤ 0 =
       subst (λ (z : State). stores_in_step counted z ≤ 0) (sym stored.path.steps)

@@ -1,25 +1,40 @@
--- How often the steps of a run store at certain addresses. A doubleword counts once. A store that ends the run stores
--- nothing.
+-- How often the steps of a run store at certain addresses. A store counts once, where any of its bytes is at one of
+-- them. A store that ends the run stores nothing.
 use Rattle.std.specs.Prelude.{ℕ, zero, suc, ◌+◌, Bool, Option, Some, None, if◌then◌else◌}
+use Rattle.std.specs.Int.{byte_len, w8, w32}
+use Rattle.std.specs.List.{list_any, range_with_len}
 use Rattle.v8_decode.specs.declared.Instr.{Instr}
 use Rattle.v8_decode.specs.declared.Instr.TheVariants as i
 use Rattle.v8_decode.specs.Words.{decode_of}
 use Rattle.v8_memory.specs.Regions.{fetch_of}
+use Rattle.v8_memory.specs.Spans.{Span}
+use Rattle.v8_step.specs.Accesses.{store_size}
 use Rattle.v8_step.specs.declared.Ending.{Ending}
 use Rattle.v8_step.specs.State.{State, sum_of}
 use Rattle.v8_step.specs.Step.{step_of}
 use Rattle.v8_step.specs.Run.{run}
 
--- the address at which an instruction stores, if it stores (B.4, B.7, B.8)
-abbrev pub stores_at : State → Instr → Option ℕ
-stores_at s (i.Store kind rd rs1 op2) = Some (sum_of s rs1 op2)
-stores_at s (i.Ldstub rd rs1 op2) = Some (sum_of s rs1 op2)
-stores_at s (i.Swap rd rs1 op2) = Some (sum_of s rs1 op2)
+-- the bytes that an instruction stores, if it stores any (B.4, B.7, B.8)
+abbrev pub stores_at : State → Instr → Option Span
+stores_at s (i.Store kind rd rs1 op2) = Some (record { from = sum_of s rs1 op2; count = store_size kind })
+stores_at s (i.Ldstub rd rs1 op2) = Some (record { from = sum_of s rs1 op2; count = byte_len w8 })
+stores_at s (i.Swap rd rs1 op2) = Some (record { from = sum_of s rs1 op2; count = byte_len w32 })
 stores_at s _ = None
 
-abbrev pub one_if : (ℕ → Bool) → Option ℕ → ℕ
+-- some byte of a span is at such an address
+unfoldable pub any_byte : (ℕ → Bool) → Span → Bool
+any_byte counted span = list_any counted (range_with_len span.from span.count)
+
+abbrev pub one_if : (ℕ → Bool) → Option Span → ℕ
 one_if counted None = 0
-one_if counted (Some address) = if counted address then 1 else 0
+one_if counted (Some span) = if any_byte counted span then 1 else 0
+
+-- the bytes of a word
+abbrev pub word_span : ℕ → Span
+word_span address = record { from = address; count = 4 }
+
+abbrev pub any_of_word : (ℕ → Bool) → ℕ → Bool
+any_of_word counted address = any_byte counted (word_span address)
 
 abbrev pub on_fetched : (ℕ → Bool) → State → Option ℕ → ℕ
 on_fetched counted s None = 0

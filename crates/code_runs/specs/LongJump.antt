@@ -8,7 +8,7 @@ use Rattle.v8_decode.specs.declared.StoreKind.TheVariants as stores
 use Rattle.v8_memory.specs.Regions.{code_of}
 use Rattle.v8_step.specs.State.{State, register_of}
 use Rattle.v8_step.specs.Valid.{IsValid}
-use Rattle.code_runs.specs.Counted.{count_stores}
+use Rattle.code_runs.specs.Counted.{any_of_word, count_stores}
 use Rattle.code_runs.specs.Hops.{Hops}
 use Rattle.code_runs.specs.Page.{page_word, of_page}
 use Rattle.code_runs.specs.StoredWords.{CanStore, store_word}
@@ -36,4 +36,4 @@ abbrev pub LongJumpsStore : Type 0
 LongJumpsStore =
     (to : ℕ) (s : State) → IsValid s → IsReady s → s.pc + 16 < 2 ^ 32 - 4 → CanStore s.memory (page_word 0)
     → StandIn (code_of s.memory) s.pc (long_jump to) → to < 2 ^ 32 → to % 4 ≡ 0
-    → (counted : ℕ → Bool) → counted (page_word 0) ≡ false → count_stores counted s 4 ≡ 0
+    → (counted : ℕ → Bool) → any_of_word counted (page_word 0) ≡ false → count_stores counted s 4 ≡ 0

@@ -11,7 +11,6 @@ use Rattle.v8_decode.specs.declared.Instr.{Instr}
 use Rattle.v8_decode.specs.declared.Instr.TheVariants as i
 use Rattle.v8_decode.specs.declared.Op2.{Op2}
 use Rattle.v8_decode.specs.declared.StoreKind.{StoreKind}
-use Rattle.v8_decode.specs.declared.StoreKind.TheVariants as stores
 use Rattle.v8_decode.specs.Words.{decode_of}
 use Rattle.v8_memory.specs.Regions.{bytes_at, with_bytes}
 use Rattle.v8_memory.specs.Spans.{AllApart, IsApart, IsApartFromAll, Span}
@@ -26,9 +25,10 @@ use Rattle.v8_step.specs.Traps.{data_access_exception, mem_address_not_aligned}
 use Rattle.v8_step.specs.Transfers.{next, trapped}
 use Rattle.v8_step.specs.Visits.{in_pages, page_of, pages_of}
 use Rattle.cfg_walk.specs.Walk.{instr_at}
-use Rattle.code_runs.specs.Counted.{one_if, stores_at}
+use Rattle.code_runs.specs.Counted.{any_of_word, one_if, stores_at}
 use Rattle.code_runs.specs.Ours.{IsIn}
 use Rattle.code_runs.specs.Page.{page_word}
+use Rattle.code_runs.proofs.Counted.{uncounted_span}
 use Rattle.code_runs.proofs.Leads.{split_below}
 use Rattle.snippet_code.specs.Runs.{cell_at, kept_word}
 use Rattle.image_code.specs.Simulates.{Setting, in_first_word, is_cell, is_spill, is_transfer_at, spills_on, word_of}
@@ -51,13 +51,13 @@ pub out_of_pages : (notes : Notes) (a : ℕ) → IsApartFromAll (pages_of notes)
     → in_pages notes a ≡ false
 out_of_pages notes a apart = held_by a notes.segments apart
 
--- ---- addresses that aren't counted
+-- ---- bytes that aren't counted
 
 and_none : (b : Bool) → (b && false) ≡ false
 and_none true = refl
 and_none false = refl
 
-pub spill_out : (notes : Notes) (a : ℕ) → in_pages notes a ≡ false → is_spill notes a ≡ false
+spill_out : (notes : Notes) (a : ℕ) → in_pages notes a ≡ false → is_spill notes a ≡ false
 spill_out notes a e = ap (λ (b : Bool). b && (not (is_cell notes a) && not (in_first_word a))) e
 
 spill_at_first : (notes : Notes) (a : ℕ) → in_first_word a ≡ true → is_spill notes a ≡ false
@@ -66,44 +66,58 @@ spill_at_first notes a e =
     ∙ ap (λ (b : Bool). in_pages notes a && b) (and_none (not (is_cell notes a))) ∙ and_none (in_pages notes a)
 
 -- word 0 of the page is no spill
-pub spill_first : (notes : Notes) → is_spill notes (page_word 0) ≡ false
-spill_first notes = spill_at_first notes (page_word 0) refl
+pub spill_first : (notes : Notes) → any_of_word (is_spill notes) (page_word 0) ≡ false
+spill_first notes =
+    uncounted_span (is_spill notes) (page_word 0) 4 (λ a low high.
+    spill_at_first notes a
+    (let e : (nat_le (page_word 0) a && nat_lt a (page_word 0 + 4)) ≡ true = grind (low, high, arith, nat_tests) in e))
 
 spill_in_cell : (notes : Notes) (a : ℕ) → is_cell notes a ≡ true → is_spill notes a ≡ false
 spill_in_cell notes a e =
     ap (λ (b : Bool). in_pages notes a && (not b && not (in_first_word a))) e ∙ and_none (in_pages notes a)
 
 -- nor is a cell
-pub spill_cell : (notes : Notes) (cell : ℕ) → cell < notes.cells → is_spill notes (cell_at notes.base cell) ≡ false
+pub spill_cell : (notes : Notes) (cell : ℕ) → cell < notes.cells
+    → any_of_word (is_spill notes) (cell_at notes.base cell) ≡ false
 spill_cell notes cell within =
-    spill_in_cell notes (cell_at notes.base cell)
-    (let e : (nat_le notes.base (notes.base + 4 * cell) && nat_lt (notes.base + 4 * cell)
-    (notes.base + 4 * notes.cells)) ≡ true = grind (within, arith, nat_tests) in e)
+    uncounted_span (is_spill notes) (cell_at notes.base cell) 4 (λ a low high.
+    let from : notes.base ≤ a = omega (arith, low) in
+    let to : a < notes.base + 4 * notes.cells = omega (arith, within, high) in
+    spill_in_cell notes a
+    (let e : (nat_le notes.base a && nat_lt a (notes.base + 4 * notes.cells)) ≡ true =
+    grind (from, to, arith, nat_tests) in e))
 
 -- word 0 of the page lies above each cell, and below what snippets keep
-pub first_cell : (a : ℕ) → a + 4 ≤ 2 ^ 31 → in_first_word a ≡ false
-first_cell a low = grind (low, arith, nat_tests)
+first_above : (a : ℕ) → a < page_word 0 → in_first_word a ≡ false
+first_above a low = grind (low, arith, nat_tests)
 
-pub first_kept_word : (n : ℕ) → in_first_word (kept_word n) ≡ false
-first_kept_word n = grind (arith, nat_tests)
+first_below : (a : ℕ) → page_word 0 + 4 ≤ a → in_first_word a ≡ false
+first_below a high = grind (high, arith, nat_tests)
+
+pub first_cell : (a : ℕ) → a + 4 ≤ 2 ^ 31 → any_of_word in_first_word a ≡ false
+first_cell a low = uncounted_span in_first_word a 4 (λ b from to. first_above b (omega (arith, low, to)))
+
+pub first_kept_word : (n : ℕ) → any_of_word in_first_word (kept_word n) ≡ false
+first_kept_word n = uncounted_span in_first_word (kept_word n) 4 (λ b from to. first_below b (omega (arith, from)))
 
 -- ---- what judges no byte of the pages
 
-apart_one : (pages : List Span) (a count : ℕ) → 0 < count → IsApartFromAll pages (record { from = a; count = count })
+-- each byte of a span
+apart_byte : (pages : List Span) (from count a : ℕ) → from ≤ a → a < from + count
+    → IsApartFromAll pages (record { from = from; count = count })
     → IsApartFromAll pages (record { from = a; count = 1 })
-apart_one [] a count some apart = tt
-apart_one (page ∷ pages) a count some (inl past, more) = (inl past, apart_one pages a count some more)
-apart_one (page ∷ pages) a count some (inr before, more) =
-    (inr (omega (arith, some, before)), apart_one pages a count some more)
+apart_byte [] from count a low high apart = tt
+apart_byte (page ∷ pages) from count a low high (inl past, more) =
+    (inl (omega (arith, low, past)), apart_byte pages from count a low high more)
+apart_byte (page ∷ pages) from count a low high (inr before, more) =
+    (inr (omega (arith, high, before)), apart_byte pages from count a low high more)
 
-first_out : (pages : List Span) (a count : ℕ) → 0 < count → IsIn pages (page_word 0)
-    → IsApartFromAll pages (record { from = a; count = count }) → in_first_word a ≡ false
-first_out [] a count some inside apart = absurd inside
-first_out (page ∷ pages) a count some (inl (from, to)) (inl past, more) =
-    let high : page_word 0 + 4 ≤ a = omega (arith, to, past) in grind (high, arith, nat_tests)
-first_out (page ∷ pages) a count some (inl (from, to)) (inr before, more) =
-    let low : a < page_word 0 = omega (arith, from, before, some) in grind (low, arith, nat_tests)
-first_out (page ∷ pages) a count some (inr inside) (apart, more) = first_out pages a count some inside more
+first_out : (pages : List Span) (a : ℕ) → IsIn pages (page_word 0)
+    → IsApartFromAll pages (record { from = a; count = 1 }) → in_first_word a ≡ false
+first_out [] a inside apart = absurd inside
+first_out (page ∷ pages) a (inl (from, to)) (inl past, more) = first_below a (omega (arith, to, past))
+first_out (page ∷ pages) a (inl (from, to)) (inr before, more) = first_above a (omega (arith, from, before))
+first_out (page ∷ pages) a (inr inside) (apart, more) = first_out pages a inside more
 
 store_traps : (s : State) (kind : StoreKind) (rd rs1 : ℕ) (x : Op2) → (sum_of s rs1 x % store_size kind == 0) ≡ false
     → act s (i.Store kind rd rs1 x) ≡ trapped s mem_address_not_aligned
@@ -128,26 +142,23 @@ swap_traps s rd rs1 x e =
     on_memory s (Trap data_access_exception) (with_bytes s.memory (sum_of s rs1 x) (to_be_bytes w32 (register_of s rd)))
     (λ t. next (with_register t rd (from_be_bytes w32 old)))) else trapped s mem_address_not_aligned) e
 
-some_size : (kind : StoreKind) → 0 < store_size kind
-some_size stores.ST = omega arith
-some_size stores.STB = omega arith
-some_size stores.STH = omega arith
-some_size stores.STD = omega arith
-
 module _ (notes : Notes) (own : IsIn (pages_of notes) (page_word 0)) (s : State) where
   abbrev IsUncounted : Instr → Type 0
   IsUncounted x = (one_if (is_spill notes) (stores_at s x) ≡ 0) × (one_if in_first_word (stores_at s x) ≡ 0)
 
   -- an access that is made
-  made : (b : Bool) (a count : ℕ) → 0 < count
-      → AllApart (pages_of notes) (if b then record { from = a; count = count } ∷ [] else []) → (b ≡ false → ⊥)
-      → (one_if (is_spill notes) (Some a) ≡ 0) × (one_if in_first_word (Some a) ≡ 0)
-  made false a count some apart never = absurd (never refl)
-  made true a count some apart never = (
-    ap (λ (b : Bool). if b then 1 else 0)
-        (spill_out notes a (out_of_pages notes a (apart_one (pages_of notes) a count some apart.0))),
-    ap (λ (b : Bool). if b then 1 else 0) (first_out (pages_of notes) a count some own apart.0),
-  )
+  made : (b : Bool) (from count : ℕ)
+      → AllApart (pages_of notes) (if b then record { from = from; count = count } ∷ [] else []) → (b ≡ false → ⊥)
+      → (one_if (is_spill notes) (Some (record { from = from; count = count })) ≡ 0)
+      × (one_if in_first_word (Some (record { from = from; count = count })) ≡ 0)
+  made false from count apart never = absurd (never refl)
+  made true from count apart never =
+      let byte = apart_byte (pages_of notes) from count in (
+        ap (λ (b : Bool). if b then 1 else 0) (uncounted_span (is_spill notes) from count (λ a low high.
+            spill_out notes a (out_of_pages notes a (byte a low high apart.0)))),
+        ap (λ (b : Bool). if b then 1 else 0) (uncounted_span in_first_word from count (λ a low high.
+            first_out (pages_of notes) a own (byte a low high apart.0))),
+      )
 
   trap_ends : (u : State) → u ≡ trapped s mem_address_not_aligned → u.ending ≡ None → ⊥
   trap_ends u e live = let f = sym (ap (λ (z : State). z.ending) e) ∙ live in cc
@@ -155,13 +166,13 @@ module _ (notes : Notes) (own : IsIn (pages_of notes) (page_word 0)) (s : State)
   -- what goes on, and judges no byte of the pages
   pub uncounted : (x : Instr) → AllApart (pages_of notes) (judged_by s x) → (act s x).ending ≡ None → IsUncounted x
   uncounted (i.Store kind rd rs1 op2) apart live =
-      made (sum_of s rs1 op2 % store_size kind == 0) (sum_of s rs1 op2) (store_size kind) (some_size kind) apart
+      made (sum_of s rs1 op2 % store_size kind == 0) (sum_of s rs1 op2) (store_size kind) apart
       (λ e. trap_ends (act s (i.Store kind rd rs1 op2)) (store_traps s kind rd rs1 op2 e) live)
   uncounted (i.Ldstub rd rs1 op2) apart live =
-      made (sum_of s rs1 op2 % 1 == 0) (sum_of s rs1 op2) 1 (omega arith) apart
+      made (sum_of s rs1 op2 % 1 == 0) (sum_of s rs1 op2) 1 apart
       (λ e. trap_ends (act s (i.Ldstub rd rs1 op2)) (ldstub_traps s rd rs1 op2 e) live)
   uncounted (i.Swap rd rs1 op2) apart live =
-      made (sum_of s rs1 op2 % 4 == 0) (sum_of s rs1 op2) 4 (omega arith) apart
+      made (sum_of s rs1 op2 % 4 == 0) (sum_of s rs1 op2) 4 apart
       (λ e. trap_ends (act s (i.Swap rd rs1 op2)) (swap_traps s rd rs1 op2 e) live)
   uncounted _ apart live = (refl, refl)
 

@@ -166,11 +166,11 @@ pub record IsFollowedBy (pages : List Span) (Kept : Item → Type 0) (v after : 
 abbrev pub is_cell : Notes → ℕ → Bool
 is_cell notes a = nat_le notes.base a && nat_lt a (notes.base + 4 * notes.cells)
 
--- one of word 0 of the editor's page, in which long jumps keep a register
+-- a byte of word 0 of the editor's page, in which long jumps keep a register
 abbrev pub in_first_word : ℕ → Bool
 in_first_word a = nat_le (page_word 0) a && nat_lt a (page_word 0 + 4)
 
--- where only snippets store: in the pages, but neither in a cell nor in that word
+-- a byte that only snippets store: in the pages, but neither in a cell nor in that word
 abbrev pub is_spill : Notes → ℕ → Bool
 is_spill notes a = in_pages notes a && (not (is_cell notes a) && not (in_first_word a))
 
@@ -190,8 +190,8 @@ abbrev pub NoneIsOut : Graph → List ℕ → Type 0
 NoneIsOut graph [] = Unit {0}
 NoneIsOut graph (edge ∷ edges) = (is_out (slice_get graph.edges edge) ≡ false) × NoneIsOut graph edges
 
--- The steps whose stores are told: of no JMPL, which keeps its target, and along no edge of one, where that is looked up,
--- and to a word of the text.
+-- The steps whose stores are told: of no JMPL, which keeps its target, and along no edge of one, where that is looked
+-- up, and to a word of the text.
 pub record IsWatched (g : Setting) (edges : List ℕ) (p : Point) (v : State) : Type 0 where
   pub jump : is_jmpl (instr_at g.text p.pc) ≡ false
   pub out : NoneIsOut (graph_in g) edges
@@ -259,8 +259,8 @@ Chooses g node p t v =
 
 -- ---- what one image does, up to where control enters the next one
 
--- `Entered` says that a machine is where control comes to a point. Three steps are left, in which an address may be kept.
--- Within a block word 0 of the page stays as it is.
+-- `Entered` says that a machine is where control comes to a point. Three steps are left, in which an address may be
+-- kept. Within a block word 0 of the page stays as it is.
 pub record Enters (g : Setting) (Entered : Node → Point → State → Type 0) (Short : Type 0)
     (edges : List ℕ) (node : Node) (p : Point) (t v : State) : Type 0 where
   pub on : StepsOn g Entered Short 61 edges node p t v

@@ -11,7 +11,7 @@ use Rattle.v8_memory.specs.Regions.{Memory, Region, code_of}
 use Rattle.v8_step.specs.State.{State, register_of, operand_of, sum_of}
 use Rattle.v8_step.specs.Run.{run}
 use Rattle.v8_step.proofs.ValidStates.{register_of-range, wrapped-range}
-use Rattle.code_runs.specs.Counted.{count_stores, one_if, stores_in_step}
+use Rattle.code_runs.specs.Counted.{any_of_word, count_stores, one_if, stores_in_step, word_span}
 use Rattle.code_runs.specs.Leads.{Leads}
 use Rattle.code_runs.specs.LongJump.{IsFirstWord}
 use Rattle.code_runs.specs.Page.{page_word, of_page}
@@ -85,17 +85,18 @@ module _ (rs1 : ℕ) (op2 : Op2) (s : State) (h : IsAboutToKeep rs1 op2 s) where
       (omega arith, says_at code _ _ _ (omega arith) h.words.1.1.0) (record { sums = λ u k. refl; aligned = refl })
       can (word_stored s.memory (page_word 0) g1 (register_of-range s 1 h.valid) p0) refl
 
-  alone : (counted : ℕ → Bool) → counted (page_word 0) ≡ false → count_stores counted s 3 ≡ 0
+  alone : (counted : ℕ → Bool) → any_of_word counted (page_word 0) ≡ false → count_stores counted s 3 ≡ 0
   alone counted free =
-      let none : one_if counted (Some (page_word 0)) ≡ 0 = ap (λ (b : Bool). if b then 1 else 0) free in
-      let first : stores_in_step counted s ≤ one_if counted (Some (page_word 0)) =
+      let none : one_if counted (Some (word_span (page_word 0))) ≡ 0 = ap (λ (b : Bool). if b then 1 else 0) free in
+      let first : stores_in_step counted s ≤ one_if counted (Some (word_span (page_word 0))) =
       stores_there counted s code s.pc (i.Store stores.ST 1 0 (of_page 0)) h.ready.live refl refl h.words.0 in
       let second : stores_in_step counted (run s 1) ≤ 0 =
       subst (λ (z : State). stores_in_step counted z ≤ 0) (sym one.path.steps)
       (stores_there counted one.after code (s.pc + 4 * 1) (i.Alu ops.ADD false 1 rs1 op2) one.alike.live
       (ap code_of one.alike.memory ∙ one.code) one.pc (says_at code _ _ _ (omega arith) h.words.1.0)) in
-      let third : stores_in_step counted (run s 2) ≤ one_if counted (Some (page_word 0)) =
-      subst (λ (z : State). stores_in_step counted z ≤ one_if counted (Some (page_word 0))) (sym two.path.steps)
+      let third : stores_in_step counted (run s 2) ≤ one_if counted (Some (word_span (page_word 0))) =
+      subst (λ (z : State). stores_in_step counted z ≤ one_if counted (Some (word_span (page_word 0))))
+      (sym two.path.steps)
       (stores_there counted two.after code (s.pc + 4 * 2) (i.Swap 1 0 (of_page 0)) two.alike.live
       (ap code_of two.alike.memory ∙ two.code) two.pc (says_at code _ _ _ (omega arith) h.words.1.1.0)) in
       omega (arith, none, first, second, third)

@@ -8,7 +8,7 @@ use Rattle.v8_decode.specs.declared.StoreKind.TheVariants as stores
 use Rattle.v8_memory.specs.Regions.{Memory, code_of}
 use Rattle.v8_step.specs.State.{State, register_of, sum_of}
 use Rattle.v8_step.specs.Valid.{IsValid}
-use Rattle.code_runs.specs.Counted.{count_stores}
+use Rattle.code_runs.specs.Counted.{any_of_word, count_stores}
 use Rattle.code_runs.specs.Leads.{Leads, IsSilent}
 use Rattle.code_runs.specs.LongJump.{IsFirstWord}
 use Rattle.code_runs.specs.Page.{page_word, of_page}
@@ -48,7 +48,7 @@ pub record KeepsLoad (rs1 : ℕ) (op2 : Op2) (s : State) : Type 0 where
   pub silent : IsSilent s 3
   pub stores : Stores IsFirstWord s.memory (kept_memory s rs1 op2)
   pub kept : memory_word (kept_memory s rs1 op2) (page_word 0) ≡ sum_of s rs1 op2
-  pub elsewhere : (counted : ℕ → Bool) → counted (page_word 0) ≡ false → count_stores counted s 3 ≡ 0
+  pub elsewhere : (counted : ℕ → Bool) → any_of_word counted (page_word 0) ≡ false → count_stores counted s 3 ≡ 0
 
 abbrev pub LoadsAreKept : Type 0
 LoadsAreKept = (rs1 : ℕ) (op2 : Op2) (s : State) → IsAboutToKeep rs1 op2 s → KeepsLoad rs1 op2 s

@@ -6,7 +6,7 @@ use Rattle.v8_memory.specs.Regions.{Memory, code_of, fetch_from}
 use Rattle.v8_step.specs.declared.Slot.TheVariants.{NoSlot}
 use Rattle.v8_step.specs.State.{State}
 use Rattle.v8_step.specs.Valid.{IsValid}
-use Rattle.code_runs.specs.Counted.{count_stores}
+use Rattle.code_runs.specs.Counted.{any_of_word, count_stores}
 use Rattle.code_runs.specs.Hops.{Hops}
 use Rattle.code_runs.specs.LongJump.{IsFirstWord}
 use Rattle.code_runs.specs.Page.{page_word}
@@ -37,7 +37,7 @@ pub record Goes (s : State) (to b least most short : ℕ) : Type 0 where
   pub few : count ≤ most
   pub inside : s.pc + 4 * count ≤ b
   pub hops : Hops s count IsFirstWord to memory
-  pub stored : (counted : ℕ → Bool) → (counted (page_word 0) ≡ false) ⊎ (b ≤ s.pc + 4 * short)
+  pub stored : (counted : ℕ → Bool) → (any_of_word counted (page_word 0) ≡ false) ⊎ (b ≤ s.pc + 4 * short)
       → count_stores counted s count ≡ 0
 
 -- A Jump leads to its piece.

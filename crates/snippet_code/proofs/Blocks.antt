@@ -14,13 +14,14 @@ use Rattle.v8_alu.specs.Numbers.{wrapped}
 use Rattle.v8_memory.specs.Regions.{Region, code_of}
 use Rattle.v8_windows.specs.Registers.{place_of}
 use Rattle.v8_windows.proofs.Places.{register_in-set, register_in-other, length-register_set}
-use Rattle.v8_step.specs.declared.Slot.TheVariants.{NoSlot}
+use Rattle.v8_step.specs.declared.Slot.TheVariants.{NoSlot, Taken}
 use Rattle.v8_step.specs.State.{State, register_of, with_register, operand_of, sum_of}
 use Rattle.v8_alu.specs.Conditions.{holds_of}
 use Rattle.v8_step.specs.declared.Slot.{Slot}
-use Rattle.v8_step.specs.Transfers.{next, delayed, branched, branch_step, unless_couple, target_of}
+use Rattle.v8_step.specs.Transfers.{next, branched, branch_step, unless_couple, target_of}
 use Rattle.v8_step.specs.Step.{act, step_of, alu_step}
 use Rattle.v8_step.proofs.Quiet.{IsPlain}
+use Rattle.code_runs.specs.Points.{moved}
 use Rattle.code_runs.specs.StoredWords.{memory_word, store_word}
 use Rattle.code_runs.specs.Straight.{Says}
 use Rattle.code_runs.specs.TwoRegisters.{IsBetween, Gives}
@@ -29,7 +30,7 @@ use Rattle.code_runs.proofs.Acts.{says_step, says_puts, ld_acts, st_acts}
 use Rattle.code_runs.proofs.Leads.{leads_none, leads_one, leads_then, silent_none, silent_one, silent_then, split_below}
 use Rattle.code_runs.proofs.TwoRegisters.{places_differ, set_stays, stores_none, stores_more}
 use Rattle.code_runs.proofs.Hops.{equal_or_not}
-use Rattle.code_runs.specs.Counted.{stores_at, one_if, stores_in_step, count_stores}
+use Rattle.code_runs.specs.Counted.{any_of_word, stores_at, one_if, stores_in_step, count_stores, word_span}
 use Rattle.code_runs.proofs.Counted.{says_stores, count_add}
 use Rattle.snippet_code.proofs.Working.{HasBlock, IsAlike, Reaches, Works, put}
 
@@ -313,7 +314,7 @@ module _ {s : State} {count : ℕ} {May : ℕ → Type 0} {counted : ℕ → Boo
       → Says (code_of s.memory) (s.pc + 4 * n) (i.Store stores.ST rd rs1 op2)
       → Sums s May r want rs1 op2 a g codes f → May a
       → ((u : State) → IsAlike s May r want g codes f u → register_of u rd ≡ v) → v < 2 ^ 32
-      → t + one_if counted (Some a) ≤ t' → Works s count May counted r want (suc n) t' (put a v g) codes f
+      → t + one_if counted (Some (word_span a)) ≤ t' → Works s count May counted r want (suc n) t' (put a v g) codes f
   st {t = t} {g = g} {codes = codes} {f = f} t' rd rs1 op2 a v w below says sums ok value small more =
       works_step t' (put a v g) codes f (i.Store stores.ST rd rs1 op2) w.reach below (λ cond q k z. cc) says
       (record w.reach.after { memory = store_word w.reach.after.memory a v })
@@ -321,85 +322,79 @@ module _ {s : State} {count : ℕ} {May : ℕ → Type 0} {counted : ℕ → Boo
       (w.reach.alike.memory.can a ok)
       ∙ ap (λ z. next (record w.reach.after { memory = store_word w.reach.after.memory a z }))
       (value w.reach.after w.reach.alike)) refl refl (alike_store c a v w.reach.after ok small w.reach.alike)
-      (subst (λ z. t + one_if counted (Some z) ≤ t') (sym (sums w.reach.after w.reach.alike)) more)
+      (subst (λ z. t + one_if counted (Some (word_span z)) ≤ t') (sym (sums w.reach.after w.reach.alike)) more)
 
-  -- ---- a branch over one store, which is done in its slot where the condition holds
-  pub branches : {n t : ℕ} {g : ℕ → ℕ} {codes : Codes} {f : ℕ → ℕ} (cond rd rs1 : ℕ) (op2 : Op2) (a v : ℕ)
-      (b : Bool) → Works s count May counted r want n t g codes f → n + 2 ≤ count → (cond == 8) ≡ false
-      → holds_of cond codes ≡ b → Says (code_of s.memory) (s.pc + 4 * n) (i.Branch cond true (pos 2))
-      → Says (code_of s.memory) (s.pc + 4 * suc n) (i.Store stores.ST rd rs1 op2)
-      → Sums s May r want rs1 op2 a g codes f → May a
-      → ((u : State) → IsAlike s May r want g codes f u → register_of u rd ≡ v) → v < 2 ^ 32 → counted a ≡ false
-      → Works s count May counted r want (suc (suc n)) t (if b then put a v g else g) codes f
-  branches {n} {t} {g} {codes} {f} cond rd rs1 op2 a v true w room other holds branch store sums ok value small free =
+  -- ---- a branch, wherever it leads
+  branch_leads : {n t : ℕ} {g : ℕ → ℕ} {codes : Codes} {f : ℕ → ℕ} (cond m pc npc : ℕ) (slot : Slot)
+      (x : Reaches s count May counted r want n t g codes f) → n < count → n < m
+      → Says (code_of s.memory) (s.pc + 4 * n) (i.Branch cond true (pos 2))
+      → step_of x.after ≡ moved pc npc slot x.after → pc ≡ s.pc + 4 * m → npc ≡ s.pc + 4 * m + 4
+      → Reaches s count May counted r want m t g codes f
+  branch_leads cond m pc npc slot x below more says one at_pc at_npc =
       let low = c.low in
-      let x = w.reach in
       let p = x.pc in
-      let q = x.npc in
       let few = x.few in
       let u = x.after in
       let h = x.alike in
-      let here = says_here (i.Branch cond true (pos 2)) x branch in
-      let there : step_of u ≡ delayed u (wrapped (u.pc + 8)) =
-      says_step u (i.Branch cond true (pos 2)) h.same.live here
-      ∙ branch_acts u cond true w.slot other (ap (holds_of cond) h.codes_are ∙ holds) in
-      let fewer = x.stored in
-      let last : stores_in_step counted u ≤ 0 = says_stores counted u (i.Branch cond true (pos 2)) h.same.live here in
-      let joined : count_stores counted s (x.steps + 1) ≡ count_stores counted s x.steps +
-      (0 + stores_in_step counted u) = count_add counted s u x.steps x.path.steps 1 in
-      let y : Reaches s count May counted r want (suc n) t g codes f = record {
-        after = delayed u (wrapped (u.pc + 8));
-        steps = x.steps + 1;
-        few = omega arith;
-        path = leads_then (IsBetween s count May) s u (delayed u (wrapped (u.pc + 8))) x.steps 1 x.path
-            (leads_one _ u _ there)
-            (λ some _. record
-            { past = (let z : 0 < x.steps = some in omega arith); before = omega arith; stores = h.memory.stores });
-        silent = silent_then s u x.steps 1 x.path.steps x.silent
-            (silent_one u (says_puts u (i.Branch cond true (pos 2)) (λ k l m z. cc) here));
-        stored = omega arith;
-        pc = (let z : u.npc ≡ s.pc + 4 * suc n = omega arith in z);
-        npc = (let z : wrapped (u.pc + 8) ≡ s.pc + 4 * suc n + 4 = omega arith in z);
-        alike = record { same = h.same; codes_are = h.codes_are; held = h.held; memory = h.memory };
-      } in
-      works_step t (put a v g) codes f (i.Store stores.ST rd rs1 op2) y (omega arith) (λ k l m z. cc) store
-      (record y.after { memory = store_word y.after.memory a v })
-      (st_acts y.after rd rs1 op2 a (sums y.after y.alike) (ap (λ z. z == 0) (c.aligned a ok)) (y.alike.memory.can a ok)
-      ∙ ap (λ z. next (record y.after { memory = store_word y.after.memory a z })) (value y.after y.alike)) refl
-      refl (alike_store c a v y.after ok small y.alike)
-      (subst (λ z. t + one_if counted (Some z) ≤ t) (sym (sums y.after y.alike))
-      (subst (λ (z : Bool). t + (if z then 1 else 0) ≤ t) (sym free) (omega arith)))
-  branches {n} {t} {g} {codes} {f} cond rd rs1 op2 a v false w room other holds branch store sums ok value small free =
-      let low = c.low in
-      let x = w.reach in
-      let p = x.pc in
-      let q = x.npc in
-      let few = x.few in
-      let u = x.after in
-      let h = x.alike in
-      let here = says_here (i.Branch cond true (pos 2)) x branch in
-      let over : State = record u { pc = wrapped (u.pc + 8); npc = wrapped (u.pc + 12) } in
-      let there : step_of u ≡ over =
-      says_step u (i.Branch cond true (pos 2)) h.same.live here
-      ∙ branch_acts u cond false w.slot other (ap (holds_of cond) h.codes_are ∙ holds) in
+      let here = says_here (i.Branch cond true (pos 2)) x says in
       let fewer = x.stored in
       let last : stores_in_step counted u ≤ 0 = says_stores counted u (i.Branch cond true (pos 2)) h.same.live here in
       let joined : count_stores counted s (x.steps + 1) ≡ count_stores counted s x.steps +
       (0 + stores_in_step counted u) = count_add counted s u x.steps x.path.steps 1 in
       record {
-        reach = record {
-          after = over;
-          steps = x.steps + 1;
-          few = omega arith;
-          path = leads_then (IsBetween s count May) s u over x.steps 1 x.path (leads_one _ u _ there)
-              (λ some _. record
-              { past = (let z : 0 < x.steps = some in omega arith); before = omega arith; stores = h.memory.stores });
-          silent = silent_then s u x.steps 1 x.path.steps x.silent
-              (silent_one u (says_puts u (i.Branch cond true (pos 2)) (λ k l m z. cc) here));
-          stored = omega arith;
-          pc = (let z : wrapped (u.pc + 8) ≡ s.pc + 4 * suc (suc n) = omega arith in z);
-          npc = (let z : wrapped (u.pc + 12) ≡ s.pc + 4 * suc (suc n) + 4 = omega arith in z);
-          alike = record { same = h.same; codes_are = h.codes_are; held = h.held; memory = h.memory };
-        };
+        after = moved pc npc slot u;
+        steps = x.steps + 1;
+        few = omega arith;
+        path = leads_then (IsBetween s count May) s u (moved pc npc slot u) x.steps 1 x.path (leads_one _ u _ one)
+            (λ some _. record
+            { past = (let z : 0 < x.steps = some in omega arith); before = omega arith; stores = h.memory.stores });
+        silent = silent_then s u x.steps 1 x.path.steps x.silent
+            (silent_one u (says_puts u (i.Branch cond true (pos 2)) (λ k l j z. cc) here));
+        stored = omega arith;
+        pc = at_pc;
+        npc = at_npc;
+        alike = record { same = h.same; codes_are = h.codes_are; held = h.held; memory = h.memory };
+      }
+
+  -- over one store, which is done in its slot where the condition holds
+  pub branches : {n t : ℕ} {g : ℕ → ℕ} {codes : Codes} {f : ℕ → ℕ} (cond rd rs1 : ℕ) (op2 : Op2) (a v : ℕ)
+      (b : Bool) → Works s count May counted r want n t g codes f → n + 2 ≤ count → (cond == 8) ≡ false
+      → holds_of cond codes ≡ b → Says (code_of s.memory) (s.pc + 4 * n) (i.Branch cond true (pos 2))
+      → Says (code_of s.memory) (s.pc + 4 * suc n) (i.Store stores.ST rd rs1 op2)
+      → Sums s May r want rs1 op2 a g codes f → May a
+      → ((u : State) → IsAlike s May r want g codes f u → register_of u rd ≡ v) → v < 2 ^ 32
+      → any_of_word counted a ≡ false
+      → Works s count May counted r want (suc (suc n)) t (if b then put a v g else g) codes f
+  unfolding branch_leads
+  branches {n} {t} {g} {codes} {f} cond rd rs1 op2 a v true w room other holds branch store sums ok value small free =
+      let low = c.low in
+      let x = w.reach in
+      let p = x.pc in
+      let q = x.npc in
+      let u = x.after in
+      let y : Reaches s count May counted r want (suc n) t g codes f =
+      branch_leads cond (suc n) u.npc (wrapped (u.pc + 8)) Taken x (omega arith) (omega arith) branch
+      (says_step u (i.Branch cond true (pos 2)) x.alike.same.live (says_here (i.Branch cond true (pos 2)) x branch)
+      ∙ branch_acts u cond true w.slot other (ap (holds_of cond) x.alike.codes_are ∙ holds))
+      (omega arith) (omega arith) in
+      works_step t (put a v g) codes f (i.Store stores.ST rd rs1 op2) y (omega arith) (λ k l m z. cc) store
+      (record y.after { memory = store_word y.after.memory a v })
+      (st_acts y.after rd rs1 op2 a (sums y.after y.alike) (ap (λ z. z == 0) (c.aligned a ok)) (y.alike.memory.can a ok)
+      ∙ ap (λ z. next (record y.after { memory = store_word y.after.memory a z })) (value y.after y.alike)) refl
+      refl (alike_store c a v y.after ok small y.alike)
+      (subst (λ z. t + one_if counted (Some (word_span z)) ≤ t) (sym (sums y.after y.alike))
+      (subst (λ (z : Bool). t + (if z then 1 else 0) ≤ t) (sym free) (omega arith)))
+  branches {n} {t} {g} {codes} {f} cond rd rs1 op2 a v false w room other holds branch store sums ok value small free =
+      let low = c.low in
+      let x = w.reach in
+      let p = x.pc in
+      let u = x.after in
+      record {
+        reach = branch_leads cond (suc (suc n)) (wrapped (u.pc + 8)) (wrapped (u.pc + 12)) u.slot x (omega arith)
+            (omega arith) branch
+            (says_step u (i.Branch cond true (pos 2)) x.alike.same.live
+            (says_here (i.Branch cond true (pos 2)) x branch)
+            ∙ branch_acts u cond false w.slot other (ap (holds_of cond) x.alike.codes_are ∙ holds))
+            (omega arith) (omega arith);
         slot = w.slot;
       }

@@ -12,6 +12,7 @@ use Rattle.v8_alu.specs.Numbers.{wrapped}
 use Rattle.v8_memory.specs.Regions.{code_of}
 use Rattle.v8_step.specs.State.{State, register_of}
 use Rattle.v8_step.proofs.ValidStates.{register_of-range}
+use Rattle.code_runs.specs.Counted.{any_of_word}
 use Rattle.code_runs.specs.Straight.{StandIn}
 use Rattle.code_runs.proofs.Hops.{equal_or_not}
 use Rattle.snippets.specs.declared.snippet.Op.TheVariants.{Top}
@@ -110,7 +111,8 @@ top_is k0 y0 cell reg lc lr = top_is_greater k0 y0 cell reg lc lr
 module _ {s : State} {count : ℕ} {May : ℕ → Type 0} {counted : ℕ → Bool} {r : ℕ → ℕ} {want : ℕ}
     (c : HasBlock s count May r want) {n t : ℕ} {g : ℕ → ℕ} {codes : Codes} {f : ℕ → ℕ}
     (w : Works s count May counted r want n t g codes f) where
-  pub tops_short : (a q x : ℕ) → n + 5 ≤ count → 2 ≤ want → May a → counted a ≡ false → a < 2 ^ 32 → g a < 2 ^ 32
+  pub tops_short : (a q x : ℕ) → n + 5 ≤ count → 2 ≤ want → May a → any_of_word counted a ≡ false → a < 2 ^ 32
+      → g a < 2 ^ 32
       → q < 32 → ((k : ℕ) → k < want → q ≢ r k) → register_of s q ≡ x
       → StandIn (code_of s.memory) (s.pc + 4 * n)
       (high a (r 0) ∷ load_low a (r 0) (r 1) ∷ i.Alu ops.SUB true 0 q (o.Reg (r 1)) ∷ i.Branch 12 true (pos 2) ∷
@@ -139,7 +141,8 @@ module _ {s : State} {count : ℕ} {May : ℕ → Type 0} {counted : ℕ → Boo
       (λ u h. sum_low u (r 0) a (h.held.picked 0 (omega arith)) below) ok
       (λ u h. unpicked_is c u q h reg unpicked ∙ value) fits free)
 
-  pub tops_long : (a q x : ℕ) → n + 11 ≤ count → 5 ≤ want → May a → counted a ≡ false → a < 2 ^ 32 → g a < 2 ^ 32
+  pub tops_long : (a q x : ℕ) → n + 11 ≤ count → 5 ≤ want → May a → any_of_word counted a ≡ false → a < 2 ^ 32
+      → g a < 2 ^ 32
       → q < 32 → ((k : ℕ) → k < want → q ≢ r k) → register_of s q ≡ x
       → StandIn (code_of s.memory) (s.pc + 4 * n)
       (high a (r 0) ∷ load_low a (r 0) (r 1) ∷ of_two ops.SUB (r 1) q (r 2) ∷ of_two ops.ORN q (r 1) (r 3) ∷

@@ -21,7 +21,7 @@ use Rattle.snippets.specs.declared.snippet.Op.TheVariants.{Add, Put, Keep}
 use Rattle.snippet_code.specs.Cells.{cell_at}
 use Rattle.snippet_code.specs.Words.{op_words, is_small, small, low, high, load_low, store_low, of_two, with_number}
 use Rattle.snippet_code.proofs.Working.{HasBlock, Works, put}
-use Rattle.code_runs.specs.Counted.{one_if}
+use Rattle.code_runs.specs.Counted.{any_of_word, one_if, word_span}
 use Rattle.snippet_code.proofs.Working.{update_one, IsFit, Does}
 use Rattle.snippet_code.proofs.Blocks.{unpicked_is, sethi, alu, ld, st}
 
@@ -63,7 +63,8 @@ small_is amount h = go (nat_lt amount 4096)
     go true = omega arith
     go false = omega arith
 
-pub free_store : (counted : ℕ → Bool) (t a : ℕ) → counted a ≡ false → t + one_if counted (Some a) ≤ t
+pub free_store : (counted : ℕ → Bool) (t a : ℕ) → any_of_word counted a ≡ false
+    → t + one_if counted (Some (word_span a)) ≤ t
 free_store counted t a e = subst (λ (z : Bool). t + (if z then 1 else 0) ≤ t) (sym e) (omega arith)
 
 -- a word of a list, by its number
@@ -113,7 +114,8 @@ module _ {s : State} {count : ℕ} {May : ℕ → Type 0} {counted : ℕ → Boo
 module _ {s : State} {count : ℕ} {May : ℕ → Type 0} {counted : ℕ → Bool} {r : ℕ → ℕ} {want : ℕ}
     (c : HasBlock s count May r want) {n t : ℕ} {g : ℕ → ℕ} {codes : Codes} {f : ℕ → ℕ}
     (w : Works s count May counted r want n t g codes f) where
-  adds_small : (a amount : ℕ) → n + 4 ≤ count → 2 ≤ want → May a → counted a ≡ false → a < 2 ^ 32 → amount < 2 ^ 32
+  adds_small : (a amount : ℕ) → n + 4 ≤ count → 2 ≤ want → May a → any_of_word counted a ≡ false → a < 2 ^ 32
+      → amount < 2 ^ 32
       → StandIn (code_of s.memory) (s.pc + 4 * n)
       (high a (r 0) ∷ load_low a (r 0) (r 1) ∷ with_number ops.ADD (r 1) (small amount) (r 1) ∷
       store_low a (r 0) (r 1) ∷ [])
@@ -131,7 +133,8 @@ module _ {s : State} {count : ℕ} {May : ℕ → Type 0} {counted : ℕ → Boo
       (at stand.1.1.1.0 (omega arith)) (λ u h. sum_low u (r 0) a (h.held.picked 0 (omega arith)) below) ok
       (λ u h. h.held.picked 1 (omega arith)) (omega arith) (free_store counted t a free)
 
-  adds_other : (a amount : ℕ) → n + 6 ≤ count → 3 ≤ want → May a → counted a ≡ false → a < 2 ^ 32 → amount < 2 ^ 32
+  adds_other : (a amount : ℕ) → n + 6 ≤ count → 3 ≤ want → May a → any_of_word counted a ≡ false → a < 2 ^ 32
+      → amount < 2 ^ 32
       → StandIn (code_of s.memory) (s.pc + 4 * n)
       (high a (r 0) ∷ load_low a (r 0) (r 1) ∷ high amount (r 2) ∷
       with_number ops.ADD (r 2) (pos (low amount)) (r 2) ∷ of_two ops.ADD (r 1) (r 2) (r 1) ∷
@@ -160,7 +163,7 @@ module _ {s : State} {count : ℕ} {May : ℕ → Type 0} {counted : ℕ → Boo
       (λ u h. h.held.picked 1 (omega arith)) (omega arith) (free_store counted t a free)
 
   -- a register's value, of one that isn't picked
-  puts_register : (a q v : ℕ) → n + 2 ≤ count → 1 ≤ want → May a → counted a ≡ false → a < 2 ^ 32 → q < 32
+  puts_register : (a q v : ℕ) → n + 2 ≤ count → 1 ≤ want → May a → any_of_word counted a ≡ false → a < 2 ^ 32 → q < 32
       → ((k : ℕ) → k < want → q ≢ r k) → register_of s q ≡ v
       → StandIn (code_of s.memory) (s.pc + 4 * n) (high a (r 0) ∷ store_low a (r 0) q ∷ [])
       → Works s count May counted r want (suc (suc n)) t (put a v g) codes (put 0 (1024 * (a / 1024)) f)
@@ -171,7 +174,7 @@ module _ {s : State} {count : ℕ} {May : ℕ → Type 0} {counted : ℕ → Boo
       (λ u h. unpicked_is c u q h reg unpicked ∙ value)
       (subst (λ z. z < 2 ^ 32) value (register_of-range s q c.valid)) (free_store counted t a free)
 
-  puts_number : (a v : ℕ) → n + 4 ≤ count → 2 ≤ want → May a → counted a ≡ false → a < 2 ^ 32 → v < 2 ^ 32
+  puts_number : (a v : ℕ) → n + 4 ≤ count → 2 ≤ want → May a → any_of_word counted a ≡ false → a < 2 ^ 32 → v < 2 ^ 32
       → StandIn (code_of s.memory) (s.pc + 4 * n)
       (high a (r 0) ∷ high v (r 1) ∷ with_number ops.ADD (r 1) (pos (low v)) (r 1) ∷ store_low a (r 0) (r 1) ∷ [])
       → Works s count May counted r want (suc (suc (suc (suc n)))) t (put a v g) codes

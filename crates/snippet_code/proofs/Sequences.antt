@@ -16,7 +16,7 @@ use Rattle.snippet_code.specs.Cells.{cell_at, kept_word}
 use Rattle.code_runs.specs.Page.{of_page}
 use Rattle.snippet_code.specs.Words.{op_words, all_words, numbered, save, restore, low, high}
 use Rattle.snippet_code.proofs.Working.{HasBlock, Works, put}
-use Rattle.code_runs.specs.Counted.{one_if}
+use Rattle.code_runs.specs.Counted.{any_of_word, one_if, word_span}
 use Rattle.snippet_code.proofs.Working.{update_one, update_all, Does, AreFit, AreFrom, HavePage, saved, AreSaved}
 use Rattle.snippet_code.proofs.OneOperation.{as_many, Doing, add_works, put_works, keep_works}
 use Rattle.snippet_code.proofs.Greater.{top_works}
@@ -40,8 +40,8 @@ stand_at code a b xs h e = subst (λ z. StandIn code z xs) e h
 -- what a store in the page's words costs at most
 pub record IsCost (counted : ℕ → Bool) (cost : ℕ) : Type 0 where
   pub one : cost ≤ 1
-  pub each : (n : ℕ) → n < 5 → one_if counted (Some (kept_word n)) ≤ cost
-  pub none : ((n : ℕ) → n < 5 → counted (kept_word n) ≡ false) → cost ≡ 0
+  pub each : (n : ℕ) → n < 5 → one_if counted (Some (word_span (kept_word n))) ≤ cost
+  pub none : ((n : ℕ) → n < 5 → any_of_word counted (kept_word n) ≡ false) → cost ≡ 0
 
 if_below : (b c : Bool) → (c ≡ false → b ≡ false) → (if b then 1 else 0) ≤ (if c then 1 else 0)
 if_below false c h = omega arith
@@ -62,28 +62,29 @@ none_of false b e = (refl, e)
 
 module _ (counted : ℕ → Bool) where
   abbrev any_from3 : Bool
-  any_from3 = counted (kept_word 3) || counted (kept_word 4)
+  any_from3 = any_of_word counted (kept_word 3) || any_of_word counted (kept_word 4)
 
   abbrev any_from2 : Bool
-  any_from2 = counted (kept_word 2) || any_from3
+  any_from2 = any_of_word counted (kept_word 2) || any_from3
 
   abbrev any_from1 : Bool
-  any_from1 = counted (kept_word 1) || any_from2
+  any_from1 = any_of_word counted (kept_word 1) || any_from2
 
   abbrev any : Bool
-  any = counted (kept_word 0) || any_from1
+  any = any_of_word counted (kept_word 0) || any_from1
 
-  none_kept : any ≡ false → (n : ℕ) → n < 5 → counted (kept_word n) ≡ false
+  none_kept : any ≡ false → (n : ℕ) → n < 5 → any_of_word counted (kept_word n) ≡ false
   none_kept e n few =
-      let after0 = none_of (counted (kept_word 0)) any_from1 e in
-      let after1 = none_of (counted (kept_word 1)) any_from2 after0.1 in
-      let after2 = none_of (counted (kept_word 2)) any_from3 after1.1 in
-      let after3 = none_of (counted (kept_word 3)) (counted (kept_word 4)) after2.1 in
+      let after0 = none_of (any_of_word counted (kept_word 0)) any_from1 e in
+      let after1 = none_of (any_of_word counted (kept_word 1)) any_from2 after0.1 in
+      let after2 = none_of (any_of_word counted (kept_word 2)) any_from3 after1.1 in
+      let after3 = none_of (any_of_word counted (kept_word 3)) (any_of_word counted (kept_word 4)) after2.1 in
       by n few after0.0 after1.0 after2.0 after3.0 after3.1
     where
-      by : (n : ℕ) → n < 5 → counted (kept_word 0) ≡ false → counted (kept_word 1) ≡ false
-          → counted (kept_word 2) ≡ false → counted (kept_word 3) ≡ false → counted (kept_word 4) ≡ false
-          → counted (kept_word n) ≡ false
+      by : (n : ℕ) → n < 5 → any_of_word counted (kept_word 0) ≡ false → any_of_word counted (kept_word 1) ≡ false
+          → any_of_word counted (kept_word 2) ≡ false → any_of_word counted (kept_word 3) ≡ false
+          → any_of_word counted (kept_word 4) ≡ false
+          → any_of_word counted (kept_word n) ≡ false
       by zero few a b c d e = a
       by (suc zero) few a b c d e = b
       by (suc (suc zero)) few a b c d e = c
@@ -91,19 +92,20 @@ module _ (counted : ℕ → Bool) where
       by (suc (suc (suc (suc zero)))) few a b c d e = e
       by (suc (suc (suc (suc (suc n))))) few a b c d e = absurd (omega arith)
 
-  any_none : ((n : ℕ) → n < 5 → counted (kept_word n) ≡ false) → any ≡ false
+  any_none : ((n : ℕ) → n < 5 → any_of_word counted (kept_word n) ≡ false) → any ≡ false
   any_none h =
-      or_none (counted (kept_word 0)) any_from1 (h 0 (omega arith))
-      (or_none (counted (kept_word 1)) any_from2 (h 1 (omega arith))
-      (or_none (counted (kept_word 2)) any_from3 (h 2 (omega arith))
-      (or_none (counted (kept_word 3)) (counted (kept_word 4)) (h 3 (omega arith)) (h 4 (omega arith)))))
+      or_none (any_of_word counted (kept_word 0)) any_from1 (h 0 (omega arith))
+      (or_none (any_of_word counted (kept_word 1)) any_from2 (h 1 (omega arith))
+      (or_none (any_of_word counted (kept_word 2)) any_from3 (h 2 (omega arith))
+      (or_none (any_of_word counted (kept_word 3)) (any_of_word counted (kept_word 4)) (h 3 (omega arith))
+      (h 4 (omega arith)))))
 
   pub cost_of_page : (cost : ℕ) × IsCost counted cost
   cost_of_page = (
     if any then 1 else 0,
     record {
       one = if_one any;
-      each = λ n few. if_below (counted (kept_word n)) any (λ e. none_kept e n few);
+      each = λ n few. if_below (any_of_word counted (kept_word n)) any (λ e. none_kept e n few);
       none = λ h. ap (λ (b : Bool). if b then 1 else 0) (any_none h);
     },
   )

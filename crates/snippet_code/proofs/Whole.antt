@@ -17,6 +17,7 @@ use Rattle.v8_step.specs.declared.Ending.{Ending}
 use Rattle.v8_alu.specs.declared.Codes.{Codes}
 use Rattle.v8_step.specs.State.{State, register_of}
 use Rattle.v8_step.specs.Items.{Item, Register, Codes as CodesItem, YRegister, IsAmong, IsSameAt}
+use Rattle.code_runs.specs.Counted.{any_of_word}
 use Rattle.code_runs.specs.Hops.{hopped}
 use Rattle.code_runs.specs.StoredWords.{memory_word, CanStore}
 use Rattle.code_runs.specs.Straight.{StandIn}
@@ -94,7 +95,7 @@ module _ (counted : ℕ → Bool) (base : ℕ) (r : ℕ → ℕ) (want : ℕ) (d
 
   fits_of : (ops : List Op) → All IsOp ops → EndLow base ops
       → ((k : ℕ) → IsCellOf ops k → May (cell_at base k))
-      → ((k : ℕ) → IsCellOf ops k → counted (cell_at base k) ≡ false)
+      → ((k : ℕ) → IsCellOf ops k → any_of_word counted (cell_at base k) ≡ false)
       → ((q : ℕ) → IsReadIn ops q → 0 < q → q < 32 → has avoid (parts.Reg q) ≡ true)
       → registers_for d ops ≤ want → AreFit May counted r want base d ops
   fits_of [] are low may free named enough = tt
@@ -230,7 +231,7 @@ module _ (counted : ℕ → Bool) (base : ℕ) (dead avoid : List Part) (ops : L
       → ((q : ℕ) → IsReadIn ops q → 0 < q → q < 32 → has avoid (parts.Reg q) ≡ true)
       → map decode_of words ≡ numbered save 0 (drop (Want - spills) regs)
       ++ (all_words base (has dead parts.Icc) (slice_index regs) ops ++ numbered restore 0 (drop (Want - spills) regs))
-      → ((k : ℕ) → IsCellOf ops k → counted (cell_at base k) ≡ false) → IsAboutToRun words base ops s
+      → ((k : ℕ) → IsCellOf ops k → any_of_word counted (cell_at base k) ≡ false) → IsAboutToRun words base ops s
       → RunsPast counted base dead ops (length words) spills s
   does_whole regs spills four are low p named e free h =
       let d = has dead parts.Icc in

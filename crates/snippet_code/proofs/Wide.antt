@@ -12,6 +12,7 @@ use Rattle.v8_alu.specs.Alu.{alu_of, codes_of, sum_overflows}
 use Rattle.v8_alu.specs.Numbers.{complement, one_if, wrapped}
 use Rattle.v8_memory.specs.Regions.{code_of}
 use Rattle.v8_step.specs.State.{State, register_of}
+use Rattle.code_runs.specs.Counted.{any_of_word}
 use Rattle.code_runs.specs.Straight.{StandIn}
 use Rattle.snippets.specs.declared.snippet.Op.TheVariants.{Count, Log}
 use Rattle.snippet_code.specs.Cells.{cell_at}
@@ -123,8 +124,8 @@ module _ {s : State} {count : ℕ} {May : ℕ → Type 0} {counted : ℕ → Boo
     (c : HasBlock s count May r want) {n t : ℕ} {g : ℕ → ℕ} {codes : Codes} {f : ℕ → ℕ}
     (w : Works s count May counted r want n t g codes f) where
   -- with the codes
-  counts_short : (a b : ℕ) → b ≡ a + 4 → n + 7 ≤ count → 2 ≤ want → May a → May b → counted a ≡ false
-      → counted b ≡ false → b < 2 ^ 31 → g b < 2 ^ 32
+  counts_short : (a b : ℕ) → b ≡ a + 4 → n + 7 ≤ count → 2 ≤ want → May a → May b → any_of_word counted a ≡ false
+      → any_of_word counted b ≡ false → b < 2 ^ 31 → g b < 2 ^ 32
       → StandIn (code_of s.memory) (s.pc + 4 * n) (count_words a true r)
       → (codes' : Codes) × (f' : ℕ → ℕ) × Works s count May counted r want (n + 7) t
       (put a (wrapped (g a + (g b + 1) / 2 ^ 32)) (put b (wrapped (g b + 1)) g)) codes' f'
@@ -166,8 +167,8 @@ module _ {s : State} {count : ℕ} {May : ℕ → Type 0} {counted : ℕ → Boo
       )
 
   -- without the codes
-  counts_long : (a b : ℕ) → b ≡ a + 4 → n + 9 ≤ count → 3 ≤ want → May a → May b → counted a ≡ false
-      → counted b ≡ false → b < 2 ^ 31 → g b < 2 ^ 32
+  counts_long : (a b : ℕ) → b ≡ a + 4 → n + 9 ≤ count → 3 ≤ want → May a → May b → any_of_word counted a ≡ false
+      → any_of_word counted b ≡ false → b < 2 ^ 31 → g b < 2 ^ 32
       → StandIn (code_of s.memory) (s.pc + 4 * n) (count_words a false r)
       → (f' : ℕ → ℕ) × Works s count May counted r want (n + 9) t
       (put a (wrapped (g a + (g b + 1) / 2 ^ 32)) (put b (wrapped (g b + 1)) g)) codes f'
@@ -208,7 +209,7 @@ module _ {s : State} {count : ℕ} {May : ℕ → Type 0} {counted : ℕ → Boo
       (_, as_many (let z : suc (suc (suc (suc (suc (suc (suc (suc (suc n)))))))) ≡ n + 9 = omega arith in z) w9)
 
   logs : (a b bits v : ℕ) → b ≡ a + 4 * (g a % 2 ^ bits) + 4 → n + 10 ≤ count → 3 ≤ want → 1 ≤ bits → bits ≤ 16
-      → May a → May b → counted a ≡ false → counted b ≡ false → b < 2 ^ 31 → v < 2 ^ 32
+      → May a → May b → any_of_word counted a ≡ false → any_of_word counted b ≡ false → b < 2 ^ 31 → v < 2 ^ 32
       → StandIn (code_of s.memory) (s.pc + 4 * n) (log_words a r bits v)
       → (f' : ℕ → ℕ) × Works s count May counted r want (n + 10) t (put b v (put a (wrapped (g a + 1)) g)) codes f'
   logs a b bits v next room enough some few ok ok' free free' below fits stand =

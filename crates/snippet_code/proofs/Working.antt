@@ -18,7 +18,7 @@ use Rattle.snippets.specs.declared.snippet.Op.TheVariants.{Add, Put, Keep, Top, 
 use Rattle.snippets.specs.Grammar.{IsOp}
 use Rattle.snippets.specs.Ops.{cells_end}
 use Rattle.snippet_code.specs.Cells.{IsCellIn, cell_at, kept_word}
-use Rattle.code_runs.specs.Counted.{count_stores}
+use Rattle.code_runs.specs.Counted.{any_of_word, count_stores}
 use Rattle.snippet_code.specs.Words.{op_registers}
 
 -- ---- blocks
@@ -125,7 +125,7 @@ IsRead _ q = ⊥
 pub record IsFit (May : ℕ → Type 0) (counted : ℕ → Bool) (r : ℕ → ℕ) (want base : ℕ) (d : Bool) (op : Op)
     : Type 0 where
   pub cell : (k : ℕ) → IsCellIn op k → May (cell_at base k)
-  pub free : (k : ℕ) → IsCellIn op k → counted (cell_at base k) ≡ false
+  pub free : (k : ℕ) → IsCellIn op k → any_of_word counted (cell_at base k) ≡ false
   pub below : cell_at base (cells_end op) ≤ 2 ^ 31
   pub unpicked : (q k : ℕ) → IsRead op q → k < want → q ≢ r k
   pub enough : op_registers d op ≤ want

@@ -14,7 +14,7 @@ use Rattle.code_runs.specs.TwoRegisters.{IsBetween}
 use Rattle.snippets.specs.declared.snippet.Op.{Op}
 use Rattle.snippets.specs.Cells.{update}
 pub use Rattle.snippet_code.specs.Cells.{cell_at, words_at, IsCellOf, kept_word}
-use Rattle.code_runs.specs.Counted.{count_stores}
+use Rattle.code_runs.specs.Counted.{any_of_word, count_stores}
 
 -- where a snippet's words may store: in its cells, and in those words of the page
 abbrev pub MayStore : ℕ → List Op → ℕ → Type 0
@@ -43,7 +43,7 @@ pub record RunsPast (counted : ℕ → Bool) (base : ℕ) (dead : List Part) (op
   pub path : Leads (IsBetween s count (MayStore base ops)) s after steps
   pub silent : IsSilent s steps
   pub stored : count_stores counted s steps ≤ most
-  pub elsewhere : ((n : ℕ) → n < 5 → counted (kept_word n) ≡ false) → count_stores counted s steps ≡ 0
+  pub elsewhere : ((n : ℕ) → n < 5 → any_of_word counted (kept_word n) ≡ false) → count_stores counted s steps ≡ 0
   pub pc : after.pc ≡ s.pc + 4 * count
   pub npc : after.npc ≡ s.pc + 4 * count + 4
   pub slot : after.slot ≡ NoSlot
@@ -63,5 +63,5 @@ pub record RunsPast (counted : ℕ → Bool) (base : ℕ) (dead : List Part) (op
 -- On every such state, whatever stores are counted that aren't into the snippet's cells.
 abbrev pub DoesJust : List ℕ → ℕ → List Part → ℕ → List Op → Type 0
 DoesJust words base dead most ops =
-    (counted : ℕ → Bool) → ((k : ℕ) → IsCellOf ops k → counted (cell_at base k) ≡ false)
+    (counted : ℕ → Bool) → ((k : ℕ) → IsCellOf ops k → any_of_word counted (cell_at base k) ≡ false)
     → (s : State) → IsAboutToRun words base ops s → RunsPast counted base dead ops (length words) most s
