@@ -37,7 +37,8 @@ no_out kinds.Land n = refl
 no_out kinds.Case n = refl
 
 -- any edge but a Fall or a Case edge has its way
-pub way_is : (text : Words) (graph : Graph) (table : ℕ) (codes : ℕ → List ℕ) (number : ℕ) (edge : Edge) (items : List Item)
+pub way_is : (text : Words) (graph : Graph) (table : ℕ) (codes : ℕ → List ℕ) (number : ℕ) (edge : Edge)
+    (items : List Item)
     → (edge.kind ≡ kinds.Fall → ⊥) → (edge.kind ≡ kinds.Case → ⊥)
     → (if is_fall edge.kind then jump_to 0 else if same_kind edge.kind kinds.Case then jump_to 0 else items) ≡ items
 way_is text graph table codes number edge items fall case = go edge.kind fall case

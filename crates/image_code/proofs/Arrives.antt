@@ -171,10 +171,10 @@ module _ (g : Setting) (l : Pieces) (base : ℕ) (p : Placement) (place : ℕ �
   pub bare_on : (t u : State) → u.ending ≡ None → IsBare u → IsOnWay g t u
   bare_on t u live bare = on_none g l base p place f h t u live bare.0 bare.1 bare.2
 
-  -- A way through such words and the snippets of some edges: all stays as it was but what is dead behind these and words of
-  -- the editor's, and in them the cells are updated, and the target that waits in word 1 of the page stays. Where the
-  -- original goes on at a word of the text, it is known what the way stores, and that it takes a word for each four of its
-  -- bound where nothing is long.
+  -- A way through such words and the snippets of some edges: all stays as it was but what is dead behind these and
+  -- words of the editor's, and in them the cells are updated, and the target that waits in word 1 of the page stays.
+  -- Where the original goes on at a word of the text, it is known what the way stores, and that it takes a word for
+  -- each four of its bound where nothing is long.
   pub record Arrives (next : Option ℕ) (edges : List ℕ) (a : State) (to most : ℕ) : Type 0 where
     pub count : ℕ
     pub other : State
@@ -293,7 +293,8 @@ module _ (g : Setting) (l : Pieces) (base : ℕ) (p : Placement) (place : ℕ �
   }
 
   -- an item outside each Mark
-  pub bare_item : (k n : ℕ) (x : Item) → item_at l.list k n ≡ Some x → open_in (slice_get l.list k) n ≡ None → (u : State)
+  pub bare_item : (k n : ℕ) (x : Item) → item_at l.list k n ≡ Some x → open_in (slice_get l.list k) n ≡ None
+      → (u : State)
       → place k n ≤ u.pc → u.pc < place k (suc n) → IsBare u
   bare_item k n x item closed u low high =
       let size = item_size l.list k n x item in
@@ -306,7 +307,8 @@ module _ (g : Setting) (l : Pieces) (base : ℕ) (p : Placement) (place : ℕ �
       )
 
   -- a Jump outside each Mark
-  pub jump_on : (next : Option ℕ) (k n : ℕ) (z : PieceNo) → item_at l.list k n ≡ Some (it.Jump z) → open_in (slice_get l.list k) n ≡ None
+  pub jump_on : (next : Option ℕ) (k n : ℕ) (z : PieceNo) → item_at l.list k n ≡ Some (it.Jump z)
+      → open_in (slice_get l.list k) n ≡ None
       → (a : State) → IsFit a → a.pc ≡ place k n → Arrives next [] a (slice_index p.at z.0) 4
   jump_on next k n z item closed a fit at =
       let j = jumps_hop l.list base p place h.laid k n z item a fit.runs at in
@@ -387,10 +389,12 @@ module _ (g : Setting) (l : Pieces) (base : ℕ) (p : Placement) (place : ℕ �
           → updates g.snips others (words_at g.notes.base g.notes.cells one.memory) (hopped one.other mid one.memory)
           ≡ updates g.snips others (words_at g.notes.base g.notes.cells one.memory) a
       read_alike (inl none) =
-          ap (λ z. updates g.snips z (words_at g.notes.base g.notes.cells one.memory) (hopped one.other mid one.memory)) none
+          ap (λ z. updates g.snips z (words_at g.notes.base g.notes.cells one.memory) (hopped one.other mid one.memory))
+          none
           ∙ sym (ap (λ z. updates g.snips z (words_at g.notes.base g.notes.cells one.memory) a) none)
       read_alike (inr nothing) =
-          updates_same g.snips others (words_at g.notes.base g.notes.cells one.memory) (hopped one.other mid one.memory) a
+          updates_same g.snips others (words_at g.notes.base g.notes.cells one.memory)
+          (hopped one.other mid one.memory) a
           (ap (λ (z : State). register_of z) (one.still nothing))
 
       by_cells : LastDead g (first ++ others)
@@ -469,7 +473,8 @@ module _ (g : Setting) (l : Pieces) (base : ℕ) (p : Placement) (place : ℕ �
         slot = fit.runs.slot;
         low = omega (arith, at, end, low);
         stand = subst (λ z. HasWords (code_of a.memory) z words) (sym at) there.words;
-        cell = λ cell named. cell_stored g l f h.frame h.cells a.memory fit.has.ours cell (h.cells.named edge cell named);
+        cell = λ cell named. cell_stored g l f h.frame h.cells a.memory fit.has.ours cell
+            (h.cells.named edge cell named);
         page = λ i few. stores_there (kept_word i) a.memory (fit.has.ours.words (kept_word i) (h.frame.page (i + 2)
             (omega (arith, few))));
       } in
@@ -558,7 +563,8 @@ module _ (g : Setting) (l : Pieces) (base : ℕ) (p : Placement) (place : ℕ �
       (on_then (edge ∷ edges) (edge ∷ []) edges refl a mid _ 0 0 one other)
 
   -- and then whatever comes behind them
-  pub snippets_then : (next : Option ℕ) (edges : List ℕ) (k n : ℕ) (xs : List Item) → Rest l k n (words_on l edges ++ xs) → (a : State)
+  pub snippets_then : (next : Option ℕ) (edges : List ℕ) (k n : ℕ) (xs : List Item)
+      → Rest l k n (words_on l edges ++ xs) → (a : State)
       → IsFit a → a.pc ≡ place k n → (others : List ℕ) (to more : ℕ)
       → ((b : State) → IsFit b → b.pc ≡ place k (n + length (flat_map l.codes edges))
       → Rest l k (n + length (flat_map l.codes edges)) xs → Arrives next others b to more)
@@ -568,7 +574,8 @@ module _ (g : Setting) (l : Pieces) (base : ℕ) (p : Placement) (place : ℕ �
       let mid = place k (n + length (flat_map l.codes edges)) in
       let low = stood_low k n (flat_map l.codes edges) xs r in
       let r2 : Rest l k (n + length (flat_map l.codes edges)) xs =
-      subst (λ z. Rest l k (n + z) xs) (length_words (flat_map l.codes edges)) (rest_behind l k n (words_on l edges) xs r) in
+      subst (λ z. Rest l k (n + z) xs) (length_words (flat_map l.codes edges))
+      (rest_behind l k n (words_on l edges) xs r) in
       let fit2 : IsFit (hopped one.other mid one.memory) = arrived edges a mid 0 fit low one in
       let none : 0 + more ≡ more = omega arith in
       subst (λ z. Arrives next (edges ++ others) a to z) none
@@ -581,7 +588,8 @@ module _ (g : Setting) (l : Pieces) (base : ℕ) (p : Placement) (place : ℕ �
   pub far_on : (next : Option ℕ) → next ≡ None → (k n to : ℕ) → IsFar to → Rest l k n (far_piece to) → (a : State)
       → IsFit a → a.pc ≡ place k n → Arrives next [] a to 4
   far_on next out k n to far r a fit at =
-      let there = stood a.memory fit.has.code k n (words_of (long_jump to)) [] (subst (Rest l k n) (sym (append-nil (far_piece to))) r) in
+      let there = stood a.memory fit.has.code k n (words_of (long_jump to)) []
+      (subst (Rest l k n) (sym (append-nil (far_piece to))) r) in
       let end = there.end in
       let low = stood_low k n (words_of (long_jump to)) [] (subst (Rest l k n) (sym (append-nil (far_piece to))) r) in
       let stand : StandIn (code_of a.memory) (place k n) (long_jump to) =
@@ -633,13 +641,15 @@ module _ (g : Setting) (l : Pieces) (base : ℕ) (p : Placement) (place : ℕ �
       subst (λ q. Arrives next q a to 4) (sym none) (stays_here a to 4 fit.runs (at ∙ e) (omega (arith, at, low)))
   arrive z edges a next to fit at (inr (inl (y, is, e))) =
       let r = rest_whole l z.0 (words_on l edges ++ it.Jump y ∷ []) (jump_unmarked edges y) is in
-      for_all edges a to 4 (snippets_then next edges z.0 0 (it.Jump y ∷ []) r a fit (at ∙ h.laid.starts z.0 r.within) [] to 4
+      for_all edges a to 4 (snippets_then next edges z.0 0 (it.Jump y ∷ []) r a fit
+      (at ∙ h.laid.starts z.0 r.within) [] to 4
       (λ b fit2 there r2. subst (λ q. Arrives next [] b q 4) e
       (last_jump next z.0 (0 + length (flat_map l.codes edges)) y r2 b fit2 there)))
   arrive z edges a next to fit at (inr (inr (out, far, is))) =
       let r = rest_whole l z.0 (words_on l edges ++ far_piece to)
       (words_unmarked (flat_map l.codes edges) (far_piece to) (far_unmarked to)) is in
-      for_all edges a to 4 (snippets_then next edges z.0 0 (far_piece to) r a fit (at ∙ h.laid.starts z.0 r.within) [] to 4
+      for_all edges a to 4 (snippets_then next edges z.0 0 (far_piece to) r a fit
+      (at ∙ h.laid.starts z.0 r.within) [] to 4
       (λ b fit2 there r2. far_on next out z.0 (0 + length (flat_map l.codes edges)) to far r2 b fit2 there))
 
   -- a Jump to a piece that leads on

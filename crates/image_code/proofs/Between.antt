@@ -44,7 +44,8 @@ each_weaker May Might f (w ∷ ws) h = (f w.0 h.0, each_weaker May Might f ws h.
 
 pub stores_weaker : (May Might : ℕ → Type 0) (m n : Memory) → ((z : ℕ) → May z → Might z) → Stores May m n
     → Stores Might m n
-stores_weaker May Might m n f h = record { writes = h.writes; each = each_weaker May Might f h.writes h.each; result = h.result }
+stores_weaker May Might m n f h =
+    record { writes = h.writes; each = each_weaker May Might f h.writes h.each; result = h.result }
 
 region_refl : (o : Option Region) → IsSameRegion o o
 region_refl None = tt
@@ -173,7 +174,8 @@ module _ (g : Setting) (l : Pieces) (base : ℕ) (p : Placement) (place : ℕ �
   -- word 0 of the page is one of the editor's
   pub first_own : (m n : Memory) → Stores IsFirstWord m n → Stores (IsAmongWords f.own) m n
   first_own m n stores =
-      stores_weaker IsFirstWord (IsAmongWords f.own) m n (λ z e. subst (IsAmongWords f.own) (sym e) h.frame.own.first) stores
+      stores_weaker IsFirstWord (IsAmongWords f.own) m n
+      (λ z e. subst (IsAmongWords f.own) (sym e) h.frame.own.first) stores
 
 -- a step that ends the run completes no edge
 pub ended_none : (g : Setting) (node : Node) (x : Point) (v : State) (d : Ending) → v.ending ≡ Some d

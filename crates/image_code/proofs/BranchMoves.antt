@@ -26,10 +26,12 @@ moved_by true true true s to = record { pc = to; npc = wrapped (to + 4); slot = 
 moved_by true true false s to = record { pc = s.npc; npc = to; slot = Taken; is = refl }
 moved_by true false true s to = record { pc = s.npc; npc = to; slot = Taken; is = refl }
 moved_by true false false s to = record { pc = s.npc; npc = to; slot = Taken; is = refl }
-moved_by false always true s to = record { pc = wrapped (s.pc + 8); npc = wrapped (s.pc + 12); slot = s.slot; is = refl }
+moved_by false always true s to =
+    record { pc = wrapped (s.pc + 8); npc = wrapped (s.pc + 12); slot = s.slot; is = refl }
 moved_by false always false s to = record { pc = s.npc; npc = wrapped (s.npc + 4); slot = Untaken; is = refl }
 
-module _ (g : Setting) (x : Point) (t : State) (none : x.slot ≡ NoSlot) (word : ℕ) (is_word : word_of g.text x.pc ≡ Some word)
+module _ (g : Setting) (x : Point) (t : State) (none : x.slot ≡ NoSlot) (word : ℕ)
+    (is_word : word_of g.text x.pc ≡ Some word)
     (cond : ℕ) (annul : Bool) (disp : ℤ) (says : decode_of word ≡ i.Branch cond annul disp) where
   branch_acts : act (at_point x t) (i.Branch cond annul disp)
       ≡ branched (holds_of cond t.codes) (cond == 8) annul (at_point x t) (target_of (at_point x t) disp)
@@ -37,7 +39,8 @@ module _ (g : Setting) (x : Point) (t : State) (none : x.slot ≡ NoSlot) (word 
   branch_acts = ap (λ (z : Slot). unless_couple z (at_point x t)
       (branched (holds_of cond t.codes) (cond == 8) annul (at_point x t) (target_of (at_point x t) disp))) none
 
-  does_is : does_at g x t ≡ branched (holds_of cond t.codes) (cond == 8) annul (at_point x t) (target_of (at_point x t) disp)
+  does_is : does_at g x t ≡ branched (holds_of cond t.codes) (cond == 8) annul (at_point x t)
+      (target_of (at_point x t) disp)
   does_is = ap (on_word (at_point x t)) is_word ∙ ap (act (at_point x t)) says ∙ branch_acts
 
   pub branch_moves : IsMoved (at_point x t) (does_at g x t)

@@ -70,7 +70,8 @@ module _ (g : Setting) (l : Pieces) (base : ℕ) (p : Placement) (place : ℕ �
       short = let o = c.original in let low = c.low in omega arith
 
   steps : (edges : List ℕ) → LastDead g edges
-      → LeadsTo l p c.way edges (word_at g.text (called x c.disp t).pc) (entered_at g l p f (node_after (graph_in g) node edges) (point_of (called x c.disp t)))
+      → LeadsTo l p c.way edges (word_at g.text (called x c.disp t).pc)
+      (entered_at g l p f (node_after (graph_in g) node edges) (point_of (called x c.disp t)))
       → IsNoJumpsSlot g (called x c.disp t)
       → Enters g (Entered g l base p f) (HasShortForms l.list place) edges node x t (called x c.disp t)
   steps edges last leads never =
@@ -95,7 +96,8 @@ module _ (g : Setting) (l : Pieces) (base : ℕ) (p : Placement) (place : ℕ �
 pub calls_step : CallsStep
 calls_step g l base p place f node x t h here c =
     let is = does_is g l base p place f h node x t here c in
-    subst (λ (z : State). Enters g (Entered g l base p f) (HasShortForms l.list place) (gone_at g node x z) node x t z) (sym is)
+    subst (λ (z : State). Enters g (Entered g l base p f) (HasShortForms l.list place) (gone_at g node x z) node x t z)
+    (sym is)
     (steps g l base p place f h node x t here c (gone_at g node x (called x c.disp t))
     (gone_last g l f h.cells node x (called x c.disp t))
     (subst (λ (z : State). LeadsTo l p c.way (gone_at g node x z) (word_at g.text z.pc)

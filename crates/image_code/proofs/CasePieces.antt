@@ -30,7 +30,8 @@ words_many : (targets : List WordNo) (n : ℕ) → n < length targets → length
 words_many targets n l = omega (arith, length-map (take n targets) word_of, length-take n targets, l)
 
 -- the first entries that lead to words
-pub entries_more : (targets : List WordNo) (n : ℕ) (d : WordNo) (word entry : ℕ) (was now : Option ℕ) → n < length targets
+pub entries_more : (targets : List WordNo) (n : ℕ) (d : WordNo) (word entry : ℕ) (was now : Option ℕ)
+    → n < length targets
     → entry ≡ n → was ≡ position (λ t. t == word) (map word_of (take n targets))
     → now ≡ option_or was (number_where ((slice_index_or targets n d).0 == word) entry)
     → now ≡ position (λ t. t == word) (map word_of (take (n + 1) targets))
@@ -57,7 +58,8 @@ entry_number text graph k o items word place first number found are is at made b
 module _ (text : Words) (graph : Graph) where
   cases_more : (table : ℕ) (codes : ℕ → List ℕ) (o : Open) (entry : ℕ) (words : List ℕ) (word : ℕ)
       → cases_from text graph table codes o entry (words ++ word ∷ [])
-      ≡ cases_from text graph table codes o entry words ++ case_at text graph table codes o (entry + length words) word ∷ []
+      ≡ cases_from text graph table codes o entry words
+      ++ case_at text graph table codes o (entry + length words) word ∷ []
   cases_more table codes o entry [] word =
       let here : entry ≡ entry + 0 = omega arith in
       ap (λ (n : ℕ). case_at text graph table codes o n word ∷ []) here

@@ -70,7 +70,8 @@ pub record IsMarkedWord (g : Setting) (l : Pieces) (p : Placement) (f : Frame) (
   pub rest : List Item
   pub items : slice_get l.list piece ≡ Some (plain_piece address (number_in g node) word rest)
 
-abbrev marked : (g : Setting) (l : Pieces) (p : Placement) (place : ℕ → ℕ → ℕ) (f : Frame) (node : Node) (x : Point) (t : State)
+abbrev marked : (g : Setting) (l : Pieces) (p : Placement) (place : ℕ → ℕ → ℕ) (f : Frame) (node : Node) (x : Point)
+    (t : State)
     → IsPlain g l p place f node x t → IsMarkedWord g l p f node x
 marked g l p place f node x t c = record {
   piece = c.piece;
@@ -100,7 +101,8 @@ module _ (g : Setting) (l : Pieces) (base : ℕ) (p : Placement) (place : ℕ �
     pub fetched : fetch_from (code_of t.memory) t.pc ≡ Some word
     pub one : step_of t ≡ act t (decode_of word)
 
-  pub stands_at : (node : Node) (x : Point) (t : State) → Here g l base p f node x t → (piece : ℕ) → piece < length l.list
+  pub stands_at : (node : Node) (x : Point) (t : State) → Here g l base p f node x t → (piece : ℕ)
+      → piece < length l.list
       → visited_at g l p f node x ≡ slice_index p.at piece → (address : Addr) (number word : ℕ) (rest : List Item)
       → slice_get l.list piece ≡ Some (plain_piece address number word rest) → StandsAt t piece word rest
   stands_at node x t here piece within visited address number word rest items =
@@ -119,7 +121,8 @@ module _ (g : Setting) (l : Pieces) (base : ℕ) (p : Placement) (place : ℕ �
       let next = stands.0 in
       let npc = here.npc in
       let small : wrapped (t.pc + 4) ≡ t.pc + 4 = omega arith in
-      let ready : CanRun base p.code t = can_run g l base p place f h t here.valid here.live (npc ∙ small) here.slot here.memory in
+      let ready : CanRun base p.code t =
+      can_run g l base p place f h t here.valid here.live (npc ∙ small) here.slot here.memory in
       let fetched : fetch_from (code_of t.memory) t.pc ≡ Some word =
       (words_stand l.list base p place h.laid piece 1 word (item 1) t ready at).0 in
       record {
@@ -188,14 +191,20 @@ module _ (g : Setting) (l : Pieces) (base : ℕ) (p : Placement) (place : ℕ �
 
     ends : (d : Ending) → (act (at_point x t) (decode_of c.word)).ending ≡ Some d
         → AllApart (pages_of g.notes) (judged_by t (decode_of c.word))
-        → Enters g (Entered g l base p f) (HasShortForms l.list place) [] node x t (act (at_point x t) (decode_of c.word))
+        → Enters g (Entered g l base p f) (HasShortForms l.list place) [] node x t
+        (act (at_point x t) (decode_of c.word))
     ends d over apart =
         let stopped : (act t (decode_of c.word)).ending ≡ Some d = ap (λ (z : State). z.ending) same ∙ over in
         record {
           on = record {
             count = 1;
             after = act t (decode_of c.word);
-            path = record { steps = stands.one; some = omega arith; few = omega arith; quiet = λ j a b. absurd (omega arith) };
+            path = record {
+              steps = stands.one;
+              some = omega arith;
+              few = omega arith;
+              quiet = λ j a b. absurd (omega arith);
+            };
             puts = puts_one;
             followed = followed [] (act t (decode_of c.word)) (alike_itself g [] (act t (decode_of c.word)))
                 (outside_refl (pages_of g.notes) _);
@@ -224,7 +233,8 @@ module _ (g : Setting) (l : Pieces) (base : ℕ) (p : Placement) (place : ℕ �
         → (act t (decode_of c.word)).ending ≡ None
         → (count_stores (is_spill g.notes) t 1 ≡ 0) × (count_stores in_first_word t 1 ≡ 0)
     one_spares apart alive =
-        let out = uncounted g.notes (h.frame.own.within (page_word 0) h.frame.own.first) t (decode_of c.word) apart alive in
+        let out = uncounted g.notes (h.frame.own.within (page_word 0) h.frame.own.first) t
+        (decode_of c.word) apart alive in
         let says : Says (code_of t.memory) t.pc (decode_of c.word) =
         record { word = c.word; fetched = stands.fetched; decodes = refl } in (
           no_stores (is_spill g.notes) t (decode_of c.word) here.live says out.0,
@@ -238,7 +248,8 @@ module _ (g : Setting) (l : Pieces) (base : ℕ) (p : Placement) (place : ℕ �
         → Tail g l base p place f h next edges (act t (decode_of c.word)) (entered_at g l p f
         (node_after (graph_in g) node edges) (point_of (act (at_point x t) (decode_of c.word)))) 24)
         → (IsWatched g edges x (act (at_point x t) (decode_of c.word)) → next ≢ None)
-        → Enters g (Entered g l base p f) (HasShortForms l.list place) edges node x t (act (at_point x t) (decode_of c.word))
+        → Enters g (Entered g l base p f) (HasShortForms l.list place) edges node x t
+        (act (at_point x t) (decode_of c.word))
     goes next edges last live apart' apart onward watched =
         let a : State = act t (decode_of c.word) in
         let alive : (act t (decode_of c.word)).ending ≡ None = ap (λ (z : State). z.ending) same ∙ live in
@@ -302,7 +313,8 @@ module _ (g : Setting) (l : Pieces) (base : ℕ) (p : Placement) (place : ℕ �
               at = refl;
               npc = refl;
               slot = refl;
-              memory = images_stored g f h.frame base p (act t (decode_of c.word)) _ rest.count rest.path.steps stores has;
+              memory = images_stored g f h.frame base p
+                  (act t (decode_of c.word)) _ rest.count rest.path.steps stores has;
               waits = λ e. let none = vwent.2 in absurd (cc);
             };
             place = λ e. absurd (e live);
@@ -321,7 +333,11 @@ module _ (g : Setting) (l : Pieces) (base : ℕ) (p : Placement) (place : ℕ �
                 };
           };
           first = λ _ none straight inside.
-              let there = watched (record { jump = no_jump (instr_at g.text x.pc) straight; out = subst (NoneIsOut (graph_in g)) (sym none) tt; inside = inside }) in
+              let there = watched (record {
+                jump = no_jump (instr_at g.text x.pc) straight;
+                out = subst (NoneIsOut (graph_in g)) (sym none) tt;
+                inside = inside;
+              }) in
               let nothing = tail.1 there none in
               let same_memory : rest.memory ≡ (act t (decode_of c.word)).memory =
               ap (λ (z : State). z.memory) (sym rest.path.steps ∙ ap (run (act t (decode_of c.word))) nothing) in
@@ -351,7 +367,8 @@ judged_moved notes x t instr apart = judged_alike notes instr (at_point x t) t (
 }) apart
 
 -- The word ends the run as the original's does, or control goes on from item 3 of its piece.
-pub marked_step : (next : Option ℕ) (g : Setting) (l : Pieces) (base : ℕ) (p : Placement) (place : ℕ → ℕ → ℕ) (f : Frame)
+pub marked_step : (next : Option ℕ) (g : Setting) (l : Pieces) (base : ℕ) (p : Placement) (place : ℕ → ℕ → ℕ)
+    (f : Frame)
     (node : Node) (x : Point) (t : State) (h : IsPlaced g l base p place f) → Here g l base p f node x t
     → (c : IsMarkedWord g l p f node x) → AllApart (pages_of g.notes) (judged_by (at_point x t) (decode_of c.word))
     → ((does_at g x t).ending ≡ None → IsFit g l base p place f h (act t (decode_of c.word))
@@ -359,10 +376,12 @@ pub marked_step : (next : Option ℕ) (g : Setting) (l : Pieces) (base : ℕ) (p
     → Tail g l base p place f h next (gone_at g node x (does_at g x t)) (act t (decode_of c.word))
     (next_entry g l p f node x t) 24)
     → ((does_at g x t).ending ≡ None → IsWatched g (gone_at g node x (does_at g x t)) x (does_at g x t) → next ≢ None)
-    → Enters g (Entered g l base p f) (HasShortForms l.list place) (gone_at g node x (does_at g x t)) node x t (does_at g x t)
+    → Enters g (Entered g l base p f) (HasShortForms l.list place) (gone_at g node x (does_at g x t)) node x t
+    (does_at g x t)
 marked_step next g l base p place f node x t h here c apart onward watched =
     let is : does_at g x t ≡ act (at_point x t) (decode_of c.word) = ap (on_word (at_point x t)) c.is_word in
-    subst (λ (z : State). Enters g (Entered g l base p f) (HasShortForms l.list place) (gone_at g node x z) node x t z) (sym is)
+    subst (λ (z : State). Enters g (Entered g l base p f) (HasShortForms l.list place) (gone_at g node x z) node x t z)
+    (sym is)
     (by (act (at_point x t) (decode_of c.word)).ending refl
     (subst (λ (z : State). z.ending ≡ None → Onward (gone_at g node x z)
     (entered_at g l p f (node_after (graph_in g) node (gone_at g node x z)) (point_of z))) is onward)
@@ -379,15 +398,18 @@ marked_step next g l base p place f node x t h here c apart onward watched =
         (node_after (graph_in g) node (gone_at g node x (act (at_point x t) (decode_of c.word))))
         (point_of (act (at_point x t) (decode_of c.word)))))
         → ((act (at_point x t) (decode_of c.word)).ending ≡ None
-        → IsWatched g (gone_at g node x (act (at_point x t) (decode_of c.word))) x (act (at_point x t) (decode_of c.word))
+        → IsWatched g (gone_at g node x (act (at_point x t) (decode_of c.word))) x
+        (act (at_point x t) (decode_of c.word))
         → next ≢ None)
-        → Enters g (Entered g l base p f) (HasShortForms l.list place) (gone_at g node x (act (at_point x t) (decode_of c.word))) node x t
+        → Enters g (Entered g l base p f) (HasShortForms l.list place)
+        (gone_at g node x (act (at_point x t) (decode_of c.word))) node x t
         (act (at_point x t) (decode_of c.word))
     by None e onward watched = goes g l base p place f h node x t here c next _
         (gone_last g l f h.cells node x (act (at_point x t) (decode_of c.word))) e apart
         (judged_moved g.notes x t (decode_of c.word) apart) (onward e) (watched e)
     by (Some d) e onward watched =
-        subst (λ z. Enters g (Entered g l base p f) (HasShortForms l.list place) z node x t (act (at_point x t) (decode_of c.word)))
+        subst (λ z. Enters g (Entered g l base p f) (HasShortForms l.list place) z node x t
+        (act (at_point x t) (decode_of c.word)))
         (sym (ended_none g node x (act (at_point x t) (decode_of c.word)) d e))
         (ends g l base p place f h node x t here c d e (judged_moved g.notes x t (decode_of c.word) apart))
 
@@ -398,7 +420,8 @@ plains_step g l base p place f node x t h here c apart =
     weaker_tail g l base p place f h (gone_at g node x (does_at g x t)) (act t (decode_of c.word))
     (next_entry g l p f node x t) 8 24 (omega arith)
     (tail g l base p place f h c.piece c.rest c.address (number_in g node) (it.Word c.word) c.items
-    (gone_at g node x (does_at g x t)) (act t (decode_of c.word)) (word_ahead g x t) (next_entry g l p f node x t) fit pc
+    (gone_at g node x (does_at g x t)) (act t (decode_of c.word)) (word_ahead g x t)
+    (next_entry g l p f node x t) fit pc
     (c.leads live))) (λ live w. w.inside)
 
 -- ---- branches

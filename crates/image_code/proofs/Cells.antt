@@ -89,7 +89,8 @@ module _ (g : Setting) (l : Pieces) (f : Frame) (framed : IsFramed g f) (has : H
   cells_above May above m n ours stores =
       words_same g.notes.base g.notes.cells m n (λ cell within.
       let low = cell_low cell within in
-      word_kept May (cell_at g.notes.base cell) (λ z may. let high = above z may in inl (omega (arith, low, high))) m n stores
+      word_kept May (cell_at g.notes.base cell)
+      (λ z may. let high = above z may in inl (omega (arith, low, high))) m n stores
       (cell_stored m ours cell within))
 
   -- an instruction that judges no byte of the pages

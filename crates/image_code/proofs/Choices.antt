@@ -275,10 +275,16 @@ module _ (g : Setting) (l : Pieces) (base : ℕ) (p : Placement) (place : ℕ �
       let q1 = z.past in
       let q2 = z.before in
       let range : NoteRange =
-      record { lo = place c.piece 1; hi = place c.piece (suc (length image)); address = c.address.0; node = number_in g node } in
+      record {
+        lo = place c.piece 1;
+        hi = place c.piece (suc (length image));
+        address = c.address.0;
+        node = number_in g node;
+      } in
       let s = some in
       on_range g l base p place f h t u range running (omega (arith, a, low)) q1 (omega (arith, a, high, q2))
-      (there.range t.pc (omega (arith, a)) (omega (arith, a, s))) (there.range u.pc (omega (arith, a, q1)) (omega (arith, a, q2)))
+      (there.range t.pc (omega (arith, a)) (omega (arith, a, s)))
+      (there.range u.pc (omega (arith, a, q1)) (omega (arith, a, q2)))
       (sym at) (page_cells u.memory z.stores)
 
   goes : entered_at g l p f (node_after (graph_in g) node []) (point_of after_jump) ≡ chosen c.distance t
@@ -296,7 +302,8 @@ module _ (g : Setting) (l : Pieces) (base : ℕ) (p : Placement) (place : ℕ �
             steps = k.path.steps;
             some = omega (arith, s);
             few = omega (arith, q);
-            quiet = quiet_of g l base p place f h t _ (length image) (IsBetween t (length image) IsPageWord) k.path live on;
+            quiet = quiet_of g l base p place f h t _ (length image)
+                (IsBetween t (length image) IsPageWord) k.path live on;
           };
           puts = λ descriptor. k.silent descriptor
               ∙ sym (ap (λ (o : Option ℕ). puts_on_word (at_point x t) o descriptor) c.is_word
@@ -326,9 +333,11 @@ module _ (g : Setting) (l : Pieces) (base : ℕ) (p : Placement) (place : ℕ �
       jumping : is_jmpl (instr_at g.text x.pc) ≡ false → ⊥
       jumping e = let is = ap is_jmpl (instr_is g.text x.pc c.word c.is_word ∙ ap (λ (z : Instr). Some z) c.says) in cc
 
-  steps : Enters g (Entered g l base p f) (HasShortForms l.list place) (gone_at g node x (does_at g x t)) node x t (does_at g x t)
+  steps : Enters g (Entered g l base p f) (HasShortForms l.list place) (gone_at g node x (does_at g x t)) node x t
+      (does_at g x t)
   steps =
-      subst (λ edges. Enters g (Entered g l base p f) (HasShortForms l.list place) edges node x t (does_at g x t)) (sym c.nothing)
+      subst (λ edges. Enters g (Entered g l base p f) (HasShortForms l.list place) edges node x t (does_at g x t))
+      (sym c.nothing)
       (subst (λ (z : State). Enters g (Entered g l base p f) (HasShortForms l.list place) [] node x t z) (sym does_is)
       (goes (ap (λ (z : State). entered_at g l p f node (point_of z)) (sym does_is)
       ∙ ap (λ edges. entered_at g l p f (node_after (graph_in g) node edges) (point_of (does_at g x t))) (sym c.nothing)

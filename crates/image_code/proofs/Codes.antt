@@ -36,14 +36,17 @@ module _ (base : ℕ) (dead : ℕ → List Part) (snips : List (List Op)) where
         length-map (snippet_words base (dead edge) (named_by (snippet_on snips edge)) (snippet_on snips edge)) word_of,
       )
 
-  pub code_does : (edge : ℕ) (words : List ℕ) → length (snippet_on snips edge) ≤ 8 → words ≡ codes_of base dead snips edge
-      → DoesJust words base (dead edge) (spills_of (dead edge) (named_by (snippet_on snips edge)) (snippet_on snips edge))
+  pub code_does : (edge : ℕ) (words : List ℕ) → length (snippet_on snips edge) ≤ 8 → words
+      ≡ codes_of base dead snips edge
+      → DoesJust words base (dead edge)
+      (spills_of (dead edge) (named_by (snippet_on snips edge)) (snippet_on snips edge))
       (snippet_on snips edge) → CodeDoes base dead snips edge
   code_does edge words few same just = record {
     few = few;
     short = codes_short edge;
     does = subst (λ (ws : List ℕ). DoesJust ws base (dead edge)
-        (spills_of (dead edge) (named_by (snippet_on snips edge)) (snippet_on snips edge)) (snippet_on snips edge)) same just;
+        (spills_of (dead edge) (named_by (snippet_on snips edge)) (snippet_on snips edge)) (snippet_on snips edge)) same
+        just;
   }
 
   empty : (xs : List ℕ) → length xs ≤ 0 → xs ≡ []
@@ -92,7 +95,8 @@ code_before [] code edge l = absurd (omega (arith, l))
 code_before (first ∷ codes) code zero l = refl
 code_before (first ∷ codes) code (suc edge) l = code_before codes code edge (omega (arith, l))
 
-code_here : (codes : List (Vec ℕ Global)) (code : Vec ℕ Global) → code_at (codes ++ code ∷ []) (length codes) ≡ code.items
+code_here : (codes : List (Vec ℕ Global)) (code : Vec ℕ Global) → code_at (codes ++ code ∷ []) (length codes)
+    ≡ code.items
 code_here [] code = refl
 code_here (first ∷ codes) code = code_here codes code
 

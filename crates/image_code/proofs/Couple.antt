@@ -176,7 +176,8 @@ module _ (g : Setting) (l : Pieces) (base : ℕ) (p : Placement) (place : ℕ �
   unfolding mid
   stores_none counted =
       none_then counted t mid 1 1 one
-      (no_stores counted t (i.Branch 8 false c.disp) here.live (record { word = c.ba; fetched = fetched; decodes = c.says })
+      (no_stores counted t (i.Branch 8 false c.disp) here.live
+      (record { word = c.ba; fetched = fetched; decodes = c.says })
       refl)
       (no_stores counted mid (i.Branch 8 false c.disp) here.live
       (record { word = c.ba; fetched = fetched_mid; decodes = c.says }) refl)

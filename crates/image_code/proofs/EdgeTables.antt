@@ -138,7 +138,8 @@ module _ (graph : Graph) (g : IsGraph graph) (table : List ℕ)
   found_at : (kind : EdgeKind) → mark_of found ≡ slice_index table (place_of (node_number graph node) kind)
       → found ≡ position (λ edge. edge_place graph edge == place_of (node_number graph node) kind) graph.edges
   found_at kind is =
-      first_is (7 * node_numbers graph) (edge_place graph) graph.edges table (place_of (node_number graph node) kind) found
+      first_is (7 * node_numbers graph) (edge_place graph) graph.edges table
+      (place_of (node_number graph node) kind) found
       first (omega (arith, number_low graph node here, kind_low kind)) is
 
   leaves : (kind : EdgeKind) → is_land kind ≡ false → (edge : Edge) → IsEdgeIn graph.blocks graph.opens edge
@@ -167,7 +168,8 @@ module _ (graph : Graph) (g : IsGraph graph) (table : List ℕ)
       → option_to_list found ≡ edge_from graph node kind
   leaving_is kind other is =
       ap option_to_list (found_at kind is
-      ∙ position-same (IsEdgeIn graph.blocks graph.opens) _ (λ edge. same_node edge.from node && same_kind edge.kind kind)
+      ∙ position-same (IsEdgeIn graph.blocks graph.opens) _
+      (λ edge. same_node edge.from node && same_kind edge.kind kind)
       graph.edges g.edges (leaves kind other))
 
   lands : (edge : Edge) → IsEdgeIn graph.blocks graph.opens edge
@@ -218,7 +220,8 @@ number_short graph g node h = omega (arith, number_low graph node h, g.firsts.fe
 pub case_is : (graph : Graph) → IsGraph graph → (block : BlockNo) (to : Node) → block.0 < length graph.blocks.firsts
     → IsOneOf graph to
     → position (has_key graph (case_key block.0 (node_number graph to))) graph.edges
-    ≡ position (λ edge. same_node edge.to to && (same_node edge.from (Block block) && same_kind edge.kind kinds.Case)) graph.edges
+    ≡ position (λ edge. same_node edge.to to && (same_node edge.from (Block block) && same_kind edge.kind kinds.Case))
+    graph.edges
 case_is graph g block to l h =
     position-same (IsEdgeIn graph.blocks graph.opens) _ _ graph.edges g.edges same
   where

@@ -44,7 +44,8 @@ module _ {A : Type 0} (p : A → Bool) where
       → position p (xs ++ x ∷ []) ≡ option_or (position p xs) (number_where (p x) (length xs))
   position_more [] x = position-cons x [] ∙ none (p x)
     where
-      none : (b : Bool) → cond b (Some 0) (option_map suc (position p [])) ≡ option_or (position p []) (number_where b 0)
+      none : (b : Bool) → cond b (Some 0) (option_map suc (position p []))
+          ≡ option_or (position p []) (number_where b 0)
       none true = refl
       none false = refl
   position_more (y ∷ ys) x =

@@ -37,7 +37,8 @@ module _ (g : Setting) (l : Pieces) (base : ℕ) (p : Placement) (place : ℕ �
     (h : IsPlaced g l base p place f)
     (node : Node) (x : Point) (t : State) (here : Here g l base p f node x t) (c : IsIdle g l p f node x t) where
   stands : StandsAt g l base p place f h t c.piece c.word (it.Jump c.way ∷ [])
-  stands = stands_at g l base p place f h node x t here c.piece c.within c.here c.address (number_in g node) c.word (it.Jump c.way ∷ []) c.items
+  stands = stands_at g l base p place f h node x t here c.piece c.within c.here c.address (number_in g node) c.word
+      (it.Jump c.way ∷ []) c.items
 
   idle_acts : act t nop ≡ record t { pc = t.npc; npc = wrapped (t.npc + 4); slot = NoSlot }
   unfolding act
@@ -59,7 +60,8 @@ module _ (g : Setting) (l : Pieces) (base : ℕ) (p : Placement) (place : ℕ �
   first_none counted =
       no_stores counted t nop here.live (record { word = c.word; fetched = stands.fetched; decodes = c.idle }) refl
 
-  steps : Enters g (Entered g l base p f) (HasShortForms l.list place) (gone_at g node x (does_at g x t)) node x t (does_at g x t)
+  steps : Enters g (Entered g l base p f) (HasShortForms l.list place) (gone_at g node x (does_at g x t)) node x t
+      (does_at g x t)
   steps =
       let npc = stands.ready.ready.npc in
       let i0 = stands.inside.0 in
@@ -102,7 +104,8 @@ module _ (g : Setting) (l : Pieces) (base : ℕ) (p : Placement) (place : ℕ �
       (gone_at g node x (does_at g x t)) (record t { pc = t.npc; npc = wrapped (t.npc + 4); slot = NoSlot })
       (word_ahead g x t) to fit pc c.leads in
       let way = leads_then (IsBare g l base p place f h) t
-      (record t { pc = t.npc; npc = wrapped (t.npc + 4); slot = NoSlot }) (hopped rest.other to rest.memory) 1 rest.count
+      (record t { pc = t.npc; npc = wrapped (t.npc + 4); slot = NoSlot })
+      (hopped rest.other to rest.memory) 1 rest.count
       (leads_one _ t _ idle_step) rest.path (λ _ some. rest.begins some) in
       let few = rest.few in
       let stores = rest.stores in
@@ -147,7 +150,8 @@ module _ (g : Setting) (l : Pieces) (base : ℕ) (p : Placement) (place : ℕ �
             at = refl;
             npc = refl;
             slot = refl;
-            memory = images_stored g f h.frame base p (record t { pc = t.npc; npc = wrapped (t.npc + 4); slot = NoSlot }) _
+            memory = images_stored g f h.frame base p
+                (record t { pc = t.npc; npc = wrapped (t.npc + 4); slot = NoSlot }) _
                 rest.count rest.path.steps stores here.memory;
             waits = λ a b _. absurd (c.never a b);
           };
@@ -161,14 +165,16 @@ module _ (g : Setting) (l : Pieces) (base : ℕ) (p : Placement) (place : ℕ �
               record {
                 spills = omega (arith, none, more, both);
                 first = λ short.
-                    none_then in_first_word t (record t { pc = t.npc; npc = wrapped (t.npc + 4); slot = NoSlot }) 1 rest.count
+                    none_then in_first_word t (record t { pc = t.npc; npc = wrapped (t.npc + 4); slot = NoSlot }) 1
+                    rest.count
                     idle_step (first_none in_first_word) (rest.leaves_first w.inside short);
                 alone = λ _ _ straight. absurd (cc);
                 few = λ short no_operations.
                     let brief = rest.brief w.inside short in omega (arith, no_operations, brief);
               };
         };
-        first = λ _ _ straight _. let moves = transfers g.text x.pc c.original_word c.is_word (ap is_transfer c.says) in absurd (cc);
+        first = λ _ _ straight _. let moves = transfers g.text x.pc c.original_word c.is_word (ap is_transfer c.says) in
+            absurd (cc);
       }
 
 pub idles_step : IdlesStep

@@ -91,7 +91,8 @@ module _ (calls : CallsStep) (jumps : JumpsStep) (slots : JumpSlotsStep) where
       by : (node : Node) (x : Point) (t : State) → Here g l base p f node x t
           → AllApart (pages_of g.notes) (judged_in (at_point x t) (instr_of (word_of g.text x.pc)))
           → IsCase g l base p place f node x t
-          → Enters g (Entered g l base p f) (HasShortForms l.list place) (gone_at g node x (does_at g x t)) node x t (does_at g x t)
+          → Enters g (Entered g l base p f) (HasShortForms l.list place) (gone_at g node x (does_at g x t)) node x t
+          (does_at g x t)
       by node x t here apart (plain k) =
           plains_step g l base p place f node x t h here k (judged x t k.word k.is_word apart)
       by node x t here apart (couple k) = couples_step g l base p place f node x t h here k

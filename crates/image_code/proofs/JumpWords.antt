@@ -68,7 +68,8 @@ record IsNext (number a b c d : ℕ) : Type 0 where
   pub third : c ≢ number
   pub fourth : d ≢ number
 
-none_of_four : (p q r s : Bool) → (not (p || q || r || s)) ≡ true → (p ≡ false) × (q ≡ false) × (r ≡ false) × (s ≡ false)
+none_of_four : (p q r s : Bool) → (not (p || q || r || s)) ≡ true → (p ≡ false) × (q ≡ false) × (r ≡ false)
+    × (s ≡ false)
 none_of_four false false false false e = (refl, refl, refl, refl)
 none_of_four true q r s e = absurd (cc)
 none_of_four false true r s e = absurd (cc)
@@ -78,7 +79,8 @@ none_of_four false false false true e = absurd (cc)
 next_if : (number a b c d : ℕ) → 0 < number → number < 6 → not (is_one_of_four number a b c d) ≡ true
     → IsNext number a b c d
 next_if number a b c d some few e =
-    let shape : not (is_one_of_four number a b c d) ≡ not ((a == number) || (b == number) || (c == number) || (d == number)) =
+    let shape : not (is_one_of_four number a b c d)
+    ≡ not ((a == number) || (b == number) || (c == number) || (d == number)) =
     three (a == number) (b == number) (c == number) (d == number) in
     let n = none_of_four (a == number) (b == number) (c == number) (d == number) (sym shape ∙ e) in
     record {

@@ -110,8 +110,10 @@ module _ (g : Setting) (l : Pieces) (base : ℕ) (p : Placement) (place : ℕ �
     where
       go : (sum_of t c.rs1 c.op2 % 4 ≡ 0) ⊎ (sum_of t c.rs1 c.op2 % 4 ≢ 0)
           → after_jump.memory ≡ t.memory
-      go (inl e) = ap (λ (z : State). z.memory) (goes c.scratch c.second c.rd c.rs1 c.op2 c.address.0 f.halves t about e)
-      go (inr ne) = ap (λ (z : State). z.memory) (stops c.scratch c.second c.rd c.rs1 c.op2 c.address.0 f.halves t about ne)
+      go (inl e) = ap (λ (z : State). z.memory)
+          (goes c.scratch c.second c.rd c.rs1 c.op2 c.address.0 f.halves t about e)
+      go (inr ne) = ap (λ (z : State). z.memory)
+          (stops c.scratch c.second c.rd c.rs1 c.op2 c.address.0 f.halves t about ne)
 
   -- a JMPL goes on to a multiple of 4
   aligned : after_jump.ending ≡ None → after_jump.npc % 4 ≡ 0
@@ -119,9 +121,11 @@ module _ (g : Setting) (l : Pieces) (base : ℕ) (p : Placement) (place : ℕ �
     where
       go : (sum_of t c.rs1 c.op2 % 4 ≡ 0) ⊎ (sum_of t c.rs1 c.op2 % 4 ≢ 0)
           → after_jump.npc % 4 ≡ 0
-      go (inl e) = ap (λ (z : State). z.npc % 4) (goes c.scratch c.second c.rd c.rs1 c.op2 c.address.0 f.halves t about e) ∙ e
+      go (inl e) = ap (λ (z : State). z.npc % 4)
+          (goes c.scratch c.second c.rd c.rs1 c.op2 c.address.0 f.halves t about e) ∙ e
       go (inr ne) =
-          let over = ap (λ (z : State). z.ending) (stops c.scratch c.second c.rd c.rs1 c.op2 c.address.0 f.halves t about ne) in
+          let over = ap (λ (z : State). z.ending)
+          (stops c.scratch c.second c.rd c.rs1 c.op2 c.address.0 f.halves t about ne) in
           absurd (cc)
 
   -- one that ends the run changes nothing else
@@ -132,7 +136,8 @@ module _ (g : Setting) (l : Pieces) (base : ℕ) (p : Placement) (place : ℕ �
       go : (sum_of t c.rs1 c.op2 % 4 ≡ 0) ⊎ (sum_of t c.rs1 c.op2 % 4 ≢ 0) → after_jump
           ≡ record (moved c.address.0 (wrapped (c.address.0 + 4)) NoSlot t) { ending = Some d }
       go (inl e) =
-          let live = ap (λ (z : State). z.ending) (goes c.scratch c.second c.rd c.rs1 c.op2 c.address.0 f.halves t about e)
+          let live = ap (λ (z : State). z.ending)
+          (goes c.scratch c.second c.rd c.rs1 c.op2 c.address.0 f.halves t about e)
           ∙ here.live in
           absurd (cc)
       go (inr ne) =
@@ -162,7 +167,8 @@ module _ (g : Setting) (l : Pieces) (base : ℕ) (p : Placement) (place : ℕ �
       (record {
         path = on.path;
         silent = on.silent;
-        stores = subst (λ (z : Memory). Stores IsPageWord z (found_memory t c.scratch c.second c.rs1 c.op2 f.halves)) memory_is on.stores;
+        stores = subst (λ (z : Memory). Stores IsPageWord z (found_memory t c.scratch c.second c.rs1 c.op2 f.halves))
+            memory_is on.stores;
         live = live;
         memory = memory_is;
         quiet = quiet;
@@ -172,7 +178,8 @@ module _ (g : Setting) (l : Pieces) (base : ℕ) (p : Placement) (place : ℕ �
         stored = λ other. absurd (jumping other);
       }) leads
 
-  ends : (d : Ending) → after_jump.ending ≡ Some d → Enters g (Entered g l base p f) (HasShortForms l.list place) [] node x t after_jump
+  ends : (d : Ending) → after_jump.ending ≡ Some d
+      → Enters g (Entered g l base p f) (HasShortForms l.list place) [] node x t after_jump
   ends d over =
       let end = (finds_simulate c.scratch c.second c.rd c.rs1 c.op2 c.address.0 f.halves t about).1 d over in
       let traps = end.traps in
@@ -222,7 +229,8 @@ module _ (g : Setting) (l : Pieces) (base : ℕ) (p : Placement) (place : ℕ �
           between.past (omega arith) between.stores
 
   steps : (e : Option Ending) → after_jump.ending ≡ e
-      → (after_jump.ending ≡ None → LeadsTo l p c.way (gone_at g node x after_jump) (word_at g.text after_jump.pc) (entered_at g l p f
+      → (after_jump.ending ≡ None → LeadsTo l p c.way (gone_at g node x after_jump) (word_at g.text after_jump.pc)
+      (entered_at g l p f
       (node_after (graph_in g) node (gone_at g node x after_jump)) (point_of after_jump)))
       → Enters g (Entered g l base p f) (HasShortForms l.list place) (gone_at g node x after_jump) node x t after_jump
   steps None e leads = going (gone_at g node x after_jump) (gone_last g l f h.cells node x after_jump) e (leads e)
@@ -233,7 +241,8 @@ module _ (g : Setting) (l : Pieces) (base : ℕ) (p : Placement) (place : ℕ �
 pub jumps_step : JumpsStep
 jumps_step g l base p place f node x t h here c =
     let is = does_is g l base p place f h node x t here c in
-    subst (λ (z : State). Enters g (Entered g l base p f) (HasShortForms l.list place) (gone_at g node x z) node x t z) (sym is)
+    subst (λ (z : State). Enters g (Entered g l base p f) (HasShortForms l.list place) (gone_at g node x z) node x t z)
+    (sym is)
     (steps g l base p place f h node x t here c _ refl
     (subst (λ (z : State). z.ending ≡ None
     → LeadsTo l p c.way (gone_at g node x z) (word_at g.text z.pc)

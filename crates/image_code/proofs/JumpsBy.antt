@@ -14,7 +14,8 @@ use Rattle.image_code.specs.Made.{choice_of, jump_by, jump_image_by}
 use Rattle.image_code.specs.Numbered.{jump_number, or_zero}
 use Rattle.image_code.proofs.EdgeTables.{some_is_any}
 
-module _ (text : Words) (graph : Graph) (jumps cases : ℕ) (address : Addr) (block : BlockNo) (rd rs1 : ℕ) (op2 : Op2) where
+module _ (text : Words) (graph : Graph) (jumps cases : ℕ) (address : Addr) (block : BlockNo) (rd rs1 : ℕ)
+    (op2 : Op2) where
   abbrev chosen : Option ℕ → List Item
   chosen number =
       choice_of text graph jumps cases address (Block block) rd number (slice_get graph.opens (or_zero number))
@@ -22,7 +23,8 @@ module _ (text : Words) (graph : Graph) (jumps cases : ℕ) (address : Addr) (bl
   abbrev out : List Item
   out = jump_by text graph jumps cases address (Block block) rd rs1 op2
 
-  is_jumps : (number : Option ℕ) → jump_number text graph block.0 ≡ number → jumps_in graph.opens block.0 ≡ is_some number
+  is_jumps : (number : Option ℕ) → jump_number text graph block.0 ≡ number → jumps_in graph.opens block.0
+      ≡ is_some number
   is_jumps number e = sym (some_is_any (λ (o : Open). o.block == block.0) graph.opens) ∙ ap is_some e
 
   pub chosen_is : (number : ℕ) → jump_number text graph block.0 ≡ Some number

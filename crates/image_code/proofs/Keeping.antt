@@ -82,7 +82,8 @@ outside_trans pages m n o h k = record {
 }
 
 -- the operands of a state that is elsewhere
-sum_past : (s : State) (count : ℕ) (m : Memory) (rs1 : ℕ) (op2 : Op2) → sum_of (past s count m s) rs1 op2 ≡ sum_of s rs1 op2
+sum_past : (s : State) (count : ℕ) (m : Memory) (rs1 : ℕ) (op2 : Op2) → sum_of (past s count m s) rs1 op2
+    ≡ sum_of s rs1 op2
 sum_past s count m rs1 (Reg r) = refl
 sum_past s count m rs1 (Imm n) = refl
 
@@ -131,7 +132,8 @@ module _ (g : Setting) (are : AreCaseTables g) where
         none = left_gone g node x (does_at g x t) at.outside slot live word at.stands
             (decode_of (slice_index g.text.words word)) refl
             ∙ left_none (decode_of (slice_index g.text.words word)) straight
-            (ap (λ (n : Node). ends_block (graph_in g) n word) at.itself ∙ ap (λ z. word == z) c.last ∙ before word o.jump below);
+            (ap (λ (n : Node). ends_block (graph_in g) n word) at.itself ∙ ap (λ z. word == z) c.last
+            ∙ before word o.jump below);
         straight = ap is_transfer_at (instr_is g.text x.pc (slice_index g.text.words word) here) ∙ straight;
         next = ap (word_at g.text) (pc ∙ match.1) ∙ next_word g.text x.pc word are.text w
             ∙ ap (λ (b : Bool). if b then Some (word + 1) else None) (lt-ltb _ _ (omega (arith, below, inside)));
@@ -237,7 +239,8 @@ module _ (g : Setting) (l : Pieces) (base : ℕ) (p : Placement) (place : ℕ �
         (rest_whole l c.piece (word_items (keep_load o.rs1 o.op2)) unmarked c.items)
 
     stands : Stood g l base p place f h e.on.after.memory c.piece 0 (words_of (keep_load o.rs1 o.op2))
-    stands = stood g l base p place f h e.on.after.memory here.memory.code c.piece 0 (words_of (keep_load o.rs1 o.op2)) [] whole
+    stands = stood g l base p place f h e.on.after.memory here.memory.code c.piece 0
+        (words_of (keep_load o.rs1 o.op2)) [] whole
 
     begin : e.on.after.pc ≡ place c.piece 0
     begin = here.at ∙ c.here ∙ h.laid.starts c.piece whole.within
@@ -290,7 +293,8 @@ module _ (g : Setting) (l : Pieces) (base : ℕ) (p : Placement) (place : ℕ �
     after = past e.on.after 3 (kept_memory e.on.after o.rs1 o.op2) e.on.after
 
     stored : Stores (IsAmongWords f.own) e.on.after.memory (kept_memory e.on.after o.rs1 o.op2)
-        × ((memory_word (kept_memory e.on.after o.rs1 o.op2) (page_word 1) ≡ memory_word e.on.after.memory (page_word 1))
+        × ((memory_word (kept_memory e.on.after o.rs1 o.op2) (page_word 1)
+        ≡ memory_word e.on.after.memory (page_word 1))
         × (words_at g.notes.base g.notes.cells (kept_memory e.on.after o.rs1 o.op2) ≡ cells_in g e.on.after))
     stored = first_kept g l base p place f h e.on.after (kept_memory e.on.after o.rs1 o.op2) fit keeps.stores
 
@@ -307,7 +311,8 @@ module _ (g : Setting) (l : Pieces) (base : ℕ) (p : Placement) (place : ℕ �
 
         running : (run e.on.after j).ending ≡ None
         running =
-            live_before e.on.after (3 - j) j (ap (λ z. (run e.on.after z).ending) (let q : 3 - j + j ≡ 3 = omega (arith, less) in q)
+            live_before e.on.after (3 - j) j
+            (ap (λ z. (run e.on.after z).ending) (let q : 3 - j + j ≡ 3 = omega (arith, less) in q)
             ∙ ap (λ (z : State). z.ending) keeps.path.steps ∙ here.live)
 
         by : (0 < j) ⊎ (j ≤ 0) → IsOnWay g t (run e.on.after j)
@@ -355,10 +360,12 @@ module _ (g : Setting) (l : Pieces) (base : ℕ) (p : Placement) (place : ℕ �
             valid = s.followed.valid;
             registers = s.followed.registers;
             input = s.followed.input;
-            memory = outside_trans (pages_of g.notes) v.memory s.after.memory (kept_memory s.after o.rs1 o.op2) s.followed.memory
+            memory = outside_trans (pages_of g.notes) v.memory s.after.memory
+                (kept_memory s.after o.rs1 o.op2) s.followed.memory
                 (same_stored g f h.frame base p s.after.memory (kept_memory s.after o.rs1 o.op2) here.memory stored.0);
             items = λ running thing good kept.
-                same_past thing v s.after 3 (kept_memory s.after o.rs1 o.op2) (s.followed.items running thing good kept);
+                same_past thing v s.after 3 (kept_memory s.after o.rs1 o.op2)
+                (s.followed.items running thing good kept);
           };
           cells = stored.1.1 ∙ s.cells;
           here = λ _. record {
@@ -367,7 +374,8 @@ module _ (g : Setting) (l : Pieces) (base : ℕ) (p : Placement) (place : ℕ �
             at = (let q : s.after.pc + 12 ≡ place c.piece 3 = omega (arith, b, z) in q) ∙ c.behind;
             npc = (let q : s.after.pc + 12 + 4 ≡ wrapped (s.after.pc + 12 + 4) = omega (arith, b, z, w) in q);
             slot = refl;
-            memory = images_stored g f h.frame base p s.after (past s.after 3 (kept_memory s.after o.rs1 o.op2) s.after) 3
+            memory = images_stored g f h.frame base p s.after
+                (past s.after 3 (kept_memory s.after o.rs1 o.op2) s.after) 3
                 keeps.path.steps stored.0 here.memory;
             waits = λ taken _. let none = at.outside in absurd (cc);
           };
@@ -404,7 +412,8 @@ module _ (g : Setting) (l : Pieces) (base : ℕ) (p : Placement) (place : ℕ �
 
   by_next : (node : Node) (x : Point) (t : State) → Matches g.text (graph_in g) node x
       → (e : Enters g (Entered g l base p f) Forms (gone_at g node x (does_at g x t)) node x t (does_at g x t))
-      → IsEntered g l p place f (node_after (graph_in g) node (gone_at g node x (does_at g x t))) (point_of (does_at g x t))
+      → IsEntered g l p place f (node_after (graph_in g) node (gone_at g node x (does_at g x t)))
+      (point_of (does_at g x t))
       → (does_at g x t).ending ≡ None
       → Steps g (Here g l base p f) Forms (gone_at g node x (does_at g x t)) node x t (does_at g x t)
   unfolding stays_on
@@ -420,8 +429,10 @@ module _ (g : Setting) (l : Pieces) (base : ℕ) (p : Placement) (place : ℕ �
     keeps = record {
       loaded = λ _ j q iq there.
           let same : o ≡ q = are.apart k j o q is iq (ap block_in (sym at.itself ∙ there.itself)) in
-          subst (λ (z : CaseTable). kept_address (keeps_on node x t (does_at g x t) (gone_at g node x (does_at g x t)) e live k o is at c).after
-          ≡ sum_of (keeps_on node x t (does_at g x t) (gone_at g node x (does_at g x t)) e live k o is at c).after z.rs1 z.op2) same
+          subst (λ (z : CaseTable). kept_address
+          (keeps_on node x t (does_at g x t) (gone_at g node x (does_at g x t)) e live k o is at c).after
+          ≡ sum_of (keeps_on node x t (does_at g x t) (gone_at g node x (does_at g x t)) e live k o is at c).after z.rs1
+          z.op2) same
           (address_kept node x t (does_at g x t) (gone_at g node x (does_at g x t)) e live k o is at c);
       carried = λ running j q iq word here from below.
           let i = inner g are node x t matches j q iq word here from below running in

@@ -1,5 +1,5 @@
--- The way along the edge of a JMPL: the copy of its slot's word, the snippet, and the jump to what was found, a landing or
--- the foreign piece.
+-- The way along the edge of a JMPL: the copy of its slot's word, the snippet, and the jump to what was found, a landing
+-- or the foreign piece.
 use Rattle.std.proofs.Common.{◌≡◌, ◌≢◌, ℕ, ◌+◌, ◌%◌, ◌^◌, ◌<◌, ◌≤◌, ◌⊎◌, inl, inr, true, ◌&&◌, Option, Some, None, List, [], ◌∷◌, ◌++◌, length, append-nil, refl, ap, sym, ◌∙◌, subst, arith}
 use Rattle.std.specs.Prelude.{nat_lt, slice_get, slice_index}
 use Rattle.std.specs.Option.{option_map}
@@ -92,7 +92,8 @@ module _ (g : Setting) (l : Pieces) (base : ℕ) (p : Placement) (place : ℕ �
         other = a;
         memory = left;
         few = omega arith;
-        path = subst (λ z. Leads (IsBare g l base p place f h) a (hopped a z left) 3) found (leads_weaker _ (IsBare g l base p place f h) a _ 3
+        path = subst (λ z. Leads (IsBare g l base p place f h) a (hopped a z left) 3) found
+            (leads_weaker _ (IsBare g l base p place f h) a _ 3
             (λ u q. let b = q.past in let d = q.before in there.bare u (omega (arith, at, b)) (omega (arith, at, d)))
             hops.path);
         silent = hops.silent;
@@ -138,12 +139,14 @@ module _ (g : Setting) (l : Pieces) (base : ℕ) (p : Placement) (place : ℕ �
         other = a;
         memory = left;
         few = omega arith;
-        path = subst (λ z. Leads (IsBare g l base p place f h) a (hopped a z left) 4) waits (leads_weaker _ (IsBare g l base p place f h) a _ 4
+        path = subst (λ z. Leads (IsBare g l base p place f h) a (hopped a z left) 4) waits
+            (leads_weaker _ (IsBare g l base p place f h) a _ 4
             (λ u q. let b = q.past in let d = q.before in there.bare u (omega (arith, at, b)) (omega (arith, at, d)))
             hops.path);
         silent = hops.silent;
         stores = own_stored g f h.frame a.memory left hops.stores;
-        waits = other_word_stored a.memory (page_word 1) (page_word 2) (register_of a 1) (second_there g l base p place f h a fit)
+        waits = other_word_stored a.memory (page_word 1) (page_word 2) (register_of a 1)
+            (second_there g l base p place f h a fit)
             (inl (omega arith));
         found = λ there. absurd (there refl);
         cells = λ _. cells_above g l f h.frame h.cells IsPageWord page_above a.memory left fit.has.ours hops.stores;
@@ -245,7 +248,8 @@ module _ (g : Setting) (l : Pieces) (base : ℕ) (p : Placement) (place : ℕ �
         onward to fit at multiple (omega (arith, found, low)) (λ b fit2 there waits.
         subst (λ z. Arrives g l base p place f h None z b to 4) (sym no_landing)
         (subst (λ z. Arrives g l base p place f h None [] b z 4) (sym (out none))
-        (leaves piece.0 is b fit2 (there ∙ found ∙ h.laid.starts piece.0 within) x.npc waits (here.waits c.slot c.out c.caseless).1)))
+        (leaves piece.0 is b fit2 (there ∙ found ∙ h.laid.starts piece.0 within) x.npc waits
+        (here.waits c.slot c.out c.caseless).1)))
 
 pub jump_slots_step : JumpSlotsStep
 jump_slots_step g l base p place f node x t h here c apart =
@@ -282,7 +286,8 @@ jump_slots_step g l base p place f node x t h here c apart =
     out : (does_at g x t).ending ≡ None → word_at g.text x.npc ≡ None → next_entry g l p f node x t ≡ x.npc
     out live none =
         let is : does_at g x t ≡ act (at_point x t) (decode_of c.word) = ap (on_word (at_point x t)) c.is_word in
-        let went = goes_act (at_point x t) (decode_of c.word) c.straight (ap (λ (z : State). z.ending) (sym is) ∙ live) in
+        let went = goes_act (at_point x t) (decode_of c.word) c.straight
+        (ap (λ (z : State). z.ending) (sym is) ∙ live) in
         let pc : (does_at g x t).pc ≡ x.npc = ap (λ (z : State). z.pc) is ∙ went.0 in
         let slot : (does_at g x t).slot ≡ NoSlot = ap (λ (z : State). z.slot) is ∙ went.2 in
         let next = node_after (graph_in g) node (gone_at g node x (does_at g x t)) in

@@ -51,7 +51,8 @@ followed_more text values old new first word above held next =
 -- ---- the load
 
 by_same : (text : Words) (o : Open) (word : ℕ) (instr : Instr)
-    → is_load o.switch.table.0 (followed text (after_slot text o.approach) o.approach.first (word - o.approach.first)) instr
+    → is_load o.switch.table.0 (followed text (after_slot text o.approach) o.approach.first (word - o.approach.first))
+    instr
     ≡ loads_by text o word instr
 unfolding before_jump
 by_same text o word (i.Load loads.LD rd rs1 op2) = refl

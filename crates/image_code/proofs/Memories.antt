@@ -32,11 +32,13 @@ unfolding store_word
 word_beside m a b v apart has = (
   there_written a b false (to_be_bytes w32 v) m has,
   other_loaded m a b v
-      (record { region = has.region; at = region_of_word a false m has ∙ has.at; readable = has.readable }) has.whole apart,
+      (record { region = has.region; at = region_of_word a false m has ∙ has.at; readable = has.readable }) has.whole
+      apart,
 )
 
 table_beside : (table : TableAt) (m : Memory) (b v : ℕ)
-    → (b + 4 ≤ table.base) ⊎ (table.base + length table.bytes ≤ b) → HasTable table m → HasTable table (store_word m b v)
+    → (b + 4 ≤ table.base) ⊎ (table.base + length table.bytes ≤ b) → HasTable table m
+    → HasTable table (store_word m b v)
 table_beside table m b v apart has a from to aligned =
     let old = has a from to aligned in
     let new = word_beside m a b v (apart_word apart) old.0 in
@@ -67,7 +69,8 @@ module _ (g : Setting) (own : List ℕ) (table : TableAt) (framed : IsTableIn g 
 module _ (g : Setting) (f : Frame) (framed : IsFramed g f) where
   module _ (base : ℕ) (p : Placement) where
     -- so many steps that stored the editor's words alone
-    pub images_stored : (t after : State) (count : ℕ) → run t count ≡ after → Stores (IsAmongWords f.own) t.memory after.memory
+    pub images_stored : (t after : State) (count : ℕ) → run t count ≡ after
+        → Stores (IsAmongWords f.own) t.memory after.memory
         → HasImages g base p f t.memory → HasImages g base p f after.memory
     images_stored t after count steps stores has =
         let same : code_of after.memory ≡ code_of t.memory =

@@ -326,7 +326,8 @@ sizes_before b f (suc k) l =
       ends_at_next b.words b.firsts f k l,
     )
 
-pub sizes_all : (b : Blocks) → AreFirsts b.words b.firsts → (n : ℕ) → n ≡ length b.firsts → total (size_of b) n ≡ b.words
+pub sizes_all : (b : Blocks) → AreFirsts b.words b.firsts → (n : ℕ) → n ≡ length b.firsts → total (size_of b) n
+    ≡ b.words
 sizes_all b f zero e = absurd (omega (arith, f.some))
 sizes_all b f (suc k) e =
     omega (

@@ -15,7 +15,8 @@ use Rattle.image_code.specs.Made.{image, jumps_at, keep_by, open_pieces}
 
 module _ (text : Words) (graph : Graph) (table cases : ℕ) (codes : ℕ → List ℕ) (old : List (List Item)) where
   abbrev copy_by : ℕ → BlockNo → ℕ → ℕ → List (List Item)
-  copy_by jumps compare from count = map (image text graph jumps cases codes (Landed compare)) (range_with_len from count)
+  copy_by jumps compare from count =
+      map (image text graph jumps cases codes (Landed compare)) (range_with_len from count)
 
   abbrev block_by : ℕ → ℕ → ℕ → List (List Item)
   block_by jumps block load =

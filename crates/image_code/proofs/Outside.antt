@@ -56,7 +56,8 @@ module _ (g : Setting) (l : Pieces) (base : ℕ) (p : Placement) (place : ℕ �
   does_is : does_at g x t ≡ trapped (at_point x t) instruction_access_exception
   does_is = ap (on_word (at_point x t)) no_word
 
-  steps : Enters g (Entered g l base p f) (HasShortForms l.list place) [] node x t (trapped (at_point x t) instruction_access_exception)
+  steps : Enters g (Entered g l base p f) (HasShortForms l.list place) [] node x t
+      (trapped (at_point x t) instruction_access_exception)
   steps = record {
     on = record {
       count = 1;
@@ -86,9 +87,12 @@ module _ (g : Setting) (l : Pieces) (base : ℕ) (p : Placement) (place : ℕ �
     first = λ live _ _ _. absurd (cc);
   }
 
-  ends : Enters g (Entered g l base p f) (HasShortForms l.list place) (gone_at g node x (does_at g x t)) node x t (does_at g x t)
-  ends = subst (λ (z : State). Enters g (Entered g l base p f) (HasShortForms l.list place) (gone_at g node x z) node x t z) (sym does_is)
-      (subst (λ z. Enters g (Entered g l base p f) (HasShortForms l.list place) z node x t (trapped (at_point x t) instruction_access_exception))
+  ends : Enters g (Entered g l base p f) (HasShortForms l.list place) (gone_at g node x (does_at g x t)) node x t
+      (does_at g x t)
+  ends = subst (λ (z : State). Enters g (Entered g l base p f) (HasShortForms l.list place)
+      (gone_at g node x z) node x t z) (sym does_is)
+      (subst (λ z. Enters g (Entered g l base p f) (HasShortForms l.list place) z node x t
+      (trapped (at_point x t) instruction_access_exception))
       (sym (ended_none g node x (trapped (at_point x t) instruction_access_exception) _ refl)) steps)
 
 -- ---- outside a slot

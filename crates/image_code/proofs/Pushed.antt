@@ -46,7 +46,8 @@ pushed_range f first word before list new x above pushed made held =
     ∙ ap (λ (n : ℕ). map f (range_with_len first n)) next)
 
 -- of the items of a list
-pub pushed_all : {A B : Type 0} (f : A → List B) (xs : List A) (n : ℕ) (d : A) (before list new : List B) → n < length xs
+pub pushed_all : {A B : Type 0} (f : A → List B) (xs : List A) (n : ℕ) (d : A) (before list new : List B)
+    → n < length xs
     → new ≡ list ++ f (slice_index_or xs n d) → list ≡ before ++ flat_map f (take n xs)
     → new ≡ before ++ flat_map f (take (n + 1) xs)
 pushed_all f xs n d before list new l pushed held =

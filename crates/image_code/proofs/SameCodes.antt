@@ -56,7 +56,8 @@ module _ (text : Words) (graph : Graph) (f g : ℕ → List ℕ) (same : (edge :
         ap (λ (items : List Item). plain_piece address (node_number graph node) (slice_index text.words word)
         (items ++ next_at text graph node word)) (items_same (left_by graph node word instr))
 
-    image_same : (node : Node) (word : ℕ) → image text graph jumps cases f node word ≡ image text graph jumps cases g node word
+    image_same : (node : Node) (word : ℕ) → image text graph jumps cases f node word
+        ≡ image text graph jumps cases g node word
     image_same node word =
         image_by_same (record { 0 = address_of text word }) node word (decode_of (slice_index text.words word))
 
@@ -67,7 +68,8 @@ module _ (text : Words) (graph : Graph) (f g : ℕ → List ℕ) (same : (edge :
 
   -- ---- ways
 
-  along_same : (number : ℕ) (edge : Edge) (to : ℕ) → goes_along text graph f number edge to ≡ goes_along text graph g number edge to
+  along_same : (number : ℕ) (edge : Edge) (to : ℕ) → goes_along text graph f number edge to
+      ≡ goes_along text graph g number edge to
   along_same number edge to =
       ap (λ (items : List Item). items ++ goes_on text graph edge.to to (way_address text graph edge.from edge.kind))
       (items_same (number ∷ []))
@@ -88,12 +90,14 @@ module _ (text : Words) (graph : Graph) (f g : ℕ → List ℕ) (same : (edge :
     way_by_same number edge to slots.Nothing = along_same number edge to
     way_by_same number edge to (slots.Word slot) =
         ap (λ (items : List Item). if is_transfer (decode_of (slice_index text.words slot.0))
-        then couple_piece (record { 0 = address_of text slot.0 }) (node_number graph edge.from) couple_word [] else items)
+        then couple_piece (record { 0 = address_of text slot.0 })
+        (node_number graph edge.from) couple_word [] else items)
         (past_same (record { 0 = address_of text slot.0 }) (node_number graph edge.from) (slice_index text.words slot.0)
         number edge to)
     way_by_same number edge to slots.Off = refl
 
-    way_same : (number : ℕ) (edge : Edge) → way_along text graph table f number edge ≡ way_along text graph table g number edge
+    way_same : (number : ℕ) (edge : Edge) → way_along text graph table f number edge
+        ≡ way_along text graph table g number edge
     way_same number edge =
         ap (λ (items : List Item). if is_fall edge.kind then jump_to 0 else
         if same_kind edge.kind kinds.Case then jump_to 0 else items)
@@ -104,7 +108,8 @@ module _ (text : Words) (graph : Graph) (f g : ℕ → List ℕ) (same : (edge :
     ways_same number [] = refl
     ways_same number (edge ∷ edges) =
         ap (λ (items : List Item). items ∷ ways_from text graph table f (suc number) edges) (way_same number edge)
-        ∙ ap (λ (ways : List (List Item)). way_along text graph table g number edge ∷ ways) (ways_same (suc number) edges)
+        ∙ ap (λ (ways : List (List Item)). way_along text graph table g number edge ∷ ways)
+        (ways_same (suc number) edges)
 
     -- ---- entries
 
@@ -113,11 +118,13 @@ module _ (text : Words) (graph : Graph) (f g : ℕ → List ℕ) (same : (edge :
     case_on_same word number numbers None e = rw e refl
     case_on_same word number numbers (Some edge) e = rw e (way_by_same number edge word edge.slot)
 
-    case_same : (word : ℕ) (numbers : List ℕ) → case_by text graph table f word numbers ≡ case_by text graph table g word numbers
+    case_same : (word : ℕ) (numbers : List ℕ) → case_by text graph table f word numbers
+        ≡ case_by text graph table g word numbers
     case_same word [] = refl
     case_same word (number ∷ numbers) = case_on_same word number numbers (slice_get graph.edges number) refl
 
-    case_at_same : (o : Open) (entry word : ℕ) → case_at text graph table f o entry word ≡ case_at text graph table g o entry word
+    case_at_same : (o : Open) (entry word : ℕ) → case_at text graph table f o entry word
+        ≡ case_at text graph table g o entry word
     case_at_same o entry word =
         ap (λ (items : List Item). if place_in text graph o.targets word == entry then items else jump_to 0)
         (case_same word (edge_along graph (Block (record { 0 = o.block }))
@@ -127,7 +134,8 @@ module _ (text : Words) (graph : Graph) (f g : ℕ → List ℕ) (same : (edge :
         → cases_from text graph table f o entry words ≡ cases_from text graph table g o entry words
     cases_same o entry [] = refl
     cases_same o entry (word ∷ words) =
-        ap (λ (items : List Item). items ∷ cases_from text graph table f o (suc entry) words) (case_at_same o entry word)
+        ap (λ (items : List Item). items ∷ cases_from text graph table f o (suc entry) words)
+        (case_at_same o entry word)
         ∙ ap (λ (pieces : List (List Item)). case_at text graph table g o entry word ∷ pieces)
         (cases_same o (suc entry) words)
 
@@ -135,7 +143,8 @@ module _ (text : Words) (graph : Graph) (f g : ℕ → List ℕ) (same : (edge :
       images_same : (node : Node) (from count : ℕ)
           → images_of text graph table cases f node from count ≡ images_of text graph table cases g node from count
       images_same node from count =
-          maps_same (image text graph (jumps_at text table) cases f node) (image text graph (jumps_at text table) cases g node)
+          maps_same (image text graph (jumps_at text table) cases f node)
+          (image text graph (jumps_at text table) cases g node)
           (range_with_len from count) (image_same (jumps_at text table) cases node)
 
       open_same : (o : Open) → open_pieces text graph table cases f o ≡ open_pieces text graph table cases g o
@@ -170,7 +179,8 @@ module _ (text : Words) (graph : Graph) (f g : ℕ → List ℕ) (same : (edge :
           (λ word. image_same jumps cases (node_in_order graph word) word))
           (ways_same 0 (own_edges graph)))
           (maps_same (landing text graph f) (landing text graph g) words landing_same))
-          (flats_same (open_pieces text graph table cases f) (open_pieces text graph table cases g) graph.opens open_same))
+          (flats_same (open_pieces text graph table cases f)
+          (open_pieces text graph table cases g) graph.opens open_same))
           (flats_same (λ (o : Open). cases_from text graph table f o 0 o.targets)
           (λ (o : Open). cases_from text graph table g o 0 o.targets) graph.opens
           (λ o. cases_same o 0 o.targets)))

@@ -45,7 +45,8 @@ module _ (text : Words) (given : List ℕ) (entry : ℕ) (is_text : IsText text)
 
   made : Compares text (slice_index b.firsts o.switch.compare.0) (size_of b o.switch.compare.0) o.approach.compare
   unfolding entered_of
-  made = compare_at-is text (slice_index b.firsts o.switch.compare.0) (size_of b o.switch.compare.0) o.approach.compare is.parts.sets
+  made = compare_at-is text (slice_index b.firsts o.switch.compare.0)
+      (size_of b o.switch.compare.0) o.approach.compare is.parts.sets
 
   in_range : o.approach.compare.register < 32
   in_range =
@@ -67,7 +68,8 @@ module _ (text : Words) (given : List ℕ) (entry : ℕ) (is_text : IsText text)
     behind = omega (arith, is.jump);
   }
 
-pub source_is : (text : Words) (graph : Graph) → IsText text → IsGraph graph → IsGraphOf text graph → IsSource text graph
+pub source_is : (text : Words) (graph : Graph) → IsText text → IsGraph graph → IsGraphOf text graph
+    → IsSource text graph
 source_is text graph is_text is_graph h = record {
   is_text = is_text;
   is_graph = is_graph;
@@ -81,6 +83,7 @@ source_is text graph is_text is_graph h = record {
 }
 
 -- an open switch of a graph
-pub case_at : (text : Words) (graph : Graph) → IsSource text graph → (k : ℕ) (o : Open) → slice_get graph.opens k ≡ Some o
+pub case_at : (text : Words) (graph : Graph) → IsSource text graph → (k : ℕ) (o : Open) → slice_get graph.opens k
+    ≡ Some o
     → IsCase text graph.blocks o
 case_at text graph h k o e = h.cases o (gets_in graph.opens k o e)

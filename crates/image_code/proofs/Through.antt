@@ -150,8 +150,10 @@ module _ (g : Setting) (l : Pieces) (base : ℕ) (p : Placement) (place : ℕ �
       (arrived g l base p place f h [] (past t (length xs) m v) (slice_index p.at way.0) 4 fit (h.laid.aligned way.0).1
       one) refl leads)
 
-  pub goes_through : (v : State) (m : Memory) (edges : List ℕ) → LastDead g edges → 0 < length xs → length xs ≤ 14 → Through v m
-      → LeadsTo l p way edges (word_at g.text v.pc) (entered_at g l p f (node_after (graph_in g) node edges) (point_of v))
+  pub goes_through : (v : State) (m : Memory) (edges : List ℕ) → LastDead g edges → 0 < length xs → length xs ≤ 14
+      → Through v m
+      → LeadsTo l p way edges (word_at g.text v.pc)
+      (entered_at g l p f (node_after (graph_in g) node edges) (point_of v))
       → Enters g (Entered g l base p f) (HasShortForms l.list place) edges node x t v
   unfolding On
   goes_through v m edges last some short w leads =

@@ -135,7 +135,8 @@ module _ (g : Setting) (l : Pieces) (base : ℕ) (p : Placement) (place : ℕ �
         address = c.address.0;
         node = number_in g node;
       })
-      live (omega arith) z0 (omega arith) (b_range t.pc (omega arith) (omega arith)) (b_range u.pc (omega arith) z1) (sym a)
+      live (omega arith) z0 (omega arith) (b_range t.pc (omega arith) (omega arith)) (b_range u.pc (omega arith) z1)
+      (sym a)
       (first_kept g l base p place f h t u.memory here_fit z.2).1.1
   on_way u live (inr z) = bare_on g l base p place f h t u live z
 
@@ -162,11 +163,13 @@ module _ (g : Setting) (l : Pieces) (base : ℕ) (p : Placement) (place : ℕ �
     pub brief : next ≢ None → HasShortForms l.list place → operations_on g.snips edges ≡ 0 → count ≤ 8
 
   -- the branch's words lead on
-  of_hop : (to : ℕ) → (j : Goes t to (place (l.image node c.number) 2) 1 6 2) → Leads IsOn t (hopped t to j.memory) j.count
+  of_hop : (to : ℕ) → (j : Goes t to (place (l.image node c.number) 2) 1 6 2)
+      → Leads IsOn t (hopped t to j.memory) j.count
   unfolding IsOn
   of_hop to j =
       let ins = j.inside in
-      leads_weaker _ _ t _ j.count (λ u q. let b = q.past in let d = q.before in inl (omega arith, omega arith, q.stores))
+      leads_weaker _ _ t _ j.count (λ u q. let b = q.past in let d = q.before in
+      inl (omega arith, omega arith, q.stores))
       j.hops.path
 
   of_hop_fit : (to : ℕ) → to ≤ 2 ^ 31 → (j : Goes t to (place (l.image node c.number) 2) 1 6 2)
@@ -176,7 +179,8 @@ module _ (g : Setting) (l : Pieces) (base : ℕ) (p : Placement) (place : ℕ �
       (first_kept g l base p place f h t j.memory here_fit j.hops.stores).0
 
   -- on from where the branch leads
-  then_on : (next : Option ℕ) (edges : List ℕ) (mid to most : ℕ) → most ≤ 8 → (j : Goes t mid (place (l.image node c.number) 2) 1 6 2)
+  then_on : (next : Option ℕ) (edges : List ℕ) (mid to most : ℕ) → most ≤ 8
+      → (j : Goes t mid (place (l.image node c.number) 2) 1 6 2)
       → Arrives g l base p place f h next edges (hopped t mid j.memory) to most → Comes next edges to (6 + most)
   unfolding IsOn
   then_on next edges mid to most bound k rest =
@@ -215,14 +219,16 @@ module _ (g : Setting) (l : Pieces) (base : ℕ) (p : Placement) (place : ℕ �
             omega (arith, two, ins, brief, none, bound);
       }
 
-  takes : (edges : List ℕ) (next : Option ℕ) (to : ℕ) → Goes t (slice_index p.at c.taken) (place (l.image node c.number) 2) 1 6 2
+  takes : (edges : List ℕ) (next : Option ℕ) (to : ℕ)
+      → Goes t (slice_index p.at c.taken) (place (l.image node c.number) 2) 1 6 2
       → LeadsTo l p (record { 0 = c.taken }) edges next to → Comes next edges to 10
   takes edges next to j leads =
       then_on next edges (slice_index p.at c.taken) to 4 (omega arith) j
       (arrive g l base p place f h (record { 0 = c.taken }) edges (hopped t (slice_index p.at c.taken) j.memory) next to
       (of_hop_fit (slice_index p.at c.taken) (h.laid.aligned c.taken).1 j) refl leads)
 
-  passes : (edges : List ℕ) (next : Option ℕ) (to : ℕ) → Goes t (place (l.image node c.number) 2) (place (l.image node c.number) 2) 1 6 2
+  passes : (edges : List ℕ) (next : Option ℕ) (to : ℕ)
+      → Goes t (place (l.image node c.number) 2) (place (l.image node c.number) 2) 1 6 2
       → LeadsTo l p (record { 0 = c.untaken }) edges next to → Comes next edges to 14
   passes edges next to j leads =
       let low = h.laid.low in
@@ -275,7 +281,8 @@ module _ (g : Setting) (l : Pieces) (base : ℕ) (p : Placement) (place : ℕ �
             at = is;
             npc = refl;
             slot = refl;
-            memory = images_stored g f h.frame base p t (hopped j.other to j.memory) j.count j.path.steps stores here.memory;
+            memory = images_stored g f h.frame base p t
+                (hopped j.other to j.memory) j.count j.path.steps stores here.memory;
             waits = λ a b _. absurd (never a b);
           };
           place = λ e. absurd (e (ap (λ (z : State). z.ending) same ∙ here.live));
@@ -288,19 +295,23 @@ module _ (g : Setting) (l : Pieces) (base : ℕ) (p : Placement) (place : ℕ �
                 few = j.brief w.inside;
               };
         };
-        first = λ _ _ straight _. let moves = transfers g.text x.pc c.word c.is_word (ap is_transfer c.says) in absurd (cc);
+        first = λ _ _ straight _. let moves = transfers g.text x.pc c.word c.is_word (ap is_transfer c.says) in
+            absurd (cc);
       }
 
   b_step : (flag : Bool) → holds_of c.cond t.codes ≡ flag
-      → Enters g (Entered g l base p f) (HasShortForms l.list place) (gone_at g node x (does_at g x t)) node x t (does_at g x t)
+      → Enters g (Entered g l base p f) (HasShortForms l.list place) (gone_at g node x (does_at g x t)) node x t
+      (does_at g x t)
   b_step true e =
       let to = entered_at g l p f (node_after (graph_in g) node (gone_at g node x (does_at g x t)))
       (point_of (does_at g x t)) in
       let way = subst (λ (b : Bool). Goes t (if b then slice_index p.at c.taken else place (l.image node c.number) 2)
       (place (l.image node c.number) 2) 1 6 2) e hop in
-      turned (gone_at g node x (does_at g x t)) (gone_last g l f h.cells node x (does_at g x t)) to 10 (does_at g x t) (branch_moves g x t c.none c.word c.is_word c.cond c.annul c.disp c.says)
+      turned (gone_at g node x (does_at g x t)) (gone_last g l f h.cells node x (does_at g x t)) to 10 (does_at g x t)
+      (branch_moves g x t c.none c.word c.is_word c.cond c.annul c.disp c.says)
       (takes (gone_at g node x (does_at g x t)) (word_ahead g x t) to way (subst (λ (b : Bool).
-      LeadsTo l p (record { 0 = if b then c.taken else c.untaken }) (gone_at g node x (does_at g x t)) (word_ahead g x t) to) e
+      LeadsTo l p (record { 0 = if b then c.taken else c.untaken }) (gone_at g node x (does_at g x t))
+      (word_ahead g x t) to) e
       c.leads))
       (omega arith) refl c.never
   b_step false e =
@@ -308,9 +319,11 @@ module _ (g : Setting) (l : Pieces) (base : ℕ) (p : Placement) (place : ℕ �
       (point_of (does_at g x t)) in
       let way = subst (λ (b : Bool). Goes t (if b then slice_index p.at c.taken else place (l.image node c.number) 2)
       (place (l.image node c.number) 2) 1 6 2) e hop in
-      turned (gone_at g node x (does_at g x t)) (gone_last g l f h.cells node x (does_at g x t)) to 14 (does_at g x t) (branch_moves g x t c.none c.word c.is_word c.cond c.annul c.disp c.says)
+      turned (gone_at g node x (does_at g x t)) (gone_last g l f h.cells node x (does_at g x t)) to 14 (does_at g x t)
+      (branch_moves g x t c.none c.word c.is_word c.cond c.annul c.disp c.says)
       (passes (gone_at g node x (does_at g x t)) (word_ahead g x t) to way (subst (λ (b : Bool).
-      LeadsTo l p (record { 0 = if b then c.taken else c.untaken }) (gone_at g node x (does_at g x t)) (word_ahead g x t) to) e
+      LeadsTo l p (record { 0 = if b then c.taken else c.untaken }) (gone_at g node x (does_at g x t))
+      (word_ahead g x t) to) e
       c.leads))
       (omega arith) refl c.never
 

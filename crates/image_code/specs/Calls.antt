@@ -1,5 +1,5 @@
--- The images of a CALL and of a JMPL: the link, and for a JMPL the target that it keeps. The slot's word is run on the way
--- along the edge.
+-- The images of a CALL and of a JMPL: the link, and for a JMPL the target that it keeps. The slot's word is run on the
+-- way along the edge.
 use Rattle.std.specs.Prelude.{◌≡◌, ◌≢◌, ℕ, ◌+◌, ◌%◌, ◌^◌, ◌<◌, true, length, Some, None, slice_get, slice_index, ℤ}
 use Rattle.eel_base.specs.declared.numbers.Addr.{Addr}
 use Rattle.eel_base.specs.declared.numbers.PieceNo.{PieceNo}
@@ -45,7 +45,8 @@ CallsStep =
     (g : Setting) (l : Pieces) (base : ℕ) (p : Placement) (place : ℕ → ℕ → ℕ) (f : Frame)
     (node : Node) (x : Point) (t : State)
     → IsPlaced g l base p place f → Here g l base p f node x t → IsCall g l p f node x t
-    → Enters g (Entered g l base p f) (HasShortForms l.list place) (gone_at g node x (does_at g x t)) node x t (does_at g x t)
+    → Enters g (Entered g l base p f) (HasShortForms l.list place) (gone_at g node x (does_at g x t)) node x t
+    (does_at g x t)
 
 -- ---- a JMPL, by a register that it doesn't name
 
@@ -83,4 +84,5 @@ JumpsStep =
     (g : Setting) (l : Pieces) (base : ℕ) (p : Placement) (place : ℕ → ℕ → ℕ) (f : Frame)
     (node : Node) (x : Point) (t : State)
     → IsPlaced g l base p place f → Here g l base p f node x t → IsJump g l p f node x t
-    → Enters g (Entered g l base p f) (HasShortForms l.list place) (gone_at g node x (does_at g x t)) node x t (does_at g x t)
+    → Enters g (Entered g l base p f) (HasShortForms l.list place) (gone_at g node x (does_at g x t)) node x t
+    (does_at g x t)

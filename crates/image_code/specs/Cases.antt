@@ -70,8 +70,8 @@ pub record JumpsOn (l : Pieces) (p : Placement) (k n : ℕ) (edges : List ℕ) (
   pub leads : LeadsTo l p piece others next to
 
 -- From its item n on, a piece goes on to an address, through the snippets of some edges: it ends behind them and the
--- next piece begins there, or a Jump leads on, or a long jump is all that is left, where the original goes on at no word
--- of the text.
+-- next piece begins there, or a Jump leads on, or a long jump is all that is left, where the original goes on at no
+-- word of the text.
 abbrev pub LeadsOn : Pieces → Placement → (ℕ → ℕ → ℕ) → ℕ → ℕ → List ℕ → Option ℕ → ℕ → Type 0
 LeadsOn l p place k n edges next to =
     ((rest_from l k n ≡ Some (words_on l edges)) × (place k (n + length (flat_map l.codes edges)) ≡ to))
@@ -112,7 +112,8 @@ PlainsStep =
     (node : Node) (x : Point) (t : State)
     → IsPlaced g l base p place f → Here g l base p f node x t → (c : IsPlain g l p place f node x t)
     → AllApart (pages_of g.notes) (judged_by (at_point x t) (decode_of c.word))
-    → Enters g (Entered g l base p f) (HasShortForms l.list place) (gone_at g node x (does_at g x t)) node x t (does_at g x t)
+    → Enters g (Entered g l base p f) (HasShortForms l.list place) (gone_at g node x (does_at g x t)) node x t
+    (does_at g x t)
 
 -- ---- a branch on a condition
 

@@ -31,8 +31,8 @@ is_mark _ = false
 abbrev pub marks_in : List Item → ℕ
 marks_in items = count_by is_mark items
 
--- How often the snippet of an edge is made: a landing's once for each word that lands at its node, a Case edge's once for
--- each entry that does, any other once.
+-- How often the snippet of an edge is made: a landing's once for each word that lands at its node, a Case edge's once
+-- for each entry that does, any other once.
 abbrev pub is_at : Graph → Node → ℕ → Bool
 is_at graph node word = same_node (lands graph (Some word)) node
 

@@ -28,8 +28,8 @@ use Rattle.image_code.specs.Simulates.{CaseTable, Setting, graph_in, is_out, sni
 
 pub record Pieces : Type 0 where
   pub list : List (List Item)
-  -- the image of a word at a node, and where control enters that; the way along an edge, by its number, to an address: a
-  -- Case edge has one for each target
+  -- the image of a word at a node, and where control enters that; the way along an edge, by its number, to an address:
+  -- a Case edge has one for each target
   pub image : Node → ℕ → ℕ
   pub enter : Node → ℕ → ℕ
   pub along : ℕ → ℕ → ℕ
@@ -143,9 +143,9 @@ pub record IsFramed (g : Setting) (f : Frame) : Type 0 where
   pub cases : IsTableIn g f.own f.cases
   pub whole : IsTwoLevel f.halves
 
--- The cells stand below the heap, among the words that the editor's code may store, and the words of each snippet do just
--- the snippet, with what is dead behind it, whatever stores are counted. A snippet has at most 22 words an operation.
--- Along the edge of a JMPL nothing is dead.
+-- The cells stand below the heap, among the words that the editor's code may store, and the words of each snippet do
+-- just the snippet, with what is dead behind it, whatever stores are counted. A snippet has at most 22 words an
+-- operation. Along the edge of a JMPL nothing is dead.
 pub record HasCells (g : Setting) (l : Pieces) (f : Frame) : Type 0 where
   pub aligned : g.notes.base % 4 ≡ 0
   pub low : cell_at g.notes.base g.notes.cells ≤ 2 ^ 31

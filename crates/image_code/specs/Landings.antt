@@ -65,4 +65,5 @@ JumpSlotsStep =
     (node : Node) (x : Point) (t : State)
     → IsPlaced g l base p place f → Here g l base p f node x t → (c : IsJumpsSlot g l p f node x t)
     → AllApart (pages_of g.notes) (judged_by (at_point x t) (decode_of c.word))
-    → Enters g (Entered g l base p f) (HasShortForms l.list place) (gone_at g node x (does_at g x t)) node x t (does_at g x t)
+    → Enters g (Entered g l base p f) (HasShortForms l.list place) (gone_at g node x (does_at g x t)) node x t
+    (does_at g x t)

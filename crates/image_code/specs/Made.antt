@@ -1,6 +1,6 @@
--- The pieces that are made of a text: an image of each word for each node whose block holds it, the way along each edge but
--- for the landings, a landing at each word, a way for each entry of a switch's table, and last the foreign piece, to which
--- the table leads every address outside the text.
+-- The pieces that are made of a text: an image of each word for each node whose block holds it, the way along each edge
+-- but for the landings, a landing at each word, a way for each entry of a switch's table, and last the foreign piece,
+-- to which the table leads every address outside the text.
 use Rattle.std.specs.Prelude.{◌≡◌, ℕ, suc, ◌+◌, ◌-◌, ◌*◌, ◌%◌, ◌^◌, ◌<◌, ◌≤◌, ◌==◌, nat_lt, if◌then◌else◌, Bool, ◌&&◌, List, [], ◌∷◌, ◌++◌, length, map, slice_get, slice_index, Option, Some, None}
 use Rattle.std.specs.List.{flat_map, range_with_len}
 use Rattle.eel_base.specs.CodeText.{Words, IsText, address_of, word_at}
@@ -95,8 +95,8 @@ module _ (text : Words) (graph : Graph) where
   goes_on X word address = far_piece address
   goes_on node word address = jump_to (enter_number text graph node word)
 
-  -- Where control goes on after a word that is no transfer. At the comparison's landed copy and at the block itself of an
-  -- open switch's jump, whose last words are transfers, that is within the block.
+  -- Where control goes on after a word that is no transfer. At the comparison's landed copy and at the block itself of
+  -- an open switch's jump, whose last words are transfers, that is within the block.
   abbrev pub next_at : Node → ℕ → List Item
   next_at node word = if same_node node (node_in_order graph word) then next_to text word else []
 
@@ -137,8 +137,8 @@ module _ (text : Words) (graph : Graph) (jumps cases : ℕ) where
 
   abbrev pub jump_by : Addr → Node → ℕ → ℕ → Op2 → List Item
   jump_by address node rd rs1 op2 =
-      find_piece (free_register rd rs1 op2) (other_register rd rs1 op2) rd rs1 op2 jumps address (node_number graph node)
-      (record { 0 = way_out text graph node kinds.Out })
+      find_piece (free_register rd rs1 op2) (other_register rd rs1 op2) rd rs1 op2 jumps address
+      (node_number graph node) (record { 0 = way_out text graph node kinds.Out })
 
   -- at the block itself of an open switch's jump a Case edge is chosen
   abbrev pub jump_image_by : Addr → Node → ℕ → ℕ → Op2 → List Item
@@ -210,8 +210,8 @@ module _ (text : Words) (graph : Graph) (table : ℕ) (codes : ℕ → List ℕ)
       number edge to
   way_by number edge to slots.Off = far_piece table
 
-  -- To the next word control falls without a way, and Case edges have theirs by entries. The piece that stands for it is
-  -- never run; it ends in a Jump, as the ways do.
+  -- To the next word control falls without a way, and Case edges have theirs by entries. The piece that stands for it
+  -- is never run; it ends in a Jump, as the ways do.
   abbrev pub way_along : ℕ → Edge → List Item
   way_along number edge =
       if is_fall edge.kind then jump_to 0 else
@@ -261,7 +261,8 @@ module _ (text : Words) (graph : Graph) (table cases : ℕ) (codes : ℕ → Lis
       let compare = o.switch.compare.0 in
       let first = slice_index graph.blocks.firsts o.block in
       let load = load_of text o in
-      images_of (Landed (record { 0 = compare })) (slice_index graph.blocks.firsts compare) (block_size graph.blocks compare)
+      images_of (Landed (record { 0 = compare })) (slice_index graph.blocks.firsts compare)
+      (block_size graph.blocks compare)
       ++ images_of (Block (record { 0 = o.block })) first (load - first)
       ++ keep_by (decode_of (slice_index text.words load))
       ∷ images_of (Block (record { 0 = o.block })) load (first + block_size graph.blocks o.block - load)

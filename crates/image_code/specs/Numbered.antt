@@ -1,7 +1,8 @@
 -- The numbers of pieces. First come the images of the words, by words, at the node where a run lands in the block of a
--- switch's jump, else at the block itself; then the ways along edges, by edges, and the landings, by words. Then come, for
--- each open switch, the landed copy of its comparison's block, and the block itself of its jump, with the piece that keeps
--- the load's address before the load; then the ways along Case edges, by entries of tables; and last the foreign piece.
+-- switch's jump, else at the block itself; then the ways along edges, by edges, and the landings, by words. Then come,
+-- for each open switch, the landed copy of its comparison's block, and the block itself of its jump, with the piece
+-- that keeps the load's address before the load; then the ways along Case edges, by entries of tables; and last the
+-- foreign piece.
 use Rattle.std.specs.Prelude.{ℕ, suc, ◌+◌, ◌-◌, ◌==◌, nat_lt, if◌then◌else◌, List, [], ◌∷◌, ◌++◌, length, map, take, slice_get, slice_index, Option, Some, None}
 use Rattle.std.specs.List.{flat_map, position, sum_by}
 use Rattle.eel_base.specs.CodeText.{Words, word_at}

@@ -42,7 +42,8 @@ ForeignStep =
     (node : Node) (x : Point) (t : State)
     → IsPlaced g l base p place f → Here g l base p f node x t → IsForeign g node x
     → visits_it g node x t
-    × Enters g (Entered g l base p f) (HasShortForms l.list place) (gone_at g node x (does_at g x t)) node x t (does_at g x t)
+    × Enters g (Entered g l base p f) (HasShortForms l.list place) (gone_at g node x (does_at g x t)) node x t
+    (does_at g x t)
 
 abbrev pub OffsStep : Type 0
 OffsStep =
@@ -50,4 +51,5 @@ OffsStep =
     (node : Node) (x : Point) (t : State)
     → IsPlaced g l base p place f → Here g l base p f node x t → IsOff g base p f node x
     → visits_it g node x t
-    × Enters g (Entered g l base p f) (HasShortForms l.list place) (gone_at g node x (does_at g x t)) node x t (does_at g x t)
+    × Enters g (Entered g l base p f) (HasShortForms l.list place) (gone_at g node x (does_at g x t)) node x t
+    (does_at g x t)

@@ -47,4 +47,5 @@ TurnsStep =
     (g : Setting) (l : Pieces) (base : ℕ) (p : Placement) (place : ℕ → ℕ → ℕ) (f : Frame)
     (node : Node) (x : Point) (t : State)
     → IsPlaced g l base p place f → Here g l base p f node x t → IsTurn g l p f node x t
-    → Enters g (Entered g l base p f) (HasShortForms l.list place) (gone_at g node x (does_at g x t)) node x t (does_at g x t)
+    → Enters g (Entered g l base p f) (HasShortForms l.list place) (gone_at g node x (does_at g x t)) node x t
+    (does_at g x t)

@@ -15,8 +15,8 @@ use eel_base::NoMemory;
 use indexmap::IndexMap;
 use std::alloc::Global;
 
-/// The number of a node: a block's own, the one after the last block's for all that lies outside, and those behind it for
-/// landed copies.
+/// The number of a node: a block's own, the one after the last block's for all that lies outside, and those behind it
+/// for landed copies.
 pub(crate) fn node_number(graph: &FlowGraph, node: Node) -> u32
     requires node { IsNumbered (length graph.now.blocks.firsts) node }
     ensures number { result ≡ node_number_of graph.now node }
@@ -158,7 +158,8 @@ fn note_case(
 
 /// The first Case edges, by their two nodes.
 pub(crate) fn first_cases(alloc: Global, graph: &FlowGraph) -> Result<IndexMap<u64, u32>, NoMemory>
-    ensures { IfOk result (λ cases. (key : ℕ) → get nat_eq cases key ≡ position (has_key graph.now key) graph.now.edges) }
+    ensures { IfOk result (λ cases. (key : ℕ)
+        → get nat_eq cases key ≡ position (has_key graph.now key) graph.now.edges) }
 {
     let mut cases = IndexMap::new(alloc);
     for (number, edge) in graph.edges().iter().enumerate() {
@@ -210,7 +211,8 @@ pub(crate) fn first_jumps(alloc: Global, graph: &FlowGraph) -> Result<Vec<u32>, 
 
 /// The first open switches, by the blocks of their comparisons.
 pub(crate) fn first_compares(alloc: Global, graph: &FlowGraph) -> Result<Vec<u32>, NoMemory>
-    ensures { IfOk result (λ table. AreFirst (length graph.now.blocks.firsts) compare_place graph.now.opens table.items) }
+    ensures { IfOk result (λ table.
+        AreFirst (length graph.now.blocks.firsts) compare_place graph.now.opens table.items) }
 {
     let mut table = vec![in alloc; 0; graph.count() as usize]?;
     note_compares(&mut table, graph)?;

@@ -82,8 +82,8 @@ fn operations(snips: &[Snippet], edge: Option<u32>) -> usize
     }
 }
 
-// The piece to which the table leads from a word: where some operation is made there its landing, and else where control
-// enters its image.
+// The piece to which the table leads from a word: where some operation is made there its landing, and else where
+// control enters its image.
 fn lands_at(
     text: &Text,
     graph: &FlowGraph,

@@ -23,9 +23,9 @@ use eel_base::{BlockNo, NoMemory, Text};
 use indexmap::IndexMap;
 use std::alloc::Global;
 
-/// By nodes and kinds the first edges, by pairs of nodes the Case edges, by blocks the open switches whose jumps or whose
-/// comparisons stand there; how many edges there are but for the landings; and of each open switch where its pieces
-/// begin, its load, and the number of its first entry.
+/// By nodes and kinds the first edges, by pairs of nodes the Case edges, by blocks the open switches whose jumps or
+/// whose comparisons stand there; how many edges there are but for the landings; and of each open switch where its
+/// pieces begin, its load, and the number of its first entry.
 #[derive(Drop)]
 pub(crate) struct Lookups {
     edges: Vec<u32>,

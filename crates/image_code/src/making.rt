@@ -140,10 +140,10 @@ fn make(
     })
 }
 
-/// Makes an image of each word for each node whose block holds it, which falls through to the next word's, the way along
-/// each edge but for the landings, a landing at each word, a way for each entry of a switch's table, and the foreign
-/// piece. A transfer decides first, and its slot is run on the way along its edge. The snippet of an edge is run once the
-/// slot was.
+/// Makes an image of each word for each node whose block holds it, which falls through to the next word's, the way
+/// along each edge but for the landings, a landing at each word, a way for each entry of a switch's table, and the
+/// foreign piece. A transfer decides first, and its slot is run on the way along its edge. The snippet of an edge is
+/// run once the slot was.
 pub fn pieces(
     alloc: Global,
     text: &Text,

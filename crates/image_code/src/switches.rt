@@ -51,7 +51,8 @@ fn push_block(
     requires below { load < slice_index graph.now.blocks.firsts block.0 + size_of graph.now.blocks block.0 }
     ensures { OnOk result (list.new.items ≡ list.old.items
         ++ (map (image text.now graph.now tables.jumps.0 tables.cases.0 (code_at codes.now) (Block block))
-        (range_with_len (slice_index graph.now.blocks.firsts block.0) (load - slice_index graph.now.blocks.firsts block.0))
+        (range_with_len (slice_index graph.now.blocks.firsts block.0)
+        (load - slice_index graph.now.blocks.firsts block.0))
         ++ keep_by (decode_of (slice_index text.now.words load))
         ∷ map (image text.now graph.now tables.jumps.0 tables.cases.0 (code_at codes.now) (Block block))
         (range_with_len load

@@ -114,7 +114,8 @@ fn slot_copy(
     requires source { IsSource text.now graph.now }
     requires lookups { AreLookups text.now graph.now lookups.now }
     requires edge { IsEdgeIn graph.now.blocks graph.now.opens edge.now }
-    ensures { IfOk result (λ p. p ≡ slot_copy_of text.now graph.now table.0 (code_at_of codes.now) visit.address visit.node
+    ensures { IfOk result (λ p. p ≡ slot_copy_of text.now graph.now table.0
+        (code_at_of codes.now) visit.address visit.node
         word number edge.now to.0) }
 {
     if is_transfer(word) {
@@ -130,8 +131,8 @@ fn slot_copy(
     }
 }
 
-/// The way along an edge with this number, to a word at its node, with the code of its snippet. A slot behind the text has
-/// its place where the table begins.
+/// The way along an edge with this number, to a word at its node, with the code of its snippet. A slot behind the text
+/// has its place where the table begins.
 pub(crate) fn way_by(
     alloc: Global,
     text: &Text,

@@ -14,7 +14,8 @@ loop-edge-init c = record {
 
 pub loop-edge-preserved : goal.loop-edge-preserved
 loop-edge-preserved c = record {
-  long = ap length c.in_ok-push.ensures.items ∙ length-append c.loop-edge.codes.items _ ∙ ap (λ (n : ℕ). n + 1) c.loop-edge.invariant.long;
+  long = ap length c.in_ok-push.ensures.items ∙ length-append c.loop-edge.codes.items _
+      ∙ ap (λ (n : ℕ). n + 1) c.loop-edge.invariant.long;
   codes = codes_more (codes_of c.args.cells.0 (dead_on c.args.live.now) c.args.snips.now) c.loop-edge.codes.items
       c.push.new.self.items _ c.loop-edge.edge c.loop-edge.invariant.long c.in_ok-push.ensures.items
       c.in_ok-code_of.ensures.code c.loop-edge.invariant.codes;

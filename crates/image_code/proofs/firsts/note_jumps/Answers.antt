@@ -16,6 +16,7 @@ loop-number-preserved c =
     c.loop-number.number c.found-item.result c.loop-number.table c.note_first.new.table c.loop-number-test.true
     c.loop-number.invariant c.note_first.ensures.long
     (λ k. c.note_first.ensures.marks k
-    ∙ ap (λ (n : ℕ). first_mark (c.block.result.0 == k) n (slice_index c.loop-number.table k)) c.in_ok-number.ensures.same
+    ∙ ap (λ (n : ℕ). first_mark (c.block.result.0 == k) n (slice_index c.loop-number.table k))
+    c.in_ok-number.ensures.same
     ∙ ap (λ (place : ℕ). first_mark (place == k) c.loop-number.number (slice_index c.loop-number.table k))
     (c.block.ensures ∙ ap (λ (o : Open). o.block) c.found-item.is))

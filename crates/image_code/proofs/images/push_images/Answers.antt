@@ -10,9 +10,11 @@ loop-word-init c = sym (append-nil c.args.list.now.items)
 
 pub loop-word-preserved : goal.loop-word-preserved
 loop-word-preserved c =
-    pushed_below (λ word. image c.args.text.now c.args.graph.now c.args.tables.jumps.0 c.args.tables.cases.0 (code_at c.args.codes.now)
+    pushed_below (λ word. image c.args.text.now c.args.graph.now c.args.tables.jumps.0 c.args.tables.cases.0
+    (code_at c.args.codes.now)
     (node_in_order c.args.graph.now word) word) c.loop-word.word c.args.list.now.items c.loop-word.list.items
     c.push.new.self.items _ c.in_ok-push.ensures.items
-    (c.in_ok-image.ensures ∙ ap (λ node. image c.args.text.now c.args.graph.now c.args.tables.jumps.0 c.args.tables.cases.0 (code_at c.args.codes.now)
+    (c.in_ok-image.ensures ∙ ap (λ node.
+    image c.args.text.now c.args.graph.now c.args.tables.jumps.0 c.args.tables.cases.0 (code_at c.args.codes.now)
     node c.loop-word.word) c.node_of-node.ensures.node)
     c.loop-word.invariant

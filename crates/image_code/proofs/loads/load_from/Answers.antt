@@ -23,7 +23,8 @@ loop-word-preserved c = record {
   left = c.loop-word.invariant.left
       ∙ found_later (loads_at c.args.text.now c.args.values.now c.args.approach c.args.table) c.loop-word.word
       c.args.approach.jump c.loop-word-test.true
-      (ap (λ (v : List Value). is_load c.args.table v (instr_at c.args.text.now c.loop-word.word)) (sym c.loop-word.invariant.values)
+      (ap (λ (v : List Value). is_load c.args.table v (instr_at c.args.text.now c.loop-word.word))
+      (sym c.loop-word.invariant.values)
       ∙ ap (λ (w : ℕ). is_load c.args.table c.loop-word.values (decode_of w)) (sym c.word.ensures)
       ∙ sym c.is_load.ensures ∙ c.if-is_load.false);
 }
@@ -34,7 +35,8 @@ returns-then-is_load-clause-load c =
     sym (ap (or_word c.args.approach.first) (c.loop-word.invariant.left
     ∙ found_here (loads_at c.args.text.now c.args.values.now c.args.approach c.args.table) c.loop-word.word
     c.args.approach.jump c.loop-word-test.true
-    (ap (λ (v : List Value). is_load c.args.table v (instr_at c.args.text.now c.loop-word.word)) (sym c.loop-word.invariant.values)
+    (ap (λ (v : List Value). is_load c.args.table v (instr_at c.args.text.now c.loop-word.word))
+    (sym c.loop-word.invariant.values)
     ∙ ap (λ (w : ℕ). is_load c.args.table c.loop-word.values (decode_of w)) (sym c.word.ensures)
     ∙ sym c.is_load.ensures ∙ c.if-is_load.true)))
 

@@ -16,7 +16,8 @@ returns-then-place-entry c =
     let text = c.args.text.now in
     let graph = c.args.graph.now in
     let by : ℕ → List Item = λ n. case_by text graph c.args.table.0 (code_at c.args.codes.now) c.args.word.0
-    (edge_along graph (Block (record { 0 = n })) (record { kind = kinds.Case; to = Some (lands graph (Some c.args.word.0)) })) in
+    (edge_along graph (Block (record { 0 = n }))
+    (record { kind = kinds.Case; to = Some (lands graph (Some c.args.word.0)) })) in
     subst (λ (items : List Item). IfOk c.case_by.result (λ p. p ≡ items))
     (ap by c.block.ensures
     ∙ sym (ap (λ (t : Bool). if t then by c.args.found.now.block else jump_to 0)

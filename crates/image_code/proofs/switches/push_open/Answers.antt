@@ -32,7 +32,8 @@ push_block-requires-clause-below c =
     let same : c.load-load.result ≡ load_of text o = c.load-load.ensures o c.requires.found in
     let at : slice_index blocks.firsts c.block.result.0 ≡ slice_index blocks.firsts o.block =
     ap (λ (n : ℕ). slice_index blocks.firsts n) c.block.ensures in
-    let many : size_of blocks c.block.result.0 ≡ size_of blocks o.block = ap (λ (n : ℕ). size_of blocks n) c.block.ensures in
+    let many : size_of blocks c.block.result.0 ≡ size_of blocks o.block =
+    ap (λ (n : ℕ). size_of blocks n) c.block.ensures in
     omega (
       arith,
       h.1,

@@ -10,7 +10,8 @@ loop-number-init c = sym (append-nil c.args.list.now.items)
 
 pub loop-number-preserved : goal.loop-number-preserved
 loop-number-preserved c =
-    pushed_all (open_pieces c.args.text.now c.args.graph.now c.args.table.0 c.args.tables.cases.0 (code_at c.args.codes.now))
+    pushed_all (open_pieces c.args.text.now c.args.graph.now c.args.table.0 c.args.tables.cases.0
+    (code_at c.args.codes.now))
     c.opens-found-items.result.now c.loop-number.number c.found-item.result c.args.list.now.items
     c.loop-number.list.items c.push_open.new.list.items c.loop-number-test.true
     (c.in_ok-push_open.ensures

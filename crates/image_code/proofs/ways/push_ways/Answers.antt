@@ -9,7 +9,14 @@ overflow_cast-number c =
     let graph = c.edges-edges.ensures.graph in
     let same : length c.own_edges-edge-items.result.now ≡ length (own_edges c.args.graph.now) =
     ap length c.own_edges-edge-items.ensures.edges in
-    omega (arith, graph.edge_count, graph.few, c.loop-number-test.true, length-take (length c.args.graph.now.edges - landing_count c.args.graph.now) c.args.graph.now.edges)
+    omega (
+      arith,
+      graph.edge_count,
+      graph.few,
+      c.loop-number-test.true,
+      length-take
+          (length c.args.graph.now.edges - landing_count c.args.graph.now) c.args.graph.now.edges,
+    )
 
 pub loop-number-init : goal.loop-number-init
 loop-number-init c = sym (append-nil c.args.list.now.items)

@@ -12,6 +12,7 @@ returns-in-Out c =
 pub returns-in_ok-next-in_default : goal.returns-in_ok-next-in_default
 returns-in_ok-next-in_default c =
     plain_copy c.args.text.now c.args.graph.now c.args.table.0 c.args.edge.now _ c.code_at-code.result.now
-    (code_at c.args.codes.now) c.args.number c.code_at-code.ensures c.args.to.0 c.in_ok-next-in_default.next c.in_ok-next-in_default.ensures
+    (code_at c.args.codes.now) c.args.number c.code_at-code.ensures c.args.to.0 c.in_ok-next-in_default.next
+    c.in_ok-next-in_default.ensures
     c.args.visit.address c.args.visit.node c.args.word (sym c.is_transfer.ensures ∙ c.if-is_transfer.false)
     c.in_default.not-Out c.plain.ensures
