@@ -248,6 +248,7 @@ module _ (graph : Graph) (f : AreFirsts graph.blocks.words graph.blocks.firsts) 
       → lands graph (Some w) ≡ Block (record { 0 = b })
   lands_plain b w h none =
       let low : w < graph.blocks.words = held_within (Block (record { 0 = b })) w h in
-      let held : holding_of graph.blocks w ≡ b = is_held graph.blocks.words graph.blocks.firsts f w b h.0 h.1 h.2 in
+      let held : holding_of graph.blocks w ≡ b = is_held graph.blocks.words graph.blocks.firsts f w b
+      (record { within = h.0; above = h.1; below = h.2 }) in
       let plain : (jumps_in graph.opens b || is_behind graph.opens b w) ≡ false = uncopied graph.opens b w none in
       rw (lt-ltb _ _ low) (rw held (rw plain refl))
