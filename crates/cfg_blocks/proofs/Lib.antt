@@ -4,3 +4,4 @@ pub mod Below
 pub mod Counts
 pub mod Entering
 pub mod Agreement
+pub mod Held

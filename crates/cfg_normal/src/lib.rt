@@ -12,11 +12,13 @@ mod flow;
 mod landings;
 mod loads;
 mod nodes;
+mod numbers;
 mod opening;
 mod opens;
 mod tables;
 
 pub use flow::{FlowGraph, graph};
+pub use numbers::{kind_number, node_number};
 pub use opens::OpenSwitch;
 
 /// A block, all that lies outside the text, or the landed copy of a block.

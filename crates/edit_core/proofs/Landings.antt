@@ -1,10 +1,13 @@
--- Where the table leads: to places of pieces that are there.
-use Rattle.std.proofs.Common.{◌≡◌, ℕ, ◌<◌, List, length, map, get_or, slice_index, ap, sym, ◌∙◌, subst, arith, All}
+-- Where the tables lead: to places of pieces that are there.
+use Rattle.std.proofs.Common.{◌≡◌, ℕ, ◌+◌, ◌^◌, ◌<◌, ◌≤◌, List, length, map, get_or, slice_index, ap, sym, ◌∙◌, subst, arith, All}
 use Rattle.std.proofs.lemmas.Simd.{map-map}
 use Rattle.std.proofs.lemmas.List.{get_or-map, length-map}
 use Rattle.std.proofs.lemmas.Option.{slice_get-get_or}
 use Rattle.eel_base.specs.CodeText.{Words, IsText}
+use Rattle.eel_base.specs.declared.numbers.Addr.{Addr}
 use Rattle.eel_base.specs.declared.numbers.PieceNo.{PieceNo}
+use Rattle.elf32_sparc.specs.Image.{Program}
+use Rattle.addr_translate.specs.Lookup.{TableAt}
 use Rattle.cfg_blocks.specs.Blocks.{below, holding_of}
 use Rattle.cfg_blocks.proofs.Below.{get_or-below, length-below}
 use Rattle.cfg_normal.specs.declared.Node.{Node}
@@ -13,73 +16,23 @@ use Rattle.cfg_walk.proofs.Edges.{block}
 use Rattle.cfg_walk.proofs.Holding.{in_held}
 use Rattle.cfg_walk.proofs.Leaving.{node_is}
 use Rattle.layout.specs.declared.items.Item.{Item}
-use Rattle.layout.specs.Laid.{Placement}
-use Rattle.image_code.specs.Fit.{AreFit}
+use Rattle.layout.specs.Laid.{Placement, long_bytes}
+use Rattle.image_code.specs.Fit.{AreFit, PiecesFit}
 use Rattle.image_code.specs.Graphs.{IsGraphOf}
 use Rattle.image_code.specs.Made.{lands_at}
 use Rattle.image_code.specs.Numbered.{case_numbers, enter_number}
 use Rattle.image_code.proofs.OpenBlocks.{text_graph}
 use Rattle.image_code.proofs.OpenNumbers.{enter_below}
 use Rattle.snippets.specs.declared.snippet.Op.{Op}
-use Rattle.edit_core.specs.Written.{addr, case_places, entry_number, landings_of}
-use Rattle.edit_core.proofs.Graphs.{graph_cut}
+use Rattle.edit_core.specs.declared.taking.Asked.{Asked}
+use Rattle.edit_core.specs.Written.{addr, case_places, cells_size, entry_number, foreign_of, landings_of, pieces_by, segment_size, table_after, tables_size, AreInside, AreLaid, AreMade, AreTablesOf, HasRoom, IsBuilt, LeadsTo}
+use Rattle.edit_core.proofs.Graphs.{entries_few, graph_cut}
+use Rattle.edit_core.proofs.Steps.{new_fit, new_room}
 
 -- f of each number below n
 pub map_below : {A : Type 0} (f : ℕ → A) (n k : ℕ) (d : A) → k < n → get_or (map f (below n)) k d ≡ f k
 map_below f n k d l =
     get_or-map f (below n) k 0 d (omega (arith, l, length-below n)) ∙ ap f (get_or-below n k 0 l)
-
-module _ (text : Words) (graph : Graph) (snips : List (List Op))
-    (list : List (List Item)) (fit : AreFit text graph snips list)
-    (landing : List PieceNo)
-    (are : map (λ (n : PieceNo). n.0) landing ≡ map (lands_at text graph snips) (below (length text.words))) where
-  pub landings_count : length landing ≡ length text.words
-  landings_count =
-      sym (length-map landing (λ (n : PieceNo). n.0)) ∙ ap length are
-      ∙ length-map (below (length text.words)) (lands_at text graph snips) ∙ length-below (length text.words)
-
-  lands_inside : (k : ℕ) → k < length text.words → lands_at text graph snips k < length list
-  lands_inside k inside = fit.landings k inside
-
-  pub landings_inside : (count : ℕ) → count ≡ length list → All (λ (n : PieceNo). n.0 < count) landing
-  landings_inside count same k d l =
-      let inside : k < length text.words = omega (arith, l, landings_count) in
-      let number : (get_or landing k d).0 ≡ lands_at text graph snips k =
-      sym (get_or-map (λ (n : PieceNo). n.0) landing k d 0 l) ∙ ap (λ (ns : List ℕ). get_or ns k 0) are
-      ∙ map_below (lands_at text graph snips) (length text.words) k 0 inside in
-      omega (arith, number, same, lands_inside k inside)
-
-  pub landings_are : (p : Placement) → map (λ (n : PieceNo). addr (slice_index p.at n.0)) landing
-      ≡ landings_of text graph snips p
-  landings_are p =
-      sym (map-map (λ (k : ℕ). addr (slice_index p.at k)) (λ (n : PieceNo). n.0) landing)
-      ∙ ap (map (λ (k : ℕ). addr (slice_index p.at k))) are
-      ∙ map-map (λ (k : ℕ). addr (slice_index p.at k)) (lands_at text graph snips) (below (length text.words))
-
--- ---- the pieces of Case edges
-
-module _ (text : Words) (graph : Graph) (snips : List (List Op))
-    (list : List (List Item)) (fit : AreFit text graph snips list)
-    (cases : List PieceNo) (are : map (λ (n : PieceNo). n.0) cases ≡ case_numbers text graph) where
-  pub cases_count : length cases ≡ length (case_numbers text graph)
-  cases_count = sym (length-map cases (λ (n : PieceNo). n.0)) ∙ ap length are
-
-  pub cases_inside : (count : ℕ) → count ≡ length list → All (λ (n : PieceNo). n.0 < count) cases
-  cases_inside count same k d l =
-      let number : (get_or cases k d).0 ≡ get_or (case_numbers text graph) k 0 =
-      sym (get_or-map (λ (n : PieceNo). n.0) cases k d 0 l) ∙ ap (λ (ns : List ℕ). get_or ns k 0) are in
-      omega (
-        arith,
-        number,
-        same,
-        fit.cases k (get_or (case_numbers text graph) k 0)
-            (slice_get-get_or (case_numbers text graph) k 0 (omega (arith, l, cases_count))),
-      )
-
-  pub cases_are : (p : Placement) → map (λ (n : PieceNo). slice_index p.at n.0) cases ≡ case_places text graph p
-  cases_are p =
-      sym (map-map (λ (k : ℕ). slice_index p.at k) (λ (n : PieceNo). n.0) cases) ∙ ap (map (λ (k : ℕ). slice_index
-      p.at k)) are
 
 -- ---- the piece at which the program begins
 
@@ -94,3 +47,108 @@ entry_inside text graph snips list is h fit entry l =
     let last = fit.foreign in
     subst (λ (node : Node). enter_number text graph node entry < length list) (sym (node_is graph.blocks entry low))
     (omega (arith, below, last))
+
+-- ---- the pieces that were made of a view, and where they were placed
+
+module _ {image : Program} {graph : Graph} {asked : Asked} {pieces : List (List Item)} {words ways : List PieceNo}
+    {outside begin : PieceNo} (made : AreMade image graph asked pieces words ways outside begin) where
+  abbrev landing : ℕ → ℕ
+  landing = lands_at image.text graph asked.snips.items
+
+  pub landings_count : length words ≡ length image.text.words
+  landings_count =
+      sym (length-map words (λ (n : PieceNo). n.0)) ∙ ap length made.landing
+      ∙ length-map (below (length image.text.words)) landing ∙ length-below (length image.text.words)
+
+  pub cases_count : length ways ≡ length (case_numbers image.text graph)
+  cases_count = sym (length-map ways (λ (n : PieceNo). n.0)) ∙ ap length made.cases
+
+  landings_are : (p : Placement) → map (λ (n : PieceNo). addr (slice_index p.at n.0)) words
+      ≡ landings_of image.text graph asked.snips.items p
+  landings_are p =
+      sym (map-map (λ (k : ℕ). addr (slice_index p.at k)) (λ (n : PieceNo). n.0) words)
+      ∙ ap (map (λ (k : ℕ). addr (slice_index p.at k))) made.landing
+      ∙ map-map (λ (k : ℕ). addr (slice_index p.at k)) landing (below (length image.text.words))
+
+  cases_are : (p : Placement) → map (λ (n : PieceNo). slice_index p.at n.0) ways ≡ case_places image.text graph p
+  cases_are p =
+      sym (map-map (λ (k : ℕ). slice_index p.at k) (λ (n : PieceNo). n.0) ways)
+      ∙ ap (map (λ (k : ℕ). slice_index p.at k)) made.cases
+
+  -- tables that lead to their places are those of the edit
+  pub tables_lead : (p : Placement) (table : TableAt)
+      → AreTablesOf image.text (map (λ (n : PieceNo). addr (slice_index p.at n.0)) words)
+      (addr (slice_index p.at outside.0)) (map (λ (n : PieceNo). slice_index p.at n.0) ways) table
+      → LeadsTo image.text graph asked.snips.items p table
+  tables_lead p table are =
+      subst (λ (places : List ℕ). AreTablesOf image.text (landings_of image.text graph asked.snips.items p)
+      (foreign_of image.text graph p) places table) (cases_are p)
+      (subst (λ (n : ℕ). AreTablesOf image.text (landings_of image.text graph asked.snips.items p)
+      (addr (slice_index p.at n)) (map (λ (n : PieceNo). slice_index p.at n.0) ways) table) made.foreign
+      (subst (λ (targets : List Addr). AreTablesOf image.text targets (addr (slice_index p.at outside.0))
+      (map (λ (n : PieceNo). slice_index p.at n.0) ways) table) (landings_are p) are))
+
+  -- and the code is that of the edit
+  pub code_built : (p : Placement) (place : ℕ → ℕ → ℕ)
+      → AreLaid pieces
+      (table_after image.base asked.cells + (tables_size image.text + cells_size (length ways))) p place
+      → IsBuilt image.text graph image.base asked.cells asked.snips.items p
+  code_built p place laid = record {
+    dead = made.dead;
+    exact = made.exact;
+    place = place;
+    are = subst (λ (n : ℕ). AreLaid (pieces_by image.text graph image.base asked.cells made.dead asked.snips.items)
+        (table_after image.base asked.cells + (tables_size image.text + cells_size n)) p place) cases_count
+        (subst (λ (list : List (List Item)). AreLaid list
+        (table_after image.base asked.cells + (tables_size image.text + cells_size (length ways))) p place) made.list
+        laid);
+  }
+
+  -- ---- where there is room
+
+  module _ (fits : PiecesFit) (can : HasRoom image graph asked) where
+    pub made_fit : AreFit image.text graph asked.snips.items pieces
+    made_fit = subst (AreFit image.text graph asked.snips.items) (sym made.list) (new_fit fits can made.dead)
+
+    landings_inside : All (λ (n : PieceNo). n.0 < length pieces) words
+    landings_inside k d l =
+        let inside : k < length image.text.words = omega (arith, l, landings_count) in
+        let number : (get_or words k d).0 ≡ landing k =
+        sym (get_or-map (λ (n : PieceNo). n.0) words k d 0 l) ∙ ap (λ (ns : List ℕ). get_or ns k 0) made.landing
+        ∙ map_below landing (length image.text.words) k 0 inside in
+        omega (arith, number, made_fit.landings k inside)
+
+    cases_inside : All (λ (n : PieceNo). n.0 < length pieces) ways
+    cases_inside k d l =
+        let number : (get_or ways k d).0 ≡ get_or (case_numbers image.text graph) k 0 =
+        sym (get_or-map (λ (n : PieceNo). n.0) ways k d 0 l) ∙ ap (λ (ns : List ℕ). get_or ns k 0) made.cases in
+        omega (
+          arith,
+          number,
+          made_fit.cases k (get_or (case_numbers image.text graph) k 0)
+              (slice_get-get_or (case_numbers image.text graph) k 0 (omega (arith, l, cases_count))),
+        )
+
+    -- all of them are there
+    pub made_inside : AreInside (length pieces) words ways outside begin
+    made_inside = record {
+      landing = landings_inside;
+      cases = cases_inside;
+      foreign = subst (λ (n : ℕ). n < length pieces) (sym made.foreign) made_fit.foreign;
+      entry = subst (λ (n : ℕ). n < length pieces) (sym made.entry)
+          (entry_inside image.text graph asked.snips.items pieces can.text can.graph made_fit image.entry made.begins);
+    }
+
+    pub cases_few : length ways ≤ 2 ^ 22
+    cases_few =
+        let few = can.text.few in
+        omega (arith, cases_count, entries_few image.text graph can.text can.graph, few)
+
+    -- and there is room for them, behind the cells and the tables
+    pub made_room : cells_size asked.cells + (tables_size image.text + cells_size (length ways)) + long_bytes pieces
+        ≤ image.room
+    made_room =
+        subst (λ (n : ℕ). cells_size asked.cells + (tables_size image.text + cells_size n) + long_bytes pieces
+        ≤ image.room) (sym cases_count)
+        (subst (λ (list : List (List Item)). cells_size asked.cells + segment_size image.text graph + long_bytes list
+        ≤ image.room) (sym made.list) (new_room fits can made.dead))

@@ -8,6 +8,7 @@ use Rattle.elf32_sparc.proofs.Images.{accepted-program}
 use Rattle.v8_decode.specs.declared.Part.{Part}
 use Rattle.cfg_normal.specs.Graph.{Graph}
 use Rattle.liveness.specs.Live.{named_on}
+use Rattle.elf32_write.specs.Headers.{AddedSegment}
 use Rattle.elf32_write.specs.Laws.{AreBytes}
 use Rattle.addr_translate.specs.Lookup.{TableAt}
 use Rattle.layout.specs.declared.items.Placed.{Placed}
@@ -22,12 +23,12 @@ use Rattle.image_code.specs.Graphs.{IsGraphOf}
 use Rattle.image_code.specs.Numbered.{case_numbers}
 use Rattle.image_code.specs.Parts.{codes_of}
 use Rattle.snippets.specs.declared.snippet.Op.{Op}
-use Rattle.tool_kit.specs.declared.edge_ref.ToolKind.{ToolKind}
 use Rattle.tool_kit.specs.Plans.{Plan}
 use Rattle.edit_core.specs.Dead.{AreDead}
+use Rattle.edit_core.specs.declared.taking.Asked.{Asked}
 use Rattle.edit_core.specs.RunsAlike.{short_bound}
-use Rattle.edit_core.specs.Taken.{CanEdit, bound_by, bound_of}
-use Rattle.edit_core.specs.Written.{added, cells_at, code_at, if_any, page_segment, table_at, CanDo, IsBuilt, IsNewCode, IsViewOf, IsWorkable, LeadsTo, cases_at, cells_base, cells_size, code_base, entry_number, entry_of, graph_in, pieces_by, pieces_of, placement_in, segment_size, table_after, table_base, tables_size, text_of}
+use Rattle.edit_core.specs.Taken.{CanEdit, bound_of}
+use Rattle.edit_core.specs.Written.{added, cells_at, code_at, if_any, page_segment, table_at, CanDo, HasRoom, IsBuilt, IsNewCode, IsViewOf, IsWorkable, LeadsTo, cases_at, cells_base, cells_size, code_base, entry_number, entry_of, graph_in, pieces_by, pieces_of, placement_in, plan_of, segment_size, table_after, table_base, tables_size, text_of}
 use Rattle.edit_core.proofs.Bounds.{operations_few}
 use Rattle.edit_core.proofs.Graphs.{entries_few, graph_cut, graph_is}
 use Rattle.edit_core.proofs.Room.{room_with_cases, small_tables}
@@ -63,26 +64,28 @@ original_fit fits original plan can work dead =
     under base room cells words more same few enough = omega arith
 
 -- the pieces that are made of a view can be placed in its room
-module _ (fits : PiecesFit) (text : Words) (graph : Graph) (base room : ℕ) (kind : ToolKind) (cells : ℕ)
-    (dead : ℕ → List Part) (snips : List (List Op)) (is : IsText text) (h : IsGraphOf text graph) (work : IsWorkable graph kind cells snips)
-    (enough : bound_by text graph kind cells snips ≤ room) (low : base + room ≤ 2 ^ 31) where
-  pub new_fit : AreFit text graph snips (pieces_by text graph base cells dead snips)
-  new_fit =
-      let few = work.few in
-      fits text graph (table_after base cells) (cases_at text (table_after base cells)) snips (codes_of base dead
-      snips) is h (omega arith)
-      (short_codes base cells dead snips work.good)
+module _ (fits : PiecesFit) {image : Program} {graph : Graph} {asked : Asked} (can : HasRoom image graph asked)
+    (dead : ℕ → List Part) where
+  abbrev new_pieces : List (List Item)
+  new_pieces = pieces_by image.text graph image.base asked.cells dead asked.snips.items
 
-  pub new_room : cells_size cells + segment_size text graph + long_bytes (pieces_by text graph base cells dead snips)
-      ≤ room
+  pub new_fit : AreFit image.text graph asked.snips.items new_pieces
+  new_fit =
+      let few = can.work.few in
+      fits image.text graph (table_after image.base asked.cells)
+      (cases_at image.text (table_after image.base asked.cells)) asked.snips.items
+      (codes_of image.base dead asked.snips.items) can.text can.graph (omega (arith, can.room, can.low))
+      (short_codes image.base asked.cells dead asked.snips.items can.work.good)
+
+  pub new_room : cells_size asked.cells + segment_size image.text graph + long_bytes new_pieces ≤ image.room
   new_room =
       let fit = new_fit in
       let bytes = fit.bytes in
-      let made = operations_few graph kind cells snips work in
-      let small = small_tables text is in
-      let most = room_with_cases cells (length text.words) (length (case_numbers text graph)) (tables_size text)
-      (long_bytes (pieces_by text graph base cells dead snips)) _ (entries_few text graph is h) small bytes in
-      omega arith
+      let made = operations_few graph asked.kind asked.cells asked.snips.items can.work in
+      let small = small_tables image.text can.text in
+      let most = room_with_cases asked.cells (length image.text.words) (length (case_numbers image.text graph))
+      (tables_size image.text) (long_bytes new_pieces) _ (entries_few image.text graph can.text can.graph) small bytes in
+      omega (arith, can.room)
 
 -- how many bytes they have
 pub segment_is : (text : Words) (graph : Graph) (snips : List (List Op)) (p : Placement) (table : TableAt)
@@ -188,3 +191,29 @@ module _ (original : List ℕ) (plan : Plan) (image : Program) (graph : Graph) (
             (record { base = table_after image.base plan.cells; bytes = tables })) is.1 leads);
         bytes = bytes;
       }
+
+      -- and the segments that are added are those of the edit
+      pub segments_are : (segments : List AddedSegment)
+          → segments ≡ if_any plan.cells (cells_at image.base plan.cells)
+          ++ table_at (record { base = table_after image.base plan.cells; bytes = tables })
+          ∷ code_at (table_after image.base plan.cells + length tables) placed.code.items ∷ page_segment ∷ []
+          → segments ≡ added original plan (placement_in placed)
+          (record { base = table_base original plan; bytes = tables })
+      segments_are segments same =
+          same ∙ view_added (placement_in placed) tables
+          (segment_is image.text graph plan.snips (placement_in placed) _ leads)
+
+-- so there is room for what is asked of an original that can be edited
+pub view_has_room : (original marks : List ℕ) (asked : Asked) (image : Program) (graph : Graph)
+    → IsViewOf original (plan_of marks asked) image graph → CanEdit original (plan_of marks asked)
+    → CanDo original (plan_of marks asked) → HasRoom image graph asked
+view_has_room original marks asked image graph is can work =
+    let plan = plan_of marks asked in
+    record {
+      text = view_text original plan image graph is can;
+      graph = view_graph original plan image graph is;
+      work = view_work original plan image graph is work;
+      room = view_room original plan image graph is can;
+      base = view_aligned original plan image graph is can;
+      low = view_low original plan image graph is can;
+    }

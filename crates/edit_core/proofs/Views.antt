@@ -8,7 +8,7 @@ use Rattle.cfg_view.specs.View.{Seen}
 use Rattle.cfg_view.specs.View.{view_of}
 use Rattle.tool_kit.specs.Plans.{Plan}
 use Rattle.edit_core.specs.Taken.{CanEdit, bound_in, bound_of}
-use Rattle.edit_core.specs.Written.{IsViewOf, graph_in}
+use Rattle.edit_core.specs.Written.{CanDo, IsViewOf, IsWorkable, graph_in}
 
 pub view_image : (file marks : List ℕ) → (view_of file marks).image ≡ image_of file
 unfolding view_of
@@ -38,6 +38,10 @@ module _ (file : List ℕ) (plan : Plan) (view : Seen) (is : view ≡ view_of fi
     room = subst (λ (n : ℕ). n ≤ (image_of file).room) view_bound
         (subst (λ (i : Program). bound_of view.image.text view.graph plan ≤ i.room) view_is.0 room);
   }
+
+  -- and what can be done on its graph can be done on that of the file
+  pub view_can_do : IsWorkable view.graph plan.kind plan.cells plan.snips → CanDo file plan
+  view_can_do work = subst (λ (g : Graph). IsWorkable g plan.kind plan.cells plan.snips) view_is.1 work
 
 -- the bound of what can be edited, by the graph
 pub bound_is : (file : List ℕ) (plan : Plan) → bound_in file plan ≡ bound_of (image_of file).text (graph_in file plan) plan

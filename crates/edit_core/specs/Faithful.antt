@@ -13,13 +13,12 @@ use Rattle.elf32_write.specs.Laws.{kept}
 use Rattle.v8_decode.specs.declared.Part.{Part}
 use Rattle.v8_decode.specs.Words.{decode_of}
 use Rattle.v8_step.specs.Items.{is_transfer}
-use Rattle.cfg_blocks.specs.declared.EdgeKind.{EdgeKind}
-use Rattle.cfg_blocks.specs.declared.EdgeKind.TheVariants as kinds
 use Rattle.cfg_blocks.specs.Blocks.{holding_of}
 use Rattle.cfg_blocks.specs.Marks.{numbers}
 use Rattle.cfg_normal.specs.declared.Edge.{Edge}
 use Rattle.cfg_normal.specs.Graph.{Graph}
 use Rattle.cfg_view.specs.View.{view_of}
+pub use Rattle.cfg_normal.specs.Numbers.{kind_number}
 use Rattle.cfg_normal.specs.Numbers.{is_node, node_number}
 use Rattle.liveness.specs.Live.{named_on}
 use Rattle.snippets.specs.declared.snippet.Op.{Op}
@@ -42,16 +41,6 @@ pub record IsWhole (original file : List ℕ) (notes : Notes) : Type 0 where
   pub small : length file ≤ 1536 * 2 ^ 20
 
 -- Graph: the notes have the graph of the original, the tool and its cells.
-
--- the kinds by their numbers
-abbrev pub kind_number : EdgeKind → ℕ
-kind_number kinds.Fall = 0
-kind_number kinds.Taken = 1
-kind_number kinds.Untaken = 2
-kind_number kinds.Call = 3
-kind_number kinds.Out = 4
-kind_number kinds.Land = 5
-kind_number kinds.Case = 6
 
 -- the tools by their numbers
 abbrev pub tool_number : ToolKind → ℕ

@@ -1,10 +1,11 @@
 -- What is written of an original: cells, tables of addresses, new code and a page for the editor, as segments, and
 -- notes of them.
-use Rattle.std.specs.Prelude.{◌≡◌, ℕ, zero, suc, ◌+◌, ◌-◌, ◌*◌, ◌/◌, ◌^◌, ◌<◌, ◌≤◌, Bool, true, false, List, [], ◌∷◌, ◌++◌, length, map, replicate, slice_index, take, drop, Some, None, Ok, All}
+use Rattle.std.specs.Prelude.{◌≡◌, ℕ, zero, suc, ◌+◌, ◌-◌, ◌*◌, ◌/◌, ◌%◌, ◌^◌, ◌<◌, ◌≤◌, Bool, true, false, List, [], ◌∷◌, ◌++◌, length, map, replicate, slice_index, take, drop, Some, None, Ok, All}
 use Rattle.std.specs.List.{find}
 use Rattle.std.specs.Option.{option_map, option_to_list}
-use Rattle.eel_base.specs.CodeText.{Words, address_of}
+use Rattle.eel_base.specs.CodeText.{IsText, Words, address_of}
 use Rattle.eel_base.specs.declared.numbers.Addr.{Addr}
+use Rattle.eel_base.specs.declared.numbers.PieceNo.{PieceNo}
 use Rattle.elf32_sparc.specs.Header.{e_entry}
 use Rattle.elf32_sparc.specs.FileFault.{load_fault}
 use Rattle.elf32_sparc.specs.Mapping.{mappings}
@@ -30,7 +31,7 @@ use Rattle.addr_translate.specs.Table.{IsTableOf, size_of}
 use Rattle.layout.specs.declared.items.Item.{Item}
 use Rattle.layout.specs.declared.items.Placed.{Placed}
 use Rattle.layout.specs.Laid.{HasShortForms, IsLaid, Placement, long_bytes, placement_of}
-use Rattle.image_code.specs.Graphs.{opens_in}
+use Rattle.image_code.specs.Graphs.{IsGraphOf, opens_in}
 use Rattle.image_code.specs.Made.{jumps_at, lands_at, piece_list}
 use Rattle.image_code.specs.Numbered.{case_numbers, enter_number, foreign_number}
 use Rattle.image_code.specs.Parts.{codes_of}
@@ -40,7 +41,7 @@ use Rattle.tool_kit.specs.declared.edge_ref.ToolKind.{ToolKind}
 use Rattle.tool_kit.specs.declared.edge_ref.ToolKind.TheVariants as tools
 use Rattle.tool_kit.specs.Plans.{AreCounters, Plan}
 use Rattle.edit_core.specs.Dead.{AreDead}
-use Rattle.edit_core.specs.Taken.{CanEdit}
+use Rattle.edit_core.specs.Taken.{CanEdit, bound_by}
 use Rattle.edit_core.specs.declared.taking.Asked.{Asked}
 use Rattle.edit_core.specs.RunsAlike.{HaveRunsAlike, short_bound}
 use Rattle.edit_core.specs.Faithful.{editor_page, page_size, note_edges, tool_number}
@@ -327,3 +328,35 @@ placement_in placed = placement_of placed.code.items placed.at.items placed.rang
 -- what is asked, with the words that are marked
 abbrev pub plan_of : List ℕ → Asked → Plan
 plan_of marks asked = record { kind = asked.kind; marks = marks; cells = asked.cells; snips = asked.snips.items }
+
+-- ---- new code of a view
+
+-- There is as much room above a program as the edit asks for.
+pub record HasRoom (image : Program) (g : Graph) (asked : Asked) : Type 0 where
+  pub text : IsText image.text
+  pub graph : IsGraphOf image.text g
+  pub work : IsWorkable g asked.kind asked.cells asked.snips.items
+  pub room : bound_by image.text g asked.kind asked.cells asked.snips.items ≤ image.room
+  pub base : image.base % 4096 ≡ 0
+  pub low : image.base + image.room ≤ 2 ^ 31
+
+-- Pieces are those of a view, with snippets that take what is dead behind them. These are the pieces of the words, of the
+-- Case edges, of what lies outside the text, and the one at which the program begins.
+pub record AreMade (image : Program) (graph : Graph) (asked : Asked) (pieces : List (List Item)) (words ways : List PieceNo)
+    (outside begin : PieceNo) : Type 0 where
+  pub dead : ℕ → List Part
+  pub exact : AreDead image.text graph (named_on asked.snips.items) dead
+  pub list : pieces ≡ pieces_by image.text graph image.base asked.cells dead asked.snips.items
+  pub landing : map (λ (n : PieceNo). n.0) words
+      ≡ map (lands_at image.text graph asked.snips.items) (below (length image.text.words))
+  pub cases : map (λ (n : PieceNo). n.0) ways ≡ case_numbers image.text graph
+  pub foreign : outside.0 ≡ foreign_number image.text graph
+  pub entry : begin.0 ≡ entry_number image.text graph image.entry
+  pub begins : image.entry < length image.text.words
+
+-- they are among so many pieces
+pub record AreInside (count : ℕ) (words ways : List PieceNo) (outside begin : PieceNo) : Type 0 where
+  pub landing : All (λ (n : PieceNo). n.0 < count) words
+  pub cases : All (λ (n : PieceNo). n.0 < count) ways
+  pub foreign : outside.0 < count
+  pub entry : begin.0 < count

@@ -4,7 +4,7 @@ ghost use Rattle.eel_base.specs.CodeText.{IsText};
 ghost use Rattle.layout.specs.Laid.{ArePieces, long_bytes};
 ghost use Rattle.image_code.specs.Graphs.{IsGraphOf};
 ghost use Rattle.edit_core.specs.Taken.{bound_by};
-ghost use Rattle.edit_core.specs.Written.{addr, cases_at, cells_size as cells_size_of, entry_number, placement_in, segment_size as segment_size_of, table_after, tables_size as tables_size_of, whole_pages, AreLaid, AreTablesOf, IsBuilt, IsWorkable, LeadsTo};
+ghost use Rattle.edit_core.specs.Written.{addr, cases_at, cells_size as cells_size_of, entry_number, placement_in, segment_size as segment_size_of, table_after, tables_size as tables_size_of, whole_pages, AreInside, AreLaid, AreMade, AreTablesOf, HasRoom, IsBuilt, IsWorkable, LeadsTo};
 
 use crate::segments::{PAGE_SIZE, zeros};
 use crate::taking::Asked;
@@ -13,7 +13,7 @@ use cfg_normal::FlowGraph;
 use eel_base::{Addr, NoMemory, PieceNo, Text};
 use elf32_sparc::Image;
 use elf32_write::put_words;
-use image_code::{Frame, pieces};
+use image_code::{Frame, PieceList, pieces};
 use layout::{LayoutFault, Piece, Placed, place};
 use liveness::live;
 use std::alloc::Global;
@@ -34,13 +34,7 @@ pub(crate) fn new_code(
     graph: &FlowGraph,
     asked: &Asked,
 ) -> Result<NewCode, NoMemory>
-    requires text { IsText image.now.text }
-    requires graph { IsGraphOf image.now.text graph.now }
-    requires asked { IsWorkable graph.now asked.now.kind asked.now.cells asked.now.snips.items }
-    requires room { bound_by image.now.text graph.now asked.now.kind asked.now.cells asked.now.snips.items
-        ≤ image.now.room }
-    requires base { image.now.base % 4096 ≡ 0 }
-    requires low { image.now.base + image.now.room ≤ 2 ^ 31 }
+    requires { HasRoom image.now graph.now asked.now }
     ensures built { IfOk result (λ new. IsBuilt image.now.text graph.now image.now.base asked.now.cells
         asked.now.snips.items (placement_in new.placed)) }
     ensures entry { IfOk result (λ new. new.entry.0 ≡ slice_index (placement_in new.placed).at
@@ -48,6 +42,22 @@ pub(crate) fn new_code(
     ensures leads { IfOk result (λ new.
         LeadsTo image.now.text graph.now asked.now.snips.items (placement_in new.placed)
         (record { base = table_after image.now.base asked.now.cells; bytes = new.tables.items })) }
+{
+    let made = made(alloc, image, graph, asked)?;
+    let new = placed_code(alloc, image, asked.cells, &made)?;
+    Ok(new)
+}
+
+// The pieces of a program's words, with snippets that take what is dead behind them.
+fn made(
+    alloc: Global,
+    image: &Image,
+    graph: &FlowGraph,
+    asked: &Asked,
+) -> Result<PieceList, NoMemory>
+    requires { HasRoom image.now graph.now asked.now }
+    ensures { IfOk result (λ made. AreMade image.now graph.now asked.now made.list.items made.landing.items
+        made.cases.items made.foreign made.entry) }
 {
     let text = image.text();
     let table = table_base(image, asked.cells);
@@ -57,7 +67,7 @@ pub(crate) fn new_code(
         cases: cases_base(text, table),
     };
     let live = live(alloc, text, graph, &asked.snips)?;
-    let pieces = pieces(
+    let made = pieces(
         alloc,
         text,
         graph,
@@ -66,13 +76,46 @@ pub(crate) fn new_code(
         &live,
         frame,
     )?;
-    let size = segment_size(text, &pieces.cases);
-    let placed = laid(alloc, &pieces.list, image, asked.cells, size)?;
-    let targets = places_of(alloc, &placed.at, &pieces.landing)?;
-    let foreign = place_of(&placed.at, pieces.foreign);
-    let cases = words_of(alloc, &placed.at, &pieces.cases)?;
+    Ok(made)
+}
+
+// Pieces that have room above a program, placed behind so many cells and the tables that lead to them.
+fn placed_code(
+    alloc: Global,
+    image: &Image,
+    cells: u32,
+    made: &PieceList,
+) -> Result<NewCode, NoMemory>
+    requires inside { AreInside (length made.now.list.items) made.now.landing.items made.now.cases.items
+        made.now.foreign made.now.entry }
+    requires pieces { ArePieces made.now.list.items }
+    requires landing { length made.now.landing.items ≡ length image.now.text.words }
+    requires cases { length made.now.cases.items ≤ 2 ^ 22 }
+    requires cells { cells ≤ 2 ^ 23 }
+    requires room { cells_size_of cells + (tables_size_of image.now.text
+        + cells_size_of (length made.now.cases.items)) + long_bytes made.now.list.items ≤ image.now.room }
+    requires base { image.now.base % 4096 ≡ 0 }
+    requires low { image.now.base + image.now.room ≤ 2 ^ 31 }
+    ensures laid { IfOk result (λ new. (p : ℕ → ℕ → ℕ)
+        × AreLaid made.now.list.items (table_after image.now.base cells
+        + (tables_size_of image.now.text + cells_size_of (length made.now.cases.items))) (placement_in new.placed) p) }
+    ensures entry { IfOk result (λ new.
+        new.entry.0 ≡ slice_index (placement_in new.placed).at made.now.entry.0) }
+    ensures leads { IfOk result (λ new. AreTablesOf image.now.text
+        (map (λ piece. addr (slice_index (placement_in new.placed).at piece.0)) made.now.landing.items)
+        (addr (slice_index (placement_in new.placed).at made.now.foreign.0))
+        (map (λ piece. slice_index (placement_in new.placed).at piece.0) made.now.cases.items)
+        (record { base = table_after image.now.base cells; bytes = new.tables.items })) }
+{
+    let text = image.text();
+    let table = table_base(image, cells);
+    let size = segment_size(text, &made.cases);
+    let placed = laid(alloc, &made.list, image, cells, size)?;
+    let targets = places_of(alloc, &placed.at, &made.landing)?;
+    let foreign = place_of(&placed.at, made.foreign);
+    let cases = words_of(alloc, &placed.at, &made.cases)?;
     let tables = tables_for(alloc, text, &targets, foreign, &cases, table)?;
-    let entry = place_of(&placed.at, pieces.entry);
+    let entry = place_of(&placed.at, made.entry);
     Ok(NewCode {
         placed,
         entry,

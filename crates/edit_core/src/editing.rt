@@ -2,11 +2,12 @@
 ghost use Rattle.std.specs.Prelude.{◌≡◌, ℕ, List, [], ◌∷◌, ◌++◌, ◌+◌, ◌*◌, ◌<◌, ◌≤◌, ◌^◌, length, map, All, IfErr, IfOk, OnOk};
 ghost use Rattle.elf32_write.specs.Headers.{segment_seen};
 ghost use Rattle.elf32_write.specs.Laws.{AreBytes};
-ghost use Rattle.tool_kit.specs.Plans.{Plan};
+ghost use Rattle.cfg_blocks.specs.Marks.{numbers};
+ghost use Rattle.tool_kit.specs.Plans.{IsPlanOf, Plan};
 ghost use Rattle.edit_core.specs.Taken.{CanEdit, EditRefuses};
-ghost use Rattle.edit_core.specs.Faithful.{AsksOf, CountsEdges, IsFaithful};
+ghost use Rattle.edit_core.specs.Faithful.{AreCounted, AsksOf, CountsEdges, IsFaithful};
 ghost use Rattle.edit_core.specs.Written.{cells_at, code_at, if_any, page_segment as page_segment_of, plan_of, table_after, table_at};
-ghost use Rattle.edit_core.specs.Written.{CanDo, IsTheEdit, IsViewOf, IsWritten};
+ghost use Rattle.edit_core.specs.Written.{CanDo, IsTheEdit, IsViewOf, IsWorkable, IsWritten};
 
 use crate::building::{NewCode, code_base, new_code, table_base};
 use crate::noting::notes;
@@ -35,11 +36,7 @@ pub fn edit_bytes<F: Chooser>(
         × CanEdit bytes.now plan × IsFaithful bytes.now plan file.items × IsTheEdit bytes.now plan file.items) }
 {
     let view = look(alloc, bytes, tool.marks())?;
-    let asked = Asked {
-        kind: tool.kind(),
-        cells: tool.cells(),
-        snips: snips(alloc, tool, &view.graph)?,
-    };
+    let asked = asked_of(alloc, tool, &view.graph)?;
     let text = view.image.text();
     let needed = bound(
         alloc,
@@ -55,6 +52,20 @@ pub fn edit_bytes<F: Chooser>(
     }
     let file = edited(alloc, bytes, &view.image, &view.graph, &asked)?;
     Ok(file)
+}
+
+// What a tool asks of a graph, where the snippets of a profile count edges.
+fn asked_of<F: Chooser>(alloc: Global, tool: &Tool<F>, graph: &FlowGraph) -> Result<Asked, NoMemory>
+    requires { (plan : Plan) → IsPlanOf F.says tool.now graph.now.edges plan → AreCounted 2 plan }
+    ensures plan { IfOk result (λ asked.
+        IsPlanOf F.says tool.now graph.now.edges (plan_of (numbers tool.now.marks) asked)) }
+    ensures work { IfOk result (λ asked. IsWorkable graph.now asked.kind asked.cells asked.snips.items) }
+{
+    Ok(Asked {
+        kind: tool.kind(),
+        cells: tool.cells(),
+        snips: snips(alloc, tool, graph)?,
+    })
 }
 
 // The file that is written of a program.

@@ -2,18 +2,16 @@
 ghost use Rattle.std.specs.Prelude.{◌≡◌, ℕ, List, ◌+◌, ◌*◌, ◌^◌, ◌<◌, ◌≤◌, ◌++◌, length, map, IfOk};
 ghost use Rattle.std.specs.List.{find};
 ghost use Rattle.std.specs.Option.{ForSome};
-ghost use Rattle.cfg_normal.specs.Graph.{IsEdgeIn, IsNodeIn};
+ghost use Rattle.cfg_normal.specs.Graph.{IsEdgeIn};
 ghost use Rattle.eel_base.specs.CodeText.{IsText};
 ghost use Rattle.notes.specs.Seen.{notes_seen, edge_seen, range_seen, segment_seen};
-ghost use Rattle.cfg_normal.specs.Numbers.{node_number as node_number_of};
-ghost use Rattle.edit_core.specs.Faithful.{cell_noted as cell_noted_of, kind_number as kind_number_of, note_edge as note_edge_of, note_edges as note_edges_of, tool_number as tool_number_of};
+ghost use Rattle.edit_core.specs.Faithful.{cell_noted as cell_noted_of, note_edge as note_edge_of, note_edges as note_edges_of, tool_number as tool_number_of};
 ghost use Rattle.edit_core.specs.Written.{is_off as is_off_of, notes_on, off_range as off_range_of, off_ranges, segments_noted, placement_in, plan_of, segment_size, table_after, IsViewOf};
 
 use crate::building::{code_base, table_base};
 use crate::segments::{EDITOR_PAGE, PAGE_SIZE};
 use crate::taking::Asked;
-use cfg_blocks::EdgeKind;
-use cfg_normal::{Edge, FlowGraph, Node, Slot};
+use cfg_normal::{Edge, FlowGraph, Slot, kind_number, node_number};
 use eel_base::{Addr, BlockNo, NoMemory, Range, Text, WordNo};
 use elf32_sparc::Image;
 use elf32_write::delta;
@@ -202,35 +200,5 @@ fn cell_noted(kind: ToolKind, snippet: &Snippet) -> Option<u32>
     match kind {
         ToolKind::Profile => snippet.ops().first().map(|op| op.cell()),
         ToolKind::Plain | ToolKind::Script | ToolKind::Trace => None,
-    }
-}
-
-fn kind_number(kind: EdgeKind) -> u32
-    ensures { result ≡ kind_number_of kind }
-{
-    match kind {
-        EdgeKind::Fall => 0,
-        EdgeKind::Taken => 1,
-        EdgeKind::Untaken => 2,
-        EdgeKind::Call => 3,
-        EdgeKind::Out => 4,
-        EdgeKind::Land => 5,
-        EdgeKind::Case => 6,
-    }
-}
-
-/// A block's own number, the number of blocks for all that lies outside, and those behind it for landed copies.
-pub(crate) fn node_number(graph: &FlowGraph, node: Node) -> u32
-    requires { IsNodeIn graph.now.blocks graph.now.opens node }
-    ensures { result ≡ node_number_of graph.now node }
-{
-    match node {
-        Node::Block(block) => block.0,
-        Node::X => graph.count(),
-        Node::Landed(block) => {
-            // A graph has few blocks.
-            let _edges = graph.edges();
-            graph.count() + 1 + block.0
-        }
     }
 }

@@ -8,9 +8,8 @@ ghost use Rattle.cfg_normal.specs.Nodes.{same_node as same_node_of};
 ghost use Rattle.image_code.specs.Fit.{copies_of, is_at, targets_from, words_at};
 ghost use Rattle.edit_core.specs.Taken.{bound_by, case_key as case_key_of, count_of, counted_on as counted_on_of, is_entry, operations_on, AreCounts};
 
-use crate::noting::node_number;
 use cfg_blocks::EdgeKind;
-use cfg_normal::{Edge, FlowGraph, Node};
+use cfg_normal::{Edge, FlowGraph, Node, node_number};
 use eel_base::{BlockNo, NoMemory, Text, WordNo};
 use elf32_sparc::{FileFault, ReadFault};
 use indexmap::IndexMap;

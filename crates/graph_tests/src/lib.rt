@@ -13,6 +13,8 @@ mod liveness_tests;
 #[cfg(test)]
 mod profile_tests;
 #[cfg(test)]
+mod programs;
+#[cfg(test)]
 mod switches_tests;
 #[cfg(test)]
 mod tools_tests;

@@ -1,6 +1,7 @@
 //! What is live in small programs, worked out by hand.
 ghost use Rattle.std.specs.Prelude.{◌≡◌, length, IfOk};
 
+use crate::programs::CARRY_LOOP;
 use cfg_blocks::blocks;
 use cfg_normal::{FlowGraph, graph};
 use eel_base::{Addr, EdgeNo, Text, WordNo};
@@ -9,11 +10,6 @@ use snippets::{Op, Snippet};
 use std::alloc::Global;
 use std::test::Fail;
 use v8_decode::{Part, Reg, RegSet};
-
-/// The program carry_loop: its second block branches to itself, and its last word may read everything.
-const CARRY_LOOP: [u32; 7] = [
-    0x84102005, 0x90422000, 0x8480bfff, 0x12bffffe, 0x01000000, 0x82102001, 0x91d02010,
-];
 
 /// The first words of the program window_overflow: two of no window, and a SAVE.
 const WINDOW_OVERFLOW: [u32; 3] = [0x8610000e, 0xa0102007, 0x9de3bfa0];

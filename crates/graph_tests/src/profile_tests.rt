@@ -1,4 +1,5 @@
 //! Which edges of a small program are counted, and the lines of its counts, worked out by hand.
+use crate::programs::CARRY_LOOP;
 use cfg_blocks::blocks;
 use cfg_normal::graph;
 use eel_base::{Addr, EdgeNo, Text, WordNo};
@@ -7,11 +8,6 @@ use show_text::counts;
 use span_tree::{tree, weights};
 use std::alloc::Global;
 use std::test::Fail;
-
-/// The program carry_loop: its second block branches to itself.
-const CARRY_LOOP: [u32; 7] = [
-    0x84102005, 0x90422000, 0x8480bfff, 0x12bffffe, 0x01000000, 0x82102001, 0x91d02010,
-];
 
 const WEIGHTS: [u64; 9] = [1, 9, 9, 1, 1, 1, 1, 1, 1];
 

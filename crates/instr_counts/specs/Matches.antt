@@ -1,26 +1,15 @@
 -- Which notes are those of a text with each word marked.
 use Rattle.std.specs.Prelude.{◌≡◌, ℕ, ◌<◌, List, length, slice_index_or}
 use Rattle.elf32_sparc.specs.Notes.{NoteEdge, Notes}
-use Rattle.cfg_blocks.specs.declared.EdgeKind.{EdgeKind}
-use Rattle.cfg_blocks.specs.declared.EdgeKind.TheVariants as kinds
 use Rattle.cfg_blocks.specs.Blocks.{holding_of}
 use Rattle.cfg_normal.specs.declared.Edge.{Edge}
+pub use Rattle.cfg_normal.specs.Numbers.{kind_number}
 use Rattle.cfg_normal.specs.Numbers.{node_number}
 use Rattle.cfg_normal.specs.Graph.{Graph}
 use Rattle.cfg_view.specs.View.{Seen}
 use Rattle.count_rebuild.specs.Noted.{no_edge as no_noted}
 use Rattle.span_tree.specs.Links.{no_edge}
 use Rattle.instr_counts.specs.Visits.{AreSingle}
-
--- the kinds by their numbers in notes
-abbrev pub kind_number : EdgeKind → ℕ
-kind_number kinds.Fall = 0
-kind_number kinds.Taken = 1
-kind_number kinds.Untaken = 2
-kind_number kinds.Call = 3
-kind_number kinds.Out = 4
-kind_number kinds.Land = 5
-kind_number kinds.Case = 6
 
 -- notes tell of an edge its kind and its nodes
 pub record IsNoted (graph : Graph) (noted : NoteEdge) (edge : Edge) : Type 0 where

@@ -1,15 +1,13 @@
 //! Whether notes are those of a text with each word marked.
 ghost use Rattle.std.specs.Prelude.{◌≡◌, ◌<◌, ◌↔◌, IsTrue, length, map};
 ghost use Rattle.cfg_blocks.specs.Blocks.{holding_of};
-ghost use Rattle.cfg_normal.specs.Graph.{IsEdgeIn, IsNodeIn};
-ghost use Rattle.cfg_normal.specs.Numbers.{node_number};
+ghost use Rattle.cfg_normal.specs.Graph.{IsEdgeIn};
 ghost use Rattle.cfg_view.specs.View.{view_seen, IsView};
 ghost use Rattle.notes.specs.Seen.{edge_seen, notes_seen};
-ghost use Rattle.instr_counts.specs.Matches.{kind_number, AreNoted, IsNoted, Matches};
+ghost use Rattle.instr_counts.specs.Matches.{AreNoted, IsNoted, Matches};
 ghost use Rattle.instr_counts.specs.Visits.{AreSingle};
 
-use cfg_blocks::EdgeKind;
-use cfg_normal::{Edge, FlowGraph, Node};
+use cfg_normal::{Edge, FlowGraph, kind_number, node_number};
 use cfg_view::View;
 use eel_base::BlockNo;
 use notes::{NoteEdge, Notes};
@@ -90,33 +88,4 @@ fn is_noted(graph: &FlowGraph, noted: NoteEdge, edge: &Edge) -> bool
     noted.kind == kind_number(edge.kind)
         && noted.from == node_number(graph, edge.from)
         && noted.to == node_number(graph, edge.to)
-}
-
-fn kind_number(kind: EdgeKind) -> u32
-    ensures { result ≡ kind_number kind }
-{
-    match kind {
-        EdgeKind::Fall => 0,
-        EdgeKind::Taken => 1,
-        EdgeKind::Untaken => 2,
-        EdgeKind::Call => 3,
-        EdgeKind::Out => 4,
-        EdgeKind::Land => 5,
-        EdgeKind::Case => 6,
-    }
-}
-
-/// A block's own number, the number of blocks for all that lies outside, and those behind it for landed copies.
-fn node_number(graph: &FlowGraph, node: Node) -> u32
-    requires { IsNodeIn graph.now.blocks graph.now.opens node }
-    ensures { result ≡ node_number graph.now node }
-{
-    match node {
-        Node::Block(block) => block.0,
-        Node::X => graph.count(),
-        Node::Landed(block) => {
-            let _edges = graph.edges();
-            graph.count() + 1 + block.0
-        }
-    }
 }

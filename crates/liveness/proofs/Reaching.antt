@@ -597,6 +597,6 @@ module _ (text : Words) (graph : Graph) (named : ℕ → List Part) (sets : Sets
   joined_is g w x l = (
     λ k.
         let found = some_block graph.blocks.words graph.blocks.firsts g.firsts w l in
-        word_there w x (found.0, (found.1, found.2, found.3)) k,
+        word_there w x (found.0, (found.1.within, found.1.above, found.1.below)) k,
     λ k. word_lives w x k.0 k.1 k.2,
   )

@@ -10,7 +10,7 @@ use Rattle.cfg_normal.specs.declared.Node.{Node}
 use Rattle.cfg_normal.specs.declared.Node.TheVariants.{Block, Landed, X}
 use Rattle.liveness.specs.Live.{Holds, HoldsIn, is_outside}
 use Rattle.liveness.specs.Search.{IsInside, IsOf, copies_from, first_in, last_in, nodes_from, place_of}
-use Rattle.liveness.proofs.Held.{ends_within, is_held, same_number, some_words, start_is, start_of}
+use Rattle.liveness.proofs.Held.{ends_within, is_held, same_number, some_words, start_after, start_is, start_of}
 
 at_most : (b : Bool) (n : ℕ) → (if b then n else 0) ≤ n
 at_most true n = omega arith
@@ -48,6 +48,31 @@ pub start_last : (words : ℕ) (firsts : List ℕ) → start_of words firsts (le
 start_last words firsts = rw (le-ltb (length firsts) (length firsts) (omega arith)) refl
 
 module _ (graph : Graph) (f : AreFirsts graph.blocks.words graph.blocks.firsts) where
+  -- ---- loops over blocks, which come to two more for each word at most
+
+  abbrev pub words_before : ℕ → ℕ
+  words_before block = start_of graph.blocks.words graph.blocks.firsts block
+
+  pub few_next : (from before after block : ℕ) → block < length graph.blocks.firsts
+      → before ≤ from + 2 * words_before block
+      → after + 2 * first_in graph (Block (record { 0 = block }))
+      ≤ before + 2 * (last_in graph (Block (record { 0 = block })) + 1)
+      → after ≤ from + 2 * words_before (block + 1)
+  few_next from before after block low few more =
+      omega (
+        arith,
+        start_is graph.blocks.words graph.blocks.firsts block low,
+        start_after graph.blocks.words graph.blocks.firsts block,
+        some_words graph.blocks.words graph.blocks.firsts f block low,
+        few,
+        more,
+      )
+
+  pub few_all : (from after block : ℕ) → block ≡ length graph.blocks.firsts → after ≤ from + 2 * words_before block
+      → after ≤ from + 2 * graph.blocks.words
+  few_all from after block end few =
+      omega (arith, few, ap words_before end, start_last graph.blocks.words graph.blocks.firsts)
+
   -- ---- a node's words
 
   pub of_held : (node : Node) (w : ℕ) → Holds graph node w → IsOf graph node w
@@ -223,6 +248,7 @@ module _ (graph : Graph) (f : AreFirsts graph.blocks.words graph.blocks.firsts) 
       → lands graph (Some w) ≡ Block (record { 0 = b })
   lands_plain b w h none =
       let low : w < graph.blocks.words = held_within (Block (record { 0 = b })) w h in
-      let held : holding_of graph.blocks w ≡ b = is_held graph.blocks.words graph.blocks.firsts f w b h.0 h.1 h.2 in
+      let held : holding_of graph.blocks w ≡ b = is_held graph.blocks.words graph.blocks.firsts f w b
+      (record { within = h.0; above = h.1; below = h.2 }) in
       let plain : (jumps_in graph.opens b || is_behind graph.opens b w) ≡ false = uncopied graph.opens b w none in
       rw (lt-ltb _ _ low) (rw held (rw plain refl))

@@ -1,5 +1,5 @@
 -- The parts of which reading a text is made.
-use Rattle.std.specs.Prelude.{ℕ, zero, suc, ◌+◌, ◌-◌, ◌/◌, ◌%◌, ◌^◌, Bool, true, false, ◌==◌, nat_le, if◌then◌else◌, List, [], ◌∷◌, length, codes, Option, Some, None, ℤ, pos, negsuc}
+use Rattle.std.specs.Prelude.{ℕ, zero, suc, ◌+◌, ◌-◌, ◌/◌, ◌%◌, ◌^◌, Bool, true, false, ◌==◌, nat_le, if◌then◌else◌, List, [], ◌∷◌, length, codes, Option, Some, None, ℤ, pos, negsuc, ◌++◌}
 use Rattle.std.specs.List.{find, range_with_len}
 use Rattle.std.specs.Option.{option_map}
 use Rattle.std.specs.Str.{bytes_eq}
@@ -30,16 +30,17 @@ first_of None other = other
 abbrev pub condition_in : (ℕ → List ℕ) → List ℕ → Option ℕ
 condition_in text name = find (λ cond. bytes_eq name (text cond)) (range_with_len 0 16)
 
--- the operations that leave the codes, and those that set them
-abbrev pub leaving : List AluOp
-leaving =
+-- the operations that leave the codes or set them, those that leave them, and those that set them
+abbrev pub both : List AluOp
+both =
     ops.ADD ∷ ops.AND ∷ ops.OR ∷ ops.XOR ∷ ops.SUB ∷ ops.ANDN ∷ ops.ORN ∷ ops.XNOR ∷ ops.ADDX ∷ ops.UMUL ∷ ops.SMUL
-    ∷ ops.SUBX ∷ ops.UDIV ∷ ops.SDIV ∷ ops.SLL ∷ ops.SRL ∷ ops.SRA ∷ []
+    ∷ ops.SUBX ∷ ops.UDIV ∷ ops.SDIV ∷ []
+
+abbrev pub leaving : List AluOp
+leaving = both ++ ops.SLL ∷ ops.SRL ∷ ops.SRA ∷ []
 
 abbrev pub setting : List AluOp
-setting =
-    ops.ADD ∷ ops.AND ∷ ops.OR ∷ ops.XOR ∷ ops.SUB ∷ ops.ANDN ∷ ops.ORN ∷ ops.XNOR ∷ ops.ADDX ∷ ops.UMUL ∷ ops.SMUL
-    ∷ ops.SUBX ∷ ops.UDIV ∷ ops.SDIV ∷ ops.TADDcc ∷ ops.TSUBcc ∷ ops.TADDccTV ∷ ops.TSUBccTV ∷ ops.MULScc ∷ []
+setting = both ++ ops.TADDcc ∷ ops.TSUBcc ∷ ops.TADDccTV ∷ ops.TSUBccTV ∷ ops.MULScc ∷ []
 
 abbrev pub alu_in : List AluOp → Bool → List ℕ → Option AluOp
 alu_in alus cc name = find (λ op. bytes_eq name (alu_text op cc)) alus

@@ -179,31 +179,31 @@ fn joined(name: &[u8]) -> Option<Name>
     }
 }
 
+/// The operations that leave the codes or set them.
+const BOTH: [AluOp; 14] = [
+    AluOp::ADD,
+    AluOp::AND,
+    AluOp::OR,
+    AluOp::XOR,
+    AluOp::SUB,
+    AluOp::ANDN,
+    AluOp::ORN,
+    AluOp::XNOR,
+    AluOp::ADDX,
+    AluOp::UMUL,
+    AluOp::SMUL,
+    AluOp::SUBX,
+    AluOp::UDIV,
+    AluOp::SDIV,
+];
+
 /// An operation that leaves the codes.
 fn leaving(name: &[u8]) -> Option<AluOp>
     ensures { result ≡ alu_in leaving false name.now }
 {
-    let leaving = [
-        AluOp::ADD,
-        AluOp::AND,
-        AluOp::OR,
-        AluOp::XOR,
-        AluOp::SUB,
-        AluOp::ANDN,
-        AluOp::ORN,
-        AluOp::XNOR,
-        AluOp::ADDX,
-        AluOp::UMUL,
-        AluOp::SMUL,
-        AluOp::SUBX,
-        AluOp::UDIV,
-        AluOp::SDIV,
-        AluOp::SLL,
-        AluOp::SRL,
-        AluOp::SRA,
-    ];
-    leaving
-        .iter()
+    let others = [AluOp::SLL, AluOp::SRL, AluOp::SRA];
+    BOTH.iter()
+        .chain(others.iter())
         .copied()
         .find(|op| name == alu_name(*op, false))
 }
@@ -212,29 +212,15 @@ fn leaving(name: &[u8]) -> Option<AluOp>
 fn setting(name: &[u8]) -> Option<AluOp>
     ensures { result ≡ alu_in setting true name.now }
 {
-    let setting = [
-        AluOp::ADD,
-        AluOp::AND,
-        AluOp::OR,
-        AluOp::XOR,
-        AluOp::SUB,
-        AluOp::ANDN,
-        AluOp::ORN,
-        AluOp::XNOR,
-        AluOp::ADDX,
-        AluOp::UMUL,
-        AluOp::SMUL,
-        AluOp::SUBX,
-        AluOp::UDIV,
-        AluOp::SDIV,
+    let others = [
         AluOp::TADDcc,
         AluOp::TSUBcc,
         AluOp::TADDccTV,
         AluOp::TSUBccTV,
         AluOp::MULScc,
     ];
-    setting
-        .iter()
+    BOTH.iter()
+        .chain(others.iter())
         .copied()
         .find(|op| name == alu_name(*op, true))
 }

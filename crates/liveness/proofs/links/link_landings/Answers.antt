@@ -1,41 +1,25 @@
-use Rattle.std.proofs.Common.{arith, ◌≡◌, ◌<◌, length, ap}
+use Rattle.std.proofs.Common.{arith, length}
 use Rattle.std.specs.List.{Contains}
 use Rattle.liveness.specs.Search.{LinksOntoBlock}
 use Rattle.liveness.proofs.Adding.{adds_all, adds_next}
-use Rattle.liveness.proofs.Held.{some_words, start_after, start_is, start_of}
-use Rattle.liveness.proofs.Spots.{start_last}
+use Rattle.liveness.proofs.Spots.{few_all, few_next}
 use Rattle.liveness.proofs.links.link_landings.Goals as goal
 
 pub loop-block-preserved : goal.loop-block-preserved
-loop-block-preserved c =
-    let b = c.args.graph.now.blocks in
-    let low : c.loop-block.block < length b.firsts = omega arith in
-    record {
-      added =
-          adds_next (Contains c.args.links.now.items) (Contains c.loop-block.links.items)
-          (Contains c.link_onto_block.new.links.items)
-          (LinksOntoBlock c.args.graph.now c.args.places.now.marks.items) 0 c.loop-block.block (omega arith)
-          c.loop-block.invariant.added c.in_ok-link_onto_block.ensures.added;
-      few =
-          omega (
-            arith,
-            start_is b.words b.firsts c.loop-block.block low,
-            start_after b.words b.firsts c.loop-block.block,
-            some_words b.words b.firsts c.requires.places.of_graph.firsts c.loop-block.block low,
-            c.in_ok-link_onto_block.ensures.few,
-            c.loop-block.invariant.few,
-          );
-    }
+loop-block-preserved c = record {
+  added = adds_next (Contains c.args.links.now.items) (Contains c.loop-block.links.items)
+      (Contains c.link_onto_block.new.links.items) (LinksOntoBlock c.args.graph.now c.args.places.now.marks.items) 0 c.loop-block.block
+      (omega arith) c.loop-block.invariant.added c.in_ok-link_onto_block.ensures.added;
+  few = few_next c.args.graph.now c.requires.places.of_graph.firsts (length c.args.links.now.items) _ _
+      c.loop-block.block (omega arith) c.loop-block.invariant.few c.in_ok-link_onto_block.ensures.few;
+}
 
 pub returns-clause-few : goal.returns-clause-few
 returns-clause-few c =
-    let b = c.args.graph.now.blocks in
-    let end : c.loop-block.block ≡ length b.firsts = omega arith in
-    omega (arith, c.loop-block.invariant.few, ap (start_of b.words b.firsts) end, start_last b.words b.firsts)
+    few_all c.args.graph.now c.requires.places.of_graph.firsts (length c.args.links.now.items) _ c.loop-block.block
+    (omega arith) c.loop-block.invariant.few
 
 pub returns-clause-added : goal.returns-clause-added
 returns-clause-added c =
-    adds_all (Contains c.args.links.now.items) (Contains c.loop-block.links.items)
-    (LinksOntoBlock c.args.graph.now c.args.places.now.marks.items) 0 c.loop-block.block
-    (length c.args.graph.now.blocks.firsts)
-    c.loop-block.invariant.added (omega arith)
+    adds_all (Contains c.args.links.now.items) (Contains c.loop-block.links.items) (LinksOntoBlock c.args.graph.now c.args.places.now.marks.items) 0
+    c.loop-block.block (length c.args.graph.now.blocks.firsts) c.loop-block.invariant.added (omega arith)

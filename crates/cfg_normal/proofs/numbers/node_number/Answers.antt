@@ -1,6 +1,6 @@
 use Rattle.std.proofs.Common.{subst, arith}
 use Rattle.cfg_normal.specs.Graph.{IsNodeIn}
-use Rattle.edit_core.proofs.noting.node_number.Goals as goal
+use Rattle.cfg_normal.proofs.numbers.node_number.Goals as goal
 
 pub overflow_add-result : goal.overflow_add-result
 overflow_add-result c =

@@ -1,0 +1,96 @@
+-- The block that holds a word.
+use Rattle.std.proofs.Common.{◌≡◌, ℕ, zero, suc, ◌-◌, ◌<◌, ◌≤◌, true, false, nat_le, List, length, slice_index, count_by, sym, arith, inl, inr, subst}
+use Rattle.std.specs.List.Sorted.{IsPartitionPoint}
+use Rattle.std.proofs.lemmas.Bool.{cases_order, cases_lt, lt-ltb, le-ltb, le-leb, lt-leb}
+use Rattle.std.proofs.lemmas.Grind.{get_or_default_zero}
+use Rattle.cfg_blocks.specs.Blocks.{AreFirsts, block_end}
+use Rattle.cfg_blocks.proofs.Counts.{count_at_point}
+
+-- the word stands in the block
+pub record IsIn (words : ℕ) (firsts : List ℕ) (word block : ℕ) : Type 0 where
+  pub within : block < length firsts
+  pub above : slice_index firsts block ≤ word
+  pub below : word < block_end firsts words block
+
+module _ (words : ℕ) (firsts : List ℕ) (f : AreFirsts words firsts) where
+  pub ordered : (i j : ℕ) → i ≤ j → j < length firsts → slice_index firsts i ≤ slice_index firsts j
+  ordered i j l h = elim (cases_order i j) [
+    | inl e ↦ rw e (omega arith)
+    | inr o ↦ elim o [ inl less ↦ omega (arith, f.ascend i j less h) | inr more ↦ absurd (omega arith) ]
+  ]
+
+  -- the next block begins where this one ends
+  pub ends_at_next : (i : ℕ) → suc i < length firsts → block_end firsts words i ≡ slice_index firsts (suc i)
+  ends_at_next i l = rw (lt-ltb _ _ l)
+
+  pub ends_at_words : (i : ℕ) → length firsts ≤ suc i → block_end firsts words i ≡ words
+  ends_at_words i m = rw (le-ltb _ _ m)
+
+  pub ends_within : (i : ℕ) → i < length firsts → block_end firsts words i ≤ words
+  ends_within i h = elim (cases_lt (suc i) (length firsts)) [
+    | inl l ↦ omega (arith, ends_at_next i l, f.within (suc i) l)
+    | inr m ↦ omega (arith, ends_at_words i m)
+  ]
+
+  pub some_words : (i : ℕ) → i < length firsts → slice_index firsts i < block_end firsts words i
+  some_words i h = elim (cases_lt (suc i) (length firsts)) [
+    | inl l ↦ omega (arith, ends_at_next i l, f.ascend i (suc i) (omega arith) l)
+    | inr m ↦ omega (arith, ends_at_words i m, f.within i h)
+  ]
+
+  -- a block that begins later begins at the end of this one or after
+  pub apart : (i j : ℕ) → i < j → j < length firsts → block_end firsts words i ≤ slice_index firsts j
+  apart i j l h = omega (arith, ends_at_next i (omega arith), ordered (suc i) j l h)
+
+  -- the block that holds a word is found by counting
+  point : (word i : ℕ) → IsIn words firsts word i
+      → IsPartitionPoint (λ first. nat_le first word ≡ true) (λ first. nat_le first word ≡ false) firsts
+      (suc i)
+  point word i h = (
+    λ k d low l.
+        rw (get_or_default_zero firsts k d (omega (arith, h.within)))
+        (le-leb _ _ (omega (arith, ordered k i (omega arith) h.within, h.above))),
+    λ k d low l.
+        rw (get_or_default_zero firsts k d l)
+        (lt-leb _ _ (omega (arith, apart i k low l, h.below))),
+  )
+
+  pub is_held : (word i : ℕ) → IsIn words firsts word i → count_by (λ first. nat_le first word) firsts - 1 ≡ i
+  is_held word i h =
+      omega (arith, count_at_point (λ first. nat_le first word) firsts (suc i) h.within (point word i h))
+
+  -- and some block holds it
+  pub some_block : (word : ℕ) → word < words → (block : ℕ) × IsIn words firsts word block
+  some_block zero l = (
+    0,
+    record {
+      within = omega (arith, f.some);
+      above = omega (arith, f.begin);
+      below = omega (arith, f.begin, some_words 0 (omega (arith, f.some)));
+    },
+  )
+  some_block (suc word) l =
+      let before = some_block word (omega arith) in
+      next before.0 before.1
+    where
+      next : (i : ℕ) → IsIn words firsts word i → (block : ℕ) × IsIn words firsts (suc word) block
+      next i h = elim (cases_lt (suc word) (block_end firsts words i)) [
+        | inl here ↦ (i, record { within = h.within; above = omega (arith, h.above); below = here })
+        | inr past ↦ elim (cases_lt (suc i) (length firsts)) [
+          | inl more ↦ (
+            suc i,
+            record {
+              within = more;
+              above = omega (arith, ends_at_next i more, h.below);
+              below = omega (arith, ends_at_next i more, h.below, some_words (suc i) more);
+            },
+          )
+          | inr last ↦ absurd (omega (arith, ends_at_words i last))
+        ]
+      ]
+
+  pub in_held : (word : ℕ) → word < words
+      → IsIn words firsts word (count_by (λ first. nat_le first word) firsts - 1)
+  in_held word l =
+      let h = some_block word l in
+      subst (λ (i : ℕ). IsIn words firsts word i) (sym (is_held word h.0 h.1)) h.1

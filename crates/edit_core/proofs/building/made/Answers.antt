@@ -1,0 +1,38 @@
+use Rattle.std.proofs.Common.{refl, ap, ◌∙◌, arith}
+use Rattle.eel_base.specs.CodeText.{Words}
+use Rattle.liveness.specs.Sets.{dead_on}
+use Rattle.image_code.specs.Numbered.{case_numbers, foreign_number}
+use Rattle.image_code.proofs.Fit.{pieces_fit}
+use Rattle.edit_core.proofs.Dead.{rest_is_dead}
+use Rattle.edit_core.proofs.Graphs.{graph_cut}
+use Rattle.edit_core.proofs.Steps.{new_room}
+use Rattle.edit_core.proofs.building.made.Goals as goal
+
+pub live-requires-clause-graph : goal.live-requires-clause-graph
+live-requires-clause-graph c =
+    rw c.text-text.ensures (graph_cut c.args.image.now.text c.args.graph.now c.requires.text c.requires.graph).words
+
+pub pieces-requires-clause-low : goal.pieces-requires-clause-low
+pieces-requires-clause-low c =
+    let room = new_room pieces_fit c.requires (dead_on c.in_ok-live.live) in
+    rw (c.text-text.ensures, c.table_base-table.ensures) (omega (arith, room, c.requires.low))
+
+pub returns : goal.returns
+returns c = record {
+  dead = dead_on c.in_ok-live.live;
+  exact = rest_is_dead c.args.image.now.text c.args.graph.now _ c.in_ok-live.live
+      (rw (← c.text-text.ensures, ← c.deref.ensures.value) c.in_ok-live.ensures);
+  list = c.in_ok-made.ensures.list
+      ∙ rw (
+        c.deref-2.ensures.value,
+        c.cases_base.ensures,
+        c.text-text.ensures,
+        c.table_base-table.ensures,
+        c.base.ensures.address,
+      ) refl;
+  landing = rw (← c.text-text.ensures, ← c.deref-2.ensures.value) c.in_ok-made.ensures.landing;
+  cases = c.in_ok-made.ensures.cases ∙ ap (λ (t : Words). case_numbers t c.args.graph.now) c.text-text.ensures;
+  foreign = c.in_ok-made.ensures.foreign ∙ ap (λ (t : Words). foreign_number t c.args.graph.now) c.text-text.ensures;
+  entry = rw (c.in_ok-made.ensures.entry, c.text-text.ensures, c.entry.ensures.word) refl;
+  begins = c.entry.ensures.inside;
+}

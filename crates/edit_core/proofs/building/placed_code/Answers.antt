@@ -1,0 +1,20 @@
+use Rattle.std.proofs.Common.{◌≡◌, map, slice_index, refl, ap, ◌∙◌}
+use Rattle.eel_base.specs.declared.numbers.Addr.{Addr}
+use Rattle.eel_base.specs.declared.numbers.PieceNo.{PieceNo}
+use Rattle.edit_core.specs.Written.{addr, placement_in}
+use Rattle.edit_core.proofs.building.placed_code.Goals as goal
+
+pub returns-clause-entry : goal.returns-clause-entry
+returns-clause-entry c = ap (λ (a : Addr). a.0) c.place_of-entry.ensures ∙ rw c.deref-10.ensures.value refl
+
+pub returns-clause-leads : goal.returns-clause-leads
+returns-clause-leads c =
+    let at = (placement_in c.in_ok-placed.placed).at in
+    let targets : c.deref-8.result.now
+    ≡ map (λ (n : PieceNo). addr (slice_index at n.0)) c.args.made.now.landing.items =
+    c.deref-8.ensures.value ∙ c.in_ok-targets.ensures ∙ rw (c.deref-3.ensures.value, c.deref-4.ensures.value) refl in
+    let foreign : c.place_of-foreign.result ≡ addr (slice_index at c.args.made.now.foreign.0) =
+    c.place_of-foreign.ensures ∙ rw c.deref-5.ensures.value refl in
+    let cases : c.deref-9.result.now ≡ map (λ (n : PieceNo). slice_index at n.0) c.args.made.now.cases.items =
+    c.deref-9.ensures.value ∙ c.in_ok-cases.ensures ∙ rw (c.deref-6.ensures.value, c.deref-7.ensures.value) refl in
+    rw (← targets, ← foreign, ← cases, ← c.text-text.ensures, ← c.table_base-table.ensures) c.in_ok-tables.ensures

@@ -1,0 +1,20 @@
+use Rattle.std.proofs.Common.{◌^◌, ◌≤◌, ℕ, subst, sym, All, refl}
+use Rattle.tool_kit.specs.Good.{IsGood}
+use Rattle.edit_core.proofs.editing.asked_of.Goals as goal
+
+pub returns-clause-plan : goal.returns-clause-plan
+returns-clause-plan g c = record {
+  kind = c.kind.ensures;
+  marks = refl;
+  cells = c.cells.ensures.cells;
+  snips = c.in_ok-snips.ensures.answers;
+}
+
+pub returns-clause-work : goal.returns-clause-work
+returns-clause-work g c = record {
+  few = subst (λ (n : ℕ). n ≤ 2 ^ 23) (sym c.cells.ensures.cells) c.cells.ensures.sound.few;
+  size = c.in_ok-snips.ensures.answers.size;
+  good = subst (λ (n : ℕ). All (IsGood n) c.in_ok-snips.field-0.items) (sym c.cells.ensures.cells)
+      c.in_ok-snips.ensures.good;
+  counters = c.requires _ (returns-clause-plan g c);
+}
