@@ -84,4 +84,5 @@ impossible notes dump node flow stands is many (faults.Large edge value) h = rec
   whole = λ e l. h.0 e;
   first = subst (λ (edges : ℕ). IsFirst is_large edges (int_at flow) edge.0 value) many h.1;
 }
-impossible notes dump node flow stands is many faults.NoMemory h = tt
+impossible notes dump node flow stands is many faults.NoMemory h =
+    stands.short.theirs.for_them.alike.profile.tool

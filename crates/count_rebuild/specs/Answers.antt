@@ -1,5 +1,5 @@
 -- What rebuilding answers. Each refusal holds that those before it had no cause.
-use Rattle.std.specs.Prelude.{◌≡◌, ◌≢◌, ◌≤◌, ◌<◌, ◌^◌, ℕ, false, List, length, slice_index, None, ℤ, pos, ⊤}
+use Rattle.std.specs.Prelude.{◌≡◌, ◌≢◌, ◌≤◌, ◌<◌, ◌^◌, ℕ, false, List, length, slice_index, None, ℤ, pos}
 use Rattle.elf32_sparc.specs.Notes.{Notes, node_at}
 use Rattle.dump_file.specs.Dump.{Dump}
 use Rattle.count_rebuild.specs.declared.fault.CountFault.{CountFault}
@@ -66,7 +66,8 @@ pub record IsTooLarge (notes : Notes) (dump : Dump) (edge : ℕ) (value : ℤ) :
   pub whole : (e : ℕ) → e < length notes.edges → is_negative (flow e) ≡ false
   pub first : IsFirst is_large (length notes.edges) flow edge value
 
--- a refusal has its cause; want of memory may come at any time
+-- A refusal has its cause. Want of memory comes only where the tool is that of a profile: whether the edges without a cell
+-- are a spanning tree takes memory, and all else is judged after that.
 abbrev pub IsRefused : Notes → Dump → CountFault → Type 0
 IsRefused notes dump faults.NoProfile = ¬ IsProfile notes
 IsRefused notes dump (faults.Version of wanted) = IsOfOther notes dump of wanted
@@ -76,4 +77,4 @@ IsRefused notes dump (faults.TooLong steps) = IsLong notes dump steps
 IsRefused notes dump (faults.Between pc) = IsBetween notes dump pc.0
 IsRefused notes dump (faults.Negative edge value) = IsImpossible notes dump edge.0 value
 IsRefused notes dump (faults.Large edge value) = IsTooLarge notes dump edge.0 value
-IsRefused notes dump faults.NoMemory = ⊤
+IsRefused notes dump faults.NoMemory = notes.tool ≡ 1

@@ -1,5 +1,5 @@
 //! The counts, or why there are none.
-ghost use Rattle.std.specs.Prelude.{◌≡◌, ◌<◌, ◌^◌, length, map, nat_abs, IfOk, IfErr};
+ghost use Rattle.std.specs.Prelude.{◌≡◌, ◌<◌, ◌^◌, length, map, nat_abs, IfOk, IfErr, OnOk};
 ghost use Rattle.notes.specs.Rules.{AreNotes};
 ghost use Rattle.notes.specs.Seen.{edge_seen, notes_seen};
 ghost use Rattle.dump_file.specs.Dump.{Dump as DumpSeen, dump_seen};
@@ -35,6 +35,7 @@ pub fn rebuild(alloc: Global, n: &Notes, d: &Dump) -> Result<Vec<u64>, CountFaul
     ensures counts { IfOk result (λ counts. AreCounts (notes_seen n.now) (dump_seen d.now) counts.items) }
     ensures refused { IfErr result (IsRefused (notes_seen n.now) (dump_seen d.now)) }
 {
+    keep_tool(n)?;
     let links = links(alloc, &n.edges)?;
     let tree = profile_tree(alloc, n, &links)?;
     keep_alike(n, d)?;
@@ -47,16 +48,25 @@ pub fn rebuild(alloc: Global, n: &Notes, d: &Dump) -> Result<Vec<u64>, CountFaul
     whole_numbers(alloc, &flow)
 }
 
-/// The tree of the edges that aren't counted.
-fn profile_tree(alloc: Global, n: &Notes, links: &[Link]) -> Result<Tree, CountFault>
-    requires notes { AreNotes (notes_seen n.now) }
-    requires links { links.now ≡ map (λ edge. link_of (edge_seen edge)) n.now.edges.items }
-    ensures tree { IfOk result (IsTreeOf (notes_seen n.now) links.now) }
+/// Refuses notes of another tool.
+fn keep_tool(n: &Notes) -> Result<(), CountFault>
+    ensures tool { OnOk result (n.now.tool ≡ 1) }
     ensures refused { (d : DumpSeen) → IfErr result (IsRefused (notes_seen n.now) d) }
 {
     if n.tool != PROFILE {
         return Err(CountFault::NoProfile);
     }
+    Ok(())
+}
+
+/// The tree of the edges that aren't counted.
+fn profile_tree(alloc: Global, n: &Notes, links: &[Link]) -> Result<Tree, CountFault>
+    requires notes { AreNotes (notes_seen n.now) }
+    requires tool { n.now.tool ≡ 1 }
+    requires links { links.now ≡ map (λ edge. link_of (edge_seen edge)) n.now.edges.items }
+    ensures tree { IfOk result (IsTreeOf (notes_seen n.now) links.now) }
+    ensures refused { (d : DumpSeen) → IfErr result (IsRefused (notes_seen n.now) d) }
+{
     let is_node = nodes(alloc, n)?;
     let counted = counted(alloc, &n.edges)?;
     match span(alloc, &is_node, links, &counted, n.entry as usize)? {

@@ -47,7 +47,7 @@ module _ (bits : ℕ) (notes : Notes) (walk : List ℕ) (dump : Dump) (is : IsOf
       other.differ (other.has ∙ is.ring.size ∙ sym is.size ∙ sym other.wants)
   refused (faults.Between pc) between = (between.at, between.between)
   refused (faults.Entry cell value) unknown = none-some unknown.place (sym good ∙ unknown.bad)
-  refused faults.NoMemory whole = tt
+  refused faults.NoMemory whole = whole
 
   last : (edges : List ℕ) → AreLast notes dump edges → edges ≡ last_of bits walk
   last edges told =

@@ -8,7 +8,7 @@ use Rattle.edge_ring.specs.declared.fault.RingFault.{RingFault}
 use Rattle.edge_ring.specs.declared.fault.RingFault.TheVariants as faults
 use Rattle.edge_ring.specs.Answers.{AreLast, IsRefused}
 use Rattle.edge_ring.specs.Ring.{IsRingOf, edges_in, last_of, ring_on}
-use Rattle.edge_ring.specs.Traces.{IsTrace}
+use Rattle.edge_ring.specs.Traces.{IsTrace, IsWhole}
 
 -- The snippets work on the ring's cells. These begin as zeros, the ring of no walk; each edge that is completed makes
 -- of the ring of a walk that of the walk with this edge, whatever the registers hold. What the ring of a walk holds are
@@ -34,10 +34,10 @@ pub record IsOfWalk (bits : ℕ) (notes : Notes) (walk : List ℕ) (dump : Dump)
   pub version : dump.version ≡ notes.version
   pub length : notes.version ≡ 2 → dump.length ≡ notes.length
 
--- It may be refused where the run stands between places, and for want of memory.
+-- It may be refused where the run stands between places; and for want of memory, once all is judged.
 abbrev pub MayRefuse : Notes → Dump → RingFault → Type 0
 MayRefuse notes dump (faults.Between pc) = (pc.0 ≡ dump.pc) × (node_at notes dump.pc ≡ None)
-MayRefuse notes dump faults.NoMemory = Unit {0}
+MayRefuse notes dump faults.NoMemory = IsWhole notes dump
 MayRefuse notes dump _ = ⊥
 
 -- It is refused for nothing else. What is answered are the last edges of the walk.

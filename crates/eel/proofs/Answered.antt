@@ -1,7 +1,7 @@
 -- What there is after a call, by its status.
-use Rattle.std.proofs.Common.{◌≡◌, ℕ, ◌⊎◌, inl, inr, Some, None, ap, sym, subst, arith}
-use Rattle.eel.specs.Command.{Command, EditPlain, EditScript, EditEvery, Run, Show, Restore, EditProfile, Counts, Visits, Demo, EditWeighed, ListWords, PutWords, Unknown, EditTrace, Trace}
-use Rattle.eel.specs.Outcome.{Shows, shown, failed, status_of}
+use Rattle.std.proofs.Common.{◌≡◌, ℕ, ◌≤◌, ◌⊎◌, inl, inr, Some, None, ap, sym, subst, arith}
+use Rattle.eel.specs.Command.{Command, EditPlain, EditScript, EditEvery, Run, Show, Restore, EditProfile, ReportRun, Demo, EditWeighed, ListWords, PutWords, Unknown, EditTrace}
+use Rattle.eel.specs.Outcome.{Outcome, Shows, Stream, shown, failed, status_of}
 use Rattle.eel.specs.Answers.{Ran, IsDone, IsUnrefused, IsRefusal, IsUnchanged, HasFailed, WasWanting, meaning_of, unknown_means}
 use Rattle.eel.specs.Answers.Shared.{Outside, with_err}
 use Rattle.eel.proofs.Later.{rose-before, rose-after}
@@ -10,19 +10,18 @@ use Rattle.eel.proofs.Editing.{edit_by_status}
 use Rattle.eel.proofs.Scripting.{script_by_status}
 use Rattle.eel.proofs.Running.{run_by_status}
 use Rattle.eel.proofs.Dumping.{dump_by_status}
+use Rattle.eel.specs.Answers.Edit.{plain_plan}
 use Rattle.eel.specs.Answers.Every.{every_word}
 use Rattle.eel.specs.Answers.List.{listed_of}
 use Rattle.eel.specs.Answers.Profile.{no_words}
 use Rattle.eel.specs.Answers.Show.{shown_of}
+use Rattle.eel.specs.Answers.Trace.{trace_plan}
 use Rattle.eel.proofs.Assembling.{words_by_status}
 use Rattle.eel.proofs.Printing.{print_by_status}
 use Rattle.eel.proofs.WeighedEdits.{weighed_by_status}
 use Rattle.eel.proofs.Restoring.{restore_by_status}
 use Rattle.eel.proofs.ProfileEdits.{profile_by_status}
-use Rattle.eel.proofs.Counted.{counts_by_status}
-use Rattle.eel.proofs.Visited.{visits_by_status}
-use Rattle.eel.proofs.TraceEdits.{trace_edit_by_status}
-use Rattle.eel.proofs.TellingEdges.{trace_by_status}
+use Rattle.eel.proofs.Reported.{report_by_status}
 use Rattle.eel.proofs.Telling.{demo_by_status, status_told}
 
 unknown_by_status : IsByStatus unknown_means
@@ -37,7 +36,7 @@ unknown_by_status = record {
 }
 
 by_status : (command : Command) → IsByStatus (meaning_of command)
-by_status (EditPlain input output) = edit_by_status input output
+by_status (EditPlain input output) = edit_by_status plain_plan input output
 by_status (EditScript input output script) = script_by_status input output script
 by_status (Run file limit None args) = run_by_status file limit args
 by_status (Run file limit (Some dump) args) = dump_by_status file limit dump args
@@ -48,12 +47,23 @@ by_status (EditWeighed input output weights) = weighed_by_status input output we
 by_status (Restore written output) = restore_by_status written output
 by_status (EditProfile input output) = profile_by_status no_words input output
 by_status (EditEvery input output) = profile_by_status every_word input output
-by_status (Counts written dump) = counts_by_status written dump
-by_status (Visits written dump) = visits_by_status written dump
-by_status (EditTrace input output bits) = trace_edit_by_status input output bits
-by_status (Trace written dump) = trace_by_status written dump
+by_status (EditTrace input output bits) = edit_by_status (trace_plan bits) input output
+by_status (ReportRun report written dump) = report_by_status report written dump
 by_status (Demo number routines) = demo_by_status number routines
 by_status Unknown = unknown_by_status
+
+-- a call of the program
+pub has_run : (command : Command) (old new : Outside) (status : ℕ) (outcome : Outcome) (err : Stream)
+    → (meaning_of command).follows old (with_err new err) outcome → Shows outcome status err new.err
+    → old.err.faults ≤ err.faults → err.faults ≤ new.err.faults → Ran command old new status
+has_run command old new status outcome err follows shows later at_last = record {
+  outcome = outcome;
+  err = err;
+  follows = follows;
+  shown = shows;
+  later = later;
+  at_last = at_last;
+}
 
 pub done_shown : (command : Command) (old new : Outside) (status : ℕ) → Ran command old new status
     → status ≡ 0 → IsDone command old new
@@ -92,10 +102,8 @@ unrefused_shown (EditWeighed input output weights) old new status r = tt
 unrefused_shown (Restore written output) old new status r = tt
 unrefused_shown (EditProfile input output) old new status r = tt
 unrefused_shown (EditEvery input output) old new status r = tt
-unrefused_shown (Counts written dump) old new status r = tt
-unrefused_shown (Visits written dump) old new status r = tt
+unrefused_shown (ReportRun report written dump) old new status r = tt
 unrefused_shown (EditTrace input output bits) old new status r = tt
-unrefused_shown (Trace written dump) old new status r = tt
 unrefused_shown Unknown old new status r = tt
 
 pub wanting_shown : (command : Command) (old new : Outside) (status : ℕ) → Ran command old new status

@@ -7,19 +7,23 @@ use Rattle.v8_step.specs.State.{State}
 use Rattle.v8_process.specs.Start.{start_of}
 use Rattle.v8_runner.specs.declared.Stop.{Stop}
 use Rattle.v8_runner.specs.declared.Stop.TheVariants.{Limit, Ended, SinkFault}
-use Rattle.eel.specs.Outcome.{Outcome, Done, Stopped, NoNotes, BadNotes, OutOfMemory, DeviceFault, Stream, status_of, line_of}
+use Rattle.eel.specs.Outcome.{Outcome, Done, Stopped, BadNotes, OutOfMemory, DeviceFault, Stream, status_of, line_of}
 use Rattle.eel.specs.Answers.Shared.{Feed, Outside, Store, WasRead, outside, store, with_err, written_limit}
 use Rattle.eel.specs.Answers.Run.{HasRun, IsRun, WasBroken, WasFed, stopped_of, was_broken}
-use Rattle.eel.specs.Answers.Dump.{Dumps, unread, unfed, refused, unnoted, ran, HasPutAll, HasStopped, IsDumped, IsNotNoted, IsPutAfter, WasDumped, dump_after, dump_means}
+use Rattle.eel.specs.Answers.Dump.{Dumps, unread, unfed, refused, unnoted, ran, AreUnmapped, HasPutAll, HasStopped, IsDumped, IsNotNoted, IsPutAfter, WasDumped, dump_after, dump_means}
 use Rattle.eel.proofs.Later.{appended-nil, put-later}
 use Rattle.eel.proofs.Meanings.{AnyRose, IsByStatus, IsBad, bad, refusal_is_bad, refusal_not_wanting, wanting_is_bad, unread_not_done, unread_failed}
+use Rattle.eel.proofs.Restoring.{unnoted_is_bad}
 use Rattle.eel.proofs.Running.{not_run, unfed_failed, unfed_not_done}
 
+unmapped_is_bad : (name bytes : List ℕ) (outcome : Outcome) → AreUnmapped name bytes outcome → IsBad (status_of outcome)
+unmapped_is_bad name bytes (BadNotes named at) is = bad 65 (lit≤ tt) (lit≤ tt)
+unmapped_is_bad name bytes OutOfMemory is = bad 70 (lit≤ tt) (lit≤ tt)
+unmapped_is_bad name bytes _ is = absurd is
+
 not_noted : (name bytes : List ℕ) (outcome : Outcome) → IsNotNoted name bytes outcome → IsBad (status_of outcome)
-not_noted name bytes (NoNotes named) is = bad 65 (lit≤ tt) (lit≤ tt)
-not_noted name bytes (BadNotes named at) is = bad 65 (lit≤ tt) (lit≤ tt)
-not_noted name bytes OutOfMemory is = bad 70 (lit≤ tt) (lit≤ tt)
-not_noted name bytes _ is = absurd is
+not_noted name bytes outcome (inl is) = unnoted_is_bad name bytes outcome is
+not_noted name bytes outcome (inr is) = unmapped_is_bad name bytes outcome is
 
 -- ---- the run itself, from a state
 

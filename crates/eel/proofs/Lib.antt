@@ -1,6 +1,5 @@
 pub mod Answered
 pub mod Cells
-pub mod Counted
 pub mod Dumping
 pub mod EditedProfiles
 pub mod Editing
@@ -9,15 +8,17 @@ pub mod ExactVisits
 pub mod Few
 pub mod Missed
 pub mod NotEvery
-pub mod Visited
 pub mod LastOfWalk
 pub mod Later
 pub mod Lines
 pub mod Marked
 pub mod Made
+pub mod Makings
+pub mod MakingsBy
 pub mod Meanings
 pub mod ProfileEdits
 pub mod Profiled
+pub mod Reported
 pub mod Restoring
 pub mod Running
 pub mod Scripting
@@ -26,8 +27,7 @@ pub mod Assembling
 pub mod WeighedEdits
 pub mod Tame
 pub mod Telling
-pub mod TellingEdges
 pub mod ToldEdges
 pub mod Tools
-pub mod TraceEdits
 pub mod Traced
+pub mod Unreported

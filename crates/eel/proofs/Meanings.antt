@@ -1,9 +1,10 @@
 -- What is true of each command, by the status: the statements, and what all commands share.
-use Rattle.std.proofs.Common.{◌≡◌, ℕ, ◌≤◌, ◌⊎◌, inl, inr, List, [], refl, arith}
+use Rattle.std.proofs.Common.{◌≡◌, ℕ, ◌≤◌, ◌⊎◌, inl, inr, List, [], refl, ap, ◌∙◌, arith}
 use Rattle.eel_base.specs.Outside.{Rose, IsMissing, appended, stored}
 use Rattle.eel.specs.Outcome.{Outcome, Done, TooLong, OutOfMemory, DeviceFault, Stream, status_of, line_of}
 use Rattle.eel.specs.Answers.{IsRefusal, IsUnchanged}
-use Rattle.eel.specs.Answers.Shared.{Store, Outside, Meaning, with_err, IsUnread, IsPut, IsPrinted}
+use Rattle.eel.specs.Answers.Shared.{Store, Outside, Meaning, with_err, IsUnread, IsPut, IsPrinted, files_mean, prints_mean}
+use Rattle.eel.proofs.Later.{appended-nil}
 
 -- a count of faults rose
 abbrev pub AnyRose : Outside → Outside → Type 0 → Type 0
@@ -103,3 +104,52 @@ pub printed_failed : (old new : Stream) (bytes : List ℕ) (outcome : Outcome)
 printed_failed old new bytes Done is fails = absurd (omega arith)
 printed_failed old new bytes DeviceFault is fails = is.0
 printed_failed old new bytes _ is fails = absurd is
+
+-- ---- commands that read and write files, and do nothing else
+
+pub record AreByStatus (follows : Store → Store → Outcome → Type 0) (does : Store → Store → Type 0)
+    (lacks : Store → Type 0) : Type 0 where
+  pub done : (old new : Store) (outcome : Outcome) → follows old new outcome → status_of outcome ≡ 0
+      → (line_of outcome ≡ []) × does old new
+  pub unchanged : (old new : Store) (outcome : Outcome) → follows old new outcome → IsBad (status_of outcome)
+      → new.held ≡ old.held
+  pub failed : (old new : Store) (outcome : Outcome) → follows old new outcome → status_of outcome ≡ 74
+      → Rose old.faults new.faults ⊎ lacks old
+
+pub files_by_status : (follows : Store → Store → Outcome → Type 0) (does : Store → Store → Type 0)
+    (lacks : Store → Type 0) → AreByStatus follows does lacks → IsByStatus (files_mean follows does lacks)
+files_by_status follows does lacks are = record {
+  done = λ old new err outcome is zero took.
+      let (line, done) = are.done old.files new.files outcome is.0 zero in
+      (done, is.1, (is.2.0, took ∙ ap (appended err.taken) line ∙ appended-nil err.taken ∙ is.2.1));
+  refused = λ old new outcome is refusal. record {
+    files = are.unchanged old.files new.files outcome is.0 (refusal_is_bad _ refusal);
+    out = ap (λ s. s.taken) is.2.0;
+  };
+  wanting = λ old new err outcome is wants.
+      (are.unchanged old.files new.files outcome is.0 (wanting_is_bad _ wants), ap (λ s. s.taken) is.2.0);
+  failed = λ old new outcome is fails. elim (are.failed old.files new.files outcome is.0 fails)
+      [ inl rose ↦ inl rose | inr lacks ↦ inr (inr (inr (inr lacks))) ];
+}
+
+-- ---- commands that read files and print, and do nothing else
+
+pub record ArePrintedByStatus (follows : Outside → Outside → Outcome → Type 0) (does : Outside → Outside → Type 0)
+    (lacks : Store → Type 0) : Type 0 where
+  pub done : (old new : Outside) (err : Stream) (outcome : Outcome) → follows old (with_err new err) outcome
+      → status_of outcome ≡ 0 → new.err.taken ≡ appended err.taken (line_of outcome) → does old new
+  pub silent : (old new : Outside) (outcome : Outcome) → follows old new outcome → IsBad (status_of outcome)
+      → new.out.taken ≡ old.out.taken
+  pub failed : (old new : Outside) (outcome : Outcome) → follows old new outcome → status_of outcome ≡ 74
+      → AnyRose old new (lacks old.files)
+
+pub prints_by_status : (follows : Outside → Outside → Outcome → Type 0) (does : Outside → Outside → Type 0)
+    (lacks : Store → Type 0) → ArePrintedByStatus follows does lacks → IsByStatus (prints_mean follows does lacks)
+prints_by_status follows does lacks are = record {
+  done = λ old new err outcome is zero took. (are.done old new err outcome is.0 zero took, is.1, is.2);
+  refused = λ old new outcome is refusal.
+      record { files = is.1; out = are.silent old new outcome is.0 (refusal_is_bad _ refusal) };
+  wanting = λ old new err outcome is wants.
+      (is.1, are.silent old (with_err new err) outcome is.0 (wanting_is_bad _ wants));
+  failed = λ old new outcome is fails. are.failed old new outcome is.0 fails;
+}

@@ -6,7 +6,7 @@ use Rattle.eel.specs.Answers.Shared.{Outside, with_err, edit_limit}
 use Rattle.eel.specs.Answers.Files.{IsNotSound}
 use Rattle.eel.specs.Answers.Print.{Prints, unread, refused, printed, WerePrinted, print_means}
 use Rattle.eel.proofs.Later.{appended-nil}
-use Rattle.eel.proofs.Meanings.{AnyRose, IsByStatus, IsBad, bad, refusal_is_bad, wanting_is_bad, unread_not_done, unread_failed, printed_done, printed_not_refused, printed_failed}
+use Rattle.eel.proofs.Meanings.{AnyRose, IsByStatus, IsBad, bad, prints_by_status, unread_not_done, unread_failed, printed_done, printed_not_refused, printed_failed}
 
 not_sound : (name bytes : List ℕ) (outcome : Outcome) → IsNotSound name bytes outcome → IsBad (status_of outcome)
 not_sound name bytes (BadFile named code) is = bad 65 (lit≤ tt) (lit≤ tt)
@@ -42,11 +42,6 @@ module _ (lines_of : List ℕ → List ℕ) where
   failed file old new outcome (printed bytes read sound is same) fails = inr (inr (inl (printed_failed old.out new.out (lines_of bytes) outcome is fails)))
 
   pub print_by_status : (file : List ℕ) → IsByStatus (print_means lines_of file)
-  print_by_status file = record {
-    done = λ old new err outcome follows zero took. (done file old new err outcome follows.0 zero took, follows.1, follows.2);
-    refused = λ old new outcome follows refusal.
-        record { files = follows.1; out = silent file old new outcome follows.0 (refusal_is_bad _ refusal) };
-    wanting = λ old new err outcome follows wants.
-        (follows.1, silent file old (with_err new err) outcome follows.0 (wanting_is_bad _ wants));
-    failed = λ old new outcome follows fails. failed file old new outcome follows.0 fails;
-  }
+  print_by_status file =
+      prints_by_status (Prints lines_of file) (WerePrinted lines_of file) (λ files. IsMissing files.held file)
+      (record { done = done file; silent = silent file; failed = failed file })

@@ -1,6 +1,5 @@
 -- An edit by a script, by its status.
-use Rattle.std.proofs.Common.{◌≡◌, ℕ, ◌⊎◌, inl, inr, List, [], length, refl, ap, subst, ◌∙◌, lit≤}
-use Rattle.eel_base.specs.Outside.{IsMissing, appended}
+use Rattle.std.proofs.Common.{◌≡◌, ℕ, List, length, refl, ap, subst, ◌∙◌, lit≤}
 use Rattle.snippets.specs.declared.script.Script.{Script}
 use Rattle.snippets.specs.declared.script.ScriptFault.{ScriptFault}
 use Rattle.snippets.specs.declared.script.ScriptFault.TheVariants as script_faults
@@ -10,13 +9,12 @@ use Rattle.snippets.specs.Scripts.{IsFault, IsGood, snips_of}
 use Rattle.edit_core.specs.declared.taking.EditFault.{EditFault}
 use Rattle.edit_core.specs.declared.taking.EditFault.TheVariants as faults
 use Rattle.edit_core.specs.Taken.{EditRefuses, IsCramped}
-use Rattle.eel.specs.Outcome.{Outcome, BadFile, BadLine, NoRoom, OutOfMemory, status_of, line_of}
+use Rattle.eel.specs.Outcome.{Outcome, BadFile, BadLine, NoRoom, OutOfMemory, status_of}
 use Rattle.eel.specs.Answers.Files.{IsNotSound, IsSound}
-use Rattle.eel.specs.Answers.Shared.{Store, Outside, edit_limit}
 use Rattle.eel.specs.Answers.Edit.{edges_in, refusal_of}
-use Rattle.eel.specs.Answers.Script.{Scripts, unread, unscripted, refused, put, HasBadLine, IsBadScript, IsNotScripted, IsReadAs, IsScriptEdited, IsScripted, script_limit, script_means, script_plan, script_refusal_of}
-use Rattle.eel.proofs.Later.{appended-nil}
-use Rattle.eel.proofs.Meanings.{AnyRose, IsByStatus, IsBad, bad, refusal_is_bad, wanting_is_bad, unread_not_done, unread_failed, put_done, put_refused, put_failed}
+use Rattle.eel.specs.Answers.Script.{HasBadLine, IsBadScript, IsNotScripted, IsReadAs, IsScripted, script_means, script_plan, script_refusal_of, scripting}
+use Rattle.eel.proofs.MakingsBy.{lines_by_status}
+use Rattle.eel.proofs.Meanings.{IsBad, IsByStatus, bad}
 
 -- ---- what is refused says why
 
@@ -78,62 +76,5 @@ not_scripted input bytes script lines (NoRoom named needed had) is = bad 69 (lit
 not_scripted input bytes script lines OutOfMemory is = bad 70 (lit≤ tt) (lit≤ tt)
 not_scripted input bytes script lines _ is = absurd is
 
-module _ (input output script : List ℕ) where
-  done : (old new : Store) (outcome : Outcome) → Scripts input output script old new outcome
-      → status_of outcome ≡ 0 → (line_of outcome ≡ []) × IsScriptEdited input output script old new
-  done old new outcome (unread is same) zero = absurd (unread_not_done old new input edit_limit outcome is zero)
-  done old new outcome (unscripted bytes read is same) zero =
-      absurd (unread_not_done old new script script_limit outcome is zero)
-  done old new outcome (refused bytes read lines script_read is same) zero =
-      absurd ((not_scripted input bytes script lines outcome is).not_done zero)
-  done old new outcome (put bytes read lines script_read plan scripted file made is) zero =
-      let (line, held) = put_done old new output file outcome is zero in (
-        line,
-        record {
-          bytes = bytes;
-          read = read;
-          lines = lines;
-          script_read = script_read;
-          plan = plan;
-          scripted = scripted;
-          file = file;
-          made = made;
-          held = held;
-        },
-      )
-
-  unchanged : (old new : Store) (outcome : Outcome) → Scripts input output script old new outcome
-      → IsBad (status_of outcome) → new.held ≡ old.held
-  unchanged old new outcome (unread is same) other = same
-  unchanged old new outcome (unscripted bytes read is same) other = same
-  unchanged old new outcome (refused bytes read lines script_read is same) other = same
-  unchanged old new outcome (put bytes read lines script_read plan scripted file made is) other =
-      put_refused old new output file outcome is other
-
-  abbrev Lacks : Outside → Type 0
-  Lacks old = IsMissing old.files.held input ⊎ IsMissing old.files.held script
-
-  failed : (old new : Outside) (outcome : Outcome) → Scripts input output script old.files new.files outcome
-      → status_of outcome ≡ 74 → AnyRose old new (Lacks old)
-  failed old new outcome (unread is same) fails =
-      elim (unread_failed old.files new.files input edit_limit outcome is fails) [ inl lacks ↦ inr (inr (inr (inr (inl lacks)))) | inr rose ↦ inl rose ]
-  failed old new outcome (unscripted bytes read is same) fails =
-      elim (unread_failed old.files new.files script script_limit outcome is fails) [ inl lacks ↦ inr (inr (inr (inr (inr lacks)))) | inr rose ↦ inl rose ]
-  failed old new outcome (refused bytes read lines script_read is same) fails =
-      absurd ((not_scripted input bytes script lines outcome is).not_failed fails)
-  failed old new outcome (put bytes read lines script_read plan scripted file made is) fails =
-      inl (put_failed old.files new.files output file outcome is fails)
-
-  pub script_by_status : IsByStatus (script_means input output script)
-  script_by_status = record {
-    done = λ old new err outcome follows zero took.
-        let (line, is) = done old.files new.files outcome follows.0 zero in
-        (is, follows.1, (follows.2.0, took ∙ ap (appended err.taken) line ∙ appended-nil err.taken ∙ follows.2.1));
-    refused = λ old new outcome follows refusal. record {
-      files = unchanged old.files new.files outcome follows.0 (refusal_is_bad _ refusal);
-      out = ap (λ s. s.taken) follows.2.0;
-    };
-    wanting = λ old new err outcome follows wants.
-        (unchanged old.files new.files outcome follows.0 (wanting_is_bad _ wants), ap (λ s. s.taken) follows.2.0);
-    failed = λ old new outcome follows fails. failed old new outcome follows.0 fails;
-  }
+pub script_by_status : (input output script : List ℕ) → IsByStatus (script_means input output script)
+script_by_status = lines_by_status scripting not_scripted

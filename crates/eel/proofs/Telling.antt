@@ -5,7 +5,7 @@ use Rattle.eel.specs.Outcome.{Outcome, Done, DeviceFault, Stream, status_of, lin
 use Rattle.eel.specs.Answers.Shared.{Outside, IsPrinted, with_err}
 use Rattle.eel.specs.Answers.Demo.{Tells, wanting, printed, WasTold, demo_means}
 use Rattle.eel.proofs.Later.{appended-nil}
-use Rattle.eel.proofs.Meanings.{AnyRose, IsByStatus, IsBad, refusal_is_bad, wanting_is_bad, printed_done, printed_not_refused, printed_failed}
+use Rattle.eel.proofs.Meanings.{AnyRose, IsByStatus, IsBad, prints_by_status, printed_done, printed_not_refused, printed_failed}
 
 module _ (number routines : ℕ) where
   done : (old new : Outside) (err : Stream) (outcome : Outcome) → Tells number routines old (with_err new err) outcome
@@ -46,12 +46,6 @@ module _ (number routines : ℕ) where
       by _ is = absurd is
 
   pub demo_by_status : IsByStatus (demo_means number routines)
-  demo_by_status = record {
-    done = λ old new err outcome follows zero took.
-        (done old new err outcome follows.0 zero took, follows.1, follows.2);
-    refused = λ old new outcome follows refusal.
-        record { files = follows.1; out = silent old new outcome follows.0 (refusal_is_bad _ refusal) };
-    wanting = λ old new err outcome follows wants.
-        (follows.1, silent old (with_err new err) outcome follows.0 (wanting_is_bad _ wants));
-    failed = λ old new outcome follows fails. failed old new outcome follows.0 fails;
-  }
+  demo_by_status =
+      prints_by_status (Tells number routines) (WasTold number routines) (λ files. ⊥)
+      (record { done = done; silent = silent; failed = failed })

@@ -1,6 +1,9 @@
 -- What comes of the words of a call, and why, and what is there afterwards: each command has a file.
 pub mod Shared
 pub mod Files
+pub mod Noted
+pub mod Make
+pub mod MakeBy
 pub mod Edit
 pub mod Script
 pub mod Tool
@@ -18,6 +21,7 @@ pub mod Counts
 pub mod Visits
 pub mod Trace
 pub mod LastEdges
+pub mod Report
 pub mod Demo
 use Rattle.std.specs.Prelude.{◌≡◌, ℕ, ◌≤◌, ◌⊎◌, Some, None}
 use Rattle.eel_base.specs.Outside.{Rose}
@@ -36,10 +40,8 @@ use Rattle.eel.specs.Answers.Restore.{restore_means}
 use Rattle.eel.specs.Answers.Profile.{no_words, profile_means}
 use Rattle.eel.specs.Answers.Every.{every_means}
 use Rattle.eel.specs.Answers.Weighed.{weighed_means}
-use Rattle.eel.specs.Answers.Counts.{counts_means}
-use Rattle.eel.specs.Answers.Visits.{visits_means}
+use Rattle.eel.specs.Answers.Report.{report_means}
 use Rattle.eel.specs.Answers.Trace.{trace_edit_means}
-use Rattle.eel.specs.Answers.LastEdges.{trace_means}
 use Rattle.eel.specs.Answers.Demo.{demo_means}
 
 -- words outside the grammar
@@ -65,9 +67,7 @@ meaning_of (words.EditProfile input output) = profile_means no_words input outpu
 meaning_of (words.EditEvery input output) = every_means input output
 meaning_of (words.EditWeighed input output weights) = weighed_means input output weights
 meaning_of (words.EditTrace input output bits) = trace_edit_means input output bits
-meaning_of (words.Counts written dump) = counts_means written dump
-meaning_of (words.Visits written dump) = visits_means written dump
-meaning_of (words.Trace written dump) = trace_means written dump
+meaning_of (words.ReportRun report written dump) = report_means report written dump
 meaning_of (words.Demo number routines) = demo_means number routines
 meaning_of words.Unknown = unknown_means
 

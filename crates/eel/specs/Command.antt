@@ -6,6 +6,8 @@ use Rattle.std.specs.Str.{bytes_eq}
 pub use Rattle.v8_process.specs.Arguments.{texts}
 use Rattle.v8_process.specs.Arguments.{AreArguments}
 use Rattle.v8_process.specs.Start.{strings}
+use Rattle.eel.specs.declared.report.Report.{Report}
+use Rattle.eel.specs.declared.report.Report.TheVariants as reports
 use Rattle.eel.specs.declared.command.Command as declared
 use Rattle.eel.specs.declared.command.Command.TheVariants as variants
 
@@ -32,12 +34,8 @@ pub data Command : Type 0 where
   PutWords : (listing output : List ℕ) → Command
   -- restore WRITTEN OUTPUT
   Restore : (written output : List ℕ) → Command
-  -- counts WRITTEN DUMP
-  Counts : (written dump : List ℕ) → Command
-  -- visits WRITTEN DUMP
-  Visits : (written dump : List ℕ) → Command
-  -- trace WRITTEN DUMP
-  Trace : (written dump : List ℕ) → Command
+  -- counts WRITTEN DUMP, visits WRITTEN DUMP, trace WRITTEN DUMP
+  ReportRun : (report : Report) (written dump : List ℕ) → Command
   -- demo NUMBER ROUTINES
   Demo : (number routines : ℕ) → Command
   -- words outside the grammar
@@ -163,23 +161,11 @@ abbrev pub restore_of : List (List ℕ) → Command
 restore_of (written ∷ output ∷ []) = Restore written output
 restore_of _ = Unknown
 
--- ---- counts
+-- ---- counts, visits, trace
 
-abbrev pub counts_of : List (List ℕ) → Command
-counts_of (written ∷ dump ∷ []) = Counts written dump
-counts_of _ = Unknown
-
--- ---- visits
-
-abbrev pub visits_of : List (List ℕ) → Command
-visits_of (written ∷ dump ∷ []) = Visits written dump
-visits_of _ = Unknown
-
--- ---- trace
-
-abbrev pub trace_of : List (List ℕ) → Command
-trace_of (written ∷ dump ∷ []) = Trace written dump
-trace_of _ = Unknown
+abbrev pub report_of : Report → List (List ℕ) → Command
+report_of report (written ∷ dump ∷ []) = ReportRun report written dump
+report_of report _ = Unknown
 
 -- ---- demo
 
@@ -210,9 +196,9 @@ command_of (verb ∷ words) =
     if bytes_eq verb (codes "list") then list_of words else
     if bytes_eq verb (codes "words") then words_of words else
     if bytes_eq verb (codes "restore") then restore_of words else
-    if bytes_eq verb (codes "counts") then counts_of words else
-    if bytes_eq verb (codes "visits") then visits_of words else
-    if bytes_eq verb (codes "trace") then trace_of words else
+    if bytes_eq verb (codes "counts") then report_of reports.Counts words else
+    if bytes_eq verb (codes "visits") then report_of reports.Visits words else
+    if bytes_eq verb (codes "trace") then report_of reports.LastEdges words else
     if bytes_eq verb (codes "demo") then demo_of words else Unknown
 
 -- the arguments of a run are ones that a program can be given, as many routines are asked for as can be made, and a ring
@@ -240,9 +226,7 @@ command_seen (variants.EditWeighed input output weights) = EditWeighed input.now
 command_seen (variants.EditEvery input output) = EditEvery input.now output.now
 command_seen (variants.ListWords file) = ListWords file.now
 command_seen (variants.PutWords listing output) = PutWords listing.now output.now
-command_seen (variants.Counts written dump) = Counts written.now dump.now
-command_seen (variants.Visits written dump) = Visits written.now dump.now
+command_seen (variants.ReportRun report written dump) = ReportRun report written.now dump.now
 command_seen (variants.EditTrace input output bits) = EditTrace input.now output.now bits
-command_seen (variants.Trace written dump) = Trace written.now dump.now
 command_seen (variants.Demo number routines) = Demo number routines
 command_seen variants.Unknown = Unknown

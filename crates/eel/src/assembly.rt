@@ -3,8 +3,9 @@ ghost use Rattle.std.specs.Prelude.{◌≡◌, ◌≤◌, IfOk, IfErr};
 ghost use Rattle.elf32_write.specs.Bytes.{words_bytes};
 ghost use Rattle.v8_text.specs.Listings.{IsListing};
 ghost use Rattle.eel.specs.Outcome.{outcome_seen};
+ghost use Rattle.eel.specs.Answers.Make.{Makes};
 ghost use Rattle.eel.specs.Answers.Shared.{store};
-ghost use Rattle.eel.specs.Answers.Words.{Assembles, IsAssembled, IsNotListing};
+ghost use Rattle.eel.specs.Answers.Words.{IsAssembled, IsNotListing, assembling};
 
 use crate::outcome::{LineCause, Outcome};
 use crate::texts::{fetch_file, put_file};
@@ -23,7 +24,7 @@ pub fn assemble_words<'a, F: Files>(
     listing: &'a str,
     output: &str,
 ) -> Outcome<'a>
-    ensures assembles { Assembles listing.now output.now (store (F.held files.old) (F.faults files.old))
+    ensures assembles { Makes assembling listing.now output.now (store (F.held files.old) (F.faults files.old))
         (store (F.held files.new) (F.faults files.new)) (outcome_seen result) }
     ensures later { F.faults files.old ≤ F.faults files.new }
 {

@@ -6,8 +6,9 @@ ghost use Rattle.std.specs.Str.{bytes_eq};
 ghost use Rattle.v8_step.specs.Valid.{AreBytes};
 ghost use Rattle.v8_process.specs.Arguments.{AreArguments};
 ghost use Rattle.v8_process.specs.Start.{strings};
-ghost use Rattle.eel.specs.Command.{KeepsLimits, command_of, command_seen, edit_of, list_of, tool_of, tool_with, words_of, run_of, options_of, after_limit, after_dump, limited, arguments_of, are_few, is_digit, limit_of, number_of, name_seen, restore_of, counts_of, demo_of, demo_with as demo_with_of, show_of, texts, unlimited, visits_of, bits_of, trace_of, trace_with};
+ghost use Rattle.eel.specs.Command.{KeepsLimits, command_of, command_seen, edit_of, list_of, tool_of, tool_with, words_of, run_of, options_of, after_limit, after_dump, limited, arguments_of, are_few, is_digit, limit_of, number_of, name_seen, restore_of, report_of, demo_of, demo_with as demo_with_of, show_of, texts, unlimited, bits_of, trace_with};
 
+use crate::report::Report;
 use itoa::Buffer;
 
 /// What the words ask for.
@@ -73,21 +74,11 @@ pub enum Command<'a> {
         written: &'a str,
         output: &'a str,
     },
-    /// `counts WRITTEN DUMP`: print how often each edge was completed by the run of the file `written` that came to the
-    /// dump `dump`.
-    Counts {
-        written: &'a str,
-        dump: &'a str,
-    },
-    /// `visits WRITTEN DUMP`: print how often each instruction ran in the run of the file `written`, edited for `every`
-    /// word, that came to the dump `dump`.
-    Visits {
-        written: &'a str,
-        dump: &'a str,
-    },
-    /// `trace WRITTEN DUMP`: print the last edges that the run of the file `written` went along that came to the dump
-    /// `dump`.
-    Trace {
+    /// `counts WRITTEN DUMP`, `visits WRITTEN DUMP`, `trace WRITTEN DUMP`: print how often each edge was completed by the run
+    /// of the file `written` that came to the dump `dump`, how often each instruction ran, if the file was edited for
+    /// `every` word, or the last edges that the run went along.
+    ReportRun {
+        report: Report,
         written: &'a str,
         dump: &'a str,
     },
@@ -134,9 +125,9 @@ pub fn parse<'a>(words: &'a [&'a str]) -> Command<'a>
         [verb, words @ ..] if *verb == "list" => parse_list(words),
         [verb, words @ ..] if *verb == "words" => parse_words(words),
         [verb, words @ ..] if *verb == "restore" => parse_restore(words),
-        [verb, words @ ..] if *verb == "counts" => parse_counts(words),
-        [verb, words @ ..] if *verb == "visits" => parse_visits(words),
-        [verb, words @ ..] if *verb == "trace" => parse_trace(words),
+        [verb, words @ ..] if *verb == "counts" => parse_report(Report::Counts, words),
+        [verb, words @ ..] if *verb == "visits" => parse_report(Report::Visits, words),
+        [verb, words @ ..] if *verb == "trace" => parse_report(Report::LastEdges, words),
         [verb, words @ ..] if *verb == "demo" => parse_demo(words),
         _ => Command::Unknown,
     }
@@ -268,32 +259,16 @@ fn parse_restore<'a>(words: &'a [&'a str]) -> Command<'a>
     }
 }
 
-/// What follows the word `counts`.
-fn parse_counts<'a>(words: &'a [&'a str]) -> Command<'a>
-    ensures { command_seen result ≡ counts_of (texts words.now) }
+/// What follows the word for what is told of a run.
+fn parse_report<'a>(report: Report, words: &'a [&'a str]) -> Command<'a>
+    ensures { command_seen result ≡ report_of report (texts words.now) }
 {
     match words {
-        [written, dump] => Command::Counts { written, dump },
-        _ => Command::Unknown,
-    }
-}
-
-/// What follows the word `visits`.
-fn parse_visits<'a>(words: &'a [&'a str]) -> Command<'a>
-    ensures { command_seen result ≡ visits_of (texts words.now) }
-{
-    match words {
-        [written, dump] => Command::Visits { written, dump },
-        _ => Command::Unknown,
-    }
-}
-
-/// What follows the word `trace`.
-fn parse_trace<'a>(words: &'a [&'a str]) -> Command<'a>
-    ensures { command_seen result ≡ trace_of (texts words.now) }
-{
-    match words {
-        [written, dump] => Command::Trace { written, dump },
+        [written, dump] => Command::ReportRun {
+            report,
+            written,
+            dump,
+        },
         _ => Command::Unknown,
     }
 }

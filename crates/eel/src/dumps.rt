@@ -18,6 +18,7 @@ ghost use Rattle.eel.specs.Answers.Dump.{Dumps, IsDumped, IsNotNoted, IsNoted, I
 ghost use Rattle.exact_counts.specs.Stops.{length_told as length_told_of};
 ghost use Rattle.eel.specs.Cells.{AreLoadable, KeepCells, has_cells as has_cells_of};
 
+use crate::noted::notes_in;
 use crate::outcome::Outcome;
 use crate::run::{Job, WRITTEN_LIMIT, outcome_of, start};
 use crate::texts::{fetch_file, read_input};
@@ -25,7 +26,7 @@ use bitflags::Flags;
 use dump_file::{Dump, write_dump};
 use eel_base::{Addr, Files, NoMemory, PutFault, Sink, Source};
 use elf32_sparc::{SegFlags, Segment, read_segments};
-use notes::{Notes, NotesFault, read_notes};
+use notes::Notes;
 use std::alloc::Global;
 use v8_memory::Memory;
 use v8_runner::{Stop, run};
@@ -91,11 +92,9 @@ fn noted<'a>(alloc: Global, name: &'a str, bytes: &[u8]) -> Result<Notes, Outcom
     ensures rules { IfOk result (λ notes. AreNotes (notes_seen notes)) }
     ensures refused { IfErr result (λ outcome. IsNotNoted name.now bytes.now (outcome_seen outcome)) }
 {
-    let notes = match read_notes(alloc, bytes) {
+    let notes = match notes_in(alloc, name, bytes) {
         Ok(notes) => notes,
-        Err(NotesFault::Absent) => return Err(Outcome::NoNotes { name }),
-        Err(NotesFault::Bad(at)) => return Err(Outcome::BadNotes { name, at }),
-        Err(NotesFault::NoMemory) => return Err(Outcome::OutOfMemory),
+        Err(outcome) => return Err(outcome),
     };
     if notes.cells == 0 {
         return Ok(notes);

@@ -1,12 +1,13 @@
 //! The command `edit`.
 ghost use Rattle.std.specs.Prelude.{◌≡◌, ◌≤◌, ◌^◌, IfErr, IfOk, OnOk, length};
 ghost use Rattle.edit_core.specs.Taken.{EditRefuses};
-ghost use Rattle.tool_kit.specs.Plans.{Plan};
 ghost use Rattle.eel.specs.Outcome.{outcome_seen};
 ghost use Rattle.eel.specs.Answers.Files.{IsNotSound, IsSound};
 ghost use Rattle.eel.specs.Answers.Shared.{store};
-ghost use Rattle.eel.specs.Answers.Edit.{Edits, IsEditOf, edges_in, plain_plan, refusal_of};
-ghost use Rattle.eel.specs.Answers.Script.{HasCells, IsBadScript, IsNotScripted, IsReadAs, IsScripted, Scripts, script_plan, script_refusal_of};
+ghost use Rattle.eel.specs.Answers.Edit.{IsEditOf, edges_in, editing, plain_plan, refusal_of};
+ghost use Rattle.eel.specs.Answers.Make.{Makes};
+ghost use Rattle.eel.specs.Answers.MakeBy.{MakesBy};
+ghost use Rattle.eel.specs.Answers.Script.{HasCells, IsBadScript, IsNotScripted, IsReadAs, IsScriptEdit, script_plan, script_refusal_of, scripting};
 
 use crate::outcome::{LineCause, Outcome};
 use crate::texts::{fetch_file, put_file};
@@ -31,7 +32,7 @@ pub fn edit_plain<'a, F: Files>(
     input: &'a str,
     output: &str,
 ) -> Outcome<'a>
-    ensures edits { Edits input.now output.now (store (F.held files.old) (F.faults files.old))
+    ensures edits { Makes (editing plain_plan) input.now output.now (store (F.held files.old) (F.faults files.old))
         (store (F.held files.new) (F.faults files.new)) (outcome_seen result) }
     ensures later { F.faults files.old ≤ F.faults files.new }
 {
@@ -53,7 +54,7 @@ pub fn edit_by_script<'a, F: Files>(
     output: &str,
     script: &'a str,
 ) -> Outcome<'a>
-    ensures scripts { Scripts input.now output.now script.now (store (F.held files.old) (F.faults files.old))
+    ensures scripts { MakesBy scripting input.now output.now script.now (store (F.held files.old) (F.faults files.old))
         (store (F.held files.new) (F.faults files.new)) (outcome_seen result) }
     ensures later { F.faults files.old ≤ F.faults files.new }
 {
@@ -125,8 +126,7 @@ fn scripted<'a>(
 ) -> Result<Vec<u8>, Outcome<'a>>
     requires bytes { length bytes.now ≤ 2 ^ 26 }
     requires lines { length lines.now ≤ 2 ^ 24 }
-    ensures edited { IfOk result (λ file. (plan : Plan) × IsScripted bytes.now lines.now plan
-        × IsEditOf bytes.now plan file.items) }
+    ensures edited { IfOk result (λ file. IsScriptEdit bytes.now lines.now file.items) }
     ensures refused { IfErr result (λ outcome.
         IsNotScripted input.now bytes.now script.now lines.now (outcome_seen outcome)) }
 {

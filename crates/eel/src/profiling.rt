@@ -10,8 +10,9 @@ ghost use Rattle.span_tree.specs.Weights.{weights_of};
 ghost use Rattle.eel.specs.Outcome.{outcome_seen};
 ghost use Rattle.eel.specs.Answers.Shared.{store};
 ghost use Rattle.eel.specs.Answers.Edit.{IsEditOf};
+ghost use Rattle.eel.specs.Answers.Make.{Makes};
 ghost use Rattle.exact_counts.specs.Profiles.{counter_in};
-ghost use Rattle.eel.specs.Answers.Profile.{AreCells, CountersRefuse, IsMarkedProfile, IsProfileOf, ProfileRefuses, Profiles, graph_with, guessed, guessed_with, no_words, plan_with};
+ghost use Rattle.eel.specs.Answers.Profile.{AreCells, CountersRefuse, IsMarkedProfile, IsProfileOf, ProfileRefuses, graph_with, guessed, guessed_with, no_words, plan_with, profiling};
 
 use crate::edit::{EDIT_LIMIT, refusal};
 use crate::outcome::Outcome;
@@ -32,7 +33,7 @@ pub fn edit_for_counts<'a, F: Files>(
     input: &'a str,
     output: &str,
 ) -> Outcome<'a>
-    ensures profiles { Profiles no_words input.now output.now (store (F.held files.old) (F.faults files.old))
+    ensures profiles { Makes (profiling no_words) input.now output.now (store (F.held files.old) (F.faults files.old))
         (store (F.held files.new) (F.faults files.new)) (outcome_seen result) }
     ensures later { F.faults files.old ≤ F.faults files.new }
 {

@@ -3,13 +3,16 @@ ghost use Rattle.std.specs.Prelude.{◌≡◌, ◌≤◌, ◌+◌, IfOk, IfErr, 
 ghost use Rattle.notes.specs.Seen.{notes_seen};
 ghost use Rattle.eel.specs.Outcome.{outcome_seen};
 ghost use Rattle.eel.specs.Answers.Shared.{store};
-ghost use Rattle.eel.specs.Answers.Restore.{HasOriginal, IsNotRestored, Restores, original_in};
+ghost use Rattle.eel.specs.Answers.Make.{Makes};
+ghost use Rattle.eel.specs.Answers.Noted.{IsUnnoted};
+ghost use Rattle.eel.specs.Answers.Restore.{HasOriginal, original_in, restoring};
 
+use crate::noted::notes_in;
 use crate::outcome::Outcome;
 use crate::run::WRITTEN_LIMIT;
 use crate::texts::{fetch_file, put_file};
 use eel_base::Files;
-use notes::{Notes, NotesFault, read_notes};
+use notes::Notes;
 use std::alloc::Global;
 
 /// Reads `written`, and writes the original that stands in it as `output`.
@@ -19,7 +22,7 @@ pub fn restore_original<'a, F: Files>(
     written: &'a str,
     output: &str,
 ) -> Outcome<'a>
-    ensures restores { Restores written.now output.now (store (F.held files.old) (F.faults files.old))
+    ensures restores { Makes restoring written.now output.now (store (F.held files.old) (F.faults files.old))
         (store (F.held files.new) (F.faults files.new)) (outcome_seen result) }
     ensures later { F.faults files.old ≤ F.faults files.new }
 {
@@ -36,13 +39,11 @@ pub fn restore_original<'a, F: Files>(
 /// The original in the file `name`.
 fn original<'a, 'b>(alloc: Global, name: &'a str, file: &'b [u8]) -> Result<&'b [u8], Outcome<'a>>
     ensures original { IfOk result (λ original. HasOriginal file.now original.now) }
-    ensures refused { IfErr result (λ outcome. IsNotRestored name.now file.now (outcome_seen outcome)) }
+    ensures refused { IfErr result (λ outcome. IsUnnoted name.now file.now (outcome_seen outcome)) }
 {
-    match read_notes(alloc, file) {
+    match notes_in(alloc, name, file) {
         Ok(notes) => Ok(original_in(file, &notes)),
-        Err(NotesFault::Absent) => Err(Outcome::NoNotes { name }),
-        Err(NotesFault::Bad(at)) => Err(Outcome::BadNotes { name, at }),
-        Err(NotesFault::NoMemory) => Err(Outcome::OutOfMemory),
+        Err(outcome) => Err(outcome),
     }
 }
 

@@ -7,7 +7,6 @@ ghost use Rattle.eel.specs.Answers.{HasFailed, IsDone, IsRefusal, IsUnchanged, I
 
 use crate::assembly::assemble_words;
 use crate::command::{Command, parse};
-use crate::counting::count_edges;
 use crate::demo::demonstrate;
 use crate::disassembly::list_words;
 use crate::dumps::run_for_dump;
@@ -16,11 +15,10 @@ use crate::every::edit_every_word;
 use crate::listing::show_program;
 use crate::outcome::{Outcome, show};
 use crate::profiling::edit_for_counts;
+use crate::report::report_run;
 use crate::restore::restore_original;
 use crate::run::{Job, run_program};
-use crate::trace::trace_edges;
 use crate::tracing::edit_for_trace;
-use crate::visiting::count_visits;
 use crate::weighing::edit_by_weights;
 use eel_base::{Files, Sink, Source};
 use std::alloc::Global;
@@ -134,14 +132,16 @@ fn perform<'a, F: Files, I: Source, O: Sink, E: Sink>(
             weights,
         } => edit_by_weights(alloc, files, input, output, weights),
         Command::EditEvery { input, output } => edit_every_word(alloc, files, input, output),
-        Command::Visits { written, dump } => count_visits(alloc, files, written, dump, out),
         Command::EditTrace {
             input,
             output,
             bits,
         } => edit_for_trace(alloc, files, input, output, bits),
-        Command::Counts { written, dump } => count_edges(alloc, files, written, dump, out),
-        Command::Trace { written, dump } => trace_edges(alloc, files, written, dump, out),
+        Command::ReportRun {
+            report,
+            written,
+            dump,
+        } => report_run(alloc, report, files, written, dump, out),
         Command::Demo { number, routines } => demonstrate(alloc, number, routines, out),
         Command::Unknown => Outcome::BadWords,
     }

@@ -5,8 +5,9 @@ ghost use Rattle.edit_core.specs.Taken.{EditRefuses};
 ghost use Rattle.edge_ring.specs.Ring.{ring_on};
 ghost use Rattle.eel.specs.Outcome.{outcome_seen};
 ghost use Rattle.eel.specs.Answers.Shared.{store};
-ghost use Rattle.eel.specs.Answers.Edit.{IsEditOf};
-ghost use Rattle.eel.specs.Answers.Trace.{TraceEdits, trace_plan};
+ghost use Rattle.eel.specs.Answers.Edit.{IsEditOf, editing};
+ghost use Rattle.eel.specs.Answers.Make.{Makes};
+ghost use Rattle.eel.specs.Answers.Trace.{trace_plan};
 
 use crate::edit::{EDIT_LIMIT, refusal};
 use crate::outcome::Outcome;
@@ -28,7 +29,7 @@ pub fn edit_for_trace<'a, F: Files>(
 ) -> Outcome<'a>
     requires some { 1 ≤ bits }
     requires few { bits ≤ 16 }
-    ensures traces { TraceEdits input.now output.now bits (store (F.held files.old) (F.faults files.old))
+    ensures traces { Makes (editing (trace_plan bits)) input.now output.now (store (F.held files.old) (F.faults files.old))
         (store (F.held files.new) (F.faults files.new)) (outcome_seen result) }
     ensures later { F.faults files.old ≤ F.faults files.new }
 {

@@ -1,92 +1,56 @@
-//! The command `visits`.
-ghost use Rattle.std.specs.Prelude.{◌≡◌, ◌≤◌, ◌+◌, ℕ, IfErr, IfOk, List, length};
+//! How often each instruction ran.
+ghost use Rattle.std.specs.Prelude.{◌≡◌, ◌≤◌, ◌+◌, ◌<◌, ◌^◌, ℕ, IfErr, IfOk, List, length};
+ghost use Rattle.notes.specs.Rules.{AreNotes};
 ghost use Rattle.notes.specs.Seen.{notes_seen};
 ghost use Rattle.dump_file.specs.Dump.{dump_seen};
 ghost use Rattle.cfg_view.specs.View.{view_seen, IsView};
 ghost use Rattle.instr_counts.specs.Answers.{AreVisits};
 ghost use Rattle.instr_counts.specs.Lines.{visit_lines};
 ghost use Rattle.instr_counts.specs.Matches.{Matches};
-ghost use Rattle.eel.specs.Outcome.{Stream, outcome_seen, stream};
-ghost use Rattle.eel.specs.Answers.Shared.{Feed, outside, store};
+ghost use Rattle.eel.specs.Outcome.{outcome_seen};
 ghost use Rattle.eel.specs.Answers.Restore.{original_in};
 ghost use Rattle.eel.specs.Answers.Every.{every_view};
-ghost use Rattle.eel.specs.Answers.Visits.{HasEveryWord, IsNotEveryWord, IsUnvisited, TellVisits, Visits};
+ghost use Rattle.eel.specs.Answers.Visits.{HasEveryWord, IsNotEveryWord, IsUnvisited, TellVisits};
 
-use crate::counting::{DUMP_LIMIT, dump_in, notes_in, refusal};
+use crate::counting::refusal;
 use crate::every::look_at_words;
 use crate::outcome::Outcome;
 use crate::restore::original_in;
-use crate::run::WRITTEN_LIMIT;
-use crate::texts::{fetch_file, print};
 use cfg_view::View;
 use count_rebuild::rebuild;
 use dump_file::Dump;
-use eel_base::{Files, NoMemory, Sink};
+use eel_base::NoMemory;
 use elf32_sparc::ReadFault;
 use instr_counts::{lines, matches, visits};
 use notes::Notes;
 use std::alloc::Global;
 
-/// Reads the file `written` and the dump `dump` of a run of it, and prints how often each instruction ran.
-pub fn count_visits<'a, F: Files, O: Sink>(
-    alloc: Global,
-    files: &mut F,
-    written: &'a str,
-    dump: &'a str,
-    out: &mut O,
-) -> Outcome<'a>
-    // Whatever the input and the error stream are, they stay so.
-    ensures visits { (feed : Feed) (err : Stream) → Visits written.now dump.now
-        (outside (store (F.held files.old) (F.faults files.old)) feed (stream (O.taken out.old) (O.faults out.old)) err)
-        (outside (store (F.held files.new) (F.faults files.new)) feed (stream (O.taken out.new) (O.faults out.new)) err)
-        (outcome_seen result) }
-    ensures kept { F.held files.new ≡ F.held files.old }
-    ensures files_faults { F.faults files.old ≤ F.faults files.new }
-    ensures out_faults { O.faults out.old ≤ O.faults out.new }
-{
-    let file = match fetch_file(alloc, files, written, WRITTEN_LIMIT) {
-        Ok(file) => file,
-        Err(outcome) => return outcome,
-    };
-    let bytes = match fetch_file(alloc, files, dump, DUMP_LIMIT) {
-        Ok(bytes) => bytes,
-        Err(outcome) => return outcome,
-    };
-    match visit_lines(alloc, written, &file, dump, &bytes) {
-        Ok(lines) => print(out, &lines),
-        Err(outcome) => outcome,
-    }
-}
-
-/// The lines of the visits that the file `written` has by the dump `dump`.
-fn visit_lines<'a>(
+/// The lines of the visits by the notes of the file `written` and by the dump `dump`.
+pub fn visit_lines<'a>(
     alloc: Global,
     written: &'a str,
     file: &[u8],
     dump: &'a str,
-    bytes: &[u8],
+    notes: &Notes,
+    state: &Dump,
 ) -> Result<Vec<u8>, Outcome<'a>>
-    ensures lines { IfOk result (λ lines. TellVisits file.now bytes.now lines.items) }
-    ensures refused { IfErr result (λ outcome.
-        IsUnvisited written.now file.now dump.now bytes.now (outcome_seen outcome)) }
+    requires rules { AreNotes (notes_seen notes.now) }
+    requires inside { notes.now.delta + notes.now.length ≤ length file.now }
+    requires few { length state.now.cells.items < 2 ^ 32 }
+    ensures lines { IfOk result (λ lines.
+        TellVisits file.now (notes_seen notes.now) (dump_seen state.now) lines.items) }
+    ensures refused { IfErr result (λ outcome. IsUnvisited written.now file.now dump.now (notes_seen notes.now)
+        (dump_seen state.now) (outcome_seen outcome)) }
 {
-    let notes = match notes_in(alloc, written, file) {
-        Ok(notes) => notes,
-        Err(outcome) => return Err(outcome),
-    };
-    let state = match dump_in(alloc, dump, bytes) {
-        Ok(state) => state,
-        Err(outcome) => return Err(outcome),
-    };
-    let view = match every_word_in(alloc, written, file, &notes) {
+    let view = match every_word_in(alloc, written, file, notes) {
         Ok(view) => view,
         Err(outcome) => return Err(outcome),
     };
-    let times = match rebuild(alloc, &notes, &state) {
+    let times = match rebuild(alloc, notes, state) {
         Ok(times) => times,
         Err(fault) => return Err(refusal(written, dump, fault)),
     };
-    match told(alloc, &view, &notes, &state, &times) {
+    match told(alloc, &view, notes, state, &times) {
         Ok(lines) => Ok(lines),
         Err(NoMemory) => Err(Outcome::OutOfMemory),
     }

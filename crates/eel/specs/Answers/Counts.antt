@@ -1,15 +1,12 @@
--- `counts WRITTEN DUMP`: the file WRITTEN and the dump DUMP are read, the notes of the one and then the other are judged,
--- and how often each edge was completed is rebuilt and printed.
-use Rattle.std.specs.Prelude.{◌≡◌, ℕ, ◌-◌, ◌*◌, ◌^◌, ◌<◌, ◌≤◌, ◌⊎◌, List, length, slice_index, Option, None, Ok, Err}
-use Rattle.eel_base.specs.Outside.{IsMissing, appended}
+-- `counts WRITTEN DUMP`: how often each edge was completed is rebuilt from the notes of WRITTEN and the dump DUMP.
+use Rattle.std.specs.Prelude.{◌≡◌, ℕ, ◌-◌, ◌<◌, ◌≤◌, List, length, slice_index, Option, None, Ok}
 use Rattle.elf32_sparc.specs.Image.{image_of}
-use Rattle.elf32_sparc.specs.Notes.{Notes, Absent, Bad, notes_of}
+use Rattle.elf32_sparc.specs.Notes.{Notes, notes_of}
 use Rattle.v8_step.specs.Valid.{AreBytes}
 use Rattle.v8_process.specs.Arguments.{AreArguments}
 use Rattle.v8_process.specs.Start.{start_of}
 use Rattle.walk_counts.specs.Counts.{executions}
 use Rattle.dump_file.specs.Dump.{Dump}
-use Rattle.dump_file.specs.Reading.{read_dump}
 use Rattle.count_rebuild.specs.Answers.{AreCounts, IsBetween, IsForOther, IsImpossible, IsLong, IsMisshapen, IsOfOther, IsTooLarge}
 use Rattle.count_rebuild.specs.Noted.{IsProfile as HasProfile}
 use Rattle.count_rebuild.specs.declared.fault.CountFault.{CountFault}
@@ -23,18 +20,9 @@ use Rattle.elf32_sparc.specs.FileFault.{fault}
 use Rattle.show_text.specs.CountLines.{count_lines}
 use Rattle.eel.specs.declared.outcome.CountCause.{CountCause}
 use Rattle.eel.specs.declared.outcome.CountCause.TheVariants as causes
-use Rattle.eel.specs.Outcome.{Outcome, NoNotes, BadNotes, BadDump, NoProfile, NoCounts, OutOfMemory}
-use Rattle.eel.specs.Answers.Shared.{Outside, Meaning, WasRead, IsUnread, IsPrinted, IsUnused, IsQuiet, IsSilent, edit_limit, written_limit}
+use Rattle.eel.specs.Outcome.{Outcome, NoProfile, NoCounts, OutOfMemory}
+use Rattle.eel.specs.Answers.Shared.{edit_limit}
 use Rattle.eel.specs.Answers.Profile.{AreCells, IsMarkedProfile, graph_with, plan_of}
-
--- how long a dump may be
-abbrev pub dump_limit : ℕ
-dump_limit = 64 * 2 ^ 20
-
--- the notes of a file, and what a run of it has come to by a dump
-pub record AreRead (file bytes : List ℕ) (notes : Notes) (dump : Dump) : Type 0 where
-  pub noted : notes_of file ≡ Ok notes
-  pub dumped : read_dump bytes ≡ Ok dump
 
 -- ---- refusals
 
@@ -48,32 +36,13 @@ HasCause notes dump (causes.Between pc) = IsBetween notes dump pc.0
 HasCause notes dump (causes.Negative edge value) = IsImpossible notes dump edge.0 value
 HasCause notes dump (causes.Large edge value) = IsTooLarge notes dump edge.0 value
 
--- the file has no notes that can be read
-abbrev pub IsUnnoted : List ℕ → List ℕ → Outcome → Type 0
-IsUnnoted name file (NoNotes named) = (named ≡ name) × (notes_of file ≡ Err Absent)
-IsUnnoted name file (BadNotes named at) = (named ≡ name) × (notes_of file ≡ Err (Bad at))
-IsUnnoted name file OutOfMemory = Unit {0}
-IsUnnoted name file _ = ⊥
-
--- a file is no dump
-abbrev pub IsUndumped : List ℕ → List ℕ → Outcome → Type 0
-IsUndumped name bytes (BadDump named at) = (named ≡ name) × (read_dump bytes ≡ Err at)
-IsUndumped name bytes OutOfMemory = Unit {0}
-IsUndumped name bytes _ = ⊥
-
--- The file `written` and the dump `name` were read, and there are no counts: the notes are judged, then the dump, and then
--- whether they have counts.
-abbrev pub IsUncounted : List ℕ → List ℕ → List ℕ → List ℕ → Outcome → Type 0
-IsUncounted written file name bytes (NoNotes named) = (named ≡ written) × (notes_of file ≡ Err Absent)
-IsUncounted written file name bytes (BadNotes named at) = (named ≡ written) × (notes_of file ≡ Err (Bad at))
-IsUncounted written file name bytes (BadDump named at) =
-    (notes : Notes) × (named ≡ name) × (notes_of file ≡ Ok notes) × (read_dump bytes ≡ Err at)
-IsUncounted written file name bytes (NoProfile named) =
-    (notes : Notes) × (dump : Dump) × (named ≡ written) × AreRead file bytes notes dump × ¬ HasProfile notes
-IsUncounted written file name bytes (NoCounts named cause) =
-    (notes : Notes) × (dump : Dump) × (named ≡ name) × AreRead file bytes notes dump × HasCause notes dump cause
-IsUncounted written file name bytes OutOfMemory = Unit {0}
-IsUncounted written file name bytes _ = ⊥
+-- There are no counts by the notes of the file `written` and by the dump `name`. Want of memory comes only where the tool
+-- of the notes is that of a profile.
+abbrev pub IsUncounted : List ℕ → List ℕ → Notes → Dump → Outcome → Type 0
+IsUncounted written name notes dump (NoProfile named) = (named ≡ written) × ¬ HasProfile notes
+IsUncounted written name notes dump (NoCounts named cause) = (named ≡ name) × HasCause notes dump cause
+IsUncounted written name notes dump OutOfMemory = notes.tool ≡ 1
+IsUncounted written name notes dump _ = ⊥
 
 -- what a fault of the rebuilding comes to
 abbrev pub uncounted_of : List ℕ → List ℕ → CountFault → Outcome
@@ -91,11 +60,8 @@ uncounted_of written name faults.NoMemory = OutOfMemory
 
 -- The lines tell how often each edge was completed: the counts are the one flow on the notes' graph, from the block at
 -- which the program is entered to the node where the run stands, that agrees with the cells.
-pub record TellCounts (file bytes lines : List ℕ) : Type 0 where
-  pub notes : Notes
-  pub dump : Dump
+pub record TellCounts (notes : Notes) (dump : Dump) (lines : List ℕ) : Type 0 where
   pub counts : List ℕ
-  pub read : AreRead file bytes notes dump
   pub are : AreCounts notes dump counts
   pub tell : lines ≡ count_lines notes counts
 
@@ -149,52 +115,7 @@ MayMiss name dump (NoCounts named (causes.Between pc)) = (named ≡ name) × (pc
 MayMiss name dump OutOfMemory = Unit {0}
 MayMiss name dump _ = ⊥
 
-abbrev pub AreSeldomMissed : List ℕ → List ℕ → List ℕ → Outcome → Type 0
-AreSeldomMissed file name bytes outcome =
-    (notes : Notes) (dump : Dump) → AreRead file bytes notes dump
-    → (original : List ℕ) (args : List (List ℕ)) (input : List ℕ) (m : ℕ) → IsOfRun original file notes dump args input m
+abbrev pub AreSeldomMissed : List ℕ → List ℕ → Notes → Dump → Outcome → Type 0
+AreSeldomMissed file name notes dump outcome =
+    (original : List ℕ) (args : List (List ℕ)) (input : List ℕ) (m : ℕ) → IsOfRun original file notes dump args input m
     → MayMiss name dump outcome
-
--- ---- the command
-
--- How counting goes, step by step, and what comes of it.
-pub data Counts (written dump : List ℕ) (old new : Outside) (outcome : Outcome) : Type 0 where
-  -- WRITTEN gave no bytes
-  unread : IsUnread old.files new.files written written_limit outcome → IsQuiet old new
-      → Counts written dump old new outcome
-  -- WRITTEN was read, and DUMP gave no bytes
-  undumped : (file : List ℕ) → WasRead old.files written written_limit file
-      → IsUnread old.files new.files dump dump_limit outcome → IsQuiet old new
-      → Counts written dump old new outcome
-  -- both were read, and there are no counts
-  refused : (file : List ℕ) → WasRead old.files written written_limit file
-      → (bytes : List ℕ) → WasRead old.files dump dump_limit bytes
-      → IsUncounted written file dump bytes outcome → AreSeldomMissed file dump bytes outcome → IsQuiet old new
-      → Counts written dump old new outcome
-  -- the lines were to be printed
-  printed : (file : List ℕ) → WasRead old.files written written_limit file
-      → (bytes : List ℕ) → WasRead old.files dump dump_limit bytes
-      → (lines : List ℕ) → TellCounts file bytes lines → IsPrinted old.out new.out lines outcome
-      → new.err.taken ≡ old.err.taken
-      → Counts written dump old new outcome
-
--- the counts are printed
-pub record WereCounted (written dump : List ℕ) (old new : Outside) : Type 0 where
-  pub file : List ℕ
-  pub read : WasRead old.files written written_limit file
-  pub bytes : List ℕ
-  pub dump_read : WasRead old.files dump dump_limit bytes
-  pub lines : List ℕ
-  pub tell : TellCounts file bytes lines
-  pub exact : AreExact file tell.notes tell.dump tell.counts
-  pub out : new.out.taken ≡ appended old.out.taken lines
-  pub err : new.err.taken ≡ old.err.taken
-
-abbrev pub counts_means : List ℕ → List ℕ → Meaning
-counts_means written dump = record {
-  follows = λ old new outcome.
-      Counts written dump old new outcome × (new.files.held ≡ old.files.held) × IsUnused old new;
-  does = λ old new. WereCounted written dump old new × (new.files.held ≡ old.files.held) × IsUnused old new;
-  wants = IsSilent;
-  lacks = λ files. IsMissing files.held written ⊎ IsMissing files.held dump;
-}

@@ -14,7 +14,7 @@ use Rattle.show_text.specs.Lines.{line}
 use Rattle.workload.specs.Generated.{generated}
 use Rattle.eel.specs.declared.demo.Size.{Size}
 use Rattle.eel.specs.Outcome.{Outcome, OutOfMemory, ending_text}
-use Rattle.eel.specs.Answers.Shared.{Outside, Meaning, IsPrinted, IsUnused, IsQuiet, IsSilent}
+use Rattle.eel.specs.Answers.Shared.{Outside, Meaning, IsPrinted, IsQuiet, prints_mean}
 use Rattle.eel.specs.Answers.Profile.{graph_in}
 
 -- ---- the run of a file without arguments and input
@@ -94,10 +94,4 @@ pub record WasTold (number routines : ℕ) (old new : Outside) : Type 0 where
   pub err : new.err.taken ≡ old.err.taken
 
 abbrev pub demo_means : ℕ → ℕ → Meaning
-demo_means number routines = record {
-  follows = λ old new outcome.
-      Tells number routines old new outcome × (new.files.held ≡ old.files.held) × IsUnused old new;
-  does = λ old new. WasTold number routines old new × (new.files.held ≡ old.files.held) × IsUnused old new;
-  wants = IsSilent;
-  lacks = λ files. ⊥;
-}
+demo_means number routines = prints_mean (Tells number routines) (WasTold number routines) (λ files. ⊥)

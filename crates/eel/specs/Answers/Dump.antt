@@ -1,11 +1,11 @@
 -- `run FILE -d DUMP [-n LIMIT] [-- ARG..]`: the same as without a dump, and before the ending line what the run has
 -- come to is written as DUMP.
-use Rattle.std.specs.Prelude.{◌≡◌, ℕ, ◌<◌, ◌⊎◌, true, false, List, [], Option, None, Ok, Err}
+use Rattle.std.specs.Prelude.{◌≡◌, ℕ, ◌<◌, ◌⊎◌, true, false, List, [], Option, None, Ok}
 use Rattle.std.specs.List.{list_any}
 use Rattle.eel_base.specs.Outside.{IsMissing, appended, stored}
 use Rattle.elf32_sparc.specs.FileFault.{load_fault}
 use Rattle.elf32_sparc.specs.Mapping.{mappings}
-use Rattle.elf32_sparc.specs.Notes.{Notes, Absent, Bad, notes_of}
+use Rattle.elf32_sparc.specs.Notes.{Notes, notes_of}
 use Rattle.v8_step.specs.declared.Ending.{Ending}
 use Rattle.v8_step.specs.State.{State}
 use Rattle.v8_step.specs.Run.{run, run_puts}
@@ -14,8 +14,9 @@ use Rattle.v8_runner.specs.Runs.{AreMade}
 use Rattle.dump_file.specs.Written.{dump_bytes}
 pub use Rattle.exact_counts.specs.Stops.{dump_of}
 use Rattle.edit_core.specs.Faithful.{holds_cells}
-use Rattle.eel.specs.Outcome.{Outcome, Stopped, NoNotes, BadNotes, OutOfMemory, DeviceFault, Done, line_of}
+use Rattle.eel.specs.Outcome.{Outcome, Stopped, BadNotes, OutOfMemory, DeviceFault, Done, line_of}
 use Rattle.eel.specs.Answers.Shared.{Outside, Store, Meaning, WasRead, IsUnread, IsPut, IsUnused, IsQuiet, IsSilent, written_limit}
+use Rattle.eel.specs.Answers.Noted.{IsUnnoted}
 use Rattle.eel.specs.Answers.Run.{HasRun, IsNotRun, IsUnfed, StopsAt, WasBroken, WasFed}
 
 -- ---- the notes
@@ -29,19 +30,18 @@ pub record IsNoted (bytes : List ℕ) (notes : Notes) : Type 0 where
   pub reads : notes_of bytes ≡ Ok notes
   pub mapped : AreMapped bytes notes
 
--- the notes break a rule first at this offset: the word at 24 is the address of the cells
-abbrev pub AreBadAt : ℕ → List ℕ → Type 0
-AreBadAt at bytes =
-    (notes_of bytes ≡ Err (Bad at))
-    ⊎ ((notes : Notes) × (at ≡ 24) × (notes_of bytes ≡ Ok notes) × (0 < notes.cells)
-    × (list_any (holds_cells notes.base notes.cells) (mappings bytes) ≡ false))
+-- The notes are read, and their cells aren't mapped: the word at 24 is the address of the cells. Memory may be wanting for
+-- what is mapped.
+abbrev pub AreUnmapped : List ℕ → List ℕ → Outcome → Type 0
+AreUnmapped name bytes (BadNotes named at) =
+    (notes : Notes) × (named ≡ name) × (at ≡ 24) × (notes_of bytes ≡ Ok notes) × (0 < notes.cells)
+    × (list_any (holds_cells notes.base notes.cells) (mappings bytes) ≡ false)
+AreUnmapped name bytes OutOfMemory = (notes : Notes) × (notes_of bytes ≡ Ok notes)
+AreUnmapped name bytes _ = ⊥
 
 -- FILE can be loaded, and has no notes whose cells can be told
 abbrev pub IsNotNoted : List ℕ → List ℕ → Outcome → Type 0
-IsNotNoted name bytes (NoNotes named) = (named ≡ name) × (notes_of bytes ≡ Err Absent)
-IsNotNoted name bytes (BadNotes named at) = (named ≡ name) × AreBadAt at bytes
-IsNotNoted name bytes OutOfMemory = Unit {0}
-IsNotNoted name bytes _ = ⊥
+IsNotNoted name bytes outcome = IsUnnoted name bytes outcome ⊎ AreUnmapped name bytes outcome
 
 -- ---- the dump
 

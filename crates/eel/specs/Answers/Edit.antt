@@ -1,7 +1,6 @@
 -- `edit IN OUT plain`: the file IN is read, judged, edited without snippets, and written as OUT.
 use Rattle.std.specs.Prelude.{◌≡◌, ℕ, List, [], length, map}
 use Rattle.std.specs.List.{range_with_len}
-use Rattle.eel_base.specs.Outside.{IsMissing, stored}
 use Rattle.elf32_sparc.specs.FileFault.{code_of}
 use Rattle.cfg_normal.specs.declared.Edge.{Edge}
 use Rattle.cfg_view.specs.View.{view_of}
@@ -15,7 +14,8 @@ use Rattle.edit_core.specs.Faithful.{IsFaithful}
 use Rattle.edit_core.specs.Written.{IsTheEdit}
 use Rattle.eel.specs.Outcome.{Outcome, BadFile, NoRoom, OutOfMemory}
 use Rattle.eel.specs.Answers.Files.{IsFaulty, IsSound}
-use Rattle.eel.specs.Answers.Shared.{Store, Meaning, WasRead, IsUnread, IsPut, IsUnused, IsQuiet, IsSilent, edit_limit}
+use Rattle.eel.specs.Answers.Make.{Making, make_means}
+use Rattle.eel.specs.Answers.Shared.{Meaning, edit_limit}
 
 -- ---- what the tool asks for
 
@@ -55,33 +55,13 @@ pub record IsEditOf (bytes : List ℕ) (plan : Plan) (file : List ℕ) : Type 0 
   pub faithful : IsFaithful bytes plan file
   pub written : IsTheEdit bytes plan file
 
--- How an edit without snippets goes, step by step, and what comes of it.
-pub data Edits (input output : List ℕ) (old new : Store) (outcome : Outcome) : Type 0 where
-  -- IN gave no bytes
-  unread : IsUnread old new input edit_limit outcome → new.held ≡ old.held
-      → Edits input output old new outcome
-  -- IN was read, and isn't edited
-  refused : (bytes : List ℕ) → WasRead old input edit_limit bytes
-      → IsNotEdited input bytes (plain_plan bytes) outcome → new.held ≡ old.held
-      → Edits input output old new outcome
-  -- a file was made of it that is faithful to it, and was to be put as OUT
-  put : (bytes : List ℕ) → WasRead old input edit_limit bytes
-      → (file : List ℕ) → IsEditOf bytes (plain_plan bytes) file → IsPut old new output file outcome
-      → Edits input output old new outcome
-
--- the edit is done
-pub record IsEdited (input output : List ℕ) (old new : Store) : Type 0 where
-  pub bytes : List ℕ
-  pub read : WasRead old input edit_limit bytes
-  pub file : List ℕ
-  pub made : IsEditOf bytes (plain_plan bytes) file
-  pub held : new.held ≡ stored old.held output file
+-- the edit of a file by a plan of it
+abbrev pub editing : (List ℕ → Plan) → Making
+editing plan_of = record {
+  limit = edit_limit;
+  refuses = λ name bytes outcome. IsNotEdited name bytes (plan_of bytes) outcome;
+  makes = λ bytes file. IsEditOf bytes (plan_of bytes) file;
+}
 
 abbrev pub edit_means : List ℕ → List ℕ → Meaning
-edit_means input output = record {
-  follows = λ old new outcome.
-      Edits input output old.files new.files outcome × IsUnused old new × IsQuiet old new;
-  does = λ old new. IsEdited input output old.files new.files × IsUnused old new × IsQuiet old new;
-  wants = IsSilent;
-  lacks = λ files. IsMissing files.held input;
-}
+edit_means input output = make_means (editing plain_plan) input output

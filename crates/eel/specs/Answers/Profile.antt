@@ -1,7 +1,6 @@
 -- `edit IN OUT profile`: the file IN is read, judged, edited with counters on the edges off a spanning tree, and written as
 -- OUT. Which words of its text are marked is told by a function: for `profile` none is.
 use Rattle.std.specs.Prelude.{◌≡◌, ℕ, ◌*◌, List, [], length, map, Option, Some, None}
-use Rattle.eel_base.specs.Outside.{IsMissing, stored}
 use Rattle.flows.specs.Flows.{IsLeast, rest}
 use Rattle.flows.specs.Links.{weight_in}
 use Rattle.flows.specs.Trees.{IsSpanningTree}
@@ -21,7 +20,8 @@ use Rattle.exact_counts.specs.Profiles.{counter_in}
 use Rattle.edit_core.specs.Taken.{IsCramped}
 use Rattle.eel.specs.Outcome.{Outcome, BadFile, NoRoom, OutOfMemory}
 use Rattle.eel.specs.Answers.Files.{IsFaulty, IsSound}
-use Rattle.eel.specs.Answers.Shared.{Store, Meaning, WasRead, IsUnread, IsPut, IsUnused, IsQuiet, IsSilent, edit_limit}
+use Rattle.eel.specs.Answers.Make.{Making, make_means}
+use Rattle.eel.specs.Answers.Shared.{Meaning, edit_limit}
 use Rattle.eel.specs.Answers.Edit.{IsEditOf}
 
 -- ---- which edges are counted
@@ -111,33 +111,9 @@ module _ (marks_of : List ℕ → List ℕ) where
   IsNotProfiled name bytes OutOfMemory = IsSound bytes
   IsNotProfiled name bytes _ = ⊥
 
-  -- How an edit with counters goes, step by step, and what comes of it.
-  pub data Profiles (input output : List ℕ) (old new : Store) (outcome : Outcome) : Type 0 where
-    -- IN gave no bytes
-    unread : IsUnread old new input edit_limit outcome → new.held ≡ old.held
-        → Profiles input output old new outcome
-    -- IN was read, and isn't edited
-    refused : (bytes : List ℕ) → WasRead old input edit_limit bytes
-        → IsNotProfiled input bytes outcome → new.held ≡ old.held
-        → Profiles input output old new outcome
-    -- a file with counters was made of it, and was to be put as OUT
-    put : (bytes : List ℕ) → WasRead old input edit_limit bytes
-        → (file : List ℕ) → IsMadeOf bytes file → IsPut old new output file outcome
-        → Profiles input output old new outcome
-
-  -- the edit is done
-  pub record IsProfiled (input output : List ℕ) (old new : Store) : Type 0 where
-    pub bytes : List ℕ
-    pub read : WasRead old input edit_limit bytes
-    pub file : List ℕ
-    pub made : IsMadeOf bytes file
-    pub held : new.held ≡ stored old.held output file
+  -- the edit
+  abbrev pub profiling : Making
+  profiling = record { limit = edit_limit; refuses = IsNotProfiled; makes = IsMadeOf }
 
   abbrev pub profile_means : List ℕ → List ℕ → Meaning
-  profile_means input output = record {
-    follows = λ old new outcome.
-        Profiles input output old.files new.files outcome × IsUnused old new × IsQuiet old new;
-    does = λ old new. IsProfiled input output old.files new.files × IsUnused old new × IsQuiet old new;
-    wants = IsSilent;
-    lacks = λ files. IsMissing files.held input;
-  }
+  profile_means input output = make_means profiling input output

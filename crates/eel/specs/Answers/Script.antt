@@ -1,7 +1,6 @@
 -- `edit IN OUT script S`: the file IN and the script S are read, both are judged, and IN is edited as the lines of S
 -- say and written as OUT.
-use Rattle.std.specs.Prelude.{◌≡◌, ◌≤◌, ℕ, ◌*◌, ◌^◌, ◌⊎◌, List, [], get_or, length, Option, Some, None}
-use Rattle.eel_base.specs.Outside.{IsMissing, stored}
+use Rattle.std.specs.Prelude.{◌≡◌, ◌≤◌, ℕ, ◌*◌, ◌^◌, List, [], get_or, length, Option, Some, None}
 use Rattle.snippets.specs.declared.snippet.Op.{Op}
 use Rattle.snippets.specs.declared.script.Script.{Script}
 use Rattle.snippets.specs.declared.script.ScriptFault.{ScriptFault}
@@ -16,7 +15,8 @@ use Rattle.eel.specs.declared.outcome.LineCause.{LineCause}
 use Rattle.eel.specs.declared.outcome.LineCause.TheVariants as causes
 use Rattle.eel.specs.Outcome.{Outcome, BadFile, BadLine, NoRoom, OutOfMemory}
 use Rattle.eel.specs.Answers.Files.{IsFaulty, IsSound}
-use Rattle.eel.specs.Answers.Shared.{Store, Meaning, WasRead, IsUnread, IsPut, IsUnused, IsQuiet, IsSilent, edit_limit}
+use Rattle.eel.specs.Answers.MakeBy.{MakingBy, make_by_means}
+use Rattle.eel.specs.Answers.Shared.{Meaning, edit_limit}
 use Rattle.eel.specs.Answers.Edit.{IsEditOf, asked, edges_in}
 
 -- how long a script may be
@@ -92,45 +92,17 @@ IsNotScripted input bytes script lines _ = ⊥
 
 -- ---- the edit
 
--- How an edit by a script goes.
-pub data Scripts (input output script : List ℕ) (old new : Store) (outcome : Outcome) : Type 0 where
-  -- IN gave no bytes
-  unread : IsUnread old new input edit_limit outcome → new.held ≡ old.held
-      → Scripts input output script old new outcome
-  -- IN was read, and S gave no bytes
-  unscripted : (bytes : List ℕ) → WasRead old input edit_limit bytes
-      → IsUnread old new script script_limit outcome → new.held ≡ old.held
-      → Scripts input output script old new outcome
-  -- both were read, and IN isn't edited
-  refused : (bytes : List ℕ) → WasRead old input edit_limit bytes
-      → (lines : List ℕ) → WasRead old script script_limit lines
-      → IsNotScripted input bytes script lines outcome → new.held ≡ old.held
-      → Scripts input output script old new outcome
-  -- a file was made of IN that does what the lines say, and was to be put as OUT
-  put : (bytes : List ℕ) → WasRead old input edit_limit bytes
-      → (lines : List ℕ) → WasRead old script script_limit lines
-      → (plan : Plan) → IsScripted bytes lines plan
-      → (file : List ℕ) → IsEditOf bytes plan file → IsPut old new output file outcome
-      → Scripts input output script old new outcome
+-- a file that was made of another and does what the lines say
+abbrev pub IsScriptEdit : List ℕ → List ℕ → List ℕ → Type 0
+IsScriptEdit bytes lines file = (plan : Plan) × IsScripted bytes lines plan × IsEditOf bytes plan file
 
--- the edit by a script is done
-pub record IsScriptEdited (input output script : List ℕ) (old new : Store) : Type 0 where
-  pub bytes : List ℕ
-  pub read : WasRead old input edit_limit bytes
-  pub lines : List ℕ
-  pub script_read : WasRead old script script_limit lines
-  pub plan : Plan
-  pub scripted : IsScripted bytes lines plan
-  pub file : List ℕ
-  pub made : IsEditOf bytes plan file
-  pub held : new.held ≡ stored old.held output file
+abbrev pub scripting : MakingBy
+scripting = record {
+  limit = edit_limit;
+  line_limit = script_limit;
+  refuses = IsNotScripted;
+  makes = IsScriptEdit;
+}
 
 abbrev pub script_means : List ℕ → List ℕ → List ℕ → Meaning
-script_means input output script = record {
-  follows = λ old new outcome.
-      Scripts input output script old.files new.files outcome × IsUnused old new × IsQuiet old new;
-  does = λ old new.
-      IsScriptEdited input output script old.files new.files × IsUnused old new × IsQuiet old new;
-  wants = IsSilent;
-  lacks = λ files. IsMissing files.held input ⊎ IsMissing files.held script;
-}
+script_means input output script = make_by_means scripting input output script

@@ -93,3 +93,21 @@ pub record Meaning : Type 1 where
   pub wants : Outside → Outside → Type 0
   -- that a name which it reads is known not to be held
   pub lacks : Store → Type 0
+
+-- that of a command which reads and writes files, and does nothing else
+abbrev pub files_mean : (Store → Store → Outcome → Type 0) → (Store → Store → Type 0) → (Store → Type 0) → Meaning
+files_mean follows does lacks = record {
+  follows = λ old new outcome. follows old.files new.files outcome × IsUnused old new × IsQuiet old new;
+  does = λ old new. does old.files new.files × IsUnused old new × IsQuiet old new;
+  wants = IsSilent;
+  lacks = lacks;
+}
+
+-- that of a command which reads files and prints, and does nothing else
+abbrev pub prints_mean : (Outside → Outside → Outcome → Type 0) → (Outside → Outside → Type 0) → (Store → Type 0) → Meaning
+prints_mean follows does lacks = record {
+  follows = λ old new outcome. follows old new outcome × (new.files.held ≡ old.files.held) × IsUnused old new;
+  does = λ old new. does old new × (new.files.held ≡ old.files.held) × IsUnused old new;
+  wants = IsSilent;
+  lacks = lacks;
+}

@@ -1,7 +1,6 @@
 -- `edit IN OUT profile WEIGHTS`: the file IN and the lines WEIGHTS are read, both are judged, and IN is edited with counters
 -- on the edges off a spanning tree that weighs most by these lines, and written as OUT.
-use Rattle.std.specs.Prelude.{◌≡◌, ℕ, ◌*◌, ◌^◌, ◌⊎◌, List, [], Option, Some, None}
-use Rattle.eel_base.specs.Outside.{IsMissing, stored}
+use Rattle.std.specs.Prelude.{◌≡◌, ℕ, ◌*◌, ◌^◌, List, [], Option, Some, None}
 use Rattle.cfg_view.specs.View.{Seen, view_of}
 use Rattle.weights_in.specs.Weights.{AreRefused, AreWeights}
 use Rattle.weights_in.specs.declared.reading.WeightFault.{WeightFault}
@@ -11,7 +10,8 @@ use Rattle.eel.specs.declared.outcome.LineCause.{LineCause}
 use Rattle.eel.specs.declared.outcome.LineCause.TheVariants as causes
 use Rattle.eel.specs.Outcome.{Outcome, BadFile, BadLine, NoRoom, OutOfMemory}
 use Rattle.eel.specs.Answers.Files.{IsFaulty, IsSound}
-use Rattle.eel.specs.Answers.Shared.{Store, Meaning, WasRead, IsUnread, IsPut, IsUnused, IsQuiet, IsSilent, edit_limit}
+use Rattle.eel.specs.Answers.MakeBy.{MakingBy, make_by_means}
+use Rattle.eel.specs.Answers.Shared.{Meaning, edit_limit}
 use Rattle.eel.specs.Answers.Profile.{AreCells, IsProfileOf, graph_in, profile_plan}
 
 -- how long the lines may be
@@ -60,41 +60,13 @@ abbrev pub IsWeighedEdit : List ℕ → List ℕ → List ℕ → Type 0
 IsWeighedEdit bytes lines file =
     (weights : List ℕ) × AreWeightsOf bytes lines weights × IsProfileOf weights bytes file
 
--- How such an edit goes, step by step, and what comes of it.
-pub data Weighs (input output name : List ℕ) (old new : Store) (outcome : Outcome) : Type 0 where
-  -- IN gave no bytes
-  unread : IsUnread old new input edit_limit outcome → new.held ≡ old.held
-      → Weighs input output name old new outcome
-  -- IN was read, and WEIGHTS gave no bytes
-  unweighed : (bytes : List ℕ) → WasRead old input edit_limit bytes
-      → IsUnread old new name weights_limit outcome → new.held ≡ old.held
-      → Weighs input output name old new outcome
-  -- both were read, and IN isn't edited
-  refused : (bytes : List ℕ) → WasRead old input edit_limit bytes
-      → (lines : List ℕ) → WasRead old name weights_limit lines
-      → IsNotWeighed input bytes name lines outcome → new.held ≡ old.held
-      → Weighs input output name old new outcome
-  -- a file with counters was made of IN, and was to be put as OUT
-  put : (bytes : List ℕ) → WasRead old input edit_limit bytes
-      → (lines : List ℕ) → WasRead old name weights_limit lines
-      → (file : List ℕ) → IsWeighedEdit bytes lines file → IsPut old new output file outcome
-      → Weighs input output name old new outcome
-
--- the edit is done
-pub record WasWeighed (input output name : List ℕ) (old new : Store) : Type 0 where
-  pub bytes : List ℕ
-  pub read : WasRead old input edit_limit bytes
-  pub lines : List ℕ
-  pub lines_read : WasRead old name weights_limit lines
-  pub file : List ℕ
-  pub made : IsWeighedEdit bytes lines file
-  pub held : new.held ≡ stored old.held output file
+abbrev pub weighing : MakingBy
+weighing = record {
+  limit = edit_limit;
+  line_limit = weights_limit;
+  refuses = IsNotWeighed;
+  makes = IsWeighedEdit;
+}
 
 abbrev pub weighed_means : List ℕ → List ℕ → List ℕ → Meaning
-weighed_means input output name = record {
-  follows = λ old new outcome.
-      Weighs input output name old.files new.files outcome × IsUnused old new × IsQuiet old new;
-  does = λ old new. WasWeighed input output name old.files new.files × IsUnused old new × IsQuiet old new;
-  wants = IsSilent;
-  lacks = λ files. IsMissing files.held input ⊎ IsMissing files.held name;
-}
+weighed_means input output name = make_by_means weighing input output name

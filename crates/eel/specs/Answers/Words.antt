@@ -1,11 +1,11 @@
 -- `words LISTING OUT`: the file LISTING is read as a listing, and its words are written as OUT.
 use Rattle.std.specs.Prelude.{◌≡◌, ℕ, ◌*◌, ◌^◌, List}
-use Rattle.eel_base.specs.Outside.{IsMissing, stored}
 use Rattle.elf32_write.specs.Bytes.{words_bytes}
 use Rattle.v8_text.specs.Listings.{IsBadLine, IsListing}
 use Rattle.eel.specs.declared.outcome.LineCause.TheVariants as causes
 use Rattle.eel.specs.Outcome.{Outcome, BadLine, OutOfMemory}
-use Rattle.eel.specs.Answers.Shared.{Store, Meaning, WasRead, IsUnread, IsPut, IsUnused, IsQuiet, IsSilent}
+use Rattle.eel.specs.Answers.Make.{Making, make_means}
+use Rattle.eel.specs.Answers.Shared.{Meaning}
 
 -- how long a listing may be
 abbrev pub listing_limit : ℕ
@@ -21,33 +21,9 @@ IsNotListing name bytes (BadLine named number causes.Grammar) = (named ≡ name)
 IsNotListing name bytes OutOfMemory = Unit {0}
 IsNotListing name bytes _ = ⊥
 
--- How it goes, step by step, and what comes of it.
-pub data Assembles (listing output : List ℕ) (old new : Store) (outcome : Outcome) : Type 0 where
-  -- LISTING gave no bytes
-  unread : IsUnread old new listing listing_limit outcome → new.held ≡ old.held
-      → Assembles listing output old new outcome
-  -- LISTING was read, and is none
-  refused : (bytes : List ℕ) → WasRead old listing listing_limit bytes
-      → IsNotListing listing bytes outcome → new.held ≡ old.held
-      → Assembles listing output old new outcome
-  -- its words were to be put as OUT
-  put : (bytes : List ℕ) → WasRead old listing listing_limit bytes
-      → (file : List ℕ) → IsAssembled bytes file → IsPut old new output file outcome
-      → Assembles listing output old new outcome
-
--- the words are written
-pub record WereAssembled (listing output : List ℕ) (old new : Store) : Type 0 where
-  pub bytes : List ℕ
-  pub read : WasRead old listing listing_limit bytes
-  pub file : List ℕ
-  pub made : IsAssembled bytes file
-  pub held : new.held ≡ stored old.held output file
+-- its words are written
+abbrev pub assembling : Making
+assembling = record { limit = listing_limit; refuses = IsNotListing; makes = IsAssembled }
 
 abbrev pub words_means : List ℕ → List ℕ → Meaning
-words_means listing output = record {
-  follows = λ old new outcome.
-      Assembles listing output old.files new.files outcome × IsUnused old new × IsQuiet old new;
-  does = λ old new. WereAssembled listing output old.files new.files × IsUnused old new × IsQuiet old new;
-  wants = IsSilent;
-  lacks = λ files. IsMissing files.held listing;
-}
+words_means listing output = make_means assembling listing output

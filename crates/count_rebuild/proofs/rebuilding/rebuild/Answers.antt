@@ -14,6 +14,12 @@ use Rattle.count_rebuild.proofs.TheFlow.{flow_to, impossible, stands_inside}
 use Rattle.count_rebuild.proofs.Values.{whole_flow}
 use Rattle.count_rebuild.proofs.rebuilding.rebuild.Goals as goal
 
+pub returns-in_err-keep_tool-clause-refused : goal.returns-in_err-keep_tool-clause-refused
+returns-in_err-keep_tool-clause-refused c =
+    let p = err_from_is_err_and c.from_residual.result c.from_residual.ensures.1 in
+    rw p.1 (subst (IsRefused (notes_seen c.args.n.now) (dump_seen c.args.d.now)) (sym p.2)
+    (c.in_err-keep_tool.ensures.refused (dump_seen c.args.d.now)))
+
 pub returns-in_err-tree-clause-refused : goal.returns-in_err-tree-clause-refused
 returns-in_err-tree-clause-refused c =
     let p = err_from_is_err_and c.from_residual-in_err-tree.result c.from_residual-in_err-tree.ensures.1 in

@@ -1,4 +1,4 @@
-use Rattle.eel.specs.Answers.Words.{refused, put}
+use Rattle.eel.specs.Answers.Make.{refused, put}
 use Rattle.eel.proofs.Later.{put-later}
 use Rattle.eel.proofs.assembly.assemble_words.Goals as goal
 

@@ -1,12 +1,12 @@
 use Rattle.std.proofs.Common.{◌∙◌, arith}
-use Rattle.eel.specs.Answers.Script.{unscripted, refused, put}
+use Rattle.eel.specs.Answers.MakeBy.{unlined, refused, put}
 use Rattle.eel.specs.Answers.Shared.{store}
 use Rattle.eel.proofs.Later.{put-later, read-later, unread-later}
 use Rattle.eel.proofs.edit.edit_by_script.Goals as goal
 
 pub returns-in-Err-fetch_file-clause-scripts : goal.returns-in-Err-fetch_file-clause-scripts
 returns-in-Err-fetch_file-clause-scripts g c =
-    unscripted c.in-Ok.bytes.items c.in-Ok.ensures.read
+    unlined c.in-Ok.bytes.items c.in-Ok.ensures.read
     (unread-later _ _ _ _
     (store (g.F.Files.held c.fetch_file-2.new.files) (g.F.Files.faults c.fetch_file-2.new.files)) _ _ _
     c.fetch_file.ensures.kept c.fetch_file.ensures.later c.in-Err-fetch_file.ensures.unread) (c.fetch_file-2.ensures.kept ∙ c.fetch_file.ensures.kept)
@@ -17,7 +17,7 @@ returns-in-Ok-scripted-clause-scripts g c =
     let first = c.fetch_file.ensures.later in
     let second = c.fetch_file-2.ensures.later in
     put c.in-Ok.bytes.items c.in-Ok.ensures.read c.in-Ok-fetch_file.lines.items
-    (read-later _ _ _ _ _ _ _ c.fetch_file.ensures.kept c.in-Ok-fetch_file.ensures.read) made.0 made.1 _ made.2
+    (read-later _ _ _ _ _ _ _ c.fetch_file.ensures.kept c.in-Ok-fetch_file.ensures.read) _ made
     (put-later _ _ (g.F.Files.faults c.args.files.now) (g.F.Files.faults c.fetch_file-2.new.files) _ _ _ _
     (c.fetch_file-2.ensures.kept ∙ c.fetch_file.ensures.kept) (omega (arith, first, second))
     (rw c.deref-in-Ok-scripted.ensures.value at c.put_file.ensures.put))

@@ -1,4 +1,5 @@
-use Rattle.eel.specs.Answers.Edit.{plain_plan, refused, put}
+use Rattle.eel.specs.Answers.Edit.{plain_plan}
+use Rattle.eel.specs.Answers.Make.{refused, put}
 use Rattle.eel.proofs.Editing.{edit_refused}
 use Rattle.eel.proofs.Later.{put-later}
 use Rattle.eel.proofs.edit.edit_plain.Goals as goal

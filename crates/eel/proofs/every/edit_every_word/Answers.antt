@@ -1,5 +1,5 @@
 use Rattle.eel.specs.Answers.Every.{every_word}
-use Rattle.eel.specs.Answers.Profile.{refused, put}
+use Rattle.eel.specs.Answers.Make.{refused, put}
 use Rattle.eel.proofs.Later.{put-later}
 use Rattle.eel.proofs.ProfileEdits.{profile_refused}
 use Rattle.eel.proofs.every.edit_every_word.Goals as goal

@@ -1,4 +1,5 @@
-use Rattle.eel.specs.Answers.Profile.{no_words, refused, put}
+use Rattle.eel.specs.Answers.Make.{refused, put}
+use Rattle.eel.specs.Answers.Profile.{no_words}
 use Rattle.eel.proofs.Later.{put-later}
 use Rattle.eel.proofs.ProfileEdits.{profile_refused}
 use Rattle.eel.proofs.profiling.edit_for_counts.Goals as goal

@@ -1,4 +1,4 @@
-use Rattle.eel.specs.Answers.Restore.{refused, put}
+use Rattle.eel.specs.Answers.Make.{refused, put}
 use Rattle.eel.proofs.Later.{put-later}
 use Rattle.eel.proofs.restore.restore_original.Goals as goal
 

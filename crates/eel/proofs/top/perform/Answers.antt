@@ -26,13 +26,9 @@ pub returns-in-EditEvery-clause-follows : goal.returns-in-EditEvery-clause-follo
 returns-in-EditEvery-clause-follows g c =
     rw (← c.in-EditEvery.ensures.command) (c.edit_every_word.ensures.profiles, refl, (refl, refl))
 
-pub returns-in-Visits-clause-follows : goal.returns-in-Visits-clause-follows
-returns-in-Visits-clause-follows g c =
-    rw (← c.in-Visits.ensures.command) (c.count_visits.ensures.visits _ _, c.count_visits.ensures.kept, refl)
-
-pub returns-in-Counts-clause-follows : goal.returns-in-Counts-clause-follows
-returns-in-Counts-clause-follows g c =
-    rw (← c.in-Counts.ensures.command) (c.count_edges.ensures.counts _ _, c.count_edges.ensures.kept, refl)
+pub returns-in-ReportRun-clause-follows : goal.returns-in-ReportRun-clause-follows
+returns-in-ReportRun-clause-follows g c =
+    rw (← c.in-ReportRun.ensures.command) (c.report_run.ensures.reports _ _, c.report_run.ensures.kept, refl)
 
 pub returns-in-Restore-clause-follows : goal.returns-in-Restore-clause-follows
 returns-in-Restore-clause-follows g c =
@@ -61,7 +57,3 @@ returns-in-EditWeighed-clause-follows g c =
 pub returns-in-EditTrace-clause-follows : goal.returns-in-EditTrace-clause-follows
 returns-in-EditTrace-clause-follows g c =
     rw (← c.in-EditTrace.ensures.command) (c.edit_for_trace.ensures.traces, refl, (refl, refl))
-
-pub returns-in-Trace-clause-follows : goal.returns-in-Trace-clause-follows
-returns-in-Trace-clause-follows g c =
-    rw (← c.in-Trace.ensures.command) (c.trace_edges.ensures.tells _ _, c.trace_edges.ensures.kept, refl)

@@ -1,4 +1,5 @@
-use Rattle.eel.specs.Answers.Trace.{refused, put, trace_plan}
+use Rattle.eel.specs.Answers.Make.{refused, put}
+use Rattle.eel.specs.Answers.Trace.{trace_plan}
 use Rattle.eel.proofs.Editing.{edit_refused}
 use Rattle.eel.proofs.Later.{put-later}
 use Rattle.eel.proofs.tracing.edit_for_trace.Goals as goal

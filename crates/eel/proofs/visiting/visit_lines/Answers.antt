@@ -12,17 +12,15 @@ use Rattle.eel.proofs.visiting.visit_lines.Goals as goal
 pub returns-in-Ok-told-clause-lines : goal.returns-in-Ok-told-clause-lines
 returns-in-Ok-told-clause-lines c =
     let (visits, are, tell) = c.in-Ok-told.ensures in
-    let seen = c.in-Ok-every_word_in.ensures.view in
+    let seen = c.in-Ok.ensures.view in
+    let notes = notes_seen c.args.notes.now in
     record {
-      notes = notes_seen c.in-Ok.notes;
-      dump = dump_seen c.in-Ok-dump_in.state;
       counts = c.in-Ok-rebuild.times.items;
       visits = visits;
-      read = record { noted = c.in-Ok.ensures.notes; dumped = c.in-Ok-dump_in.ensures.dump };
-      every = c.in-Ok-every_word_in.ensures.every;
+      every = c.in-Ok.ensures.every;
       flow = c.in-Ok-rebuild.ensures.counts;
-      are = subst (λ (view : Seen). AreVisits view (notes_seen c.in-Ok.notes) (dump_seen c.in-Ok-dump_in.state)
-          c.in-Ok-rebuild.times.items visits) seen (rw c.deref.ensures.value at are);
+      are = subst (λ (view : Seen). AreVisits view notes (dump_seen c.args.state.now) c.in-Ok-rebuild.times.items visits)
+          seen (rw c.deref.ensures.value at are);
       tell = tell ∙ ap (λ (view : Seen). visit_lines view.image.text visits) seen
-          ∙ ap (λ (program : Program). visit_lines program.text visits) (view_image (original_in c.args.file.now (notes_seen c.in-Ok.notes)) _);
+          ∙ ap (λ (program : Program). visit_lines program.text visits) (view_image (original_in c.args.file.now notes) _);
     }

@@ -1,0 +1,29 @@
+use Rattle.std.proofs.Common.{refl}
+use Rattle.eel.specs.Answers.Report.{undumped, refused, printed}
+use Rattle.eel.specs.Answers.Shared.{store}
+use Rattle.eel.proofs.Later.{read-later, unread-later}
+use Rattle.eel.proofs.Unreported.{seldom_unreported}
+use Rattle.eel.proofs.report.report_run.Goals as goal
+
+pub returns-in-Err-fetch_file-clause-reports : goal.returns-in-Err-fetch_file-clause-reports
+returns-in-Err-fetch_file-clause-reports g c = λ feed err.
+    undumped c.in-Ok.file.items c.in-Ok.ensures.read
+    (unread-later _ _ _ _
+    (store (g.F.Files.held c.fetch_file-2.new.files) (g.F.Files.faults c.fetch_file-2.new.files)) _ _ _
+    c.fetch_file.ensures.kept c.fetch_file.ensures.later c.in-Err-fetch_file.ensures.unread) (refl, refl)
+
+pub returns-in-Ok-report_lines-clause-reports : goal.returns-in-Ok-report_lines-clause-reports
+returns-in-Ok-report_lines-clause-reports g c = λ feed err.
+    printed c.in-Ok.file.items c.in-Ok.ensures.read c.in-Ok-fetch_file.bytes.items
+    (read-later _ _ _ _ _ _ _ c.fetch_file.ensures.kept c.in-Ok-fetch_file.ensures.read)
+    c.in-Ok-report_lines.lines.items
+    (rw (c.deref.ensures.value, c.deref-2.ensures.value) at c.in-Ok-report_lines.ensures.lines)
+    (rw c.deref-in-Ok-report_lines.ensures.value at c.print.ensures.printed) refl
+
+pub returns-clause-reports : goal.returns-clause-reports
+returns-clause-reports g c = λ feed err.
+    refused c.in-Ok.file.items c.in-Ok.ensures.read c.in-Ok-fetch_file.bytes.items
+    (read-later _ _ _ _ _ _ _ c.fetch_file.ensures.kept c.in-Ok-fetch_file.ensures.read)
+    (rw (c.deref.ensures.value, c.deref-2.ensures.value) at c.in-Err-report_lines.ensures.refused)
+    (seldom_unreported _ _ _ _ _ _
+    (rw (c.deref.ensures.value, c.deref-2.ensures.value) at c.in-Err-report_lines.ensures.refused)) (refl, refl)

@@ -1,0 +1,42 @@
+//! The notes of written files, and dumps of their runs.
+ghost use Rattle.std.specs.Prelude.{◌≡◌, ◌≤◌, ◌+◌, ◌<◌, ◌^◌, IfOk, IfErr, Ok, length};
+ghost use Rattle.elf32_sparc.specs.Notes.{notes_of};
+ghost use Rattle.notes.specs.Rules.{AreNotes};
+ghost use Rattle.notes.specs.Seen.{notes_seen};
+ghost use Rattle.dump_file.specs.Dump.{dump_seen};
+ghost use Rattle.dump_file.specs.Reading.{read_dump};
+ghost use Rattle.eel.specs.Outcome.{outcome_seen};
+ghost use Rattle.eel.specs.Answers.Noted.{IsUndumped, IsUnnoted};
+
+use crate::outcome::Outcome;
+use dump_file::{Dump, DumpFault, read_dump};
+use notes::{Notes, NotesFault, read_notes};
+use std::alloc::Global;
+
+/// The notes of the file `name`.
+pub fn notes_in<'a>(alloc: Global, name: &'a str, file: &[u8]) -> Result<Notes, Outcome<'a>>
+    ensures notes { IfOk result (λ notes. notes_of file.now ≡ Ok (notes_seen notes)) }
+    ensures rules { IfOk result (λ notes. AreNotes (notes_seen notes)) }
+    ensures inside { IfOk result (λ notes. notes.delta + notes.length ≤ length file.now) }
+    ensures refused { IfErr result (λ outcome. IsUnnoted name.now file.now (outcome_seen outcome)) }
+{
+    match read_notes(alloc, file) {
+        Ok(notes) => Ok(notes),
+        Err(NotesFault::Absent) => Err(Outcome::NoNotes { name }),
+        Err(NotesFault::Bad(at)) => Err(Outcome::BadNotes { name, at }),
+        Err(NotesFault::NoMemory) => Err(Outcome::OutOfMemory),
+    }
+}
+
+/// The dump that the file `name` is.
+pub fn dump_in<'a>(alloc: Global, name: &'a str, bytes: &[u8]) -> Result<Dump, Outcome<'a>>
+    ensures dump { IfOk result (λ dump. read_dump bytes.now ≡ Ok (dump_seen dump)) }
+    ensures few { IfOk result (λ dump. length dump.cells.items < 2 ^ 32) }
+    ensures refused { IfErr result (λ outcome. IsUndumped name.now bytes.now (outcome_seen outcome)) }
+{
+    match read_dump(alloc, bytes) {
+        Ok(dump) => Ok(dump),
+        Err(DumpFault::Bad(at)) => Err(Outcome::BadDump { name, at }),
+        Err(DumpFault::NoMemory) => Err(Outcome::OutOfMemory),
+    }
+}

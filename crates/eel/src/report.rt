@@ -1,0 +1,117 @@
+//! The commands `counts`, `visits` and `trace`: what is told of a run by its dump.
+ghost use Rattle.std.specs.Prelude.{◌≡◌, ◌≤◌, ◌+◌, ◌<◌, ◌^◌, IfOk, IfErr, length};
+ghost use Rattle.notes.specs.Rules.{AreNotes};
+ghost use Rattle.notes.specs.Seen.{notes_seen};
+ghost use Rattle.dump_file.specs.Dump.{dump_seen};
+ghost use Rattle.eel.specs.Outcome.{Stream, outcome_seen, stream};
+ghost use Rattle.eel.specs.Answers.Shared.{Feed, outside, store};
+ghost use Rattle.eel.specs.Answers.Report.{IsRefused, IsReported, IsUnreported, Reports, Tell};
+
+use crate::counting::count_lines;
+use crate::noted::{dump_in, notes_in};
+use crate::outcome::Outcome;
+use crate::run::WRITTEN_LIMIT;
+use crate::texts::{fetch_file, print};
+use crate::trace::edge_lines;
+use crate::visiting::visit_lines;
+use dump_file::Dump;
+use eel_base::{Files, Sink};
+use notes::Notes;
+use std::alloc::Global;
+
+/// How many bytes a dump may have.
+const DUMP_LIMIT: u64 = 64 << 20;
+
+/// What is told of a run.
+#[derive(Clone, Copy)]
+pub enum Report {
+    /// How often each edge was completed.
+    Counts,
+    /// How often each instruction ran.
+    Visits,
+    /// The last edges that the run went along.
+    LastEdges,
+}
+
+/// Reads the file `written` and the dump `dump` of a run of it, and prints what is asked for.
+pub fn report_run<'a, F: Files, O: Sink>(
+    alloc: Global,
+    report: Report,
+    files: &mut F,
+    written: &'a str,
+    dump: &'a str,
+    out: &mut O,
+) -> Outcome<'a>
+    // Whatever the input and the error stream are, they stay so.
+    ensures reports { (feed : Feed) (err : Stream) → Reports report written.now dump.now
+        (outside (store (F.held files.old) (F.faults files.old)) feed (stream (O.taken out.old) (O.faults out.old)) err)
+        (outside (store (F.held files.new) (F.faults files.new)) feed (stream (O.taken out.new) (O.faults out.new)) err)
+        (outcome_seen result) }
+    ensures kept { F.held files.new ≡ F.held files.old }
+    ensures files_faults { F.faults files.old ≤ F.faults files.new }
+    ensures out_faults { O.faults out.old ≤ O.faults out.new }
+{
+    let file = match fetch_file(alloc, files, written, WRITTEN_LIMIT) {
+        Ok(file) => file,
+        Err(outcome) => return outcome,
+    };
+    let bytes = match fetch_file(alloc, files, dump, DUMP_LIMIT) {
+        Ok(bytes) => bytes,
+        Err(outcome) => return outcome,
+    };
+    match report_lines(alloc, report, written, &file, dump, &bytes) {
+        Ok(lines) => print(out, &lines),
+        Err(outcome) => outcome,
+    }
+}
+
+/// The lines of what the file `written` and the dump `dump` tell.
+fn report_lines<'a>(
+    alloc: Global,
+    report: Report,
+    written: &'a str,
+    file: &[u8],
+    dump: &'a str,
+    bytes: &[u8],
+) -> Result<Vec<u8>, Outcome<'a>>
+    ensures lines { IfOk result (λ lines. IsReported report file.now bytes.now lines.items) }
+    ensures refused { IfErr result (λ outcome.
+        IsUnreported report written.now file.now dump.now bytes.now (outcome_seen outcome)) }
+{
+    let notes = match notes_in(alloc, written, file) {
+        Ok(notes) => notes,
+        Err(outcome) => return Err(outcome),
+    };
+    let state = match dump_in(alloc, dump, bytes) {
+        Ok(state) => state,
+        Err(outcome) => return Err(outcome),
+    };
+    match told(alloc, report, written, file, dump, &notes, &state) {
+        Ok(lines) => Ok(lines),
+        Err(outcome) => Err(outcome),
+    }
+}
+
+/// The lines of what the notes of the file `written` and the dump `dump` tell.
+fn told<'a>(
+    alloc: Global,
+    report: Report,
+    written: &'a str,
+    file: &[u8],
+    dump: &'a str,
+    notes: &Notes,
+    state: &Dump,
+) -> Result<Vec<u8>, Outcome<'a>>
+    requires rules { AreNotes (notes_seen notes.now) }
+    requires inside { notes.now.delta + notes.now.length ≤ length file.now }
+    requires few { length state.now.cells.items < 2 ^ 32 }
+    ensures lines { IfOk result (λ lines. Tell report file.now (notes_seen notes.now) (dump_seen state.now) lines.items) }
+    ensures refused { IfErr result (λ outcome. IsRefused report written.now file.now dump.now (notes_seen notes.now)
+        (dump_seen state.now) (outcome_seen outcome)) }
+{
+    match report {
+        Report::Counts => count_lines(alloc, written, dump, notes, state),
+        Report::Visits => visit_lines(alloc, written, file, dump, notes, state),
+        Report::LastEdges => edge_lines(alloc, written, dump, notes, state),
+    }
+}
