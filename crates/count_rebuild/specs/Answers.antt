@@ -66,8 +66,8 @@ pub record IsTooLarge (notes : Notes) (dump : Dump) (edge : ℕ) (value : ℤ) :
   pub whole : (e : ℕ) → e < length notes.edges → is_negative (flow e) ≡ false
   pub first : IsFirst is_large (length notes.edges) flow edge value
 
--- A refusal has its cause. Want of memory comes only where the tool is that of a profile: whether the edges without a cell
--- are a spanning tree takes memory, and all else is judged after that.
+-- A refusal has its cause. Want of memory comes only where the tool is that of a profile: whether the edges without a
+-- cell are a spanning tree takes memory, and all else is judged after that.
 abbrev pub IsRefused : Notes → Dump → CountFault → Type 0
 IsRefused notes dump faults.NoProfile = ¬ IsProfile notes
 IsRefused notes dump (faults.Version of wanted) = IsOfOther notes dump of wanted

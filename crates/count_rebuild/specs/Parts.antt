@@ -29,8 +29,8 @@ pub record AreWhole (flow : List ℤ) (counts : List ℕ) : Type 0 where
   pub are : counts ≡ map nat_abs flow
   pub whole : IsWhole flow
 
--- Or the first of its values that is below 0, or where none is the first that is too large. Want of memory comes only where
--- none is below 0.
+-- Or the first of its values that is below 0, or where none is the first that is too large. Want of memory comes only
+-- where none is below 0.
 abbrev pub IsBad : List ℤ → CountFault → Type 0
 IsBad flow (faults.Negative edge value) = IsFirst is_negative (length flow) (int_at flow) edge.0 value
 IsBad flow (faults.Large edge value) = IsWhole flow × IsFirst is_large (length flow) (int_at flow) edge.0 value

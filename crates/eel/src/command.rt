@@ -74,9 +74,9 @@ pub enum Command<'a> {
         written: &'a str,
         output: &'a str,
     },
-    /// `counts WRITTEN DUMP`, `visits WRITTEN DUMP`, `trace WRITTEN DUMP`: print how often each edge was completed by the run
-    /// of the file `written` that came to the dump `dump`, how often each instruction ran, if the file was edited for
-    /// `every` word, or the last edges that the run went along.
+    /// `counts WRITTEN DUMP`, `visits WRITTEN DUMP`, `trace WRITTEN DUMP`: print how often each edge was completed by the
+    /// run of the file `written` that came to the dump `dump`, how often each instruction ran, if the file was edited
+    /// for `every` word, or the last edges that the run went along.
     ReportRun {
         report: Report,
         written: &'a str,

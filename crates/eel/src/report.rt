@@ -105,7 +105,8 @@ fn told<'a>(
     requires rules { AreNotes (notes_seen notes.now) }
     requires inside { notes.now.delta + notes.now.length ≤ length file.now }
     requires few { length state.now.cells.items < 2 ^ 32 }
-    ensures lines { IfOk result (λ lines. Tell report file.now (notes_seen notes.now) (dump_seen state.now) lines.items) }
+    ensures lines { IfOk result (λ lines.
+        Tell report file.now (notes_seen notes.now) (dump_seen state.now) lines.items) }
     ensures refused { IfErr result (λ outcome. IsRefused report written.now file.now dump.now (notes_seen notes.now)
         (dump_seen state.now) (outcome_seen outcome)) }
 {

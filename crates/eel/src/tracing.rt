@@ -29,7 +29,8 @@ pub fn edit_for_trace<'a, F: Files>(
 ) -> Outcome<'a>
     requires some { 1 ≤ bits }
     requires few { bits ≤ 16 }
-    ensures traces { Makes (editing (trace_plan bits)) input.now output.now (store (F.held files.old) (F.faults files.old))
+    ensures traces { Makes (editing (trace_plan bits)) input.now output.now
+        (store (F.held files.old) (F.faults files.old))
         (store (F.held files.new) (F.faults files.new)) (outcome_seen result) }
     ensures later { F.faults files.old ≤ F.faults files.new }
 {

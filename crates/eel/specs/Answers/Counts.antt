@@ -36,8 +36,8 @@ HasCause notes dump (causes.Between pc) = IsBetween notes dump pc.0
 HasCause notes dump (causes.Negative edge value) = IsImpossible notes dump edge.0 value
 HasCause notes dump (causes.Large edge value) = IsTooLarge notes dump edge.0 value
 
--- There are no counts by the notes of the file `written` and by the dump `name`. Want of memory comes only where the tool
--- of the notes is that of a profile.
+-- There are no counts by the notes of the file `written` and by the dump `name`. Want of memory comes only where the
+-- tool of the notes is that of a profile.
 abbrev pub IsUncounted : List ℕ → List ℕ → Notes → Dump → Outcome → Type 0
 IsUncounted written name notes dump (NoProfile named) = (named ≡ written) × ¬ HasProfile notes
 IsUncounted written name notes dump (NoCounts named cause) = (named ≡ name) × HasCause notes dump cause

@@ -30,8 +30,8 @@ pub record IsNoted (bytes : List ℕ) (notes : Notes) : Type 0 where
   pub reads : notes_of bytes ≡ Ok notes
   pub mapped : AreMapped bytes notes
 
--- The notes are read, and their cells aren't mapped: the word at 24 is the address of the cells. Memory may be wanting for
--- what is mapped.
+-- The notes are read, and their cells aren't mapped: the word at 24 is the address of the cells. Memory may be wanting
+-- for what is mapped.
 abbrev pub AreUnmapped : List ℕ → List ℕ → Outcome → Type 0
 AreUnmapped name bytes (BadNotes named at) =
     (notes : Notes) × (named ≡ name) × (at ≡ 24) × (notes_of bytes ≡ Ok notes) × (0 < notes.cells)

@@ -1,5 +1,5 @@
--- `counts WRITTEN DUMP`, `visits WRITTEN DUMP`, `trace WRITTEN DUMP`: the file WRITTEN and the dump DUMP are read, the notes
--- of the one and then the other are judged, and then whether they tell what is asked for; that is printed.
+-- `counts WRITTEN DUMP`, `visits WRITTEN DUMP`, `trace WRITTEN DUMP`: the file WRITTEN and the dump DUMP are read, the
+-- notes of the one and then the other are judged, and then whether they tell what is asked for; that is printed.
 use Rattle.std.specs.Prelude.{◌≡◌, ℕ, ◌⊎◌, List}
 use Rattle.eel_base.specs.Outside.{IsMissing, appended}
 use Rattle.elf32_sparc.specs.Notes.{Notes}
@@ -46,7 +46,8 @@ IsExact reports.LastEdges file notes dump lines tell = AreTheLast file notes dum
 abbrev pub IsUnreported : Report → List ℕ → List ℕ → List ℕ → List ℕ → Outcome → Type 0
 IsUnreported report written file name bytes outcome =
     AreUnread written file name bytes outcome
-    ⊎ ((notes : Notes) × (dump : Dump) × AreRead file bytes notes dump × IsRefused report written file name notes dump outcome)
+    ⊎ ((notes : Notes) × (dump : Dump) × AreRead file bytes notes dump
+    × IsRefused report written file name notes dump outcome)
 
 -- the lines tell it
 pub record IsReported (report : Report) (file bytes lines : List ℕ) : Type 0 where
@@ -70,7 +71,8 @@ pub data Reports (report : Report) (written dump : List ℕ) (old new : Outside)
   refused : (file : List ℕ) → WasRead old.files written written_limit file
       → (bytes : List ℕ) → WasRead old.files dump dump_limit bytes
       → IsUnreported report written file dump bytes outcome
-      → ((notes : Notes) (state : Dump) → AreRead file bytes notes state → IsSeldom report file dump notes state outcome)
+      → ((notes : Notes) (state : Dump) → AreRead file bytes notes state
+      → IsSeldom report file dump notes state outcome)
       → IsQuiet old new
       → Reports report written dump old new outcome
   -- the lines were to be printed

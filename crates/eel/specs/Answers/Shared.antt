@@ -104,7 +104,8 @@ files_mean follows does lacks = record {
 }
 
 -- that of a command which reads files and prints, and does nothing else
-abbrev pub prints_mean : (Outside → Outside → Outcome → Type 0) → (Outside → Outside → Type 0) → (Store → Type 0) → Meaning
+abbrev pub prints_mean : (Outside → Outside → Outcome → Type 0) → (Outside → Outside → Type 0) → (Store → Type 0)
+    → Meaning
 prints_mean follows does lacks = record {
   follows = λ old new outcome. follows old new outcome × (new.files.held ≡ old.files.held) × IsUnused old new;
   does = λ old new. does old new × (new.files.held ≡ old.files.held) × IsUnused old new;

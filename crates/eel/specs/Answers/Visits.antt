@@ -33,8 +33,8 @@ IsNotEveryWord name file notes (NotEveryWord named) = (named ≡ name) × ¬ Has
 IsNotEveryWord name file notes OutOfMemory = IsSound (original_in file notes)
 IsNotEveryWord name file notes _ = ⊥
 
--- There are no visits by the notes of the file `written` and by the dump `name`: whether every word is marked is judged,
--- and then whether there are counts.
+-- There are no visits by the notes of the file `written` and by the dump `name`: whether every word is marked is
+-- judged, and then whether there are counts.
 abbrev pub IsUnvisited : List ℕ → List ℕ → List ℕ → Notes → Dump → Outcome → Type 0
 IsUnvisited written file name notes dump (NotEveryWord named) = (named ≡ written) × ¬ HasEveryWord file notes
 IsUnvisited written file name notes dump (NoProfile named) =

@@ -19,8 +19,9 @@ returns-in-Ok-told-clause-lines c =
       visits = visits;
       every = c.in-Ok.ensures.every;
       flow = c.in-Ok-rebuild.ensures.counts;
-      are = subst (λ (view : Seen). AreVisits view notes (dump_seen c.args.state.now) c.in-Ok-rebuild.times.items visits)
-          seen (rw c.deref.ensures.value at are);
+      are = subst
+          (λ (view : Seen). AreVisits view notes (dump_seen c.args.state.now) c.in-Ok-rebuild.times.items visits) seen (rw c.deref.ensures.value at are);
       tell = tell ∙ ap (λ (view : Seen). visit_lines view.image.text visits) seen
-          ∙ ap (λ (program : Program). visit_lines program.text visits) (view_image (original_in c.args.file.now notes) _);
+          ∙ ap (λ (program : Program). visit_lines program.text visits)
+          (view_image (original_in c.args.file.now notes) _);
     }
