@@ -1,5 +1,8 @@
 //! Files of the system that are put whole: what stood under a name stays until all bytes of the new file are
 //! written. What the system does is trusted.
+ghost use Rattle.std.specs.Prelude.{◌≡◌};
+ghost use Rattle.eel_base.specs.Real.{is_program, mode_of};
+
 use std::alloc::Alloc;
 use std::fs::{OpenFile, OpenOptions, Permissions};
 use std::io::{Error, ErrorKind, Write};
@@ -56,7 +59,8 @@ fn replace<R: rt::Files + Alloc>(
     old: Option<Permissions>,
     bytes: &[u8],
 ) -> io::Result<()> {
-    let mode = mode_for(&old, bytes);
+    let had = old.as_ref().map(|permissions| permissions.mode());
+    let mode = mode_for(had, is_program(bytes));
     let (fresh, file) = create_beside(rt, path, mode)?;
     let done = match write_synced(file, old.is_some().then_some(mode), bytes) {
         Ok(()) => fs::rename(rt, fresh.as_path(), path),
@@ -69,16 +73,25 @@ fn replace<R: rt::Files + Alloc>(
 }
 
 /// The mode of the old file, or the usual one; who may read a program may execute it, too.
-fn mode_for(old: &Option<Permissions>, bytes: &[u8]) -> u32 {
+fn mode_for(old: Option<u32>, is_program: bool) -> u32
+    ensures { result ≡ mode_of old is_program }
+{
     let mode = match old {
-        Some(permissions) => permissions.mode() & 0o777,
+        Some(mode) => mode & 0o777,
         None => 0o666,
     };
-    if bytes.starts_with(&ELF_MAGIC) {
+    if is_program {
         mode | (mode & 0o444) >> 2
     } else {
         mode
     }
+}
+
+/// The bytes begin as a program's.
+fn is_program(bytes: &[u8]) -> bool
+    ensures { result ≡ is_program bytes.now }
+{
+    bytes.starts_with(&ELF_MAGIC)
 }
 
 /// A new file in the path's directory, under a name that nothing had.
