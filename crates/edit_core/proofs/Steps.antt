@@ -84,7 +84,8 @@ module _ (fits : PiecesFit) {image : Program} {graph : Graph} {asked : Asked} (c
       let made = operations_few graph asked.kind asked.cells asked.snips.items can.work in
       let small = small_tables image.text can.text in
       let most = room_with_cases asked.cells (length image.text.words) (length (case_numbers image.text graph))
-      (tables_size image.text) (long_bytes new_pieces) _ (entries_few image.text graph can.text can.graph) small bytes in
+      (tables_size image.text) (long_bytes new_pieces) _
+      (entries_few image.text graph can.text can.graph) small bytes in
       omega (arith, can.room)
 
 -- how many bytes they have

@@ -340,10 +340,10 @@ pub record HasRoom (image : Program) (g : Graph) (asked : Asked) : Type 0 where
   pub base : image.base % 4096 ≡ 0
   pub low : image.base + image.room ≤ 2 ^ 31
 
--- Pieces are those of a view, with snippets that take what is dead behind them. These are the pieces of the words, of the
--- Case edges, of what lies outside the text, and the one at which the program begins.
-pub record AreMade (image : Program) (graph : Graph) (asked : Asked) (pieces : List (List Item)) (words ways : List PieceNo)
-    (outside begin : PieceNo) : Type 0 where
+-- Pieces are those of a view, with snippets that take what is dead behind them. These are the pieces of the words, of
+-- the Case edges, of what lies outside the text, and the one at which the program begins.
+pub record AreMade (image : Program) (graph : Graph) (asked : Asked) (pieces : List (List Item))
+    (words ways : List PieceNo) (outside begin : PieceNo) : Type 0 where
   pub dead : ℕ → List Part
   pub exact : AreDead image.text graph (named_on asked.snips.items) dead
   pub list : pieces ≡ pieces_by image.text graph image.base asked.cells dead asked.snips.items

@@ -49,7 +49,8 @@ edited-requires-clause-asked g c =
     let had = c.from-had.ensures ∙ c.room.ensures in (
       numbers c.args.tool.now.marks,
       view_is c.args.bytes.now plan _ seen,
-      can_edit c.args.bytes.now plan _ seen c.in_ok-view.ensures.fault (omega (arith, needed, had, c.if-had-needed.false)),
+      can_edit c.args.bytes.now plan _ seen c.in_ok-view.ensures.fault
+          (omega (arith, needed, had, c.if-had-needed.false)),
       view_can_do c.args.bytes.now plan _ seen c.in_ok-asked.ensures.work,
     )
 

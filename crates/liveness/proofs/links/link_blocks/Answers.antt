@@ -21,5 +21,5 @@ returns-clause-few c =
 
 pub returns-clause-added : goal.returns-clause-added
 returns-clause-added c =
-    adds_all (Contains c.args.links.now.items) (Contains c.loop-block.links.items) (LinksIn c.args.text.now c.args.graph.now) 0
-    c.loop-block.block (length c.args.graph.now.blocks.firsts) c.loop-block.invariant.added (omega arith)
+    adds_all (Contains c.args.links.now.items) (Contains c.loop-block.links.items)
+    (LinksIn c.args.text.now c.args.graph.now) 0 c.loop-block.block (length c.args.graph.now.blocks.firsts) c.loop-block.invariant.added (omega arith)

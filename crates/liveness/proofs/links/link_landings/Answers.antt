@@ -8,8 +8,8 @@ use Rattle.liveness.proofs.links.link_landings.Goals as goal
 pub loop-block-preserved : goal.loop-block-preserved
 loop-block-preserved c = record {
   added = adds_next (Contains c.args.links.now.items) (Contains c.loop-block.links.items)
-      (Contains c.link_onto_block.new.links.items) (LinksOntoBlock c.args.graph.now c.args.places.now.marks.items) 0 c.loop-block.block
-      (omega arith) c.loop-block.invariant.added c.in_ok-link_onto_block.ensures.added;
+      (Contains c.link_onto_block.new.links.items) (LinksOntoBlock c.args.graph.now c.args.places.now.marks.items) 0
+      c.loop-block.block (omega arith) c.loop-block.invariant.added c.in_ok-link_onto_block.ensures.added;
   few = few_next c.args.graph.now c.requires.places.of_graph.firsts (length c.args.links.now.items) _ _
       c.loop-block.block (omega arith) c.loop-block.invariant.few c.in_ok-link_onto_block.ensures.few;
 }
@@ -21,5 +21,5 @@ returns-clause-few c =
 
 pub returns-clause-added : goal.returns-clause-added
 returns-clause-added c =
-    adds_all (Contains c.args.links.now.items) (Contains c.loop-block.links.items) (LinksOntoBlock c.args.graph.now c.args.places.now.marks.items) 0
-    c.loop-block.block (length c.args.graph.now.blocks.firsts) c.loop-block.invariant.added (omega arith)
+    adds_all (Contains c.args.links.now.items) (Contains c.loop-block.links.items)
+    (LinksOntoBlock c.args.graph.now c.args.places.now.marks.items) 0 c.loop-block.block (length c.args.graph.now.blocks.firsts) c.loop-block.invariant.added (omega arith)
