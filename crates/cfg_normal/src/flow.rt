@@ -3,6 +3,7 @@ ghost use Rattle.std.specs.Prelude.{◌≡◌, ◌+◌, ◌^◌, ◌<◌, ◌≤
 ghost use Rattle.std.specs.List.{All};
 ghost use Rattle.cfg_blocks.specs.Blocks.{block_end, end_of, holding_of, size_of};
 ghost use Rattle.cfg_normal.specs.Graph.{graph_of, lands, IsGraph};
+ghost use Rattle.cfg_normal.specs.Landings.{IsNumbered};
 ghost use Rattle.cfg_normal.specs.Opens.{is_copied, opens_of, IsTableIn};
 
 use crate::edges::edges_of;
@@ -51,7 +52,8 @@ impl FlowGraph {
 
     /// The node at which control lands that comes to the word `w` from outside: X where the text has no such word.
     pub fn lands(&self, w: WordNo) -> Node
-        ensures { result ≡ lands self.now (Some w.0) }
+        ensures node { result ≡ lands self.now (Some w.0) }
+        ensures numbered { IsNumbered (length self.now.blocks.firsts) result }
     {
         if w.0 < self.nodes.words() {
             self.nodes.lands(w)

@@ -1,30 +1,31 @@
 //! Nodes and kinds of edges by numbers.
-ghost use Rattle.std.specs.Prelude.{◌≡◌};
-ghost use Rattle.cfg_normal.specs.Graph.{IsNodeIn};
-ghost use Rattle.cfg_normal.specs.Numbers.{kind_number as kind_number_of, node_number as node_number_of};
+ghost use Rattle.std.specs.Prelude.{◌≡◌, ◌^◌, ◌<◌, ◌≤◌, length};
+ghost use Rattle.cfg_normal.specs.Landings.{IsNumbered};
+ghost use Rattle.cfg_normal.specs.Numbers.{kind_number as kind_number_of, node_number as node_number_of, node_numbers};
 
 use crate::{FlowGraph, Node};
 use cfg_blocks::EdgeKind;
 
 /// A block's own number, the number of blocks for all that lies outside, and those behind it for landed copies.
 pub fn node_number(graph: &FlowGraph, node: Node) -> u32
-    requires { IsNodeIn graph.now.blocks graph.now.opens node }
-    ensures { result ≡ node_number_of graph.now node }
+    requires { IsNumbered (length graph.now.blocks.firsts) node }
+    ensures number { result ≡ node_number_of graph.now node }
+    ensures within { result < node_numbers graph.now }
+    ensures few { node_numbers graph.now ≤ 2 ^ 22 }
 {
+    // A graph has few blocks.
+    let _edges = graph.edges();
     match node {
         Node::Block(block) => block.0,
         Node::X => graph.count(),
-        Node::Landed(block) => {
-            // A graph has few blocks.
-            let _edges = graph.edges();
-            graph.count() + 1 + block.0
-        }
+        Node::Landed(block) => graph.count() + 1 + block.0,
     }
 }
 
 /// The kinds of edges in their order.
 pub fn kind_number(kind: EdgeKind) -> u32
-    ensures { result ≡ kind_number_of kind }
+    ensures number { result ≡ kind_number_of kind }
+    ensures few { result < 7 }
 {
     match kind {
         EdgeKind::Fall => 0,
