@@ -4,7 +4,7 @@ use Rattle.std.specs.Prelude.{◌||◌, ◌&&◌, ◌==◌, if◌then◌else◌,
 use Rattle.std.proofs.lemmas.Bool.{cases_order, cases_lt, false≢true, lt-ltb, le-ltb}
 use Rattle.cfg_blocks.specs.Blocks.{AreFirsts, block_end, size_of, holding_of}
 use Rattle.cfg_normal.specs.Graph.{Graph, IsNodeIn, lands}
-use Rattle.cfg_normal.specs.Numbers.{node_number, node_numbers}
+use Rattle.cfg_normal.specs.Numbers.{node_number}
 use Rattle.cfg_normal.specs.Opens.{Open, compares_in, is_behind, is_copied, jumps_in}
 use Rattle.cfg_normal.specs.declared.Node.{Node}
 use Rattle.cfg_normal.specs.declared.Node.TheVariants.{Block, Landed, X}
@@ -208,12 +208,6 @@ module _ (graph : Graph) (f : AreFirsts graph.blocks.words graph.blocks.firsts) 
   place_once (Landed a) X w v h k e = absurd k
 
   -- ---- nodes by numbers
-
-  pub number_within : (node : Node) → IsNodeIn graph.blocks graph.opens node
-      → node_number graph node < node_numbers graph
-  number_within (Block b) h = omega (arith, h)
-  number_within (Landed b) h = omega (arith, h.0)
-  number_within X h = omega arith
 
   pub number_once : (one other : Node) → IsInside graph one → IsInside graph other
       → node_number graph one ≡ node_number graph other → one ≡ other

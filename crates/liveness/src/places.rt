@@ -1,11 +1,11 @@
 //! The places of a graph: the words of its text, those of landed copies, and nodes.
 ghost use Rattle.std.specs.Prelude.{◌≡◌, ℕ, ◌+◌, ◌*◌, ◌^◌, ◌<◌, ◌≤◌, ◌⊎◌, true, length, IfOk, OnOk};
 ghost use Rattle.cfg_normal.specs.Graph.{IsEdgeIn, IsGraph, IsNodeIn};
-ghost use Rattle.cfg_normal.specs.Numbers.{node_number, node_numbers};
+ghost use Rattle.cfg_normal.specs.Numbers.{node_number as node_number_of, node_numbers};
 ghost use Rattle.liveness.specs.Search.{is_marked, node_place, nodes_from, place_of, AreCopies, AreMarks, ArePlaces, IsInside, IsMarked, IsOf};
 
 use crate::effects::{edge_at, is_landing, is_outside};
-use cfg_normal::{Edge, FlowGraph, Node};
+use cfg_normal::{Edge, FlowGraph, Node, node_number};
 use eel_base::{BlockNo, Text};
 use std::alloc::{AllocError, Global};
 
@@ -58,7 +58,6 @@ fn place_copies(copies: &mut Vec<u32>, words: u32, graph: &FlowGraph) -> Result<
 
 /// Gives the node a place to which an edge from inside leads that lands there.
 fn mark_edge(marks: &mut Vec<bool>, graph: &FlowGraph, edge: Edge) -> Result<(), AllocError>
-    requires graph { IsGraph graph.now }
     requires edge { IsEdgeIn graph.now.blocks graph.now.opens edge }
     requires len { (length marks.old.items ≡ 0) ⊎ (length marks.old.items ≡ node_numbers graph.now) }
     ensures len { OnOk result ((length marks.new.items ≡ 0) ⊎ (length marks.new.items ≡ node_numbers graph.now)) }
@@ -71,22 +70,8 @@ fn mark_edge(marks: &mut Vec<bool>, graph: &FlowGraph, edge: Edge) -> Result<(),
     if marks.is_empty() {
         marks.resize(2 * graph.count() as usize + 1, false)?;
     }
-    marks[number(graph, edge.to) as usize] = true;
+    marks[node_number(graph, edge.to) as usize] = true;
     Ok(())
-}
-
-/// The number of a node.
-fn number(graph: &FlowGraph, node: Node) -> u32
-    requires graph { IsGraph graph.now }
-    requires node { IsNodeIn graph.now.blocks graph.now.opens node }
-    ensures number { result ≡ node_number graph.now node }
-    ensures within { result < node_numbers graph.now }
-{
-    match node {
-        Node::Block(block) => block.0,
-        Node::X => graph.count(),
-        Node::Landed(block) => graph.count() + 1 + block.0,
-    }
 }
 
 impl Places {
@@ -120,16 +105,16 @@ impl Places {
         requires node { IsNodeIn graph.now.blocks graph.now.opens node }
         ensures { result ≡ node_place graph.now node }
     {
-        self.nodes + number(graph, node)
+        self.nodes + node_number(graph, node)
     }
 
     /// Whether a node has a place.
     pub(crate) fn has_node(&self, graph: &FlowGraph, node: Node) -> bool
         requires places { ArePlaces graph.now self.now.copies.items self.now.nodes self.now.marks.items }
         requires node { IsNodeIn graph.now.blocks graph.now.opens node }
-        ensures { result ≡ is_marked self.now.marks.items (node_number graph.now node) }
+        ensures { result ≡ is_marked self.now.marks.items (node_number_of graph.now node) }
     {
-        match self.marks.get(number(graph, node) as usize) {
+        match self.marks.get(node_number(graph, node) as usize) {
             Some(mark) => *mark,
             None => false,
         }

@@ -6,4 +6,4 @@ pub overflow_add-result : goal.overflow_add-result
 overflow_add-result c =
     let p = c.requires.places in
     let g = p.of_graph in
-    omega (arith, nodes_high c.args.graph.now g.firsts, g.few, g.firsts.few, p.of_nodes, c.number.ensures.within)
+    omega (arith, nodes_high c.args.graph.now g.firsts, g.few, g.firsts.few, p.of_nodes, c.node_number.ensures.within)
