@@ -1,8 +1,8 @@
 //! The spanning tree, and the cells of the edges off it.
 ghost use Rattle.std.specs.Prelude.{◌≡◌, ◌^◌, ◌<◌, ◌≤◌, length, map, IfOk, IfSome};
 ghost use Rattle.std.specs.List.{All};
-ghost use Rattle.cfg_normal.specs.Graph.{Graph, IsGraph};
-ghost use Rattle.cfg_normal.specs.Numbers.{is_node, node_number};
+ghost use Rattle.cfg_normal.specs.Graph.{IsEdgeIn, IsGraph};
+ghost use Rattle.cfg_normal.specs.Numbers.{is_node};
 ghost use Rattle.flows.specs.Flows.{IsLeast, rest};
 ghost use Rattle.flows.specs.Links.{marked, weight_in};
 ghost use Rattle.flows.specs.Trees.{IsSpanningTree};
@@ -11,7 +11,7 @@ ghost use Rattle.span_tree.specs.Links.{link_of, links_of};
 ghost use Rattle.span_tree.specs.Ties.{rank_of};
 
 use crate::ranking::ranks;
-use cfg_normal::{FlowGraph, Node};
+use cfg_normal::{Edge, FlowGraph, node_number};
 use eel_base::{EdgeNo, NoMemory};
 use flow_tree::counted;
 use flows::Link;
@@ -97,26 +97,22 @@ fn links(alloc: Global, graph: &FlowGraph) -> Result<Vec<Link>, NoMemory>
     ensures links { IfOk result (λ links. links.items ≡ map (link_of graph.now) graph.now.edges) }
     ensures graph { IsGraph graph.now }
 {
-    let outside = graph.count();
     let edges = graph.edges();
     let mut links = Vec::with_capacity(alloc, edges.len())?;
     for edge in edges {
-        links.push(Link {
-            from: node_number(edge.from, outside),
-            to: node_number(edge.to, outside),
-        })?;
+        links.push(link(graph, edge))?;
     }
     Ok(links)
 }
 
-/// The number of a node, where that of the outside is the number of blocks.
-fn node_number(node: Node, outside: u32) -> usize
-    ensures { (graph : Graph) → length graph.blocks.firsts ≡ outside → result ≡ node_number graph node }
+/// An edge by the numbers of its nodes.
+fn link(graph: &FlowGraph, edge: &Edge) -> Link
+    requires { IsEdgeIn graph.now.blocks graph.now.opens edge.now }
+    ensures { result ≡ link_of graph.now edge.now }
 {
-    match node {
-        Node::Block(block) => block.0 as usize,
-        Node::X => outside as usize,
-        Node::Landed(block) => outside as usize + 1 + block.0 as usize,
+    Link {
+        from: node_number(graph, edge.from) as usize,
+        to: node_number(graph, edge.to) as usize,
     }
 }
 
