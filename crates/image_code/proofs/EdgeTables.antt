@@ -1,24 +1,21 @@
 -- The tables of first edges say which edges there are.
-use Rattle.std.proofs.Common.{◌≡◌, ℕ, ◌+◌, ◌*◌, ◌^◌, ◌<◌, Bool, true, false, ◌&&◌, ◌||◌, ◌==◌, List, [], ◌∷◌, suc, Option, Some, None, length, refl, ap, sym, ◌∙◌, arith, nat_lt}
+use Rattle.std.proofs.Common.{◌≡◌, ℕ, ◌+◌, ◌*◌, ◌^◌, ◌<◌, Bool, true, false, ◌&&◌, ◌||◌, ◌==◌, List, [], ◌∷◌, suc, Option, Some, None, length, refl, ap, sym, ◌∙◌, arith}
 use Rattle.std.specs.Prelude.{if◌then◌else◌, slice_index}
 use Rattle.std.specs.List.{list_any, position}
 use Rattle.std.specs.Option.{is_some, option_map, option_to_list}
-use Rattle.std.proofs.lemmas.Bool.{cond_both, eq-eqb, eqb-true, false≢true, ltb-true, ne_eqb}
+use Rattle.std.proofs.lemmas.Bool.{eq-eqb, eqb-true, false≢true, ne_eqb}
 use Rattle.eel_base.specs.declared.numbers.BlockNo.{BlockNo}
 use Rattle.cfg_blocks.specs.declared.EdgeKind.{EdgeKind}
 use Rattle.cfg_blocks.specs.declared.EdgeKind.TheVariants as kinds
-use Rattle.cfg_blocks.specs.Blocks.{holding_of}
 use Rattle.cfg_normal.specs.declared.Edge.{Edge}
 use Rattle.cfg_normal.specs.declared.Node.{Node}
 use Rattle.cfg_normal.specs.declared.Node.TheVariants.{Block, Landed, X}
-use Rattle.cfg_normal.specs.Opens.{is_behind, jumps_in}
-use Rattle.cfg_normal.specs.Graph.{Graph, IsEdgeIn, IsGraph, IsNodeIn, lands as lands_at}
+use Rattle.cfg_normal.specs.Graph.{Graph, IsEdgeIn, IsGraph, IsNodeIn}
 use Rattle.cfg_normal.specs.Landings.{IsNumbered}
 use Rattle.cfg_normal.specs.Nodes.{same_kind, same_node}
-use Rattle.cfg_normal.specs.Numbers.{node_number, node_numbers}
-use Rattle.cfg_walk.proofs.Holding.{in_held}
+use Rattle.cfg_normal.specs.Numbers.{kind_number, node_number, node_numbers}
 use Rattle.cfg_walk.specs.Walk.{edge_along, edge_from, landing_at}
-use Rattle.image_code.specs.Lookups.{AreFirst, case_key, edge_place, has_key, is_land, kind_number, mark_of, place_of}
+use Rattle.image_code.specs.Lookups.{AreFirst, case_key, edge_place, has_key, is_land, mark_of, place_of}
 use Rattle.image_code.proofs.FirstPlaces.{first_is, position-cons, position-same}
 
 -- ---- numbers by which nodes and kinds are told apart
@@ -253,17 +250,6 @@ pub case_edge_is : (graph : Graph) → IsGraph graph → (block : BlockNo) (to :
     → found ≡ position (has_key graph (case_key block.0 (node_number graph to))) graph.edges
     → option_to_list found ≡ edge_along graph (Block block) (record { kind = kinds.Case; to = Some to })
 case_edge_is graph g block to l h found is = ap option_to_list (is ∙ case_is graph g block to l h)
-
--- ---- where control lands
-
-pub lands_numbered : (graph : Graph) → IsGraph graph → (word : ℕ) → IsOneOf graph (lands_at graph (Some word))
-lands_numbered graph g word =
-    cond_both (nat_lt word graph.blocks.words) _ X (IsOneOf graph)
-    (λ e.
-    let held = (in_held graph.blocks.words graph.blocks.firsts g.firsts word (ltb-true _ _ e)).within in
-    cond_both (jumps_in graph.opens (holding_of graph.blocks word)
-    || is_behind graph.opens (holding_of graph.blocks word) word) _ _ (IsOneOf graph) (λ _. held) (λ _. held))
-    (λ _. tt)
 
 -- ---- whether there is one
 

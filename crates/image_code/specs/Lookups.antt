@@ -17,7 +17,7 @@ use Rattle.cfg_blocks.specs.Values.{followed, instr_at, sum_in}
 use Rattle.cfg_normal.specs.declared.Edge.{Edge}
 use Rattle.cfg_normal.specs.Graph.{Graph, IsGraph}
 use Rattle.cfg_normal.specs.Nodes.{same_kind}
-use Rattle.cfg_normal.specs.Numbers.{node_number, node_numbers}
+use Rattle.cfg_normal.specs.Numbers.{kind_number, node_number, node_numbers}
 use Rattle.cfg_normal.specs.Opens.{Open}
 use Rattle.image_code.specs.declared.lookups.Lookups.{Lookups}
 use Rattle.image_code.specs.Loads.{is_place, load_of}
@@ -87,15 +87,6 @@ pub record AreFirst {A : Type 0} (count : ℕ) (place_of : A → ℕ) (items : L
       → slice_index table place ≡ mark_of (position (λ item. place_of item == place) items)
 
 -- ---- edges
-
-abbrev pub kind_number : EdgeKind → ℕ
-kind_number kinds.Fall = 0
-kind_number kinds.Taken = 1
-kind_number kinds.Untaken = 2
-kind_number kinds.Call = 3
-kind_number kinds.Out = 4
-kind_number kinds.Land = 5
-kind_number kinds.Case = 6
 
 -- the place of the edges of a kind that leave the node with this number, of landings that lead to it
 abbrev pub place_of : ℕ → EdgeKind → ℕ

@@ -5,32 +5,14 @@ ghost use Rattle.std.specs.List.{position};
 ghost use Rattle.std.specs.Option.{option_or};
 ghost use Rattle.indexmap.specs.IndexMap.{get};
 ghost use Rattle.cfg_normal.specs.Graph.{IsEdgeIn};
-ghost use Rattle.cfg_normal.specs.Landings.{IsNumbered};
-ghost use Rattle.cfg_normal.specs.Numbers.{node_number as node_number_of, node_numbers};
-ghost use Rattle.image_code.specs.Lookups.{AreFirst, case_key as case_key_of, compare_place, edge_place as edge_place_of, first_mark, has_key, jump_place, kind_number as kind_number_of, mark_of, node_of_edge as node_of_edge_in, number_where};
+ghost use Rattle.cfg_normal.specs.Numbers.{node_numbers};
+ghost use Rattle.image_code.specs.Lookups.{AreFirst, case_key as case_key_of, compare_place, edge_place as edge_place_of, first_mark, has_key, jump_place, mark_of, node_of_edge as node_of_edge_in, number_where};
 
 use cfg_blocks::EdgeKind;
-use cfg_normal::{Edge, FlowGraph, Node};
+use cfg_normal::{Edge, FlowGraph, kind_number, node_number};
 use eel_base::NoMemory;
 use indexmap::IndexMap;
 use std::alloc::Global;
-
-/// The number of a node: a block's own, the one after the last block's for all that lies outside, and those behind it
-/// for landed copies.
-pub(crate) fn node_number(graph: &FlowGraph, node: Node) -> u32
-    requires node { IsNumbered (length graph.now.blocks.firsts) node }
-    ensures number { result ≡ node_number_of graph.now node }
-    ensures within { result < node_numbers graph.now }
-    ensures few { node_numbers graph.now ≤ 2 ^ 22 }
-{
-    // A graph has few blocks.
-    let _edges = graph.edges();
-    match node {
-        Node::Block(block) => block.0,
-        Node::X => graph.count(),
-        Node::Landed(block) => graph.count() + 1 + block.0,
-    }
-}
 
 // ---- tables of what comes first
 
@@ -71,21 +53,6 @@ pub(crate) fn small(number: u64) -> Result<u32, NoMemory>
 
 // ---- edges
 
-pub(crate) fn kind_number(kind: EdgeKind) -> usize
-    ensures number { result ≡ kind_number_of kind }
-    ensures few { result < 7 }
-{
-    match kind {
-        EdgeKind::Fall => 0,
-        EdgeKind::Taken => 1,
-        EdgeKind::Untaken => 2,
-        EdgeKind::Call => 3,
-        EdgeKind::Out => 4,
-        EdgeKind::Land => 5,
-        EdgeKind::Case => 6,
-    }
-}
-
 // The number of the node by which an edge is found: of a landing that to which it leads.
 fn node_of_edge(graph: &FlowGraph, edge: &Edge) -> u32
     requires edge { IsEdgeIn graph.now.blocks graph.now.opens edge.now }
@@ -105,7 +72,7 @@ fn edge_place(graph: &FlowGraph, edge: &Edge) -> usize
     ensures place { result ≡ edge_place_of graph.now edge.now }
     ensures within { result < 7 * node_numbers graph.now }
 {
-    7 * node_of_edge(graph, edge) as usize + kind_number(edge.kind)
+    7 * node_of_edge(graph, edge) as usize + kind_number(edge.kind) as usize
 }
 
 // Notes the edges in a table without marks.

@@ -16,11 +16,10 @@ ghost use Rattle.image_code.specs.Parts.{code_at as code_at_of, items_of};
 ghost use Rattle.v8_decode.specs.Words.{decode_of};
 ghost use Rattle.v8_encode.specs.Encoding.{op2_fits};
 
-use crate::firsts::node_number;
 use crate::lookups::Lookups;
 use crate::parts::{Next, Visit, branch, call, choice, is_transfer, jump, plain, way_to};
 use cfg_blocks::EdgeKind;
-use cfg_normal::{FlowGraph, Node};
+use cfg_normal::{FlowGraph, Node, node_number};
 use eel_base::{Addr, BlockNo, NoMemory, PieceNo, Text, WordNo};
 use layout::Piece;
 use std::alloc::Global;

@@ -13,12 +13,11 @@ ghost use Rattle.image_code.specs.Lookups.{AreFirst, AreLookups, IsSource, is_la
 ghost use Rattle.image_code.specs.Numbered.{compare_number, first_entry, jump_number, landing_count as landing_count_of, open_begin, own_edges as own_edges_of};
 
 use crate::firsts::{
-    case_key, first_at, first_cases, first_compares, first_edges, first_jumps, kind_number,
-    node_number, small,
+    case_key, first_at, first_cases, first_compares, first_edges, first_jumps, small,
 };
 use crate::loads::load_of;
 use cfg_blocks::EdgeKind;
-use cfg_normal::{Edge, FlowGraph, Node, OpenSwitch};
+use cfg_normal::{Edge, FlowGraph, Node, OpenSwitch, kind_number, node_number};
 use eel_base::{BlockNo, NoMemory, Text};
 use indexmap::IndexMap;
 use std::alloc::Global;
@@ -198,7 +197,7 @@ impl Lookups {
         requires kind { is_land kind ≡ false }
         ensures { option_to_list result ≡ edge_from graph.now node kind }
     {
-        let place = 7 * node_number(graph, node) as usize + kind_number(kind);
+        let place = 7 * node_number(graph, node) as usize + kind_number(kind) as usize;
         first_at(&self.edges, place)
     }
 
@@ -209,7 +208,7 @@ impl Lookups {
         requires node { IsNumbered (length graph.now.blocks.firsts) node }
         ensures { option_to_list result ≡ landing_at graph.now node }
     {
-        let place = 7 * node_number(graph, node) as usize + kind_number(EdgeKind::Land);
+        let place = 7 * node_number(graph, node) as usize + kind_number(EdgeKind::Land) as usize;
         first_at(&self.edges, place)
     }
 

@@ -10,12 +10,11 @@ ghost use Rattle.image_code.specs.Numbered.{own_edges as own_edges_of};
 ghost use Rattle.image_code.specs.Parts.{code_at as code_at_of, items_of};
 ghost use Rattle.v8_decode.specs.Words.{decode_of};
 
-use crate::firsts::node_number;
 use crate::images::{code_at, last_word};
 use crate::lookups::Lookups;
 use crate::parts::{Next, Visit, couple, is_transfer, out, plain, way_to};
 use cfg_blocks::EdgeKind;
-use cfg_normal::{Edge, FlowGraph, Node, Slot};
+use cfg_normal::{Edge, FlowGraph, Node, Slot, node_number};
 use eel_base::{Addr, NoMemory, PieceNo, Text, WordNo};
 use layout::Piece;
 use std::alloc::Global;
