@@ -226,8 +226,6 @@ fn count_entries(
         ≡ count_by (is_entry graph.now block.0 key) (map (λ (w : WordNo). w.0) targets.now)
         + count_of (get nat_eq cases.old key)) }
 {
-    // A word lands at a node of the graph.
-    let _edges = graph.edges();
     for word in targets {
         let key = case_key(block, node_number(graph, graph.lands(*word)));
         count_key(cases, key)?;

@@ -13,7 +13,7 @@ pub returns-in-Block-clause-entries : goal.returns-in-Block-clause-entries
 returns-in-Block-clause-entries c =
     c.counted.ensures
     ∙ ap (λ k. count_of (get nat_eq c.args.cases.now k))
-    (c.case_key.ensures ∙ ap (case_key c.in-Block.block.0) c.node_number.ensures)
+    (c.case_key.ensures ∙ ap (case_key c.in-Block.block.0) c.node_number.ensures.number)
     ∙ c.requires.cases (case_key c.in-Block.block.0 (node_number c.args.graph.now c.args.edge.now.to))
     ∙ led_is c.args.graph.now c.edges-edges.ensures.graph c.in-Block.block.0 c.args.edge.now.to c.requires.edge.to
     ∙ ap (λ (node : Node). count_by (is_at c.args.graph.now c.args.edge.now.to) (targets_from c.args.graph.now node))
@@ -27,7 +27,7 @@ returns-in-Block-clause-few c =
     (targets_in c.args.graph.now.opens c.in-Block.block.0) =
     c.counted.ensures
     ∙ ap (λ k. count_of (get nat_eq c.args.cases.now k))
-    (c.case_key.ensures ∙ ap (case_key c.in-Block.block.0) c.node_number.ensures)
+    (c.case_key.ensures ∙ ap (case_key c.in-Block.block.0) c.node_number.ensures.number)
     ∙ c.requires.cases (case_key c.in-Block.block.0 (node_number c.args.graph.now c.args.edge.now.to))
     ∙ led_is c.args.graph.now c.edges-edges.ensures.graph c.in-Block.block.0 c.args.edge.now.to c.requires.edge.to in
     omega (arith, same, few)
