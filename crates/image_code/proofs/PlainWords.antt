@@ -210,7 +210,6 @@ module _ (g : Setting) (codes : ℕ → List ℕ) (is : IsKnown g) (p : Placemen
       others = [];
       all = sym (append-nil edges);
       some = slot_ends slots;
-      apart = inr refl;
       piece = record { 0 = word + 1 };
       rest = ap (option_map (drop 3)) (with_rest true true (lt-ltb _ _ more) slots);
       leads = inl (refl, leads);

@@ -233,7 +233,6 @@ module _ (g : Setting) (codes : ℕ → List ℕ) (is : IsKnown g) (p : Placemen
                 others = [];
                 all = refl;
                 some = λ e. absurd (cc);
-                apart = inr refl;
                 piece = record { 0 = enter_number g.text (graph_in g) way.edge.to n };
                 rest = ap (option_map (drop 3)) (items (jump_to
                     (enter_number g.text (graph_in g) way.edge.to n)) there);

@@ -62,9 +62,8 @@ pub record JumpsOn (l : Pieces) (p : Placement) (k n : ℕ) (edges : List ℕ) (
   pub first : List ℕ
   pub others : List ℕ
   pub all : edges ≡ first ++ others
-  -- some edge is completed, and the snippets of all stand on one side of the Jump
+  -- some edge is completed
   pub some : edges ≢ []
-  pub apart : (first ≡ []) ⊎ (others ≡ [])
   pub piece : PieceNo
   pub rest : rest_from l k n ≡ Some (words_on l first ++ it.Jump piece ∷ [])
   pub leads : LeadsTo l p piece others next to

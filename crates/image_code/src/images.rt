@@ -1,6 +1,6 @@
 //! The images of words.
 
-ghost use Rattle.std.specs.Prelude.{◌≡◌, ◌+◌, ◌-◌, ◌%◌, ◌^◌, ◌<◌, ◌≤◌, ◌++◌, if◌then◌else◌, IsTrue, [], length, map, option_to_list, slice_get, Some, IfOk, OnOk};
+ghost use Rattle.std.specs.Prelude.{◌≡◌, ◌+◌, ◌-◌, ◌%◌, ◌^◌, ◌<◌, ◌≤◌, ◌++◌, if◌then◌else◌, IsTrue, false, [], length, map, option_to_list, slice_get, Some, IfOk, OnOk};
 ghost use Rattle.std.specs.List.{flat_map, range_with_len};
 ghost use Rattle.cfg_blocks.specs.Blocks.{below, last_word as last_word_of};
 ghost use Rattle.cfg_blocks.specs.declared.EdgeKind.TheVariants.{Fall};
@@ -9,14 +9,15 @@ ghost use Rattle.cfg_normal.specs.Landings.{IsNumbered};
 ghost use Rattle.cfg_normal.specs.Nodes.{same_node as same_node_of};
 ghost use Rattle.cfg_normal.specs.Numbers.{node_number as node_number_of};
 ghost use Rattle.cfg_walk.specs.Walk.{edge_from, ends_block as ends_block_of};
-ghost use Rattle.image_code.specs.Lookups.{AreLookups, IsSource};
-ghost use Rattle.image_code.specs.Made.{branch_image as branch_image_of, choice_of, distance_of, image as image_of, is_slots as is_slots_of, jump_by, jump_image_by, next_at as next_at_of, next_to};
+ghost use Rattle.image_code.specs.Lookups.{AreLookups, IsSource, is_land};
+ghost use Rattle.image_code.specs.Made.{branch_image as branch_image_of, choice_of, distance_of, image as image_of, is_slots as is_slots_of, jump_by, jump_image_by, next_at as next_at_of, next_to, way_out as way_out_of};
 ghost use Rattle.image_code.specs.Numbered.{node_in_order};
 ghost use Rattle.image_code.specs.Parts.{code_at as code_at_of, items_of};
 ghost use Rattle.v8_decode.specs.Words.{decode_of};
 ghost use Rattle.v8_encode.specs.Encoding.{op2_fits};
 
-use crate::lookups::Lookups;
+use crate::maker::Maker;
+use crate::numbering::piece;
 use crate::parts::{Next, Visit, branch, call, choice, is_transfer, jump, plain, way_to};
 use cfg_blocks::EdgeKind;
 use cfg_normal::{FlowGraph, Node, node_number};
@@ -24,13 +25,6 @@ use eel_base::{Addr, BlockNo, NoMemory, PieceNo, Text, WordNo};
 use layout::Piece;
 use std::alloc::Global;
 use v8_decode::{Cond, Instr, Op2, Reg, decode};
-
-/// Where the jumps' table stands, and the words with the pieces of Case edges.
-#[derive(Clone, Copy)]
-pub(crate) struct JumpTables {
-    pub(crate) jumps: Addr,
-    pub(crate) cases: Addr,
-}
 
 // ---- snippets
 
@@ -88,21 +82,6 @@ fn same_node(one: Node, other: Node) -> bool
     }
 }
 
-// The node of a word's image in the order of the text: the landed copy of a jump's block, and else the block itself.
-fn node_of(text: &Text, graph: &FlowGraph, lookups: &Lookups, word: WordNo) -> Node
-    requires lookups { AreLookups text.now graph.now lookups.now }
-    requires word { word.0 < graph.now.blocks.words }
-    ensures node { result ≡ node_in_order graph.now word.0 }
-    ensures numbered { IsNumbered (length graph.now.blocks.firsts) result }
-{
-    let block = graph.holding(word);
-    if lookups.is_jumps(text, graph, block) {
-        Node::Landed(block)
-    } else {
-        Node::Block(block)
-    }
-}
-
 // Whether a word is the slot of the transfer before it.
 fn is_slots(text: &Text, word: WordNo) -> bool
     requires word { word.0 < length text.now.words }
@@ -127,65 +106,6 @@ fn next_after(text: &Text, word: WordNo) -> Next
     }
 }
 
-// Where control goes on after such a word at a node: those of a switch's own blocks end in transfers.
-fn next_at(text: &Text, graph: &FlowGraph, lookups: &Lookups, node: Node, word: WordNo) -> Next
-    requires source { IsSource text.now graph.now }
-    requires lookups { AreLookups text.now graph.now lookups.now }
-    requires word { word.0 < length text.now.words }
-    ensures { items_of result ≡ next_at_of text.now graph.now node word.0 }
-{
-    if same_node(node, node_of(text, graph, lookups, word)) {
-        next_after(text, word)
-    } else {
-        Next::Behind
-    }
-}
-
-// The code of the snippet of the edge to the next word, behind the last word of a block.
-fn code_behind<'a>(
-    text: &Text,
-    graph: &FlowGraph,
-    lookups: &Lookups,
-    codes: &'a [Vec<u32>],
-    node: Node,
-    word: WordNo,
-) -> &'a [u32]
-    requires source { IsSource text.now graph.now }
-    requires lookups { AreLookups text.now graph.now lookups.now }
-    requires node { IsNumbered (length graph.now.blocks.firsts) node }
-    ensures { result.now ≡ flat_map (code_at_of codes.now)
-        (if ends_block_of graph.now node word.0 then edge_from graph.now node Fall else []) }
-{
-    if ends_block(graph, node, word) {
-        code_on(codes, lookups.leaving(text, graph, node, EdgeKind::Fall))
-    } else {
-        &[]
-    }
-}
-
-// ---- transfers
-
-// The image of a branch.
-fn branch_image(
-    alloc: Global,
-    text: &Text,
-    graph: &FlowGraph,
-    lookups: &Lookups,
-    visit: Visit,
-    node: Node,
-    cond: Cond,
-) -> Result<Piece, NoMemory>
-    requires source { IsSource text.now graph.now }
-    requires lookups { AreLookups text.now graph.now lookups.now }
-    requires node { IsNumbered (length graph.now.blocks.firsts) node }
-    requires visit { visit.node ≡ node_number_of graph.now node }
-    ensures { IfOk result (λ p. p ≡ branch_image_of text.now graph.now visit.address node cond) }
-{
-    let taken = lookups.way_out(text, graph, node, EdgeKind::Taken)?;
-    let untaken = lookups.way_out(text, graph, node, EdgeKind::Untaken)?;
-    branch(alloc, visit, cond, taken, untaken)
-}
-
 // How far the word with the piece of a switch's first entry lies from that entry.
 fn distance(cases: Addr, first: u32, table: Addr) -> u32
     requires { first < 2 ^ 30 }
@@ -194,218 +114,259 @@ fn distance(cases: Addr, first: u32, table: Addr) -> u32
     cases.0.wrapping_add(4 * first).wrapping_sub(table.0)
 }
 
-// The image of a JMPL at the block itself of an open switch.
-fn choice_image(
-    alloc: Global,
-    text: &Text,
-    graph: &FlowGraph,
-    lookups: &Lookups,
-    tables: JumpTables,
-    visit: Visit,
-    node: Node,
-    rd: Reg,
-    number: usize,
-) -> Result<Piece, NoMemory>
-    requires source { IsSource text.now graph.now }
-    requires lookups { AreLookups text.now graph.now lookups.now }
-    requires visit { visit.node ≡ node_number_of graph.now node }
-    ensures { IfOk result (λ p. p ≡ choice_of text.now graph.now tables.jumps.0 tables.cases.0 visit.address node rd
-        (Some number) (slice_get graph.now.opens number)) }
-{
-    match graph.opens().get(number) {
-        Some(found) => {
-            let first = lookups.entry(text, graph, number);
-            let distance = distance(tables.cases, first, found.switch().table);
-            choice(alloc, visit, rd, distance)
-        }
-        None => way_to(alloc, &[], Next::Behind),
-    }
-}
+impl<'a> Maker<'a> {
+    // ---- where control goes on
 
-// The image of any other JMPL, which looks up in the jumps' table.
-fn jump_out(
-    alloc: Global,
-    text: &Text,
-    graph: &FlowGraph,
-    lookups: &Lookups,
-    tables: JumpTables,
-    visit: Visit,
-    node: Node,
-    rd: Reg,
-    rs1: Reg,
-    op2: Op2,
-) -> Result<Piece, NoMemory>
-    requires source { IsSource text.now graph.now }
-    requires lookups { AreLookups text.now graph.now lookups.now }
-    requires node { IsNumbered (length graph.now.blocks.firsts) node }
-    requires visit { visit.node ≡ node_number_of graph.now node }
-    requires fits { IsTrue (op2_fits op2) }
-    ensures { IfOk result (λ p. p
-        ≡ jump_by text.now graph.now tables.jumps.0 tables.cases.0 visit.address node rd rs1 op2) }
-{
-    let way = lookups.way_out(text, graph, node, EdgeKind::Out)?;
-    jump(alloc, visit, rd, rs1, op2, tables.jumps, way)
-}
-
-// The image of a JMPL at a block itself.
-fn jump_at(
-    alloc: Global,
-    text: &Text,
-    graph: &FlowGraph,
-    lookups: &Lookups,
-    tables: JumpTables,
-    visit: Visit,
-    block: BlockNo,
-    rd: Reg,
-    rs1: Reg,
-    op2: Op2,
-) -> Result<Piece, NoMemory>
-    requires source { IsSource text.now graph.now }
-    requires lookups { AreLookups text.now graph.now lookups.now }
-    requires block { block.0 < length graph.now.blocks.firsts }
-    requires visit { visit.node ≡ node_number_of graph.now (Block block) }
-    requires fits { IsTrue (op2_fits op2) }
-    ensures { IfOk result (λ p. p
-        ≡ jump_image_by text.now graph.now tables.jumps.0 tables.cases.0 visit.address (Block block) rd rs1 op2) }
-{
-    let node = Node::Block(block);
-    match lookups.jump_of(text, graph, block) {
-        Some(number) => {
-            let number = number as usize;
-            choice_image(alloc, text, graph, lookups, tables, visit, node, rd, number)
-        }
-        None => jump_out(
-            alloc, text, graph, lookups, tables, visit, node, rd, rs1, op2,
-        ),
-    }
-}
-
-// The image of a JMPL.
-fn jump_image(
-    alloc: Global,
-    text: &Text,
-    graph: &FlowGraph,
-    lookups: &Lookups,
-    tables: JumpTables,
-    visit: Visit,
-    node: Node,
-    rd: Reg,
-    rs1: Reg,
-    op2: Op2,
-) -> Result<Piece, NoMemory>
-    requires source { IsSource text.now graph.now }
-    requires lookups { AreLookups text.now graph.now lookups.now }
-    requires node { IsNumbered (length graph.now.blocks.firsts) node }
-    requires visit { visit.node ≡ node_number_of graph.now node }
-    requires fits { IsTrue (op2_fits op2) }
-    ensures { IfOk result (λ p. p
-        ≡ jump_image_by text.now graph.now tables.jumps.0 tables.cases.0 visit.address node rd rs1 op2) }
-{
-    match node {
-        Node::Block(block) => jump_at(
-            alloc, text, graph, lookups, tables, visit, block, rd, rs1, op2,
-        ),
-        Node::Landed(_) => jump_out(
-            alloc, text, graph, lookups, tables, visit, node, rd, rs1, op2,
-        ),
-        Node::X => jump_out(
-            alloc, text, graph, lookups, tables, visit, node, rd, rs1, op2,
-        ),
-    }
-}
-
-// ---- images
-
-/// The image of a word, for a node whose block holds it.
-pub(crate) fn image(
-    alloc: Global,
-    text: &Text,
-    graph: &FlowGraph,
-    lookups: &Lookups,
-    codes: &[Vec<u32>],
-    tables: JumpTables,
-    node: Node,
-    word: WordNo,
-) -> Result<Piece, NoMemory>
-    requires source { IsSource text.now graph.now }
-    requires lookups { AreLookups text.now graph.now lookups.now }
-    requires node { IsNumbered (length graph.now.blocks.firsts) node }
-    requires word { word.0 < length text.now.words }
-    ensures { IfOk result (λ p. p
-        ≡ image_of text.now graph.now tables.jumps.0 tables.cases.0 (code_at_of codes.now) node word.0) }
-{
-    let visit = Visit {
-        address: text.address(word),
-        node: node_number(graph, node),
-    };
-    match decode(text.word(word)) {
-        Instr::Branch { cond, .. } => {
-            branch_image(alloc, text, graph, lookups, visit, node, cond)
-        }
-        Instr::Call { .. } => {
-            let way = lookups.way_out(text, graph, node, EdgeKind::Call)?;
-            call(alloc, visit, way)
-        }
-        Instr::Jmpl { rd, rs1, op2 } => jump_image(
-            alloc, text, graph, lookups, tables, visit, node, rd, rs1, op2,
-        ),
-        _ => {
-            let code = code_behind(text, graph, lookups, codes, node, word);
-            let next = next_at(text, graph, lookups, node, word);
-            plain(alloc, visit, text.word(word), code, next)
+    // The node of a word's image in the order of the text: the landed copy of a jump's block, and else the block
+    // itself.
+    fn node_of(&self, word: WordNo) -> Node
+        requires lookups { AreLookups self.now.text.now self.now.graph.now self.now.lookups.now }
+        requires word { word.0 < self.now.graph.now.blocks.words }
+        ensures node { result ≡ node_in_order self.now.graph.now word.0 }
+        ensures numbered { IsNumbered (length self.now.graph.now.blocks.firsts) result }
+    {
+        let block = self.graph.holding(word);
+        if self.lookups.is_jumps(self.text, self.graph, block) {
+            Node::Landed(block)
+        } else {
+            Node::Block(block)
         }
     }
-}
 
-/// Adds the images of the words in the order of the text.
-pub(crate) fn push_images(
-    alloc: Global,
-    list: &mut Vec<Piece>,
-    text: &Text,
-    graph: &FlowGraph,
-    lookups: &Lookups,
-    codes: &[Vec<u32>],
-    tables: JumpTables,
-) -> Result<(), NoMemory>
-    requires source { IsSource text.now graph.now }
-    requires lookups { AreLookups text.now graph.now lookups.now }
-    ensures { OnOk result (list.new.items ≡ list.old.items
-        ++ map (λ word. image_of text.now graph.now tables.jumps.0 tables.cases.0 (code_at_of codes.now)
-        (node_in_order graph.now word) word) (below (length text.now.words))) }
-{
-    for word in 0..text.len() {
-        let word = WordNo(word);
-        let node = node_of(text, graph, lookups, word);
-        list.push(image(alloc, text, graph, lookups, codes, tables, node, word)?)?;
+    // Where control goes on at a node after a word that is no transfer: in a switch's own blocks, which end in
+    // transfers, at the next word's image.
+    fn next_at(&self, node: Node, word: WordNo) -> Next
+        requires source { IsSource self.now.text.now self.now.graph.now }
+        requires lookups { AreLookups self.now.text.now self.now.graph.now self.now.lookups.now }
+        requires word { word.0 < length self.now.text.now.words }
+        ensures { items_of result ≡ next_at_of self.now.text.now self.now.graph.now node word.0 }
+    {
+        if same_node(node, self.node_of(word)) {
+            next_after(self.text, word)
+        } else {
+            Next::Behind
+        }
     }
-    Ok(())
-}
 
-/// Adds the images of so many words at a node.
-pub(crate) fn push_images_at(
-    alloc: Global,
-    list: &mut Vec<Piece>,
-    text: &Text,
-    graph: &FlowGraph,
-    lookups: &Lookups,
-    codes: &[Vec<u32>],
-    tables: JumpTables,
-    node: Node,
-    from: u32,
-    count: u32,
-) -> Result<(), NoMemory>
-    requires source { IsSource text.now graph.now }
-    requires lookups { AreLookups text.now graph.now lookups.now }
-    requires node { IsNumbered (length graph.now.blocks.firsts) node }
-    requires words { from + count ≤ length text.now.words }
-    ensures { OnOk result (list.new.items ≡ list.old.items
-        ++ map (image_of text.now graph.now tables.jumps.0 tables.cases.0 (code_at_of codes.now) node)
-        (range_with_len from count)) }
-{
-    let _words = text.len();
-    for word in from..from + count {
-        let word = WordNo(word);
-        list.push(image(alloc, text, graph, lookups, codes, tables, node, word)?)?;
+    // The code of the snippet of the edge to the next word, behind the last word of a block.
+    fn code_behind(&self, node: Node, word: WordNo) -> &'a [u32]
+        requires source { IsSource self.now.text.now self.now.graph.now }
+        requires lookups { AreLookups self.now.text.now self.now.graph.now self.now.lookups.now }
+        requires node { IsNumbered (length self.now.graph.now.blocks.firsts) node }
+        ensures { result.now ≡ flat_map (code_at_of self.now.codes.now)
+            (if ends_block_of self.now.graph.now node word.0 then edge_from self.now.graph.now node Fall else []) }
+    {
+        if ends_block(self.graph, node, word) {
+            let fall = self
+                .lookups
+                .leaving(self.text, self.graph, node, EdgeKind::Fall);
+            code_on(self.codes, fall)
+        } else {
+            &[]
+        }
     }
-    Ok(())
+
+    // ---- transfers
+
+    // The way along the edge of a kind that leaves a node.
+    fn way_out(&self, node: Node, kind: EdgeKind) -> Result<PieceNo, NoMemory>
+        requires source { IsSource self.now.text.now self.now.graph.now }
+        requires lookups { AreLookups self.now.text.now self.now.graph.now self.now.lookups.now }
+        requires node { IsNumbered (length self.now.graph.now.blocks.firsts) node }
+        requires kind { is_land kind ≡ false }
+        ensures { IfOk result (λ p. p.0 ≡ way_out_of self.now.text.now self.now.graph.now node kind) }
+    {
+        match self.lookups.leaving(self.text, self.graph, node, kind) {
+            Some(edge) => piece(u64::from(self.text.len()) + u64::from(edge)),
+            None => Ok(PieceNo(0)),
+        }
+    }
+
+    // The image of a branch.
+    fn branch_image(
+        &self,
+        alloc: Global,
+        visit: Visit,
+        node: Node,
+        cond: Cond,
+    ) -> Result<Piece, NoMemory>
+        requires source { IsSource self.now.text.now self.now.graph.now }
+        requires lookups { AreLookups self.now.text.now self.now.graph.now self.now.lookups.now }
+        requires node { IsNumbered (length self.now.graph.now.blocks.firsts) node }
+        requires visit { visit.node ≡ node_number_of self.now.graph.now node }
+        ensures { IfOk result (λ p. p
+            ≡ branch_image_of self.now.text.now self.now.graph.now visit.address node cond) }
+    {
+        let taken = self.way_out(node, EdgeKind::Taken)?;
+        let untaken = self.way_out(node, EdgeKind::Untaken)?;
+        branch(alloc, visit, cond, taken, untaken)
+    }
+
+    // The image of a JMPL at the block itself of an open switch.
+    fn choice_image(
+        &self,
+        alloc: Global,
+        visit: Visit,
+        node: Node,
+        rd: Reg,
+        number: usize,
+    ) -> Result<Piece, NoMemory>
+        requires source { IsSource self.now.text.now self.now.graph.now }
+        requires lookups { AreLookups self.now.text.now self.now.graph.now self.now.lookups.now }
+        requires visit { visit.node ≡ node_number_of self.now.graph.now node }
+        ensures { IfOk result (λ p. p ≡ choice_of self.now.text.now self.now.graph.now self.now.jumps.0
+            self.now.cases.0 visit.address node rd (Some number) (slice_get self.now.graph.now.opens number)) }
+    {
+        match self.graph.opens().get(number) {
+            Some(found) => {
+                let first = self.lookups.entry(self.text, self.graph, number);
+                let distance = distance(self.cases, first, found.switch().table);
+                choice(alloc, visit, rd, distance)
+            }
+            None => way_to(alloc, &[], Next::Behind),
+        }
+    }
+
+    // The image of any other JMPL, which looks up in the jumps' table.
+    fn jump_out(
+        &self,
+        alloc: Global,
+        visit: Visit,
+        node: Node,
+        rd: Reg,
+        rs1: Reg,
+        op2: Op2,
+    ) -> Result<Piece, NoMemory>
+        requires source { IsSource self.now.text.now self.now.graph.now }
+        requires lookups { AreLookups self.now.text.now self.now.graph.now self.now.lookups.now }
+        requires node { IsNumbered (length self.now.graph.now.blocks.firsts) node }
+        requires visit { visit.node ≡ node_number_of self.now.graph.now node }
+        requires fits { IsTrue (op2_fits op2) }
+        ensures { IfOk result (λ p. p ≡ jump_by self.now.text.now self.now.graph.now self.now.jumps.0 self.now.cases.0
+            visit.address node rd rs1 op2) }
+    {
+        let way = self.way_out(node, EdgeKind::Out)?;
+        jump(alloc, visit, rd, rs1, op2, self.jumps, way)
+    }
+
+    // The image of a JMPL at a block itself.
+    fn jump_at(
+        &self,
+        alloc: Global,
+        visit: Visit,
+        block: BlockNo,
+        rd: Reg,
+        rs1: Reg,
+        op2: Op2,
+    ) -> Result<Piece, NoMemory>
+        requires source { IsSource self.now.text.now self.now.graph.now }
+        requires lookups { AreLookups self.now.text.now self.now.graph.now self.now.lookups.now }
+        requires block { block.0 < length self.now.graph.now.blocks.firsts }
+        requires visit { visit.node ≡ node_number_of self.now.graph.now (Block block) }
+        requires fits { IsTrue (op2_fits op2) }
+        ensures { IfOk result (λ p. p ≡ jump_image_by self.now.text.now self.now.graph.now self.now.jumps.0
+            self.now.cases.0 visit.address (Block block) rd rs1 op2) }
+    {
+        let node = Node::Block(block);
+        match self.lookups.jump_of(self.text, self.graph, block) {
+            Some(number) => self.choice_image(alloc, visit, node, rd, number as usize),
+            None => self.jump_out(alloc, visit, node, rd, rs1, op2),
+        }
+    }
+
+    // The image of a JMPL.
+    fn jump_image(
+        &self,
+        alloc: Global,
+        visit: Visit,
+        node: Node,
+        rd: Reg,
+        rs1: Reg,
+        op2: Op2,
+    ) -> Result<Piece, NoMemory>
+        requires source { IsSource self.now.text.now self.now.graph.now }
+        requires lookups { AreLookups self.now.text.now self.now.graph.now self.now.lookups.now }
+        requires node { IsNumbered (length self.now.graph.now.blocks.firsts) node }
+        requires visit { visit.node ≡ node_number_of self.now.graph.now node }
+        requires fits { IsTrue (op2_fits op2) }
+        ensures { IfOk result (λ p. p ≡ jump_image_by self.now.text.now self.now.graph.now self.now.jumps.0
+            self.now.cases.0 visit.address node rd rs1 op2) }
+    {
+        match node {
+            Node::Block(block) => self.jump_at(alloc, visit, block, rd, rs1, op2),
+            Node::Landed(_) => self.jump_out(alloc, visit, node, rd, rs1, op2),
+            Node::X => self.jump_out(alloc, visit, node, rd, rs1, op2),
+        }
+    }
+
+    // ---- images
+
+    // The image of a word, for a node whose block holds it.
+    fn image(&self, alloc: Global, node: Node, word: WordNo) -> Result<Piece, NoMemory>
+        requires source { IsSource self.now.text.now self.now.graph.now }
+        requires lookups { AreLookups self.now.text.now self.now.graph.now self.now.lookups.now }
+        requires node { IsNumbered (length self.now.graph.now.blocks.firsts) node }
+        requires word { word.0 < length self.now.text.now.words }
+        ensures { IfOk result (λ p. p ≡ image_of self.now.text.now self.now.graph.now self.now.jumps.0
+            self.now.cases.0 (code_at_of self.now.codes.now) node word.0) }
+    {
+        let visit = Visit {
+            address: self.text.address(word),
+            node: node_number(self.graph, node),
+        };
+        match decode(self.text.word(word)) {
+            Instr::Branch { cond, .. } => self.branch_image(alloc, visit, node, cond),
+            Instr::Call { .. } => {
+                let way = self.way_out(node, EdgeKind::Call)?;
+                call(alloc, visit, way)
+            }
+            Instr::Jmpl { rd, rs1, op2 } => self.jump_image(alloc, visit, node, rd, rs1, op2),
+            _ => {
+                let code = self.code_behind(node, word);
+                let next = self.next_at(node, word);
+                plain(alloc, visit, self.text.word(word), code, next)
+            }
+        }
+    }
+
+    /// Adds the images of the words in the order of the text.
+    pub(crate) fn push_images(&self, alloc: Global, list: &mut Vec<Piece>) -> Result<(), NoMemory>
+        requires source { IsSource self.now.text.now self.now.graph.now }
+        requires lookups { AreLookups self.now.text.now self.now.graph.now self.now.lookups.now }
+        ensures { OnOk result (list.new.items ≡ list.old.items
+            ++ map (λ word. image_of self.now.text.now self.now.graph.now self.now.jumps.0 self.now.cases.0
+            (code_at_of self.now.codes.now) (node_in_order self.now.graph.now word) word)
+            (below (length self.now.text.now.words))) }
+    {
+        for word in 0..self.text.len() {
+            let word = WordNo(word);
+            let node = self.node_of(word);
+            list.push(self.image(alloc, node, word)?)?;
+        }
+        Ok(())
+    }
+
+    /// Adds the images of so many words at a node.
+    pub(crate) fn push_images_at(
+        &self,
+        alloc: Global,
+        list: &mut Vec<Piece>,
+        node: Node,
+        from: u32,
+        count: u32,
+    ) -> Result<(), NoMemory>
+        requires source { IsSource self.now.text.now self.now.graph.now }
+        requires lookups { AreLookups self.now.text.now self.now.graph.now self.now.lookups.now }
+        requires node { IsNumbered (length self.now.graph.now.blocks.firsts) node }
+        requires words { from + count ≤ length self.now.text.now.words }
+        ensures { OnOk result (list.new.items ≡ list.old.items
+            ++ map (image_of self.now.text.now self.now.graph.now self.now.jumps.0 self.now.cases.0
+            (code_at_of self.now.codes.now) node) (range_with_len from count)) }
+    {
+        let _words = self.text.len();
+        for word in from..from + count {
+            list.push(self.image(alloc, node, WordNo(word))?)?;
+        }
+        Ok(())
+    }
 }

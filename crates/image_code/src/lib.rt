@@ -19,6 +19,7 @@ mod images;
 mod landing;
 mod loads;
 mod lookups;
+mod maker;
 mod making;
 mod numbering;
 mod parts;

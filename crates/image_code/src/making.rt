@@ -14,13 +14,10 @@ ghost use Rattle.liveness.specs.Sets.{dead_on};
 ghost use Rattle.snippet_code.specs.Laws.{EndLow};
 
 use crate::expansion::codes_of;
-use crate::images::{JumpTables, push_images};
-use crate::landing::{landings, push_landings};
-use crate::lookups::{Lookups, lookups_of};
+use crate::lookups::lookups_of;
+use crate::maker::Maker;
 use crate::numbering::piece;
 use crate::parts::foreign;
-use crate::switches::{push_cases, push_opens};
-use crate::ways::push_ways;
 use addr_translate::table_size;
 use cfg_normal::{FlowGraph, Node};
 use eel_base::{Addr, NoMemory, PieceNo, Text, WordNo};
@@ -57,45 +54,40 @@ fn jumps_of(text: &Text, table: Addr) -> Addr
     Addr(table.0 + table_size(text))
 }
 
-// The foreign piece: the last one.
-fn foreign_number(text: &Text, graph: &FlowGraph, lookups: &Lookups) -> Result<PieceNo, NoMemory>
-    requires lookups { AreLookups text.now graph.now lookups.now }
-    ensures { IfOk result (λ p. p.0 ≡ foreign_number_of text.now graph.now) }
-{
-    let count = graph.opens().len();
-    let begin = u64::from(lookups.begin(text, graph, count));
-    piece(begin + u64::from(lookups.entry(text, graph, count)))
+impl Maker<'_> {
+    // The foreign piece: the last one.
+    fn foreign_number(&self) -> Result<PieceNo, NoMemory>
+        requires lookups { AreLookups self.now.text.now self.now.graph.now self.now.lookups.now }
+        ensures { IfOk result (λ p. p.0 ≡ foreign_number_of self.now.text.now self.now.graph.now) }
+    {
+        let count = self.graph.opens().len();
+        let begin = u64::from(self.lookups.begin(self.text, self.graph, count));
+        piece(begin + u64::from(self.lookups.entry(self.text, self.graph, count)))
+    }
+
+    // All pieces, and the numbers of those of Case edges.
+    #[tactic(auto, unfolding(crate::specs::Made::piece_list))]
+    fn list(&self, alloc: Global) -> Result<(Vec<Piece>, Vec<PieceNo>), NoMemory>
+        requires source { IsSource self.now.text.now self.now.graph.now }
+        requires lookups { AreLookups self.now.text.now self.now.graph.now self.now.lookups.now }
+        requires jumps { self.now.jumps.0 ≡ jumps_at self.now.text.now self.now.table.0 }
+        ensures list { IfOk result (λ r. r.0.items ≡ piece_list self.now.text.now self.now.graph.now self.now.table.0
+            self.now.cases.0 (code_at self.now.codes.now)) }
+        ensures cases { IfOk result (λ r. map (λ (n : PieceNo). n.0) r.1.items
+            ≡ case_numbers self.now.text.now self.now.graph.now) }
+    {
+        let mut list = Vec::new(alloc);
+        self.push_images(alloc, &mut list)?;
+        self.push_ways(alloc, &mut list)?;
+        self.push_landings(alloc, &mut list)?;
+        self.push_opens(alloc, &mut list)?;
+        let cases = self.push_cases(alloc, &mut list)?;
+        list.push(foreign(alloc)?)?;
+        Ok((list, cases))
+    }
 }
 
-// All pieces, and the numbers of those of Case edges.
-#[tactic(auto, unfolding(crate::specs::Made::piece_list))]
-fn list_of(
-    alloc: Global,
-    text: &Text,
-    graph: &FlowGraph,
-    lookups: &Lookups,
-    codes: &[Vec<u32>],
-    table: Addr,
-    tables: JumpTables,
-) -> Result<(Vec<Piece>, Vec<PieceNo>), NoMemory>
-    requires source { IsSource text.now graph.now }
-    requires lookups { AreLookups text.now graph.now lookups.now }
-    requires jumps { tables.jumps.0 ≡ jumps_at text.now table.0 }
-    ensures list { IfOk result (λ r. r.0.items
-        ≡ piece_list text.now graph.now table.0 tables.cases.0 (code_at codes.now)) }
-    ensures cases { IfOk result (λ r. map (λ (n : PieceNo). n.0) r.1.items ≡ case_numbers text.now graph.now) }
-{
-    let mut list = Vec::new(alloc);
-    push_images(alloc, &mut list, text, graph, lookups, codes, tables)?;
-    push_ways(alloc, &mut list, text, graph, lookups, codes, table)?;
-    push_landings(alloc, &mut list, text, graph, lookups, codes)?;
-    push_opens(alloc, &mut list, text, graph, lookups, codes, table, tables)?;
-    let cases = push_cases(alloc, &mut list, text, graph, lookups, codes, table)?;
-    list.push(foreign(alloc)?)?;
-    Ok((list, cases))
-}
-
-// The same, of what is known of a text and its graph.
+// The pieces, of what is known of a text and its graph.
 fn make(
     alloc: Global,
     text: &Text,
@@ -125,17 +117,22 @@ fn make(
     let _edges = graph.edges();
     let codes = codes_of(alloc, snips, live, frame.cells)?;
     let lookups = lookups_of(alloc, text, graph)?;
-    let tables = JumpTables {
+    let maker = Maker {
+        text,
+        graph,
+        lookups: &lookups,
+        codes: &codes,
+        table: frame.table,
         jumps: jumps_of(text, frame.table),
         cases: frame.cases,
     };
-    let (list, cases) = list_of(alloc, text, graph, &lookups, &codes, frame.table, tables)?;
+    let (list, cases) = maker.list(alloc)?;
     let node = Node::Block(graph.holding(entry));
     Ok(PieceList {
         list,
-        landing: landings(alloc, text, graph, &lookups, snips)?,
+        landing: maker.landings(alloc, snips)?,
         entry: lookups.enter(text, graph, node, entry)?,
-        foreign: foreign_number(text, graph, &lookups)?,
+        foreign: maker.foreign_number()?,
         cases,
     })
 }

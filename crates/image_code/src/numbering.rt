@@ -1,14 +1,12 @@
 //! The numbers of pieces.
 
-ghost use Rattle.std.specs.Prelude.{◌≡◌, ◌<◌, ◌≤◌, false, length, slice_get, Some, IfOk};
+ghost use Rattle.std.specs.Prelude.{◌≡◌, ◌<◌, ◌≤◌, length, slice_get, Some, IfOk};
 ghost use Rattle.cfg_normal.specs.Landings.{IsNumbered};
-ghost use Rattle.image_code.specs.Lookups.{AreLookups, IsSource, is_land};
-ghost use Rattle.image_code.specs.Made.{way_out as way_out_of};
+ghost use Rattle.image_code.specs.Lookups.{AreLookups, IsSource};
 ghost use Rattle.image_code.specs.Numbered.{at_open, compare_image as compare_image_of, compare_number, enter_number, jump_enter as jump_enter_of, jump_image as jump_image_of, jump_number};
 
 use crate::firsts::small;
 use crate::lookups::Lookups;
-use cfg_blocks::EdgeKind;
 use cfg_normal::{FlowGraph, Node, OpenSwitch};
 use eel_base::{BlockNo, NoMemory, PieceNo, Text, WordNo};
 
@@ -20,26 +18,6 @@ pub(crate) fn piece(number: u64) -> Result<PieceNo, NoMemory>
 }
 
 impl Lookups {
-    /// The way along the edge of a kind that leaves a node.
-    pub(crate) fn way_out(
-        &self,
-        text: &Text,
-        graph: &FlowGraph,
-        node: Node,
-        kind: EdgeKind,
-    ) -> Result<PieceNo, NoMemory>
-        requires source { IsSource text.now graph.now }
-        requires lookups { AreLookups text.now graph.now self.now }
-        requires node { IsNumbered (length graph.now.blocks.firsts) node }
-        requires kind { is_land kind ≡ false }
-        ensures { IfOk result (λ p. p.0 ≡ way_out_of text.now graph.now node kind) }
-    {
-        match self.leaving(text, graph, node, kind) {
-            Some(edge) => piece(u64::from(text.len()) + u64::from(edge)),
-            None => Ok(PieceNo(0)),
-        }
-    }
-
     // The piece of a word at the landed copy of a comparison's block.
     fn compare_image(
         &self,

@@ -11,7 +11,7 @@ ghost use Rattle.image_code.specs.Parts.{code_at as code_at_of, items_of};
 ghost use Rattle.v8_decode.specs.Words.{decode_of};
 
 use crate::images::{code_at, last_word};
-use crate::lookups::Lookups;
+use crate::maker::Maker;
 use crate::parts::{Next, Visit, couple, is_transfer, out, plain, way_to};
 use cfg_blocks::EdgeKind;
 use cfg_normal::{Edge, FlowGraph, Node, Slot, node_number};
@@ -45,20 +45,6 @@ fn target(text: &Text, word: WordNo, kind: EdgeKind) -> Addr
     }
 }
 
-// The last word of a node's block. X has none, and word 0 stands for it.
-fn last_in(text: &Text, graph: &FlowGraph, node: Node) -> WordNo
-    requires source { IsSource text.now graph.now }
-    requires node { IsNodeIn graph.now.blocks graph.now.opens node }
-    ensures word { result.0 ≡ last_in_of graph.now node }
-    ensures within { result.0 < length text.now.words }
-{
-    match node {
-        Node::Block(block) => last_word(graph, block),
-        Node::Landed(block) => last_word(graph, block),
-        Node::X => WordNo(0),
-    }
-}
-
 // The first word of a node's block.
 fn first_word(graph: &FlowGraph, node: Node) -> WordNo
     requires node { IsNodeIn graph.now.blocks graph.now.opens node }
@@ -71,104 +57,6 @@ fn first_word(graph: &FlowGraph, node: Node) -> WordNo
     }
 }
 
-// Where control goes on along an edge, to a word at its node.
-fn next_along(
-    text: &Text,
-    graph: &FlowGraph,
-    lookups: &Lookups,
-    edge: &Edge,
-    to: WordNo,
-) -> Result<Next, NoMemory>
-    requires source { IsSource text.now graph.now }
-    requires lookups { AreLookups text.now graph.now lookups.now }
-    requires edge { IsEdgeIn graph.now.blocks graph.now.opens edge.now }
-    ensures { IfOk result (λ next. items_of next ≡ goes_on text.now graph.now edge.now.to to.0
-        (way_address text.now graph.now edge.now.from edge.now.kind)) }
-{
-    match edge.to {
-        Node::X => {
-            let last = last_in(text, graph, edge.from);
-            Ok(Next::Far(target(text, last, edge.kind)))
-        }
-        node => Ok(Next::Piece(lookups.enter(text, graph, node, to)?)),
-    }
-}
-
-// ---- ways
-
-// The copy of a slot's word on an edge with this number, and what comes behind it. A transfer in a slot ends the run.
-fn slot_copy(
-    alloc: Global,
-    text: &Text,
-    graph: &FlowGraph,
-    lookups: &Lookups,
-    codes: &[Vec<u32>],
-    table: Addr,
-    number: u32,
-    visit: Visit,
-    word: u32,
-    edge: &Edge,
-    to: WordNo,
-) -> Result<Piece, NoMemory>
-    requires source { IsSource text.now graph.now }
-    requires lookups { AreLookups text.now graph.now lookups.now }
-    requires edge { IsEdgeIn graph.now.blocks graph.now.opens edge.now }
-    ensures { IfOk result (λ p. p ≡ slot_copy_of text.now graph.now table.0
-        (code_at_of codes.now) visit.address visit.node
-        word number edge.now to.0) }
-{
-    if is_transfer(word) {
-        return couple(alloc, visit);
-    }
-    let code = code_at(codes, number);
-    match edge.kind {
-        EdgeKind::Out => out(alloc, visit, word, code),
-        _ => {
-            let next = next_along(text, graph, lookups, edge, to)?;
-            plain(alloc, visit, word, code, next)
-        }
-    }
-}
-
-/// The way along an edge with this number, to a word at its node, with the code of its snippet. A slot behind the text
-/// has its place where the table begins.
-pub(crate) fn way_by(
-    alloc: Global,
-    text: &Text,
-    graph: &FlowGraph,
-    lookups: &Lookups,
-    codes: &[Vec<u32>],
-    table: Addr,
-    number: u32,
-    edge: &Edge,
-    to: WordNo,
-) -> Result<Piece, NoMemory>
-    requires source { IsSource text.now graph.now }
-    requires lookups { AreLookups text.now graph.now lookups.now }
-    requires edge { IsEdgeIn graph.now.blocks graph.now.opens edge.now }
-    ensures { IfOk result (λ p. p
-        ≡ way_by_of text.now graph.now table.0 (code_at_of codes.now) number edge.now to.0 edge.now.slot) }
-{
-    match edge.slot {
-        Slot::Nothing => {
-            let code = code_at(codes, number);
-            let next = next_along(text, graph, lookups, edge, to)?;
-            way_to(alloc, code, next)
-        }
-        Slot::Off => way_to(alloc, &[], Next::Far(table)),
-        Slot::Word(slot) => {
-            let visit = Visit {
-                address: text.address(slot),
-                node: node_number(graph, edge.from),
-            };
-            let word = text.word(slot);
-            slot_copy(
-                alloc, text, graph, lookups, codes, table, number, visit, word, edge, to,
-            )
-        }
-    }
-}
-
 /// A piece that is never run.
 pub(crate) fn unused(alloc: Global) -> Result<Piece, NoMemory>
     ensures { IfOk result (λ p. p ≡ jump_to 0) }
@@ -176,52 +64,132 @@ pub(crate) fn unused(alloc: Global) -> Result<Piece, NoMemory>
     way_to(alloc, &[], Next::Piece(PieceNo(0)))
 }
 
-// The way along an edge with this number; Fall edges have none, and Case edges have theirs by entries.
-fn way(
-    alloc: Global,
-    text: &Text,
-    graph: &FlowGraph,
-    lookups: &Lookups,
-    codes: &[Vec<u32>],
-    table: Addr,
-    number: u32,
-    edge: &Edge,
-) -> Result<Piece, NoMemory>
-    requires source { IsSource text.now graph.now }
-    requires lookups { AreLookups text.now graph.now lookups.now }
-    requires edge { IsEdgeIn graph.now.blocks graph.now.opens edge.now }
-    ensures { IfOk result (λ p. p
-        ≡ way_along text.now graph.now table.0 (code_at_of codes.now) number edge.now) }
-{
-    match edge.kind {
-        EdgeKind::Fall | EdgeKind::Case => unused(alloc),
-        _ => {
-            let to = first_word(graph, edge.to);
-            way_by(alloc, text, graph, lookups, codes, table, number, edge, to)
+impl Maker<'_> {
+    // ---- where edges lead
+
+    // The last word of a node's block. X has none, and word 0 stands for it.
+    fn last_in(&self, node: Node) -> WordNo
+        requires source { IsSource self.now.text.now self.now.graph.now }
+        requires node { IsNodeIn self.now.graph.now.blocks self.now.graph.now.opens node }
+        ensures word { result.0 ≡ last_in_of self.now.graph.now node }
+        ensures within { result.0 < length self.now.text.now.words }
+    {
+        match node {
+            Node::Block(block) => last_word(self.graph, block),
+            Node::Landed(block) => last_word(self.graph, block),
+            Node::X => WordNo(0),
         }
     }
-}
 
-/// Adds the ways along the edges but for the landings.
-pub(crate) fn push_ways(
-    alloc: Global,
-    list: &mut Vec<Piece>,
-    text: &Text,
-    graph: &FlowGraph,
-    lookups: &Lookups,
-    codes: &[Vec<u32>],
-    table: Addr,
-) -> Result<(), NoMemory>
-    requires source { IsSource text.now graph.now }
-    requires lookups { AreLookups text.now graph.now lookups.now }
-    ensures { OnOk result (list.new.items ≡ list.old.items
-        ++ ways_from text.now graph.now table.0 (code_at_of codes.now) 0 (own_edges_of graph.now)) }
-{
-    // A graph has few edges.
-    let _edges = graph.edges();
-    for (number, edge) in lookups.own_edges(graph).iter().enumerate() {
-        let number = number as u32;
-        list.push(way(alloc, text, graph, lookups, codes, table, number, edge)?)?;
+    // Where control goes on along an edge, to a word at its node.
+    fn next_along(&self, edge: &Edge, to: WordNo) -> Result<Next, NoMemory>
+        requires source { IsSource self.now.text.now self.now.graph.now }
+        requires lookups { AreLookups self.now.text.now self.now.graph.now self.now.lookups.now }
+        requires edge { IsEdgeIn self.now.graph.now.blocks self.now.graph.now.opens edge.now }
+        ensures { IfOk result (λ next. items_of next ≡ goes_on self.now.text.now self.now.graph.now edge.now.to to.0
+            (way_address self.now.text.now self.now.graph.now edge.now.from edge.now.kind)) }
+    {
+        match edge.to {
+            Node::X => {
+                let last = self.last_in(edge.from);
+                Ok(Next::Far(target(self.text, last, edge.kind)))
+            }
+            node => Ok(Next::Piece(self.lookups.enter(self.text, self.graph, node, to)?)),
+        }
     }
-    Ok(())
+
+    // ---- ways
+
+    // The copy of a slot's word on an edge with this number, and what comes behind it. A transfer in a slot ends the
+    // run.
+    fn slot_copy(
+        &self,
+        alloc: Global,
+        visit: Visit,
+        word: u32,
+        number: u32,
+        edge: &Edge,
+        to: WordNo,
+    ) -> Result<Piece, NoMemory>
+        requires source { IsSource self.now.text.now self.now.graph.now }
+        requires lookups { AreLookups self.now.text.now self.now.graph.now self.now.lookups.now }
+        requires edge { IsEdgeIn self.now.graph.now.blocks self.now.graph.now.opens edge.now }
+        ensures { IfOk result (λ p. p ≡ slot_copy_of self.now.text.now self.now.graph.now self.now.table.0
+            (code_at_of self.now.codes.now) visit.address visit.node word number edge.now to.0) }
+    {
+        if is_transfer(word) {
+            return couple(alloc, visit);
+        }
+        let code = code_at(self.codes, number);
+        match edge.kind {
+            EdgeKind::Out => out(alloc, visit, word, code),
+            _ => {
+                let next = self.next_along(edge, to)?;
+                plain(alloc, visit, word, code, next)
+            }
+        }
+    }
+
+    /// The way along an edge with this number, to a word at its node, with the code of its snippet. A slot behind the
+    /// text has its place where the table begins.
+    pub(crate) fn way_by(
+        &self,
+        alloc: Global,
+        number: u32,
+        edge: &Edge,
+        to: WordNo,
+    ) -> Result<Piece, NoMemory>
+        requires source { IsSource self.now.text.now self.now.graph.now }
+        requires lookups { AreLookups self.now.text.now self.now.graph.now self.now.lookups.now }
+        requires edge { IsEdgeIn self.now.graph.now.blocks self.now.graph.now.opens edge.now }
+        ensures { IfOk result (λ p. p ≡ way_by_of self.now.text.now self.now.graph.now self.now.table.0
+            (code_at_of self.now.codes.now) number edge.now to.0 edge.now.slot) }
+    {
+        match edge.slot {
+            Slot::Nothing => {
+                let code = code_at(self.codes, number);
+                let next = self.next_along(edge, to)?;
+                way_to(alloc, code, next)
+            }
+            Slot::Off => way_to(alloc, &[], Next::Far(self.table)),
+            Slot::Word(slot) => {
+                let visit = Visit {
+                    address: self.text.address(slot),
+                    node: node_number(self.graph, edge.from),
+                };
+                self.slot_copy(alloc, visit, self.text.word(slot), number, edge, to)
+            }
+        }
+    }
+
+    // The way along an edge with this number; Fall edges have none, and Case edges have theirs by entries.
+    fn way(&self, alloc: Global, number: u32, edge: &Edge) -> Result<Piece, NoMemory>
+        requires source { IsSource self.now.text.now self.now.graph.now }
+        requires lookups { AreLookups self.now.text.now self.now.graph.now self.now.lookups.now }
+        requires edge { IsEdgeIn self.now.graph.now.blocks self.now.graph.now.opens edge.now }
+        ensures { IfOk result (λ p. p ≡ way_along self.now.text.now self.now.graph.now self.now.table.0
+            (code_at_of self.now.codes.now) number edge.now) }
+    {
+        match edge.kind {
+            EdgeKind::Fall | EdgeKind::Case => unused(alloc),
+            _ => self.way_by(alloc, number, edge, first_word(self.graph, edge.to)),
+        }
+    }
+
+    /// Adds the ways along the edges but for the landings.
+    pub(crate) fn push_ways(&self, alloc: Global, list: &mut Vec<Piece>) -> Result<(), NoMemory>
+        requires source { IsSource self.now.text.now self.now.graph.now }
+        requires lookups { AreLookups self.now.text.now self.now.graph.now self.now.lookups.now }
+        ensures { OnOk result (list.new.items ≡ list.old.items
+            ++ ways_from self.now.text.now self.now.graph.now self.now.table.0 (code_at_of self.now.codes.now) 0
+            (own_edges_of self.now.graph.now)) }
+    {
+        // A graph has few edges.
+        let _edges = self.graph.edges();
+        for (number, edge) in self.lookups.own_edges(self.graph).iter().enumerate() {
+            let number = number as u32;
+            list.push(self.way(alloc, number, edge)?)?;
+        }
+        Ok(())
+    }
 }

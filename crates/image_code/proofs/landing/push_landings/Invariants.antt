@@ -1,9 +1,0 @@
-use Rattle.std.proofs.Common.{◌≡◌, ◌++◌, map}
-use Rattle.cfg_blocks.specs.Blocks.{below}
-use Rattle.image_code.specs.Made.{landing}
-use Rattle.image_code.specs.Parts.{code_at}
-use Rattle.image_code.proofs.landing.push_landings.Given as goal
-
-abbrev pub invariant-loop-word : goal.invariant-loop-word
-invariant-loop-word l =
-    l.list.items ≡ l.initial.list.items ++ map (landing l.text l.graph (code_at l.codes)) (below l.word)

@@ -1,0 +1,30 @@
+use Rattle.std.proofs.Common.{◌≡◌, ◌-◌, append-nil, length, length-take, ap, sym, arith}
+use Rattle.image_code.specs.Numbered.{landing_count, own_edges}
+use Rattle.image_code.specs.Parts.{code_at}
+use Rattle.image_code.proofs.Along.{ways_pushed}
+use Rattle.image_code.proofs.maker.Maker.push_ways.Goals as goal
+
+pub overflow_cast-number : goal.overflow_cast-number
+overflow_cast-number c =
+    let of = c.args.self.now.graph.now in
+    let graph = c.edges-edges.ensures.graph in
+    let same : length c.own_edges-edge-items.result.now ≡ length (own_edges of) =
+    ap length c.own_edges-edge-items.ensures.edges in
+    omega (
+      arith,
+      graph.edge_count,
+      graph.few,
+      c.loop-number-test.true,
+      length-take (length of.edges - landing_count of) of.edges,
+    )
+
+pub loop-number-init : goal.loop-number-init
+loop-number-init c = sym (append-nil c.args.list.now.items)
+
+pub loop-number-preserved : goal.loop-number-preserved
+loop-number-preserved c =
+    let maker = c.args.self.now in
+    ways_pushed maker.text.now maker.graph.now maker.table.0 (code_at maker.codes.now)
+    c.own_edges-edge-items.result.now c.loop-number.number _ c.args.list.now.items c.loop-number.list.items
+    c.push.new.self.items _ c.loop-number-test.true c.in_ok-push.ensures.items c.in_ok-way.ensures
+    c.loop-number.invariant

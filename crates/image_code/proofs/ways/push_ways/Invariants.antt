@@ -1,9 +1,0 @@
-use Rattle.std.proofs.Common.{◌≡◌, ◌++◌, take}
-use Rattle.image_code.specs.Made.{ways_from}
-use Rattle.image_code.specs.Parts.{code_at}
-use Rattle.image_code.proofs.ways.push_ways.Given as goal
-
-abbrev pub invariant-loop-number : goal.invariant-loop-number
-invariant-loop-number l =
-    l.list.items ≡ l.initial.list.items
-    ++ ways_from l.text l.graph l.table.0 (code_at l.codes) 0 (take l.number l.edge-items)
