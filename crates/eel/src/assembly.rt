@@ -43,20 +43,23 @@ fn assembled<'a>(alloc: Global, name: &'a str, bytes: &[u8]) -> Result<Vec<u8>, 
     ensures words { IfOk result (λ file. IsAssembled bytes.now file.items) }
     ensures refused { IfErr result (λ outcome. IsNotListing name.now bytes.now (outcome_seen outcome)) }
 {
-    let words = match read_listing(alloc, bytes) {
-        Ok(words) => words,
-        Err(ListFault::Line(number)) => {
-            return Err(Outcome::BadLine {
-                name,
-                number,
-                cause: LineCause::Grammar,
-            });
-        }
-        Err(ListFault::NoMemory) => return Err(Outcome::OutOfMemory),
-    };
-    match big_endian(alloc, &words) {
-        Ok(bytes) => Ok(bytes),
-        Err(NoMemory) => Err(Outcome::OutOfMemory),
+    let words = words_in(alloc, name, bytes)?;
+    Ok(big_endian(alloc, &words)?)
+}
+
+/// The words of the listing that the file `name` is.
+fn words_in<'a>(alloc: Global, name: &'a str, bytes: &[u8]) -> Result<Vec<u32>, Outcome<'a>>
+    ensures words { IfOk result (λ words. IsListing bytes.now words.items) }
+    ensures refused { IfErr result (λ outcome. IsNotListing name.now bytes.now (outcome_seen outcome)) }
+{
+    match read_listing(alloc, bytes) {
+        Ok(words) => Ok(words),
+        Err(ListFault::Line(number)) => Err(Outcome::BadLine {
+            name,
+            number,
+            cause: LineCause::Grammar,
+        }),
+        Err(ListFault::NoMemory) => Err(Outcome::OutOfMemory),
     }
 }
 

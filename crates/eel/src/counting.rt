@@ -9,7 +9,6 @@ ghost use Rattle.eel.specs.Answers.Counts.{EditsAreProfiles, IsUncounted, TellCo
 use crate::outcome::{CountCause, Outcome};
 use count_rebuild::{CountFault, rebuild};
 use dump_file::Dump;
-use eel_base::NoMemory;
 use notes::Notes;
 use show_text::counts;
 use std::alloc::Global;
@@ -28,14 +27,8 @@ pub fn count_lines<'a>(
     ensures refused { IfErr result (λ outcome.
         IsUncounted written.now dump.now (notes_seen notes.now) (dump_seen state.now) (outcome_seen outcome)) }
 {
-    let times = match rebuild(alloc, notes, state) {
-        Ok(times) => times,
-        Err(fault) => return Err(refusal(written, dump, fault)),
-    };
-    match counts(alloc, notes, &times) {
-        Ok(lines) => Ok(lines),
-        Err(NoMemory) => Err(Outcome::OutOfMemory),
-    }
+    let times = rebuild(alloc, notes, state).map_err(|fault| refusal(written, dump, fault))?;
+    Ok(counts(alloc, notes, &times)?)
 }
 
 /// A file that was made with counters is a profile, whose counts are exact, and its notes have version 2.

@@ -9,7 +9,7 @@ ghost use Rattle.eel.specs.Answers.Shared.{Feed, outside, store};
 use crate::edit::EDIT_LIMIT;
 use crate::outcome::Outcome;
 use crate::texts::{fetch_file, print};
-use eel_base::{Files, NoMemory, Sink};
+use eel_base::{Files, Sink};
 use elf32_sparc::{ReadFault, read_image};
 use std::alloc::Global;
 use v8_text::listing;
@@ -56,8 +56,5 @@ fn disassembly<'a>(alloc: Global, name: &'a str, bytes: &[u8]) -> Result<Vec<u8>
         }
         Err(ReadFault::NoMemory) => return Err(Outcome::OutOfMemory),
     };
-    match listing(alloc, image.text()) {
-        Ok(lines) => Ok(lines),
-        Err(NoMemory) => Err(Outcome::OutOfMemory),
-    }
+    Ok(listing(alloc, image.text())?)
 }

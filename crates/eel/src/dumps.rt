@@ -92,17 +92,11 @@ fn noted<'a>(alloc: Global, name: &'a str, bytes: &[u8]) -> Result<Notes, Outcom
     ensures rules { IfOk result (λ notes. AreNotes (notes_seen notes)) }
     ensures refused { IfErr result (λ outcome. IsNotNoted name.now bytes.now (outcome_seen outcome)) }
 {
-    let notes = match notes_in(alloc, name, bytes) {
-        Ok(notes) => notes,
-        Err(outcome) => return Err(outcome),
-    };
-    if notes.cells == 0 {
-        return Ok(notes);
-    }
-    match are_mapped(alloc, bytes, notes.base, notes.cells) {
-        Ok(true) => Ok(notes),
-        Ok(false) => Err(Outcome::BadNotes { name, at: BASE_AT }),
-        Err(NoMemory) => Err(Outcome::OutOfMemory),
+    let notes = notes_in(alloc, name, bytes)?;
+    if notes.cells == 0 || are_mapped(alloc, bytes, notes.base, notes.cells)? {
+        Ok(notes)
+    } else {
+        Err(Outcome::BadNotes { name, at: BASE_AT })
     }
 }
 

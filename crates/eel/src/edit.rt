@@ -11,10 +11,9 @@ ghost use Rattle.eel.specs.Answers.Script.{HasCells, IsBadScript, IsNotScripted,
 
 use crate::outcome::{LineCause, Outcome};
 use crate::texts::{fetch_file, put_file};
-use cfg_view::look;
+use crate::viewed::view_in;
 use edit_core::{EditFault, edit_bytes};
 use eel_base::Files;
-use elf32_sparc::ReadFault;
 use snippets::{Script, ScriptFault, Snippet, read_script};
 use std::alloc::Global;
 use tool_kit::{Chooser, EdgeRef, Tool, ToolKind};
@@ -130,18 +129,9 @@ fn scripted<'a>(
     ensures refused { IfErr result (λ outcome.
         IsNotScripted input.now bytes.now script.now lines.now (outcome_seen outcome)) }
 {
-    let edges = match edge_count(alloc, input, bytes) {
-        Ok(edges) => edges,
-        Err(outcome) => return Err(outcome),
-    };
-    let script = match script_in(alloc, script, lines, edges) {
-        Ok(script) => script,
-        Err(outcome) => return Err(outcome),
-    };
-    match with_snippets(alloc, bytes, &script) {
-        Ok(written) => Ok(written),
-        Err(fault) => Err(refusal(input, fault)),
-    }
+    let edges = edge_count(alloc, input, bytes)?;
+    let script = script_in(alloc, script, lines, edges)?;
+    with_snippets(alloc, bytes, &script).map_err(|fault| refusal(input, fault))
 }
 
 /// How many edges the graph of the file `name` has.
@@ -150,14 +140,8 @@ fn edge_count<'a>(alloc: Global, name: &'a str, bytes: &[u8]) -> Result<u32, Out
     ensures sound { OnOk result (IsSound bytes.now) }
     ensures refused { IfErr result (λ outcome. IsNotSound name.now bytes.now (outcome_seen outcome)) }
 {
-    match look(alloc, bytes, &[]) {
-        Ok(view) => Ok(view.graph.edges().len() as u32),
-        Err(ReadFault::File(fault)) => Err(Outcome::BadFile {
-            name,
-            code: fault.code(),
-        }),
-        Err(ReadFault::NoMemory) => Err(Outcome::OutOfMemory),
-    }
+    let view = view_in(alloc, name, bytes)?;
+    Ok(view.graph.edges().len() as u32)
 }
 
 /// The script that the lines of the file `name` are, for a graph of so many edges.

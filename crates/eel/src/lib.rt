@@ -22,6 +22,7 @@ mod tooling;
 mod top;
 mod trace;
 mod tracing;
+mod viewed;
 mod visiting;
 mod weighing;
 

@@ -10,9 +10,9 @@ ghost use Rattle.eel.specs.Answers.Show.{lines_of, shown_of};
 use crate::edit::EDIT_LIMIT;
 use crate::outcome::Outcome;
 use crate::texts::{fetch_file, print};
-use cfg_view::{View, look};
+use crate::viewed::view_in;
+use cfg_view::View;
 use eel_base::{Files, NoMemory, Sink};
-use elf32_sparc::ReadFault;
 use show_text::show;
 use std::alloc::Global;
 
@@ -48,20 +48,8 @@ fn listing<'a>(alloc: Global, name: &'a str, bytes: &[u8]) -> Result<Vec<u8>, Ou
     ensures sound { IfOk result (λ lines. IsSound bytes.now) }
     ensures refused { IfErr result (λ outcome. IsNotSound name.now bytes.now (outcome_seen outcome)) }
 {
-    let view = match look(alloc, bytes, &[]) {
-        Ok(view) => view,
-        Err(ReadFault::File(fault)) => {
-            return Err(Outcome::BadFile {
-                name,
-                code: fault.code(),
-            });
-        }
-        Err(ReadFault::NoMemory) => return Err(Outcome::OutOfMemory),
-    };
-    match view_lines(alloc, &view) {
-        Ok(lines) => Ok(lines),
-        Err(NoMemory) => Err(Outcome::OutOfMemory),
-    }
+    let view = view_in(alloc, name, bytes)?;
+    Ok(view_lines(alloc, &view)?)
 }
 
 /// The lines that show a view and its switches.

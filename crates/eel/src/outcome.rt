@@ -4,7 +4,7 @@ ghost use Rattle.eel_base.specs.Outside.{Rose, appended, TookPart};
 ghost use Rattle.eel.specs.Outcome.{BadLine, cause_text as cause_text_of, outcome_seen, status_of, ending_text, line_of, stream, Shows, joined, BadCell, NoCounts, line_about};
 ghost use Rattle.eel.specs.declared.outcome.CountCause.TheVariants as count_causes;
 
-use eel_base::{Addr, EdgeNo, Failed, Sink, hex8, put_all};
+use eel_base::{Addr, EdgeNo, Failed, NoMemory, Sink, hex8, put_all};
 use itoa::Buffer;
 use v8_step::Ending;
 
@@ -81,6 +81,17 @@ pub enum Outcome<'a> {
     },
     OutOfMemory,
     DeviceFault,
+}
+
+impl From<NoMemory> for Outcome<'_> {
+    ghost use Rattle.std.specs.Prelude.{◌≡◌};
+    ghost use Rattle.eel.specs.declared.outcome.Outcome.TheVariants as outcomes;
+
+    ghost from_gives = { λ _ outcome. outcome ≡ outcomes.OutOfMemory };
+
+    fn from(_: NoMemory) -> Self {
+        Outcome::OutOfMemory
+    }
 }
 
 /// What is bad about a line.

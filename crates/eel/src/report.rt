@@ -78,18 +78,10 @@ fn report_lines<'a>(
     ensures refused { IfErr result (λ outcome.
         IsUnreported report written.now file.now dump.now bytes.now (outcome_seen outcome)) }
 {
-    let notes = match notes_in(alloc, written, file) {
-        Ok(notes) => notes,
-        Err(outcome) => return Err(outcome),
-    };
-    let state = match dump_in(alloc, dump, bytes) {
-        Ok(state) => state,
-        Err(outcome) => return Err(outcome),
-    };
-    match told(alloc, report, written, file, dump, &notes, &state) {
-        Ok(lines) => Ok(lines),
-        Err(outcome) => Err(outcome),
-    }
+    let notes = notes_in(alloc, written, file)?;
+    let state = dump_in(alloc, dump, bytes)?;
+    let lines = told(alloc, report, written, file, dump, &notes, &state)?;
+    Ok(lines)
 }
 
 /// The lines of what the notes of the file `written` and the dump `dump` tell.

@@ -41,10 +41,8 @@ fn original<'a, 'b>(alloc: Global, name: &'a str, file: &'b [u8]) -> Result<&'b 
     ensures original { IfOk result (λ original. HasOriginal file.now original.now) }
     ensures refused { IfErr result (λ outcome. IsUnnoted name.now file.now (outcome_seen outcome)) }
 {
-    match notes_in(alloc, name, file) {
-        Ok(notes) => Ok(original_in(file, &notes)),
-        Err(outcome) => Err(outcome),
-    }
+    let notes = notes_in(alloc, name, file)?;
+    Ok(original_in(file, &notes))
 }
 
 /// The bytes of a file where notes say that the original stands.

@@ -9,7 +9,6 @@ ghost use Rattle.eel.specs.Answers.LastEdges.{EditsAreTraces, IsUntold, TellEdge
 use crate::outcome::{CountCause, Outcome};
 use dump_file::Dump;
 use edge_ring::{RingFault, last_edges, ring_lines};
-use eel_base::NoMemory;
 use notes::Notes;
 use std::alloc::Global;
 
@@ -27,14 +26,8 @@ pub fn edge_lines<'a>(
     ensures refused { IfErr result (λ outcome.
         IsUntold written.now dump.now (notes_seen notes.now) (dump_seen state.now) (outcome_seen outcome)) }
 {
-    let edges = match last_edges(alloc, notes, state) {
-        Ok(edges) => edges,
-        Err(fault) => return Err(refusal(written, dump, fault)),
-    };
-    match ring_lines(alloc, notes, &edges) {
-        Ok(lines) => Ok(lines),
-        Err(NoMemory) => Err(Outcome::OutOfMemory),
-    }
+    let edges = last_edges(alloc, notes, state).map_err(|fault| refusal(written, dump, fault))?;
+    Ok(ring_lines(alloc, notes, &edges)?)
 }
 
 /// A file that was made with a ring is a trace, whose last edges are told.

@@ -42,18 +42,13 @@ pub fn visit_lines<'a>(
     ensures refused { IfErr result (λ outcome. IsUnvisited written.now file.now dump.now (notes_seen notes.now)
         (dump_seen state.now) (outcome_seen outcome)) }
 {
-    let view = match every_word_in(alloc, written, file, notes) {
-        Ok(view) => view,
-        Err(outcome) => return Err(outcome),
-    };
+    let view = every_word_in(alloc, written, file, notes)?;
     let times = match rebuild(alloc, notes, state) {
         Ok(times) => times,
         Err(fault) => return Err(refusal(written, dump, fault)),
     };
-    match told(alloc, &view, notes, state, &times) {
-        Ok(lines) => Ok(lines),
-        Err(NoMemory) => Err(Outcome::OutOfMemory),
-    }
+    let lines = told(alloc, &view, notes, state, &times)?;
+    Ok(lines)
 }
 
 /// The view of the original in the file `name` with every word marked, if the notes are of it.

@@ -14,9 +14,9 @@ use crate::edit::{EDIT_LIMIT, refusal};
 use crate::outcome::{LineCause, Outcome};
 use crate::profiling::{tree_by, with_counters};
 use crate::texts::{fetch_file, put_file};
-use cfg_view::{View, look};
-use eel_base::{Files, NoMemory};
-use elf32_sparc::ReadFault;
+use crate::viewed::view_in;
+use cfg_view::View;
+use eel_base::Files;
 use span_tree::SpanTree;
 use std::alloc::Global;
 use weights_in::{WeightFault, read_weights};
@@ -62,14 +62,8 @@ fn weighed<'a>(
     ensures edited { IfOk result (λ file. IsWeighedEdit bytes.now lines.now file.items) }
     ensures refused { IfErr result (λ outcome. IsNotWeighed input.now bytes.now name.now lines.now (outcome_seen outcome)) }
 {
-    let tree = match measured_tree(alloc, input, bytes, name, lines) {
-        Ok(tree) => tree,
-        Err(outcome) => return Err(outcome),
-    };
-    match with_counters(alloc, bytes, Vec::new(alloc), &tree) {
-        Ok(written) => Ok(written),
-        Err(fault) => Err(refusal(input, fault)),
-    }
+    let tree = measured_tree(alloc, input, bytes, name, lines)?;
+    with_counters(alloc, bytes, Vec::new(alloc), &tree).map_err(|fault| refusal(input, fault))
 }
 
 /// The spanning tree of the file's graph that weighs most. The view of the file is gone when it is edited, since the edit
@@ -86,24 +80,10 @@ fn measured_tree<'a>(
     ensures few { IfOk result (λ cells. cell_count cells ≤ 2 ^ 22) }
     ensures refused { IfErr result (λ outcome. IsNotWeighed input.now bytes.now name.now lines.now (outcome_seen outcome)) }
 {
-    let view = match look(alloc, bytes, &[]) {
-        Ok(view) => view,
-        Err(ReadFault::File(fault)) => {
-            return Err(Outcome::BadFile {
-                name: input,
-                code: fault.code(),
-            });
-        }
-        Err(ReadFault::NoMemory) => return Err(Outcome::OutOfMemory),
-    };
-    let weights = match weights_for(alloc, &view, name, lines) {
-        Ok(weights) => weights,
-        Err(outcome) => return Err(outcome),
-    };
-    match tree_by(alloc, &view, &weights) {
-        Ok(tree) => Ok(tree),
-        Err(NoMemory) => Err(Outcome::OutOfMemory),
-    }
+    let view = view_in(alloc, input, bytes)?;
+    let weights = weights_for(alloc, &view, name, lines)?;
+    let tree = tree_by(alloc, &view, &weights)?;
+    Ok(tree)
 }
 
 /// The weights that the lines of the file `name` have for the edges of a program.
