@@ -49,7 +49,7 @@ build_all() {
     most=$((${memory:-0} / 4000000))
     [ "$most" -le "$(nproc)" ] || most=$(nproc)
     [ "$most" -ge 1 ] || most=1
-    echo "eel: proving and building the program, $count crates, $most at once; this takes a while, once" >&2
+    echo "eel: proving and building the program, $count crates, $most at once; half an hour on four processors, once" >&2
     # Where there is no make, `rt run` builds one crate after the other.
     rules "$@" | make -s -k -j "$most" -f - all >&2 2>"$logs/make.log"
     (cd "$here/crates/eel_main" && rt run) >"$logs/eel_main.log" 2>&1 </dev/null

@@ -18,7 +18,7 @@ mod opens;
 mod tables;
 
 pub use flow::{FlowGraph, graph};
-pub use numbers::{kind_number, node_number};
+pub use numbers::{kind_number, node_number, same_node};
 pub use opens::OpenSwitch;
 
 /// A block, all that lies outside the text, or the landed copy of a block.

@@ -1,6 +1,7 @@
-//! Nodes and kinds of edges by numbers.
+//! Nodes and kinds of edges by numbers, and which nodes are the same.
 ghost use Rattle.std.specs.Prelude.{◌≡◌, ◌^◌, ◌<◌, ◌≤◌, length};
 ghost use Rattle.cfg_normal.specs.Landings.{IsNumbered};
+ghost use Rattle.cfg_normal.specs.Nodes.{same_node as same_node_of};
 ghost use Rattle.cfg_normal.specs.Numbers.{kind_number as kind_number_of, node_number as node_number_of, node_numbers};
 
 use crate::{FlowGraph, Node};
@@ -35,5 +36,17 @@ pub fn kind_number(kind: EdgeKind) -> u32
         EdgeKind::Out => 4,
         EdgeKind::Land => 5,
         EdgeKind::Case => 6,
+    }
+}
+
+/// Whether two nodes are the same.
+pub fn same_node(one: Node, other: Node) -> bool
+    ensures { result ≡ same_node_of one other }
+{
+    match (one, other) {
+        (Node::Block(one), Node::Block(other)) => one.0 == other.0,
+        (Node::Landed(one), Node::Landed(other)) => one.0 == other.0,
+        (Node::X, Node::X) => true,
+        _ => false,
     }
 }

@@ -4,12 +4,11 @@ ghost use Rattle.std.specs.List.{count_by, range_with_len};
 ghost use Rattle.indexmap.specs.IndexMap.{get};
 ghost use Rattle.cfg_blocks.specs.Blocks.{size_of};
 ghost use Rattle.cfg_normal.specs.Graph.{IsEdgeIn, IsNodeIn};
-ghost use Rattle.cfg_normal.specs.Nodes.{same_node as same_node_of};
 ghost use Rattle.image_code.specs.Fit.{copies_of, is_at, targets_from, words_at};
 ghost use Rattle.edit_core.specs.Taken.{bound_by, case_key as case_key_of, count_of, counted_on as counted_on_of, is_entry, operations_on, AreCounts};
 
 use cfg_blocks::EdgeKind;
-use cfg_normal::{Edge, FlowGraph, Node, node_number};
+use cfg_normal::{Edge, FlowGraph, Node, node_number, same_node};
 use eel_base::{BlockNo, NoMemory, Text, WordNo};
 use elf32_sparc::{FileFault, ReadFault};
 use indexmap::IndexMap;
@@ -143,17 +142,6 @@ fn lands_at(graph: &FlowGraph, node: Node, word: WordNo) -> u32
         1
     } else {
         0
-    }
-}
-
-fn same_node(one: Node, other: Node) -> bool
-    ensures { result ≡ same_node_of one other }
-{
-    match (one, other) {
-        (Node::Block(a), Node::Block(b)) => a.0 == b.0,
-        (Node::Landed(a), Node::Landed(b)) => a.0 == b.0,
-        (Node::X, Node::X) => true,
-        _ => false,
     }
 }
 

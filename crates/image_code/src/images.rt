@@ -6,7 +6,6 @@ ghost use Rattle.cfg_blocks.specs.Blocks.{below, last_word as last_word_of};
 ghost use Rattle.cfg_blocks.specs.declared.EdgeKind.TheVariants.{Fall};
 ghost use Rattle.cfg_normal.specs.declared.Node.TheVariants.{Block};
 ghost use Rattle.cfg_normal.specs.Landings.{IsNumbered};
-ghost use Rattle.cfg_normal.specs.Nodes.{same_node as same_node_of};
 ghost use Rattle.cfg_normal.specs.Numbers.{node_number as node_number_of};
 ghost use Rattle.cfg_walk.specs.Walk.{edge_from, ends_block as ends_block_of};
 ghost use Rattle.image_code.specs.Lookups.{AreLookups, IsSource, is_land};
@@ -20,7 +19,7 @@ use crate::maker::Maker;
 use crate::numbering::piece;
 use crate::parts::{Next, Visit, branch, call, choice, is_transfer, jump, plain, way_to};
 use cfg_blocks::EdgeKind;
-use cfg_normal::{FlowGraph, Node, node_number};
+use cfg_normal::{FlowGraph, Node, node_number, same_node};
 use eel_base::{Addr, BlockNo, NoMemory, PieceNo, Text, WordNo};
 use layout::Piece;
 use std::alloc::Global;
@@ -68,17 +67,6 @@ fn ends_block(graph: &FlowGraph, node: Node, word: WordNo) -> bool
         Node::Block(block) => word.0 == last_word(graph, block).0,
         Node::Landed(block) => word.0 == last_word(graph, block).0,
         Node::X => false,
-    }
-}
-
-fn same_node(one: Node, other: Node) -> bool
-    ensures { result ≡ same_node_of one other }
-{
-    match (one, other) {
-        (Node::Block(one), Node::Block(other)) => one.0 == other.0,
-        (Node::Landed(one), Node::Landed(other)) => one.0 == other.0,
-        (Node::X, Node::X) => true,
-        _ => false,
     }
 }
 

@@ -1,9 +1,7 @@
 //! The landings at words, and the pieces to which the table leads.
 
-ghost use Rattle.std.specs.Prelude.{◌≡◌, ◌++◌, length, map, option_to_list, Some, IfOk, OnOk};
+ghost use Rattle.std.specs.Prelude.{◌≡◌, ◌++◌, length, map, option_to_list, IfOk, OnOk};
 ghost use Rattle.cfg_blocks.specs.Blocks.{below};
-ghost use Rattle.cfg_normal.specs.Graph.{lands as lands_of};
-ghost use Rattle.cfg_normal.specs.Landings.{IsNumbered};
 ghost use Rattle.image_code.specs.Lookups.{AreLookups, IsSource};
 ghost use Rattle.image_code.specs.Made.{landing as landing_of, lands_at as lands_at_of};
 ghost use Rattle.image_code.specs.Parts.{code_at as code_at_of};
@@ -13,7 +11,6 @@ use crate::images::code_on;
 use crate::maker::Maker;
 use crate::numbering::piece;
 use crate::parts::{Next, way_to};
-use cfg_normal::Node;
 use eel_base::{NoMemory, PieceNo, WordNo};
 use layout::Piece;
 use snippets::Snippet;
@@ -35,15 +32,6 @@ fn operations(snips: &[Snippet], edge: Option<u32>) -> usize
 impl Maker<'_> {
     // ---- landings
 
-    /// The node at which control lands that comes to a word from outside.
-    pub(crate) fn lands(&self, word: WordNo) -> Node
-        requires source { IsSource self.now.text.now self.now.graph.now }
-        ensures node { result ≡ lands_of self.now.graph.now (Some word.0) }
-        ensures numbered { IsNumbered (length self.now.graph.now.blocks.firsts) result }
-    {
-        self.graph.lands(word)
-    }
-
     // The landing at a word: the snippet of its node's landing, and the way to where control enters the word there.
     fn landing(&self, alloc: Global, word: WordNo) -> Result<Piece, NoMemory>
         requires source { IsSource self.now.text.now self.now.graph.now }
@@ -51,7 +39,7 @@ impl Maker<'_> {
         ensures { IfOk result (λ p. p
             ≡ landing_of self.now.text.now self.now.graph.now (code_at_of self.now.codes.now) word.0) }
     {
-        let node = self.lands(word);
+        let node = self.graph.lands(word);
         let edge = self.lookups.landing(self.text, self.graph, node);
         let code = code_on(self.codes, edge);
         let to = self.lookups.enter(self.text, self.graph, node, word)?;
@@ -81,7 +69,7 @@ impl Maker<'_> {
         requires lookups { AreLookups self.now.text.now self.now.graph.now self.now.lookups.now }
         ensures { IfOk result (λ p. p.0 ≡ lands_at_of self.now.text.now self.now.graph.now snips.now word.0) }
     {
-        let node = self.lands(word);
+        let node = self.graph.lands(word);
         if operations(snips, self.lookups.landing(self.text, self.graph, node)) == 0 {
             self.lookups.enter(self.text, self.graph, node, word)
         } else {

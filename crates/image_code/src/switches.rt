@@ -148,7 +148,7 @@ impl Maker<'_> {
             (code_at self.now.codes.now) word.0 (edge_along self.now.graph.now (Block block)
             (record { kind = Case; to = Some (lands_of self.now.graph.now (Some word.0)) }))) }
     {
-        let to = self.lands(word);
+        let to = self.graph.lands(word);
         let Some(number) = self.lookups.case_edge(self.text, self.graph, block, to) else {
             return unused(alloc);
         };

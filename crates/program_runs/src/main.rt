@@ -4,6 +4,7 @@
 //! `faults` has it print the faults of a file.
 #![tactic(auto)]
 
+mod editor;
 mod faults;
 mod job;
 mod report;

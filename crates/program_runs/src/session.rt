@@ -1,4 +1,5 @@
 //! Sessions: calls of the editor over files in memory, a line each, as a script has them.
+use crate::editor::{Answer, call_editor};
 use crate::job::Refusal;
 use crate::report::print_bytes;
 use eel_base::{Files, MemFiles, MemSink, MemSource, be32_at};
@@ -58,14 +59,11 @@ pub struct Session {
     err_room: usize,
 }
 
-/// What came of a call.
+/// What came of a call, and the names that it changed, where these are watched.
 #[derive(Drop)]
-pub struct Answer {
-    pub status: u8,
-    pub out: MemSink,
-    pub err: MemSink,
-    /// The names that it changed, where these are watched.
-    pub changed: Vec<String>,
+pub struct Told {
+    answer: Answer,
+    changed: Vec<String>,
 }
 
 impl Session {
@@ -96,14 +94,15 @@ impl Session {
         alloc: Global,
         folder: &mut impl Files,
         line: &str,
-    ) -> Result<Option<Answer>, Refusal> {
+    ) -> Result<Option<Told>, Refusal> {
         let words: Vec<&str> = line.split(' ').collect(alloc)?;
-        if let [verb, words @ ..] = words.as_slice() {
-            if *verb == "eel" {
-                return Ok(Some(self.call(alloc, words)?));
-            }
+        let Some((verb, words)) = words.as_slice().split_first() else {
+            return Err(Refusal::Script);
+        };
+        if *verb == "eel" {
+            return Ok(Some(self.call(alloc, words)?));
         }
-        self.prepare(alloc, folder, &words)?;
+        self.prepare(alloc, folder, verb, words)?;
         Ok(None)
     }
 
@@ -112,63 +111,142 @@ impl Session {
         &mut self,
         alloc: Global,
         folder: &mut impl Files,
+        verb: &str,
         words: &[&str],
     ) -> Result<(), Refusal> {
-        match words {
-            [verb, name] if *verb == "hold" => {
-                let bytes = folder.fetch(alloc, name, FILE_LIMIT)?;
-                self.hold(alloc, name, &bytes)
-            }
-            [verb, name, count] if *verb == "zeros" => {
-                let bytes = vec![in alloc; 0; number(count)?]?;
-                self.hold(alloc, name, &bytes)
-            }
-            [verb, old, new, count] if *verb == "cut" => {
-                let mut bytes = self.copy(alloc, old)?;
-                bytes.truncate(number(count)?);
-                self.hold(alloc, new, &bytes)
-            }
-            [verb, old, new, patches @ ..] if *verb == "patch" => {
-                let bytes = patched(alloc, self.copy(alloc, old)?, 0, patches)?;
-                self.hold(alloc, new, &bytes)
-            }
-            [verb, old, new, patches @ ..] if *verb == "noted" => {
-                let bytes = self.copy(alloc, old)?;
-                let notes = be32_at(&bytes, NOTES_AT).ok_or(Refusal::Script)?;
-                let bytes = patched(alloc, bytes, notes as usize, patches)?;
-                self.hold(alloc, new, &bytes)
-            }
-            [verb, name] if *verb == "keep" => {
-                let bytes = self.files.get(name).ok_or(Refusal::Unread)?;
-                folder.put(name, bytes).map_err(|_| Refusal::Unread)
-            }
-            [verb, name] if *verb == "input" => {
-                self.input = folder.fetch(alloc, name, FILE_LIMIT)?;
-                Ok(())
-            }
-            [verb, out, err] if *verb == "room" => {
-                self.out_room = number(out)?;
-                self.err_room = number(err)?;
-                Ok(())
-            }
-            [verb, device, calls @ ..] if *verb == "fail" => {
-                let failing = self.failures.of(device).ok_or(Refusal::Script)?;
-                *failing = numbers(alloc, calls)?;
-                Ok(())
-            }
-            [verb] if *verb == "watch" => {
-                self.is_watched = true;
-                Ok(())
-            }
-            [verb, first, second] if *verb == "same" => {
-                alike(self.files.get(first), self.files.get(second))
-            }
-            [verb, dump, words] if *verb == "cells" => {
-                alike(self.files.get(dump).and_then(cells), self.files.get(words))
-            }
+        match verb {
+            "hold" => self.hold_named(alloc, folder, words),
+            "zeros" => self.hold_zeros(alloc, words),
+            "cut" => self.hold_first(alloc, words),
+            "patch" => self.hold_patched(alloc, words),
+            "noted" => self.hold_noted(alloc, words),
+            "keep" => self.keep(folder, words),
+            "input" => self.take_input(alloc, folder, words),
+            "room" => self.make_room(words),
+            "fail" => self.let_fail(alloc, words),
+            "watch" => self.watch(words),
+            "same" => self.are_same(words),
+            "cells" => self.have_cells(words),
             _ => Err(Refusal::Script),
         }
     }
+
+    // ---- what is held
+
+    fn hold_named(
+        &mut self,
+        alloc: Global,
+        folder: &mut impl Files,
+        words: &[&str],
+    ) -> Result<(), Refusal> {
+        let [name] = words else {
+            return Err(Refusal::Script);
+        };
+        let bytes = folder.fetch(alloc, name, FILE_LIMIT)?;
+        self.hold(alloc, name, &bytes)
+    }
+
+    fn hold_zeros(&mut self, alloc: Global, words: &[&str]) -> Result<(), Refusal> {
+        let [name, count] = words else {
+            return Err(Refusal::Script);
+        };
+        let bytes = vec![in alloc; 0; number(count)?]?;
+        self.hold(alloc, name, &bytes)
+    }
+
+    fn hold_first(&mut self, alloc: Global, words: &[&str]) -> Result<(), Refusal> {
+        let [old, new, count] = words else {
+            return Err(Refusal::Script);
+        };
+        let mut bytes = self.copy(alloc, old)?;
+        bytes.truncate(number(count)?);
+        self.hold(alloc, new, &bytes)
+    }
+
+    fn hold_patched(&mut self, alloc: Global, words: &[&str]) -> Result<(), Refusal> {
+        let [old, new, patches @ ..] = words else {
+            return Err(Refusal::Script);
+        };
+        let bytes = patched(alloc, self.copy(alloc, old)?, 0, patches)?;
+        self.hold(alloc, new, &bytes)
+    }
+
+    fn hold_noted(&mut self, alloc: Global, words: &[&str]) -> Result<(), Refusal> {
+        let [old, new, patches @ ..] = words else {
+            return Err(Refusal::Script);
+        };
+        let bytes = self.copy(alloc, old)?;
+        let notes = be32_at(&bytes, NOTES_AT).ok_or(Refusal::Script)?;
+        let bytes = patched(alloc, bytes, notes as usize, patches)?;
+        self.hold(alloc, new, &bytes)
+    }
+
+    fn keep(&self, folder: &mut impl Files, words: &[&str]) -> Result<(), Refusal> {
+        let [name] = words else {
+            return Err(Refusal::Script);
+        };
+        let bytes = self.files.get(name).ok_or(Refusal::Unread)?;
+        folder.put(name, bytes).map_err(|_| Refusal::Unread)
+    }
+
+    // ---- what calls have to do with
+
+    fn take_input(
+        &mut self,
+        alloc: Global,
+        folder: &mut impl Files,
+        words: &[&str],
+    ) -> Result<(), Refusal> {
+        let [name] = words else {
+            return Err(Refusal::Script);
+        };
+        self.input = folder.fetch(alloc, name, FILE_LIMIT)?;
+        Ok(())
+    }
+
+    fn make_room(&mut self, words: &[&str]) -> Result<(), Refusal> {
+        let [out, err] = words else {
+            return Err(Refusal::Script);
+        };
+        self.out_room = number(out)?;
+        self.err_room = number(err)?;
+        Ok(())
+    }
+
+    fn let_fail(&mut self, alloc: Global, words: &[&str]) -> Result<(), Refusal> {
+        let [device, calls @ ..] = words else {
+            return Err(Refusal::Script);
+        };
+        let failing = self.failures.of(device).ok_or(Refusal::Script)?;
+        *failing = numbers(alloc, calls)?;
+        Ok(())
+    }
+
+    fn watch(&mut self, words: &[&str]) -> Result<(), Refusal> {
+        if !words.is_empty() {
+            return Err(Refusal::Script);
+        }
+        self.is_watched = true;
+        Ok(())
+    }
+
+    // ---- what must be
+
+    fn are_same(&self, words: &[&str]) -> Result<(), Refusal> {
+        let [first, second] = words else {
+            return Err(Refusal::Script);
+        };
+        alike(self.files.get(first), self.files.get(second))
+    }
+
+    fn have_cells(&self, words: &[&str]) -> Result<(), Refusal> {
+        let [dump, words] = words else {
+            return Err(Refusal::Script);
+        };
+        alike(self.files.get(dump).and_then(cells), self.files.get(words))
+    }
+
+    // ---- files and names
 
     fn hold(&mut self, alloc: Global, name: &str, bytes: &[u8]) -> Result<(), Refusal> {
         self.know(alloc, name)?;
@@ -208,7 +286,7 @@ impl Session {
     }
 
     /// Calls the editor. What was to fail in this call doesn't in the next.
-    fn call(&mut self, alloc: Global, words: &[&str]) -> Result<Answer, Refusal> {
+    fn call(&mut self, alloc: Global, words: &[&str]) -> Result<Told, Refusal> {
         for word in words {
             self.know(alloc, word)?;
         }
@@ -223,24 +301,15 @@ impl Session {
             self.files = self.files_again(alloc, unfetched)?;
         }
         let given = Vec::from_slice(alloc, &self.input)?;
-        let mut input = MemSource::new(given, unread);
-        let mut out = MemSink::new(alloc, self.out_room, unput)?;
-        let mut err = MemSink::new(alloc, self.err_room, untold)?;
-        let status = eel::eel(
-            alloc,
-            words,
-            &mut self.files,
-            &mut input,
-            &mut out,
-            &mut err,
-        );
+        let input = MemSource::new(given, unread);
+        let out = MemSink::new(alloc, self.out_room, unput)?;
+        let err = MemSink::new(alloc, self.err_room, untold)?;
+        let answer = call_editor(alloc, words, &mut self.files, input, out, err);
         if is_failing {
             self.files = self.files_again(alloc, Vec::new(alloc))?;
         }
-        Ok(Answer {
-            status,
-            out,
-            err,
+        Ok(Told {
+            answer,
             changed: self.changes(alloc)?,
         })
     }
@@ -336,18 +405,18 @@ pub fn play(rt: &HostRuntime, folder: &mut impl Files, script: &str) -> io::Resu
     for line in script.lines() {
         match session.act(rt.alloc(), folder, line) {
             Ok(None) => {}
-            Ok(Some(answer)) => print_answer(rt, line, &answer)?,
+            Ok(Some(told)) => print_told(rt, line, &told)?,
             Err(refusal) => println!(rt; "{line}: {refusal}")?,
         }
     }
     Ok(())
 }
 
-fn print_answer(rt: &HostRuntime, line: &str, answer: &Answer) -> io::Result<()> {
-    println!(rt; "{line}: {}", answer.status)?;
-    print_bytes(rt, "", answer.out.bytes())?;
-    print_bytes(rt, "to the error stream: ", answer.err.bytes())?;
-    for name in answer.changed.iter() {
+fn print_told(rt: &HostRuntime, line: &str, told: &Told) -> io::Result<()> {
+    println!(rt; "{line}: {}", told.answer.status)?;
+    print_bytes(rt, "", told.answer.out.bytes())?;
+    print_bytes(rt, "to the error stream: ", told.answer.err.bytes())?;
+    for name in told.changed.iter() {
         println!(rt; "changed: {name}")?;
     }
     Ok(())
