@@ -17,13 +17,22 @@ below() {
     done | sed '1!G;h;$!d'
 }
 
+# How many processes prove CRATE: one, where others are proved beside it, since each more loads the crates below anew;
+# for the crates of the longest chain, which come last and alone, all that there is room for.
+jobs_of() {
+    case $1 in
+    image_code | edit_core | eel) echo "${most:-1}" ;;
+    *) echo 1 ;;
+    esac
+}
+
 build_crate() {
     tree=$(mktemp -d "$logs/$1.XXXXXX") || exit 70
     mkdir "$tree/crates" && cp "$here/HANDLES" "$tree" || exit 70
     for name in "$1" $(below "$1"); do
         cp -al "$here/crates/$name" "$tree/crates" && grep "^$name:" "$here/crates.txt" >>"$tree/crates.txt" || exit 70
     done
-    (cd "$tree/crates/$1" && rt lib) >"$logs/$1.log" 2>&1 </dev/null &&
+    (cd "$tree/crates/$1" && rt lib --jobs "$(jobs_of "$1")") >"$logs/$1.log" 2>&1 </dev/null &&
         cp -alf "$tree/crates/$1/out" "$here/crates/$1" || exit 70
     rm -rf "$tree"
     touch "$logs/$1.done"
@@ -44,11 +53,11 @@ build_all() {
     mkdir -p "$folder" && logs=$(mktemp -d "$folder/build.XXXXXX") || exit 70
     set -- $(below eel_main)
     count=$#
-    export here logs count
     memory=$(sed -n 's/^MemAvailable: *\([0-9]*\) kB/\1/p' /proc/meminfo)
     most=$((${memory:-0} / 4000000))
     [ "$most" -le "$(nproc)" ] || most=$(nproc)
     [ "$most" -ge 1 ] || most=1
+    export here logs count most
     echo "eel: proving and building the program, $count crates, $most at once; half an hour on four processors, once" >&2
     # Where there is no make, `rt run` builds one crate after the other.
     rules "$@" | make -s -k -j "$most" -f - all >&2 2>"$logs/make.log"

@@ -1,12 +1,15 @@
 //! What an analysis of a program's file sees: its image, routines, blocks, flow graph and switches.
 #![tactic(auto)]
 
-ghost use Rattle.std.specs.Prelude.{◌≡◌, ◌<◌, length, map, IfOk};
+ghost use Rattle.std.specs.Prelude.{◌≡◌, ◌<◌, ◌++◌, length, map, IfOk};
 ghost use Rattle.std.specs.List.{All};
 ghost use Rattle.elf32_sparc.specs.FileFault.{fault};
 ghost use Rattle.elf32_sparc.specs.Image.{refusal};
+ghost use Rattle.cfg_blocks.specs.Entries.{entered_of};
 ghost use Rattle.cfg_blocks.specs.Marks.{numbers, AreWords};
-ghost use Rattle.cfg_view.specs.View.{given_in, marks_in, view_of, view_seen, view_with, IsView};
+ghost use Rattle.cfg_blocks.specs.Switches.{switches_of};
+ghost use Rattle.cfg_normal.specs.Opens.{IsTableIn};
+ghost use Rattle.cfg_view.specs.View.{given_in, graph_with, marks_in, starts_of, view_of, view_seen, view_with, IsView};
 
 use cfg_blocks::{BlockList, Switch, blocks};
 use cfg_normal::{FlowGraph, graph};
@@ -46,11 +49,9 @@ fn view_image(alloc: Global, image: Image, marks: &[WordNo]) -> Result<View, NoM
     ensures whole { IfOk result IsView }
 {
     let routines = find(alloc, &image)?;
-    let starts = starts(alloc, routines.list())?;
-    let marks = marks_in(alloc, image.text(), marks)?;
-    let blocks = blocks(alloc, image.text(), &starts, &marks)?;
-    let switches = switches(alloc, &blocks, image.text(), image.entry())?;
-    let graph = graph(alloc, image.text(), &blocks, image.entry(), &switches)?;
+    let blocks = blocks_of(alloc, image.text(), routines.list(), marks)?;
+    let flow = flow_of(alloc, image.text(), &blocks, image.entry())?;
+    let (graph, switches) = flow;
     Ok(View {
         image,
         routines,
@@ -58,6 +59,39 @@ fn view_image(alloc: Global, image: Image, marks: &[WordNo]) -> Result<View, NoM
         graph,
         switches,
     })
+}
+
+/// The blocks of a text with these routines, at whose starts words lead, as marked ones do.
+fn blocks_of(
+    alloc: Global,
+    text: &Text,
+    routines: &[Routine],
+    marks: &[WordNo],
+) -> Result<BlockList, NoMemory>
+    requires { All (λ routine. routine.start.0 < length text.now.words) routines.now }
+    ensures { IfOk result (λ list. list ≡ entered_of text.now (starts_of routines.now ++ marks_in text.now (numbers marks.now))) }
+{
+    let starts = starts(alloc, routines)?;
+    let marks = marks_in(alloc, text, marks)?;
+    let blocks = blocks(alloc, text, &starts, &marks)?;
+    Ok(blocks)
+}
+
+/// The flow graph of a text that was cut into blocks, and its switches.
+fn flow_of(
+    alloc: Global,
+    text: &Text,
+    blocks: &BlockList,
+    entry: WordNo,
+) -> Result<(FlowGraph, Vec<Switch>), NoMemory>
+    requires { blocks.now.blocks.words ≡ length text.now.words }
+    ensures graph { IfOk result (λ flow. flow.0 ≡ graph_with text.now blocks.now entry.0) }
+    ensures switches { IfOk result (λ flow. flow.1.items ≡ switches_of text.now blocks.now entry.0) }
+    ensures tables { IfOk result (λ flow. All (IsTableIn text.now) flow.1.items) }
+{
+    let switches = switches(alloc, blocks, text, entry)?;
+    let graph = graph(alloc, text, blocks, entry, &switches)?;
+    Ok((graph, switches))
 }
 
 /// The words at which routines start.

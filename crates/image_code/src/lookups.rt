@@ -1,15 +1,18 @@
 //! The tables by which the numbers of edges and of pieces are found.
 
-ghost use Rattle.std.specs.Prelude.{◌≡◌, ◌+◌, ◌-◌, ◌^◌, ◌<◌, ◌≤◌, false, length, map, option_to_list, slice_get, slice_index, Some, All, IfOk};
+ghost use Rattle.std.specs.Prelude.{◌≡◌, ℕ, ◌+◌, ◌-◌, ◌*◌, ◌^◌, ◌<◌, ◌≤◌, false, length, map, nat_eq, option_to_list, slice_get, slice_index, Some, All, IfOk};
+ghost use Rattle.std.specs.List.{position};
+ghost use Rattle.indexmap.specs.IndexMap.{get};
 ghost use Rattle.cfg_blocks.specs.Blocks.{below, size_of};
 ghost use Rattle.cfg_blocks.specs.declared.EdgeKind.TheVariants.{Case};
 ghost use Rattle.cfg_normal.specs.declared.Node.TheVariants.{Block};
 ghost use Rattle.cfg_normal.specs.Graph.{IsEdgeIn, landings_of};
 ghost use Rattle.cfg_normal.specs.Opens.{Open, jumps_in};
 ghost use Rattle.cfg_normal.specs.Landings.{IsNumbered};
+ghost use Rattle.cfg_normal.specs.Numbers.{node_numbers};
 ghost use Rattle.cfg_walk.specs.Walk.{edge_along, edge_from, landing_at};
 ghost use Rattle.image_code.specs.Loads.{load_of as load_in};
-ghost use Rattle.image_code.specs.Lookups.{AreFirst, AreLookups, IsSource, is_land, jump_place};
+ghost use Rattle.image_code.specs.Lookups.{AreFirst, AreLookups, IsSource, compare_place, edge_place, has_key, is_land, jump_place};
 ghost use Rattle.image_code.specs.Numbered.{compare_number, first_entry, jump_number, landing_count as landing_count_of, open_begin, own_edges as own_edges_of};
 
 use crate::firsts::{
@@ -143,6 +146,41 @@ fn loads_of(alloc: Global, text: &Text, graph: &FlowGraph) -> Result<Vec<u32>, N
     Ok(loads)
 }
 
+// The tables of edges and comparisons: by nodes and kinds the first edges, by pairs of nodes the Case edges, and by blocks
+// the open switches whose comparisons stand there.
+fn firsts_of(
+    alloc: Global,
+    graph: &FlowGraph,
+) -> Result<(Vec<u32>, IndexMap<u64, u32>, Vec<u32>), NoMemory>
+    ensures edges { IfOk result (λ tables. AreFirst (7 * node_numbers graph.now) (edge_place graph.now) graph.now.edges tables.0.items) }
+    ensures cases { IfOk result (λ tables. (key : ℕ) → get nat_eq tables.1 key ≡ position (has_key graph.now key) graph.now.edges) }
+    ensures compares { IfOk result (λ tables. AreFirst (length graph.now.blocks.firsts) compare_place graph.now.opens tables.2.items) }
+{
+    let edges = first_edges(alloc, graph)?;
+    let cases = first_cases(alloc, graph)?;
+    let compares = first_compares(alloc, graph)?;
+    Ok((edges, cases, compares))
+}
+
+// Of each open switch where its pieces begin, its load, and the number of its first entry.
+fn opens_of(
+    alloc: Global,
+    text: &Text,
+    graph: &FlowGraph,
+    own: usize,
+) -> Result<(Vec<u32>, Vec<u32>, Vec<u32>), NoMemory>
+    requires source { IsSource text.now graph.now }
+    requires own { own ≡ length (own_edges_of graph.now) }
+    ensures begins { IfOk result (λ tables. tables.0.items ≡ map (open_begin text.now graph.now) (below (length graph.now.opens + 1))) }
+    ensures loads { IfOk result (λ tables. tables.1.items ≡ map (load_in text.now) graph.now.opens) }
+    ensures entries { IfOk result (λ tables. tables.2.items ≡ map (first_entry text.now graph.now) (below (length graph.now.opens + 1))) }
+{
+    let begins = begins_of(alloc, text, graph, own)?;
+    let loads = loads_of(alloc, text, graph)?;
+    let entries = entries_of(alloc, text, graph)?;
+    Ok((begins, loads, entries))
+}
+
 /// The tables of a graph.
 pub(crate) fn lookups_of(alloc: Global, text: &Text, graph: &FlowGraph) -> Result<Lookups, NoMemory>
     requires source { IsSource text.now graph.now }
@@ -153,15 +191,17 @@ pub(crate) fn lookups_of(alloc: Global, text: &Text, graph: &FlowGraph) -> Resul
         .edges()
         .len()
         .saturating_sub(landing_count(graph, &jumps));
+    let (edges, cases, compares) = firsts_of(alloc, graph)?;
+    let (begins, loads, entries) = opens_of(alloc, text, graph, own)?;
     Ok(Lookups {
-        edges: first_edges(alloc, graph)?,
-        cases: first_cases(alloc, graph)?,
+        edges,
+        cases,
         jumps,
-        compares: first_compares(alloc, graph)?,
+        compares,
         own,
-        begins: begins_of(alloc, text, graph, own)?,
-        loads: loads_of(alloc, text, graph)?,
-        entries: entries_of(alloc, text, graph)?,
+        begins,
+        loads,
+        entries,
     })
 }
 

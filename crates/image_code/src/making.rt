@@ -1,7 +1,7 @@
 //! The pieces of a text.
 
 ghost use Rattle.addr_translate.specs.Table.{size_of as table_size_of};
-ghost use Rattle.std.specs.Prelude.{◌≡◌, ℕ, ◌+◌, ◌*◌, ◌^◌, ◌<◌, ◌≤◌, ◌%◌, length, map, Some, All, IfOk};
+ghost use Rattle.std.specs.Prelude.{◌≡◌, ℕ, ◌+◌, ◌*◌, ◌^◌, ◌<◌, ◌≤◌, ◌%◌, [], length, map, Some, All, IfOk, OnOk};
 ghost use Rattle.cfg_blocks.specs.Blocks.{below};
 ghost use Rattle.cfg_normal.specs.Graph.{node_of};
 ghost use Rattle.image_code.specs.Codes.{CodeDoes};
@@ -65,25 +65,54 @@ impl Maker<'_> {
         piece(begin + u64::from(self.lookups.entry(self.text, self.graph, count)))
     }
 
-    // All pieces, and the numbers of those of Case edges.
+    // Adds all pieces to an empty list, and answers the numbers of those of Case edges.
     #[tactic(auto, unfolding(crate::specs::Made::piece_list))]
-    fn list(&self, alloc: Global) -> Result<(Vec<Piece>, Vec<PieceNo>), NoMemory>
+    fn push_all(&self, alloc: Global, list: &mut Vec<Piece>) -> Result<Vec<PieceNo>, NoMemory>
         requires source { IsSource self.now.text.now self.now.graph.now }
         requires lookups { AreLookups self.now.text.now self.now.graph.now self.now.lookups.now }
         requires jumps { self.now.jumps.0 ≡ jumps_at self.now.text.now self.now.table.0 }
-        ensures list { IfOk result (λ r. r.0.items ≡ piece_list self.now.text.now self.now.graph.now self.now.table.0
+        requires empty { list.old.items ≡ [] }
+        ensures list { OnOk result (list.new.items ≡ piece_list self.now.text.now self.now.graph.now self.now.table.0
             self.now.cases.0 (code_at self.now.codes.now)) }
-        ensures cases { IfOk result (λ r. map (λ (n : PieceNo). n.0) r.1.items
+        ensures cases { IfOk result (λ v. map (λ (n : PieceNo). n.0) v.items
+            ≡ case_numbers self.now.text.now self.now.graph.now) }
+    {
+        self.push_images(alloc, list)?;
+        self.push_ways(alloc, list)?;
+        self.push_landings(alloc, list)?;
+        self.push_opens(alloc, list)?;
+        let cases = self.push_cases(alloc, list)?;
+        list.push(foreign(alloc)?)?;
+        Ok(cases)
+    }
+
+    // The pieces, and the numbers of those at which something begins.
+    fn pieces(&self, alloc: Global, snips: &[Snippet], entry: WordNo) -> Result<PieceList, NoMemory>
+        requires source { IsSource self.now.text.now self.now.graph.now }
+        requires lookups { AreLookups self.now.text.now self.now.graph.now self.now.lookups.now }
+        requires jumps { self.now.jumps.0 ≡ jumps_at self.now.text.now self.now.table.0 }
+        requires entry { entry.0 < length self.now.text.now.words }
+        requires snips { length snips.now ≡ length self.now.graph.now.edges }
+        ensures list { IfOk result (λ p. p.list.items ≡ piece_list self.now.text.now self.now.graph.now self.now.table.0
+            self.now.cases.0 (code_at self.now.codes.now)) }
+        ensures landing { IfOk result (λ p. map (λ (n : PieceNo). n.0) p.landing.items
+            ≡ map (lands_at self.now.text.now self.now.graph.now snips.now) (below (length self.now.text.now.words))) }
+        ensures entry { IfOk result (λ p. p.entry.0 ≡ enter_number self.now.text.now self.now.graph.now
+            (node_of self.now.graph.now.blocks (Some entry.0)) entry.0) }
+        ensures foreign { IfOk result (λ p. p.foreign.0 ≡ foreign_number_of self.now.text.now self.now.graph.now) }
+        ensures cases { IfOk result (λ p. map (λ (n : PieceNo). n.0) p.cases.items
             ≡ case_numbers self.now.text.now self.now.graph.now) }
     {
         let mut list = Vec::new(alloc);
-        self.push_images(alloc, &mut list)?;
-        self.push_ways(alloc, &mut list)?;
-        self.push_landings(alloc, &mut list)?;
-        self.push_opens(alloc, &mut list)?;
-        let cases = self.push_cases(alloc, &mut list)?;
-        list.push(foreign(alloc)?)?;
-        Ok((list, cases))
+        let cases = self.push_all(alloc, &mut list)?;
+        let node = Node::Block(self.graph.holding(entry));
+        Ok(PieceList {
+            list,
+            landing: self.landings(alloc, snips)?,
+            entry: self.lookups.enter(self.text, self.graph, node, entry)?,
+            foreign: self.foreign_number()?,
+            cases,
+        })
     }
 }
 
@@ -126,15 +155,8 @@ fn make(
         jumps: jumps_of(text, frame.table),
         cases: frame.cases,
     };
-    let (list, cases) = maker.list(alloc)?;
-    let node = Node::Block(graph.holding(entry));
-    Ok(PieceList {
-        list,
-        landing: maker.landings(alloc, snips)?,
-        entry: lookups.enter(text, graph, node, entry)?,
-        foreign: maker.foreign_number()?,
-        cases,
-    })
+    let pieces = maker.pieces(alloc, snips, entry)?;
+    Ok(pieces)
 }
 
 /// Makes an image of each word for each node whose block holds it, which falls through to the next word's, the way

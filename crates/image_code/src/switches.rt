@@ -1,6 +1,6 @@
 //! The pieces of open switches, and of the entries of their tables.
 
-ghost use Rattle.std.specs.Prelude.{◌≡◌, ℕ, ◌+◌, ◌-◌, ◌<◌, ◌≤◌, ◌++◌, ◌==◌, ◌∷◌, length, map, nat_eq, slice_get, slice_index, Some, IfOk, OnOk};
+ghost use Rattle.std.specs.Prelude.{◌≡◌, ℕ, ◌+◌, ◌-◌, ◌<◌, ◌≤◌, ◌++◌, ◌==◌, ◌∷◌, ◌^◌, length, map, nat_eq, slice_get, slice_index, Some, IfOk, OnOk};
 ghost use Rattle.std.specs.List.{flat_map, position, range_with_len};
 ghost use Rattle.std.specs.Option.{option_or};
 ghost use Rattle.indexmap.specs.IndexMap.{get};
@@ -9,7 +9,7 @@ ghost use Rattle.cfg_blocks.specs.Blocks.{size_of};
 ghost use Rattle.cfg_normal.specs.Opens.{Open};
 ghost use Rattle.image_code.specs.Lookups.{AreLookups, IsSource, number_where};
 ghost use Rattle.image_code.specs.Made.{case_at, case_by as case_by_of, cases_from, image, jumps_at, keep_by, open_pieces};
-ghost use Rattle.image_code.specs.Numbered.{case_numbers, case_piece as case_piece_of, or_zero, place_in as place_in_of};
+ghost use Rattle.image_code.specs.Numbered.{case_numbers, case_piece as case_piece_of, first_entry, open_begin, or_zero, place_in as place_in_of};
 ghost use Rattle.image_code.specs.Parts.{code_at};
 ghost use Rattle.cfg_normal.specs.Graph.{lands as lands_of};
 ghost use Rattle.cfg_walk.specs.Walk.{edge_along};
@@ -205,8 +205,37 @@ impl Maker<'_> {
         let before = self.lookups.entry(self.text, self.graph, number);
         let first = u64::from(begin) + u64::from(before);
         let places = first_entries(alloc, found.targets())?;
+        self.push_entries(alloc, list, numbers, number, found, first, &places)?;
+        Ok(())
+    }
+
+    // The same, where the pieces of its entries begin at `first`, by the first entries that lead to their words.
+    fn push_entries(
+        &self,
+        alloc: Global,
+        list: &mut Vec<Piece>,
+        numbers: &mut Vec<PieceNo>,
+        number: usize,
+        found: &OpenSwitch,
+        first: u64,
+        places: &IndexMap<u32, u32>,
+    ) -> Result<(), NoMemory>
+        requires source { IsSource self.now.text.now self.now.graph.now }
+        requires lookups { AreLookups self.now.text.now self.now.graph.now self.now.lookups.now }
+        requires found { slice_get self.now.graph.now.opens number ≡ Some found.now }
+        requires first { first ≡ open_begin self.now.text.now self.now.graph.now (length self.now.graph.now.opens)
+            + first_entry self.now.text.now self.now.graph.now number }
+        requires low { first < 2 ^ 33 }
+        requires places { (word : ℕ) → get nat_eq places.now word ≡ position (λ t. t == word) found.now.targets }
+        ensures list { OnOk result (list.new.items ≡ list.old.items
+            ++ cases_from self.now.text.now self.now.graph.now self.now.table.0 (code_at self.now.codes.now) found.now 0
+            found.now.targets) }
+        ensures numbers { OnOk result (map (λ (n : PieceNo). n.0) numbers.new.items
+            ≡ map (λ (n : PieceNo). n.0) numbers.old.items
+            ++ map (case_piece_of self.now.text.now self.now.graph.now number found.now) found.now.targets) }
+    {
         for (entry, word) in found.targets().iter().enumerate() {
-            let place = place_in(&places, word.0);
+            let place = place_in(places, word.0);
             let number = piece(first + u64::from(place))?;
             numbers.push(number)?;
             list.push(self.case_piece(alloc, found, place, entry, *word)?)?;

@@ -47,6 +47,12 @@ difference_out a b borrow y =
     let difference = wrapped (2 ^ 33 + a - (b + borrow)) in
     out difference (codes_of difference (difference_overflows a b difference) (nat_lt a (b + borrow))) y
 
+-- the codes of a difference
+abbrev pub compared_codes : ℕ → ℕ → Codes
+compared_codes a b =
+    let difference = wrapped (2 ^ 33 + a - (b + 0)) in
+    codes_of difference (difference_overflows a b difference) (nat_lt a (b + 0))
+
 -- V and C become 0 (B.11)
 abbrev pub logic_out : ℕ → ℕ → Result AluOut AluTrap
 logic_out value y = out value (codes_of value false false) y

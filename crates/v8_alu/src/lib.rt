@@ -11,6 +11,9 @@ ghost use Rattle.v8_alu.specs.Alike.{DependsOnInputs};
 ghost use Rattle.v8_alu.specs.Conditions.{holds_of};
 ghost use Rattle.v8_alu.specs.Numbers.{is_negative, magnitude, wrapped};
 
+mod flags;
+
+pub use flags::{Flags, difference_of};
 use v8_decode::{AluOp, Cond};
 
 /// The integer condition codes: negative, zero, overflow, carry (section 4.2).

@@ -1,5 +1,5 @@
 //! The memory of a running program.
-ghost use Rattle.std.specs.Prelude.{List, ◌≡◌, ◌<◌, ◌^◌, ◌&&◌, take, drop, length, map, ◌++◌, MatchOption, MatchResult, IfOk, IsTrue};
+ghost use Rattle.std.specs.Prelude.{List, ◌≡◌, ◌<◌, ◌+◌, ◌*◌, ◌%◌, get_or, ◌^◌, ◌&&◌, take, drop, length, map, ◌++◌, MatchOption, MatchResult, IfOk, IsTrue};
 ghost use Rattle.std.specs.Int.{w8, w16, w32, from_be_bytes, to_be_bytes};
 ghost use Rattle.std.specs.List.{All, filter, find};
 ghost use Rattle.std.specs.Option.{option_map};
@@ -314,6 +314,17 @@ pub fn op_at(ops: &[Op], first: u32, address: Addr) -> Option<&Op>
     }
 }
 
+/// The record at a place among those that begin with that of the word at `first`.
+#[inline(always)]
+#[tactic(auto, using(crate::proofs::Kept::kept_at))]
+pub fn op_in(ops: &[Op], first: u32, place: u32) -> &Op
+    requires within { place < length ops.now }
+    ensures kept { (code : List Region) → AreKept code first ops.now → IsKept code ((first + 4 * place) % 2 ^ 32) result.now }
+    ensures item { (other : Op) → result.now ≡ get_or ops.now place other }
+{
+    &ops[place as usize]
+}
+
 /// The regions of some plans.
 fn planned(alloc: Global, plans: &[RegionPlan]) -> Result<Vec<Region>, NoMemory>
     requires { All (λ plan. IsPlan (mapping_of_plan plan)) plans.now }
@@ -350,6 +361,8 @@ fn kept_words(
     for place in 0..count {
         kept.push(kept_word(regions, first.wrapping_add(place.wrapping_mul(4))))?;
     }
+    // So that no run goes on in order beyond them.
+    kept.push(no_op())?;
     Ok(kept)
 }
 

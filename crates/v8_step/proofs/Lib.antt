@@ -4,6 +4,7 @@ pub mod CopiedMoves
 pub mod Executable
 pub mod Follows
 pub mod FrameWords
+pub mod InOrder
 pub mod JudgedAlike
 pub mod Kept
 pub mod KeptOutside

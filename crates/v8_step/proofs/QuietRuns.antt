@@ -21,7 +21,7 @@ no_step s = record { state = refl; made = λ k below. absurd (omega arith); quie
 pub says_some : (code : OpCode) → IsTrue (is_record code) → code ≡ Other → ⊥
 says_some code some is = let h : IsTrue (is_record Other) = subst (λ c. IsTrue (is_record c)) is some in absurd (cc)
 
-turned_by : (code : OpCode) (s : State) (x : Op) → (code ≡ Other → ⊥) → turned code s x ≡ act s (instr_of x)
+pub turned_by : (code : OpCode) (s : State) (x : Op) → (code ≡ Other → ⊥) → turned code s x ≡ act s (instr_of x)
 turned_by Other s x some = absurd (some refl)
 turned_by _ s x some = refl
 

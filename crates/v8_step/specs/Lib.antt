@@ -1,4 +1,5 @@
 pub mod Accesses
+pub mod Ahead
 pub mod Alike
 pub mod Calls
 pub mod Follows

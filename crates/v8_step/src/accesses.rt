@@ -1,11 +1,14 @@
 //! Loads, stores, LDSTUB and SWAP.
-ghost use Rattle.std.specs.Prelude.{◌≡◌, ◌%◌, suc, [], ◌∷◌, true};
+ghost use Rattle.std.specs.Prelude.{◌≡◌, ◌+◌, ◌%◌, ℕ, suc, [], ◌∷◌, true, false};
+ghost use Rattle.v8_alu.specs.Numbers.{wrapped};
+ghost use Rattle.v8_step.specs.Ahead.{placed};
 ghost use Rattle.std.specs.Int.{w8, w32, to_be_bytes};
 ghost use Rattle.v8_memory.specs.Calls.{Loads, load_of, store_of};
 ghost use Rattle.v8_step.specs.Accesses.{load_size, extended, load_step, store_step, ldstub_step, swap_step};
 ghost use Rattle.v8_step.specs.Machine.{Exchanges, trap_of, value_of};
 ghost use Rattle.v8_step.specs.Transfers.{trapped};
 
+use crate::Slot;
 use crate::machine::{Machine, register};
 use crate::traps::{DATA_ACCESS_EXCEPTION, MEM_ADDRESS_NOT_ALIGNED};
 use eel_base::Addr;
@@ -44,6 +47,74 @@ impl Machine {
                 self.refuse_access(fault);
                 false
             }
+        }
+    }
+
+    /// A load into one register, but for pc and npc. It tells whether it is made; else nothing changes.
+    #[inline(always)]
+    #[tactic(auto, unfolding(crate::specs::Accesses::load_step))]
+    pub(crate) fn load_in_order(&mut self, kind: LoadKind, rd: Reg, address: u32) -> bool
+        requires single { kind ≡ LoadKind.LDD → ⊥ }
+        ensures goes { result ≡ true → (pc npc : ℕ) → load_step (placed self.old pc npc) kind rd address ≡ placed self.new npc (wrapped (npc + 4)) }
+        ensures stays { result ≡ false → self.new ≡ self.old }
+        ensures going { self.new.ending ≡ self.old.ending }
+    {
+        match self.loaded(kind, Addr(address)) {
+            Ok(value) => {
+                self.set(rd, value);
+                self.slot = Slot::NoSlot;
+                true
+            }
+            Err(_) => false,
+        }
+    }
+
+    /// LDD, but for pc and npc. It tells whether it is made; else nothing changes.
+    #[inline(always)]
+    #[tactic(auto, unfolding(crate::specs::Accesses::load_step))]
+    pub(crate) fn load_pair_in_order(&mut self, rd: Reg, address: u32) -> bool
+        requires pair { rd % 2 ≡ 0 }
+        ensures goes { result ≡ true → (pc npc : ℕ) → load_step (placed self.old pc npc) LoadKind.LDD rd address ≡ placed self.new npc (wrapped (npc + 4)) }
+        ensures stays { result ≡ false → self.new ≡ self.old }
+        ensures going { self.new.ending ≡ self.old.ending }
+    {
+        match self.memory.load64(Addr(address)) {
+            Ok((first, second)) => {
+                self.set(rd, first);
+                self.set(next_register(rd), second);
+                self.slot = Slot::NoSlot;
+                true
+            }
+            Err(_) => false,
+        }
+    }
+
+    /// A store, but for pc and npc. It tells whether it is made; else nothing changes.
+    #[inline(always)]
+    #[tactic(auto, unfolding(crate::specs::Accesses::store_step))]
+    pub(crate) fn store_in_order(&mut self, kind: StoreKind, rd: Reg, address: u32) -> bool
+        requires pair { kind ≡ StoreKind.STD → rd % 2 ≡ 0 }
+        ensures goes { result ≡ true → (pc npc : ℕ) → store_step (placed self.old pc npc) kind rd address ≡ placed self.new npc (wrapped (npc + 4)) }
+        ensures stays { result ≡ false → self.new ≡ self.old }
+        ensures going { self.new.ending ≡ self.old.ending }
+    {
+        let value = self.reg(rd);
+        let at = Addr(address);
+        let stored = match kind {
+            StoreKind::ST => self.memory.store32(at, value),
+            StoreKind::STB => self.memory.store8(at, (value % 0x100) as u8),
+            StoreKind::STH => self.memory.store16(at, (value % 0x1_0000) as u16),
+            StoreKind::STD => {
+                let second = self.reg(next_register(rd));
+                self.memory.store64(at, (value, second))
+            }
+        };
+        match stored {
+            Ok(()) => {
+                self.slot = Slot::NoSlot;
+                true
+            }
+            Err(_) => false,
         }
     }
 

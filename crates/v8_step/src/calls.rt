@@ -11,6 +11,7 @@ use crate::traps::{
     WRITE,
 };
 use eel_base::{Addr, Failed, Sink, put_all};
+use v8_alu::Codes;
 
 /// The number of %g1, which has the number of a call.
 const CALL_NUMBER: u8 = 1;
@@ -165,7 +166,13 @@ impl Machine {
         ensures { self.new ≡ answered carry value self.old }
     {
         self.set(register(FIRST_ARGUMENT), value);
-        self.codes.c = carry;
+        let codes = self.flags.codes();
+        self.flags.set(Codes {
+            n: codes.n,
+            z: codes.z,
+            v: codes.v,
+            c: carry,
+        });
         self.go_on();
     }
 }

@@ -10,6 +10,7 @@ ghost use Rattle.v8_step.specs.Follows.{RunsFollow};
 ghost use Rattle.v8_step.specs.Laws.{CodeStays, StepsAlike, ValidStays, WindowStays};
 
 mod accesses;
+mod ahead;
 mod calls;
 mod machine;
 mod steps;

@@ -7,7 +7,7 @@ ghost use Rattle.v8_step.specs.Transfers.{next, ended, trapped};
 use crate::{Ending, Slot};
 use eel_base::Addr;
 use std::marker::Model;
-use v8_alu::Codes;
+use v8_alu::{Codes, Flags};
 use v8_decode::{Op2, Reg};
 use v8_memory::Memory;
 use v8_windows::Windows;
@@ -19,7 +19,7 @@ pub struct Machine {
     pub(crate) npc: u32,
     pub(crate) slot: Slot,
     pub(crate) windows: Windows,
-    pub(crate) codes: Codes,
+    pub(crate) flags: Flags,
     pub(crate) y: u32,
     pub(crate) memory: Memory,
     pub(crate) input: Vec<u8>,
@@ -41,7 +41,7 @@ impl Model for Machine {
       registers = m.windows.registers;
       window = m.windows.window;
       valid = m.windows.valid;
-      codes = m.codes;
+      codes = m.flags;
       y = m.y;
       memory = m.memory;
       input = drop m.read m.input.items;
@@ -63,12 +63,12 @@ impl Machine {
             npc: entry.0.wrapping_add(4),
             slot: Slot::NoSlot,
             windows,
-            codes: Codes {
+            flags: Flags::new(Codes {
                 n: false,
                 z: false,
                 v: false,
                 c: false,
-            },
+            }),
             y: 0,
             memory,
             input,
@@ -106,7 +106,7 @@ impl Machine {
     pub fn codes(&self) -> Codes
         ensures { result ≡ self.now.codes }
     {
-        self.codes
+        self.flags.codes()
     }
 
     #[inline]

@@ -13,7 +13,7 @@ use crate::traps::{
     PRIVILEGED_INSTRUCTION, TAG_OVERFLOW,
 };
 use eel_base::{Addr, Failed, Sink};
-use v8_alu::{AluOut, AluTrap, alu, decoded_forms, holds};
+use v8_alu::{AluOut, AluTrap, alu, decoded_forms};
 use v8_decode::{Cond, Instr, Op2, Reg, decode};
 
 /// What came of a step.
@@ -138,7 +138,7 @@ impl Machine {
         ensures quiet_out { puts_by self.old (Instr.Ticc cond rs1 op2) 1 ≡ [] → out.new ≡ out.old }
         ensures quiet_err { puts_by self.old (Instr.Ticc cond rs1 op2) 2 ≡ [] → err.new ≡ err.old }
     {
-        if holds(cond, self.codes) {
+        if self.flags.holds(cond) {
             let number = (self.sum(rs1, op2) % 128) as u8;
             self.software_trap(number, out, err)
         } else {
@@ -177,7 +177,14 @@ impl Machine {
                 rs1,
                 op2,
             } => {
-                let outcome = alu(op, cc, self.reg(rs1), self.operand(op2), self.codes, self.y);
+                let outcome = alu(
+                    op,
+                    cc,
+                    self.reg(rs1),
+                    self.operand(op2),
+                    self.flags.codes(),
+                    self.y,
+                );
                 let _goes = self.finish_alu(rd, outcome);
             }
             Instr::ReadY { rd } => {
@@ -216,7 +223,7 @@ impl Machine {
     {
         match outcome {
             Ok(outcome) => {
-                self.codes = outcome.codes;
+                self.flags.set(outcome.codes);
                 self.y = outcome.y;
                 self.set(rd, outcome.value);
                 self.go_on();

@@ -6,7 +6,6 @@ ghost use Rattle.v8_step.specs.Transfers.{target_of, delayed, branched, unless_c
 use crate::machine::{Machine, register};
 use crate::traps::MEM_ADDRESS_NOT_ALIGNED;
 use crate::{Ending, Slot};
-use v8_alu::holds;
 use v8_decode::{Cond, Reg};
 
 /// The condition of `ba`.
@@ -27,7 +26,7 @@ impl Machine {
             false
         } else {
             let target = self.target(disp22);
-            let taken = holds(cond, self.codes);
+            let taken = self.flags.holds(cond);
             self.branch_to(taken, cond.number() == ALWAYS, annul, target);
             true
         }

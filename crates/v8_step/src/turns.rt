@@ -9,11 +9,15 @@ ghost use Rattle.v8_step.specs.State.{operand_of, sum_of};
 ghost use Rattle.v8_step.specs.Step.{act};
 ghost use Rattle.v8_step.specs.Turns.{IsQuietRun, turned};
 
+use crate::ahead::go_far;
 use crate::machine::{Machine, register};
 use eel_base::Addr;
 use v8_alu::alu;
 use v8_decode::{AluOp, Cond, LoadKind, Reg, StoreKind};
 use v8_memory::{Op, OpCode, op_at};
+
+/// How many steps are made at once at most, so that sums of steps and places fit.
+const MOST_AT_ONCE: u64 = 1 << 62;
 
 impl Machine {
     /// Makes steps, at most `limit`, as long as the instructions have records and the run hasn't ended, and tells how many they are. They put nothing out.
@@ -23,7 +27,12 @@ impl Machine {
         ensures few { result ≤ limit }
     {
         let records = self.memory.take_records();
-        let steps = go_in(&records.ops, records.first, self, limit);
+        let most = limit.min(MOST_AT_ONCE);
+        let steps = if records.ops.len() as u64 + 2 < most {
+            go_far(&records.ops, records.first, self, most)
+        } else {
+            go_in(&records.ops, records.first, self, limit)
+        };
         self.memory.put_records(records);
         steps
     }
@@ -135,13 +144,13 @@ impl Machine {
     {
         let first = self.reg(op.rs1);
         let second = self.op_operand(op);
-        let outcome = alu(kind, cc, first, second, self.codes, self.y);
+        let outcome = alu(kind, cc, first, second, self.flags.codes(), self.y);
         self.finish_alu(op.rd, outcome)
     }
 
     /// The sum of rs1 and the second operand.
     #[inline(always)]
-    fn op_sum(&self, op: &Op) -> u32
+    pub(crate) fn op_sum(&self, op: &Op) -> u32
         requires sum { IsSum op.now.rs2 op.now.imm }
         ensures { result ≡ sum_of self.now op.now.rs1 (operand_in op.now.rs2 op.now.imm) }
     {
@@ -151,7 +160,7 @@ impl Machine {
     /// The second operand: one of the two is 0.
     #[inline(always)]
     #[tactic(auto, using(crate::proofs::Ops::operand_sum))]
-    fn op_operand(&self, op: &Op) -> u32
+    pub(crate) fn op_operand(&self, op: &Op) -> u32
         requires sum { IsSum op.now.rs2 op.now.imm }
         ensures { result ≡ operand_of self.now (operand_in op.now.rs2 op.now.imm) }
     {
@@ -185,7 +194,7 @@ fn go_in(ops: &[Op], first: u32, m: &mut Machine, limit: u64) -> u64
 
 /// The first register of a pair, whose number is half of its own.
 #[inline(always)]
-fn pair(half: Reg) -> Reg
+pub(crate) fn pair(half: Reg) -> Reg
     ensures double { result ≡ 2 * (half % 16) }
     ensures even { result % 2 ≡ 0 }
 {
@@ -194,7 +203,7 @@ fn pair(half: Reg) -> Reg
 
 /// The condition with this number.
 #[inline(always)]
-fn condition(number: u8) -> Cond
+pub(crate) fn condition(number: u8) -> Cond
     requires { number < 16 }
     ensures { result ≡ number }
 {

@@ -1,5 +1,7 @@
 //! SAVE and RESTORE, and the windows that they save and load.
-ghost use Rattle.std.specs.Prelude.{◌≡◌, ◌+◌, ◌-◌, ◌<◌, ◌≤◌, length, take, drop};
+ghost use Rattle.v8_alu.specs.Numbers.{wrapped};
+ghost use Rattle.v8_step.specs.Ahead.{placed};
+ghost use Rattle.std.specs.Prelude.{ℕ, true, false, ◌≡◌, ◌+◌, ◌-◌, ◌<◌, ◌≤◌, length, take, drop};
 ghost use Rattle.std.specs.Int.{w32, to_be_bytes, from_be_bytes};
 ghost use Rattle.std.specs.List.{flat_map};
 ghost use Rattle.std.specs.Option.{option_map};
@@ -10,8 +12,8 @@ ghost use Rattle.v8_step.specs.State.{register_of};
 ghost use Rattle.v8_step.specs.WindowMoves.{frame_read, frame_written, saved_memory, enter, leave, spill_many, save_step, restore_step};
 ghost use Rattle.v8_step.specs.Machine.{Fills, Spills};
 
-use crate::Ending;
 use crate::machine::{Machine, register};
+use crate::{Ending, Slot};
 use eel_base::Addr;
 use v8_decode::Reg;
 use v8_memory::Memory;
@@ -74,6 +76,40 @@ impl Machine {
         let _ = self.windows.leave();
         self.set(rd, value);
         self.go_on();
+    }
+
+    /// SAVE where a window is left, but for pc and npc. It tells whether it is made; else nothing changes.
+    #[inline(never)]
+    #[tactic(auto, unfolding(crate::specs::WindowMoves::save_step))]
+    pub(crate) fn save_in_order(&mut self, rd: Reg, value: u32) -> bool
+        ensures goes { result ≡ true → (pc npc : ℕ) → save_step (placed self.old pc npc) rd value ≡ placed self.new npc (wrapped (npc + 4)) }
+        ensures stays { result ≡ false → self.new ≡ self.old }
+        ensures going { self.new.ending ≡ self.old.ending }
+    {
+        if self.windows.valid() >= MOST_VALID {
+            return false;
+        }
+        let _ = self.windows.enter();
+        self.set(rd, value);
+        self.slot = Slot::NoSlot;
+        true
+    }
+
+    /// RESTORE where the window after is valid, but for pc and npc. It tells whether it is made; else nothing changes.
+    #[inline(never)]
+    #[tactic(auto, unfolding(crate::specs::WindowMoves::restore_step))]
+    pub(crate) fn restore_in_order(&mut self, rd: Reg, value: u32) -> bool
+        ensures goes { result ≡ true → (pc npc : ℕ) → restore_step (placed self.old pc npc) rd value ≡ placed self.new npc (wrapped (npc + 4)) }
+        ensures stays { result ≡ false → self.new ≡ self.old }
+        ensures going { self.new.ending ≡ self.old.ending }
+    {
+        if self.windows.valid() <= 1 {
+            return false;
+        }
+        let _ = self.windows.leave();
+        self.set(rd, value);
+        self.slot = Slot::NoSlot;
+        true
     }
 
     /// Saves all windows but the current one, the oldest first.

@@ -1,4 +1,5 @@
 use Rattle.std.proofs.Common.{arith}
+use Rattle.std.proofs.lemmas.Grind.{common_steps}
 use Rattle.liveness.proofs.Spots.{copies_high, start_within}
 use Rattle.liveness.proofs.places.place_copies.Goals as goal
 
@@ -14,3 +15,6 @@ overflow_add-next c =
       c.words-next.ensures.within,
       g.few,
     )
+
+pub loop-block-preserved : goal.loop-block-preserved
+loop-block-preserved c = record { copies = grind (arith, common_steps); next = grind (arith, common_steps) }

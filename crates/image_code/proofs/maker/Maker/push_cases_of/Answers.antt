@@ -1,59 +1,12 @@
-use Rattle.std.proofs.Common.{◌≡◌, ℕ, ◌+◌, ◌++◌, List, length, map, ap, ◌∙◌, arith}
-use Rattle.eel_base.specs.declared.numbers.PieceNo.{PieceNo}
-use Rattle.eel_base.specs.declared.numbers.WordNo.{WordNo}
+use Rattle.std.proofs.Common.{◌≡◌, ◌+◌, List, length, ap, ◌∙◌, arith}
 use Rattle.cfg_normal.specs.Opens.{Open}
-use Rattle.image_code.specs.Made.{cases_from}
-use Rattle.image_code.specs.Numbered.{case_piece, open_begin}
-use Rattle.image_code.specs.Parts.{code_at}
-use Rattle.image_code.proofs.CasePieces.{case_pushed, entry_number, number_pushed}
-use Rattle.image_code.proofs.Pushed.{take_whole}
-use Rattle.image_code.proofs.Sources.{case_at}
+use Rattle.image_code.specs.Numbered.{open_begin}
 use Rattle.image_code.proofs.maker.Maker.push_cases_of.Goals as goal
 
-pub case_piece-requires-clause-block : goal.case_piece-requires-clause-block
-case_piece-requires-clause-block c =
-    (case_at c.args.self.now.text.now c.args.self.now.graph.now c.requires.source c.args.number c.args.found.now
-    c.requires.found).block
-
-pub loop-entry-preserved : goal.loop-entry-preserved
-loop-entry-preserved c =
-    let maker = c.args.self.now in
-    let text = maker.text.now in
-    let graph = maker.graph.now in
-    let o = c.args.found.now in
-    let targets = c.targets-word-items.result.now in
+pub push_entries-requires-clause-first : goal.push_entries-requires-clause-first
+push_entries-requires-clause-first c =
+    let text = c.args.self.now.text.now in
+    let graph = c.args.self.now.graph.now in
     let begin : c.begin-begin.result ≡ open_begin text graph (length graph.opens) =
     c.begin-begin.ensures ∙ ap (λ (os : List Open). open_begin text graph (length os)) c.opens-count.ensures in
-    record {
-      list = case_pushed text graph maker.table.0 (code_at maker.codes.now) o targets c.loop-entry.entry _
-          c.args.list.now.items c.loop-entry.list.items c.push-in-loop-entry.new.self.items _ c.loop-entry-test.true
-          c.in_ok-push-2.ensures.items c.in_ok-case_piece.ensures c.loop-entry.invariant.list;
-      numbers = number_pushed text graph c.args.number o targets c.loop-entry.entry _ c.args.numbers.now.items
-          c.loop-entry.numbers.items c.push.new.self.items c.in_ok-number.number c.loop-entry-test.true
-          c.in_ok-push.ensures.items
-          (entry_number text graph c.args.number o c.targets.result.now _ c.place_in-place.result
-          (c.from.result + c.from-2.result) c.in_ok-number.number.0 _ c.targets.ensures c.place_in-place.ensures
-          (c.in_ok-places.ensures _) (omega (arith, c.in_ok-number.ensures, c.from-in-loop-entry.ensures))
-          (omega (arith, begin, c.from.ensures, c.from-2.ensures, c.entry-before.ensures)))
-          c.loop-entry.invariant.numbers;
-    }
-
-pub returns-clause-list : goal.returns-clause-list
-returns-clause-list c =
-    let maker = c.args.self.now in
-    let cases = cases_from maker.text.now maker.graph.now maker.table.0 (code_at maker.codes.now) c.args.found.now 0 in
-    c.loop-entry.invariant.list
-    ∙ ap (λ (ws : List WordNo). c.args.list.now.items ++ cases (map (λ (w : WordNo). w.0) ws))
-    (take_whole c.targets-word-items.result.now c.loop-entry.entry (omega (arith, c.loop-entry-test.false)))
-    ∙ ap (λ (ws : List ℕ). c.args.list.now.items ++ cases ws) c.targets-word-items.ensures
-
-pub returns-clause-numbers : goal.returns-clause-numbers
-returns-clause-numbers c =
-    let maker = c.args.self.now in
-    let piece = case_piece maker.text.now maker.graph.now c.args.number c.args.found.now in
-    c.loop-entry.invariant.numbers
-    ∙ ap (λ (ws : List WordNo). map (λ (n : PieceNo). n.0) c.args.numbers.now.items
-    ++ map piece (map (λ (w : WordNo). w.0) ws))
-    (take_whole c.targets-word-items.result.now c.loop-entry.entry (omega (arith, c.loop-entry-test.false)))
-    ∙ ap (λ (ws : List ℕ). map (λ (n : PieceNo). n.0) c.args.numbers.now.items ++ map piece ws)
-    c.targets-word-items.ensures
+    omega (arith, begin, c.from.ensures, c.from-2.ensures, c.entry-before.ensures)

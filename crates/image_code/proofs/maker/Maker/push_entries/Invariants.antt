@@ -4,7 +4,7 @@ use Rattle.eel_base.specs.declared.numbers.WordNo.{WordNo}
 use Rattle.image_code.specs.Made.{cases_from}
 use Rattle.image_code.specs.Numbered.{case_piece}
 use Rattle.image_code.specs.Parts.{code_at}
-use Rattle.image_code.proofs.maker.Maker.push_cases_of.Given as goal
+use Rattle.image_code.proofs.maker.Maker.push_entries.Given as goal
 
 abbrev pub invariant-loop-entry : goal.invariant-loop-entry
 invariant-loop-entry l = record {

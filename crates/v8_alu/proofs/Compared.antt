@@ -1,0 +1,20 @@
+-- What the conditions say of a comparison.
+use Rattle.std.proofs.Common.{◌≡◌, ◌+◌, ◌-◌, ◌%◌, ◌^◌, ◌<◌, ℕ, Bool, true, false, ◌&&◌, ◌||◌, not, nat_lt, nat_le, ◌==◌, refl, sym, ap, ◌∙◌, arith}
+use Rattle.v8_alu.specs.Alu.{compared_codes, difference_overflows}
+use Rattle.v8_alu.specs.Numbers.{differ, is_negative, wrapped}
+
+pub equal : (a b : ℕ) → a < 2 ^ 32 → b < 2 ^ 32 → (compared_codes a b).z ≡ (a == b)
+equal a b ha hb = grind arith
+
+pub less : (a b : ℕ) → a < 2 ^ 32 → b < 2 ^ 32
+    → differ (compared_codes a b).n (compared_codes a b).v ≡ nat_lt (wrapped (a + 2 ^ 31)) (wrapped (b + 2 ^ 31))
+less a b ha hb = grind arith
+
+pub at_most : (a b : ℕ) → a < 2 ^ 32 → b < 2 ^ 32
+    → ((compared_codes a b).z || differ (compared_codes a b).n (compared_codes a b).v)
+    ≡ not (nat_lt (wrapped (b + 2 ^ 31)) (wrapped (a + 2 ^ 31)))
+at_most a b ha hb = grind arith
+
+pub at_most_unsigned : (a b : ℕ) → a < 2 ^ 32 → b < 2 ^ 32
+    → ((compared_codes a b).c || (compared_codes a b).z) ≡ nat_le a b
+at_most_unsigned a b ha hb = grind arith

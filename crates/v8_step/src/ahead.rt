@@ -1,0 +1,498 @@
+//! Many steps in order at once: pc and npc stand outside of the machine, as places among the records.
+ghost use Rattle.std.specs.Prelude.{◌≡◌, ◌⊎◌, ◌+◌, ◌<◌, ◌≤◌, ◌*◌, ◌%◌, ◌^◌, ℕ, IsTrue, None, Ok, Err, MatchResult, length, true, false, ◌==◌};
+ghost use Rattle.std.specs.Int.{w32, cast_unsigned};
+ghost use Rattle.v8_alu.specs.Alu.{alu_of};
+ghost use Rattle.v8_alu.specs.Numbers.{wrapped};
+ghost use Rattle.v8_decode.specs.Forms.{has_form};
+ghost use Rattle.v8_decode.specs.declared.Instr.TheVariants as instrs;
+ghost use Rattle.v8_memory.specs.Kept.{AreKept};
+ghost use Rattle.v8_memory.specs.Ops.{IsSum, alu_in, instr_of, is_record, operand_in};
+ghost use Rattle.v8_memory.specs.Regions.{code_of};
+ghost use Rattle.v8_step.specs.Ahead.{GoesOn, HasTurned, IsWithin, address_at, at_places, placed};
+ghost use Rattle.v8_step.specs.Turns.{IsQuietRun};
+
+use crate::Slot;
+use crate::machine::{Machine, register};
+use crate::turns::{condition, pair};
+use v8_alu::{AluTrap, Codes, alu, difference_of};
+use v8_decode::{AluOp, Cond, LoadKind, Reg, StoreKind};
+use v8_memory::{Op, OpCode, op_in};
+
+/// What comes of a turn: the run goes on in order, or to a place after the next instruction, or at a place, or isn't made here.
+#[derive(Clone, Copy, Drop)]
+pub enum Turn {
+    On,
+    To(u32),
+    At(u32),
+    Stop,
+}
+
+/// The place of an instruction and of the one after it among `len` records, of which the one of the word at `first` is
+/// the first; `left` is how many steps may still be made, and `next` more.
+#[derive(Clone, Copy, Drop)]
+pub struct Here {
+    pub first: u32,
+    pub len: u32,
+    pub cur: u32,
+    pub next: u32,
+    pub left: u64,
+}
+
+impl Here {
+    /// Whether too few steps are left to go elsewhere, and on in order from there.
+    #[inline(always)]
+    fn is_near(&self) -> bool
+        ensures { result ≡ false → self.now.next + self.now.len + 2 ≤ self.now.left }
+    {
+        self.left < u64::from(self.next) + u64::from(self.len) + 2
+    }
+}
+
+impl Machine {
+    /// Carries out the instruction of a record but for pc and npc. Where it stops nothing is changed.
+    #[inline(always)]
+    #[tactic(auto, unfolding(v8_memory::specs::Ops::instr_of))]
+    fn turn(&mut self, op: &Op, here: Here) -> Turn
+        requires sum { IsSum op.now.rs2 op.now.imm }
+        ensures state { HasTurned result here.first here.cur here.next self.old (instr_of op.now) self.new }
+        ensures within { IsWithin result here.len here.next here.left }
+        ensures going { self.new.ending ≡ self.old.ending }
+        ensures said { (result ≡ Turn.Stop) ⊎ IsTrue (is_record op.now.code) }
+    {
+        match op.code {
+            OpCode::Sethi => self.sethi_turn(op, here),
+            OpCode::B0 => self.branch_turn(condition(0), op, here),
+            OpCode::B1 => self.branch_turn(condition(1), op, here),
+            OpCode::B2 => self.branch_turn(condition(2), op, here),
+            OpCode::B3 => self.branch_turn(condition(3), op, here),
+            OpCode::B4 => self.branch_turn(condition(4), op, here),
+            OpCode::B5 => self.branch_turn(condition(5), op, here),
+            OpCode::B6 => self.branch_turn(condition(6), op, here),
+            OpCode::B7 => self.branch_turn(condition(7), op, here),
+            OpCode::B8 => self.branch_turn(condition(8), op, here),
+            OpCode::B9 => self.branch_turn(condition(9), op, here),
+            OpCode::B10 => self.branch_turn(condition(10), op, here),
+            OpCode::B11 => self.branch_turn(condition(11), op, here),
+            OpCode::B12 => self.branch_turn(condition(12), op, here),
+            OpCode::B13 => self.branch_turn(condition(13), op, here),
+            OpCode::B14 => self.branch_turn(condition(14), op, here),
+            OpCode::B15 => self.branch_turn(condition(15), op, here),
+            OpCode::Call => self.call_turn(op.imm, here),
+            OpCode::Add => self.plain_turn(AluOp::ADD, op, here),
+            OpCode::AddCc => self.alu_turn(AluOp::ADD, op, here),
+            OpCode::Sub => self.plain_turn(AluOp::SUB, op, here),
+            OpCode::SubCc => self.compare_turn(op, here),
+            OpCode::And => self.plain_turn(AluOp::AND, op, here),
+            OpCode::AndCc => self.alu_turn(AluOp::AND, op, here),
+            OpCode::Or => self.plain_turn(AluOp::OR, op, here),
+            OpCode::OrCc => self.alu_turn(AluOp::OR, op, here),
+            OpCode::Xor => self.plain_turn(AluOp::XOR, op, here),
+            OpCode::Andn => self.plain_turn(AluOp::ANDN, op, here),
+            OpCode::Orn => self.plain_turn(AluOp::ORN, op, here),
+            OpCode::Xnor => self.plain_turn(AluOp::XNOR, op, here),
+            OpCode::XnorCc => self.alu_turn(AluOp::XNOR, op, here),
+            OpCode::Addx => self.plain_turn(AluOp::ADDX, op, here),
+            OpCode::Subx => self.plain_turn(AluOp::SUBX, op, here),
+            OpCode::Umul => self.plain_turn(AluOp::UMUL, op, here),
+            OpCode::Smul => self.plain_turn(AluOp::SMUL, op, here),
+            OpCode::Sll => self.plain_turn(AluOp::SLL, op, here),
+            OpCode::Srl => self.plain_turn(AluOp::SRL, op, here),
+            OpCode::Sra => self.plain_turn(AluOp::SRA, op, here),
+            OpCode::ReadY => self.read_y_turn(op, here),
+            OpCode::WriteY => self.write_y_turn(op, here),
+            OpCode::Ld => self.load_turn(LoadKind::LD, op, here),
+            OpCode::Ldub => self.load_turn(LoadKind::LDUB, op, here),
+            OpCode::Lduh => self.load_turn(LoadKind::LDUH, op, here),
+            OpCode::Ldsb => self.load_turn(LoadKind::LDSB, op, here),
+            OpCode::Ldsh => self.load_turn(LoadKind::LDSH, op, here),
+            OpCode::Ldd => self.load_pair_turn(op, here),
+            OpCode::St => self.store_turn(StoreKind::ST, op.rd, op, here),
+            OpCode::Stb => self.store_turn(StoreKind::STB, op.rd, op, here),
+            OpCode::Sth => self.store_turn(StoreKind::STH, op.rd, op, here),
+            OpCode::Std => self.store_turn(StoreKind::STD, pair(op.rd), op, here),
+            OpCode::Jmpl => self.jump_turn(op, here),
+            OpCode::Save => self.save_turn(op, here),
+            OpCode::Restore => self.restore_turn(op, here),
+            OpCode::Other => Turn::Stop,
+        }
+    }
+
+    #[inline(always)]
+    #[tactic(auto, using(crate::proofs::InOrder::goes_on), unfolding(crate::specs::Step::act))]
+    fn sethi_turn(&mut self, op: &Op, here: Here) -> Turn
+        ensures state { HasTurned result here.first here.cur here.next self.old (instrs.Sethi op.now.rd (cast_unsigned w32 op.now.imm)) self.new }
+        ensures within { IsWithin result here.len here.next here.left }
+        ensures going { self.new.ending ≡ self.old.ending }
+    {
+        self.set(op.rd, op.imm.cast_unsigned().wrapping_mul(1024));
+        self.slot = Slot::NoSlot;
+        Turn::On
+    }
+
+    #[inline(always)]
+    #[tactic(auto, using(crate::proofs::InOrder::goes_on), unfolding(crate::specs::Step::act))]
+    fn read_y_turn(&mut self, op: &Op, here: Here) -> Turn
+        ensures state { HasTurned result here.first here.cur here.next self.old (instrs.ReadY op.now.rd) self.new }
+        ensures within { IsWithin result here.len here.next here.left }
+        ensures going { self.new.ending ≡ self.old.ending }
+    {
+        self.set(op.rd, self.y);
+        self.slot = Slot::NoSlot;
+        Turn::On
+    }
+
+    #[inline(always)]
+    #[tactic(auto, using(crate::proofs::InOrder::goes_on), unfolding(crate::specs::Step::act))]
+    fn write_y_turn(&mut self, op: &Op, here: Here) -> Turn
+        requires sum { IsSum op.now.rs2 op.now.imm }
+        ensures state { HasTurned result here.first here.cur here.next self.old (instrs.WriteY op.now.rs1 (operand_in op.now.rs2 op.now.imm)) self.new }
+        ensures within { IsWithin result here.len here.next here.left }
+        ensures going { self.new.ending ≡ self.old.ending }
+    {
+        self.y = self.reg(op.rs1) ^ self.op_operand(op);
+        self.slot = Slot::NoSlot;
+        Turn::On
+    }
+
+    #[inline(always)]
+    #[tactic(auto, using(crate::proofs::InOrder::goes_on))]
+    fn alu_turn(&mut self, kind: AluOp, op: &Op, here: Here) -> Turn
+        requires form { IsTrue (has_form kind true) }
+        requires sum { IsSum op.now.rs2 op.now.imm }
+        ensures state { HasTurned result here.first here.cur here.next self.old (alu_in kind true op.now) self.new }
+        ensures within { IsWithin result here.len here.next here.left }
+        ensures going { self.new.ending ≡ self.old.ending }
+    {
+        if self.alu_in_order(kind, op) {
+            Turn::On
+        } else {
+            Turn::Stop
+        }
+    }
+
+    #[inline(always)]
+    #[tactic(auto, using(crate::proofs::InOrder::goes_on))]
+    fn plain_turn(&mut self, kind: AluOp, op: &Op, here: Here) -> Turn
+        requires form { IsTrue (has_form kind false) }
+        requires sum { IsSum op.now.rs2 op.now.imm }
+        ensures state { HasTurned result here.first here.cur here.next self.old (alu_in kind false op.now) self.new }
+        ensures within { IsWithin result here.len here.next here.left }
+        ensures going { self.new.ending ≡ self.old.ending }
+    {
+        if self.plain_in_order(kind, op) {
+            Turn::On
+        } else {
+            Turn::Stop
+        }
+    }
+
+    /// SUBcc, whose codes are worked out where they are read.
+    #[inline(always)]
+    #[tactic(auto, using(crate::proofs::InOrder::goes_on))]
+    fn compare_turn(&mut self, op: &Op, here: Here) -> Turn
+        requires sum { IsSum op.now.rs2 op.now.imm }
+        ensures state { HasTurned result here.first here.cur here.next self.old (alu_in AluOp.SUB true op.now) self.new }
+        ensures within { IsWithin result here.len here.next here.left }
+        ensures going { self.new.ending ≡ self.old.ending }
+    {
+        self.compare_in_order(op);
+        Turn::On
+    }
+
+    #[inline(always)]
+    #[tactic(auto, unfolding(crate::specs::Step::act, crate::specs::Step::alu_step, v8_alu::specs::Alu::alu_of))]
+    fn compare_in_order(&mut self, op: &Op)
+        requires sum { IsSum op.now.rs2 op.now.imm }
+        ensures goes { GoesOn self.old (alu_in AluOp.SUB true op.now) self.new }
+        ensures going { self.new.ending ≡ self.old.ending }
+    {
+        let first = self.reg(op.rs1);
+        let second = self.op_operand(op);
+        self.flags.compare(first, second);
+        self.set(op.rd, difference_of(first, second));
+        self.slot = Slot::NoSlot;
+    }
+
+    #[inline(always)]
+    #[tactic(auto, using(crate::proofs::InOrder::goes_on), unfolding(crate::specs::Step::act))]
+    fn load_turn(&mut self, kind: LoadKind, op: &Op, here: Here) -> Turn
+        requires single { kind ≡ LoadKind.LDD → ⊥ }
+        requires sum { IsSum op.now.rs2 op.now.imm }
+        ensures state { HasTurned result here.first here.cur here.next self.old (instrs.Load kind op.now.rd op.now.rs1 (operand_in op.now.rs2 op.now.imm)) self.new }
+        ensures within { IsWithin result here.len here.next here.left }
+        ensures going { self.new.ending ≡ self.old.ending }
+    {
+        if self.load_in_order(kind, op.rd, self.op_sum(op)) {
+            Turn::On
+        } else {
+            Turn::Stop
+        }
+    }
+
+    #[inline(always)]
+    #[tactic(auto, using(crate::proofs::InOrder::goes_on), unfolding(crate::specs::Step::act))]
+    fn load_pair_turn(&mut self, op: &Op, here: Here) -> Turn
+        requires sum { IsSum op.now.rs2 op.now.imm }
+        ensures state { HasTurned result here.first here.cur here.next self.old (instrs.Load LoadKind.LDD (2 * (op.now.rd % 16)) op.now.rs1 (operand_in op.now.rs2 op.now.imm)) self.new }
+        ensures within { IsWithin result here.len here.next here.left }
+        ensures going { self.new.ending ≡ self.old.ending }
+    {
+        if self.load_pair_in_order(pair(op.rd), self.op_sum(op)) {
+            Turn::On
+        } else {
+            Turn::Stop
+        }
+    }
+
+    #[inline(always)]
+    #[tactic(auto, using(crate::proofs::InOrder::goes_on), unfolding(crate::specs::Step::act))]
+    fn store_turn(&mut self, kind: StoreKind, rd: Reg, op: &Op, here: Here) -> Turn
+        requires pair { kind ≡ StoreKind.STD → rd % 2 ≡ 0 }
+        requires sum { IsSum op.now.rs2 op.now.imm }
+        ensures state { HasTurned result here.first here.cur here.next self.old (instrs.Store kind rd op.now.rs1 (operand_in op.now.rs2 op.now.imm)) self.new }
+        ensures within { IsWithin result here.len here.next here.left }
+        ensures going { self.new.ending ≡ self.old.ending }
+    {
+        if self.store_in_order(kind, rd, self.op_sum(op)) {
+            Turn::On
+        } else {
+            Turn::Stop
+        }
+    }
+
+    #[inline(always)]
+    #[tactic(auto, using(crate::proofs::InOrder::goes_on), unfolding(crate::specs::Step::act))]
+    fn save_turn(&mut self, op: &Op, here: Here) -> Turn
+        requires sum { IsSum op.now.rs2 op.now.imm }
+        ensures state { HasTurned result here.first here.cur here.next self.old (instrs.Save op.now.rd op.now.rs1 (operand_in op.now.rs2 op.now.imm)) self.new }
+        ensures within { IsWithin result here.len here.next here.left }
+        ensures going { self.new.ending ≡ self.old.ending }
+    {
+        if self.save_in_order(op.rd, self.op_sum(op)) {
+            Turn::On
+        } else {
+            Turn::Stop
+        }
+    }
+
+    #[inline(always)]
+    #[tactic(auto, using(crate::proofs::InOrder::goes_on), unfolding(crate::specs::Step::act))]
+    fn restore_turn(&mut self, op: &Op, here: Here) -> Turn
+        requires sum { IsSum op.now.rs2 op.now.imm }
+        ensures state { HasTurned result here.first here.cur here.next self.old (instrs.Restore op.now.rd op.now.rs1 (operand_in op.now.rs2 op.now.imm)) self.new }
+        ensures within { IsWithin result here.len here.next here.left }
+        ensures going { self.new.ending ≡ self.old.ending }
+    {
+        if self.restore_in_order(op.rd, self.op_sum(op)) {
+            Turn::On
+        } else {
+            Turn::Stop
+        }
+    }
+
+    /// An operation that sets the codes and doesn't trap, but for pc and npc.
+    #[inline(always)]
+    #[tactic(auto, unfolding(crate::specs::Step::act, crate::specs::Step::alu_step))]
+    fn alu_in_order(&mut self, kind: AluOp, op: &Op) -> bool
+        requires form { IsTrue (has_form kind true) }
+        requires sum { IsSum op.now.rs2 op.now.imm }
+        ensures goes { result ≡ true → GoesOn self.old (alu_in kind true op.now) self.new }
+        ensures stays { result ≡ false → self.new ≡ self.old }
+        ensures going { self.new.ending ≡ self.old.ending }
+    {
+        let first = self.reg(op.rs1);
+        let second = self.op_operand(op);
+        match alu(kind, true, first, second, self.flags.codes(), self.y) {
+            Ok(outcome) => {
+                self.flags.set(outcome.codes);
+                self.y = outcome.y;
+                self.set(op.rd, outcome.value);
+                self.slot = Slot::NoSlot;
+                true
+            }
+            Err(_) => false,
+        }
+    }
+
+    /// An operation that leaves the codes and doesn't trap, but for pc and npc.
+    #[inline(always)]
+    #[tactic(auto, unfolding(crate::specs::Step::act, crate::specs::Step::alu_step))]
+    fn plain_in_order(&mut self, kind: AluOp, op: &Op) -> bool
+        requires form { IsTrue (has_form kind false) }
+        requires sum { IsSum op.now.rs2 op.now.imm }
+        ensures goes { result ≡ true → GoesOn self.old (alu_in kind false op.now) self.new }
+        ensures stays { result ≡ false → self.new ≡ self.old }
+        ensures going { self.new.ending ≡ self.old.ending }
+    {
+        let first = self.reg(op.rs1);
+        let second = self.op_operand(op);
+        match plain_outcome(kind, first, second, self.flags.codes(), self.y) {
+            Ok((value, y)) => {
+                self.y = y;
+                self.set(op.rd, value);
+                self.slot = Slot::NoSlot;
+                true
+            }
+            Err(_) => false,
+        }
+    }
+
+    /// A branch on a condition. Where it is inlined, this is a constant.
+    #[inline(always)]
+    #[tactic(auto, using(crate::proofs::InOrder::target_place, crate::proofs::InOrder::next_address, crate::proofs::InOrder::after_annulled), unfolding(crate::specs::Step::act, crate::specs::Transfers::branch_step))]
+    fn branch_turn(&mut self, cond: Cond, op: &Op, here: Here) -> Turn
+        ensures state { HasTurned result here.first here.cur here.next self.old (instrs.Branch cond (op.now.rd == 1) op.now.imm) self.new }
+        ensures within { IsWithin result here.len here.next here.left }
+        ensures going { self.new.ending ≡ self.old.ending }
+    {
+        if self.slot != Slot::NoSlot {
+            return Turn::Stop;
+        }
+        let annul = op.rd.number() == 1;
+        if self.flags.holds(cond) {
+            let place = here.cur.wrapping_add(op.imm.cast_unsigned());
+            if place >= here.len || here.is_near() {
+                Turn::Stop
+            } else if cond.number() == 8 && annul {
+                Turn::At(place)
+            } else {
+                self.slot = Slot::Taken;
+                Turn::To(place)
+            }
+        } else if annul {
+            let place = here.cur.wrapping_add(2);
+            if place >= here.len || here.is_near() {
+                Turn::Stop
+            } else {
+                Turn::At(place)
+            }
+        } else {
+            self.slot = Slot::Untaken;
+            Turn::On
+        }
+    }
+
+    #[inline(always)]
+    #[tactic(auto, using(crate::proofs::InOrder::target_place), unfolding(crate::specs::Step::act, crate::specs::Transfers::call_step))]
+    fn call_turn(&mut self, disp30: i32, here: Here) -> Turn
+        ensures state { HasTurned result here.first here.cur here.next self.old (instrs.Call disp30) self.new }
+        ensures within { IsWithin result here.len here.next here.left }
+        ensures going { self.new.ending ≡ self.old.ending }
+    {
+        let place = here.cur.wrapping_add(disp30.cast_unsigned());
+        if self.slot != Slot::NoSlot || place >= here.len || here.is_near() {
+            return Turn::Stop;
+        }
+        self.set(register(15), address(here.first, here.cur));
+        self.slot = Slot::Taken;
+        Turn::To(place)
+    }
+
+    #[inline(always)]
+    #[tactic(auto, using(crate::proofs::InOrder::jump_place), unfolding(crate::specs::Step::act, crate::specs::Transfers::jump_step))]
+    fn jump_turn(&mut self, op: &Op, here: Here) -> Turn
+        requires sum { IsSum op.now.rs2 op.now.imm }
+        ensures state { HasTurned result here.first here.cur here.next self.old (instrs.Jmpl op.now.rd op.now.rs1 (operand_in op.now.rs2 op.now.imm)) self.new }
+        ensures within { IsWithin result here.len here.next here.left }
+        ensures going { self.new.ending ≡ self.old.ending }
+    {
+        let target = self.op_sum(op);
+        let offset = target.wrapping_sub(here.first);
+        let place = offset / 4;
+        if self.slot != Slot::NoSlot
+            || target % 4 != 0
+            || offset % 4 != 0
+            || place >= here.len
+            || here.is_near()
+        {
+            return Turn::Stop;
+        }
+        self.set(op.rd, address(here.first, here.cur));
+        self.slot = Slot::Taken;
+        Turn::To(place)
+    }
+}
+
+/// The value and Y that an operation leaves, which leaves the codes.
+#[inline(always)]
+#[tactic(auto, using(crate::proofs::InOrder::codes_kept))]
+fn plain_outcome(kind: AluOp, a: u32, b: u32, codes: Codes, y: u32) -> Result<(u32, u32), AluTrap>
+    requires form { IsTrue (has_form kind false) }
+    ensures { MatchResult result (λ out. alu_of kind false a b codes y ≡ Ok (record { value = out.0; codes = codes; y = out.1 }))
+        (λ trap. alu_of kind false a b codes y ≡ Err trap) }
+{
+    match alu(kind, false, a, b, codes, y) {
+        Ok(outcome) => Ok((outcome.value, outcome.y)),
+        Err(trap) => Err(trap),
+    }
+}
+
+/// The address of the word at a place.
+#[inline(always)]
+fn address(first: u32, place: u32) -> u32
+    ensures { result ≡ address_at first place }
+{
+    first.wrapping_add(place.wrapping_mul(4))
+}
+
+/// Makes steps in order, and where transfers lead, as long as the instructions have records, and enough steps are left. It
+/// stops before an instruction that it doesn't make.
+#[inline(never)]
+#[tactic(auto, using(crate::proofs::QuietRuns::no_step))]
+pub(crate) fn go_far(ops: &[Op], first: u32, m: &mut Machine, limit: u64) -> u64
+    requires going { m.old.ending ≡ None }
+    requires kept { AreKept (code_of m.old.memory) first ops.now }
+    requires far { limit ≤ 2 ^ 62 }
+    ensures run { IsQuietRun m.old result m.new }
+    ensures few { result ≤ limit }
+    ensures code { AreKept (code_of m.new.memory) first ops.now }
+{
+    let Ok(len) = u32::try_from(ops.len()) else {
+        return 0;
+    };
+    if len == 0 || limit < u64::from(len) + 2 {
+        return 0;
+    }
+    let last = op_in(ops, first, len - 1);
+    if last.code != OpCode::Other {
+        return 0;
+    }
+    let offset = m.pc.wrapping_sub(first);
+    let after = m.npc.wrapping_sub(first);
+    if offset % 4 != 0 || after % 4 != 0 || offset / 4 >= len || after / 4 >= len {
+        return 0;
+    }
+    let mut cur = offset / 4;
+    let mut next = after / 4;
+    let mut left = limit + u64::from(next);
+    'turns: loop {
+        let op = op_in(ops, first, cur);
+        let here = Here {
+            first,
+            len,
+            cur,
+            next,
+            left,
+        };
+        match m.turn(op, here) {
+            Turn::On => {
+                cur = next;
+                next += 1;
+            }
+            Turn::To(place) => {
+                left = left - u64::from(next) - 1 + u64::from(place);
+                cur = next;
+                next = place;
+            }
+            Turn::At(place) => {
+                left = left - u64::from(next) + u64::from(place);
+                cur = place;
+                next = place + 1;
+            }
+            Turn::Stop => break,
+        }
+    }
+    m.pc = address(first, cur);
+    m.npc = address(first, next);
+    limit + u64::from(next) - left
+}
