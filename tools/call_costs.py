@@ -5,7 +5,7 @@ from dataclasses import dataclass
 
 @dataclass
 class Call:
-    """An instruction that calls a routine, or jumps to one in the end of another, and how often it did."""
+    """An instruction that calls a routine, or goes on to one in the end of another, and how often it did."""
     address: int
     caller: int
     callee: int
@@ -43,36 +43,50 @@ def components(nodes, edges):
 class CallCosts:
     """Calls with inclusive costs: a routine's instructions and those of the routines that it calls. As in a profile of
     samples, they are shared out among its callers by the numbers of their calls; calls in a recursion have no cost, and
-    calls through a register aren't known."""
+    calls through a register have no caller."""
 
     def __init__(self, shown, run):
         self.shown, self.run = shown, run
-        self.calls = list(self.find())
+        self.calls = [Call(*site, count) for site, count in self.find().items()]
+        self.landed = Counter()  # calls through a register, and the program's start
+        for edge in shown.edges:
+            if edge.kind == 'land' and edge.target in shown.routines:
+                self.landed[edge.target] += run.edge(edge)
+        self.landed[shown.entry] += 1
         self.own = Counter()
         for address, count in run.words.items():
             self.own[shown.routine_of(address)] += count
-        self.group, self.totals, self.below = {}, {}, defaultdict(list)
+        self.group, self.totals, self.below, self.entered = {}, {}, defaultdict(list), Counter(self.landed)
         for call in self.calls:
             self.below[call.caller].append(call)
+            self.entered[call.callee] += call.count
         pairs = [(call.caller, call.callee) for call in self.calls]
         for members in reversed(list(components(shown.starts, pairs))):
             self.group.update((member, members[0]) for member in members)
             self.add_total(members)
 
     def find(self):
+        """How often each instruction calls each routine: by a CALL, or from another routine by a branch, a switch or in
+        order."""
+        found = Counter()
         for edge in self.shown.edges:
-            if self.run.edge(edge) and edge.source is not None and edge.target in self.shown.routines:
-                block = self.shown.blocks[edge.source]
-                caller = self.shown.routine_of(block.last())
-                if edge.kind == 'call' or edge.kind != 'fall' and edge.target != caller:
-                    yield Call(block.last(), caller, edge.target, self.run.edge(edge))
+            if edge.source is not None and edge.target in self.shown.routines and self.run.edge(edge):
+                last = self.shown.blocks[edge.source].last()
+                caller = self.shown.routine_of(last)
+                if edge.kind == 'call' or edge.target != caller:
+                    found[last, caller, edge.target] += self.run.edge(edge)
+        return found
+
+    def calls_of(self, start):
+        """How often a routine was entered."""
+        return self.entered[start]
 
     def add_total(self, members):
         """What the routines of a recursion cost in all, and how often they are called from outside it."""
         below = [call for member in members for call in self.below[member]]
         inner = sum(call.count for call in below if self.group[call.callee] == members[0])
         cost = sum(self.own[member] for member in members) + sum(map(self.cost, below))
-        self.totals[members[0]] = cost, sum(self.run.words[member] for member in members) - inner
+        self.totals[members[0]] = cost, sum(self.entered[member] for member in members) - inner
 
     def cost(self, call):
         """The inclusive cost of a call."""
@@ -81,3 +95,7 @@ class CallCosts:
             return 0
         cost, entered = self.totals[group]
         return round(cost * call.count / entered) if entered else 0
+
+    def inclusive(self, start):
+        """What a routine cost with all that it called, where it is in no recursion; else what the recursion cost."""
+        return self.totals[self.group[start]][0]
