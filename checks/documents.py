@@ -14,9 +14,9 @@ import sys
 
 TOP = os.path.dirname(os.path.dirname(os.path.abspath(__file__)))
 # What documents name of the world outside: programs, and words of file formats and of the standards.
-OUTSIDE = set('''apt annul awk bash bzip2 c callgrind callgrind_annotate cfi clang cmp cp cpufreq dd dot eel false gcc gcov gdb
-genhtml git kill kcachegrind lcov ld llvm lua make man mem mkdir nm nproc objcopy objdump od out perf python3 qemu readelf rt sed
-sh sparc strip true valgrind x'''.split())
+OUTSIDE = set('''apt awk bash bzip2 c callgrind callgrind_annotate clang cmp cp cpufreq dd dot eel false gcc gcov gdb genhtml git kill
+kcachegrind lcov ld llvm lua make man massif mkdir nice nm nproc objcopy objdump od perf python3 qemu readelf rt
+sched_autogroup_enabled sed sh sparc strip true valgrind x Fn'''.split())
 SUFFIXES = ('py', 'sh', 'md', 'antt', 'rt', 'c', 'h', 'S', 'svg', 'png', 'txt', 'edit', 'patch', 'dot', 'bash')
 PATH = re.compile(r'[\w.+-]+(?:/[\w.+-]+)*/?')
 NAME = re.compile(r"[A-Za-z_][A-Za-z0-9_']*")
@@ -142,15 +142,12 @@ class Document:
         return word in self.repository.words or word.isdecimal() or word.isupper() or re.fullmatch('[0-9a-f]+|0x.*', word)
 
     def clauses(self):
-        """A clause must be one of the call that is named last before it."""
+        """A clause must be one of the call that is named last before it, if that is one of the repository."""
         known = self.repository.clauses
-        every = {clause for clauses in known.values() for clause in clauses}
         for found in re.finditer(r'\bclauses? ((?:(?:, | and |, and )?`\w+`)+)', self.text):
-            before = [name for name in re.findall(r'`(\w+)`', self.text[max(0, found.start() - 200):found.start()]) if name in known]
+            before = re.findall(r'`(\w+)`', self.text[max(0, found.start() - 200):found.start()])
             for clause in re.findall(r'`(\w+)`', found[1]):
-                if clause not in (known[before[-1]] if before else every) and clause not in every:
-                    self.bad.append((self.text.count('\n', 0, found.start()) + 1, clause, 'no such clause'))
-                elif before and clause not in known[before[-1]]:
+                if before and before[-1] in known and clause not in known[before[-1]]:
                     self.bad.append((self.text.count('\n', 0, found.start()) + 1, clause, f'no clause of {before[-1]}'))
 
 

@@ -15,7 +15,7 @@ from collections import defaultdict
 from shown import NAMES_HELP, TOP, Shown, call_eel, note, print_lines, read_file
 
 CALLS = {1: 'exit', 3: 'read', 4: 'write', 17: 'brk'}
-MOV_TO_G1 = 0x82102000
+G1 = 1
 FLOAT_LOADS = {0x20, 0x21, 0x23, 0x24, 0x25, 0x27}
 COPROCESSOR_LOADS = {0x30, 0x31, 0x33, 0x34, 0x35, 0x37}
 V9_LOADS = {0x08, 0x0b, 0x0e, 0x18, 0x1b, 0x1e, 0x22, 0x2d, 0x32, 0x36, 0x3c, 0x3d, 0x3e}
@@ -68,13 +68,38 @@ class Reach:
         """Whether a word is listed as a number, or is a V9 one that has bits set that V8 ignores."""
         return self.texts.get(address, '').startswith('.word')
 
-    def system_call(self, address):
-        """The number that a system call has in %g1, if the words before it say it."""
-        for before in [address + 4, *range(address - 4, address - 4 * 12, -4)]:
+    def value(self, address, register):
+        """What stands in a register at an address: a number, the argument of the routine that it is in a list, or None."""
+        for before in range(address - 4, (self.shown.routine_of(address) or address) - 4, -4):
             word = self.shown.word(before)
-            if word is not None and word & 0xffffe000 == MOV_TO_G1:
-                return word & 0x1fff
-        return None
+            if word is not None and writes(word, register):
+                if word & 0xc1ffe000 == 0x80102000:  # or %g0,NUMBER
+                    return word & 0x1fff
+                if word & 0xc1ffffe0 != 0x80100000:  # or %g0,REGISTER
+                    return None
+                register = word & 31
+        return [register]
+
+    def system_calls(self, address):
+        """The numbers that a system call may have in %g1, with their functions: by the words before it, or where it has its
+        function's argument, by those before that is called."""
+        value = self.value(address, G1)
+        if not isinstance(value, list):
+            return [(value, self.function(address))]
+        argument = value[0] & 15  # %i0 was %o0 before the SAVE
+        calls = [self.shown.blocks[edge.source].last() for edge in self.shown.blocks[self.shown.routine_of(address)].into
+                 if edge.kind == 'call'] if 8 <= argument < 14 else []
+        numbers = [(self.value(call + 8, argument), self.function(call)) for call in calls]
+        return [(None if isinstance(number, list) else number, function) for number, function in numbers] \
+            or [(None, self.function(address))]
+
+
+def writes(word, register):
+    """Whether an instruction writes a register."""
+    op, op3 = word >> 30, word >> 19 & 63
+    if op == 1 or op == 0 and word >> 22 & 7 != 4 or op == 3 and op3 in (4, 5, 6, 7) or op == 2 and op3 in (0x30, 0x3a, 0x3b):
+        return False
+    return word >> 25 & 31 == register
 
 
 def where(functions):
@@ -99,7 +124,8 @@ def traps(reach, words):
     for address in sorted(words):
         text = reach.texts.get(address, '')
         if text == 'ta 16':
-            calls[reach.system_call(address)].add(reach.function(address))
+            for number, function in reach.system_calls(address):
+                calls[number].add(function)
         elif text.startswith('ta ') and text != 'ta 3':
             others[text].add(reach.function(address))
     return calls, others

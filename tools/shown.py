@@ -398,6 +398,8 @@ class Visits:
     def __init__(self, shown, visits):
         self.words = {address: visits.get(address, 0) for block in shown.blocks.values() for address in block.addresses()}
         self.blocks = {first: self.words[first] for first in shown.blocks}
+        for first in filter(lambda first: is_unimplemented(shown.word(first)), shown.blocks):
+            self.blocks[first] = self.words.get(first + 4, 0)
         self.total = sum(visits.values())
         self.ways = solutions(list(self.equations(shown)))
         self.first_of = {}
@@ -416,21 +418,15 @@ class Visits:
             if block.first in shown.routines or shown.is_behind_call(block.first) or not into and block.first not in slots:
                 into.add(('land', None, block.first))
             out = {edge.way() for edge in block.out}
-            if block.first in slots:
-                own = 'in', block.first, None
+            if block.first in slots:  # a block of one word, at which control arrives seldom but to run it as a slot
+                own = out if len(out) == 1 else {('in', None, block.first)}
                 self.blocks[block.first] = 0
-                yield self.words[block.first], {own, *slots[block.first]}
-                yield from self.same(own, into)
-                yield from self.same(own, out)
+                yield self.words[block.first], own | slots[block.first]
+                if not into:
+                    yield 0, own | out
             else:
-                yield self.words[block.first] - (shown.entry == block.first), into
+                yield self.blocks[block.first] - (shown.entry == block.first), into
                 yield self.words[block.last()], out
-
-    @staticmethod
-    def same(own, ways):
-        """What comes into a delay slot's word, or leaves it, is nothing where nothing leads there."""
-        if not ways:
-            yield 0, {own}
 
     def edge(self, edge):
         return self.ways.get(edge.way(), 0) if self.first_of[edge.way()] == edge.number else 0

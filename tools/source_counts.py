@@ -182,32 +182,32 @@ class Callgrind:
         for call in self.costs.calls:
             self.calls[call.address].append(call)
 
-    def path(self, address, default='???'):
-        line = self.debug.line_at.get(address)
-        return line.path if line else default
+    def path(self, start):
+        """The file of a routine, from the current folder: callgrind_annotate takes one with a whole path for two."""
+        line = self.debug.line_at.get(start)
+        return os.path.relpath(line.path) if line else '???'
 
-    def position(self, address):
-        line = self.debug.line_at.get(address)
-        return f'0x{address:08x} {line.number if line else 0}'
+    def position(self, address, number):
+        return f'0x{address:08x} {number}'
 
-    def instruction(self, address):
-        yield f'{self.position(address)} {self.counts.times(address)}'
+    def instruction(self, address, number):
+        yield f'{self.position(address, number)} {self.counts.times(address)}'
         for call in self.calls[address]:
+            line = self.debug.line_at.get(call.callee)
             yield f'cfi={self.path(call.callee)}'
             yield f'cfn={self.shown.name_of(call.callee)}'
-            yield f'calls={call.count} {self.position(call.callee)}'
-            yield f'{self.position(address)} {self.costs.cost(call)}'
+            yield f'calls={call.count} {self.position(call.callee, line.number if line else 0)}'
+            yield f'{self.position(address, number)} {self.costs.cost(call)}'
 
     def routine(self, start, addresses):
-        """What stands in another file than the routine begins in was inlined."""
-        own = path = self.path(start)
-        yield f'fl={own}'
+        """What stands in another file than the routine begins in was inlined, and counts for the line before it."""
+        own = line = self.debug.line_at.get(start)
+        yield f'fl={self.path(start)}'
         yield f'fn={self.shown.name_of(start)}'
         for address in addresses:
-            if self.path(address, own) != path:
-                path = self.path(address, own)
-                yield f'{"fe" if path == own else "fi"}={path}'
-            yield from self.instruction(address)
+            here = self.debug.line_at.get(address)
+            line = here if here and own and here.path == own.path else line
+            yield from self.instruction(address, line.number if line else 0)
         yield ''
 
     def lines(self):
