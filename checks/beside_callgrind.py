@@ -1,10 +1,10 @@
 #!/usr/bin/env python3
 """Compares how often functions were called, as tools/source_counts.py says it, with callgrind of valgrind.
 
-Each program of examples/c is built by gcc and by clang at -O0 and profiled by tools/profile.py; and built for this machine
-and run by callgrind. Functions of the sources are compared. At -O1 and -O2, where compilers inline as they like, it is looked
-whether the functions of a tracefile for lcov have just the calls that stand in the file for callgrind, and whether
-callgrind_annotate lists each function once with its inclusive cost. That takes valgrind beside what beside_gcov.py takes.
+Each program of examples/c is built by gcc and by clang at -O0 and profiled by tools/profile.py; and built for this
+machine and run by callgrind. Functions of the sources are compared. At -O0 to -O2 it is looked whether the functions of
+a tracefile for lcov have no fewer calls than stand in the file for callgrind (calls through registers may have no
+caller), and whether callgrind_annotate lists each function once. That takes valgrind beside what beside_gcov.py takes.
 """
 import argparse
 import os
@@ -41,8 +41,8 @@ def calls_in(text):
 
 def natively(program, folder):
     name = os.path.join(folder, program)
-    call('gcc', '-m32', '-w', '-O0', '-g', '-static', '-ffreestanding', source(program), os.path.join(SOURCES, 'native.c'),
-         '-o', name)
+    call('gcc', '-m32', '-w', '-O0', '-g', '-static', '-ffreestanding', source(program),
+         os.path.join(SOURCES, 'native.c'), '-o', name)
     call('valgrind', '--tool=callgrind', f'--callgrind-out-file={name}.out', name, given=given_to(program), statuses=())
     with open(f'{name}.out') as opened:
         return calls_in(opened.read())

@@ -50,7 +50,7 @@ def input_of(name):
 
 
 def built(program=EEL):
-    """The program that is to be run. `./eel` must be built: its build takes half an hour, and nothing is seen of it here."""
+    """The program that is to be run. `./eel` must be built: its build takes half an hour, which isn't seen here."""
     made = os.path.join(TOP, 'crates', 'eel_main', 'out', 'eel_main') if program == EEL else program
     if not (os.path.isfile(made) and os.access(made, os.X_OK)):
         refuse('./eel is not built yet: call build.sh first, which takes half an hour, once' if program == EEL

@@ -2,9 +2,9 @@
 """Says which names in the documents name nothing: checks/documents.py [DOCUMENT..]
 
 It looks at links, and at what stands between backticks and in blocks of commands: paths; crates, calls, types and
-definitions, which must occur in the code; clauses, which the call named before them must have; commands of `eel` and options
-of scripts. The documents are README.md, those of docs/, and a README.md beside other files. A name stands in the code where
-it occurs outside of comments.
+definitions, which must occur in the code; clauses, which the call named before them must have; commands of `eel` and
+options of scripts. The documents are README.md, those of docs/, and a README.md beside other files. A name stands in
+the code where it occurs outside of comments.
 """
 import argparse
 import os
@@ -14,13 +14,14 @@ import sys
 
 TOP = os.path.dirname(os.path.dirname(os.path.abspath(__file__)))
 # What documents name of the world outside: programs, and words of file formats and of the standards.
-OUTSIDE = set('''apt awk bash bzip2 c callgrind callgrind_annotate clang cmp cp cpufreq dd dot eel false gcc gcov gdb genhtml git kill
-kcachegrind lcov ld llvm lua make man massif mkdir nice nm nproc objcopy objdump od perf python3 qemu readelf rt
-sched_autogroup_enabled sed sh sparc strip true valgrind x Fn'''.split())
-SUFFIXES = ('py', 'sh', 'md', 'antt', 'rt', 'c', 'h', 'S', 'svg', 'png', 'txt', 'edit', 'patch', 'dot', 'bash')
+OUTSIDE = set('''apt awk bash bzip2 c callgrind callgrind_annotate clang cmp cp cpufreq dd dot eel false gcc gcov gdb
+genhtml git kill kcachegrind lcov ld llvm lua make man massif mkdir nice nm nproc objcopy objdump od perf python3 qemu
+readelf rt sched_autogroup_enabled sed sh sparc strip true valgrind x Fn'''.split())
+SUFFIXES = {('.', suffix) for suffix in 'py sh md antt rt c h S svg png txt edit patch dot bash'.split()}
 PATH = re.compile(r'[\w.+-]+(?:/[\w.+-]+)*/?')
 NAME = re.compile(r"[A-Za-z_][A-Za-z0-9_']*")
-TEXTS = {'.rt': '//', '.antt': '--', '.py': '#', '.sh': '#', '.c': '//', '.h': '//', '.S': '!', '.txt': '#', '.edit': None}
+COMMENTS = {'.rt': '//', '.antt': '--', '.py': '#', '.sh': '#', '.c': '//', '.h': '//', '.S': '!', '.txt': '#',
+            '.edit': None}
 
 
 def files():
@@ -39,13 +40,13 @@ class Repository:
 
     def __init__(self):
         self.files = set(files())
-        self.folders = {'/'.join(name.split('/')[:depth]) for name in self.files for depth in range(1, name.count('/') + 1)}
+        self.folders = {name[:found.start()] for name in self.files for found in re.finditer('/', name)}
         self.base_names = {part for name in self.files | self.folders for part in name.split('/')}
         self.words, self.clauses = set(OUTSIDE), {}
         for name in self.files:
             suffix = os.path.splitext(name)[1]
-            if suffix in TEXTS or name in ('eel', 'build.sh', '.ci/run'):
-                self.read_code(read(name), TEXTS.get(suffix, '#'), suffix)
+            if suffix in COMMENTS or name in ('eel', 'build.sh', '.ci/run'):
+                self.read_code(read(name), COMMENTS.get(suffix, '#'), suffix)
         self.words |= {re.sub(r'\..*', '', part) for part in self.base_names}
         self.commands = set(re.findall(r'^    eel (--\w+|\w+)', read('eel'), re.M)) | {'--help'}
 
@@ -125,7 +126,7 @@ class Document:
             self.commands(number, f'    {span}')
         elif words[0].endswith('.py'):
             self.script(number, words[0], ' '.join([''] + words[1:]))
-        elif PATH.fullmatch(span) and ('/' in span.strip('/') or span.rpartition('.')[2] in SUFFIXES and '.' in span[1:]):
+        elif PATH.fullmatch(span) and ('/' in span.strip('/') or span[1:].rpartition('.')[1:] in SUFFIXES):
             if not self.is_path(span):
                 self.bad.append((number, span, 'no such file'))
         elif len(words) == 1 and (found := re.fullmatch(r'(\w+(?:::\w+|\.\w+)*)(?:::\*|\(\))?', span)):
@@ -139,7 +140,7 @@ class Document:
         return self.repository.has_path(path, self.name)
 
     def is_word(self, word):
-        return word in self.repository.words or word.isdecimal() or word.isupper() or re.fullmatch('[0-9a-f]+|0x.*', word)
+        return word in self.repository.words or word.isupper() or re.fullmatch('[0-9a-f]+|0x.*', word)
 
     def clauses(self):
         """A clause must be one of the call that is named last before it, if that is one of the repository."""

@@ -2,13 +2,13 @@
 """Prints a program's instructions, routine by routine, with how often a run executed each.
 
 With COUNTS the routines come hottest first, each with its share of all instructions that ran, and on a terminal in
-colours: red is hot, and grey never ran. What is no code is left out: the words that stand in no section of instructions,
-and to which no routine, no edge and not this run leads. By counts of edges a landing in the midst of a block counts for the
-whole block; visits of words are exact.
+colours: red is hot, and grey never ran. What is no code is left out: the words that stand in no section of
+instructions, and to which no routine, no edge and not this run leads. By counts of edges a landing in the midst of a
+block counts for the whole block; visits of words are exact.
 
-With a trace the last edges of a run are printed, the oldest first, each with the instructions that it led to: that in its
-delay slot, and those of its block, of which the last ones may not have been reached. With --routine those that lead into
-this routine, within it and out of it are printed.
+With a trace the last edges of a run are printed, the oldest first, each with the instructions that it led to: that in
+its delay slot, and those of its block, of which the last ones may not have been reached. With --routine those that
+lead into this routine, within it and out of it are printed.
 """
 import argparse
 import os
@@ -45,7 +45,8 @@ class Annotation:
         if not self.run:
             return f'{self.shown.name_of(start)}:'
         executed = self.executed(words)
-        return f'{self.shown.name_of(start)}: {executed} of {self.run.total} instructions, {share(executed, self.run.total)}'
+        part = share(executed, self.run.total)
+        return f'{self.shown.name_of(start)}: {executed} of {self.run.total} instructions, {part}'
 
     def executed(self, words):
         return sum(self.run.words[address] for address in words) if self.run else 0
@@ -72,7 +73,8 @@ class Trail:
 
     def __init__(self, shown, numbers, routine):
         self.shown, self.routine, self.texts = shown, routine, shown.instructions()
-        self.numbers = [number for number in numbers if routine is None or routine in self.routines(shown.edges[number])]
+        self.numbers = [number for number in numbers
+                        if routine is None or routine in self.routines(shown.edges[number])]
 
     def routines(self, edge):
         """The routines from which an edge leads and to which it does."""
@@ -93,22 +95,23 @@ class Trail:
             if edge.slot is not None:
                 yield f'  {edge.slot:08x}  {self.texts[edge.slot]}    (slot)'
             if edge.target is not None:
-                yield from (f'  {address:08x}  {self.texts[address]}' for address in self.shown.blocks[edge.target].addresses())
+                for address in self.shown.blocks[edge.target].addresses():
+                    yield f'  {address:08x}  {self.texts[address]}'
 
 
 def main():
     parser = argparse.ArgumentParser(description=__doc__, formatter_class=argparse.RawDescriptionHelpFormatter)
     parser.add_argument('file', metavar='FILE', help='the program')
     parser.add_argument('counts', metavar='COUNTS', nargs='?', help=TRACE_HELP)
-    parser.add_argument('--routine', metavar='NAME', help='this routine alone, by its name or its address in hexadecimal')
+    parser.add_argument('--routine', metavar='NAME', help='this routine alone, by its name or its address')
     parser.add_argument('--names', metavar='NAMES', help=NAMES_HELP)
     words = parser.parse_args()
     shown = Shown(words.file, words.names)
-    if words.counts and is_trace(words.counts):
+    if words.counts is not None and is_trace(words.counts):
         routine = shown.routine_called(words.routine) if words.routine else None
         print_lines(Trail(shown, trace_of(shown, words.counts), routine).lines())
         return
-    run = run_of(shown, words.counts) if words.counts else None
+    run = run_of(shown, words.counts) if words.counts is not None else None
     routines = code_words(shown, run)
     if words.routine:
         start = shown.routine_called(words.routine)

@@ -44,8 +44,8 @@ def components(nodes, edges):
 
 class CallCosts:
     """Calls with inclusive costs: a routine's instructions and those of the routines that it calls. As in a profile of
-    samples, they are shared out among its callers by the numbers of their calls. Calls through a
-    register have a caller where it is the only one, or the routine is the only one that is called so."""
+    samples, they are shared out among its callers by the numbers of their calls. Calls through a register have a caller
+    where it is the only one, or the routine is the only one that is called so."""
 
     def __init__(self, shown, run):
         self.shown, self.run = shown, run
@@ -85,8 +85,10 @@ class CallCosts:
         """How often each instruction calls each routine through a register, as far as that is known."""
         sites, found = Counter(), Counter()
         for edge in self.shown.edges:
-            if edge.kind == 'out' and self.run.edge(edge) and is_call(self.shown.word(self.shown.blocks[edge.source].last())):
-                sites[self.shown.blocks[edge.source].last()] += self.run.edge(edge)
+            if edge.kind == 'out' and self.run.edge(edge):
+                last = self.shown.blocks[edge.source].last()
+                if is_call(self.shown.word(last)):
+                    sites[last] += self.run.edge(edge)
         targets = +self.landed
         if sites.total() == targets.total() and (len(sites) == 1 or len(targets) == 1):
             for site in sites:
@@ -100,10 +102,12 @@ class CallCosts:
         return self.entered[start]
 
     def add_total(self, members):
-        """What the routines of a recursion cost in all, shared out among the calls from outside it. A call within it has
-        a cost where its routine is called from nowhere else: that of the routine without the recursion."""
-        below = {member: [call for call in self.below[member] if self.group.get(call.callee) != members[0]] for member in members}
-        alone = {member: self.own[member] + sum(map(self.cost, below[member])) for member in members}
+        """What the routines of a recursion cost in all, shared out among the calls from outside it. A call within it
+        has a cost where its routine is called from nowhere else: that of the routine without the recursion."""
+        alone = {member: self.own[member] for member in members}
+        for call in (call for member in members for call in self.below[member]):
+            if self.group.get(call.callee) != members[0]:
+                alone[call.caller] += self.cost(call)
         outer = [call for member in members for call in self.above[member] if self.group.get(call.caller) != members[0]]
         self.share_out(sum(alone.values()), outer, sum(self.landed[member] for member in members))
         self.totals[members[0]] = sum(alone.values())

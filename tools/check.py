@@ -1,10 +1,10 @@
 #!/usr/bin/env python3
 """Says whether a program can be edited and run: tools/check.py FILE
 
-It names the float, V9 and other instructions that no run gets past, and the system calls, each with the functions where they
-are. What is looked at are the words to which CALLs, branches and switches lead from where the program is entered; those to
-which only jumps through registers may lead are told apart. The status is 0 where nothing stands in the way, 1 where the file
-can't be edited or run, and 2 where something may stop its run.
+It names the float, V9 and other instructions that no run gets past, and the system calls, each with the functions where
+they are. What is looked at are the words to which CALLs, branches and switches lead from where the program is entered;
+those to which only jumps through registers may lead are told apart. The status is 0 where nothing stands in the way, 1
+where the file can't be edited or run, and 2 where something may stop its run.
 """
 import argparse
 import os
@@ -69,7 +69,7 @@ class Reach:
         return self.texts.get(address, '').startswith('.word')
 
     def value(self, address, register):
-        """What stands in a register at an address: a number, the argument of the routine that it is in a list, or None."""
+        """What stands in a register: a number, the register of the routine's argument in a list, or None."""
         for before in range(address - 4, (self.shown.routine_of(address) or address) - 4, -4):
             word = self.shown.word(before)
             if word is not None and writes(word, register):
@@ -81,14 +81,15 @@ class Reach:
         return [register]
 
     def system_calls(self, address):
-        """The numbers that a system call may have in %g1, with their functions: by the words before it, or where it has its
-        function's argument, by those before that is called."""
+        """The numbers that a system call may have in %g1, with their functions: by the words before it, or where it has
+        its function's argument, by those before that is called."""
         value = self.value(address, G1)
         if not isinstance(value, list):
             return [(value, self.function(address))]
         argument = value[0] & 15  # %i0 was %o0 before the SAVE
-        calls = [self.shown.blocks[edge.source].last() for edge in self.shown.blocks[self.shown.routine_of(address)].into
-                 if edge.kind == 'call'] if 8 <= argument < 14 else []
+        routine = self.shown.blocks[self.shown.routine_of(address)]
+        calls = [self.shown.blocks[edge.source].last() for edge in routine.into
+                 if edge.kind == 'call' and argument >= 8]
         numbers = [(self.value(call + 8, argument), self.function(call)) for call in calls]
         return [(None if isinstance(number, list) else number, function) for number, function in numbers] \
             or [(None, self.function(address))]
@@ -96,10 +97,9 @@ class Reach:
 
 def writes(word, register):
     """Whether an instruction writes a register."""
-    op, op3 = word >> 30, word >> 19 & 63
-    if op == 1 or op == 0 and word >> 22 & 7 != 4 or op == 3 and op3 in (4, 5, 6, 7) or op == 2 and op3 in (0x30, 0x3a, 0x3b):
-        return False
-    return word >> 25 & 31 == register
+    op, op2, op3 = word >> 30, word >> 22 & 7, word >> 19 & 63
+    keeps = {0: op2 != 4, 1: True, 2: op3 in (0x30, 0x3a, 0x3b), 3: op3 in (4, 5, 6, 7)}[op]  # stores, and the like
+    return not keeps and word >> 25 & 31 == register
 
 
 def where(functions):
@@ -196,8 +196,8 @@ def main():
     shown = Shown(words.file, words.names)
     findings = Findings(Reach(shown))
     count = sum(block.words for block in shown.blocks.values())
-    print_lines([f'{words.file}: {count} words, {len(shown.routines)} routines, {len(shown.edges)} edges', 'can be edited: yes',
-                 *findings.lines()])
+    size = f'{count} words, {len(shown.routines)} routines, {len(shown.edges)} edges'
+    print_lines([f'{words.file}: {size}', 'can be edited: yes', *findings.lines()])
     return 2 if findings.stops_runs else 0
 
 

@@ -1,9 +1,9 @@
 #!/usr/bin/env python3
 """Compares two profiles: tools/compare.py FILE COUNTS [NEW] COUNTS
 
-It prints the functions of the program FILE whose instructions differ between two runs, or from those of the program NEW, as
-it is after a change: how many each took before and after, and the difference, the greatest first. Functions are told apart by
-their names.
+It prints the functions of the program FILE whose instructions differ between two runs, or from those of the program
+NEW, as it is after a change: how many each took before and after, and the difference, the greatest first. Functions are
+told apart by their names.
 """
 import argparse
 from collections import Counter

@@ -61,7 +61,7 @@ class DebugLines:
         except (dwarf.Broken, IndexError, struct.error, zlib.error, RecursionError) as error:
             refuse(f'{shown.name}: its debug information cannot be read: {error}')
         if self.missing:
-            note(f'{self.missing[0]} is missing: what is inlined there is not told apart, and functions are those of symbols')
+            note(f'{self.missing[0]} is missing: functions are those of symbols, and inlined copies are not told apart')
 
     def words(self, low, high):
         """The addresses of the text's words in a range."""
@@ -105,7 +105,8 @@ class DebugLines:
     def add_bodies(self, unit):
         """Inner bodies come after those in which they lie, and take their words; what the linker left out has none."""
         for entry in unit.functions():
-            self.is_optimised |= entry.tag == dwarf.INLINED or dwarf.CALL_ALL_CALLS in entry or dwarf.GNU_ALL_CALL_SITES in entry
+            self.is_optimised |= entry.tag == dwarf.INLINED
+            self.is_optimised |= dwarf.CALL_ALL_CALLS in entry or dwarf.GNU_ALL_CALL_SITES in entry
             ranges = list(unit.ranges(entry))
             words = {address for low, high in ranges for address in self.words(low, high)}
             if words:

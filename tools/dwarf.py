@@ -1,8 +1,5 @@
-"""Reads the debug information of an ELF32 file: line tables and entries of DWARF 2 to 5, section by section as in the standard.
-
-It has what the scripts here need: rows of line tables, and the functions with their ranges. Split units (.dwo) are read
-beside their skeletons.
-"""
+"""Reads the debug information of an ELF32 file: the line tables, functions and their ranges of DWARF 2 to 5, as the
+standard has them. Split units (.dwo) are read beside their skeletons."""
 import os
 import struct
 import zlib
@@ -14,7 +11,8 @@ NAME, STMT_LIST, LOW_PC, HIGH_PC, COMP_DIR, PRODUCER = 0x03, 0x10, 0x11, 0x12, 0
 ABSTRACT_ORIGIN, DECL_FILE, DECL_LINE, SPECIFICATION, ENTRY_PC, RANGES = 0x31, 0x3a, 0x3b, 0x47, 0x52, 0x55
 LINKAGE_NAME, STR_OFFSETS_BASE, ADDR_BASE, RNGLISTS_BASE, DWO_NAME = 0x6e, 0x72, 0x73, 0x74, 0x76
 CALL_ALL_CALLS = 0x7a
-GNU_ALL_CALL_SITES, MIPS_LINKAGE_NAME, GNU_DWO_NAME, GNU_RANGES_BASE, GNU_ADDR_BASE = 0x2117, 0x2007, 0x2130, 0x2132, 0x2133
+MIPS_LINKAGE_NAME, GNU_ALL_CALL_SITES, GNU_DWO_NAME = 0x2007, 0x2117, 0x2130
+GNU_RANGES_BASE, GNU_ADDR_BASE = 0x2132, 0x2133
 # Entries whose children may be functions with code; those of others are left out.
 OUTER = {0x03, 0x0b, 0x11, 0x1d, 0x2e, 0x39, 0x3c, 0x4a, 0x02, 0x13, 0x17}
 
@@ -468,8 +466,8 @@ class Dwarf:
                 if (attribute, form) == (0, 0):
                     break
                 fields.append((attribute, form, read.sleb() if form == 0x21 else None))
-            fixed = all(form in FIXED for _, form, _ in fields)
-            yield code, Abbreviation(tag, has_children, fields, sum(FIXED[form] for _, form, _ in fields) if fixed else None)
+            sizes = [FIXED.get(form) for _, form, _ in fields]
+            yield code, Abbreviation(tag, has_children, fields, None if None in sizes else sum(sizes))
 
     def line_table(self, at):
         if at not in self.line_tables:
@@ -489,4 +487,5 @@ class Dwarf:
         """A string by its number in the table of offsets; that of a .dwo file begins with a header since version 5."""
         size = 8 if unit.wide else 4
         base = unit.top.forms.get(STR_OFFSETS_BASE, (0, size * 2 if unit.version >= 5 else 0))[1]
-        return Reader(self.section('str'), Reader(self.section('str_offsets'), base + size * number).number(size)).string()
+        offset = Reader(self.section('str_offsets'), base + size * number).number(size)
+        return Reader(self.section('str'), offset).string()

@@ -1,14 +1,14 @@
 #!/usr/bin/env python3
 """Draws a program for Graphviz: tools/graph.py FILE COUNTS | dot -Tsvg > graph.svg
 
-Without --routine it is the call graph: routines with their shares of the instructions and how often they were called, the
-hundred of most instructions where there are more. With --routine NAME it is the flow graph of one: its blocks, and edges
-with their counts, where a block has several ways out also with the share of each. An edge is the heavier and the redder the
-more often it was completed; edges that weren't are grey. Landings and ways out of the program have a small node each, and a
-dotted edge leads behind a call. A block and its landed copy are drawn as one.
+Without --routine it is the call graph: routines with their shares of the instructions and how often they were called,
+the hundred of most instructions where there are more. With --routine NAME it is the flow graph of one: its blocks, and
+edges with their counts, where a block has several ways out also with the share of each. An edge is the heavier and the
+redder the more often it was completed; edges that weren't are grey. Landings and ways out of the program have a small
+node each, and a dotted edge leads behind a call. A block and its landed copy are drawn as one.
 
-With a trace in place of COUNTS the blocks are drawn to which the last edges of a run led, each edge with the places at which
-it stands in their order. By visits an edge whose count doesn't follow from them has a `?`.
+With a trace in place of COUNTS the blocks are drawn to which the last edges of a run led, each edge with the places at
+which it stands in their order. By visits an edge whose count doesn't follow from them has a `?`.
 """
 import argparse
 import math
@@ -189,7 +189,7 @@ class FlowGraph:
             yield f'  {node(address)} [label={quoted(label)}, color=gray];'
 
     def is_drawn(self, edge):
-        """Edges of what is drawn: those out of it, and into it those that were completed; landings only where they were."""
+        """Edges out of what is drawn, and those into it that were completed."""
         if edge.source is None or edge.source not in self.drawn:
             return edge.target in self.drawn and bool(self.counts[edge.way()])
         return self.routine is not None or bool(self.counts[edge.way()])
@@ -224,10 +224,10 @@ def main():
     parser.add_argument('--names', metavar='NAMES', help=NAMES_HELP)
     words = parser.parse_args()
     shown = Shown(words.file, words.names)
-    if words.counts and is_trace(words.counts):
+    if words.counts is not None and is_trace(words.counts):
         run = Trace(shown, trace_of(shown, words.counts))
     else:
-        run = run_of(shown, words.counts) if words.counts else None
+        run = run_of(shown, words.counts) if words.counts is not None else None
     print_lines(drawing(shown, run, words).lines())
 
 

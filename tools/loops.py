@@ -15,7 +15,7 @@ class Loop:
 
 
 def ways_within(shown, run):
-    """Where control went within each routine, from block to block, and how often; behind a call it goes on at its return."""
+    """Where control went within each routine, and how often; from a call it goes on behind it."""
     ways = defaultdict(lambda: defaultdict(int))
     for edge in shown.edges:
         if edge.source is None or not run.edge(edge):

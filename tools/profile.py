@@ -1,9 +1,9 @@
 #!/usr/bin/env python3
 """Says where a program spends its instructions: tools/profile.py FILE ARG..
 
-It edits the program FILE with counters, runs that with the arguments and the standard input, and prints its functions with
-the instructions that each took and how often it was called, and the loops and lines that took most. What the program puts
-out goes to the error stream. Options stand before FILE; with some of them another script prints what was counted.
+It edits the program FILE with counters, runs that with the arguments and the standard input, and prints its functions
+with the instructions that each took and how often it was called, and the loops and lines that took most. What the
+program puts out goes to the error stream. Options stand before FILE; with some another script prints what was counted.
 """
 import argparse
 import os
@@ -75,8 +75,8 @@ class Report:
         rows = []
         for line in hottest:
             text = ''.join(texts.get(line.path, [])[line.number - 1:line.number]).strip()
-            place = f'{os.path.basename(line.path)}:{line.number}'
-            rows.append((self.share(taken[line]), taken[line], self.counts.lines.get(line, 0), f'{place}  {text}'.rstrip()))
+            place, times = f'{os.path.basename(line.path)}:{line.number}', self.counts.lines.get(line, 0)
+            rows.append((self.share(taken[line]), taken[line], times, f'{place}  {text}'.rstrip()))
         if rows:
             yield from table(('times', 'line'), rows)
         else:
@@ -98,14 +98,14 @@ class Session:
     def checked(self, *words):
         called = call_eel(*words)
         if called.returncode:
-            told = called.stderr.decode('utf-8', 'replace').strip().replace(f'eel: {self.words.file}: ', f'{self.words.file}: ')
-            refuse(f'{told}{"; `eel --faults` explains it" if "file fault" in told else ""}')
+            told = called.stderr.decode('utf-8', 'replace').strip().removeprefix('eel: ')
+            refuse(f'{told}{", which `eel --faults` explains" if "file fault" in told else ""}')
         return called.stdout
 
     def run(self, limit, output):
         """Runs the written file, and answers the ending line of the run."""
-        called = call_eel('run', self.written, '-n', str(limit), '-d', self.dump, '--', *self.words.args, given=self.given,
-                          stdout=output)
+        called = call_eel('run', self.written, '-n', str(limit), '-d', self.dump, '--', *self.words.args,
+                          given=self.given, stdout=output)
         *own, ending = called.stderr.rstrip(b'\n').split(b'\n')
         if called.returncode:
             refuse(ending.decode('utf-8', 'replace').removeprefix('eel: ') or 'the run failed')
@@ -124,7 +124,8 @@ class Session:
                 break
             ending = self.run(limit + more + 1, subprocess.DEVNULL)
         if counted.returncode:
-            refuse(counted.stderr.decode('utf-8', 'replace').strip().removeprefix('eel: ').replace(self.dump, 'the run'))
+            told = counted.stderr.decode('utf-8', 'replace').strip().removeprefix('eel: ')
+            refuse(told.replace(self.dump, 'the run'))
         if more:
             note(f'it stood between two places of the original after {limit} steps, and went {more} further')
         with open(self.counts, 'wb') as opened:
@@ -175,7 +176,7 @@ def parsed():
     parser.add_argument('-n', '--limit', metavar='STEPS', type=int, default=LIMIT,
                         help=f'how many steps of the edited program are made at most, else {LIMIT}')
     kind = parser.add_mutually_exclusive_group()
-    kind.add_argument('--every', action='store_true', help='count each instruction by itself, which is exact and dearer')
+    kind.add_argument('--every', action='store_true', help='count each instruction by itself: exact, and dearer')
     kind.add_argument('--weights', action='store_true',
                       help='profile it twice, with counters by what the first run counted: fewer steps')
     parser.add_argument('--all', action='store_true', help='print all functions')

@@ -1,4 +1,4 @@
-"""A program as `eel show` and `eel list` print it, and what `eel counts`, `eel visits` and `eel trace` print of a run of it."""
+"""A program as `eel show` and `eel list` print it, and what `eel counts`, `visits` and `trace` print of a run of it."""
 import bisect
 import os
 import re
@@ -121,7 +121,7 @@ class Edge:
 
 def is_call(word):
     """Whether a word is a CALL, or a JMPL that links."""
-    return word is not None and (word >> 30 == 1 or word >> 30 == 2 and word >> 19 & 63 == 0x38 and word >> 25 & 31 == 15)
+    return word is not None and (word >> 30 == 1 or word & 0xfff80000 == 0x9fc00000)
 
 
 def is_return(word):
@@ -139,7 +139,7 @@ def is_unimplemented(word):
 
 
 class Shown:
-    """The routines, blocks, edges and switches of the program of a file, with names from a file of `nm` where one is named."""
+    """The routines, blocks, edges and switches of the program of a file, with the names of a file of `nm`, if any."""
 
     def __init__(self, name, names=None):
         self.name, self.file, self.merged = name, read_file(name), set()
@@ -154,10 +154,12 @@ class Shown:
         self.take_names(self.named(names) if names else [])
 
     def read(self, printed):
-        lines = [line.split() for line in printed]
-        rows = {kind: [words[1:] for words in lines if words[0] == kind] for kind in ('routine', 'block', 'edge', 'switch')}
+        rows = defaultdict(list)
+        for kind, *words in map(str.split, printed):
+            rows[kind].append(words)
         names = demangled(row[1] for row in rows['routine'])
-        self.routines = {int(row[0], 16): f'at {row[0]}' if own == '-' else own for row, own in zip(rows['routine'], names)}
+        self.routines = {int(row[0], 16): f'at {row[0]}' if own == '-' else own
+                         for row, own in zip(rows['routine'], names)}
         self.blocks = {int(row[1], 16): Block(int(row[1], 16), int(row[2])) for row in rows['block']}
         self.edges = [Edge(*row) for row in rows['edge']]
         self.switches = {int(row[0], 16): (int(row[1], 16), int(row[2])) for row in rows['switch']}
@@ -226,7 +228,8 @@ class Shown:
 
     def is_behind_call(self, address):
         """Whether control comes back to an address from a call before it, behind an UNIMP perhaps."""
-        return is_call(self.word(address - 8)) or is_unimplemented(self.word(address - 4)) and is_call(self.word(address - 12))
+        return is_call(self.word(address - 8)) \
+            or is_unimplemented(self.word(address - 4)) and is_call(self.word(address - 12))
 
     def block_of(self, address):
         """The block that holds a word of the text, or None."""
@@ -269,11 +272,13 @@ class Shown:
         yield from filter(None, (self.word(table + 4 * number) for number in range(count)))
 
     def code(self, run=None):
-        """The blocks that hold code: those in sections of instructions, those to which the entry, routines and a run lead,
-        and those to which they do. What is run as a delay slot alone isn't among them."""
+        """The blocks that hold code: those in sections of instructions, those to which the entry, routines and a run
+        lead, and those to which they do. What is run as a delay slot alone isn't among them."""
         sections, slots = list(self.elf.code()), {edge.slot for edge in self.edges}
-        waiting = [self.entry, *self.routines, *(first for first, times in (run.blocks if run else {}).items() if times)]
-        waiting += [first for first in self.firsts if first not in slots and any(first in section for section in sections)]
+        waiting = [self.entry, *self.routines]
+        waiting += [first for first, times in (run.blocks if run else {}).items() if times]
+        waiting += [first for first in self.firsts
+                    if first not in slots and any(first in section for section in sections)]
         found = set()
         while waiting:
             block = self.block_of(waiting.pop())
@@ -376,7 +381,9 @@ class Executions:
         self.edges = counts
         self.blocks = {block.first: sum(self.edge(edge) for edge in block.into) for block in shown.blocks.values()}
         self.blocks[shown.block_of(shown.entry).first] += 1
-        self.words = {address: self.blocks[block.first] for block in shown.blocks.values() for address in block.addresses()}
+        self.words = {}
+        for block in shown.blocks.values():
+            self.words.update(dict.fromkeys(block.addresses(), self.blocks[block.first]))
         for edge in shown.edges:
             if edge.slot is not None:
                 self.words[edge.slot] += self.edge(edge)
@@ -396,7 +403,8 @@ class Visits:
     often edges were completed is worked out from it, and isn't known of all."""
 
     def __init__(self, shown, visits):
-        self.words = {address: visits.get(address, 0) for block in shown.blocks.values() for address in block.addresses()}
+        self.words = {address: visits.get(address, 0)
+                      for block in shown.blocks.values() for address in block.addresses()}
         self.blocks = {first: self.words[first] for first in shown.blocks}
         for first in filter(lambda first: is_unimplemented(shown.word(first)), shown.blocks):
             self.blocks[first] = self.words.get(first + 4, 0)
@@ -415,7 +423,8 @@ class Visits:
                 slots[edge.slot].add(edge.way())
         for block in shown.blocks.values():
             into = {edge.way() for edge in block.into if edge.kind != 'land'}
-            if block.first in shown.routines or shown.is_behind_call(block.first) or not into and block.first not in slots:
+            is_label = not into and block.first not in slots  # of a switch, perhaps
+            if block.first in shown.routines or shown.is_behind_call(block.first) or is_label:
                 into.add(('land', None, block.first))
             out = {edge.way() for edge in block.out}
             if block.first in slots:  # a block of one word, at which control arrives seldom but to run it as a slot

@@ -2,8 +2,8 @@
 """Prints how often a run reached each line of a program's sources.
 
 The program must be the original that was edited, with debug information (gcc -g or clang -g). Lines are printed as gcov
-prints them: `count: line: text`, `#####` where never, and `-` where there is no code. A program without line tables gets
-its functions alone. By visits, calls and branches are worked out from how often instructions ran.
+prints them: `count: line: text`, `#####` where never, and `-` where there is no code. A program without line tables
+gets its functions alone. By visits, calls and branches are worked out from how often instructions ran.
 """
 import argparse
 import os
@@ -40,8 +40,8 @@ class SourceCounts:
         block = self.shown.blocks.get(address)
         if block is None:
             return self.times(address)
-        outer = [edge for edge in block.into if edge.source is None or self.shown.blocks[edge.source].last() not in words]
-        return sum(map(self.run.edge, outer))
+        return sum(self.run.edge(edge) for edge in block.into
+                   if edge.source is None or self.shown.blocks[edge.source].last() not in words)
 
     def calls(self, function):
         copies = sum(self.entries(address, words) for address, words in function.copies)
@@ -74,7 +74,8 @@ class SourceCounts:
 
     def called(self):
         """The functions of the debug information, and the routines that it doesn't know."""
-        functions = [Called(function.name, function.line, self.calls(function)) for function in self.debug.functions.values()]
+        functions = [Called(function.name, function.line, self.calls(function))
+                     for function in self.debug.functions.values()]
         known = {start for function in self.debug.functions.values() for start in function.starts}
         code = self.shown.code()
         return functions + [Called(self.shown.name_of(start), self.debug.line_at.get(start), self.costs.calls_of(start))
@@ -174,7 +175,7 @@ def lcov_lines(counts):
 
 
 class Callgrind:
-    """A profile as `callgrind` writes it: the instructions that ran, in the functions that hold them, and their calls."""
+    """A profile as `callgrind` writes it: the instructions that ran, by their functions, and their calls."""
 
     def __init__(self, counts):
         self.counts, self.shown, self.debug, self.costs = counts, counts.shown, counts.debug, counts.costs
