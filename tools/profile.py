@@ -56,7 +56,8 @@ class Report:
     def loop_place(self, loop):
         line = self.debug.line_at.get(loop.head)
         source = f', {os.path.basename(line.path)}:{line.number}' if line else ''
-        return f'{self.shown.name_of(loop.routine)} at {loop.head:08x}{source}'
+        place = f'at {loop.head:08x}{source}' if loop.head >= 0 else 'from label to label, by jumps through registers'
+        return f'{self.shown.name_of(loop.routine)} {place}'
 
     def loops(self):
         found = [loop for loop in loops(self.shown, self.run) if loop.own][:LOOPS]

@@ -272,10 +272,10 @@ class Shown:
         yield from filter(None, (self.word(table + 4 * number) for number in range(count)))
 
     def code(self, run=None):
-        """The blocks that hold code: those in sections of instructions, those to which the entry, routines and a run
-        lead, and those to which they do. What is run as a delay slot alone isn't among them."""
-        sections, slots = list(self.elf.code()), {edge.slot for edge in self.edges}
-        waiting = [self.entry, *self.routines]
+        """The blocks that hold code: those in sections of instructions, or without sections the routines; those to which
+        the entry and a run lead; and those to which they do. What is run as a delay slot alone isn't among them."""
+        sections, slots = self.elf.code(), {edge.slot for edge in self.edges}
+        waiting = [self.entry] + ([] if sections else self.starts)
         waiting += [first for first, times in (run.blocks if run else {}).items() if times]
         waiting += [first for first in self.firsts
                     if first not in slots and any(first in section for section in sections)]
