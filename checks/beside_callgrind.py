@@ -15,6 +15,7 @@ from collections import Counter
 
 from beside_gcov import COMPILERS, DATA, LINK, SOURCES, TOP, call, given_to, source
 
+ELSEWHERE = {'system_call', 'memcpy', 'memmove'}  # which native.c and this machine's C library have
 PROGRAMS = ['calculator', 'dispatch', 'fractions', 'interpreter', 'queens', 'samples', 'word_count']
 PROFILE = os.path.join(TOP, 'tools', 'profile.py')
 
@@ -64,7 +65,7 @@ def functions(tracefile):
 def beside_native(program, compiler, wanted, folder):
     """At -O0 all functions of the source have the calls of the native build."""
     had = functions(profiled(built(program, compiler, '-O0', folder), program, '--lcov'))
-    names = sorted(had.keys() & wanted.keys() - {'system_call'})
+    names = sorted(had.keys() & wanted.keys() - ELSEWHERE)
     for name in names:
         if had[name] != wanted[name]:
             print(f'    {name}: {had[name]}, callgrind {wanted[name]}')
