@@ -13,7 +13,8 @@ import sys
 import tempfile
 from collections import Counter
 
-from beside_gcov import COMPILERS, DATA, LINK, SOURCES, TOP, call, given_to, source
+from beside_gcov import COMPILERS, LINK, SOURCES, call, given_to, source
+from called import EEL, TOP, built, needs
 
 ELSEWHERE = {'system_call', 'memcpy', 'memmove'}  # which native.c and this machine's C library have
 PROGRAMS = ['calculator', 'dispatch', 'fractions', 'interpreter', 'queens', 'samples', 'word_count']
@@ -97,6 +98,8 @@ def main():
     words = parser.parse_args()
     if set(words.programs) - set(PROGRAMS):
         parser.error(f'the programs are {", ".join(PROGRAMS)}')
+    built(EEL)
+    needs('sparc64-linux-gnu-gcc', 'clang', 'gcc', 'valgrind')
     agree = compared = faults = 0
     with tempfile.TemporaryDirectory() as folder:
         for program in words.programs or PROGRAMS:
