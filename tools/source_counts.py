@@ -129,14 +129,14 @@ def function_lines(counts):
 
 
 def branches(counts):
-    """The branches with a condition, by line: how often each was taken, and how often not."""
+    """The branches with a condition, by line: how often each was taken, and how often not, where that is known."""
     found = defaultdict(list)
     for block in counts.shown.blocks.values():
         line = counts.debug.line_at.get(block.last())
         ways = Counter()
         for edge in block.out:
             ways[edge.kind] += counts.run.edge(edge)
-        if line and {'taken', 'untaken'} <= ways.keys():
+        if line and {'taken', 'untaken'} <= ways.keys() and all(map(counts.run.is_known, block.out)):
             found[line].append((ways['taken'], ways['untaken']))
     return found
 
