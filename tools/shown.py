@@ -136,6 +136,11 @@ def is_save(word):
     return word is not None and word >> 30 == 2 and word >> 19 & 63 == 0x3c
 
 
+def is_trap(word):
+    """Whether a word is a `ta`."""
+    return word is not None and word & 0xfff80000 == 0x91d00000
+
+
 def is_unimplemented(word):
     """Whether a word is an UNIMP, as stands behind calls that return structs."""
     return word is not None and word >> 30 == 0 and word >> 22 & 7 == 0
@@ -383,8 +388,8 @@ def trace_of(shown, name):
 class Executions:
     """How often a run went into each block, and executed the word at each address, those in delay slots too.
 
-    A landing in the midst of a block, and the block in which the run ended, count for all words of the block, but for
-    those that no run goes on from.
+    A landing in the midst of a block counts for all words of the block, but for those that no run goes on from. So does
+    the block in which the run ended, unless that has a `ta`: there it exited.
     """
 
     def __init__(self, shown, counts):
@@ -398,9 +403,18 @@ class Executions:
         for edge in shown.edges:
             if edge.slot is not None:
                 self.words[edge.slot] += self.edge(edge)
+        for block in filter(lambda block: self.blocks[block.first], shown.blocks.values()):
+            self.end_in(shown, block)
         executed = [address for address, times in self.words.items() if times]
         self.words.update((address, 0) for address in executed if is_unimplemented(shown.word(address)))
         self.total = sum(self.words.values())
+
+    def end_in(self, shown, block):
+        """What stands behind the `ta` of a block that wasn't left didn't run."""
+        ended = self.blocks[block.first] - sum(map(self.edge, block.out))
+        exits = [address for address in block.addresses() if is_trap(shown.word(address))] if ended > 0 else []
+        for address in range(exits[-1] + 4, block.last() + 4, 4) if exits else ():
+            self.words[address] -= ended
 
     def edge(self, edge):
         return self.edges.get(edge.number, 0)
