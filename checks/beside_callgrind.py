@@ -21,7 +21,7 @@ PROGRAMS = ['calculator', 'dispatch', 'fractions', 'interpreter', 'queens', 'sam
 PROFILE = os.path.join(TOP, 'tools', 'profile.py')
 
 
-def built(program, compiler, level, folder):
+def compiled(program, compiler, level, folder):
     name = os.path.join(folder, f'{program}.{compiler}{level}')
     call(*COMPILERS[compiler], level, '-c', source(program), '-o', f'{name}.o')
     call(*LINK, os.path.join(SOURCES, 'start.S'), f'{name}.o', '-o', name)
@@ -65,7 +65,7 @@ def functions(tracefile):
 
 def beside_native(program, compiler, wanted, folder):
     """At -O0 all functions of the source have the calls of the native build."""
-    had = functions(profiled(built(program, compiler, '-O0', folder), program, '--lcov'))
+    had = functions(profiled(compiled(program, compiler, '-O0', folder), program, '--lcov'))
     names = sorted(had.keys() & wanted.keys() - ELSEWHERE)
     for name in names:
         if had[name] != wanted[name]:
@@ -77,7 +77,7 @@ def beside_native(program, compiler, wanted, folder):
 
 def beside_itself(program, compiler, level, folder):
     """The file for callgrind: calls are no more than the tracefile has, and each function is listed once."""
-    name = built(program, compiler, level, folder)
+    name = compiled(program, compiler, level, folder)
     text, had = profiled(name, program, '--callgrind'), functions(profiled(name, program, '--lcov'))
     calls, out = calls_in(text), f'{name}.out'
     with open(out, 'w') as opened:
