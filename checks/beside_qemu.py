@@ -1,7 +1,7 @@
 #!/usr/bin/env python3
 """Runs random programs by ./eel and by qemu-sparc, and says for which the two differ.
 
-    examples/beside_qemu.py [--edited] COUNT [FIRST]
+    checks/beside_qemu.py [--edited] COUNT [FIRST]
 
 Each program fills its registers, carries out some sixty random instructions (arithmetic, branches with and without
 annulled slots, CALLs, loads and stores, windows up to a dozen deep), and puts out all registers of the current

@@ -2,7 +2,7 @@
 """Prints how many steps programs take, and their files that are edited without snippets and with counters, and how many
 counters there are and spill a register, in all and by sorts of edges.
 
-    examples/steps.py [--eel PROGRAM] FILE..
+    checks/steps.py [--eel PROGRAM] FILE..
 
 A file FILE.input beside FILE is its input. Steps are the least limit with which `eel run` ends.
 """

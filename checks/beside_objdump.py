@@ -1,7 +1,7 @@
 #!/usr/bin/env python3
 """Compares `eel list` of each file with `objdump -d` of the binutils for SPARC, word by word, and says where they differ.
 
-    examples/beside_objdump.py FILE ..
+    checks/beside_objdump.py FILE ..
 
 Both say the same of a word in other spellings. `eel list` has one name for each instruction; objdump has names of its own for
 some with certain operands, writes sums and registers otherwise, and names no stack and frame pointers by number. `spelled`

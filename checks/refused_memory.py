@@ -2,7 +2,7 @@
 """Refuses memory to ./eel, one growth at a time, in a call of each command: what comes of it must be status 70, its line and
 no file changed, or the whole answer.
 
-    examples/refused_memory.py [PROGRAM [NAME]]
+    checks/refused_memory.py [PROGRAM [NAME]]
 
 PROGRAM is the built program, and NAME that of the small program whose file is edited: `carry_loop` unless said otherwise,
 and called so in any case. A library that stands before the C library's refuses the Nth request for memory and counts them;

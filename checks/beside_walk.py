@@ -2,7 +2,7 @@
 """Compares what `./eel counts`, `visits` and `trace` tell of whole runs with the walks of plain_count.py, which shares nothing
 with the proved program.
 
-    examples/beside_walk.py [--eel PROGRAM] FILE..
+    checks/beside_walk.py [--eel PROGRAM] FILE..
 
 A file FILE.input beside FILE is its input. Prints a line for each answer that differs, and how many were compared.
 """

@@ -1,7 +1,7 @@
 #!/usr/bin/env python3
 """Runs a program and prints how often its run completes each edge of its flow graph, made apart from the proved program.
 
-    examples/plain_count.py FILE [--visits | --trace K] [-n LIMIT] [-- ARG..]
+    checks/plain_count.py FILE [--visits | --trace K] [-n LIMIT] [-- ARG..]
 
 The run takes the standard input, and at most LIMIT steps: 100000000 unless said otherwise. Lines are those of
 `eel counts`: `edge N KIND FROM TO COUNT` for each edge that was completed, and how many edges there are, how many of

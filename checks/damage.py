@@ -3,7 +3,7 @@
 program_runs do every command on each. What must come of each is told by judge.py: the status, the line, and that no file
 has changed after a refusal.
 
-    examples/damage.py [COUNT [FIRST [PROGRAM]]]
+    checks/damage.py [COUNT [FIRST [PROGRAM]]]
 
 COUNT is how many files are damaged: 10000 unless said otherwise. Input N is the same in each run. PROGRAM is the built
 program_runs, in crates/program_runs/out unless said otherwise. Prints a line for each answer that differs, how often each

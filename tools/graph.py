@@ -1,5 +1,5 @@
 #!/usr/bin/env python3
-"""Draws the flow graph of a program, for Graphviz: examples/graph.py FILE | dot -Tsvg > graph.svg
+"""Draws the flow graph of a program, for Graphviz: tools/graph.py FILE | dot -Tsvg > graph.svg
 
 Each routine is a cluster of its blocks. Landings aren't drawn, but for those that were completed, and edges out of the
 program lead to `x`. A block and its landed copy are drawn as one. With COUNTS each edge has its count, where a block has

@@ -3,9 +3,9 @@
 stop with the walk of the original's run up to the last instruction that was visited. Both runs are those of
 plain_count.py, which shares nothing with the proved program.
 
-    examples/stops.py [NAME ..]             programs of crates/program_runs: all of them unless some are named
-    examples/stops.py --random COUNT [FIRST]  random programs, each the same in each run
-    examples/stops.py --switches COUNT [FIRST]  random programs with switches
+    checks/stops.py [NAME ..]             programs of crates/program_runs: all of them unless some are named
+    checks/stops.py --random COUNT [FIRST]  random programs, each the same in each run
+    checks/stops.py --switches COUNT [FIRST]  random programs with switches
 
 With --visits before these, edits with `every` are stopped, and told by `./eel visits`; with --trace K edits with `trace K`,
 told by `./eel trace`. Prints a line for each program: how many stops there were, how many of them at visits, how many had counts, and how many

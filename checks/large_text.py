@@ -1,7 +1,7 @@
 #!/usr/bin/env python3
 """Writes a program with a large text, by which edits are measured: it is made to be edited, not to do anything.
 
-    examples/large_text.py random|branches WORDS FILE
+    checks/large_text.py random|branches WORDS FILE
 
 `random` is code of all kinds: a seventh of its words are branches, nine of ten of these to within 1,000 words and the
 others to anywhere; a twentieth are CALLs to anywhere, a fortieth JMPLs, and the rest sums, loads and stores. Of

@@ -2,7 +2,7 @@
 """Runs the programs of programs.py by ./eel, each beside its edited file, and then random programs. Each edited file
 must have just the bytes that written.py makes, and its original again where it is restored.
 
-    examples/compare.py [--switches] [COUNT [FIRST]]
+    checks/compare.py [--switches] [COUNT [FIRST]]
 
 COUNT is how many random programs there are: 300 unless said otherwise. With --switches, they are those with switches.
 Random program number N is the same in each run. Prints a line for each answer that differs. Where a program comes to a page
