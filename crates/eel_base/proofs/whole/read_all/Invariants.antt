@@ -1,6 +1,6 @@
 use Rattle.std.proofs.Common.{◌≡◌, ◌+◌, ◌-◌, ◌≤◌, vec_len}
 use Rattle.eel_base.specs.Outside.{preceded}
-use Rattle.eel_base.proofs.whole.read_onto.Given as goal
+use Rattle.eel_base.proofs.whole.read_all.Given as goal
 
 abbrev pub invariant-loop-chunk : goal.invariant-loop-chunk
 invariant-loop-chunk g l = record {

@@ -1,7 +1,7 @@
 use Rattle.std.proofs.Common.{◌+◌, length-take, arith}
 use Rattle.std.proofs.lemmas.Result.{err_from_is_err_and}
 use Rattle.eel_base.proofs.Parts.{gave-after, gave-all}
-use Rattle.eel_base.proofs.whole.read_onto.Goals as goal
+use Rattle.eel_base.proofs.whole.read_all.Goals as goal
 
 pub returns-in_err-read_more-clause-some : goal.returns-in_err-read_more-clause-some
 returns-in_err-read_more-clause-some g c =
