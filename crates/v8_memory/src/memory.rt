@@ -64,6 +64,8 @@ impl Records {
 pub struct Memory {
     heap: Region,
     regions: Vec<Region>,
+    /// For the high half of each address which region is asked first.
+    hints: Vec<u8>,
     /// So that words needn't be decoded each time they are run.
     records: Records,
     /// For each block of words whether its records were made.
@@ -95,12 +97,14 @@ impl Memory {
     {
         let heap = Region::heap(alloc)?;
         let regions = planned(alloc, plans)?;
+        let hints = hints_of(alloc, &regions)?;
         let (first, count) = first_code(&regions);
         let ops = unmade(alloc, count)?;
         let made = unmade_blocks(alloc, count)?;
         Ok(Memory {
             heap,
             regions,
+            hints,
             records: Records { first, ops },
             made,
         })
@@ -284,9 +288,42 @@ impl Memory {
         }
     }
 
-    /// The region that has all these bytes. The heap is asked last.
-    #[inline]
+    /// The place of the region that is asked first for an address, if it has all these bytes.
+    #[inline(always)]
+    fn hinted(&self, address: u32, count: u64) -> Option<usize>
+        requires { 0 < count }
+        ensures { MatchOption result (Unit {0}) (λ index. (index < length self.now.regions) × ((d : Region) → IsTrue (covers address count (get_or self.now.regions index d)))) }
+    {
+        let index = usize::from(*self.hints.get((address >> 16) as usize)?);
+        let region = self.regions.get(index)?;
+        if region.covers(address, count) {
+            Some(index)
+        } else {
+            None
+        }
+    }
+
+    /// The region that has all these bytes.
+    #[inline(always)]
     fn region(&self, address: u32, count: u64) -> Option<&Region>
+        requires { 0 < count }
+        ensures { MatchOption result (region_at self.now address count ≡ None) (λ region. (region_at self.now address count ≡ Some region.now) × IsTrue (covers address count region.now)) }
+    {
+        match self.hinted(address, count) {
+            Some(index) => Some(&self.regions[index]),
+            None => {
+                if self.heap.covers(address, count) {
+                    Some(&self.heap)
+                } else {
+                    self.searched(address, count)
+                }
+            }
+        }
+    }
+
+    /// The region that has all these bytes. The heap is asked last.
+    #[inline(never)]
+    fn searched(&self, address: u32, count: u64) -> Option<&Region>
         requires { 0 < count }
         ensures { MatchOption result (region_at self.now address count ≡ None) (λ region. (region_at self.now address count ≡ Some region.now) × IsTrue (covers address count region.now)) }
     {
@@ -324,6 +361,24 @@ impl Memory {
     /// Writes the bytes, where one region has them all and may be written.
     #[inline(always)]
     fn write(&mut self, address: u32, bytes: &[u8]) -> bool
+        requires { 0 < length bytes.now }
+        ensures { Fills (with_bytes self.old address bytes.now) self.old self.new result }
+    {
+        match self.hinted(address, bytes.len() as u64) {
+            Some(index) => self.regions[index].write(address, bytes),
+            None => {
+                if self.heap.covers(address, bytes.len() as u64) {
+                    self.heap.write(address, bytes)
+                } else {
+                    self.write_searched(address, bytes)
+                }
+            }
+        }
+    }
+
+    /// The same, where all regions are asked, and the heap last.
+    #[inline(never)]
+    fn write_searched(&mut self, address: u32, bytes: &[u8]) -> bool
         requires { 0 < length bytes.now }
         ensures { Fills (with_bytes self.old address bytes.now) self.old self.new result }
     {
@@ -371,6 +426,39 @@ fn planned(alloc: Global, plans: &[RegionPlan]) -> Result<Vec<Region>, NoMemory>
         regions.push(Region::planned(alloc, plan)?)?;
     }
     Ok(regions)
+}
+
+/// For the high half of each address a region that has some of its bytes, one that may be written before others.
+fn hints_of(alloc: Global, regions: &[Region]) -> Result<Vec<u8>, NoMemory> {
+    let mut hints = no_hints(alloc, 1 << 16)?;
+    for (region, index) in regions.iter().zip(0..=u8::MAX) {
+        if !region.is_writable() {
+            hint_at(&mut hints, region, index);
+        }
+    }
+    for (region, index) in regions.iter().zip(0..=u8::MAX) {
+        if region.is_writable() {
+            hint_at(&mut hints, region, index);
+        }
+    }
+    Ok(hints)
+}
+
+/// Hints to the first region.
+fn no_hints(alloc: Global, count: usize) -> Result<Vec<u8>, NoMemory> {
+    let hints = vec![in alloc; 0; count]?;
+    Ok(hints)
+}
+
+/// Hints to this region at all of its addresses.
+fn hint_at(hints: &mut [u8], region: &Region, index: u8) {
+    let from = u64::from(region.start() >> 16);
+    let to = region.end() >> 16;
+    for high in from..=to {
+        if let Some(hint) = hints.get_mut(high as usize) {
+            *hint = index;
+        }
+    }
 }
 
 /// Where the first region begins whose words may be executed, and how many of them are to have records.
