@@ -3,8 +3,8 @@ use Rattle.cfg_view.specs.View.{view_seen}
 use Rattle.weights_in.specs.Parts.{Edge, IsNext, Last, entry_in, said_in}
 use Rattle.weights_in.proofs.Lines.{no_next}
 use Rattle.weights_in.proofs.Read.{Answers, bad_entry, ended, fault_out, more, most_out, next_said, shorter, stray}
-use Rattle.weights_in.proofs.reading.read_weights.Goals as goal
-use Rattle.weights_in.proofs.reading.read_weights.Goals.{After-finish}
+use Rattle.weights_in.proofs.reading.read_lines.Goals as goal
+use Rattle.weights_in.proofs.reading.read_lines.Goals.{After-finish}
 
 -- the line of an edge comes next
 pub loop-line-smaller : goal.loop-line-smaller
@@ -26,7 +26,7 @@ returns-in_err-take-in-Edge-clause-refused c =
     let refused = c.in_err-take-in-Edge.ensures in
     let why =
     bad_entry _ _ _ _ c.loop-line.invariant (c.loop-line.reading.lines + 1) _ _ line.0 line.1 refused.bad refl in
-    fault_out _ _ _ _ c.from_residual-in_err-take-in-Edge.ensures.1 (rw refused.fault why)
+    fault_out _ _ _ _ c.from_residual.ensures.1 (rw refused.fault why)
 
 -- the last line comes next
 answers : (c : After-finish) → Answers (view_seen c.args.v.now) c.args.bytes.now c.finish.result

@@ -1,7 +1,7 @@
 use Rattle.std.proofs.Common.{length}
 use Rattle.cfg_view.specs.View.{view_seen}
 use Rattle.weights_in.proofs.Read.{IsRead}
-use Rattle.weights_in.proofs.reading.read_weights.Given as goal
+use Rattle.weights_in.proofs.reading.read_lines.Given as goal
 
 abbrev pub invariant-loop-line : goal.invariant-loop-line
 invariant-loop-line l = IsRead (view_seen l.v) l.bytes l.reading l.rest
