@@ -42,7 +42,7 @@ pub push_block-requires-clause-above : goal.push_block-requires-clause-above
 push_block-requires-clause-above c =
     let text = c.args.self.now.text.now in
     let graph = c.args.self.now.graph.now in
-    let blocks = c.args.self.now.graph.now.blocks in
+    let blocks = graph.blocks in
     let o = c.args.found.now in
     let case = case_at text graph c.requires.source c.args.number o c.requires.found in
     let h = load_within text blocks o case in
@@ -55,7 +55,7 @@ pub push_block-requires-clause-below : goal.push_block-requires-clause-below
 push_block-requires-clause-below c =
     let text = c.args.self.now.text.now in
     let graph = c.args.self.now.graph.now in
-    let blocks = c.args.self.now.graph.now.blocks in
+    let blocks = graph.blocks in
     let o = c.args.found.now in
     let case = case_at text graph c.requires.source c.args.number o c.requires.found in
     let h = load_within text blocks o case in
