@@ -11,6 +11,7 @@ import sys
 
 TOP = os.path.normpath(os.path.join(os.path.dirname(os.path.abspath(__file__)), '..'))
 DOCUMENTS = ['README.md'] + sorted('docs/' + name for name in os.listdir(os.path.join(TOP, 'docs')) if name.endswith('.md'))
+KIT = {'Fn', 'Proof'}  # names of the language, and of what the prover reads
 PARTS = ('src/', 'specs/', 'proofs/', 'must-fail/')  # folders of every crate
 SOURCES = ('.rt', '.antt', '.py', '.sh', '.c', '.S', '.edit', '.dot')
 SPAN, LINK, NAME = re.compile(r'`([^`\n]+)`'), re.compile(r'\]\(([^)\s]+)\)'), re.compile(r'[A-Za-z_][A-Za-z0-9_]*(?:::[A-Za-z0-9_]+)*')
@@ -27,7 +28,7 @@ def sources():
 
 def known_words():
     """All words of the sources, and the names of files and folders."""
-    words = set()
+    words = set(KIT)
     for path in sources():
         words.update(re.split(r'[/.]', os.path.relpath(path, TOP)), [os.path.basename(path)])
         if path.endswith(SOURCES) or os.path.basename(path) in ('eel', 'crates.txt'):
@@ -64,7 +65,8 @@ def is_example(path):
 
 
 def without_code(text):
-    """The text with its indented and fenced parts left out, line for line."""
+    """The text with its comments and its indented and fenced parts left out, line for line."""
+    text = re.sub(r'<!--.*?-->', lambda comment: '\n' * comment[0].count('\n'), text, flags=re.S)
     fenced, before, kept = False, '', []
     for line in text.split('\n'):
         fenced ^= line.startswith('```')
