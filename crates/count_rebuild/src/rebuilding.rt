@@ -7,7 +7,7 @@ ghost use Rattle.count_rebuild.specs.Answers.{AreCounts, IsRefused};
 ghost use Rattle.count_rebuild.specs.Counts.{IsAlike, IsForThem, IsShort, IsTheirs, StandsAt};
 ghost use Rattle.count_rebuild.specs.Noted.{link_of, IsProfile};
 ghost use Rattle.count_rebuild.specs.declared.fault.CountFault.TheVariants as faults;
-ghost use Rattle.count_rebuild.specs.Parts.{AreWhole, IsBad, IsTreeOf, IsWhole};
+ghost use Rattle.count_rebuild.specs.Parts.{AreWhole, IsBad, IsSmall, IsTreeOf, IsWhole};
 
 use crate::CountFault;
 use crate::nodes::nodes;
@@ -177,6 +177,7 @@ fn small_numbers(alloc: Global, flow: &[i128]) -> Result<Vec<u64>, CountFault>
     requires len { length flow.now < 2 ^ 32 }
     requires whole { IsWhole flow.now }
     ensures counts { IfOk result (λ counts. counts.items ≡ map nat_abs flow.now) }
+    ensures small { IfOk result (λ _. IsSmall flow.now) }
     ensures refused { IfErr result (IsBad flow.now) }
 {
     let mut counts = Vec::with_capacity(alloc, flow.len())?;

@@ -73,6 +73,7 @@ instr_by c.St x = i.Store stores.ST x.rd x.rs1 (operand_in x.rs2 x.imm)
 instr_by c.Stb x = i.Store stores.STB x.rd x.rs1 (operand_in x.rs2 x.imm)
 instr_by c.Sth x = i.Store stores.STH x.rd x.rs1 (operand_in x.rs2 x.imm)
 instr_by c.Std x = i.Store stores.STD (2 * (x.rd % 16)) x.rs1 (operand_in x.rs2 x.imm)
+instr_by c.Swap x = i.Swap x.rd x.rs1 (operand_in x.rs2 x.imm)
 instr_by c.Jmpl x = i.Jmpl x.rd x.rs1 (operand_in x.rs2 x.imm)
 instr_by c.Save x = i.Save x.rd x.rs1 (operand_in x.rs2 x.imm)
 instr_by c.Restore x = i.Restore x.rd x.rs1 (operand_in x.rs2 x.imm)
@@ -100,6 +101,7 @@ plain (i.Save rd rs1 op2) = i.Save rd rs1 (plain_operand op2)
 plain (i.Restore rd rs1 op2) = i.Restore rd rs1 (plain_operand op2)
 plain (i.Load kind rd rs1 op2) = i.Load kind rd rs1 (plain_operand op2)
 plain (i.Store kind rd rs1 op2) = i.Store kind rd rs1 (plain_operand op2)
+plain (i.Swap rd rs1 op2) = i.Swap rd rs1 (plain_operand op2)
 plain x = x
 
 -- the immediate stands beside %g0, and a register beside 0, so that the operand is their sum

@@ -59,6 +59,7 @@ pub enum OpCode {
     Stb,
     Sth,
     Std,
+    Swap,
     Jmpl,
     Save,
     Restore,
@@ -106,6 +107,7 @@ pub fn op_of(instr: Instr) -> Op
         Instr::WriteY { rs1, op2 } => with_operand(OpCode::WriteY, register(0), rs1, op2),
         Instr::Load { kind, rd, rs1, op2 } => load_op(kind, rd, rs1, op2),
         Instr::Store { kind, rd, rs1, op2 } => store_op(kind, rd, rs1, op2),
+        Instr::Swap { rd, rs1, op2 } => with_operand(OpCode::Swap, rd, rs1, op2),
         _ => no_op(),
     }
 }

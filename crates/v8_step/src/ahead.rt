@@ -110,6 +110,7 @@ impl Machine {
             OpCode::Stb => self.store_turn(StoreKind::STB, op.rd, op, here),
             OpCode::Sth => self.store_turn(StoreKind::STH, op.rd, op, here),
             OpCode::Std => self.store_turn(StoreKind::STD, pair(op.rd), op, here),
+            OpCode::Swap => self.swap_turn(op, here),
             OpCode::Jmpl => self.jump_turn(op, here),
             OpCode::Save => self.save_turn(op, here),
             OpCode::Restore => self.restore_turn(op, here),
@@ -254,6 +255,21 @@ impl Machine {
         ensures going { self.new.ending ≡ self.old.ending }
     {
         if self.store_in_order(kind, rd, self.op_sum(op)) {
+            Turn::On
+        } else {
+            Turn::Stop
+        }
+    }
+
+    #[inline(always)]
+    #[tactic(auto, using(crate::proofs::InOrder::goes_on), unfolding(crate::specs::Step::act))]
+    fn swap_turn(&mut self, op: &Op, here: Here) -> Turn
+        requires sum { IsSum op.now.rs2 op.now.imm }
+        ensures state { HasTurned result here.first here.cur here.next self.old (instrs.Swap op.now.rd op.now.rs1 (operand_in op.now.rs2 op.now.imm)) self.new }
+        ensures within { IsWithin result here.len here.next here.left }
+        ensures going { self.new.ending ≡ self.old.ending }
+    {
+        if self.swap_in_order(op.rd, self.op_sum(op)) {
             Turn::On
         } else {
             Turn::Stop

@@ -26,6 +26,7 @@ impl Machine {
         ensures run { IsQuietRun self.old result self.new }
         ensures few { result ≤ limit }
     {
+        self.memory.keep_around(Addr(self.pc));
         let records = self.memory.take_records();
         let most = limit.min(MOST_AT_ONCE);
         let steps = if records.ops.len() as u64 + 2 < most {
@@ -110,6 +111,10 @@ impl Machine {
             OpCode::Stb => self.store(StoreKind::STB, op.rd, self.op_sum(op)),
             OpCode::Sth => self.store(StoreKind::STH, op.rd, self.op_sum(op)),
             OpCode::Std => self.store(StoreKind::STD, pair(op.rd), self.op_sum(op)),
+            OpCode::Swap => {
+                self.swap(op.rd, self.op_sum(op));
+                self.is_going()
+            }
             OpCode::Jmpl => self.jump(op.rd, self.op_sum(op)),
             OpCode::Save => {
                 self.save(op.rd, self.op_sum(op));
