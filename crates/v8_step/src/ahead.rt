@@ -18,12 +18,16 @@ use v8_alu::{AluTrap, Codes, alu, difference_of};
 use v8_decode::{AluOp, Cond, LoadKind, Reg, StoreKind};
 use v8_memory::{Op, OpCode, op_in};
 
-/// What comes of a turn: the run goes on in order, or to a place after the next instruction, or at a place, or isn't made here.
+/// What comes of carrying out one record.
 #[derive(Clone, Copy, Drop)]
 pub enum Turn {
+    /// The next instruction in order.
     On,
+    /// The delay slot, and then the record at this place.
     To(u32),
+    /// The record at this place.
     At(u32),
+    /// Nothing was carried out: `step` has to do it.
     Stop,
 }
 
