@@ -28,23 +28,23 @@ pub enum Turn {
 }
 
 /// The place of an instruction and of the one after it among `len` records, of which the one of the word at `first` is
-/// the first; `left` is how many steps may still be made, and `next` more.
+/// the first; `spare` is how many steps may still be made, and `next` more, beside those that all records in order take.
 #[derive(Clone, Copy, Drop)]
 pub struct Here {
     pub first: u32,
     pub len: u32,
     pub cur: u32,
     pub next: u32,
-    pub left: u64,
+    pub spare: u64,
 }
 
 impl Here {
     /// Whether too few steps are left to go elsewhere, and on in order from there.
     #[inline(always)]
     fn is_near(&self) -> bool
-        ensures { result ≡ false → self.now.next + self.now.len + 2 ≤ self.now.left }
+        ensures { result ≡ false → self.now.next < self.now.spare }
     {
-        self.left < u64::from(self.next) + u64::from(self.len) + 2
+        self.spare <= u64::from(self.next)
     }
 }
 
@@ -55,7 +55,7 @@ impl Machine {
     fn turn(&mut self, op: &Op, here: Here) -> Turn
         requires sum { IsSum op.now.rs2 op.now.imm }
         ensures state { HasTurned result here.first here.cur here.next self.old (instr_of op.now) self.new }
-        ensures within { IsWithin result here.len here.next here.left }
+        ensures within { IsWithin result here.len here.next here.spare }
         ensures going { self.new.ending ≡ self.old.ending }
         ensures said { (result ≡ Turn.Stop) ⊎ IsTrue (is_record op.now.code) }
     {
@@ -129,7 +129,7 @@ impl Machine {
     #[tactic(auto, using(crate::proofs::InOrder::goes_on), unfolding(crate::specs::Step::act))]
     fn sethi_turn(&mut self, op: &Op, here: Here) -> Turn
         ensures state { HasTurned result here.first here.cur here.next self.old (instrs.Sethi op.now.rd (cast_unsigned w32 op.now.imm)) self.new }
-        ensures within { IsWithin result here.len here.next here.left }
+        ensures within { IsWithin result here.len here.next here.spare }
         ensures going { self.new.ending ≡ self.old.ending }
     {
         self.set(op.rd, op.imm.cast_unsigned().wrapping_mul(1024));
@@ -141,7 +141,7 @@ impl Machine {
     #[tactic(auto, using(crate::proofs::InOrder::goes_on), unfolding(crate::specs::Step::act))]
     fn read_y_turn(&mut self, op: &Op, here: Here) -> Turn
         ensures state { HasTurned result here.first here.cur here.next self.old (instrs.ReadY op.now.rd) self.new }
-        ensures within { IsWithin result here.len here.next here.left }
+        ensures within { IsWithin result here.len here.next here.spare }
         ensures going { self.new.ending ≡ self.old.ending }
     {
         self.set(op.rd, self.y);
@@ -154,7 +154,7 @@ impl Machine {
     fn write_y_turn(&mut self, op: &Op, here: Here) -> Turn
         requires sum { IsSum op.now.rs2 op.now.imm }
         ensures state { HasTurned result here.first here.cur here.next self.old (instrs.WriteY op.now.rs1 (operand_in op.now.rs2 op.now.imm)) self.new }
-        ensures within { IsWithin result here.len here.next here.left }
+        ensures within { IsWithin result here.len here.next here.spare }
         ensures going { self.new.ending ≡ self.old.ending }
     {
         self.y = self.reg(op.rs1) ^ self.op_operand(op);
@@ -168,7 +168,7 @@ impl Machine {
         requires form { IsTrue (has_form kind true) }
         requires sum { IsSum op.now.rs2 op.now.imm }
         ensures state { HasTurned result here.first here.cur here.next self.old (alu_in kind true op.now) self.new }
-        ensures within { IsWithin result here.len here.next here.left }
+        ensures within { IsWithin result here.len here.next here.spare }
         ensures going { self.new.ending ≡ self.old.ending }
     {
         if self.alu_in_order(kind, op) {
@@ -184,7 +184,7 @@ impl Machine {
         requires form { IsTrue (has_form kind false) }
         requires sum { IsSum op.now.rs2 op.now.imm }
         ensures state { HasTurned result here.first here.cur here.next self.old (alu_in kind false op.now) self.new }
-        ensures within { IsWithin result here.len here.next here.left }
+        ensures within { IsWithin result here.len here.next here.spare }
         ensures going { self.new.ending ≡ self.old.ending }
     {
         if self.plain_in_order(kind, op) {
@@ -200,7 +200,7 @@ impl Machine {
     fn compare_turn(&mut self, op: &Op, here: Here) -> Turn
         requires sum { IsSum op.now.rs2 op.now.imm }
         ensures state { HasTurned result here.first here.cur here.next self.old (alu_in AluOp.SUB true op.now) self.new }
-        ensures within { IsWithin result here.len here.next here.left }
+        ensures within { IsWithin result here.len here.next here.spare }
         ensures going { self.new.ending ≡ self.old.ending }
     {
         self.compare_in_order(op);
@@ -227,7 +227,7 @@ impl Machine {
         requires single { kind ≡ LoadKind.LDD → ⊥ }
         requires sum { IsSum op.now.rs2 op.now.imm }
         ensures state { HasTurned result here.first here.cur here.next self.old (instrs.Load kind op.now.rd op.now.rs1 (operand_in op.now.rs2 op.now.imm)) self.new }
-        ensures within { IsWithin result here.len here.next here.left }
+        ensures within { IsWithin result here.len here.next here.spare }
         ensures going { self.new.ending ≡ self.old.ending }
     {
         if self.load_in_order(kind, op.rd, self.op_sum(op)) {
@@ -242,7 +242,7 @@ impl Machine {
     fn load_pair_turn(&mut self, op: &Op, here: Here) -> Turn
         requires sum { IsSum op.now.rs2 op.now.imm }
         ensures state { HasTurned result here.first here.cur here.next self.old (instrs.Load LoadKind.LDD (2 * (op.now.rd % 16)) op.now.rs1 (operand_in op.now.rs2 op.now.imm)) self.new }
-        ensures within { IsWithin result here.len here.next here.left }
+        ensures within { IsWithin result here.len here.next here.spare }
         ensures going { self.new.ending ≡ self.old.ending }
     {
         if self.load_pair_in_order(pair(op.rd), self.op_sum(op)) {
@@ -258,7 +258,7 @@ impl Machine {
         requires pair { kind ≡ StoreKind.STD → rd % 2 ≡ 0 }
         requires sum { IsSum op.now.rs2 op.now.imm }
         ensures state { HasTurned result here.first here.cur here.next self.old (instrs.Store kind rd op.now.rs1 (operand_in op.now.rs2 op.now.imm)) self.new }
-        ensures within { IsWithin result here.len here.next here.left }
+        ensures within { IsWithin result here.len here.next here.spare }
         ensures going { self.new.ending ≡ self.old.ending }
     {
         if self.store_in_order(kind, rd, self.op_sum(op)) {
@@ -273,7 +273,7 @@ impl Machine {
     fn swap_turn(&mut self, op: &Op, here: Here) -> Turn
         requires sum { IsSum op.now.rs2 op.now.imm }
         ensures state { HasTurned result here.first here.cur here.next self.old (instrs.Swap op.now.rd op.now.rs1 (operand_in op.now.rs2 op.now.imm)) self.new }
-        ensures within { IsWithin result here.len here.next here.left }
+        ensures within { IsWithin result here.len here.next here.spare }
         ensures going { self.new.ending ≡ self.old.ending }
     {
         if self.swap_in_order(op.rd, self.op_sum(op)) {
@@ -288,7 +288,7 @@ impl Machine {
     fn save_turn(&mut self, op: &Op, here: Here) -> Turn
         requires sum { IsSum op.now.rs2 op.now.imm }
         ensures state { HasTurned result here.first here.cur here.next self.old (instrs.Save op.now.rd op.now.rs1 (operand_in op.now.rs2 op.now.imm)) self.new }
-        ensures within { IsWithin result here.len here.next here.left }
+        ensures within { IsWithin result here.len here.next here.spare }
         ensures going { self.new.ending ≡ self.old.ending }
     {
         if self.save_in_order(op.rd, self.op_sum(op)) {
@@ -303,7 +303,7 @@ impl Machine {
     fn restore_turn(&mut self, op: &Op, here: Here) -> Turn
         requires sum { IsSum op.now.rs2 op.now.imm }
         ensures state { HasTurned result here.first here.cur here.next self.old (instrs.Restore op.now.rd op.now.rs1 (operand_in op.now.rs2 op.now.imm)) self.new }
-        ensures within { IsWithin result here.len here.next here.left }
+        ensures within { IsWithin result here.len here.next here.spare }
         ensures going { self.new.ending ≡ self.old.ending }
     {
         if self.restore_in_order(op.rd, self.op_sum(op)) {
@@ -365,7 +365,7 @@ impl Machine {
     #[tactic(auto, using(crate::proofs::InOrder::target_place, crate::proofs::InOrder::next_address, crate::proofs::InOrder::after_annulled), unfolding(crate::specs::Step::act, crate::specs::Transfers::branch_step))]
     fn branch_turn(&mut self, cond: Cond, op: &Op, here: Here) -> Turn
         ensures state { HasTurned result here.first here.cur here.next self.old (instrs.Branch cond (op.now.rd == 1) op.now.imm) self.new }
-        ensures within { IsWithin result here.len here.next here.left }
+        ensures within { IsWithin result here.len here.next here.spare }
         ensures going { self.new.ending ≡ self.old.ending }
     {
         if self.slot != Slot::NoSlot {
@@ -399,7 +399,7 @@ impl Machine {
     #[tactic(auto, using(crate::proofs::InOrder::target_place), unfolding(crate::specs::Step::act, crate::specs::Transfers::call_step))]
     fn call_turn(&mut self, disp30: i32, here: Here) -> Turn
         ensures state { HasTurned result here.first here.cur here.next self.old (instrs.Call disp30) self.new }
-        ensures within { IsWithin result here.len here.next here.left }
+        ensures within { IsWithin result here.len here.next here.spare }
         ensures going { self.new.ending ≡ self.old.ending }
     {
         let place = here.cur.wrapping_add(disp30.cast_unsigned());
@@ -416,7 +416,7 @@ impl Machine {
     fn jump_turn(&mut self, op: &Op, here: Here) -> Turn
         requires sum { IsSum op.now.rs2 op.now.imm }
         ensures state { HasTurned result here.first here.cur here.next self.old (instrs.Jmpl op.now.rd op.now.rs1 (operand_in op.now.rs2 op.now.imm)) self.new }
-        ensures within { IsWithin result here.len here.next here.left }
+        ensures within { IsWithin result here.len here.next here.spare }
         ensures going { self.new.ending ≡ self.old.ending }
     {
         let target = self.op_sum(op);
@@ -487,7 +487,7 @@ pub(crate) fn go_far(ops: &[Op], first: u32, m: &mut Machine, limit: u64) -> u64
     }
     let mut cur = offset / 4;
     let mut next = after / 4;
-    let mut left = limit + u64::from(next);
+    let mut spare = limit + u64::from(next) - u64::from(len) - 1;
     'turns: loop {
         let op = op_in(ops, first, cur);
         let here = Here {
@@ -495,7 +495,7 @@ pub(crate) fn go_far(ops: &[Op], first: u32, m: &mut Machine, limit: u64) -> u64
             len,
             cur,
             next,
-            left,
+            spare,
         };
         match m.turn(op, here) {
             Turn::On => {
@@ -503,12 +503,12 @@ pub(crate) fn go_far(ops: &[Op], first: u32, m: &mut Machine, limit: u64) -> u64
                 next += 1;
             }
             Turn::To(place) => {
-                left = left - u64::from(next) - 1 + u64::from(place);
+                spare = spare - u64::from(next) - 1 + u64::from(place);
                 cur = next;
                 next = place;
             }
             Turn::At(place) => {
-                left = left - u64::from(next) + u64::from(place);
+                spare = spare - u64::from(next) + u64::from(place);
                 cur = place;
                 next = place + 1;
             }
@@ -517,5 +517,5 @@ pub(crate) fn go_far(ops: &[Op], first: u32, m: &mut Machine, limit: u64) -> u64
     }
     m.pc = address(first, cur);
     m.npc = address(first, next);
-    limit + u64::from(next) - left
+    limit + u64::from(next) - u64::from(len) - 1 - spare
 }
