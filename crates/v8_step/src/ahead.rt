@@ -14,7 +14,7 @@ ghost use Rattle.v8_step.specs.Turns.{IsQuietRun};
 use crate::Slot;
 use crate::machine::{Machine, register};
 use crate::turns::{condition, pair};
-use v8_alu::{AluTrap, Codes, alu, difference_of};
+use v8_alu::{AluTrap, Codes, alu, difference_of, logic_value};
 use v8_decode::{AluOp, Cond, LoadKind, Reg, StoreKind};
 use v8_memory::{Op, OpCode, op_in};
 
@@ -83,16 +83,16 @@ impl Machine {
             OpCode::Sub => self.plain_turn(AluOp::SUB, op, here),
             OpCode::SubCc => self.compare_turn(op, here),
             OpCode::And => self.plain_turn(AluOp::AND, op, here),
-            OpCode::AndCc => self.alu_turn(AluOp::AND, op, here),
+            OpCode::AndCc => self.logic_turn(AluOp::AND, op, here),
             OpCode::Or => self.plain_turn(AluOp::OR, op, here),
-            OpCode::OrCc => self.alu_turn(AluOp::OR, op, here),
+            OpCode::OrCc => self.logic_turn(AluOp::OR, op, here),
             OpCode::Xor => self.plain_turn(AluOp::XOR, op, here),
-            OpCode::XorCc => self.alu_turn(AluOp::XOR, op, here),
+            OpCode::XorCc => self.logic_turn(AluOp::XOR, op, here),
             OpCode::Andn => self.plain_turn(AluOp::ANDN, op, here),
-            OpCode::AndnCc => self.alu_turn(AluOp::ANDN, op, here),
+            OpCode::AndnCc => self.logic_turn(AluOp::ANDN, op, here),
             OpCode::Orn => self.plain_turn(AluOp::ORN, op, here),
             OpCode::Xnor => self.plain_turn(AluOp::XNOR, op, here),
-            OpCode::XnorCc => self.alu_turn(AluOp::XNOR, op, here),
+            OpCode::XnorCc => self.logic_turn(AluOp::XNOR, op, here),
             OpCode::Addx => self.plain_turn(AluOp::ADDX, op, here),
             OpCode::AddxCc => self.alu_turn(AluOp::ADDX, op, here),
             OpCode::Subx => self.plain_turn(AluOp::SUBX, op, here),
@@ -172,6 +172,22 @@ impl Machine {
         ensures going { self.new.ending ≡ self.old.ending }
     {
         if self.alu_in_order(kind, op) {
+            Turn::On
+        } else {
+            Turn::Stop
+        }
+    }
+
+    /// A logical operation that sets the codes, which are worked out where they are read.
+    #[inline(always)]
+    #[tactic(auto, using(crate::proofs::InOrder::goes_on))]
+    fn logic_turn(&mut self, kind: AluOp, op: &Op, here: Here) -> Turn
+        requires sum { IsSum op.now.rs2 op.now.imm }
+        ensures state { HasTurned result here.first here.cur here.next self.old (alu_in kind true op.now) self.new }
+        ensures within { IsWithin result here.len here.next here.spare }
+        ensures going { self.new.ending ≡ self.old.ending }
+    {
+        if self.logic_in_order(kind, op) {
             Turn::On
         } else {
             Turn::Stop
@@ -310,6 +326,26 @@ impl Machine {
             Turn::On
         } else {
             Turn::Stop
+        }
+    }
+
+    /// A logical operation that sets the codes, but for pc and npc.
+    #[inline(always)]
+    #[tactic(auto, unfolding(crate::specs::Step::act, crate::specs::Step::alu_step))]
+    fn logic_in_order(&mut self, kind: AluOp, op: &Op) -> bool
+        requires sum { IsSum op.now.rs2 op.now.imm }
+        ensures goes { result ≡ true → GoesOn self.old (alu_in kind true op.now) self.new }
+        ensures stays { result ≡ false → self.new ≡ self.old }
+        ensures going { self.new.ending ≡ self.old.ending }
+    {
+        match logic_value(kind, self.reg(op.rs1), self.op_operand(op)) {
+            Some(value) => {
+                self.flags.judge(value);
+                self.set(op.rd, value);
+                self.slot = Slot::NoSlot;
+                true
+            }
+            None => false,
         }
     }
 
@@ -488,6 +524,11 @@ pub(crate) fn go_far(ops: &[Op], first: u32, m: &mut Machine, limit: u64) -> u64
     let mut cur = offset / 4;
     let mut next = after / 4;
     let mut spare = limit + u64::from(next) - u64::from(len) - 1;
+    // pc and npc are the places `cur` and `next`. In order they move on by one, and nothing is compared: the last record
+    // says nothing, and `spare` leaves room for all records in order, so that only transfers look at the limit. Steps
+    // aren't counted: in order `next` grows with them, and a transfer changes `spare` by as much as it changes `next`
+    // besides. What can't be made here (a fault, a frame to be saved or loaded, a transfer in a slot, a target without a
+    // record) changes nothing, and ends the loop.
     'turns: loop {
         let op = op_in(ops, first, cur);
         let here = Here {
