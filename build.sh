@@ -5,8 +5,8 @@
 #     build.sh CRATE     one crate, above others that are built; what the first does for each
 #
 # `rt` keeps the folders of a crate and of all that it stands on to itself, so each crate is built in a tree of its own,
-# of links to these. What an interrupted call has built isn't built again, and of two calls at once one waits for what the
-# other builds.
+# of links to these. What an interrupted call has built isn't built again, and of two calls at once one waits for what
+# the other builds.
 here=$(CDPATH= cd -- "$(dirname -- "$0")" && pwd) || exit 70
 
 # The crates of crates/ that CRATE stands on, those that stand on most first.
@@ -20,23 +20,80 @@ below() {
 # How many processes prove CRATE: one, where others are proved beside it, since each more loads the crates below anew;
 # for the crates of the longest chain, which come last and alone, all that there is room for.
 jobs_of() {
-    case $1 in
-    image_code | edit_core | eel) echo "${most:-1}" ;;
+    case $at_once,$1 in
+    1,* | *,image_code | *,edit_core | *,eel) echo "$most" ;;
     *) echo 1 ;;
     esac
 }
 
+# The file $times has a line, NAME and the time in seconds, where a crate is begun, and another where it is done.
+note() {
+    echo "$1 $(date +%s)" >>"$times"
+}
+
+# The minutes that are left. The crates are laid on the processors in the order of crates.txt, each behind those that it
+# stands on, for as long as build_times.txt says that it took, times how slow this machine was so far. A crate that was
+# done in less than a third of that was built before, and tells nothing of the machine.
+minutes_left() {
+    awk -v now="$(date +%s)" -v at_once="$at_once" -v wanted=" $wanted " '
+        /^#/ { next }
+        FILENAME ~ /build_times\.txt$/ { took[$1] = $2; next }
+        FILENAME ~ /\.times$/ && $1 in begun { done[$1] = $2 - begun[$1]; next }
+        FILENAME ~ /\.times$/ { begun[$1] = $2; next }
+        {
+            name = $1; sub(":", "", name)
+            if (!index(wanted, " " name " ") || name in done) next
+            order[++count] = name
+            for (field = 2; field <= NF; field++) stands_on[count, field] = $field
+            fields[count] = NF
+        }
+        END {
+            pace = 1
+            for (name in done)
+                if (name in took && 3 * done[name] > took[name]) { here += done[name]; there += took[name] }
+            if (there) pace = here / there
+            for (number = 1; number <= count; number++) {
+                name = order[number]
+                lasts = pace * (name in took ? took[name] : 60) - (name in begun ? now - begun[name] : 0)
+                slot = 1
+                for (other = 2; other <= at_once; other++) if (free[other] + 0 < free[slot] + 0) slot = other
+                start = free[slot] + 0
+                for (field = 2; field <= fields[number]; field++) {
+                    lower = end[stands_on[number, field]] + 0
+                    if (lower > start) start = lower
+                }
+                end[name] = free[slot] = start + (lasts > 5 ? lasts : 5)
+                if (end[name] > last) last = end[name]
+            }
+            print int(last / 60) + 1
+        }' "$here/build_times.txt" "$times" "$here/crates.txt"
+}
+
+minutes_so_far() {
+    echo $((($(date +%s) - started + 30) / 60))
+}
+
+# Says that a crate is done, how many are, and the time.
+tell() {
+    done=$(sort "$times" | cut -d ' ' -f 1 | uniq -d | grep -c .)
+    echo "eel: $1 is proved, $done of $count; $(minutes_so_far) min so far, about $(minutes_left) more"
+}
+
 build_crate() {
+    note "$1"
     tree=$(mktemp -d "$logs/$1.XXXXXX") || exit 70
     mkdir "$tree/crates" && cp "$here/HANDLES" "$tree" || exit 70
     for name in "$1" $(below "$1"); do
         cp -al "$here/crates/$name" "$tree/crates" && grep "^$name:" "$here/crates.txt" >>"$tree/crates.txt" || exit 70
     done
-    (cd "$tree/crates/$1" && rt lib --jobs "$(jobs_of "$1")") >"$logs/$1.log" 2>&1 </dev/null &&
-        cp -alf "$tree/crates/$1/out" "$here/crates/$1" || exit 70
+    if ! (cd "$tree/crates/$1" && rt lib --jobs "$(jobs_of "$1")") >"$logs/$1.log" 2>&1 </dev/null; then
+        echo "eel: $1 could not be proved; $logs/$1.log says why"
+        exit 70
+    fi
+    cp -alf "$tree/crates/$1/out" "$here/crates/$1" || exit 70
     rm -rf "$tree"
-    touch "$logs/$1.done"
-    echo "eel: $1 is proved, $(ls "$logs" | grep -c '\.done$') of $count"
+    note "$1"
+    tell "$1"
 }
 
 # A rule of make for each crate, behind those that it stands on. Make begins what is named first where it can.
@@ -48,25 +105,42 @@ rules() {
     done
 }
 
+# Each crate in its turn, up to one that fails.
+one_by_one() {
+    for name in $(printf '%s\n' "$@" | sed '1!G;h;$!d'); do
+        (build_crate "$name") || return
+    done
+}
+
 build_all() {
     folder=$here/crates/eel_main/out
     mkdir -p "$folder" && logs=$(mktemp -d "$folder/build.XXXXXX") || exit 70
     set -- $(below eel_main)
-    count=$#
+    wanted="$* eel_main" count=$(($# + 1)) started=$(date +%s) times=$logs/all.times
+    : >"$times"
     memory=$(sed -n 's/^MemAvailable: *\([0-9]*\) kB/\1/p' /proc/meminfo)
     most=$((${memory:-0} / 4000000))
     [ "$most" -le "$(nproc)" ] || most=$(nproc)
     [ "$most" -ge 1 ] || most=1
-    export here logs count most
-    echo "eel: proving and building the program, $count crates, $most at once; half an hour on four processors, once" >&2
-    # Where there is no make, `rt run` builds one crate after the other.
-    rules "$@" | make -s -k -j "$most" -f - all >&2 2>"$logs/make.log"
+    at_once=$most
+    command -v make >/dev/null || at_once=1
+    export here logs times wanted count started most at_once
+    echo "eel: proving and building the program, once: $count parts, $at_once at once, about $(minutes_left) min" >&2
+    if command -v make >/dev/null; then
+        rules "$@" | make -s -k -j "$at_once" -f - all >&2 2>"$logs/make.log"
+    else
+        echo "eel: make isn't there, so that one crate is proved after the other; with make it goes faster" >&2
+        one_by_one "$@" >&2
+    fi
+    note eel_main
+    # What failed, as for want of memory beside others, is proved again here.
     (cd "$here/crates/eel_main" && rt run) >"$logs/eel_main.log" 2>&1 </dev/null
     if [ -x "$folder/eel_main" ]; then
+        echo "eel: the program is built, $count of $count, in $(minutes_so_far) min" >&2
         rm -r "$logs"
         return
     fi
-    echo "eel: the program could not be built; the logs in $logs say why" >&2
+    echo "eel: the program could not be built; $logs/eel_main.log says why" >&2
     exit 70
 }
 

@@ -31,4 +31,4 @@ rm fractions_by_clang.o
 build branches branches.c -Wl,-z,separate-code -Wl,-z,max-page-size=0x1000
 # One that traps is an example.
 (data=.. && build tree start.S tree.c)
-python3 ../write_programs.py
+python3 ../../checks/write_programs.py

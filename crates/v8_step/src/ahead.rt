@@ -18,12 +18,16 @@ use v8_alu::{AluTrap, Codes, alu, difference_of};
 use v8_decode::{AluOp, Cond, LoadKind, Reg, StoreKind};
 use v8_memory::{Op, OpCode, op_in};
 
-/// What comes of a turn: the run goes on in order, or to a place after the next instruction, or at a place, or isn't made here.
+/// What comes of carrying out one record.
 #[derive(Clone, Copy, Drop)]
 pub enum Turn {
+    /// The next instruction in order.
     On,
+    /// The delay slot, and then the record at this place.
     To(u32),
+    /// The record at this place.
     At(u32),
+    /// Nothing was carried out: `step` has to do it.
     Stop,
 }
 
@@ -87,14 +91,21 @@ impl Machine {
             OpCode::Or => self.plain_turn(AluOp::OR, op, here),
             OpCode::OrCc => self.alu_turn(AluOp::OR, op, here),
             OpCode::Xor => self.plain_turn(AluOp::XOR, op, here),
+            OpCode::XorCc => self.alu_turn(AluOp::XOR, op, here),
             OpCode::Andn => self.plain_turn(AluOp::ANDN, op, here),
+            OpCode::AndnCc => self.alu_turn(AluOp::ANDN, op, here),
             OpCode::Orn => self.plain_turn(AluOp::ORN, op, here),
             OpCode::Xnor => self.plain_turn(AluOp::XNOR, op, here),
             OpCode::XnorCc => self.alu_turn(AluOp::XNOR, op, here),
             OpCode::Addx => self.plain_turn(AluOp::ADDX, op, here),
+            OpCode::AddxCc => self.alu_turn(AluOp::ADDX, op, here),
             OpCode::Subx => self.plain_turn(AluOp::SUBX, op, here),
+            OpCode::SubxCc => self.alu_turn(AluOp::SUBX, op, here),
             OpCode::Umul => self.plain_turn(AluOp::UMUL, op, here),
             OpCode::Smul => self.plain_turn(AluOp::SMUL, op, here),
+            OpCode::Udiv => self.plain_turn(AluOp::UDIV, op, here),
+            OpCode::Sdiv => self.plain_turn(AluOp::SDIV, op, here),
+            OpCode::MulsCc => self.alu_turn(AluOp::MULScc, op, here),
             OpCode::Sll => self.plain_turn(AluOp::SLL, op, here),
             OpCode::Srl => self.plain_turn(AluOp::SRL, op, here),
             OpCode::Sra => self.plain_turn(AluOp::SRA, op, here),
@@ -110,6 +121,7 @@ impl Machine {
             OpCode::Stb => self.store_turn(StoreKind::STB, op.rd, op, here),
             OpCode::Sth => self.store_turn(StoreKind::STH, op.rd, op, here),
             OpCode::Std => self.store_turn(StoreKind::STD, pair(op.rd), op, here),
+            OpCode::Swap => self.swap_turn(op, here),
             OpCode::Jmpl => self.jump_turn(op, here),
             OpCode::Save => self.save_turn(op, here),
             OpCode::Restore => self.restore_turn(op, here),
@@ -254,6 +266,21 @@ impl Machine {
         ensures going { self.new.ending ≡ self.old.ending }
     {
         if self.store_in_order(kind, rd, self.op_sum(op)) {
+            Turn::On
+        } else {
+            Turn::Stop
+        }
+    }
+
+    #[inline(always)]
+    #[tactic(auto, using(crate::proofs::InOrder::goes_on), unfolding(crate::specs::Step::act))]
+    fn swap_turn(&mut self, op: &Op, here: Here) -> Turn
+        requires sum { IsSum op.now.rs2 op.now.imm }
+        ensures state { HasTurned result here.first here.cur here.next self.old (instrs.Swap op.now.rd op.now.rs1 (operand_in op.now.rs2 op.now.imm)) self.new }
+        ensures within { IsWithin result here.len here.next here.left }
+        ensures going { self.new.ending ≡ self.old.ending }
+    {
+        if self.swap_in_order(op.rd, self.op_sum(op)) {
             Turn::On
         } else {
             Turn::Stop

@@ -1,7 +1,7 @@
 -- One turn more.
 use Rattle.std.proofs.Common.{rules, arith, ◌≡◌, ◌+◌, ◌-◌, ◌<◌, ◌∙◌}
 use Rattle.v8_memory.specs.declared.ops.OpCode.TheVariants.{Other}
-use Rattle.v8_step.specs.declared.ahead.Turn.TheVariants.{On, To, At, Stop}
+use Rattle.v8_step.specs.declared.ahead.Turn.TheVariants.{On, To, At}
 use Rattle.v8_step.proofs.InOrder.{not_last, says, turn_keeps, turn_made}
 use Rattle.v8_step.proofs.ahead.go_far.Goals as goal
 

@@ -1,5 +1,5 @@
 -- The steps so far were all made, and the run goes on at a place with a record.
-use Rattle.std.proofs.Common.{◌≡◌, ◌+◌, ◌-◌, ◌<◌, ◌≤◌, length, None}
+use Rattle.std.proofs.Common.{◌≡◌, ◌+◌, ◌-◌, ◌<◌, ◌≤◌, None}
 use Rattle.v8_memory.specs.Kept.{AreKept}
 use Rattle.v8_memory.specs.Regions.{code_of}
 use Rattle.v8_step.specs.Ahead.{at_places}

@@ -1,0 +1,51 @@
+#!/usr/bin/env python3
+"""Compares what `./eel counts`, `visits` and `trace` tell of whole runs with the walks of plain_count.py, which shares nothing
+with the proved program.
+
+    checks/beside_walk.py [--eel PROGRAM] FILE..
+
+A file FILE.input beside FILE is its input. Prints a line for each answer that differs, and how many were compared.
+"""
+import os
+import subprocess
+import sys
+import tempfile
+
+from plain_count import walk
+from stops import COUNTS, EEL, VISITS, last_edges
+
+WAYS = [COUNTS, VISITS, last_edges(1), last_edges(4), last_edges(16)]
+LIMIT = '10000000000'
+
+
+def told(eel, name, given, way, folder):
+    """What the program tells of the run of an edit, up to its ending."""
+    written, dump = os.path.join(folder, 'written'), os.path.join(folder, 'dump')
+    subprocess.run([eel, 'edit', name, written, *way.tool], check=True)
+    subprocess.run([eel, 'run', written, '-n', LIMIT, '-d', dump], input=given, capture_output=True, check=True)
+    return subprocess.run([eel, way.command, written, dump], capture_output=True, check=True).stdout.decode()
+
+
+def main():
+    eel, names = EEL, sys.argv[1:]
+    if names[:1] == ['--eel']:
+        eel, names = names[1], names[2:]
+    differ = 0
+    with tempfile.TemporaryDirectory() as folder:
+        for name in names:
+            given = b''
+            if os.path.exists(f'{name}.input'):
+                with open(f'{name}.input', 'rb') as file:
+                    given = file.read()
+            with open(name, 'rb') as file:
+                counts, _, _ = walk(file.read(), [], given, int(LIMIT))
+            for way in WAYS:
+                if told(eel, name, given, way, folder) != way.lines(counts):
+                    differ += 1
+                    print(f'{name}: {" ".join(way.tool)} differs')
+    print(f'{len(names)} files, {len(WAYS)} edits of each; {differ} differ')
+    return 1 if differ else 0
+
+
+if __name__ == '__main__':
+    sys.exit(main())

@@ -1,0 +1,124 @@
+#!/usr/bin/env python3
+"""Prints how many steps programs take, and their files that are edited without snippets and with counters, and how many
+counters there are and spill a register, in all and by sorts of edges.
+
+    checks/steps.py [--eel PROGRAM] FILE..
+
+A file FILE.input beside FILE is its input. Steps are the least limit with which `eel run` ends.
+"""
+import collections
+import os
+import struct
+import subprocess
+import sys
+import tempfile
+
+from listing import Graph, Program, home
+
+EEL = os.path.join(os.path.dirname(os.path.abspath(__file__)), '..', 'eel')
+FIRST_KEPT = 0xfffff008 - 2**32
+
+
+def stopped(eel, name, limit, given):
+    run = subprocess.run([eel, 'run', name, '-n', str(limit)], input=given, capture_output=True, check=False)
+    return run.stderr.split(b'\n')[-2].startswith(b'stopped')
+
+
+def steps(eel, name, given):
+    """The least limit, found by doubling and then by halving."""
+    high = 1
+    while stopped(eel, name, high, given):
+        high *= 2
+    low = high // 2
+    while high - low > 1:
+        middle = (low + high) // 2
+        low, high = (middle, high) if stopped(eel, name, middle, given) else (low, middle)
+    return high
+
+
+def is_kept(word):
+    """A store of a register in word 2 of the editor's page, or one behind it."""
+    return word >> 30 == 3 and word >> 19 & 63 == 4 and word & 0x7ffff >= 1 << 13 | FIRST_KEPT & 0x1fff and word >> 14 & 31 == 0
+
+
+def sorts(original):
+    """The sort of each edge: a landing to which a call comes back, another landing, an edge in a loop, or another."""
+    graph = Graph(Program(original))
+    loops = [(target, word) for word, (kind, target, _, _) in enumerate(graph.ends)
+             if kind == 'branch' and target is not None and target <= word]
+    for edge in graph.edges:
+        if edge.kind == 'land':
+            block = home(edge.target)
+            call = block > 1 and graph.ends[graph.last(block - 2)][0] == 'call'
+            yield 'behind calls' if call else 'landings'
+        else:
+            last = graph.last(home(edge.source))
+            yield 'in loops' if any(first <= last <= word for first, word in loops) else 'others'
+
+
+def cells(file):
+    """Where the cells begin, and the number of the edge of each, by the notes."""
+    at, = struct.unpack_from('>I', file, 4040)
+    base, _, segments = struct.unpack_from('>3I', file, at + 24)
+    at += 36 + 8 * segments
+    at += 4 + 4 * struct.unpack_from('>I', file, at)[0]
+    count, = struct.unpack_from('>I', file, at)
+    edges = struct.iter_unpack('>4I', file[at + 4:at + 4 + 16 * count])
+    return base, {cell: number for number, (_, _, _, cell) in enumerate(edges) if cell != 0xffffffff}
+
+
+def is_one_more(word, register):
+    """The low word of a counter is raised: with the codes where these are dead, and else into another register."""
+    with_codes = 0x80802001 | register << 25 | register << 14
+    return word == with_codes or word & ~(31 << 25) == 0x80002001 | register << 14 and word >> 25 & 31 != register
+
+
+def counters(file, original):
+    """How many counters of each sort the code of an edited file has, and how many of them spill a register."""
+    phoff, = struct.unpack_from('>I', file, 28)
+    count, = struct.unpack_from('>H', file, 44)
+    segments = [struct.unpack_from('>8I', file, phoff + 32 * number) for number in range(count)]
+    _, offset, _, _, size, _, _, _ = [segment for segment in segments if segment[0] == 1 and segment[6] == 5][-1]
+    words = struct.unpack_from(f'>{size // 4}I', file, offset)
+    named, (base_of_cells, edge_of) = list(sorts(original)), cells(file)
+    found, spilled = collections.Counter(), collections.Counter()
+    for at in range(len(words) - 3):
+        high, load, add, store = words[at:at + 4]
+        base, register = high >> 25 & 31, load >> 25 & 31
+        low = (load & 0x1fff) - 4
+        edge = edge_of.get(((high & 0x3fffff) << 10 | low & 0x3ff) - base_of_cells >> 2)
+        if (edge is not None and high >> 30 == 0 and high >> 22 & 7 == 4
+                and load >> 30 == 3 and load >> 19 & 63 == 0 and load >> 14 & 31 == base
+                and is_one_more(add, register)
+                and store == 0xc0202000 | (add >> 25 & 31) << 25 | base << 14 | low + 4):
+            found[named[edge]] += 1
+            spilled[named[edge]] += at > 0 and is_kept(words[at - 1])
+    return found, spilled
+
+
+def main():
+    arguments, eel = sys.argv[1:], EEL
+    if arguments[:1] == ['--eel']:
+        eel, arguments = arguments[1], arguments[2:]
+    with tempfile.TemporaryDirectory() as folder:
+        out = os.path.join(folder, 'out')
+        for name in arguments:
+            given = b''
+            if os.path.exists(f'{name}.input'):
+                with open(f'{name}.input', 'rb') as file:
+                    given = file.read()
+            told, own = [os.path.basename(name)], steps(eel, name, given)
+            told.append(str(own))
+            for tool in ('plain', 'profile'):
+                subprocess.run([eel, 'edit', name, out, tool], check=True)
+                edited = steps(eel, out, given)
+                told += [str(edited), f'{edited / own:.2f}']
+            with open(out, 'rb') as file, open(name, 'rb') as original:
+                found, spilled = counters(file.read(), original.read())
+            told += [str(found.total()), str(spilled.total())]
+            told += [f'{sort} {found[sort]}/{spilled[sort]}' for sort in sorted(found)]
+            print(*told, sep='\t', flush=True)
+
+
+if __name__ == '__main__':
+    main()

@@ -1,0 +1,186 @@
+#!/usr/bin/env python3
+"""Stops the profiles of programs after each of their first thousand steps, and compares what `./eel counts` tells of each
+stop with the walk of the original's run up to the last instruction that was visited. Both runs are those of
+plain_count.py, which shares nothing with the proved program.
+
+    checks/stops.py [NAME ..]             programs of crates/program_runs: all of them unless some are named
+    checks/stops.py --random COUNT [FIRST]  random programs, each the same in each run
+    checks/stops.py --switches COUNT [FIRST]  random programs with switches
+
+With --visits before these, edits with `every` are stopped, and told by `./eel visits`; with --trace K edits with `trace K`,
+told by `./eel trace`. Prints a line for each program: how many stops there were, how many of them at visits, how many had counts, and how many
+were between places; and then each stop that differs.
+"""
+import bisect
+import os
+import random
+import struct
+import subprocess
+import sys
+import tempfile
+
+from plain_count import Counts, Ended, Machine
+from programs import C_PROGRAMS, SMALL
+from random_programs import random_program
+from random_switches import random_switches
+
+# What comes of the profiles that are stopped under the gate, as this script found it.
+KNOWN = {'carry_loop': (84, 23, 28, 56), 'inner_landings': (73, 10, 34, 39), 'switch_of_four': (25, 12, 21, 4),
+    'newline_count': (1000, 397, 503, 497)}
+
+EEL = os.path.join(os.path.dirname(os.path.abspath(__file__)), '..', 'eel')
+STEPS = 1000
+ENDINGS = ['none', 'exit', 'trap', 'window', 'couple']
+
+
+class Notes:
+    """The version of a written file's notes and the size of its original, where visits stand, its pages, and its cells."""
+
+    def __init__(self, file):
+        self.version, at, length = struct.unpack_from('>3I', file, 4032 + 4)
+        words = list(struct.unpack_from(f'>{length // 4}I', file, at))
+        self.length = words[1]
+        self.base, self.cells, segments = words[6:9]
+        self.pages = list(zip(words[9:9 + 2 * segments:2], words[10:10 + 2 * segments:2]))
+        rest = words[9 + 2 * segments:]
+        rest = rest[1 + rest[0]:]
+        rest = rest[1 + 4 * rest[0]:]
+        rows = rest[1:]
+        self.ranges = [tuple(rows[k:k + 4]) for k in range(0, len(rows), 4)]
+        self.lows = [row[0] for row in self.ranges]
+
+    def range_at(self, address):
+        number = bisect.bisect_right(self.lows, address) - 1
+        if number >= 0 and address < self.ranges[number][1]:
+            return self.ranges[number]
+        return None
+
+    def place(self, address):
+        """Whether counts can be told where a run stands there, and the address that is visited, if one is."""
+        noted = self.range_at(address)
+        if noted:
+            return True, noted[2] if noted[0] == address else None
+        outside = not any(start <= address < start + length for start, length in self.pages)
+        return outside, address if outside else None
+
+
+class Walk:
+    """The run of an original with its counts, one step at a time."""
+
+    def __init__(self, file, given):
+        self.machine, self.counts = Machine(file, [], given), Counts(file)
+
+    def step(self):
+        pc, before = self.machine.pc, self.machine.slot
+        try:
+            self.machine.step()
+        except Ended:
+            return
+        self.counts.stepped(pc, before, self.machine.slot, self.machine.pc)
+
+
+def dump(machine, notes, ending, steps):
+    kind, number = (ending.split() + ['0'])[:2] if ending else ('none', '0')
+    cells = machine.memory.read(notes.base, 4 * notes.cells)
+    told = [notes.cells] if notes.version == 1 else [notes.length, notes.cells]
+    head = struct.pack('>4s4IQ', b'EELD', notes.version, ENDINGS.index(kind), int(number), machine.pc, steps)
+    return head + struct.pack(f'>{len(told)}I', *told) + cells
+
+
+class Told:
+    """An edit that is stopped, the command that tells of its dumps, and the lines of a walk that it must print."""
+
+    def __init__(self, tool, command, lines):
+        self.tool, self.command, self.lines = tool, command, lines
+
+    def told(self, bytes_of_dump):
+        with open('dump', 'wb') as file:
+            file.write(bytes_of_dump)
+        ran = subprocess.run([EEL, self.command, 'written', 'dump'], capture_output=True)
+        return ran.returncode, ran.stdout, ran.stderr
+
+
+COUNTS = Told(['profile'], 'counts', Counts.lines)
+VISITS = Told(['every'], 'visits', Counts.visit_lines)
+
+
+def last_edges(bits):
+    return Told(['trace', str(bits)], 'trace', lambda counts: counts.last_lines(bits))
+
+
+def stop_everywhere(name, file, given, way):
+    """Edits the program, and how often its profile was stopped, at visits, with counts and without; and how many stops differ."""
+    with open('original', 'wb') as out:
+        out.write(file)
+    if subprocess.run([EEL, 'edit', 'original', 'written', *way.tool]).returncode:
+        return None
+    with open('written', 'rb') as read:
+        written = read.read()
+    notes, walk = Notes(written), Walk(file, given)
+    machine, ending = Machine(written, [], given), None
+    stops = visits = known = between = differ = 0
+    for steps in range(STEPS):
+        in_place, visited = notes.place(machine.pc)
+        if visited is not None and not ending:
+            if visits:
+                walk.step()
+            visits += 1
+            walk.counts.visits[walk.machine.pc] += 1
+        if in_place:
+            known, wanted = known + 1, (0, way.lines(walk.counts).encode(), b'')
+        else:
+            between += 1
+            wanted = 65, b'', f'eel: dump: pc {machine.pc:08x} between places\n'.encode()
+        stops += 1
+        got = way.told(dump(machine, notes, ending, steps))
+        if got != wanted or visited is not None and not ending and visited != walk.machine.pc:
+            differ += 1
+            print(f'{name}: after {steps} steps {got} where {wanted} was wanted')
+        if ending:
+            break
+        try:
+            machine.step()
+        except Ended as ended:
+            ending = str(ended)
+    return stops, visits, known, between, differ
+
+
+def line(name, stops, visits, known, between):
+    return f'{name}: {stops} stops, {visits} visits, {known} told, {between} between places'
+
+
+def printed():
+    """What crates/program_runs prints of the profiles that it stops."""
+    return [f'{line(name, *numbers)}\n'.encode() for name, numbers in KNOWN.items()]
+
+
+def report(name, file, given, way):
+    answer = stop_everywhere(name, file, given, way)
+    if answer is None:
+        print(f'{name}: not edited')
+        return 1
+    print(line(name, *answer[:-1]))
+    return answer[-1]
+
+
+def main(words):
+    os.chdir(tempfile.mkdtemp())
+    way = COUNTS
+    if words[:1] == ['--visits']:
+        way, words = VISITS, words[1:]
+    elif words[:1] == ['--trace']:
+        way, words = last_edges(int(words[1])), words[2:]
+    if words[:1] in (['--random'], ['--switches']):
+        maker = random_program if words[0] == '--random' else random_switches
+        first = int(words[2]) if len(words) > 2 else 0
+        faults = 0
+        for number in range(first, first + int(words[1])):
+            random.seed(number)
+            faults += report(f'random {number}', maker(), b'a line, and another\nof them\n', way)
+        return 1 if faults else 0
+    chosen = [program for program in SMALL + C_PROGRAMS if not words or program.name in words]
+    return 1 if sum(report(program.name, program.file(), program.given, way) for program in chosen) else 0
+
+
+if __name__ == '__main__':
+    sys.exit(main(sys.argv[1:]))
