@@ -8,7 +8,7 @@ import listing
 import listings
 import plain_count
 import tables
-from programs import C_PROGRAMS, RUNS, SMALL, Program
+from programs import C_PROGRAMS, RUNS, SMALL, SWITCHING, Program
 from written import written
 
 BAD_WORDS = b'eel: bad words\n'
@@ -362,6 +362,7 @@ def listed():
 
 # Programs whose counters are placed by the counts of their own runs.
 WEIGHED = ['carry_loop', 'three_words', 'inner_landings', 'switch_of_four', 'newline_count', 'queens']
+WEIGHED_STEPS = 142017  # of queens
 
 
 def rows(name):
@@ -403,6 +404,9 @@ def weighed():
         yield eel(f'edit {name} weighed profile {name}.rows', 0)
         yield eel('run weighed -d dump', 0, *ran(program))
         yield eel('counts weighed dump', 0, rows(name))
+    # the last of them ends with this step: machine steps of the file, on the interpreter of plain_count.py
+    yield eel(f'run weighed -n {WEIGHED_STEPS}', 0, *ran(program))
+    yield eel(f'run weighed -n {WEIGHED_STEPS - 1}', 0, program.output, f'stopped {WEIGHED_STEPS - 1}\n'.encode())
     # an edge may have any number of executions, and one without a line has none
     yield 'hold most.rows', b''
     yield eel('edit carry_loop weighed profile most.rows', 0)
@@ -580,7 +584,7 @@ def narrow():
 
 # Of some programs so many bits: more edges than places, as many, and fewer.
 TRACED = {'carry_loop': [1, 3, 16], 'three_words': [1], 'inner_landings': [2], 'switch_of_four': [5], 'call_and_return': [3],
-    'newline_count': [6], 'calculator': [5], 'queens': [4], ARGUMENT.name: [1]}
+    **{program.name: [3] for program in SWITCHING}, 'newline_count': [6], 'calculator': [5], 'queens': [4], ARGUMENT.name: [1]}
 
 # Dumps of carry_loop with a ring of four places: rings that hold no edge and the last edge, one with an edge too many, and
 # dumps that are not of its runs.
