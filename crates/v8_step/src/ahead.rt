@@ -129,6 +129,15 @@ impl Machine {
         }
     }
 
+    /// Puts pc and npc at places. Where it were inlined, the loop would keep an address beside each place.
+    #[inline(never)]
+    fn stand_at(&mut self, first: u32, cur: u32, next: u32)
+        ensures { self.new ≡ at_places self.old first cur next }
+    {
+        self.pc = address(first, cur);
+        self.npc = address(first, next);
+    }
+
     #[inline(always)]
     #[tactic(auto, using(crate::proofs::InOrder::goes_on), unfolding(crate::specs::Step::act))]
     fn sethi_turn(&mut self, op: &Op, here: Here) -> Turn
@@ -560,7 +569,6 @@ pub(crate) fn go_far(ops: &[Op], first: u32, m: &mut Machine, limit: u64) -> u64
             Turn::Stop => break,
         }
     }
-    m.pc = address(first, cur);
-    m.npc = address(first, next);
+    m.stand_at(first, cur, next);
     limit + u64::from(next) - u64::from(len) - 1 - spare
 }
