@@ -31,42 +31,33 @@ note() {
     echo "$1 $(date +%s)" >>"$times"
 }
 
-# The minutes that are left. The crates are laid on the processors in the order of crates.txt, each behind those that it
-# stands on, for as long as build_times.txt says that it took, times how slow this machine was so far. A crate that was
-# done in less than a third of that was built before, and tells nothing of the machine.
+# The minutes that are left: by what each crate took (build_times.txt), the longest chain of those that stand on each
+# other, or all of them over the processors, whichever is more; times how slow this machine was so far. A crate that was
+# done in less than a third of its time was built before, and tells nothing of the machine.
 minutes_left() {
     awk -v now="$(date +%s)" -v at_once="$at_once" -v wanted=" $wanted " '
         /^#/ { next }
         FILENAME ~ /build_times\.txt$/ { took[$1] = $2; next }
         FILENAME ~ /\.times$/ && $1 in begun { done[$1] = $2 - begun[$1]; next }
         FILENAME ~ /\.times$/ { begun[$1] = $2; next }
+        !paced++ {
+            for (name in done)
+                if (name in took && 3 * done[name] > took[name]) { here += done[name]; there += took[name] }
+            pace = there ? here / there : 1
+        }
         {
             name = $1; sub(":", "", name)
             if (!index(wanted, " " name " ") || name in done) next
-            order[++count] = name
-            for (field = 2; field <= NF; field++) stands_on[count, field] = $field
-            fields[count] = NF
+            lasts = pace * (name in took ? took[name] : 60) - (name in begun ? now - begun[name] : 0)
+            if (lasts < 5) lasts = 5
+            start = 0
+            for (field = 2; field <= NF; field++) if (end[$field] > start) start = end[$field]
+            end[name] = start + lasts
+            if (end[name] > last) last = end[name]
+            all += lasts
         }
-        END {
-            pace = 1
-            for (name in done)
-                if (name in took && 3 * done[name] > took[name]) { here += done[name]; there += took[name] }
-            if (there) pace = here / there
-            for (number = 1; number <= count; number++) {
-                name = order[number]
-                lasts = pace * (name in took ? took[name] : 60) - (name in begun ? now - begun[name] : 0)
-                slot = 1
-                for (other = 2; other <= at_once; other++) if (free[other] + 0 < free[slot] + 0) slot = other
-                start = free[slot] + 0
-                for (field = 2; field <= fields[number]; field++) {
-                    lower = end[stands_on[number, field]] + 0
-                    if (lower > start) start = lower
-                }
-                end[name] = free[slot] = start + (lasts > 5 ? lasts : 5)
-                if (end[name] > last) last = end[name]
-            }
-            print int(last / 60) + 1
-        }' "$here/build_times.txt" "$times" "$here/crates.txt"
+        END { print int((all / at_once > last ? all / at_once : last) / 60) + 1 }
+    ' "$here/build_times.txt" "$times" "$here/crates.txt"
 }
 
 minutes_so_far() {

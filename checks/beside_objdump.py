@@ -1,19 +1,16 @@
 #!/usr/bin/env python3
 """Compares `eel list` of each file with `objdump -d` of the binutils for SPARC, word by word, and says where they differ.
 
-    checks/beside_objdump.py FILE ..
-
 Both say the same of a word in other spellings. `eel list` has one name for each instruction; objdump has names of its own for
 some with certain operands, writes sums and registers otherwise, and names no stack and frame pointers by number. `spelled`
 turns the one into the other. Words that are no instruction of a program without floating point are numbers in `eel list`;
 what objdump says of them isn't looked at.
 """
-import os
 import re
 import subprocess
 import sys
 
-EEL = os.path.join(os.path.dirname(os.path.abspath(__file__)), '..', 'eel')
+from called import EEL, built, needs, parser_of, read_program
 OBJDUMP = 'sparc64-linux-gnu-objdump'
 
 # Names that objdump has for `ba`, for stores of a register that is 0, and for sums and differences with 1.
@@ -138,13 +135,15 @@ def compare(name, lines):
     return differ, compared
 
 
-def main(names):
-    if not names:
-        print(__doc__, file=sys.stderr)
-        return 64
+def main():
+    parser = parser_of(__doc__)
+    parser.add_argument('files', metavar='FILE', nargs='+', help='a program')
+    names = parser.parse_args().files
+    needs('sparc64-linux-gnu-objdump')
     all_differ = all_compared = 0
     for name in names:
-        listed = subprocess.run([EEL, 'list', name], capture_output=True, check=True, text=True).stdout.splitlines()
+        read_program(name)
+        listed = subprocess.run([built(EEL), 'list', name], capture_output=True, check=True, text=True).stdout.splitlines()
         differ, compared = compare(name, listed)
         all_differ, all_compared = all_differ + differ, all_compared + compared
     print(f'{all_differ} of {all_compared} words differ')
@@ -152,4 +151,4 @@ def main(names):
 
 
 if __name__ == '__main__':
-    sys.exit(main(sys.argv[1:]))
+    sys.exit(main())

@@ -1,8 +1,6 @@
 #!/usr/bin/env python3
 """Runs random programs by ./eel and by qemu-sparc, and says for which the two differ.
 
-    checks/beside_qemu.py [--edited] COUNT [FIRST]
-
 Each program fills its registers, carries out some sixty random instructions (arithmetic, branches with and without
 annulled slots, CALLs, loads and stores, windows up to a dozen deep), and puts out all registers of the current
 window, the codes, Y, and its data. Random file number N is the same in each run. With --edited, ./eel also edits each
@@ -15,7 +13,8 @@ import subprocess
 import sys
 import tempfile
 
-EEL = os.path.join(os.path.dirname(os.path.abspath(__file__)), '..', 'eel')
+from called import EEL, built, needs, number, parser_of
+
 
 TEXT = 0x10000
 DATA = 0x30000
@@ -185,10 +184,15 @@ def edited_run(name):
 
 
 def main():
-    edited = sys.argv[1] == '--edited'
-    count, *rest = [int(word) for word in sys.argv[1 + edited:]]
-    first = rest[0] if rest else 0
-    others = {'qemu-sparc': qemu_run} | ({'its edited file': edited_run} if edited else {})
+    parser = parser_of(__doc__)
+    parser.add_argument('--edited', action='store_true', help='also edit each program and run the edited file')
+    parser.add_argument('count', metavar='COUNT', type=number, help='how many programs')
+    parser.add_argument('first', metavar='FIRST', type=number, nargs='?', default=0, help='the number of the first')
+    words = parser.parse_args()
+    needs('qemu-sparc')
+    built(EEL)
+    count, first = words.count, words.first
+    others = {'qemu-sparc': qemu_run} | ({'its edited file': edited_run} if words.edited else {})
     differ = dict.fromkeys(others, 0)
     with tempfile.TemporaryDirectory() as folder:
         name = os.path.join(folder, 'program')

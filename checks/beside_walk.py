@@ -2,8 +2,6 @@
 """Compares what `./eel counts`, `visits` and `trace` tell of whole runs with the walks of plain_count.py, which shares nothing
 with the proved program.
 
-    checks/beside_walk.py [--eel PROGRAM] FILE..
-
 A file FILE.input beside FILE is its input. Prints a line for each answer that differs, and how many were compared.
 """
 import os
@@ -11,8 +9,9 @@ import subprocess
 import sys
 import tempfile
 
+from called import EEL, built, input_of, parser_of, read_program
 from plain_count import walk
-from stops import COUNTS, EEL, VISITS, last_edges
+from stops import COUNTS, VISITS, last_edges
 
 WAYS = [COUNTS, VISITS, last_edges(1), last_edges(4), last_edges(16)]
 LIMIT = '10000000000'
@@ -27,18 +26,15 @@ def told(eel, name, given, way, folder):
 
 
 def main():
-    eel, names = EEL, sys.argv[1:]
-    if names[:1] == ['--eel']:
-        eel, names = names[1], names[2:]
-    differ = 0
+    parser = parser_of(__doc__)
+    parser.add_argument('--eel', metavar='PROGRAM', default=EEL, help='the program that is run, in place of ./eel')
+    parser.add_argument('files', metavar='FILE', nargs='+', help='a program')
+    words = parser.parse_args()
+    eel, names, differ = built(words.eel), words.files, 0
     with tempfile.TemporaryDirectory() as folder:
         for name in names:
-            given = b''
-            if os.path.exists(f'{name}.input'):
-                with open(f'{name}.input', 'rb') as file:
-                    given = file.read()
-            with open(name, 'rb') as file:
-                counts, _, _ = walk(file.read(), [], given, int(LIMIT))
+            given = input_of(name)
+            counts, _, _ = walk(read_program(name), [], given, int(LIMIT))
             for way in WAYS:
                 if told(eel, name, given, way, folder) != way.lines(counts):
                     differ += 1

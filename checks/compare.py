@@ -2,8 +2,6 @@
 """Runs the programs of programs.py by ./eel, each beside its edited file, and then random programs. Each edited file
 must have just the bytes that written.py makes, and its original again where it is restored.
 
-    checks/compare.py [--switches] [COUNT [FIRST]]
-
 COUNT is how many random programs there are: 300 unless said otherwise. With --switches, they are those with switches.
 Random program number N is the same in each run. Prints a line for each answer that differs. Where a program comes to a page
 of its edited file nothing is promised, so that runs may differ then.
@@ -16,6 +14,7 @@ import subprocess
 import sys
 import tempfile
 
+from called import EEL, built, number, parser_of
 from plain_count import Ended, Machine
 from programs import C_PROGRAMS, SMALL
 from random_programs import random_program
@@ -23,7 +22,6 @@ from random_switches import random_switches
 from stops import Notes
 from written import written
 
-EEL = os.path.join(os.path.dirname(os.path.abspath(__file__)), '..', 'eel')
 
 # How many steps a random program may make, and how many an edited file may make for each step of its original.
 STEPS = 3000
@@ -151,10 +149,13 @@ def compare_all_random(maker, count, first):
 
 
 def main():
-    words, maker = sys.argv[1:], random_program
-    if words[:1] == ['--switches']:
-        words, maker = words[1:], random_switches
-    count, first = int(words[0]) if words else 300, int(words[1]) if len(words) > 1 else 0
+    parser = parser_of(__doc__)
+    parser.add_argument('--switches', action='store_true', help='random programs are those with switches')
+    parser.add_argument('count', metavar='COUNT', type=number, nargs='?', default=300, help='how many random programs')
+    parser.add_argument('first', metavar='FIRST', type=number, nargs='?', default=0, help='the number of the first')
+    words = parser.parse_args()
+    built(EEL)
+    maker, count, first = random_switches if words.switches else random_program, words.count, words.first
     faults = 0
     os.chdir(tempfile.mkdtemp())
     programs = SMALL + C_PROGRAMS

@@ -3,8 +3,6 @@
 program_runs do every command on each. What must come of each is told by judge.py: the status, the line, and that no file
 has changed after a refusal.
 
-    checks/damage.py [COUNT [FIRST [PROGRAM]]]
-
 COUNT is how many files are damaged: 10000 unless said otherwise. Input N is the same in each run. PROGRAM is the built
 program_runs, in crates/program_runs/out unless said otherwise. Prints a line for each answer that differs, how often each
 status was seen, and how much time and memory the largest call of PROGRAM took, each of which does all with some hundred
@@ -23,6 +21,7 @@ import tempfile
 import time
 
 import judge
+from called import built, number, parser_of
 from listing import Graph, Program, listing
 from programs import C_PROGRAMS, RUNS, SMALL
 
@@ -383,9 +382,13 @@ def prepare(program, folder):
 
 
 def main():
-    count = int(sys.argv[1]) if len(sys.argv) > 1 else 10000
-    first = int(sys.argv[2]) if len(sys.argv) > 2 else 0
-    program = os.path.abspath(sys.argv[3] if len(sys.argv) > 3 else os.path.join(RUNS, 'out', 'program_runs'))
+    parser = parser_of(__doc__)
+    parser.add_argument('count', metavar='COUNT', type=number, nargs='?', default=10000, help='how many files')
+    parser.add_argument('first', metavar='FIRST', type=number, nargs='?', default=0, help='the number of the first')
+    parser.add_argument('program', metavar='PROGRAM', nargs='?', default=os.path.join(RUNS, 'out', 'program_runs'),
+                        help='the built program_runs')
+    words = parser.parse_args()
+    count, first, program = words.count, words.first, os.path.abspath(built(words.program))
     seen, faults, longest, largest = collections.Counter(), 0, 0, 0
     with tempfile.TemporaryDirectory() as folder, multiprocessing.Pool() as pool:
         prepare(program, folder)

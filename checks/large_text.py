@@ -1,8 +1,6 @@
 #!/usr/bin/env python3
 """Writes a program with a large text, by which edits are measured: it is made to be edited, not to do anything.
 
-    checks/large_text.py random|branches WORDS FILE
-
 `random` is code of all kinds: a seventh of its words are branches, nine of ten of these to within 1,000 words and the
 others to anywhere; a twentieth are CALLs to anywhere, a fortieth JMPLs, and the rest sums, loads and stores. Of
 `branches` each word is a branch on a condition to anywhere, so that each is a block with two edges. Of the same words
@@ -12,6 +10,7 @@ import argparse
 import random
 
 from beside_qemu import access, arithmetic, branch, form3, operand
+from called import refuse
 from programs import Program
 
 JMPL = 0x38
@@ -50,8 +49,11 @@ def main():
     one = word if told.kind == 'random' else lambda at, words: conditional(at, words, words)
     text = [one(at, told.words) for at in range(told.words)]
     program = Program(told.file, ''.join(f'{value:08x}' for value in text), 0, '')
-    with open(told.file, 'wb') as out:
-        out.write(program.file())
+    try:
+        with open(told.file, 'wb') as out:
+            out.write(program.file())
+    except OSError as error:
+        refuse(f'{told.file}: {error.strerror}')
 
 
 if __name__ == '__main__':

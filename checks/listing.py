@@ -3,7 +3,7 @@
 
 With --compare, runs ./eel show of each file instead, and says for which the two differ. With --random COUNT, does so
 for that many files with random words, symbols and section tables, and with --switches COUNT for files with switches and
-what is nearly one. With --eel PROGRAM before these, that program is run.
+what is nearly one.
 """
 import bisect
 import collections
@@ -15,10 +15,10 @@ import sys
 import tempfile
 from dataclasses import dataclass
 
+from called import EEL, built, number, parser_of, read_program, refuse
 from random_switches import near_switch, switch_words
 from switches import open_switches, switches, told_apart
 
-EEL = os.path.join(os.path.dirname(os.path.abspath(__file__)), '..', 'eel')
 
 
 class Program:
@@ -294,21 +294,29 @@ def compare_random(eel, text_at, count):
 
 
 def main():
-    words, eel = sys.argv[1:], EEL
-    if words[:1] == ['--eel']:
-        eel, words = words[1], words[2:]
-    if words[:1] in (['--random'], ['--switches']):
-        return compare_random(eel, random_text if words[0] == '--random' else switch_words, int(words[1]))
+    parser = parser_of(__doc__)
+    parser.add_argument('--eel', metavar='PROGRAM', default=EEL, help='the program that is run, in place of ./eel')
+    kind = parser.add_mutually_exclusive_group()
+    kind.add_argument('--compare', action='store_true', help='compare with what `show` prints of the files')
+    kind.add_argument('--random', metavar='COUNT', type=number, help='compare for random files')
+    kind.add_argument('--switches', metavar='COUNT', type=number, help='compare for random files with switches')
+    parser.add_argument('files', metavar='FILE', nargs='*', help='a program')
+    words = parser.parse_args()
+    count = words.switches if words.random is None else words.random
+    if words.compare or count is not None:
+        built(words.eel)
+    if count is not None:
+        return compare_random(words.eel, switch_words if words.random is None else random_text, count)
+    if not words.files:
+        parser.error('FILE is missing')
     fault = 0
-    for name in words:
-        if name != '--compare':
-            with open(name, 'rb') as source:
-                wanted = listing(source.read())
-            if '--compare' not in words:
-                print(wanted, end='')
-            elif differs(eel, name, wanted):
-                print(f'{name} differs')
-                fault = 1
+    for name in words.files:
+        wanted = listing(read_program(name))
+        if not words.compare:
+            print(wanted, end='')
+        elif differs(words.eel, name, wanted):
+            print(f'{name} differs')
+            fault = 1
     return fault
 
 

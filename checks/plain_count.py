@@ -1,8 +1,6 @@
 #!/usr/bin/env python3
 """Runs a program and prints how often its run completes each edge of its flow graph, made apart from the proved program.
 
-    checks/plain_count.py FILE [--visits | --trace K] [-n LIMIT] [-- ARG..]
-
 The run takes the standard input, and at most LIMIT steps: 100000000 unless said otherwise. Lines are those of
 `eel counts`: `edge N KIND FROM TO COUNT` for each edge that was completed, and how many edges there are, how many of
 them lie off a spanning tree, and the sum of the counts. With --visits they are those of `eel visits`: how often each word was
@@ -16,6 +14,7 @@ import collections
 import struct
 import sys
 
+from called import number, parser_of, read_program
 from listing import Graph, Program, home
 from programs import SMALL
 
@@ -541,27 +540,31 @@ def print_differing():
             print(f'{program.name}: {ending} after {steps} steps, where {program.ending} after {program.steps} was wanted')
 
 
-def main(words):
-    if words == ['--programs']:
+def parsed():
+    parser = parser_of(__doc__, '%(prog)s FILE [--visits | --trace K] [-n LIMIT] [-- ARG..]\n       %(prog)s --programs')
+    parser.add_argument('file', metavar='FILE', nargs='?', help='a program')
+    kind = parser.add_mutually_exclusive_group()
+    kind.add_argument('--visits', action='store_true', help='how often each word was carried out or begun')
+    kind.add_argument('--trace', metavar='K', type=number, help='the last 2^K edges')
+    kind.add_argument('--programs', action='store_true', help='run the small programs, and say which end otherwise than they must')
+    parser.add_argument('-n', dest='limit', metavar='LIMIT', type=number, default=100_000_000, help='how many steps at most')
+    at = sys.argv.index('--') if '--' in sys.argv else len(sys.argv)
+    words = parser.parse_args(sys.argv[1:at])
+    if (words.file is None) != words.programs:
+        parser.error('FILE is wanted, or --programs')
+    return words, sys.argv[at + 1:]
+
+
+def main():
+    words, args = parsed()
+    if words.programs:
         return print_differing()
-    args = []
-    if '--' in words:
-        at = words.index('--')
-        words, args = words[:at], words[at + 1:]
-    name, words = words[0], words[1:]
-    with open(name, 'rb') as opened:
-        file = opened.read()
-    lines = Counts.lines
-    if words[:1] == ['--visits']:
-        lines, words = Counts.visit_lines, words[1:]
-    elif words[:1] == ['--trace']:
-        bits, words = int(words[1]), words[2:]
-        lines = lambda counts: counts.last_lines(bits)
-    limit = int(words[1]) if words[:1] == ['-n'] else 100_000_000
-    counts, ending, steps = walk(file, [arg.encode() for arg in args], sys.stdin.buffer.read(), limit)
-    print(lines(counts), end='')
+    file = read_program(words.file)
+    counts, ending, steps = walk(file, [arg.encode() for arg in args], sys.stdin.buffer.read(), words.limit)
+    lines = counts.visit_lines() if words.visits else counts.lines() if words.trace is None else counts.last_lines(words.trace)
+    print(lines, end='')
     print(ending, 'after', steps, 'steps', file=sys.stderr)
 
 
 if __name__ == '__main__':
-    main(sys.argv[1:])
+    main()

@@ -1,9 +1,9 @@
 #!/usr/bin/env python3
 """Says where the proof time of a built checkout went: seconds of each crate, and with --modules of its dearest modules.
 
-The checkout must have been built from nothing with one job for each crate, as ./eel does for all but the last three. The
-prover keeps each module as it is proved, so a module cost the time since the one before it; what a crate loads of those below
-it counts as `start`. Where several jobs proved a crate, figures are rough.
+The checkout must have been built from nothing with one job for each crate, as ./eel does for all but the last three.
+The prover keeps each module as it is proved, so a module cost the time since the one before it; what a crate loads of
+those below it counts as `start`. Where several jobs proved a crate, figures are rough.
 """
 import argparse
 import os
@@ -30,7 +30,7 @@ def main():
     parser = argparse.ArgumentParser(description=__doc__, formatter_class=argparse.RawDescriptionHelpFormatter)
     parser.add_argument('crates', metavar='CRATE', nargs='*', help='these alone')
     parser.add_argument('--checkout', metavar='FOLDER', type=Path, default=TOP, help='a checkout; else this one')
-    parser.add_argument('--modules', metavar='COUNT', type=int, default=0, help='so many of the dearest modules of each crate')
+    parser.add_argument('--modules', metavar='COUNT', type=int, default=0, help='with so many of the dearest modules')
     words = parser.parse_args()
     built = {path.parent.parent.name: path.parent.parent for path in words.checkout.glob('crates/*/out/incremental')}
     missing = sorted(set(words.crates) - built.keys())
@@ -40,7 +40,8 @@ def main():
     sums = {name: sum(seconds for seconds, _ in modules) for name, modules in costs.items()}
     for name in sorted(sums, key=sums.get, reverse=True):
         dearest = sum(seconds for seconds, _ in costs[name][:10])
-        print(f'{sums[name]:7.0f} s  {name}, {len(costs[name])} modules, the ten dearest {dearest / (sums[name] or 1):.0%}')
+        part = dearest / (sums[name] or 1)
+        print(f'{sums[name]:7.0f} s  {name}, {len(costs[name])} modules, the ten dearest {part:.0%}')
         for seconds, module in costs[name][:words.modules]:
             print(f'    {seconds:6.1f} s  {module}')
     print(f'{sum(sums.values()):7.0f} s in all')

@@ -2,20 +2,17 @@
 """Prints how many steps programs take, and their files that are edited without snippets and with counters, and how many
 counters there are and spill a register, in all and by sorts of edges.
 
-    checks/steps.py [--eel PROGRAM] FILE..
-
 A file FILE.input beside FILE is its input. Steps are the least limit with which `eel run` ends.
 """
 import collections
 import os
 import struct
 import subprocess
-import sys
 import tempfile
 
+from called import EEL, built, input_of, parser_of, read_program
 from listing import Graph, Program, home
 
-EEL = os.path.join(os.path.dirname(os.path.abspath(__file__)), '..', 'eel')
 FIRST_KEPT = 0xfffff008 - 2**32
 
 
@@ -97,24 +94,23 @@ def counters(file, original):
 
 
 def main():
-    arguments, eel = sys.argv[1:], EEL
-    if arguments[:1] == ['--eel']:
-        eel, arguments = arguments[1], arguments[2:]
+    parser = parser_of(__doc__)
+    parser.add_argument('--eel', metavar='PROGRAM', default=EEL, help='the program that is run, in place of ./eel')
+    parser.add_argument('files', metavar='FILE', nargs='+', help='a program')
+    words = parser.parse_args()
+    eel = built(words.eel)
     with tempfile.TemporaryDirectory() as folder:
         out = os.path.join(folder, 'out')
-        for name in arguments:
-            given = b''
-            if os.path.exists(f'{name}.input'):
-                with open(f'{name}.input', 'rb') as file:
-                    given = file.read()
+        for name in words.files:
+            original, given = read_program(name), input_of(name)
             told, own = [os.path.basename(name)], steps(eel, name, given)
             told.append(str(own))
             for tool in ('plain', 'profile'):
                 subprocess.run([eel, 'edit', name, out, tool], check=True)
                 edited = steps(eel, out, given)
                 told += [str(edited), f'{edited / own:.2f}']
-            with open(out, 'rb') as file, open(name, 'rb') as original:
-                found, spilled = counters(file.read(), original.read())
+            with open(out, 'rb') as file:
+                found, spilled = counters(file.read(), original)
             told += [str(found.total()), str(spilled.total())]
             told += [f'{sort} {found[sort]}/{spilled[sort]}' for sort in sorted(found)]
             print(*told, sep='\t', flush=True)

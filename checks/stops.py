@@ -3,13 +3,9 @@
 stop with the walk of the original's run up to the last instruction that was visited. Both runs are those of
 plain_count.py, which shares nothing with the proved program.
 
-    checks/stops.py [NAME ..]             programs of crates/program_runs: all of them unless some are named
-    checks/stops.py --random COUNT [FIRST]  random programs, each the same in each run
-    checks/stops.py --switches COUNT [FIRST]  random programs with switches
-
-With --visits before these, edits with `every` are stopped, and told by `./eel visits`; with --trace K edits with `trace K`,
-told by `./eel trace`. Prints a line for each program: how many stops there were, how many of them at visits, how many had counts, and how many
-were between places; and then each stop that differs.
+With --visits edits with `every` are stopped, and told by `./eel visits`; with --trace K edits with `trace K`, told by `./eel
+trace`. Prints a line for each program: how many stops there were, how many of them at visits, how many had counts, and how
+many were between places; and then each stop that differs.
 """
 import bisect
 import os
@@ -19,6 +15,7 @@ import subprocess
 import sys
 import tempfile
 
+from called import EEL, built, number, parser_of, refuse
 from plain_count import Counts, Ended, Machine
 from programs import C_PROGRAMS, SMALL
 from random_programs import random_program
@@ -29,7 +26,6 @@ KNOWN = {'carry_loop': (84, 23, 28, 56), 'inner_landings': (73, 10, 34, 39), 'sw
     'lands_in_a_switch': (369, 87, 186, 183), 'shares_a_table': (203, 57, 115, 88), 'loads_before_its_jump': (114, 27, 61, 53),
     'ends_with_a_switch': (28, 11, 23, 5), 'ends_with_a_comparison': (13, 7, 9, 4), 'newline_count': (1000, 397, 503, 497)}
 
-EEL = os.path.join(os.path.dirname(os.path.abspath(__file__)), '..', 'eel')
 STEPS = 1000
 ENDINGS = ['none', 'exit', 'trap', 'window', 'couple']
 
@@ -164,24 +160,36 @@ def report(name, file, given, way):
     return answer[-1]
 
 
-def main(words):
+def parsed():
+    parser = parser_of(__doc__)
+    kind = parser.add_mutually_exclusive_group()
+    kind.add_argument('--visits', action='store_true', help='edits with `every`')
+    kind.add_argument('--trace', metavar='K', type=number, help='edits with `trace K`')
+    maker = parser.add_mutually_exclusive_group()
+    maker.add_argument('--random', metavar='COUNT', type=number, help='random programs, each the same in each run')
+    maker.add_argument('--switches', metavar='COUNT', type=number, help='random programs with switches')
+    parser.add_argument('--first', metavar='NUMBER', type=number, default=0, help='the number of the first of these')
+    parser.add_argument('names', metavar='NAME', nargs='*', help='programs of crates/program_runs: all unless some are named')
+    return parser.parse_args()
+
+
+def main():
+    words, programs = parsed(), SMALL + C_PROGRAMS
+    if unknown := set(words.names) - {program.name for program in programs}:
+        refuse(f'{min(unknown)}: no program of crates/program_runs')
+    built(EEL)
     os.chdir(tempfile.mkdtemp())
-    way = COUNTS
-    if words[:1] == ['--visits']:
-        way, words = VISITS, words[1:]
-    elif words[:1] == ['--trace']:
-        way, words = last_edges(int(words[1])), words[2:]
-    if words[:1] in (['--random'], ['--switches']):
-        maker = random_program if words[0] == '--random' else random_switches
-        first = int(words[2]) if len(words) > 2 else 0
+    way = VISITS if words.visits else COUNTS if words.trace is None else last_edges(words.trace)
+    if words.random is not None or words.switches is not None:
+        count, maker = (words.switches, random_switches) if words.random is None else (words.random, random_program)
         faults = 0
-        for number in range(first, first + int(words[1])):
-            random.seed(number)
-            faults += report(f'random {number}', maker(), b'a line, and another\nof them\n', way)
+        for seed in range(words.first, words.first + count):
+            random.seed(seed)
+            faults += report(f'random {seed}', maker(), b'a line, and another\nof them\n', way)
         return 1 if faults else 0
-    chosen = [program for program in SMALL + C_PROGRAMS if not words or program.name in words]
+    chosen = [program for program in programs if not words.names or program.name in words.names]
     return 1 if sum(report(program.name, program.file(), program.given, way) for program in chosen) else 0
 
 
 if __name__ == '__main__':
-    sys.exit(main(sys.argv[1:]))
+    sys.exit(main())

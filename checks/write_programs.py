@@ -6,6 +6,7 @@ import listings
 import sessions
 import stops
 import tables
+from called import parser_of
 from programs import C_PROGRAMS, RUNS, SMALL
 
 
@@ -15,6 +16,7 @@ def write(name, content):
 
 
 def main():
+    parser_of(__doc__).parse_args()
     programs = SMALL + C_PROGRAMS
     for program in programs:
         if program.words:

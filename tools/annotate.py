@@ -2,19 +2,20 @@
 """Prints a program's instructions, routine by routine, with how often a run executed each.
 
 With COUNTS the routines come hottest first, each with its share of all instructions that ran, and on a terminal in
-colours: red is hot, and grey never ran. What is no code is left out: the words that stand in no section of instructions,
-and to which no routine, no edge and not this run leads. By counts of edges a landing in the midst of a block counts for the
-whole block; visits of words are exact.
+colours: red is hot, and grey never ran. What is no code is left out: the words that stand in no section of
+instructions, and to which no routine, no edge and not this run leads. By counts of edges a landing in the midst of a
+block counts for the whole block; visits of words are exact.
 
-With a trace the last edges of a run are printed, the oldest first, each with the instructions that it led to: that in its
-delay slot, and those of its block, of which the last ones may not have been reached.
+With a trace the last edges of a run are printed, the oldest first, each with the instructions that it led to: that in
+its delay slot, and those of its block, of which the last ones may not have been reached. With --routine those that
+lead into this routine, within it and out of it are printed.
 """
 import argparse
 import os
 import sys
 from collections import defaultdict
 
-from shown import VISITS_HELP, Shown, is_trace, print_lines, run_of, share, trace_of
+from shown import NAMES_HELP, TRACE_HELP, Shown, is_trace, print_lines, run_of, share, trace_of
 
 RED, YELLOW, GREY, PLAIN = '\x1b[1;31m', '\x1b[33m', '\x1b[90m', '\x1b[0m'
 
@@ -44,7 +45,8 @@ class Annotation:
         if not self.run:
             return f'{self.shown.name_of(start)}:'
         executed = self.executed(words)
-        return f'{self.shown.name_of(start)}: {executed} of {self.run.total} instructions, {share(executed, self.run.total)}'
+        part = share(executed, self.run.total)
+        return f'{self.shown.name_of(start)}: {executed} of {self.run.total} instructions, {part}'
 
     def executed(self, words):
         return sum(self.run.words[address] for address in words) if self.run else 0
@@ -69,8 +71,14 @@ class Annotation:
 class Trail:
     """The last edges of a run, with the instructions to which each led."""
 
-    def __init__(self, shown, numbers):
-        self.shown, self.numbers, self.texts = shown, numbers, shown.instructions()
+    def __init__(self, shown, numbers, routine):
+        self.shown, self.routine, self.texts = shown, routine, shown.instructions()
+        self.numbers = [number for number in numbers
+                        if routine is None or routine in self.routines(shown.edges[number])]
+
+    def routines(self, edge):
+        """The routines from which an edge leads and to which it does."""
+        return [self.shown.routine_of(end) for end in (edge.source, edge.target) if end is not None]
 
     def place(self, address):
         """An address with the routine that holds it and how far behind its beginning that is."""
@@ -87,20 +95,23 @@ class Trail:
             if edge.slot is not None:
                 yield f'  {edge.slot:08x}  {self.texts[edge.slot]}    (slot)'
             if edge.target is not None:
-                yield from (f'  {address:08x}  {self.texts[address]}' for address in self.shown.blocks[edge.target].addresses())
+                for address in self.shown.blocks[edge.target].addresses():
+                    yield f'  {address:08x}  {self.texts[address]}'
 
 
 def main():
     parser = argparse.ArgumentParser(description=__doc__, formatter_class=argparse.RawDescriptionHelpFormatter)
     parser.add_argument('file', metavar='FILE', help='the program')
-    parser.add_argument('counts', metavar='COUNTS', nargs='?', help=VISITS_HELP)
-    parser.add_argument('--routine', metavar='NAME', help='this routine alone, by its name or its address in hexadecimal')
+    parser.add_argument('counts', metavar='COUNTS', nargs='?', help=TRACE_HELP)
+    parser.add_argument('--routine', metavar='NAME', help='this routine alone, by its name or its address')
+    parser.add_argument('--names', metavar='NAMES', help=NAMES_HELP)
     words = parser.parse_args()
-    shown = Shown(words.file)
-    if words.counts and is_trace(words.counts):
-        print_lines(Trail(shown, trace_of(shown, words.counts)).lines())
+    shown = Shown(words.file, words.names)
+    if words.counts is not None and is_trace(words.counts):
+        routine = shown.routine_called(words.routine) if words.routine else None
+        print_lines(Trail(shown, trace_of(shown, words.counts), routine).lines())
         return
-    run = run_of(shown, words.counts) if words.counts else None
+    run = run_of(shown, words.counts) if words.counts is not None else None
     routines = code_words(shown, run)
     if words.routine:
         start = shown.routine_called(words.routine)

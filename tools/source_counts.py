@@ -1,9 +1,9 @@
-#!/usr/bin/python3
+#!/usr/bin/env python3
 """Prints how often a run reached each line of a program's sources.
 
-The program must be the original that was edited with `profile`, with debug information (gcc -g or clang -g). Lines are
-printed as gcov prints them: `count: line: text`, `#####` where never, and `-` where there is no code. A program without
-line tables gets its functions alone.
+The program must be the original that was edited, with debug information (gcc -g or clang -g). Lines are printed as gcov
+prints them: `count: line: text`, `#####` where never, and `-` where there is no code. A program without line tables
+gets its functions alone. By visits, calls and branches are worked out from how often instructions ran.
 """
 import argparse
 import os
@@ -11,8 +11,8 @@ from collections import Counter, defaultdict
 from dataclasses import dataclass
 
 from call_costs import CallCosts
-from debug_lines import DebugLines
-from shown import COUNTS_HELP, Executions, Shown, counts_of, print_lines, read_lines, refuse
+from debug_lines import OPTIMISED, DebugLines
+from shown import NAMES_HELP, RUN_HELP, Shown, note, print_lines, read_lines, refuse, run_of
 
 
 @dataclass
@@ -26,14 +26,27 @@ class Called:
 class SourceCounts:
     """How often a run reached lines, functions and branches."""
 
-    def __init__(self, shown, counts, debug):
-        self.shown, self.debug = shown, debug
-        self.run = Executions(shown, counts)
+    def __init__(self, shown, run, debug):
+        self.shown, self.debug, self.run = shown, debug, run
+        self.costs = CallCosts(shown, run)
         self.functions = self.called()
         self.lines = self.reached()
 
     def times(self, address):
         return self.run.words.get(address, 0)
+
+    def entries(self, address, words):
+        """How often an inlined copy was entered: by the edges that lead to its entry from words that aren't its own."""
+        block = self.shown.blocks.get(address)
+        if block is None:
+            return self.times(address)
+        return sum(self.run.edge(edge) for edge in block.into
+                   if edge.source is None or self.shown.blocks[edge.source].last() not in words)
+
+    def calls(self, function):
+        copies = sum(self.entries(address, words) for address, words in function.copies)
+        return copies + sum(self.costs.calls_of(start) if start in self.shown.routines else self.times(start)
+                            for start in function.starts)
 
     def marked(self):
         """Lines by their statements' marks: a position in a line is as often reached as the blocks are in which its
@@ -61,13 +74,12 @@ class SourceCounts:
 
     def called(self):
         """The functions of the debug information, and the routines that it doesn't know."""
-        functions = [Called(function.name, function.line,
-                            sum(map(self.times, function.starts + function.copies + function.lowest)))
+        functions = [Called(function.name, function.line, self.calls(function))
                      for function in self.debug.functions.values()]
         known = {start for function in self.debug.functions.values() for start in function.starts}
         code = self.shown.code()
-        return functions + [Called(name, self.debug.line_at.get(start), self.times(start))
-                            for start, name in self.shown.routines.items() if start not in known and start in code]
+        return functions + [Called(self.shown.name_of(start), self.debug.line_at.get(start), self.costs.calls_of(start))
+                            for start in self.shown.starts if start not in known and start in code]
 
     def reached(self):
         """All lines; where a function's code has none of the line that names it, that one is reached by its calls."""
@@ -76,7 +88,7 @@ class SourceCounts:
         known = {(line, body_at.get(address)) for address, line in line_at.items()}
         known |= {(row.line, body_at.get(row.address)) for row in self.debug.marks}
         for function in self.debug.functions.values():
-            for entered in function.starts + function.copies:
+            for entered in function.starts + [address for address, _ in function.copies]:
                 if (function.line, body_at.get(entered)) not in known:
                     lines[function.line] = lines.get(function.line, 0) + self.times(entered)
         return lines
@@ -87,6 +99,19 @@ class SourceCounts:
         for line, count in sorted(self.lines.items(), key=lambda item: (item[0].path, item[0].number)):
             sources[line.path][line.number] = count
         return sources
+
+
+def is_newer(path, program):
+    """Whether a source was changed since the program was built."""
+    return os.path.isfile(path) and os.path.getmtime(path) > os.path.getmtime(program)
+
+
+def tell_limits(counts, program):
+    """Says once what may be wrong with lines."""
+    for path in filter(lambda path: is_newer(path, program), counts.sources()):
+        note(f'{path} is newer than {program}: its lines may have moved')
+    if counts.debug.is_optimised:
+        note(f'{program} {OPTIMISED}')
 
 
 def gcov_lines(counts):
@@ -150,40 +175,40 @@ def lcov_lines(counts):
 
 
 class Callgrind:
-    """A profile as `callgrind` writes it: the instructions that ran, in the functions that hold them, and their calls."""
+    """A profile as `callgrind` writes it: the instructions that ran, by their functions, and their calls."""
 
     def __init__(self, counts):
-        self.counts, self.shown, self.debug = counts, counts.shown, counts.debug
-        self.costs = CallCosts(self.shown, counts.run)
-        self.calls = {call.address: call for call in self.costs.calls}
+        self.counts, self.shown, self.debug, self.costs = counts, counts.shown, counts.debug, counts.costs
+        self.calls = defaultdict(list)
+        for call in self.costs.calls:
+            self.calls[call.address].append(call)
 
-    def path(self, address, default='???'):
-        line = self.debug.line_at.get(address)
-        return line.path if line else default
+    def path(self, start):
+        """The file of a routine, from the current folder: callgrind_annotate takes one with a whole path for two."""
+        line = self.debug.line_at.get(start)
+        return os.path.relpath(line.path) if line else '???'
 
-    def position(self, address):
-        line = self.debug.line_at.get(address)
-        return f'0x{address:08x} {line.number if line else 0}'
+    def position(self, address, number):
+        return f'0x{address:08x} {number}'
 
-    def instruction(self, address):
-        yield f'{self.position(address)} {self.counts.times(address)}'
-        if address in self.calls:
-            call = self.calls[address]
+    def instruction(self, address, number):
+        yield f'{self.position(address, number)} {self.counts.times(address)}'
+        for call in self.calls[address]:
+            line = self.debug.line_at.get(call.callee)
             yield f'cfi={self.path(call.callee)}'
             yield f'cfn={self.shown.name_of(call.callee)}'
-            yield f'calls={call.count} {self.position(call.callee)}'
-            yield f'{self.position(address)} {self.costs.cost(call)}'
+            yield f'calls={call.count} {self.position(call.callee, line.number if line else 0)}'
+            yield f'{self.position(address, number)} {self.costs.cost(call)}'
 
     def routine(self, start, addresses):
-        """What stands in another file than the routine begins in was inlined."""
-        own = path = self.path(start)
-        yield f'fl={own}'
+        """What stands in another file than the routine begins in was inlined, and counts for the line before it."""
+        own = line = self.debug.line_at.get(start)
+        yield f'fl={self.path(start)}'
         yield f'fn={self.shown.name_of(start)}'
         for address in addresses:
-            if self.path(address, own) != path:
-                path = self.path(address, own)
-                yield f'{"fe" if path == own else "fi"}={path}'
-            yield from self.instruction(address)
+            here = self.debug.line_at.get(address)
+            line = here if here and own and here.path == own.path else line
+            yield from self.instruction(address, line.number if line else 0)
         yield ''
 
     def lines(self):
@@ -202,21 +227,26 @@ class Callgrind:
 def printed(counts, words):
     if words.callgrind:
         return Callgrind(counts).lines()
-    if words.lcov and not counts.lines:
-        refuse(f'{words.file} has no line tables: compile it with -g')
-    return lcov_lines(counts) if words.lcov else gcov_lines(counts) if counts.lines else function_lines(counts)
+    if not counts.lines:
+        if words.lcov:
+            refuse(f'{words.file} has no line tables: compile it with -g')
+        note(f'{words.file} has no line tables (compile it with -g), so that only functions are printed')
+        return function_lines(counts)
+    tell_limits(counts, words.file)
+    return lcov_lines(counts) if words.lcov else gcov_lines(counts)
 
 
 def main():
     parser = argparse.ArgumentParser(description=__doc__, formatter_class=argparse.RawDescriptionHelpFormatter)
     parser.add_argument('file', metavar='FILE', help='the program')
-    parser.add_argument('counts', metavar='COUNTS', help=COUNTS_HELP)
+    parser.add_argument('counts', metavar='COUNTS', help=RUN_HELP)
     form = parser.add_mutually_exclusive_group()
     form.add_argument('--lcov', action='store_true', help='print a tracefile, of which genhtml makes pages')
     form.add_argument('--callgrind', action='store_true', help='print a profile for callgrind_annotate and KCachegrind')
+    parser.add_argument('--names', metavar='NAMES', help=NAMES_HELP)
     words = parser.parse_args()
-    shown = Shown(words.file)
-    print_lines(printed(SourceCounts(shown, counts_of(shown, words.counts), DebugLines(shown)), words))
+    shown = Shown(words.file, words.names)
+    print_lines(printed(SourceCounts(shown, run_of(shown, words.counts), DebugLines(shown)), words))
 
 
 if __name__ == '__main__':

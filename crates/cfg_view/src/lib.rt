@@ -31,7 +31,7 @@ pub struct View {
     pub switches: Vec<Switch>,
 }
 
-/// The view of a file, or its first fault. Marked words lead, as those do at which routines start; marks
+/// The view of a file, or its first fault. Marked words begin blocks, as the words do at which routines start; marks
 /// outside the text are passed over.
 #[tactic(auto, unfolding(crate::specs::View::view_of))]
 pub fn look(alloc: Global, bytes: &[u8], marks: &[WordNo]) -> Result<View, ReadFault>

@@ -21,7 +21,7 @@ use Rattle.eel.specs.Answers.Run.{HasRun, IsNotRun, IsUnfed, StopsAt, WasBroken,
 
 -- ---- the notes
 
--- the cells of the notes, if there are any, lie in one loaded segment with leave to be read (PF_R)
+-- the cells of the notes, if there are any, lie in one loaded segment with permission to be read (PF_R)
 abbrev pub AreMapped : List ℕ → Notes → Type 0
 AreMapped bytes notes = 0 < notes.cells → list_any (holds_cells notes.base notes.cells) (mappings bytes) ≡ true
 

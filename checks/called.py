@@ -1,0 +1,65 @@
+"""How the scripts of this folder are called: their words, the files that they read, and the program that they run."""
+import argparse
+import os
+import shutil
+import sys
+
+import judge
+
+TOP = os.path.dirname(os.path.dirname(os.path.abspath(__file__)))
+EEL = os.path.join(TOP, 'eel')
+
+
+def refuse(line):
+    """Ends the script with one line on the error stream."""
+    sys.exit(f'{os.path.basename(sys.argv[0])}: {line}')
+
+
+def parser_of(text, usage=None):
+    """A parser of a script's words, whose help is the script's own text."""
+    return argparse.ArgumentParser(description=text, formatter_class=argparse.RawDescriptionHelpFormatter, usage=usage)
+
+
+def number(text):
+    """A word that is a number from 0 on."""
+    if not text.isdecimal():
+        raise argparse.ArgumentTypeError(f'{text!r} is no number')
+    return int(text)
+
+
+def read_file(name):
+    """The bytes of a file."""
+    try:
+        with open(name, 'rb') as file:
+            return file.read()
+    except (OSError, ValueError) as error:
+        refuse(f'{name}: {getattr(error, "strerror", None) or error}')
+
+
+def read_program(name, faults=judge.edit_faults):
+    """The bytes of a program, which must be one that can be edited, or be run."""
+    file = read_file(name)
+    if found := faults(file):
+        refuse(f'{name}: file fault {found[0]}')
+    return file
+
+
+def input_of(name):
+    """What stands in the file beside a program that is its input."""
+    return read_file(f'{name}.input') if os.path.exists(f'{name}.input') else b''
+
+
+def built(program=EEL):
+    """The program that is to be run. `./eel` must be built: its build takes half an hour, which isn't seen here."""
+    made = os.path.join(TOP, 'crates', 'eel_main', 'out', 'eel_main') if program == EEL else program
+    if not (os.path.isfile(made) and os.access(made, os.X_OK)):
+        refuse('./eel is not built yet: call build.sh first, which takes half an hour, once' if program == EEL
+               else f'{program}: no program')
+    return program
+
+
+def needs(*programs):
+    """Programs of the machine that a script calls."""
+    for program in programs:
+        if not shutil.which(program):
+            refuse(f'{program} is missing')

@@ -1,0 +1,205 @@
+#!/usr/bin/env python3
+"""Says whether a program can be edited and run: tools/check.py FILE
+
+It names the float, V9 and other instructions that no run gets past, and the system calls, each with the functions where
+they are. What is looked at are the words to which CALLs, branches and switches lead from where the program is entered;
+those to which only jumps through registers may lead are told apart. The status is 0 where nothing stands in the way, 1
+where the file can't be edited or run, and 2 where something may stop its run.
+"""
+import argparse
+import os
+import sys
+import tempfile
+from collections import defaultdict
+
+from shown import NAMES_HELP, TOP, Shown, call_eel, note, print_lines, read_file
+
+CALLS = {1: 'exit', 3: 'read', 4: 'write', 17: 'brk'}
+G1 = 1
+FLOAT_LOADS = {0x20, 0x21, 0x23, 0x24, 0x25, 0x27}
+COPROCESSOR_LOADS = {0x30, 0x31, 0x33, 0x34, 0x35, 0x37}
+V9_LOADS = {0x08, 0x0b, 0x0e, 0x18, 0x1b, 0x1e, 0x22, 0x2d, 0x32, 0x36, 0x3c, 0x3d, 0x3e}
+V9_OPERATIONS = {0x09, 0x0d, 0x2b, 0x2c, 0x2d, 0x2e, 0x2f, 0x3e}
+PRIVILEGED = {0x29, 0x2a, 0x2b, 0x31, 0x32, 0x33, 0x39}
+
+
+def sort_of(word):
+    """Why no run gets past a word that is no instruction here; UNIMP is meant to stop a run."""
+    op, op2, op3 = word >> 30, word >> 22 & 7, word >> 19 & 63
+    if op == 0:
+        return {0: None, 1: 'V9', 3: 'V9', 5: 'V9', 6: 'float', 7: 'coprocessor'}.get(op2, 'unknown')
+    if op == 2 and op3 in (0x34, 0x35) or op == 3 and op3 in FLOAT_LOADS:
+        return 'float'
+    if op == 2 and op3 in (0x36, 0x37) or op == 3 and op3 in COPROCESSOR_LOADS:
+        return 'coprocessor'
+    if op == 2 and (op3 in V9_OPERATIONS - PRIVILEGED or op3 == 0x28) or op == 3 and op3 in V9_LOADS:
+        return 'V9'
+    if op == 2 and op3 in PRIVILEGED or op == 3 and 0x10 <= op3 <= 0x1f:
+        return 'privileged'
+    return 'unknown'
+
+
+class Reach:
+    """The words to which control leads from the entry, and those of the other code."""
+
+    def __init__(self, shown):
+        self.shown, self.texts = shown, shown.instructions()
+        self.sure = self.words(self.reached([shown.entry]))
+        self.maybe = self.words(shown.code()) - self.sure
+
+    def reached(self, waiting):
+        found = set()
+        while waiting:
+            block = self.shown.block_of(waiting.pop())
+            if block and block.first not in found:
+                found.add(block.first)
+                waiting.extend(self.shown.leads_to(block))
+        return found
+
+    def words(self, firsts):
+        blocks = [self.shown.blocks[first] for first in firsts]
+        slots = {self.shown.slot_of(block)[0] for block in blocks} - {None}
+        return {address for block in blocks for address in block.addresses()} | slots
+
+    def function(self, address):
+        return self.shown.name_of(self.shown.routine_of(address))
+
+    def is_odd(self, address):
+        """Whether a word is listed as a number, or is a V9 one that has bits set that V8 ignores."""
+        return self.texts.get(address, '').startswith('.word')
+
+    def value(self, address, register):
+        """What stands in a register: a number, the register of the routine's argument in a list, or None."""
+        for before in range(address - 4, (self.shown.routine_of(address) or address) - 4, -4):
+            word = self.shown.word(before)
+            if word is not None and writes(word, register):
+                if word & 0xc1ffe000 == 0x80102000:  # or %g0,NUMBER
+                    return word & 0x1fff
+                if word & 0xc1ffffe0 != 0x80100000:  # or %g0,REGISTER
+                    return None
+                register = word & 31
+        return [register]
+
+    def system_calls(self, address):
+        """The numbers that a system call may have in %g1, with their functions: by the words before it, or where it has
+        its function's argument, by those before that is called."""
+        value = self.value(address, G1)
+        if not isinstance(value, list):
+            return [(value, self.function(address))]
+        argument = value[0] & 15  # %i0 was %o0 before the SAVE
+        routine = self.shown.blocks[self.shown.routine_of(address)]
+        calls = [self.shown.blocks[edge.source].last() for edge in routine.into
+                 if edge.kind == 'call' and argument >= 8]
+        numbers = [(self.value(call + 8, argument), self.function(call)) for call in calls]
+        return [(None if isinstance(number, list) else number, function) for number, function in numbers] \
+            or [(None, self.function(address))]
+
+
+def writes(word, register):
+    """Whether an instruction writes a register."""
+    op, op2, op3 = word >> 30, word >> 22 & 7, word >> 19 & 63
+    keeps = {0: op2 != 4, 1: True, 2: op3 in (0x30, 0x3a, 0x3b), 3: op3 in (4, 5, 6, 7)}[op]  # stores, and the like
+    return not keeps and word >> 25 & 31 == register
+
+
+def where(functions):
+    """Some functions, by name."""
+    names = sorted(functions)
+    return ', '.join(names[:4]) + (f' and {len(names) - 4} more' if len(names) > 4 else '')
+
+
+def stops(reach, words):
+    """What no run gets past, by sorts, with the functions where they are."""
+    found = defaultdict(list)
+    for address in sorted(words):
+        sort = sort_of(reach.shown.word(address)) if reach.is_odd(address) else None
+        if sort:
+            found[sort].append(address)
+    return found
+
+
+def traps(reach, words):
+    """The system calls by number, and the other traps, each with its functions."""
+    calls, others = defaultdict(set), defaultdict(set)
+    for address in sorted(words):
+        text = reach.texts.get(address, '')
+        if text == 'ta 16':
+            for number, function in reach.system_calls(address):
+                calls[number].add(function)
+        elif text.startswith('ta ') and text != 'ta 3':
+            others[text].add(reach.function(address))
+    return calls, others
+
+
+class Findings:
+    """Lines of what was found, and whether something may stop a run."""
+
+    def __init__(self, reach):
+        self.reach, self.stops_runs = reach, False
+
+    def stop_lines(self):
+        for words, how in ((self.reach.sure, ''), (self.reach.maybe, ', where only jumps through registers may lead')):
+            for sort, addresses in sorted(stops(self.reach, words).items()):
+                self.stops_runs = True
+                functions = where(set(map(self.reach.function, addresses)))
+                count = f'{len(addresses)} {sort} instruction{"s" if len(addresses) > 1 else ""}'
+                yield f'{count}, the first at {addresses[0]:08x}, in {functions}{how}'
+
+    def call_lines(self):
+        calls, others = traps(self.reach, self.reach.sure | self.reach.maybe)
+        known = [f'{CALLS[number]} (in {where(calls[number])})' for number in CALLS if number in calls]
+        yield f'system calls: {", ".join(known) or "none of those that are known"}'
+        for number in sorted(set(calls) - set(CALLS), key=lambda number: number or 0):
+            named = 'of a number that is had elsewhere' if number is None else f'{number}, which fails with ENOSYS'
+            self.stops_runs |= number is not None
+            yield f'a system call {named}, in {where(calls[number])}'
+        for text, functions in sorted(others.items()):
+            yield f'{text}, at which a run traps, in {where(functions)}'
+
+    def lines(self):
+        stopping, calls = list(self.stop_lines()), list(self.call_lines())
+        yield 'can be run: ' + ('not past what is listed here' if self.stops_runs else 'yes')
+        yield from (f'  {line}' for line in stopping + calls)
+
+
+def refused(name):
+    """Why a file can't be edited, or None: a profile of it is made."""
+    with tempfile.TemporaryDirectory(prefix='eel-check-') as folder:
+        made = call_eel('edit', name, os.path.join(folder, 'written'), 'profile')
+    told = made.stderr.decode('utf-8', 'replace').strip().removeprefix('eel: ').removeprefix(f'{name}: ')
+    return (told or f'status {made.returncode}') if made.returncode else None
+
+
+def explained(code):
+    """What `eel --faults` says of a file fault, on one line."""
+    rows, left, right = call_eel('--faults').stdout.decode().splitlines(), [], []
+    for number, row in enumerate(rows):
+        if row[:4].strip() == code or left and row[:4].strip() == '' and row:
+            left.append(row[4:61].strip())
+            right.append(row[61:].strip())
+        elif left:
+            break
+    return f'it {" ".join(filter(None, left))}; {" ".join(filter(None, right))}'
+
+
+def main():
+    parser = argparse.ArgumentParser(description=__doc__, formatter_class=argparse.RawDescriptionHelpFormatter)
+    parser.add_argument('file', metavar='FILE', help='the program')
+    parser.add_argument('--names', metavar='NAMES', help=NAMES_HELP)
+    words = parser.parse_args()
+    why = refused(words.file) if read_file(words.file) is not None else None
+    if why:
+        print(f'{words.file}: can be edited: no: {why}')
+        if 'file fault' in why:
+            print(f'  {explained(why.split()[2])}')
+        return 1
+    shown = Shown(words.file, words.names)
+    findings = Findings(Reach(shown))
+    count = sum(block.words for block in shown.blocks.values())
+    size = f'{count} words, {len(shown.routines)} routines, {len(shown.edges)} edges'
+    print_lines([f'{words.file}: {size}', 'can be edited: yes', *findings.lines()])
+    return 2 if findings.stops_runs else 0
+
+
+if __name__ == '__main__':
+    sys.exit(main())

@@ -1,0 +1,99 @@
+"""The loops of a program in a run: natural loops of each routine, with the instructions that they took."""
+from collections import defaultdict
+from dataclasses import dataclass, field
+
+
+@dataclass
+class Loop:
+    """A loop: the block at which it begins, its blocks, and how often control came back to its beginning."""
+    head: int
+    routine: int
+    rounds: int = 0
+    blocks: set = field(default_factory=set)
+    instructions: int = 0
+    own: int = 0  # without those of the loops within it
+
+
+def ways_within(shown, run):
+    """Where control went within each routine, and how often; from a call it goes on behind it."""
+    ways = defaultdict(lambda: defaultdict(int))
+    for edge in shown.edges:
+        if edge.source is None or not run.edge(edge):
+            continue
+        last = shown.blocks[edge.source].last()
+        if edge.kind == 'call' or edge.kind == 'out' and shown.word(last) >> 25 & 31:
+            for behind in (last + 8, last + 12):
+                if behind in shown.blocks and shown.is_behind_call(behind) and run.blocks[behind]:
+                    ways[edge.source][behind] += run.edge(edge)
+        elif edge.target is not None and shown.routine_of(edge.target) == shown.routine_of(edge.source):
+            ways[edge.source][edge.target] += run.edge(edge)
+    return ways
+
+
+def back_ways(heads, ways):
+    """The ways that lead back to a block on the path to them, by a search in depth from the given blocks."""
+    seen, path = set(), set()
+    for head in heads:
+        if head in seen:
+            continue
+        seen.add(head)
+        path.add(head)
+        waiting = [(head, iter(ways[head]))]
+        while waiting:
+            block, targets = waiting[-1]
+            for target in targets:
+                if target in path:
+                    yield block, target
+                elif target not in seen:
+                    seen.add(target)
+                    path.add(target)
+                    waiting.append((target, iter(ways[target])))
+                    break
+            else:
+                path.discard(block)
+                waiting.pop()
+
+
+def leading_to(head, ends, before):
+    """The blocks from which the ends are reached without the head, and the head."""
+    found, waiting = {head}, list(ends)
+    while waiting:
+        block = waiting.pop()
+        if block not in found:
+            found.add(block)
+            waiting.extend(before[block])
+    return found
+
+
+def costs_of(shown, run):
+    """The instructions of each block, with those in its delay slot."""
+    costs = {}
+    for first, block in shown.blocks.items():
+        costs[first] = sum(run.words[address] for address in block.addresses())
+    for edge in shown.edges:
+        if edge.slot is not None and edge.source is not None and run.edge(edge):
+            costs[edge.source] += run.edge(edge)
+            costs[shown.block_of(edge.slot).first] -= run.edge(edge)
+    return costs
+
+
+def loops(shown, run):
+    """All loops that went round, those of most instructions of their own first."""
+    ways, before, found, costs = ways_within(shown, run), defaultdict(set), {}, costs_of(shown, run)
+    for block, targets in list(ways.items()):
+        for target in targets:
+            before[target].add(block)
+    ends = defaultdict(list)
+    for block, head in back_ways(list(shown.starts) + sorted(ways), ways):
+        loop = found.setdefault(head, Loop(head, shown.routine_of(head)))
+        loop.rounds += ways[block][head]
+        ends[head].append(block)
+    for head, loop in found.items():
+        loop.blocks = leading_to(head, ends[head], before)
+        loop.instructions = sum(costs[block] for block in loop.blocks)
+    inner = {}
+    for loop in sorted(found.values(), key=lambda loop: -len(loop.blocks)):
+        inner.update(dict.fromkeys(loop.blocks, loop.head))
+    for block, head in inner.items():
+        found[head].own += costs[block]
+    return sorted(found.values(), key=lambda loop: (-loop.own, loop.head))
