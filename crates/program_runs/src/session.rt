@@ -91,6 +91,7 @@ impl Session {
     /// - `noted OLD NEW AT BYTES ..` does the same with offsets in OLD's notes;
     /// - `keep NAME` puts a held file into the script's folder;
     /// - `input NAME` makes a file the input;
+    /// - `input_zeros COUNT` makes so many zeros the input;
     /// - `room OUT ERR` says how many bytes the two streams take;
     /// - `fail DEVICE CALL ..` makes these calls of a device fail during the next call of the editor;
     /// - `watch`, the first line, has each later answer list the names that the call changed;
@@ -129,6 +130,7 @@ impl Session {
             "noted" => self.hold_noted(alloc, words),
             "keep" => self.keep(folder, words),
             "input" => self.take_input(alloc, folder, words),
+            "input_zeros" => self.take_zeros(alloc, words),
             "room" => self.make_room(words),
             "fail" => self.let_fail(alloc, words),
             "watch" => self.watch(words),
@@ -208,6 +210,14 @@ impl Session {
             return Err(Refusal::Script);
         };
         self.input = folder.fetch(alloc, name, FILE_LIMIT)?;
+        Ok(())
+    }
+
+    fn take_zeros(&mut self, alloc: Global, words: &[&str]) -> Result<(), Refusal> {
+        let [count] = words else {
+            return Err(Refusal::Script);
+        };
+        self.input = vec![in alloc; 0; number(count)?]?;
         Ok(())
     }
 
