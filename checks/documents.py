@@ -15,7 +15,7 @@ import sys
 TOP = os.path.dirname(os.path.dirname(os.path.abspath(__file__)))
 # What documents name of the world outside: programs, and words of file formats and of the standards.
 OUTSIDE = set('''apt awk bash bzip2 c callgrind callgrind_annotate clang cmp cp cpufreq dd dot eel false gcc gcov gdb
-genhtml git kill kcachegrind lcov ld llvm lua make man massif mkdir nice nm nproc objcopy objdump od perf python3 qemu
+genhtml git graphviz kill kcachegrind lcov ld llvm lua make man massif mkdir nice nm nproc objcopy objdump od perf python3 qemu
 readelf rt sched_autogroup_enabled sed sh sparc strip true valgrind x Fn'''.split())
 SUFFIXES = {('.', suffix) for suffix in 'py sh md antt rt c h S svg png txt edit patch dot bash'.split()}
 PATH = re.compile(r'[\w.+-]+(?:/[\w.+-]+)*/?')

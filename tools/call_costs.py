@@ -54,7 +54,7 @@ class CallCosts:
             if edge.kind == 'land' and edge.target in shown.routines:
                 self.landed[edge.target] += run.edge(edge)
         self.calls = [Call(*site, count) for site, count in (self.find() + self.through_registers()).items()]
-        self.landed[shown.entry] += 1
+        self.landed[shown.entry] += run.starts
         self.own = Counter()
         for address, count in run.words.items():
             self.own[shown.routine_of(address)] += count

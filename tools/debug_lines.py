@@ -1,5 +1,6 @@
 """The lines and functions of a program by its debug information, which may stand in files beside it."""
 import os
+import re
 import struct
 import zlib
 from dataclasses import dataclass, field
@@ -104,9 +105,11 @@ class DebugLines:
 
     def add_bodies(self, unit):
         """Inner bodies come after those in which they lie, and take their words; what the linker left out has none."""
+        levels = re.findall(r' -O(\w*)', unit.attribute(dwarf.PRODUCER, ''))
+        self.is_optimised |= levels[-1:] not in ([], ['0'])
         for entry in unit.functions():
-            self.is_optimised |= entry.tag == dwarf.INLINED
-            self.is_optimised |= dwarf.CALL_ALL_CALLS in entry or dwarf.GNU_ALL_CALL_SITES in entry
+            if not unit.attribute(dwarf.PRODUCER, '').startswith('GNU'):  # clang doesn't tell its options
+                self.is_optimised |= dwarf.CALL_ALL_CALLS in entry or dwarf.GNU_ALL_CALL_SITES in entry
             ranges = list(unit.ranges(entry))
             words = {address for low, high in ranges for address in self.words(low, high)}
             if words:

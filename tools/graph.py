@@ -22,7 +22,7 @@ MOST_ROUTINES = 100
 MANY_BLOCKS = 200
 STYLE = ('  node [shape=box, fontname=monospace, fontsize=11]; edge [fontname=monospace, fontsize=10];',)
 # Else dot takes minutes for a thousand blocks.
-QUICK = ('  graph [splines=line, nslimit=0.5, nslimit1=0.5, mclimit=0.1];',)
+QUICK = ('  graph [splines=polyline, nslimit=1, nslimit1=1, mclimit=0.5];',)
 
 
 def quoted(text):
@@ -80,7 +80,7 @@ class CallGraph:
 
 class Anything:
     """Each edge once, for what is so of all runs."""
-    words, total = {}, 0
+    words, total, starts = {}, 0, 1
 
     def edge(self, edge):
         return edge.kind != 'land'

@@ -378,9 +378,10 @@ class Executions:
     """
 
     def __init__(self, shown, counts):
-        self.edges = counts
-        self.blocks = {block.first: sum(self.edge(edge) for edge in block.into) for block in shown.blocks.values()}
-        self.blocks[shown.block_of(shown.entry).first] += 1
+        self.edges, entered = counts, shown.block_of(shown.entry)
+        self.blocks = {block.first: sum(map(self.edge, block.into)) for block in shown.blocks.values()}
+        self.starts = max(1, sum(map(self.edge, entered.out)) - self.blocks[entered.first])  # more of merged counts
+        self.blocks[entered.first] += self.starts
         self.words = {}
         for block in shown.blocks.values():
             self.words.update(dict.fromkeys(block.addresses(), self.blocks[block.first]))
@@ -408,7 +409,7 @@ class Visits:
         self.blocks = {first: self.words[first] for first in shown.blocks}
         for first in filter(lambda first: is_unimplemented(shown.word(first)), shown.blocks):
             self.blocks[first] = self.words.get(first + 4, 0)
-        self.total = sum(visits.values())
+        self.starts, self.total = 1, sum(visits.values())
         self.ways = solutions(list(self.equations(shown)))
         self.first_of = {}
         for edge in shown.edges:
