@@ -699,7 +699,7 @@ SESSIONS = {'edits': list(edits()), 'scripts': list(scripts()), 'words': list(wo
     'visited': list(visited()), 'unvisited': list(unvisited()), 'traced': list(traced()), 'demo': list(demo()),
     'listed': list(listed()), 'weighed': list(weighed()),
     'faulty': list(tables.faulty()), 'noted': list(tables.noted()), 'dumped': list(tables.dumped()),
-    'devices': list(tables.devices()), 'long': list(tables.long())}
+    'devices': list(tables.devices()), 'reports': list(tables.reports()), 'long': list(tables.long())}
 
 
 def files():
