@@ -15,7 +15,7 @@ from collections import Counter
 
 from beside_gcov import COMPILERS, DATA, LINK, SOURCES, TOP, call, given_to, source
 
-PROGRAMS = ['calculator', 'dispatch', 'fractions', 'interpreter', 'long_numbers', 'queens', 'samples', 'word_count']
+PROGRAMS = ['calculator', 'dispatch', 'fractions', 'interpreter', 'queens', 'samples', 'word_count']
 PROFILE = os.path.join(TOP, 'tools', 'profile.py')
 
 

@@ -91,8 +91,7 @@ class Reach:
         calls = [self.shown.blocks[edge.source].last() for edge in routine.into
                  if edge.kind == 'call' and argument >= 8]
         numbers = [(self.value(call + 8, argument), self.function(call)) for call in calls]
-        return [(None if isinstance(number, list) else number, function) for number, function in numbers] \
-            or [(None, self.function(address))]
+        return [(None if isinstance(number, list) else number, function) for number, function in numbers]
 
 
 def writes(word, register):
@@ -125,7 +124,8 @@ def traps(reach, words):
         text = reach.texts.get(address, '')
         if text == 'ta 16':
             for number, function in reach.system_calls(address):
-                calls[number].add(function)
+                if number is not None or address in reach.sure:
+                    calls[number].add(function)
         elif text.startswith('ta ') and text != 'ta 3':
             others[text].add(reach.function(address))
     return calls, others

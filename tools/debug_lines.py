@@ -28,12 +28,20 @@ class Row:
 
 
 @dataclass
+class Copy:
+    """A copy of a function by inlining: where it is entered, if that is said and else its lowest address; its words."""
+    entry: int
+    words: set
+    is_said: bool
+
+
+@dataclass
 class Function:
-    """A function where it was declared, with the addresses at which its code is entered, in copies by inlining too."""
+    """A function where it was declared, with the addresses at which its code begins, and its inlined copies."""
     name: str
     line: Line
     starts: list = field(default_factory=list)
-    copies: list = field(default_factory=list)  # of each, the address at which it is entered, and its own
+    copies: list = field(default_factory=list)
 
 
 def marks_statements(rows):
@@ -48,6 +56,15 @@ def described(entry):
         if attribute in entry and dwarf.NAME not in entry:
             return described(entry.unit.referred(entry.get(attribute)))
     return entry
+
+
+def copy_of(entry, lowest, words):
+    """An inlined copy; where it is entered is an address, or how far behind its lowest address that is."""
+    if dwarf.ENTRY_PC not in entry:
+        return Copy(lowest, words, False)
+    form, _ = entry.forms[dwarf.ENTRY_PC]
+    address = entry.get(dwarf.ENTRY_PC)
+    return Copy(address if form in dwarf.ADDRESSES else lowest + address, words, True)
 
 
 class DebugLines:
@@ -127,4 +144,4 @@ class DebugLines:
         if entry.tag == dwarf.SUBPROGRAM:
             function.starts.append(ranges[0][0])
         else:
-            function.copies.append((entry.get(dwarf.ENTRY_PC, min(ranges)[0]), words))
+            function.copies.append(copy_of(entry, min(ranges)[0], words))

@@ -21,6 +21,7 @@ FIXED = {0x01: 4, 0x05: 2, 0x06: 4, 0x07: 8, 0x0b: 1, 0x0c: 1, 0x11: 1, 0x12: 2,
 OFFSETS = {0x0e, 0x10, 0x17, 0x1d, 0x1f, 0x1f20, 0x1f21}
 NUMBERS = {0x0f, 0x15, 0x1a, 0x1b, 0x22, 0x23, 0x1f01, 0x1f02}
 STRX, ADDRX = {0x1a, 0x25, 0x26, 0x27, 0x28, 0x1f02}, {0x1b, 0x29, 0x2a, 0x2b, 0x2c, 0x1f01}
+ADDRESSES = ADDRX | {0x01}
 
 
 class Broken(Exception):
@@ -380,7 +381,7 @@ class Unit:
             yield from self.listed_ranges(form, value)
         elif LOW_PC in entry and HIGH_PC in entry:
             low, high = entry.get(LOW_PC), entry.get(HIGH_PC)
-            yield low, high if entry.forms[HIGH_PC][0] in ADDRX | {0x01} else low + high
+            yield low, high if entry.forms[HIGH_PC][0] in ADDRESSES else low + high
 
     def listed_ranges(self, form, value):
         base = self.attribute(LOW_PC, 0)

@@ -2,6 +2,8 @@
 from collections import defaultdict
 from dataclasses import dataclass, field
 
+from shown import is_return
+
 
 @dataclass
 class Loop:
@@ -14,10 +16,18 @@ class Loop:
     own: int = 0  # without those of the loops within it
 
 
+def labels_of(routine):
+    """The place through which jumps lead to a routine's labels: no address."""
+    return -1 - (routine or 0)
+
+
 def ways_within(shown, run):
-    """Where control went within each routine, and how often; from a call it goes on behind it."""
+    """Where control went within each routine, and how often; from a call it goes on behind it. Jumps through a register
+    to labels of the routine lead through a place of their own, since it isn't known which leads to which."""
     ways = defaultdict(lambda: defaultdict(int))
     for edge in shown.edges:
+        if edge.kind == 'land' and edge.target not in shown.routines and not shown.is_behind_call(edge.target):
+            ways[labels_of(shown.routine_of(edge.target))][edge.target] += run.edge(edge)
         if edge.source is None or not run.edge(edge):
             continue
         last = shown.blocks[edge.source].last()
@@ -25,6 +35,8 @@ def ways_within(shown, run):
             for behind in (last + 8, last + 12):
                 if behind in shown.blocks and shown.is_behind_call(behind) and run.blocks[behind]:
                     ways[edge.source][behind] += run.edge(edge)
+        elif edge.kind == 'out' and not is_return(shown.word(last)):
+            ways[edge.source][labels_of(shown.routine_of(last))] += run.edge(edge)
         elif edge.target is not None and shown.routine_of(edge.target) == shown.routine_of(edge.source):
             ways[edge.source][edge.target] += run.edge(edge)
     return ways
@@ -67,7 +79,7 @@ def leading_to(head, ends, before):
 
 def costs_of(shown, run):
     """The instructions of each block, with those in its delay slot."""
-    costs = {}
+    costs = defaultdict(int)
     for first, block in shown.blocks.items():
         costs[first] = sum(run.words[address] for address in block.addresses())
     for edge in shown.edges:
@@ -85,7 +97,7 @@ def loops(shown, run):
             before[target].add(block)
     ends = defaultdict(list)
     for block, head in back_ways(list(shown.starts) + sorted(ways), ways):
-        loop = found.setdefault(head, Loop(head, shown.routine_of(head)))
+        loop = found.setdefault(head, Loop(head, shown.routine_of(head) if head >= 0 else -1 - head))
         loop.rounds += ways[block][head]
         ends[head].append(block)
     for head, loop in found.items():

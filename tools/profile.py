@@ -7,6 +7,7 @@ program puts out goes to the error stream. Options stand before FILE; with some 
 """
 import argparse
 import os
+import signal
 import subprocess
 import sys
 import tempfile
@@ -19,7 +20,7 @@ from source_counts import SourceCounts, tell_limits
 
 LIMIT = 10 ** 11
 MOST_STEPS = 100  # beyond a limit, to stand at a place
-FUNCTIONS, LOOPS, LINES = 20, 5, 10
+FUNCTIONS, LOOPS, LINES, WIDTH = 20, 5, 10, 60
 PRINTERS = {'annotate': ('annotate.py', 'print each instruction with how often it ran'),
             'source': ('source_counts.py', 'print each line of the sources with how often it was reached'),
             'lcov': ('source_counts.py', 'print a tracefile, of which genhtml of lcov makes pages'),
@@ -56,7 +57,8 @@ class Report:
     def loop_place(self, loop):
         line = self.debug.line_at.get(loop.head)
         source = f', {os.path.basename(line.path)}:{line.number}' if line else ''
-        return f'{self.shown.name_of(loop.routine)} at {loop.head:08x}{source}'
+        place = f'at {loop.head:08x}{source}' if loop.head >= 0 else 'from label to label, by jumps through registers'
+        return f'{self.shown.name_of(loop.routine)} {place}'
 
     def loops(self):
         found = [loop for loop in loops(self.shown, self.run) if loop.own][:LOOPS]
@@ -76,6 +78,7 @@ class Report:
         for line in hottest:
             text = ''.join(texts.get(line.path, [])[line.number - 1:line.number]).strip()
             place, times = f'{os.path.basename(line.path)}:{line.number}', self.counts.lines.get(line, 0)
+            text = text if len(text) <= WIDTH else f'{text[:WIDTH]} ..'
             rows.append((self.share(taken[line]), taken[line], times, f'{place}  {text}'.rstrip()))
         if rows:
             yield from table(('times', 'line'), rows)
@@ -222,6 +225,7 @@ def main():
 
 
 if __name__ == '__main__':
+    signal.signal(signal.SIGTERM, lambda *_: sys.exit(143))  # so that the temporary files go
     try:
         sys.exit(main())
     except KeyboardInterrupt:

@@ -119,6 +119,9 @@ class Edge:
         return self.kind, self.source, self.target
 
 
+NOP = 0x01000000
+
+
 def is_call(word):
     """Whether a word is a CALL, or a JMPL that links."""
     return word is not None and (word >> 30 == 1 or word & 0xfff80000 == 0x9fc00000)
@@ -198,12 +201,18 @@ class Shown:
                 yield int(words[0], 16), words[-1]
 
     def take_names(self, pairs):
-        """Gives routines names, and adds those that weren't known where a block begins."""
-        pairs = [(address, name) for address, name in pairs if address in self.blocks]
+        """Gives routines names, and adds those that weren't known where a block begins, behind nops perhaps."""
+        firsts = {self.first_instruction(block): first for first, block in self.blocks.items()}
+        pairs = [(firsts.get(address, address), name) for address, name in pairs]
+        pairs = [(first, name) for first, name in pairs if first in self.blocks]
         for (address, _), name in zip(pairs, demangled(name for _, name in pairs)):
             if self.routines.get(address, 'at ').startswith('at '):
                 self.routines[address] = name
         self.starts = sorted(self.routines)
+
+    def first_instruction(self, block):
+        """The address of a block's first word but for nops, which stand between functions."""
+        return next((address for address in block.addresses() if self.word(address) != NOP), block.first)
 
     def split(self, run):
         """Begins a routine at each SAVE at which the run landed: programs without symbols have routines where a CALL
@@ -211,10 +220,11 @@ class Shown:
         odd, jumping = set(), set()
         for edge in self.edges:
             if run.edge(edge):
-                if edge.kind == 'land' and edge.target not in self.routines and not self.is_behind_call(edge.target):
-                    if is_save(self.word(edge.target)):
-                        self.routines[edge.target] = f'at {edge.target:08x}'
-                    else:
+                if edge.kind == 'land' and edge.target not in self.routines:
+                    first = self.first_instruction(self.blocks[edge.target])
+                    if is_save(self.word(first)):
+                        self.routines[edge.target] = f'at {first:08x}'
+                    elif not self.is_behind_call(edge.target):
                         odd.add(edge.target)
                 elif edge.kind == 'out' and not is_call(word := self.word(self.blocks[edge.source].last())) \
                         and not is_return(word):
@@ -272,10 +282,10 @@ class Shown:
         yield from filter(None, (self.word(table + 4 * number) for number in range(count)))
 
     def code(self, run=None):
-        """The blocks that hold code: those in sections of instructions, those to which the entry, routines and a run
-        lead, and those to which they do. What is run as a delay slot alone isn't among them."""
-        sections, slots = list(self.elf.code()), {edge.slot for edge in self.edges}
-        waiting = [self.entry, *self.routines]
+        """The blocks that hold code: those in sections of instructions, or without sections the routines; those to which
+        the entry and a run lead; and those to which they do. What is run as a delay slot alone isn't among them."""
+        sections, slots = self.elf.code(), {edge.slot for edge in self.edges}
+        waiting = [self.entry] + ([] if sections else self.starts)
         waiting += [first for first, times in (run.blocks if run else {}).items() if times]
         waiting += [first for first in self.firsts
                     if first not in slots and any(first in section for section in sections)]

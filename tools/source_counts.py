@@ -44,7 +44,7 @@ class SourceCounts:
                    if edge.source is None or self.shown.blocks[edge.source].last() not in words)
 
     def calls(self, function):
-        copies = sum(self.entries(address, words) for address, words in function.copies)
+        copies = sum(self.entries(copy.entry, copy.words) for copy in function.copies)
         return copies + sum(self.costs.calls_of(start) if start in self.shown.routines else self.times(start)
                             for start in function.starts)
 
@@ -88,7 +88,7 @@ class SourceCounts:
         known = {(line, body_at.get(address)) for address, line in line_at.items()}
         known |= {(row.line, body_at.get(row.address)) for row in self.debug.marks}
         for function in self.debug.functions.values():
-            for entered in function.starts + [address for address, _ in function.copies]:
+            for entered in function.starts + [copy.entry for copy in function.copies if copy.is_said]:
                 if (function.line, body_at.get(entered)) not in known:
                     lines[function.line] = lines.get(function.line, 0) + self.times(entered)
         return lines
