@@ -13,8 +13,10 @@ import sys
 import tempfile
 from collections import Counter
 
-from beside_gcov import COMPILERS, DATA, LINK, SOURCES, TOP, call, given_to, source
+from beside_gcov import COMPILERS, LINK, SOURCES, call, given_to, source
+from called import EEL, TOP, built, needs
 
+ELSEWHERE = {'system_call', 'memcpy', 'memmove'}  # which native.c and this machine's C library have
 PROGRAMS = ['calculator', 'dispatch', 'fractions', 'interpreter', 'queens', 'samples', 'word_count']
 PROFILE = os.path.join(TOP, 'tools', 'profile.py')
 
@@ -64,7 +66,7 @@ def functions(tracefile):
 def beside_native(program, compiler, wanted, folder):
     """At -O0 all functions of the source have the calls of the native build."""
     had = functions(profiled(built(program, compiler, '-O0', folder), program, '--lcov'))
-    names = sorted(had.keys() & wanted.keys() - {'system_call'})
+    names = sorted(had.keys() & wanted.keys() - ELSEWHERE)
     for name in names:
         if had[name] != wanted[name]:
             print(f'    {name}: {had[name]}, callgrind {wanted[name]}')
@@ -96,6 +98,8 @@ def main():
     words = parser.parse_args()
     if set(words.programs) - set(PROGRAMS):
         parser.error(f'the programs are {", ".join(PROGRAMS)}')
+    built(EEL)
+    needs('sparc64-linux-gnu-gcc', 'clang', 'gcc', 'valgrind')
     agree = compared = faults = 0
     with tempfile.TemporaryDirectory() as folder:
         for program in words.programs or PROGRAMS:

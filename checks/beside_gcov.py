@@ -1,4 +1,4 @@
-#!/usr/bin/python3
+#!/usr/bin/env python3
 """Compares the lines' counts of source_counts.py with those of gcov.
 
 Each program of examples/c is built by gcc and by clang with -g at -O0 and at -O2, profiled by ./eel and printed by
@@ -13,9 +13,9 @@ import subprocess
 import sys
 import tempfile
 
-TOP = os.path.join(os.path.dirname(os.path.abspath(__file__)), '..')
+from called import EEL, TOP, built, needs
+
 SOURCES, DATA = os.path.join(TOP, 'examples', 'c'), os.path.join(TOP, 'crates', 'program_runs', 'data')
-EEL = os.path.join(TOP, 'eel')
 PROGRAMS = ['queens', 'fractions', 'interpreter', 'word_count', 'calculator', 'dispatch']
 SPARC = ['-mcpu=v8', '-msoft-float', '-ffreestanding', '-fno-asynchronous-unwind-tables', '-g', '-w', f'-I{SOURCES}']
 LINK = ['sparc64-linux-gnu-gcc', '-m32', '-mcpu=v8', '-nostdlib', '-static', '-no-pie', '-Wl,-z,noexecstack']
@@ -76,7 +76,7 @@ def by_eel(program, compiler, level, folder):
     call(EEL, 'edit', built, f'{built}.profile', 'profile')
     call(EEL, 'run', f'{built}.profile', '-d', f'{built}.dump', given=given_to(program), statuses=())
     call(EEL, 'counts', f'{built}.profile', f'{built}.dump', into=f'{built}.counts')
-    return counts(call('/usr/bin/python3', os.path.join(TOP, 'tools', 'source_counts.py'), built, f'{built}.counts'))
+    return counts(call(sys.executable, os.path.join(TOP, 'tools', 'source_counts.py'), built, f'{built}.counts'))
 
 
 def compare(program, folder, each):
@@ -100,6 +100,8 @@ def main():
     words = parser.parse_args()
     if set(words.programs) - set(PROGRAMS):
         parser.error(f'the programs are {", ".join(PROGRAMS)}')
+    built(EEL)
+    needs('sparc64-linux-gnu-gcc', 'clang', 'gcc', 'gcov')
     sums = {}
     with tempfile.TemporaryDirectory() as folder:
         for program in words.programs or PROGRAMS:

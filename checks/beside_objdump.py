@@ -51,7 +51,8 @@ def arithmetic(name, first, second, result):
     if name == 'orcc' and result == '%g0' and '%g0' in (first, second):
         return f'tst {operand(second if first == "%g0" else first)}'
     if name == 'andcc' and result == '%g0':
-        return f'btst {operand(second)}, {operand(first)}'
+        first, second = (first, second) if second.startswith('%') else (second, first)
+        return f'btst {operand(first)}, {operand(second)}'
     if name == 'sub' and first == '%g0' and second.startswith('%'):
         return f'neg {operand(second)}' if second == result else f'neg {operand(second)}, {operand(result)}'
     if name == 'xnor' and second == '0':

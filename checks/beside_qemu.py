@@ -13,7 +13,7 @@ import subprocess
 import sys
 import tempfile
 
-from called import EEL, built, needs, number, parser_of
+from called import EEL, built, needs, natural, parser_of
 
 
 TEXT = 0x10000
@@ -186,8 +186,8 @@ def edited_run(name):
 def main():
     parser = parser_of(__doc__)
     parser.add_argument('--edited', action='store_true', help='also edit each program and run the edited file')
-    parser.add_argument('count', metavar='COUNT', type=number, help='how many programs')
-    parser.add_argument('first', metavar='FIRST', type=number, nargs='?', default=0, help='the number of the first')
+    parser.add_argument('count', metavar='COUNT', type=natural, help='how many programs')
+    parser.add_argument('first', metavar='FIRST', type=natural, nargs='?', default=0, help='the number of the first')
     words = parser.parse_args()
     needs('qemu-sparc')
     built(EEL)

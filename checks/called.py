@@ -20,7 +20,7 @@ def parser_of(text, usage=None):
     return argparse.ArgumentParser(description=text, formatter_class=argparse.RawDescriptionHelpFormatter, usage=usage)
 
 
-def number(text):
+def natural(text):
     """A word that is a number from 0 on."""
     if not text.isdecimal():
         raise argparse.ArgumentTypeError(f'{text!r} is no number')

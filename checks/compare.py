@@ -14,7 +14,7 @@ import subprocess
 import sys
 import tempfile
 
-from called import EEL, built, number, parser_of
+from called import EEL, built, natural, parser_of
 from plain_count import Ended, Machine
 from programs import C_PROGRAMS, SMALL
 from random_programs import random_program
@@ -151,8 +151,8 @@ def compare_all_random(maker, count, first):
 def main():
     parser = parser_of(__doc__)
     parser.add_argument('--switches', action='store_true', help='random programs are those with switches')
-    parser.add_argument('count', metavar='COUNT', type=number, nargs='?', default=300, help='how many random programs')
-    parser.add_argument('first', metavar='FIRST', type=number, nargs='?', default=0, help='the number of the first')
+    parser.add_argument('count', metavar='COUNT', type=natural, nargs='?', default=300, help='how many random programs')
+    parser.add_argument('first', metavar='FIRST', type=natural, nargs='?', default=0, help='the number of the first')
     words = parser.parse_args()
     built(EEL)
     maker, count, first = random_switches if words.switches else random_program, words.count, words.first

@@ -21,7 +21,7 @@ import tempfile
 import time
 
 import judge
-from called import built, number, parser_of
+from called import built, natural, parser_of
 from listing import Graph, Program, listing
 from programs import C_PROGRAMS, RUNS, SMALL
 
@@ -383,8 +383,8 @@ def prepare(program, folder):
 
 def main():
     parser = parser_of(__doc__)
-    parser.add_argument('count', metavar='COUNT', type=number, nargs='?', default=10000, help='how many files')
-    parser.add_argument('first', metavar='FIRST', type=number, nargs='?', default=0, help='the number of the first')
+    parser.add_argument('count', metavar='COUNT', type=natural, nargs='?', default=10000, help='how many files')
+    parser.add_argument('first', metavar='FIRST', type=natural, nargs='?', default=0, help='the number of the first')
     parser.add_argument('program', metavar='PROGRAM', nargs='?', default=os.path.join(RUNS, 'out', 'program_runs'),
                         help='the built program_runs')
     words = parser.parse_args()

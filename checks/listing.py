@@ -15,7 +15,7 @@ import sys
 import tempfile
 from dataclasses import dataclass
 
-from called import EEL, built, number, parser_of, read_program, refuse
+from called import EEL, built, natural, parser_of, read_program, refuse
 from random_switches import near_switch, switch_words
 from switches import open_switches, switches, told_apart
 
@@ -298,8 +298,8 @@ def main():
     parser.add_argument('--eel', metavar='PROGRAM', default=EEL, help='the program that is run, in place of ./eel')
     kind = parser.add_mutually_exclusive_group()
     kind.add_argument('--compare', action='store_true', help='compare with what `show` prints of the files')
-    kind.add_argument('--random', metavar='COUNT', type=number, help='compare for random files')
-    kind.add_argument('--switches', metavar='COUNT', type=number, help='compare for random files with switches')
+    kind.add_argument('--random', metavar='COUNT', type=natural, help='compare for random files')
+    kind.add_argument('--switches', metavar='COUNT', type=natural, help='compare for random files with switches')
     parser.add_argument('files', metavar='FILE', nargs='*', help='a program')
     words = parser.parse_args()
     count = words.switches if words.random is None else words.random

@@ -41,7 +41,7 @@ def bad_files(folder):
 def wrong_calls(folder):
     """Calls that must be refused."""
     for path in scripts():
-        name, of_tools = os.path.basename(path), '/tools/' in path
+        name, of_tools = os.path.basename(path), os.path.dirname(path) == os.path.join(TOP, 'tools')
         if of_tools or name in TAKE_FILES:
             yield [path, '--no-such-option']
             for bad in bad_files(folder):

@@ -14,7 +14,7 @@ import collections
 import struct
 import sys
 
-from called import number, parser_of, read_program
+from called import natural, parser_of, read_program
 from listing import Graph, Program, home
 from programs import SMALL
 
@@ -545,9 +545,9 @@ def parsed():
     parser.add_argument('file', metavar='FILE', nargs='?', help='a program')
     kind = parser.add_mutually_exclusive_group()
     kind.add_argument('--visits', action='store_true', help='how often each word was carried out or begun')
-    kind.add_argument('--trace', metavar='K', type=number, help='the last 2^K edges')
+    kind.add_argument('--trace', metavar='K', type=natural, help='the last 2^K edges')
     kind.add_argument('--programs', action='store_true', help='run the small programs, and say which end otherwise than they must')
-    parser.add_argument('-n', dest='limit', metavar='LIMIT', type=number, default=100_000_000, help='how many steps at most')
+    parser.add_argument('-n', dest='limit', metavar='LIMIT', type=natural, default=100_000_000, help='how many steps at most')
     at = sys.argv.index('--') if '--' in sys.argv else len(sys.argv)
     words = parser.parse_args(sys.argv[1:at])
     if (words.file is None) != words.programs:

@@ -15,7 +15,7 @@ import subprocess
 import sys
 import tempfile
 
-from called import EEL, built, number, parser_of, refuse
+from called import EEL, built, natural, parser_of, refuse
 from plain_count import Counts, Ended, Machine
 from programs import C_PROGRAMS, SMALL
 from random_programs import random_program
@@ -164,11 +164,11 @@ def parsed():
     parser = parser_of(__doc__)
     kind = parser.add_mutually_exclusive_group()
     kind.add_argument('--visits', action='store_true', help='edits with `every`')
-    kind.add_argument('--trace', metavar='K', type=number, help='edits with `trace K`')
+    kind.add_argument('--trace', metavar='K', type=natural, help='edits with `trace K`')
     maker = parser.add_mutually_exclusive_group()
-    maker.add_argument('--random', metavar='COUNT', type=number, help='random programs, each the same in each run')
-    maker.add_argument('--switches', metavar='COUNT', type=number, help='random programs with switches')
-    parser.add_argument('--first', metavar='NUMBER', type=number, default=0, help='the number of the first of these')
+    maker.add_argument('--random', metavar='COUNT', type=natural, help='random programs, each the same in each run')
+    maker.add_argument('--switches', metavar='COUNT', type=natural, help='random programs with switches')
+    parser.add_argument('--first', metavar='NUMBER', type=natural, default=0, help='the number of the first of these')
     parser.add_argument('names', metavar='NAME', nargs='*', help='programs of crates/program_runs: all unless some are named')
     return parser.parse_args()
 

@@ -230,46 +230,64 @@ class LineTable:
 
     def sequences(self):
         """The rows in address order, each sequence with the address behind its last word."""
+        self.read.at = self.first
+        while self.read.at < self.end:
+            yield LineProgram(self).run()
+
+
+class LineProgram:
+    """The registers of a line table's program, and the rows of one sequence that it makes."""
+
+    def __init__(self, table):
+        self.table, self.read, self.rows = table, table.read, []
+        self.address, self.file, self.line, self.column, self.is_statement = 0, 1, 1, 0, table.default
+
+    def run(self):
+        """Carries out opcodes up to the end of the sequence."""
         read = self.read
-        read.at = self.first
-        while read.at < self.end:
-            rows, address, file, line, column, marks = [], 0, 1, 1, 0, self.default
-            while read.at < self.end:
-                opcode = read.data[read.at]
-                read.at += 1
-                if opcode >= self.opcode_base:
-                    step = opcode - self.opcode_base
-                    address += step // self.range * self.least
-                    line += self.base + step % self.range
-                    rows.append(Row(address, file, line, column, marks))
-                elif opcode == 0:
-                    size = read.uleb()
-                    behind, extended = read.at + size, read.number(1)
-                    if extended == 2:
-                        address = read.number(size - 1)
-                    read.at = behind
-                    if extended == 1:
-                        break
-                elif opcode == 1:
-                    rows.append(Row(address, file, line, column, marks))
-                elif opcode == 2:
-                    address += read.uleb() * self.least
-                elif opcode == 3:
-                    line += read.sleb()
-                elif opcode == 4:
-                    file = read.uleb()
-                elif opcode == 5:
-                    column = read.uleb()
-                elif opcode == 6:
-                    marks = not marks
-                elif opcode == 8:
-                    address += (255 - self.opcode_base) // self.range * self.least
-                elif opcode == 9:
-                    address += read.number(2)
-                else:
-                    for _ in range(self.lengths[opcode - 1]):
-                        read.uleb()
-            yield rows, address
+        while read.at < self.table.end:
+            opcode = read.data[read.at]
+            read.at += 1
+            if opcode >= self.table.opcode_base:
+                self.special(opcode - self.table.opcode_base)
+            elif opcode:
+                self.standard(opcode)
+            elif self.ends():
+                break
+        return self.rows, self.address
+
+    def append(self):
+        self.rows.append(Row(self.address, self.file, self.line, self.column, self.is_statement))
+
+    def special(self, step):
+        self.address += step // self.table.range * self.table.least
+        self.line += self.table.base + step % self.table.range
+        self.append()
+
+    def ends(self):
+        """An extended opcode: whether it is DW_LNE_end_sequence."""
+        size = self.read.uleb()
+        behind, opcode = self.read.at + size, self.read.number(1)
+        if opcode == 2:  # DW_LNE_set_address
+            self.address = self.read.number(size - 1)
+        self.read.at = behind
+        return opcode == 1
+
+    def standard(self, opcode):
+        """The opcodes of a table in the standard, from DW_LNS_copy on."""
+        read, table = self.read, self.table
+        match opcode:
+            case 1: self.append()
+            case 2: self.address += read.uleb() * table.least
+            case 3: self.line += read.sleb()
+            case 4: self.file = read.uleb()
+            case 5: self.column = read.uleb()
+            case 6: self.is_statement = not self.is_statement
+            case 8: self.address += (255 - table.opcode_base) // table.range * table.least
+            case 9: self.address += read.number(2)
+            case _:
+                for _ in range(table.lengths[opcode - 1]):
+                    read.uleb()
 
 
 class Unit:
