@@ -1,11 +1,11 @@
 #!/bin/sh
-# Builds bzip2 and lua of Debian 12's source packages for SPARC V8, over newlib and the soft-float routines of libgcc, and
-# both again for this machine: OUT/bzip2.sparc, OUT/lua.sparc, OUT/bzip2.host and OUT/lua.host.
+# Builds bzip2 and lua of Debian 12's source packages for SPARC V8, over newlib and the soft-float routines of libgcc,
+# and both again for this machine: OUT/bzip2.sparc, OUT/lua.sparc, OUT/bzip2.host and OUT/lua.host.
 #
 #     examples/real/build.sh OUT
 #
-# OUT is a folder outside the repository. apt fetches 108 MB of sources into it; the host's own lists stay as they are. What
-# is there already isn't made again. It takes gcc-sparc64-linux-gnu, gcc, make, dpkg-dev and xz-utils.
+# OUT is a folder outside the repository. apt fetches 108 MB of sources into it; the host's own lists stay as they are.
+# What is there already isn't made again. It takes gcc-sparc64-linux-gnu, gcc, make, dpkg-dev and xz-utils.
 set -e
 LC_ALL=C
 export LC_ALL
@@ -66,7 +66,8 @@ unpack() {
         quietly tar xf "$out/packages/${package}_"*.orig.tar.*
     done
     tar xOf "$out/packages/gcc-12_"*.orig.tar.* --wildcards 'gcc-12-*/gcc-12*.tar.xz' >gcc.tar.xz
-    quietly tar xf gcc.tar.xz --wildcards 'gcc-*/libgcc/libgcc2.[ch]' 'gcc-*/libgcc/soft-fp/*' 'gcc-*/include/longlong.h'
+    quietly tar xf gcc.tar.xz --wildcards 'gcc-*/libgcc/libgcc2.[ch]' 'gcc-*/libgcc/soft-fp/*' \
+        'gcc-*/include/longlong.h'
     rm gcc.tar.xz
     for package in bzip2 lua newlib gcc; do
         mv "$package-"* "$package"
@@ -149,8 +150,8 @@ make_compiler
 [ -f "$out/newlib/libm.a" ] || make_newlib
 [ -f "$out/libgcc/libgcc.a" ] || make_libgcc
 bzip2=$out/src/bzip2
-make_program bzip2 "$bzip2/blocksort.c" "$bzip2/huffman.c" "$bzip2/crctable.c" "$bzip2/randtable.c" "$bzip2/compress.c" \
-    "$bzip2/decompress.c" "$bzip2/bzlib.c" "$bzip2/bzip2.c"
+make_program bzip2 "$bzip2/blocksort.c" "$bzip2/huffman.c" "$bzip2/crctable.c" "$bzip2/randtable.c" \
+    "$bzip2/compress.c" "$bzip2/decompress.c" "$bzip2/bzlib.c" "$bzip2/bzip2.c"
 # all of lua but its compiler's own program
 set --
 for source in "$out"/src/lua/src/*.c; do
