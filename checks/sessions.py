@@ -289,6 +289,12 @@ def refusals():
     yield eel('run echoes', 74, ECHOES.output, b'hele')
     yield eel('help', 74, err=b'eel:')
     yield eel('edit other out plain', 74, err=b'eel:')
+    # an input of its limit, and of one byte more
+    yield 'room 100 100', b''
+    yield 'input_zeros 67108864', b''
+    yield eel('run three_words', 0, err=b'exit 3\n')
+    yield 'input_zeros 67108865', b''
+    yield eel('run three_words', 66, err=b'eel: standard input: longer than 67108864 bytes\n')
 
 
 def profiles():
