@@ -4,7 +4,7 @@ with EEL.
 import struct
 
 from listing import listing
-from programs import SMALL, C_PROGRAMS, Program
+from programs import SMALL, SWITCHING, C_PROGRAMS, Program
 
 WORDS = {
     # Branches out of the text at both ends, and a CALL to before it.
@@ -50,7 +50,8 @@ def with_symbols(strings=STRINGS, symbols=SYMBOLS, entry_size=40):
 def files():
     """The files by their names."""
     known = {program.name: program for program in SMALL + C_PROGRAMS}
-    for name in ['call_and_return', 'inner_landings', 'transfer_in_slot', 'switch_of_four', 'queens', 'calculator',
+    switching = [program.name for program in SWITCHING]
+    for name in ['call_and_return', 'inner_landings', 'transfer_in_slot', 'switch_of_four', *switching, 'queens', 'calculator',
                  'dispatch', 'dispatch_at_o1']:
         yield name, known[name].file()
     for name, words in WORDS.items():

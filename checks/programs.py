@@ -120,12 +120,39 @@ CALLING = [
         given=b'123456789012345\n' * 4096, output=b'4096'),
 ]
 
+# Tables of jumps, of which one is open.
+SWITCHING = [
+    # Comes by registers to the word behind its comparison, and into the middle of the jump's block; so do two entries.
+    Program('lands_in_a_switch',
+        '90102001 80a22003 05000040 8210a070 81c04000 01000000 80a22003 1880000f '
+        '01000000 03000040 972a2002 82106090 c400400b 81c08000 90022001 00010070 '
+        '0001007c 000100a0 000100ac 90100009 10bffff2 92026001 82102001 91d02010', 87, 'exit 4'),
+    # The last entry of the first table is the first of the second.
+    Program('shares_a_table',
+        '90102002 80a22003 18800018 932a2002 03000040 82106078 c2004009 81c04000 '
+        '01000000 00010090 00010090 00010090 000100bc 000100b0 000100b0 80a22002 '
+        '1880000a 932a2002 03000040 82106084 c2004009 81c04000 01000000 90023fff '
+        '10bfffe9 01000000 82102001 91d02010', 57, 'exit 0'),
+    # Loads the entry in the slot of the branch behind the comparison.
+    Program('loads_before_its_jump',
+        '90102001 80a22003 932a2002 03000040 82106078 18800008 c4004009 81c08000 '
+        '90022001 00010058 00010058 00010058 00010088 82102001 91d02010', 27, 'exit 4'),
+    # The last word is the jump, and then the branch behind the comparison.
+    Program('ends_with_a_switch',
+        '90102001 10800008 01000000 00010070 00010070 00010070 00010070 82102001 '
+        '91d02010 80a22003 18bffffd 912a2002 03000040 82106060 c2004008 81c04000', 11, 'trap 1'),
+    Program('ends_with_a_comparison',
+        '90102001 1080000f 01000000 00010070 00010070 00010070 00010070 82102001 '
+        '91d02010 10bffffe 01000000 03000040 82106060 c2004009 81c04000 01000000 '
+        '80a22003 932a2002 08bffff9', 7, 'trap 1'),
+]
+
 # Prints the 52 bytes of its own file's header, which are in its text segment.
 PRINTS_ITS_HEADER = Program('prints_its_header',
     '13000040 94102034 90102001 82102004 91d02010 90102000 82102001 91d02010', 8, 'exit 0', before=84)
 PRINTS_ITS_HEADER.output = PRINTS_ITS_HEADER.file()[:52]
 
-SMALL = STRAIGHT + BRANCHING + CALLING + [PRINTS_ITS_HEADER]
+SMALL = STRAIGHT + BRANCHING + CALLING + SWITCHING + [PRINTS_ITS_HEADER]
 
 # Parentheses twelve deep, a chain of nine fractions, what is no number, and a fault.
 FRACTIONS = b'''1/2+1/3

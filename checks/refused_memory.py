@@ -68,9 +68,13 @@ CALLS = {
     'edit carry_loop out script script': 'out',
     'edit carry_loop out profile': 'out',
     'edit carry_loop out profile counts': 'out',
+    'edit carry_loop out every': 'out',
+    'edit carry_loop out trace 2': 'out',
     'run carry_loop': None,
     'run profiled -d out': 'out',
     'counts profiled dump': None,
+    'visits marked marked_dump': None,
+    'trace traced traced_dump': None,
     'show carry_loop': None,
     'list carry_loop': None,
     'words listing out': 'out',
@@ -135,6 +139,8 @@ def main():
     with open('script', 'wb') as file:
         file.write(b'edge 1 add 0 3\nedge 1 top 1 %g2\nedge 2 keep 2 %o0\n')
     for words, printed in (('edit carry_loop profiled profile', None), ('run profiled -d dump', None),
+                           ('edit carry_loop marked every', None), ('run marked -d marked_dump', None),
+                           ('edit carry_loop traced trace 2', None), ('run traced -d traced_dump', None),
                            ('counts profiled dump', 'counts'), ('list carry_loop', 'listing')):
         ran = subprocess.run([program, *words.split()], check=True, capture_output=True)
         if printed:

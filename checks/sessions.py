@@ -8,7 +8,7 @@ import listing
 import listings
 import plain_count
 import tables
-from programs import C_PROGRAMS, RUNS, SMALL, Program
+from programs import C_PROGRAMS, RUNS, SMALL, SWITCHING, Program
 from written import written
 
 BAD_WORDS = b'eel: bad words\n'
@@ -289,6 +289,12 @@ def refusals():
     yield eel('run echoes', 74, ECHOES.output, b'hele')
     yield eel('help', 74, err=b'eel:')
     yield eel('edit other out plain', 74, err=b'eel:')
+    # an input of its limit, and of one byte more
+    yield 'room 100 100', b''
+    yield 'input_zeros 67108864', b''
+    yield eel('run three_words', 0, err=b'exit 3\n')
+    yield 'input_zeros 67108865', b''
+    yield eel('run three_words', 66, err=b'eel: standard input: longer than 67108864 bytes\n')
 
 
 def profiles():
@@ -362,6 +368,7 @@ def listed():
 
 # Programs whose counters are placed by the counts of their own runs.
 WEIGHED = ['carry_loop', 'three_words', 'inner_landings', 'switch_of_four', 'newline_count', 'queens']
+WEIGHED_STEPS = 142017  # of queens
 
 
 def rows(name):
@@ -403,6 +410,9 @@ def weighed():
         yield eel(f'edit {name} weighed profile {name}.rows', 0)
         yield eel('run weighed -d dump', 0, *ran(program))
         yield eel('counts weighed dump', 0, rows(name))
+    # the last of them ends with this step: machine steps of the file, on the interpreter of plain_count.py
+    yield eel(f'run weighed -n {WEIGHED_STEPS}', 0, *ran(program))
+    yield eel(f'run weighed -n {WEIGHED_STEPS - 1}', 0, program.output, f'stopped {WEIGHED_STEPS - 1}\n'.encode())
     # an edge may have any number of executions, and one without a line has none
     yield 'hold most.rows', b''
     yield eel('edit carry_loop weighed profile most.rows', 0)
@@ -580,7 +590,7 @@ def narrow():
 
 # Of some programs so many bits: more edges than places, as many, and fewer.
 TRACED = {'carry_loop': [1, 3, 16], 'three_words': [1], 'inner_landings': [2], 'switch_of_four': [5], 'call_and_return': [3],
-    'newline_count': [6], 'calculator': [5], 'queens': [4], ARGUMENT.name: [1]}
+    **{program.name: [3] for program in SWITCHING}, 'newline_count': [6], 'calculator': [5], 'queens': [4], ARGUMENT.name: [1]}
 
 # Dumps of carry_loop with a ring of four places: rings that hold no edge and the last edge, one with an edge too many, and
 # dumps that are not of its runs.
@@ -695,7 +705,7 @@ SESSIONS = {'edits': list(edits()), 'scripts': list(scripts()), 'words': list(wo
     'visited': list(visited()), 'unvisited': list(unvisited()), 'traced': list(traced()), 'demo': list(demo()),
     'listed': list(listed()), 'weighed': list(weighed()),
     'faulty': list(tables.faulty()), 'noted': list(tables.noted()), 'dumped': list(tables.dumped()),
-    'devices': list(tables.devices()), 'long': list(tables.long())}
+    'devices': list(tables.devices()), 'reports': list(tables.reports()), 'long': list(tables.long())}
 
 
 def files():

@@ -23,7 +23,8 @@ from random_switches import random_switches
 
 # What comes of the profiles that are stopped under the gate, as this script found it.
 KNOWN = {'carry_loop': (84, 23, 28, 56), 'inner_landings': (73, 10, 34, 39), 'switch_of_four': (25, 12, 21, 4),
-    'newline_count': (1000, 397, 503, 497)}
+    'lands_in_a_switch': (369, 87, 186, 183), 'shares_a_table': (203, 57, 115, 88), 'loads_before_its_jump': (114, 27, 61, 53),
+    'ends_with_a_switch': (28, 11, 23, 5), 'ends_with_a_comparison': (13, 7, 9, 4), 'newline_count': (1000, 397, 503, 497)}
 
 STEPS = 1000
 ENDINGS = ['none', 'exit', 'trap', 'window', 'couple']

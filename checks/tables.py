@@ -321,15 +321,26 @@ def bad_notes(name, at):
     return f'eel: {name}: bad notes at {at}\n'.encode()
 
 
+REPORTS = ['counts', 'visits', 'trace']
+
+
 def read_by_some(name, line):
     yield call(f'restore {name} out', 65, err=line)
-    yield call(f'counts {name} dump', 65, err=line)
+    for report in REPORTS:
+        yield call(f'{report} {name} dump', 65, err=line)
 
 
 def read_by_all(name, line):
     """The notes of this file are refused by every command that reads them."""
     yield from read_by_some(name, line)
     yield call(f'run {name} -d other', 65, err=line)
+
+
+def told_by_none(name, line=None):
+    """Notes that keep their rules, and are those of no profile, or of another version; of no word's blocks, and of no ring."""
+    yield call(f'counts {name} dump', 65, err=line or f'eel: {name}: no profile\n'.encode())
+    yield call(f'visits {name} dump', 65, err=f'eel: {name}: not every word\n'.encode())
+    yield call(f'trace {name} dump', 65, err=f'eel: {name}: no trace\n'.encode())
 
 
 def counted(name):
@@ -375,10 +386,10 @@ def noted():
     for patches in ({edge(1) + 4: '00000005'}, {edge(2) + 8: '00000008'}, {place(2) + 12: '00000006'}):
         assert place_of_fault(patched(notes, patches), size, 2) is None
         yield patch('noted', 'written', 'bad', patches)
-        yield call('counts bad dump', 65, err=b'eel: bad: no profile\n')
+        yield from told_by_none('bad')
     # a tool that version 2 alone has
     yield patch('noted', 'written', 'bad', {8: '00000003'})
-    yield call('counts bad dump', 65, err=b'eel: bad: no profile\n')
+    yield from told_by_none('bad')
     for at in (4040, 4044):
         yield patch('patch', 'written', 'bad', {at: 'ffffffff'})
         yield from read_by_all('bad', bad_notes('bad', 0))
@@ -387,13 +398,12 @@ def noted():
         yield from read_by_all('bad', b'eel: bad: no notes\n')
     # notes of one version that are read as those of the other
     yield patch('patch', 'written', 'bad', {4036: '00000001'})
-    yield call('counts bad dump', 65, err=b'eel: dump: dump version 2, notes version 1\n')
+    yield from told_by_none('bad', b'eel: dump: dump version 2, notes version 1\n')
     yield patch('patch', 'carry_loop.narrow', 'bad', {4036: '00000002'})
     yield from read_by_all('bad', bad_notes('bad', edge(COUNTED[1])))
     # judged as a file before its notes are looked at
     yield 'cut written bad 4095', b''
-    yield call('restore bad out', 65, err=b'eel: bad: no notes\n')
-    yield call('counts bad dump', 65, err=b'eel: bad: no notes\n')
+    yield from read_by_some('bad', b'eel: bad: no notes\n')
     yield call('run bad -d other', 65, err=file_fault('bad', 11))
     # the cells lie outside every segment, leave their segment, or lie where the original's text is read
     for base in ('00001000', '00010060'):
@@ -452,18 +462,24 @@ def ended_dump(version):
     return struct.pack(f'>4s4IQ{len(told) + count}I', b'EELD', version, 1, 4, 0x20000, 40, *told, *range(count))
 
 
+def read_by_reports(written, at):
+    """The dump is refused by each command that reads it."""
+    for report in REPORTS:
+        yield call(f'{report} {written} bad', 65, err=f'eel: bad: bad dump at {at}\n'.encode())
+
+
 def badly_dumped(written, dump, version):
     """Dumps of a version with each rule broken, and each first part of one."""
     told = ended_dump(version)
     for patches, at in bad_dumps(version):
         assert dump_fault(patched(told, patches)) == at, patches
         yield patch('patch', dump, 'bad', patches)
-        yield call(f'counts {written} bad', 65, err=f'eel: bad: bad dump at {at}\n'.encode())
+        yield from read_by_reports(written, at)
     for size in range(len(told)):
         at = max(at for at in DUMP_FIELDS[version] if at <= size)
         assert dump_fault(told[:size]) == at
         yield f'cut {dump} bad {size}', b''
-        yield call(f'counts {written} bad', 65, err=f'eel: bad: bad dump at {at}\n'.encode())
+        yield from read_by_reports(written, at)
 
 
 def dumped():
@@ -478,10 +494,11 @@ def dumped():
     yield from badly_dumped('carry_loop.narrow', 'carry_loop.narrow_dump', 1)
     # notes are judged before the dump, and the dump before there are counts
     yield 'cut dump bad 35', b''
-    yield call('counts carry_loop bad', 65, err=b'eel: carry_loop: no notes\n')
+    for report in REPORTS:
+        yield call(f'{report} carry_loop bad', 65, err=b'eel: carry_loop: no notes\n')
     yield call('edit carry_loop plain plain', 0, changed=['plain'])
-    yield call('counts plain bad', 65, err=b'eel: bad: bad dump at 32\n')
-    yield call('counts plain dump', 65, err=b'eel: plain: no profile\n')
+    yield from read_by_reports('plain', 32)
+    yield from told_by_none('plain')
 
 
 # ---- devices that fail
@@ -575,6 +592,8 @@ DONE = {
     'edit echoes out plain': ([fetch, put('out')], [], 0),
     'edit echoes out script echoes.counting': ([fetch, fetch, put('out')], [], 0),
     'edit echoes out profile': ([fetch, put('out')], [], 0),
+    'edit echoes out every': ([fetch, put('out')], [], 0),
+    'edit echoes out trace 2': ([fetch, put('out')], [], 0),
     'run echoes': (ECHO, [b'exit ', b'3', b'\n'], 0),
     'run profiled -d out': ([*ECHO, put('out')], [b'exit ', b'3', b'\n'], 0),
     'run profiled -n 3 -d out': ([fetch, read(2), put('out')], [b'stopped ', b'3', b'\n'], 0),
@@ -585,23 +604,25 @@ DONE = {
     'edit echoes out profile echoes.rows': ([fetch, fetch, put('out')], [], 0),
     'counts profiled dump': (
         [fetch, fetch, prints(plain_count.count(ECHOES.file(), [], ECHOES.given)[0].encode())], [], 0),
+    'visits marked marked_dump': ([fetch, fetch, prints(plain_count.word_visits(CARRY_LOOP).encode())], [], 0),
+    'trace traced traced_dump': ([fetch, fetch, prints(plain_count.last_edges(CARRY_LOOP, 1).encode())], [], 0),
     'demo 1 1': ([prints(b'demo 1 routines 1\nwords 11 blocks 8 edges 17\nending exit 178 steps 35\nexecutions 11\n')], [], 0),
 }
 
 REFUSED = {
     'help': ([], [b'eel: bad words\n'], 64),
-    'edit short out plain': ([fetch], told('short', ': file fault ', '1', '\n'), 65),
-    'show short': ([fetch], told('short', ': file fault ', '1', '\n'), 65),
-    'run short': ([fetch, read(2)], told('short', ': file fault ', '1', '\n'), 65),
+    'edit short out plain': ([fetch], told('short', ': ', 'file fault ', '1', '\n'), 65),
+    'show short': ([fetch], told('short', ': ', 'file fault ', '1', '\n'), 65),
+    'run short': ([fetch, read(2)], told('short', ': ', 'file fault ', '1', '\n'), 65),
     'edit echoes out script echoes': ([fetch, fetch], told('echoes', ': line ', '1', ': ', 'grammar', '\n'), 65),
-    'list short': ([fetch], told('short', ': file fault ', '1', '\n'), 65),
+    'list short': ([fetch], told('short', ': ', 'file fault ', '1', '\n'), 65),
     'words echoes out': ([fetch], told('echoes', ': line ', '1', ': ', 'grammar', '\n'), 65),
     'edit echoes out profile echoes': ([fetch, fetch], told('echoes', ': line ', '1', ': ', 'grammar', '\n'), 65),
-    'restore echoes out': ([fetch], told('echoes', ': no notes\n'), 65),
-    'restore unnoted out': ([fetch], told('unnoted', ': bad notes at ', '8', '\n'), 65),
-    'run unnoted -d out': ([fetch, read(2)], told('unnoted', ': bad notes at ', '8', '\n'), 65),
-    'counts profiled short': ([fetch, fetch], told('short', ': bad dump at ', '0', '\n'), 65),
-    'counts plain dump': ([fetch, fetch], told('plain', ': no profile\n'), 65),
+    'restore echoes out': ([fetch], told('echoes', ': ', 'no notes', '\n'), 65),
+    'restore unnoted out': ([fetch], told('unnoted', ': ', 'bad notes at ', '8', '\n'), 65),
+    'run unnoted -d out': ([fetch, read(2)], told('unnoted', ': ', 'bad notes at ', '8', '\n'), 65),
+    'counts profiled short': ([fetch, fetch], told('short', ': ', 'bad dump at ', '0', '\n'), 65),
+    'counts plain dump': ([fetch, fetch], told('plain', ': ', 'no profile', '\n'), 65),
     'counts three_profiled of_an_older_version': (
         [fetch, fetch], told('of_an_older_version', ': dump version ', '1', ', notes version ', '2', '\n'), 65),
     'counts three_profiled of_another': (
@@ -614,7 +635,34 @@ REFUSED = {
         [fetch, fetch], told('taken_twice', ': edge ', '1', ' would be ', '-1', '\n'), 65),
     'counts three_profiled too_many_landings': (
         [fetch, fetch], told('too_many_landings', ': edge ', '0', ' would be ', '18446744073709551616', '\n'), 65),
+    'edit short out every': ([fetch], told('short', ': ', 'file fault ', '1', '\n'), 65),
+    'edit short out trace 2': ([fetch], told('short', ': ', 'file fault ', '1', '\n'), 65),
+    'edit carry_loop out profile rows.bad0': ([fetch, fetch], told('rows.bad0', ': line ', '1', ': ', 'edge', '\n'), 65),
+    'edit carry_loop out profile rows.bad14': ([fetch, fetch], told('rows.bad14', ': line ', '2', ': ', 'total', '\n'), 65),
+    'visits echoes dump': ([fetch, fetch], told('echoes', ': ', 'no notes', '\n'), 65),
+    'visits unnoted dump': ([fetch, fetch], told('unnoted', ': ', 'bad notes at ', '8', '\n'), 65),
+    'visits marked short': ([fetch, fetch], told('short', ': ', 'bad dump at ', '0', '\n'), 65),
+    'visits profiled dump': ([fetch, fetch], told('profiled', ': ', 'not every word', '\n'), 65),
+    'visits marked of_an_older_version': (
+        [fetch, fetch], told('of_an_older_version', ': dump version ', '1', ', notes version ', '2', '\n'), 65),
+    'visits three_marked of_another': (
+        [fetch, fetch], told('of_another', ': made for ', str(len(CARRY_LOOP)), ' bytes, ', str(len(THREE_WORDS)), ' wanted\n'), 65),
+    'visits three_marked three_cells': ([fetch, fetch], told('three_cells', ': ', '3', ' cells, ', '6', ' wanted\n'), 65),
+    'visits marked out_of_place': ([fetch, fetch], told('out_of_place', ': pc ', 'fffff000', ' between places\n'), 65),
+    'trace echoes dump': ([fetch, fetch], told('echoes', ': ', 'no notes', '\n'), 65),
+    'trace unnoted dump': ([fetch, fetch], told('unnoted', ': ', 'bad notes at ', '8', '\n'), 65),
+    'trace traced short': ([fetch, fetch], told('short', ': ', 'bad dump at ', '0', '\n'), 65),
+    'trace profiled dump': ([fetch, fetch], told('profiled', ': ', 'no trace', '\n'), 65),
+    'trace traced of_an_older_version': (
+        [fetch, fetch], told('of_an_older_version', ': dump version ', '1', ', notes version ', '2', '\n'), 65),
+    'trace three_traced of_another': (
+        [fetch, fetch], told('of_another', ': made for ', str(len(CARRY_LOOP)), ' bytes, ', str(len(THREE_WORDS)), ' wanted\n'), 65),
+    'trace four_traced ring_of_two': ([fetch, fetch], told('ring_of_two', ': ', '3', ' cells, ', '5', ' wanted\n'), 65),
+    'trace four_traced ring_in_no_place': ([fetch, fetch], told('ring_in_no_place', ': pc ', 'fffff000', ' between places\n'), 65),
+    'trace four_traced ring_of_edge_9': ([fetch, fetch], told('ring_of_edge_9', ': cell ', '2', ' has ', '10', '\n'), 65),
     'edit cramped out plain': ([fetch], told('cramped', ': room ', '1050112', ' needed, ', '0', ' had\n'), 69),
+    'edit cramped out every': ([fetch], told('cramped', ': room ', '1050904', ' needed, ', '0', ' had\n'), 69),
+    'edit cramped out trace 16': ([fetch], told('cramped', ': room ', '1312772', ' needed, ', '0', ' had\n'), 69),
     'show missing': ([fetch], [DEVICE_FAULT], 74),
 }
 
@@ -697,12 +745,17 @@ def long():
             yield from row(words, command, {'err': number})
 
 
+def is_report(words):
+    """Whether a call tells of a dump by a file of another edit than a profile: these stand in a session of their own."""
+    return words.split()[0] in ('visits', 'trace')
+
+
 def devices():
-    """Every command with each call of each device failing in turn, and in streams of each size that matters."""
+    """Every other command with each call of each device failing in turn, and in streams of each size that matters."""
     yield 'watch', b''
     for name in ('three_words', 'three_words.listing', 'echoes', 'echoes.counting', 'echoes.rows', 'cramped', 'taken_branch',
             'taken_twice', 'three_cells', 'in_no_place', 'of_another', 'of_an_older_version', 'too_many_landings',
-            'carry_loop.narrow', 'narrow_long_run'):
+            'carry_loop', 'carry_loop.narrow', 'narrow_long_run', 'rows.bad0', 'rows.bad14'):
         yield f'hold {name}', b''
     yield 'input echoes.input', b''
     yield 'cut three_words out 0', b''
@@ -715,12 +768,40 @@ def devices():
     yield call('edit three_words three_profiled profile', 0, changed=['three_profiled'])
     yield patch('noted', 'profiled', 'unnoted', {8: 'ffffffff'})
     for words, command in DONE.items():
-        yield from good(words, command)
-        yield from failures(words, command)
+        if not is_report(words):
+            yield from good(words, command)
+            yield from failures(words, command)
     for words, some in {'run echoes': 20, 'run profiled -d out': 6, 'show three_words': 200, 'demo 1 1': 4}.items():
         yield from good(words, DONE[words])
         yield from in_each_room(words, DONE[words], some)
     for words, command in REFUSED.items():
-        yield from failures(words, command)
-    for words in ('help', 'edit short out plain', 'edit cramped out plain'):
+        if not is_report(words):
+            yield from failures(words, command)
+    for words in ('help', 'edit short out plain', 'edit cramped out plain', 'edit carry_loop out profile rows.bad0',
+            'edit carry_loop out profile rows.bad14'):
+        yield from in_each_room(words, REFUSED[words], 60)
+
+
+def reports():
+    """Visits and last edges with each call of each device failing in turn, and lines that break off at each byte."""
+    yield 'watch', b''
+    for name in ('three_words', 'carry_loop', 'echoes', 'three_cells', 'of_another', 'of_an_older_version', 'ring_of_two',
+            'ring_of_edge_9', 'ring_in_no_place'):
+        yield f'hold {name}', b''
+    yield 'cut three_words short 0', b''
+    yield call('edit carry_loop profiled profile', 0, changed=['profiled'])
+    yield call('run profiled -d dump', 0, err=b'exit 4\n', changed=['dump'])
+    yield call('edit three_words three_marked every', 0, changed=['three_marked'])
+    yield call('edit three_words three_traced trace 1', 0, changed=['three_traced'])
+    yield call('edit carry_loop four_traced trace 2', 0, changed=['four_traced'])
+    yield call('edit carry_loop marked every', 0, changed=['marked'])
+    yield call('run marked -d marked_dump', 0, err=b'exit 4\n', changed=['marked_dump'])
+    yield call('edit carry_loop traced trace 1', 0, changed=['traced'])
+    yield call('run traced -d traced_dump', 0, err=b'exit 4\n', changed=['traced_dump'])
+    yield patch('patch', 'marked_dump', 'out_of_place', {16: 'fffff000'})
+    yield patch('noted', 'profiled', 'unnoted', {8: 'ffffffff'})
+    for words, command in [*DONE.items(), *REFUSED.items()]:
+        if is_report(words):
+            yield from failures(words, command)
+    for words in ('visits profiled dump', 'trace profiled dump', 'trace four_traced ring_of_edge_9'):
         yield from in_each_room(words, REFUSED[words], 60)

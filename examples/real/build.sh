@@ -1,13 +1,16 @@
 #!/bin/sh
-# Builds bzip2 and lua of Debian 12's source packages for SPARC V8, over newlib and the soft-float routines of libgcc, and
-# both again for this machine: OUT/bzip2.sparc, OUT/lua.sparc, OUT/bzip2.host and OUT/lua.host.
+# Builds bzip2 and lua of Debian 12's source packages for SPARC V8, over newlib and the soft-float routines of libgcc,
+# and both again for this machine: OUT/bzip2.sparc, OUT/lua.sparc, OUT/bzip2.host and OUT/lua.host.
 #
 #     examples/real/build.sh OUT
 #
-# OUT is a folder outside the repository. apt fetches 108 MB of sources into it; the host's own lists stay as they are. What
-# is there already isn't made again. It takes gcc-sparc64-linux-gnu, gcc, make, dpkg-dev and xz-utils.
+# OUT is a folder outside the repository. apt fetches 108 MB of sources into it; the host's own lists stay as they are.
+# What is there already isn't made again. It takes gcc-sparc64-linux-gnu, gcc, make, dpkg-dev and xz-utils.
 set -e
-port=$(CDPATH= cd -- "$(dirname -- "$0")" && pwd)/port
+LC_ALL=C
+export LC_ALL
+here=$(CDPATH="" cd -- "$(dirname -- "$0")" && pwd -P)
+port=$here/port
 
 stop() {
     echo "build.sh: $1" >&2
@@ -27,10 +30,12 @@ sparc64-linux-gnu-gcc gcc-sparc64-linux-gnu
 END
 keyring=/usr/share/keyrings/debian-archive-keyring.gpg
 [ -r "$keyring" ] || stop "there is no $keyring: install the package debian-archive-keyring"
-mkdir -p "$1"
-out=$(CDPATH= cd -- "$1" && pwd)
+out=$(realpath -m -- "$1")
+case $out/ in
+"$(dirname "$(dirname "$here")")"/*) stop "$out stands in the repository: name a folder outside" ;;
+esac
 log=$out/log
-: >"$log"
+mkdir -p "$out" && : >"$log" || stop "$out can't be written"
 
 # quietly WORDS..: runs a command, whose lines go to the log
 quietly() {
@@ -48,7 +53,9 @@ fetch() {
     set -- -o Dir::Etc::SourceList="$out/apt/sources.list" -o Dir::Etc::SourceParts=- \
         -o Dir::State::Lists="$out/apt/lists" -o Dir::Cache="$out/apt" -o APT::Sandbox::User=root
     quietly apt-get "$@" update
-    (cd "$out/packages" && quietly apt-get "$@" source --download-only bzip2 lua5.4 newlib gcc-12)
+    cd "$out/packages"
+    quietly apt-get "$@" source --download-only bzip2 lua5.4 newlib gcc-12
+    : >all
 }
 
 unpack() {
@@ -59,7 +66,8 @@ unpack() {
         quietly tar xf "$out/packages/${package}_"*.orig.tar.*
     done
     tar xOf "$out/packages/gcc-12_"*.orig.tar.* --wildcards 'gcc-12-*/gcc-12*.tar.xz' >gcc.tar.xz
-    quietly tar xf gcc.tar.xz --wildcards 'gcc-*/libgcc/libgcc2.[ch]' 'gcc-*/libgcc/soft-fp/*' 'gcc-*/include/longlong.h'
+    quietly tar xf gcc.tar.xz --wildcards 'gcc-*/libgcc/libgcc2.[ch]' 'gcc-*/libgcc/soft-fp/*' \
+        'gcc-*/include/longlong.h'
     rm gcc.tar.xz
     for package in bzip2 lua newlib gcc; do
         mv "$package-"* "$package"
@@ -136,15 +144,14 @@ make_program() {
     quietly gcc -O2 -g "$@" -lm -o "$out/$name.host"
 }
 
-cd "$out"
-ls packages/gcc-12_*.orig.tar.* >/dev/null 2>&1 || fetch
-[ -d src/gcc ] || unpack
+[ -f "$out/packages/all" ] || fetch
+[ -d "$out/src/gcc" ] || unpack
 make_compiler
-[ -f newlib/libm.a ] || make_newlib
-[ -f libgcc/libgcc.a ] || make_libgcc
+[ -f "$out/newlib/libm.a" ] || make_newlib
+[ -f "$out/libgcc/libgcc.a" ] || make_libgcc
 bzip2=$out/src/bzip2
-make_program bzip2 "$bzip2/blocksort.c" "$bzip2/huffman.c" "$bzip2/crctable.c" "$bzip2/randtable.c" "$bzip2/compress.c" \
-    "$bzip2/decompress.c" "$bzip2/bzlib.c" "$bzip2/bzip2.c"
+make_program bzip2 "$bzip2/blocksort.c" "$bzip2/huffman.c" "$bzip2/crctable.c" "$bzip2/randtable.c" \
+    "$bzip2/compress.c" "$bzip2/decompress.c" "$bzip2/bzlib.c" "$bzip2/bzip2.c"
 # all of lua but its compiler's own program
 set --
 for source in "$out"/src/lua/src/*.c; do

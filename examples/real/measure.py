@@ -1,14 +1,14 @@
 #!/usr/bin/env python3
-"""Runs the programs that build.sh made by `eel run`, beside this machine's builds of the same sources, and says what edits cost.
+"""Runs the programs that build.sh made by `eel run`, beside this machine's builds of them, and says what edits cost.
 
     examples/real/measure.py OUT [--small]
 
-OUT is the folder of build.sh. First the programs' outputs are compared: the tests of bzip2's own Makefile, and lua with a
-script given on the standard input and as an argument. Then some of these runs are edited with each tool, and for each edit a
-line of a table is printed: the seconds of processor time and the memory that `edit` takes, the size of the written file, the
-steps of its run and how many they are for each of the original's, its seconds, and those of the command that tells what was
-counted. `profile, seen` has the weights that the run itself counted, `profile, other` those of another input. With --small
-the runs are short. The status is 1 where an output differs.
+OUT is the folder of build.sh. First the programs' outputs are compared: the tests of bzip2's own Makefile, and lua with
+a script on the standard input and as an argument. Then some runs are edited with each tool. Each line of the table has
+the steps of such a run, how many they are for each of the original's, and its seconds of processor time; the seconds
+and the megabytes of memory that `edit` takes, and the megabytes of the file that it writes; and the seconds of
+`visits`, `counts` or `trace`. `profile, seen` goes by what the profile of this run counted, `profile, other` by that of
+a run with another input. With --small the runs are short. The status is 1 where an output differs.
 """
 import argparse
 import os
@@ -56,7 +56,8 @@ def call(file, *words, given=b''):
         process.returncode = os.waitstatus_to_exitcode(status)
         out.seek(0)
         errors.seek(0)
-        return Called(out.read(), errors.read(), process.returncode, used.ru_utime + used.ru_stime, used.ru_maxrss / 1024)
+        seconds, megabytes = used.ru_utime + used.ru_stime, used.ru_maxrss / 1024
+        return Called(out.read(), errors.read(), process.returncode, seconds, megabytes)
 
 
 def eel(*words, given=b''):
@@ -66,7 +67,7 @@ def eel(*words, given=b''):
     return called
 
 
-def run(folder, case, file, *options):
+def run(case, file, *options):
     return eel('run', file, '-n', LIMIT, *options, '--', *case.words, given=case.given)
 
 
@@ -83,8 +84,8 @@ def cases(folder):
     """Short runs: the tests of bzip2, and some scripts."""
     samples = os.path.join(folder, 'src', 'bzip2')
     for number in '123':
-        yield Case(f'bzip2 -{number} <sample{number}.ref', 'bzip2', [f'-{number}'], read(samples, f'sample{number}.ref'))
-        yield Case(f'bzip2 -d <sample{number}.bz2', 'bzip2', ['-d'], read(samples, f'sample{number}.bz2'))
+        for option, name in ((f'-{number}', f'sample{number}.ref'), ('-d', f'sample{number}.bz2')):
+            yield Case(f'bzip2 {option} <{name}', 'bzip2', [option], read(samples, name))
     yield Case('bzip2 -dv of what it isn\'t', 'bzip2', ['-dv'], b'no such thing')
     yield Case('lua - 1 <sample.lua', 'lua', ['-', '1'], read(HERE, 'sample.lua'))
     yield Case('lua -e ..', 'lua', ['-e', 'for i = 1, 3 do print(i, 2 ^ (i / 2)) end'], b'')
@@ -107,14 +108,29 @@ def steps(dump):
     return struct.unpack_from('>Q', read(dump), 20)[0]
 
 
+@dataclass
+class Row:
+    """What an edit cost, what its run did, and what was told of it."""
+    tool: str
+    steps: int
+    edited: Called
+    megabytes: float
+    ran: Called
+    told: Called
+
+    def line(self, case, own):
+        told = f'{self.told.seconds:.2f}' if self.told else ''
+        return (f'| {case.name} | {self.tool} | {self.steps:,} | {self.steps / own:.2f} | {self.ran.seconds:.2f} '
+                f'| {self.edited.seconds:.2f} | {self.edited.megabytes:.0f} | {self.megabytes:.1f} | {told} |')
+
+
 class Measure:
     """The edits of a program for one of its runs."""
 
     def __init__(self, folder, case, other, scratch):
-        self.folder, self.case, self.other, self.scratch = folder, case, other, scratch
+        self.case, self.other, self.scratch = case, other, scratch
         self.original = os.path.join(folder, f'{case.program}.sparc')
         self.host = on_this_machine(folder, case)
-        self.own = 0
 
     def path(self, name):
         return os.path.join(self.scratch, name)
@@ -122,54 +138,43 @@ class Measure:
     def edit(self, *tool):
         return eel('edit', self.original, self.path('written'), *tool)
 
-    def tell(self, command, into=None):
-        """What was counted, and how long it took to be told."""
+    def tell(self, command, into):
+        """What was counted, which goes into a file, too."""
         told = eel(command, self.path('written'), self.path('dump'))
-        if into:
-            with open(self.path(into), 'wb') as opened:
-                opened.write(told.output)
+        with open(self.path(into), 'wb') as opened:
+            opened.write(told.output)
         return told
 
-    def weights(self, case, into):
-        """The counts of a run of the profile that stands written."""
-        run(self.folder, case, self.path('written'), '-d', self.path('dump'))
-        self.tell('counts', into)
-
-    def row(self, name, edited, command=None, into=None):
-        ran = run(self.folder, self.case, self.path('written'), '-d', self.path('dump'))
-        made = steps(self.path('dump'))
+    def row(self, tool, edited, command=None, into='told'):
+        ran = run(self.case, self.path('written'), '-d', self.path('dump'))
         told = self.tell(command, into) if command else None
-        same = agrees(ran, self.host)
-        size = os.path.getsize(self.path('written')) / 1e6
-        if command == 'visits':
-            self.own = int(told.output.split()[-1])
-        return same, (name, made, edited, size, ran, told)
+        return Row(tool, steps(self.path('dump')), edited, os.path.getsize(self.path('written')) / 1e6, ran, told)
 
     def rows(self):
         """The visits of all words come first: they tell how many steps the original takes."""
         yield self.row('every', self.edit('every'), 'visits')
         yield self.row('plain', self.edit('plain'))
         yield self.row('profile', self.edit('profile'), 'counts', 'seen')
-        self.weights(self.other, 'other')
+        run(self.other, self.path('written'), '-d', self.path('dump'))
+        self.tell('counts', 'other')
         for weights in ('seen', 'other'):
             yield self.row(f'profile, {weights}', self.edit('profile', self.path(weights)), 'counts')
         yield self.row('trace 8', self.edit('trace', '8'), 'trace')
 
 
 def print_rows(folder, case, other):
+    """Prints the lines of a run, and answers whether each edit put out what this machine's build does."""
     with tempfile.TemporaryDirectory() as scratch:
         measure = Measure(folder, case, other, scratch)
-        plain = run(folder, case, measure.original)
-        same = agrees(plain, measure.host)
-        rows = list(measure.rows())
-        print(f'| {case.name} | original | {measure.own:,} | 1.00 | {plain.seconds:.2f} | | | | |', flush=True)
-        for agreed, (name, made, edited, size, ran, told) in rows:
-            same = same and agreed
-            print(f'| {case.name} | {name} | {made:,} | {made / measure.own:.2f} | {ran.seconds:.2f} | {edited.seconds:.2f} '
-                  f'| {edited.megabytes:.0f} | {size:.1f} | {f"{told.seconds:.2f}" if told else ""} |', flush=True)
-        if not same:
-            print(f'{case.name}: an output differs')
-        return same
+        plain, rows = run(case, measure.original), list(measure.rows())
+    own = int(rows[0].told.output.split()[-1])
+    print(f'| {case.name} | original | {own:,} | 1.00 | {plain.seconds:.2f} | | | | |')
+    for row in rows:
+        print(row.line(case, own), flush=True)
+    same = all(agrees(ran, measure.host) for ran in [plain, *(row.ran for row in rows)])
+    if not same:
+        print(f'{case.name}: an output differs')
+    return same
 
 
 def main():
@@ -183,10 +188,11 @@ def main():
     agreed = True
     for case in cases(words.folder):
         file = os.path.join(words.folder, f'{case.program}.sparc')
-        same = agrees(run(words.folder, case, file), on_this_machine(words.folder, case))
+        same = agrees(run(case, file), on_this_machine(words.folder, case))
         agreed = agreed and same
         print(f'{case.name}: {"as on this machine" if same else "otherwise than on this machine"}', flush=True)
-    print('\n| run | tool | steps | of each | s | edit s | edit MB | file MB | told s |\n|---|---|---|---|---|---|---|---|---|')
+    heading = ['run', 'tool', 'steps', 'of each', 's', 'edit s', 'edit MB', 'file MB', 'told s']
+    print(f'\n| {" | ".join(heading)} |\n|{"---|" * len(heading)}')
     for case, other in measured(words.folder, words.small):
         agreed = print_rows(words.folder, case, other) and agreed
     return not agreed

@@ -121,8 +121,8 @@ impl BlockList {
     }
 }
 
-/// The basic blocks of a text. The caller gives words that lead: those at which something starts, and
-/// marked ones.
+/// The basic blocks of a text. The words of `starts`, at which something starts, and of `marks` begin blocks, besides
+/// the text's own leaders.
 pub fn blocks(
     alloc: Global,
     text: &Text,

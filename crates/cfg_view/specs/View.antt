@@ -1,5 +1,5 @@
 -- What an analysis of a program's file sees: its image, routines, blocks, flow graph and switches.
-use Rattle.std.specs.Prelude.{◌≡◌, ℕ, ◌<◌, nat_lt, List, [], ◌++◌, length, map, filter}
+use Rattle.std.specs.Prelude.{◌≡◌, ℕ, ◌<◌, nat_lt, List, ◌++◌, length, map, filter}
 use Rattle.std.specs.List.{All}
 use Rattle.eel_base.specs.CodeText.{Words}
 use Rattle.elf32_sparc.specs.Image.{Program, image_of}

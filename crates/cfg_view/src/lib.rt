@@ -5,6 +5,7 @@ ghost use Rattle.std.specs.Prelude.{◌≡◌, ◌<◌, ◌++◌, length, map, I
 ghost use Rattle.std.specs.List.{All};
 ghost use Rattle.elf32_sparc.specs.FileFault.{fault};
 ghost use Rattle.elf32_sparc.specs.Image.{refusal};
+ghost use Rattle.routines.specs.Routines.{routines_of};
 ghost use Rattle.cfg_blocks.specs.Entries.{entered_of};
 ghost use Rattle.cfg_blocks.specs.Marks.{numbers, AreWords};
 ghost use Rattle.cfg_blocks.specs.Switches.{switches_of};
@@ -30,7 +31,7 @@ pub struct View {
     pub switches: Vec<Switch>,
 }
 
-/// The view of a file, or its first fault. Marked words lead, as those do at which routines start; marks
+/// The view of a file, or its first fault. Marked words begin blocks, as the words do at which routines start; marks
 /// outside the text are passed over.
 #[tactic(auto, unfolding(crate::specs::View::view_of))]
 pub fn look(alloc: Global, bytes: &[u8], marks: &[WordNo]) -> Result<View, ReadFault>
@@ -48,9 +49,8 @@ fn view_image(alloc: Global, image: Image, marks: &[WordNo]) -> Result<View, NoM
     ensures view { IfOk result (λ view. view_seen view ≡ view_with image (given_in image (numbers marks.now))) }
     ensures whole { IfOk result IsView }
 {
-    let routines = find(alloc, &image)?;
-    let blocks = blocks_of(alloc, image.text(), routines.list(), marks)?;
-    let flow = flow_of(alloc, image.text(), &blocks, image.entry())?;
+    let parts = parts_of(alloc, &image, marks)?;
+    let (routines, blocks, flow) = parts;
     let (graph, switches) = flow;
     Ok(View {
         image,
@@ -59,6 +59,28 @@ fn view_image(alloc: Global, image: Image, marks: &[WordNo]) -> Result<View, NoM
         graph,
         switches,
     })
+}
+
+/// A flow graph and its switches.
+type Flow = (FlowGraph, Vec<Switch>);
+
+/// The routines of an image, its blocks, and its flow graph.
+fn parts_of(
+    alloc: Global,
+    image: &Image,
+    marks: &[WordNo],
+) -> Result<(Routines, BlockList, Flow), NoMemory>
+    ensures routines { IfOk result (λ parts. parts.0 ≡ routines_of image.now) }
+    ensures starts { IfOk result (λ parts. All (λ routine. routine.start.0 < length image.now.text.words) parts.0) }
+    ensures blocks { IfOk result (λ parts. parts.1 ≡ entered_of image.now.text (given_in image.now (numbers marks.now))) }
+    ensures graph { IfOk result (λ parts. parts.2.0 ≡ graph_with image.now.text parts.1 image.now.entry) }
+    ensures switches { IfOk result (λ parts. parts.2.1.items ≡ switches_of image.now.text parts.1 image.now.entry) }
+    ensures tables { IfOk result (λ parts. All (IsTableIn image.now.text) parts.2.1.items) }
+{
+    let routines = find(alloc, image)?;
+    let blocks = blocks_of(alloc, image.text(), routines.list(), marks)?;
+    let flow = flow_of(alloc, image.text(), &blocks, image.entry())?;
+    Ok((routines, blocks, flow))
 }
 
 /// The blocks of a text with these routines, at whose starts words lead, as marked ones do.
@@ -78,12 +100,7 @@ fn blocks_of(
 }
 
 /// The flow graph of a text that was cut into blocks, and its switches.
-fn flow_of(
-    alloc: Global,
-    text: &Text,
-    blocks: &BlockList,
-    entry: WordNo,
-) -> Result<(FlowGraph, Vec<Switch>), NoMemory>
+fn flow_of(alloc: Global, text: &Text, blocks: &BlockList, entry: WordNo) -> Result<Flow, NoMemory>
     requires { blocks.now.blocks.words ≡ length text.now.words }
     ensures graph { IfOk result (λ flow. flow.0 ≡ graph_with text.now blocks.now entry.0) }
     ensures switches { IfOk result (λ flow. flow.1.items ≡ switches_of text.now blocks.now entry.0) }

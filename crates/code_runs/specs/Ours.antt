@@ -23,7 +23,7 @@ pub record HasWordAt (a : ℕ) (writable : Bool) (m : Memory) : Type 0 where
   pub may_write : region.writable ≡ writable
   pub whole : region.size ≤ length region.bytes
 
--- one of the pages has the word
+-- All four bytes of the word at the address `a` lie in one of the pages.
 abbrev pub IsIn : List Span → ℕ → Type 0
 IsIn [] a = ⊥
 IsIn (page ∷ pages) a = ((page.from ≤ a) × (a + 4 ≤ page.from + page.count)) ⊎ IsIn pages a
@@ -41,7 +41,7 @@ abbrev pub IsAmongWords : List ℕ → ℕ → Type 0
 IsAmongWords [] a = ⊥
 IsAmongWords (b ∷ bs) a = (a ≡ b) ⊎ IsAmongWords bs a
 
--- the region, if there is one, has not the word
+-- The region, if there is one, doesn't cover all four bytes of the word at `a`.
 abbrev pub HasNot : ℕ → Option Region → Type 0
 HasNot a None = Unit {0}
 HasNot a (Some r) = covers a 4 r ≡ false

@@ -27,7 +27,7 @@ pub fn long_jumps_hop()
     ensures { LongJumpsHop }
 {}
 
-/// It stores in no other word.
+/// A long jump stores in word 0 of the editor's page alone.
 pub fn long_jumps_store()
     ensures { LongJumpsStore }
 {}

@@ -1,10 +1,10 @@
 -- The values of counters, and the numbers of a flow.
-use Rattle.std.proofs.Common.{◌≡◌, ℕ, ◌+◌, ◌*◌, ◌^◌, ◌<◌, ◌≤◌, ◌⊎◌, ◌==◌, inl, inr, true, false, List, [], ◌∷◌, length, map, get_or, Option, Some, None, refl, ap, sym, ◌∙◌, arith}
+use Rattle.std.proofs.Common.{◌≡◌, ℕ, ◌+◌, ◌*◌, ◌^◌, ◌<◌, ◌≤◌, ◌⊎◌, ◌==◌, inl, inr, true, false, List, [], ◌∷◌, length, map, get_or, Option, Some, None, refl, ap, sym, ◌∙◌, subst, arith}
 use Rattle.std.specs.Prelude.{ℤ, pos, negsuc, nat_abs, slice_index}
 use Rattle.std.specs.List.{All}
 use Rattle.std.proofs.Math.ListN.{get_or-map}
-use Rattle.std.proofs.lemmas.Bool.{cases_lt, cond_both, false≢true, le-leb, lt-leb}
-use Rattle.std.proofs.lemmas.List.{get_or_past}
+use Rattle.std.proofs.lemmas.Bool.{cases_lt, cond_both, false≢true, le-leb, leb-false, lt-leb}
+use Rattle.std.proofs.lemmas.List.{get_or_past, length-map}
 use Rattle.std.proofs.lemmas.List.Elements.{All-cons, All-nil}
 use Rattle.flow_rebuild.specs.Values.{int_at}
 use Rattle.notes.specs.Seen.{edge_seen}
@@ -80,6 +80,21 @@ is_large_from (negsuc n) h l = absurd (false≢true (sym h))
 is_large_below : (z : ℤ) → nat_abs z < 2 ^ 64 → is_large z ≡ false
 is_large_below (pos n) l = lt-leb (2 ^ 64) n l
 is_large_below (negsuc n) l = refl
+
+-- numbers that are neither below 0 nor large fit
+small_count : (z : ℤ) → is_large z ≡ false → is_negative z ≡ false → nat_abs z < 2 ^ 64
+small_count (pos n) small whole = leb-false (2 ^ 64) n small
+small_count (negsuc n) small whole = absurd (false≢true (sym whole))
+
+pub small_counts : (flow : List ℤ) (counts : List ℕ) → counts ≡ map nat_abs flow
+    → ((e : ℕ) → is_negative (int_at flow e) ≡ false)
+    → ((e : ℕ) → e < length flow → is_large (int_at flow e) ≡ false)
+    → (e : ℕ) → e < length counts → slice_index counts e < 2 ^ 64
+small_counts flow counts are whole small e l =
+    let inside : e < length flow = omega (arith, l, ap length are, length-map flow nat_abs) in
+    let is : slice_index counts e ≡ nat_abs (int_at flow e) =
+    ap (λ (counts : List ℕ). slice_index counts e) are ∙ get_or-map nat_abs flow e (pos 0) in
+    subst (λ (n : ℕ). n < 2 ^ 64) (sym is) (small_count (int_at flow e) (small e inside) (whole e))
 
 pub small_more : (flow : List ℤ) (edge : ℕ) → ((e : ℕ) → e < edge → is_large (int_at flow e) ≡ false)
     → nat_abs (int_at flow edge) < 2 ^ 64 → (e : ℕ) → e < edge + 1 → is_large (int_at flow e) ≡ false

@@ -7,12 +7,13 @@ use Rattle.count_rebuild.specs.declared.fault.CountFault.TheVariants as faults
 use Rattle.count_rebuild.specs.Noted.{IsProfile}
 use Rattle.count_rebuild.specs.Counts.{IsAlike, IsFirst, IsFlowTo, IsForThem, IsShort, IsTheirs, StandsAt, is_large, is_negative}
 
--- the counts are the flow to the node where the run stands
+-- the counts are the flow to the node where the run stands, and each fits 64 bits
 pub record AreCounts (notes : Notes) (dump : Dump) (counts : List ℕ) : Type 0 where
   pub node : ℕ
   pub stands : StandsAt notes dump node
   pub len : length counts ≡ length notes.edges
   pub flow : IsFlowTo notes dump node (λ e. pos (slice_index counts e))
+  pub small : (e : ℕ) → e < length counts → slice_index counts e < 2 ^ 64
 
 -- the dump is of the other version
 pub record IsOfOther (notes : Notes) (dump : Dump) (of wanted : ℕ) : Type 0 where

@@ -24,10 +24,15 @@ pub record IsTreeOf (notes : Notes) (links : List Link) (tree : Tree) : Type 0 w
 abbrev pub IsWhole : List ℤ → Type 0
 IsWhole flow = (e : ℕ) → is_negative (int_at flow e) ≡ false
 
+-- none of its values is 2^64 or more
+abbrev pub IsSmall : List ℤ → Type 0
+IsSmall flow = (e : ℕ) → e < length flow → is_large (int_at flow e) ≡ false
+
 -- the flow as numbers of 64 bits
 pub record AreWhole (flow : List ℤ) (counts : List ℕ) : Type 0 where
   pub are : counts ≡ map nat_abs flow
   pub whole : IsWhole flow
+  pub small : IsSmall flow
 
 -- Or the first of its values that is below 0, or where none is the first that is too large. Want of memory comes only
 -- where none is below 0.

@@ -1,5 +1,5 @@
 //! The counts, or why there are none.
-ghost use Rattle.std.specs.Prelude.{◌≡◌, ◌<◌, ◌^◌, length, map, nat_abs, IfOk, IfErr, OnOk};
+ghost use Rattle.std.specs.Prelude.{◌≡◌, ◌≢◌, ◌<◌, ◌^◌, length, map, nat_abs, IfOk, IfErr, OnOk};
 ghost use Rattle.notes.specs.Rules.{AreNotes};
 ghost use Rattle.notes.specs.Seen.{edge_seen, notes_seen};
 ghost use Rattle.dump_file.specs.Dump.{Dump as DumpSeen, dump_seen};
@@ -7,7 +7,7 @@ ghost use Rattle.count_rebuild.specs.Answers.{AreCounts, IsRefused};
 ghost use Rattle.count_rebuild.specs.Counts.{IsAlike, IsForThem, IsShort, IsTheirs, StandsAt};
 ghost use Rattle.count_rebuild.specs.Noted.{link_of, IsProfile};
 ghost use Rattle.count_rebuild.specs.declared.fault.CountFault.TheVariants as faults;
-ghost use Rattle.count_rebuild.specs.Parts.{AreWhole, IsBad, IsTreeOf, IsWhole};
+ghost use Rattle.count_rebuild.specs.Parts.{AreWhole, IsBad, IsSmall, IsTreeOf, IsWhole};
 
 use crate::CountFault;
 use crate::nodes::nodes;
@@ -52,6 +52,7 @@ pub fn rebuild(alloc: Global, n: &Notes, d: &Dump) -> Result<Vec<u64>, CountFaul
 fn keep_tool(n: &Notes) -> Result<(), CountFault>
     ensures tool { OnOk result (n.now.tool ≡ 1) }
     ensures refused { (d : DumpSeen) → IfErr result (IsRefused (notes_seen n.now) d) }
+    ensures judged { IfErr result (λ fault. fault ≢ faults.NoMemory) }
 {
     if n.tool != PROFILE {
         return Err(CountFault::NoProfile);
@@ -80,6 +81,7 @@ fn keep_alike(n: &Notes, d: &Dump) -> Result<(), CountFault>
     requires profile { IsProfile (notes_seen n.now) }
     ensures alike { IfOk result (λ _. IsAlike (notes_seen n.now) (dump_seen d.now)) }
     ensures refused { IfErr result (IsRefused (notes_seen n.now) (dump_seen d.now)) }
+    ensures judged { IfErr result (λ fault. fault ≢ faults.NoMemory) }
 {
     if d.version != n.version {
         return Err(CountFault::Version {
@@ -95,6 +97,7 @@ fn keep_for_them(n: &Notes, d: &Dump) -> Result<(), CountFault>
     requires alike { IsAlike (notes_seen n.now) (dump_seen d.now) }
     ensures theirs { IfOk result (λ _. IsForThem (notes_seen n.now) (dump_seen d.now)) }
     ensures refused { IfErr result (IsRefused (notes_seen n.now) (dump_seen d.now)) }
+    ensures judged { IfErr result (λ fault. fault ≢ faults.NoMemory) }
 {
     if n.version == WIDE && d.length != n.length {
         return Err(CountFault::Other {
@@ -111,6 +114,7 @@ fn keep_theirs(n: &Notes, d: &Dump) -> Result<(), CountFault>
     requires for_them { IsForThem (notes_seen n.now) (dump_seen d.now) }
     ensures theirs { IfOk result (λ _. IsTheirs (notes_seen n.now) (dump_seen d.now)) }
     ensures refused { IfErr result (IsRefused (notes_seen n.now) (dump_seen d.now)) }
+    ensures judged { IfErr result (λ fault. fault ≢ faults.NoMemory) }
 {
     let cells = d.cells.len() as u32;
     if cells != n.cells {
@@ -127,6 +131,7 @@ fn keep_short(n: &Notes, d: &Dump) -> Result<(), CountFault>
     requires theirs { IsTheirs (notes_seen n.now) (dump_seen d.now) }
     ensures short { IfOk result (λ _. IsShort (notes_seen n.now) (dump_seen d.now)) }
     ensures refused { IfErr result (IsRefused (notes_seen n.now) (dump_seen d.now)) }
+    ensures judged { IfErr result (λ fault. fault ≢ faults.NoMemory) }
 {
     if n.version == NARROW && d.steps >= STEPS {
         return Err(CountFault::TooLong(d.steps));
@@ -140,6 +145,7 @@ fn standing(n: &Notes, d: &Dump) -> Result<usize, CountFault>
     requires short { IsShort (notes_seen n.now) (dump_seen d.now) }
     ensures stands { IfOk result (StandsAt (notes_seen n.now) (dump_seen d.now)) }
     ensures refused { IfErr result (IsRefused (notes_seen n.now) (dump_seen d.now)) }
+    ensures judged { IfErr result (λ fault. fault ≢ faults.NoMemory) }
 {
     match node_at(n, d.pc) {
         Some(node) => Ok(node as usize),
@@ -163,6 +169,7 @@ fn keep_whole(flow: &[i128]) -> Result<(), CountFault>
     requires { length flow.now < 2 ^ 32 }
     ensures whole { IfOk result (λ _. IsWhole flow.now) }
     ensures refused { IfErr result (IsBad flow.now) }
+    ensures judged { IfErr result (λ fault. fault ≢ faults.NoMemory) }
 {
     for (edge, value) in flow.iter().enumerate() {
         if *value < 0 {
@@ -177,6 +184,7 @@ fn small_numbers(alloc: Global, flow: &[i128]) -> Result<Vec<u64>, CountFault>
     requires len { length flow.now < 2 ^ 32 }
     requires whole { IsWhole flow.now }
     ensures counts { IfOk result (λ counts. counts.items ≡ map nat_abs flow.now) }
+    ensures small { IfOk result (λ _. IsSmall flow.now) }
     ensures refused { IfErr result (IsBad flow.now) }
 {
     let mut counts = Vec::with_capacity(alloc, flow.len())?;

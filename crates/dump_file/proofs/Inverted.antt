@@ -9,7 +9,7 @@ use Rattle.elf32_sparc.specs.Notes.{is_version}
 use Rattle.v8_step.specs.declared.Ending.{Ending}
 use Rattle.dump_file.specs.Dump.{Dump, IsDump, kind_of, number_of}
 use Rattle.dump_file.specs.Written.{mark, words_bytes, length_words, dump_bytes}
-use Rattle.dump_file.specs.Reading.{count_place, field_at, kept, length_at, number_limit, ending_of, ending_at, fits, words_of, read_dump}
+use Rattle.dump_file.specs.Reading.{count_at, count_place, field_at, version_at, kept, length_at, number_limit, ending_of, ending_at, fits, words_of, read_dump}
 use Rattle.dump_file.proofs.Words.{AreBytes, are_bytes, bytes_dropped, words_again, length-words, words_fit}
 use Rattle.dump_file.proofs.Fields.{Found, after_4, after_8, field_fits, parted, met}
 use Rattle.dump_file.proofs.ReadsBack.{parts as fields_stand}
@@ -54,18 +54,19 @@ record Read (bytes : List ℕ) (dump : Dump) : Type 0 where
   cells : dump.cells ≡ words_of (drop (count_place dump.version + 4) bytes) (length dump.cells)
 
 read_parts : (bytes : List ℕ) (dump : Dump) → read_dump bytes ≡ Ok dump → Read bytes dump
-unfolding read_dump
+unfolding read_dump version_at count_at
 read_parts bytes dump h =
-    let first = parted (field_at 4 bytes 0) _ dump h in
-    let begins = parted (kept (first.got == mark) 0 first.got) _ dump first.rest in
-    let version = parted (field_at 4 bytes 4) _ dump begins.rest in
-    let known = parted (kept (is_version version.got) 4 version.got) _ dump version.rest in
-    let ending = parted (ending_at bytes) _ dump known.rest in
+    let version = parted (version_at bytes) _ dump h in
+    let first = parted (field_at 4 bytes 0) _ version.got version.is in
+    let begins = parted (kept (first.got == mark) 0 first.got) _ version.got first.rest in
+    let told_version = parted (field_at 4 bytes 4) _ version.got begins.rest in
+    let ending = parted (ending_at bytes) _ dump version.rest in
     let pc = parted (field_at 4 bytes 16) _ dump ending.rest in
     let steps = parted (field_at 8 bytes 20) _ dump pc.rest in
     let told = parted (length_at version.got bytes) _ dump steps.rest in
     let place = count_place version.got in
-    let count = parted (field_at 4 bytes place) _ dump told.rest in
+    let count = parted (count_at version.got bytes) _ dump told.rest in
+    let told_count = parted (field_at 4 bytes place) _ count.got count.is in
     let whole : Dump = record {
       version = version.got;
       ending = ending.got;
@@ -74,29 +75,32 @@ read_parts bytes dump h =
       length = told.got;
       cells = words_of (drop (place + 4) bytes) count.got;
     } in
-    let last = met (fits (place + 4) bytes count.got) place whole dump count.rest in
     let first_met = met (first.got == mark) 0 first.got begins.got begins.is in
-    let known_met = met (is_version version.got) 4 version.got known.got known.is in
+    let known_met = met (is_version told_version.got) 4 told_version.got version.got told_version.rest in
+    let last = met (fits (place + 4) bytes told_count.got) place told_count.got count.got told_count.rest in
+    let count_is : field_at 4 bytes place ≡ Ok count.got = told_count.is ∙ ap Ok last.same in
+    let all : fits (place + 4) bytes count.got ≡ true = rw (← last.same) last.met in
     let end = ending_read bytes ending.got ending.is in
     let long = length-words count.got (drop (place + 4) bytes) in
-    let size = eqb-true (length bytes) (place + 4 + 4 * count.got) last.met in
+    let size = eqb-true (length bytes) (place + 4 + 4 * count.got) all in
     let read : Read bytes whole = record {
       found = record {
         first = first.is ∙ ap Ok (eqb-true first.got mark first_met.met);
-        version = version.is;
+        version = told_version.is ∙ ap Ok known_met.same;
         kind = end.kind;
         number = end.number;
         pc = pc.is;
         steps = steps.is;
         told = told.is;
-        count = count.is ∙ ap Ok (sym long);
+        count = count_is ∙ ap Ok (sym long);
         size = rw long size;
       };
-      known = known_met.met;
+      known = rw (← known_met.same) known_met.met;
       small = end.small;
       cells = ap (words_of (drop (place + 4) bytes)) (sym long);
     } in
-    subst (Read bytes) last.same read
+    let same : whole ≡ dump = cc count.rest in
+    subst (Read bytes) same read
 
 -- ---- what stands behind the steps
 

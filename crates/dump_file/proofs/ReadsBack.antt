@@ -9,7 +9,7 @@ use Rattle.v8_step.specs.declared.Ending.{Ending}
 use Rattle.v8_step.specs.declared.Ending.TheVariants.{Exit, Trap, Window, Couple}
 use Rattle.dump_file.specs.Dump.{Dump, IsDump, kind_of, number_of}
 use Rattle.dump_file.specs.Written.{mark, words_bytes, dump_bytes}
-use Rattle.dump_file.specs.Reading.{count_place, field_at, ending_at, words_of, read_dump}
+use Rattle.dump_file.specs.Reading.{count_place, count_at, field_at, ending_at, version_at, words_of, read_dump}
 use Rattle.dump_file.proofs.Words.{words_back}
 use Rattle.dump_file.proofs.Fields.{Found, field_there}
 
@@ -25,7 +25,7 @@ ending_back bytes (Some Couple) kind number fits = rw (kind, number) refl
 read_back : (bytes : List ℕ) (dump : Dump) → Found bytes dump → is_version dump.version ≡ true
     → number_of dump.ending < 2 ^ 8
     → words_of (drop (count_place dump.version + 4) bytes) (length dump.cells) ≡ dump.cells → read_dump bytes ≡ Ok dump
-unfolding read_dump
+unfolding read_dump version_at count_at
 read_back bytes dump found known fits cells =
     let ending = ending_back bytes dump.ending found.kind found.number fits in
     let size = eq-eqb (length bytes) (count_place dump.version + 4 + 4 * length dump.cells) found.size in

@@ -4,7 +4,7 @@ use Rattle.v8_step.specs.declared.Ending.{Ending}
 use Rattle.v8_step.specs.declared.Ending.TheVariants.{Exit, Trap, Window, Couple}
 use Rattle.dump_file.specs.Dump.{Dump}
 use Rattle.dump_file.specs.Written.{words_bytes, dump_bytes}
-use Rattle.dump_file.specs.Reading.{read_dump, ending_at, words_of}
+use Rattle.dump_file.specs.Reading.{count_at, ending_at, read_dump, version_at, words_of}
 
 -- exit with 3, at 0x20000 after 3 steps
 abbrev exits : Dump
@@ -33,7 +33,7 @@ unfolding dump_bytes words_bytes
 stopped_bytes = refl
 
 stopped_reads : read_dump (words_bytes words) ≡ Ok stopped
-unfolding words_bytes read_dump ending_at words_of
+unfolding words_bytes read_dump version_at ending_at count_at words_of
 stopped_reads = refl
 
 -- the dump with the words at 8 and 12 replaced
@@ -54,12 +54,12 @@ ended ending = Ok (record {
 
 endings : map with_ending ((0, 0) ∷ (1, 255) ∷ (2, 7) ∷ (3, 0) ∷ (4, 0) ∷ [])
     ≡ map ended (None ∷ Some (Exit 255) ∷ Some (Trap 7) ∷ Some Window ∷ Some Couple ∷ [])
-unfolding words_bytes read_dump ending_at words_of
+unfolding words_bytes read_dump version_at ending_at count_at words_of
 endings = refl
 
 no_endings : map with_ending ((5, 0) ∷ (0, 1) ∷ (1, 256) ∷ (2, 256) ∷ (3, 1) ∷ (4, 1) ∷ [])
     ≡ map Err (8 ∷ 12 ∷ 12 ∷ 12 ∷ 12 ∷ 12 ∷ [])
-unfolding words_bytes read_dump ending_at words_of
+unfolding words_bytes read_dump version_at ending_at count_at words_of
 no_endings = refl
 
 -- these words with the one at an offset replaced, read
@@ -70,7 +70,7 @@ with_word words change =
 
 broken : map (with_word words) ((0, 0x45454c4e) ∷ (4, 0) ∷ (4, 3) ∷ (28, 1) ∷ (28, 3) ∷ [])
     ≡ map Err (0 ∷ 4 ∷ 4 ∷ 28 ∷ 28 ∷ [])
-unfolding words_bytes read_dump ending_at words_of
+unfolding words_bytes read_dump version_at ending_at count_at words_of
 broken = refl
 
 -- The first bytes alone, so many, and the first number that isn't whole. The steps are one number of eight bytes.
@@ -82,12 +82,12 @@ missing = (0, 0) ∷ (3, 0) ∷ (4, 4) ∷ (11, 8) ∷ (15, 12) ∷ (19, 16) ∷
     ∷ (31, 28) ∷ (39, 28) ∷ []
 
 cuts : map (cut words) missing ≡ map (λ ending. Err ending.1) missing
-unfolding words_bytes read_dump ending_at words_of
+unfolding words_bytes read_dump version_at ending_at count_at words_of
 cuts = refl
 
 -- a byte after the last cell
 left_over : read_dump (words_bytes words ++ 0 ∷ []) ≡ Err 28
-unfolding words_bytes read_dump ending_at words_of
+unfolding words_bytes read_dump version_at ending_at count_at words_of
 left_over = refl
 
 -- ---- version 2
@@ -111,7 +111,7 @@ unfolding dump_bytes words_bytes
 wide_bytes = refl
 
 wide_reads : read_dump (words_bytes wide_words) ≡ Ok wide
-unfolding words_bytes read_dump ending_at words_of
+unfolding words_bytes read_dump version_at ending_at count_at words_of
 wide_reads = refl
 
 -- exit with 3, without a cell; any size reads, and 0 too
@@ -126,7 +126,7 @@ unfolding dump_bytes words_bytes
 wide_exits_bytes = refl
 
 wide_exits_reads : read_dump (words_bytes wide_exits_words) ≡ Ok wide_exits
-unfolding words_bytes read_dump ending_at words_of
+unfolding words_bytes read_dump version_at ending_at count_at words_of
 wide_exits_reads = refl
 
 -- The version says where the number of cells stands: bytes of one version don't read as the other.
@@ -134,11 +134,11 @@ abbrev wide_changes : List (ℕ × ℕ)
 wide_changes = (0, 0x45454c4e) ∷ (4, 0) ∷ (4, 3) ∷ (4, 1) ∷ (8, 5) ∷ (12, 1) ∷ (32, 1) ∷ (32, 3) ∷ []
 
 wide_broken : map (with_word wide_words) wide_changes ≡ map Err (0 ∷ 4 ∷ 4 ∷ 28 ∷ 8 ∷ 12 ∷ 32 ∷ 32 ∷ [])
-unfolding words_bytes read_dump ending_at words_of
+unfolding words_bytes read_dump version_at ending_at count_at words_of
 wide_broken = refl
 
 narrow_as_wide : with_word words (4, 2) ≡ Err 32
-unfolding words_bytes read_dump ending_at words_of
+unfolding words_bytes read_dump version_at ending_at count_at words_of
 narrow_as_wide = refl
 
 abbrev wide_missing : List (ℕ × ℕ)
@@ -146,10 +146,10 @@ wide_missing = (0, 0) ∷ (7, 4) ∷ (11, 8) ∷ (15, 12) ∷ (19, 16) ∷ (27, 
     ∷ (36, 32) ∷ (43, 32) ∷ []
 
 wide_cuts : map (cut wide_words) wide_missing ≡ map (λ ending. Err ending.1) wide_missing
-unfolding words_bytes read_dump ending_at words_of
+unfolding words_bytes read_dump version_at ending_at count_at words_of
 wide_cuts = refl
 
 -- a byte after the last cell
 wide_left_over : read_dump (words_bytes wide_words ++ 0 ∷ []) ≡ Err 32
-unfolding words_bytes read_dump ending_at words_of
+unfolding words_bytes read_dump version_at ending_at count_at words_of
 wide_left_over = refl

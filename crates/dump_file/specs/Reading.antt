@@ -65,26 +65,36 @@ unfoldable pub words_of : List ℕ → ℕ → List ℕ
 words_of bytes zero = []
 words_of bytes (suc count) = big_number 4 bytes ∷ words_of (drop 4 bytes) count
 
-unfoldable pub read_dump : List ℕ → Result Dump ℕ
-read_dump bytes = do
+-- the version, behind the mark
+unfoldable pub version_at : List ℕ → Result ℕ ℕ
+version_at bytes = do
   first ← field_at 4 bytes 0
   begins ← kept (first == mark) 0 first
   version ← field_at 4 bytes 4
-  known ← kept (is_version version) 4 version
+  kept (is_version version) 4 version
+
+-- the number of cells, which are all that follows it
+unfoldable pub count_at : ℕ → List ℕ → Result ℕ ℕ
+count_at version bytes = do
+  let place = count_place version
+  count ← field_at 4 bytes place
+  kept (fits (place + 4) bytes count) place count
+
+unfoldable pub read_dump : List ℕ → Result Dump ℕ
+read_dump bytes = do
+  version ← version_at bytes
   ending ← ending_at bytes
   pc ← field_at 4 bytes 16
   steps ← field_at 8 bytes 20
   size ← length_at version bytes
-  let place = count_place version
-  count ← field_at 4 bytes place
-  let cells = words_of (drop (place + 4) bytes) count
-  kept (fits (place + 4) bytes count) place (record {
+  count ← count_at version bytes
+  Ok (record {
     version = version;
     ending = ending;
     pc = pc;
     steps = steps;
     length = size;
-    cells = cells;
+    cells = words_of (drop (count_place version + 4) bytes) count;
   })
 
 -- it reads

@@ -5,7 +5,7 @@ use eel_base::Addr;
 use std::alloc::{AllocError, AllocFailed};
 use v8_step::Ending;
 
-/// What a run has come to.
+/// How far a run has come, and what its cells hold then.
 #[derive(Drop)]
 pub struct Dump {
     /// That of the notes of the file that was run, 1 or 2.

@@ -1,8 +1,8 @@
 //! Reading dumps.
-ghost use Rattle.std.specs.Prelude.{◌≡◌, ◌≤◌, ◌<◌, ◌*◌, ◌^◌, MatchResult, IfOk, IfErr, length, true, false, vec_len};
+ghost use Rattle.std.specs.Prelude.{◌≡◌, ◌≤◌, ◌<◌, ◌+◌, ◌*◌, ◌^◌, MatchResult, IfOk, IfErr, length, true, false, vec_len};
 ghost use Rattle.eel_base.specs.Fields.{be_field};
 ghost use Rattle.dump_file.specs.Dump.{dump_seen};
-ghost use Rattle.dump_file.specs.Reading.{Answers, Reads, count_place, field_at, ending_at, ending_of, length_at, number_limit, fits, words_of};
+ghost use Rattle.dump_file.specs.Reading.{Answers, Reads, count_at, count_place, field_at, ending_at, ending_of, length_at, number_limit, fits, version_at, words_of};
 ghost use Rattle.elf32_sparc.specs.Notes.{is_version};
 ghost use Rattle.dump_file.specs.Reading.{read_dump};
 ghost use Rattle.dump_file.specs.declared.dump.DumpFault.TheVariants as faults;
@@ -22,17 +22,13 @@ pub fn read_dump(alloc: Global, bytes: &[u8]) -> Result<Dump, DumpFault>
     ensures read { Answers dump_seen result (read_dump bytes.now) }
     ensures few { IfOk result (λ dump. vec_len dump.cells < 2 ^ 32) }
 {
-    keep(word_at(bytes, 0)? == MARK, 0)?;
-    let version = word_at(bytes, 4)?;
-    keep(is_version(version), 4)?;
+    let version = version_at(bytes)?;
     let ending = ending_at(bytes)?;
     let pc = Addr(word_at(bytes, 16)?);
     let steps = long_at(bytes, 20)?;
     let length = length_at(bytes, version)?;
-    let place = count_place(version);
-    let count = word_at(bytes, place)?;
-    keep(fits(place + 4, bytes, count), place)?;
-    let (_, cells) = bytes.split_at(place as usize + 4);
+    let count = count_at(bytes, version)?;
+    let (_, cells) = bytes.split_at(count_place(version) as usize + 4);
     let cells = read_words(alloc, cells, count as usize)?;
     Ok(Dump {
         version,
@@ -42,6 +38,30 @@ pub fn read_dump(alloc: Global, bytes: &[u8]) -> Result<Dump, DumpFault>
         length,
         cells,
     })
+}
+
+/// The version, behind the mark.
+#[tactic(auto, unfolding(crate::specs::Reading::version_at))]
+fn version_at(bytes: &[u8]) -> Result<u32, DumpFault>
+    ensures { Reads result (version_at bytes.now) }
+{
+    let mark = word_at(bytes, 0)?;
+    keep(mark == MARK, 0)?;
+    let version = word_at(bytes, 4)?;
+    keep(is_version(version), 4)?;
+    Ok(version)
+}
+
+/// The number of cells, which are all that follows it.
+#[tactic(auto, unfolding(crate::specs::Reading::count_at))]
+fn count_at(bytes: &[u8], version: u32) -> Result<u32, DumpFault>
+    ensures count { Reads result (count_at version bytes.now) }
+    ensures all { IfOk result (λ count. length bytes.now ≡ count_place version + 4 + 4 * count) }
+{
+    let place = count_place(version);
+    let count = word_at(bytes, place)?;
+    keep(fits(place + 4, bytes, count), place)?;
+    Ok(count)
 }
 
 fn is_version(version: u32) -> bool

@@ -101,7 +101,7 @@ IsInRoom original plan m =
 abbrev pub IsEditorPage : Mapping → Type 0
 IsEditorPage m = (m.start ≡ editor_page) × (m.length ≡ page_size)
 
--- cells lie in it, with leave to be read (PF_R)
+-- cells lie in it, with permission to be read (PF_R)
 abbrev pub holds_cells : ℕ → ℕ → Mapping → Bool
 holds_cells base cells m =
     nat_le m.start base && nat_le (base + 4 * cells) (m.start + m.length) && has_flag 4 m.flags

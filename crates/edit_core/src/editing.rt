@@ -22,8 +22,8 @@ use notes::write_notes;
 use std::alloc::Global;
 use tool_kit::{Chooser, Tool, snips};
 
-/// The edit of a file: what a tool asks is done on each edge that the program completes. A profile's snippets count
-/// edges.
+/// Edits a file with a tool: the written file does what the original does, and on each edge that its run completes it
+/// carries out the snippet that the tool asks for. The snippets of a profile must be counters.
 pub fn edit_bytes<F: Chooser>(
     alloc: Global,
     bytes: &[u8],

@@ -13,14 +13,14 @@ mod taking;
 pub use editing::edit_bytes;
 pub use taking::EditFault;
 
-/// Where snippets take only what isn't live behind them, all that is kept which the original's run still needs, or a later
-/// snippet names.
+/// Where snippets change only what is dead behind them, everything is kept that the original's run still needs or that
+/// a later snippet names.
 pub fn keeps_what_lives()
     ensures { KeepsWhatLives }
 {}
 
-/// Where each image is one step of the original, whole runs answer: going on, ending, the number of steps, what they store,
-/// and where the written file stands meanwhile.
+/// Where each image carries out one step of the original, the written file's whole run answers the original's: where
+/// it goes on, how it ends, how many steps it takes, what it stores, and where it stands meanwhile.
 pub fn edits_answer()
     ensures { EditsAnswer }
 {}

@@ -5,7 +5,7 @@ use Rattle.eel.specs.Outcome.{Outcome, Shows, Stream, shown, failed, status_of}
 use Rattle.eel.specs.Answers.{Ran, IsDone, IsUnrefused, IsRefusal, IsUnchanged, HasFailed, WasWanting, meaning_of, unknown_means}
 use Rattle.eel.specs.Answers.Shared.{Outside, with_err}
 use Rattle.eel.proofs.Later.{rose-before, rose-after}
-use Rattle.eel.proofs.Meanings.{IsByStatus, AnyRose, refusal_is_bad}
+use Rattle.eel.proofs.Meanings.{IsByStatus, refusal_is_bad}
 use Rattle.eel.proofs.Editing.{edit_by_status}
 use Rattle.eel.proofs.Scripting.{script_by_status}
 use Rattle.eel.proofs.Running.{run_by_status}
@@ -31,7 +31,7 @@ unknown_by_status = record {
   refused = λ old new outcome follows refusal. record { files = follows.1; out = ap (λ s. s.taken) follows.3.0 };
   wanting = λ old new err outcome follows wants.
       let at : status_of outcome ≡ 64 = ap status_of follows.0 in absurd (omega (arith, wants, at));
-  failed = λ old new outcome follows fails.
+  failed = λ old new err outcome follows fails.
       let at : status_of outcome ≡ 64 = ap status_of follows.0 in absurd (omega (arith, fails, at));
 }
 
@@ -120,15 +120,10 @@ pub failed_shown : (command : Command) (old new : Outside) (status : ℕ) → Ra
     → status ≡ 74 → HasFailed command old new
 failed_shown command old new status r fails = at r.shown
   where
-    with_line : AnyRose old (with_err new r.err) ((meaning_of command).lacks old.files) → HasFailed command old new
-    with_line (inl files) = inl files
-    with_line (inr (inl input)) = inr (inl input)
-    with_line (inr (inr (inl out))) = inr (inr (inl out))
-    with_line (inr (inr (inr (inl err)))) = inr (inr (inr (inl (rose-after old.err.faults r.err.faults new.err.faults r.at_last err))))
-    with_line (inr (inr (inr (inr lacks)))) = inr (inr (inr (inr lacks)))
-
     at : Shows r.outcome status r.err new.err → HasFailed command old new
     at (shown is took) =
-        with_line ((by_status command).failed old (with_err new r.err) r.outcome r.follows (omega (arith, is, fails)))
-    at (failed is took rose) =
-        inr (inr (inr (inl (rose-before old.err.faults r.err.faults new.err.faults r.later rose))))
+        elim ((by_status command).failed old new r.err r.outcome r.follows (omega (arith, is, fails))) [
+          | inl rose ↦ inl (rose-after old.err.faults r.err.faults new.err.faults r.at_last rose)
+          | inr fails ↦ inr fails
+        ]
+    at (failed is took rose) = inl (rose-before old.err.faults r.err.faults new.err.faults r.later rose)

@@ -12,7 +12,7 @@ use Rattle.eel.specs.Answers.Shared.{Feed, Outside, Store, WasRead, outside, sto
 use Rattle.eel.specs.Answers.Run.{HasRun, IsRun, WasBroken, WasFed, stopped_of, was_broken}
 use Rattle.eel.specs.Answers.Dump.{Dumps, unread, unfed, refused, unnoted, ran, AreUnmapped, HasPutAll, HasStopped, IsDumped, IsNotNoted, IsPutAfter, WasDumped, dump_after, dump_means}
 use Rattle.eel.proofs.Later.{appended-nil, put-later}
-use Rattle.eel.proofs.Meanings.{AnyRose, IsByStatus, IsBad, bad, refusal_is_bad, refusal_not_wanting, wanting_is_bad, unread_not_done, unread_failed}
+use Rattle.eel.proofs.Meanings.{IsByStatus, IsBad, bad, refusal_is_bad, refusal_not_wanting, wanting_is_bad, unread_not_done, unread_failed}
 use Rattle.eel.proofs.Restoring.{unnoted_is_bad}
 use Rattle.eel.proofs.Running.{not_run, unfed_failed, unfed_not_done}
 
@@ -211,19 +211,19 @@ module _ (file : List ℕ) (limit : ℕ) (dump : List ℕ) (args : List (List �
       left_by_run bytes input notes old new outcome is other read fed
 
   failed : (old new : Outside) (outcome : Outcome) → Dumps file limit dump args old new outcome
-      → status_of outcome ≡ 74 → AnyRose old new (IsMissing old.files.held file)
+      → status_of outcome ≡ 74 → Rose old.err.faults new.err.faults ⊎ (dump_means file limit dump args).fails old new
   failed old new outcome (unread is unused quiet held) fails =
-      elim (unread_failed old.files new.files file written_limit outcome is fails) [ inl lacks ↦ inr (inr (inr (inr lacks))) | inr rose ↦ inl rose ]
+      inr (inl (elim (unread_failed old.files new.files file written_limit outcome is fails) [ inl lacks ↦ inr lacks | inr rose ↦ inl rose ]))
   failed old new outcome (unfed bytes read is quiet held) fails =
-      inr (inl (unfed_failed old.input new.input outcome is fails))
+      inr (inr (inl (unfed_failed old.input new.input outcome is fails)))
   failed old new outcome (refused bytes read input fed is quiet held) fails =
       absurd ((not_run file bytes outcome is).not_failed fails)
   failed old new outcome (unnoted bytes read input fed loads is quiet held) fails =
       absurd ((not_noted file bytes outcome is).not_failed fails)
   failed old new outcome (ran bytes read input fed loads notes noted is) fails =
       elim (dumped_failed notes (start_of bytes args input) limit dump old new outcome is fails) [
-        | inl rose ↦ inl rose
-        | inr other ↦ elim other [ inl rose ↦ inr (inr (inl rose)) | inr rose ↦ inr (inr (inr (inl rose))) ]
+        | inl rose ↦ inr (inl (inl rose))
+        | inr other ↦ elim other [ inl rose ↦ inr (inr (inr rose)) | inr rose ↦ inl rose ]
       ]
 
   -- any other refusal has put nothing out
@@ -259,5 +259,5 @@ module _ (file : List ℕ) (limit : ℕ) (dump : List ℕ) (args : List (List �
     wanting = λ old new err outcome follows wants.
         let left = leaves old (with_err new err) outcome follows (wanting_is_bad _ wants) in
         (left.held, quiet_or_all old new err outcome left);
-    failed = λ old new outcome follows fails. failed old new outcome follows fails;
+    failed = λ old new err outcome follows fails. failed old (with_err new err) outcome follows fails;
   }

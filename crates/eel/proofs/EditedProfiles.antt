@@ -16,17 +16,16 @@ use Rattle.span_tree.specs.Cells.{cell_at, cell_count, has_cell}
 use Rattle.span_tree.proofs.LoopBounds.{counted_few}
 use Rattle.span_tree.proofs.Numbered.{cell_within}
 use Rattle.image_code.proofs.Fit.{pieces_fit}
-use Rattle.edit_core.specs.Faithful.{IsFaithful}
 use Rattle.edit_core.specs.Written.{CanDo, IsTheEdit, IsWritten, notes_on}
 use Rattle.edit_core.proofs.Edits.{is_edit}
 use Rattle.edit_core.proofs.Originals.{image_text}
 use Rattle.edit_core.proofs.Steps.{original_fit}
 use Rattle.edit_core.proofs.Views.{view_graph}
-use Rattle.exact_counts.specs.Profiles.{counter_in}
+use Rattle.exact_counts.specs.Profiles.{CountsOffTree, counter_in}
 use Rattle.exact_counts.proofs.Little.{edges_few}
-use Rattle.eel.specs.Answers.Profile.{IsMarkedProfile, plan_of, plan_with}
+use Rattle.eel.specs.Answers.Profile.{IsMarkedProfile, graph_with, plan_with}
 use Rattle.eel.specs.Answers.Counts.{EditsAreProfiles}
-use Rattle.eel.proofs.ExactProfiles.{one_notes}
+use Rattle.eel.proofs.ExactProfiles.{off_tree, one_notes}
 use Rattle.eel.proofs.Profiled.{are_counters}
 
 -- ---- counters are good snippets
@@ -92,9 +91,9 @@ edits_are_profiles marks weights original file notes limit bytes profile read =
     let version = has_version marks weights original file limit bytes profile notes read in (
       version,
       record {
-        cells = profile.cells;
         sound = profile.made.taken.sound;
-        are = profile.are;
-        faithful = subst (λ (v : ℕ). IsFaithful original (plan_of v marks profile.cells) file) (sym version) profile.made.faithful;
+        counters = subst (λ (v : ℕ). CountsOffTree v (graph_with original marks) (plan_with marks profile.cells)) (sym version)
+            (off_tree (graph_with original marks) marks weights profile.cells profile.are);
+        faithful = profile.made.faithful;
       },
     )

@@ -6,30 +6,31 @@ use Rattle.elf32_sparc.specs.Notes.{NoNotes, Notes, notes_of}
 use Rattle.v8_step.specs.Valid.{AreBytes}
 use Rattle.cfg_normal.specs.Graph.{Graph}
 use Rattle.dump_file.specs.Dump.{Dump}
+use Rattle.tool_kit.specs.Plans.{Plan}
 use Rattle.count_rebuild.specs.Answers.{AreCounts}
 use Rattle.edit_core.specs.Faithful.{HasGraph}
 use Rattle.edit_core.specs.RunsAlike.{HaveRunsAlike}
 use Rattle.exact_counts.specs.Profiles.{CountsOffTree, IsProfiled, counter_in}
 use Rattle.exact_counts.proofs.Exact.{counts_are_exact}
 use Rattle.exact_counts.proofs.Trees.{trees_make_profiles}
-use Rattle.eel.specs.Answers.Profile.{AreCells, IsProfileOf, graph_in, graph_with, plan_of, profile_plan}
+use Rattle.eel.specs.Answers.Profile.{AreCells, IsProfileOf, graph_in, plan_with, profile_plan}
 use Rattle.v8_process.specs.Start.{start_of}
 use Rattle.exact_counts.specs.Laws.{IsExact}
 use Rattle.exact_counts.specs.Stops.{dump_at, visits_by}
 use Rattle.eel.specs.Answers.Counts.{AreExact, IsOfRun, IsProfile}
 
--- counters off a spanning tree are a profile's, in each version
-off_tree : (version : ℕ) (graph : Graph) (marks weights : List ℕ) (cells : List (Option ℕ)) → AreCells graph weights cells
-    → CountsOffTree version graph (plan_of version marks cells)
-off_tree version graph marks weights cells are =
-    trees_make_profiles version graph (plan_of version marks cells) cells (record {
+-- counters off a spanning tree are a profile's
+pub off_tree : (graph : Graph) (marks weights : List ℕ) (cells : List (Option ℕ)) → AreCells graph weights cells
+    → CountsOffTree 2 graph (plan_with marks cells)
+off_tree graph marks weights cells are =
+    trees_make_profiles 2 graph (plan_with marks cells) cells (record {
       kind = refl;
       count = refl;
-      size = length-map cells (counter_in version) ∙ are.size;
+      size = length-map cells (counter_in 2) ∙ are.size;
       len = are.size;
       numbered = are.numbered;
       tree = are.spans;
-      snips = λ e inside. get_or-map (counter_in version) cells e None [] (omega (arith, inside, are.size));
+      snips = λ e inside. get_or-map (counter_in 2) cells e None [] (omega (arith, inside, are.size));
     })
 
 -- a file has one list of notes
@@ -40,17 +41,16 @@ notes_in notes (Err why) = notes
 pub one_notes : (file : List ℕ) (one other : Notes) → notes_of file ≡ Ok one → notes_of file ≡ Ok other → other ≡ one
 one_notes file one other first second = ap (notes_in one) (sym second ∙ first)
 
-pub is_profiled : (marks weights original file : List ℕ) (notes : Notes)
-    (profile : IsProfile marks weights original file notes) → AreBytes original
-    → notes_of file ≡ Ok notes → IsProfiled original (plan_of notes.version marks profile.cells) file notes
-is_profiled marks weights original file notes profile bytes read =
+pub is_profiled : (original : List ℕ) (plan : Plan) (file : List ℕ) (notes : Notes)
+    → IsProfile original plan file notes → AreBytes original → notes_of file ≡ Ok notes
+    → IsProfiled original plan file notes
+is_profiled original plan file notes profile bytes read =
     let faithful = profile.faithful in
-    let plan = plan_of notes.version marks profile.cells in
     let same = one_notes file notes faithful.notes read faithful.whole.reads in
     record {
       sound = profile.sound;
       bytes = bytes;
-      counters = off_tree notes.version (graph_with original marks) marks weights profile.cells profile.are;
+      counters = profile.counters;
       graph = subst (HasGraph original plan) same faithful.graph;
       dead = faithful.dead;
       runs = subst (HaveRunsAlike original plan faithful.dead file) same faithful.runs;
@@ -62,7 +62,7 @@ pub edit_is_profiled : (weights original file : List ℕ) (notes : Notes) (profi
     → notes_of file ≡ Ok notes → IsProfiled original (profile_plan profile.cells) file notes
 edit_is_profiled weights original file notes profile bytes read =
     let faithful = profile.made.faithful in
-    let wide = off_tree 2 (graph_in original) [] weights profile.cells profile.are in
+    let wide = off_tree (graph_in original) [] weights profile.cells profile.are in
     subst (λ (n : Notes). IsProfiled original (profile_plan profile.cells) file n)
     (one_notes file notes faithful.notes read faithful.whole.reads)
     (record {
@@ -83,12 +83,11 @@ edit_is_profiled weights original file notes profile bytes read =
 pub exact_in : (file : List ℕ) (notes : Notes) (dump : Dump) → notes_of file ≡ Ok notes
     → (original : List ℕ) (args : List (List ℕ)) (input : List ℕ) (m : ℕ)
     → (run : IsOfRun original file notes dump args input m)
-    → IsExact original (plan_of notes.version run.marks run.profile.cells) notes (start_of original args input)
+    → IsExact original run.plan notes (start_of original args input)
     (dump_at notes (start_of file args input) m) (visits_by notes (start_of file args input) m - 1)
 exact_in file notes dump read original args input m run =
-    counts_are_exact original (plan_of notes.version run.marks run.profile.cells) file notes args input m
-    (is_profiled run.marks run.weights original file notes run.profile run.bytes read) run.arguments run.given run.untouched
-    run.few
+    counts_are_exact original run.plan file notes args input m
+    (is_profiled original run.plan file notes run.profile run.bytes read) run.arguments run.given run.untouched run.few
 
 pub are_exact : (file : List ℕ) (notes : Notes) (dump : Dump) (counts : List ℕ) → notes_of file ≡ Ok notes
     → AreCounts notes dump counts → AreExact file notes dump counts

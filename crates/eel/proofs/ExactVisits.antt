@@ -38,7 +38,6 @@ use Rattle.instr_counts.specs.Matches.{AreNoted, Matches, kind_number}
 use Rattle.instr_counts.specs.Visits.{AreSingle, finished, is_begun, leads_to, one_if, runs_slot, sum_where}
 use Rattle.instr_counts.proofs.Counted.{visits_are_counted}
 use Rattle.instr_counts.proofs.Single.{words_are_blocks}
-use Rattle.eel.specs.Answers.Profile.{plan_of}
 use Rattle.eel.specs.Answers.Every.{every_view, every_word}
 use Rattle.eel.specs.Answers.Restore.{original_in}
 use Rattle.eel.specs.Answers.Counts.{IsOfRun}
@@ -200,30 +199,29 @@ in_file file notes dump read original args input m made =
 
 pub has_every_word : (file : List ℕ) (notes : Notes) (dump : Dump) → notes_of file ≡ Ok notes
     → (original : List ℕ) (args : List (List ℕ)) (input : List ℕ) (m : ℕ)
-    → (made : IsOfRun original file notes dump args input m) → made.marks ≡ every_word original
+    → (made : IsOfRun original file notes dump args input m) → made.plan.marks ≡ every_word original
     → HasEveryWord file notes
 has_every_word file notes dump read original args input m made marked =
-    let is = is_profiled made.marks made.weights original file notes made.profile made.bytes read in
-    let plan = plan_of notes.version made.marks made.profile.cells in
+    let is = is_profiled original made.plan file notes made.profile made.bytes read in
     let stands = sym (in_file file notes dump read original args input m made) in
     record {
       sound = subst (λ (o : List ℕ). fault o ≡ None) stands is.sound;
       matches = subst (λ (o : List ℕ). Matches (every_view o) notes) stands
           (subst (λ (marks : List ℕ). Matches (view_of original marks) notes) marked
-          (matches original plan file notes is (leads_marked original made.marks marked)));
+          (matches original made.plan file notes is (leads_marked original made.plan.marks marked)));
     }
 
 pub exact_visits : (file : List ℕ) (notes : Notes) (dump : Dump) (counts visits : List ℕ) → notes_of file ≡ Ok notes
     → AreCounts notes dump counts → AreVisits (every_view (original_in file notes)) notes dump counts visits
     → AreExactVisits file notes dump visits
 exact_visits file notes dump counts visits read flow are = λ original args input m made marked.
-    let is = is_profiled made.marks made.weights original file notes made.profile made.bytes read in
-    let plan : Plan = plan_of notes.version made.marks made.profile.cells in
+    let is = is_profiled original made.plan file notes made.profile made.bytes read in
+    let plan : Plan = made.plan in
     let t0 : State = start_of file args input in
     let s0 : State = start_of original args input in
     let v : ℕ = visits_by notes t0 m in
     let stands = in_file file notes dump read original args input m made in
-    let own : AreVisits (view_of original made.marks) notes dump counts visits =
+    let own : AreVisits (view_of original plan.marks) notes dump counts visits =
     subst (λ (marks : List ℕ). AreVisits (view_of original marks) notes dump counts visits) (sym marked)
     (subst (λ (o : List ℕ). AreVisits (every_view o) notes dump counts visits) stands are) in
     let pc : dump.pc ≡ (run t0 m).pc = ap (λ (d : Dump). d.pc) made.is in
@@ -237,9 +235,9 @@ exact_visits file notes dump counts visits read flow are = λ original args inpu
     let count : suc (v - 1) ≡ v = omega (arith, some) in
     record {
       stands = stands;
-      len = visit_count original made.marks notes dump counts visits own;
+      len = visit_count original plan.marks notes dump counts visits own;
       each = λ word l.
-          visits_are original plan file notes is (leads_marked original made.marks marked) args input (v - 1) (run t0 m).pc
+          visits_are original plan file notes is (leads_marked original plan.marks marked) args input (v - 1) (run t0 m).pc
           (subst (λ (graph : Graph). node_at notes (run t0 m).pc
           ≡ Some (last_node (image_of original).text graph (image_of original).entry s0 (v - 1)))
           (sym (view_graph original plan is.dead notes)) tells.node)

@@ -3,14 +3,8 @@ use Rattle.std.proofs.Common.{◌≡◌, ℕ, ◌≤◌, ◌⊎◌, inl, inr, Li
 use Rattle.eel_base.specs.Outside.{Rose, IsMissing, appended, stored}
 use Rattle.eel.specs.Outcome.{Outcome, Done, TooLong, OutOfMemory, DeviceFault, Stream, status_of, line_of}
 use Rattle.eel.specs.Answers.{IsRefusal, IsUnchanged}
-use Rattle.eel.specs.Answers.Shared.{Store, Outside, Meaning, with_err, IsUnread, IsPut, IsPrinted, files_mean, prints_mean}
+use Rattle.eel.specs.Answers.Shared.{Store, Outside, Meaning, with_err, IsUnread, IsPut, IsPrinted, HaveFailed, files_mean, prints_mean}
 use Rattle.eel.proofs.Later.{appended-nil}
-
--- a count of faults rose
-abbrev pub AnyRose : Outside → Outside → Type 0 → Type 0
-AnyRose old new Lacks =
-    Rose old.files.faults new.files.faults ⊎ Rose old.input.faults new.input.faults
-    ⊎ Rose old.out.faults new.out.faults ⊎ Rose old.err.faults new.err.faults ⊎ Lacks
 
 pub record IsByStatus (m : Meaning) : Type 0 where
   pub done : (old new : Outside) (err : Stream) (outcome : Outcome) → m.follows old (with_err new err) outcome
@@ -19,8 +13,8 @@ pub record IsByStatus (m : Meaning) : Type 0 where
       → IsUnchanged old new
   pub wanting : (old new : Outside) (err : Stream) (outcome : Outcome) → m.follows old (with_err new err) outcome
       → status_of outcome ≡ 70 → (new.files.held ≡ old.files.held) × m.wants old new
-  pub failed : (old new : Outside) (outcome : Outcome) → m.follows old new outcome → status_of outcome ≡ 74
-      → AnyRose old new (m.lacks old.files)
+  pub failed : (old new : Outside) (err : Stream) (outcome : Outcome) → m.follows old (with_err new err) outcome
+      → status_of outcome ≡ 74 → Rose old.err.faults err.faults ⊎ m.fails old new
 
 -- a status that is neither that of success nor that of a device fault
 pub record IsBad (status : ℕ) : Type 0 where
@@ -114,7 +108,7 @@ pub record AreByStatus (follows : Store → Store → Outcome → Type 0) (does 
   pub unchanged : (old new : Store) (outcome : Outcome) → follows old new outcome → IsBad (status_of outcome)
       → new.held ≡ old.held
   pub failed : (old new : Store) (outcome : Outcome) → follows old new outcome → status_of outcome ≡ 74
-      → Rose old.faults new.faults ⊎ lacks old
+      → HaveFailed lacks old new
 
 pub files_by_status : (follows : Store → Store → Outcome → Type 0) (does : Store → Store → Type 0)
     (lacks : Store → Type 0) → AreByStatus follows does lacks → IsByStatus (files_mean follows does lacks)
@@ -128,28 +122,27 @@ files_by_status follows does lacks are = record {
   };
   wanting = λ old new err outcome is wants.
       (are.unchanged old.files new.files outcome is.0 (wanting_is_bad _ wants), ap (λ s. s.taken) is.2.0);
-  failed = λ old new outcome is fails. elim (are.failed old.files new.files outcome is.0 fails)
-      [ inl rose ↦ inl rose | inr lacks ↦ inr (inr (inr (inr lacks))) ];
+  failed = λ old new err outcome is fails. inr (are.failed old.files new.files outcome is.0 fails);
 }
 
 -- ---- commands that read files and print, and do nothing else
 
 pub record ArePrintedByStatus (follows : Outside → Outside → Outcome → Type 0) (does : Outside → Outside → Type 0)
-    (lacks : Store → Type 0) : Type 0 where
+    (unread : Store → Store → Type 0) : Type 0 where
   pub done : (old new : Outside) (err : Stream) (outcome : Outcome) → follows old (with_err new err) outcome
       → status_of outcome ≡ 0 → new.err.taken ≡ appended err.taken (line_of outcome) → does old new
   pub silent : (old new : Outside) (outcome : Outcome) → follows old new outcome → IsBad (status_of outcome)
       → new.out.taken ≡ old.out.taken
   pub failed : (old new : Outside) (outcome : Outcome) → follows old new outcome → status_of outcome ≡ 74
-      → AnyRose old new (lacks old.files)
+      → unread old.files new.files ⊎ Rose old.out.faults new.out.faults
 
 pub prints_by_status : (follows : Outside → Outside → Outcome → Type 0) (does : Outside → Outside → Type 0)
-    (lacks : Store → Type 0) → ArePrintedByStatus follows does lacks → IsByStatus (prints_mean follows does lacks)
-prints_by_status follows does lacks are = record {
+    (unread : Store → Store → Type 0) → ArePrintedByStatus follows does unread → IsByStatus (prints_mean follows does unread)
+prints_by_status follows does unread are = record {
   done = λ old new err outcome is zero took. (are.done old new err outcome is.0 zero took, is.1, is.2);
   refused = λ old new outcome is refusal.
       record { files = is.1; out = are.silent old new outcome is.0 (refusal_is_bad _ refusal) };
   wanting = λ old new err outcome is wants.
       (is.1, are.silent old (with_err new err) outcome is.0 (wanting_is_bad _ wants));
-  failed = λ old new outcome is fails. are.failed old new outcome is.0 fails;
+  failed = λ old new err outcome is fails. inr (are.failed old (with_err new err) outcome is.0 fails);
 }

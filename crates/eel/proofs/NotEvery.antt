@@ -13,7 +13,7 @@ use Rattle.eel.proofs.Missed.{seldom_missed}
 
 module _ (written file name : List ℕ) (notes : Notes) (dump : Dump) (read : notes_of file ≡ Ok notes)
     (original : List ℕ) (args : List (List ℕ)) (input : List ℕ) (m : ℕ)
-    (made : IsOfRun original file notes dump args input m) (marked : made.marks ≡ every_word original) where
+    (made : IsOfRun original file notes dump args input m) (marked : made.plan.marks ≡ every_word original) where
   -- as for counts
   counted : (outcome : Outcome) → IsUncounted written name notes dump outcome → MayMiss name dump outcome
   counted outcome is = seldom_missed written file name notes dump outcome read is original args input m made

@@ -1,12 +1,12 @@
 -- Lines that are printed of a file, by the status.
-use Rattle.std.proofs.Common.{◌≡◌, ℕ, inl, inr, List, ap, ◌∙◌, lit≤}
-use Rattle.eel_base.specs.Outside.{IsMissing, appended}
+use Rattle.std.proofs.Common.{◌≡◌, ℕ, ◌⊎◌, inl, inr, List, ap, ◌∙◌, lit≤}
+use Rattle.eel_base.specs.Outside.{IsMissing, Rose, appended}
 use Rattle.eel.specs.Outcome.{Outcome, BadFile, OutOfMemory, Stream, status_of, line_of}
-use Rattle.eel.specs.Answers.Shared.{Outside, with_err, edit_limit}
+use Rattle.eel.specs.Answers.Shared.{Outside, Store, HaveFailed, with_err, edit_limit}
 use Rattle.eel.specs.Answers.Files.{IsNotSound}
 use Rattle.eel.specs.Answers.Print.{Prints, unread, refused, printed, WerePrinted, print_means}
 use Rattle.eel.proofs.Later.{appended-nil}
-use Rattle.eel.proofs.Meanings.{AnyRose, IsByStatus, IsBad, bad, prints_by_status, unread_not_done, unread_failed, printed_done, printed_not_refused, printed_failed}
+use Rattle.eel.proofs.Meanings.{IsByStatus, IsBad, bad, prints_by_status, unread_not_done, unread_failed, printed_done, printed_not_refused, printed_failed}
 
 not_sound : (name bytes : List ℕ) (outcome : Outcome) → IsNotSound name bytes outcome → IsBad (status_of outcome)
 not_sound name bytes (BadFile named code) is = bad 65 (lit≤ tt) (lit≤ tt)
@@ -34,14 +34,17 @@ module _ (lines_of : List ℕ → List ℕ) where
   silent file old new outcome (refused bytes read is quiet) other = ap (λ s. s.taken) quiet.0
   silent file old new outcome (printed bytes read sound is same) other = absurd (printed_not_refused old.out new.out (lines_of bytes) outcome is other)
 
+  abbrev Unread : List ℕ → Store → Store → Type 0
+  Unread file = HaveFailed (λ files. IsMissing files.held file)
+
   failed : (file : List ℕ) (old new : Outside) (outcome : Outcome) → Prints lines_of file old new outcome
-      → status_of outcome ≡ 74 → AnyRose old new (IsMissing old.files.held file)
+      → status_of outcome ≡ 74 → Unread file old.files new.files ⊎ Rose old.out.faults new.out.faults
   failed file old new outcome (unread is quiet) fails =
-      elim (unread_failed old.files new.files file edit_limit outcome is fails) [ inl lacks ↦ inr (inr (inr (inr lacks))) | inr rose ↦ inl rose ]
+      inl (elim (unread_failed old.files new.files file edit_limit outcome is fails) [ inl lacks ↦ inr lacks | inr rose ↦ inl rose ])
   failed file old new outcome (refused bytes read is quiet) fails = absurd ((not_sound file bytes outcome is).not_failed fails)
-  failed file old new outcome (printed bytes read sound is same) fails = inr (inr (inl (printed_failed old.out new.out (lines_of bytes) outcome is fails)))
+  failed file old new outcome (printed bytes read sound is same) fails = inr (printed_failed old.out new.out (lines_of bytes) outcome is fails)
 
   pub print_by_status : (file : List ℕ) → IsByStatus (print_means lines_of file)
   print_by_status file =
-      prints_by_status (Prints lines_of file) (WerePrinted lines_of file) (λ files. IsMissing files.held file)
+      prints_by_status (Prints lines_of file) (WerePrinted lines_of file) (Unread file)
       (record { done = done file; silent = silent file; failed = failed file })

@@ -1,7 +1,7 @@
 -- What is told of a run, by the status.
 use Rattle.std.proofs.Common.{◌≡◌, ℕ, ◌⊎◌, inl, inr, List, ap, ◌∙◌}
 use Rattle.std.specs.Prelude.{Ok}
-use Rattle.eel_base.specs.Outside.{IsMissing, appended}
+use Rattle.eel_base.specs.Outside.{IsMissing, Rose, appended}
 use Rattle.elf32_sparc.specs.Notes.{Notes, notes_of}
 use Rattle.dump_file.specs.Dump.{Dump}
 use Rattle.eel.specs.declared.report.Report.{Report}
@@ -9,11 +9,11 @@ use Rattle.eel.specs.declared.report.Report.TheVariants as reports
 use Rattle.eel.specs.Outcome.{Outcome, Stream, status_of, line_of}
 use Rattle.eel.specs.Answers.Noted.{dump_limit}
 use Rattle.eel.specs.Answers.Report.{Reports, unread, undumped, refused, printed, IsExact, Tell, WasReported, report_means}
-use Rattle.eel.specs.Answers.Shared.{Outside, Store, with_err, written_limit}
+use Rattle.eel.specs.Answers.Shared.{Outside, Store, HaveFailed, with_err, written_limit}
 use Rattle.eel.proofs.ExactProfiles.{are_exact}
 use Rattle.eel.proofs.ExactVisits.{exact_visits}
 use Rattle.eel.proofs.Later.{appended-nil}
-use Rattle.eel.proofs.Meanings.{AnyRose, IsByStatus, IsBad, prints_by_status, unread_not_done, unread_failed, printed_done, printed_not_refused, printed_failed}
+use Rattle.eel.proofs.Meanings.{IsByStatus, IsBad, prints_by_status, unread_not_done, unread_failed, printed_done, printed_not_refused, printed_failed}
 use Rattle.eel.proofs.ToldEdges.{are_the_last}
 use Rattle.eel.proofs.Unreported.{unreported_is_bad}
 
@@ -57,23 +57,23 @@ module _ (report : Report) (written dump : List ℕ) where
   silent old new outcome (printed file read bytes dump_read lines told is same) other =
       absurd (printed_not_refused old.out new.out lines outcome is other)
 
-  abbrev Lacks : Store → Type 0
-  Lacks files = IsMissing files.held written ⊎ IsMissing files.held dump
+  abbrev Unread : Store → Store → Type 0
+  Unread = HaveFailed (λ files. IsMissing files.held written ⊎ IsMissing files.held dump)
 
   failed : (old new : Outside) (outcome : Outcome) → Reports report written dump old new outcome
-      → status_of outcome ≡ 74 → AnyRose old new (Lacks old.files)
+      → status_of outcome ≡ 74 → Unread old.files new.files ⊎ Rose old.out.faults new.out.faults
   failed old new outcome (unread is quiet) fails =
-      elim (unread_failed old.files new.files written written_limit outcome is fails)
-      [ inl lacks ↦ inr (inr (inr (inr (inl lacks)))) | inr rose ↦ inl rose ]
+      inl (elim (unread_failed old.files new.files written written_limit outcome is fails)
+      [ inl lacks ↦ inr (inl lacks) | inr rose ↦ inl rose ])
   failed old new outcome (undumped file read is quiet) fails =
-      elim (unread_failed old.files new.files dump dump_limit outcome is fails)
-      [ inl lacks ↦ inr (inr (inr (inr (inr lacks)))) | inr rose ↦ inl rose ]
+      inl (elim (unread_failed old.files new.files dump dump_limit outcome is fails)
+      [ inl lacks ↦ inr (inr lacks) | inr rose ↦ inl rose ])
   failed old new outcome (refused file read bytes dump_read is seldom quiet) fails =
       absurd ((unreported_is_bad report written file dump bytes outcome is).not_failed fails)
   failed old new outcome (printed file read bytes dump_read lines told is same) fails =
-      inr (inr (inl (printed_failed old.out new.out lines outcome is fails)))
+      inr (printed_failed old.out new.out lines outcome is fails)
 
   pub report_by_status : IsByStatus (report_means report written dump)
   report_by_status =
-      prints_by_status (Reports report written dump) (WasReported report written dump) Lacks
+      prints_by_status (Reports report written dump) (WasReported report written dump) Unread
       (record { done = done; silent = silent; failed = failed })

@@ -17,7 +17,7 @@ use Rattle.eel.specs.Outcome.{Outcome, Stopped, BadFile, TooLong, OutOfMemory, D
 use Rattle.eel.specs.Answers.Shared.{Feed, Outside, with_err, written_limit}
 use Rattle.eel.specs.Answers.Run.{Runs, unread, unfed, refused, ran, HasRun, IsRun, IsNotRun, IsUnfed, WasRun, run_means, stopped_of}
 use Rattle.eel.proofs.Later.{appended-nil}
-use Rattle.eel.proofs.Meanings.{AnyRose, IsByStatus, IsBad, bad, refusal_is_bad, wanting_is_bad, unread_not_done, unread_failed}
+use Rattle.eel.proofs.Meanings.{IsByStatus, IsBad, bad, refusal_is_bad, wanting_is_bad, unread_not_done, unread_failed}
 
 -- a part of b after all of a is a part of both
 took-rest : (old new : Option (List ℕ)) (a b : List ℕ) → TookPart (appended old a) new b → TookPart old new (a ++ b)
@@ -153,14 +153,14 @@ silent file limit args old new outcome (ran bytes read input fed loads is) other
 
 failed : (file : List ℕ) (limit : ℕ) (args : List (List ℕ)) (old new : Outside) (outcome : Outcome)
     → Runs file limit args old new outcome → status_of outcome ≡ 74
-    → AnyRose old new (IsMissing old.files.held file)
+    → Rose old.err.faults new.err.faults ⊎ (run_means file limit args).fails old new
 failed file limit args old new outcome (unread is unused quiet) fails =
-    elim (unread_failed old.files new.files file written_limit outcome is fails) [ inl lacks ↦ inr (inr (inr (inr lacks))) | inr rose ↦ inl rose ]
-failed file limit args old new outcome (unfed bytes read is quiet) fails = inr (inl (unfed_failed old.input new.input outcome is fails))
+    inr (inl (elim (unread_failed old.files new.files file written_limit outcome is fails) [ inl lacks ↦ inr lacks | inr rose ↦ inl rose ]))
+failed file limit args old new outcome (unfed bytes read is quiet) fails = inr (inr (inl (unfed_failed old.input new.input outcome is fails)))
 failed file limit args old new outcome (refused bytes read input fed is quiet) fails =
     absurd ((not_run file bytes outcome is).not_failed fails)
 failed file limit args old new outcome (ran bytes read input fed loads is) fails =
-    elim (ran_failed (start_of bytes args input) limit old.out new.out old.err new.err outcome is fails) [ inl rose ↦ inr (inr (inl rose)) | inr rose ↦ inr (inr (inr (inl rose))) ]
+    elim (ran_failed (start_of bytes args input) limit old.out new.out old.err new.err outcome is fails) [ inl rose ↦ inr (inr (inr rose)) | inr rose ↦ inl rose ]
 
 pub run_by_status : (file : List ℕ) (limit : ℕ) (args : List (List ℕ)) → IsByStatus (run_means file limit args)
 run_by_status file limit args = record {
@@ -169,5 +169,5 @@ run_by_status file limit args = record {
       record { files = follows.1; out = silent file limit args old new outcome follows.0 (refusal_is_bad _ refusal) };
   wanting = λ old new err outcome follows wants.
       (follows.1, silent file limit args old (with_err new err) outcome follows.0 (wanting_is_bad _ wants));
-  failed = λ old new outcome follows fails. failed file limit args old new outcome follows.0 fails;
+  failed = λ old new err outcome follows fails. failed file limit args old (with_err new err) outcome follows.0 fails;
 }

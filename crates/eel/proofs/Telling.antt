@@ -1,11 +1,11 @@
 -- A demonstration, by its status.
 use Rattle.std.proofs.Common.{◌≡◌, ℕ, ◌⊎◌, inl, inr, refl, ap, ◌∙◌, arith}
-use Rattle.eel_base.specs.Outside.{appended}
+use Rattle.eel_base.specs.Outside.{Rose, appended}
 use Rattle.eel.specs.Outcome.{Outcome, Done, DeviceFault, Stream, status_of, line_of}
 use Rattle.eel.specs.Answers.Shared.{Outside, IsPrinted, with_err}
 use Rattle.eel.specs.Answers.Demo.{Tells, wanting, printed, WasTold, demo_means}
 use Rattle.eel.proofs.Later.{appended-nil}
-use Rattle.eel.proofs.Meanings.{AnyRose, IsByStatus, IsBad, prints_by_status, printed_done, printed_not_refused, printed_failed}
+use Rattle.eel.proofs.Meanings.{IsByStatus, IsBad, prints_by_status, printed_done, printed_not_refused, printed_failed}
 
 module _ (number routines : ℕ) where
   done : (old new : Outside) (err : Stream) (outcome : Outcome) → Tells number routines old (with_err new err) outcome
@@ -28,11 +28,11 @@ module _ (number routines : ℕ) where
       absurd (printed_not_refused old.out new.out lines outcome is other)
 
   failed : (old new : Outside) (outcome : Outcome) → Tells number routines old new outcome
-      → status_of outcome ≡ 74 → AnyRose old new ⊥
+      → status_of outcome ≡ 74 → ⊥ ⊎ Rose old.out.faults new.out.faults
   failed old new outcome (wanting is quiet) fails =
       let at : status_of outcome ≡ 70 = ap status_of is in absurd (omega (arith, fails, at))
   failed old new outcome (printed lines told is same) fails =
-      inr (inr (inl (printed_failed old.out new.out lines outcome is fails)))
+      inr (printed_failed old.out new.out lines outcome is fails)
 
   pub status_told : (old new : Outside) (outcome : Outcome) → Tells number routines old new outcome
       → (status_of outcome ≡ 0) ⊎ (status_of outcome ≡ 70) ⊎ (status_of outcome ≡ 74)
@@ -47,5 +47,5 @@ module _ (number routines : ℕ) where
 
   pub demo_by_status : IsByStatus (demo_means number routines)
   demo_by_status =
-      prints_by_status (Tells number routines) (WasTold number routines) (λ files. ⊥)
+      prints_by_status (Tells number routines) (WasTold number routines) (λ old new. ⊥)
       (record { done = done; silent = silent; failed = failed })

@@ -51,7 +51,7 @@ unknown_means = record {
       (outcome ≡ BadWords) × (new.files.held ≡ old.files.held) × IsUnused old new × IsQuiet old new;
   does = λ old new. ⊥;
   wants = IsSilent;
-  lacks = λ files. ⊥;
+  fails = λ old new. ⊥;
 }
 
 abbrev pub meaning_of : Command → Meaning
@@ -100,11 +100,9 @@ pub record WasWanting (command : Command) (old new : Outside) : Type 0 where
   pub files : new.files.held ≡ old.files.held
   pub out : (meaning_of command).wants old new
 
--- Status 74: a count of faults rose, or the name that is read isn't held.
+-- Status 74: the error stream has failed, or an object that the command uses, or a name that it reads is missing.
 abbrev pub HasFailed : Command → Outside → Outside → Type 0
-HasFailed command old new =
-    Rose old.files.faults new.files.faults ⊎ Rose old.input.faults new.input.faults
-    ⊎ Rose old.out.faults new.out.faults ⊎ Rose old.err.faults new.err.faults ⊎ (meaning_of command).lacks old.files
+HasFailed command old new = Rose old.err.faults new.err.faults ⊎ (meaning_of command).fails old new
 
 -- What is made from a number is never refused: there is no other status than 0, 70 and 74.
 abbrev pub IsUnrefused : Command → ℕ → Type 0

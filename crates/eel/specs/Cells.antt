@@ -9,7 +9,7 @@ use Rattle.v8_step.specs.Run.{run}
 use Rattle.code_runs.specs.StoredWords.{CanLoad}
 use Rattle.snippet_code.specs.Cells.{cell_at}
 
--- cells lie in a segment, with leave to be read
+-- cells lie in a segment, with permission to be read
 abbrev pub has_cells : ℕ → ℕ → Segment → Bool
 has_cells base count segment =
     nat_le segment.vaddr.0 base && nat_le (base + 4 * count) (segment.vaddr.0 + segment.memsz)

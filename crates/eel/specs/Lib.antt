@@ -3,3 +3,4 @@ pub mod Cells
 pub mod Tame
 pub mod Command
 pub mod Outcome
+pub mod Refusals

@@ -6,6 +6,7 @@ ghost use Rattle.eel.specs.Outcome.{outcome_seen};
 ghost use Rattle.eel.specs.Answers.Make.{Makes};
 ghost use Rattle.eel.specs.Answers.Shared.{store};
 ghost use Rattle.eel.specs.Answers.Words.{IsAssembled, IsNotListing, assembling};
+ghost use Rattle.eel.specs.Refusals.{unlisted_of};
 
 use crate::outcome::{LineCause, Outcome};
 use crate::texts::{fetch_file, put_file};
@@ -54,12 +55,21 @@ fn words_in<'a>(alloc: Global, name: &'a str, bytes: &[u8]) -> Result<Vec<u32>, 
 {
     match read_listing(alloc, bytes) {
         Ok(words) => Ok(words),
-        Err(ListFault::Line(number)) => Err(Outcome::BadLine {
+        Err(fault) => Err(unlisted(name, fault)),
+    }
+}
+
+/// What a fault of the listing that the file `name` is to be comes to.
+fn unlisted<'a>(name: &'a str, fault: ListFault) -> Outcome<'a>
+    ensures { outcome_seen result ≡ unlisted_of name.now fault }
+{
+    match fault {
+        ListFault::Line(number) => Outcome::BadLine {
             name,
             number,
             cause: LineCause::Grammar,
-        }),
-        Err(ListFault::NoMemory) => Err(Outcome::OutOfMemory),
+        },
+        ListFault::NoMemory => Outcome::OutOfMemory,
     }
 }
 

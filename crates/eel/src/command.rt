@@ -1,5 +1,5 @@
 //! The words of the program.
-ghost use Rattle.std.specs.Prelude.{◌≡◌, ◌≤◌, ◌+◌, length, nat_le, decimal, IfSome};
+ghost use Rattle.std.specs.Prelude.{◌≡◌, ◌≤◌, ◌+◌, ◌∷◌, length, nat_le, decimal, IfSome};
 ghost use Rattle.std.specs.Bool.{OnTrue};
 ghost use Rattle.std.specs.List.{All, list_all};
 ghost use Rattle.std.specs.Str.{bytes_eq};
@@ -119,18 +119,47 @@ pub fn parse<'a>(words: &'a [&'a str]) -> Command<'a>
     ensures few { KeepsLimits (command_seen result) }
 {
     match words {
-        [verb, words @ ..] if *verb == "edit" => parse_edit(words),
-        [verb, words @ ..] if *verb == "run" => parse_run(words),
-        [verb, words @ ..] if *verb == "show" => parse_show(words),
-        [verb, words @ ..] if *verb == "list" => parse_list(words),
-        [verb, words @ ..] if *verb == "words" => parse_words(words),
-        [verb, words @ ..] if *verb == "restore" => parse_restore(words),
-        [verb, words @ ..] if *verb == "counts" => parse_report(Report::Counts, words),
-        [verb, words @ ..] if *verb == "visits" => parse_report(Report::Visits, words),
-        [verb, words @ ..] if *verb == "trace" => parse_report(Report::LastEdges, words),
-        [verb, words @ ..] if *verb == "demo" => parse_demo(words),
-        _ => Command::Unknown,
+        [verb, words @ ..] => parse_verb(verb, words),
+        [] => Command::Unknown,
     }
+}
+
+/// The command that begins with a word.
+fn parse_verb<'a>(verb: &str, words: &'a [&'a str]) -> Command<'a>
+    ensures command { command_seen result ≡ command_of (verb.now ∷ texts words.now) }
+    ensures limits { KeepsLimits (command_seen result) }
+{
+    if verb == "edit" {
+        return parse_edit(words);
+    }
+    if verb == "run" {
+        return parse_run(words);
+    }
+    if verb == "show" {
+        return parse_show(words);
+    }
+    if verb == "list" {
+        return parse_list(words);
+    }
+    if verb == "words" {
+        return parse_words(words);
+    }
+    if verb == "restore" {
+        return parse_restore(words);
+    }
+    if verb == "counts" {
+        return parse_report(Report::Counts, words);
+    }
+    if verb == "visits" {
+        return parse_report(Report::Visits, words);
+    }
+    if verb == "trace" {
+        return parse_report(Report::LastEdges, words);
+    }
+    if verb == "demo" {
+        return parse_demo(words);
+    }
+    Command::Unknown
 }
 
 /// What follows the word `edit`.
@@ -221,7 +250,8 @@ fn is_number(text: &str, number: u32) -> bool
 
 /// What follows the word `show`.
 fn parse_show<'a>(words: &'a [&'a str]) -> Command<'a>
-    ensures { command_seen result ≡ show_of (texts words.now) }
+    ensures command { command_seen result ≡ show_of (texts words.now) }
+    ensures limits { KeepsLimits (command_seen result) }
 {
     match words {
         [file] => Command::Show { file },
@@ -231,7 +261,8 @@ fn parse_show<'a>(words: &'a [&'a str]) -> Command<'a>
 
 /// What follows the word `list`.
 fn parse_list<'a>(words: &'a [&'a str]) -> Command<'a>
-    ensures { command_seen result ≡ list_of (texts words.now) }
+    ensures command { command_seen result ≡ list_of (texts words.now) }
+    ensures limits { KeepsLimits (command_seen result) }
 {
     match words {
         [file] => Command::ListWords { file },
@@ -241,7 +272,8 @@ fn parse_list<'a>(words: &'a [&'a str]) -> Command<'a>
 
 /// What follows the word `words`.
 fn parse_words<'a>(words: &'a [&'a str]) -> Command<'a>
-    ensures { command_seen result ≡ words_of (texts words.now) }
+    ensures command { command_seen result ≡ words_of (texts words.now) }
+    ensures limits { KeepsLimits (command_seen result) }
 {
     match words {
         [listing, output] => Command::PutWords { listing, output },
@@ -251,7 +283,8 @@ fn parse_words<'a>(words: &'a [&'a str]) -> Command<'a>
 
 /// What follows the word `restore`.
 fn parse_restore<'a>(words: &'a [&'a str]) -> Command<'a>
-    ensures { command_seen result ≡ restore_of (texts words.now) }
+    ensures command { command_seen result ≡ restore_of (texts words.now) }
+    ensures limits { KeepsLimits (command_seen result) }
 {
     match words {
         [written, output] => Command::Restore { written, output },
@@ -261,7 +294,8 @@ fn parse_restore<'a>(words: &'a [&'a str]) -> Command<'a>
 
 /// What follows the word for what is told of a run.
 fn parse_report<'a>(report: Report, words: &'a [&'a str]) -> Command<'a>
-    ensures { command_seen result ≡ report_of report (texts words.now) }
+    ensures command { command_seen result ≡ report_of report (texts words.now) }
+    ensures limits { KeepsLimits (command_seen result) }
 {
     match words {
         [written, dump] => Command::ReportRun {

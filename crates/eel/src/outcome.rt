@@ -1,7 +1,7 @@
 //! What came of a command, and how the program shows it.
-ghost use Rattle.std.specs.Prelude.{◌≡◌, ◌≤◌, ◌++◌, ◌∷◌, [], codes, OnOk, OnErr};
+ghost use Rattle.std.specs.Prelude.{◌≡◌, ◌≤◌, ◌++◌, ◌∷◌, [], codes, decimal, OnOk, OnErr};
 ghost use Rattle.eel_base.specs.Outside.{Rose, appended, TookPart};
-ghost use Rattle.eel.specs.Outcome.{BadLine, cause_text as cause_text_of, outcome_seen, status_of, ending_text, line_of, stream, Shows, joined, BadCell, NoCounts, line_about};
+ghost use Rattle.eel.specs.Outcome.{BadLine, NoRoom, cause_text as cause_text_of, outcome_seen, status_of, ending_text, line_of, stream, Shows, joined, BadCell, NoCounts, line_about};
 ghost use Rattle.eel.specs.declared.outcome.CountCause.TheVariants as count_causes;
 
 use eel_base::{Addr, EdgeNo, Failed, NoMemory, Sink, hex8, put_all};
@@ -180,14 +180,7 @@ fn put_line<E: Sink>(outcome: &Outcome, err: &mut E) -> Result<(), Failed>
         Outcome::Done => Ok(()),
         Outcome::Stopped { ending, steps } => put_ending(*ending, *steps, err),
         Outcome::BadWords => put_pieces(err, &[b"eel: bad words\n"]),
-        Outcome::BadFile { name, code } => {
-            let mut digits = Buffer::new();
-            let code = digits.format(*code).as_bytes();
-            put_pieces(
-                err,
-                &[b"eel: ", name.as_bytes(), b": file fault ", code, b"\n"],
-            )
-        }
+        Outcome::BadFile { name, code } => put_number(name, b"file fault ", u32::from(*code), err),
         Outcome::BadLine {
             name,
             number,
@@ -207,57 +200,68 @@ fn put_line<E: Sink>(outcome: &Outcome, err: &mut E) -> Result<(), Failed>
                 ],
             )
         }
-        Outcome::NoRoom { name, needed, had } => {
-            let mut needed_digits = Buffer::new();
-            let mut had_digits = Buffer::new();
-            let needed = needed_digits.format(*needed).as_bytes();
-            let had = had_digits.format(*had).as_bytes();
-            put_pieces(
-                err,
-                &[
-                    b"eel: ",
-                    name.as_bytes(),
-                    b": room ",
-                    needed,
-                    b" needed, ",
-                    had,
-                    b" had\n",
-                ],
-            )
-        }
-        Outcome::NoNotes { name } => {
-            put_pieces(err, &[b"eel: ", name.as_bytes(), b": no notes\n"])
-        }
-        Outcome::BadNotes { name, at } => {
-            let mut digits = Buffer::new();
-            let at = digits.format(*at).as_bytes();
-            put_pieces(
-                err,
-                &[b"eel: ", name.as_bytes(), b": bad notes at ", at, b"\n"],
-            )
-        }
-        Outcome::BadDump { name, at } => {
-            let mut digits = Buffer::new();
-            let at = digits.format(*at).as_bytes();
-            put_pieces(
-                err,
-                &[b"eel: ", name.as_bytes(), b": bad dump at ", at, b"\n"],
-            )
-        }
-        Outcome::NoProfile { name } => {
-            put_pieces(err, &[b"eel: ", name.as_bytes(), b": no profile\n"])
-        }
-        Outcome::NotEveryWord { name } => {
-            put_pieces(err, &[b"eel: ", name.as_bytes(), b": not every word\n"])
-        }
+        Outcome::NoRoom { name, needed, had } => put_no_room(name, *needed, *had, err),
+        Outcome::NoNotes { name } => put_about(name, b"no notes", err),
+        Outcome::BadNotes { name, at } => put_number(name, b"bad notes at ", *at, err),
+        Outcome::BadDump { name, at } => put_number(name, b"bad dump at ", *at, err),
+        Outcome::NoProfile { name } => put_about(name, b"no profile", err),
+        Outcome::NotEveryWord { name } => put_about(name, b"not every word", err),
         Outcome::NoCounts { name, cause } => put_no_counts(name, *cause, err),
-        Outcome::NoTrace { name } => {
-            put_pieces(err, &[b"eel: ", name.as_bytes(), b": no trace\n"])
-        }
+        Outcome::NoTrace { name } => put_about(name, b"no trace", err),
         Outcome::BadCell { name, cell, value } => put_bad_cell(name, *cell, *value, err),
         Outcome::OutOfMemory => put_pieces(err, &[b"eel: out of memory\n"]),
         Outcome::DeviceFault => put_pieces(err, &[b"eel: device fault\n"]),
     }
+}
+
+/// Writes what is to be told of the file `name`.
+fn put_about<E: Sink>(name: &str, text: &[u8], err: &mut E) -> Result<(), Failed>
+    ensures all { OnOk result (E.taken err.new ≡ appended (E.taken err.old) (line_about name.now text.now)) }
+    ensures part { OnErr result (TookPart (E.taken err.old) (E.taken err.new) (line_about name.now text.now)) }
+    ensures failed { OnErr result (Rose (E.faults err.old) (E.faults err.new)) }
+    ensures later { E.faults err.old ≤ E.faults err.new }
+{
+    put_pieces(err, &[b"eel: ", name.as_bytes(), b": ", text, b"\n"])
+}
+
+/// Writes a text and a number that are to be told of the file `name`.
+fn put_number<E: Sink>(name: &str, text: &[u8], number: u32, err: &mut E) -> Result<(), Failed>
+    ensures all { OnOk result (E.taken err.new ≡ appended (E.taken err.old) (line_about name.now (text.now ++ decimal number))) }
+    ensures part { OnErr result (TookPart (E.taken err.old) (E.taken err.new) (line_about name.now (text.now ++ decimal number))) }
+    ensures failed { OnErr result (Rose (E.faults err.old) (E.faults err.new)) }
+    ensures later { E.faults err.old ≤ E.faults err.new }
+{
+    let mut digits = Buffer::new();
+    let number = digits.format(number).as_bytes();
+    put_pieces(
+        err,
+        &[b"eel: ", name.as_bytes(), b": ", text, number, b"\n"],
+    )
+}
+
+/// Writes that the edit of the file `name` asks for more room than there is.
+fn put_no_room<E: Sink>(name: &str, needed: u64, had: u64, err: &mut E) -> Result<(), Failed>
+    ensures all { OnOk result (E.taken err.new ≡ appended (E.taken err.old) (line_of (NoRoom name.now needed had))) }
+    ensures part { OnErr result (TookPart (E.taken err.old) (E.taken err.new) (line_of (NoRoom name.now needed had))) }
+    ensures failed { OnErr result (Rose (E.faults err.old) (E.faults err.new)) }
+    ensures later { E.faults err.old ≤ E.faults err.new }
+{
+    let mut needed_digits = Buffer::new();
+    let mut had_digits = Buffer::new();
+    let needed = needed_digits.format(needed).as_bytes();
+    let had = had_digits.format(had).as_bytes();
+    put_pieces(
+        err,
+        &[
+            b"eel: ",
+            name.as_bytes(),
+            b": room ",
+            needed,
+            b" needed, ",
+            had,
+            b" had\n",
+        ],
+    )
 }
 
 /// Writes that a line of the file `name` is bad.

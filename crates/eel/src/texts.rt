@@ -3,6 +3,7 @@ ghost use Rattle.std.specs.Prelude.{◌≡◌, ◌≤◌, IfOk, IfErr};
 ghost use Rattle.eel.specs.Outcome.{outcome_seen, stream};
 ghost use Rattle.eel.specs.Answers.Shared.{IsPrinted, IsPut, IsUnread, WasRead, feed, store};
 ghost use Rattle.eel.specs.Answers.Run.{IsUnfed, WasFed};
+ghost use Rattle.eel.specs.Refusals.{unread_of};
 
 use crate::outcome::Outcome;
 use eel_base::{Failed, FetchFault, Files, PutFault, Sink, Source, put_all, read_all};
@@ -30,9 +31,7 @@ pub fn fetch_file<'a, F: Files>(
 {
     match files.fetch(alloc, name, limit) {
         Ok(bytes) => Ok(bytes),
-        Err(FetchFault::Failed) => Err(Outcome::DeviceFault),
-        Err(FetchFault::TooLong) => Err(Outcome::TooLong { name, limit }),
-        Err(FetchFault::NoMemory) => Err(Outcome::OutOfMemory),
+        Err(fault) => Err(unread(name, limit, fault)),
     }
 }
 
@@ -46,12 +45,18 @@ pub fn read_input<I: Source>(alloc: Global, input: &mut I) -> Result<Vec<u8>, Ou
 {
     match read_all(alloc, input, INPUT_LIMIT) {
         Ok(given) => Ok(given),
-        Err(FetchFault::Failed) => Err(Outcome::DeviceFault),
-        Err(FetchFault::TooLong) => Err(Outcome::TooLong {
-            name: STANDARD_INPUT,
-            limit: INPUT_LIMIT,
-        }),
-        Err(FetchFault::NoMemory) => Err(Outcome::OutOfMemory),
+        Err(fault) => Err(unread(STANDARD_INPUT, INPUT_LIMIT, fault)),
+    }
+}
+
+/// What a fault of the text with this name and limit comes to.
+fn unread<'a>(name: &'a str, limit: u64, fault: FetchFault) -> Outcome<'a>
+    ensures { outcome_seen result ≡ unread_of name.now limit fault }
+{
+    match fault {
+        FetchFault::Failed => Outcome::DeviceFault,
+        FetchFault::TooLong => Outcome::TooLong { name, limit },
+        FetchFault::NoMemory => Outcome::OutOfMemory,
     }
 }
 

@@ -11,6 +11,7 @@ ghost use Rattle.eel.specs.Outcome.{outcome_seen};
 ghost use Rattle.eel.specs.Answers.Restore.{original_in};
 ghost use Rattle.eel.specs.Answers.Every.{every_view};
 ghost use Rattle.eel.specs.Answers.Visits.{HasEveryWord, IsNotEveryWord, IsUnvisited, TellVisits};
+ghost use Rattle.eel.specs.Refusals.{unmarked_of};
 
 use crate::counting::refusal;
 use crate::every::look_at_words;
@@ -67,13 +68,22 @@ fn every_word_in<'a>(
 {
     let view = match look_at_words(alloc, original_in(file, notes)) {
         Ok(view) => view,
-        Err(ReadFault::File(_)) => return Err(Outcome::NotEveryWord { name }),
-        Err(ReadFault::NoMemory) => return Err(Outcome::OutOfMemory),
+        Err(fault) => return Err(unmarked(name, fault)),
     };
     if matches(&view, notes) {
         Ok(view)
     } else {
         Err(Outcome::NotEveryWord { name })
+    }
+}
+
+/// What a fault of the original in the file `name` comes to.
+fn unmarked<'a>(name: &'a str, fault: ReadFault) -> Outcome<'a>
+    ensures { outcome_seen result ≡ unmarked_of name.now fault }
+{
+    match fault {
+        ReadFault::File(_) => Outcome::NotEveryWord { name },
+        ReadFault::NoMemory => Outcome::OutOfMemory,
     }
 }
 

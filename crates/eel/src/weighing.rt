@@ -9,6 +9,7 @@ ghost use Rattle.eel.specs.Answers.MakeBy.{MakesBy};
 ghost use Rattle.eel.specs.Answers.Shared.{store};
 ghost use Rattle.eel.specs.Answers.Profile.{AreCells, graph_in};
 ghost use Rattle.eel.specs.Answers.Weighed.{AreNotWeights, AreWeightsOf, IsNotWeighed, IsWeighedEdit, weighing};
+ghost use Rattle.eel.specs.Refusals.{unweighed_of};
 
 use crate::edit::{EDIT_LIMIT, refusal};
 use crate::outcome::{LineCause, Outcome};
@@ -99,16 +100,25 @@ fn weights_for<'a>(
     ensures most { IfOk result (λ weights. All (λ weight. weight ≤ 2 ^ 32) weights.items) }
     ensures refused { IfErr result (λ outcome. AreNotWeights (view_seen view.now) name.now lines.now (outcome_seen outcome)) }
 {
-    let (number, cause) = match read_weights(alloc, lines, view) {
-        Ok(weights) => return Ok(weights),
-        Err(WeightFault::Line(number)) => (number, LineCause::Grammar),
-        Err(WeightFault::Edge(number)) => (number, LineCause::Edge),
-        Err(WeightFault::Total(number)) => (number, LineCause::Total),
-        Err(WeightFault::NoMemory) => return Err(Outcome::OutOfMemory),
+    match read_weights(alloc, lines, view) {
+        Ok(weights) => Ok(weights),
+        Err(fault) => Err(unweighed(name, fault)),
+    }
+}
+
+/// What a fault of the lines of the file `name` comes to.
+fn unweighed<'a>(name: &'a str, fault: WeightFault) -> Outcome<'a>
+    ensures { outcome_seen result ≡ unweighed_of name.now fault }
+{
+    let (number, cause) = match fault {
+        WeightFault::Line(number) => (number, LineCause::Grammar),
+        WeightFault::Edge(number) => (number, LineCause::Edge),
+        WeightFault::Total(number) => (number, LineCause::Total),
+        WeightFault::NoMemory => return Outcome::OutOfMemory,
     };
-    Err(Outcome::BadLine {
+    Outcome::BadLine {
         name,
         number,
         cause,
-    })
+    }
 }

@@ -1,7 +1,9 @@
 -- Parts of bytes that were read or written one after another.
-use Rattle.std.proofs.Common.{◌≡◌, ℕ, ◌+◌, ◌-◌, ◌≤◌, List, ◌++◌, length, take, drop, Option, Some, None, refl, ap, sym, ◌∙◌, append_assoc, length-append, length-drop, arith}
+use Rattle.std.proofs.Common.{◌≡◌, ℕ, ◌+◌, ◌-◌, ◌≤◌, List, ◌++◌, length, take, drop, Option, Some, None, IfSome, ◌<◌, refl, ap, sym, ◌∙◌, append_assoc, length-append, length-drop, arith}
+use Rattle.std.proofs.lemmas.List.{length-take}
 use Rattle.std.proofs.Math.Seq.{take-add}
 use Rattle.std.proofs.lemmas.List.{take_rest, take_all, length-take-le, take-append-le, take-append-drop, drop-drop}
+use Rattle.std.specs.Option.{option_map}
 use Rattle.eel_base.specs.Outside.{appended, preceded, GaveSome}
 
 -- the first i items, and then k of the rest, are the first i + k
@@ -42,3 +44,8 @@ left-copied bytes copied buffer at count same fits =
     sym (take-append-drop count (drop at bytes))
     ∙ ap (λ z. z ++ drop count (drop at bytes)) (sym (first ∙ part))
     ∙ ap (λ z. take count (copied ++ buffer) ++ z) (drop-drop count at bytes)
+
+-- a first part that is shorter than what was asked for is all that was left
+pub all-taken : (known : Option (List ℕ)) (all : List ℕ) (most : ℕ) → IfSome (option_map (take most) known) (λ xs. all ≡ xs) → length all < most → IfSome known (λ left. all ≡ left)
+all-taken None all most first short = first
+all-taken (Some left) all most first short = first ∙ take_all most left (let e = ap length first in let f = length-take most left in omega arith)

@@ -2,13 +2,20 @@
 use Rattle.std.specs.Prelude.{ℕ, ◌/◌, bit_and, bit_or, if◌then◌else◌, Bool, List, [], ◌∷◌, take, Option, Some, None}
 use Rattle.std.specs.Str.{bytes_eq}
 use Rattle.std.specs.declared.io.ErrorKind.{ErrorKind}
+use Rattle.eel_base.specs.declared.outside.FetchFault.{FetchFault}
+use Rattle.eel_base.specs.declared.outside.FetchFault.TheVariants as fetches
 use Rattle.eel_base.specs.declared.outside.PutFault.{PutFault}
-use Rattle.eel_base.specs.declared.outside.PutFault.TheVariants as faults
+use Rattle.eel_base.specs.declared.outside.PutFault.TheVariants as puts
+
+-- where a file is read
+abbrev pub fetch_fault_of : ErrorKind → FetchFault
+fetch_fault_of ErrorKind.OutOfMemory = fetches.NoMemory
+fetch_fault_of _ = fetches.Failed
 
 -- where a file is put
 abbrev pub put_fault_of : ErrorKind → PutFault
-put_fault_of ErrorKind.OutOfMemory = faults.NoMemory
-put_fault_of _ = faults.Failed
+put_fault_of ErrorKind.OutOfMemory = puts.NoMemory
+put_fault_of _ = puts.Failed
 
 -- ---- the mode of a file that is put
 

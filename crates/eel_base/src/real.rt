@@ -3,14 +3,12 @@
 ghost use Rattle.std.specs.Prelude.{◌≡◌, ◌≤◌, ◌<◌, take, length, None, IfOk, OnOk, OnErr};
 ghost use Rattle.std.specs.Io.KnownBytes.{Appends, Consumes, IsAtEnd as NothingRemains, Keeps};
 ghost use Rattle.eel_base.specs.Outside.{IsAtEnd, Rose, appended, preceded, raised};
-ghost use Rattle.eel_base.specs.Real.{put_fault_of};
 
 use crate::outside::{Failed, FetchFault, Files, PutFault, Sink, Source};
-use crate::whole::{CHUNK, read_onto};
-use crate::whole_file::put_file;
+use crate::whole::CHUNK;
+use crate::whole_file::{fetch_opened, put_file, put_outcome};
 use std::alloc::{Alloc, Global};
-use std::fs::OpenFile;
-use std::io::{ErrorKind, Read, Write};
+use std::io::{Read, Write};
 use std::marker::Model;
 use std::{fs, rt};
 
@@ -44,44 +42,19 @@ impl<R: rt::Files + Alloc> Files for RealFiles<R> {
     ghost faults = { λ count. count };
 
     fn fetch(&mut self, alloc: Global, name: &str, limit: u64) -> Result<Vec<u8>, FetchFault> {
-        let Ok(file) = fs::open(&self.rt, name) else {
-            self.faults = self.faults.saturating_add(1);
-            return Err(FetchFault::Failed);
-        };
-        // Room for the whole file at once, so that it isn't moved as it grows.
-        let size = match file.metadata() {
-            Ok(metadata) => metadata.len(),
-            Err(_) => 0,
-        };
-        let Ok(room) = Vec::with_capacity(alloc, size.min(limit).saturating_add(1) as usize) else {
-            return Err(FetchFault::NoMemory);
-        };
-        let read = read_onto(room, &mut StdSource::new(file), limit);
-        if let Err(FetchFault::Failed) = read {
+        let fetched = fetch_opened(fs::open(&self.rt, name), alloc, limit);
+        if let Err(FetchFault::Failed) = fetched {
             self.faults = self.faults.saturating_add(1);
         }
-        read
+        fetched
     }
 
     fn put(&mut self, name: &str, bytes: &[u8]) -> Result<(), PutFault> {
-        let Err(error) = put_file(&self.rt, name, bytes) else {
-            return Ok(());
-        };
-        let fault = put_fault(error.kind());
-        if fault == PutFault::Failed {
+        let put = put_outcome(put_file(&self.rt, name, bytes));
+        if let Err(PutFault::Failed) = put {
             self.faults = self.faults.saturating_add(1);
         }
-        Err(fault)
-    }
-}
-
-/// What an error of the system comes to where a file is put.
-fn put_fault(kind: ErrorKind) -> PutFault
-    ensures { result ≡ put_fault_of kind }
-{
-    match kind {
-        ErrorKind::OutOfMemory => PutFault::NoMemory,
-        _ => PutFault::Failed,
+        put
     }
 }
 
@@ -167,7 +140,7 @@ impl<W: Write> Sink for StdSink<W> {
 
     ghost faults = { λ s. s.faults };
 
-    // Where the writer tells what it holds, that grows by just what was taken.
+    // Where the writer tells what it holds, that grows by just what was taken, and not at all after an error.
     fn write(&mut self, bytes: &[u8]) -> Result<usize, Failed>
         ensures within { IfOk result (λ count. count ≤ length bytes.now) }
         ensures some { IfOk result (λ count. 0 < length bytes.now → 0 < count) }
@@ -175,6 +148,7 @@ impl<W: Write> Sink for StdSink<W> {
         ensures later { self.old.faults ≤ self.new.faults }
         ensures given { IfOk result (λ count.
             Appends (W.contents self.old.writer) (W.contents self.new.writer) (take count bytes.now)) }
+        ensures kept { OnErr result (Keeps (W.contents self.old.writer) (W.contents self.new.writer)) }
     {
         match self.writer.write(bytes) {
             Ok(count) if count > 0 || bytes.is_empty() => Ok(count),

@@ -1,5 +1,5 @@
 //! A whole text from a source, and a whole piece to a sink.
-ghost use Rattle.std.specs.Prelude.{◌≡◌, ◌++◌, ◌+◌, ◌≤◌, ◌<◌, IfOk, OnOk, OnErr, IsErrOf, vec_len, length, take, []};
+ghost use Rattle.std.specs.Prelude.{◌≡◌, ◌++◌, ◌+◌, ◌≤◌, ◌<◌, IfOk, OnOk, OnErr, IsErrOf, vec_len, length, take};
 ghost use Rattle.eel_base.specs.Outside.{Rose, preceded, IsAtEnd, GaveSome, appended, TookPart};
 
 use crate::outside::{Failed, FetchFault, Sink, Source};
@@ -20,25 +20,7 @@ pub fn read_all<S: Source>(alloc: Global, s: &mut S, limit: u64) -> Result<Vec<u
     ensures later { S.faults s.old ≤ S.faults s.new }
     ensures few_reads { S.reads s.new ≤ S.reads s.old + (limit + 2) }
 {
-    read_onto(Vec::new(alloc), s, limit)
-}
-
-/// As `read_all`, onto an empty vector, which may have room already.
-pub(crate) fn read_onto<S: Source>(
-    mut all: Vec<u8>,
-    s: &mut S,
-    limit: u64,
-) -> Result<Vec<u8>, FetchFault>
-    requires { all.items ≡ [] }
-    ensures all { IfOk result (λ bytes. S.left s.old ≡ preceded bytes.items (S.left s.new)) }
-    ensures end { OnOk result (IsAtEnd (S.left s.new)) }
-    ensures within { IfOk result (λ bytes. vec_len bytes ≤ limit) }
-    ensures too_long { IsErrOf result FetchFault.TooLong → GaveSome (λ count. count ≡ limit + 1) (S.left s.old) (S.left s.new) }
-    ensures some { OnErr result (GaveSome (λ count. count ≤ limit + 1) (S.left s.old) (S.left s.new)) }
-    ensures failed { IsErrOf result FetchFault.Failed → Rose (S.faults s.old) (S.faults s.new) }
-    ensures later { S.faults s.old ≤ S.faults s.new }
-    ensures few_reads { S.reads s.new ≤ S.reads s.old + (limit + 2) }
-{
+    let mut all = Vec::new(alloc);
     let mut chunk = [0; CHUNK];
     while all.len() as u64 <= limit {
         let want = chunk_within(limit - all.len() as u64);

@@ -1,11 +1,14 @@
-//! Files of the system that are put whole: what stood under a name stays until all bytes of the new file are
-//! written. What the system does is trusted.
-ghost use Rattle.std.specs.Prelude.{◌≡◌};
-ghost use Rattle.eel_base.specs.Real.{is_program, mode_of};
+//! Files of the system that are read whole, and put whole: what stood under a name stays until all bytes of the new
+//! file are written. What the system does is trusted.
+ghost use Rattle.std.specs.Prelude.{◌≡◌, ◌≤◌, ◌<◌, [], length, vec_len, Ok, Err, IfOk, IfErr, OnOk, IfSome, IsErrOf};
+ghost use Rattle.std.specs.Io.KnownBytes.{Appends};
+ghost use Rattle.std.specs.IoError.{error_kind};
+ghost use Rattle.eel_base.specs.Real.{fetch_fault_of, put_fault_of, is_program, mode_of};
 
-use std::alloc::Alloc;
+use crate::outside::{FetchFault, PutFault};
+use std::alloc::{Alloc, Global};
 use std::fs::{OpenFile, OpenOptions, Permissions};
-use std::io::{Error, ErrorKind, Write};
+use std::io::{Error, ErrorKind, Read, Write};
 use std::os::unix::fs::{OpenOptionsExt, PermissionsExt};
 use std::path::{Path, PathBuf};
 use std::{fs, io, rt};
@@ -18,6 +21,86 @@ const MOST_NAMES: u32 = 1000;
 
 /// How a file of the format ELF begins.
 const ELF_MAGIC: [u8; 4] = [0x7f, 0x45, 0x4c, 0x46];
+
+/// The bytes of a file that was to be opened, if they are at most `limit`.
+pub(crate) fn fetch_opened<F: Read + OpenFile + Drop>(
+    opened: io::Result<F>,
+    alloc: Global,
+    limit: u64,
+) -> Result<Vec<u8>, FetchFault>
+    ensures all { IfOk opened (λ file. IfOk result (λ bytes. IfSome (F.remaining file) (λ left. bytes.items ≡ left))) }
+    ensures within { IfOk result (λ bytes. vec_len bytes ≤ limit) }
+    ensures too_long { IsErrOf result FetchFault.TooLong →
+        IfOk opened (λ file. IfSome (F.remaining file) (λ left. limit < length left)) }
+    ensures unopened { IfErr opened (λ error. result ≡ Err (fetch_fault_of (error_kind error))) }
+{
+    let file = match opened {
+        Ok(file) => file,
+        Err(error) => return Err(fetch_fault(error.kind())),
+    };
+    // Room for the size that the system gives, so that the bytes aren't moved as they come. It may give too little.
+    let size = match file.metadata() {
+        Ok(metadata) => metadata.len(),
+        Err(_) => 0,
+    };
+    match Vec::with_capacity(alloc, size.min(limit).saturating_add(1) as usize) {
+        Ok(room) => fetch_from(file, room, limit),
+        Err(_) => Err(FetchFault::NoMemory),
+    }
+}
+
+/// All that the reader has left, into an empty vector, if it is at most `limit` bytes.
+fn fetch_from<R: Read + Drop>(
+    reader: R,
+    mut all: Vec<u8>,
+    limit: u64,
+) -> Result<Vec<u8>, FetchFault>
+    requires { all.items ≡ [] }
+    ensures all { IfOk result (λ bytes. IfSome (R.remaining reader) (λ left. bytes.items ≡ left)) }
+    ensures within { IfOk result (λ bytes. vec_len bytes ≤ limit) }
+    ensures too_long { IsErrOf result FetchFault.TooLong →
+        IfSome (R.remaining reader) (λ left. limit < length left) }
+{
+    let mut first = reader.take(limit.saturating_add(1));
+    if let Err(error) = first.read_to_end(&mut all) {
+        return Err(fetch_fault(error.kind()));
+    }
+    if all.len() as u64 > limit {
+        return Err(FetchFault::TooLong);
+    }
+    Ok(all)
+}
+
+/// What an error of the system comes to where a file is read.
+fn fetch_fault(kind: ErrorKind) -> FetchFault
+    ensures { result ≡ fetch_fault_of kind }
+{
+    match kind {
+        ErrorKind::OutOfMemory => FetchFault::NoMemory,
+        _ => FetchFault::Failed,
+    }
+}
+
+/// What came of a put, where this came of the system's calls.
+pub(crate) fn put_outcome(put: io::Result<()>) -> Result<(), PutFault>
+    ensures done { OnOk put (result ≡ Ok tt) }
+    ensures failed { IfErr put (λ error. result ≡ Err (put_fault_of (error_kind error))) }
+{
+    match put {
+        Ok(()) => Ok(()),
+        Err(error) => Err(put_fault(error.kind())),
+    }
+}
+
+/// What an error of the system comes to where a file is put.
+fn put_fault(kind: ErrorKind) -> PutFault
+    ensures { result ≡ put_fault_of kind }
+{
+    match kind {
+        ErrorKind::OutOfMemory => PutFault::NoMemory,
+        _ => PutFault::Failed,
+    }
+}
 
 /// Puts the bytes under the name. A regular file is replaced by a new one once that is written and synced; a
 /// link stays, and the file behind it is replaced. What is no regular file, or has no path, is written in place.
@@ -61,8 +144,8 @@ fn replace<R: rt::Files + Alloc>(
 ) -> io::Result<()> {
     let had = old.as_ref().map(|permissions| permissions.mode());
     let mode = mode_for(had, is_program(bytes));
-    let (fresh, file) = create_beside(rt, path, mode)?;
-    let done = match write_synced(file, old.is_some().then_some(mode), bytes) {
+    let (fresh, mut file) = create_beside(rt, path, mode)?;
+    let done = match write_synced(&mut file, old.is_some().then_some(mode), bytes) {
         Ok(()) => fs::rename(rt, fresh.as_path(), path),
         Err(error) => Err(error),
     };
@@ -115,11 +198,13 @@ fn create_beside<R: rt::Files + Alloc>(
 }
 
 /// Writes all the bytes, sets the mode where one is given, and waits until the device has them.
-fn write_synced<F: Write + OpenFile + Drop>(
-    mut file: F,
+fn write_synced<F: Write + OpenFile>(
+    file: &mut F,
     mode: Option<u32>,
     bytes: &[u8],
-) -> io::Result<()> {
+) -> io::Result<()>
+    ensures { OnOk result (Appends (F.contents file.old) (F.contents file.new) bytes.now) }
+{
     file.write_all(bytes)?;
     if let Some(mode) = mode {
         file.set_permissions(Permissions::from_mode(mode))?;

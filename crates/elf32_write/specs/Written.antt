@@ -11,10 +11,12 @@ use Rattle.elf32_write.specs.Sections.{section_table}
 
 -- ---- where the parts stand
 
--- the original stands at its delta, and ends here
+-- The written file holds the original's bytes unchanged from this offset on. It is a multiple of 4096 and of the
+-- alignment of each loaded segment, so that the carried program headers keep their congruence.
 abbrev pub delta_in : List ℕ → ℕ
 delta_in original = delta_of (program_headers original)
 
+-- the offset behind the original's last byte
 abbrev pub original_end : List ℕ → ℕ
 original_end original = delta_in original + length original
 

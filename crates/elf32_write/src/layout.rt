@@ -49,7 +49,7 @@ impl Layout {
     }
 }
 
-/// Where the original stands in every file that is written around it; notes say it.
+/// The offset at which every file that is written around the original holds it. The notes name it.
 pub fn delta(image: &Image) -> u32
     ensures { (original : List ℕ) → image.now ≡ image_of original → result ≡ delta_in original }
 {

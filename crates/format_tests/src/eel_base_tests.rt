@@ -26,7 +26,7 @@ fn objects_in_memory_are_used(rt: HostRuntime) -> Result<(), Fail> {
 
 #[test]
 fn real_files_are_put_whole(rt: HostRuntime) -> Result<(), Fail> {
-    let (name, link) = ("/tmp/eel_base_real_file", "/tmp/eel_base_real_link");
+    let (name, link) = ("real_file", "real_link");
     let alloc = rt.alloc();
     let mut files = RealFiles::new(&rt);
     symlink(&rt, name, link)?;
@@ -53,7 +53,7 @@ fn real_files_are_put_whole(rt: HostRuntime) -> Result<(), Fail> {
 
 #[test]
 fn std_streams_are_sources_and_sinks(rt: HostRuntime) -> Result<(), Fail> {
-    let name = "/tmp/eel_base_std_streams";
+    let name = "std_stream";
     let mut sink = StdSink::new(fs::create(&rt, name)?);
     assert!(rt; put_all(&mut sink, b"a stream").is_ok());
     let mut source = StdSource::new(fs::open(&rt, name)?);

@@ -14,7 +14,11 @@ mod elf32_sparc_tests;
 #[cfg(test)]
 mod elf32_write_tests;
 #[cfg(test)]
+mod failing_files;
+#[cfg(test)]
 mod notes_tests;
+#[cfg(test)]
+mod real_files_tests;
 #[cfg(test)]
 mod snippet_tests;
 #[cfg(test)]

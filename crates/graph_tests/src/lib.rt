@@ -20,3 +20,5 @@ mod switches_tests;
 mod tools_tests;
 #[cfg(test)]
 mod views_tests;
+#[cfg(test)]
+mod weights_tests;

@@ -1,5 +1,5 @@
 //! Which edges of a small program are counted, and the lines of its counts, worked out by hand.
-use crate::programs::CARRY_LOOP;
+use crate::programs::{CARRY_LOOP, LINES};
 use cfg_blocks::blocks;
 use cfg_normal::graph;
 use eel_base::{Addr, EdgeNo, Text, WordNo};
@@ -83,11 +83,6 @@ const NOTES: [u32; 54] = [
 ];
 
 const COUNTS: [u64; 9] = [1, 4, 1, 0, 0, 0, 0, 0, 0];
-
-const LINES: &str = "edge 0 fall 00010054 00010058 1\n\
-edge 1 taken 00010058 00010058 4\n\
-edge 2 untaken 00010058 00010068 1\n\
-edges 9 counted 5 executions 6\n";
 
 #[test]
 #[tactic(auto, unfolding(cfg_blocks::specs::Entries::entered_of, cfg_blocks::specs::Blocks::blocks_of))]

@@ -1,5 +1,5 @@
 -- What is known of a text, its graph and its open switches.
-use Rattle.std.proofs.Common.{◌≡◌, ℕ, ◌<◌, ◌≤◌, Bool, true, false, List, zero, suc, Some, refl, ap, sym, ◌∙◌, subst, arith}
+use Rattle.std.proofs.Common.{◌≡◌, ℕ, ◌<◌, ◌≤◌, Bool, true, false, List, zero, suc, Some, refl, ap, sym, ◌∙◌, subst, arith, length, get_or}
 use Rattle.std.specs.Prelude.{if◌then◌else◌, slice_get, slice_index, pos}
 use Rattle.std.specs.List.{Contains}
 use Rattle.eel_base.specs.CodeText.{Words, IsText}
@@ -87,3 +87,9 @@ pub case_at : (text : Words) (graph : Graph) → IsSource text graph → (k : �
     ≡ Some o
     → IsCase text graph.blocks o
 case_at text graph h k o e = h.cases o (gets_in graph.opens k o e)
+
+-- one of a list that has them
+pub case_of_item : (text : Words) (graph : Graph) → IsSource text graph → (opens : List Open) → opens ≡ graph.opens
+    → (n : ℕ) (o : Open) → n < length opens → o ≡ get_or opens n o → IsCase text graph.blocks o
+case_of_item text graph h opens same n o l is =
+    h.cases o (subst (λ (os : List Open). Contains os o) same (n, l, sym is))

@@ -131,7 +131,9 @@ spills_on g (edge ∷ edges) = spills_at g edge + spills_on g edges
 
 -- ---- what one image, landing or slot copy does
 
--- between a visit and the next: no visit, and in no place but that of the visit, with nothing counted yet
+-- What holds of each state `u` strictly between the visit `t` and the next visit: the run goes on, `u` visits no
+-- instruction, and where `u` stands in a place of the notes, that is the place of `t`, and no cell has changed since
+-- `t`. (So code that changes cells, a snippet's, stands in no place.)
 pub record IsOnWay (g : Setting) (t u : State) : Type 0 where
   pub live : u.ending ≡ None
   pub visit : visit_of g.notes u ≡ None
@@ -143,7 +145,7 @@ pub record IsThere (g : Setting) (t u : State) : Type 0 where
   pub range : range_at g.notes u.pc ≡ range_at g.notes t.pc
   pub page : in_pages g.notes u.pc ≡ in_pages g.notes t.pc
 
--- the steps from one visit to the next
+-- From the visit `t`, `count` steps lead to `after`: at least one, at most `limit`, with no visit between.
 pub record Onward (g : Setting) (limit : ℕ) (t after : State) (count : ℕ) : Type 0 where
   pub steps : run t count ≡ after
   pub some : 0 < count
@@ -190,8 +192,9 @@ abbrev pub NoneIsOut : Graph → List ℕ → Type 0
 NoneIsOut graph [] = Unit {0}
 NoneIsOut graph (edge ∷ edges) = (is_out (slice_get graph.edges edge) ≡ false) × NoneIsOut graph edges
 
--- The steps whose stores are told: of no JMPL, which keeps its target, and along no edge of one, where that is looked
--- up, and to a word of the text.
+-- The steps whose stores are bounded: the instruction is no JMPL (which keeps its target in the page), the step
+-- completes no edge of kind `out` (along which the target is looked up), and the original goes on at a word of the
+-- text.
 pub record IsWatched (g : Setting) (edges : List ℕ) (p : Point) (v : State) : Type 0 where
   pub jump : is_jmpl (instr_at g.text p.pc) ≡ false
   pub out : NoneIsOut (graph_in g) edges

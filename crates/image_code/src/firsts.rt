@@ -1,6 +1,6 @@
 //! Tables of what comes first: of the first edge of a node, and of the first open switch of a block.
 
-ghost use Rattle.std.specs.Prelude.{◌≡◌, ℕ, ◌+◌, ◌*◌, ◌^◌, ◌<◌, ◌≤◌, ◌==◌, [], length, nat_eq, slice_index, IfOk, OnOk};
+ghost use Rattle.std.specs.Prelude.{◌≡◌, ℕ, ◌+◌, ◌*◌, ◌^◌, ◌<◌, ◌≤◌, ◌==◌, [], length, nat_eq, slice_index, IfOk, OnErr, OnOk};
 ghost use Rattle.std.specs.List.{position};
 ghost use Rattle.std.specs.Option.{option_or};
 ghost use Rattle.indexmap.specs.IndexMap.{get};
@@ -43,6 +43,7 @@ pub(crate) fn first_at(table: &[u32], place: usize) -> Option<u32>
 pub(crate) fn small(number: u64) -> Result<u32, NoMemory>
     ensures same { IfOk result (λ n. n ≡ number) }
     ensures few { IfOk result (λ n. n + 1 < 2 ^ 32) }
+    ensures many { OnErr result (2 ^ 32 ≤ number + 1) }
 {
     if number < u64::from(u32::MAX) {
         Ok(number as u32)

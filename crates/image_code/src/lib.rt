@@ -43,67 +43,73 @@ pub fn couples_step()
     ensures { CouplesStep }
 {}
 
-/// The image of any branch is one step of the original, where its piece leads to where the walk goes on.
+/// The image of a branch carries out the branch's step, where the piece of the side that is taken leads to where the
+/// walk goes on.
 pub fn turns_step()
     ensures { TurnsStep }
 {}
 
-/// So is a nop in the branch's Mark, and then the way to where the walk goes on.
+/// The image of `ba` or `bn`, which is a nop and a jump to the way along its only edge, carries out the branch's step.
 pub fn idles_step()
     ensures { IdlesStep }
 {}
 
-/// A machine at an address outside the pages visits it as itself, and ends the run as the original does.
+/// A machine at an address outside the text and the added pages visits that address itself, and ends the run as the
+/// original does.
 pub fn foreign_step()
     ensures { ForeignStep }
 {}
 
-/// So does one where the table begins, in a slot behind the text.
+/// A delay slot behind the end of the text is visited where the table begins, and ends the run as the original does.
 pub fn offs_step()
     ensures { OffsStep }
 {}
 
-/// The copy of a slot's word and the look-up behind it are the step of a jump's slot: the way on is that of its target.
+/// The copy of a JMPL's delay slot, the edge's snippet and the jump to what the table has for the target carry out the
+/// slot's step.
 pub fn jump_slots_step()
     ensures { JumpSlotsStep }
 {}
 
-/// The link of a CALL, and then the way to where the walk goes on, are its step.
+/// The image of a CALL, which writes the original's link and jumps to the way along its edge, carries out the CALL's
+/// step.
 pub fn calls_step()
     ensures { CallsStep }
 {}
 
-/// The image of a JMPL keeps its target in the page and goes on so, or ends the run as the JMPL does.
+/// The image of a JMPL carries out its step: it writes the link and keeps the target in the editor's page, or it ends
+/// the run with the original's trap.
 pub fn jumps_step()
     ensures { JumpsStep }
 {}
 
-/// The link of a switch's JMPL, and then the choice of its edge's piece, are its step.
+/// The image of an open switch's JMPL carries out its step: it writes the link, and goes on at the piece of the entry
+/// whose address was kept.
 pub fn choices_step()
     ensures { ChoicesStep }
 {}
 
-/// A machine at a piece that begins with the Mark of a point visits the point.
+/// A machine at a piece that begins with the Mark of an instruction visits the instruction.
 pub fn heads_visit()
     ensures { HeadsVisit }
 {}
 
-/// Where each point has a piece of one of the shapes, the pieces promise what they should.
+/// Where the piece of each point has one of the shapes in `IsCase`, the pieces simulate the original (`Simulates`).
 pub fn images_simulate()
     ensures { ImagesSimulate }
 {}
 
-/// However they are placed, the pieces of a text promise what they should.
+/// The pieces that `pieces` makes of a text simulate the original, however they are placed.
 pub fn pieces_make_images()
     ensures { PiecesMakeImages }
 {}
 
-/// The pieces of a text can be placed, in 500 bytes a word at most, 128 an operation, and half a MiB.
+/// The pieces of a text can be placed in 500 bytes a word, 128 bytes an operation and half a MiB.
 pub fn pieces_fit()
     ensures { PiecesFit }
 {}
 
-/// Wherever they are placed, the word of each place is the original's, but for transfers.
+/// Wherever the pieces are placed, the place of each instruction that is no transfer holds the original's word.
 pub fn places_say()
     ensures { PlacesSay }
 {}

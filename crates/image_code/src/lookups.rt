@@ -25,18 +25,27 @@ use eel_base::{BlockNo, NoMemory, Text};
 use indexmap::IndexMap;
 use std::alloc::Global;
 
-/// By nodes and kinds the first edges, by pairs of nodes the Case edges, by blocks the open switches whose jumps or
-/// whose comparisons stand there; how many edges there are but for the landings; and of each open switch where its
-/// pieces begin, its load, and the number of its first entry.
+/// Tables that find edges, open switches and pieces by their numbers. `edges`, `jumps` and `compares` are marks: an
+/// entry is one more than the number of the first item at its place, or 0 where there is none.
 #[derive(Drop)]
 pub(crate) struct Lookups {
+    /// The first edge of each kind that leaves a node, or the landing that leads to it, at 7 * the node's number + the
+    /// kind's number.
     edges: Vec<u32>,
+    /// The first Case edge between two nodes, by the key of both.
     cases: IndexMap<u64, u32>,
+    /// The open switch whose jump ends a block, by the block's number.
     jumps: Vec<u32>,
+    /// The first open switch whose comparison stands in a block, by the block's number.
     compares: Vec<u32>,
+    /// How many edges are no landings. The landings come behind them.
     own: usize,
+    /// The number of the first piece of each open switch; one more entry for the first piece of a Case edge.
     begins: Vec<u32>,
+    /// The text word of the load of each open switch.
     loads: Vec<u32>,
+    /// The number of the first table entry of each open switch, where the entries of all tables are numbered in one
+    /// row; one more for how many entries there are.
     entries: Vec<u32>,
 }
 
@@ -146,8 +155,7 @@ fn loads_of(alloc: Global, text: &Text, graph: &FlowGraph) -> Result<Vec<u32>, N
     Ok(loads)
 }
 
-// The tables of edges and comparisons: by nodes and kinds the first edges, by pairs of nodes the Case edges, and by blocks
-// the open switches whose comparisons stand there.
+// The tables `edges`, `cases` and `compares`.
 fn firsts_of(
     alloc: Global,
     graph: &FlowGraph,
@@ -162,7 +170,7 @@ fn firsts_of(
     Ok((edges, cases, compares))
 }
 
-// Of each open switch where its pieces begin, its load, and the number of its first entry.
+// The tables of open switches: `begins`, `loads` and `entries`.
 fn opens_of(
     alloc: Global,
     text: &Text,
@@ -181,7 +189,7 @@ fn opens_of(
     Ok((begins, loads, entries))
 }
 
-/// The tables of a graph.
+/// Builds the tables of a text's graph.
 pub(crate) fn lookups_of(alloc: Global, text: &Text, graph: &FlowGraph) -> Result<Lookups, NoMemory>
     requires source { IsSource text.now graph.now }
     ensures { IfOk result (AreLookups text.now graph.now) }

@@ -26,23 +26,28 @@ use liveness::LiveSets;
 use snippets::Snippet;
 use std::alloc::Global;
 
-/// What the pieces use of memory: the cells that snippets count in, the table that leads from addresses of the original
-/// to new code, and the words with the places of the pieces of Case edges.
+/// Where the data stands that new code uses.
 #[derive(Clone, Copy, Debug)]
 pub struct Frame {
+    /// The first cell.
     pub cells: Addr,
+    /// The table from addresses of the original to addresses of new code. The jumps' table of two levels follows it.
     pub table: Addr,
+    /// The words with the addresses of the Case edges' pieces, one for each entry of each open switch's table.
     pub cases: Addr,
 }
 
-/// The pieces of a text: by words those to which the table leads, the one at which the program begins, the one to which
-/// the table leads every address outside the text, and those of Case edges, by the entries of the switches' tables.
+/// The pieces that a text becomes.
 #[derive(Drop)]
 pub struct PieceList {
     pub list: Vec<Piece>,
+    /// For each word of the text, the piece to which the table leads its address.
     pub landing: Vec<PieceNo>,
+    /// The piece at which the written program starts.
     pub entry: PieceNo,
+    /// The piece to which the table leads each address outside the text.
     pub foreign: PieceNo,
+    /// For each entry of each open switch's table, the piece of its Case edge.
     pub cases: Vec<PieceNo>,
 }
 
@@ -86,7 +91,7 @@ impl Maker<'_> {
         Ok(cases)
     }
 
-    // The pieces, and the numbers of those at which something begins.
+    // All pieces, and the numbers of those that tables and the entry lead to.
     fn pieces(&self, alloc: Global, snips: &[Snippet], entry: WordNo) -> Result<PieceList, NoMemory>
         requires source { IsSource self.now.text.now self.now.graph.now }
         requires lookups { AreLookups self.now.text.now self.now.graph.now self.now.lookups.now }
@@ -159,10 +164,15 @@ fn make(
     Ok(pieces)
 }
 
-/// Makes an image of each word for each node whose block holds it, which falls through to the next word's, the way
-/// along each edge but for the landings, a landing at each word, a way for each entry of a switch's table, and the
-/// foreign piece. A transfer decides first, and its slot is run on the way along its edge. The snippet of an edge is
-/// run once the slot was.
+/// Makes the pieces of new code that a text becomes. There are five kinds:
+///
+/// - an image for each word and each node whose block holds it: it carries the word out and falls through to the next
+///   word's image. The image of a transfer only decides where control goes;
+/// - a way along each edge that is no landing (along a Case edge, one for each entry of the table): a copy of the delay
+///   slot, where the edge has one, and then the edge's snippet;
+/// - a landing at each word: the snippet of the landing edge, and a jump to the word's image;
+/// - for each open switch, the words that keep the address of its load, right before the load's image;
+/// - the foreign piece, for every address outside the text.
 pub fn pieces(
     alloc: Global,
     text: &Text,
@@ -188,7 +198,7 @@ pub fn pieces(
     ensures foreign { IfOk result (λ p. p.foreign.0 ≡ foreign_number_of text.now graph.now) }
     ensures cases { IfOk result (λ p. map (λ (n : PieceNo). n.0) p.cases.items ≡ case_numbers text.now graph.now) }
 {
-    // Both are what they should be.
+    // The invariants of the text and of its graph.
     let _words = text.len();
     let _edges = graph.edges();
     make(alloc, text, graph, entry, snips, live, frame)

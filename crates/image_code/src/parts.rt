@@ -104,7 +104,7 @@ fn marked(alloc: Global, visit: Visit, word: u32, snippet: &[u32]) -> Result<Vec
     Ok(items)
 }
 
-/// A word in its Mark, the code of a snippet, and then the way to where control goes on.
+/// An instruction that is no transfer: its word within its Mark, the code of a snippet, and the way on.
 pub fn plain(
     alloc: Global,
     visit: Visit,
@@ -120,7 +120,8 @@ pub fn plain(
     Ok(Piece { items })
 }
 
-/// Two words in one Mark, of which the second ends the run.
+/// A transfer in a delay slot: two `ba` within one Mark. The second stands in the slot of the first, so that it ends
+/// the run as a couple, as the original does.
 pub fn couple(alloc: Global, visit: Visit) -> Result<Piece, NoMemory>
     ensures { IfOk result (λ p. p ≡ couple_piece visit.address visit.node couple_word []) }
 {
@@ -133,7 +134,7 @@ pub fn couple(alloc: Global, visit: Visit) -> Result<Piece, NoMemory>
     Ok(Piece { items })
 }
 
-/// The code of a snippet, and then the way to where control goes on.
+/// The code of a snippet, and the way on.
 pub fn way_to(alloc: Global, code: &[u32], next: Next) -> Result<Piece, NoMemory>
     ensures { IfOk result (λ p. p ≡ map it.Word code.now ++ items_of next) }
 {
@@ -169,7 +170,7 @@ fn turn(
     Ok(Piece { items })
 }
 
-/// A branch, with the ways along its edges; `ba` and `bn` go one of them.
+/// A branch to the ways along its two edges. `ba` and `bn` are a nop and a jump to the way along their only edge.
 pub fn branch(
     alloc: Global,
     visit: Visit,
@@ -197,7 +198,7 @@ pub fn call(alloc: Global, visit: Visit, way: PieceNo) -> Result<Piece, NoMemory
     Ok(Piece { items })
 }
 
-/// A JMPL: its target, what the table at `jumps` has for it, its link, and the way along its edge.
+/// A JMPL: it computes the target, looks it up in the table at `jumps`, writes the link, and goes on along its edge.
 pub fn jump(
     alloc: Global,
     visit: Visit,
@@ -221,8 +222,8 @@ pub fn jump(
     Ok(Piece { items })
 }
 
-/// The JMPL of an open switch: its link, and the choice of the piece of its edge, by a word that lies so far from the
-/// address that was kept.
+/// The JMPL of an open switch: it writes the link, and jumps to the address in the word that lies `distance` bytes,
+/// modulo 2^32, above the address that was kept at the load.
 pub fn choice(alloc: Global, visit: Visit, rd: Reg, distance: u32) -> Result<Piece, NoMemory>
     ensures { IfOk result (λ p. p ≡ choice_piece rd visit.address visit.node distance) }
 {
@@ -243,7 +244,7 @@ fn kept(alloc: Global, rs1: Reg, op2: Op2) -> Result<Piece, NoMemory>
     Ok(Piece { items })
 }
 
-/// The words before a load, whose address they keep.
+/// The words before the load of an open switch, which keep the load's address in the editor's page.
 pub fn keep(alloc: Global, word: u32) -> Result<Piece, NoMemory>
     ensures { IfOk result (λ p. p ≡ keep_by (decode_of word)) }
 {
@@ -275,7 +276,7 @@ fn first_register() -> Reg
     }
 }
 
-/// The copy of a JMPL's slot, the code of a snippet, and behind it the jump to what was found.
+/// The way along a JMPL's edge: the copy of its delay slot, the code of a snippet, and the jump to what was looked up.
 pub fn out(alloc: Global, visit: Visit, word: u32, code: &[u32]) -> Result<Piece, NoMemory>
     ensures { IfOk result (λ p. p
         ≡ found_piece visit.address visit.node word (map it.Word code.now) 1) }

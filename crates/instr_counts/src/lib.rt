@@ -17,7 +17,7 @@ pub fn words_are_blocks()
     ensures { WordsAreBlocks }
 {}
 
-/// And no switch is open: its comparison would stand in one block with the branch behind it.
+/// Where each word is marked, no switch is open: its comparison would stand in one block with the branch behind it.
 pub fn none_are_open()
     ensures { NoneAreOpen }
 {}

@@ -18,53 +18,54 @@ pub use code::{call_code, far_code, find_code, foreign_code, found_code, link_co
 pub use registers::{free_register, other_register};
 pub use switches::{choose_code, keep_load_code};
 
-/// The words of a JMPL write its link, and keep its target and what the table has for that, where the target is
-/// aligned; else they end the run as the JMPL does.
+/// The words of a JMPL write its link, and keep its target and what the table has for the target. Where the target
+/// isn't aligned, they end the run as the JMPL does.
 pub fn finds_act()
     ensures { FindsAct }
 {}
 
-/// So they do what the original's step does at its own address.
+/// The words of a JMPL do what its step does at the original's address.
 pub fn finds_simulate()
     ensures { FindsSimulate }
 {}
 
-/// Behind the slot's copy the machine goes on at what was found.
+/// Behind the copy of the delay slot, the machine goes on at what was looked up.
 pub fn found_hops()
     ensures { FoundHops }
 {}
 
-/// The words of a CALL write its link.
+/// The words of a CALL write the original's link.
 pub fn calls_act()
     ensures { CallsAct }
 {}
 
-/// That is what the original's step does, but for where it goes on.
+/// The words of a CALL do what its step does, except for where they go on.
 pub fn calls_simulate()
     ensures { CallsSimulate }
 {}
 
-/// The words before a switch's load keep its address, and change nothing else.
+/// The words before an open switch's load keep the load's address in the editor's page, and change nothing else.
 pub fn loads_are_kept()
     ensures { LoadsAreKept }
 {}
 
-/// The words of a switch's JMPL go on where the word says that stands as the entry does whose address was kept.
+/// The words of an open switch's JMPL go on at the address in the word that lies `distance` bytes above the kept
+/// address.
 pub fn choices_hop()
     ensures { ChoicesHop }
 {}
 
-/// With its link before them they do what the original's step does, but for where it goes on.
+/// The link and these words do what the step of an open switch's JMPL does, except for where they go on.
 pub fn choices_simulate()
     ensures { ChoicesSimulate }
 {}
 
-/// The foreign piece goes on at the address that waits.
+/// The foreign piece goes on at the address that waits in the editor's page.
 pub fn foreign_leaves()
     ensures { ForeignLeaves }
 {}
 
-/// A long jump goes on at any address that is known.
+/// A long jump goes on at any address that is known when it is made.
 pub fn far_goes()
     ensures { FarGoes }
 {}

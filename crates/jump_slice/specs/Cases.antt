@@ -92,7 +92,8 @@ pub record LoadsEntry (text : Words) (o : Open) (word : ℕ) : Type 0 where
   pub is : instr_at text word ≡ i.Load loads.LD rd rs1 op2
   pub place : sum_in (before_jump text (approach_to o word)) rs1 op2 ≡ Place o.switch.table.0
 
--- The number compared is that of an entry: such an LD has the entry's address, and the jump goes where the entry leads.
+-- `number` is that of the entry that is used at this word after n steps: an LD of the word has the entry's address,
+-- and the jump goes to the address that the entry holds.
 pub record IsNumbered (text : Words) (o : Open) (s0 : State) (n word number : ℕ) : Type 0 where
   pub loads : (l : LoadsEntry text o word)
       → (number < o.switch.count) × (sum_of (run s0 n) l.rs1 l.op2 ≡ o.switch.table.0 + 4 * number)
@@ -131,7 +132,12 @@ abbrev pub SwitchWalksMatch : Type 0
 SwitchWalksMatch =
     OfSwitches (λ text list opens entry s0. (n : ℕ) → MatchesRun text (graph_in list opens) entry s0 n)
 
--- And the number that was compared is that of the entry where the jump goes.
+-- The number that was compared is the number of the entry that is used. Let the walk stand after n steps at a word of
+-- the jump's block itself, let `from` be the open switch that this comes from, and let i be what its compared register
+-- held at the comparison. Then (`IsNumbered`):
+--   - where the word is an LD that loads from the table, i is below the count of entries, and the LD's address is that
+--     of the table + 4 * i;
+--   - where the word is the jump, it goes to the address that entry i holds.
 abbrev pub NumbersAreCompared : Type 0
 NumbersAreCompared = OfSwitches (λ text list opens entry s0.
     (n block word : ℕ) → (run s0 n).ending ≡ None → (from : ComesFromCompare text list entry opens s0 n block word)

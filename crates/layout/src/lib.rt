@@ -17,7 +17,7 @@ mod words;
 pub use items::{Item, LayoutFault, Piece, Placed};
 pub use placing::place;
 
-/// What pieces need is one number.
+/// All compact layouts of the same pieces need the same number of bytes.
 pub fn needed_once()
     ensures { NeededOnce }
 {}

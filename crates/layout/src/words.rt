@@ -215,12 +215,10 @@ pub fn put_branch(
     ensures condition { OnOk result (cond < 16) }
 {
     if long {
-        code.push(branch_past(cond))?;
-        code.push(nop_word())?;
+        code.extend_from_slice(&[branch_past(cond), nop_word()])?;
         code.extend_from_slice(&long_jump_words(base + 4 * to as u32))?;
     } else {
-        code.push(branch_to(cond, from, to))?;
-        code.push(nop_word())?;
+        code.extend_from_slice(&[branch_to(cond, from, to), nop_word()])?;
     }
     Ok(())
 }

@@ -15,7 +15,7 @@ pub fn words_read_back()
     ensures { WordsReadBack }
 {}
 
-/// And nothing else is.
+/// Nothing else is read than what is written in one of these spellings.
 pub fn nothing_else_reads()
     ensures { NothingElseReads }
 {}

@@ -1,8 +1,56 @@
--- The parts of which reading the tables is made: a row of each, and marks of the cells that are taken.
-use Rattle.std.specs.Prelude.{◌≡◌, ◌<◌, ℕ, ◌+◌, ◌*◌, Bool, true, false, not, ◌&&◌, ◌||◌, ◌==◌, nat_lt, nat_le, List, length, get_or, slice_set, Option, Some, None, Result}
+-- The parts of which reading is made: the numbers before the tables, a row of each table, and marks of the cells that
+-- are taken.
+use Rattle.std.specs.Prelude.{◌≡◌, ◌<◌, ℕ, ◌+◌, ◌*◌, ◌%◌, ◌^◌, Bool, true, false, not, ◌&&◌, ◌||◌, ◌==◌, nat_lt, nat_le, List, length, get_or, slice_set, Option, Some, None, Result, Ok}
 use Rattle.std.specs.List.{list_any}
-use Rattle.elf32_sparc.specs.Notes.{NoteSegment, NoteEdge, NoteRange, NoNotes, ◌>>=◌, note_at, note_that, kept, follows, no_cell, cell_of, is_counter}
+use Rattle.elf32_sparc.specs.Notes.{NoteHead, NoteSegment, NoteEdge, NoteRange, NoNotes, ◌>>=◌, note_at, note_that, kept, last_tool, most_cells, follows, no_cell, cell_of, is_counter}
 use Rattle.notes.specs.Rules.{is_segment, is_range}
+
+-- ---- numbers
+
+-- where the original stands, and how many bytes it has
+unfoldable pub original_at : ℕ → List ℕ → Result (ℕ × ℕ) NoNotes
+original_at size notes = do
+  delta ← note_that (λ delta. nat_le 4096 delta) notes 0
+  length ← note_that (λ length. nat_le (delta + length) size) notes 4
+  Ok (delta, length)
+
+-- where the text starts, and how many words it has
+unfoldable pub text_at : List ℕ → Result (ℕ × ℕ) NoNotes
+text_at notes = do
+  start ← note_that (λ start. (start % 4 == 0) && nat_le 0x1000 start) notes 12
+  words ← note_that (λ words. nat_le 1 words && nat_le words (2 ^ 20) && nat_le (start + 4 * words) 0x80000000) notes 16
+  Ok (start, words)
+
+-- where the cells start, and how many there are
+unfoldable pub cells_at : ℕ → List ℕ → Result (ℕ × ℕ) NoNotes
+cells_at version notes = do
+  base_read ← note_at notes 24
+  cells_read ← note_at notes 28
+  base ← kept ((base_read % 4 == 0) && nat_le (base_read + 4 * cells_read) (2 ^ 32)) 24 base_read
+  cells ← kept (nat_le cells_read (most_cells version)) 28 cells_read
+  Ok (base, cells)
+
+-- all of them, of this version, in a file of this size
+unfoldable pub head_at : ℕ → ℕ → List ℕ → Result NoteHead NoNotes
+head_at version size notes = do
+  original ← original_at size notes
+  tool ← note_that (λ tool. nat_le tool (last_tool version)) notes 8
+  text ← text_at notes
+  entry ← note_at notes 20
+  counters ← cells_at version notes
+  segment_count ← note_that (λ count. nat_le count 8) notes 32
+  Ok (record {
+    version = version;
+    delta = original.0;
+    length = original.1;
+    tool = tool;
+    start = text.0;
+    words = text.1;
+    entry = entry;
+    base = counters.0;
+    cells = counters.1;
+    segment_count = segment_count;
+  })
 
 -- ---- rows
 

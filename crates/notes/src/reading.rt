@@ -4,6 +4,7 @@ ghost use Rattle.elf32_sparc.specs.Header.{word_at};
 ghost use Rattle.elf32_sparc.specs.Notes.{block_count_at, byte_count, counter_width, head_of, is_version, last_tool, most_cells, note_that, has_locator, notes_length, notes_of, notes_offset, notes_version, read_notes, tables_of};
 ghost use Rattle.notes.specs.Seen.{Answers, HasHead, IsFault, WantsMemoryIf, notes_in, notes_seen};
 ghost use Rattle.notes.specs.Heads.{head_seen};
+ghost use Rattle.notes.specs.Parts.{cells_at, head_at, original_at, text_at};
 ghost use Rattle.notes.specs.Rules.{AreNotes};
 
 use crate::note::{Notes, NotesFault};
@@ -107,30 +108,21 @@ struct Head {
 }
 
 /// The numbers before the tables, of this version, in a file of this size.
-#[tactic(auto, unfolding(elf32_sparc::specs::Notes::head_of))]
+#[tactic(auto, unfolding(crate::specs::Parts::head_at))]
 fn read_head(version: u32, notes: &[u8], size: usize) -> Result<Head, NotesFault>
-    ensures head { Answers head_seen result (head_of version size notes.now) }
+    ensures head { Answers head_seen result (head_at version size notes.now) }
     ensures memory { IfErr result (WantsMemoryIf ⊥) }
     ensures inside { IfOk result (λ head. head.delta + head.length ≤ size) }
     ensures cells { IfOk result (λ head. head.cells ≤ 2 ^ 23) }
     ensures words { IfOk result (λ head. head.words ≤ 2 ^ 20) }
     ensures segments { IfOk result (λ head. head.segment_count ≤ 8) }
 {
-    let delta = word_at(notes, 0)?;
-    keep(delta >= 4096, 0)?;
-    let length = word_at(notes, 4)?;
-    keep(delta as usize + length as usize <= size, 4)?;
+    let (delta, length) = original_at(notes, size)?;
     let tool = word_at(notes, 8)?;
     keep(tool <= last_tool(version), 8)?;
-    let start = word_at(notes, 12)?;
-    keep(start % 4 == 0 && start >= 0x1000, 12)?;
-    let words = word_at(notes, 16)?;
-    keep(is_text(start, words), 16)?;
+    let (start, words) = text_at(notes)?;
     let entry = word_at(notes, 20)?;
-    let base = word_at(notes, 24)?;
-    let cells = word_at(notes, 28)?;
-    keep(are_cells(base, cells), 24)?;
-    keep(cells <= most_cells(version), 28)?;
+    let (base, cells) = cells_at(version, notes)?;
     let segment_count = word_at(notes, 32)?;
     keep(segment_count <= 8, 32)?;
     Ok(Head {
@@ -145,6 +137,48 @@ fn read_head(version: u32, notes: &[u8], size: usize) -> Result<Head, NotesFault
         cells,
         segment_count,
     })
+}
+
+/// Where the original stands in a file of this size, and how many bytes it has.
+#[tactic(auto, unfolding(crate::specs::Parts::original_at))]
+fn original_at(notes: &[u8], size: usize) -> Result<(u32, u32), NotesFault>
+    ensures original { Answers (λ original. original) result (original_at size notes.now) }
+    ensures memory { IfErr result (WantsMemoryIf ⊥) }
+    ensures inside { IfOk result (λ original. original.0 + original.1 ≤ size) }
+{
+    let delta = word_at(notes, 0)?;
+    keep(delta >= 4096, 0)?;
+    let length = word_at(notes, 4)?;
+    keep(delta as usize + length as usize <= size, 4)?;
+    Ok((delta, length))
+}
+
+/// Where the text starts, and how many words it has.
+#[tactic(auto, unfolding(crate::specs::Parts::text_at))]
+fn text_at(notes: &[u8]) -> Result<(u32, u32), NotesFault>
+    ensures text { Answers (λ text. text) result (text_at notes.now) }
+    ensures memory { IfErr result (WantsMemoryIf ⊥) }
+    ensures words { IfOk result (λ text. text.1 ≤ 2 ^ 20) }
+{
+    let start = word_at(notes, 12)?;
+    keep(start % 4 == 0 && start >= 0x1000, 12)?;
+    let words = word_at(notes, 16)?;
+    keep(is_text(start, words), 16)?;
+    Ok((start, words))
+}
+
+/// Where the cells start, and how many there are. The rule of the one waits for the other.
+#[tactic(auto, unfolding(crate::specs::Parts::cells_at))]
+fn cells_at(version: u32, notes: &[u8]) -> Result<(u32, u32), NotesFault>
+    ensures cells { Answers (λ cells. cells) result (cells_at version notes.now) }
+    ensures memory { IfErr result (WantsMemoryIf ⊥) }
+    ensures few { IfOk result (λ cells. cells.1 ≤ 2 ^ 23) }
+{
+    let base = word_at(notes, 24)?;
+    let cells = word_at(notes, 28)?;
+    keep(are_cells(base, cells), 24)?;
+    keep(cells <= most_cells(version), 28)?;
+    Ok((base, cells))
 }
 
 /// The greatest number of a tool.

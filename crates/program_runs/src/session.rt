@@ -81,14 +81,22 @@ impl Session {
         }
     }
 
-    /// Does what a line of a script says. A line that begins with `eel` is a call, and has an answer. The others:
-    /// `hold NAME` holds this file of the script's folder, `zeros NAME COUNT` so many zeros, `cut OLD NEW COUNT` the
-    /// first bytes of a file that is held, `patch OLD NEW AT BYTES ..` such a file with these bytes at these offsets,
-    /// `noted OLD NEW AT BYTES ..` the same with offsets in its notes, `keep NAME` puts a file that is held into the
-    /// script's folder, `input NAME` makes a file the input, `room OUT ERR` says how much the streams take, `fail DEVICE
-    /// CALL ..` which calls of a device fail in the next call of the editor, `watch` that from now on the names are told
-    /// that a call has changed (it stands first), `same NAME NAME` is refused where the two files differ, and `cells
-    /// DUMP NAME` where the dump's cells are other words than the file's.
+    /// Carries out a line of a script. A line that begins with `eel` is a call of the editor, and has an answer. The
+    /// others:
+    ///
+    /// - `hold NAME` holds this file of the script's folder;
+    /// - `zeros NAME COUNT` holds a file of so many zeros;
+    /// - `cut OLD NEW COUNT` holds the first bytes of OLD as NEW;
+    /// - `patch OLD NEW AT BYTES ..` holds OLD as NEW, with these bytes at these offsets;
+    /// - `noted OLD NEW AT BYTES ..` does the same with offsets in OLD's notes;
+    /// - `keep NAME` puts a held file into the script's folder;
+    /// - `input NAME` makes a file the input;
+    /// - `input_zeros COUNT` makes so many zeros the input;
+    /// - `room OUT ERR` says how many bytes the two streams take;
+    /// - `fail DEVICE CALL ..` makes these calls of a device fail during the next call of the editor;
+    /// - `watch`, the first line, has each later answer list the names that the call changed;
+    /// - `same NAME NAME` is refused where the two files differ;
+    /// - `cells DUMP NAME` is refused where the dump's cells differ from the file's words.
     pub fn act(
         &mut self,
         alloc: Global,
@@ -122,6 +130,7 @@ impl Session {
             "noted" => self.hold_noted(alloc, words),
             "keep" => self.keep(folder, words),
             "input" => self.take_input(alloc, folder, words),
+            "input_zeros" => self.take_zeros(alloc, words),
             "room" => self.make_room(words),
             "fail" => self.let_fail(alloc, words),
             "watch" => self.watch(words),
@@ -201,6 +210,14 @@ impl Session {
             return Err(Refusal::Script);
         };
         self.input = folder.fetch(alloc, name, FILE_LIMIT)?;
+        Ok(())
+    }
+
+    fn take_zeros(&mut self, alloc: Global, words: &[&str]) -> Result<(), Refusal> {
+        let [count] = words else {
+            return Err(Refusal::Script);
+        };
+        self.input = vec![in alloc; 0; number(count)?]?;
         Ok(())
     }
 

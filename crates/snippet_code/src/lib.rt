@@ -15,7 +15,7 @@ pub fn snippets_run()
     ensures { SnippetsRun }
 {}
 
-/// So do the words of a snippet's code, which decode to its instructions.
+/// The words of a snippet's code decode to its instructions, and so do just the snippet, too.
 pub fn snippet_code_runs()
     ensures { SnippetCodeRuns }
 {}

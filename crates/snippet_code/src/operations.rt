@@ -140,18 +140,20 @@ fn top_by_borrow(
     ensures { OnOk result (words.new.items ≡ words.old.items
         ++ map word_of (code.top_words address false (slice_index regs.now) reg)) }
 {
+    let (page, old) = (regs[0], regs[1]);
+    let (difference, borrow, either) = (regs[2], regs[3], regs[4]);
     words.extend_from_slice(&[
-        high(address, regs[0]),
-        load_low(address, regs[0], regs[1]),
-        of_two(AluOp::SUB, regs[1], reg, regs[2]),
-        of_two(AluOp::ORN, reg, regs[1], regs[3]),
-        of_two(AluOp::AND, regs[3], regs[2], regs[3]),
-        of_two(AluOp::ANDN, reg, regs[1], regs[4]),
-        of_two(AluOp::OR, regs[3], regs[4], regs[3]),
-        with_number(AluOp::SRA, regs[3], 31, regs[3]),
-        of_two(AluOp::AND, regs[3], regs[2], regs[3]),
-        of_two(AluOp::SUB, regs[1], regs[3], regs[1]),
-        store_low(address, regs[0], regs[1]),
+        high(address, page),
+        load_low(address, page, old),
+        of_two(AluOp::SUB, old, reg, difference),
+        of_two(AluOp::ORN, reg, old, borrow),
+        of_two(AluOp::AND, borrow, difference, borrow),
+        of_two(AluOp::ANDN, reg, old, either),
+        of_two(AluOp::OR, borrow, either, borrow),
+        with_number(AluOp::SRA, borrow, 31, borrow),
+        of_two(AluOp::AND, borrow, difference, borrow),
+        of_two(AluOp::SUB, old, borrow, old),
+        store_low(address, page, old),
     ])
 }
 
@@ -180,14 +182,15 @@ fn count_by_codes(words: &mut Vec<u32>, address: u32, regs: &[Reg]) -> Result<()
     ensures { OnOk result (words.new.items ≡ words.old.items
         ++ map word_of (code.count_words address true (slice_index regs.now))) }
 {
+    let (page, word) = (regs[0], regs[1]);
     words.extend_from_slice(&[
-        high(address, regs[0]),
-        load_next(address, regs[0], regs[1]),
-        add_one(regs[1]),
-        store_next(address, regs[0], regs[1]),
-        load_low(address, regs[0], regs[1]),
-        add_carry(regs[1]),
-        store_low(address, regs[0], regs[1]),
+        high(address, page),
+        load_next(address, page, word),
+        add_one(word),
+        store_next(address, page, word),
+        load_low(address, page, word),
+        add_carry(word),
+        store_low(address, page, word),
     ])
 }
 
@@ -197,16 +200,17 @@ fn count_by_bits(words: &mut Vec<u32>, address: u32, regs: &[Reg]) -> Result<(),
     ensures { OnOk result (words.new.items ≡ words.old.items
         ++ map word_of (code.count_words address false (slice_index regs.now))) }
 {
+    let (page, old, new) = (regs[0], regs[1], regs[2]);
     words.extend_from_slice(&[
-        high(address, regs[0]),
-        load_next(address, regs[0], regs[1]),
-        with_number(AluOp::ADD, regs[1], 1, regs[2]),
-        store_next(address, regs[0], regs[2]),
-        of_two(AluOp::ANDN, regs[1], regs[2], regs[1]),
-        with_number(AluOp::SRL, regs[1], 31, regs[1]),
-        load_low(address, regs[0], regs[2]),
-        of_two(AluOp::ADD, regs[2], regs[1], regs[2]),
-        store_low(address, regs[0], regs[2]),
+        high(address, page),
+        load_next(address, page, old),
+        with_number(AluOp::ADD, old, 1, new),
+        store_next(address, page, new),
+        of_two(AluOp::ANDN, old, new, old),
+        with_number(AluOp::SRL, old, 31, old),
+        load_low(address, page, new),
+        of_two(AluOp::ADD, new, old, new),
+        store_low(address, page, new),
     ])
 }
 
@@ -241,17 +245,18 @@ fn log(
     ensures { OnOk result (words.new.items ≡ words.old.items
         ++ map word_of (code.log_words address (slice_index regs.now) bits value)) }
 {
+    let (page, next, place) = (regs[0], regs[1], regs[2]);
     words.extend_from_slice(&[
-        high(address, regs[0]),
-        load_low(address, regs[0], regs[1]),
-        with_number(AluOp::SLL, regs[1], (32 - bits) as i32, regs[2]),
-        with_number(AluOp::SRL, regs[2], (30 - bits) as i32, regs[2]),
-        of_two(AluOp::ADD, regs[0], regs[2], regs[2]),
-        with_number(AluOp::ADD, regs[1], 1, regs[1]),
-        store_low(address, regs[0], regs[1]),
-        high(value, regs[1]),
-        add_low(value, regs[1]),
-        store_next(address, regs[2], regs[1]),
+        high(address, page),
+        load_low(address, page, next),
+        with_number(AluOp::SLL, next, (32 - bits) as i32, place),
+        with_number(AluOp::SRL, place, (30 - bits) as i32, place),
+        of_two(AluOp::ADD, page, place, place),
+        with_number(AluOp::ADD, next, 1, next),
+        store_low(address, page, next),
+        high(value, next),
+        add_low(value, next),
+        store_next(address, place, next),
     ])
 }
 

@@ -1,5 +1,5 @@
 -- The parts of which reading a script is made.
-use Rattle.std.specs.Prelude.{◌≡◌, ℕ, ◌+◌, ◌-◌, ◌^◌, ◌||◌, ◌==◌, nat_le, nat_lt, max, if◌then◌else◌, List, [], ◌∷◌, ◌++◌, length, get_or, slice_index, slice_set, replicate, codes, Option, Some, None, ⊤}
+use Rattle.std.specs.Prelude.{◌≡◌, ℕ, ◌+◌, ◌-◌, ◌^◌, ◌||◌, ◌==◌, nat_le, nat_lt, max, if◌then◌else◌, List, [], ◌∷◌, ◌++◌, length, get_or, slice_index, slice_set, replicate, codes, Option, Some, None}
 use Rattle.std.specs.Option.{option_map, option_or}
 use Rattle.std.specs.Str.{bytes_eq}
 use Rattle.snippets.specs.declared.snippet.Op.{Op}
@@ -85,9 +85,10 @@ fault_in edges number snips (Does edge op) =
     (if nat_lt (2 ^ 22) (cells_end op) then Some (faults.Cell number) else
     (if nat_le 8 (length (ops_at edge snips)) then Some (faults.Ops number) else None))
 
+-- it is bad for this cause; want of memory is told of a line that isn't bad
 abbrev pub IsCause : ScriptFault → Option ScriptFault → Type 0
 IsCause (faults.Line number) cause = cause ≡ Some (faults.Line number)
 IsCause (faults.Edge number) cause = cause ≡ Some (faults.Edge number)
 IsCause (faults.Cell number) cause = cause ≡ Some (faults.Cell number)
 IsCause (faults.Ops number) cause = cause ≡ Some (faults.Ops number)
-IsCause faults.NoMemory cause = ⊤
+IsCause faults.NoMemory cause = cause ≡ None

@@ -1,7 +1,6 @@
 //! Reading a script.
 ghost use Rattle.std.specs.Prelude.{◌≡◌, ◌≤◌, ◌<◌, ◌+◌, ◌^◌, ◌++◌, ◌∷◌, [], None, max, length, List};
-ghost use Rattle.std.specs.Prelude.{IfErr, MatchBool, OnOk, slice_set, vec_len};
-ghost use Rattle.std.specs.Bool.{OnFalse, OnTrue};
+ghost use Rattle.std.specs.Prelude.{IfErr, OnOk, nat_le, slice_set, vec_len};
 ghost use Rattle.snippets.specs.declared.line.Said.{Said as Meaning};
 ghost use Rattle.snippets.specs.declared.line.Said.TheVariants.{Does};
 ghost use Rattle.snippets.specs.Ops.{HasRing, cells_end};
@@ -67,12 +66,23 @@ fn add(script: &mut Script, edge: u32, op: Op, number: u32, edges: u32) -> Resul
     if end > CELL_LIMIT {
         return Err(ScriptFault::Cell(number));
     }
-    reach(&mut script.snips, edge as usize + 1)?;
-    if !push_at(&mut script.snips, edge as usize, op) {
+    if is_full(&script.snips, edge as usize) {
         return Err(ScriptFault::Ops(number));
     }
+    reach(&mut script.snips, edge as usize + 1)?;
+    push_at(&mut script.snips, edge as usize, op);
     script.cells = script.cells.max(end as u32);
     Ok(())
+}
+
+/// Whether an edge has no place for another operation.
+fn is_full(snips: &[Snippet], edge: usize) -> bool
+    ensures { result ≡ nat_le 8 (length (ops_at edge snips.now)) }
+{
+    match snips.get(edge) {
+        Some(snippet) => snippet.is_full(),
+        None => false,
+    }
 }
 
 /// Makes so many snippets at least; those that are new are empty.
@@ -83,14 +93,12 @@ fn reach(snips: &mut Vec<Snippet>, count: usize) -> Result<(), AllocError>
     Ok(())
 }
 
-/// Adds an operation to the snippet of an edge. Answers false, and changes nothing, where that has eight.
-fn push_at(snips: &mut Vec<Snippet>, edge: usize, op: Op) -> bool
-    requires { edge < vec_len snips.old }
-    ensures room { let ops = ops_at edge snips.old.items in MatchBool result (length ops < 8) (length ops ≡ 8) }
-    ensures added { let ops = ops_at edge snips.old.items in
-        OnTrue result (snips.new.items ≡ slice_set snips.old.items edge (ops ++ op ∷ [])) }
-    ensures same { OnFalse result (snips.new.items ≡ snips.old.items) }
+/// Adds an operation to the snippet of an edge, which has a place for it.
+fn push_at(snips: &mut Vec<Snippet>, edge: usize, op: Op)
+    requires edge { edge < vec_len snips.old }
+    requires room { length (ops_at edge snips.old.items) < 8 }
+    ensures { snips.new.items ≡ slice_set snips.old.items edge (ops_at edge snips.old.items ++ op ∷ []) }
 {
     let snippet = &mut snips[edge];
-    snippet.push(op)
+    snippet.push(op);
 }

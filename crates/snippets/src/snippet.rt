@@ -1,5 +1,5 @@
 //! Operations, and a few of them in a row.
-ghost use Rattle.std.specs.Prelude.{◌≡◌, ◌++◌, ◌∷◌, [], ◌<◌, ◌≤◌, true, false, length, MatchBool};
+ghost use Rattle.std.specs.Prelude.{◌≡◌, ◌++◌, ◌∷◌, [], ◌<◌, ◌≤◌, true, false, length, nat_le, MatchBool};
 ghost use Rattle.v8_decode.specs.declared.Part.TheVariants as parts;
 ghost use Rattle.v8_decode.specs.Parts.{set_of};
 ghost use Rattle.snippets.specs.Ops.{HasRing, cell_of, cells_end, width_of};
@@ -122,6 +122,13 @@ impl Snippet {
             ops: [FILLER; MOST_OPS],
             count: 0,
         }
+    }
+
+    /// Whether it has no place for another operation.
+    pub fn is_full(&self) -> bool
+        ensures { result ≡ nat_le 8 (length self.now) }
+    {
+        self.count >= MOST_OPS
     }
 
     /// Adds an operation behind the others. Answers false, and changes nothing, where there are eight.

@@ -16,12 +16,22 @@ pub(crate) fn ranks(alloc: Global, graph: &FlowGraph, weights: &[u64]) -> Result
     requires most { All (λ weight. weight ≤ 2 ^ 32) weights.now }
     ensures { IfOk result (λ ranks. ranks.items ≡ map (rank_of graph.now weights.now) (below (length graph.now.edges))) }
 {
-    let edges = graph.edges();
-    let mut ranks = Vec::with_capacity(alloc, edges.len())?;
-    for number in 0..edges.len() {
-        ranks.push(4 * weights[number] + tie(graph, edges[number]))?;
+    let count = graph.edges().len();
+    let mut ranks = Vec::with_capacity(alloc, count)?;
+    for number in 0..count {
+        ranks.push(rank(graph, weights, number))?;
     }
     Ok(ranks)
+}
+
+/// The rank of an edge.
+fn rank(graph: &FlowGraph, weights: &[u64], number: usize) -> u64
+    requires number { number < length graph.now.edges }
+    requires len { length weights.now ≡ length graph.now.edges }
+    requires most { All (λ weight. weight ≤ 2 ^ 32) weights.now }
+    ensures { result ≡ rank_of graph.now weights.now number }
+{
+    4 * weights[number] + tie(graph, graph.edges()[number])
 }
 
 /// Of edges that weigh the same, those whose counters would cost most come first.

@@ -37,7 +37,7 @@ impl<F: Chooser> Model for Tool<F> {
 }
 
 impl<F: Chooser> Tool<F> {
-    /// A tool with so many cells. The marked words lead blocks.
+    /// A tool with this many cells. Each marked word begins a block.
     pub fn new(choose: F, cells: u32, marks: Vec<WordNo>, kind: ToolKind) -> Tool<F>
         requires { IsSound F.may F.says cells choose }
         ensures choose { result.choose ≡ choose }
@@ -61,7 +61,7 @@ impl<F: Chooser> Tool<F> {
         self.cells
     }
 
-    /// The words that lead besides those of the program.
+    /// The marked words, each of which begins a block.
     pub fn marks(&self) -> &[WordNo]
         ensures { result.now ≡ self.now.marks }
     {

@@ -1,12 +1,13 @@
 //! The condition codes of a machine. Those of a comparison are worked out where they are read.
-ghost use Rattle.std.specs.Prelude.{◌≡◌, ◌+◌, ◌-◌, ◌^◌, nat_lt};
-ghost use Rattle.v8_alu.specs.Alu.{compared_codes};
+ghost use Rattle.std.specs.Prelude.{◌≡◌, ◌+◌, ◌-◌, ◌^◌, ℕ, nat_lt, false, true, Ok, MatchOption};
+ghost use Rattle.v8_alu.specs.declared.Codes.{Codes as CodesValue};
+ghost use Rattle.v8_alu.specs.Alu.{alu_of, codes_of, compared_codes};
 ghost use Rattle.v8_alu.specs.Conditions.{holds_of};
 ghost use Rattle.v8_alu.specs.Numbers.{differ, wrapped};
 
 use crate::{Codes, codes_after, holds, negative};
 use std::marker::Model;
-use v8_decode::Cond;
+use v8_decode::{AluOp, Cond};
 
 /// The codes of a comparison of `first` with `second`, or others.
 #[derive(Drop)]
@@ -56,6 +57,15 @@ impl Flags {
         self.are_compared = true;
         self.first = first;
         self.second = second;
+    }
+
+    /// Sets the codes of a logical operation's value: those of its comparison with 0.
+    #[inline(always)]
+    #[tactic(auto, using(crate::proofs::Compared::with_zero))]
+    pub fn judge(&mut self, value: u32)
+        ensures { self.new ≡ codes_of value false false }
+    {
+        self.compare(value, 0);
     }
 
     #[inline(always)]
@@ -121,6 +131,22 @@ fn is_less(a: u32, b: u32) -> bool
     ensures { result ≡ nat_lt (wrapped (a + 2 ^ 31)) (wrapped (b + 2 ^ 31)) }
 {
     a.wrapping_add(0x8000_0000) < b.wrapping_add(0x8000_0000)
+}
+
+/// The value of a logical operation.
+#[inline(always)]
+#[tactic(auto, unfolding(crate::specs::Alu::alu_of))]
+pub fn logic_value(op: AluOp, a: u32, b: u32) -> Option<u32>
+    ensures { MatchOption result (Unit {0}) (λ value. (codes : CodesValue) (y : ℕ) → alu_of op true a b codes y ≡ Ok (record { value = value; codes = codes_of value false false; y = y })) }
+{
+    match op {
+        AluOp::AND => Some(a & b),
+        AluOp::OR => Some(a | b),
+        AluOp::XOR => Some(a ^ b),
+        AluOp::ANDN => Some(a & !b),
+        AluOp::XNOR => Some(!(a ^ b)),
+        _ => None,
+    }
 }
 
 /// The difference of two numbers.

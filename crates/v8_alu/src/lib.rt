@@ -13,7 +13,7 @@ ghost use Rattle.v8_alu.specs.Numbers.{is_negative, magnitude, wrapped};
 
 mod flags;
 
-pub use flags::{Flags, difference_of};
+pub use flags::{Flags, difference_of, logic_value};
 use v8_decode::{AluOp, Cond};
 
 /// The integer condition codes: negative, zero, overflow, carry (section 4.2).

@@ -107,6 +107,22 @@ write_once address bytes (r ∷ rs) (suc i) d some apart within has =
     (sym (stays address bytes r
     (not_both address (length bytes) (span_of q) q r some away (omega arith) (omega arith) has)))
 
+-- of regions that are apart, any one that has the bytes is the one that is found
+pub found_any : (address count : ℕ) (rs : List Region) (i : ℕ) (d : Region) → 0 < count
+    → are_apart (map span_of rs) ≡ true → i < length rs → covers address count (get_or rs i d) ≡ true
+    → find (covers address count) rs ≡ Some (get_or rs i d)
+found_any address count [] i d some apart within has = absurd (omega arith)
+found_any address count (r ∷ rs) zero d some apart within has =
+    ap (λ (b : Bool). if b then Some r else find (covers address count) rs) has
+found_any address count (r ∷ rs) (suc i) d some apart within has =
+    let parts = and_parts (is_apart_from (span_of r) (map span_of rs)) (are_apart (map span_of rs)) apart in
+    let q : Region = get_or rs i d in
+    let away : is_apart (span_of q) (span_of r) ≡ true =
+    apart_sym (span_of r) (span_of q) (apart_at (span_of r) rs i d parts.0 (omega arith)) in
+    ap (λ (b : Bool). if b then Some r else find (covers address count) rs)
+    (not_both address count (span_of q) q r some away (omega arith) (omega arith) has)
+    ∙ found_any address count rs i d some parts.1 (omega arith) has
+
 -- where none has the bytes, none is written
 none_written : (address : ℕ) (bytes : List ℕ) (rs : List Region) → find (covers address (length bytes)) rs ≡ None
     → map (written address bytes) rs ≡ rs
@@ -212,6 +228,46 @@ all_stay address bytes count items slice new first kept whole same is apart are 
       kept_written address bytes items (take count (new ++ drop (length new) items)) first kept through are,
     )
 
+-- and where one of them is written in its place
+pub stay_at : (address : ℕ) (bytes : List ℕ) (items new : List Region) (first : ℕ) (kept : List Op)
+    → new ≡ map (written address bytes) items → regions_apart items ≡ true → AreKept (filter is_code items) first kept
+    → (regions_apart new ≡ true) × AreKept (filter is_code new) first kept
+stay_at address bytes items new first kept is apart are =
+    (apart_written address bytes items new is apart, kept_written address bytes items new first kept is are)
+
+-- the region in a place that has the bytes is found, and no other
+pub found_at : (address count : ℕ) (rs : List Region) (i : ℕ) (q : Region) → 0 < count → regions_apart rs ≡ true
+    → i < length rs → covers address count (get_or rs i q) ≡ true → q ≡ get_or rs i q
+    → find (covers address count) rs ≡ Some q
+found_at address count rs i q some apart within has item =
+    found_any address count rs i q some
+    (and_parts (is_apart_from heap_span (map span_of rs)) (are_apart (map span_of rs)) apart).1 within has
+    ∙ ap (λ (r : Region). Some r) (sym item)
+
+pub covers_at : (address count : ℕ) (rs : List Region) (i : ℕ) (q : Region)
+    → covers address count (get_or rs i q) ≡ true → q ≡ get_or rs i q → covers address count q ≡ true
+covers_at address count rs i q has item = ap (covers address count) item ∙ has
+
+-- the region in a place that has the bytes is written, and no other
+pub written_at : (address : ℕ) (bytes : List ℕ) (rs : List Region) (i : ℕ) (old new : Region) → 0 < length bytes
+    → regions_apart rs ≡ true → i < length rs → covers address (length bytes) (get_or rs i old) ≡ true
+    → old ≡ get_or rs i old → new ≡ written address bytes old → slice_set rs i new ≡ map (written address bytes) rs
+written_at address bytes rs i old new some apart within has item is =
+    ap (λ z. slice_set rs i z) (is ∙ ap (written address bytes) item)
+    ∙ write_once address bytes rs i old some
+    (and_parts (is_apart_from heap_span (map span_of rs)) (are_apart (map span_of rs)) apart).1 within has
+
+-- and it is the one that is found
+pub may_at : (address : ℕ) (bytes : List ℕ) (rs : List Region) (i : ℕ) (old : Region) (done : Bool) → 0 < length bytes
+    → regions_apart rs ≡ true → i < length rs → covers address (length bytes) (get_or rs i old) ≡ true
+    → old ≡ get_or rs i old → done ≡ old.writable
+    → Some done ≡ option_map (λ (r : Region). r.writable) (find (covers address (length bytes)) rs)
+may_at address bytes rs i old done some apart within has item may =
+    ap Some (may ∙ ap (λ (r : Region). r.writable) item)
+    ∙ sym (ap (option_map (λ (r : Region). r.writable))
+    (found_any address (length bytes) rs i old some
+    (and_parts (is_apart_from heap_span (map span_of rs)) (are_apart (map span_of rs)) apart).1 within has))
+
 -- the regions of plans that are apart
 spans_planned : (planned : List Mapping) → map span_of (map region_of planned) ≡ map span_of_mapping planned
 spans_planned [] = refl
@@ -285,6 +341,27 @@ write_region_done m n address bytes done some apart start room same is was =
         subst (λ (x : Option Region). Fills (write_region address bytes m x) m n done)
         (sym (heap_last m address (length bytes) q some apart start room e))
         (made q q.writable e refl d)
+
+-- the heap has them
+pub write_heap_first : (m n : Memory) (address : ℕ) (bytes : List ℕ) (done : Bool) → 0 < length bytes
+    → regions_apart m.regions ≡ true → m.heap.start ≡ heap_start → m.heap.size ≤ heap_room
+    → covers address (length bytes) m.heap ≡ true → n.heap ≡ written address bytes m.heap → n.regions ≡ m.regions
+    → done ≡ m.heap.writable → Fills (with_bytes m address bytes) m n done
+unfolding with_bytes
+write_heap_first m n address bytes done some apart start room has heap regions was =
+    subst (λ (x : Option Region). Fills (write_region address bytes m x) m n done)
+    (sym (ap (λ (b : Bool). if b then Some m.heap else find (covers address (length bytes)) m.regions) has))
+    (allowed m.heap.writable refl)
+  where
+    others : map (written address bytes) m.regions ≡ m.regions
+    others =
+        others_stay address bytes heap_span m.heap m.regions some
+        (and_parts (is_apart_from heap_span (map span_of m.regions)) (are_apart (map span_of m.regions)) apart).0
+        (omega (arith, start)) (omega (arith, start, room)) has
+
+    allowed : (w : Bool) → m.heap.writable ≡ w → Fills (if_allowed w (all_written address bytes m)) m n done
+    allowed true may = (was ∙ may, memory_is (all_written address bytes m) n heap (regions ∙ sym others))
+    allowed false may = (was ∙ may, memory_is m n (heap ∙ refuses address bytes m.heap may) regions)
 
 -- no region has them, and the heap is asked
 pub write_heap_done : (m n : Memory) (address : ℕ) (bytes : List ℕ) (done : Bool)

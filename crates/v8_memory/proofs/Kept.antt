@@ -1,10 +1,11 @@
 -- The records that a memory keeps.
-use Rattle.std.proofs.Common.{◌≡◌, ◌+◌, ◌-◌, ◌*◌, ◌/◌, ◌%◌, ◌^◌, ◌<◌, ℕ, zero, suc, List, [], ◌∷◌, ◌++◌, length, get_or, refl, sym, ap, subst, arith, pos, map, take, drop, ◌∙◌}
+use Rattle.std.proofs.Common.{◌≡◌, ◌+◌, ◌-◌, ◌*◌, ◌/◌, ◌%◌, ◌^◌, ◌<◌, ℕ, zero, suc, List, [], ◌∷◌, ◌++◌, length, get_or, slice_set, replicate, inl, refl, sym, ap, subst, arith, pos, map, take, drop, ◌∙◌}
 use Rattle.std.specs.List.{filter}
 use Rattle.v8_decode.specs.declared.Op2.TheVariants.{Reg}
 use Rattle.v8_memory.specs.declared.ops.Op.{Op}
 use Rattle.v8_memory.specs.Kept.{AreKept, IsKept}
-use Rattle.v8_memory.specs.Ops.{operand_in, plain_operand}
+use Rattle.v8_memory.specs.declared.ops.OpCode.TheVariants.{Other}
+use Rattle.v8_memory.specs.Ops.{IsSum, operand_in, plain_operand}
 use Rattle.v8_memory.specs.Regions.{Region, is_code, written}
 use Rattle.v8_memory.proofs.Executable.{filter-written}
 
@@ -12,12 +13,20 @@ pub register_operand : (r : ℕ) → operand_in r (pos 0) ≡ plain_operand (Reg
 register_operand zero = refl
 register_operand (suc r) = refl
 
--- one more record
-pub kept_more : (code : List Region) (address : ℕ) (kept : List Op) (x : Op) → AreKept code address kept
-    → IsKept code ((address + 4 * length kept) % 2 ^ 32) x → AreKept code address (kept ++ x ∷ [])
-kept_more code address [] x h last = (subst (λ a. IsKept code (a % 2 ^ 32) x) (omega arith) last, tt)
-kept_more code address (y ∷ kept) x h last =
-    (h.0, kept_more code (address + 4) kept x h.1 (subst (λ a. IsKept code (a % 2 ^ 32) x) (omega arith) last))
+-- records that say nothing
+pub kept_nothing : (n : ℕ) (x : Op) (code : List Region) (address : ℕ) → x.code ≡ Other → IsSum x.rs2 x.imm
+    → AreKept code address (replicate n x)
+kept_nothing zero x code address other sum = tt
+kept_nothing (suc n) x code address other sum =
+    ((sum, inl other), kept_nothing n x code (address + 4) other sum)
+
+-- another record in the place of one
+pub kept_set : (code : List Region) (address : ℕ) (kept : List Op) (n : ℕ) (x : Op) → AreKept code address kept
+    → IsKept code ((address + 4 * n) % 2 ^ 32) x → AreKept code address (slice_set kept n x)
+kept_set code address [] n x h new = tt
+kept_set code address (y ∷ kept) zero x h new = (subst (λ a. IsKept code (a % 2 ^ 32) x) (omega arith) new, h.1)
+kept_set code address (y ∷ kept) (suc n) x h new =
+    (h.0, kept_set code (address + 4) kept n x h.1 (subst (λ a. IsKept code (a % 2 ^ 32) x) (omega arith) new))
 
 -- the record of a word
 pub kept_at : (code : List Region) (address : ℕ) (kept : List Op) (n : ℕ) (d : Op) → AreKept code address kept

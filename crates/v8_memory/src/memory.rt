@@ -1,5 +1,5 @@
 //! The memory of a running program.
-ghost use Rattle.std.specs.Prelude.{List, ◌≡◌, ◌<◌, ◌+◌, ◌*◌, ◌%◌, get_or, ◌^◌, ◌&&◌, take, drop, length, map, ◌++◌, MatchOption, MatchResult, IfOk, IsTrue};
+ghost use Rattle.std.specs.Prelude.{ℕ, List, ◌≡◌, ◌<◌, ◌+◌, ◌*◌, ◌%◌, get_or, ◌^◌, ◌&&◌, take, drop, length, map, ◌++◌, MatchOption, MatchResult, IfOk, IsTrue};
 ghost use Rattle.std.specs.Int.{w8, w16, w32, from_be_bytes, to_be_bytes};
 ghost use Rattle.std.specs.List.{All, filter, find};
 ghost use Rattle.std.specs.Option.{option_map};
@@ -19,8 +19,11 @@ use std::marker::Model;
 use std::mem;
 use v8_decode::decode;
 
-/// How many words have records at most.
-const MOST_KEPT: u32 = 1 << 20;
+/// How many words have records at most: more than a text of 2^20 words and the code of its profile take.
+const MOST_KEPT: u32 = 1 << 25;
+
+/// How many words have their records made at once, when the first of them is run.
+const BLOCK: u32 = 256;
 
 /// A region that is to be made: `len` bytes from `start` on, of which the first are given and the others
 /// are zeros.
@@ -32,11 +35,28 @@ pub struct RegionPlan<'a> {
     pub first: &'a [u8],
 }
 
-/// The records of words, from the one at `first` on.
+/// The records of words, from the one at `first` on. The last of them says nothing.
 #[derive(Drop)]
 pub struct Records {
     pub first: u32,
     pub ops: Vec<Op>,
+}
+
+impl Records {
+    /// Makes the records of a block of words. Only the last place of all isn't that of a word.
+    #[tactic(auto, using(crate::proofs::Kept::kept_set))]
+    fn make(&mut self, regions: &[Region], block: u32)
+        ensures first { self.new.first ≡ self.old.first }
+        ensures kept { AreKept (filter is_code regions.now) self.old.first self.old.ops.items → AreKept (filter is_code regions.now) self.new.first self.new.ops.items }
+    {
+        for n in 0..BLOCK {
+            let place = block.wrapping_mul(BLOCK).wrapping_add(n);
+            if (place as usize) + 1 < self.ops.len() {
+                let address = self.first.wrapping_add(place.wrapping_mul(4));
+                self.ops[place as usize] = kept_word(regions, address);
+            }
+        }
+    }
 }
 
 /// Regions, and the heap with its end that moves.
@@ -44,8 +64,12 @@ pub struct Records {
 pub struct Memory {
     heap: Region,
     regions: Vec<Region>,
-    /// So that words needn't be decoded when they are run.
+    /// For the high half of each address which region is asked first.
+    hints: Vec<u8>,
+    /// So that words needn't be decoded each time they are run.
     records: Records,
+    /// For each block of words whether its records were made.
+    made: Vec<bool>,
 }
 
 impl Model for Memory {
@@ -73,12 +97,16 @@ impl Memory {
     {
         let heap = Region::heap(alloc)?;
         let regions = planned(alloc, plans)?;
+        let hints = hints_of(alloc, &regions)?;
         let (first, count) = first_code(&regions);
-        let ops = kept_words(alloc, &regions, first, count)?;
+        let ops = unmade(alloc, count)?;
+        let made = unmade_blocks(alloc, count)?;
         Ok(Memory {
             heap,
             regions,
+            hints,
             records: Records { first, ops },
+            made,
         })
     }
 
@@ -156,6 +184,18 @@ impl Memory {
         ensures { result ≡ fetch_of self.now address.0 }
     {
         fetch_in(&self.regions, address.0)
+    }
+
+    /// Makes the records of the words around an address that is to be run, where there are none yet.
+    #[inline]
+    pub fn keep_around(&mut self, address: Addr)
+        ensures { self.new ≡ self.old }
+    {
+        let block = address.0.wrapping_sub(self.records.first) / 4 / BLOCK;
+        if self.made.get(block as usize) == Some(&false) {
+            self.made[block as usize] = true;
+            self.records.make(&self.regions, block);
+        }
     }
 
     /// Takes the records out, so that they stand apart from what a run changes. They are to be put back.
@@ -248,9 +288,42 @@ impl Memory {
         }
     }
 
-    /// The region that has all these bytes. The heap is asked last.
-    #[inline]
+    /// The place of the region that is asked first for an address, if it has all these bytes.
+    #[inline(always)]
+    fn hinted(&self, address: u32, count: u64) -> Option<usize>
+        requires { 0 < count }
+        ensures { MatchOption result (Unit {0}) (λ index. (index < length self.now.regions) × ((d : Region) → IsTrue (covers address count (get_or self.now.regions index d)))) }
+    {
+        let index = usize::from(*self.hints.get((address >> 16) as usize)?);
+        let region = self.regions.get(index)?;
+        if region.covers(address, count) {
+            Some(index)
+        } else {
+            None
+        }
+    }
+
+    /// The region that has all these bytes.
+    #[inline(always)]
     fn region(&self, address: u32, count: u64) -> Option<&Region>
+        requires { 0 < count }
+        ensures { MatchOption result (region_at self.now address count ≡ None) (λ region. (region_at self.now address count ≡ Some region.now) × IsTrue (covers address count region.now)) }
+    {
+        match self.hinted(address, count) {
+            Some(index) => Some(&self.regions[index]),
+            None => {
+                if self.heap.covers(address, count) {
+                    Some(&self.heap)
+                } else {
+                    self.searched(address, count)
+                }
+            }
+        }
+    }
+
+    /// The region that has all these bytes. The heap is asked last.
+    #[inline(never)]
+    fn searched(&self, address: u32, count: u64) -> Option<&Region>
         requires { 0 < count }
         ensures { MatchOption result (region_at self.now address count ≡ None) (λ region. (region_at self.now address count ≡ Some region.now) × IsTrue (covers address count region.now)) }
     {
@@ -288,6 +361,24 @@ impl Memory {
     /// Writes the bytes, where one region has them all and may be written.
     #[inline(always)]
     fn write(&mut self, address: u32, bytes: &[u8]) -> bool
+        requires { 0 < length bytes.now }
+        ensures { Fills (with_bytes self.old address bytes.now) self.old self.new result }
+    {
+        match self.hinted(address, bytes.len() as u64) {
+            Some(index) => self.regions[index].write(address, bytes),
+            None => {
+                if self.heap.covers(address, bytes.len() as u64) {
+                    self.heap.write(address, bytes)
+                } else {
+                    self.write_searched(address, bytes)
+                }
+            }
+        }
+    }
+
+    /// The same, where all regions are asked, and the heap last.
+    #[inline(never)]
+    fn write_searched(&mut self, address: u32, bytes: &[u8]) -> bool
         requires { 0 < length bytes.now }
         ensures { Fills (with_bytes self.old address bytes.now) self.old self.new result }
     {
@@ -337,6 +428,39 @@ fn planned(alloc: Global, plans: &[RegionPlan]) -> Result<Vec<Region>, NoMemory>
     Ok(regions)
 }
 
+/// For the high half of each address a region that has some of its bytes, one that may be written before others.
+fn hints_of(alloc: Global, regions: &[Region]) -> Result<Vec<u8>, NoMemory> {
+    let mut hints = no_hints(alloc, 1 << 16)?;
+    for (region, index) in regions.iter().zip(0..=u8::MAX) {
+        if !region.is_writable() {
+            hint_at(&mut hints, region, index);
+        }
+    }
+    for (region, index) in regions.iter().zip(0..=u8::MAX) {
+        if region.is_writable() {
+            hint_at(&mut hints, region, index);
+        }
+    }
+    Ok(hints)
+}
+
+/// Hints to the first region.
+fn no_hints(alloc: Global, count: usize) -> Result<Vec<u8>, NoMemory> {
+    let hints = vec![in alloc; 0; count]?;
+    Ok(hints)
+}
+
+/// Hints to this region at all of its addresses.
+fn hint_at(hints: &mut [u8], region: &Region, index: u8) {
+    let from = u64::from(region.start() >> 16);
+    let to = region.end() >> 16;
+    for high in from..=to {
+        if let Some(hint) = hints.get_mut(high as usize) {
+            *hint = index;
+        }
+    }
+}
+
 /// Where the first region begins whose words may be executed, and how many of them are to have records.
 fn first_code(regions: &[Region]) -> (u32, u32) {
     for region in regions {
@@ -347,23 +471,20 @@ fn first_code(regions: &[Region]) -> (u32, u32) {
     (0, 0)
 }
 
-/// The records of so many words from an address on.
-#[tactic(auto, using(crate::proofs::Kept::kept_more))]
-fn kept_words(
-    alloc: Global,
-    regions: &[Region],
-    first: u32,
-    count: u32,
-) -> Result<Vec<Op>, NoMemory>
-    ensures { IfOk result (λ kept. AreKept (filter is_code regions.now) first kept.items) }
+/// Records of so many words that say nothing yet, and one more, so that no run goes on in order beyond them.
+#[tactic(auto, using(crate::proofs::Kept::kept_nothing))]
+fn unmade(alloc: Global, count: u32) -> Result<Vec<Op>, NoMemory>
+    ensures { IfOk result (λ ops. (code : List Region) (first : ℕ) → AreKept code first ops.items) }
 {
-    let mut kept = Vec::with_capacity(alloc, count as usize)?;
-    for place in 0..count {
-        kept.push(kept_word(regions, first.wrapping_add(place.wrapping_mul(4))))?;
-    }
-    // So that no run goes on in order beyond them.
-    kept.push(no_op())?;
-    Ok(kept)
+    let ops = vec![in alloc; no_op(); count as usize + 1]?;
+    Ok(ops)
+}
+
+/// That the records of no block were made, of so many words.
+fn unmade_blocks(alloc: Global, count: u32) -> Result<Vec<bool>, NoMemory> {
+    let blocks = count / BLOCK + 1;
+    let made = vec![in alloc; false; blocks as usize]?;
+    Ok(made)
 }
 
 /// The record of the word at an address.

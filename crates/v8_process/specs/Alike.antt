@@ -5,7 +5,7 @@ use Rattle.elf32_sparc.specs.Mapping.{Mapping, mappings}
 use Rattle.v8_memory.specs.Spans.{Span, IsSameOutside}
 use Rattle.v8_process.specs.Start.{start_memory}
 
--- mappings that differ at most in their leave to be executed
+-- mappings that differ at most in their permission to be executed
 pub record IsSameMapping (m n : Mapping) : Type 0 where
   pub start : m.start ≡ n.start
   pub length : m.length ≡ n.length
@@ -24,7 +24,7 @@ AreSameMappings (m ∷ ms) [] = ⊥
 abbrev pub span_of : Mapping → Span
 span_of m = record { from = m.start; count = m.length }
 
--- A file that maps what another does, up to leaves to be executed, and then some pages, starts with the same
+-- A file that maps what another does, except for permissions to be executed, and then some pages, starts with the same
 -- memory outside those pages.
 abbrev pub StartsAlike : Type 0
 StartsAlike =

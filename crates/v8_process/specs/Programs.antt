@@ -1,4 +1,5 @@
--- Small programs, as whole files or as words, and their runs from the first state: they compute.
+-- Small programs, as whole files or as words, and their runs from the first state: they compute. Each is spelled in
+-- assembly above its words; `.+8` is the address eight bytes further on. The first word stands at 0x10054.
 use Rattle.std.specs.Prelude.{take, ◌≡◌, ℕ, ◌*◌, List, [], ◌∷◌, ◌++◌, length, map, Option, Some, None, true, false, refl}
 use Rattle.std.specs.Int.{w32, to_be_bytes}
 use Rattle.std.specs.List.{flat_map}
@@ -41,6 +42,7 @@ abbrev pub ending_of : List ℕ → ℕ → Option Ending
 ending_of words steps = (after (start_of (file_of words) [] []) steps).ending
 
 -- exits with 3
+--   mov 1,%g1; mov 3,%o0; ta 16
 abbrev pub three_words : List ℕ
 three_words = 0x82102001 ∷ 0x90102003 ∷ 0x91d02010 ∷ []
 
@@ -52,6 +54,7 @@ unfolding after
 three_words_ends = refl
 
 -- counts carries that stay live from one turn of the loop to the next, and exits with 4
+--   mov 5,%g2; addx %o0,0,%o0; addcc %g2,-1,%g2; bne .-8; nop; mov 1,%g1; ta 16
 abbrev pub carry_loop : List ℕ
 carry_loop = 0x84102005 ∷ 0x90422000 ∷ 0x8480bfff ∷ 0x12bffffe ∷ 0x01000000 ∷ 0x82102001 ∷ 0x91d02010 ∷ []
 
@@ -60,6 +63,7 @@ unfolding after
 carry_loop_ends = refl
 
 -- a branch that is taken, with its slot
+--   cmp %g0,0; be .+16; cmp %g0,1; ba .+12; mov 1,%o0; mov 2,%o0; mov 1,%g1; ta 16
 abbrev pub taken_branch : List ℕ
 taken_branch =
     0x80a02000 ∷ 0x02800004 ∷ 0x80a02001 ∷ 0x10800003 ∷ 0x90102001 ∷ 0x90102002 ∷ 0x82102001 ∷ 0x91d02010 ∷ []
@@ -69,6 +73,8 @@ unfolding after
 taken_branch_ends = refl
 
 -- be,a untaken, bn,a, ba,a and be,a taken
+--   cmp %g0,1; be,a .+12; add %o0,1,%o0; bn,a .+8; add %o0,2,%o0; ba,a .+8; add %o0,4,%o0; cmp %g0,0; be,a .+8;
+--   add %o0,8,%o0; mov 1,%g1; ta 16
 abbrev pub annulled_branches : List ℕ
 annulled_branches =
     0x80a02001 ∷ 0x22800003 ∷ 0x90022001 ∷ 0x20800002 ∷ 0x90022002 ∷ 0x30800002 ∷ 0x90022004 ∷ 0x80a02000
@@ -79,6 +85,7 @@ unfolding after
 annulled_branches_ends = refl
 
 -- a branch to the word after its slot
+--   cmp %g0,0; be .+8; nop; mov 1,%g1; mov 0,%o0; ta 16
 abbrev pub branch_over_nop : List ℕ
 branch_over_nop =
     0x80a02000 ∷ 0x02800002 ∷ 0x01000000 ∷ 0x82102001 ∷ 0x90102000 ∷ 0x91d02010 ∷ []
@@ -88,6 +95,7 @@ unfolding after
 branch_over_nop_ends = refl
 
 -- a call whose link is the answer
+--   call .+16; nop; mov 1,%g1; ta 16; jmp %o7+8; and %o7,255,%o0
 abbrev pub call_and_return : List ℕ
 call_and_return =
     0x40000004 ∷ 0x01000000 ∷ 0x82102001 ∷ 0x91d02010 ∷ 0x81c3e008 ∷ 0x900be0ff ∷ []
@@ -97,6 +105,7 @@ unfolding after
 call_and_return_ends = refl
 
 -- a jump to an address that is not aligned
+--   mov 2,%g1; jmp %g1; st %g1,[%sp+64]
 abbrev pub misaligned_jump : List ℕ
 misaligned_jump =
     0x82102002 ∷ 0x81c06000 ∷ 0xc223a040 ∷ []
@@ -106,6 +115,8 @@ unfolding after
 misaligned_jump_ends = refl
 
 -- returns into the middle of straight code
+--   call .+8; nop; jmp %o7+24; nop; add %o0,1,%o0; add %o0,2,%o0; add %o0,4,%o0; jmp %o7+40; nop; ba .+8;
+--   add %o0,8,%o0; mov 1,%g1; ta 16
 abbrev pub inner_landings : List ℕ
 inner_landings =
     0x40000002 ∷ 0x01000000 ∷ 0x81c3e018 ∷ 0x01000000 ∷ 0x90022001 ∷ 0x90022002 ∷ 0x90022004 ∷ 0x81c3e028
@@ -116,6 +127,7 @@ unfolding after
 inner_landings_ends = refl
 
 -- calls without a return
+--   call .+8; nop; call .+8; nop; call .+8; nop; mov 1,%g1; mov 0,%o0; ta 16
 abbrev pub exit_three_calls_deep : List ℕ
 exit_three_calls_deep =
     0x40000002 ∷ 0x01000000 ∷ 0x40000002 ∷ 0x01000000 ∷ 0x40000002 ∷ 0x01000000 ∷ 0x82102001 ∷ 0x90102000
@@ -126,6 +138,8 @@ unfolding after
 exit_three_calls_deep_ends = refl
 
 -- a jump by a table in the text
+--   mov 3,%o0; cmp %o0,3; bgu .+48; sll %o0,2,%o0; sethi %hi(0x10000),%g1; or %g1,120,%g1; ld [%g1+%o0],%g1; jmp %g1;
+--   nop; .word 0x0001008c; .word 0x0001008c; .word 0x0001008c; .word 0x00010088; mov 5,%o0; mov 1,%g1; ta 16
 abbrev pub switch_of_four : List ℕ
 switch_of_four =
     0x90102003 ∷ 0x80a22003 ∷ 0x1880000c ∷ 0x912a2002 ∷ 0x03000040 ∷ 0x82106078 ∷ 0xc2004008 ∷ 0x81c04000
@@ -136,6 +150,7 @@ unfolding after
 switch_of_four_ends = refl
 
 -- a run that leaves the text
+--   nop
 abbrev pub one_nop : List ℕ
 one_nop =
     0x01000000 ∷ []
@@ -145,6 +160,7 @@ unfolding after
 one_nop_ends = refl
 
 -- a jump to where nothing is mapped
+--   jmp 0; nop
 abbrev pub jump_to_zero : List ℕ
 jump_to_zero =
     0x81c02000 ∷ 0x01000000 ∷ []
@@ -154,6 +170,7 @@ unfolding after
 jump_to_zero_ends = refl
 
 -- a load from where nothing is mapped
+--   ld [%g0],%g1
 abbrev pub load_from_zero : List ℕ
 load_from_zero =
     0xc2002000 ∷ []
@@ -163,6 +180,7 @@ unfolding after
 load_from_zero_ends = refl
 
 -- a branch in the slot of another
+--   ba .+8; ba .+8; nop
 abbrev pub transfer_in_slot : List ℕ
 transfer_in_slot =
     0x10800002 ∷ 0x10800002 ∷ 0x01000000 ∷ []
@@ -192,6 +210,9 @@ abbrev pub ending_on_stack : List ℕ → ℕ → Option Ending
 ending_on_stack words steps = (after (first_of words) steps).ending
 
 -- seven SAVEs, the last of which saves the first window; its %l0 is written out from its frame
+--   mov %sp,%g3; mov 7,%l0; save %sp,-96,%sp; save %sp,-96,%sp; save %sp,-96,%sp; save %sp,-96,%sp; save %sp,-96,%sp;
+--   save %sp,-96,%sp; save %sp,-96,%sp; mov 4,%g1; mov 1,%o0; mov %g3,%o1; mov 4,%o2; ta 16; mov 1,%g1; mov 0,%o0;
+--   ta 16
 abbrev pub window_overflow : List ℕ
 window_overflow =
     0x8610000e ∷ 0xa0102007 ∷ 0x9de3bfa0 ∷ 0x9de3bfa0 ∷ 0x9de3bfa0 ∷ 0x9de3bfa0 ∷ 0x9de3bfa0 ∷ 0x9de3bfa0
@@ -207,6 +228,7 @@ unfolding after puts_of puts_by
 window_overflow_puts = refl
 
 -- a saved window whose frame is changed before it is loaded again
+--   save %sp,-96,%sp; ta 3; mov 9,%g2; st %g2,[%fp]; restore; mov %l0,%o0; mov 1,%g1; ta 16
 abbrev pub flushed_windows : List ℕ
 flushed_windows =
     0x9de3bfa0 ∷ 0x91d02003 ∷ 0x84102009 ∷ 0xc427a000 ∷ 0x81e80000 ∷ 0x90100010 ∷ 0x82102001 ∷ 0x91d02010 ∷ []
@@ -216,6 +238,7 @@ unfolding after
 flushed_windows_ends = refl
 
 -- a window that cannot be loaded, since %fp is 0
+--   restore
 abbrev pub restore_from_nowhere : List ℕ
 restore_from_nowhere =
     0x81e80000 ∷ []
@@ -225,6 +248,7 @@ unfolding after
 restore_from_nowhere_ends = refl
 
 -- a window that cannot be saved, since its %sp is 0
+--   save; save; save; save; save; save; save; save
 abbrev pub save_to_nowhere : List ℕ
 save_to_nowhere =
     0x81e00000 ∷ 0x81e00000 ∷ 0x81e00000 ∷ 0x81e00000 ∷ 0x81e00000 ∷ 0x81e00000 ∷ 0x81e00000 ∷ 0x81e00000 ∷ []
@@ -234,6 +258,8 @@ unfolding after
 save_to_nowhere_ends = refl
 
 -- STD, LDSB, LDUB, LDSH, LDUH, SWAP, LDSTUB and LDD at the top of the stack
+--   mov -2,%g2; mov 5,%g3; std %g2,[%sp]; ldsb [%sp+3],%o0; ldub [%sp+3],%o1; ldsh [%sp+2],%o2; lduh [%sp+2],%o3;
+--   swap [%sp+4],%g2; ldstub [%sp+4],%g4; ldd [%sp],%g6
 abbrev pub accesses : List ℕ
 accesses =
     0x84103ffe ∷ 0x86102005 ∷ 0xc43ba000 ∷ 0xd04ba003 ∷ 0xd20ba003 ∷ 0xd453a002 ∷ 0xd613a002 ∷ 0xc47ba004
@@ -245,6 +271,7 @@ unfolding after
 accesses_give = refl
 
 -- WRY, RDY, UMUL, WRY with an exclusive or, RDY
+--   wr 3,%y; rd %y,%o0; umul %o0,%o0,%o1; wr %o0,1,%y; rd %y,%o2
 abbrev pub y_register : List ℕ
 y_register =
     0x81802003 ∷ 0x91400000 ∷ 0x92520008 ∷ 0x81822001 ∷ 0x95400000 ∷ []
@@ -254,6 +281,8 @@ unfolding after
 y_register_gives = refl
 
 -- reads three bytes of input; is refused for a descriptor that does not read, and for a call that is not there
+--   mov 3,%g1; mov 0,%o0; mov %sp,%o1; mov 8,%o2; ta 16; ldub [%sp+1],%g2; mov 1,%o0; ta 16; mov 99,%g1; or %o0,0,%o3;
+--   ta 16
 abbrev pub system_calls : List ℕ
 system_calls =
     0x82102003 ∷ 0x90102000 ∷ 0x9210000e ∷ 0x94102008 ∷ 0x91d02010 ∷ 0xc40ba001 ∷ 0x90102001 ∷ 0x91d02010
@@ -297,6 +326,7 @@ unfolding system_call bytes_at with_bytes
 writes_at_zero = refl
 
 -- A file whose segment begins with its header, and which prints the first 52 bytes of that segment.
+--   sethi %hi(0x10000),%o1; mov 52,%o2; mov 1,%o0; mov 4,%g1; ta 16; mov 0,%o0; mov 1,%g1; ta 16
 abbrev pub prints_its_header : List ℕ
 prints_its_header = bytes_of (
     0x7f454c46 ∷ 0x01020100 ∷ 0 ∷ 0
@@ -315,6 +345,7 @@ prints_its_header_puts = refl
 -- ---- more of what one instruction or one call does
 
 -- a jump whose own address, that of its word, is the answer
+--   call .+8; nop; jmpl %o7+16,%o0; nop; mov 1,%g1; ta 16
 abbrev pub jump_link : List ℕ
 jump_link =
     0x40000002 ∷ 0x01000000 ∷ 0x91c3e010 ∷ 0x01000000 ∷ 0x82102001 ∷ 0x91d02010 ∷ []
@@ -324,6 +355,7 @@ unfolding after
 jump_link_ends = refl
 
 -- a branch in the slot of one that is not taken
+--   bn .+8; ba .+8; nop
 abbrev pub transfer_in_untaken_slot : List ℕ
 transfer_in_untaken_slot =
     0x00800002 ∷ 0x10800002 ∷ 0x01000000 ∷ []
@@ -339,6 +371,7 @@ unfolding after
 seven_saves_go_on = refl
 
 -- RESTORE adds registers of the old window, and gives a register of the new one
+--   save %sp,-96,%sp; mov 5,%l0; restore %l0,1,%o0; mov 1,%g1; ta 16
 abbrev pub restore_adds : List ℕ
 restore_adds =
     0x9de3bfa0 ∷ 0xa0102005 ∷ 0x91ec2001 ∷ 0x82102001 ∷ 0x91d02010 ∷ []
@@ -348,6 +381,7 @@ unfolding after
 restore_adds_ends = refl
 
 -- a window that cannot be saved, since its %sp is no multiple of 8
+--   add %sp,4,%sp; save %sp,-96,%sp; ta 3
 abbrev pub flush_misaligned : List ℕ
 flush_misaligned =
     0x9c03a004 ∷ 0x9de3bfa0 ∷ 0x91d02003 ∷ []
@@ -357,6 +391,7 @@ unfolding after
 flush_misaligned_ends = refl
 
 -- a window that cannot be loaded, since %fp is no multiple of 8
+--   add %sp,-4,%fp; restore
 abbrev pub restore_misaligned : List ℕ
 restore_misaligned =
     0xbc03bffc ∷ 0x81e80000 ∷ []
@@ -366,6 +401,7 @@ unfolding after
 restore_misaligned_ends = refl
 
 -- STH, STB and ST at the top of the stack, and LDD of the two words
+--   mov 258,%g2; mov 7,%g3; sth %g2,[%sp]; stb %g2,[%sp+2]; st %g3,[%sp+4]; ldd [%sp],%g4
 abbrev pub parts_of_words : List ℕ
 parts_of_words =
     0x84102102 ∷ 0x86102007 ∷ 0xc4338000 ∷ 0xc42ba002 ∷ 0xc623a004 ∷ 0xc81b8000 ∷ []
@@ -391,6 +427,7 @@ unfolding after
 misaligned_accesses_end = refl
 
 -- exits with -1
+--   mov 1,%g1; mov -1,%o0; ta 16
 abbrev pub exit_of_a_byte : List ℕ
 exit_of_a_byte =
     0x82102001 ∷ 0x90103fff ∷ 0x91d02010 ∷ []
@@ -400,6 +437,7 @@ unfolding after
 exit_of_a_byte_ends = refl
 
 -- calls the system by the number 144
+--   mov 1,%g1; mov 144,%g2; mov 3,%o0; ta %g2,%g0
 abbrev pub high_trap_number : List ℕ
 high_trap_number =
     0x82102001 ∷ 0x84102090 ∷ 0x90102003 ∷ 0x91d08000 ∷ []
@@ -409,6 +447,7 @@ unfolding after
 high_trap_number_ends = refl
 
 -- writes three bytes to descriptor 2, with C set before
+--   cmp %g0,1; mov 4,%g1; mov 2,%o0; mov %sp,%o1; mov 3,%o2; ta 16
 abbrev pub write_to_two : List ℕ
 write_to_two =
     0x80a02001 ∷ 0x82102004 ∷ 0x90102002 ∷ 0x9210000e ∷ 0x94102003 ∷ 0x91d02010 ∷ []
@@ -427,6 +466,7 @@ unfolding after puts_of puts_by
 write_to_two_puts = refl
 
 -- writes to descriptor 0, which takes no output
+--   mov 4,%g1; mov %sp,%o1; mov 4,%o2; mov 0,%o0; ta 16
 abbrev pub write_to_zero : List ℕ
 write_to_zero =
     0x82102004 ∷ 0x9210000e ∷ 0x94102004 ∷ 0x90102000 ∷ 0x91d02010 ∷ []
@@ -452,6 +492,7 @@ unfolding after
 words_that_trap_end = refl
 
 -- a store into the text
+--   call .+8; st %g0,[%o7]
 abbrev pub store_into_text : List ℕ
 store_into_text =
     0x40000002 ∷ 0xc023c000 ∷ []
@@ -461,6 +502,7 @@ unfolding after
 store_into_text_ends = refl
 
 -- a jump into the stack
+--   jmp %sp; nop
 abbrev pub jump_into_stack : List ℕ
 jump_into_stack =
     0x81c38000 ∷ 0x01000000 ∷ []
@@ -486,6 +528,8 @@ unfolding system_call
 heap_ends = refl
 
 -- a word above an end of the heap that falls and rises again
+--   mov 17,%g1; sethi %hi(0x80000000),%g2; add %g2,8,%o0; ta 16; mov 5,%g3; st %g3,[%g2+4]; mov %g2,%o0; ta 16;
+--   add %g2,8,%o0; ta 16; ld [%g2+4],%o0; mov 1,%g1; ta 16
 abbrev pub heap_falls_and_rises : List ℕ
 heap_falls_and_rises =
     0x82102011 ∷ 0x05200000 ∷ 0x9000a008 ∷ 0x91d02010 ∷ 0x86102005 ∷ 0xc620a004 ∷ 0x90100002 ∷ 0x91d02010
@@ -496,6 +540,7 @@ unfolding after
 heap_falls_and_rises_ends = refl
 
 -- stores a word below the heap's end, and one above it
+--   mov 17,%g1; sethi %hi(0x80000000),%g2; add %g2,8,%o0; ta 16; st %g0,[%g2+4]; st %g0,[%g2+8]
 abbrev pub store_above_heap : List ℕ
 store_above_heap =
     0x82102011 ∷ 0x05200000 ∷ 0x9000a008 ∷ 0x91d02010 ∷ 0xc020a004 ∷ 0xc020a008 ∷ []

@@ -21,8 +21,8 @@ pub fn starts_at_entry()
     ensures { (file : List ℕ) (args : List (List ℕ)) (input : List ℕ) → StartsAtEntry file args input }
 {}
 
-/// A file that maps what another does, up to leaves to be executed, and then some pages, starts with the
-/// same memory outside those pages.
+/// A file that maps what another does, except for permissions to be executed, and then some pages, starts with the same
+/// memory outside those pages.
 pub fn starts_alike()
     ensures { StartsAlike }
 {}

@@ -1,5 +1,5 @@
 -- Steps in order, with pc and npc as places among the records.
-use Rattle.std.proofs.Common.{◌≡◌, ◌+◌, ◌-◌, ◌*◌, ◌/◌, ◌%◌, ◌^◌, ◌<◌, ◌≤◌, ◌⊎◌, inl, inr, ℕ, false, List, None, get_or, refl, sym, ap, ◌∙◌, subst, arith}
+use Rattle.std.proofs.Common.{◌≡◌, ◌+◌, ◌-◌, ◌*◌, ◌/◌, ◌%◌, ◌^◌, ◌<◌, ◌≤◌, ◌⊎◌, inl, inr, ℕ, false, List, None, get_or, sym, ap, ◌∙◌, subst, arith}
 use Rattle.std.proofs.lemmas.Bool.{cases_lt}
 use Rattle.std.specs.Prelude.{IsTrue}
 use Rattle.std.specs.Prelude.{Result, Ok, Err}
@@ -17,7 +17,7 @@ use Rattle.v8_memory.specs.Kept.{AreKept, IsKept}
 use Rattle.v8_memory.specs.Ops.{instr_of, is_record}
 use Rattle.v8_memory.specs.Regions.{code_of}
 use Rattle.v8_step.specs.declared.ahead.Turn.{Turn}
-use Rattle.v8_step.specs.declared.ahead.Turn.TheVariants.{On, To, At, Stop}
+use Rattle.v8_step.specs.declared.ahead.Turn.TheVariants.{On, Stop}
 use Rattle.v8_step.specs.Ahead.{GoesOn, HasTurned, address_at, at_places, placed}
 use Rattle.v8_step.specs.State.{State}
 use Rattle.v8_step.specs.Step.{act}

@@ -18,7 +18,7 @@ use Rattle.v8_memory.specs.Regions.{fetch_of}
 use Rattle.v8_step.specs.declared.Ending.{Ending}
 use Rattle.v8_step.specs.State.{State, operand_of, register_of}
 use Rattle.v8_step.specs.Transfers.{next, unless_couple, jump_step}
-use Rattle.v8_step.specs.Accesses.{load_step, store_step}
+use Rattle.v8_step.specs.Accesses.{load_step, store_step, swap_step}
 use Rattle.v8_step.specs.WindowMoves.{save_step, restore_step}
 use Rattle.v8_step.specs.Step.{act, alu_step, on_word, puts_by, puts_of, puts_on_word, puts_unless_ended, step_of, unless_ended}
 
@@ -50,7 +50,7 @@ act_plain s (i.Ticc cond rs1 op2) = refl
 act_plain s (i.Flush rs1 op2) = refl
 act_plain s i.Stbar = refl
 act_plain s (i.Ldstub rd rs1 op2) = refl
-act_plain s (i.Swap rd rs1 op2) = refl
+act_plain s (i.Swap rd rs1 op2) = ap (λ v. swap_step s rd (wrapped (register_of s rs1 + v))) (operand_plain s op2)
 act_plain s i.Illegal = refl
 act_plain s i.Privileged = refl
 act_plain s i.FpOff = refl
@@ -108,14 +108,21 @@ op_puts s c.AndCc x descriptor = refl
 op_puts s c.Or x descriptor = refl
 op_puts s c.OrCc x descriptor = refl
 op_puts s c.Xor x descriptor = refl
+op_puts s c.XorCc x descriptor = refl
 op_puts s c.Andn x descriptor = refl
+op_puts s c.AndnCc x descriptor = refl
 op_puts s c.Orn x descriptor = refl
 op_puts s c.Xnor x descriptor = refl
 op_puts s c.XnorCc x descriptor = refl
 op_puts s c.Addx x descriptor = refl
+op_puts s c.AddxCc x descriptor = refl
 op_puts s c.Subx x descriptor = refl
+op_puts s c.SubxCc x descriptor = refl
 op_puts s c.Umul x descriptor = refl
 op_puts s c.Smul x descriptor = refl
+op_puts s c.Udiv x descriptor = refl
+op_puts s c.Sdiv x descriptor = refl
+op_puts s c.MulsCc x descriptor = refl
 op_puts s c.Sll x descriptor = refl
 op_puts s c.Srl x descriptor = refl
 op_puts s c.Sra x descriptor = refl
@@ -131,6 +138,7 @@ op_puts s c.St x descriptor = refl
 op_puts s c.Stb x descriptor = refl
 op_puts s c.Sth x descriptor = refl
 op_puts s c.Std x descriptor = refl
+op_puts s c.Swap x descriptor = refl
 op_puts s c.Jmpl x descriptor = refl
 op_puts s c.Save x descriptor = refl
 op_puts s c.Restore x descriptor = refl

@@ -1,5 +1,5 @@
 -- Steps of instructions that have records.
-use Rattle.std.proofs.Common.{◌≡◌, ◌+◌, ◌<◌, ◌≤◌, ◌⊎◌, inl, inr, ℕ, zero, suc, List, [], ◌++◌, None, refl, sym, ap, ◌∙◌, subst, arith}
+use Rattle.std.proofs.Common.{◌≡◌, ◌+◌, ◌<◌, ◌≤◌, ◌⊎◌, inl, inr, ℕ, suc, List, ◌++◌, None, refl, sym, ap, ◌∙◌, subst, arith}
 use Rattle.std.proofs.lemmas.Bool.{cases_lt}
 use Rattle.std.specs.Prelude.{IsTrue}
 use Rattle.v8_memory.specs.declared.ops.Op.{Op}
@@ -10,7 +10,7 @@ use Rattle.v8_memory.specs.Ops.{instr_of, is_record}
 use Rattle.v8_memory.specs.Regions.{code_of, fetch_from, fetch_of}
 use Rattle.v8_step.specs.State.{State}
 use Rattle.v8_step.specs.Step.{act, puts_of, step_of}
-use Rattle.v8_step.specs.Run.{run, run_puts}
+use Rattle.v8_step.specs.Run.{run}
 use Rattle.v8_step.specs.Turns.{IsQuietRun, turned}
 use Rattle.v8_step.proofs.Executable.{code_of-step}
 use Rattle.v8_step.proofs.Ops.{kept_puts, kept_steps}

@@ -1,5 +1,5 @@
 -- Steps in order: pc and npc stand outside of the state, as places among the records.
-use Rattle.std.specs.Prelude.{◌≡◌, ◌<◌, ◌≤◌, ℕ, ◌+◌, ◌*◌}
+use Rattle.std.specs.Prelude.{◌≡◌, ◌<◌, ℕ, ◌+◌, ◌*◌}
 use Rattle.v8_decode.specs.declared.Instr.{Instr}
 use Rattle.v8_alu.specs.Numbers.{wrapped}
 use Rattle.v8_step.specs.declared.ahead.Turn.{Turn}
@@ -30,7 +30,7 @@ HasTurned Stop first cur next s x t = t ≡ s
 
 -- where a turn goes there is a record, and enough steps are left to go on from there in order
 abbrev pub IsWithin : Turn → ℕ → ℕ → ℕ → Type 0
-IsWithin On len next left = Unit {0}
-IsWithin (To place) len next left = (place < len) × (next + len + 2 ≤ left)
-IsWithin (At place) len next left = (place < len) × (next + len + 2 ≤ left)
-IsWithin Stop len next left = Unit {0}
+IsWithin On len next spare = Unit {0}
+IsWithin (To place) len next spare = (place < len) × (next < spare)
+IsWithin (At place) len next spare = (place < len) × (next < spare)
+IsWithin Stop len next spare = Unit {0}

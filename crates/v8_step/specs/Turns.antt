@@ -1,5 +1,5 @@
 -- Many steps of instructions that have records.
-use Rattle.std.specs.Prelude.{◌≡◌, ℕ, ◌<◌, List, [], None}
+use Rattle.std.specs.Prelude.{◌≡◌, ℕ, ◌<◌, [], None}
 use Rattle.v8_memory.specs.declared.ops.Op.{Op}
 use Rattle.v8_memory.specs.declared.ops.OpCode.{OpCode}
 use Rattle.v8_memory.specs.declared.ops.OpCode.TheVariants.{Other}

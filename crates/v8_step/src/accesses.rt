@@ -218,6 +218,25 @@ impl Machine {
         }
     }
 
+    /// SWAP, but for pc and npc. It tells whether it is made; else nothing changes.
+    #[inline]
+    #[tactic(auto, unfolding(crate::specs::Accesses::swap_step))]
+    pub(crate) fn swap_in_order(&mut self, rd: Reg, address: u32) -> bool
+        ensures goes { result ≡ true → (pc npc : ℕ) → swap_step (placed self.old pc npc) rd address ≡ placed self.new npc (wrapped (npc + 4)) }
+        ensures stays { result ≡ false → self.new ≡ self.old }
+        ensures going { self.new.ending ≡ self.old.ending }
+    {
+        let value = self.reg(rd);
+        match self.exchange_word(Addr(address), value) {
+            Ok(old) => {
+                self.set(rd, old);
+                self.slot = Slot::NoSlot;
+                true
+            }
+            Err(_) => false,
+        }
+    }
+
     /// Ends with the trap of a refused access.
     #[inline(never)]
     fn refuse_access(&mut self, fault: MemFault)

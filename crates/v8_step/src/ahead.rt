@@ -14,37 +14,41 @@ ghost use Rattle.v8_step.specs.Turns.{IsQuietRun};
 use crate::Slot;
 use crate::machine::{Machine, register};
 use crate::turns::{condition, pair};
-use v8_alu::{AluTrap, Codes, alu, difference_of};
+use v8_alu::{AluTrap, Codes, alu, difference_of, logic_value};
 use v8_decode::{AluOp, Cond, LoadKind, Reg, StoreKind};
 use v8_memory::{Op, OpCode, op_in};
 
-/// What comes of a turn: the run goes on in order, or to a place after the next instruction, or at a place, or isn't made here.
+/// What comes of carrying out one record.
 #[derive(Clone, Copy, Drop)]
 pub enum Turn {
+    /// The next instruction in order.
     On,
+    /// The delay slot, and then the record at this place.
     To(u32),
+    /// The record at this place.
     At(u32),
+    /// Nothing was carried out: `step` has to do it.
     Stop,
 }
 
 /// The place of an instruction and of the one after it among `len` records, of which the one of the word at `first` is
-/// the first; `left` is how many steps may still be made, and `next` more.
+/// the first; `spare` is how many steps may still be made, and `next` more, beside those that all records in order take.
 #[derive(Clone, Copy, Drop)]
 pub struct Here {
     pub first: u32,
     pub len: u32,
     pub cur: u32,
     pub next: u32,
-    pub left: u64,
+    pub spare: u64,
 }
 
 impl Here {
     /// Whether too few steps are left to go elsewhere, and on in order from there.
     #[inline(always)]
     fn is_near(&self) -> bool
-        ensures { result ≡ false → self.now.next + self.now.len + 2 ≤ self.now.left }
+        ensures { result ≡ false → self.now.next < self.now.spare }
     {
-        self.left < u64::from(self.next) + u64::from(self.len) + 2
+        self.spare <= u64::from(self.next)
     }
 }
 
@@ -55,7 +59,7 @@ impl Machine {
     fn turn(&mut self, op: &Op, here: Here) -> Turn
         requires sum { IsSum op.now.rs2 op.now.imm }
         ensures state { HasTurned result here.first here.cur here.next self.old (instr_of op.now) self.new }
-        ensures within { IsWithin result here.len here.next here.left }
+        ensures within { IsWithin result here.len here.next here.spare }
         ensures going { self.new.ending ≡ self.old.ending }
         ensures said { (result ≡ Turn.Stop) ⊎ IsTrue (is_record op.now.code) }
     {
@@ -83,18 +87,25 @@ impl Machine {
             OpCode::Sub => self.plain_turn(AluOp::SUB, op, here),
             OpCode::SubCc => self.compare_turn(op, here),
             OpCode::And => self.plain_turn(AluOp::AND, op, here),
-            OpCode::AndCc => self.alu_turn(AluOp::AND, op, here),
+            OpCode::AndCc => self.logic_turn(AluOp::AND, op, here),
             OpCode::Or => self.plain_turn(AluOp::OR, op, here),
-            OpCode::OrCc => self.alu_turn(AluOp::OR, op, here),
+            OpCode::OrCc => self.logic_turn(AluOp::OR, op, here),
             OpCode::Xor => self.plain_turn(AluOp::XOR, op, here),
+            OpCode::XorCc => self.logic_turn(AluOp::XOR, op, here),
             OpCode::Andn => self.plain_turn(AluOp::ANDN, op, here),
+            OpCode::AndnCc => self.logic_turn(AluOp::ANDN, op, here),
             OpCode::Orn => self.plain_turn(AluOp::ORN, op, here),
             OpCode::Xnor => self.plain_turn(AluOp::XNOR, op, here),
-            OpCode::XnorCc => self.alu_turn(AluOp::XNOR, op, here),
+            OpCode::XnorCc => self.logic_turn(AluOp::XNOR, op, here),
             OpCode::Addx => self.plain_turn(AluOp::ADDX, op, here),
+            OpCode::AddxCc => self.alu_turn(AluOp::ADDX, op, here),
             OpCode::Subx => self.plain_turn(AluOp::SUBX, op, here),
+            OpCode::SubxCc => self.alu_turn(AluOp::SUBX, op, here),
             OpCode::Umul => self.plain_turn(AluOp::UMUL, op, here),
             OpCode::Smul => self.plain_turn(AluOp::SMUL, op, here),
+            OpCode::Udiv => self.plain_turn(AluOp::UDIV, op, here),
+            OpCode::Sdiv => self.plain_turn(AluOp::SDIV, op, here),
+            OpCode::MulsCc => self.alu_turn(AluOp::MULScc, op, here),
             OpCode::Sll => self.plain_turn(AluOp::SLL, op, here),
             OpCode::Srl => self.plain_turn(AluOp::SRL, op, here),
             OpCode::Sra => self.plain_turn(AluOp::SRA, op, here),
@@ -110,6 +121,7 @@ impl Machine {
             OpCode::Stb => self.store_turn(StoreKind::STB, op.rd, op, here),
             OpCode::Sth => self.store_turn(StoreKind::STH, op.rd, op, here),
             OpCode::Std => self.store_turn(StoreKind::STD, pair(op.rd), op, here),
+            OpCode::Swap => self.swap_turn(op, here),
             OpCode::Jmpl => self.jump_turn(op, here),
             OpCode::Save => self.save_turn(op, here),
             OpCode::Restore => self.restore_turn(op, here),
@@ -117,11 +129,20 @@ impl Machine {
         }
     }
 
+    /// Puts pc and npc at places. Where it were inlined, the loop would keep an address beside each place.
+    #[inline(never)]
+    fn stand_at(&mut self, first: u32, cur: u32, next: u32)
+        ensures { self.new ≡ at_places self.old first cur next }
+    {
+        self.pc = address(first, cur);
+        self.npc = address(first, next);
+    }
+
     #[inline(always)]
     #[tactic(auto, using(crate::proofs::InOrder::goes_on), unfolding(crate::specs::Step::act))]
     fn sethi_turn(&mut self, op: &Op, here: Here) -> Turn
         ensures state { HasTurned result here.first here.cur here.next self.old (instrs.Sethi op.now.rd (cast_unsigned w32 op.now.imm)) self.new }
-        ensures within { IsWithin result here.len here.next here.left }
+        ensures within { IsWithin result here.len here.next here.spare }
         ensures going { self.new.ending ≡ self.old.ending }
     {
         self.set(op.rd, op.imm.cast_unsigned().wrapping_mul(1024));
@@ -133,7 +154,7 @@ impl Machine {
     #[tactic(auto, using(crate::proofs::InOrder::goes_on), unfolding(crate::specs::Step::act))]
     fn read_y_turn(&mut self, op: &Op, here: Here) -> Turn
         ensures state { HasTurned result here.first here.cur here.next self.old (instrs.ReadY op.now.rd) self.new }
-        ensures within { IsWithin result here.len here.next here.left }
+        ensures within { IsWithin result here.len here.next here.spare }
         ensures going { self.new.ending ≡ self.old.ending }
     {
         self.set(op.rd, self.y);
@@ -146,7 +167,7 @@ impl Machine {
     fn write_y_turn(&mut self, op: &Op, here: Here) -> Turn
         requires sum { IsSum op.now.rs2 op.now.imm }
         ensures state { HasTurned result here.first here.cur here.next self.old (instrs.WriteY op.now.rs1 (operand_in op.now.rs2 op.now.imm)) self.new }
-        ensures within { IsWithin result here.len here.next here.left }
+        ensures within { IsWithin result here.len here.next here.spare }
         ensures going { self.new.ending ≡ self.old.ending }
     {
         self.y = self.reg(op.rs1) ^ self.op_operand(op);
@@ -160,10 +181,26 @@ impl Machine {
         requires form { IsTrue (has_form kind true) }
         requires sum { IsSum op.now.rs2 op.now.imm }
         ensures state { HasTurned result here.first here.cur here.next self.old (alu_in kind true op.now) self.new }
-        ensures within { IsWithin result here.len here.next here.left }
+        ensures within { IsWithin result here.len here.next here.spare }
         ensures going { self.new.ending ≡ self.old.ending }
     {
         if self.alu_in_order(kind, op) {
+            Turn::On
+        } else {
+            Turn::Stop
+        }
+    }
+
+    /// A logical operation that sets the codes, which are worked out where they are read.
+    #[inline(always)]
+    #[tactic(auto, using(crate::proofs::InOrder::goes_on))]
+    fn logic_turn(&mut self, kind: AluOp, op: &Op, here: Here) -> Turn
+        requires sum { IsSum op.now.rs2 op.now.imm }
+        ensures state { HasTurned result here.first here.cur here.next self.old (alu_in kind true op.now) self.new }
+        ensures within { IsWithin result here.len here.next here.spare }
+        ensures going { self.new.ending ≡ self.old.ending }
+    {
+        if self.logic_in_order(kind, op) {
             Turn::On
         } else {
             Turn::Stop
@@ -176,7 +213,7 @@ impl Machine {
         requires form { IsTrue (has_form kind false) }
         requires sum { IsSum op.now.rs2 op.now.imm }
         ensures state { HasTurned result here.first here.cur here.next self.old (alu_in kind false op.now) self.new }
-        ensures within { IsWithin result here.len here.next here.left }
+        ensures within { IsWithin result here.len here.next here.spare }
         ensures going { self.new.ending ≡ self.old.ending }
     {
         if self.plain_in_order(kind, op) {
@@ -192,7 +229,7 @@ impl Machine {
     fn compare_turn(&mut self, op: &Op, here: Here) -> Turn
         requires sum { IsSum op.now.rs2 op.now.imm }
         ensures state { HasTurned result here.first here.cur here.next self.old (alu_in AluOp.SUB true op.now) self.new }
-        ensures within { IsWithin result here.len here.next here.left }
+        ensures within { IsWithin result here.len here.next here.spare }
         ensures going { self.new.ending ≡ self.old.ending }
     {
         self.compare_in_order(op);
@@ -219,7 +256,7 @@ impl Machine {
         requires single { kind ≡ LoadKind.LDD → ⊥ }
         requires sum { IsSum op.now.rs2 op.now.imm }
         ensures state { HasTurned result here.first here.cur here.next self.old (instrs.Load kind op.now.rd op.now.rs1 (operand_in op.now.rs2 op.now.imm)) self.new }
-        ensures within { IsWithin result here.len here.next here.left }
+        ensures within { IsWithin result here.len here.next here.spare }
         ensures going { self.new.ending ≡ self.old.ending }
     {
         if self.load_in_order(kind, op.rd, self.op_sum(op)) {
@@ -234,7 +271,7 @@ impl Machine {
     fn load_pair_turn(&mut self, op: &Op, here: Here) -> Turn
         requires sum { IsSum op.now.rs2 op.now.imm }
         ensures state { HasTurned result here.first here.cur here.next self.old (instrs.Load LoadKind.LDD (2 * (op.now.rd % 16)) op.now.rs1 (operand_in op.now.rs2 op.now.imm)) self.new }
-        ensures within { IsWithin result here.len here.next here.left }
+        ensures within { IsWithin result here.len here.next here.spare }
         ensures going { self.new.ending ≡ self.old.ending }
     {
         if self.load_pair_in_order(pair(op.rd), self.op_sum(op)) {
@@ -250,7 +287,7 @@ impl Machine {
         requires pair { kind ≡ StoreKind.STD → rd % 2 ≡ 0 }
         requires sum { IsSum op.now.rs2 op.now.imm }
         ensures state { HasTurned result here.first here.cur here.next self.old (instrs.Store kind rd op.now.rs1 (operand_in op.now.rs2 op.now.imm)) self.new }
-        ensures within { IsWithin result here.len here.next here.left }
+        ensures within { IsWithin result here.len here.next here.spare }
         ensures going { self.new.ending ≡ self.old.ending }
     {
         if self.store_in_order(kind, rd, self.op_sum(op)) {
@@ -262,10 +299,25 @@ impl Machine {
 
     #[inline(always)]
     #[tactic(auto, using(crate::proofs::InOrder::goes_on), unfolding(crate::specs::Step::act))]
+    fn swap_turn(&mut self, op: &Op, here: Here) -> Turn
+        requires sum { IsSum op.now.rs2 op.now.imm }
+        ensures state { HasTurned result here.first here.cur here.next self.old (instrs.Swap op.now.rd op.now.rs1 (operand_in op.now.rs2 op.now.imm)) self.new }
+        ensures within { IsWithin result here.len here.next here.spare }
+        ensures going { self.new.ending ≡ self.old.ending }
+    {
+        if self.swap_in_order(op.rd, self.op_sum(op)) {
+            Turn::On
+        } else {
+            Turn::Stop
+        }
+    }
+
+    #[inline(always)]
+    #[tactic(auto, using(crate::proofs::InOrder::goes_on), unfolding(crate::specs::Step::act))]
     fn save_turn(&mut self, op: &Op, here: Here) -> Turn
         requires sum { IsSum op.now.rs2 op.now.imm }
         ensures state { HasTurned result here.first here.cur here.next self.old (instrs.Save op.now.rd op.now.rs1 (operand_in op.now.rs2 op.now.imm)) self.new }
-        ensures within { IsWithin result here.len here.next here.left }
+        ensures within { IsWithin result here.len here.next here.spare }
         ensures going { self.new.ending ≡ self.old.ending }
     {
         if self.save_in_order(op.rd, self.op_sum(op)) {
@@ -280,13 +332,33 @@ impl Machine {
     fn restore_turn(&mut self, op: &Op, here: Here) -> Turn
         requires sum { IsSum op.now.rs2 op.now.imm }
         ensures state { HasTurned result here.first here.cur here.next self.old (instrs.Restore op.now.rd op.now.rs1 (operand_in op.now.rs2 op.now.imm)) self.new }
-        ensures within { IsWithin result here.len here.next here.left }
+        ensures within { IsWithin result here.len here.next here.spare }
         ensures going { self.new.ending ≡ self.old.ending }
     {
         if self.restore_in_order(op.rd, self.op_sum(op)) {
             Turn::On
         } else {
             Turn::Stop
+        }
+    }
+
+    /// A logical operation that sets the codes, but for pc and npc.
+    #[inline(always)]
+    #[tactic(auto, unfolding(crate::specs::Step::act, crate::specs::Step::alu_step))]
+    fn logic_in_order(&mut self, kind: AluOp, op: &Op) -> bool
+        requires sum { IsSum op.now.rs2 op.now.imm }
+        ensures goes { result ≡ true → GoesOn self.old (alu_in kind true op.now) self.new }
+        ensures stays { result ≡ false → self.new ≡ self.old }
+        ensures going { self.new.ending ≡ self.old.ending }
+    {
+        match logic_value(kind, self.reg(op.rs1), self.op_operand(op)) {
+            Some(value) => {
+                self.flags.judge(value);
+                self.set(op.rd, value);
+                self.slot = Slot::NoSlot;
+                true
+            }
+            None => false,
         }
     }
 
@@ -342,7 +414,7 @@ impl Machine {
     #[tactic(auto, using(crate::proofs::InOrder::target_place, crate::proofs::InOrder::next_address, crate::proofs::InOrder::after_annulled), unfolding(crate::specs::Step::act, crate::specs::Transfers::branch_step))]
     fn branch_turn(&mut self, cond: Cond, op: &Op, here: Here) -> Turn
         ensures state { HasTurned result here.first here.cur here.next self.old (instrs.Branch cond (op.now.rd == 1) op.now.imm) self.new }
-        ensures within { IsWithin result here.len here.next here.left }
+        ensures within { IsWithin result here.len here.next here.spare }
         ensures going { self.new.ending ≡ self.old.ending }
     {
         if self.slot != Slot::NoSlot {
@@ -376,7 +448,7 @@ impl Machine {
     #[tactic(auto, using(crate::proofs::InOrder::target_place), unfolding(crate::specs::Step::act, crate::specs::Transfers::call_step))]
     fn call_turn(&mut self, disp30: i32, here: Here) -> Turn
         ensures state { HasTurned result here.first here.cur here.next self.old (instrs.Call disp30) self.new }
-        ensures within { IsWithin result here.len here.next here.left }
+        ensures within { IsWithin result here.len here.next here.spare }
         ensures going { self.new.ending ≡ self.old.ending }
     {
         let place = here.cur.wrapping_add(disp30.cast_unsigned());
@@ -393,7 +465,7 @@ impl Machine {
     fn jump_turn(&mut self, op: &Op, here: Here) -> Turn
         requires sum { IsSum op.now.rs2 op.now.imm }
         ensures state { HasTurned result here.first here.cur here.next self.old (instrs.Jmpl op.now.rd op.now.rs1 (operand_in op.now.rs2 op.now.imm)) self.new }
-        ensures within { IsWithin result here.len here.next here.left }
+        ensures within { IsWithin result here.len here.next here.spare }
         ensures going { self.new.ending ≡ self.old.ending }
     {
         let target = self.op_sum(op);
@@ -464,7 +536,12 @@ pub(crate) fn go_far(ops: &[Op], first: u32, m: &mut Machine, limit: u64) -> u64
     }
     let mut cur = offset / 4;
     let mut next = after / 4;
-    let mut left = limit + u64::from(next);
+    let mut spare = limit + u64::from(next) - u64::from(len) - 1;
+    // pc and npc are the places `cur` and `next`. In order they move on by one, and nothing is compared: the last record
+    // says nothing, and `spare` leaves room for all records in order, so that only transfers look at the limit. Steps
+    // aren't counted: in order `next` grows with them, and a transfer changes `spare` by as much as it changes `next`
+    // besides. What can't be made here (a fault, a frame to be saved or loaded, a transfer in a slot, a target without a
+    // record) changes nothing, and ends the loop.
     'turns: loop {
         let op = op_in(ops, first, cur);
         let here = Here {
@@ -472,7 +549,7 @@ pub(crate) fn go_far(ops: &[Op], first: u32, m: &mut Machine, limit: u64) -> u64
             len,
             cur,
             next,
-            left,
+            spare,
         };
         match m.turn(op, here) {
             Turn::On => {
@@ -480,19 +557,18 @@ pub(crate) fn go_far(ops: &[Op], first: u32, m: &mut Machine, limit: u64) -> u64
                 next += 1;
             }
             Turn::To(place) => {
-                left = left - u64::from(next) - 1 + u64::from(place);
+                spare = spare - u64::from(next) - 1 + u64::from(place);
                 cur = next;
                 next = place;
             }
             Turn::At(place) => {
-                left = left - u64::from(next) + u64::from(place);
+                spare = spare - u64::from(next) + u64::from(place);
                 cur = place;
                 next = place + 1;
             }
             Turn::Stop => break,
         }
     }
-    m.pc = address(first, cur);
-    m.npc = address(first, next);
-    limit + u64::from(next) - left
+    m.stand_at(first, cur, next);
+    limit + u64::from(next) - u64::from(len) - 1 - spare
 }

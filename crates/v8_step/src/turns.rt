@@ -26,6 +26,7 @@ impl Machine {
         ensures run { IsQuietRun self.old result self.new }
         ensures few { result ≤ limit }
     {
+        self.memory.keep_around(Addr(self.pc));
         let records = self.memory.take_records();
         let most = limit.min(MOST_AT_ONCE);
         let steps = if records.ops.len() as u64 + 2 < most {
@@ -79,14 +80,21 @@ impl Machine {
             OpCode::Or => self.alu_op(AluOp::OR, false, op),
             OpCode::OrCc => self.alu_op(AluOp::OR, true, op),
             OpCode::Xor => self.alu_op(AluOp::XOR, false, op),
+            OpCode::XorCc => self.alu_op(AluOp::XOR, true, op),
             OpCode::Andn => self.alu_op(AluOp::ANDN, false, op),
+            OpCode::AndnCc => self.alu_op(AluOp::ANDN, true, op),
             OpCode::Orn => self.alu_op(AluOp::ORN, false, op),
             OpCode::Xnor => self.alu_op(AluOp::XNOR, false, op),
             OpCode::XnorCc => self.alu_op(AluOp::XNOR, true, op),
             OpCode::Addx => self.alu_op(AluOp::ADDX, false, op),
+            OpCode::AddxCc => self.alu_op(AluOp::ADDX, true, op),
             OpCode::Subx => self.alu_op(AluOp::SUBX, false, op),
+            OpCode::SubxCc => self.alu_op(AluOp::SUBX, true, op),
             OpCode::Umul => self.alu_op(AluOp::UMUL, false, op),
             OpCode::Smul => self.alu_op(AluOp::SMUL, false, op),
+            OpCode::Udiv => self.alu_op(AluOp::UDIV, false, op),
+            OpCode::Sdiv => self.alu_op(AluOp::SDIV, false, op),
+            OpCode::MulsCc => self.alu_op(AluOp::MULScc, true, op),
             OpCode::Sll => self.alu_op(AluOp::SLL, false, op),
             OpCode::Srl => self.alu_op(AluOp::SRL, false, op),
             OpCode::Sra => self.alu_op(AluOp::SRA, false, op),
@@ -110,6 +118,10 @@ impl Machine {
             OpCode::Stb => self.store(StoreKind::STB, op.rd, self.op_sum(op)),
             OpCode::Sth => self.store(StoreKind::STH, op.rd, self.op_sum(op)),
             OpCode::Std => self.store(StoreKind::STD, pair(op.rd), self.op_sum(op)),
+            OpCode::Swap => {
+                self.swap(op.rd, self.op_sum(op));
+                self.is_going()
+            }
             OpCode::Jmpl => self.jump(op.rd, self.op_sum(op)),
             OpCode::Save => {
                 self.save(op.rd, self.op_sum(op));

@@ -1,6 +1,7 @@
 //! Listings of texts.
-ghost use Rattle.std.specs.Prelude.{◌≡◌, ◌++◌, ◌∷◌, [], IfErr, IfOk, OnOk};
+ghost use Rattle.std.specs.Prelude.{◌≡◌, ◌++◌, ◌∷◌, [], Some, None, IfErr, IfOk, OnErr, OnOk};
 ghost use Rattle.v8_text.specs.Listings.{is_next, IsLineOf, IsListing, IsNextLine, IsUnlisted};
+ghost use Rattle.v8_text.specs.declared.listings.ListFault.TheVariants as faults;
 ghost use Rattle.v8_text.specs.Texts.{line_text, listing_text};
 
 use crate::reading::word_of;
@@ -67,9 +68,7 @@ pub fn read_listing(alloc: Global, bytes: &[u8]) -> Result<Vec<u32>, ListFault>
     let mut next = None;
     let mut rest = bytes;
     while !rest.is_empty() {
-        let Some(line) = next_line(rest, next) else {
-            return Err(ListFault::Line(words.len() as u32 + 1));
-        };
+        let line = wanted_line(rest, next, words.len() as u32 + 1)?;
         push(&mut words, line.word)?;
         next = Some(u64::from(line.at) + 4);
         rest = line.rest;
@@ -90,6 +89,18 @@ struct Line<'a> {
     at: u32,
     word: u32,
     rest: &'a [u8],
+}
+
+/// The line at the front, which has this number and is to be that of a word at the next address.
+fn wanted_line<'a>(bytes: &'a [u8], next: Option<u64>, number: u32) -> Result<Line<'a>, ListFault>
+    ensures line { IfOk result (λ line. IsNextLine bytes.now next (Some line)) }
+    ensures bad { OnErr result (IsNextLine bytes.now next None) }
+    ensures fault { IfErr result (λ fault. fault ≡ faults.Line number) }
+{
+    match next_line(bytes, next) {
+        Some(line) => Ok(line),
+        None => Err(ListFault::Line(number)),
+    }
 }
 
 /// The line at the front, where it is that of a word at the next address.

@@ -48,8 +48,8 @@ pub fn counts_are_enough()
     ensures { CountsAreEnough }
 {}
 
-/// In how many loops a word stands is told alike from the blocks, by which edges are weighed, and from the words of the
-/// text: each branch is the last word of its block, whatever words lead besides.
+/// The number of loops about a word is the same by the blocks, from which edges are weighed, and by the words of the
+/// text: each branch is the last word of its block, whatever words are marked.
 pub fn loops_are_of_texts()
     ensures { LoopsAreOfTexts }
 {}

@@ -1,5 +1,5 @@
 //! Reading weights.
-ghost use Rattle.std.specs.Prelude.{◌≡◌, ◌≤◌, ◌<◌, ◌+◌, ◌*◌, ◌^◌, ◌↔◌, IsTrue, IfErr, IfOk, OnOk, length, slice_set, vec_len};
+ghost use Rattle.std.specs.Prelude.{◌≡◌, ◌≢◌, ◌≤◌, ◌<◌, ◌+◌, ◌*◌, ◌^◌, ◌↔◌, IsTrue, IfErr, IfOk, OnOk, length, slice_set, vec_len};
 ghost use Rattle.std.specs.List.{All};
 ghost use Rattle.cfg_normal.specs.Graph.{IsEdgeIn, IsNodeIn};
 ghost use Rattle.cfg_view.specs.View.{view_seen, IsView};
@@ -50,7 +50,20 @@ pub fn read_weights(alloc: Global, bytes: &[u8], v: &View) -> Result<Vec<u64>, W
     ensures most { IfOk result (λ weights. All (λ weight. weight ≤ 2 ^ 32) weights.items) }
     ensures refused { IfErr result (AreRefused (view_seen v.now) bytes.now) }
 {
-    let mut reading = Reading::new(alloc, v)?;
+    let reading = Reading::new(alloc, v)?;
+    read_lines(reading, bytes, v)
+}
+
+/// The weights by these lines, where none was read yet. It asks for no memory.
+fn read_lines(mut reading: Reading, bytes: &[u8], v: &View) -> Result<Vec<u64>, WeightFault>
+    requires view { IsView v.now }
+    requires first { IsFirst (view_seen v.now) reading }
+    ensures weights { IfOk result (λ weights. AreWeights (view_seen v.now) bytes.now weights.items) }
+    ensures len { IfOk result (λ weights. length weights.items ≡ length v.now.graph.edges) }
+    ensures most { IfOk result (λ weights. All (λ weight. weight ≤ 2 ^ 32) weights.items) }
+    ensures refused { IfErr result (AreRefused (view_seen v.now) bytes.now) }
+    ensures judged { IfErr result (λ fault. fault ≢ faults.NoMemory) }
+{
     let mut rest = bytes;
     while let Some((line, after)) = next_line(rest) {
         match line {

@@ -1,5 +1,5 @@
 -- `counts WRITTEN DUMP`: how often each edge was completed is rebuilt from the notes of WRITTEN and the dump DUMP.
-use Rattle.std.specs.Prelude.{◌≡◌, ℕ, ◌-◌, ◌<◌, ◌≤◌, List, length, slice_index, Option, None, Ok}
+use Rattle.std.specs.Prelude.{◌≡◌, ℕ, ◌-◌, ◌<◌, ◌≤◌, List, length, slice_index, None, Ok}
 use Rattle.elf32_sparc.specs.Image.{image_of}
 use Rattle.elf32_sparc.specs.Notes.{Notes, notes_of}
 use Rattle.v8_step.specs.Valid.{AreBytes}
@@ -13,7 +13,9 @@ use Rattle.count_rebuild.specs.declared.fault.CountFault.{CountFault}
 use Rattle.count_rebuild.specs.declared.fault.CountFault.TheVariants as faults
 use Rattle.v8_step.specs.Needed.{IsUntouched}
 use Rattle.v8_step.specs.Visits.{pages_of}
+use Rattle.tool_kit.specs.Plans.{Plan}
 use Rattle.exact_counts.specs.Laws.{counter_limit}
+use Rattle.exact_counts.specs.Profiles.{CountsOffTree, original_graph}
 use Rattle.exact_counts.specs.Stops.{dump_at, visits_by}
 use Rattle.edit_core.specs.Faithful.{IsFaithful}
 use Rattle.elf32_sparc.specs.FileFault.{fault}
@@ -22,7 +24,7 @@ use Rattle.eel.specs.declared.outcome.CountCause.{CountCause}
 use Rattle.eel.specs.declared.outcome.CountCause.TheVariants as causes
 use Rattle.eel.specs.Outcome.{Outcome, NoProfile, NoCounts, OutOfMemory}
 use Rattle.eel.specs.Answers.Shared.{edit_limit}
-use Rattle.eel.specs.Answers.Profile.{AreCells, IsMarkedProfile, graph_with, plan_of}
+use Rattle.eel.specs.Answers.Profile.{IsMarkedProfile, plan_with}
 
 -- ---- refusals
 
@@ -67,20 +69,19 @@ pub record TellCounts (notes : Notes) (dump : Dump) (lines : List ℕ) : Type 0 
 
 -- ---- what the counts of a profile are
 
--- A file with these notes that is faithful to an original with these marks, with counters of the notes' version on the
--- edges off a tree.
-pub record IsProfile (marks weights original file : List ℕ) (notes : Notes) : Type 0 where
-  pub cells : List (Option ℕ)
+-- A file with these notes that is faithful to an original by a plan which counts edges off a spanning tree, in the notes'
+-- version. The plan may have marks, and cells to spare.
+pub record IsProfile (original : List ℕ) (plan : Plan) (file : List ℕ) (notes : Notes) : Type 0 where
   pub sound : fault original ≡ None
-  pub are : AreCells (graph_with original marks) weights cells
-  pub faithful : IsFaithful original (plan_of notes.version marks cells) file
+  pub counters : CountsOffTree notes.version (original_graph original plan) plan
+  pub faithful : IsFaithful original plan file
 
 -- a file that an edit for counts made of an original is one, with version 2
 abbrev pub EditsAreProfiles : Type 0
 EditsAreProfiles =
     (marks weights original file : List ℕ) (notes : Notes) → length original ≤ edit_limit → AreBytes original
-    → IsMarkedProfile marks weights original file → notes_of file ≡ Ok notes
-    → (notes.version ≡ 2) × IsProfile marks weights original file notes
+    → (made : IsMarkedProfile marks weights original file) → notes_of file ≡ Ok notes
+    → (notes.version ≡ 2) × IsProfile original (plan_with marks made.cells) file notes
 
 -- The file is an original's profile, and the dump is what a run of it has come to, wherever it was stopped, after fewer than
 -- 2^32 steps or in version 2 than 2^64, and without a touch of the added pages in as many steps of the original as there were
@@ -88,9 +89,8 @@ EditsAreProfiles =
 pub record IsOfRun (original file : List ℕ) (notes : Notes) (dump : Dump) (args : List (List ℕ)) (input : List ℕ)
     (m : ℕ) : Type 0 where
   pub bytes : AreBytes original
-  pub marks : List ℕ
-  pub weights : List ℕ
-  pub profile : IsProfile marks weights original file notes
+  pub plan : Plan
+  pub profile : IsProfile original plan file notes
   pub arguments : AreArguments args
   pub given : AreBytes input
   pub untouched : IsUntouched (pages_of notes) (start_of original args input)
@@ -106,7 +106,7 @@ AreExact file notes dump counts =
     → (made : IsOfRun original file notes dump args input m)
     → (e : ℕ) → e < length notes.edges
     → slice_index counts e
-    ≡ executions (image_of original).text (graph_with original made.marks) (image_of original).entry
+    ≡ executions (image_of original).text (original_graph original made.plan) (image_of original).entry
     (start_of original args input) (visits_by notes (start_of file args input) m - 1) e
 
 -- And there are counts, but for want of memory, and where the run stands between places, which it doesn't where it has ended.

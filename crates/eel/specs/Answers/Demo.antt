@@ -94,4 +94,4 @@ pub record WasTold (number routines : ℕ) (old new : Outside) : Type 0 where
   pub err : new.err.taken ≡ old.err.taken
 
 abbrev pub demo_means : ℕ → ℕ → Meaning
-demo_means number routines = prints_mean (Tells number routines) (WasTold number routines) (λ files. ⊥)
+demo_means number routines = prints_mean (Tells number routines) (WasTold number routines) (λ old new. ⊥)

@@ -2,7 +2,7 @@
 -- come to is written as DUMP.
 use Rattle.std.specs.Prelude.{◌≡◌, ℕ, ◌<◌, ◌⊎◌, true, false, List, [], Option, None, Ok}
 use Rattle.std.specs.List.{list_any}
-use Rattle.eel_base.specs.Outside.{IsMissing, appended, stored}
+use Rattle.eel_base.specs.Outside.{IsMissing, Rose, appended, stored}
 use Rattle.elf32_sparc.specs.FileFault.{load_fault}
 use Rattle.elf32_sparc.specs.Mapping.{mappings}
 use Rattle.elf32_sparc.specs.Notes.{Notes, notes_of}
@@ -15,13 +15,13 @@ use Rattle.dump_file.specs.Written.{dump_bytes}
 pub use Rattle.exact_counts.specs.Stops.{dump_of}
 use Rattle.edit_core.specs.Faithful.{holds_cells}
 use Rattle.eel.specs.Outcome.{Outcome, Stopped, BadNotes, OutOfMemory, DeviceFault, Done, line_of}
-use Rattle.eel.specs.Answers.Shared.{Outside, Store, Meaning, WasRead, IsUnread, IsPut, IsUnused, IsQuiet, IsSilent, written_limit}
+use Rattle.eel.specs.Answers.Shared.{HaveFailed, Outside, Store, Meaning, WasRead, IsUnread, IsPut, IsUnused, IsQuiet, IsSilent, written_limit}
 use Rattle.eel.specs.Answers.Noted.{IsUnnoted}
 use Rattle.eel.specs.Answers.Run.{HasRun, IsNotRun, IsUnfed, StopsAt, WasBroken, WasFed}
 
 -- ---- the notes
 
--- the cells of the notes, if there are any, lie in one loaded segment with leave to be read (PF_R)
+-- the cells of the notes, if there are any, lie in one loaded segment with permission to be read (PF_R)
 abbrev pub AreMapped : List ℕ → Notes → Type 0
 AreMapped bytes notes = 0 < notes.cells → list_any (holds_cells notes.base notes.cells) (mappings bytes) ≡ true
 
@@ -138,5 +138,7 @@ dump_means file limit dump args = record {
   follows = λ old new outcome. Dumps file limit dump args old new outcome;
   does = λ old new. WasDumped file limit dump args old new;
   wants = λ old new. IsSilent old new ⊎ HasPutAll file limit args old new;
-  lacks = λ files. IsMissing files.held file;
+  fails = λ old new.
+      HaveFailed (λ files. IsMissing files.held file) old.files new.files
+      ⊎ Rose old.input.faults new.input.faults ⊎ Rose old.out.faults new.out.faults;
 }

@@ -2,7 +2,7 @@
 use Rattle.std.specs.Prelude.{◌≡◌, ℕ, List}
 use Rattle.eel_base.specs.Outside.{IsMissing, appended}
 use Rattle.eel.specs.Outcome.{Outcome}
-use Rattle.eel.specs.Answers.Shared.{Outside, Meaning, WasRead, IsUnread, IsPrinted, IsQuiet, edit_limit, prints_mean}
+use Rattle.eel.specs.Answers.Shared.{Outside, Meaning, WasRead, IsUnread, IsPrinted, IsQuiet, HaveFailed, edit_limit, prints_mean}
 use Rattle.eel.specs.Answers.Files.{IsNotSound, IsSound}
 
 -- `lines_of` has the lines of the bytes of a file without a fault.
@@ -30,4 +30,4 @@ module _ (lines_of : List ℕ → List ℕ) where
     pub err : new.err.taken ≡ old.err.taken
 
   abbrev pub print_means : List ℕ → Meaning
-  print_means file = prints_mean (Prints file) (WerePrinted file) (λ files. IsMissing files.held file)
+  print_means file = prints_mean (Prints file) (WerePrinted file) (HaveFailed (λ files. IsMissing files.held file))

@@ -51,18 +51,15 @@ guessed bytes = guessed_with bytes []
 
 -- ---- what the tool asks for
 
--- It counts each edge that has a number, in as many cells as a counter has in a version of the notes, one counter behind the
--- other. Files are written with version 2.
-abbrev pub plan_of : ℕ → List ℕ → List (Option ℕ) → Plan
-plan_of version marks cells = record {
+-- It counts each edge that has a number, in as many cells as a counter has in version 2 of the notes, one counter behind
+-- the other.
+abbrev pub plan_with : List ℕ → List (Option ℕ) → Plan
+plan_with marks cells = record {
   kind = tools.Profile;
   marks = marks;
-  cells = counter_width version * cell_count cells;
-  snips = map (counter_in version) cells;
+  cells = counter_width 2 * cell_count cells;
+  snips = map (counter_in 2) cells;
 }
-
-abbrev pub plan_with : List ℕ → List (Option ℕ) → Plan
-plan_with marks cells = plan_of 2 marks cells
 
 abbrev pub profile_plan : List (Option ℕ) → Plan
 profile_plan cells = plan_with [] cells

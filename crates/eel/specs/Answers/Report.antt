@@ -7,7 +7,7 @@ use Rattle.dump_file.specs.Dump.{Dump}
 use Rattle.eel.specs.declared.report.Report.{Report}
 use Rattle.eel.specs.declared.report.Report.TheVariants as reports
 use Rattle.eel.specs.Outcome.{Outcome}
-use Rattle.eel.specs.Answers.Shared.{Outside, Meaning, WasRead, IsUnread, IsPrinted, IsQuiet, prints_mean, written_limit}
+use Rattle.eel.specs.Answers.Shared.{Outside, Meaning, WasRead, IsUnread, IsPrinted, IsQuiet, HaveFailed, prints_mean, written_limit}
 use Rattle.eel.specs.Answers.Noted.{AreRead, AreUnread, dump_limit}
 use Rattle.eel.specs.Answers.Counts.{AreExact, AreSeldomMissed, IsUncounted, TellCounts}
 use Rattle.eel.specs.Answers.Visits.{AreExactVisits, AreSeldomUnvisited, IsUnvisited, TellVisits}
@@ -97,4 +97,4 @@ pub record WasReported (report : Report) (written dump : List ℕ) (old new : Ou
 abbrev pub report_means : Report → List ℕ → List ℕ → Meaning
 report_means report written dump =
     prints_mean (Reports report written dump) (WasReported report written dump)
-    (λ files. IsMissing files.held written ⊎ IsMissing files.held dump)
+    (HaveFailed (λ files. IsMissing files.held written ⊎ IsMissing files.held dump))

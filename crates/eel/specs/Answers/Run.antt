@@ -11,7 +11,7 @@ use Rattle.v8_runner.specs.Runs.{AreMade}
 use Rattle.v8_runner.specs.declared.Stop.{Stop}
 use Rattle.v8_runner.specs.declared.Stop.TheVariants as stops
 use Rattle.eel.specs.Outcome.{Outcome, Stopped, BadFile, TooLong, OutOfMemory, DeviceFault, Stream, line_of}
-use Rattle.eel.specs.Answers.Shared.{Feed, Outside, Meaning, WasRead, IsUnread, IsUnused, IsQuiet, IsSilent, written_limit}
+use Rattle.eel.specs.Answers.Shared.{Feed, HaveFailed, Outside, Meaning, WasRead, IsUnread, IsUnused, IsQuiet, IsSilent, written_limit}
 use Rattle.eel.specs.Answers.Files.{IsNotLoaded}
 
 -- ---- the input
@@ -110,7 +110,9 @@ run_means file limit args = record {
   follows = λ old new outcome. Runs file limit args old new outcome × (new.files.held ≡ old.files.held);
   does = λ old new. WasRun file limit args old new × (new.files.held ≡ old.files.held);
   wants = IsSilent;
-  lacks = λ files. IsMissing files.held file;
+  fails = λ old new.
+      HaveFailed (λ files. IsMissing files.held file) old.files new.files
+      ⊎ Rose old.input.faults new.input.faults ⊎ Rose old.out.faults new.out.faults;
 }
 
 -- what the end of a run comes to

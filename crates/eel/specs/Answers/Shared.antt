@@ -91,8 +91,12 @@ pub record Meaning : Type 1 where
   pub does : Outside → Outside → Type 0
   -- what the output has taken where memory was wanting
   pub wants : Outside → Outside → Type 0
-  -- that a name which it reads is known not to be held
-  pub lacks : Store → Type 0
+  -- which of the objects that it uses has failed, but for the outcome's line, or that a name which it reads is missing
+  pub fails : Outside → Outside → Type 0
+
+-- the files have failed, or a name that is read is known not to be held
+abbrev pub HaveFailed : (Store → Type 0) → Store → Store → Type 0
+HaveFailed lacks old new = Rose old.faults new.faults ⊎ lacks old
 
 -- that of a command which reads and writes files, and does nothing else
 abbrev pub files_mean : (Store → Store → Outcome → Type 0) → (Store → Store → Type 0) → (Store → Type 0) → Meaning
@@ -100,15 +104,15 @@ files_mean follows does lacks = record {
   follows = λ old new outcome. follows old.files new.files outcome × IsUnused old new × IsQuiet old new;
   does = λ old new. does old.files new.files × IsUnused old new × IsQuiet old new;
   wants = IsSilent;
-  lacks = lacks;
+  fails = λ old new. HaveFailed lacks old.files new.files;
 }
 
 -- that of a command which reads files and prints, and does nothing else
-abbrev pub prints_mean : (Outside → Outside → Outcome → Type 0) → (Outside → Outside → Type 0) → (Store → Type 0)
-    → Meaning
-prints_mean follows does lacks = record {
+abbrev pub prints_mean : (Outside → Outside → Outcome → Type 0) → (Outside → Outside → Type 0)
+    → (Store → Store → Type 0) → Meaning
+prints_mean follows does unread = record {
   follows = λ old new outcome. follows old new outcome × (new.files.held ≡ old.files.held) × IsUnused old new;
   does = λ old new. does old new × (new.files.held ≡ old.files.held) × IsUnused old new;
   wants = IsSilent;
-  lacks = lacks;
+  fails = λ old new. unread old.files new.files ⊎ Rose old.out.faults new.out.faults;
 }

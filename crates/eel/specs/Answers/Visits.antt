@@ -71,7 +71,7 @@ pub record AreOwnVisits (original file : List ℕ) (notes : Notes) (args : List 
 abbrev pub AreExactVisits : List ℕ → Notes → Dump → List ℕ → Type 0
 AreExactVisits file notes dump visits =
     (original : List ℕ) (args : List (List ℕ)) (input : List ℕ) (m : ℕ)
-    → (made : IsOfRun original file notes dump args input m) → made.marks ≡ every_word original
+    → (made : IsOfRun original file notes dump args input m) → made.plan.marks ≡ every_word original
     → AreOwnVisits original file notes args input m visits
 
 -- And there are visits, but for want of memory, and where the run stands between places, which it doesn't where it has
@@ -79,5 +79,5 @@ AreExactVisits file notes dump visits =
 abbrev pub AreSeldomUnvisited : List ℕ → List ℕ → Notes → Dump → Outcome → Type 0
 AreSeldomUnvisited file name notes dump outcome =
     (original : List ℕ) (args : List (List ℕ)) (input : List ℕ) (m : ℕ)
-    → (made : IsOfRun original file notes dump args input m) → made.marks ≡ every_word original
+    → (made : IsOfRun original file notes dump args input m) → made.plan.marks ≡ every_word original
     → MayMiss name dump outcome

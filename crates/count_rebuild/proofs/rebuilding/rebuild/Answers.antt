@@ -11,7 +11,7 @@ use Rattle.count_rebuild.specs.Noted.{link_of}
 use Rattle.count_rebuild.specs.Parts.{AreWhole, IsBad}
 use Rattle.count_rebuild.proofs.Profile.{joins, length_links, node_marked}
 use Rattle.count_rebuild.proofs.TheFlow.{flow_to, impossible, stands_inside}
-use Rattle.count_rebuild.proofs.Values.{whole_flow}
+use Rattle.count_rebuild.proofs.Values.{small_counts, whole_flow}
 use Rattle.count_rebuild.proofs.rebuilding.rebuild.Goals as goal
 
 pub returns-in_err-keep_tool-clause-refused : goal.returns-in_err-keep_tool-clause-refused
@@ -54,6 +54,7 @@ returns-clause-counts c =
       len = ap length h.are ∙ length-map c.deref-7.result.now nat_abs ∙ many;
       flow = subst (IsFlowTo (notes_seen n) (dump_seen c.args.d.now) c.in_ok-node.node)
           (ap int_at (sym c.deref-7.ensures.value) ∙ whole_flow c.deref-7.result.now counts.items h.are h.whole) is;
+      small = small_counts c.deref-7.result.now counts.items h.are h.whole h.small;
     })
     c.whole_numbers.ensures.counts
 

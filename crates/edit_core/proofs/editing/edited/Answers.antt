@@ -1,8 +1,12 @@
-use Rattle.std.proofs.Common.{refl, ap, ◌∙◌}
+use Rattle.std.proofs.Common.{ℕ, ◌+◌, ◌*◌, ◌^◌, ◌≤◌, List, length, refl, ap, ◌∙◌, arith}
+use Rattle.eel_base.specs.CodeText.{Words}
+use Rattle.cfg_normal.specs.Graph.{Graph}
+use Rattle.snippets.specs.declared.snippet.Op.{Op}
+use Rattle.layout.specs.Laid.{Placement}
 use Rattle.elf32_sparc.specs.Notes.{Notes}
 use Rattle.image_code.proofs.Fit.{pieces_fit}
-use Rattle.edit_core.specs.Written.{placement_in, plan_of}
-use Rattle.edit_core.proofs.Steps.{code_is, original_fit, segments_are, view_entry, view_has_room, view_text, view_words}
+use Rattle.edit_core.specs.Written.{IsBuilt, LeadsTo, placement_in, plan_of, table_after}
+use Rattle.edit_core.proofs.Steps.{code_is, original_fit, segment_is, segments_are, view_entry, view_has_room, view_text, view_words}
 use Rattle.edit_core.proofs.Edits.{notes_meet_rules, can_be_written}
 use Rattle.edit_core.proofs.editing.edited.Goals as goal
 
@@ -10,6 +14,23 @@ pub new_code-requires : goal.new_code-requires
 new_code-requires c =
     view_has_room c.args.bytes.now c.requires.asked.0 c.args.asked.now c.args.image.now c.args.graph.now
     c.requires.asked.1 c.requires.asked.2 c.requires.asked.3
+
+code_low : (text : Words) (graph : Graph) (base cells : ℕ) (snips : List (List Op)) (p : Placement) (tables : List ℕ)
+    → IsBuilt text graph base cells snips p
+    → LeadsTo text graph snips p (record { base = table_after base cells; bytes = tables })
+    → table_after base cells + length tables + 4 * length p.code ≤ 2 ^ 31
+code_low text graph base cells snips p tables built leads =
+    omega (arith, built.are.laid.low, segment_is text graph snips p _ leads)
+
+pub added-requires-clause-few : goal.added-requires-clause-few
+added-requires-clause-few c = c.requires.asked.3.few
+
+pub added-requires-clause-low : goal.added-requires-clause-low
+added-requires-clause-low c =
+    let image = c.args.image.now in
+    code_low image.text c.args.graph.now image.base c.args.asked.now.cells c.args.asked.now.snips.items
+    (placement_in c.in_ok-new.new.placed) c.in_ok-new.new.tables.items c.in_ok-new.ensures.built
+    c.in_ok-new.ensures.leads
 
 pub notes-requires-clause-words : goal.notes-requires-clause-words
 notes-requires-clause-words c =

@@ -20,55 +20,55 @@ pub returns-in-DeviceFault-clause-part : goal.returns-in-DeviceFault-clause-part
 returns-in-DeviceFault-clause-part g c = rw c.in-DeviceFault.is c.put_pieces-in-DeviceFault.ensures.part
 
 pub returns-in-BadFile-clause-all : goal.returns-in-BadFile-clause-all
-returns-in-BadFile-clause-all g c = rw c.in-BadFile.is (simp append_assoc (rw (c.as_bytes.ensures.value, c.as_bytes-code.ensures.value, c.format.ensures.text) at c.put_pieces-in-BadFile.ensures.all))
+returns-in-BadFile-clause-all g c = rw c.in-BadFile.is (rw c.from.ensures at c.put_number.ensures.all)
 
 pub returns-in-BadFile-clause-part : goal.returns-in-BadFile-clause-part
-returns-in-BadFile-clause-part g c = rw c.in-BadFile.is (simp append_assoc (rw (c.as_bytes.ensures.value, c.as_bytes-code.ensures.value, c.format.ensures.text) at c.put_pieces-in-BadFile.ensures.part))
+returns-in-BadFile-clause-part g c = rw c.in-BadFile.is (rw c.from.ensures at c.put_number.ensures.part)
 
 pub returns-in-TooLong-clause-all : goal.returns-in-TooLong-clause-all
-returns-in-TooLong-clause-all g c = rw c.in-TooLong.is (simp append_assoc (rw (c.as_bytes-in-TooLong.ensures.value, c.as_bytes-limit.ensures.value, c.format-in-TooLong.ensures.text) at c.put_pieces-in-TooLong.ensures.all))
+returns-in-TooLong-clause-all g c = rw c.in-TooLong.is (simp append_assoc (rw (c.as_bytes.ensures.value, c.as_bytes-limit.ensures.value, c.format.ensures.text) at c.put_pieces-in-TooLong.ensures.all))
 
 pub returns-in-TooLong-clause-part : goal.returns-in-TooLong-clause-part
-returns-in-TooLong-clause-part g c = rw c.in-TooLong.is (simp append_assoc (rw (c.as_bytes-in-TooLong.ensures.value, c.as_bytes-limit.ensures.value, c.format-in-TooLong.ensures.text) at c.put_pieces-in-TooLong.ensures.part))
+returns-in-TooLong-clause-part g c = rw c.in-TooLong.is (simp append_assoc (rw (c.as_bytes.ensures.value, c.as_bytes-limit.ensures.value, c.format.ensures.text) at c.put_pieces-in-TooLong.ensures.part))
 
 pub returns-in-NoRoom-clause-all : goal.returns-in-NoRoom-clause-all
-returns-in-NoRoom-clause-all g c = rw c.in-NoRoom.is (simp append_assoc (rw (c.as_bytes-in-NoRoom.ensures.value, c.as_bytes-needed.ensures.value, c.as_bytes-had.ensures.value, c.format-in-NoRoom.ensures.text, c.format-in-NoRoom-2.ensures.text) at c.put_pieces-in-NoRoom.ensures.all))
+returns-in-NoRoom-clause-all g c = rw c.in-NoRoom.is c.put_no_room.ensures.all
 
 pub returns-in-NoRoom-clause-part : goal.returns-in-NoRoom-clause-part
-returns-in-NoRoom-clause-part g c = rw c.in-NoRoom.is (simp append_assoc (rw (c.as_bytes-in-NoRoom.ensures.value, c.as_bytes-needed.ensures.value, c.as_bytes-had.ensures.value, c.format-in-NoRoom.ensures.text, c.format-in-NoRoom-2.ensures.text) at c.put_pieces-in-NoRoom.ensures.part))
+returns-in-NoRoom-clause-part g c = rw c.in-NoRoom.is c.put_no_room.ensures.part
 
 pub returns-in-NoNotes-clause-all : goal.returns-in-NoNotes-clause-all
-returns-in-NoNotes-clause-all g c = rw c.in-NoNotes.is (simp append_assoc (rw (c.as_bytes-in-NoNotes.ensures.value) at c.put_pieces-in-NoNotes.ensures.all))
+returns-in-NoNotes-clause-all g c = rw c.in-NoNotes.is c.put_about.ensures.all
 
 pub returns-in-NoNotes-clause-part : goal.returns-in-NoNotes-clause-part
-returns-in-NoNotes-clause-part g c = rw c.in-NoNotes.is (simp append_assoc (rw (c.as_bytes-in-NoNotes.ensures.value) at c.put_pieces-in-NoNotes.ensures.part))
+returns-in-NoNotes-clause-part g c = rw c.in-NoNotes.is c.put_about.ensures.part
 
 pub returns-in-BadNotes-clause-all : goal.returns-in-BadNotes-clause-all
-returns-in-BadNotes-clause-all g c = rw c.in-BadNotes.is (simp append_assoc (rw (c.as_bytes-in-BadNotes.ensures.value, c.as_bytes-at.ensures.value, c.format-in-BadNotes.ensures.text) at c.put_pieces-in-BadNotes.ensures.all))
+returns-in-BadNotes-clause-all g c = rw c.in-BadNotes.is c.put_number-in-BadNotes.ensures.all
 
 pub returns-in-BadNotes-clause-part : goal.returns-in-BadNotes-clause-part
-returns-in-BadNotes-clause-part g c = rw c.in-BadNotes.is (simp append_assoc (rw (c.as_bytes-in-BadNotes.ensures.value, c.as_bytes-at.ensures.value, c.format-in-BadNotes.ensures.text) at c.put_pieces-in-BadNotes.ensures.part))
+returns-in-BadNotes-clause-part g c = rw c.in-BadNotes.is c.put_number-in-BadNotes.ensures.part
 
 pub returns-in-BadDump-clause-all : goal.returns-in-BadDump-clause-all
-returns-in-BadDump-clause-all g c = rw c.in-BadDump.is (simp append_assoc (rw (c.as_bytes-in-BadDump.ensures.value, c.as_bytes-at-in-BadDump.ensures.value, c.format-in-BadDump.ensures.text) at c.put_pieces-in-BadDump.ensures.all))
+returns-in-BadDump-clause-all g c = rw c.in-BadDump.is c.put_number-in-BadDump.ensures.all
 
 pub returns-in-BadDump-clause-part : goal.returns-in-BadDump-clause-part
-returns-in-BadDump-clause-part g c = rw c.in-BadDump.is (simp append_assoc (rw (c.as_bytes-in-BadDump.ensures.value, c.as_bytes-at-in-BadDump.ensures.value, c.format-in-BadDump.ensures.text) at c.put_pieces-in-BadDump.ensures.part))
+returns-in-BadDump-clause-part g c = rw c.in-BadDump.is c.put_number-in-BadDump.ensures.part
 
 pub returns-in-NoProfile-clause-all : goal.returns-in-NoProfile-clause-all
-returns-in-NoProfile-clause-all g c = rw c.in-NoProfile.is (simp append_assoc (rw (c.as_bytes-in-NoProfile.ensures.value) at c.put_pieces-in-NoProfile.ensures.all))
+returns-in-NoProfile-clause-all g c = rw c.in-NoProfile.is c.put_about-in-NoProfile.ensures.all
 
 pub returns-in-NoProfile-clause-part : goal.returns-in-NoProfile-clause-part
-returns-in-NoProfile-clause-part g c = rw c.in-NoProfile.is (simp append_assoc (rw (c.as_bytes-in-NoProfile.ensures.value) at c.put_pieces-in-NoProfile.ensures.part))
+returns-in-NoProfile-clause-part g c = rw c.in-NoProfile.is c.put_about-in-NoProfile.ensures.part
 
 pub returns-in-NotEveryWord-clause-all : goal.returns-in-NotEveryWord-clause-all
-returns-in-NotEveryWord-clause-all g c = rw c.in-NotEveryWord.is (simp append_assoc (rw (c.as_bytes-in-NotEveryWord.ensures.value) at c.put_pieces-in-NotEveryWord.ensures.all))
+returns-in-NotEveryWord-clause-all g c = rw c.in-NotEveryWord.is c.put_about-in-NotEveryWord.ensures.all
 
 pub returns-in-NotEveryWord-clause-part : goal.returns-in-NotEveryWord-clause-part
-returns-in-NotEveryWord-clause-part g c = rw c.in-NotEveryWord.is (simp append_assoc (rw (c.as_bytes-in-NotEveryWord.ensures.value) at c.put_pieces-in-NotEveryWord.ensures.part))
+returns-in-NotEveryWord-clause-part g c = rw c.in-NotEveryWord.is c.put_about-in-NotEveryWord.ensures.part
 
 pub returns-in-NoTrace-clause-all : goal.returns-in-NoTrace-clause-all
-returns-in-NoTrace-clause-all g c = rw c.in-NoTrace.is (simp append_assoc (rw (c.as_bytes-in-NoTrace.ensures.value) at c.put_pieces-in-NoTrace.ensures.all))
+returns-in-NoTrace-clause-all g c = rw c.in-NoTrace.is c.put_about-in-NoTrace.ensures.all
 
 pub returns-in-NoTrace-clause-part : goal.returns-in-NoTrace-clause-part
-returns-in-NoTrace-clause-part g c = rw c.in-NoTrace.is (simp append_assoc (rw (c.as_bytes-in-NoTrace.ensures.value) at c.put_pieces-in-NoTrace.ensures.part))
+returns-in-NoTrace-clause-part g c = rw c.in-NoTrace.is c.put_about-in-NoTrace.ensures.part

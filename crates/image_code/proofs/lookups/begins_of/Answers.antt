@@ -1,7 +1,9 @@
 use Rattle.std.proofs.Common.{◌+◌, ◌∙◌, arith}
+use Rattle.image_code.specs.Lookups.{IsCase}
 use Rattle.image_code.specs.Numbered.{open_begin}
 use Rattle.image_code.proofs.NumberTables.{open_more}
 use Rattle.image_code.proofs.Pushed.{pushed_alone}
+use Rattle.image_code.proofs.Sources.{case_of_item}
 use Rattle.image_code.proofs.lookups.begins_of.Goals as goal
 
 pub loop-found-preserved : goal.loop-found-preserved
@@ -16,3 +18,14 @@ loop-found-preserved c =
       here = here;
       few = omega (arith, c.in_ok-small-2.ensures.few, c.in_ok-small-2.ensures.same);
     }
+
+case_here : (c : goal.After-found-item) → IsCase c.args.text.now c.args.graph.now.blocks c.found-item.result
+case_here c =
+    case_of_item c.args.text.now c.args.graph.now c.requires.source c.opens-found-items.result.now
+    c.opens-found-items.ensures c.loop-found.found-index c.found-item.result c.loop-found-test.true c.found-item.is
+
+pub pieces_of-requires-clause-compare : goal.pieces_of-requires-clause-compare
+pieces_of-requires-clause-compare c = (case_here c).from
+
+pub pieces_of-requires-clause-block : goal.pieces_of-requires-clause-block
+pieces_of-requires-clause-block c = (case_here c).block

@@ -1,7 +1,13 @@
-use Rattle.std.proofs.Common.{arith}
+use Rattle.std.proofs.Common.{◌≡◌, ℕ, ◌+◌, List, [], ◌∷◌, ◌++◌, arith}
 use Rattle.std.proofs.lemmas.Grind.{common_steps}
+use Rattle.cfg_normal.specs.Graph.{Graph}
+use Rattle.liveness.specs.Search.{AreCopies, copies_from}
 use Rattle.liveness.proofs.Spots.{copies_high, start_within}
 use Rattle.liveness.proofs.places.place_copies.Goals as goal
+
+copies_more : (graph : Graph) (block next : ℕ) (copies : List ℕ) → AreCopies graph block copies
+    → next ≡ copies_from graph block → AreCopies graph (block + 1) (copies ++ next ∷ [])
+copies_more graph block next copies are is = grind (arith, common_steps)
 
 pub overflow_add-next : goal.overflow_add-next
 overflow_add-next c =
@@ -17,4 +23,9 @@ overflow_add-next c =
     )
 
 pub loop-block-preserved : goal.loop-block-preserved
-loop-block-preserved c = record { copies = grind (arith, common_steps); next = grind (arith, common_steps) }
+loop-block-preserved c = record {
+  copies = rw c.in_ok-push.ensures.items
+      (copies_more c.args.graph.now c.loop-block.block c.loop-block.next c.loop-block.copies.items
+      c.loop-block.invariant.copies c.loop-block.invariant.next);
+  next = grind (arith, common_steps);
+}

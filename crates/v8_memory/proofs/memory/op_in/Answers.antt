@@ -1,4 +1,4 @@
-use Rattle.std.proofs.Common.{rules, ◌+◌, ◌*◌, ◌%◌, ◌^◌, sym, subst, get_or}
+use Rattle.std.proofs.Common.{◌+◌, ◌*◌, ◌%◌, ◌^◌, sym, subst}
 use Rattle.v8_memory.specs.Kept.{IsKept}
 use Rattle.v8_memory.proofs.Kept.{kept_at}
 use Rattle.v8_memory.proofs.memory.op_in.Goals as goal

@@ -1,7 +1,7 @@
 -- One turn more.
 use Rattle.std.proofs.Common.{rules, arith, ◌≡◌, ◌+◌, ◌-◌, ◌<◌, ◌∙◌}
 use Rattle.v8_memory.specs.declared.ops.OpCode.TheVariants.{Other}
-use Rattle.v8_step.specs.declared.ahead.Turn.TheVariants.{On, To, At, Stop}
+use Rattle.v8_step.specs.declared.ahead.Turn.TheVariants.{On, To, At}
 use Rattle.v8_step.proofs.InOrder.{not_last, says, turn_keeps, turn_made}
 use Rattle.v8_step.proofs.ahead.go_far.Goals as goal
 
@@ -25,15 +25,14 @@ turns-preserved-in-On c =
     record {
       live = c.turn.ensures.going ∙ i.live;
       run = turn_made c.args.m.now c.turns.m c.turn.new.self c.args.first c.turns.cur c.turns.next c.turns.next
-          (c.turns.next + 1) (c.args.limit + c.turns.next - c.turns.left)
-          (c.args.limit + (c.turns.next + 1) - c.turns.left) c.op_in-op.result.now i.live i.run
+          (c.turns.next + 1) (c.args.limit + c.turns.next - c.in-Ok.len - 1 - c.turns.spare)
+          (c.args.limit + (c.turns.next + 1) - c.in-Ok.len - 1 - c.turns.spare) c.op_in-op.result.now i.live i.run
           (c.op_in-op.ensures.kept _ i.kept) c.in-On.ensures.state some (omega (arith, i.most));
       kept = turn_keeps c.turns.m c.turn.new.self c.args.first c.turns.cur c.turns.next c.turns.next (c.turns.next + 1)
           c.op_in-op.result.now c.args.ops.now i.live (c.op_in-op.ensures.kept _ i.kept) c.in-On.ensures.state some i.kept;
       cur = i.ahead more;
       next = omega (arith, i.ahead more);
       ahead = λ h. h;
-      enough = i.enough;
       most = omega (arith, i.most);
     }
 
@@ -51,8 +50,8 @@ turns-preserved-in-To c =
     record {
       live = c.turn.ensures.going ∙ i.live;
       run = turn_made c.args.m.now c.turns.m c.turn.new.self c.args.first c.turns.cur c.turns.next c.turns.next c.in-To.place
-          (c.args.limit + c.turns.next - c.turns.left)
-          (c.args.limit + c.in-To.place - (c.turns.left - c.from-in-To.result - 1 + c.from-in-To-2.result))
+          (c.args.limit + c.turns.next - c.in-Ok.len - 1 - c.turns.spare)
+          (c.args.limit + c.in-To.place - c.in-Ok.len - 1 - (c.turns.spare - c.from-in-To.result - 1 + c.from-in-To-2.result))
           c.op_in-op.result.now i.live i.run (c.op_in-op.ensures.kept _ i.kept) c.in-To.ensures.state some
           (omega (arith, i.most, w.1, f, t));
       kept = turn_keeps c.turns.m c.turn.new.self c.args.first c.turns.cur c.turns.next c.turns.next c.in-To.place
@@ -60,7 +59,6 @@ turns-preserved-in-To c =
       cur = i.ahead more;
       next = omega (arith, w.0);
       ahead = λ h. w.0;
-      enough = omega (arith, w.0, w.1, f, t);
       most = omega (arith, i.most, w.1, f, t);
     }
 
@@ -75,8 +73,8 @@ turns-preserved c =
     record {
       live = c.turn.ensures.going ∙ i.live;
       run = turn_made c.args.m.now c.turns.m c.turn.new.self c.args.first c.turns.cur c.turns.next c.in-At.place
-          (c.in-At.place + 1) (c.args.limit + c.turns.next - c.turns.left)
-          (c.args.limit + (c.in-At.place + 1) - (c.turns.left - c.from-in-At.result + c.from-in-At-2.result))
+          (c.in-At.place + 1) (c.args.limit + c.turns.next - c.in-Ok.len - 1 - c.turns.spare)
+          (c.args.limit + (c.in-At.place + 1) - c.in-Ok.len - 1 - (c.turns.spare - c.from-in-At.result + c.from-in-At-2.result))
           c.op_in-op.result.now i.live i.run (c.op_in-op.ensures.kept _ i.kept) c.in-At.ensures.state some
           (omega (arith, i.most, w.1, f, t));
       kept = turn_keeps c.turns.m c.turn.new.self c.args.first c.turns.cur c.turns.next c.in-At.place (c.in-At.place + 1)
@@ -84,6 +82,5 @@ turns-preserved c =
       cur = w.0;
       next = omega (arith, w.0);
       ahead = λ h. h;
-      enough = omega (arith, w.0, w.1, f, t);
       most = omega (arith, i.most, w.1, f, t);
     }

@@ -1,5 +1,5 @@
 -- The steps so far were all made, and the run goes on at a place with a record.
-use Rattle.std.proofs.Common.{◌≡◌, ◌+◌, ◌-◌, ◌<◌, ◌≤◌, length, None}
+use Rattle.std.proofs.Common.{◌≡◌, ◌+◌, ◌-◌, ◌<◌, ◌≤◌, None}
 use Rattle.v8_memory.specs.Kept.{AreKept}
 use Rattle.v8_memory.specs.Regions.{code_of}
 use Rattle.v8_step.specs.Ahead.{at_places}
@@ -9,14 +9,13 @@ use Rattle.v8_step.proofs.ahead.go_far.Given as goal
 abbrev pub invariant-turns : goal.invariant-turns
 invariant-turns l = record {
   live : l.m.ending ≡ None;
-  run : IsQuietRun l.initial.m (l.limit + l.next - l.left) (at_places l.m l.first l.cur l.next);
+  run : IsQuietRun l.initial.m (l.limit + l.next - l.len - 1 - l.spare) (at_places l.m l.first l.cur l.next);
   kept : AreKept (code_of l.m.memory) l.first l.ops;
   cur : l.cur < l.len;
   next : l.next ≤ l.len;
   ahead : l.cur + 1 < l.len → l.next < l.len;
-  enough : l.len + 1 ≤ l.left;
-  most : l.left ≤ l.limit + l.next;
+  most : l.spare + l.len + 1 ≤ l.limit + l.next;
 }
 
 abbrev pub decreases-turns : goal.decreases-turns
-decreases-turns l = l.left - l.next
+decreases-turns l = l.spare + l.len + 1 - l.next

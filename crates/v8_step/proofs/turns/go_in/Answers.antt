@@ -1,5 +1,5 @@
 -- One turn more.
-use Rattle.std.proofs.Common.{rules, ap, subst, ◌+◌}
+use Rattle.std.proofs.Common.{rules, ap, subst}
 use Rattle.v8_memory.specs.Kept.{IsKept}
 use Rattle.v8_memory.specs.Regions.{code_of}
 use Rattle.v8_step.specs.State.{State}

@@ -1,4 +1,5 @@
-use Rattle.std.proofs.Common.{◌++◌, List, map, ap, ◌∙◌}
+use Rattle.std.proofs.Common.{◌++◌, List, map, Some, ap, sym, ◌∙◌}
+use Rattle.std.proofs.lemmas.Option.{slice_get-get_or}
 use Rattle.eel_base.specs.declared.numbers.PieceNo.{PieceNo}
 use Rattle.cfg_normal.specs.Opens.{Open}
 use Rattle.layout.specs.declared.items.Item.{Item}
@@ -31,3 +32,9 @@ loop-number-preserved c =
           ++ map (case_piece text graph n o) o.targets) c.found-item.is)
           c.loop-number.invariant.numbers;
     }
+
+pub push_cases_of-requires-clause-found : goal.push_cases_of-requires-clause-found
+push_cases_of-requires-clause-found c =
+    rw (← c.opens-found-items.ensures)
+    (slice_get-get_or c.opens-found-items.result.now c.loop-number.number c.found-item.result c.loop-number-test.true
+    ∙ ap (λ (o : Open). Some o) (sym c.found-item.is))

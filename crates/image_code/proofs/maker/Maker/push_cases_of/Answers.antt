@@ -1,4 +1,4 @@
-use Rattle.std.proofs.Common.{◌≡◌, ◌+◌, List, length, ap, ◌∙◌, arith}
+use Rattle.std.proofs.Common.{◌≡◌, List, length, ap, ◌∙◌, arith}
 use Rattle.cfg_normal.specs.Opens.{Open}
 use Rattle.image_code.specs.Numbered.{open_begin}
 use Rattle.image_code.proofs.maker.Maker.push_cases_of.Goals as goal

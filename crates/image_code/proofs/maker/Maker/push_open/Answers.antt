@@ -10,11 +10,39 @@ use Rattle.image_code.proofs.OpenPieces.{open_added}
 use Rattle.image_code.proofs.Sources.{case_at}
 use Rattle.image_code.proofs.maker.Maker.push_open.Goals as goal
 
+pub first-from-requires : goal.first-from-requires
+first-from-requires c =
+    let maker = c.args.self.now in
+    rw c.switch.ensures
+    ((case_at maker.text.now maker.graph.now c.requires.source c.args.number c.args.found.now c.requires.found).from)
+
+pub words-count-requires : goal.words-count-requires
+words-count-requires c =
+    let maker = c.args.self.now in
+    rw c.switch.ensures
+    ((case_at maker.text.now maker.graph.now c.requires.source c.args.number c.args.found.now c.requires.found).from)
+
+pub push_images_at-requires-clause-node : goal.push_images_at-requires-clause-node
+push_images_at-requires-clause-node c =
+    let maker = c.args.self.now in
+    rw c.switch.ensures
+    ((case_at maker.text.now maker.graph.now c.requires.source c.args.number c.args.found.now c.requires.found).from)
+
+pub push_images_at-requires-clause-words : goal.push_images_at-requires-clause-words
+push_images_at-requires-clause-words c =
+    omega (arith, c.first-from.ensures.first, c.words-count.ensures.within, c.requires.source.words)
+
+pub push_block-requires-clause-block : goal.push_block-requires-clause-block
+push_block-requires-clause-block c =
+    let maker = c.args.self.now in
+    rw c.block.ensures
+    ((case_at maker.text.now maker.graph.now c.requires.source c.args.number c.args.found.now c.requires.found).block)
+
 pub push_block-requires-clause-above : goal.push_block-requires-clause-above
 push_block-requires-clause-above c =
     let text = c.args.self.now.text.now in
     let graph = c.args.self.now.graph.now in
-    let blocks = c.args.self.now.graph.now.blocks in
+    let blocks = graph.blocks in
     let o = c.args.found.now in
     let case = case_at text graph c.requires.source c.args.number o c.requires.found in
     let h = load_within text blocks o case in
@@ -27,7 +55,7 @@ pub push_block-requires-clause-below : goal.push_block-requires-clause-below
 push_block-requires-clause-below c =
     let text = c.args.self.now.text.now in
     let graph = c.args.self.now.graph.now in
-    let blocks = c.args.self.now.graph.now.blocks in
+    let blocks = graph.blocks in
     let o = c.args.found.now in
     let case = case_at text graph c.requires.source c.args.number o c.requires.found in
     let h = load_within text blocks o case in

@@ -1,26 +1,18 @@
-use Rattle.std.proofs.Common.{rules, length, take, drop, ◌++◌, refl, ap, subst, ◌∙◌}
-use Rattle.std.specs.List.{find}
-use Rattle.std.specs.Option.{option_map}
+use Rattle.std.proofs.Common.{rules, slice_set, refl, subst}
 use Rattle.v8_memory.specs.Calls.{Fills}
-use Rattle.v8_memory.specs.Regions.{Region, covers, with_bytes, written}
-use Rattle.v8_memory.proofs.Apart.{all_stay, write_heap_done, write_region_done}
-use Rattle.v8_memory.proofs.Kept.{written_through}
+use Rattle.v8_memory.specs.Regions.{with_bytes}
+use Rattle.v8_memory.proofs.Apart.{may_at, stay_at, write_heap_first, write_region_done, written_at}
 use Rattle.v8_memory.proofs.memory.Memory.write.Goals as goal
 
 pub invariant_of-self : goal.invariant_of-self
 invariant_of-self c =
+    let items = c.self.inside.regions.items in
     let stays =
-    all_stay c.args.address c.args.bytes.now c.self.inside.regions.len c.self.inside.regions.items
-    c.deref_mut.result.now c.write_one.new.regions c.self.inside.records.first c.self.inside.records.ops.items
-    (search rules) c.deref_mut.ensures.value c.write_one.ensures.after (search rules) (search rules) in
-    (search rules, search rules, search rules, stays.0, stays.1)
-
-pub invariant_of-self-in-None : goal.invariant_of-self-in-None
-invariant_of-self-in-None c =
-    let stays =
-    all_stay c.args.address c.args.bytes.now c.self.inside.regions.len c.self.inside.regions.items
-    c.deref_mut.result.now c.write_one.new.regions c.self.inside.records.first c.self.inside.records.ops.items
-    (search rules) c.deref_mut.ensures.value c.write_one.ensures.after (search rules) (search rules) in
+    stay_at c.args.address c.args.bytes.now items (slice_set items c.in-Some.index c.write.new.self)
+    c.self.inside.records.first c.self.inside.records.ops.items
+    (written_at c.args.address c.args.bytes.now items c.in-Some.index c.index_mut.result.now c.write.new.self
+    (search rules) (search rules) (search rules) (search rules) (search rules) c.write.ensures.after)
+    (search rules) (search rules) in
     (search rules, search rules, search rules, stays.0, stays.1)
 
 pub returns-in-Some : goal.returns-in-Some
@@ -28,35 +20,28 @@ returns-in-Some c =
     let address = c.args.address in
     let bytes = c.args.bytes.now in
     let old = c.self.inside.regions.items in
-    let new = take c.self.inside.regions.len (c.write_one.new.regions ++ drop (length c.write_one.new.regions) old) in
+    let new = slice_set old c.in-Some.index c.write.new.self in
     subst
-    (λ m. Fills (with_bytes m address bytes) m (record { heap = c.self.inside.heap; regions = new }) c.in-Some.done)
+    (λ m. Fills (with_bytes m address bytes) m (record { heap = c.self.inside.heap; regions = new }) c.write.result)
     c.self.view_is
     (write_region_done (record { heap = c.self.inside.heap; regions = old })
-    (record { heap = c.self.inside.heap; regions = new }) address bytes c.in-Some.done (search rules) (search rules)
+    (record { heap = c.self.inside.heap; regions = new }) address bytes c.write.result (search rules) (search rules)
     (search rules) (search rules) refl
-    (written_through (written address bytes) c.self.inside.regions.len old c.deref_mut.result.now
-    c.write_one.new.regions (search rules) c.deref_mut.ensures.value c.write_one.ensures.after)
-    (c.in-Some.ensures.may
-    ∙ ap (λ rs. option_map (λ (r : Region). r.writable) (find (covers address (length bytes)) rs))
-    c.deref_mut.ensures.value))
+    (written_at address bytes old c.in-Some.index c.index_mut.result.now c.write.new.self (search rules) (search rules)
+    (search rules) (search rules) (search rules) c.write.ensures.after)
+    (may_at address bytes old c.in-Some.index c.index_mut.result.now c.write.result (search rules) (search rules)
+    (search rules) (search rules) (search rules) c.write.ensures.may))
 
-pub returns-in-None : goal.returns-in-None
-returns-in-None c =
+pub returns-then-covers : goal.returns-then-covers
+returns-then-covers c =
     let address = c.args.address in
     let bytes = c.args.bytes.now in
-    let old = c.self.inside.regions.items in
-    let new = take c.self.inside.regions.len (c.write_one.new.regions ++ drop (length c.write_one.new.regions) old) in
+    let items = c.self.inside.regions.items in
     subst
-    (λ m. Fills (with_bytes m address bytes) m (record { heap = c.write_heap.new.heap; regions = new })
-    c.write_heap.result)
+    (λ m. Fills (with_bytes m address bytes) m (record { heap = c.write-then-covers.new.self; regions = items })
+    c.write-then-covers.result)
     c.self.view_is
-    (write_heap_done (record { heap = c.self.inside.heap; regions = old })
-    (record { heap = c.write_heap.new.heap; regions = new }) address bytes c.write_heap.result
-    (c.in-None.ensures.may
-    ∙ ap (λ rs. option_map (λ (r : Region). r.writable) (find (covers address (length bytes)) rs))
-    c.deref_mut.ensures.value)
-    c.write_heap.ensures.after
-    (written_through (written address bytes) c.self.inside.regions.len old c.deref_mut.result.now
-    c.write_one.new.regions (search rules) c.deref_mut.ensures.value c.write_one.ensures.after)
-    c.write_heap.ensures.may)
+    (write_heap_first (record { heap = c.self.inside.heap; regions = items })
+    (record { heap = c.write-then-covers.new.self; regions = items }) address bytes c.write-then-covers.result
+    (search rules) (search rules) (search rules) (search rules) (search rules) c.write-then-covers.ensures.after refl
+    c.write-then-covers.ensures.may)
