@@ -8,6 +8,7 @@ import judge
 
 TOP = os.path.dirname(os.path.dirname(os.path.abspath(__file__)))
 EEL = os.path.join(TOP, 'eel')
+BUILT = os.path.join(TOP, 'crates', 'eel_main', 'out', 'eel_main')
 
 
 def refuse(line):
@@ -51,9 +52,9 @@ def input_of(name):
 
 def built(program=EEL):
     """The program that is to be run. `./eel` must be built: its build takes half an hour, which isn't seen here."""
-    made = os.path.join(TOP, 'crates', 'eel_main', 'out', 'eel_main') if program == EEL else program
+    made = BUILT if program == EEL else program
     if not (os.path.isfile(made) and os.access(made, os.X_OK)):
-        refuse('./eel is not built yet: call build.sh first, which takes half an hour, once' if program == EEL
+        refuse('./eel is not built yet: call build.sh first, which takes half an hour, once' if made == BUILT
                else f'{program}: no program')
     return program
 

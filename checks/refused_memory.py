@@ -1,8 +1,6 @@
 #!/usr/bin/env python3
-"""Refuses memory to ./eel, one growth at a time, in a call of each command: what comes of it must be status 70, its line and
-no file changed, or the whole answer.
-
-    checks/refused_memory.py [PROGRAM [NAME]]
+"""Refuses memory to the program that ./eel runs, one growth at a time, in a call of each command: what comes of it must
+be status 70, its line and no file changed, or the whole answer.
 
 PROGRAM is the built program, and NAME that of the small program whose file is edited: `carry_loop` unless said otherwise,
 and called so in any case. A library that stands before the C library's refuses the Nth request for memory and counts them;
@@ -14,9 +12,8 @@ import subprocess
 import sys
 import tempfile
 
+from called import BUILT, built, needs, parser_of, refuse
 from programs import SMALL
-
-EEL = os.path.join(os.path.dirname(os.path.abspath(__file__)), '..', 'eel')
 
 SHIM = r'''
 #define _GNU_SOURCE
@@ -123,15 +120,15 @@ def sweep(program, library, words, written):
     return faults
 
 
-def built():
-    """The built program: ./eel builds it where it isn't there, and runs it by a shell."""
-    subprocess.run([EEL, 'demo', '1', '1'], check=True, stdout=subprocess.DEVNULL)
-    return os.path.join(os.path.dirname(EEL), 'crates', 'eel_main', 'out', 'eel_main')
-
-
 def main():
-    program = os.path.abspath(sys.argv[1]) if len(sys.argv) > 1 else built()
-    name = sys.argv[2] if len(sys.argv) > 2 else 'carry_loop'
+    parser = parser_of(__doc__)
+    parser.add_argument('program', metavar='PROGRAM', nargs='?', default=BUILT, help='the built program')
+    parser.add_argument('name', metavar='NAME', nargs='?', default='carry_loop', help='the small program that is edited')
+    words = parser.parse_args()
+    program, name = os.path.abspath(built(words.program)), words.name
+    if name not in [each.name for each in SMALL]:
+        refuse(f'{name}: no small program')
+    needs('cc')
     os.chdir(tempfile.mkdtemp())
     library = shim(os.getcwd())
     with open('carry_loop', 'wb') as file:
