@@ -50,9 +50,10 @@ class Report:
         ranked = sorted(filter(costs.own.get, costs.own), key=lambda start: (-costs.own[start], start or 0))
         yield from table(('calls', 'function'), ((self.share(costs.own[start]), costs.own[start], costs.calls_of(start),
                                                   self.shown.name_of(start)) for start in ranked[:most]))
-        if ranked[most:]:
-            rest = sum(costs.own[start] for start in ranked[most:])
-            yield f'{self.share(rest):>7} {rest:>14} {"":>12}  {len(ranked) - most} more, which --all prints'
+        hidden = ranked[most:] if most else []
+        if hidden:
+            rest = sum(costs.own[start] for start in hidden)
+            yield f'{self.share(rest):>7} {rest:>14} {"":>12}  {len(hidden)} more, which --all prints'
 
     def loop_place(self, loop):
         line = self.debug.line_at.get(loop.head)
