@@ -17,11 +17,13 @@ below() {
     done | sed '1!G;h;$!d'
 }
 
-# How many processes prove CRATE: one, where others are proved beside it, since each more loads the crates below anew;
-# for the crates of the longest chain, which come last and alone, all that there is room for.
+# How many processes prove CRATE: mostly one, where others are proved beside it, since each more loads the crates below
+# anew. The crates of the longest chain have two where others wait for them, and all that there is room for where they
+# come last and alone.
 jobs_of() {
     case $at_once,$1 in
     1,* | *,image_code | *,edit_core | *,eel) echo "$most" ;;
+    *,eel_base | *,elf32_sparc | *,v8_memory | *,v8_step | *,layout) echo $((most < 2 ? most : 2)) ;;
     *) echo 1 ;;
     esac
 }
