@@ -51,7 +51,7 @@ def wrong_calls(folder):
                     yield [path, PROGRAM, '--names', bad, bad]
                 if name == 'merge.py':
                     yield [path, bad, bad]
-                if name == 'compare.py' and of_tools:
+                if name == 'compare.py':
                     yield [path, PROGRAM, bad, bad]
                     yield [path, bad, PROGRAM, bad, PROGRAM]
                 if name == 'profile.py':

@@ -130,10 +130,11 @@ make_libgcc() {
     quietly sparc64-linux-gnu-ar rcs libgcc.a ./*.o
 }
 
-# make_program NAME SOURCE.. : NAME.sparc and NAME.host
+# make_program NAME SOURCE.. : NAME.sparc and NAME.host, of which the second is made last
 make_program() {
     name=$1
     shift
+    [ ! -f "$out/$name.host" ] || return 0
     rm -rf "$out/$name"
     mkdir -p "$out/$name"
     cd "$out/$name"
