@@ -7,7 +7,7 @@ ghost use Rattle.v8_memory.specs.Regions.{covers, region_at, bytes_at, with_byte
 ghost use Rattle.v8_memory.specs.Spans.{are_apart, mappings_apart, span_of};
 ghost use Rattle.v8_memory.specs.Kept.{AreKept, IsKept};
 ghost use Rattle.v8_memory.specs.Segments.{region_of};
-ghost use Rattle.v8_memory.specs.Calls.{IsPlan, mapping_of_plan, memory_of, load_of, store_of, Loads, Stores, Fills, moved_heap_end};
+ghost use Rattle.v8_memory.specs.Calls.{IsPlan, mapping_of_plan, memory_of, allowed, load_of, store_of, Exchanges, Loads, Stores, Fills, moved_heap_end};
 
 use crate::fault::MemFault;
 use crate::ops::{Op, no_op, op_of};
@@ -177,6 +177,20 @@ impl Memory {
         self.store(address, &bytes)
     }
 
+    /// The word at an address, in the place of which another one is put. Where either access is refused nothing changes.
+    #[inline]
+    pub fn exchange32(&mut self, address: Addr, value: u32) -> Result<u32, MemFault>
+        ensures { Exchanges w32 (load_of self.old 4 address.0) (store_of self.old address.0 (to_be_bytes w32 value)) self.old self.new result }
+    {
+        if address.0 % 4 != 0 {
+            return Err(MemFault::Misaligned);
+        }
+        match self.hinted(address.0, 4) {
+            Some(index) => self.exchange_in(index, address.0, value),
+            None => self.exchange_searched(address, value),
+        }
+    }
+
     /// The word at an address, where it may be executed.
     #[inline]
     #[tactic(auto, unfolding(crate::specs::Regions::fetch_of))]
@@ -310,7 +324,7 @@ impl Memory {
         ensures { MatchOption result (region_at self.now address count ≡ None) (λ region. (region_at self.now address count ≡ Some region.now) × IsTrue (covers address count region.now)) }
     {
         match self.hinted(address, count) {
-            Some(index) => Some(&self.regions[index]),
+            Some(index) => Some(self.region_in(index, address, count)),
             None => {
                 if self.heap.covers(address, count) {
                     Some(&self.heap)
@@ -319,6 +333,18 @@ impl Memory {
                 }
             }
         }
+    }
+
+    /// The region at this place, which has all these bytes.
+    #[inline(always)]
+    fn region_in(&self, index: usize, address: u32, count: u64) -> &Region
+        requires some { 0 < count }
+        requires within { index < length self.now.regions }
+        requires whole { (d : Region) → IsTrue (covers address count (get_or self.now.regions index d)) }
+        ensures found { region_at self.now address count ≡ Some result.now }
+        ensures whole { IsTrue (covers address count result.now) }
+    {
+        &self.regions[index]
     }
 
     /// The region that has all these bytes. The heap is asked last.
@@ -365,7 +391,7 @@ impl Memory {
         ensures { Fills (with_bytes self.old address bytes.now) self.old self.new result }
     {
         match self.hinted(address, bytes.len() as u64) {
-            Some(index) => self.regions[index].write(address, bytes),
+            Some(index) => self.write_in(index, address, bytes),
             None => {
                 if self.heap.covers(address, bytes.len() as u64) {
                     self.heap.write(address, bytes)
@@ -374,6 +400,17 @@ impl Memory {
                 }
             }
         }
+    }
+
+    /// The same, where the region at this place has them all.
+    #[inline(always)]
+    fn write_in(&mut self, index: usize, address: u32, bytes: &[u8]) -> bool
+        requires some { 0 < length bytes.now }
+        requires within { index < length self.old.regions }
+        requires whole { (d : Region) → IsTrue (covers address (length bytes.now) (get_or self.old.regions index d)) }
+        ensures { Fills (with_bytes self.old address bytes.now) self.old self.new result }
+    {
+        self.regions[index].write(address, bytes)
     }
 
     /// The same, where all regions are asked, and the heap last.
@@ -386,6 +423,36 @@ impl Memory {
             Some(done) => done,
             None => write_heap(&mut self.heap, address, bytes),
         }
+    }
+
+    /// Puts a word in the place of another one, in the region at this place.
+    #[inline(always)]
+    #[tactic(auto, unfolding(crate::specs::Regions::bytes_at))]
+    fn exchange_in(&mut self, index: usize, address: u32, value: u32) -> Result<u32, MemFault>
+        requires within { index < length self.old.regions }
+        requires whole { (d : Region) → IsTrue (covers address 4 (get_or self.old.regions index d)) }
+        ensures { Exchanges w32 (allowed (bytes_at self.old address 4)) (allowed (with_bytes self.old address (to_be_bytes w32 value))) self.old self.new result }
+    {
+        let region = self.region_in(index, address, 4);
+        if !region.is_readable() {
+            return Err(MemFault::NoAccess);
+        }
+        let old = word_of(region.part(address, 4));
+        if self.write_in(index, address, &value.to_be_bytes()) {
+            Ok(old)
+        } else {
+            Err(MemFault::NoAccess)
+        }
+    }
+
+    /// The same, where no region was asked yet.
+    #[inline(never)]
+    fn exchange_searched(&mut self, address: Addr, value: u32) -> Result<u32, MemFault>
+        ensures { Exchanges w32 (load_of self.old 4 address.0) (store_of self.old address.0 (to_be_bytes w32 value)) self.old self.new result }
+    {
+        let old = self.load32(address)?;
+        self.store32(address, value)?;
+        Ok(old)
     }
 }
 
@@ -408,12 +475,12 @@ pub fn op_at(ops: &[Op], first: u32, address: Addr) -> Option<&Op>
 /// The record at a place among those that begin with that of the word at `first`.
 #[inline(always)]
 #[tactic(auto, using(crate::proofs::Kept::kept_at))]
-pub fn op_in(ops: &[Op], first: u32, place: u32) -> &Op
+pub fn op_in(ops: &[Op], first: u32, place: usize) -> &Op
     requires within { place < length ops.now }
     ensures kept { (code : List Region) → AreKept code first ops.now → IsKept code ((first + 4 * place) % 2 ^ 32) result.now }
     ensures item { (other : Op) → result.now ≡ get_or ops.now place other }
 {
-    &ops[place as usize]
+    &ops[place]
 }
 
 /// The regions of some plans.

@@ -1,7 +1,9 @@
 -- Steps in order, with pc and npc as places among the records.
-use Rattle.std.proofs.Common.{◌≡◌, ◌+◌, ◌-◌, ◌*◌, ◌/◌, ◌%◌, ◌^◌, ◌<◌, ◌≤◌, ◌⊎◌, inl, inr, ℕ, false, List, None, get_or, sym, ap, ◌∙◌, subst, arith}
-use Rattle.std.proofs.lemmas.Bool.{cases_lt}
-use Rattle.std.specs.Prelude.{IsTrue}
+use Rattle.std.proofs.Common.{◌≡◌, ◌≢◌, ◌+◌, ◌-◌, ◌*◌, ◌/◌, ◌%◌, ◌^◌, ◌<◌, ◌≤◌, ◌⊎◌, inl, inr, ℕ, ℤ, pos, negsuc, Bool, false, List, None, get_or, sym, ap, ◌∙◌, subst, arith}
+use Rattle.std.proofs.lemmas.Bool.{cases_lt, eq-eqb, ne_eqb}
+use Rattle.std.specs.Prelude.{FitsSigned, IsTrue, ◌==◌, if◌then◌else◌}
+use Rattle.std.specs.Int.{cast_unsigned, w32, w64}
+use Rattle.std.proofs.lemmas.Int.{ints}
 use Rattle.std.specs.Prelude.{Result, Ok, Err}
 use Rattle.v8_alu.specs.declared.AluOut.{AluOut}
 use Rattle.v8_alu.specs.declared.AluTrap.{AluTrap}
@@ -16,25 +18,68 @@ use Rattle.v8_memory.specs.declared.ops.OpCode.TheVariants.{Other}
 use Rattle.v8_memory.specs.Kept.{AreKept, IsKept}
 use Rattle.v8_memory.specs.Ops.{instr_of, is_record}
 use Rattle.v8_memory.specs.Regions.{code_of}
+use Rattle.v8_step.specs.declared.ahead.Here.{Here}
 use Rattle.v8_step.specs.declared.ahead.Turn.{Turn}
 use Rattle.v8_step.specs.declared.ahead.Turn.TheVariants.{On, Stop}
-use Rattle.v8_step.specs.Ahead.{GoesOn, HasTurned, address_at, at_places, placed}
-use Rattle.v8_step.specs.State.{State}
+use Rattle.v8_step.specs.Ahead.{GoesOn, HasTurned, address_at, at_here, at_places, placed, slot_by, slot_of}
+use Rattle.v8_step.specs.State.{State, Slot, NoSlot, Taken, Untaken}
 use Rattle.v8_step.specs.Step.{act}
 use Rattle.v8_step.specs.Turns.{IsQuietRun}
-use Rattle.v8_step.proofs.QuietRuns.{one_more, says_some, still_kept, turned_by}
+use Rattle.v8_step.proofs.QuietRuns.{no_step, one_more, says_some, still_kept, turned_by}
 
 pub next_address : (first place : ℕ) → wrapped (address_at first place + 4) ≡ address_at first (place + 1)
 next_address first place = omega arith
 
-pub goes_on : (s t : State) (x : Instr) (first cur next : ℕ) → GoesOn s x t → HasTurned On first cur next s x t
-goes_on s t x first cur next h =
-    h (address_at first cur) (address_at first next) ∙ ap (placed t (address_at first next)) (next_address first next)
+pub goes_on : (s t : State) (x : Instr) (h : Here) → GoesOn s x t → HasTurned On h s x t
+goes_on s t x h goes =
+    goes (address_at h.first h.cur) (address_at h.first h.next) (slot_of h)
+    ∙ ap (λ npc. placed t (address_at h.first h.next) npc NoSlot) (next_address h.first h.next)
 
-pub target_place : (first cur d : ℕ) → wrapped (address_at first cur + 4 * d) ≡ address_at first (wrapped (cur + d))
-target_place first cur d = omega arith
+-- the slot by what was left in slots
+pub in_none : (left slot untaken : ℕ) → left ≢ slot → slot_by left slot untaken ≡ NoSlot
+unfolding slot_by
+in_none left slot untaken other =
+    ap (λ (b : Bool). if b then (if left == untaken then Untaken else Taken) else NoSlot) (ne_eqb left slot other)
 
-pub after_annulled : (first cur : ℕ) → wrapped (address_at first cur + 8) ≡ address_at first (wrapped (cur + 2))
+pub in_taken : (left slot untaken : ℕ) → left ≡ slot → left ≢ untaken → slot_by left slot untaken ≡ Taken
+unfolding slot_by
+in_taken left slot untaken same other =
+    ap (λ (b : Bool). if b then (if left == untaken then Untaken else Taken) else NoSlot) (eq-eqb left slot same)
+    ∙ ap (λ (b : Bool). if b then Untaken else Taken) (ne_eqb left untaken other)
+
+pub in_untaken : (left slot untaken : ℕ) → left ≡ slot → left ≡ untaken → slot_by left slot untaken ≡ Untaken
+unfolding slot_by
+in_untaken left slot untaken same too =
+    ap (λ (b : Bool). if b then (if left == untaken then Untaken else Taken) else NoSlot) (eq-eqb left slot same)
+    ∙ ap (λ (b : Bool). if b then Untaken else Taken) (eq-eqb left untaken too)
+
+pub outside : (s : State) (h : Here) (x : Instr) → slot_of h ≡ NoSlot
+    → act (at_here s h) x ≡ act (at_places s h.first h.cur h.next NoSlot) x
+outside s h x none = ap (λ slot. act (at_places s h.first h.cur h.next slot) x) none
+
+-- at first
+pub at_start : (s : State) (first cur next slot untaken limit spare : ℕ) → address_at first cur ≡ s.pc
+    → address_at first next ≡ s.npc → slot_by limit slot untaken ≡ s.slot → limit + next ≡ spare
+    → IsQuietRun s (limit - (spare - next)) (at_places s first cur next (slot_by (spare - next) slot untaken))
+at_start s first cur next slot untaken limit spare pc npc same is =
+    subst (λ n. IsQuietRun s n (at_places s first cur next (slot_by (spare - next) slot untaken))) (omega arith)
+    (subst (IsQuietRun s 0) (sym all) (no_step s))
+  where
+    left : spare - next ≡ limit
+    left = omega arith
+
+    all : at_places s first cur next (slot_by (spare - next) slot untaken) ≡ s
+    all =
+        ap (λ n. at_places s first cur next (slot_by n slot untaken)) left
+        ∙ ap (at_places s first cur next) same
+        ∙ ap (λ n. placed s n (address_at first next) s.slot) pc ∙ ap (λ n. placed s s.pc n s.slot) npc
+
+pub target_place : (first cur : ℕ) (d : ℤ) → FitsSigned w32 d
+    → address_at first ((cur + cast_unsigned w64 d) % 2 ^ 64) ≡ wrapped (address_at first cur + 4 * cast_unsigned w32 d)
+target_place first cur (pos n) fits = omega arith
+target_place first cur (negsuc n) fits = omega (arith, ints, fits.sfits)
+
+pub after_annulled : (first cur : ℕ) → wrapped (address_at first cur + 8) ≡ address_at first ((cur + 2) % 2 ^ 64)
 after_annulled first cur = omega arith
 
 pub jump_place : (first target : ℕ) → first < 2 ^ 32 → target < 2 ^ 32 → (target + (2 ^ 32 - first)) % 2 ^ 32 % 4 ≡ 0
@@ -69,19 +114,19 @@ not_last ops x last cur len is at_end other some within = go (cases_lt (cur + 1)
         absurd (some (ap (λ (z : Op). z.code) (is x ∙ ap (λ n. get_or ops n x) same ∙ sym (at_end x)) ∙ other))
 
 -- one turn more
-pub turn_made : (s0 m t : State) (first cur next c n made more : ℕ) (x : Op) → m.ending ≡ None
-    → IsQuietRun s0 made (at_places m first cur next) → IsKept (code_of m.memory) (address_at first cur) x
-    → act (at_places m first cur next) (instr_of x) ≡ at_places t first c n → (x.code ≡ Other → ⊥) → made + 1 ≡ more
-    → IsQuietRun s0 more (at_places t first c n)
-turn_made s0 m t first cur next c n made more x going h kept is some count =
-    subst (λ k. IsQuietRun s0 k (at_places t first c n)) count
-    (one_more s0 (at_places m first cur next) (at_places t first c n) made x going h kept
-    (sym is ∙ sym (turned_by x.code (at_places m first cur next) x some)) some)
+pub turn_made : (s0 m t : State) (h : Here) (c n made more : ℕ) (slot new : Slot) (x : Op) → m.ending ≡ None
+    → IsQuietRun s0 made (at_here m h) → IsKept (code_of m.memory) (address_at h.first h.cur) x
+    → act (at_here m h) (instr_of x) ≡ at_places t h.first c n slot → (x.code ≡ Other → ⊥) → made + 1 ≡ more
+    → slot ≡ new → IsQuietRun s0 more (at_places t h.first c n new)
+turn_made s0 m t h c n made more slot new x going run kept is some count same =
+    subst (λ k. IsQuietRun s0 k (at_places t h.first c n new)) count
+    (one_more s0 (at_here m h) (at_places t h.first c n new) made x going run kept
+    (sym (is ∙ ap (at_places t h.first c n) same) ∙ sym (turned_by x.code (at_here m h) x some)) some)
 
-pub turn_keeps : (m t : State) (first cur next c n : ℕ) (x : Op) (ops : List Op) → m.ending ≡ None
-    → IsKept (code_of m.memory) (address_at first cur) x
-    → act (at_places m first cur next) (instr_of x) ≡ at_places t first c n → (x.code ≡ Other → ⊥)
-    → AreKept (code_of m.memory) first ops → AreKept (code_of t.memory) first ops
-turn_keeps m t first cur next c n x ops going kept is some =
-    still_kept (at_places m first cur next) (at_places t first c n) x first ops going kept
-    (sym is ∙ sym (turned_by x.code (at_places m first cur next) x some)) some
+pub turn_keeps : (m t : State) (h : Here) (c n : ℕ) (slot : Slot) (x : Op) (ops : List Op) → m.ending ≡ None
+    → IsKept (code_of m.memory) (address_at h.first h.cur) x
+    → act (at_here m h) (instr_of x) ≡ at_places t h.first c n slot → (x.code ≡ Other → ⊥)
+    → AreKept (code_of m.memory) h.first ops → AreKept (code_of t.memory) h.first ops
+turn_keeps m t h c n slot x ops going kept is some =
+    still_kept (at_here m h) (at_places t h.first c n slot) x h.first ops going kept
+    (sym is ∙ sym (turned_by x.code (at_here m h) x some)) some

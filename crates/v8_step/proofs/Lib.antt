@@ -1,6 +1,7 @@
 pub mod AccessesAlike
 pub mod Alike
 pub mod CopiedMoves
+pub mod Exchanged
 pub mod Executable
 pub mod Follows
 pub mod FrameWords

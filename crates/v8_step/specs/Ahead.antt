@@ -1,36 +1,58 @@
--- Steps in order: pc and npc stand outside of the state, as places among the records.
-use Rattle.std.specs.Prelude.{◌≡◌, ◌<◌, ℕ, ◌+◌, ◌*◌}
+-- Steps in order: pc, npc and the slot stand outside of the state, pc and npc as places among the records.
+use Rattle.std.specs.Prelude.{◌≡◌, ◌<◌, ℕ, ◌+◌, ◌-◌, ◌*◌, ◌==◌, if◌then◌else◌}
 use Rattle.v8_decode.specs.declared.Instr.{Instr}
 use Rattle.v8_alu.specs.Numbers.{wrapped}
+use Rattle.v8_step.specs.declared.ahead.Here.{Here}
 use Rattle.v8_step.specs.declared.ahead.Turn.{Turn}
-use Rattle.v8_step.specs.declared.ahead.Turn.TheVariants.{On, To, At, Stop}
-use Rattle.v8_step.specs.State.{State}
+use Rattle.v8_step.specs.declared.ahead.Turn.TheVariants.{On, Past, To, At, Stop}
+use Rattle.v8_step.specs.State.{State, Slot, NoSlot, Taken, Untaken}
 use Rattle.v8_step.specs.Step.{act}
 
-abbrev pub placed : State → ℕ → ℕ → State
-placed s pc npc = record s { pc = pc; npc = npc }
+abbrev pub placed : State → ℕ → ℕ → Slot → State
+placed s pc npc slot = record s { pc = pc; npc = npc; slot = slot }
 
--- `x` leaves the state `t` and goes on in order, whatever pc and npc are
+-- `x` leaves the state `t` and goes on in order, whatever pc, npc and the slot are
 abbrev pub GoesOn : State → Instr → State → Type 0
-GoesOn s x t = (pc npc : ℕ) → act (placed s pc npc) x ≡ placed t npc (wrapped (npc + 4))
+GoesOn s x t = (pc npc : ℕ) (slot : Slot) → act (placed s pc npc slot) x ≡ placed t npc (wrapped (npc + 4)) NoSlot
 
 -- the address of the word at a place
 abbrev pub address_at : ℕ → ℕ → ℕ
 address_at first place = wrapped (first + 4 * place)
 
-abbrev pub at_places : State → ℕ → ℕ → ℕ → State
-at_places s first cur next = placed s (address_at first cur) (address_at first next)
+abbrev pub at_places : State → ℕ → ℕ → ℕ → Slot → State
+at_places s first cur next slot = placed s (address_at first cur) (address_at first next) slot
+
+-- the slot where so many steps are left, by how many were left in the last delay slot, and in the last one of a branch
+-- that wasn't taken
+unfoldable pub slot_by : ℕ → ℕ → ℕ → Slot
+slot_by left slot untaken = if left == slot then (if left == untaken then Untaken else Taken) else NoSlot
+
+-- how many steps are left
+abbrev pub left : Here → ℕ
+left h = h.spare - h.next
+
+abbrev pub slot_of : Here → Slot
+slot_of h = slot_by (left h) h.slot h.untaken
+
+abbrev pub at_here : State → Here → State
+at_here s h = at_places s h.first h.cur h.next (slot_of h)
 
 -- what a turn has done, where it tells this
-abbrev pub HasTurned : Turn → ℕ → ℕ → ℕ → State → Instr → State → Type 0
-HasTurned On first cur next s x t = act (at_places s first cur next) x ≡ at_places t first next (next + 1)
-HasTurned (To place) first cur next s x t = act (at_places s first cur next) x ≡ at_places t first next place
-HasTurned (At place) first cur next s x t = act (at_places s first cur next) x ≡ at_places t first place (place + 1)
-HasTurned Stop first cur next s x t = t ≡ s
+abbrev pub HasTurned : Turn → Here → State → Instr → State → Type 0
+HasTurned On h s x t = act (at_here s h) x ≡ at_places t h.first h.next (h.next + 1) NoSlot
+HasTurned Past h s x t = act (at_here s h) x ≡ at_places t h.first h.next (h.next + 1) Untaken
+HasTurned (To place) h s x t = act (at_here s h) x ≡ at_places t h.first h.next place Taken
+HasTurned (At place) h s x t = act (at_here s h) x ≡ at_places t h.first place (place + 1) NoSlot
+HasTurned Stop h s x t = t ≡ s
 
--- where a turn goes there is a record, and enough steps are left to go on from there in order
-abbrev pub IsWithin : Turn → ℕ → ℕ → ℕ → Type 0
-IsWithin On len next spare = Unit {0}
-IsWithin (To place) len next spare = (place < len) × (next < spare)
-IsWithin (At place) len next spare = (place < len) × (next < spare)
-IsWithin Stop len next spare = Unit {0}
+-- there is a record at a place, and enough steps are left to go there, and on in order
+abbrev pub IsNear : ℕ → Here → Type 0
+IsNear place h = (place < h.len) × (h.len < left h - 1)
+
+-- so it is where a turn goes
+abbrev pub IsWithin : Turn → Here → Type 0
+IsWithin On h = Unit {0}
+IsWithin Past h = Unit {0}
+IsWithin (To place) h = IsNear place h
+IsWithin (At place) h = IsNear place h
+IsWithin Stop h = Unit {0}

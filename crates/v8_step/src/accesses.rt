@@ -6,9 +6,9 @@ ghost use Rattle.std.specs.Int.{w8, w32, to_be_bytes};
 ghost use Rattle.v8_memory.specs.Calls.{Loads, load_of, store_of};
 ghost use Rattle.v8_step.specs.Accesses.{load_size, extended, load_step, store_step, ldstub_step, swap_step};
 ghost use Rattle.v8_step.specs.Machine.{Exchanges, trap_of, value_of};
+ghost use Rattle.v8_step.specs.State.{NoSlot, Slot};
 ghost use Rattle.v8_step.specs.Transfers.{trapped};
 
-use crate::Slot;
 use crate::machine::{Machine, register};
 use crate::traps::{DATA_ACCESS_EXCEPTION, MEM_ADDRESS_NOT_ALIGNED};
 use eel_base::Addr;
@@ -55,14 +55,13 @@ impl Machine {
     #[tactic(auto, unfolding(crate::specs::Accesses::load_step))]
     pub(crate) fn load_in_order(&mut self, kind: LoadKind, rd: Reg, address: u32) -> bool
         requires single { kind ≡ LoadKind.LDD → ⊥ }
-        ensures goes { result ≡ true → (pc npc : ℕ) → load_step (placed self.old pc npc) kind rd address ≡ placed self.new npc (wrapped (npc + 4)) }
+        ensures goes { result ≡ true → (pc npc : ℕ) (slot : Slot) → load_step (placed self.old pc npc slot) kind rd address ≡ placed self.new npc (wrapped (npc + 4)) NoSlot }
         ensures stays { result ≡ false → self.new ≡ self.old }
         ensures going { self.new.ending ≡ self.old.ending }
     {
         match self.loaded(kind, Addr(address)) {
             Ok(value) => {
                 self.set(rd, value);
-                self.slot = Slot::NoSlot;
                 true
             }
             Err(_) => false,
@@ -74,7 +73,7 @@ impl Machine {
     #[tactic(auto, unfolding(crate::specs::Accesses::load_step))]
     pub(crate) fn load_pair_in_order(&mut self, rd: Reg, address: u32) -> bool
         requires pair { rd % 2 ≡ 0 }
-        ensures goes { result ≡ true → (pc npc : ℕ) → load_step (placed self.old pc npc) LoadKind.LDD rd address ≡ placed self.new npc (wrapped (npc + 4)) }
+        ensures goes { result ≡ true → (pc npc : ℕ) (slot : Slot) → load_step (placed self.old pc npc slot) LoadKind.LDD rd address ≡ placed self.new npc (wrapped (npc + 4)) NoSlot }
         ensures stays { result ≡ false → self.new ≡ self.old }
         ensures going { self.new.ending ≡ self.old.ending }
     {
@@ -82,7 +81,6 @@ impl Machine {
             Ok((first, second)) => {
                 self.set(rd, first);
                 self.set(next_register(rd), second);
-                self.slot = Slot::NoSlot;
                 true
             }
             Err(_) => false,
@@ -94,7 +92,7 @@ impl Machine {
     #[tactic(auto, unfolding(crate::specs::Accesses::store_step))]
     pub(crate) fn store_in_order(&mut self, kind: StoreKind, rd: Reg, address: u32) -> bool
         requires pair { kind ≡ StoreKind.STD → rd % 2 ≡ 0 }
-        ensures goes { result ≡ true → (pc npc : ℕ) → store_step (placed self.old pc npc) kind rd address ≡ placed self.new npc (wrapped (npc + 4)) }
+        ensures goes { result ≡ true → (pc npc : ℕ) (slot : Slot) → store_step (placed self.old pc npc slot) kind rd address ≡ placed self.new npc (wrapped (npc + 4)) NoSlot }
         ensures stays { result ≡ false → self.new ≡ self.old }
         ensures going { self.new.ending ≡ self.old.ending }
     {
@@ -110,10 +108,7 @@ impl Machine {
             }
         };
         match stored {
-            Ok(()) => {
-                self.slot = Slot::NoSlot;
-                true
-            }
+            Ok(()) => { true }
             Err(_) => false,
         }
     }
@@ -222,7 +217,7 @@ impl Machine {
     #[inline]
     #[tactic(auto, unfolding(crate::specs::Accesses::swap_step))]
     pub(crate) fn swap_in_order(&mut self, rd: Reg, address: u32) -> bool
-        ensures goes { result ≡ true → (pc npc : ℕ) → swap_step (placed self.old pc npc) rd address ≡ placed self.new npc (wrapped (npc + 4)) }
+        ensures goes { result ≡ true → (pc npc : ℕ) (slot : Slot) → swap_step (placed self.old pc npc slot) rd address ≡ placed self.new npc (wrapped (npc + 4)) NoSlot }
         ensures stays { result ≡ false → self.new ≡ self.old }
         ensures going { self.new.ending ≡ self.old.ending }
     {
@@ -230,7 +225,6 @@ impl Machine {
         match self.exchange_word(Addr(address), value) {
             Ok(old) => {
                 self.set(rd, old);
-                self.slot = Slot::NoSlot;
                 true
             }
             Err(_) => false,
@@ -260,6 +254,7 @@ impl Machine {
 
     /// The word at an address, where `value` is now; or nothing changes.
     #[inline]
+    #[tactic(auto, using(crate::proofs::Exchanged::exchanged))]
     fn exchange_word(&mut self, address: Addr, value: u32) -> Result<u32, MemFault>
         ensures { Exchanges w32 (load_of self.old.memory 4 address.0) (store_of self.old.memory address.0 (to_be_bytes w32 value)) self.old self.new result }
     {

@@ -8,7 +8,7 @@ ghost use Rattle.v8_decode.specs.declared.Instr.TheVariants as instrs;
 ghost use Rattle.v8_memory.specs.Kept.{AreKept};
 ghost use Rattle.v8_memory.specs.Ops.{IsSum, alu_in, instr_of, is_record, operand_in};
 ghost use Rattle.v8_memory.specs.Regions.{code_of};
-ghost use Rattle.v8_step.specs.Ahead.{GoesOn, HasTurned, IsWithin, address_at, at_places, placed};
+ghost use Rattle.v8_step.specs.Ahead.{GoesOn, HasTurned, IsNear, IsWithin, address_at, at_places, left, slot_by, slot_of};
 ghost use Rattle.v8_step.specs.Turns.{IsQuietRun};
 
 use crate::Slot;
@@ -23,32 +23,67 @@ use v8_memory::{Op, OpCode, op_in};
 pub enum Turn {
     /// The next instruction in order.
     On,
+    /// The same, which is the delay slot of a branch that isn't taken.
+    Past,
     /// The delay slot, and then the record at this place.
-    To(u32),
+    To(usize),
     /// The record at this place.
-    At(u32),
+    At(usize),
     /// Nothing was carried out: `step` has to do it.
     Stop,
 }
 
 /// The place of an instruction and of the one after it among `len` records, of which the one of the word at `first` is
-/// the first; `spare` is how many steps may still be made, and `next` more, beside those that all records in order take.
+/// the first. `spare` is how many steps are left, and `next` more. `slot` is how many were left in the last delay slot,
+/// and `untaken` in the last one of a branch that wasn't taken: so the slot needn't be kept.
 #[derive(Clone, Copy, Drop)]
 pub struct Here {
     pub first: u32,
-    pub len: u32,
-    pub cur: u32,
-    pub next: u32,
+    pub len: usize,
+    pub cur: usize,
+    pub next: usize,
     pub spare: u64,
+    pub slot: u64,
+    pub untaken: u64,
 }
 
 impl Here {
-    /// Whether too few steps are left to go elsewhere, and on in order from there.
+    /// How many steps are left.
     #[inline(always)]
-    fn is_near(&self) -> bool
-        ensures { result ≡ false → self.now.next < self.now.spare }
+    fn left(&self) -> u64
+        requires { self.now.next ≤ self.now.spare }
+        ensures { result ≡ left self.now }
     {
-        self.spare <= u64::from(self.next)
+        self.spare - self.next as u64
+    }
+
+    /// Whether the instruction is in the delay slot of a transfer.
+    #[inline(always)]
+    #[tactic(auto, using(crate::proofs::InOrder::in_none))]
+    fn is_in_slot(&self) -> bool
+        requires { self.now.next ≤ self.now.spare }
+        ensures { result ≡ false → slot_of self.now ≡ Slot.NoSlot }
+    {
+        self.left() == self.slot
+    }
+
+    /// The place so many words on, or back.
+    #[inline(always)]
+    #[tactic(auto, using(crate::proofs::InOrder::target_place))]
+    fn place(&self, displacement: i32) -> usize
+        ensures { address_at self.now.first result ≡ wrapped (address_at self.now.first self.now.cur + 4 * cast_unsigned w32 displacement) }
+    {
+        self.cur
+            .wrapping_add((displacement as isize).cast_unsigned())
+    }
+
+    /// Whether there is a record at a place, and enough steps are left to go there, and on in order.
+    #[inline(always)]
+    fn reaches(&self, place: usize) -> bool
+        requires { self.now.next < self.now.spare }
+        ensures { result ≡ true → IsNear place self.now }
+    {
+        place < self.len && (self.len as u64) < self.left() - 1
     }
 }
 
@@ -57,9 +92,10 @@ impl Machine {
     #[inline(always)]
     #[tactic(auto, unfolding(v8_memory::specs::Ops::instr_of))]
     fn turn(&mut self, op: &Op, here: Here) -> Turn
+        requires room { here.next < here.spare }
         requires sum { IsSum op.now.rs2 op.now.imm }
-        ensures state { HasTurned result here.first here.cur here.next self.old (instr_of op.now) self.new }
-        ensures within { IsWithin result here.len here.next here.spare }
+        ensures state { HasTurned result here self.old (instr_of op.now) self.new }
+        ensures within { IsWithin result here }
         ensures going { self.new.ending ≡ self.old.ending }
         ensures said { (result ≡ Turn.Stop) ⊎ IsTrue (is_record op.now.code) }
     {
@@ -131,34 +167,33 @@ impl Machine {
 
     /// Puts pc and npc at places. Where it were inlined, the loop would keep an address beside each place.
     #[inline(never)]
-    fn stand_at(&mut self, first: u32, cur: u32, next: u32)
-        ensures { self.new ≡ at_places self.old first cur next }
+    fn stand_at(&mut self, first: u32, cur: usize, next: usize, slot: Slot)
+        ensures { self.new ≡ at_places self.old first cur next slot }
     {
         self.pc = address(first, cur);
         self.npc = address(first, next);
+        self.slot = slot;
     }
 
     #[inline(always)]
     #[tactic(auto, using(crate::proofs::InOrder::goes_on), unfolding(crate::specs::Step::act))]
     fn sethi_turn(&mut self, op: &Op, here: Here) -> Turn
-        ensures state { HasTurned result here.first here.cur here.next self.old (instrs.Sethi op.now.rd (cast_unsigned w32 op.now.imm)) self.new }
-        ensures within { IsWithin result here.len here.next here.spare }
+        ensures state { HasTurned result here self.old (instrs.Sethi op.now.rd (cast_unsigned w32 op.now.imm)) self.new }
+        ensures within { IsWithin result here }
         ensures going { self.new.ending ≡ self.old.ending }
     {
         self.set(op.rd, op.imm.cast_unsigned().wrapping_mul(1024));
-        self.slot = Slot::NoSlot;
         Turn::On
     }
 
     #[inline(always)]
     #[tactic(auto, using(crate::proofs::InOrder::goes_on), unfolding(crate::specs::Step::act))]
     fn read_y_turn(&mut self, op: &Op, here: Here) -> Turn
-        ensures state { HasTurned result here.first here.cur here.next self.old (instrs.ReadY op.now.rd) self.new }
-        ensures within { IsWithin result here.len here.next here.spare }
+        ensures state { HasTurned result here self.old (instrs.ReadY op.now.rd) self.new }
+        ensures within { IsWithin result here }
         ensures going { self.new.ending ≡ self.old.ending }
     {
         self.set(op.rd, self.y);
-        self.slot = Slot::NoSlot;
         Turn::On
     }
 
@@ -166,12 +201,11 @@ impl Machine {
     #[tactic(auto, using(crate::proofs::InOrder::goes_on), unfolding(crate::specs::Step::act))]
     fn write_y_turn(&mut self, op: &Op, here: Here) -> Turn
         requires sum { IsSum op.now.rs2 op.now.imm }
-        ensures state { HasTurned result here.first here.cur here.next self.old (instrs.WriteY op.now.rs1 (operand_in op.now.rs2 op.now.imm)) self.new }
-        ensures within { IsWithin result here.len here.next here.spare }
+        ensures state { HasTurned result here self.old (instrs.WriteY op.now.rs1 (operand_in op.now.rs2 op.now.imm)) self.new }
+        ensures within { IsWithin result here }
         ensures going { self.new.ending ≡ self.old.ending }
     {
         self.y = self.reg(op.rs1) ^ self.op_operand(op);
-        self.slot = Slot::NoSlot;
         Turn::On
     }
 
@@ -180,8 +214,8 @@ impl Machine {
     fn alu_turn(&mut self, kind: AluOp, op: &Op, here: Here) -> Turn
         requires form { IsTrue (has_form kind true) }
         requires sum { IsSum op.now.rs2 op.now.imm }
-        ensures state { HasTurned result here.first here.cur here.next self.old (alu_in kind true op.now) self.new }
-        ensures within { IsWithin result here.len here.next here.spare }
+        ensures state { HasTurned result here self.old (alu_in kind true op.now) self.new }
+        ensures within { IsWithin result here }
         ensures going { self.new.ending ≡ self.old.ending }
     {
         if self.alu_in_order(kind, op) {
@@ -196,8 +230,8 @@ impl Machine {
     #[tactic(auto, using(crate::proofs::InOrder::goes_on))]
     fn logic_turn(&mut self, kind: AluOp, op: &Op, here: Here) -> Turn
         requires sum { IsSum op.now.rs2 op.now.imm }
-        ensures state { HasTurned result here.first here.cur here.next self.old (alu_in kind true op.now) self.new }
-        ensures within { IsWithin result here.len here.next here.spare }
+        ensures state { HasTurned result here self.old (alu_in kind true op.now) self.new }
+        ensures within { IsWithin result here }
         ensures going { self.new.ending ≡ self.old.ending }
     {
         if self.logic_in_order(kind, op) {
@@ -212,8 +246,8 @@ impl Machine {
     fn plain_turn(&mut self, kind: AluOp, op: &Op, here: Here) -> Turn
         requires form { IsTrue (has_form kind false) }
         requires sum { IsSum op.now.rs2 op.now.imm }
-        ensures state { HasTurned result here.first here.cur here.next self.old (alu_in kind false op.now) self.new }
-        ensures within { IsWithin result here.len here.next here.spare }
+        ensures state { HasTurned result here self.old (alu_in kind false op.now) self.new }
+        ensures within { IsWithin result here }
         ensures going { self.new.ending ≡ self.old.ending }
     {
         if self.plain_in_order(kind, op) {
@@ -228,8 +262,8 @@ impl Machine {
     #[tactic(auto, using(crate::proofs::InOrder::goes_on))]
     fn compare_turn(&mut self, op: &Op, here: Here) -> Turn
         requires sum { IsSum op.now.rs2 op.now.imm }
-        ensures state { HasTurned result here.first here.cur here.next self.old (alu_in AluOp.SUB true op.now) self.new }
-        ensures within { IsWithin result here.len here.next here.spare }
+        ensures state { HasTurned result here self.old (alu_in AluOp.SUB true op.now) self.new }
+        ensures within { IsWithin result here }
         ensures going { self.new.ending ≡ self.old.ending }
     {
         self.compare_in_order(op);
@@ -247,7 +281,6 @@ impl Machine {
         let second = self.op_operand(op);
         self.flags.compare(first, second);
         self.set(op.rd, difference_of(first, second));
-        self.slot = Slot::NoSlot;
     }
 
     #[inline(always)]
@@ -255,8 +288,8 @@ impl Machine {
     fn load_turn(&mut self, kind: LoadKind, op: &Op, here: Here) -> Turn
         requires single { kind ≡ LoadKind.LDD → ⊥ }
         requires sum { IsSum op.now.rs2 op.now.imm }
-        ensures state { HasTurned result here.first here.cur here.next self.old (instrs.Load kind op.now.rd op.now.rs1 (operand_in op.now.rs2 op.now.imm)) self.new }
-        ensures within { IsWithin result here.len here.next here.spare }
+        ensures state { HasTurned result here self.old (instrs.Load kind op.now.rd op.now.rs1 (operand_in op.now.rs2 op.now.imm)) self.new }
+        ensures within { IsWithin result here }
         ensures going { self.new.ending ≡ self.old.ending }
     {
         if self.load_in_order(kind, op.rd, self.op_sum(op)) {
@@ -270,8 +303,8 @@ impl Machine {
     #[tactic(auto, using(crate::proofs::InOrder::goes_on), unfolding(crate::specs::Step::act))]
     fn load_pair_turn(&mut self, op: &Op, here: Here) -> Turn
         requires sum { IsSum op.now.rs2 op.now.imm }
-        ensures state { HasTurned result here.first here.cur here.next self.old (instrs.Load LoadKind.LDD (2 * (op.now.rd % 16)) op.now.rs1 (operand_in op.now.rs2 op.now.imm)) self.new }
-        ensures within { IsWithin result here.len here.next here.spare }
+        ensures state { HasTurned result here self.old (instrs.Load LoadKind.LDD (2 * (op.now.rd % 16)) op.now.rs1 (operand_in op.now.rs2 op.now.imm)) self.new }
+        ensures within { IsWithin result here }
         ensures going { self.new.ending ≡ self.old.ending }
     {
         if self.load_pair_in_order(pair(op.rd), self.op_sum(op)) {
@@ -286,8 +319,8 @@ impl Machine {
     fn store_turn(&mut self, kind: StoreKind, rd: Reg, op: &Op, here: Here) -> Turn
         requires pair { kind ≡ StoreKind.STD → rd % 2 ≡ 0 }
         requires sum { IsSum op.now.rs2 op.now.imm }
-        ensures state { HasTurned result here.first here.cur here.next self.old (instrs.Store kind rd op.now.rs1 (operand_in op.now.rs2 op.now.imm)) self.new }
-        ensures within { IsWithin result here.len here.next here.spare }
+        ensures state { HasTurned result here self.old (instrs.Store kind rd op.now.rs1 (operand_in op.now.rs2 op.now.imm)) self.new }
+        ensures within { IsWithin result here }
         ensures going { self.new.ending ≡ self.old.ending }
     {
         if self.store_in_order(kind, rd, self.op_sum(op)) {
@@ -301,8 +334,8 @@ impl Machine {
     #[tactic(auto, using(crate::proofs::InOrder::goes_on), unfolding(crate::specs::Step::act))]
     fn swap_turn(&mut self, op: &Op, here: Here) -> Turn
         requires sum { IsSum op.now.rs2 op.now.imm }
-        ensures state { HasTurned result here.first here.cur here.next self.old (instrs.Swap op.now.rd op.now.rs1 (operand_in op.now.rs2 op.now.imm)) self.new }
-        ensures within { IsWithin result here.len here.next here.spare }
+        ensures state { HasTurned result here self.old (instrs.Swap op.now.rd op.now.rs1 (operand_in op.now.rs2 op.now.imm)) self.new }
+        ensures within { IsWithin result here }
         ensures going { self.new.ending ≡ self.old.ending }
     {
         if self.swap_in_order(op.rd, self.op_sum(op)) {
@@ -316,8 +349,8 @@ impl Machine {
     #[tactic(auto, using(crate::proofs::InOrder::goes_on), unfolding(crate::specs::Step::act))]
     fn save_turn(&mut self, op: &Op, here: Here) -> Turn
         requires sum { IsSum op.now.rs2 op.now.imm }
-        ensures state { HasTurned result here.first here.cur here.next self.old (instrs.Save op.now.rd op.now.rs1 (operand_in op.now.rs2 op.now.imm)) self.new }
-        ensures within { IsWithin result here.len here.next here.spare }
+        ensures state { HasTurned result here self.old (instrs.Save op.now.rd op.now.rs1 (operand_in op.now.rs2 op.now.imm)) self.new }
+        ensures within { IsWithin result here }
         ensures going { self.new.ending ≡ self.old.ending }
     {
         if self.save_in_order(op.rd, self.op_sum(op)) {
@@ -331,8 +364,8 @@ impl Machine {
     #[tactic(auto, using(crate::proofs::InOrder::goes_on), unfolding(crate::specs::Step::act))]
     fn restore_turn(&mut self, op: &Op, here: Here) -> Turn
         requires sum { IsSum op.now.rs2 op.now.imm }
-        ensures state { HasTurned result here.first here.cur here.next self.old (instrs.Restore op.now.rd op.now.rs1 (operand_in op.now.rs2 op.now.imm)) self.new }
-        ensures within { IsWithin result here.len here.next here.spare }
+        ensures state { HasTurned result here self.old (instrs.Restore op.now.rd op.now.rs1 (operand_in op.now.rs2 op.now.imm)) self.new }
+        ensures within { IsWithin result here }
         ensures going { self.new.ending ≡ self.old.ending }
     {
         if self.restore_in_order(op.rd, self.op_sum(op)) {
@@ -355,7 +388,6 @@ impl Machine {
             Some(value) => {
                 self.flags.judge(value);
                 self.set(op.rd, value);
-                self.slot = Slot::NoSlot;
                 true
             }
             None => false,
@@ -379,7 +411,6 @@ impl Machine {
                 self.flags.set(outcome.codes);
                 self.y = outcome.y;
                 self.set(op.rd, outcome.value);
-                self.slot = Slot::NoSlot;
                 true
             }
             Err(_) => false,
@@ -402,7 +433,6 @@ impl Machine {
             Ok((value, y)) => {
                 self.y = y;
                 self.set(op.rd, value);
-                self.slot = Slot::NoSlot;
                 true
             }
             Err(_) => false,
@@ -413,75 +443,100 @@ impl Machine {
     #[inline(always)]
     #[tactic(auto, using(crate::proofs::InOrder::target_place, crate::proofs::InOrder::next_address, crate::proofs::InOrder::after_annulled), unfolding(crate::specs::Step::act, crate::specs::Transfers::branch_step))]
     fn branch_turn(&mut self, cond: Cond, op: &Op, here: Here) -> Turn
-        ensures state { HasTurned result here.first here.cur here.next self.old (instrs.Branch cond (op.now.rd == 1) op.now.imm) self.new }
-        ensures within { IsWithin result here.len here.next here.spare }
+        requires room { here.next < here.spare }
+        ensures state { HasTurned result here self.old (instrs.Branch cond (op.now.rd == 1) op.now.imm) self.new }
+        ensures within { IsWithin result here }
         ensures going { self.new.ending ≡ self.old.ending }
     {
-        if self.slot != Slot::NoSlot {
+        if here.is_in_slot() {
             return Turn::Stop;
         }
         let annul = op.rd.number() == 1;
         if self.flags.holds(cond) {
-            let place = here.cur.wrapping_add(op.imm.cast_unsigned());
-            if place >= here.len || here.is_near() {
+            let place = here.place(op.imm);
+            if !here.reaches(place) {
                 Turn::Stop
             } else if cond.number() == 8 && annul {
                 Turn::At(place)
             } else {
-                self.slot = Slot::Taken;
                 Turn::To(place)
             }
         } else if annul {
             let place = here.cur.wrapping_add(2);
-            if place >= here.len || here.is_near() {
-                Turn::Stop
-            } else {
+            if here.reaches(place) {
                 Turn::At(place)
+            } else {
+                Turn::Stop
             }
         } else {
-            self.slot = Slot::Untaken;
-            Turn::On
+            Turn::Past
         }
     }
 
     #[inline(always)]
     #[tactic(auto, using(crate::proofs::InOrder::target_place), unfolding(crate::specs::Step::act, crate::specs::Transfers::call_step))]
     fn call_turn(&mut self, disp30: i32, here: Here) -> Turn
-        ensures state { HasTurned result here.first here.cur here.next self.old (instrs.Call disp30) self.new }
-        ensures within { IsWithin result here.len here.next here.spare }
+        requires room { here.next < here.spare }
+        ensures state { HasTurned result here self.old (instrs.Call disp30) self.new }
+        ensures within { IsWithin result here }
         ensures going { self.new.ending ≡ self.old.ending }
     {
-        let place = here.cur.wrapping_add(disp30.cast_unsigned());
-        if self.slot != Slot::NoSlot || place >= here.len || here.is_near() {
+        let place = here.place(disp30);
+        if here.is_in_slot() || !here.reaches(place) {
             return Turn::Stop;
         }
         self.set(register(15), address(here.first, here.cur));
-        self.slot = Slot::Taken;
         Turn::To(place)
     }
 
     #[inline(always)]
     #[tactic(auto, using(crate::proofs::InOrder::jump_place), unfolding(crate::specs::Step::act, crate::specs::Transfers::jump_step))]
     fn jump_turn(&mut self, op: &Op, here: Here) -> Turn
+        requires room { here.next < here.spare }
         requires sum { IsSum op.now.rs2 op.now.imm }
-        ensures state { HasTurned result here.first here.cur here.next self.old (instrs.Jmpl op.now.rd op.now.rs1 (operand_in op.now.rs2 op.now.imm)) self.new }
-        ensures within { IsWithin result here.len here.next here.spare }
+        ensures state { HasTurned result here self.old (instrs.Jmpl op.now.rd op.now.rs1 (operand_in op.now.rs2 op.now.imm)) self.new }
+        ensures within { IsWithin result here }
         ensures going { self.new.ending ≡ self.old.ending }
     {
         let target = self.op_sum(op);
         let offset = target.wrapping_sub(here.first);
-        let place = offset / 4;
-        if self.slot != Slot::NoSlot
-            || target % 4 != 0
-            || offset % 4 != 0
-            || place >= here.len
-            || here.is_near()
-        {
+        let place = (offset / 4) as usize;
+        if here.is_in_slot() || target % 4 != 0 || offset % 4 != 0 || !here.reaches(place) {
             return Turn::Stop;
         }
         self.set(op.rd, address(here.first, here.cur));
-        self.slot = Slot::Taken;
         Turn::To(place)
+    }
+}
+
+/// The marks of a slot in which so many steps are left.
+#[tactic(auto, using(crate::proofs::InOrder::in_none, crate::proofs::InOrder::in_untaken, crate::proofs::InOrder::in_taken))]
+fn marks(slot: Slot, left: u64) -> (u64, u64)
+    requires { left + 1 < 2 ^ 64 }
+    ensures same { slot_by left result.0 result.1 ≡ slot }
+    ensures slot { left ≤ result.0 }
+    ensures untaken { left ≤ result.1 }
+{
+    match slot {
+        Slot::NoSlot => (u64::MAX, u64::MAX),
+        Slot::Taken => (left, u64::MAX),
+        Slot::Untaken => (left, left),
+    }
+}
+
+/// The slot of these marks where so many steps are left.
+#[tactic(auto, unfolding(crate::specs::Ahead::slot_by))]
+fn marked(left: u64, slot: u64, untaken: u64) -> Slot
+    ensures { result ≡ slot_by left slot untaken }
+{
+    if left == slot {
+        if left == untaken {
+            Slot::Untaken
+        } else {
+            Slot::Taken
+        }
+    } else {
+        Slot::NoSlot
     }
 }
 
@@ -501,10 +556,10 @@ fn plain_outcome(kind: AluOp, a: u32, b: u32, codes: Codes, y: u32) -> Result<(u
 
 /// The address of the word at a place.
 #[inline(always)]
-fn address(first: u32, place: u32) -> u32
+fn address(first: u32, place: usize) -> u32
     ensures { result ≡ address_at first place }
 {
-    first.wrapping_add(place.wrapping_mul(4))
+    first.wrapping_add(((place % 0x1_0000_0000) as u32).wrapping_mul(4))
 }
 
 /// Makes steps in order, and where transfers lead, as long as the instructions have records, and enough steps are left. It
@@ -519,10 +574,8 @@ pub(crate) fn go_far(ops: &[Op], first: u32, m: &mut Machine, limit: u64) -> u64
     ensures few { result ≤ limit }
     ensures code { AreKept (code_of m.new.memory) first ops.now }
 {
-    let Ok(len) = u32::try_from(ops.len()) else {
-        return 0;
-    };
-    if len == 0 || limit < u64::from(len) + 2 {
+    let len = ops.len();
+    if len == 0 || limit < len as u64 + 2 {
         return 0;
     }
     let last = op_in(ops, first, len - 1);
@@ -531,17 +584,18 @@ pub(crate) fn go_far(ops: &[Op], first: u32, m: &mut Machine, limit: u64) -> u64
     }
     let offset = m.pc.wrapping_sub(first);
     let after = m.npc.wrapping_sub(first);
-    if offset % 4 != 0 || after % 4 != 0 || offset / 4 >= len || after / 4 >= len {
+    let mut cur = (offset / 4) as usize;
+    let mut next = (after / 4) as usize;
+    if offset % 4 != 0 || after % 4 != 0 || cur >= len || next >= len {
         return 0;
     }
-    let mut cur = offset / 4;
-    let mut next = after / 4;
-    let mut spare = limit + u64::from(next) - u64::from(len) - 1;
+    let mut spare = limit + next as u64;
+    let (mut slot, mut untaken) = marks(m.slot, limit);
     // pc and npc are the places `cur` and `next`. In order they move on by one, and nothing is compared: the last record
-    // says nothing, and `spare` leaves room for all records in order, so that only transfers look at the limit. Steps
+    // says nothing, and only transfers look at the limit, so that enough steps are left for all records in order. Steps
     // aren't counted: in order `next` grows with them, and a transfer changes `spare` by as much as it changes `next`
-    // besides. What can't be made here (a fault, a frame to be saved or loaded, a transfer in a slot, a target without a
-    // record) changes nothing, and ends the loop.
+    // besides. The slot isn't kept: it is the place where no step was made since a transfer marked it. What can't be
+    // made here (a fault, a transfer in a slot, a target without a record) changes nothing, and ends the loop.
     'turns: loop {
         let op = op_in(ops, first, cur);
         let here = Here {
@@ -550,25 +604,35 @@ pub(crate) fn go_far(ops: &[Op], first: u32, m: &mut Machine, limit: u64) -> u64
             cur,
             next,
             spare,
+            slot,
+            untaken,
         };
         match m.turn(op, here) {
             Turn::On => {
                 cur = next;
                 next += 1;
             }
+            Turn::Past => {
+                slot = here.left() - 1;
+                untaken = slot;
+                cur = next;
+                next += 1;
+            }
             Turn::To(place) => {
-                spare = spare - u64::from(next) - 1 + u64::from(place);
+                slot = here.left() - 1;
+                spare = slot + place as u64;
                 cur = next;
                 next = place;
             }
             Turn::At(place) => {
-                spare = spare - u64::from(next) + u64::from(place);
+                spare = here.left() + place as u64;
                 cur = place;
                 next = place + 1;
             }
             Turn::Stop => break,
         }
     }
-    m.stand_at(first, cur, next);
-    limit + u64::from(next) - u64::from(len) - 1 - spare
+    let left = spare - next as u64;
+    m.stand_at(first, cur, next, marked(left, slot, untaken));
+    limit - left
 }

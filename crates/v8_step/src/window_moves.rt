@@ -8,12 +8,12 @@ ghost use Rattle.std.specs.Option.{option_map};
 ghost use Rattle.v8_memory.specs.Calls.{Fills as Written};
 ghost use Rattle.v8_windows.specs.Calls.{frame_words as words_of_frame};
 ghost use Rattle.v8_windows.specs.Frames.{frame_pointer};
-ghost use Rattle.v8_step.specs.State.{register_of};
+ghost use Rattle.v8_step.specs.State.{NoSlot, Slot, register_of};
 ghost use Rattle.v8_step.specs.WindowMoves.{frame_read, frame_written, saved_memory, enter, leave, spill_many, save_step, restore_step};
 ghost use Rattle.v8_step.specs.Machine.{Fills, Spills};
 
+use crate::Ending;
 use crate::machine::{Machine, register};
-use crate::{Ending, Slot};
 use eel_base::Addr;
 use v8_decode::Reg;
 use v8_memory::Memory;
@@ -82,7 +82,7 @@ impl Machine {
     #[inline(never)]
     #[tactic(auto, unfolding(crate::specs::WindowMoves::save_step))]
     pub(crate) fn save_in_order(&mut self, rd: Reg, value: u32) -> bool
-        ensures goes { result ≡ true → (pc npc : ℕ) → save_step (placed self.old pc npc) rd value ≡ placed self.new npc (wrapped (npc + 4)) }
+        ensures goes { result ≡ true → (pc npc : ℕ) (slot : Slot) → save_step (placed self.old pc npc slot) rd value ≡ placed self.new npc (wrapped (npc + 4)) NoSlot }
         ensures stays { result ≡ false → self.new ≡ self.old }
         ensures going { self.new.ending ≡ self.old.ending }
     {
@@ -91,7 +91,6 @@ impl Machine {
         }
         let _ = self.windows.enter();
         self.set(rd, value);
-        self.slot = Slot::NoSlot;
         true
     }
 
@@ -99,7 +98,7 @@ impl Machine {
     #[inline(never)]
     #[tactic(auto, unfolding(crate::specs::WindowMoves::restore_step))]
     pub(crate) fn restore_in_order(&mut self, rd: Reg, value: u32) -> bool
-        ensures goes { result ≡ true → (pc npc : ℕ) → restore_step (placed self.old pc npc) rd value ≡ placed self.new npc (wrapped (npc + 4)) }
+        ensures goes { result ≡ true → (pc npc : ℕ) (slot : Slot) → restore_step (placed self.old pc npc slot) rd value ≡ placed self.new npc (wrapped (npc + 4)) NoSlot }
         ensures stays { result ≡ false → self.new ≡ self.old }
         ensures going { self.new.ending ≡ self.old.ending }
     {
@@ -108,7 +107,6 @@ impl Machine {
         }
         let _ = self.windows.leave();
         self.set(rd, value);
-        self.slot = Slot::NoSlot;
         true
     }
 

@@ -3,7 +3,7 @@ use Rattle.std.proofs.Common.{◌≡◌, ◌≢◌, ℕ, zero, suc, ◌+◌, ◌
 use Rattle.std.specs.Prelude.{if◌then◌else◌, nat_lt, slice_index, slice_set}
 use Rattle.std.proofs.lemmas.Bool.{cases_lt, lt-ltb, le-ltb}
 use Rattle.std.proofs.lemmas.List.FromFn.{fill_by_all, get_or-map-range_with_len, length-map-range_with_len}
-use Rattle.v8_windows.specs.Registers.{place_of, register_in, register_set}
+use Rattle.v8_windows.specs.Registers.{place_of, register_in, register_set, window_after, window_before}
 use Rattle.v8_windows.specs.Calls.{IsCopied, after_outs, registers_seen, seen_at}
 use Rattle.v8_windows.proofs.Places.{place_of-below, written_in_place}
 
@@ -260,6 +260,174 @@ pub bring_zero : (registers old first second new : List ℕ) (window : ℕ) → 
     → slice_index new 0 ≡ slice_index registers 0
 bring_zero registers old first second new window globals outs ins =
     ins.below 0 (omega arith) ∙ outs.below 0 (omega arith) ∙ globals.inside 0 (omega arith)
+
+-- ---- to the window before, and the one after
+
+pub copied_through : (at start : ℕ) (words none held old new : List ℕ) → IsCopied 0 start 8 words none held
+    → IsCopied at 0 8 held old new → IsCopied at start 8 words old new
+copied_through at start words none held old new taken put = record {
+  inside = λ k low. put.inside k low ∙ taken.inside k low;
+  below = put.below;
+  above = put.above;
+}
+
+-- how far a place is behind the outs of the window before, and of the one after
+behind_before : (window place : ℕ) → window < 8 → 8 ≤ place → place < 136
+    → after_outs (window_before window) place ≡ (after_outs window place + 16) % 128
+behind_before window place w high within = omega arith
+
+behind_after : (window place : ℕ) → window < 8 → 8 ≤ place → place < 136
+    → after_outs (window_after window) place ≡ (after_outs window place + 112) % 128
+behind_after window place w high within = omega arith
+
+same_seen : (current others : List ℕ) (window : ℕ) (new kept : List ℕ) (other : ℕ)
+    → ((place : ℕ) → place < 136 → seen_at current others window place ≡ seen_at new kept other place)
+    → registers_seen new kept other ≡ registers_seen current others window
+same_seen current others window new kept other h =
+    sym (as_seen new kept other (registers_seen current others window) (length-seen current others window)
+    (λ place within. seen current others window place within ∙ h place within))
+
+-- locals and ins are put away, the outs are ins, and outs and locals are brought
+pub before_seen : (current others put kept shifted new : List ℕ) (window : ℕ) → window < 8
+    → IsCopied (8 + 16 * window + 8) 16 8 current others put
+    → IsCopied (8 + 16 * ((window + 1) % 8)) 24 8 current put kept → IsCopied 24 8 8 current current shifted
+    → IsCopied 8 (8 + 16 * window_before window) 16 kept shifted new
+    → registers_seen new kept (window_before window) ≡ registers_seen current others window
+before_seen current others put kept shifted new window w locals ins outs brought =
+    same_seen current others window new kept (window_before window)
+    (λ place within. each place within (cases_lt place 8))
+  where
+    next : ℕ
+    next = 8 + 16 * ((window + 1) % 8)
+
+    beside : (place : ℕ) → (place < next) ⊎ (next ≤ place) → 8 ≤ place → place < 136
+        → (after_outs window place < 16) ⊎ (24 ≤ after_outs window place) → slice_index kept place ≡ slice_index put place
+    beside place (inl low) high within k = ins.below place low
+    beside place (inr up) high within (inl k) = ins.above place (omega (arith, up, high, within, k, w))
+    beside place (inr up) high within (inr k) = ins.above place (omega (arith, up, high, within, k, w))
+
+    far : (place : ℕ) → (place < 8 + 16 * window + 8) ⊎ (8 + 16 * window + 8 ≤ place) → 8 ≤ place → place < 136
+        → 24 ≤ after_outs window place → slice_index put place ≡ slice_index others place
+    far place (inl low) high within k = locals.below place low
+    far place (inr up) high within k = locals.above place (omega (arith, up, high, within, k, w))
+
+    away : (place : ℕ) → 8 ≤ place → place < 136 → 24 ≤ after_outs window place
+        → slice_index kept place ≡ slice_index others place
+    away place high within k =
+        beside place (cases_lt place next) high within (inr k)
+        ∙ far place (cases_lt place (8 + 16 * window + 8)) high within k
+
+    past : (place : ℕ) → 8 ≤ place → place < 136
+        → after_outs (window_before window) place ≡ (after_outs window place + 16) % 128
+        → (after_outs window place < 8) ⊎ (8 ≤ after_outs window place)
+        → (after_outs window place < 16) ⊎ (16 ≤ after_outs window place)
+        → (after_outs window place < 24) ⊎ (24 ≤ after_outs window place)
+        → (after_outs window place < 112) ⊎ (112 ≤ after_outs window place)
+        → seen_at current others window place ≡ seen_at new kept (window_before window) place
+    past place high within at (inl k) q r t =
+        at_own current others window place high (omega (arith, k)) ∙ sym (outs.inside (after_outs window place) k)
+        ∙ ap (slice_index shifted) (omega (arith, at, k))
+        ∙ sym (brought.above (8 + after_outs (window_before window) place) (omega (arith, at, k)))
+        ∙ sym (at_own new kept (window_before window) place high (omega (arith, at, k)))
+    past place high within at (inr low) (inl k) r t =
+        let here : 8 + 16 * window + 8 + (after_outs window place - 8) ≡ place = omega (arith, high, within, low, k, w) in
+        at_own current others window place high (omega (arith, k))
+        ∙ ap (slice_index current) (omega (arith, low)) ∙ sym (locals.inside (after_outs window place - 8) (omega (arith, k, low)))
+        ∙ ap (slice_index put) here
+        ∙ sym (beside place (cases_lt place next) high within (inl k))
+        ∙ sym (at_other new kept (window_before window) place high (omega (arith, at, low, k)))
+    past place high within at (inr low) (inr more) (inl k) t =
+        let here : next + (after_outs window place - 16) ≡ place = omega (arith, high, within, more, k, w) in
+        at_own current others window place high k
+        ∙ ap (slice_index current) (omega (arith, more)) ∙ sym (ins.inside (after_outs window place - 16) (omega (arith, k, more)))
+        ∙ ap (slice_index kept) here
+        ∙ sym (at_other new kept (window_before window) place high (omega (arith, at, more, k)))
+    past place high within at (inr low) (inr more) (inr k) (inl few) =
+        at_other current others window place high k ∙ sym (away place high within k)
+        ∙ sym (at_other new kept (window_before window) place high (omega (arith, at, k, few)))
+    past place high within at (inr low) (inr more) (inr k) (inr many) =
+        let here : 8 + 16 * window_before window + after_outs (window_before window) place ≡ place =
+        omega (arith, at, high, within, many, w) in
+        at_other current others window place high k ∙ sym (away place high within k)
+        ∙ ap (slice_index kept) (sym here)
+        ∙ sym (brought.inside (after_outs (window_before window) place) (omega (arith, at, many)))
+        ∙ sym (at_own new kept (window_before window) place high (omega (arith, at, many)))
+
+    each : (place : ℕ) → place < 136 → (place < 8) ⊎ (8 ≤ place)
+        → seen_at current others window place ≡ seen_at new kept (window_before window) place
+    each place within (inl low) =
+        at_global current others window place low ∙ sym (outs.below place (omega (arith, low)))
+        ∙ sym (brought.below place low) ∙ sym (at_global new kept (window_before window) place low)
+    each place within (inr high) =
+        past place high within (behind_before window place w high within) (cases_lt (after_outs window place) 8)
+        (cases_lt (after_outs window place) 16) (cases_lt (after_outs window place) 24)
+        (cases_lt (after_outs window place) 112)
+
+-- outs and locals are put away, the ins are outs, and locals and ins are brought
+pub after_seen : (current others kept shifted held new : List ℕ) (window : ℕ) → window < 8
+    → IsCopied (8 + 16 * window) 8 16 current others kept → IsCopied 8 24 8 current current shifted
+    → IsCopied 16 (8 + 16 * window_after window + 8) 8 kept shifted held
+    → IsCopied 24 (8 + 16 * ((window + 2) % 8)) 8 kept held new
+    → registers_seen new kept (window_after window) ≡ registers_seen current others window
+after_seen current others kept shifted held new window w outs ins locals brought =
+    same_seen current others window new kept (window_after window)
+    (λ place within. each place within (cases_lt place 8))
+  where
+    away : (place : ℕ) → (place < 8 + 16 * window) ⊎ (8 + 16 * window ≤ place) → 8 ≤ place → place < 136
+        → 16 ≤ after_outs window place → slice_index kept place ≡ slice_index others place
+    away place (inl low) high within k = outs.below place low
+    away place (inr up) high within k = outs.above place (omega (arith, up, high, within, k, w))
+
+    past : (place : ℕ) → 8 ≤ place → place < 136
+        → after_outs (window_after window) place ≡ (after_outs window place + 112) % 128
+        → (after_outs window place < 16) ⊎ (16 ≤ after_outs window place)
+        → (after_outs window place < 24) ⊎ (24 ≤ after_outs window place)
+        → (after_outs window place < 32) ⊎ (32 ≤ after_outs window place)
+        → (after_outs window place < 40) ⊎ (40 ≤ after_outs window place)
+        → seen_at current others window place ≡ seen_at new kept (window_after window) place
+    past place high within at (inl k) q r t =
+        let here : 8 + 16 * window + after_outs window place ≡ place = omega (arith, high, within, k, w) in
+        at_own current others window place high (omega (arith, k)) ∙ sym (outs.inside (after_outs window place) k)
+        ∙ ap (slice_index kept) here
+        ∙ sym (at_other new kept (window_after window) place high (omega (arith, at, k)))
+    past place high within at (inr low) (inl k) r t =
+        at_own current others window place high k
+        ∙ ap (slice_index current) (omega (arith, low)) ∙ sym (ins.inside (after_outs window place - 16) (omega (arith, k, low)))
+        ∙ ap (slice_index shifted) (omega (arith, at, low, k))
+        ∙ sym (locals.below (8 + after_outs (window_after window) place) (omega (arith, at, low, k)))
+        ∙ sym (brought.below (8 + after_outs (window_after window) place) (omega (arith, at, low, k)))
+        ∙ sym (at_own new kept (window_after window) place high (omega (arith, at, low, k)))
+    past place high within at (inr low) (inr more) (inl k) t =
+        let here : 8 + 16 * window_after window + 8 + (after_outs window place - 24) ≡ place =
+        omega (arith, high, within, more, k, w) in
+        at_other current others window place high more
+        ∙ sym (away place (cases_lt place (8 + 16 * window)) high within low)
+        ∙ ap (slice_index kept) (sym here) ∙ sym (locals.inside (after_outs window place - 24) (omega (arith, k, more)))
+        ∙ ap (slice_index held) (omega (arith, at, more, k))
+        ∙ sym (brought.below (8 + after_outs (window_after window) place) (omega (arith, at, more, k)))
+        ∙ sym (at_own new kept (window_after window) place high (omega (arith, at, more, k)))
+    past place high within at (inr low) (inr more) (inr least) (inl k) =
+        let here : 8 + 16 * ((window + 2) % 8) + (after_outs window place - 32) ≡ place =
+        omega (arith, high, within, least, k, w) in
+        at_other current others window place high more
+        ∙ sym (away place (cases_lt place (8 + 16 * window)) high within low)
+        ∙ ap (slice_index kept) (sym here) ∙ sym (brought.inside (after_outs window place - 32) (omega (arith, k, least)))
+        ∙ ap (slice_index new) (omega (arith, at, least, k))
+        ∙ sym (at_own new kept (window_after window) place high (omega (arith, at, least, k)))
+    past place high within at (inr low) (inr more) (inr least) (inr k) =
+        at_other current others window place high more
+        ∙ sym (away place (cases_lt place (8 + 16 * window)) high within low)
+        ∙ sym (at_other new kept (window_after window) place high (omega (arith, at, k, high, within, w)))
+
+    each : (place : ℕ) → place < 136 → (place < 8) ⊎ (8 ≤ place)
+        → seen_at current others window place ≡ seen_at new kept (window_after window) place
+    each place within (inl low) =
+        at_global current others window place low ∙ sym (ins.below place low) ∙ sym (locals.below place (omega (arith, low)))
+        ∙ sym (brought.below place (omega (arith, low))) ∙ sym (at_global new kept (window_after window) place low)
+    each place within (inr high) =
+        past place high within (behind_after window place w high within) (cases_lt (after_outs window place) 16)
+        (cases_lt (after_outs window place) 24) (cases_lt (after_outs window place) 32)
+        (cases_lt (after_outs window place) 40)
 
 -- ---- at first
 

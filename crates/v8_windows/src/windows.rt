@@ -2,7 +2,7 @@
 ghost use Rattle.std.specs.Prelude.{◌≡◌, ◌+◌, ◌-◌, ◌*◌, ◌<◌, ◌≤◌, ◌==◌, length, slice_index};
 ghost use Rattle.v8_windows.specs.Calls.{IsCopied, Moves, entered, filled_by, left, no_windows, oldest_address, oldest_words, registers_of_words, registers_seen};
 ghost use Rattle.v8_windows.specs.Frames.{frame_of, frame_registers};
-ghost use Rattle.v8_windows.specs.Registers.{place_of, register_in, register_set};
+ghost use Rattle.v8_windows.specs.Registers.{place_of, register_in, register_set, window_after, window_before};
 
 use eel_base::Addr;
 use std::marker::Model;
@@ -81,7 +81,8 @@ impl Windows {
         if self.valid == 7 {
             return Err(MustSpill);
         }
-        self.move_to((self.window + 7) % 8);
+        go_before(&mut self.current, &mut self.others, self.window);
+        self.window = (self.window + 7) % 8;
         self.valid += 1;
         Ok(())
     }
@@ -94,20 +95,10 @@ impl Windows {
         if self.valid == 1 {
             return Err(MustFill);
         }
-        self.move_to((self.window + 1) % 8);
+        go_after(&mut self.current, &mut self.others, self.window);
+        self.window = (self.window + 1) % 8;
         self.valid -= 1;
         Ok(())
-    }
-
-    /// Makes another window the current one.
-    #[inline(always)]
-    fn move_to(&mut self, window: u8)
-        requires { window < 8 }
-        ensures { self.new ≡ record self.old { window = window } }
-    {
-        put_away(&self.current, &mut self.others, self.window);
-        bring(&mut self.current, &self.others, window);
-        self.window = window;
     }
 
     /// How many windows are valid.
@@ -152,6 +143,32 @@ impl Windows {
     }
 }
 
+// Goes to the window before. The outs become its ins, and the globals stay.
+#[inline(always)]
+fn go_before(current: &mut [u32; 32], others: &mut [u32; 136], window: u8)
+    requires { window < 8 }
+    ensures all { registers_seen current.new others.new (window_before window) ≡ registers_seen current.old others.old window }
+    ensures zero { slice_index current.new 0 ≡ slice_index current.old 0 }
+{
+    copy(others, outs_at(window) + 8, current, 16, 8);
+    copy(others, outs_at((window + 1) % 8), current, 24, 8);
+    shift(current, 24, 8);
+    copy(current, 8, others, outs_at((window + 7) % 8), 16);
+}
+
+// Goes to the window after. The ins become its outs, and the globals stay.
+#[inline(always)]
+fn go_after(current: &mut [u32; 32], others: &mut [u32; 136], window: u8)
+    requires { window < 8 }
+    ensures all { registers_seen current.new others.new (window_after window) ≡ registers_seen current.old others.old window }
+    ensures zero { slice_index current.new 0 ≡ slice_index current.old 0 }
+{
+    copy(others, outs_at(window), current, 8, 16);
+    shift(current, 8, 24);
+    copy(current, 16, others, outs_at((window + 1) % 8) + 8, 8);
+    copy(current, 24, others, outs_at((window + 2) % 8), 8);
+}
+
 // Writes the registers of a window where all registers stand.
 #[inline(always)]
 fn put_away(current: &[u32; 32], registers: &mut [u32; 136], window: u8)
@@ -194,6 +211,19 @@ fn copy(to: &mut [u32], at: usize, words: &[u32], start: usize, count: usize)
     ensures len { length to.new ≡ length to.old }
 {
     to[at..at + count].copy_from_slice(&words[start..start + count]);
+}
+
+// Copies eight words to another place among the registers of a window.
+#[inline(always)]
+#[tactic(auto, using(crate::proofs::Seen::copied_through))]
+fn shift(current: &mut [u32; 32], at: usize, start: usize)
+    requires to { at + 8 ≤ 32 }
+    requires words { start + 8 ≤ 32 }
+    ensures { IsCopied at start 8 current.old current.old current.new }
+{
+    let mut words = [0; 8];
+    copy(&mut words, 0, current, start, 8);
+    copy(current, at, &words, 0, 8);
 }
 
 // Where the list has a register of a window.

@@ -2,20 +2,24 @@
 use Rattle.std.proofs.Common.{◌≡◌, ◌+◌, ◌-◌, ◌<◌, ◌≤◌, None}
 use Rattle.v8_memory.specs.Kept.{AreKept}
 use Rattle.v8_memory.specs.Regions.{code_of}
-use Rattle.v8_step.specs.Ahead.{at_places}
+use Rattle.v8_step.specs.Ahead.{at_places, slot_by}
 use Rattle.v8_step.specs.Turns.{IsQuietRun}
 use Rattle.v8_step.proofs.ahead.go_far.Given as goal
 
 abbrev pub invariant-turns : goal.invariant-turns
 invariant-turns l = record {
   live : l.m.ending ≡ None;
-  run : IsQuietRun l.initial.m (l.limit + l.next - l.len - 1 - l.spare) (at_places l.m l.first l.cur l.next);
+  run : IsQuietRun l.initial.m (l.limit - (l.spare - l.next))
+      (at_places l.m l.first l.cur l.next (slot_by (l.spare - l.next) l.slot l.untaken));
   kept : AreKept (code_of l.m.memory) l.first l.ops;
   cur : l.cur < l.len;
   next : l.next ≤ l.len;
   ahead : l.cur + 1 < l.len → l.next < l.len;
-  most : l.spare + l.len + 1 ≤ l.limit + l.next;
+  room : l.len < l.spare;
+  most : l.spare ≤ l.limit + l.next;
+  slot : l.spare ≤ l.slot + l.next;
+  untaken : l.spare ≤ l.untaken + l.next;
 }
 
 abbrev pub decreases-turns : goal.decreases-turns
-decreases-turns l = l.spare + l.len + 1 - l.next
+decreases-turns l = l.spare - l.next
