@@ -40,7 +40,7 @@ use Rattle.jump_code.specs.Choosing.{choice_at, ComesToCase, IsAboutToChoose, ch
 use Rattle.jump_code.proofs.Choosing.{choices_simulate}
 use Rattle.layout.specs.declared.items.Item.{Item}
 use Rattle.layout.specs.declared.items.Item.TheVariants as it
-use Rattle.layout.specs.Laid.{HasShortForms, IsLaid, IsWordAt, Open, Placement, end_from, item_at, item_in, items_in, open_from, open_in, range_in, range_of, size_of}
+use Rattle.layout.specs.Laid.{HasShortForms, IsLaid, IsWordAt, OpenMark as Open, Placement, end_from, item_at, item_in, items_in, open_from, open_in, range_in, range_of, size_of}
 use Rattle.layout.specs.Running.{HasCode}
 use Rattle.eel_base.specs.CodeText.{IsText}
 use Rattle.image_code.proofs.Keeping.{distance_leads, distance_of}

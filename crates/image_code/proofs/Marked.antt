@@ -6,7 +6,7 @@ use Rattle.eel_base.specs.declared.numbers.PieceNo.{PieceNo}
 use Rattle.v8_decode.specs.declared.Instr.{Instr}
 use Rattle.layout.specs.declared.items.Item.{Item}
 use Rattle.layout.specs.declared.items.Item.TheVariants as it
-use Rattle.layout.specs.Laid.{Placement, Open, IsLaid, IsWordAt, item_at, item_in, items_in, size_of, open_in, open_from, end_from, range_in, range_of}
+use Rattle.layout.specs.Laid.{Placement, OpenMark as Open, IsLaid, IsWordAt, item_at, item_in, items_in, size_of, open_in, open_from, end_from, range_in, range_of}
 use Rattle.jump_code.specs.Pieces.{marked_piece, word_items}
 
 -- ---- the items

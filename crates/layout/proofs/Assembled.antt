@@ -2,7 +2,7 @@
 use Rattle.std.proofs.Common.{◌≡◌, ℕ, zero, suc, ◌+◌, ◌-◌, ◌*◌, ◌%◌, ◌^◌, ◌<◌, ◌≤◌, ◌⊎◌, inl, inr, Bool, true, false, List, [], ◌∷◌, ◌++◌, length, map, slice_get, slice_index, Option, Some, None, refl, ap, sym, ◌∙◌, subst, append_assoc, arith}
 use Rattle.std.specs.Prelude.{if◌then◌else◌}
 use Rattle.std.specs.Option.{option_map}
-use Rattle.std.proofs.lemmas.Bool.{cases_lt, eqb-true}
+use Rattle.std.proofs.lemmas.Bool.{cases_lt, eqb-true, false≢true}
 use Rattle.std.proofs.lemmas.List.{length-append, length-map}
 use Rattle.eel_base.specs.declared.numbers.Addr.{Addr}
 use Rattle.eel_base.specs.declared.numbers.PieceNo.{PieceNo}
@@ -23,10 +23,7 @@ use Rattle.layout.proofs.Listed.{items_at, from_append, split_at, start_at, befo
 use Rattle.layout.proofs.Widening.{offset_more, rises}
 use Rattle.layout.proofs.Emitted.{near_enough}
 use Rattle.layout.proofs.Standing.{code_length, has_code, item_stands, GoesTo, IsNextAt, IsNearTo}
-use Rattle.layout.proofs.Ranging.{seen, AreStill, piece_ranges, seen_both, count_more, order_ascends, order_finds, AllOf, all_then, one_of, piece_made}
-
-differ : false ≡ true → ⊥
-differ e = cc
+use Rattle.layout.proofs.Ranging.{seen, AreStill, piece_ranges, seen_both, count_more, order_ascends, order_finds, AllOf, all_then, at_next, at_this, get_low, one_of, piece_made}
 
 -- ---- lists
 
@@ -51,11 +48,6 @@ get_within [] n l = absurd (omega arith)
 get_within (x ∷ items) zero l = (x, refl)
 get_within (x ∷ items) (suc n) l = get_within items n (omega arith)
 
-pub get_low : (xs : List Item) (n : ℕ) (x : Item) → slice_get xs n ≡ Some x → n < length xs
-get_low [] n x e = absurd (cc)
-get_low (y ∷ ys) zero x e = omega arith
-get_low (y ∷ ys) (suc n) x e = let f = get_low ys n x e in omega arith
-
 pub size_is : (pieces : List (List Item)) (k : ℕ) → size_of pieces k ≡ length (items_at pieces k)
 size_is [] k = refl
 size_is (items ∷ pieces) zero = refl
@@ -75,7 +67,7 @@ marked_at (items ∷ pieces) h (suc k) = marked_at pieces (λ k. h (suc k)) k
 no_jump : (o : Option Item) → is_jump o ≡ false → jump_to o ≡ None
 no_jump None e = refl
 no_jump (Some (it.Word w)) e = refl
-no_jump (Some (it.Jump k)) e = absurd (differ (sym e))
+no_jump (Some (it.Jump k)) e = absurd (false≢true (sym e))
 no_jump (Some (it.Branch c k)) e = refl
 no_jump (Some (it.Mark a n)) e = refl
 no_jump (Some it.EndMark) e = refl
@@ -189,7 +181,7 @@ module _ (pieces : List (List Item)) (leads : AllLead pieces) where
 
       first : (after : List ℕ) → s.after ≡ after → leads_next to (slice_get (entries_from pieces after) 0) ≡ true
           → start_of (entries_of pieces) to.0 ≡ start_of (entries_of pieces) k + 1 + length (items_at pieces k)
-      first [] f g = absurd (differ g)
+      first [] f g = absurd (false≢true g)
       first (j ∷ js) f g =
           let same : to.0 ≡ j = eqb-true to.0 j g in
           ap (start_of (entries_of pieces)) same ∙ next_start k j s js f
@@ -198,7 +190,7 @@ module _ (pieces : List (List Item)) (leads : AllLead pieces) where
           → suc (start_of (entries_of pieces) k + 1 + n) ≡ start_of (entries_of pieces) to.0
       by (inl l) =
           let y = get_within (items_at pieces k) (suc n) l in
-          absurd (differ (ap (leads_next to) (sym (get_item (items_at pieces k) (entries_from pieces s.after) (suc n)
+          absurd (false≢true (ap (leads_next to) (sym (get_item (items_at pieces k) (entries_from pieces s.after) (suc n)
           y.0 y.1)) ∙ behind))
       by (inr l) =
           let m : suc n ≡ length (items_at pieces k) = omega (arith, inside, l) in
@@ -490,34 +482,15 @@ module _ (pieces : List (List Item)) (leads : AllLead pieces) (marked : AllMarke
       → item_at pieces k (i + j) ≡ Some x)
       → AreStill (place k) i xs
   still_from k [] i are = tt
-  still_from k (it.Word w ∷ xs) i are = still_from k xs (suc i) (λ j x e. on k i j x (are (suc j) x e))
-    where
-      on : (k i j : ℕ) (x : Item) → item_at pieces k (i + suc j) ≡ Some x → item_at pieces k (suc i + j) ≡ Some x
-      on k i j x e = ap (item_at pieces k) (let f : suc i + j ≡ i + suc j = omega arith in f) ∙ e
-  still_from k (it.Jump to ∷ xs) i are = still_from k xs (suc i) (λ j x e. on k i j x (are (suc j) x e))
-    where
-      on : (k i j : ℕ) (x : Item) → item_at pieces k (i + suc j) ≡ Some x → item_at pieces k (suc i + j) ≡ Some x
-      on k i j x e = ap (item_at pieces k) (let f : suc i + j ≡ i + suc j = omega arith in f) ∙ e
-  still_from k (it.Branch c to ∷ xs) i are = still_from k xs (suc i) (λ j x e. on k i j x (are (suc j) x e))
-    where
-      on : (k i j : ℕ) (x : Item) → item_at pieces k (i + suc j) ≡ Some x → item_at pieces k (suc i + j) ≡ Some x
-      on k i j x e = ap (item_at pieces k) (let f : suc i + j ≡ i + suc j = omega arith in f) ∙ e
   still_from k (it.Mark a m ∷ xs) i are = (
-    mark_still k i (it.Mark a m) (ap (item_at pieces k) (let f : i ≡ i + 0 = omega arith in f)
-        ∙ are 0 (it.Mark a m) refl) (λ long next. refl),
-    still_from k xs (suc i) (λ j x e. on k i j x (are (suc j) x e)),
+    mark_still k i (it.Mark a m) (at_this pieces k i _ (are 0 (it.Mark a m) refl)) (λ long next. refl),
+    still_from k xs (suc i) (λ j x e. at_next pieces k i j x (are (suc j) x e)),
   )
-    where
-      on : (k i j : ℕ) (x : Item) → item_at pieces k (i + suc j) ≡ Some x → item_at pieces k (suc i + j) ≡ Some x
-      on k i j x e = ap (item_at pieces k) (let f : suc i + j ≡ i + suc j = omega arith in f) ∙ e
   still_from k (it.EndMark ∷ xs) i are = (
-    mark_still k i it.EndMark (ap (item_at pieces k) (let f : i ≡ i + 0 = omega arith in f)
-        ∙ are 0 it.EndMark refl) (λ long next. refl),
-    still_from k xs (suc i) (λ j x e. on k i j x (are (suc j) x e)),
+    mark_still k i it.EndMark (at_this pieces k i _ (are 0 it.EndMark refl)) (λ long next. refl),
+    still_from k xs (suc i) (λ j x e. at_next pieces k i j x (are (suc j) x e)),
   )
-    where
-      on : (k i j : ℕ) (x : Item) → item_at pieces k (i + suc j) ≡ Some x → item_at pieces k (suc i + j) ≡ Some x
-      on k i j x e = ap (item_at pieces k) (let f : suc i + j ≡ i + suc j = omega arith in f) ∙ e
+  still_from k (_ ∷ xs) i are = still_from k xs (suc i) (λ j x e. at_next pieces k i j x (are (suc j) x e))
 
   items_are : (k j : ℕ) (x : Item) → slice_get (items_at pieces k) j ≡ Some x → item_at pieces k (0 + j) ≡ Some x
   items_are k j x e = ap (item_at pieces k) (let f : 0 + j ≡ j = omega arith in f) ∙ item_is pieces k j ∙ e

@@ -1,16 +1,13 @@
 -- The words of one entry more.
 use Rattle.std.proofs.Common.{◌≡◌, ℕ, suc, ◌+◌, ◌*◌, ◌^◌, ◌<◌, ◌≤◌, ◌⊎◌, inl, inr, Bool, true, false, List, [], ◌++◌, length, slice_get, is_some, IfSome, Option, None, Some, refl, ap, sym, ◌∙◌, add-one, arith}
 use Rattle.std.specs.Option.{option_map}
-use Rattle.std.proofs.lemmas.Bool.{cases_lt, cases_Bool}
+use Rattle.std.proofs.lemmas.Bool.{cases_lt, cases_Bool, false≢true}
 use Rattle.layout.specs.declared.entries.Entry.{Entry}
 use Rattle.layout.specs.Forms.{Forms, far_from, goal_of, is_far, offset, start_of, NoneLeft}
 use Rattle.layout.specs.Emitting.{code_at, code_to, entry_code, far_of, has_condition, target_offset, IsEmitted, IsOffsets}
 use Rattle.layout.proofs.Widening.{rises}
 
-differ : false ≡ true → ⊥
-differ e = cc
-
-code_none : (base : ℕ) (entries : List Entry) (long : Forms) → code_to base entries long 0 ≡ []
+pub code_none : (base : ℕ) (entries : List Entry) (long : Forms) → code_to base entries long 0 ≡ []
 unfolding code_to
 code_none base entries long = refl
 
@@ -45,7 +42,7 @@ pub near_enough : (entries : List Entry) (long : Forms) (n : ℕ) → NoneLeft e
 near_enough entries long n none short = by (goal_of entries n) (not_far (cases_Bool (is_far entries long n)))
   where
     not_far : (is_far entries long n ≡ true) ⊎ (is_far entries long n ≡ false) → is_far entries long n ≡ false
-    not_far (inl t) = absurd (differ (sym short ∙ none n t))
+    not_far (inl t) = absurd (false≢true (sym short ∙ none n t))
     not_far (inr f) = f
 
     by : (o : Option ℕ) → far_from entries long n o ≡ false → far_of (offset entries long n) (option_map (offset

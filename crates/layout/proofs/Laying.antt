@@ -3,7 +3,7 @@ use Rattle.std.proofs.Common.{◌≡◌, ◌≢◌, ℕ, zero, suc, ◌+◌, ◌
 use Rattle.std.specs.Prelude.{if◌then◌else◌}
 use Rattle.std.specs.Cmp.{IsEquivalence}
 use Rattle.std.specs.List.{All, IsDistinct}
-use Rattle.std.proofs.lemmas.Bool.{cases_lt, cases_eq, eqb-true, eq-eqb, cases_Bool, ltb-true, lt-ltb}
+use Rattle.std.proofs.lemmas.Bool.{cases_lt, cases_eq, eqb-true, eq-eqb, cases_Bool, ltb-true, lt-ltb, false≢true, ne_eqb}
 use Rattle.std.proofs.lemmas.List.Folds.{list_any-append, Any-from_list_any}
 use Rattle.std.proofs.lemmas.Map.Keys.{any_passes_from_place, IsDistinct-push}
 use Rattle.std.proofs.lemmas.List.Elements.{All-push}
@@ -16,16 +16,6 @@ use Rattle.layout.specs.Order.{jump_to, exit_at, is_laid, first_left, lowest_lef
 use Rattle.layout.specs.Laying.{LeadsInside, IsLaying, IsMarking, IsLowestLeft, IsNext, IsWhole}
 use Rattle.eel_base.specs.declared.numbers.PieceNo.{PieceNo}
 
-differ : false ≡ true → ⊥
-differ e = cc
-
-pub different : (a b : ℕ) → (a ≡ b → ⊥) → eqb a b ≡ false
-different a b h = go (cases_Bool (eqb a b))
-  where
-    go : (eqb a b ≡ true) ⊎ (eqb a b ≡ false) → eqb a b ≡ false
-    go (inl e) = absurd (h (eqb-true a b e))
-    go (inr e) = e
-
 pub the_equality : IsEquivalence eqb
 the_equality = record {
   refl = λ x. eq-eqb x x refl;
@@ -35,7 +25,7 @@ the_equality = record {
   where
     both : (x y : ℕ) → (x ≡ y) ⊎ (x ≡ y → ⊥) → eqb x y ≡ eqb y x
     both x y (inl e) = eq-eqb x y e ∙ sym (eq-eqb y x (sym e))
-    both x y (inr d) = different x y d ∙ sym (different y x (λ e. d (sym e)))
+    both x y (inr d) = ne_eqb x y d ∙ sym (ne_eqb y x (λ e. d (sym e)))
 
 pub laid_push : (laid : List ℕ) (x k : ℕ) → is_laid (laid ++ x ∷ []) k ≡ (is_laid laid k || (eqb k x || false))
 laid_push laid x k = list_any-append (λ j. eqb k j) laid (x ∷ [])
@@ -53,7 +43,7 @@ laid_same laid x = laid_push laid x x ∙ ap (λ (b : Bool). is_laid laid x || (
     ∙ or_true (is_laid laid x)
 
 pub laid_other : (laid : List ℕ) (x k : ℕ) → (k ≡ x → ⊥) → is_laid (laid ++ x ∷ []) k ≡ is_laid laid k
-laid_other laid x k h = laid_push laid x k ∙ ap (λ (b : Bool). is_laid laid k || (b || false)) (different k x h)
+laid_other laid x k h = laid_push laid x k ∙ ap (λ (b : Bool). is_laid laid k || (b || false)) (ne_eqb k x h)
     ∙ or_false (is_laid laid k)
 
 pub laid_kept : (laid : List ℕ) (x k : ℕ) → is_laid laid k ≡ true → is_laid (laid ++ x ∷ []) k ≡ true
@@ -128,7 +118,7 @@ target_next pieces laid to inside free jump = record {
   inside = inside;
   free = free;
   falls = λ j e f. let s : j ≡ to - 1 = omega arith in let g : ends_in_jump pieces (to - 1) ≡ false = ap (ends_in_jump
-      pieces) (sym s) ∙ f in absurd (differ (sym g ∙ jump));
+      pieces) (sym s) ∙ f in absurd (false≢true (sym g ∙ jump));
 }
 
 -- ---- the lowest left
@@ -196,11 +186,11 @@ none_last (x ∷ xs) e =
 
 not_left : (a b : Bool) → (not a && b) ≡ true → a ≡ false
 not_left false b e = refl
-not_left true b e = absurd (differ e)
+not_left true b e = absurd (false≢true e)
 
 not_right : (a b : Bool) → (not a && b) ≡ true → b ≡ true
 not_right false b e = e
-not_right true b e = absurd (differ e)
+not_right true b e = absurd (false≢true e)
 
 next_is : (pieces : List (List Item)) (laid : List ℕ) → LeadsInside pieces → IsLaying pieces laid
     → length laid < length pieces → IsNext pieces laid (next_piece pieces laid)
@@ -254,7 +244,7 @@ laying_more pieces laid x h next = record {
     not_last k l e =
         let same : x ≡ k = some_is x k (sym (last_pushed laid x) ∙ e) in
         let other : is_laid laid x ≡ true = ap (is_laid laid) same ∙ l in
-        absurd (differ (sym next.free ∙ other))
+        absurd (false≢true (sym next.free ∙ other))
 
     both : (k : ℕ) → is_laid laid k ≡ true
         → (is_laid (laid ++ x ∷ []) k ≡ true) × (slice_get (laid ++ x ∷ []) (length (laid ++ x ∷ []) - 1) ≢ Some k)
@@ -271,7 +261,7 @@ unfolding IsDistinct
 laying_none pieces = record {
   distinct = tt;
   inside = λ k d l. absurd (omega arith);
-  falls = λ k e l. absurd (differ l);
+  falls = λ k e l. absurd (false≢true l);
 }
 
 -- the first pieces of the order are laid

@@ -2,7 +2,7 @@
 use Rattle.std.proofs.Common.{◌≡◌, ℕ, zero, suc, ◌+◌, ◌<◌, ◌≤◌, ◌⊎◌, inl, inr, Bool, true, false, ◌||◌, eqb, List, [], ◌∷◌, ◌++◌, length, get_or, set, take, drop, slice_get, slice_index, replicate, Some, IfSome, map, subst, refl, ap, sym, ◌∙◌, add-one, append_assoc, drop-cons, arith}
 use Rattle.std.specs.Prelude.{if◌then◌else◌}
 use Rattle.std.specs.List.{All, AllByRecursion, IsDistinct, sum_by}
-use Rattle.std.proofs.lemmas.Bool.{cases_eq, cases_Bool, eqb-true, eq-eqb}
+use Rattle.std.proofs.lemmas.Bool.{cases_eq, cases_Bool, eqb-true, eq-eqb, false≢true, ne_eqb}
 use Rattle.std.proofs.lemmas.List.Sums.{sum_by-cons}
 use Rattle.std.proofs.lemmas.List.{length-append, length-map, length-set, length-replicate, get_or-set_same, get_or-set_other, take_more, take_all}
 use Rattle.layout.specs.declared.items.Item.{Item}
@@ -14,10 +14,7 @@ use Rattle.layout.specs.Order.{is_laid}
 use Rattle.layout.specs.Laying.{IsWhole}
 use Rattle.layout.specs.Forms.{entries_in, entries_from, start_of, target}
 use Rattle.layout.specs.Emitting.{IsListing}
-use Rattle.layout.proofs.Laying.{different, the_equality, laid_other, item_is}
-
-differ : false ≡ true → ⊥
-differ e = cc
+use Rattle.layout.proofs.Laying.{the_equality, laid_other, item_is}
 
 -- ---- orders
 
@@ -39,7 +36,7 @@ pub record IsSplit (order : List ℕ) (k : ℕ) : Type 0 where
   pub absent : is_laid before k ≡ false
 
 or_false : (a b : Bool) → a ≡ false → (a || b) ≡ b
-or_false true b e = absurd (differ (sym e))
+or_false true b e = absurd (false≢true (sym e))
 or_false false b e = refl
 
 or_left : (a b : Bool) → (a || b) ≡ false → a ≡ false
@@ -47,11 +44,11 @@ or_left true b e = e
 or_left false b e = refl
 
 or_right : (a b : Bool) → (a || b) ≡ false → b ≡ false
-or_right true b e = absurd (differ (sym e))
+or_right true b e = absurd (false≢true (sym e))
 or_right false b e = e
 
 pub split_at : (order : List ℕ) (k : ℕ) → is_laid order k ≡ true → IsSplit order k
-split_at [] k e = absurd (differ e)
+split_at [] k e = absurd (false≢true e)
 split_at (j ∷ js) k e = go (cases_Bool (eqb k j)) (split_at js k)
   where
     go : (eqb k j ≡ true) ⊎ (eqb k j ≡ false) → (is_laid js k ≡ true → IsSplit js k) → IsSplit (j ∷ js) k
@@ -113,7 +110,7 @@ rest_past : (f : List Item → ℕ) (pieces : List (List Item)) (i k : ℕ) (ks 
 rest_past f [] i k ks l = refl
 rest_past f (p ∷ ps) i k ks l =
     let h = rest_past f ps (suc i) k ks (omega arith) in
-    let d : eqb i k ≡ false = different i k (λ e. omega (arith, l, e)) in
+    let d : eqb i k ≡ false = ne_eqb i k (λ e. omega (arith, l, e)) in
     let g : (if eqb i k || is_laid ks i then 0 else f p) ≡ (if is_laid ks i then 0 else f p)
     = ap (λ (b : Bool). if b then 0 else f p) (or_false (eqb i k) (is_laid ks i) d) in
     omega (arith, h, g)
@@ -135,7 +132,7 @@ rest_less f (p ∷ ps) i (suc d) ks l e =
     let h : rest_of f ps (suc i) ks ≡ rest_of f ps (suc i) ((i + suc d) ∷ ks) + f (items_at ps d)
     = subst (λ (n : ℕ). rest_of f ps (suc i) ks ≡ rest_of f ps (suc i) (n ∷ ks) + f (items_at ps d)) z
     (rest_less f ps (suc i) d ks (omega arith) (ap (is_laid ks) z ∙ e)) in
-    let q : eqb i (i + suc d) ≡ false = different i (i + suc d) (λ e. omega (arith, e)) in
+    let q : eqb i (i + suc d) ≡ false = ne_eqb i (i + suc d) (λ e. omega (arith, e)) in
     let g : (if eqb i (i + suc d) || is_laid ks i then 0 else f p) ≡ (if is_laid ks i then 0 else f p)
     = ap (λ (b : Bool). if b then 0 else f p) (or_false (eqb i (i + suc d)) (is_laid ks i) q) in
     omega (arith, h, g)
@@ -247,7 +244,7 @@ pub listed_none : (pieces : List (List Item)) (order : List ℕ) → IsListed pi
 listed_none pieces order = record {
   are = refl;
   len = length-replicate (length pieces) 0;
-  known = λ k e. absurd (differ e);
+  known = λ k e. absurd (false≢true e);
 }
 
 distinct_before : (fs rs : List ℕ) (k : ℕ) → IsDistinct eqb (fs ++ k ∷ rs) → is_laid fs k ≡ false

@@ -2,7 +2,7 @@
 use Rattle.std.proofs.Common.{◌≡◌, ℕ, zero, suc, ◌+◌, ◌*◌, ◌^◌, ◌<◌, ◌≤◌, ◌⊎◌, inl, inr, Bool, true, false, List, [], ◌∷◌, ◌++◌, length, map, get_or, take, slice_get, Option, Some, None, refl, ap, sym, ◌∙◌, subst, arith}
 use Rattle.std.specs.Prelude.{if◌then◌else◌}
 use Rattle.std.specs.Option.{option_map}
-use Rattle.std.proofs.lemmas.Bool.{cases_Bool}
+use Rattle.std.proofs.lemmas.Bool.{cases_Bool, false≢true}
 use Rattle.std.proofs.lemmas.List.Sums.{sum_by-cons}
 use Rattle.std.proofs.lemmas.List.{take_more, take_all}
 use Rattle.std.proofs.lemmas.Option.{slice_get-get_or}
@@ -16,11 +16,9 @@ use Rattle.layout.specs.Forms.{Forms, entries_in, entries_from, entries_of, far,
 use Rattle.layout.specs.Compact.{IsCompact, LongIsEnough, NeededOnce, ShortIsEnough}
 use Rattle.layout.proofs.Laying.{exits_lead, item_is, whole_is}
 use Rattle.layout.proofs.Listed.{items_at, weigh, weighs_less}
+use Rattle.layout.proofs.Ranging.{get_low}
 use Rattle.layout.proofs.Widening.{far_means, offset_more, widened_once}
-use Rattle.layout.proofs.Assembled.{entry_is, get_low, piece_at, size_is}
-
-differ : false ≡ true → ⊥
-differ e = cc
+use Rattle.layout.proofs.Assembled.{entry_is, piece_at, size_is}
 
 -- ---- one number
 
@@ -127,7 +125,7 @@ not_far a b l m = go (cases_Bool (far a b))
     go (inr f) = f
 
 pick : (b : Bool) (m n : ℕ) → b ≡ false → (if b then m else n) ≡ n
-pick true m n e = absurd (differ (sym e))
+pick true m n e = absurd (false≢true (sym e))
 pick false m n e = refl
 
 short_low : (long : Bool) (x : Item) (next : Option Entry) → (target (Some (en.Item x)) ≡ None → ⊥) → long ≡ false
@@ -185,7 +183,7 @@ module _ (pieces : List (List Item)) (base : ℕ) (p : Placement) (place : ℕ �
           (start_near to l)
 
       go : (c.long (entry_no k n) ≡ true) ⊎ (c.long (entry_no k n) ≡ false) → c.long (entry_no k n) ≡ false
-      go (inl f) = absurd (differ (sym reach ∙ c.widened.needed (entry_no k n) f))
+      go (inl f) = absurd (false≢true (sym reach ∙ c.widened.needed (entry_no k n) f))
       go (inr f) = f
 
   step : (k n : ℕ) (x : Item) → item_at pieces k n ≡ Some x

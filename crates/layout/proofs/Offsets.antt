@@ -9,7 +9,7 @@ use Rattle.eel_base.specs.declared.range.Range.{Range}
 use Rattle.layout.specs.declared.items.Item.TheVariants as it
 use Rattle.layout.specs.declared.entries.Entry.{Entry}
 use Rattle.layout.specs.declared.entries.Entry.TheVariants as en
-use Rattle.layout.specs.declared.ranges.Open.{Open}
+use Rattle.layout.specs.declared.ranges.OpenRange.{OpenRange}
 use Rattle.layout.specs.Forms.{Forms, is_start, leads_next, offset, start_of, target, width}
 use Rattle.layout.specs.Emitting.{closes, opens, ranges_from, AreOffsets, IsListing, IsOffsets}
 use Rattle.layout.proofs.Widening.{offset_more}
@@ -115,14 +115,14 @@ all_offsets entries starts long at n listing len all h = record {
 
 -- ---- ranges
 
-pub ranges_more : (at : ℕ → ℕ) (entries : List Entry) (n here : ℕ) (mark later : Option Open) (x : Entry)
+pub ranges_more : (at : ℕ → ℕ) (entries : List Entry) (n here : ℕ) (mark later : Option OpenRange) (x : Entry)
     (old new whole : List Range) → n < length entries → x ≡ get_or entries n x → here ≡ at n
     → old ++ ranges_from at n mark (drop n entries) ≡ whole → new ≡ old ++ closes here mark x → later ≡ opens here mark x
     → new ++ ranges_from at (n + 1) later (drop (n + 1) entries) ≡ whole
 ranges_more at entries n here mark later x old new whole l is place before more next = rw add-one (
     ap (λ (rs : List Range). rs ++ ranges_from at (suc n) later (drop (suc n) entries)) more
     ∙ append_assoc old (closes here mark x) (ranges_from at (suc n) later (drop (suc n) entries))
-    ∙ ap (λ (o : Option Open). old ++ (closes here mark x ++ ranges_from at (suc n) o (drop (suc n) entries))) next
+    ∙ ap (λ (o : Option OpenRange). old ++ (closes here mark x ++ ranges_from at (suc n) o (drop (suc n) entries))) next
     ∙ ap (λ (a : ℕ). old ++ (closes a mark x ++ ranges_from at (suc n) (opens a mark x) (drop (suc n) entries))) place
     ∙ sym (ap (λ (xs : List Entry). old ++ ranges_from at n mark xs) list)
     ∙ before)

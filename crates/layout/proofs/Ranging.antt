@@ -9,8 +9,8 @@ use Rattle.layout.specs.declared.items.Item.{Item}
 use Rattle.layout.specs.declared.items.Item.TheVariants as it
 use Rattle.layout.specs.declared.entries.Entry.{Entry}
 use Rattle.layout.specs.declared.entries.Entry.TheVariants as en
-use Rattle.layout.specs.declared.ranges.Open.{Open as OpenAt}
-use Rattle.layout.specs.Laid.{note_range, range_in, item_at, AreMarked, Open, end_from, open_from, range_of, Ascend, IsRangeOf}
+use Rattle.layout.specs.declared.ranges.OpenRange.{OpenRange}
+use Rattle.layout.specs.Laid.{note_range, range_in, item_at, AreMarked, OpenMark, end_from, open_from, range_of, Ascend, IsRangeOf}
 use Rattle.layout.specs.Forms.{entries_in, entries_from}
 use Rattle.layout.specs.Emitting.{closed, closes, opens, ranges_from}
 use Rattle.layout.proofs.Listed.{items_at}
@@ -72,17 +72,17 @@ first_part (r ∷ rs) qs from to a h k = ap (λ (z : Option NoteRange). if nat_l
 
 -- ---- the ranges of a piece, whose items stand at these places
 
-abbrev pub piece_ranges : (ℕ → ℕ) → ℕ → Option OpenAt → List Item → List Range
+abbrev pub piece_ranges : (ℕ → ℕ) → ℕ → Option OpenRange → List Item → List Range
 piece_ranges place i mark [] = []
 piece_ranges place i mark (x ∷ xs) =
     closes (place i) mark (en.Item x) ++ piece_ranges place (suc i) (opens (place i) mark (en.Item x)) xs
 
-abbrev is_open : Option OpenAt → Bool
+abbrev is_open : Option OpenRange → Bool
 is_open None = false
 is_open (Some m) = true
 
 -- where an open Mark begins
-abbrev begin_of : Option OpenAt → ℕ → ℕ
+abbrev begin_of : Option OpenRange → ℕ → ℕ
 begin_of None here = here
 begin_of (Some m) here = m.lo.0
 
@@ -112,7 +112,7 @@ rises_to place up a b l =
     let e : place (a + (b - a)) ≡ place b = ap place (omega arith) in
     omega (arith, h, e)
 
-closed_ascends : (m : OpenAt) (here to : ℕ) (rest : List Range) → m.lo.0 ≤ here → Ascend here to (seen rest)
+closed_ascends : (m : OpenRange) (here to : ℕ) (rest : List Range) → m.lo.0 ≤ here → Ascend here to (seen rest)
     → Ascend m.lo.0 to (seen (closed (Some m) here ++ rest))
 closed_ascends m here to rest h k = go (nat_lt m.lo.0 here) refl
   where
@@ -131,7 +131,7 @@ closed_ascends m here to rest h k = go (nat_lt m.lo.0 here) refl
     go false e = ascend_from here (seen rest) m.lo.0 to h k
 
 -- past an item that closes nothing
-past_item : (place : ℕ → ℕ) → Rises place → (i to : ℕ) (mark : Option OpenAt) (xs : List Item)
+past_item : (place : ℕ → ℕ) → Rises place → (i to : ℕ) (mark : Option OpenRange) (xs : List Item)
     → begin_of mark (place i) ≤ place i
     → (begin_of mark (place (suc i)) ≤ place (suc i) → Ascend (begin_of mark (place (suc i))) to (seen (piece_ranges
     place (suc i) mark xs)))
@@ -146,7 +146,7 @@ end_on place i to x xs h =
     let e : place (suc i + length xs) ≡ place (i + length (x ∷ xs)) = ap place (omega arith) in
     omega (arith, h, e)
 
-pub piece_ascends : (place : ℕ → ℕ) → Rises place → (items : List Item) (i to : ℕ) (mark : Option OpenAt)
+pub piece_ascends : (place : ℕ → ℕ) → Rises place → (items : List Item) (i to : ℕ) (mark : Option OpenRange)
     → AreMarked (is_open mark) items → begin_of mark (place i) ≤ place i → place (i + length items) ≤ to
     → Ascend (begin_of mark (place i)) to (seen (piece_ranges place i mark items))
 piece_ascends place up [] i to None marked h l =
@@ -181,17 +181,17 @@ piece_ascends place up (it.Branch c k ∷ xs) i to mark marked h l =
 -- ---- the range that is found
 
 -- an open Mark, by its numbers and by its addresses: its end is the next one, from item i on
-abbrev AreSame : (ℕ → ℕ) → List Item → ℕ → Option Open → Option OpenAt → Type 0
+abbrev AreSame : (ℕ → ℕ) → List Item → ℕ → Option OpenMark → Option OpenRange → Type 0
 AreSame place items i None None = Unit {0}
 AreSame place items i (Some o) (Some m) = (place o.first ≡ m.lo.0) × (o.last ≡ end_from items i)
     × (o.address ≡ m.address.0) × (o.node ≡ m.node)
 AreSame place items i None (Some m) = ⊥
 AreSame place items i (Some o) None = ⊥
 
-abbrev range_at : (m : OpenAt) → ℕ → NoteRange
+abbrev range_at : (m : OpenRange) → ℕ → NoteRange
 range_at m hi = record { lo = m.lo.0; hi = hi; address = m.address.0; node = m.node }
 
-closes_here : (m : OpenAt) (here a : ℕ) (rest : List Range) → m.lo.0 ≤ a → a < here
+closes_here : (m : OpenRange) (here a : ℕ) (rest : List Range) → m.lo.0 ≤ a → a < here
     → range_in (seen (closed (Some m) here ++ rest)) a ≡ Some (range_at m here)
 closes_here m here a rest h k =
     ap (λ (b : Bool). range_in (seen ((if b then record {
@@ -207,7 +207,7 @@ closes_here m here a rest h k =
     less a b e = grind (arith, nat_tests)
 
 -- a Mark that is open before these items, at an address before them
-closes_at : (place : ℕ → ℕ) → Rises place → (items : List Item) (i a : ℕ) (m : OpenAt) → AreMarked true items
+closes_at : (place : ℕ → ℕ) → Rises place → (items : List Item) (i a : ℕ) (m : OpenRange) → AreMarked true items
     → m.lo.0 ≤ a → a < place i
     → range_in (seen (piece_ranges place i (Some m) items)) a ≡ Some (range_at m (place (end_from items i)))
 closes_at place up [] i a m marked h k = absurd marked
@@ -221,7 +221,7 @@ closes_at place up (it.Jump to ∷ xs) i a m marked h k = closes_at place up xs 
 closes_at place up (it.Branch c to ∷ xs) i a m marked h k = closes_at place up xs (suc i) a m marked h (let u = up i
     in omega (arith, u, k))
 
-same_range : (place : ℕ → ℕ) (o : Open) (m : OpenAt) (hi : ℕ) → place o.first ≡ m.lo.0 → place o.last ≡ hi
+same_range : (place : ℕ → ℕ) (o : OpenMark) (m : OpenRange) (hi : ℕ) → place o.first ≡ m.lo.0 → place o.last ≡ hi
     → o.address ≡ m.address.0 → o.node ≡ m.node
     → Some (range_at m hi) ≡ range_of place (Some o)
 same_range place o m hi a b c d =
@@ -231,8 +231,8 @@ same_range place o m hi a b c d =
     ∙ ap (λ z. Some (record { lo = place o.first; hi = place o.last; address = o.address; node = z })) (sym d)
 
 -- at the words of the first item
-at_first : (place : ℕ → ℕ) → Rises place → (x : Item) (xs : List Item) (i a : ℕ) (o : Option Open) (mark : Option
-    OpenAt)
+at_first : (place : ℕ → ℕ) → Rises place → (x : Item) (xs : List Item) (i a : ℕ) (o : Option OpenMark) (mark : Option
+    OpenRange)
     → end_from (x ∷ xs) i ≡ end_from xs (suc i) → AreSame place (x ∷ xs) i o mark
     → AreMarked (is_open mark) xs → begin_of mark (place i) ≤ place i → place i ≤ a → a < place (suc i)
     → range_in (seen (piece_ranges place (suc i) mark xs)) a ≡ range_of place o
@@ -245,7 +245,7 @@ at_first place up x xs i a (Some o) (Some m) e same marked low h k =
 at_first place up x xs i a None (Some m) e same marked low h k = absurd same
 at_first place up x xs i a (Some o) None e same marked low h k = absurd same
 
-same_on : (place : ℕ → ℕ) (x : Item) (xs : List Item) (i : ℕ) (o : Option Open) (mark : Option OpenAt)
+same_on : (place : ℕ → ℕ) (x : Item) (xs : List Item) (i : ℕ) (o : Option OpenMark) (mark : Option OpenRange)
     → end_from (x ∷ xs) i ≡ end_from xs (suc i)
     → AreSame place (x ∷ xs) i o mark → AreSame place xs (suc i) o mark
 same_on place x xs i None None e h = tt
@@ -254,7 +254,7 @@ same_on place x xs i None (Some m) e h = absurd h
 same_on place x xs i (Some o) None e h = absurd h
 
 -- the range of a Mark that has ended isn't found any more
-closed_past : (mark : Option OpenAt) (here a : ℕ) (rest : List Range) → here ≤ a
+closed_past : (mark : Option OpenRange) (here a : ℕ) (rest : List Range) → here ≤ a
     → range_in (seen (closed mark here ++ rest)) a ≡ range_in (seen rest) a
 closed_past None here a rest h = refl
 closed_past (Some m) here a rest h = go (nat_lt m.lo.0 here)
@@ -269,12 +269,12 @@ closed_past (Some m) here a rest h = go (nat_lt m.lo.0 here)
     go true = ap (λ (z : Bool). if z then Some (range_at m here) else range_in (seen rest) a) (past m.lo.0 here a h)
     go false = refl
 
-low_on : (place : ℕ → ℕ) → Rises place → (i : ℕ) (mark : Option OpenAt) → begin_of mark (place i) ≤ place i
+low_on : (place : ℕ → ℕ) → Rises place → (i : ℕ) (mark : Option OpenRange) → begin_of mark (place i) ≤ place i
     → begin_of mark (place (suc i)) ≤ place (suc i)
 low_on place up i None h = omega arith
 low_on place up i (Some m) h = let u = up i in omega (arith, u, h)
 
-get_low : (xs : List Item) (n : ℕ) (x : Item) → slice_get xs n ≡ Some x → n < length xs
+pub get_low : (xs : List Item) (n : ℕ) (x : Item) → slice_get xs n ≡ Some x → n < length xs
 get_low [] n x e = absurd (cc)
 get_low (y ∷ ys) zero x e = omega arith
 get_low (y ∷ ys) (suc n) x e = let f = get_low ys n x e in omega arith
@@ -292,7 +292,7 @@ this_low place i a h = let e : place (i + 0) ≡ place i = ap place (omega arith
 this_high : (place : ℕ → ℕ) (i a : ℕ) → a < place (suc (i + 0)) → a < place (suc i)
 this_high place i a h = let e : place (suc (i + 0)) ≡ place (suc i) = ap place (omega arith) in omega (arith, e, h)
 
-finds : (place : ℕ → ℕ) → Rises place → (items : List Item) (n i a : ℕ) (o : Option Open) (mark : Option OpenAt) (x :
+finds : (place : ℕ → ℕ) → Rises place → (items : List Item) (n i a : ℕ) (o : Option OpenMark) (mark : Option OpenRange) (x :
     Item)
     → AreStill place i items → AreSame place items i o mark → AreMarked (is_open mark) items
     → begin_of mark (place i) ≤ place i → slice_get items n ≡ Some x → place (i + n) ≤ a → a < place (suc (i + n))
@@ -333,7 +333,7 @@ finds place up (it.Mark address node ∷ xs) (suc n) i a o (Some m) x s same mar
 
 -- ---- the ranges of all pieces, in an order
 
-marked_on : (here : ℕ) (mark : Option OpenAt) (x : Item) (xs : List Item) → AreMarked (is_open mark) (x ∷ xs)
+marked_on : (here : ℕ) (mark : Option OpenRange) (x : Item) (xs : List Item) → AreMarked (is_open mark) (x ∷ xs)
     → AreMarked (is_open (opens here mark (en.Item x))) xs
 marked_on here mark (it.Word word) xs h = h
 marked_on here mark (it.Jump to) xs h = h
@@ -351,7 +351,7 @@ module _ (at : ℕ → ℕ) (up : (n : ℕ) → at n ≤ at (suc n)) where
   places_rise c n = let u = up (c + n) in let e : at (suc (c + n)) ≡ at (c + suc n) = ap at (omega arith) in omega
       (arith, u, e)
 
-  as_piece : (items : List Item) (c i m : ℕ) (mark : Option OpenAt) (ys : List Entry) → AreMarked (is_open mark) items
+  as_piece : (items : List Item) (c i m : ℕ) (mark : Option OpenRange) (ys : List Entry) → AreMarked (is_open mark) items
       → m ≡ c + i + length items
       → ranges_from at (c + i) mark (map en.Item items ++ ys) ≡ piece_ranges (λ n. at (c + n)) i mark items ++
       ranges_from at m None ys
@@ -456,6 +456,15 @@ module _ (at : ℕ → ℕ) (up : (n : ℕ) → at n ≤ at (suc n)) where
 
 -- ---- whose range each is
 
+-- an item's number, of which one more or less is in a sum
+pub at_next : (pieces : List (List Item)) (k i j : ℕ) (x : Item) → item_at pieces k (i + suc j) ≡ Some x
+    → item_at pieces k (suc i + j) ≡ Some x
+at_next pieces k i j x h = ap (item_at pieces k) (let e : suc i + j ≡ i + suc j = omega arith in e) ∙ h
+
+pub at_this : (pieces : List (List Item)) (k i : ℕ) (x : Item) → item_at pieces k (i + 0) ≡ Some x
+    → item_at pieces k i ≡ Some x
+at_this pieces k i x h = ap (item_at pieces k) (let e : i ≡ i + 0 = omega arith in e) ∙ h
+
 module _ (pieces : List (List Item)) (place : ℕ → ℕ → ℕ) where
   abbrev pub AllOf : List NoteRange → Type 0
   AllOf [] = Unit {0}
@@ -471,11 +480,11 @@ module _ (pieces : List (List Item)) (place : ℕ → ℕ → ℕ) where
   one_of (q ∷ rs) zero r h e = let f : q ≡ r = cc in subst (IsRangeOf pieces place) f h.0
   one_of (q ∷ rs) (suc n) r h e = one_of rs n r h.1 e
 
-  abbrev IsMade : Option OpenAt → Type 0
+  abbrev IsMade : Option OpenRange → Type 0
   IsMade None = Unit {0}
   IsMade (Some m) = (hi : ℕ) → IsRangeOf pieces place (range_at m hi)
 
-  closed_made : (mark : Option OpenAt) (here : ℕ) → IsMade mark → AllOf (seen (closed mark here))
+  closed_made : (mark : Option OpenRange) (here : ℕ) → IsMade mark → AllOf (seen (closed mark here))
   closed_made None here h = tt
   closed_made (Some m) here h = go (nat_lt m.lo.0 here)
     where
@@ -489,34 +498,23 @@ module _ (pieces : List (List Item)) (place : ℕ → ℕ → ℕ) where
       go true = (h here, tt)
       go false = tt
 
-  at_next : (k i j : ℕ) (x : Item) → item_at pieces k (i + suc j) ≡ Some x → item_at pieces k (suc i + j) ≡ Some x
-  at_next k i j x h = ap (item_at pieces k) (let e : suc i + j ≡ i + suc j = omega arith in e) ∙ h
-
-  at_this : (k i : ℕ) (x : Item) → item_at pieces k (i + 0) ≡ Some x → item_at pieces k i ≡ Some x
-  at_this k i x h = ap (item_at pieces k) (let e : i ≡ i + 0 = omega arith in e) ∙ h
-
-  pub piece_made : (items : List Item) (k i : ℕ) (mark : Option OpenAt)
+  pub piece_made : (items : List Item) (k i : ℕ) (mark : Option OpenRange)
       → ((j : ℕ) (x : Item) → slice_get items j ≡ Some x → item_at pieces k (i + j) ≡ Some x)
       → AreStill (place k) i items → IsMade mark → AllOf (seen (piece_ranges (place k) i mark items))
   piece_made [] k i mark are s h = tt
-  piece_made (it.Word word ∷ xs) k i mark are s h = piece_made xs k (suc i) mark (λ j x e. at_next k i j x (are (suc
-      j) x e)) s h
-  piece_made (it.Jump to ∷ xs) k i mark are s h = piece_made xs k (suc i) mark (λ j x e. at_next k i j x (are (suc j)
-      x e)) s h
-  piece_made (it.Branch c to ∷ xs) k i mark are s h = piece_made xs k (suc i) mark (λ j x e. at_next k i j x (are (suc
-      j) x e)) s h
   piece_made (it.EndMark ∷ xs) k i mark are s h =
       subst AllOf (sym (map-append note_range (closed mark (place k i)) (piece_ranges (place k) (suc i) None xs)))
       (all_then (seen (closed mark (place k i))) _ (closed_made mark (place k i) h)
-      (piece_made xs k (suc i) None (λ j x e. at_next k i j x (are (suc j) x e)) s.1 tt))
+      (piece_made xs k (suc i) None (λ j x e. at_next pieces k i j x (are (suc j) x e)) s.1 tt))
   piece_made (it.Mark address node ∷ xs) k i mark are s h =
       piece_made xs k (suc i) (Some (record { lo = record { 0 = place k i }; address = address; node = node }))
-      (λ j x e. at_next k i j x (are (suc j) x e)) s.1
+      (λ j x e. at_next pieces k i j x (are (suc j) x e)) s.1
       (λ hi. record {
         piece = k;
         item = i;
         address = address;
-        mark = at_this k i (it.Mark address node) (are 0 _ refl);
+        mark = at_this pieces k i (it.Mark address node) (are 0 _ refl);
         says = refl;
         lo = sym s.0;
       })
+  piece_made (_ ∷ xs) k i mark are s h = piece_made xs k (suc i) mark (λ j x e. at_next pieces k i j x (are (suc j) x e)) s h

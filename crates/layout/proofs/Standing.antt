@@ -3,7 +3,7 @@ use Rattle.std.proofs.Common.{◌≡◌, ℕ, zero, suc, ◌+◌, ◌-◌, ◌*�
 use Rattle.std.proofs.lemmas.Int.{ints}
 use Rattle.std.specs.Prelude.{pos, negsuc, ℤ, nat_lt, if◌then◌else◌, slice_index}
 use Rattle.std.proofs.lemmas.Bool.Decides.{nat_tests}
-use Rattle.std.proofs.lemmas.Bool.{cases_lt}
+use Rattle.std.proofs.lemmas.Bool.{cases_lt, false≢true}
 use Rattle.v8_decode.specs.declared.Op2.TheVariants.{Imm}
 use Rattle.v8_decode.specs.declared.Instr.{Instr}
 use Rattle.v8_decode.specs.declared.Instr.TheVariants as i
@@ -22,21 +22,19 @@ use Rattle.layout.specs.declared.entries.Entry.TheVariants as en
 use Rattle.layout.specs.Laid.{Placement, SaysFrom, JumpStands, jump_nothing, jump_short, jump_long, BranchStands, branch_short, branch_long, Stands, Reaches, nop, opposite}
 use Rattle.layout.specs.Forms.{Forms, far, leads_next, offset, width}
 use Rattle.layout.specs.Emitting.{between, branch_code, code_at, code_to, entry_code, has_condition, jump_code, or_zero, target_offset, words_of}
-use Rattle.layout.proofs.Emitted.{code_more}
+use Rattle.layout.proofs.Emitted.{code_more, code_none}
+use Rattle.layout.proofs.Offsets.{offset_none}
 use Rattle.layout.proofs.Widening.{far_if, offset_more}
-
-differ : false ≡ true → ⊥
-differ e = cc
 
 near_means : (f t : ℕ) → far f t ≡ false → (t < f + 2 ^ 21) × (f ≤ t + 2 ^ 21)
 near_means f t h = (up (cases_lt t (f + 2 ^ 21)), down (cases_lt (t + 2 ^ 21) f))
   where
     up : (t < f + 2 ^ 21) ⊎ (f + 2 ^ 21 ≤ t) → t < f + 2 ^ 21
     up (inl l) = l
-    up (inr l) = absurd (differ (sym h ∙ far_if f t (inl l)))
+    up (inr l) = absurd (false≢true (sym h ∙ far_if f t (inl l)))
 
     down : (t + 2 ^ 21 < f) ⊎ (f ≤ t + 2 ^ 21) → f ≤ t + 2 ^ 21
-    down (inl l) = absurd (differ (sym h ∙ far_if f t (inr l)))
+    down (inl l) = absurd (false≢true (sym h ∙ far_if f t (inr l)))
     down (inr l) = l
 
 up_is : (f t : ℕ) → f ≤ t → between f t ≡ pos (t - f)
@@ -48,21 +46,18 @@ down_is f t l = omega (arith, ints)
 fits : (f t : ℕ) → far f t ≡ false → fits_signed 22 (between f t) ≡ true
 fits f t h = go (cases_lt t f)
   where
+    below : (n : ℕ) → n < 2 ^ 21 → nat_lt n (2 ^ (22 - 1)) ≡ true
+    below n w = grind (arith, nat_tests)
+
     go : (t < f) ⊎ (f ≤ t) → fits_signed 22 (between f t) ≡ true
     go (inl l) =
         let n = (near_means f t h).1 in
         let w : f - t - 1 < 2 ^ 21 = omega (arith, n, l) in
         ap (fits_signed 22) (down_is f t l) ∙ below (f - t - 1) w
-      where
-        below : (n : ℕ) → n < 2 ^ 21 → nat_lt n (2 ^ (22 - 1)) ≡ true
-        below n w = grind (arith, nat_tests)
     go (inr l) =
         let n = (near_means f t h).0 in
         let w : t - f < 2 ^ 21 = omega (arith, n, l) in
         ap (fits_signed 22) (up_is f t l) ∙ below (t - f) w
-      where
-        below : (n : ℕ) → n < 2 ^ 21 → nat_lt n (2 ^ (22 - 1)) ≡ true
-        below n w = grind (arith, nat_tests)
 
 pub reaches : (base f t : ℕ) → base + 4 * f ≤ 2 ^ 31 → base + 4 * t ≤ 2 ^ 31
     → Reaches (base + 4 * f) (base + 4 * t) (between f t)
@@ -171,14 +166,6 @@ entry_length base long from to (Some (en.Item (it.Jump k))) next = unless_next (
 entry_length base long from to (Some (en.Item (it.Branch c k))) next = branch_length long base c from to
 entry_length base long from to (Some (en.Item (it.Mark a n))) next = refl
 entry_length base long from to (Some (en.Item it.EndMark)) next = refl
-
-offset_none : (entries : List Entry) (long : Forms) → offset entries long 0 ≡ 0
-unfolding offset
-offset_none entries long = refl
-
-code_none : (base : ℕ) (entries : List Entry) (long : Forms) → code_to base entries long 0 ≡ []
-unfolding code_to
-code_none base entries long = refl
 
 pub code_length : (base : ℕ) (entries : List Entry) (long : Forms) (n : ℕ)
     → length (code_to base entries long n) ≡ offset entries long n

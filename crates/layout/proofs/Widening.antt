@@ -1,13 +1,10 @@
 -- Widening only grows, so that every way of widening ends at the same forms.
 use Rattle.std.proofs.Common.{◌≡◌, ℕ, zero, suc, ◌+◌, ◌-◌, ◌^◌, ◌<◌, ◌≤◌, ◌⊎◌, inl, inr, Bool, true, false, cond, ◌||◌, leb, ltb, List, slice_get, Option, Some, None, refl, ap, sym, ◌∙◌, subst, arith}
-use Rattle.std.proofs.lemmas.Bool.{cases_lt, cases_Bool, ltb-true, leb-true, lt-ltb, le-leb}
+use Rattle.std.proofs.lemmas.Bool.{cases_lt, cases_Bool, ltb-true, leb-true, lt-ltb, le-leb, false≢true, or_cases, or_right}
 use Rattle.layout.specs.declared.items.Item.TheVariants as i
 use Rattle.layout.specs.declared.entries.Entry.{Entry}
 use Rattle.layout.specs.declared.entries.Entry.TheVariants as e
 use Rattle.layout.specs.Forms.{Forms, goal_of, width, leads_next, offset, far, far_from, is_far, NoneLeft, IsWidened}
-
-differ : false ≡ true → ⊥
-differ e = cc
 
 -- each that is long here is long there
 abbrev pub IsWithin : Forms → Forms → Type 0
@@ -15,7 +12,7 @@ IsWithin long other = (n : ℕ) → long n ≡ true → other n ≡ true
 
 choice : (a b : Bool) (m n : ℕ) → m ≤ n → (a ≡ true → b ≡ true) → cond a n m ≤ cond b n m
 choice true true m n l h = omega arith
-choice true false m n l h = absurd (differ (h refl))
+choice true false m n l h = absurd (false≢true (h refl))
 choice false true m n l h = l
 choice false false m n l h = omega arith
 
@@ -80,10 +77,6 @@ far_means a b h = go (cases_Bool (leb (a + 2 ^ 21) b)) h
     go (inl t) h = inl (leb-true (a + 2 ^ 21) b t)
     go (inr f) h = inr (ltb-true (b + 2 ^ 21) a (sym (ap (λ (x : Bool). x || ltb (b + 2 ^ 21) a) f) ∙ h))
 
-or_right : (a b : Bool) → b ≡ true → (a || b) ≡ true
-or_right true b e = refl
-or_right false b e = e
-
 pub far_if : (a b : ℕ) → (a + 2 ^ 21 ≤ b) ⊎ (b + 2 ^ 21 < a) → far a b ≡ true
 far_if a b (inl l) = ap (λ (x : Bool). x || ltb (b + 2 ^ 21) a) (le-leb (a + 2 ^ 21) b l)
 far_if a b (inr l) = or_right (leb (a + 2 ^ 21) b) (ltb (b + 2 ^ 21) a) (lt-ltb (b + 2 ^ 21) a l)
@@ -125,13 +118,9 @@ pub record IsWidening (entries : List Entry) (long : Forms) : Type 0 where
 
 pub widening_none : (entries : List Entry) (long : Forms) → ((n : ℕ) → long n ≡ false) → IsWidening entries long
 widening_none entries long h = record {
-  needed = λ n e. absurd (differ (sym (h n) ∙ e));
-  fewest = λ other o n e. absurd (differ (sym (h n) ∙ e));
+  needed = λ n e. absurd (false≢true (sym (h n) ∙ e));
+  fewest = λ other o n e. absurd (false≢true (sym (h n) ∙ e));
 }
-
-or_cases : (a b : Bool) → (a || b) ≡ true → (a ≡ true) ⊎ (b ≡ true)
-or_cases true b e = inl refl
-or_cases false b e = inr e
 
 -- Any of those that are out of reach may be widened.
 pub widening_more : (entries : List Entry) (long more : Forms) → IsWidening entries long

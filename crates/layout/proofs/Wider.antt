@@ -1,7 +1,7 @@
 -- One pass that widens all that are out of reach.
 use Rattle.std.proofs.Common.{◌≡◌, ℕ, zero, suc, ◌+◌, ◌-◌, ◌<◌, ◌≤◌, ◌⊎◌, inl, inr, Bool, true, false, cond, ◌||◌, List, [], ◌∷◌, ◌++◌, length, get_or, replicate, count_by, Option, refl, ap, sym, ◌∙◌, arith}
 use Rattle.std.specs.Option.{option_map}
-use Rattle.std.proofs.lemmas.Bool.{cases_lt}
+use Rattle.std.proofs.lemmas.Bool.{cases_lt, false≢true, or_left}
 use Rattle.std.proofs.lemmas.List.Sums.{sum_by-cons}
 use Rattle.std.proofs.lemmas.Option.{slice_get_past}
 use Rattle.std.proofs.lemmas.List.{length-append, get_or_push, get_or_append_left, get_or_past}
@@ -9,9 +9,6 @@ use Rattle.layout.specs.declared.entries.Entry.{Entry}
 use Rattle.layout.specs.Forms.{Forms, start_of, target, far_from, is_far, IsWidened}
 use Rattle.layout.specs.Emitting.{forms_in, AreWider}
 use Rattle.layout.proofs.Widening.{IsWidening, widening_none, widening_all, widening_ends}
-
-differ : false ≡ true → ⊥
-differ e = cc
 
 pub wider_more : (entries : List Entry) (forms wide : List Bool) (n : ℕ) (x : Bool) → AreWider entries forms wide n
     → x ≡ (get_or forms n false || is_far entries (forms_in forms) n) → AreWider entries forms (wide ++ x ∷ []) (n + 1)
@@ -49,9 +46,6 @@ wider_all entries forms wide e h n = go (cases_lt n (length forms))
         let c : is_far entries (forms_in forms) n ≡ false = not_far entries (forms_in forms) n (omega arith) in
         rw (a, b, c) refl
 
-or_left : (a b : Bool) → a ≡ true → (a || b) ≡ true
-or_left a b e = ap (λ (x : Bool). x || b) e
-
 counted : (x : Bool) (xs : List Bool) → count_by (λ b. b) (x ∷ xs) ≡ cond x 1 0 + count_by (λ b. b) xs
 counted x xs = sum_by-cons (λ (b : Bool). cond b 1 0) x xs
 
@@ -68,7 +62,7 @@ same_or_more (x ∷ xs) (y ∷ ys) e h = go x y (h 0) (same_or_more xs ys (omega
         → (x ∷ xs ≡ y ∷ ys) ⊎ (count_by (λ b. b) (x ∷ xs) < count_by (λ b. b) (y ∷ ys))
     go true true h (inl s) = inl (ap (λ (zs : List Bool). true ∷ zs) s)
     go true true h (inr l) = inr (omega (arith, l, counted true xs, counted true ys))
-    go true false h s = absurd (differ (h refl))
+    go true false h s = absurd (false≢true (h refl))
     go false true h (inl s) = inr (omega (arith, ap (count_by (λ b. b)) s, counted false xs, counted true ys))
     go false true h (inr l) = inr (omega (arith, l, counted false xs, counted true ys))
     go false false h (inl s) = inl (ap (λ (zs : List Bool). false ∷ zs) s)

@@ -14,7 +14,7 @@ use Rattle.layout.specs.declared.items.LayoutFault.{LayoutFault}
 use Rattle.layout.specs.declared.items.LayoutFault.TheVariants as faults
 use Rattle.layout.specs.declared.entries.Entry.{Entry}
 use Rattle.layout.specs.declared.entries.Entry.TheVariants as en
-use Rattle.layout.specs.declared.ranges.Open.{Open}
+use Rattle.layout.specs.declared.ranges.OpenRange.{OpenRange}
 use Rattle.layout.specs.Laid.{nop, opposite}
 use Rattle.layout.specs.Forms.{Forms, entries_of, far, goal_of, is_far, leads_next, offset, start_of, target, IsWidened}
 
@@ -110,7 +110,7 @@ pub record IsEmitted (base : ℕ) (entries : List Entry) (long : Forms) (code : 
 -- ---- ranges
 
 -- the range of a Mark that is open, up to an address: none where it is empty
-abbrev pub closed : Option Open → ℕ → List Range
+abbrev pub closed : Option OpenRange → ℕ → List Range
 closed None here = []
 closed (Some open_mark) here =
     if nat_lt open_mark.lo.0 here
@@ -118,11 +118,11 @@ closed (Some open_mark) here =
     [] else []
 
 -- the range that an entry at an address closes, and the Mark that is open behind it
-abbrev pub closes : ℕ → Option Open → Entry → List Range
+abbrev pub closes : ℕ → Option OpenRange → Entry → List Range
 closes here mark (en.Item it.EndMark) = closed mark here
 closes here mark _ = []
 
-abbrev pub opens : ℕ → Option Open → Entry → Option Open
+abbrev pub opens : ℕ → Option OpenRange → Entry → Option OpenRange
 opens here mark (en.Item (it.Mark address node)) = Some (record {
   lo = record { 0 = here };
   address = address;
@@ -137,7 +137,7 @@ abbrev pub address_of : ℕ → List Entry → Forms → ℕ → ℕ
 address_of base entries long n = base + 4 * offset entries long n
 
 -- the ranges of entries, the first of which has the number n
-abbrev pub ranges_from : (ℕ → ℕ) → ℕ → Option Open → List Entry → List Range
+abbrev pub ranges_from : (ℕ → ℕ) → ℕ → Option OpenRange → List Entry → List Range
 ranges_from at n mark [] = []
 ranges_from at n mark (x ∷ xs) = closes (at n) mark x ++ ranges_from at (suc n) (opens (at n) mark x) xs
 

@@ -137,7 +137,7 @@ Stands base p it.EndMark a b = b ≡ a
 -- ---- Marks
 
 -- the Mark that is open at an item: the numbers of the item after it and of its end, its address and node
-pub record Open : Type 0 where
+pub record OpenMark : Type 0 where
   pub first : ℕ
   pub last : ℕ
   pub address : ℕ
@@ -152,7 +152,7 @@ abbrev pub end_from : List Item → ℕ → ℕ
 end_from [] n = n
 end_from (x ∷ xs) n = if is_end x then n else end_from xs (suc n)
 
-abbrev pub opened : Item → List Item → ℕ → Option Open → Option Open
+abbrev pub opened : Item → List Item → ℕ → Option OpenMark → Option OpenMark
 opened (it.Mark address node) xs n o = Some (record {
   first = suc n;
   last = end_from xs
@@ -163,19 +163,19 @@ opened (it.Mark address node) xs n o = Some (record {
 opened it.EndMark xs n o = None
 opened _ xs n o = o
 
-abbrev pub open_from : List Item → ℕ → ℕ → Option Open → Option Open
+abbrev pub open_from : List Item → ℕ → ℕ → Option OpenMark → Option OpenMark
 open_from [] n k o = None
 open_from (x ∷ xs) n zero o = o
 open_from (x ∷ xs) n (suc k) o = open_from xs (suc n) k (opened x xs n o)
 
 -- the Mark that is open at item n of a piece
-abbrev pub open_in : Option (List Item) → ℕ → Option Open
+abbrev pub open_in : Option (List Item) → ℕ → Option OpenMark
 open_in None n = None
 open_in (Some items) n = open_from items 0 n None
 
 -- the range that an open Mark has
-abbrev pub range_of : (ℕ → ℕ) → Option Open → Option NoteRange
-range_of place mark = option_map (λ (o : Open). record {
+abbrev pub range_of : (ℕ → ℕ) → Option OpenMark → Option NoteRange
+range_of place mark = option_map (λ (o : OpenMark). record {
   lo = place o.first;
   hi = place o.last;
   address = o.address;

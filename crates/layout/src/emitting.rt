@@ -1,13 +1,14 @@
 //! The words of a layout.
 
-ghost use Rattle.std.specs.Prelude.{◌≡◌, ℕ, ◌+◌, ◌*◌, ◌^◌, ◌<◌, ◌≤◌, ◌++◌, true, false, length, slice_get, Some, OnOk, IfOk, IfSome};
+ghost use Rattle.std.specs.Prelude.{◌≡◌, ℕ, ◌+◌, ◌*◌, ◌^◌, ◌<◌, ◌++◌, true, false, length, slice_get, Some, OnOk, IfOk, IfSome};
 ghost use Rattle.std.specs.Option.{is_some};
 ghost use Rattle.layout.specs.declared.items.Item.TheVariants as it;
 ghost use Rattle.layout.specs.declared.entries.Entry.TheVariants as en;
-ghost use Rattle.layout.specs.Forms.{far, offset, target as target_of, NoneLeft};
-ghost use Rattle.layout.specs.Emitting.{code_at, entry_code, far_of, forms_in, has_condition, or_zero, target_offset, IsEmitted, IsOffsets};
+ghost use Rattle.layout.specs.Forms.{far, offset, target as target_of};
+ghost use Rattle.layout.specs.Emitting.{code_at, entry_code, far_of, forms_in, has_condition, or_zero, target_offset, IsEmitted};
 
 use crate::Item;
+use crate::assembler::Assembler;
 use crate::entries::Entry;
 use crate::forms::{entry_at, leads_next, target, width_at};
 use crate::words::{put_branch, put_jump};
@@ -69,71 +70,50 @@ fn put_entry(
     Ok(())
 }
 
-// The words before the piece to which an entry leads.
-fn target_at(entries: &[Entry], at: &[u64], forms: &[bool], n: usize) -> Option<u64>
-    requires at { IsOffsets entries.now (forms_in forms.now) at.now }
-    requires inside { n < length entries.now }
-    ensures { result ≡ target_offset entries.now (forms_in forms.now) n }
-{
-    match target(&entries[n]) {
-        Some(k) => Some(at[k]),
-        None => None,
+impl Assembler<'_> {
+    // The words before the piece to which an entry leads.
+    fn target_at(&self, n: usize) -> Option<u64>
+        requires inside { n < length self.now.entries.now }
+        ensures { result ≡ target_offset self.now.entries.now (forms_in self.now.forms.now) n }
+    {
+        match target(&self.entries[n]) {
+            Some(k) => Some(self.at[k]),
+            None => None,
+        }
     }
-}
 
-// Appends the words of the entry with this number, which has `here` words before it.
-fn put_at(
-    code: &mut Vec<u32>,
-    base: u32,
-    entries: &[Entry],
-    at: &[u64],
-    forms: &[bool],
-    n: usize,
-    here: u64,
-) -> Result<(), AllocError>
-    requires small { length entries.now ≤ 2 ^ 42 }
-    requires at { IsOffsets entries.now (forms_in forms.now) at.now }
-    requires forms { length forms.now ≡ length entries.now }
-    requires none_left { NoneLeft entries.now (forms_in forms.now) }
-    requires low { base + 4 * offset entries.now (forms_in forms.now) (length entries.now) ≤ 2 ^ 31 }
-    requires inside { n < length entries.now }
-    requires here { here ≡ offset entries.now (forms_in forms.now) n }
-    ensures code { OnOk result (code.new.items ≡ code.old.items ++ code_at base entries.now (forms_in forms.now) n) }
-    ensures condition { OnOk result (has_condition (slice_get entries.now n) ≡ true) }
-{
-    let to = target_at(entries, at, forms, n);
-    put_entry(
-        code,
-        base,
-        &entries[n],
-        entry_at(entries, n + 1),
-        here,
-        to,
-        forms[n],
-    )?;
-    Ok(())
-}
-
-/// The words of entries with these forms.
-pub fn emit(
-    alloc: Global,
-    base: u32,
-    entries: &[Entry],
-    at: &[u64],
-    forms: &[bool],
-) -> Result<Vec<u32>, AllocError>
-    requires small { length entries.now ≤ 2 ^ 42 }
-    requires at { IsOffsets entries.now (forms_in forms.now) at.now }
-    requires forms { length forms.now ≡ length entries.now }
-    requires none_left { NoneLeft entries.now (forms_in forms.now) }
-    requires low { base + 4 * offset entries.now (forms_in forms.now) (length entries.now) ≤ 2 ^ 31 }
-    ensures { IfOk result (λ code. IsEmitted base entries.now (forms_in forms.now) code.items (length entries.now)) }
-{
-    let mut code = Vec::new(alloc);
-    let mut here = 0;
-    for n in 0..entries.len() {
-        put_at(&mut code, base, entries, at, forms, n, here)?;
-        here += width_at(entries, forms, n);
+    // Appends the words of the entry with this number, which has `here` words before it.
+    fn put_at(&self, code: &mut Vec<u32>, n: usize, here: u64) -> Result<(), AllocError>
+        requires inside { n < length self.now.entries.now }
+        requires here { here ≡ offset self.now.entries.now (forms_in self.now.forms.now) n }
+        ensures code { OnOk result (code.new.items
+            ≡ code.old.items ++ code_at self.now.base.0 self.now.entries.now (forms_in self.now.forms.now) n) }
+        ensures condition { OnOk result (has_condition (slice_get self.now.entries.now n) ≡ true) }
+    {
+        let to = self.target_at(n);
+        put_entry(
+            code,
+            self.base.0,
+            &self.entries[n],
+            entry_at(self.entries, n + 1),
+            here,
+            to,
+            self.forms[n],
+        )?;
+        Ok(())
     }
-    Ok(code)
+
+    /// The words of the entries.
+    pub(crate) fn emit(&self, alloc: Global) -> Result<Vec<u32>, AllocError>
+        ensures { IfOk result (λ code. IsEmitted self.now.base.0 self.now.entries.now (forms_in self.now.forms.now)
+            code.items (length self.now.entries.now)) }
+    {
+        let mut code = Vec::new(alloc);
+        let mut here = 0;
+        for n in 0..self.entries.len() {
+            self.put_at(&mut code, n, here)?;
+            here += width_at(self.entries, self.forms, n);
+        }
+        Ok(code)
+    }
 }

@@ -5,6 +5,7 @@
 ghost use Rattle.layout.specs.Compact.{LongIsEnough, NeededOnce, ShortIsEnough};
 ghost use Rattle.layout.specs.Running.{BranchesHop, JumpsHop, WordsStand};
 
+mod assembler;
 mod emitting;
 mod entries;
 mod forms;

@@ -5,13 +5,13 @@ ghost use Rattle.std.specs.List.{sum_by};
 ghost use Rattle.layout.specs.Laid.{placement_of, AllLead, ArePieces, Lays};
 ghost use Rattle.layout.specs.Forms.{entries_of, offset, IsWidened, NoneLeft};
 ghost use Rattle.layout.specs.Compact.{IsCompact, RoomIs};
-ghost use Rattle.layout.specs.Emitting.{addresses, forms_in, FitsIn, IsFormed, IsListing, IsOffsets, IsPut};
+ghost use Rattle.layout.specs.Emitting.{addresses, forms_in, FitsIn, IsFormed, IsListing, IsPut};
 
-use crate::emitting::emit;
+use crate::assembler::Assembler;
 use crate::entries::{Entry, Listing, list};
 use crate::forms::{offsets, widened};
 use crate::order::order_of;
-use crate::ranges::{address, ranges_of};
+use crate::ranges::address;
 use crate::{LayoutFault, Piece, Placed};
 use eel_base::Addr;
 use std::alloc::{AllocError, Global};
@@ -50,54 +50,29 @@ fn form(alloc: Global, pieces: &[Piece]) -> Result<Formed, AllocError>
     Ok(Formed { listing, forms })
 }
 
-// The addresses of pieces.
-fn addresses_of(
-    alloc: Global,
-    base: Addr,
-    entries: &[Entry],
-    starts: &[usize],
-    at: &[u64],
-    forms: &[bool],
-) -> Result<Vec<Addr>, AllocError>
-    requires len { length at.now ≡ length starts.now }
-    requires listing { IsListing entries.now starts.now }
-    requires at { IsOffsets entries.now (forms_in forms.now) at.now }
-    requires low { base.0 + 4 * offset entries.now (forms_in forms.now) (length entries.now) ≤ 2 ^ 31 }
-    ensures { IfOk result (λ v. v.items ≡ addresses base.0 entries.now (forms_in forms.now) starts.now) }
-{
-    let mut addresses = Vec::with_capacity(alloc, at.len())?;
-    for words in at {
-        addresses.push(address(base, *words))?;
+impl Assembler<'_> {
+    // The addresses of pieces.
+    fn addresses_of(&self, alloc: Global) -> Result<Vec<Addr>, AllocError>
+        ensures { IfOk result (λ v. v.items
+            ≡ addresses self.now.base.0 self.now.entries.now (forms_in self.now.forms.now) self.now.starts.now) }
+    {
+        let mut addresses = Vec::with_capacity(alloc, self.at.len())?;
+        for words in self.at {
+            addresses.push(address(self.base, *words))?;
+        }
+        Ok(addresses)
     }
-    Ok(addresses)
-}
 
-// Code, addresses and ranges, where there is room.
-fn put(
-    alloc: Global,
-    base: Addr,
-    entries: &[Entry],
-    starts: &[usize],
-    at: &[u64],
-    forms: &[bool],
-) -> Result<Placed, AllocError>
-    requires small { length entries.now ≤ 2 ^ 42 }
-    requires len { length at.now ≡ length starts.now }
-    requires listing { IsListing entries.now starts.now }
-    requires at { IsOffsets entries.now (forms_in forms.now) at.now }
-    requires forms { length forms.now ≡ length entries.now }
-    requires none_left { NoneLeft entries.now (forms_in forms.now) }
-    requires low { base.0 + 4 * offset entries.now (forms_in forms.now) (length entries.now) ≤ 2 ^ 31 }
-    ensures { IfOk result (IsPut base.0 entries.now starts.now (forms_in forms.now)) }
-{
-    let code = emit(alloc, base.0, entries, at, forms)?;
-    let addresses = addresses_of(alloc, base, entries, starts, at, forms)?;
-    let ranges = ranges_of(alloc, base, entries, forms)?;
-    Ok(Placed {
-        code,
-        at: addresses,
-        ranges,
-    })
+    // Code, addresses and ranges.
+    fn put(&self, alloc: Global) -> Result<Placed, AllocError>
+        ensures { IfOk result (IsPut self.now.base.0 self.now.entries.now self.now.starts.now
+            (forms_in self.now.forms.now)) }
+    {
+        let code = self.emit(alloc)?;
+        let at = self.addresses_of(alloc)?;
+        let ranges = self.ranges_of(alloc)?;
+        Ok(Placed { code, at, ranges })
+    }
 }
 
 // The same, or a fault where there isn't room.
@@ -127,7 +102,14 @@ fn put_within(
             had: room as u64,
         });
     }
-    match put(alloc, base, entries, starts, &offsets.at, forms) {
+    let assembler = Assembler {
+        base,
+        entries,
+        starts,
+        forms,
+        at: &offsets.at,
+    };
+    match assembler.put(alloc) {
         Ok(placed) => Ok(placed),
         Err(_) => Err(LayoutFault::NoMemory),
     }

@@ -1,25 +1,29 @@
 //! The ranges of marks.
 
-ghost use Rattle.std.specs.Prelude.{◌≡◌, ◌+◌, ◌*◌, ◌≤◌, ◌++◌, ◌^◌, length, None, OnOk, IfOk};
-ghost use Rattle.layout.specs.Forms.{offset};
+ghost use Rattle.std.specs.Prelude.{◌≡◌, ◌+◌, ◌*◌, ◌≤◌, ◌++◌, ◌^◌, None, OnOk, IfOk};
 ghost use Rattle.layout.specs.Emitting.{address_of, closed, closes, forms_in, opens, ranges_from};
 
 use crate::Item;
+use crate::assembler::Assembler;
 use crate::entries::Entry;
 use crate::forms::width_at;
 use eel_base::{Addr, Range};
 use std::alloc::{AllocError, Global};
 
-/// A Mark without its end: where its words begin, and what it says.
+/// The range of a Mark without its end: where its words begin, and what it says.
 #[derive(Clone, Copy, Debug)]
-pub struct Open {
+pub struct OpenRange {
     pub lo: Addr,
     pub address: Addr,
     pub node: u32,
 }
 
 // Appends the range of a Mark that ends, if it covers a word.
-fn close(ranges: &mut Vec<Range>, open_mark: Option<Open>, here: Addr) -> Result<(), AllocError>
+fn close(
+    ranges: &mut Vec<Range>,
+    open_mark: Option<OpenRange>,
+    here: Addr,
+) -> Result<(), AllocError>
     ensures { OnOk result (ranges.new.items ≡ ranges.old.items ++ closed open_mark here.0) }
 {
     if let Some(mark) = open_mark {
@@ -38,15 +42,15 @@ fn close(ranges: &mut Vec<Range>, open_mark: Option<Open>, here: Addr) -> Result
 // Passes an entry, and appends the range of the Mark that it ends.
 fn put_entry(
     ranges: &mut Vec<Range>,
-    open_mark: Option<Open>,
+    open_mark: Option<OpenRange>,
     here: Addr,
     entry: &Entry,
-) -> Result<Option<Open>, AllocError>
+) -> Result<Option<OpenRange>, AllocError>
     ensures ranges { OnOk result (ranges.new.items ≡ ranges.old.items ++ closes here.0 open_mark entry.now) }
     ensures mark { IfOk result (λ next. next ≡ opens here.0 open_mark entry.now) }
 {
     match entry {
-        Entry::Item(Item::Mark { address, node }) => Ok(Some(Open {
+        Entry::Item(Item::Mark { address, node }) => Ok(Some(OpenRange {
             lo: here,
             address: *address,
             node: *node,
@@ -67,25 +71,20 @@ pub fn address(base: Addr, words: u64) -> Addr
     Addr(base.0 + 4 * words as u32)
 }
 
-/// The ranges of entries.
-pub fn ranges_of(
-    alloc: Global,
-    base: Addr,
-    entries: &[Entry],
-    forms: &[bool],
-) -> Result<Vec<Range>, AllocError>
-    requires small { length entries.now ≤ 2 ^ 42 }
-    requires forms { length forms.now ≡ length entries.now }
-    requires low { base.0 + 4 * offset entries.now (forms_in forms.now) (length entries.now) ≤ 2 ^ 31 }
-    ensures { IfOk result (λ ranges. ranges.items
-        ≡ ranges_from (address_of base.0 entries.now (forms_in forms.now)) 0 None entries.now) }
-{
-    let mut ranges = Vec::new(alloc);
-    let mut open_mark = None;
-    let mut here = 0;
-    for (n, entry) in entries.iter().enumerate() {
-        open_mark = put_entry(&mut ranges, open_mark, address(base, here), entry)?;
-        here += width_at(entries, forms, n);
+impl Assembler<'_> {
+    /// The ranges of the entries.
+    pub(crate) fn ranges_of(&self, alloc: Global) -> Result<Vec<Range>, AllocError>
+        ensures { IfOk result (λ ranges. ranges.items
+            ≡ ranges_from (address_of self.now.base.0 self.now.entries.now (forms_in self.now.forms.now)) 0 None
+            self.now.entries.now) }
+    {
+        let mut ranges = Vec::new(alloc);
+        let mut open_mark = None;
+        let mut here = 0;
+        for (n, entry) in self.entries.iter().enumerate() {
+            open_mark = put_entry(&mut ranges, open_mark, address(self.base, here), entry)?;
+            here += width_at(self.entries, self.forms, n);
+        }
+        Ok(ranges)
     }
-    Ok(ranges)
 }

@@ -1,8 +1,7 @@
 -- What is live at places, by links, is so at points, by paths, and back.
-use Rattle.std.proofs.Common.{◌≡◌, ◌↔◌, ℕ, suc, ◌+◌, ◌<◌, ◌⊎◌, Bool, true, false, not, ◌&&◌, ◌||◌, List, [], ◌∷◌, ◌++◌, length, refl, ap, sym, ◌∙◌, subst, arith, inl, inr}
-use Rattle.std.specs.Prelude.{Some}
+use Rattle.std.proofs.Common.{◌≡◌, ◌↔◌, ℕ, suc, ◌+◌, ◌<◌, ◌⊎◌, Bool, true, false, not, ◌&&◌, ◌||◌, List, [], ◌∷◌, ◌++◌, length, refl, sym, ◌∙◌, subst, arith, inl, inr}
 use Rattle.std.specs.List.{Contains}
-use Rattle.std.proofs.lemmas.Bool.{cases_lt, cond_both, false≢true, or_cases, or_left, or_right, and_parts, and_from, not-true, not_from_false}
+use Rattle.std.proofs.lemmas.Bool.{cases_lt, cond_both, false≢true, or_cases, or_from, or_left, or_parts, or_right, and_parts, and_from, not-true, not_from_false}
 use Rattle.std.proofs.lemmas.List.{get_or_default}
 use Rattle.std.proofs.Math.ListN.{get_or-eq_default}
 use Rattle.std.proofs.lemmas.List.Elements.{All-get_or, Contains-get_or}
@@ -17,70 +16,32 @@ use Rattle.flood.specs.Flood.{Sets, link_at, AreLinks, IsLiveIn, Passes, Reaches
 use Rattle.cfg_blocks.specs.Blocks.{AreFirsts}
 use Rattle.cfg_blocks.specs.declared.EdgeKind.{EdgeKind}
 use Rattle.cfg_blocks.specs.declared.EdgeKind.TheVariants as kinds
-use Rattle.cfg_normal.specs.Graph.{Graph, IsEdgeIn, IsGraph, lands}
+use Rattle.cfg_normal.specs.Graph.{Graph, IsEdgeIn, IsGraph}
 use Rattle.cfg_normal.specs.Numbers.{node_number}
 use Rattle.cfg_normal.specs.declared.Node.{Node}
 use Rattle.cfg_normal.specs.declared.Node.TheVariants.{Block, Landed, X}
 use Rattle.cfg_normal.specs.declared.Slot.{Slot}
 use Rattle.cfg_normal.specs.declared.Slot.TheVariants.{Nothing, Word, Off}
 use Rattle.liveness.specs.Paths.{ReadsFirst}
-use Rattle.liveness.specs.Live.{edge_at, Holds, HoldsIn, IsFirst, IsLast, LandsAt, GoesOnAt, instr_of, is_outside, slot_reads, slot_writes, beyond, Point, At, Along, Behind, After, reads_at, writes_at, Goes, IsLive, IsLiveAt, IsLiveOn}
-use Rattle.liveness.specs.Search.{AreLinksOf, AreLivePlaces, AreMarks, AreRead, In, IsInside, IsOf, IsOnward, LinksAlongAny, LinksInAny, LinksNext, LinksOnto, LinksOntoAny, LivesInCopy, LivesOnto, ReadsIn, ReadsOfAny, ReadsOnAny, edge_link, first_in, is_ahead, is_landing, is_marked, landing_link, last_in, next_link, node_place, nodes_from, place_of, target_of}
+use Rattle.liveness.specs.Live.{edge_at, Holds, HoldsIn, IsFirst, IsLast, LandsAt, GoesOnAt, StartsAt, instr_of, is_landing, is_outside, slot_reads, slot_writes, beyond, Point, At, Along, Behind, After, reads_at, writes_at, Goes, IsLive, IsLiveAt, IsLiveOn}
+use Rattle.liveness.specs.Search.{AreLinksOf, AreLivePlaces, AreMarks, AreRead, In, IsInside, IsOf, IsOnward, LinksAlongAny, LinksInAny, LinksNext, LinksOnto, LinksOntoAny, LivesInCopy, LivesOnto, ReadsIn, ReadsOfAny, ReadsOnAny, edge_link, first_in, is_ahead, is_marked, landing_link, last_in, next_link, node_place, nodes_from, place_of, target_of}
 use Rattle.liveness.proofs.Held.{some_block}
 use Rattle.liveness.proofs.Spots.{first_held, held_inside, held_of, inside_of, is_inside, last_held, number_once, of_held, place_once, place_within}
 
--- ---- where edges go on
+-- ---- where edges go on: where control lands, or at the first word
 
-pub goes_on_held : (graph : Graph) (kind : EdgeKind) (node : Node) (w : ℕ) → GoesOnAt graph kind node w
-    → Holds graph node w
-goes_on_held graph kinds.Land node w h = h.0
-goes_on_held graph kinds.Case node w h = h.0
-goes_on_held graph kinds.Fall node w h = h.0
-goes_on_held graph kinds.Taken node w h = h.0
-goes_on_held graph kinds.Untaken node w h = h.0
-goes_on_held graph kinds.Call node w h = h.0
-goes_on_held graph kinds.Out node w h = h.0
+module _ (graph : Graph) (kind : EdgeKind) (node : Node) (w : ℕ) where
+  goes_on_landing : is_landing kind ≡ true → GoesOnAt graph kind node w → LandsAt graph node w
+  goes_on_landing l h = (h.0, subst (StartsAt graph node w) l h.1)
 
--- where control lands, or at the first word
-goes_on_landing : (graph : Graph) (kind : EdgeKind) (node : Node) (w : ℕ) → is_landing kind ≡ true
-    → GoesOnAt graph kind node w → lands graph (Some w) ≡ node
-goes_on_landing graph kinds.Land node w l h = h.1
-goes_on_landing graph kinds.Case node w l h = h.1
-goes_on_landing graph kinds.Fall node w l h = absurd (false≢true l)
-goes_on_landing graph kinds.Taken node w l h = absurd (false≢true l)
-goes_on_landing graph kinds.Untaken node w l h = absurd (false≢true l)
-goes_on_landing graph kinds.Call node w l h = absurd (false≢true l)
-goes_on_landing graph kinds.Out node w l h = absurd (false≢true l)
+  goes_on_first : is_landing kind ≡ false → GoesOnAt graph kind node w → IsFirst graph node w
+  goes_on_first n h = subst (StartsAt graph node w) n h.1
 
-goes_on_first : (graph : Graph) (kind : EdgeKind) (node : Node) (w : ℕ) → is_landing kind ≡ false
-    → GoesOnAt graph kind node w → IsFirst graph node w
-goes_on_first graph kinds.Land node w n h = absurd (false≢true (sym n))
-goes_on_first graph kinds.Case node w n h = absurd (false≢true (sym n))
-goes_on_first graph kinds.Fall node w n h = h.1
-goes_on_first graph kinds.Taken node w n h = h.1
-goes_on_first graph kinds.Untaken node w n h = h.1
-goes_on_first graph kinds.Call node w n h = h.1
-goes_on_first graph kinds.Out node w n h = h.1
+  landing_goes_on : is_landing kind ≡ true → LandsAt graph node w → GoesOnAt graph kind node w
+  landing_goes_on l h = (h.0, subst (StartsAt graph node w) (sym l) h.1)
 
-landing_goes_on : (graph : Graph) (kind : EdgeKind) (node : Node) (w : ℕ) → is_landing kind ≡ true
-    → LandsAt graph node w → GoesOnAt graph kind node w
-landing_goes_on graph kinds.Land node w l h = h
-landing_goes_on graph kinds.Case node w l h = h
-landing_goes_on graph kinds.Fall node w l h = absurd (false≢true l)
-landing_goes_on graph kinds.Taken node w l h = absurd (false≢true l)
-landing_goes_on graph kinds.Untaken node w l h = absurd (false≢true l)
-landing_goes_on graph kinds.Call node w l h = absurd (false≢true l)
-landing_goes_on graph kinds.Out node w l h = absurd (false≢true l)
-
-first_goes_on : (graph : Graph) (kind : EdgeKind) (node : Node) (w : ℕ) → is_landing kind ≡ false
-    → Holds graph node w → IsFirst graph node w → GoesOnAt graph kind node w
-first_goes_on graph kinds.Land node w n h f = absurd (false≢true (sym n))
-first_goes_on graph kinds.Case node w n h f = absurd (false≢true (sym n))
-first_goes_on graph kinds.Fall node w n h f = (h, f)
-first_goes_on graph kinds.Taken node w n h f = (h, f)
-first_goes_on graph kinds.Untaken node w n h f = (h, f)
-first_goes_on graph kinds.Call node w n h f = (h, f)
-first_goes_on graph kinds.Out node w n h f = (h, f)
+  first_goes_on : is_landing kind ≡ false → Holds graph node w → IsFirst graph node w → GoesOnAt graph kind node w
+  first_goes_on n h f = (h, subst (StartsAt graph node w) (sym n) f)
 
 first_is : (graph : Graph) (node : Node) (w : ℕ) → IsFirst graph node w → w ≡ first_in graph node
 first_is graph (Block b) w h = h
@@ -103,13 +64,6 @@ is_last graph (Landed b) h = refl
 is_last graph X h = absurd h
 
 -- ---- what is killed
-
-or_none : (a b : Bool) → (a || b) ≡ false → (a ≡ false) × (b ≡ false)
-or_none true b h = absurd (false≢true (sym h))
-or_none false b h = (refl, h)
-
-none_or : (a b : Bool) → a ≡ false → b ≡ false → (a || b) ≡ false
-none_or a b h k = ap (λ c. c || b) h ∙ k
 
 -- what a word or the slot behind it writes
 slot_set : (text : Words) (slot : Slot) → set_of (slot_writes text slot) ≡ slot_writes text slot
@@ -220,26 +174,30 @@ module _ (text : Words) (graph : Graph) (g : IsGraph graph) (marks : List Bool)
       → is_landing (edge_at graph e).kind ≡ true → is_marked marks (node_number graph (edge_at graph e).to) ≡ true
   marked_to e l from landing = m.marked e l (is_inside graph g.firsts _ from) landing
 
-  step_within : (link : Link) → IsStep link
-      → (link.from < nodes_from graph + length marks) × (link.to < nodes_from graph + length marks)
+  abbrev IsPlace : ℕ → Type 0
+  IsPlace p = p < nodes_from graph + length marks
+
+  word_placed : (node : Node) (w : ℕ) → Holds graph node w → IsPlace (place_of graph node w)
+  word_placed node w h = omega (arith, place_within graph g.firsts node w h)
+
+  node_placed : (node : Node) → is_marked marks (node_number graph node) ≡ true → IsPlace (node_place graph node)
+  node_placed node mark = omega (arith, marked_below marks _ mark)
+
+  abbrev IsWithin : Link → Type 0
+  IsWithin link = IsPlace link.from × IsPlace link.to
+
+  step_within : (link : Link) → IsStep link → IsWithin link
   step_within link (next node w h k is) =
-      let a = place_within graph g.firsts node w h in
-      let b = place_within graph g.firsts node (w + 1) k in
-      (omega (arith, a, ap (λ (l : Link). l.from) is), omega (arith, b, ap (λ (l : Link). l.to) is))
+      subst IsWithin is (word_placed node w h, word_placed node (w + 1) k)
   step_within link (along e l from to is) =
-      let a = place_within graph g.firsts _ _ (last_held graph g.firsts (edge_at graph e).from from) in
-      let b = place_within graph g.firsts _ _ (first_held graph g.firsts (edge_at graph e).to to) in
-      let there : target_of graph (edge_at graph e) < nodes_from graph + length marks =
-      cond_both (is_landing (edge_at graph e).kind) (node_place graph (edge_at graph e).to)
-      (place_of graph (edge_at graph e).to (first_in graph (edge_at graph e).to))
-      (λ p. p < nodes_from graph + length marks)
-      (λ landing. omega (arith, marked_below marks _ (marked_to e l from landing))) (λ _. omega (arith, b)) in
-      (omega (arith, a, ap (λ (l : Link). l.from) is), omega (arith, there, ap (λ (l : Link). l.to) is))
-  step_within link (onto node w h mark is) =
-      let b = place_within graph g.firsts node w h.0 in (
-        omega (arith, marked_below marks _ mark, ap (λ (l : Link). l.from) is),
-        omega (arith, b, ap (λ (l : Link). l.to) is),
+      let edge = edge_at graph e in
+      subst IsWithin is (
+        word_placed edge.from _ (last_held graph g.firsts edge.from from),
+        cond_both (is_landing edge.kind) (node_place graph edge.to) (place_of graph edge.to (first_in graph edge.to))
+            IsPlace (λ landing. node_placed edge.to (marked_to e l from landing))
+            (λ _. word_placed edge.to _ (first_held graph g.firsts edge.to to)),
       )
+  step_within link (onto node w h mark is) = subst IsWithin is (node_placed node mark, word_placed node w h.0)
 
   module _ {links : List Link} (all : AreLinksOf text graph marks links) where
     contained : (k : ℕ) → k < length links → Contains links (link_at links k)
@@ -258,7 +216,7 @@ module _ (text : Words) (graph : Graph) (g : IsGraph graph) (marks : List Bool)
         let c = (all.contained link).1 (of_step link s) in
         let is : link_at links c.0 ≡ link =
         get_or_default links c.0 (record { from = 0; to = 0; kills = [] }) link c.1 ∙ c.2 in
-        (c.0, c.1, ap (λ (k : Link). k.from) is, ap (λ (k : Link). k.to) is, ap (λ (k : Link). has k.kills x) is ∙ u)
+        subst (λ (k : Link). has k.kills x ≡ false → Passes links x k.from k.to) is (λ v. (c.0, c.1, refl, refl, v)) u
 
     -- ---- what is live
 
@@ -339,7 +297,7 @@ module _ (text : Words) (graph : Graph) (g : IsGraph graph) (marks : List Bool)
           (λ landing.
           plain_step (landing_link graph edge.to w)
           (onto edge.to w
-          (goes_on_held graph edge.kind edge.to w goes, goes_on_landing graph edge.kind edge.to w landing goes)
+          (goes_on_landing graph edge.kind edge.to w landing goes)
           (marked_to e l from landing) refl) refl k)
           (λ other.
           subst (λ (v : ℕ). Plain (place_of graph edge.to v))
@@ -351,9 +309,9 @@ module _ (text : Words) (graph : Graph) (g : IsGraph graph) (marks : List Bool)
           plain_step (edge_link text graph (edge_at graph e))
           (along e l from
           (held_inside graph g.firsts (edge_at graph e).to h.0
-          (goes_on_held graph (edge_at graph e).kind (edge_at graph e).to h.0 h.1)) refl)
+          h.1.0) refl)
           (has_both text (instr_of text (last_in graph (edge_at graph e).from)) (edge_at graph e).slot x
-          ∙ none_or _ _ u s)
+          ∙ or_from _ _ u s)
           (plain_target e h.0 l from h.1 h.2)
 
       numbered_read : (p : Point) → has (reads_at text graph named p) x ≡ true → Numbered p
@@ -387,27 +345,17 @@ module _ (text : Words) (graph : Graph) (g : IsGraph graph) (marks : List Bool)
           onto_next node w v u f.1 k f.2
           (subst (λ (n : Node). Holds graph n v → Plain (place_of graph n v)) f.0 h f.2)
       numbered_step (At node w) (Along e) u f h = λ k. onto_edge node w e u f.0 f.1 f.2 k h
-      numbered_step (At node w) (Behind e) u f h = absurd f
-      numbered_step (At node w) (After e) u f h = absurd f
-      numbered_step (Along e) (At node w) u f h = absurd f
-      numbered_step (Along e) (Along d) u f h = absurd f
       numbered_step (Along e) (Behind d) u f h =
           subst Leaving f (h (subst (λ (n : ℕ). has (slot_writes text (edge_at graph n).slot) x ≡ false) (sym f) u))
-      numbered_step (Along e) (After d) u f h = absurd f
-      numbered_step (Behind e) (At node w) u f h = absurd f
-      numbered_step (Behind e) (Along d) u f h = absurd f
-      numbered_step (Behind e) (Behind d) u f h = absurd f
       numbered_step (Behind e) (After d) u f h = onward e (subst Onward f h)
       numbered_step (After e) (At node w) u f h =
           let edge = edge_at graph e in
           inr (
             w,
             subst (λ (n : Node). GoesOnAt graph edge.kind n w) (sym f.0) f.1,
-            subst (λ (n : Node). Plain (place_of graph n w)) (sym f.0) (h (goes_on_held graph edge.kind node w f.1)),
+            subst (λ (n : Node). Plain (place_of graph n w)) (sym f.0) (h f.1.0),
           )
-      numbered_step (After e) (Along d) u f h = absurd f
-      numbered_step (After e) (Behind d) u f h = absurd f
-      numbered_step (After e) (After d) u f h = absurd f
+      numbered_step _ _ u f h = absurd f
 
       numbered : (path : List Point) (p : Point)
           → ReadsFirst (reads_at text graph named) (writes_at text graph named) (Goes text graph named) x p path
@@ -493,7 +441,7 @@ module _ (text : Words) (graph : Graph) (g : IsGraph graph) (marks : List Bool)
           subst (λ (l : Link). has l.kills x ≡ false → Pointed l.to → Pointed l.from) is
           (λ u t.
           let edge = edge_at graph e in
-          let none = or_none _ _ (sym (has_both text (instr_of text (last_in graph edge.from)) edge.slot x) ∙ u) in
+          let none = or_parts _ _ (sym (has_both text (instr_of text (last_in graph edge.from)) edge.slot x) ∙ u) in
           leaving e l from none.0
           (step (Along e) (Behind e) none.1 refl (step (Behind e) (After e) refl refl (after e to t))))
       pointed_step link (onto node w h mark is) =
@@ -556,7 +504,7 @@ module _ (text : Words) (graph : Graph) (named : ℕ → List Part) (sets : Sets
   after_read e x (inl h) = ([], h)
   after_read e x (inr (w, goes, k)) =
       let edge = edge_at graph e in
-      let there = (live.live edge.to w (goes_on_held graph edge.kind edge.to w goes) x).0 k in
+      let there = (live.live edge.to w goes.0 x).0 k in
       (At edge.to w ∷ there.0, (refl, (refl, goes), there.1))
 
   after_goes : (e : ℕ) (x : Part) (path : List Point)
@@ -565,16 +513,13 @@ module _ (text : Words) (graph : Graph) (named : ℕ → List Part) (sets : Sets
   after_goes e x [] h = inl h
   after_goes e x (At node w ∷ path) h =
       let edge = edge_at graph e in
-      let held = goes_on_held graph edge.kind node w h.1.1 in
       let is : node ≡ edge.to = sym h.1.0 in
       inr (
         w,
         subst (λ (n : Node). GoesOnAt graph edge.kind n w) is h.1.1,
-        subst (λ (n : Node). In sets (place_of graph n w) x) is ((live.live node w held x).1 (path, h.2)),
+        subst (λ (n : Node). In sets (place_of graph n w) x) is ((live.live node w h.1.1.0 x).1 (path, h.2)),
       )
-  after_goes e x (Along d ∷ path) h = absurd h.1
-  after_goes e x (Behind d ∷ path) h = absurd h.1
-  after_goes e x (After d ∷ path) h = absurd h.1
+  after_goes e x (_ ∷ path) h = absurd h.1
 
   pub onward_is : (e : ℕ) (x : Part) → IsOnward graph (edge_at graph e) sets x ↔ IsLiveOn text graph named e x
   onward_is e x = (after_read e x, λ h. after_goes e x h.0 h.1)

@@ -1,12 +1,12 @@
 //! What words and edges read and write.
-ghost use Rattle.std.specs.Prelude.{◌≡◌, ◌^◌, ◌<◌, ◌≤◌, not, ◌&&◌, ◌||◌, ◌↔◌, length, slice_index, Some, IsTrue};
+ghost use Rattle.std.specs.Prelude.{◌≡◌, ◌^◌, ◌<◌, ◌≤◌, not, ◌&&◌, ◌||◌, length, slice_index, IsTrue};
 ghost use Rattle.v8_decode.specs.declared.Part.{Part};
 ghost use Rattle.v8_decode.specs.Parts.{has};
 ghost use Rattle.v8_decode.specs.Ranges.{has_even_pair};
 ghost use Rattle.cfg_blocks.specs.Blocks.{last_word};
-ghost use Rattle.cfg_normal.specs.Graph.{lands, IsEdgeIn, IsGraph};
-ghost use Rattle.liveness.specs.Live.{beyond, edge_at, instr_of, is_outside, slot_reads, slot_writes};
-ghost use Rattle.liveness.specs.Search.{first_in, is_ahead, is_landing, last_in, IsInside, IsOf, IsSlotWithin};
+ghost use Rattle.cfg_normal.specs.Graph.{IsEdgeIn, IsGraph};
+ghost use Rattle.liveness.specs.Live.{beyond, edge_at, instr_of, is_landing, is_outside, slot_reads, slot_writes};
+ghost use Rattle.liveness.specs.Search.{first_in, is_ahead, last_in, IsInside, IsSlotWithin};
 
 use cfg_blocks::EdgeKind;
 use cfg_normal::{Edge, FlowGraph, Node, Slot};
@@ -90,19 +90,6 @@ fn last_word(graph: &FlowGraph, block: BlockNo) -> u32
     ensures few { graph.now.blocks.words ≤ 2 ^ 20 }
 {
     graph.first(block).0 + graph.words(block) - 1
-}
-
-/// Whether control lands in the node that comes to its word from outside.
-#[inline]
-pub(crate) fn lands_at(graph: &FlowGraph, node: Node, word: u32) -> bool
-    requires graph { IsGraph graph.now }
-    requires of { IsOf graph.now node word }
-    ensures { IsTrue result ↔ (lands graph.now (Some word) ≡ node) }
-{
-    match node {
-        Node::Block(block) => !graph.is_copied(block) || graph.lands(WordNo(word)) == node,
-        _ => graph.lands(WordNo(word)) == node,
-    }
 }
 
 /// What is read on an edge whose snippet names these registers: by the slot, or, unless that writes it, by the snippet

@@ -3,6 +3,7 @@
 //! Source: James R. Larus and Eric Schnarr, "EEL: Machine-Independent Executable Editing", PLDI 1995.
 #![tactic(auto)]
 
+mod chart;
 mod effects;
 mod links;
 mod live_sets;

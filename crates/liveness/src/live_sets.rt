@@ -1,14 +1,12 @@
 //! The live sets of a graph.
-ghost use Rattle.std.specs.Prelude.{◌≡◌, ◌+◌, length, slice_index_or, IfOk};
+ghost use Rattle.std.specs.Prelude.{◌≡◌, length, slice_index_or, IfOk};
 ghost use Rattle.v8_decode.specs.Parts.{every_part};
 ghost use Rattle.liveness.specs.Live.{named_on};
-ghost use Rattle.liveness.specs.Search.{nodes_from, AreLivePlaces, AreOnto, ArePlaces};
+ghost use Rattle.liveness.specs.Search.{AreFound, AreLivePlaces, ArePlaces};
 ghost use Rattle.liveness.specs.Sets.{dead_on, edge_set, word_set, AreLive};
 
-use crate::links::all_links;
-use crate::places::{Places, places_of};
-use crate::reads::all_reads;
-use crate::sets::{edge_sets, word_sets};
+use crate::chart::Chart;
+use crate::places::places_of;
 use cfg_normal::FlowGraph;
 use eel_base::{EdgeNo, NoMemory, Text, WordNo};
 use flood::flood;
@@ -80,29 +78,28 @@ pub fn live(
     ensures { IfOk result (λ sets. AreLive text.now graph.now (named_on snips.now) sets) }
 {
     let places = places_of(alloc, text, graph)?;
-    let sets = place_sets(alloc, text, graph, &places, snips)?;
-    let edges = edge_sets(alloc, &sets, graph, &places)?;
-    let words = word_sets(alloc, text, graph, &places, sets)?;
+    let chart = Chart {
+        text,
+        graph,
+        places: &places,
+    };
+    let sets = place_sets(alloc, &chart, snips)?;
+    let edges = chart.edge_sets(alloc, &sets)?;
+    let words = chart.word_sets(alloc, sets)?;
     Ok(LiveSets { words, edges })
 }
 
 /// What is live at each place.
-fn place_sets(
-    alloc: Global,
-    text: &Text,
-    graph: &FlowGraph,
-    places: &Places,
-    snips: &[Snippet],
-) -> Result<Vec<RegSet>, NoMemory>
-    requires graph { graph.now.blocks.words ≡ length text.now.words }
-    requires snips { length snips.now ≡ length graph.now.edges }
-    requires places { ArePlaces graph.now places.now.copies.items places.now.nodes places.now.marks.items }
-    ensures len { IfOk result (λ v. length v.items ≡ nodes_from graph.now + length places.now.marks.items) }
-    ensures live { IfOk result (λ v. AreLivePlaces text.now graph.now (named_on snips.now) v.items) }
-    ensures onto { IfOk result (λ v. AreOnto graph.now places.now.marks.items v.items) }
+fn place_sets(alloc: Global, chart: &Chart, snips: &[Snippet]) -> Result<Vec<RegSet>, NoMemory>
+    requires snips { length snips.now ≡ length chart.now.graph.now.edges }
+    requires places { ArePlaces chart.now.graph.now
+        chart.now.places.now.copies.items chart.now.places.now.nodes chart.now.places.now.marks.items }
+    ensures live { IfOk result (λ v.
+        AreLivePlaces chart.now.text.now chart.now.graph.now (named_on snips.now) v.items) }
+    ensures found { IfOk result (λ v. AreFound chart.now.graph.now chart.now.places.now.marks.items v.items) }
 {
-    let reads = all_reads(alloc, text, graph, places, snips)?;
-    let links = all_links(alloc, text, graph, places)?;
+    let reads = chart.all_reads(alloc, snips)?;
+    let links = chart.all_links(alloc)?;
     let sets = flood(alloc, reads, &links)?;
     Ok(sets)
 }

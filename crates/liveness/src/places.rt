@@ -1,8 +1,8 @@
 //! The places of a graph: the words of its text, those of landed copies, and nodes.
-ghost use Rattle.std.specs.Prelude.{◌≡◌, ℕ, ◌+◌, ◌*◌, ◌^◌, ◌<◌, ◌≤◌, ◌⊎◌, true, length, IfOk, OnOk};
-ghost use Rattle.cfg_normal.specs.Graph.{IsEdgeIn, IsGraph, IsNodeIn};
-ghost use Rattle.cfg_normal.specs.Numbers.{node_number as node_number_of, node_numbers};
-ghost use Rattle.liveness.specs.Search.{is_marked, node_place, nodes_from, place_of, AreCopies, AreMarks, ArePlaces, IsInside, IsMarked, IsOf};
+ghost use Rattle.std.specs.Prelude.{◌≡◌, ℕ, ◌⊎◌, true, length, IfOk, OnOk};
+ghost use Rattle.cfg_normal.specs.Graph.{IsEdgeIn, IsGraph};
+ghost use Rattle.cfg_normal.specs.Numbers.{node_numbers};
+ghost use Rattle.liveness.specs.Search.{is_marked, nodes_from, AreCopies, AreMarks, ArePlaces, IsMarked};
 
 use crate::effects::{edge_at, is_landing, is_outside};
 use cfg_normal::{Edge, FlowGraph, Node, node_number};
@@ -72,51 +72,4 @@ fn mark_edge(marks: &mut Vec<bool>, graph: &FlowGraph, edge: Edge) -> Result<(),
     }
     marks[node_number(graph, edge.to) as usize] = true;
     Ok(())
-}
-
-impl Places {
-    /// How many places there are.
-    pub(crate) fn count(&self, graph: &FlowGraph) -> usize
-        requires places { ArePlaces graph.now self.now.copies.items self.now.nodes self.now.marks.items }
-        ensures count { result ≡ nodes_from graph.now + length self.now.marks.items }
-        ensures few { result < 2 ^ 23 }
-    {
-        self.nodes as usize + self.marks.len()
-    }
-
-    /// The place of a word in a node.
-    #[inline]
-    pub(crate) fn place(&self, graph: &FlowGraph, node: Node, word: u32) -> u32
-        requires places { ArePlaces graph.now self.now.copies.items self.now.nodes self.now.marks.items }
-        requires of { IsOf graph.now node word }
-        ensures place { result ≡ place_of graph.now node word }
-        ensures within { result < nodes_from graph.now }
-    {
-        match node {
-            Node::Block(_) => word,
-            Node::Landed(block) => self.copies[block.0 as usize] + (word - graph.first(block).0),
-            Node::X => word,
-        }
-    }
-
-    /// The place of a node.
-    pub(crate) fn node(&self, graph: &FlowGraph, node: Node) -> u32
-        requires places { ArePlaces graph.now self.now.copies.items self.now.nodes self.now.marks.items }
-        requires node { IsNodeIn graph.now.blocks graph.now.opens node }
-        ensures { result ≡ node_place graph.now node }
-    {
-        self.nodes + node_number(graph, node)
-    }
-
-    /// Whether a node has a place.
-    pub(crate) fn has_node(&self, graph: &FlowGraph, node: Node) -> bool
-        requires places { ArePlaces graph.now self.now.copies.items self.now.nodes self.now.marks.items }
-        requires node { IsNodeIn graph.now.blocks graph.now.opens node }
-        ensures { result ≡ is_marked self.now.marks.items (node_number_of graph.now node) }
-    {
-        match self.marks.get(node_number(graph, node) as usize) {
-            Some(mark) => *mark,
-            None => false,
-        }
-    }
 }

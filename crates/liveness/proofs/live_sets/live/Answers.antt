@@ -1,4 +1,4 @@
-use Rattle.std.proofs.Common.{arith, ◌<◌, [], sym, ap, ◌∙◌, subst}
+use Rattle.std.proofs.Common.{arith, ◌<◌, [], inl, inr, sym, ap, ◌∙◌, subst}
 use Rattle.std.proofs.lemmas.List.{get_or_default}
 use Rattle.v8_decode.specs.Parts.{every_part, has}
 use Rattle.flood.specs.Flood.{Sets}
@@ -32,3 +32,9 @@ returns c =
           e x in
           (λ h. live.0 (here.0 (ap (λ s. has s x) (sym is) ∙ h)), λ h. ap (λ s. has s x) is ∙ here.1 (live.1 h));
     }
+
+pub invariant_of-chart-clause-of_marks : goal.invariant_of-chart-clause-of_marks
+invariant_of-chart-clause-of_marks c = elim c.in_ok-places.ensures.of_edges.len [
+  | inl e ↦ omega (arith, e)
+  | inr e ↦ omega (arith, e)
+]

@@ -9,7 +9,7 @@ pub flood-requires-clause-places : goal.flood-requires-clause-places
 flood-requires-clause-places c =
     let p = c.requires.places in
     let g = p.of_graph in
-    let high = nodes_high c.args.graph.now g.firsts in
+    let high = nodes_high c.args.chart.now.graph.now g.firsts in
     elim p.of_edges.len [
       | inl e ↦ omega (arith, c.in_ok-reads.ensures.len, high, g.few, g.firsts.few, e)
       | inr e ↦ omega (arith, c.in_ok-reads.ensures.len, high, g.few, g.firsts.few, e)
@@ -23,37 +23,38 @@ flood-requires-clause-few c =
 pub flood-requires-clause-links : goal.flood-requires-clause-links
 flood-requires-clause-links c =
     let p = c.requires.places in
-    let marks = c.args.places.now.marks.items in
-    are_links c.args.text.now c.args.graph.now p.of_graph marks p.of_edges
-    (subst (λ (l : List Link). AreLinksOf c.args.text.now c.args.graph.now marks l) (sym c.deref.ensures.value)
+    let marks = c.args.chart.now.places.now.marks.items in
+    are_links c.args.chart.now.text.now c.args.chart.now.graph.now p.of_graph marks p.of_edges
+    (subst (λ (l : List Link). AreLinksOf c.args.chart.now.text.now c.args.chart.now.graph.now marks l) (sym c.deref.ensures.value)
     c.in_ok-links.ensures.links)
     (length c.in_ok-reads.reads.items) c.in_ok-reads.ensures.len
 
 pub returns-clause-live : goal.returns-clause-live
 returns-clause-live c =
     let p = c.requires.places in
-    let marks = c.args.places.now.marks.items in
+    let marks = c.args.chart.now.places.now.marks.items in
     record {
       live = λ node word held x.
           let is =
-          word_is c.args.text.now c.args.graph.now p.of_graph marks p.of_edges
-          (subst (λ (l : List Link). AreLinksOf c.args.text.now c.args.graph.now marks l) (sym c.deref.ensures.value)
+          word_is c.args.chart.now.text.now c.args.chart.now.graph.now p.of_graph marks p.of_edges
+          (subst (λ (l : List Link). AreLinksOf c.args.chart.now.text.now c.args.chart.now.graph.now marks l) (sym c.deref.ensures.value)
           c.in_ok-links.ensures.links)
           c.in_ok-reads.ensures.read x node word held in
           let sets = c.in_ok-sets.ensures.live _ x in
           (λ h. is.0 (sets.0 h), λ h. sets.1 (is.1 h));
     }
 
-pub returns-clause-onto : goal.returns-clause-onto
-returns-clause-onto c =
+pub returns-clause-found : goal.returns-clause-found
+returns-clause-found c =
     let p = c.requires.places in
-    let graph = c.args.graph.now in
-    let marks = c.args.places.now.marks.items in
+    let graph = c.args.chart.now.graph.now in
+    let marks = c.args.chart.now.places.now.marks.items in
     record {
+      len = omega (arith, c.in_ok-sets.ensures.len, c.in_ok-reads.ensures.len);
       onto = λ node inside mark x.
           let is =
-          node_is c.args.text.now graph p.of_graph marks p.of_edges
-          (subst (λ (l : List Link). AreLinksOf c.args.text.now graph marks l) (sym c.deref.ensures.value)
+          node_is c.args.chart.now.text.now graph p.of_graph marks p.of_edges
+          (subst (λ (l : List Link). AreLinksOf c.args.chart.now.text.now graph marks l) (sym c.deref.ensures.value)
           c.in_ok-links.ensures.links)
           c.in_ok-reads.ensures.read x node inside mark in
           let sets = λ (k : ℕ). c.in_ok-sets.ensures.live k x in

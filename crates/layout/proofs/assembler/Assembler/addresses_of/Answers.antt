@@ -1,0 +1,16 @@
+use Rattle.std.proofs.Common.{length, arith}
+use Rattle.layout.specs.Forms.{start_of}
+use Rattle.layout.specs.Emitting.{forms_in}
+use Rattle.layout.proofs.Widening.{rises}
+use Rattle.layout.proofs.assembler.Assembler.addresses_of.Goals as goal
+
+pub address-requires : goal.address-requires
+address-requires c =
+    let layout = c.args.self.now in
+    let long = forms_in layout.forms.now in
+    let k = c.loop-words.words-index in
+    let e = layout.offsets.each k (omega (arith, c.loop-words-test.true)) in
+    let i = layout.offsets.inside k (omega (arith, c.loop-words-test.true)) in
+    let r = rises layout.entries.now long (start_of layout.entries.now k)
+    (length layout.entries.now) (omega (arith, i)) in
+    record { low = omega (arith, r, e, layout.low) }

@@ -1,0 +1,11 @@
+use Rattle.std.proofs.Common.{◌≡◌, ◌↔◌, ℕ, ◌<◌, length}
+use Rattle.v8_decode.specs.declared.Part.{Part}
+use Rattle.liveness.specs.Live.{edge_at}
+use Rattle.liveness.specs.Search.{In, IsOnward}
+use Rattle.liveness.proofs.chart.Chart.edge_sets.Given as goal
+
+abbrev pub invariant-loop-e : goal.invariant-loop-e
+invariant-loop-e l = record {
+  len : length l.all.items ≡ l.e;
+  onward : (j : ℕ) → j < l.e → (x : Part) → In l.all.items j x ↔ IsOnward l.self.graph.now (edge_at l.self.graph.now j) l.sets x;
+}

@@ -1,0 +1,12 @@
+use Rattle.std.proofs.Common.{◌≡◌, ℕ, length}
+use Rattle.liveness.specs.Live.{named_on}
+use Rattle.liveness.specs.Search.{Adds, Between, In, ReadsOnEdge}
+use Rattle.liveness.proofs.chart.Chart.read_edges.Given as goal
+
+abbrev pub invariant-loop-e : goal.invariant-loop-e
+invariant-loop-e l = record {
+  len : length l.all.items ≡ length l.fn.all.items;
+  read : (p : ℕ)
+      → Adds (In l.fn.all.items p) (In l.all.items p)
+      (Between (ReadsOnEdge l.self.text.now l.self.graph.now (named_on l.snips) p) 0 l.e);
+}

@@ -1,9 +1,0 @@
-use Rattle.std.proofs.Common.{◌≡◌, ℕ, length}
-use Rattle.liveness.specs.Search.{Adds, Between, In, ReadsOf}
-use Rattle.liveness.proofs.reads.read_blocks.Given as goal
-
-abbrev pub invariant-loop-block : goal.invariant-loop-block
-invariant-loop-block l = record {
-  len : length l.all.items ≡ length l.fn.all.items;
-  read : (p : ℕ) → Adds (In l.fn.all.items p) (In l.all.items p) (Between (ReadsOf l.text l.graph p) 0 l.block);
-}
