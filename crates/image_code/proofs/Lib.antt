@@ -51,7 +51,6 @@ pub mod Operands
 pub mod Along
 pub mod FirstPlaces
 pub mod EdgeTables
-pub mod SameCodes
 pub mod Pushed
 pub mod NumberTables
 pub mod CasePieces
