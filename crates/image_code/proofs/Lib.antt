@@ -58,3 +58,4 @@ pub mod OpenPieces
 pub mod LoadWords
 pub mod JumpsBy
 pub mod Sources
+pub mod Found
